@@ -1,0 +1,100 @@
+//! What is asked of the switch.
+
+use crate::id::{AgentId, DeviceId};
+use crate::name::{Name, Requester};
+use crate::number::{Invoke, Seconds, Serial};
+use crate::state::Pending;
+
+/// What Set Agent State asks for.
+#[derive(Clone, Copy, Debug, PartialEq, Eq)]
+pub enum Requested {
+    LoggedOn { device: DeviceId, group: DeviceId },
+    State(Pending),
+}
+
+/// A service with its members. Answer Call, Hold Call, Retrieve Call, Clear Connection, Deflect Call,
+/// Single Step Transfer, Set Agent State, Make Call, Monitor Start and Monitor Stop are services of
+/// ECMA-269; the others are this desk's own.
+#[derive(Clone, Copy, Debug, PartialEq, Eq)]
+pub enum Command {
+    AddGroup {
+        device: DeviceId,
+        name: Name,
+        ring: Seconds,
+        wrap: Seconds,
+    },
+    AddStation {
+        device: DeviceId,
+    },
+    AddAgent {
+        agent: AgentId,
+        name: Name,
+    },
+    /// A call comes in from outside.
+    ArriveCall {
+        caller: DeviceId,
+        called: DeviceId,
+    },
+    MakeCall {
+        device: DeviceId,
+        called: DeviceId,
+    },
+    /// The station that made the call goes off hook, and the call goes to the called device.
+    PhoneOffHook {
+        call: Serial,
+        device: DeviceId,
+    },
+    AnswerCall {
+        call: Serial,
+        device: DeviceId,
+    },
+    HoldCall {
+        call: Serial,
+        device: DeviceId,
+    },
+    RetrieveCall {
+        call: Serial,
+        device: DeviceId,
+    },
+    ClearConnection {
+        call: Serial,
+        device: DeviceId,
+    },
+    DeflectCall {
+        call: Serial,
+        device: DeviceId,
+        to: DeviceId,
+    },
+    SingleStepTransfer {
+        call: Serial,
+        device: DeviceId,
+        to: DeviceId,
+    },
+    SetAgentState {
+        agent: AgentId,
+        requested: Requested,
+    },
+    MonitorStart {
+        device: DeviceId,
+    },
+    MonitorStop {
+        monitor: Serial,
+    },
+    /// Time has passed: offers and after-call work that lasted long enough end.
+    Tick,
+}
+
+/// A command with its key: who sends it, and its number among the sender's requests.
+#[derive(Clone, Copy, Debug, PartialEq, Eq)]
+pub struct Request {
+    pub requester: Requester,
+    pub invoke: Invoke,
+    pub command: Command,
+}
+
+/// A request and the moment at which it comes in, in seconds.
+#[derive(Clone, Copy, Debug, PartialEq, Eq)]
+pub struct Arrival {
+    pub moment: u32,
+    pub request: Request,
+}

@@ -1,0 +1,156 @@
+//! What a service does: a refusal, or an answer and the moves that it makes.
+
+ghost use Rattle.std.specs.Prelude.{◌≡◌, [], ◌∷◌};
+
+use crate::answer::{Answer, Refusal};
+use crate::event::Report;
+use crate::id::{AgentId, DeviceId};
+use crate::record::{
+    AgentRecord, CallRecord, ConnectionRecord, GroupRecord, MonitorRecord, StationRecord,
+};
+use crate::state::AgentState;
+use std::marker::Model;
+
+/// The change of one record, or of none.
+#[derive(Clone, Copy, Debug)]
+pub enum Change {
+    Nothing,
+    PutGroup(GroupRecord),
+    PutStation(StationRecord),
+    PutAgent(AgentRecord),
+    PutCall(CallRecord),
+    PutConnection(ConnectionRecord),
+    PutMonitor(MonitorRecord),
+    RemoveCall(u64),
+    RemoveConnection(u64, DeviceId),
+    RemoveMonitor(u64),
+}
+
+/// A change, and the report of it, if there is one.
+#[derive(Clone, Copy, Debug)]
+pub struct Move {
+    pub change: Change,
+    pub report: Option<Report>,
+}
+
+const NO_MOVE: Move = Move {
+    change: Change::Nothing,
+    report: None,
+};
+
+/// Up to five moves, held in place and seen as a list.
+#[derive(Debug, Drop)]
+pub struct Moves {
+    cells: [Move; 5],
+    len: usize,
+}
+
+impl Model for Moves {
+    ghost use Rattle.std.specs.Prelude.{List, take, ◌≤◌};
+    ghost use Rattle.acd_terms.specs.declared.moves.Move.{Move};
+
+    ghost Value = { List Move };
+
+    ghost view = { λ m. take m.len m.cells };
+
+    ghost invariant = { λ m. m.len ≤ 5 };
+}
+
+impl Moves {
+    pub fn none() -> Moves
+        ensures { result ≡ [] }
+    {
+        Moves {
+            cells: [NO_MOVE; 5],
+            len: 0,
+        }
+    }
+
+    pub fn one(a: Move) -> Moves
+        ensures { result ≡ a ∷ [] }
+    {
+        Moves {
+            cells: [a, NO_MOVE, NO_MOVE, NO_MOVE, NO_MOVE],
+            len: 1,
+        }
+    }
+
+    pub fn two(a: Move, b: Move) -> Moves
+        ensures { result ≡ a ∷ b ∷ [] }
+    {
+        Moves {
+            cells: [a, b, NO_MOVE, NO_MOVE, NO_MOVE],
+            len: 2,
+        }
+    }
+
+    pub fn three(a: Move, b: Move, c: Move) -> Moves
+        ensures { result ≡ a ∷ b ∷ c ∷ [] }
+    {
+        Moves {
+            cells: [a, b, c, NO_MOVE, NO_MOVE],
+            len: 3,
+        }
+    }
+
+    pub fn five(a: Move, b: Move, c: Move, d: Move, e: Move) -> Moves
+        ensures { result ≡ a ∷ b ∷ c ∷ d ∷ e ∷ [] }
+    {
+        Moves {
+            cells: [a, b, c, d, e],
+            len: 5,
+        }
+    }
+
+    pub fn as_slice(&self) -> &[Move]
+        ensures { result.now ≡ self.now }
+    {
+        &self.cells[..self.len]
+    }
+}
+
+/// What a service does.
+#[derive(Debug, Drop)]
+pub enum Served {
+    Refused(Refusal),
+    Done(Answer, Moves),
+}
+
+/// How a distributed connection ends.
+#[derive(Clone, Copy, Debug, PartialEq, Eq)]
+pub enum Ending {
+    /// After it was answered.
+    Answered,
+    /// By clearing or deflecting, before it was answered.
+    Unanswered,
+    /// It rang too long.
+    NoAnswer,
+}
+
+/// What becomes of an agent whose distributed connection ended.
+#[derive(Clone, Copy, Debug, PartialEq, Eq)]
+pub enum Release {
+    /// The agent stays ready, with its old stamp and moment, and nothing is reported.
+    Stays,
+    /// The agent goes to the state, with a new stamp and moment, and it is reported.
+    Goes(AgentState),
+}
+
+/// What a call meets where it comes to.
+#[derive(Clone, Copy, Debug, PartialEq, Eq)]
+pub enum Destination {
+    /// A group: the call enters its queue.
+    Queue,
+    /// An idle station: the call alerts.
+    Idle,
+    /// Any other station: the call fails.
+    Busy,
+}
+
+/// A waiting call that goes to a ready agent of its group.
+#[derive(Clone, Copy, Debug, PartialEq, Eq)]
+pub struct Offer {
+    pub group: DeviceId,
+    pub call: u64,
+    pub agent: AgentId,
+}
