@@ -20,3 +20,8 @@ pub mod Tick
 pub mod Figures
 pub mod Step
 pub mod Run
+pub mod Told
+pub mod Placed
+pub mod OneOffer
+pub mod Watched
+pub mod Rules

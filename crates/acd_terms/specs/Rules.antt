@@ -1,0 +1,5 @@
+pub mod Plan
+pub mod Calls
+pub mod Occupied
+pub mod Counters
+pub mod First
