@@ -1,1 +1,3 @@
 pub mod Lists
+pub mod State
+pub mod Serving
