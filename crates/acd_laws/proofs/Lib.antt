@@ -1,3 +1,6 @@
 pub mod Lists
 pub mod State
 pub mod Serving
+pub mod Found
+pub mod Arriving
+pub mod KeptArrival
