@@ -4,3 +4,4 @@ pub mod Serving
 pub mod Found
 pub mod Arriving
 pub mod KeptArrival
+pub mod KeptOffer
