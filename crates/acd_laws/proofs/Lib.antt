@@ -5,3 +5,4 @@ pub mod Found
 pub mod Arriving
 pub mod KeptArrival
 pub mod KeptOffer
+pub mod Releasing
