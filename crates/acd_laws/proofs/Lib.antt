@@ -6,3 +6,7 @@ pub mod Arriving
 pub mod KeptArrival
 pub mod KeptOffer
 pub mod Releasing
+pub mod KeptReturn
+pub mod KeptClearing
+pub mod KeptTalking
+pub mod KeptGiving
