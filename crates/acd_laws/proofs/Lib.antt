@@ -10,3 +10,4 @@ pub mod KeptReturn
 pub mod KeptClearing
 pub mod KeptTalking
 pub mod KeptGiving
+pub mod KeptOut
