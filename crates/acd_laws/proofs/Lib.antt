@@ -11,3 +11,5 @@ pub mod KeptClearing
 pub mod KeptTalking
 pub mod KeptGiving
 pub mod KeptOut
+pub mod KeptPlan
+pub mod KeptAgents
