@@ -6,3 +6,11 @@ pub mod CountedEvents
 pub mod FiguresFit
 pub mod GroupsFound
 pub mod FiguresCounted
+pub mod Lists
+pub mod State
+pub mod Serving
+pub mod Found
+pub mod Arriving
+pub mod KeptArrival
+pub mod KeptOffer
+pub mod Releasing

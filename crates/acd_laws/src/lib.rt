@@ -1,4 +1,7 @@
-//! The laws of the abstract switch over whole runs. Each function has an empty body: its contract is the law.
+//! Laws over the abstract switch: what holds after every step, and after every run from the empty state.
+//!
+//! Each law is the contract of a function with an empty body. The laws are stated in `specs/`, over the
+//! definitions of `acd_terms` that the switch itself is proved by.
 #![tactic(auto)]
 
 ghost use Rattle.acd_terms.specs.Offers.{FindsTheOffer};
