@@ -21,3 +21,4 @@ pub mod KeptGiving
 pub mod KeptOut
 pub mod KeptPlan
 pub mod KeptAgents
+pub mod Distributing
