@@ -22,3 +22,5 @@ pub mod KeptOut
 pub mod KeptPlan
 pub mod KeptAgents
 pub mod Distributing
+pub mod Ticking
+pub mod RulesKept
