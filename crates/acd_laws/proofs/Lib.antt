@@ -24,3 +24,4 @@ pub mod KeptAgents
 pub mod Distributing
 pub mod Ticking
 pub mod RulesKept
+pub mod RulesStep
