@@ -25,3 +25,4 @@ pub mod Distributing
 pub mod Ticking
 pub mod RulesKept
 pub mod RulesStep
+pub mod RulesRead
