@@ -26,3 +26,4 @@ pub mod Ticking
 pub mod RulesKept
 pub mod RulesStep
 pub mod RulesRead
+pub mod ConnectionsRead
