@@ -27,3 +27,5 @@ pub mod RulesKept
 pub mod RulesStep
 pub mod RulesRead
 pub mod ConnectionsRead
+pub mod BoundsRead
+pub mod RulesWritten
