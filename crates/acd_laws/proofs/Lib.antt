@@ -1,7 +1,7 @@
 pub mod Least
 pub mod OfferFound
 pub mod Members
-pub mod Deciding
+pub mod MoveEvents
 pub mod CountedEvents
 pub mod FiguresFit
 pub mod GroupsFound
@@ -14,3 +14,5 @@ pub mod Arriving
 pub mod KeptArrival
 pub mod KeptOffer
 pub mod Releasing
+pub mod Told
+pub mod Balance
