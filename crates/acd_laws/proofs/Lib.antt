@@ -16,3 +16,4 @@ pub mod KeptOffer
 pub mod Releasing
 pub mod Told
 pub mod Balance
+pub mod Order
