@@ -17,3 +17,4 @@ pub mod Releasing
 pub mod Told
 pub mod Balance
 pub mod Order
+pub mod SoundMoves
