@@ -133,3 +133,8 @@ count_less p s c d z e = count-removed (at_connection c d) p s.connections z e
 pub count_agent : (p : AgentRecord → Bool) (s : Rows) (a z : AgentRecord) → IsAscending agent_order s.agents → agent_of s a.agent ≡ Some z → count p (put_by (agent_order a) s.agents a) + one (p z) ≡ one (p a) + count p s.agents
 count_agent p s a z h e = count-put_old agent_order agents_total (λ (y : AgentRecord). y.agent == a.agent) p a
     (λ y q. eq-eqb y.agent a.agent (sym (cmp_equal a.agent y.agent q))) (λ y q. cmp_self a.agent y.agent (sym (eqb-true y.agent a.agent q))) s.agents h z (sym (agent_find s a.agent) ∙ e)
+
+-- what is left after a removal
+pub left_among : (s : Rows) (a b : ℕ) → IsAscending connection_order s.connections → (z : ConnectionRecord) → Among z (remove_by (at_connection a b) s.connections) → Among z s.connections × (not (is_of a b z) ≡ true)
+unfolding without_connection
+left_among s a b h z i = filter_among (λ x. not (is_of a b x)) s.connections z (subst (Among z) (connections_without s a b h) i)

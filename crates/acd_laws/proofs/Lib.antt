@@ -18,3 +18,11 @@ pub mod Told
 pub mod Balance
 pub mod Order
 pub mod SoundMoves
+pub mod KeptReturn
+pub mod KeptClearing
+pub mod KeptTalking
+pub mod KeptGiving
+pub mod KeptOut
+pub mod KeptPlan
+pub mod KeptAgents
+pub mod Distributing

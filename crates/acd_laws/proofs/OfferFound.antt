@@ -170,3 +170,20 @@ from_offer s o h = record {
 pub finds_the_offer : FindsTheOffer
 unfolding offer_of
 finds_the_offer s o asc = (λ e. to_offer s o (found_is s s.groups o asc e), λ h. is_found s s.groups o asc (from_offer s o h))
+
+-- where no offer is found, no group has one
+none_in : (s : Rows) (gs : List GroupRecord) (g : GroupRecord) → offer_in s gs ≡ None → Among g gs → HasNoOffer s g.device
+none_in s [] g e a = absurd a
+none_in s (h ∷ gs) g e a =
+    (elim (first_waiting s h.device) as (λ v. first_waiting s h.device ≡ v → offer_or h.device v (first_eligible s h.device) (offer_in s gs) ≡ None → HasNoOffer s g.device) [
+      | None ↦ λ q f. elim a [ inl w ↦ subst (λ (z : GroupRecord). HasNoOffer s z.device) (sym w) (inl (none_waiting s h.device q)) | inr b ↦ none_in s gs g f b ]
+      | Some w ↦ λ q f.
+          (elim (first_eligible s h.device) as (λ v. first_eligible s h.device ≡ v → offer_or h.device (Some w) v (offer_in s gs) ≡ None → HasNoOffer s g.device) [
+            | None ↦ λ p k. elim a [ inl w ↦ subst (λ (z : GroupRecord). HasNoOffer s z.device) (sym w) (inr (none_eligible s h.device p)) | inr b ↦ none_in s gs g k b ]
+            | Some r ↦ λ p k. absurd (cc (k))
+          ]) refl f
+    ]) refl e
+
+pub nothing_found : (s : Rows) (g : GroupRecord) → offer_of s ≡ None → Among g s.groups → HasNoOffer s g.device
+unfolding offer_of
+nothing_found s g e a = none_in s s.groups g e a
