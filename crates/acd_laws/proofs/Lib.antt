@@ -2,6 +2,7 @@ pub mod Least
 pub mod OfferFound
 pub mod Members
 pub mod MoveEvents
+pub mod Deciding
 pub mod CountedEvents
 pub mod FiguresFit
 pub mod GroupsFound
@@ -26,3 +27,4 @@ pub mod KeptOut
 pub mod KeptPlan
 pub mod KeptAgents
 pub mod Distributing
+pub mod SoundPuts
