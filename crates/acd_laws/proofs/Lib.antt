@@ -28,3 +28,4 @@ pub mod KeptPlan
 pub mod KeptAgents
 pub mod Distributing
 pub mod SoundPuts
+pub mod SoundCalls
