@@ -29,3 +29,4 @@ pub mod KeptAgents
 pub mod Distributing
 pub mod SoundPuts
 pub mod SoundCalls
+pub mod SoundEnds

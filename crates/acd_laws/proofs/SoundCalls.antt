@@ -74,7 +74,7 @@ new_caller : (s : Rows) (n caller : ℕ) (c : CallRecord) → Rules s → s.last
 unfolding with_connection with_call
 new_caller s n caller c r l z a e q =
     elim (among_put _ (plain n caller S.Connected) s.connections z a) [
-      inl w ↦ cc (e, ap (λ (y : ConnectionRecord). is_open y.state) w)
+      inl w ↦ cc (e, w)
       | inr w ↦ cc (connection_there s r z w, ap (λ v. connection_of s v z.device) q, none_above s r n z.device l) ]
 
 pub sound_arrive_call : (s : Rows) (m k b caller called : ℕ) → Rules s → b < k → SoundBy m b k s (arrive_call s m k caller called)
@@ -194,7 +194,7 @@ sound_answer_call s m k b call device r l =
 
 -- hold and retrieve
 
-connected_shut : (st : ConnectionState) → is_connected st ≡ true → is_open st ≡ false
+pub connected_shut : (st : ConnectionState) → is_connected st ≡ true → is_open st ≡ false
 connected_shut S.Connected e = refl
 connected_shut S.Hold e = refl
 connected_shut S.Initiated e = absurd (cc (e))
