@@ -30,3 +30,7 @@ pub mod Distributing
 pub mod SoundPuts
 pub mod SoundCalls
 pub mod SoundEnds
+pub mod Ticking
+pub mod RulesKept
+pub mod RulesStep
+pub mod RulesRead
