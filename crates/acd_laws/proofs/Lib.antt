@@ -34,3 +34,4 @@ pub mod Ticking
 pub mod RulesKept
 pub mod RulesStep
 pub mod RulesRead
+pub mod SoundOffers
