@@ -3,6 +3,7 @@ use Rattle.std.proofs.Common.{◌≡◌, ℕ, ◌+◌, Bool, false, List, [], �
 use Rattle.std.specs.Prelude.{if◌then◌else◌}
 use Rattle.std.proofs.lemmas.Bool.{and_right}
 use Rattle.acd_terms.specs.Lists.{count, total}
+use Rattle.acd_laws.proofs.Lists.{count-append, total-append}
 use Rattle.acd_terms.specs.Scans.{has}
 use Rattle.acd_terms.specs.Figures.{is_entry, is_answer, waited_there, is_abandonment, is_moving_away, is_deflected, figures_of, sum_of_figures}
 use Rattle.acd_terms.specs.Services.Plan.{no_figures}
@@ -12,13 +13,13 @@ use Rattle.acd_terms.specs.declared.event.Event.{Event}
 use Rattle.acd_terms.specs.declared.event.Report.{Report}
 use Rattle.acd_terms.specs.declared.event.Report.TheVariants.{Queued, Established, CallCleared, Diverted}
 
-pub count_joined : {T : Type 0} (p : T → Bool) (xs ys : List T) → count p (xs ++ ys) ≡ count p xs + count p ys
-count_joined p [] ys = omega arith
-count_joined p (x ∷ xs) ys = let ih = count_joined p xs ys in omega (arith, ih)
 
-pub total_joined : {T : Type 0} (f : T → ℕ) (xs ys : List T) → total f (xs ++ ys) ≡ total f xs + total f ys
-total_joined f [] ys = omega arith
-total_joined f (x ∷ xs) ys = let ih = total_joined f xs ys in omega (arith, ih)
+
+
+
+
+
+
 
 -- numbers don't count
 pub count_numbered : (p : Report → Bool) (n : ℕ) (es : List Event) → count (λ (e : Event). p e.report) (numbered n es) ≡ count (λ (e : Event). p e.report) es
@@ -39,11 +40,11 @@ same_five a b c d e v w x y z p q r s t =
 pub figures_joined : (g : ℕ) (es fs : List Event) → figures_of g (es ++ fs) ≡ sum_of_figures (figures_of g es) (figures_of g fs)
 unfolding figures_of
 figures_joined g es fs = same_five _ _ _ _ _ _ _ _ _ _
-    (count_joined (λ (e : Event). is_entry g e.report) es fs)
-    (count_joined (λ (e : Event). is_answer g e.report) es fs)
-    (count_joined (λ (e : Event). is_abandonment g e.report) es fs)
-    (count_joined (λ (e : Event). is_moving_away g e.report) es fs)
-    (total_joined (λ (e : Event). waited_there g e.report) es fs)
+    (count-append (λ (e : Event). is_entry g e.report) es fs)
+    (count-append (λ (e : Event). is_answer g e.report) es fs)
+    (count-append (λ (e : Event). is_abandonment g e.report) es fs)
+    (count-append (λ (e : Event). is_moving_away g e.report) es fs)
+    (total-append (λ (e : Event). waited_there g e.report) es fs)
 
 pub figures_numbered : (g n : ℕ) (es : List Event) → figures_of g (numbered n es) ≡ figures_of g es
 unfolding figures_of

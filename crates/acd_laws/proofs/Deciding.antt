@@ -1,33 +1,3 @@
--- How to show a fact of what a service answers: of each refusal, and of what follows where none applies. Moves in a row.
-use Rattle.std.proofs.Common.{◌≡◌, ℕ, Bool, true, false, List, [], ◌∷◌, ◌++◌, Option, Some, None, refl, ◌∙◌, ap}
-use Rattle.acd_terms.specs.Moves.{changed, moved, with_event, events_of}
-use Rattle.acd_terms.specs.Served.{refuse_if, with_found}
-use Rattle.acd_terms.specs.declared.rows.Rows.{Rows}
-use Rattle.acd_terms.specs.declared.event.Event.{Event}
-use Rattle.acd_terms.specs.declared.event.Report.{Report}
-use Rattle.acd_terms.specs.declared.moves.Move.{Move}
-use Rattle.acd_terms.specs.declared.moves.Served.{Served}
-use Rattle.acd_terms.specs.declared.moves.Served.TheVariants.{Refused}
-use Rattle.acd_terms.specs.declared.answer.Refusal.{Refusal}
-
-pub by_refusal : (P : Served → Type 0) (b : Bool) (r : Refusal) (rest : Served) → ((r : Refusal) → P (Refused r)) → (b ≡ false → P rest) → P (refuse_if b r rest)
-unfolding refuse_if
-by_refusal P true r rest f h = f r
-by_refusal P false r rest f h = h refl
-
-pub by_found : {T : Type 0} (P : Served → Type 0) (o : Option T) (r : Refusal) (rest : T → Served) → ((r : Refusal) → P (Refused r)) → ((x : T) → o ≡ Some x → P (rest x)) → P (with_found o r rest)
-unfolding with_found
-by_found P None r rest f h = f r
-by_found P (Some x) r rest f h = h x refl
-
-pub moved-append : (s : Rows) (ms ns : List Move) → moved s (ms ++ ns) ≡ moved (moved s ms) ns
-moved-append s [] ns = refl
-moved-append s (m ∷ ms) ns = moved-append (changed s m.change) ms ns
-
-with_event-append : (m : ℕ) (o : Option Report) (es fs : List Event) → with_event m o (es ++ fs) ≡ with_event m o es ++ fs
-with_event-append m None es fs = refl
-with_event-append m (Some r) es fs = refl
-
-pub events-append : (m : ℕ) (ms ns : List Move) → events_of m (ms ++ ns) ≡ events_of m ms ++ events_of m ns
-events-append m [] ns = refl
-events-append m (x ∷ ms) ns = ap (with_event m x.report) (events-append m ms ns) ∙ with_event-append m x.report (events_of m ms) (events_of m ns)
+-- Moves in a row.
+pub use Rattle.acd_laws.proofs.Serving.{by_refusal, by_found, moved-append}
+pub use Rattle.acd_laws.proofs.MoveEvents.{events-append}

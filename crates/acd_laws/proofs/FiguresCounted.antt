@@ -32,8 +32,9 @@ use Rattle.acd_terms.specs.declared.moves.Change.{Change}
 use Rattle.acd_terms.specs.declared.moves.Change.TheVariants.{Nothing, PutGroup, PutStation, PutAgent, PutCall, PutConnection, PutMonitor, RemoveCall, RemoveConnection, RemoveMonitor}
 use Rattle.acd_terms.specs.declared.moves.Offer.{Offer}
 use Rattle.acd_laws.specs.FigureLaws.{KeepsFigures, StepKeepsFigures, RunKeepsFigures, StepAddsFigures}
-use Rattle.acd_laws.proofs.Members.{among_put, among_removed, filter_among, mapped_among}
-use Rattle.acd_laws.proofs.Deciding.{by_refusal}
+use Rattle.acd_laws.proofs.Lists.{filter_among, among-remove}
+use Rattle.acd_laws.proofs.Members.{among_put, mapped_among}
+use Rattle.acd_laws.proofs.Serving.{by_refusal}
 use Rattle.acd_laws.proofs.CountedEvents.{group_counted, quiet, figures_joined, figures_numbered, figures_skipped, no_events, nothing_sum}
 use Rattle.acd_laws.proofs.GroupsFound.{group_found_put, group_counted_found, is_some_mapped}
 use Rattle.acd_laws.proofs.FiguresFit.{IsAmongGroups, KnowsGroups, LeavesGroups, PutsKnown, ReportsKnown, AllFit, FitsState, known_found, fits_release, fits_go_from, fits_add_station, fits_add_agent, fits_arrive_call, fits_make_call, fits_phone_off_hook, fits_answer_call, fits_hold_call, fits_retrieve_call, fits_clear_connection, fits_deflect_call, fits_single_step_transfer, fits_set_agent_state, fits_monitor_start, fits_monitor_stop}
@@ -68,7 +69,7 @@ knows_changed gs s (PutCall c) p h x a = h x a
 knows_changed gs s (PutConnection y) p h x a = elim (among_put _ y s.connections x a) [ inl e ↦ subst (λ (z : ConnectionRecord). IsAmongGroups gs z.group) (sym e) p | inr b ↦ h x b ]
 knows_changed gs s (PutMonitor w) p h x a = h x a
 knows_changed gs s (RemoveCall c) p h x a = h x a
-knows_changed gs s (RemoveConnection c d) p h x a = h x (among_removed _ s.connections x a)
+knows_changed gs s (RemoveConnection c d) p h x a = h x (among-remove _ s.connections x a)
 knows_changed gs s (RemoveMonitor w) p h x a = h x a
 
 knows_moved : (P : Type 0) (gs : List GroupRecord) (s : Rows) (ms : List Move) → AllFit P gs ms → P → ((x : ConnectionRecord) → Among x s.connections → IsAmongGroups gs x.group)

@@ -35,8 +35,9 @@ use Rattle.acd_terms.specs.declared.moves.Change.TheVariants.{PutGroup, PutAgent
 use Rattle.acd_terms.specs.declared.moves.Release.{Release}
 use Rattle.acd_terms.specs.declared.moves.Release.TheVariants.{Stays, Goes}
 use Rattle.acd_terms.specs.declared.moves.Ending.{Ending}
-use Rattle.acd_laws.proofs.Members.{found_among, first_among}
-use Rattle.acd_laws.proofs.Deciding.{by_refusal, by_found}
+use Rattle.acd_laws.proofs.Lists.{find_among}
+use Rattle.acd_laws.proofs.Members.{found_among}
+use Rattle.acd_laws.proofs.Serving.{by_refusal, by_found}
 use Rattle.acd_laws.proofs.CountedEvents.{group_counted}
 
 -- there is no group, or it is one of these
@@ -81,7 +82,7 @@ known_found s call device x e k = k x (found_among _ s.connections x e)
 
 pub known_other : (s : Rows) (x y : ConnectionRecord) → other_of s x ≡ Some y → KnowsGroups s → IsAmongGroups s.groups y.group
 unfolding other_of
-known_other s x y e k = k y (first_among _ s.connections y e)
+known_other s x y e k = k y (find_among _ s.connections y e)
 
 -- an agent's moves
 

@@ -1,6 +1,7 @@
 pub mod Least
 pub mod OfferFound
 pub mod Members
+pub mod MoveEvents
 pub mod Deciding
 pub mod CountedEvents
 pub mod FiguresFit
@@ -14,6 +15,10 @@ pub mod Arriving
 pub mod KeptArrival
 pub mod KeptOffer
 pub mod Releasing
+pub mod Told
+pub mod Balance
+pub mod Order
+pub mod SoundMoves
 pub mod KeptReturn
 pub mod KeptClearing
 pub mod KeptTalking
@@ -22,6 +27,9 @@ pub mod KeptOut
 pub mod KeptPlan
 pub mod KeptAgents
 pub mod Distributing
+pub mod SoundPuts
+pub mod SoundCalls
+pub mod SoundEnds
 pub mod Ticking
 pub mod RulesKept
 pub mod RulesStep
@@ -29,3 +37,4 @@ pub mod RulesRead
 pub mod ConnectionsRead
 pub mod BoundsRead
 pub mod RulesWritten
+pub mod SoundOffers
