@@ -38,3 +38,5 @@ pub mod ConnectionsRead
 pub mod BoundsRead
 pub mod RulesWritten
 pub mod SoundOffers
+pub mod Steady
+pub mod Orderly
