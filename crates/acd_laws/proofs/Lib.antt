@@ -40,3 +40,4 @@ pub mod RulesWritten
 pub mod SoundOffers
 pub mod Steady
 pub mod Orderly
+pub mod Behaving
