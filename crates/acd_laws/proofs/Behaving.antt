@@ -48,7 +48,7 @@ use Rattle.acd_laws.proofs.Lists.{one, find-put_hit, find-put_miss, find-filter,
 use Rattle.acd_laws.proofs.State.{eqb_self, cmp_equal, cmp_self, key_is, is_of, is_of_true, is_of_self, order_equal, order_same, connection_key, groups_total, stations_total, agents_total, calls_total, connections_total, monitors_total, connection_find, agent_find, call_find, group_find, station_find, monitor_find, is_group_any, is_station_any, at_put, connections_without, calls_without, at_remove, agent_put, call_put, call_remove, group_put, station_put, found_key, own_key, connection_among, connection_found, agent_among, agent_key, agent_own, agent_found, call_among, call_key, call_found, put_other, removed_other, still_none}
 use Rattle.std.proofs.lemmas.Bool.{leb-true, le-leb, lt-leb, leb-false}
 use Rattle.acd_terms.specs.Limits.{limits_fit}
-use Rattle.acd_terms.specs.Services.Plan.{add_group, add_station, add_agent, is_used, new_group, new_agent}
+use Rattle.acd_terms.specs.Services.Plan.{add_group, add_station, add_agent, is_used, new_group, new_agent, no_figures}
 use Rattle.acd_terms.specs.Services.NewCalls.{arrive_call, make_call, phone_off_hook, next_call}
 use Rattle.acd_terms.specs.Services.Talking.{answer_call, hold_call, retrieve_call, occupy}
 use Rattle.acd_terms.specs.Services.Clearing.{clear_connection, clearing, clear_other, release_other, cleared_group}
@@ -125,9 +125,9 @@ planned_station s g d e = elim (or_cases (is_group s d) (is_station s d) e) [
     inl w ↦ or_left _ _ (group_stays s g d ∙ w)
     | inr w ↦ or_right (is_group (with_station s g) d) _ (station_put s g d ∙ or_right (g.device == d) (is_station s d) w) ]
 
-behaves_group : (s : Rows) (k m : ℕ) (g : GroupRecord) → nat_le s.limits.groups (length s.groups) ≡ false → Behaves s k m (silent (PutGroup g) ∷ [])
+behaves_group : (s : Rows) (k m : ℕ) (g : GroupRecord) → nat_le s.limits.groups (length s.groups) ≡ false → g.figures ≡ no_figures → Behaves s k m (silent (PutGroup g) ∷ [])
 unfolding with_group
-behaves_group s k m g room = (quiet s k m (PutGroup g) tt refl, record { sizes = sizes_group s g room;
+behaves_group s k m g room none = (quiet s k m (PutGroup g) none refl, record { sizes = sizes_group s g room;
     monitors = monitored_more s (with_group s g) (planned_group s g) refl refl refl; limits = refl; last_call = omega arith; last_monitor = omega arith; last_event = refl })
 
 behaves_station : (s : Rows) (k m : ℕ) (g : StationRecord) → nat_le s.limits.stations (length s.stations) ≡ false → Behaves s k m (silent (PutStation g) ∷ [])
@@ -145,7 +145,7 @@ unfolding add_group
 behaves_add_group s k m device name ring wrap =
     by_refusal (λ v. Behaves s k m (moves_of v)) _ _ _ (λ _. behaves_nothing s k m) (λ _.
     by_refusal (λ v. Behaves s k m (moves_of v)) _ _ _ (λ _. behaves_nothing s k m) (λ room.
-      behaves_group s k m (new_group device name ring wrap) room))
+      behaves_group s k m (new_group device name ring wrap) room refl))
 
 pub behaves_add_station : (s : Rows) (k m device : ℕ) → Behaves s k m (moves_of (add_station s device))
 unfolding add_station
@@ -405,7 +405,7 @@ agent_connections : (s : Rows) (a : AgentRecord) → (with_agent s a).connection
 unfolding with_agent
 agent_connections s a = refl
 
-go_from_connections : (s : Rows) (m k : ℕ) (a : AgentRecord) (o : Option ℕ) (st : AgentState) → (changed s (go_from m k a o st).change).connections ≡ s.connections
+pub go_from_connections : (s : Rows) (m k : ℕ) (a : AgentRecord) (o : Option ℕ) (st : AgentState) → (changed s (go_from m k a o st).change).connections ≡ s.connections
 go_from_connections s m k a None st = refl
 go_from_connections s m k a (Some d) st = agent_connections s (in_state st m k a)
 

@@ -41,3 +41,5 @@ pub mod SoundOffers
 pub mod Steady
 pub mod Orderly
 pub mod Behaving
+pub mod Rounds
+pub mod Numbers

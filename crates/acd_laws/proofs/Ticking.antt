@@ -1,5 +1,5 @@
 -- tick: what each return of a call and each end of after-call work keeps, all of them keep.
-use Rattle.std.proofs.Common.{◌≡◌, ◌≢◌, ℕ, zero, suc, ◌+◌, ◌<◌, ◌≤◌, ◌⊎◌, inl, inr, Bool, true, false, not, ◌&&◌, ◌||◌, cond, List, [], ◌∷◌, ◌++◌, Option, Some, None, refl, sym, ◌∙◌, ap, subst, arith, length, eq-eqb}
+use Rattle.std.proofs.Common.{◌≡◌, ◌≢◌, ℕ, zero, suc, ◌+◌, ◌*◌, ◌<◌, ◌≤◌, ◌⊎◌, inl, inr, Bool, true, false, not, ◌&&◌, ◌||◌, cond, List, [], ◌∷◌, ◌++◌, Option, Some, None, refl, sym, ◌∙◌, ap, subst, arith, length, eq-eqb}
 use Rattle.std.specs.Prelude.{◌==◌, if◌then◌else◌, IsTrue, IsFalse, is_some, is_none, filter, find, nat_le, max}
 use Rattle.std.specs.List.{list_any, list_all}
 use Rattle.std.specs.Cmp.{IsTotalOrder}
@@ -189,7 +189,7 @@ rested_ascend : (s : Rows) (m : ℕ) → Rules s → IsAscending agent_order (re
 unfolding rested_in
 rested_ascend s m r = ascending-filter agent_order (is_rested s m) s.agents r.orders.agents
 
-returned : (P : Rows → List Event → Type 0) (m k : ℕ) → ReturnKeeps P m k → (s : Rows) (es : List Event) → Rules s → P s es → Rules (moved s (returns s m k)) × Kept P m s es (returns s m k)
+pub returned : (P : Rows → List Event → Type 0) (m k : ℕ) → ReturnKeeps P m k → (s : Rows) (es : List Event) → Rules s → P s es → Rules (moved s (returns s m k)) × Kept P m s es (returns s m k)
 unfolding returns
 returned P m k f s es r h = returns_keep P m k f s es (overdue_in s m) (overdue_ascend s m r) (overdue_back s m) r h
 
