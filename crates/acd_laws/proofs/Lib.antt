@@ -35,3 +35,4 @@ pub mod RulesKept
 pub mod RulesStep
 pub mod RulesRead
 pub mod SoundOffers
+pub mod Following
