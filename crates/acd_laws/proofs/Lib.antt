@@ -36,3 +36,5 @@ pub mod RulesStep
 pub mod RulesRead
 pub mod SoundOffers
 pub mod Following
+pub mod Runs
+pub mod WatchedRuns
