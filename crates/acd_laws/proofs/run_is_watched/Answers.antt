@@ -1,0 +1,5 @@
+use Rattle.acd_laws.proofs.WatchedRuns.{run_is_watched}
+use Rattle.acd_laws.proofs.run_is_watched.Goals as goal
+
+pub returns : goal.returns
+returns c = run_is_watched

@@ -1,0 +1,5 @@
+use Rattle.acd_laws.proofs.WatchedRuns.{run_leaves_no_offer}
+use Rattle.acd_laws.proofs.run_leaves_no_offer.Goals as goal
+
+pub returns : goal.returns
+returns c = run_leaves_no_offer

@@ -1,0 +1,5 @@
+use Rattle.acd_laws.proofs.WatchedRuns.{step_leaves_no_offer}
+use Rattle.acd_laws.proofs.step_leaves_no_offer.Goals as goal
+
+pub returns : goal.returns
+returns c = step_leaves_no_offer
