@@ -34,6 +34,9 @@ pub mod Ticking
 pub mod RulesKept
 pub mod RulesStep
 pub mod RulesRead
+pub mod ConnectionsRead
+pub mod BoundsRead
+pub mod RulesWritten
 pub mod SoundOffers
 pub mod Following
 pub mod Runs

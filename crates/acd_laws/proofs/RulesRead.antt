@@ -91,7 +91,7 @@ ascending_from cmp o (x ∷ y ∷ ys) e =
     let ih = ascending_from cmp o (y ∷ ys) h.1 in
     ((l, after_lower cmp o x y l ys ih.0), ih)
 
-orders_read : (s : Rows) → keeps_order s ≡ true → Orders s
+pub orders_read : (s : Rows) → keeps_order s ≡ true → Orders s
 unfolding keeps_order
 orders_read s e =
     let a = and_parts (ascends group_order s.groups && ascends station_order s.stations && ascends agent_order s.agents && ascends call_order s.calls && ascends connection_order s.connections) (ascends monitor_order s.monitors) e in
@@ -122,7 +122,7 @@ station_there s d e =
     let f = some_from (find p s.stations) (any_found p s.stations (sym (is_station_any s d) ∙ e)) in
     (f.0, (find_among p s.stations f.0 f.1, eqb-true f.0.device d (find_passes p s.stations f.0 f.1)))
 
-kinds_read : (s : Rows) → keeps_device s ≡ true → (d : ℕ) → is_group s d ≡ true → is_station s d ≡ false
+pub kinds_read : (s : Rows) → keeps_device s ≡ true → (d : ℕ) → is_group s d ≡ true → is_station s d ≡ false
 unfolding keeps_device
 kinds_read s e d h =
     let g = group_there s d h in
@@ -168,7 +168,7 @@ pub record AgentsRead (s : Rows) : Type 0 where
   pub each : Every (AgentRule s) s.agents
   pub one : (d : ℕ) → count (seated_at d) s.agents ≤ 1
 
-agents_read : (s : Rows) → keeps_agent s ≡ true → AgentsRead s
+pub agents_read : (s : Rows) → keeps_agent s ≡ true → AgentsRead s
 unfolding keeps_agent
 agents_read s e =
     let parts : (a : AgentRecord) → Among a s.agents → ((if is_null a.state then is_none a.station && is_none a.group && is_none a.pending else is_station_there s a.station && is_group_there s a.group) ≡ true) × (is_alone_at s a.station ≡ true) =
@@ -183,7 +183,7 @@ agents_read s e =
 
 -- calls
 
-calls_read : (s : Rows) → keeps_call s ≡ true → Every (CallRule s) s.calls
+pub calls_read : (s : Rows) → keeps_call s ≡ true → Every (CallRule s) s.calls
 unfolding keeps_call
 calls_read s e = every_from (CallRule s) s.calls (λ c i.
     let p = all_true (λ (c : CallRecord). is_planned s c.called && not (c.called == c.caller) && not (is_group s c.caller) && nat_le c.call s.last_call) s.calls e c i in
