@@ -24,7 +24,7 @@ use Rattle.acd_terms.specs.Choice.{waiting_pair, ready_pair, offer_of}
 use Rattle.acd_terms.specs.Offers.{IsOffer, HasNoOffer}
 use Rattle.acd_terms.specs.Distribution.{offer_at, offer_moves, with_offer, offers, distribution}
 use Rattle.acd_laws.proofs.Members.{mapped_among}
-use Rattle.acd_laws.proofs.Deciding.{events-append}
+use Rattle.acd_laws.proofs.MoveEvents.{events-append}
 use Rattle.acd_laws.proofs.OfferFound.{finds_the_offer, nothing_found}
 use Rattle.acd_laws.proofs.Serving.{moved-append}
 use Rattle.acd_laws.proofs.Found.{count_new, count_less, connection_there}

@@ -30,7 +30,7 @@ use Rattle.std.proofs.Common.{append_assoc, append-nil}
 use Rattle.acd_terms.specs.declared.event.Event.{Event}
 use Rattle.acd_terms.specs.Moves.{events_of}
 use Rattle.acd_terms.specs.Tick.{is_overdue_offer, is_overdue, overdue_in, return_to, return_moves, is_rested, rested_in, rest_moves, each, returns, rests, tick, is_over_in}
-use Rattle.acd_laws.proofs.Deciding.{events-append}
+use Rattle.acd_laws.proofs.MoveEvents.{events-append}
 use Rattle.acd_laws.proofs.Serving.{moved-append}
 use Rattle.acd_laws.proofs.Found.{connection_there}
 use Rattle.acd_laws.proofs.KeptReturn.{kept_return_to}
