@@ -9,6 +9,7 @@ ghost use Rattle.acd_laws.specs.FigureLaws.{StepKeepsFigures, RunKeepsFigures, S
 ghost use Rattle.acd_laws.specs.WatchedLaws.{StepTells, RunIsWatched};
 ghost use Rattle.acd_laws.specs.BalanceLaws.{StepBalances, RunIsBalanced};
 ghost use Rattle.acd_laws.specs.OfferLaws.{StepLeavesNoOffer, RunLeavesNoOffer};
+ghost use Rattle.acd_laws.specs.PlacedLaws.{RulesGiveOneOffer, RunHasOneOffer};
 
 /// The offer that is found is the one that the relation allows, and one is found wherever there is one.
 pub fn finds_the_offer()
@@ -58,4 +59,14 @@ pub fn step_leaves_no_offer()
 /// After every run no group has both a waiting call and an eligible agent.
 pub fn run_leaves_no_offer()
     ensures { RunLeavesNoOffer }
+{}
+
+/// Where a state keeps the rules, a station has one distributed connection at most, its agent is ready or busy with it, and no other agent is busy.
+pub fn rules_give_one_offer()
+    ensures { RulesGiveOneOffer }
+{}
+
+/// After every run a station has one distributed connection at most, its agent is ready or busy with it, and no other agent is busy.
+pub fn run_has_one_offer()
+    ensures { RunHasOneOffer }
 {}
