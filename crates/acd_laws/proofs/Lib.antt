@@ -2,7 +2,6 @@ pub mod Least
 pub mod OfferFound
 pub mod Members
 pub mod MoveEvents
-pub mod Deciding
 pub mod CountedEvents
 pub mod FiguresFit
 pub mod GroupsFound
@@ -43,3 +42,8 @@ pub mod Orderly
 pub mod Behaving
 pub mod Rounds
 pub mod Numbers
+pub mod Following
+pub mod Runs
+pub mod WatchedRuns
+pub mod OneOffer
+pub mod BoundsStep
