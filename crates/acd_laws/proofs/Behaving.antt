@@ -1,5 +1,5 @@
 -- Each service keeps its records, sizes and identifiers within bounds.
-use Rattle.std.proofs.Common.{◌≡◌, ◌≢◌, ℕ, zero, suc, ◌+◌, ◌*◌, ◌<◌, ◌≤◌, ◌⊎◌, inl, inr, Bool, true, false, not, ◌&&◌, ◌||◌, cond, List, [], ◌∷◌, ◌++◌, Option, Some, None, refl, sym, ◌∙◌, ap, subst, arith, length, eq-eqb}
+use Rattle.std.proofs.Common.{◌≡◌, ◌≢◌, ℕ, zero, suc, ◌+◌, ◌*◌, ◌^◌, ◌<◌, ◌≤◌, ◌⊎◌, inl, inr, Bool, true, false, not, ◌&&◌, ◌||◌, cond, List, [], ◌∷◌, ◌++◌, Option, Some, None, refl, sym, ◌∙◌, ap, subst, arith, length, eq-eqb}
 use Rattle.std.specs.Prelude.{◌==◌, if◌then◌else◌, IsTrue, IsFalse, is_some, is_none, filter, find, nat_le, max}
 use Rattle.std.specs.List.{list_any, list_all}
 use Rattle.std.specs.Cmp.{IsTotalOrder}
@@ -48,7 +48,7 @@ use Rattle.acd_laws.proofs.Lists.{one, find-put_hit, find-put_miss, find-filter,
 use Rattle.acd_laws.proofs.State.{eqb_self, cmp_equal, cmp_self, key_is, is_of, is_of_true, is_of_self, order_equal, order_same, connection_key, groups_total, stations_total, agents_total, calls_total, connections_total, monitors_total, connection_find, agent_find, call_find, group_find, station_find, monitor_find, is_group_any, is_station_any, at_put, connections_without, calls_without, at_remove, agent_put, call_put, call_remove, group_put, station_put, found_key, own_key, connection_among, connection_found, agent_among, agent_key, agent_own, agent_found, call_among, call_key, call_found, put_other, removed_other, still_none}
 use Rattle.std.proofs.lemmas.Bool.{leb-true, le-leb, lt-leb, leb-false}
 use Rattle.acd_terms.specs.Limits.{limits_fit}
-use Rattle.acd_terms.specs.Services.Plan.{add_group, add_station, add_agent, is_used, new_group, new_agent, no_figures}
+use Rattle.acd_terms.specs.Services.Plan.{add_group, add_station, add_agent, is_used, new_group, new_agent}
 use Rattle.acd_terms.specs.Services.NewCalls.{arrive_call, make_call, phone_off_hook, next_call}
 use Rattle.acd_terms.specs.Services.Talking.{answer_call, hold_call, retrieve_call, occupy}
 use Rattle.acd_terms.specs.Services.Clearing.{clear_connection, clearing, clear_other, release_other, cleared_group}
@@ -61,8 +61,9 @@ use Rattle.acd_terms.specs.declared.answer.Answer.TheVariants as answer
 use Rattle.acd_laws.specs.Bounds.{Sizes, AgentTimed, CallTimed, ConnectionTimed, at_place, Timed, MonitorRule, Monitored}
 use Rattle.acd_laws.proofs.Balance.{entries, entry_by}
 use Rattle.acd_laws.proofs.Serving.{by_refusal, by_found}
+use Rattle.acd_laws.proofs.Members.{among_put}
 use Rattle.acd_laws.proofs.Found.{count_old}
-use Rattle.acd_laws.proofs.Steady.{knows, Steady, AllSteady, Steadied, Settled, settled, settled_nothing, steadied, sizes_steadied, monitored_steadied, length-put, length-remove}
+use Rattle.acd_laws.proofs.Steady.{knows, IsNew, Steady, AllSteady, Steadied, Settled, settled, settled_nothing, steadied, sizes_steadied, monitored_steadied, length-put, length-remove}
 use Rattle.acd_laws.proofs.Orderly.{Fit, FitMove, AllFit, WaitsUpTo, Orderly, orderly_nothing, timed_plain, fit_arrive, fit_go_from, fit_wait, fit_release, fit_occupy, fit_answer, timed_state, agent_timed, entry_most, entry_release, entry_occupy, entry_go_from, places_put, places_remove, places_arrive, places_release, places_occupy, steady_release, steady_occupy, steady_go_from, steady_arrive}
 
 abbrev pub Behaves : Rows → ℕ → ℕ → List Move → Type 0
@@ -125,27 +126,31 @@ planned_station s g d e = elim (or_cases (is_group s d) (is_station s d) e) [
     inl w ↦ or_left _ _ (group_stays s g d ∙ w)
     | inr w ↦ or_right (is_group (with_station s g) d) _ (station_put s g d ∙ or_right (g.device == d) (is_station s d) w) ]
 
-behaves_group : (s : Rows) (k m : ℕ) (g : GroupRecord) → nat_le s.limits.groups (length s.groups) ≡ false → g.figures ≡ no_figures → Behaves s k m (silent (PutGroup g) ∷ [])
+put_new : (s : Rows) (g z : GroupRecord) → IsNew s g → (z ≡ g) ⊎ Among z s.groups → Among z s.groups ⊎ IsNew s z
+put_new s g z new (inl e) = inr (subst (IsNew s) (sym e) new)
+put_new s g z new (inr a) = inl a
+
+behaves_group : (s : Rows) (k m : ℕ) (g : GroupRecord) → nat_le s.limits.groups (length s.groups) ≡ false → IsNew s g → Behaves s k m (silent (PutGroup g) ∷ [])
 unfolding with_group
-behaves_group s k m g room none = (quiet s k m (PutGroup g) none refl, record { sizes = sizes_group s g room;
-    monitors = monitored_more s (with_group s g) (planned_group s g) refl refl refl; limits = refl; last_call = omega arith; last_monitor = omega arith; last_event = refl })
+behaves_group s k m g room new = (quiet s k m (PutGroup g) tt refl, record { sizes = sizes_group s g room;
+    monitors = monitored_more s (with_group s g) (planned_group s g) refl refl refl; groups = λ z a. put_new s g z new (among_put (at_group g.device) g s.groups z a); limits = refl; last_call = omega arith; last_monitor = omega arith; last_event = refl })
 
 behaves_station : (s : Rows) (k m : ℕ) (g : StationRecord) → nat_le s.limits.stations (length s.stations) ≡ false → Behaves s k m (silent (PutStation g) ∷ [])
 unfolding with_station
 behaves_station s k m g room = (quiet s k m (PutStation g) tt refl, record { sizes = sizes_station s g room;
-    monitors = monitored_more s (with_station s g) (planned_station s g) refl refl refl; limits = refl; last_call = omega arith; last_monitor = omega arith; last_event = refl })
+    monitors = monitored_more s (with_station s g) (planned_station s g) refl refl refl; groups = λ z a. inl a; limits = refl; last_call = omega arith; last_monitor = omega arith; last_event = refl })
 
 behaves_agent : (s : Rows) (k m : ℕ) (g : AgentRecord) → nat_le s.limits.agents (length s.agents) ≡ false → AgentTimed k m g → Behaves s k m (silent (PutAgent g) ∷ [])
 unfolding with_agent group_of station_of
 behaves_agent s k m g room h = (quiet s k m (PutAgent g) h refl, record { sizes = sizes_agent s g room;
-    monitors = monitored_more s (with_agent s g) (λ d e. e) refl refl refl; limits = refl; last_call = omega arith; last_monitor = omega arith; last_event = refl })
+    monitors = monitored_more s (with_agent s g) (λ d e. e) refl refl refl; groups = λ z a. inl a; limits = refl; last_call = omega arith; last_monitor = omega arith; last_event = refl })
 
 pub behaves_add_group : (s : Rows) (k m device : ℕ) (name : List ℕ) (ring wrap : ℕ) → Behaves s k m (moves_of (add_group s device name ring wrap))
 unfolding add_group
 behaves_add_group s k m device name ring wrap =
-    by_refusal (λ v. Behaves s k m (moves_of v)) _ _ _ (λ _. behaves_nothing s k m) (λ _.
+    by_refusal (λ v. Behaves s k m (moves_of v)) _ _ _ (λ _. behaves_nothing s k m) (λ free.
     by_refusal (λ v. Behaves s k m (moves_of v)) _ _ _ (λ _. behaves_nothing s k m) (λ room.
-      behaves_group s k m (new_group device name ring wrap) room refl))
+      behaves_group s k m (new_group device name ring wrap) room (refl, (or_parts (is_group s device) (is_station s device) (or_parts (is_planned s device) (is_calling s device) free).0).0)))
 
 pub behaves_add_station : (s : Rows) (k m device : ℕ) → Behaves s k m (moves_of (add_station s device))
 unfolding add_station
@@ -171,7 +176,7 @@ monitored_put s w p e h = every-put (at_monitor w.monitor) (MonitorRule (with_mo
 behaves_monitor : (s : Rows) (k m : ℕ) (w : MonitorRecord) → nat_le s.limits.monitors (length s.monitors) ≡ false → is_planned s w.device ≡ true → w.after_event ≡ s.last_event → w.monitor ≡ s.last_monitor + 1
     → Behaves s k m (silent (PutMonitor w) ∷ [])
 unfolding with_monitor
-behaves_monitor s k m w room p e n = (quiet s k m (PutMonitor w) tt refl, record { sizes = sizes_monitor s w room; monitors = monitored_put s w p e; limits = refl; last_call = omega arith; last_monitor = omega (arith, n); last_event = refl })
+behaves_monitor s k m w room p e n = (quiet s k m (PutMonitor w) tt refl, record { sizes = sizes_monitor s w room; monitors = monitored_put s w p e; groups = λ z a. inl a; limits = refl; last_call = omega arith; last_monitor = omega (arith, n); last_event = refl })
 
 pub behaves_monitor_start : (s : Rows) (k m device : ℕ) → Behaves s k m (moves_of (monitor_start s device))
 unfolding monitor_start
@@ -198,6 +203,10 @@ called s c h = monitored_more s (with_call s c) (λ d e. e) refl refl refl h
 same_limits : (s : Rows) (c : CallRecord) → (with_call s c).limits ≡ s.limits
 unfolding with_call
 same_limits s c = refl
+
+same_groups : (s : Rows) (c : CallRecord) → (with_call s c).groups ≡ s.groups
+unfolding with_call
+same_groups s c = refl
 
 same_event : (s : Rows) (c : CallRecord) → (with_call s c).last_event ≡ s.last_event
 unfolding with_call
@@ -227,7 +236,7 @@ settled_call s c ms room n f =
     record {
       sizes = λ h. sizes_steadied (with_call s c) t f (sizes_call s c room h);
       monitors = λ h. monitored_steadied (with_call s c) t f (called s c h);
-      limits = f.limits ∙ same_limits s c; last_call = raised s c (moved (with_call s c) ms).last_call n a; last_monitor = same_monitor s c t.last_monitor b; last_event = f.last_event ∙ same_event s c }
+      groups = λ z i. inl (subst (Among z) (f.groups ∙ same_groups s c) i); limits = f.limits ∙ same_limits s c; last_call = raised s c (moved (with_call s c) ms).last_call n a; last_monitor = same_monitor s c t.last_monitor b; last_event = f.last_event ∙ same_event s c }
 
 arriving_behaves : (s : Rows) (k m : ℕ) (c : CallRecord) → 1 ≤ k → IsAscending agent_order s.agents → c.call ≡ s.last_call + 1 → c.since ≤ m → nat_le s.limits.calls (length s.calls) ≡ false
     → Behaves s k m (begin c ∷ connect_caller c.call c.caller ∷ arrive s m k c.call c.called C.NewCall ∷ [])

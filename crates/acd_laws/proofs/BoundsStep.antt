@@ -1,5 +1,5 @@
 -- The moves of a step stay within bounds.
-use Rattle.std.proofs.Common.{◌≡◌, ◌≢◌, ℕ, zero, suc, ◌+◌, ◌*◌, ◌<◌, ◌≤◌, ◌⊎◌, inl, inr, Bool, true, false, not, ◌&&◌, ◌||◌, cond, List, [], ◌∷◌, ◌++◌, Option, Some, None, refl, sym, ◌∙◌, ap, subst, arith, length, eq-eqb}
+use Rattle.std.proofs.Common.{◌≡◌, ◌≢◌, ℕ, zero, suc, ◌+◌, ◌*◌, ◌^◌, ◌<◌, ◌≤◌, ◌⊎◌, inl, inr, Bool, true, false, not, ◌&&◌, ◌||◌, cond, List, [], ◌∷◌, ◌++◌, Option, Some, None, refl, sym, ◌∙◌, ap, subst, arith, length, eq-eqb}
 use Rattle.std.specs.Prelude.{◌==◌, if◌then◌else◌, IsTrue, IsFalse, is_some, is_none, filter, find, nat_le, max}
 use Rattle.std.specs.List.{list_any, list_all}
 use Rattle.std.specs.Cmp.{IsTotalOrder}
@@ -62,8 +62,8 @@ use Rattle.acd_laws.proofs.Balance.{entries}
 use Rattle.acd_laws.proofs.Serving.{moved-append}
 use Rattle.acd_laws.proofs.MoveEvents.{events-append}
 use Rattle.acd_laws.proofs.RulesKept.{rules_serve}
-use Rattle.acd_laws.proofs.Steady.{Steadied, Settled, sizes_steadied, monitored_steadied}
-use Rattle.acd_laws.proofs.Orderly.{AllFit, Orderly, timed_moved, groups_moved}
+use Rattle.acd_laws.proofs.Steady.{IsNew, Steadied, Settled, sizes_steadied, monitored_steadied}
+use Rattle.acd_laws.proofs.Orderly.{AllFit, Orderly, timed_moved}
 use Rattle.acd_laws.proofs.Behaving.{Behaves, behaves_add_group, behaves_add_station, behaves_add_agent, behaves_arrive_call, behaves_make_call, behaves_phone_off_hook, behaves_answer_call, behaves_hold_call, behaves_retrieve_call, behaves_clear_connection, behaves_deflect_call, behaves_single_step_transfer, behaves_set_agent_state, behaves_monitor_start, behaves_monitor_stop}
 use Rattle.acd_laws.proofs.Rounds.{AllWait, entered_is, waits_events, every-append, Within, distribution_within, tick_within, returns_agents}
 use Rattle.acd_laws.proofs.Numbers.{events_length, connections_length, Greatest, greatest, distribution_length, tick_length}
@@ -74,6 +74,7 @@ pub record After (s : Rows) (k m most : ℕ) (t : Rows) (es : List Event) : Type
   pub places : (p : ℕ) → count (at_place p) t.connections ≤ one (k == p) + count (at_place p) s.connections
   pub sizes : Sizes t
   pub monitors : Monitored t
+  pub groups : (g : GroupRecord) → Among g t.groups → Among g s.groups ⊎ IsNew s g
   pub limits : t.limits ≡ s.limits
   pub last_call : t.last_call ≤ s.last_call + 1
   pub last_monitor : t.last_monitor ≤ s.last_monitor + 1
@@ -92,7 +93,7 @@ pub record Before (s : Rows) (k m : ℕ) : Type 0 where
 
 after_service : (s : Rows) (k m : ℕ) (ms : List Move) → Before s k m → Behaves s k m ms → After s k m 13000 (moved s ms) (events_of m ms)
 after_service s k m ms b h = record {
-    timed = timed_moved s s k m ms b.timed h.0.fit; places = h.0.places; sizes = h.1.sizes b.sizes; monitors = h.1.monitors b.monitors; limits = h.1.limits;
+    timed = timed_moved s s k m ms b.timed h.0.fit; places = h.0.places; sizes = h.1.sizes b.sizes; monitors = h.1.monitors b.monitors; groups = h.1.groups; limits = h.1.limits;
     last_call = h.1.last_call; last_monitor = h.1.last_monitor; last_event = h.1.last_event;
     entries = λ g. (let e = entered_is g m ms in let f = h.0.entries g in omega (arith, e, f));
     waits = waits_events s k m ms h.0.fit; few = (let a = events_length m ms in let c = h.0.few in omega (arith, a, c)) }
@@ -102,7 +103,7 @@ after_rounds : (s : Rows) (k m most more : ℕ) (t u : Rows) (es fs : List Event
 after_rounds s k m most more t u es fs a w l = record {
     timed = w.timed;
     places = λ p. (let x = a.places p in let y = w.places p in omega (arith, x, y));
-    sizes = sizes_steadied t u w.steady a.sizes; monitors = monitored_steadied t u w.steady a.monitors; limits = w.steady.limits ∙ a.limits;
+    sizes = sizes_steadied t u w.steady a.sizes; monitors = monitored_steadied t u w.steady a.monitors; groups = λ g i. a.groups g (subst (Among g) w.steady.groups i); limits = w.steady.limits ∙ a.limits;
     last_call = (let x = a.last_call in let y = w.steady.last_call in omega (arith, x, y)); last_monitor = (let x = a.last_monitor in let y = w.steady.last_monitor in omega (arith, x, y)); last_event = w.steady.last_event ∙ a.last_event;
     entries = λ g. (let x = a.entries g in let y = w.entries g in let z = count-append (λ (e : Event). is_entry g e.report) es fs in omega (arith, x, y, z));
     waits = every-append _ es fs a.waits w.waits;
@@ -113,7 +114,7 @@ after_rounds s k m most more t u es fs a w l = record {
     length-joined (x ∷ xs) ys = (let ih = length-joined xs ys in omega (arith, ih))
 
 after_nothing : (s : Rows) (k m : ℕ) → Before s k m → After s k m 0 s []
-after_nothing s k m b = record { timed = b.timed; places = λ p. omega arith; sizes = b.sizes; monitors = b.monitors; limits = refl; last_call = omega arith; last_monitor = omega arith; last_event = refl; entries = λ g. omega arith; waits = tt; few = omega arith }
+after_nothing s k m b = record { timed = b.timed; places = λ p. omega arith; sizes = b.sizes; monitors = b.monitors; groups = λ g i. inl i; limits = refl; last_call = omega arith; last_monitor = omega arith; last_event = refl; entries = λ g. omega arith; waits = tt; few = omega arith }
 
 after_tick : (s : Rows) (k m : ℕ) → Before s k m → After s k m 13000 (moved s (tick s m k)) (events_of m (tick s m k))
 after_tick s k m b =

@@ -47,3 +47,4 @@ pub mod Runs
 pub mod WatchedRuns
 pub mod OneOffer
 pub mod BoundsStep
+pub mod RulesAll

@@ -1,5 +1,5 @@
 -- What services keep of stamps, moments and places: by each move.
-use Rattle.std.proofs.Common.{◌≡◌, ◌≢◌, ℕ, zero, suc, ◌+◌, ◌*◌, ◌<◌, ◌≤◌, ◌⊎◌, inl, inr, Bool, true, false, not, ◌&&◌, ◌||◌, cond, List, [], ◌∷◌, ◌++◌, Option, Some, None, refl, sym, ◌∙◌, ap, subst, arith, length, eq-eqb}
+use Rattle.std.proofs.Common.{◌≡◌, ◌≢◌, ℕ, zero, suc, ◌+◌, ◌*◌, ◌^◌, ◌<◌, ◌≤◌, ◌⊎◌, inl, inr, Bool, true, false, not, ◌&&◌, ◌||◌, cond, List, [], ◌∷◌, ◌++◌, Option, Some, None, refl, sym, ◌∙◌, ap, subst, arith, length, eq-eqb}
 use Rattle.std.specs.Prelude.{◌==◌, if◌then◌else◌, IsTrue, IsFalse, is_some, is_none, filter, find, nat_le, max}
 use Rattle.std.specs.List.{list_any, list_all}
 use Rattle.std.specs.Cmp.{IsTotalOrder}
@@ -59,11 +59,9 @@ use Rattle.acd_laws.proofs.Balance.{entries, entry_by}
 use Rattle.acd_laws.proofs.Ticking.{release_connections}
 use Rattle.acd_laws.proofs.Steady.{Steady, knows, AllSteady}
 use Rattle.acd_laws.proofs.Found.{agent_there}
-use Rattle.acd_terms.specs.Services.Plan.{no_figures}
 
--- the record that is put has its stamp, moments and place within bounds; a group that is put has counted nothing
+-- the record that is put has its stamp, moments and place within bounds
 abbrev pub Fit : ℕ → ℕ → Change → Type 0
-Fit k m (PutGroup g) = g.figures ≡ no_figures
 Fit k m (PutAgent a) = AgentTimed k m a
 Fit k m (PutCall c) = CallTimed m c
 Fit k m (PutConnection x) = ConnectionTimed k m x
@@ -109,24 +107,6 @@ timed_change s k m (RemoveMonitor w) h f = record { agents = h.agents; calls = h
 pub timed_moved : (s t : Rows) (k m : ℕ) (ms : List Move) → Timed k m t → AllFit s k m ms → Timed k m (moved t ms)
 timed_moved s t k m [] h f = h
 timed_moved s t k m (x ∷ xs) h f = timed_moved s (changed t x.change) k m xs (timed_change t k m x.change h f.0.fit) f.1
-
-groups_change : (Q : GroupRecord → Type 0) → ((g : GroupRecord) → g.figures ≡ no_figures → Q g) → (t : Rows) (k m : ℕ) (c : Change) → Every Q t.groups → Fit k m c → Every Q (changed t c).groups
-unfolding with_group with_station with_agent with_call with_connection with_monitor without_call without_connection without_monitor
-groups_change Q new t k m Nothing h f = h
-groups_change Q new t k m (PutGroup g) h f = every-put (at_group g.device) Q g (new g f) t.groups h
-groups_change Q new t k m (PutStation g) h f = h
-groups_change Q new t k m (PutAgent g) h f = h
-groups_change Q new t k m (PutCall g) h f = h
-groups_change Q new t k m (PutConnection g) h f = h
-groups_change Q new t k m (PutMonitor g) h f = h
-groups_change Q new t k m (RemoveCall g) h f = h
-groups_change Q new t k m (RemoveConnection c d) h f = h
-groups_change Q new t k m (RemoveMonitor g) h f = h
-
--- what holds of each group that counted nothing, and of each group before, holds of each after moves
-pub groups_moved : (Q : GroupRecord → Type 0) → ((g : GroupRecord) → g.figures ≡ no_figures → Q g) → (s t : Rows) (k m : ℕ) (ms : List Move) → Every Q t.groups → AllFit s k m ms → Every Q (moved t ms).groups
-groups_moved Q new s t k m [] h f = h
-groups_moved Q new s t k m (x ∷ xs) h f = groups_moved Q new s (changed t x.change) k m xs (groups_change Q new t k m x.change h f.0.fit) f.1
 
 every_more : {X : Type 0} (P Q : X → Type 0) (xs : List X) → ((x : X) → P x → Q x) → Every P xs → Every Q xs
 every_more P Q [] f h = tt

@@ -1,5 +1,5 @@
 -- Moves that put no new record but connections leave the sizes, the monitors and the last identifiers as they are.
-use Rattle.std.proofs.Common.{◌≡◌, ◌≢◌, ℕ, zero, suc, ◌+◌, ◌*◌, ◌<◌, ◌≤◌, ◌⊎◌, inl, inr, Bool, true, false, not, ◌&&◌, ◌||◌, cond, List, [], ◌∷◌, ◌++◌, Option, Some, None, refl, sym, ◌∙◌, ap, subst, arith, length, eq-eqb}
+use Rattle.std.proofs.Common.{◌≡◌, ◌≢◌, ℕ, zero, suc, ◌+◌, ◌*◌, ◌^◌, ◌<◌, ◌≤◌, ◌⊎◌, inl, inr, Bool, true, false, not, ◌&&◌, ◌||◌, cond, List, [], ◌∷◌, ◌++◌, Option, Some, None, refl, sym, ◌∙◌, ap, subst, arith, length, eq-eqb}
 use Rattle.std.specs.Prelude.{◌==◌, if◌then◌else◌, IsTrue, IsFalse, is_some, is_none, filter, find, nat_le, max}
 use Rattle.std.specs.List.{list_any, list_all}
 use Rattle.std.specs.Cmp.{IsTotalOrder}
@@ -48,7 +48,7 @@ use Rattle.acd_laws.proofs.Lists.{one, find-put_hit, find-put_miss, find-filter,
 use Rattle.acd_laws.proofs.State.{eqb_self, cmp_equal, cmp_self, key_is, is_of, is_of_true, is_of_self, order_equal, order_same, connection_key, groups_total, stations_total, agents_total, calls_total, connections_total, monitors_total, connection_find, agent_find, call_find, group_find, station_find, monitor_find, is_group_any, is_station_any, at_put, connections_without, calls_without, at_remove, agent_put, call_put, call_remove, group_put, station_put, found_key, own_key, connection_among, connection_found, agent_among, agent_key, agent_own, agent_found, call_among, call_key, call_found, put_other, removed_other, still_none}
 use Rattle.acd_terms.specs.Limits.{limits_fit}
 use Rattle.acd_laws.specs.Bounds.{Sizes, MonitorRule, Monitored}
-use Rattle.acd_laws.proofs.Serving.{moved-append}
+use Rattle.acd_terms.specs.Services.Plan.{no_figures}
 
 -- a change that puts no record but a connection, or the record of an agent who is known
 abbrev pub Steady : (ℕ → Bool) → Change → Type 0
@@ -169,10 +169,15 @@ monitored_steadied s t f h = every_from (MonitorRule t) t.monitors (λ w i.
     let q = every_among (MonitorRule s) s.monitors w h (f.monitors w i) in let a = q.1 in let b = q.2 in let c = f.last_monitor in let d = f.last_event in
     (planned_same s t f.groups f.stations w.device ∙ q.0, omega (arith, a, c), omega (arith, b, d)))
 
+-- a group that wasn't there, and has counted nothing
+abbrev pub IsNew : Rows → GroupRecord → Type 0
+IsNew s g = (g.figures ≡ no_figures) × (is_group s g.device ≡ false)
+
 -- what a service leaves of the bounds
 pub record Settled (s : Rows) (ms : List Move) : Type 0 where
   pub sizes : Sizes s → Sizes (moved s ms)
   pub monitors : Monitored s → Monitored (moved s ms)
+  pub groups : (g : GroupRecord) → Among g (moved s ms).groups → Among g s.groups ⊎ IsNew s g
   pub limits : (moved s ms).limits ≡ s.limits
   pub last_call : (moved s ms).last_call ≤ s.last_call + 1
   pub last_monitor : (moved s ms).last_monitor ≤ s.last_monitor + 1
@@ -182,8 +187,8 @@ pub settled : (s : Rows) (ms : List Move) → IsAscending agent_order s.agents �
 settled s ms h a =
     let f = steadied s ms h a in
     let c = f.last_call in let d = f.last_monitor in
-    record { sizes = sizes_steadied s (moved s ms) f; monitors = monitored_steadied s (moved s ms) f; limits = f.limits;
+    record { sizes = sizes_steadied s (moved s ms) f; monitors = monitored_steadied s (moved s ms) f; groups = λ g i. inl (subst (Among g) f.groups i); limits = f.limits;
       last_call = omega (arith, c); last_monitor = omega (arith, d); last_event = f.last_event }
 
 pub settled_nothing : (s : Rows) → Settled s []
-settled_nothing s = record { sizes = λ h. h; monitors = λ h. h; limits = refl; last_call = omega arith; last_monitor = omega arith; last_event = refl }
+settled_nothing s = record { sizes = λ h. h; monitors = λ h. h; groups = λ g i. inl i; limits = refl; last_call = omega arith; last_monitor = omega arith; last_event = refl }
