@@ -1,26 +1,15 @@
 -- How often each call was cleared, and which calls are named: by each move.
-use Rattle.std.proofs.Common.{◌≡◌, ℕ, ◌+◌, ◌<◌, ◌≤◌, Bool, true, false, ◌&&◌, cond, List, [], ◌∷◌, ◌++◌, Option, Some, None, refl, sym, ◌∙◌, ap, subst, arith, eq-eqb}
-use Rattle.std.specs.Prelude.{◌==◌, is_some, is_none, nat_le, max}
+use Rattle.std.proofs.Common.{◌≡◌, ℕ, ◌+◌, ◌≤◌, Bool, true, false, ◌&&◌, cond, Option, Some, None, refl, sym, ◌∙◌, ap, subst, arith, eq-eqb}
+use Rattle.std.specs.Prelude.{◌==◌, is_none, nat_le, max}
 use Rattle.std.proofs.lemmas.Bool.{eqb-true, le-leb, leb-true, leb-false, lt-leb}
-use Rattle.acd_terms.specs.Lists.{Among, Every, IsAscending, count}
-use Rattle.acd_terms.specs.Scans.{call_of, connection_of, agent_at, other_of, is_group, is_idle, is_distributed, is_occupied}
-use Rattle.acd_terms.specs.States.{is_in, state_wanted}
+use Rattle.acd_terms.specs.Lists.{Among, IsAscending}
+use Rattle.acd_terms.specs.Scans.{call_of, agent_at, is_group, is_idle, is_distributed}
 use Rattle.acd_terms.specs.Writes.{with_call, without_call}
-use Rattle.acd_terms.specs.Moves.{no_move, silent, reported, changed, moved}
-use Rattle.acd_terms.specs.CallMoves.{plain, queueing, met_at, arriving, arrival, arrive, begin, connect_caller, initiate, originate, answer, talking, waited_by, hold, retrieve, ringing, go_back, divert, transfer, clear, end_call}
-use Rattle.acd_terms.specs.AgentMoves.{in_state, state_report, go_to, go_from, become_busy, log_on_at, wait_for}
-use Rattle.acd_terms.specs.Release.{release_of, released, release_agent, release, ending_of}
-use Rattle.acd_terms.specs.Served.{moves_of}
-use Rattle.acd_terms.specs.Services.NewCalls.{arrive_call, make_call, phone_off_hook, next_call}
-use Rattle.acd_terms.specs.Services.Talking.{busy_agent, occupy, answer_call, hold_call, retrieve_call}
-use Rattle.acd_terms.specs.Services.Clearing.{cleared_group, clear_other, release_other, clearing, clear_connection}
-use Rattle.acd_terms.specs.Services.GivingAway.{deflect_call, single_step_transfer}
-use Rattle.acd_terms.specs.Services.Agents.{log_on, change_state, set_agent_state}
-use Rattle.acd_terms.specs.Services.Plan.{add_group, add_station, add_agent}
-use Rattle.acd_terms.specs.Services.Monitors.{monitor_start, monitor_stop}
-use Rattle.acd_terms.specs.Choice.{offer_of}
-use Rattle.acd_terms.specs.Distribution.{offer_at, offer_moves}
-use Rattle.acd_terms.specs.Tick.{return_to, rest_moves}
+use Rattle.acd_terms.specs.Moves.{no_move, silent, reported}
+use Rattle.acd_terms.specs.CallMoves.{plain, queueing, met_at, arriving, arrival, arrive, begin, end_call}
+use Rattle.acd_terms.specs.AgentMoves.{in_state, state_report, go_to, go_from}
+use Rattle.acd_terms.specs.Release.{release_of, released, release_agent, release}
+use Rattle.acd_terms.specs.Services.Talking.{busy_agent, occupy}
 use Rattle.acd_terms.specs.Columns.{columns_of}
 use Rattle.acd_terms.specs.Placed.{clears}
 use Rattle.acd_terms.specs.Rules.Plan.{call_order}
@@ -31,30 +20,21 @@ use Rattle.acd_terms.specs.declared.record.ConnectionRecord.{ConnectionRecord}
 use Rattle.acd_terms.specs.declared.state.AgentState.{AgentState}
 use Rattle.acd_terms.specs.declared.state.AgentState.TheVariants as A
 use Rattle.acd_terms.specs.declared.state.ConnectionState.TheVariants as S
-use Rattle.acd_terms.specs.declared.state.Pending.{Pending}
 use Rattle.acd_terms.specs.declared.event.Cause.{Cause}
-use Rattle.acd_terms.specs.declared.event.Cause.TheVariants as cause
 use Rattle.acd_terms.specs.declared.event.Report.{Report}
 use Rattle.acd_terms.specs.declared.event.Report.TheVariants as report
-use Rattle.acd_terms.specs.declared.command.Requested.{Requested}
-use Rattle.acd_terms.specs.declared.command.Requested.TheVariants as requested
 use Rattle.acd_terms.specs.declared.moves.Move.{Move}
-use Rattle.acd_terms.specs.declared.moves.Offer.{Offer}
-use Rattle.acd_terms.specs.declared.moves.Served.{Served}
 use Rattle.acd_terms.specs.declared.moves.Ending.{Ending}
-use Rattle.acd_terms.specs.declared.moves.Ending.TheVariants.{NoAnswer}
 use Rattle.acd_terms.specs.declared.moves.Release.{Release}
 use Rattle.acd_terms.specs.declared.moves.Release.TheVariants.{Stays, Goes}
 use Rattle.acd_terms.specs.declared.moves.Change.{Change}
-use Rattle.acd_terms.specs.declared.moves.Change.TheVariants.{PutAgent, PutCall, PutConnection, RemoveCall, RemoveConnection}
+use Rattle.acd_terms.specs.declared.moves.Change.TheVariants.{PutAgent, PutConnection}
 use Rattle.acd_laws.specs.Counts.{Rules, of_call}
 use Rattle.acd_laws.specs.PlacedLaws.{IsUpTo, clearings}
-use Rattle.acd_laws.proofs.Lists.{one, counted, some_from}
-use Rattle.acd_laws.proofs.State.{eqb_self, call_put, call_remove, found_key, connection_among}
-use Rattle.acd_laws.proofs.Serving.{by_refusal, by_found}
-use Rattle.acd_laws.proofs.Found.{call_known, no_call_above, none_of_call, other_device}
-use Rattle.acd_laws.proofs.Distributing.{Offering, offering, offer_moves_are}
-use Rattle.acd_laws.proofs.Known.{Counted, AllCounted, counted-append, LeavesCalls, SameCalls, same_call, Plain, counted_plain, plain_calls}
+use Rattle.acd_laws.proofs.Lists.{one, counted}
+use Rattle.acd_laws.proofs.State.{eqb_self, call_put, call_remove}
+use Rattle.acd_laws.proofs.Found.{call_known, none_of_call}
+use Rattle.acd_laws.proofs.Known.{Counted, LeavesCalls, Plain}
 
 -- each move that leaves the calls
 

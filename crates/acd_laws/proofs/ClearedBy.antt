@@ -1,11 +1,11 @@
 -- How often each call was cleared, and which calls are named: by each service, an offer, a return and an end of after-call work.
-use Rattle.std.proofs.Common.{◌≡◌, ℕ, ◌+◌, ◌≤◌, Bool, true, false, cond, List, [], ◌∷◌, ◌++◌, Option, Some, None, refl, sym, ◌∙◌, ap, subst, arith}
-use Rattle.acd_terms.specs.Lists.{Among, Every, IsAscending}
+use Rattle.std.proofs.Common.{◌≡◌, ℕ, ◌≤◌, Bool, true, false, cond, List, [], ◌∷◌, Option, Some, None, refl, sym, ◌∙◌, subst, arith}
+use Rattle.acd_terms.specs.Lists.{Every, IsAscending}
 use Rattle.acd_terms.specs.Scans.{call_of, connection_of, other_of, is_occupied}
 use Rattle.acd_terms.specs.States.{is_in, state_wanted}
 use Rattle.acd_terms.specs.Writes.{with_call}
 use Rattle.acd_terms.specs.Moves.{changed, moved}
-use Rattle.acd_terms.specs.CallMoves.{plain, queueing, arrive, begin, connect_caller, initiate, talking, waited_by, ringing, clear, end_call}
+use Rattle.acd_terms.specs.CallMoves.{plain, queueing, arrive, connect_caller, initiate, talking, waited_by, ringing, clear, end_call}
 use Rattle.acd_terms.specs.Release.{release, ending_of}
 use Rattle.acd_terms.specs.Served.{moves_of}
 use Rattle.acd_terms.specs.Services.NewCalls.{arrive_call, make_call, phone_off_hook, next_call}
@@ -94,10 +94,11 @@ counted_arrive_call s m k caller called r =
     by_refusal (CountedBy s) _ _ _ (λ _. tt) (λ _.
     let n : ℕ = next_call s in
     let c : CallRecord = record { call = n; caller = caller; called = called; since = m } in
-    let t : Rows = with_call s c in
-    (counted_begin s c r refl,
-     counted_plain t (connect_caller n caller ∷ arrive s m k n called cause.NewCall ∷ [])
-     (plain_silent t.last_call (PutConnection (plain n caller S.Connected)) tt, (plain_arrive t.last_call s m k n called cause.NewCall (begun_up_to s c), tt))))))
+    let t : Rows = with_call s c in (
+      counted_begin s c r refl,
+      counted_plain t (connect_caller n caller ∷ arrive s m k n called cause.NewCall ∷ [])
+          (plain_silent t.last_call (PutConnection (plain n caller S.Connected)) tt, (plain_arrive t.last_call s m k n called cause.NewCall (begun_up_to s c), tt)),
+    ))))
 
 pub counted_make_call : (s : Rows) (m device called : ℕ) → Rules s → CountedBy s (make_call s m device called)
 unfolding make_call
@@ -110,10 +111,11 @@ counted_make_call s m device called r =
     by_refusal (CountedBy s) _ _ _ (λ _. tt) (λ _.
     let n : ℕ = next_call s in
     let c : CallRecord = record { call = n; caller = device; called = called; since = m } in
-    let t : Rows = with_call s c in
-    (counted_begin s c r refl,
-     counted_plain t (initiate n device ∷ [])
-     (plain_reported t.last_call (PutConnection (plain n device S.Initiated)) (report.ServiceInitiated n device) tt (λ _. refl) (begun_up_to s c), tt))))))))
+    let t : Rows = with_call s c in (
+      counted_begin s c r refl,
+      counted_plain t (initiate n device ∷ [])
+          (plain_reported t.last_call (PutConnection (plain n device S.Initiated)) (report.ServiceInitiated n device) tt (λ _. refl) (begun_up_to s c), tt),
+    )))))))
 
 -- a connection of a live call
 
@@ -122,18 +124,20 @@ unfolding phone_off_hook
 plain_phone_off_hook s m k call device r =
     by_found (PlainBy s.last_call) _ _ _ (λ _. tt) (λ c ec.
     by_found (PlainBy s.last_call) _ _ _ (λ _. tt) (λ x ex.
-    by_refusal (PlainBy s.last_call) _ _ _ (λ _. tt) (λ _.
-    (plain_reported s.last_call (PutConnection (record x { state = S.Connected })) (report.Originated x.call x.device c.called) tt (λ _. refl) (up_to s r x (connection_among s call device x ex)),
-     (plain_arrive s.last_call s m k call c.called cause.NewCall (call_known s r call c ec).0, tt)))))
+    by_refusal (PlainBy s.last_call) _ _ _ (λ _. tt) (λ _. (
+      plain_reported s.last_call (PutConnection (record x { state = S.Connected })) (report.Originated x.call x.device c.called) tt (λ _. refl) (up_to s r x (connection_among s call device x ex)),
+      (plain_arrive s.last_call s m k call c.called cause.NewCall (call_known s r call c ec).0, tt),
+    ))))
 
 pub plain_answer_call : (s : Rows) (m k call device : ℕ) → Rules s → PlainBy s.last_call (answer_call s m k call device)
 unfolding answer_call
 plain_answer_call s m k call device r =
     by_found (PlainBy s.last_call) _ _ _ (λ _. tt) (λ c ec.
     by_found (PlainBy s.last_call) _ _ _ (λ _. tt) (λ x ex.
-    by_refusal (PlainBy s.last_call) _ _ _ (λ _. tt) (λ _.
-    (plain_reported s.last_call (PutConnection (talking x)) (report.Established x.call x.device (waited_by m x.queued x.group)) tt (λ _. refl) (up_to s r x (connection_among s call device x ex)),
-     (plain_occupy s.last_call s m k x, tt)))))
+    by_refusal (PlainBy s.last_call) _ _ _ (λ _. tt) (λ _. (
+      plain_reported s.last_call (PutConnection (talking x)) (report.Established x.call x.device (waited_by m x.queued x.group)) tt (λ _. refl) (up_to s r x (connection_among s call device x ex)),
+      (plain_occupy s.last_call s m k x, tt),
+    ))))
 
 pub plain_hold_call : (s : Rows) (call device : ℕ) → Rules s → PlainBy s.last_call (hold_call s call device)
 unfolding hold_call
@@ -161,9 +165,10 @@ plain_deflect_call s m k call device to r =
     by_refusal (PlainBy s.last_call) _ _ _ (λ _. tt) (λ _.
     by_refusal (PlainBy s.last_call) _ _ _ (λ _. tt) (λ _.
     by_refusal (PlainBy s.last_call) _ _ _ (λ _. tt) (λ _.
-    by_refusal (PlainBy s.last_call) _ _ _ (λ _. tt) (λ _.
-    (plain_reported s.last_call (RemoveConnection x.call x.device) (report.Diverted x.call x.device to cause.Deflected x.group) tt (λ _. refl) (up_to s r x (connection_among s call device x ex)),
-     (plain_arrive s.last_call s m k call to cause.Deflected (call_known s r call c ec).0, (plain_release s.last_call s m k x (ending_of x), tt)))))))))
+    by_refusal (PlainBy s.last_call) _ _ _ (λ _. tt) (λ _. (
+      plain_reported s.last_call (RemoveConnection x.call x.device) (report.Diverted x.call x.device to cause.Deflected x.group) tt (λ _. refl) (up_to s r x (connection_among s call device x ex)),
+      (plain_arrive s.last_call s m k call to cause.Deflected (call_known s r call c ec).0, (plain_release s.last_call s m k x (ending_of x), tt)),
+    )))))))
 
 pub plain_single_step_transfer : (s : Rows) (m k call device to : ℕ) → Rules s → PlainBy s.last_call (single_step_transfer s m k call device to)
 unfolding single_step_transfer
@@ -174,9 +179,10 @@ plain_single_step_transfer s m k call device to r =
     by_refusal (PlainBy s.last_call) _ _ _ (λ _. tt) (λ _.
     by_refusal (PlainBy s.last_call) _ _ _ (λ _. tt) (λ _.
     by_refusal (PlainBy s.last_call) _ _ _ (λ _. tt) (λ _.
-    by_refusal (PlainBy s.last_call) _ _ _ (λ _. tt) (λ _.
-    (plain_reported s.last_call (RemoveConnection x.call x.device) (report.Transferred x.call x.device to) tt (λ _. refl) (up_to s r x (connection_among s call device x ex)),
-     (plain_arrive s.last_call s m k call to cause.Transferred (call_known s r call c ec).0, (plain_release s.last_call s m k x (ending_of x), tt))))))))))
+    by_refusal (PlainBy s.last_call) _ _ _ (λ _. tt) (λ _. (
+      plain_reported s.last_call (RemoveConnection x.call x.device) (report.Transferred x.call x.device to) tt (λ _. refl) (up_to s r x (connection_among s call device x ex)),
+      (plain_arrive s.last_call s m k call to cause.Transferred (call_known s r call c ec).0, (plain_release s.last_call s m k x (ending_of x), tt)),
+    ))))))))
 
 -- a clearing
 
@@ -200,9 +206,10 @@ counted_clearing s m k x o c asc live le other =
     let t : Rows = moved s two in
     let same : SameCalls s t = plain_calls s.last_call s two plain_two in
     let u : Rows = changed t (RemoveCall x.call) in
-    counted-append s two (end_call x.call (cleared_group x o) ∷ last) (counted_plain s two plain_two)
-    (counted_end t x.call (cleared_group x o) c (subst (IsAscending call_order) (sym same.0) asc) (same_call s t same x.call ∙ live) (let e = same.1 in omega (arith, e, le)),
-     counted_plain u last (plain_release u.last_call s m k x (ending_of x), (plain_release_other u.last_call s m k o, tt)))
+    counted-append s two (end_call x.call (cleared_group x o) ∷ last) (counted_plain s two plain_two) (
+      counted_end t x.call (cleared_group x o) c (subst (IsAscending call_order) (sym same.0) asc) (same_call s t same x.call ∙ live) (let e = same.1 in omega (arith, e, le)),
+      counted_plain u last (plain_release u.last_call s m k x (ending_of x), (plain_release_other u.last_call s m k o, tt)),
+    )
 
 pub counted_clear_connection : (s : Rows) (m k call device : ℕ) → Rules s → CountedBy s (clear_connection s m k call device)
 unfolding clear_connection
@@ -255,17 +262,21 @@ counted_offer s m o r e =
     let h : Offering s o x f.1.0 d = f.1.1.1 in
     let le = up_to s r x h.there in
     subst (AllCounted s) (sym (offer_moves_are s m o x f.1.0 d h))
-    (counted_plain s (offer_at m (Some x) (Some d))
-    (plain_reported s.last_call (RemoveConnection x.call x.device) (report.Diverted x.call x.device d cause.Distributed x.group) tt (λ _. refl) le,
-     (plain_reported s.last_call (PutConnection (ringing m x d)) (report.Delivered x.call d cause.Distributed x.group) tt (λ _. refl) le, tt)))
+    (counted_plain s (offer_at m (Some x) (Some d)) (
+      plain_reported s.last_call (RemoveConnection x.call x.device) (report.Diverted x.call x.device d cause.Distributed x.group) tt (λ _. refl) le,
+      (plain_reported s.last_call (PutConnection (ringing m x d)) (report.Delivered x.call d cause.Distributed x.group) tt (λ _. refl) le, tt),
+    ))
 
 pub counted_return : (s : Rows) (m k g : ℕ) (x : ConnectionRecord) → Rules s → connection_of s x.call x.device ≡ Some x → AllCounted s (return_to s m k x (Some g))
 counted_return s m k g x r there =
     let le = up_to s r x (connection_among s x.call x.device x there) in
-    counted_plain s (return_to s m k x (Some g))
-    (plain_reported s.last_call (RemoveConnection x.call x.device) (report.Diverted x.call x.device g cause.NoAnswer x.group) tt (λ _. refl) le,
-     (plain_reported s.last_call (PutConnection (queueing x.call g x.place x.queued)) (report.Queued x.call g cause.NoAnswer) tt (λ _. refl) le,
-      (plain_release s.last_call s m k x NoAnswer, tt)))
+    counted_plain s (return_to s m k x (Some g)) (
+      plain_reported s.last_call (RemoveConnection x.call x.device) (report.Diverted x.call x.device g cause.NoAnswer x.group) tt (λ _. refl) le,
+      (
+        plain_reported s.last_call (PutConnection (queueing x.call g x.place x.queued)) (report.Queued x.call g cause.NoAnswer) tt (λ _. refl) le,
+        (plain_release s.last_call s m k x NoAnswer, tt),
+      ),
+    )
 
 pub counted_rest : (s : Rows) (m k : ℕ) (a : AgentRecord) → AllCounted s (rest_moves m k a)
 counted_rest s m k a = counted_plain s (rest_moves m k a) (plain_go_from s.last_call m k a a.station A.Ready, tt)

@@ -1,7 +1,7 @@
 -- How often each call was cleared, and that no event names a call above the last: by moves in a row.
-use Rattle.std.proofs.Common.{◌≡◌, ℕ, ◌+◌, ◌<◌, ◌≤◌, Bool, true, false, ◌&&◌, cond, List, [], ◌∷◌, ◌++◌, Option, Some, None, refl, sym, ◌∙◌, ap, subst, arith}
+use Rattle.std.proofs.Common.{◌≡◌, ℕ, ◌+◌, ◌<◌, ◌≤◌, ◌&&◌, List, [], ◌∷◌, ◌++◌, Option, Some, None, refl, sym, ◌∙◌, ap, subst, arith}
 use Rattle.std.specs.Prelude.{nat_le, is_none}
-use Rattle.acd_terms.specs.Lists.{find_by, Every, count}
+use Rattle.acd_terms.specs.Lists.{find_by, Every}
 use Rattle.acd_terms.specs.Scans.{at_call, call_of}
 use Rattle.acd_terms.specs.Writes.{with_group, with_station, with_agent, with_connection, with_monitor, without_connection, without_monitor}
 use Rattle.acd_terms.specs.Moves.{changed, moved, with_event, events_of}

@@ -1,11 +1,11 @@
 -- Where each call stands: from the rules of rows and the count of clearings.
-use Rattle.std.proofs.Common.{◌≡◌, ℕ, ◌+◌, ◌<◌, ◌≤◌, ◌⊎◌, inl, inr, Bool, true, false, not, ◌&&◌, cond, List, Option, Some, None, refl, sym, ◌∙◌, ap, subst, arith, eq-eqb}
+use Rattle.std.proofs.Common.{◌≡◌, ℕ, ◌+◌, ◌≤◌, ◌⊎◌, inl, inr, Bool, true, false, ◌&&◌, List, Some, None, refl, sym, ◌∙◌, ap, subst, arith}
 use Rattle.std.specs.Prelude.{◌==◌, is_some, is_none, nat_le}
 use Rattle.std.proofs.lemmas.Bool.{and_parts, and_from, eqb-true, false_from_ne_true, le-leb}
 use Rattle.acd_terms.specs.Lists.{Among, count}
 use Rattle.acd_terms.specs.States.{is_queued, is_alerting, is_initiated}
 use Rattle.acd_terms.specs.Scans.{call_of, is_group, is_station}
-use Rattle.acd_terms.specs.Placed.{cleared_by, is_queued_of, is_alerting_of, is_of, IsCleared, IsWaiting, IsAtDevices, IsPlaced}
+use Rattle.acd_terms.specs.Placed.{cleared_by, is_queued_of, is_alerting_of, IsCleared, IsWaiting, IsAtDevices, IsPlaced}
 use Rattle.acd_terms.specs.declared.rows.Rows.{Rows}
 use Rattle.acd_terms.specs.declared.record.CallRecord.{CallRecord}
 use Rattle.acd_terms.specs.declared.record.ConnectionRecord.{ConnectionRecord}
@@ -13,7 +13,7 @@ use Rattle.acd_terms.specs.declared.state.ConnectionState.{ConnectionState}
 use Rattle.acd_terms.specs.declared.state.ConnectionState.TheVariants as S
 use Rattle.acd_terms.specs.declared.event.Event.{Event}
 use Rattle.acd_laws.specs.Counts.{Rules, ConnectionRule, IsCaller, StandsAt, is_open, of_call, initiated_of, open_of, two_if}
-use Rattle.acd_laws.specs.PlacedLaws.{KeepsClearings}
+use Rattle.acd_laws.specs.PlacedLaws.{KeepsClearings, PlacesExclude}
 use Rattle.acd_laws.proofs.Lists.{one, every_among, counted, fewer, both_fewer}
 use Rattle.acd_laws.proofs.RulesRead.{zero_or}
 
@@ -60,29 +60,29 @@ placed_live s events c k r live never =
     let rule : (x : ConnectionRecord) → Among x s.connections → ConnectionRule s x = λ x a. every_among (ConnectionRule s) s.connections x r.connections a in
     elim (zero_or (count (is_queued_of c) s.connections)) [
       | inr m ↦ inl (record {
-          live = k;
-          there = live;
-          never = never;
-          once = omega (arith, m, both, open_le);
-          at_group = λ x a e. at_queue s x x.state (rule x a).2 (and_parts (x.call == c) (is_queued x.state) e).1;
-          silent = omega (arith, m, both, open_le);
-        })
+        live = k;
+        there = live;
+        never = never;
+        once = omega (arith, m, both, open_le);
+        at_group = λ x a e. at_queue s x x.state (rule x a).2 (and_parts (x.call == c) (is_queued x.state) e).1;
+        silent = omega (arith, m, both, open_le);
+      })
       | inl z ↦ inr (record {
-          live = k;
-          there = live;
-          never = never;
-          some =
-              let p = r.parties c in
-              let f = fewer (initiated_of c) (of_call c) (λ w h. (and_parts (is_initiated w.state) (w.call == c) h).1) s.connections in
-              let t : two_if (is_some (call_of s c)) ≡ 2 = rw live refl in
-              omega (arith, p, f, t);
-          none_queued = z;
-          at_devices = λ x a q.
-              let same : x.call ≡ c = eqb-true x.call c q in
-              at_device s x k x.state (rule x a).2
-              (false_from_ne_true (is_queued x.state) (λ e. let n = counted (is_queued_of c) s.connections x a (and_from (x.call == c) (is_queued x.state) q e) in omega (arith, n, z)))
-              (ap (call_of s) same ∙ live);
-        })
+        live = k;
+        there = live;
+        never = never;
+        some =
+            let p = r.parties c in
+            let f = fewer (initiated_of c) (of_call c) (λ w h. (and_parts (is_initiated w.state) (w.call == c) h).1) s.connections in
+            let t : two_if (is_some (call_of s c)) ≡ 2 = rw live refl in
+            omega (arith, p, f, t);
+        none_queued = z;
+        at_devices = λ x a q.
+            let same : x.call ≡ c = eqb-true x.call c q in
+            at_device s x k x.state (rule x a).2
+            (false_from_ne_true (is_queued x.state) (λ e. let n = counted (is_queued_of c) s.connections x a (and_from (x.call == c) (is_queued x.state) q e) in omega (arith, n, z)))
+            (ap (call_of s) same ∙ live);
+      })
     ]
 
 pub placed_from : (s : Rows) (events : List Event) → Rules s → KeepsClearings s events → IsPlaced s events
@@ -95,3 +95,7 @@ placed_from s events r h c pos le =
     none_if : (b : Bool) → one (b && false) ≡ 0
     none_if true = refl
     none_if false = refl
+
+-- the three ways exclude one another
+pub places_exclude : PlacesExclude
+places_exclude s events c = (λ a b. cc (a.ended, b.there), λ a b. cc (a.ended, b.there), λ a b. let e = a.once in let z = b.none_queued in absurd (omega (arith, e, z)))

@@ -1,6 +1,5 @@
 -- Where each call stands, how often it was cleared and which calls events name: by each step, and after every run.
-use Rattle.std.proofs.Common.{◌≡◌, ℕ, ◌+◌, ◌<◌, ◌≤◌, Bool, true, false, ◌&&◌, List, [], ◌∷◌, ◌++◌, Option, Some, None, refl, sym, ◌∙◌, ap, subst, arith, length}
-use Rattle.std.specs.Prelude.{is_none}
+use Rattle.std.proofs.Common.{ℕ, ◌+◌, true, ◌&&◌, List, [], ◌++◌, Some, refl, sym, ◌∙◌, ap, subst, length}
 use Rattle.std.proofs.lemmas.Bool.{lt-leb}
 use Rattle.acd_terms.specs.Lists.{Every}
 use Rattle.acd_terms.specs.Scans.{call_of}
@@ -12,7 +11,7 @@ use Rattle.acd_terms.specs.Served.{moves_of}
 use Rattle.acd_terms.specs.Distribution.{offer_moves, distribution}
 use Rattle.acd_terms.specs.Tick.{return_to, rest_moves}
 use Rattle.acd_terms.specs.Services.Serve.{serve}
-use Rattle.acd_terms.specs.Step.{numbered, executed_moment, next_stamp, step_moves, step}
+use Rattle.acd_terms.specs.Step.{executed_moment, next_stamp, step_moves, step}
 use Rattle.acd_terms.specs.declared.rows.Rows.{Rows}
 use Rattle.acd_terms.specs.declared.rows.Limits.{Limits}
 use Rattle.acd_terms.specs.declared.event.Event.{Event}
@@ -20,15 +19,15 @@ use Rattle.acd_terms.specs.declared.command.Command.{Command}
 use Rattle.acd_terms.specs.declared.command.Command.TheVariants.{AddGroup, AddStation, AddAgent, ArriveCall, MakeCall, PhoneOffHook, AnswerCall, HoldCall, RetrieveCall, ClearConnection, DeflectCall, SingleStepTransfer, SetAgentState, MonitorStart, MonitorStop, Tick}
 use Rattle.acd_terms.specs.declared.moves.Move.{Move}
 use Rattle.acd_laws.specs.Counts.{Rules}
-use Rattle.acd_laws.specs.PlacedLaws.{NamesNoLaterCall, clearings, KeepsClearings, StepNamesNoLaterCall, RunNamesNoLaterCall, StepKeepsClearings, StepPlaces, RunIsPlaced}
+use Rattle.acd_laws.specs.PlacedLaws.{NamesNoLaterCall, KeepsClearings, StepNamesNoLaterCall, RunNamesNoLaterCall, StepKeepsClearings, StepPlaces, RunIsPlaced}
 use Rattle.acd_laws.proofs.Lists.{one}
 use Rattle.acd_laws.proofs.Ticking.{Kept, kept-append, tick_keeps}
 use Rattle.acd_laws.proofs.Distributing.{distribution_keeps}
 use Rattle.acd_laws.proofs.RulesKept.{rules_serve}
 use Rattle.acd_laws.proofs.RulesStep.{rules_step}
 use Rattle.acd_laws.proofs.Runs.{kept_by_run, rules_first}
-use Rattle.acd_laws.proofs.Known.{AllCounted, Named, SameCalls, same_clearings, Plain, counted_plain, clearings_moved, clearings_numbered, names_moved, names_numbered}
-use Rattle.acd_laws.proofs.ClearedBy.{PlainBy, plain_add_group, plain_add_station, plain_add_agent, plain_monitor_start, plain_monitor_stop, counted_arrive_call, counted_make_call, plain_phone_off_hook, plain_answer_call, plain_hold_call, plain_retrieve_call, plain_deflect_call, plain_single_step_transfer, counted_clear_connection, plain_set_agent_state, counted_offer, counted_return, counted_rest}
+use Rattle.acd_laws.proofs.Known.{AllCounted, Named, SameCalls, same_clearings, counted_plain, clearings_moved, clearings_numbered, names_moved, names_numbered}
+use Rattle.acd_laws.proofs.ClearedBy.{plain_add_group, plain_add_station, plain_add_agent, plain_monitor_start, plain_monitor_stop, counted_arrive_call, counted_make_call, plain_phone_off_hook, plain_answer_call, plain_hold_call, plain_retrieve_call, plain_deflect_call, plain_single_step_transfer, counted_clear_connection, plain_set_agent_state, counted_offer, counted_return, counted_rest}
 use Rattle.acd_laws.proofs.Placed.{placed_from}
 
 -- what all counted moves keep

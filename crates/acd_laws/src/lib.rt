@@ -9,7 +9,7 @@ ghost use Rattle.acd_laws.specs.FigureLaws.{StepKeepsFigures, RunKeepsFigures, S
 ghost use Rattle.acd_laws.specs.WatchedLaws.{StepTells, RunIsWatched};
 ghost use Rattle.acd_laws.specs.BalanceLaws.{StepBalances, RunIsBalanced};
 ghost use Rattle.acd_laws.specs.OfferLaws.{StepLeavesNoOffer, RunLeavesNoOffer};
-ghost use Rattle.acd_laws.specs.PlacedLaws.{StepNamesNoLaterCall, RunNamesNoLaterCall, StepKeepsClearings, StepPlaces, RunIsPlaced};
+ghost use Rattle.acd_laws.specs.PlacedLaws.{StepNamesNoLaterCall, RunNamesNoLaterCall, StepKeepsClearings, StepPlaces, RunIsPlaced, PlacesExclude};
 ghost use Rattle.acd_laws.specs.PlacedLaws.{RulesGiveOneOffer, RunHasOneOffer};
 
 /// The offer that is found is the one that the relation allows, and one is found wherever there is one.
@@ -95,4 +95,9 @@ pub fn step_places()
 /// After every run each call up to the last is cleared, waits in one queue, or is at devices.
 pub fn run_is_placed()
     ensures { RunIsPlaced }
+{}
+
+/// A call stands in one way at most: cleared, waiting in a queue, or at devices.
+pub fn places_exclude()
+    ensures { PlacesExclude }
 {}
