@@ -101,6 +101,8 @@ pub fn run_is_placed()
 /// A call stands in one way at most: cleared, waiting in a queue, or at devices.
 pub fn places_exclude()
     ensures { PlacesExclude }
+{}
+
 /// Rows that break no rule break none after a step, while a request more is allowed.
 pub fn step_keeps_rules()
     ensures { StepKeepsRules }
