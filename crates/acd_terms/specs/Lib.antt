@@ -25,3 +25,4 @@ pub mod Placed
 pub mod OneOffer
 pub mod Watched
 pub mod Rules
+pub mod Examples
