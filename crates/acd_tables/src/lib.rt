@@ -5,5 +5,7 @@
 #![tactic(auto)]
 
 pub mod keyed;
+pub mod scans;
 pub mod table;
 pub mod tables;
+pub mod writes;
