@@ -4,8 +4,11 @@
 //! and each write changes the one record that it names. Look-ups take no memory.
 #![tactic(auto)]
 
+pub mod figures;
 pub mod keyed;
 pub mod scans;
 pub mod table;
 pub mod tables;
+#[cfg(test)]
+mod tests;
 pub mod writes;

@@ -1,10 +1,15 @@
 //! Records in ascending key.
 
-ghost use Rattle.std.specs.Prelude.{◌≡◌, [], length, OnOk, OnErr, IfOk};
+ghost use Rattle.std.specs.Prelude.{◌≡◌, [], length, map, OnOk, OnErr, IfOk};
 ghost use Rattle.acd_terms.specs.Lists.{find_by, put_by, remove_by};
+ghost use Rattle.acd_terms.specs.Figures.{counting};
+ghost use Rattle.acd_tables.specs.Counting.{AllFit};
 
+use crate::figures::figures_after;
 use crate::keyed::Keyed;
+use acd_terms::event::Event;
 use acd_terms::listed::Listed;
+use acd_terms::record::GroupRecord;
 use std::alloc::{AllocError, Global};
 use std::cmp::Ordering;
 use std::marker::Model;
@@ -81,6 +86,16 @@ impl<R: Keyed> Table<R> {
     }
 }
 
+impl Table<GroupRecord> {
+    /// Each group's figures grow by what the events count.
+    pub fn add_figures(&mut self, events: &[Event])
+        requires { AllFit (map (counting events.now) self.old) }
+        ensures { self.new ≡ map (counting events.now) self.old }
+    {
+        add_figures(&mut self.records, events);
+    }
+}
+
 // Puts the record at its key.
 fn put<R: Keyed>(records: &mut Vec<R>, item: R) -> Result<(), AllocError>
     ensures ok { OnOk result (records.new.items ≡ put_by (λ x. R.Key.cmp (R.key_of item) (R.key_of x)) records.old.items item) }
@@ -113,5 +128,15 @@ fn remove<R: Keyed>(records: &mut Vec<R>, key: R::Key)
             records.remove(i);
             return;
         }
+    }
+}
+
+// Each group's figures grow by what the events count.
+fn add_figures(groups: &mut [GroupRecord], events: &[Event])
+    requires { AllFit (map (counting events.now) groups.old) }
+    ensures { groups.new ≡ map (counting events.now) groups.old }
+{
+    for group in groups {
+        group.figures = figures_after(group.figures, group.device, events);
     }
 }

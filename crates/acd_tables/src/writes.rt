@@ -2,8 +2,11 @@
 
 ghost use Rattle.std.specs.Prelude.{◌≡◌, OnOk, OnErr};
 ghost use Rattle.acd_terms.specs.Writes.{with_group, with_station, with_agent, with_call, with_connection, with_monitor, without_call, without_connection, without_monitor, with_last, with_last_ids};
+ghost use Rattle.acd_terms.specs.Figures.{with_figures};
+ghost use Rattle.acd_tables.specs.Counting.{FiguresFit};
 
 use crate::tables::Tables;
+use acd_terms::event::Event;
 use acd_terms::id::DeviceId;
 use acd_terms::record::{
     AgentRecord, CallRecord, ConnectionRecord, GroupRecord, MonitorRecord, StationRecord,
@@ -108,5 +111,13 @@ impl Tables {
     {
         self.last_call = call;
         self.last_monitor = monitor;
+    }
+    /// Each group's figures grow by what the events count.
+    #[tactic(auto, unfolding(acd_terms::specs::Figures::with_figures))]
+    pub fn add_figures(&mut self, events: &[Event])
+        requires { FiguresFit self.old events.now }
+        ensures { self.new ≡ with_figures self.old events.now }
+    {
+        self.groups.add_figures(events);
     }
 }
