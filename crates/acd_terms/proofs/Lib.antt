@@ -1,3 +1,4 @@
 pub mod Texts
 pub mod Identifiers
 pub mod OnLiterals
+pub mod MoveLemmas
