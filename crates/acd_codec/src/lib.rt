@@ -1,0 +1,7 @@
+//! JSON in and out.
+#![tactic(auto)]
+
+pub mod fault;
+pub mod member;
+pub mod reading;
+pub mod service;
