@@ -1,3 +1,5 @@
 pub mod Members
 pub mod Services
 pub mod Reading
+pub mod RequestTexts
+pub mod ReplyTexts

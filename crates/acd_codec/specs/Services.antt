@@ -1,9 +1,8 @@
 -- The names of services, and of the states that can be asked for.
-use Rattle.std.specs.Prelude.{ℕ, List, [], ◌∷◌, codes, Option, Some, option_map, if◌then◌else◌}
+use Rattle.std.specs.Prelude.{ℕ, List, [], ◌∷◌, codes, Option}
 use Rattle.std.specs.List.{find}
 use Rattle.std.specs.Str.{bytes_eq}
 use Rattle.acd_terms.specs.States.{pending_name}
-use Rattle.acd_terms.specs.declared.state.Pending.{Pending}
 use Rattle.acd_terms.specs.declared.state.Pending.TheVariants as pending
 use Rattle.acd_codec.specs.declared.service.Asked.{Asked}
 use Rattle.acd_codec.specs.declared.service.Asked.TheVariants as asked
@@ -38,11 +37,16 @@ services =
 abbrev pub service_of : List ℕ → Option Service
 service_of text = find (λ s. bytes_eq text (service_name s)) services
 
-abbrev pub pending_states : List Pending
-pending_states = pending.LoggedOff ∷ pending.NotReady ∷ pending.Ready ∷ pending.WorkingAfterCall ∷ []
+abbrev pub asked_name : Asked → List ℕ
+asked_name asked.LoggedOn = codes "loggedOn"
+asked_name (asked.State state) = pending_name state
 
--- the state that this name asks for; busy can't be asked for
+-- busy can't be asked for
+abbrev pub states_to_ask : List Asked
+states_to_ask =
+    asked.LoggedOn ∷ asked.State pending.LoggedOff ∷ asked.State pending.NotReady
+    ∷ asked.State pending.Ready ∷ asked.State pending.WorkingAfterCall ∷ []
+
+-- what this name asks for
 abbrev pub asked_of : List ℕ → Option Asked
-asked_of text =
-    if bytes_eq text (codes "loggedOn") then Some asked.LoggedOn
-    else option_map asked.State (find (λ p. bytes_eq text (pending_name p)) pending_states)
+asked_of text = find (λ a. bytes_eq text (asked_name a)) states_to_ask

@@ -4,4 +4,5 @@
 pub mod fault;
 pub mod member;
 pub mod reading;
+pub mod requests;
 pub mod service;

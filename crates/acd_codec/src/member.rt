@@ -2,6 +2,7 @@
 
 ghost use Rattle.std.specs.Prelude.{◌≡◌};
 ghost use Rattle.acd_codec.specs.Members.{member_name};
+ghost use Rattle.acd_codec.specs.ReplyTexts.{malformed_text};
 
 /// What can be faulty in an input: a member of a request, the request as JSON, or the moment before it.
 #[derive(Clone, Copy, Debug, PartialEq, Eq)]
@@ -26,6 +27,9 @@ pub enum Member {
     Moment,
 }
 
+/// The status of the reply to a malformed input.
+pub const MALFORMED_STATUS: u16 = 400;
+
 impl Member {
     /// The name as it is written.
     pub fn name(self) -> &'static str
@@ -49,6 +53,42 @@ impl Member {
             Member::Group => "group",
             Member::Monitor => "monitor",
             Member::Moment => "moment",
+        }
+    }
+
+    /// The reply to an input where this is faulty (status [`MALFORMED_STATUS`]). It takes no memory.
+    pub fn malformed_text(self) -> &'static str
+        ensures { result.now ≡ malformed_text self }
+    {
+        match self {
+            Member::Json => "{\"error\":{\"code\":30,\"member\":\"json\",\"name\":\"malformed\"}}",
+            Member::Requester =>
+                "{\"error\":{\"code\":30,\"member\":\"requester\",\"name\":\"malformed\"}}",
+            Member::Invoke =>
+                "{\"error\":{\"code\":30,\"member\":\"invoke\",\"name\":\"malformed\"}}",
+            Member::Service =>
+                "{\"error\":{\"code\":30,\"member\":\"service\",\"name\":\"malformed\"}}",
+            Member::Device =>
+                "{\"error\":{\"code\":30,\"member\":\"device\",\"name\":\"malformed\"}}",
+            Member::Name => "{\"error\":{\"code\":30,\"member\":\"name\",\"name\":\"malformed\"}}",
+            Member::Ring => "{\"error\":{\"code\":30,\"member\":\"ring\",\"name\":\"malformed\"}}",
+            Member::Wrap => "{\"error\":{\"code\":30,\"member\":\"wrap\",\"name\":\"malformed\"}}",
+            Member::Agent =>
+                "{\"error\":{\"code\":30,\"member\":\"agent\",\"name\":\"malformed\"}}",
+            Member::Caller =>
+                "{\"error\":{\"code\":30,\"member\":\"caller\",\"name\":\"malformed\"}}",
+            Member::Called =>
+                "{\"error\":{\"code\":30,\"member\":\"called\",\"name\":\"malformed\"}}",
+            Member::Call => "{\"error\":{\"code\":30,\"member\":\"call\",\"name\":\"malformed\"}}",
+            Member::To => "{\"error\":{\"code\":30,\"member\":\"to\",\"name\":\"malformed\"}}",
+            Member::Requested =>
+                "{\"error\":{\"code\":30,\"member\":\"requested\",\"name\":\"malformed\"}}",
+            Member::Group =>
+                "{\"error\":{\"code\":30,\"member\":\"group\",\"name\":\"malformed\"}}",
+            Member::Monitor =>
+                "{\"error\":{\"code\":30,\"member\":\"monitor\",\"name\":\"malformed\"}}",
+            Member::Moment =>
+                "{\"error\":{\"code\":30,\"member\":\"moment\",\"name\":\"malformed\"}}",
         }
     }
 }

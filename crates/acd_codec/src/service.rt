@@ -1,7 +1,7 @@
 //! The names of services, and of the states that can be asked for.
 
 ghost use Rattle.std.specs.Prelude.{◌≡◌};
-ghost use Rattle.acd_codec.specs.Services.{service_name, service_of, asked_of};
+ghost use Rattle.acd_codec.specs.Services.{service_name, service_of, asked_name, asked_of};
 
 use acd_terms::state::Pending;
 
@@ -96,6 +96,16 @@ impl Asked {
             "ready" => Some(Asked::State(Pending::Ready)),
             "workingAfterCall" => Some(Asked::State(Pending::WorkingAfterCall)),
             _ => None,
+        }
+    }
+
+    /// The name as it is written.
+    pub fn name(self) -> &'static str
+        ensures { result.now ≡ asked_name self }
+    {
+        match self {
+            Asked::LoggedOn => "loggedOn",
+            Asked::State(state) => state.name(),
         }
     }
 }
