@@ -1,2 +1,4 @@
 pub mod Readings
 pub mod Floatless
+pub mod Plain
+pub mod RoundTrip

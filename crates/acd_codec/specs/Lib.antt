@@ -3,3 +3,4 @@ pub mod Services
 pub mod Reading
 pub mod RequestTexts
 pub mod ReplyTexts
+pub mod Formed
