@@ -4,3 +4,5 @@ pub mod Reading
 pub mod RequestTexts
 pub mod ReplyTexts
 pub mod Formed
+pub mod Parts
+pub mod EventTexts

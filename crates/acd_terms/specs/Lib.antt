@@ -4,3 +4,4 @@ pub mod States
 pub mod Refusals
 pub mod Limits
 pub mod Columns
+pub mod EventNames
