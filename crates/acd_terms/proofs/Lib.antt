@@ -2,3 +2,4 @@ pub mod Texts
 pub mod Identifiers
 pub mod OnLiterals
 pub mod MoveLemmas
+pub mod ReadBack

@@ -26,3 +26,4 @@ pub mod OneOffer
 pub mod Watched
 pub mod Rules
 pub mod Examples
+pub mod EventNames
