@@ -1,0 +1,5 @@
+use Rattle.acd_laws.proofs.OfferFound.{finds_the_offer}
+use Rattle.acd_laws.proofs.finds_the_offer.Goals as goal
+
+pub returns : goal.returns
+returns c = finds_the_offer

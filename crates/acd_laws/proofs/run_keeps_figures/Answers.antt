@@ -1,0 +1,5 @@
+use Rattle.acd_laws.proofs.FiguresCounted.{run_keeps_figures}
+use Rattle.acd_laws.proofs.run_keeps_figures.Goals as goal
+
+pub returns : goal.returns
+returns c = run_keeps_figures
