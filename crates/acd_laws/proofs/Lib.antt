@@ -38,3 +38,6 @@ pub mod ConnectionsRead
 pub mod BoundsRead
 pub mod RulesWritten
 pub mod SoundOffers
+pub mod Following
+pub mod Runs
+pub mod WatchedRuns

@@ -72,21 +72,21 @@ order_later m b c s ms l f events n o =
     let w = f events n o in
     record { in_order = w.in_order; up_to = record { entries = w.up_to.entries; places = λ g d p h. let e = w.up_to.places g d p h in omega (arith, e, l) } }
 
+-- events in two parts, numbered on
+pub ordered_on : (c n : ℕ) (t : Rows) (events es fs : List Event) → Ordered c (n + length es + length fs) t ((events ++ numbered n es) ++ numbered (n + length es) fs)
+    → Ordered c (n + length (es ++ fs)) t (events ++ numbered n (es ++ fs))
+ordered_on c n t events es fs w =
+    subst (λ (j : ℕ). Ordered c j t (events ++ numbered n (es ++ fs))) (let e = length-append es fs in omega (arith, e))
+      (subst (Ordered c (n + length es + length fs) t)
+        (append_assoc events (numbered n es) (numbered (n + length es) fs) ∙ ap (λ (v : List Event). events ++ v) (sym (numbered-append n es fs))) w)
+
 pub order-append : (m a b c : ℕ) (s : Rows) (ms ns : List Move) → OrderKept m a b s ms → OrderKept m b c (moved s ms) ns → OrderKept m a c s (ms ++ ns)
 order-append m a b c s ms ns f g events n o =
     let first : List Event = events_of m ms in
     let second : List Event = events_of m ns in
-    let all : events_of m (ms ++ ns) ≡ first ++ second = events-append m ms ns in
-    let w = g (events ++ numbered n first) (n + length first) (f events n o) in
     subst (λ t. Ordered c (n + length (events_of m (ms ++ ns))) t (events ++ numbered n (events_of m (ms ++ ns)))) (sym (moved-append s ms ns))
-      (subst (λ (es : List Event). Ordered c (n + length es) (moved (moved s ms) ns) (events ++ numbered n es)) (sym all)
-        (subst (λ (j : ℕ). Ordered c j (moved (moved s ms) ns) (events ++ numbered n (first ++ second))) (count_on n first second)
-          (subst (Ordered c (n + length first + length second) (moved (moved s ms) ns)) (list_on events n first second) w)))
-  where
-    count_on : (n : ℕ) (es fs : List Event) → n + length es + length fs ≡ n + length (es ++ fs)
-    count_on n es fs = let e = length-append es fs in omega (arith, e)
-    list_on : (events : List Event) (n : ℕ) (es fs : List Event) → (events ++ numbered n es) ++ numbered (n + length es) fs ≡ events ++ numbered n (es ++ fs)
-    list_on events n es fs = append_assoc events (numbered n es) (numbered (n + length es) fs) ∙ ap (λ (v : List Event). events ++ v) (sym (numbered-append n es fs))
+      (subst (λ (es : List Event). Ordered c (n + length es) (moved (moved s ms) ns) (events ++ numbered n es)) (sym (events-append m ms ns))
+        (ordered_on c n (moved (moved s ms) ns) events first second (g (events ++ numbered n first) (n + length first) (f events n o))))
 
 -- what is held after a change of connections
 
