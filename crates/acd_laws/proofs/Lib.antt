@@ -41,3 +41,4 @@ pub mod SoundOffers
 pub mod Following
 pub mod Runs
 pub mod WatchedRuns
+pub mod Refused

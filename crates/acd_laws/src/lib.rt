@@ -5,6 +5,7 @@
 #![tactic(auto)]
 
 ghost use Rattle.acd_terms.specs.Offers.{FindsTheOffer};
+ghost use Rattle.acd_laws.specs.RefusalLaws.{RefusalChangesNothing};
 ghost use Rattle.acd_laws.specs.FigureLaws.{StepKeepsFigures, RunKeepsFigures, StepAddsFigures};
 
 /// The offer that is found is the one that the relation allows, and one is found wherever there is one.
@@ -25,4 +26,9 @@ pub fn run_keeps_figures()
 /// Of a planned group a step changes the figures alone, by what its events count.
 pub fn step_adds_figures()
     ensures { StepAddsFigures }
+{}
+
+/// A refused request takes a stamp and a moment, and changes nothing else.
+pub fn refusal_changes_nothing()
+    ensures { RefusalChangesNothing }
 {}
