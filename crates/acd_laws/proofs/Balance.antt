@@ -1,9 +1,9 @@
 -- Entered is waiting, ringing, answered, abandoned and moved together: by each move.
-use Rattle.std.proofs.Common.{◌≡◌, ℕ, ◌+◌, Bool, true, false, cond, List, [], ◌∷◌, ◌++◌, Option, Some, None, refl, sym, ◌∙◌, ap, arith}
+use Rattle.std.proofs.Common.{◌≡◌, ℕ, ◌+◌, List, [], ◌∷◌, ◌++◌, Option, Some, None, refl, ◌∙◌, ap, arith}
 use Rattle.acd_terms.specs.Lists.{IsAscending, count}
 use Rattle.acd_terms.specs.Scans.{connection_of}
 use Rattle.acd_terms.specs.Writes.{with_connection, without_connection}
-use Rattle.acd_terms.specs.Moves.{changed, moved, with_event, events_of, event_at}
+use Rattle.acd_terms.specs.Moves.{moved, with_event, events_of}
 use Rattle.acd_terms.specs.Figures.{is_entry, is_answer, is_abandonment, is_moving_away, figures_of}
 use Rattle.acd_terms.specs.Rules.Plan.{connection_order}
 use Rattle.acd_terms.specs.Rules.Occupied.{waits_in, rings_from}
@@ -12,8 +12,7 @@ use Rattle.acd_terms.specs.declared.record.ConnectionRecord.{ConnectionRecord}
 use Rattle.acd_terms.specs.declared.event.Event.{Event}
 use Rattle.acd_terms.specs.declared.event.Report.{Report}
 use Rattle.acd_terms.specs.declared.moves.Move.{Move}
-use Rattle.acd_laws.specs.BalanceLaws.{IsBalanced}
-use Rattle.acd_laws.proofs.Lists.{one, count-append}
+use Rattle.acd_laws.proofs.Lists.{one}
 use Rattle.acd_laws.proofs.Serving.{moved-append}
 use Rattle.acd_laws.proofs.Found.{count_new, count_old, count_less}
 

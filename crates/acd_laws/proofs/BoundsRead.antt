@@ -1,61 +1,27 @@
 -- Rows that break no rule: their bounds, offers, monitors and balance; and so all rules as facts.
-use Rattle.std.proofs.Common.{◌≡◌, ◌≢◌, ℕ, zero, suc, ◌+◌, ◌*◌, ◌<◌, ◌≤◌, ◌⊎◌, inl, inr, Bool, true, false, not, ◌&&◌, ◌||◌, cond, List, [], ◌∷◌, ◌++◌, Option, Some, None, refl, sym, ◌∙◌, ap, subst, arith, length, eq-eqb}
-use Rattle.std.specs.Prelude.{◌==◌, if◌then◌else◌, IsTrue, IsFalse, is_some, is_none, filter, find, nat_le, max}
-use Rattle.std.specs.List.{list_any, list_all}
-use Rattle.std.specs.Cmp.{IsTotalOrder}
-use Rattle.std.specs.declared.cmp.Ordering.{Ordering}
-use Rattle.std.specs.declared.cmp.Ordering.TheVariants.{Less, Equal, Greater}
-use Rattle.std.proofs.lemmas.Bool.{and_parts, and_from, eqb-true, eqb-false, ne_eqb, false_from_ne_true, and_left, and_right, and_cases, or_cases, cases_eq, or_parts, not-false, not-true, or_right, or_left, cond-false, cond-true}
+use Rattle.std.proofs.Common.{◌≡◌, ℕ, ◌*◌, ◌≤◌, inl, inr, Bool, true, ◌&&◌, ◌||◌, List, [], ◌∷◌, Option, Some, None, refl, subst, arith, length}
+use Rattle.std.specs.Prelude.{nat_le}
+use Rattle.std.specs.List.{list_all}
+use Rattle.std.proofs.lemmas.Bool.{and_parts, eqb-true, or_cases}
 use Rattle.acd_terms.specs.declared.rows.Rows.{Rows}
 use Rattle.acd_terms.specs.declared.record.GroupRecord.{GroupRecord}
-use Rattle.acd_terms.specs.declared.record.StationRecord.{StationRecord}
 use Rattle.acd_terms.specs.declared.record.AgentRecord.{AgentRecord}
 use Rattle.acd_terms.specs.declared.record.CallRecord.{CallRecord}
 use Rattle.acd_terms.specs.declared.record.ConnectionRecord.{ConnectionRecord}
 use Rattle.acd_terms.specs.declared.record.MonitorRecord.{MonitorRecord}
-use Rattle.acd_terms.specs.declared.state.AgentState.{AgentState}
-use Rattle.acd_terms.specs.declared.state.AgentState.TheVariants as A
-use Rattle.acd_terms.specs.declared.state.Pending.{Pending}
-use Rattle.acd_terms.specs.declared.state.Pending.TheVariants as W
-use Rattle.acd_terms.specs.declared.state.ConnectionState.{ConnectionState}
-use Rattle.acd_terms.specs.declared.state.ConnectionState.TheVariants as S
-use Rattle.acd_terms.specs.declared.event.Cause.{Cause}
-use Rattle.acd_terms.specs.declared.event.Cause.TheVariants as C
-use Rattle.acd_terms.specs.declared.moves.Move.{Move}
-use Rattle.acd_terms.specs.declared.moves.Change.{Change}
-use Rattle.acd_terms.specs.declared.moves.Change.TheVariants.{Nothing, PutGroup, PutStation, PutAgent, PutCall, PutConnection, PutMonitor, RemoveCall, RemoveConnection, RemoveMonitor}
-use Rattle.acd_terms.specs.declared.moves.Destination.{Destination}
-use Rattle.acd_terms.specs.declared.moves.Destination.TheVariants as D
-use Rattle.acd_terms.specs.declared.moves.Ending.{Ending}
-use Rattle.acd_terms.specs.declared.moves.Ending.TheVariants.{Answered, Unanswered, NoAnswer}
-use Rattle.acd_terms.specs.declared.moves.Release.{Release}
-use Rattle.acd_terms.specs.declared.moves.Release.TheVariants.{Stays, Goes}
-use Rattle.acd_terms.specs.declared.moves.Served.{Served}
-use Rattle.acd_terms.specs.declared.moves.Served.TheVariants.{Refused, Done}
-use Rattle.acd_terms.specs.declared.answer.Refusal.{Refusal}
-use Rattle.acd_terms.specs.Lists.{find_by, put_by, remove_by, count, total, Among, Every, AllAfter, IsAscending}
-use Rattle.acd_terms.specs.States.{is_null, is_ready, is_busy, is_working_after_call, is_initiated, is_alerting, is_connected, is_hold, is_queued, is_fail, is_answered, is_live, is_occupying, state_wanted, is_in}
-use Rattle.acd_terms.specs.Scans.{at_group, at_station, at_agent, at_call, at_connection, at_monitor, group_of, station_of, agent_of, call_of, connection_of, monitor_of, is_group, is_station, is_planned, has, agent_at, connections_of, other_of, is_distributed, is_live_at, is_taken, is_idle, is_occupied, waiting_in, is_idle_there, is_eligible, eligible_in, is_calling, queued_in_all}
-use Rattle.acd_terms.specs.Writes.{with_group, with_station, with_agent, with_call, with_connection, with_monitor, without_call, without_connection, without_monitor, with_last}
-use Rattle.acd_terms.specs.Moves.{no_move, silent, reported, changed, moved}
-use Rattle.acd_terms.specs.CallMoves.{plain, queueing, begin, connect_caller, initiate, originate, met_at, destination_of, arriving, arrival, arrive, talking, answer, hold, retrieve, ringing, offer, go_back, divert, transfer, clear, end_call}
-use Rattle.acd_terms.specs.AgentMoves.{kept_in, in_state, go_to, go_from, log_on_at, become_busy, wait_for}
-use Rattle.acd_terms.specs.Release.{release_of, released, release_agent, ending_of, release}
-use Rattle.acd_terms.specs.Served.{refuse_if, with_found, moves_of}
-use Rattle.acd_terms.specs.Rules.Plan.{group_order, station_order, agent_order, call_order, connection_order, monitor_order}
-use Rattle.acd_laws.specs.Counts.{RulesBut, Rules, Orders, IsUnseated, IsPlannedStation, IsPlannedGroup, SeatedAs, AgentRule, CallRule, Bare, InQueue, Offered, AlertingColumns, HasColumns, GroupColumn, IsCaller, StandsAt, ConnectionRule, is_open, of_call, initiated_of, open_of, live_at, alerting_at, held_at, distributed_at, ringing_at, talking_at, seated_at, ready_at, busy_at, pending_at, two_if}
-use Rattle.acd_laws.proofs.Lists.{one, find-put_hit, find-put_miss, find-filter, find-filter_none, find_passes, find_among, find_none, none_found, find_found, some_found, any-find, any-put, any_none, any_some, any_found, filter_among, among-filter, after_among, ascending-put, ascending-filter, ascending-remove, count-put_new, count-put_old, count-put_most, count-remove_most, count-removed, every_among, every_from, every-put, every-remove, among-remove, among-put, among-put_other, among-remove_other, counted, none_counted, fewer, count_same, two_counted, both_fewer, count_zero, none_of_zero, the_one, some_counted, all_true, all_from, count-append, total-append, count_length, none_from, some_from, some_is, eq_is, is_eq_of}
-use Rattle.acd_laws.proofs.State.{eqb_self, cmp_equal, cmp_self, key_is, is_of, is_of_true, is_of_self, order_equal, order_same, connection_key, groups_total, stations_total, agents_total, calls_total, connections_total, monitors_total, connection_find, agent_find, call_find, group_find, station_find, monitor_find, is_group_any, is_station_any, at_put, connections_without, calls_without, at_remove, agent_put, call_put, call_remove, group_put, station_put, found_key, own_key, connection_among, connection_found, agent_among, agent_key, agent_own, agent_found, call_among, call_key, call_found, put_other, removed_other, still_none}
-use Rattle.std.proofs.lemmas.Bool.{leb-true, le-leb, lt-leb, leb-false}
+use Rattle.acd_terms.specs.Lists.{count, Among, Every}
+use Rattle.acd_terms.specs.Scans.{is_planned, has, waiting_in, eligible_in}
+use Rattle.acd_laws.proofs.Lists.{every_from, all_true, some_is}
+use Rattle.std.proofs.lemmas.Bool.{leb-true}
 use Rattle.acd_terms.specs.Limits.{limits_fit}
 use Rattle.acd_terms.specs.Offers.{HasNoOffer}
 use Rattle.acd_terms.specs.Rules.Plan.{keeps_limits, keeps_monitor}
-use Rattle.acd_terms.specs.Rules.Occupied.{keeps_offer, keeps_balance, is_empty, waits_in, rings_from, is_balanced}
+use Rattle.acd_terms.specs.Rules.Occupied.{keeps_offer, keeps_balance, is_empty, is_balanced}
 use Rattle.acd_terms.specs.Rules.Counters.{keeps_counters, is_stamp, is_moment_or_none, is_own_place, is_offered_after, is_timed, is_countable}
 use Rattle.acd_terms.specs.Rules.First.{BreaksNoRule}
 use Rattle.acd_laws.specs.Bounds.{Sizes, AgentTimed, CallTimed, IsPlace, IsMoment, IsAfter, ConnectionTimed, at_place, Timed, OnePlace, MonitorRule, Monitored, IsCountedUpTo, IsBalanced, KeepsRules}
 use Rattle.acd_laws.proofs.Found.{has_is}
-use Rattle.acd_laws.proofs.RulesRead.{Tests, tests, orders_read, kinds_read, agents_read, calls_read, one_that, zero_or}
+use Rattle.acd_laws.proofs.RulesRead.{tests, orders_read, kinds_read, agents_read, calls_read, one_that, zero_or}
 use Rattle.acd_laws.proofs.ConnectionsRead.{rules_read}
 
 -- the limits
@@ -70,20 +36,29 @@ pub limits_read : (s : Rows) → keeps_limits s ≡ true → LimitsRead s
 unfolding keeps_limits
 limits_read s e =
     let a = and_parts (limits_fit s.limits && nat_le (length s.groups) s.limits.groups && nat_le (length s.stations) s.limits.stations && nat_le (length s.agents) s.limits.agents && nat_le (length s.calls) s.limits.calls
-      && nat_le (length s.monitors) s.limits.monitors && nat_le s.last_stamp s.limits.requests && nat_le s.last_call s.last_stamp) (nat_le s.last_monitor s.last_stamp) e in
+    && nat_le (length s.monitors) s.limits.monitors && nat_le s.last_stamp s.limits.requests && nat_le s.last_call s.last_stamp) (nat_le s.last_monitor s.last_stamp) e in
     let b = and_parts (limits_fit s.limits && nat_le (length s.groups) s.limits.groups && nat_le (length s.stations) s.limits.stations && nat_le (length s.agents) s.limits.agents && nat_le (length s.calls) s.limits.calls
-      && nat_le (length s.monitors) s.limits.monitors && nat_le s.last_stamp s.limits.requests) (nat_le s.last_call s.last_stamp) a.0 in
+    && nat_le (length s.monitors) s.limits.monitors && nat_le s.last_stamp s.limits.requests) (nat_le s.last_call s.last_stamp) a.0 in
     let c = and_parts (limits_fit s.limits && nat_le (length s.groups) s.limits.groups && nat_le (length s.stations) s.limits.stations && nat_le (length s.agents) s.limits.agents && nat_le (length s.calls) s.limits.calls
-      && nat_le (length s.monitors) s.limits.monitors) (nat_le s.last_stamp s.limits.requests) b.0 in
+    && nat_le (length s.monitors) s.limits.monitors) (nat_le s.last_stamp s.limits.requests) b.0 in
     let d = and_parts (limits_fit s.limits && nat_le (length s.groups) s.limits.groups && nat_le (length s.stations) s.limits.stations && nat_le (length s.agents) s.limits.agents && nat_le (length s.calls) s.limits.calls) (nat_le (length s.monitors) s.limits.monitors) c.0 in
     let f = and_parts (limits_fit s.limits && nat_le (length s.groups) s.limits.groups && nat_le (length s.stations) s.limits.stations && nat_le (length s.agents) s.limits.agents) (nat_le (length s.calls) s.limits.calls) d.0 in
     let g = and_parts (limits_fit s.limits && nat_le (length s.groups) s.limits.groups && nat_le (length s.stations) s.limits.stations) (nat_le (length s.agents) s.limits.agents) f.0 in
     let h = and_parts (limits_fit s.limits && nat_le (length s.groups) s.limits.groups) (nat_le (length s.stations) s.limits.stations) g.0 in
     let i = and_parts (limits_fit s.limits) (nat_le (length s.groups) s.limits.groups) h.0 in
     record {
-      sizes = record { limits = i.0; groups = leb-true (length s.groups) s.limits.groups i.1; stations = leb-true (length s.stations) s.limits.stations h.1; agents = leb-true (length s.agents) s.limits.agents g.1;
-        calls = leb-true (length s.calls) s.limits.calls f.1; monitors = leb-true (length s.monitors) s.limits.monitors d.1 };
-      last_stamp = leb-true s.last_stamp s.limits.requests c.1; last_call = leb-true s.last_call s.last_stamp b.1; last_monitor = leb-true s.last_monitor s.last_stamp a.1 }
+      sizes = record {
+        limits = i.0;
+        groups = leb-true (length s.groups) s.limits.groups i.1;
+        stations = leb-true (length s.stations) s.limits.stations h.1;
+        agents = leb-true (length s.agents) s.limits.agents g.1;
+        calls = leb-true (length s.calls) s.limits.calls f.1;
+        monitors = leb-true (length s.monitors) s.limits.monitors d.1;
+      };
+      last_stamp = leb-true s.last_stamp s.limits.requests c.1;
+      last_call = leb-true s.last_call s.last_stamp b.1;
+      last_monitor = leb-true s.last_monitor s.last_stamp a.1;
+    }
 
 -- the counters
 
@@ -147,16 +122,19 @@ counters_read s e =
     record {
       timed = record {
         agents = every_from (AgentTimed s.last_stamp s.last_moment) s.agents (λ x i.
-          let h = and_parts (is_stamp s x.stamp) (nat_le x.since s.last_moment) (all_true ag s.agents d.0 x i) in
-          let q = and_parts (nat_le 1 x.stamp) (nat_le x.stamp s.last_stamp) h.0 in
-          record { above = leb-true 1 x.stamp q.0; stamp = leb-true x.stamp s.last_stamp q.1; since = leb-true x.since s.last_moment h.1 });
+            let h = and_parts (is_stamp s x.stamp) (nat_le x.since s.last_moment) (all_true ag s.agents d.0 x i) in
+            let q = and_parts (nat_le 1 x.stamp) (nat_le x.stamp s.last_stamp) h.0 in
+            record { above = leb-true 1 x.stamp q.0; stamp = leb-true x.stamp s.last_stamp q.1; since = leb-true x.since s.last_moment h.1 });
         calls = every_from (CallTimed s.last_moment) s.calls (λ x i. leb-true x.since s.last_moment (all_true ca s.calls d.1 x i));
-        connections = every_from (ConnectionTimed s.last_stamp s.last_moment) s.connections (λ x i. (each x i).timed) };
+        connections = every_from (ConnectionTimed s.last_stamp s.last_moment) s.connections (λ x i. (each x i).timed);
+      };
       places = λ p. elim (zero_or (count (at_place p) s.connections)) [
-        inl z ↦ omega (arith, z)
-        | inr l ↦ (let f = one_that (at_place p) s.connections l in own_read s f.0.place p (has_is f.0.place p f.1.1) (each f.0 f.1.0).own) ];
+        | inl z ↦ omega (arith, z)
+        | inr l ↦ (let f = one_that (at_place p) s.connections l in own_read s f.0.place p (has_is f.0.place p f.1.1) (each f.0 f.1.0).own)
+      ];
       figures = every_from (IsCountedUpTo s.last_stamp s.last_moment) s.groups (λ g i. countable_read s g (all_true (is_countable s) s.groups b.1 g i));
-      last_event = leb-true s.last_event (100000 * s.last_stamp) a.1 }
+      last_event = leb-true s.last_event (100000 * s.last_stamp) a.1;
+    }
 
 -- offers, monitors, balance
 
@@ -168,7 +146,9 @@ offers_read : (s : Rows) → keeps_offer s ≡ true → (g : GroupRecord) → Am
 unfolding keeps_offer
 offers_read s e g i =
     elim (or_cases (is_empty (waiting_in s g.device)) (is_empty (eligible_in s g.device)) (all_true (λ (g : GroupRecord). is_empty (waiting_in s g.device) || is_empty (eligible_in s g.device)) s.groups e g i)) [
-      inl w ↦ inl (empty_is (waiting_in s g.device) w) | inr w ↦ inr (empty_is (eligible_in s g.device) w) ]
+      | inl w ↦ inl (empty_is (waiting_in s g.device) w)
+      | inr w ↦ inr (empty_is (eligible_in s g.device) w)
+    ]
 
 monitors_read : (s : Rows) → keeps_monitor s ≡ true → Monitored s
 unfolding keeps_monitor
@@ -189,9 +169,17 @@ keeps_read s e =
     let c = counters_read s t.counters in
     record {
       rules = rules_read s (orders_read s t.order) (kinds_read s t.device) (agents_read s t.agent) (calls_read s t.call) t.connection t.parties t.live t.occupied;
-      sizes = l.sizes; last_call = l.last_call; last_monitor = l.last_monitor;
-      timed = c.timed; places = c.places; figures = c.figures; last_event = c.last_event;
-      offers = offers_read s t.offer; monitors = monitors_read s t.monitor; balance = balance_read s t.balance }
+      sizes = l.sizes;
+      last_call = l.last_call;
+      last_monitor = l.last_monitor;
+      timed = c.timed;
+      places = c.places;
+      figures = c.figures;
+      last_event = c.last_event;
+      offers = offers_read s t.offer;
+      monitors = monitors_read s t.monitor;
+      balance = balance_read s t.balance;
+    }
 
 pub requests_read : (s : Rows) → BreaksNoRule s → s.last_stamp ≤ s.limits.requests
 requests_read s e = (limits_read s (tests s e).limits).last_stamp

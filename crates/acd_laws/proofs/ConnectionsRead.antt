@@ -1,60 +1,30 @@
 -- Rows that break no rule: connections, parties, live and occupied, as counts.
-use Rattle.std.proofs.Common.{◌≡◌, ◌≢◌, ℕ, zero, suc, ◌+◌, ◌<◌, ◌≤◌, ◌⊎◌, inl, inr, Bool, true, false, not, ◌&&◌, ◌||◌, cond, List, [], ◌∷◌, ◌++◌, Option, Some, None, refl, sym, ◌∙◌, ap, subst, arith, length, eq-eqb}
-use Rattle.std.specs.Prelude.{◌==◌, if◌then◌else◌, IsTrue, IsFalse, is_some, is_none, filter, find, nat_le, max}
-use Rattle.std.specs.List.{list_any, list_all}
-use Rattle.std.specs.Cmp.{IsTotalOrder}
-use Rattle.std.specs.declared.cmp.Ordering.{Ordering}
-use Rattle.std.specs.declared.cmp.Ordering.TheVariants.{Less, Equal, Greater}
-use Rattle.std.proofs.lemmas.Bool.{and_parts, and_from, eqb-true, eqb-false, ne_eqb, false_from_ne_true, and_left, and_right, and_cases, or_cases, cases_eq, or_parts, not-false, not-true, or_right, or_left, cond-false, cond-true}
+use Rattle.std.proofs.Common.{◌≡◌, ℕ, ◌+◌, ◌≤◌, ◌⊎◌, inl, inr, Bool, true, false, not, ◌&&◌, ◌||◌, Option, Some, None, refl, sym, ◌∙◌, ap, subst, arith, eq-eqb}
+use Rattle.std.specs.Prelude.{◌==◌, if◌then◌else◌, is_some, is_none, find, nat_le}
+use Rattle.std.specs.List.{list_all}
+use Rattle.std.proofs.lemmas.Bool.{and_parts, and_from, eqb-true, false_from_ne_true, or_cases, not-true}
 use Rattle.acd_terms.specs.declared.rows.Rows.{Rows}
-use Rattle.acd_terms.specs.declared.record.GroupRecord.{GroupRecord}
 use Rattle.acd_terms.specs.declared.record.StationRecord.{StationRecord}
 use Rattle.acd_terms.specs.declared.record.AgentRecord.{AgentRecord}
 use Rattle.acd_terms.specs.declared.record.CallRecord.{CallRecord}
 use Rattle.acd_terms.specs.declared.record.ConnectionRecord.{ConnectionRecord}
-use Rattle.acd_terms.specs.declared.record.MonitorRecord.{MonitorRecord}
-use Rattle.acd_terms.specs.declared.state.AgentState.{AgentState}
-use Rattle.acd_terms.specs.declared.state.AgentState.TheVariants as A
 use Rattle.acd_terms.specs.declared.state.Pending.{Pending}
-use Rattle.acd_terms.specs.declared.state.Pending.TheVariants as W
 use Rattle.acd_terms.specs.declared.state.ConnectionState.{ConnectionState}
 use Rattle.acd_terms.specs.declared.state.ConnectionState.TheVariants as S
-use Rattle.acd_terms.specs.declared.event.Cause.{Cause}
-use Rattle.acd_terms.specs.declared.event.Cause.TheVariants as C
-use Rattle.acd_terms.specs.declared.moves.Move.{Move}
-use Rattle.acd_terms.specs.declared.moves.Change.{Change}
-use Rattle.acd_terms.specs.declared.moves.Change.TheVariants.{Nothing, PutGroup, PutStation, PutAgent, PutCall, PutConnection, PutMonitor, RemoveCall, RemoveConnection, RemoveMonitor}
-use Rattle.acd_terms.specs.declared.moves.Destination.{Destination}
-use Rattle.acd_terms.specs.declared.moves.Destination.TheVariants as D
-use Rattle.acd_terms.specs.declared.moves.Ending.{Ending}
-use Rattle.acd_terms.specs.declared.moves.Ending.TheVariants.{Answered, Unanswered, NoAnswer}
-use Rattle.acd_terms.specs.declared.moves.Release.{Release}
-use Rattle.acd_terms.specs.declared.moves.Release.TheVariants.{Stays, Goes}
-use Rattle.acd_terms.specs.declared.moves.Served.{Served}
-use Rattle.acd_terms.specs.declared.moves.Served.TheVariants.{Refused, Done}
-use Rattle.acd_terms.specs.declared.answer.Refusal.{Refusal}
-use Rattle.acd_terms.specs.Lists.{find_by, put_by, remove_by, count, total, Among, Every, AllAfter, IsAscending}
-use Rattle.acd_terms.specs.States.{is_null, is_ready, is_busy, is_working_after_call, is_initiated, is_alerting, is_connected, is_hold, is_queued, is_fail, is_answered, is_live, is_occupying, state_wanted, is_in}
-use Rattle.acd_terms.specs.Scans.{at_group, at_station, at_agent, at_call, at_connection, at_monitor, group_of, station_of, agent_of, call_of, connection_of, monitor_of, is_group, is_station, is_planned, has, agent_at, connections_of, other_of, is_distributed, is_live_at, is_taken, is_idle, is_occupied, waiting_in, is_idle_there, is_eligible, eligible_in, is_calling, queued_in_all}
-use Rattle.acd_terms.specs.Writes.{with_group, with_station, with_agent, with_call, with_connection, with_monitor, without_call, without_connection, without_monitor, with_last}
-use Rattle.acd_terms.specs.Moves.{no_move, silent, reported, changed, moved}
-use Rattle.acd_terms.specs.CallMoves.{plain, queueing, begin, connect_caller, initiate, originate, met_at, destination_of, arriving, arrival, arrive, talking, answer, hold, retrieve, ringing, offer, go_back, divert, transfer, clear, end_call}
-use Rattle.acd_terms.specs.AgentMoves.{kept_in, in_state, go_to, go_from, log_on_at, become_busy, wait_for}
-use Rattle.acd_terms.specs.Release.{release_of, released, release_agent, ending_of, release}
-use Rattle.acd_terms.specs.Served.{refuse_if, with_found, moves_of}
-use Rattle.acd_terms.specs.Rules.Plan.{group_order, station_order, agent_order, call_order, connection_order, monitor_order}
-use Rattle.acd_laws.specs.Counts.{RulesBut, Rules, Orders, IsUnseated, IsPlannedStation, IsPlannedGroup, SeatedAs, AgentRule, CallRule, Bare, InQueue, Offered, AlertingColumns, HasColumns, GroupColumn, IsCaller, StandsAt, ConnectionRule, is_open, of_call, initiated_of, open_of, live_at, alerting_at, held_at, distributed_at, ringing_at, talking_at, seated_at, ready_at, busy_at, pending_at, two_if}
-use Rattle.acd_laws.proofs.Lists.{one, find-put_hit, find-put_miss, find-filter, find-filter_none, find_passes, find_among, find_none, none_found, find_found, some_found, any-find, any-put, any_none, any_some, any_found, filter_among, among-filter, after_among, ascending-put, ascending-filter, ascending-remove, count-put_new, count-put_old, count-put_most, count-remove_most, count-removed, every_among, every_from, every-put, every-remove, among-remove, among-put, among-put_other, among-remove_other, counted, none_counted, fewer, count_same, two_counted, both_fewer, count_zero, none_of_zero, the_one, some_counted, all_true, all_from, count-append, total-append, count_length, none_from, some_from, some_is, eq_is, is_eq_of}
-use Rattle.acd_laws.proofs.State.{eqb_self, cmp_equal, cmp_self, key_is, is_of, is_of_true, is_of_self, order_equal, order_same, connection_key, groups_total, stations_total, agents_total, calls_total, connections_total, monitors_total, connection_find, agent_find, call_find, group_find, station_find, monitor_find, is_group_any, is_station_any, at_put, connections_without, calls_without, at_remove, agent_put, call_put, call_remove, group_put, station_put, found_key, own_key, connection_among, connection_found, agent_among, agent_key, agent_own, agent_found, call_among, call_key, call_found, put_other, removed_other, still_none}
-use Rattle.std.proofs.lemmas.Bool.{leb-true, le-leb, lt-leb, leb-false}
+use Rattle.acd_terms.specs.Lists.{count, Among, Every}
+use Rattle.acd_terms.specs.States.{is_ready, is_busy, is_initiated, is_alerting, is_hold, is_queued, is_answered, is_live}
+use Rattle.acd_terms.specs.Scans.{call_of, is_group, is_station, is_planned, has, agent_at, is_distributed, is_occupied}
+use Rattle.acd_laws.specs.Counts.{Rules, Orders, CallRule, Bare, AlertingColumns, HasColumns, GroupColumn, IsCaller, StandsAt, ConnectionRule, is_open, of_call, initiated_of, open_of, live_at, alerting_at, held_at, distributed_at, ringing_at, talking_at, seated_at, ready_at, busy_at, pending_at, two_if}
+use Rattle.acd_laws.proofs.Lists.{find_passes, find_among, any_found, every_from, counted, fewer, count_same, two_counted, count_zero, all_true, some_from, some_is}
+use Rattle.acd_laws.proofs.State.{call_among, call_key}
+use Rattle.std.proofs.lemmas.Bool.{leb-true}
 use Rattle.acd_terms.specs.OneOffer.{is_distributed_at}
 use Rattle.acd_terms.specs.Watched.{is_caller}
 use Rattle.acd_terms.specs.Rules.Calls.{keeps_connection, keeps_parties, keeps_live, is_bare, is_placed, has_columns, is_group_or_none, may_stand, is_being_made, has_two_parties, initiated_at, parties_of}
 use Rattle.acd_terms.specs.Rules.Calls as calls
 use Rattle.acd_terms.specs.Rules.Occupied.{keeps_occupied, attends, is_attended, is_talking, is_busy_only_talking}
-use Rattle.acd_laws.proofs.Found.{has_is, agent_at_find, agent_seat}
+use Rattle.acd_laws.proofs.Found.{has_is, agent_seat}
 use Rattle.acd_laws.proofs.KeptOffer.{ringing_is, talking_is}
-use Rattle.acd_laws.proofs.KeptOut.{initiated_is}
 use Rattle.acd_laws.proofs.RulesRead.{AgentsRead, one_that, zero_or, station_there}
 
 -- the product's tests and the counted ones
@@ -136,9 +106,10 @@ stands_read s x S.Hold i c e = e
 stands_read s x S.Fail i c e = e
 stands_read s x S.Connected i c e =
     elim (or_cases (is_station s x.device) (not (is_planned s x.device) && is_none x.group) e) [
-      inl t ↦ inl t
+      | inl t ↦ inl t
       | inr o ↦ (let outside : is_planned s x.device ≡ false = not-true (is_planned s x.device) (and_parts (not (is_planned s x.device)) (is_none x.group) o).0 in
-          inr (outside, elim (or_cases (is_caller (call_of s x.call) x.device) (is_planned s x.device) c) [ inl k ↦ caller_read (call_of s x.call) x.device k | inr p ↦ absurd (cc (p, outside)) ])) ]
+          inr (outside, elim (or_cases (is_caller (call_of s x.call) x.device) (is_planned s x.device) c) [ inl k ↦ caller_read (call_of s x.call) x.device k | inr p ↦ absurd (cc (p, outside)) ]))
+    ]
 
 -- what the test of connections tells of one
 record ConnectionRead (s : Rows) (x : ConnectionRecord) : Type 0 where
@@ -152,7 +123,7 @@ connection_read : (s : Rows) → keeps_connection s ≡ true → (x : Connection
 unfolding keeps_connection
 connection_read s e x i =
     let p = all_true (λ (x : ConnectionRecord). is_some (call_of s x.call) && (is_caller (call_of s x.call) x.device || is_planned s x.device)
-      && has_columns x.state x && is_group_or_none s x.group && may_stand s x.state x) s.connections e x i in
+    && has_columns x.state x && is_group_or_none s x.group && may_stand s x.state x) s.connections e x i in
     let a = and_parts (is_some (call_of s x.call) && (is_caller (call_of s x.call) x.device || is_planned s x.device) && has_columns x.state x && is_group_or_none s x.group) (may_stand s x.state x) p in
     let b = and_parts (is_some (call_of s x.call) && (is_caller (call_of s x.call) x.device || is_planned s x.device) && has_columns x.state x) (is_group_or_none s x.group) a.0 in
     let c = and_parts (is_some (call_of s x.call) && (is_caller (call_of s x.call) x.device || is_planned s x.device)) (has_columns x.state x) b.0 in
@@ -170,13 +141,14 @@ parties_read : (s : Rows) → keeps_parties s ≡ true → (c : CallRecord) → 
 unfolding keeps_parties
 parties_read s e c i =
     elim (or_cases (is_being_made s c) (has_two_parties s c) (all_true (λ (c : CallRecord). is_being_made s c || has_two_parties s c) s.calls e c i)) [
-      inl h ↦ (let p = and_parts (count (parties_of c.call) s.connections == 1) (count (initiated_at c.call c.caller) s.connections == 1) h in
-        inl (eqb-true (count (parties_of c.call) s.connections) 1 p.0, eqb-true (count (initiated_at c.call c.caller) s.connections) 1 p.1))
+      | inl h ↦ (let p = and_parts (count (parties_of c.call) s.connections == 1) (count (initiated_at c.call c.caller) s.connections == 1) h in
+          inl (eqb-true (count (parties_of c.call) s.connections) 1 p.0, eqb-true (count (initiated_at c.call c.caller) s.connections) 1 p.1))
       | inr h ↦ (let p = and_parts (count (parties_of c.call) s.connections == 2 && count (calls.initiated_of c.call) s.connections == 0) (nat_le (count (calls.open_of c.call) s.connections) 1) h in
-        let q = and_parts (count (parties_of c.call) s.connections == 2) (count (calls.initiated_of c.call) s.connections == 0) p.0 in
-        let o : count (calls.open_of c.call) s.connections ≤ 1 = leb-true (count (calls.open_of c.call) s.connections) 1 p.1 in
-        let oo = open_counts s c.call in
-        inr (eqb-true (count (parties_of c.call) s.connections) 2 q.0, sym (initiated_counts s c.call) ∙ eqb-true (count (calls.initiated_of c.call) s.connections) 0 q.1, omega (arith, o, oo))) ]
+          let q = and_parts (count (parties_of c.call) s.connections == 2) (count (calls.initiated_of c.call) s.connections == 0) p.0 in
+          let o : count (calls.open_of c.call) s.connections ≤ 1 = leb-true (count (calls.open_of c.call) s.connections) 1 p.1 in
+          let oo = open_counts s c.call in
+          inr (eqb-true (count (parties_of c.call) s.connections) 2 q.0, sym (initiated_counts s c.call) ∙ eqb-true (count (calls.initiated_of c.call) s.connections) 0 q.1, omega (arith, o, oo)))
+    ]
 
 -- an initiated connection stands at the caller of its call
 initiated_caller : (s : Rows) → keeps_connection s ≡ true → keeps_parties s ≡ true → (x : ConnectionRecord) → Among x s.connections → x.state ≡ S.Initiated → IsCaller (call_of s x.call) x.device
@@ -187,18 +159,20 @@ initiated_caller s ec ep x i st =
     let mine : (x.call == c.0.call) ≡ true = eq-eqb x.call c.0.call (sym key) in
     let is_x : initiated_of c.0.call x ≡ true = and_from _ _ (ap is_initiated st) mine in
     subst (λ o. IsCaller o x.device) (sym c.1)
-      (elim (parties_read s ep c.0 (call_among s x.call c.0 c.1)) [
-        inl h ↦ (let f = one_that (initiated_at c.0.call c.0.caller) s.connections (let e = h.1 in omega (arith, e)) in
+    (elim (parties_read s ep c.0 (call_among s x.call c.0 c.1)) [
+      | inl h ↦ (let f = one_that (initiated_at c.0.call c.0.caller) s.connections (let e = h.1 in omega (arith, e)) in
           let y : ConnectionRecord = f.0 in
           let q = and_parts (y.call == c.0.call && is_initiated y.state) (y.device == c.0.caller) f.1.1 in
           let at : y.device ≡ c.0.caller = eqb-true y.device c.0.caller q.1 in
           (elim (x.device == c.0.caller) as (λ b. (x.device == c.0.caller) ≡ b → c.0.caller ≡ x.device) [
-            true ↦ λ w. sym (eqb-true x.device c.0.caller w)
+            | true ↦ λ w. sym (eqb-true x.device c.0.caller w)
             | false ↦ λ w.
-              let two = two_counted (of_call c.0.call) s.connections x y i f.1.0 mine (and_parts (y.call == c.0.call) (is_initiated y.state) q.0).0
+                let two = two_counted (of_call c.0.call) s.connections x y i f.1.0 mine (and_parts (y.call == c.0.call) (is_initiated y.state) q.0).0
                 (λ s. cc (w, eq-eqb x.device c.0.caller (ap (λ (z : ConnectionRecord). z.device) s ∙ at))) in
-              let one = h.0 in absurd (omega (arith, two, one)) ]) refl)
-        | inr h ↦ (let k = counted (initiated_of c.0.call) s.connections x i is_x in let z = h.1 in absurd (omega (arith, k, z))) ])
+                let one = h.0 in absurd (omega (arith, two, one))
+          ]) refl)
+      | inr h ↦ (let k = counted (initiated_of c.0.call) s.connections x i is_x in let z = h.1 in absurd (omega (arith, k, z)))
+    ])
 
 connections_read : (s : Rows) → keeps_connection s ≡ true → keeps_parties s ≡ true → Every (ConnectionRule s) s.connections
 connections_read s ec ep = every_from (ConnectionRule s) s.connections (λ x i.
@@ -232,12 +206,13 @@ no_parties s ec n none = count_zero (of_call n) s.connections (λ x i. false_fro
 parties_all : (s : Rows) → keeps_connection s ≡ true → keeps_parties s ≡ true → (n : ℕ) → (count (of_call n) s.connections + count (initiated_of n) s.connections ≡ two_if (is_some (call_of s n))) × (count (open_of n) s.connections ≤ 1)
 parties_all s ec ep n =
     (elim (call_of s n) as (λ o. call_of s n ≡ o → (count (of_call n) s.connections + count (initiated_of n) s.connections ≡ two_if (is_some o)) × (count (open_of n) s.connections ≤ 1)) [
-      None ↦ λ e.
-        let z = no_parties s ec n e in
-        let f = fewer (initiated_of n) (of_call n) (λ z h. (and_parts (is_initiated z.state) (z.call == n) h).1) s.connections in
-        let o = fewer (open_of n) (of_call n) (λ z h. (and_parts (is_open z.state) (z.call == n) h).1) s.connections in
-        (omega (arith, z, f), omega (arith, z, o))
-      | Some c ↦ λ e. call_parties s n c (call_key s n c e) (parties_read s ep c (call_among s n c e)) ]) refl
+      | None ↦ λ e.
+          let z = no_parties s ec n e in
+          let f = fewer (initiated_of n) (of_call n) (λ z h. (and_parts (is_initiated z.state) (z.call == n) h).1) s.connections in
+          let o = fewer (open_of n) (of_call n) (λ z h. (and_parts (is_open z.state) (z.call == n) h).1) s.connections in
+          (omega (arith, z, f), omega (arith, z, o))
+      | Some c ↦ λ e. call_parties s n c (call_key s n c e) (parties_read s ep c (call_among s n c e))
+    ]) refl
 
 -- live
 
@@ -246,14 +221,17 @@ unfolding keeps_live
 live_read s e d h =
     let t = station_there s d h in
     let p = all_true (λ (t : StationRecord). nat_le (count (calls.live_at t.device) s.connections) 1
-        && (count (calls.alerting_at t.device) s.connections == 0 || count (calls.hold_at t.device) s.connections == 0)) s.stations e t.0 t.1.0 in
+    && (count (calls.alerting_at t.device) s.connections == 0 || count (calls.hold_at t.device) s.connections == 0)) s.stations e t.0 t.1.0 in
     let q = and_parts (nat_le (count (calls.live_at t.0.device) s.connections) 1) (count (calls.alerting_at t.0.device) s.connections == 0 || count (calls.hold_at t.0.device) s.connections == 0) p in
     let l : count (calls.live_at t.0.device) s.connections ≤ 1 = leb-true (count (calls.live_at t.0.device) s.connections) 1 q.0 in
     let lc = live_counts s t.0.device in
-    subst (λ v. (count (live_at v) s.connections ≤ 1) × (1 ≤ count (alerting_at v) s.connections → count (held_at v) s.connections ≡ 0)) t.1.1
-      (omega (arith, l, lc), λ a. elim (or_cases (count (calls.alerting_at t.0.device) s.connections == 0) (count (calls.hold_at t.0.device) s.connections == 0) q.1) [
-        inl z ↦ (let ac = alerting_counts s t.0.device in let zz : count (calls.alerting_at t.0.device) s.connections ≡ 0 = eqb-true (count (calls.alerting_at t.0.device) s.connections) 0 z in absurd (omega (arith, a, ac, zz)))
-        | inr z ↦ sym (held_counts s t.0.device) ∙ eqb-true (count (calls.hold_at t.0.device) s.connections) 0 z ])
+    subst (λ v. (count (live_at v) s.connections ≤ 1) × (1 ≤ count (alerting_at v) s.connections → count (held_at v) s.connections ≡ 0)) t.1.1 (
+      omega (arith, l, lc),
+      λ a. elim (or_cases (count (calls.alerting_at t.0.device) s.connections == 0) (count (calls.hold_at t.0.device) s.connections == 0) q.1) [
+        | inl z ↦ (let ac = alerting_counts s t.0.device in let zz : count (calls.alerting_at t.0.device) s.connections ≡ 0 = eqb-true (count (calls.alerting_at t.0.device) s.connections) 0 z in absurd (omega (arith, a, ac, zz)))
+        | inr z ↦ sym (held_counts s t.0.device) ∙ eqb-true (count (calls.hold_at t.0.device) s.connections) 0 z
+      ],
+    )
 
 -- occupied
 
@@ -262,18 +240,20 @@ unfolding keeps_occupied
 attended_read s e x i d =
     let p = all_true (is_attended s) s.connections (and_parts (list_all (is_attended s) s.connections) (list_all (is_busy_only_talking s) s.agents) e).0 x i in
     elim (or_cases (not (is_distributed x)) (nat_le (count (is_distributed_at x.device) s.connections) 1 && attends x (agent_at s x.device)) p) [
-      inl n ↦ absurd (cc (not-true (is_distributed x) n, d))
+      | inl n ↦ absurd (cc (not-true (is_distributed x) n, d))
       | inr q ↦ (let h = and_parts (nat_le (count (is_distributed_at x.device) s.connections) 1) (attends x (agent_at s x.device)) q in
-        let l : count (is_distributed_at x.device) s.connections ≤ 1 = leb-true (count (is_distributed_at x.device) s.connections) 1 h.0 in
-        let c = distributed_counts s x.device in (omega (arith, l, c), h.1)) ]
+          let l : count (is_distributed_at x.device) s.connections ≤ 1 = leb-true (count (is_distributed_at x.device) s.connections) 1 h.0 in
+          let c = distributed_counts s x.device in (omega (arith, l, c), h.1))
+    ]
 
 busy_read : (s : Rows) → keeps_occupied s ≡ true → (a : AgentRecord) → Among a s.agents → (is_busy a.state ≡ true → is_talking s a ≡ true) × (is_some a.pending ≡ true → is_occupied s a ≡ true)
 unfolding keeps_occupied
 busy_read s e a i =
     let p = all_true (is_busy_only_talking s) s.agents (and_parts (list_all (is_attended s) s.connections) (list_all (is_busy_only_talking s) s.agents) e).1 a i in
-    let q = and_parts (not (is_busy a.state) || is_talking s a) (is_none a.pending || is_occupied s a) p in
-    (λ b. elim (or_cases (not (is_busy a.state)) (is_talking s a) q.0) [ inl n ↦ absurd (cc (not-true (is_busy a.state) n, b)) | inr t ↦ t ],
-     λ b. elim (or_cases (is_none a.pending) (is_occupied s a) q.1) [ inl n ↦ absurd (some_none a.pending b n) | inr t ↦ t ])
+    let q = and_parts (not (is_busy a.state) || is_talking s a) (is_none a.pending || is_occupied s a) p in (
+      λ b. elim (or_cases (not (is_busy a.state)) (is_talking s a) q.0) [ inl n ↦ absurd (cc (not-true (is_busy a.state) n, b)) | inr t ↦ t ],
+      λ b. elim (or_cases (is_none a.pending) (is_occupied s a) q.1) [ inl n ↦ absurd (some_none a.pending b n) | inr t ↦ t ],
+    )
   where
     some_none : (o : Option Pending) → is_some o ≡ true → is_none o ≡ true → ⊥
     some_none None b n = cc (b)
@@ -283,8 +263,9 @@ busy_read s e a i =
 attended_agent : (s : Rows) (x : ConnectionRecord) → attends x (agent_at s x.device) ≡ true → (a : AgentRecord) × ((agent_at s x.device ≡ Some a) × (((is_alerting x.state && is_ready a.state) || (is_answered x.state && is_busy a.state)) ≡ true))
 attended_agent s x e =
     (elim (agent_at s x.device) as (λ o. agent_at s x.device ≡ o → attends x o ≡ true → (a : AgentRecord) × ((agent_at s x.device ≡ Some a) × (((is_alerting x.state && is_ready a.state) || (is_answered x.state && is_busy a.state)) ≡ true))) [
-      None ↦ λ q h. absurd (cc (h))
-      | Some a ↦ λ q h. (a, (q, h)) ]) refl e
+      | None ↦ λ q h. absurd (cc (h))
+      | Some a ↦ λ q h. (a, (q, h))
+    ]) refl e
 
 not_both : (st : ConnectionState) → is_alerting st ≡ true → is_answered st ≡ true → ⊥
 not_both S.Alerting a b = cc (b)
@@ -302,10 +283,11 @@ pub record OccupiedRead (s : Rows) : Type 0 where
 
 one_offer_read : (s : Rows) → keeps_occupied s ≡ true → (d : ℕ) → count (distributed_at d) s.connections ≤ 1
 one_offer_read s e d = elim (zero_or (count (distributed_at d) s.connections)) [
-    inl z ↦ omega (arith, z)
-    | inr l ↦ (let f = one_that (distributed_at d) s.connections l in
-        let h = and_parts (is_distributed f.0) (f.0.device == d) f.1.1 in
-        subst (λ v. count (distributed_at v) s.connections ≤ 1) (eqb-true f.0.device d h.1) (attended_read s e f.0 f.1.0 h.0).0) ]
+  | inl z ↦ omega (arith, z)
+  | inr l ↦ (let f = one_that (distributed_at d) s.connections l in
+      let h = and_parts (is_distributed f.0) (f.0.device == d) f.1.1 in
+      subst (λ v. count (distributed_at v) s.connections ≤ 1) (eqb-true f.0.device d h.1) (attended_read s e f.0 f.1.0 h.0).0)
+]
 
 -- a ringing or talking connection at the device, with its agent
 serves_read : (s : Rows) → keeps_occupied s ≡ true → (d : ℕ) (x : ConnectionRecord) → Among x s.connections → distributed_at d x ≡ true
@@ -314,22 +296,26 @@ serves_read s e d x i h =
     let w = and_parts (is_distributed x) (x.device == d) h in
     let a = attended_agent s x (attended_read s e x i w.0).1 in
     let q = agent_seat s x.device a.0 a.1.0 in
-    let at : has a.0.station d ≡ true = rw (q.1, w.1) refl in
-    (λ al. elim (or_cases (is_alerting x.state && is_ready a.0.state) (is_answered x.state && is_busy a.0.state) a.1.1) [
-        inl v ↦ counted (ready_at d) s.agents a.0 q.0 (and_from _ _ (and_parts (is_alerting x.state) (is_ready a.0.state) v).1 at)
-        | inr v ↦ absurd (not_both x.state al (and_parts (is_answered x.state) (is_busy a.0.state) v).0) ],
-     λ an. elim (or_cases (is_alerting x.state && is_ready a.0.state) (is_answered x.state && is_busy a.0.state) a.1.1) [
-        inl v ↦ absurd (not_both x.state (and_parts (is_alerting x.state) (is_ready a.0.state) v).0 an)
-        | inr v ↦ counted (busy_at d) s.agents a.0 q.0 (and_from _ _ (and_parts (is_answered x.state) (is_busy a.0.state) v).1 at) ])
+    let at : has a.0.station d ≡ true = rw (q.1, w.1) refl in (
+      λ al. elim (or_cases (is_alerting x.state && is_ready a.0.state) (is_answered x.state && is_busy a.0.state) a.1.1) [
+        | inl v ↦ counted (ready_at d) s.agents a.0 q.0 (and_from _ _ (and_parts (is_alerting x.state) (is_ready a.0.state) v).1 at)
+        | inr v ↦ absurd (not_both x.state al (and_parts (is_answered x.state) (is_busy a.0.state) v).0)
+      ],
+      λ an. elim (or_cases (is_alerting x.state && is_ready a.0.state) (is_answered x.state && is_busy a.0.state) a.1.1) [
+        | inl v ↦ absurd (not_both x.state (and_parts (is_alerting x.state) (is_ready a.0.state) v).0 an)
+        | inr v ↦ counted (busy_at d) s.agents a.0 q.0 (and_from _ _ (and_parts (is_answered x.state) (is_busy a.0.state) v).1 at)
+      ],
+    )
 
 ready_read : (s : Rows) → keeps_occupied s ≡ true → (d : ℕ) → count (ringing_at d) s.connections ≤ count (ready_at d) s.agents
 ready_read s e d = elim (zero_or (count (ringing_at d) s.connections)) [
-    inl z ↦ omega (arith, z)
-    | inr l ↦ (let f = one_that (ringing_at d) s.connections l in
-        let h = and_parts (is_alerting f.0.state && is_some f.0.group) (f.0.device == d) f.1.1 in
-        let r = (serves_read s e d f.0 f.1.0 (ringing_is d f.0 f.1.1)).0 (and_parts (is_alerting f.0.state) (is_some f.0.group) h.0).0 in
-        let m = fewer (ringing_at d) (distributed_at d) (ringing_is d) s.connections in
-        let o = one_offer_read s e d in omega (arith, r, m, o)) ]
+  | inl z ↦ omega (arith, z)
+  | inr l ↦ (let f = one_that (ringing_at d) s.connections l in
+      let h = and_parts (is_alerting f.0.state && is_some f.0.group) (f.0.device == d) f.1.1 in
+      let r = (serves_read s e d f.0 f.1.0 (ringing_is d f.0 f.1.1)).0 (and_parts (is_alerting f.0.state) (is_some f.0.group) h.0).0 in
+      let m = fewer (ringing_at d) (distributed_at d) (ringing_is d) s.connections in
+      let o = one_offer_read s e d in omega (arith, r, m, o))
+]
 
 talking_from : (s : Rows) (a : AgentRecord) (d : ℕ) → has a.station d ≡ true → is_talking s a ≡ true → 1 ≤ count (talking_at d) s.connections
 talking_from s a d at e =
@@ -356,31 +342,43 @@ busy_counts s e ag d =
     let b = fewer (busy_at d) (seated_at d) (λ z w. (and_parts (is_busy z.state) (has z.station d) w).1) s.agents in
     let u = ag.one d in
     let there : 1 ≤ count (talking_at d) s.connections → 1 ≤ count (busy_at d) s.agents = λ l.
-      let f = one_that (talking_at d) s.connections l in
-      let h = and_parts (is_answered f.0.state && is_some f.0.group) (f.0.device == d) f.1.1 in
-      (serves_read s e d f.0 f.1.0 (talking_is d f.0 f.1.1)).1 (and_parts (is_answered f.0.state) (is_some f.0.group) h.0).0 in
+    let f = one_that (talking_at d) s.connections l in
+    let h = and_parts (is_answered f.0.state && is_some f.0.group) (f.0.device == d) f.1.1 in
+    (serves_read s e d f.0 f.1.0 (talking_is d f.0 f.1.1)).1 (and_parts (is_answered f.0.state) (is_some f.0.group) h.0).0 in
     let back : 1 ≤ count (busy_at d) s.agents → 1 ≤ count (talking_at d) s.connections = λ l.
-      let f = one_that (busy_at d) s.agents l in
-      let h = and_parts (is_busy f.0.state) (has f.0.station d) f.1.1 in
-      talking_from s f.0 d h.1 ((busy_read s e f.0 f.1.0).0 h.0) in
+    let f = one_that (busy_at d) s.agents l in
+    let h = and_parts (is_busy f.0.state) (has f.0.station d) f.1.1 in
+    talking_from s f.0 d h.1 ((busy_read s e f.0 f.1.0).0 h.0) in
     elim (zero_or (count (talking_at d) s.connections)) [
-      inl z ↦ elim (zero_or (count (busy_at d) s.agents)) [ inl y ↦ z ∙ sym y | inr l ↦ (let t = back l in absurd (omega (arith, t, z))) ]
-      | inr l ↦ (let t = there l in omega (arith, l, t, m, o, b, u)) ]
+      | inl z ↦ elim (zero_or (count (busy_at d) s.agents)) [ inl y ↦ z ∙ sym y | inr l ↦ (let t = back l in absurd (omega (arith, t, z))) ]
+      | inr l ↦ (let t = there l in omega (arith, l, t, m, o, b, u))
+    ]
 
 pending_read : (s : Rows) → keeps_occupied s ≡ true → AgentsRead s → (d : ℕ) → count (pending_at d) s.agents ≤ count (distributed_at d) s.connections
 pending_read s e ag d = elim (zero_or (count (pending_at d) s.agents)) [
-    inl z ↦ omega (arith, z)
-    | inr l ↦ (let f = one_that (pending_at d) s.agents l in
-        let h = and_parts (is_some f.0.pending) (has f.0.station d) f.1.1 in
-        let o = occupied_from s f.0 d h.1 ((busy_read s e f.0 f.1.0).1 h.0) in
-        let b = fewer (pending_at d) (seated_at d) (λ z w. (and_parts (is_some z.pending) (has z.station d) w).1) s.agents in
-        let u = ag.one d in omega (arith, o, b, u)) ]
+  | inl z ↦ omega (arith, z)
+  | inr l ↦ (let f = one_that (pending_at d) s.agents l in
+      let h = and_parts (is_some f.0.pending) (has f.0.station d) f.1.1 in
+      let o = occupied_from s f.0 d h.1 ((busy_read s e f.0 f.1.0).1 h.0) in
+      let b = fewer (pending_at d) (seated_at d) (λ z w. (and_parts (is_some z.pending) (has z.station d) w).1) s.agents in
+      let u = ag.one d in omega (arith, o, b, u))
+]
 
 pub rules_read : (s : Rows) → Orders s → ((d : ℕ) → is_group s d ≡ true → is_station s d ≡ false) → AgentsRead s → Every (CallRule s) s.calls → keeps_connection s ≡ true → keeps_parties s ≡ true → keeps_live s ≡ true → keeps_occupied s ≡ true → Rules s
 rules_read s orders kinds ag calls ec ep el eo = record {
-    orders = orders; kinds = kinds; agents = ag.each; calls = calls; connections = connections_read s ec ep;
-    parties = λ n. (parties_all s ec ep n).0; one_open = λ n. (parties_all s ec ep n).1;
-    one_live = λ d h. (live_read s el d h).0; no_hold = λ d h l. (live_read s el d h).1 l;
-    one_offer = one_offer_read s eo; one_agent = ag.one;
-    ready = λ d _. ready_read s eo d; busy = λ d _. busy_counts s eo ag d; pending = λ d _. pending_read s eo ag d;
-    free = λ d q. absurd (cc (q)) }
+  orders = orders;
+  kinds = kinds;
+  agents = ag.each;
+  calls = calls;
+  connections = connections_read s ec ep;
+  parties = λ n. (parties_all s ec ep n).0;
+  one_open = λ n. (parties_all s ec ep n).1;
+  one_live = λ d h. (live_read s el d h).0;
+  no_hold = λ d h l. (live_read s el d h).1 l;
+  one_offer = one_offer_read s eo;
+  one_agent = ag.one;
+  ready = λ d _. ready_read s eo d;
+  busy = λ d _. busy_counts s eo ag d;
+  pending = λ d _. pending_read s eo ag d;
+  free = λ d q. absurd (cc (q));
+}

@@ -13,14 +13,6 @@ use Rattle.acd_terms.specs.declared.event.Event.{Event}
 use Rattle.acd_terms.specs.declared.event.Report.{Report}
 use Rattle.acd_terms.specs.declared.event.Report.TheVariants.{Queued, Established, CallCleared, Diverted}
 
-
-
-
-
-
-
-
-
 -- numbers don't count
 pub count_numbered : (p : Report → Bool) (n : ℕ) (es : List Event) → count (λ (e : Event). p e.report) (numbered n es) ≡ count (λ (e : Event). p e.report) es
 count_numbered p n [] = refl

@@ -1,64 +1,34 @@
 -- Distribution: what the next offer is of, what each offer keeps, and that none is left.
-use Rattle.std.proofs.Common.{◌≡◌, ◌≢◌, ℕ, zero, suc, ◌+◌, ◌<◌, ◌≤◌, ◌⊎◌, inl, inr, Bool, true, false, not, ◌&&◌, ◌||◌, cond, List, [], ◌∷◌, ◌++◌, Option, Some, None, refl, sym, ◌∙◌, ap, subst, arith, length, eq-eqb}
-use Rattle.std.specs.Prelude.{◌==◌, if◌then◌else◌, IsTrue, IsFalse, is_some, is_none, filter, find, nat_le, max}
-use Rattle.std.specs.List.{list_any, list_all}
-use Rattle.std.specs.Cmp.{IsTotalOrder}
-use Rattle.std.specs.declared.cmp.Ordering.{Ordering}
-use Rattle.std.specs.declared.cmp.Ordering.TheVariants.{Less, Equal, Greater}
-use Rattle.std.proofs.lemmas.Bool.{and_parts, and_from, eqb-true, eqb-false, ne_eqb, false_from_ne_true, and_left, and_right, and_cases, or_cases, cases_eq, or_parts, not-false, not-true, or_right, or_left, cond-false, cond-true}
+use Rattle.std.proofs.Common.{◌≡◌, ℕ, zero, suc, ◌+◌, ◌≤◌, Bool, true, false, not, ◌&&◌, List, [], ◌++◌, Option, Some, None, refl, sym, ◌∙◌, ap, subst, arith, length}
+use Rattle.std.specs.Prelude.{◌==◌, filter}
+use Rattle.std.proofs.lemmas.Bool.{and_parts, eqb-true, not-true}
 use Rattle.acd_terms.specs.declared.rows.Rows.{Rows}
 use Rattle.acd_terms.specs.declared.record.GroupRecord.{GroupRecord}
-use Rattle.acd_terms.specs.declared.record.StationRecord.{StationRecord}
 use Rattle.acd_terms.specs.declared.record.AgentRecord.{AgentRecord}
-use Rattle.acd_terms.specs.declared.record.CallRecord.{CallRecord}
 use Rattle.acd_terms.specs.declared.record.ConnectionRecord.{ConnectionRecord}
-use Rattle.acd_terms.specs.declared.record.MonitorRecord.{MonitorRecord}
-use Rattle.acd_terms.specs.declared.state.AgentState.{AgentState}
-use Rattle.acd_terms.specs.declared.state.AgentState.TheVariants as A
-use Rattle.acd_terms.specs.declared.state.Pending.{Pending}
-use Rattle.acd_terms.specs.declared.state.Pending.TheVariants as W
-use Rattle.acd_terms.specs.declared.state.ConnectionState.{ConnectionState}
-use Rattle.acd_terms.specs.declared.state.ConnectionState.TheVariants as S
-use Rattle.acd_terms.specs.declared.event.Cause.{Cause}
-use Rattle.acd_terms.specs.declared.event.Cause.TheVariants as C
 use Rattle.acd_terms.specs.declared.moves.Move.{Move}
-use Rattle.acd_terms.specs.declared.moves.Change.{Change}
-use Rattle.acd_terms.specs.declared.moves.Change.TheVariants.{Nothing, PutGroup, PutStation, PutAgent, PutCall, PutConnection, PutMonitor, RemoveCall, RemoveConnection, RemoveMonitor}
-use Rattle.acd_terms.specs.declared.moves.Destination.{Destination}
-use Rattle.acd_terms.specs.declared.moves.Destination.TheVariants as D
-use Rattle.acd_terms.specs.declared.moves.Ending.{Ending}
-use Rattle.acd_terms.specs.declared.moves.Ending.TheVariants.{Answered, Unanswered, NoAnswer}
-use Rattle.acd_terms.specs.declared.moves.Release.{Release}
-use Rattle.acd_terms.specs.declared.moves.Release.TheVariants.{Stays, Goes}
-use Rattle.acd_terms.specs.declared.moves.Served.{Served}
-use Rattle.acd_terms.specs.declared.moves.Served.TheVariants.{Refused, Done}
-use Rattle.acd_terms.specs.declared.answer.Refusal.{Refusal}
-use Rattle.acd_terms.specs.Lists.{find_by, put_by, remove_by, count, total, Among, Every, AllAfter, IsAscending}
-use Rattle.acd_terms.specs.States.{is_null, is_ready, is_busy, is_working_after_call, is_initiated, is_alerting, is_connected, is_hold, is_queued, is_fail, is_answered, is_live, is_occupying, state_wanted, is_in}
-use Rattle.acd_terms.specs.Scans.{at_group, at_station, at_agent, at_call, at_connection, at_monitor, group_of, station_of, agent_of, call_of, connection_of, monitor_of, is_group, is_station, is_planned, has, agent_at, connections_of, other_of, is_distributed, is_live_at, is_taken, is_idle, is_occupied, waiting_in, is_idle_there, is_eligible, eligible_in, is_calling, queued_in_all}
-use Rattle.acd_terms.specs.Writes.{with_group, with_station, with_agent, with_call, with_connection, with_monitor, without_call, without_connection, without_monitor, with_last}
-use Rattle.acd_terms.specs.Moves.{no_move, silent, reported, changed, moved}
-use Rattle.acd_terms.specs.CallMoves.{plain, queueing, begin, connect_caller, initiate, originate, met_at, destination_of, arriving, arrival, arrive, talking, answer, hold, retrieve, ringing, offer, go_back, divert, transfer, clear, end_call}
-use Rattle.acd_terms.specs.AgentMoves.{kept_in, in_state, go_to, go_from, log_on_at, become_busy, wait_for}
-use Rattle.acd_terms.specs.Release.{release_of, released, release_agent, ending_of, release}
-use Rattle.acd_terms.specs.Served.{refuse_if, with_found, moves_of}
-use Rattle.acd_terms.specs.Rules.Plan.{group_order, station_order, agent_order, call_order, connection_order, monitor_order}
-use Rattle.acd_laws.specs.Counts.{RulesBut, Rules, Orders, IsUnseated, IsPlannedStation, IsPlannedGroup, SeatedAs, AgentRule, CallRule, Bare, InQueue, Offered, AlertingColumns, HasColumns, GroupColumn, IsCaller, StandsAt, ConnectionRule, is_open, of_call, initiated_of, open_of, live_at, alerting_at, held_at, distributed_at, ringing_at, talking_at, seated_at, ready_at, busy_at, pending_at, two_if}
-use Rattle.acd_laws.proofs.Lists.{one, find-put_hit, find-put_miss, find-filter, find-filter_none, find_passes, find_among, find_none, none_found, find_found, some_found, any-find, any-put, any_none, any_some, any_found, filter_among, among-filter, after_among, ascending-put, ascending-filter, ascending-remove, count-put_new, count-put_old, count-put_most, count-remove_most, count-removed, every_among, every_from, every-put, every-remove, among-remove, among-put, among-put_other, among-remove_other, counted, none_counted, fewer, count_same, two_counted, both_fewer, count_zero, none_of_zero, the_one, some_counted, all_true, all_from, count-append, total-append, count_length, none_from, some_from, some_is, eq_is, is_eq_of}
-use Rattle.acd_laws.proofs.State.{eqb_self, cmp_equal, cmp_self, key_is, is_of, is_of_true, is_of_self, order_equal, order_same, connection_key, groups_total, stations_total, agents_total, calls_total, connections_total, monitors_total, connection_find, agent_find, call_find, group_find, station_find, monitor_find, is_group_any, is_station_any, at_put, connections_without, calls_without, at_remove, agent_put, call_put, call_remove, group_put, station_put, found_key, own_key, connection_among, connection_found, agent_among, agent_key, agent_own, agent_found, call_among, call_key, call_found, put_other, removed_other, still_none}
-use Rattle.std.proofs.Common.{append_assoc, append-nil, map}
+use Rattle.acd_terms.specs.Lists.{count, Among}
+use Rattle.acd_terms.specs.States.{is_ready, is_queued}
+use Rattle.acd_terms.specs.Scans.{agent_of, connection_of, has, is_idle, is_occupied, waiting_in, is_idle_there, is_eligible, eligible_in, queued_in_all}
+use Rattle.acd_terms.specs.Writes.{with_connection, without_connection}
+use Rattle.acd_terms.specs.Moves.{moved}
+use Rattle.acd_terms.specs.CallMoves.{ringing}
+use Rattle.acd_laws.specs.Counts.{Rules}
+use Rattle.acd_laws.proofs.Lists.{one, filter_among, counted, count_length, none_from}
+use Rattle.acd_laws.proofs.State.{connection_found, agent_found, still_none}
+use Rattle.std.proofs.Common.{append_assoc, append-nil}
 use Rattle.acd_terms.specs.declared.moves.Offer.{Offer}
 use Rattle.acd_terms.specs.declared.event.Event.{Event}
 use Rattle.acd_terms.specs.Moves.{events_of}
 use Rattle.acd_terms.specs.Choice.{waiting_pair, ready_pair, offer_of}
 use Rattle.acd_terms.specs.Offers.{IsOffer, HasNoOffer}
-use Rattle.acd_terms.specs.Distribution.{offer_at, station_of_agent, offer_moves, with_offer, offers, distribution}
+use Rattle.acd_terms.specs.Distribution.{offer_at, offer_moves, with_offer, offers, distribution}
 use Rattle.acd_laws.proofs.Members.{mapped_among}
-use Rattle.acd_laws.proofs.Deciding.{events-append}
+use Rattle.acd_laws.proofs.MoveEvents.{events-append}
 use Rattle.acd_laws.proofs.OfferFound.{finds_the_offer, nothing_found}
 use Rattle.acd_laws.proofs.Serving.{moved-append}
 use Rattle.acd_laws.proofs.Found.{count_new, count_less, connection_there}
-use Rattle.acd_laws.proofs.KeptOffer.{offer_station, offer_new, queued_is, kept_offer}
+use Rattle.acd_laws.proofs.KeptOffer.{offer_station, offer_new, kept_offer}
 
 -- an offer is of a connection that waits in the group, and of an agent who may take it
 pub record Offering (s : Rows) (o : Offer) (x : ConnectionRecord) (a : AgentRecord) (d : ℕ) : Type 0 where
@@ -105,12 +75,30 @@ offering s r o e =
     let d = idle_station s a.station t.1 in
     let call : x.call ≡ o.call = sym (ap (λ (p : ℕ × ℕ). p.1) w.1.1) in
     let device : x.device ≡ o.group = eqb-true x.device o.group both.0 in
-    let agent : a.agent ≡ o.agent = sym (ap (λ (p : ℕ × ℕ). p.1) v.1.1) in
-    (x, (a, (d.0, record {
-      call = call; group = device; there = wx.0; queued = both.1; agent = agent; known = ea.0; member = q.0; ready = q.1;
-      station = d.1.0; free = not-true (is_occupied s a) u.1; idle = d.1.1;
-      found = subst (λ c. connection_of s c o.group ≡ Some x) call (subst (λ g. connection_of s x.call g ≡ Some x) device (connection_found s r.orders.connections x wx.0));
-      agent_found = subst (λ n. agent_of s n ≡ Some a) agent (agent_found s r.orders.agents a ea.0) })))
+    let agent : a.agent ≡ o.agent = sym (ap (λ (p : ℕ × ℕ). p.1) v.1.1) in (
+      x,
+      (
+        a,
+        (
+          d.0,
+          record {
+            call = call;
+            group = device;
+            there = wx.0;
+            queued = both.1;
+            agent = agent;
+            known = ea.0;
+            member = q.0;
+            ready = q.1;
+            station = d.1.0;
+            free = not-true (is_occupied s a) u.1;
+            idle = d.1.1;
+            found = subst (λ c. connection_of s c o.group ≡ Some x) call (subst (λ g. connection_of s x.call g ≡ Some x) device (connection_found s r.orders.connections x wx.0));
+            agent_found = subst (λ n. agent_of s n ≡ Some a) agent (agent_found s r.orders.agents a ea.0);
+          },
+        ),
+      ),
+    )
 
 pub offer_moves_are : (s : Rows) (m : ℕ) (o : Offer) (x : ConnectionRecord) (a : AgentRecord) (d : ℕ) → Offering s o x a d → offer_moves s m o ≡ offer_at m (Some x) (Some d)
 unfolding offer_moves
@@ -127,7 +115,7 @@ rules_offer s m o r e =
     let d : ℕ = f.1.1.0 in
     let h : Offering s o x a d = f.1.1.1 in
     subst (λ ms. Rules (moved s ms)) (sym (offer_moves_are s m o x a d h))
-      (kept_offer s x a d m r (connection_there s r x h.there) h.queued h.known h.ready h.station h.free h.idle)
+    (kept_offer s x a d m r (connection_there s r x h.there) h.queued h.known h.ready h.station h.free h.idle)
 
 -- the moves of a distribution keep what each offer keeps
 pub offers_keep : (P : Rows → List Event → Type 0) (m : ℕ) → ((s : Rows) (es : List Event) (o : Offer) → Rules s → P s es → offer_of s ≡ Some o → P (moved s (offer_moves s m o)) (es ++ events_of m (offer_moves s m o)))
@@ -135,14 +123,15 @@ pub offers_keep : (P : Rows → List Event → Type 0) (m : ℕ) → ((s : Rows)
 offers_keep P m f zero s es r h = subst (P s) (sym (append-nil es)) h
 offers_keep P m f (suc n) s es r h =
     (elim (offer_of s) as (λ p. offer_of s ≡ p → P (moved s (with_offer p [] (λ o. offer_moves s m o ++ offers n (moved s (offer_moves s m o)) m)))
-        (es ++ events_of m (with_offer p [] (λ o. offer_moves s m o ++ offers n (moved s (offer_moves s m o)) m)))) [
-      None ↦ λ _. subst (P s) (sym (append-nil es)) h
+    (es ++ events_of m (with_offer p [] (λ o. offer_moves s m o ++ offers n (moved s (offer_moves s m o)) m)))) [
+      | None ↦ λ _. subst (P s) (sym (append-nil es)) h
       | Some o ↦ λ e.
           let one : List Move = offer_moves s m o in
           let rest : List Move = offers n (moved s one) m in
           subst (λ t. P t (es ++ events_of m (one ++ rest))) (sym (moved-append s one rest))
-            (subst (P (moved (moved s one) rest)) (append_assoc es (events_of m one) (events_of m rest) ∙ ap (λ qs. es ++ qs) (sym (events-append m one rest)))
-              (offers_keep P m f n (moved s one) (es ++ events_of m one) (rules_offer s m o r e) (f s es o r h e))) ]) refl
+          (subst (P (moved (moved s one) rest)) (append_assoc es (events_of m one) (events_of m rest) ∙ ap (λ qs. es ++ qs) (sym (events-append m one rest)))
+          (offers_keep P m f n (moved s one) (es ++ events_of m one) (rules_offer s m o r e) (f s es o r h e)))
+    ]) refl
 
 pub distribution_keeps : (P : Rows → List Event → Type 0) (m : ℕ) → ((s : Rows) (es : List Event) (o : Offer) → Rules s → P s es → offer_of s ≡ Some o → P (moved s (offer_moves s m o)) (es ++ events_of m (offer_moves s m o)))
     → (s : Rows) (es : List Event) → Rules s → P s es → P (moved s (distribution s m)) (es ++ events_of m (distribution s m))
@@ -183,9 +172,10 @@ none_left : (n : ℕ) (s : Rows) (m : ℕ) → Rules s → count in_queue s.conn
 none_left zero s m r l = none_from (offer_of s) (λ o e. let f = offering s r o e in let c = counted in_queue s.connections f.0 f.1.1.1.there f.1.1.1.queued in omega (arith, l, c))
 none_left (suc n) s m r l =
     (elim (offer_of s) as (λ p. offer_of s ≡ p → offer_of (moved s (with_offer p [] (λ o. offer_moves s m o ++ offers n (moved s (offer_moves s m o)) m))) ≡ None) [
-      None ↦ λ e. e
+      | None ↦ λ e. e
       | Some o ↦ λ e. let f = fewer_queued s m o r e in
-          ap offer_of (moved-append s (offer_moves s m o) (offers n (moved s (offer_moves s m o)) m)) ∙ none_left n (moved s (offer_moves s m o)) m (rules_offer s m o r e) (omega (arith, f, l)) ]) refl
+          ap offer_of (moved-append s (offer_moves s m o) (offers n (moved s (offer_moves s m o)) m)) ∙ none_left n (moved s (offer_moves s m o)) m (rules_offer s m o r e) (omega (arith, f, l))
+    ]) refl
 
 pub no_offer_after : (s : Rows) (m : ℕ) → Rules s → offer_of (moved s (distribution s m)) ≡ None
 unfolding distribution queued_in_all

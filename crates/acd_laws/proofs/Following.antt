@@ -1,5 +1,5 @@
 -- What follows of a state, of the events since: what they tell, balance and keep in order, over a whole step.
-use Rattle.std.proofs.Common.{◌≡◌, ℕ, ◌+◌, ◌<◌, ◌≤◌, List, [], ◌∷◌, ◌++◌, Option, None, refl, sym, ◌∙◌, ap, subst, length, arith, append-nil}
+use Rattle.std.proofs.Common.{◌≡◌, ℕ, ◌+◌, ◌<◌, ◌≤◌, List, [], ◌++◌, refl, sym, ◌∙◌, ap, subst, length, arith, append-nil}
 use Rattle.acd_terms.specs.Moves.{moved, events_of}
 use Rattle.acd_terms.specs.Served.{moves_of}
 use Rattle.acd_terms.specs.Figures.{figures_of}
@@ -23,7 +23,7 @@ use Rattle.acd_laws.proofs.Ticking.{kept-append, tick_keeps}
 use Rattle.acd_laws.proofs.Distributing.{distribution_keeps}
 use Rattle.acd_laws.proofs.RulesKept.{rules_serve}
 use Rattle.acd_laws.proofs.SoundMoves.{Sound}
-use Rattle.acd_laws.proofs.SoundCalls.{SoundBy, sound_arrive_call, sound_make_call, sound_phone_off_hook, sound_answer_call, sound_hold_call, sound_retrieve_call}
+use Rattle.acd_laws.proofs.SoundCalls.{sound_arrive_call, sound_make_call, sound_phone_off_hook, sound_answer_call, sound_hold_call, sound_retrieve_call}
 use Rattle.acd_laws.proofs.SoundEnds.{sound_clear_connection, sound_deflect_call, sound_single_step_transfer, sound_set_agent_state}
 use Rattle.acd_laws.proofs.SoundOffers.{sound_add_group, sound_add_station, sound_add_agent, sound_monitor_start, sound_monitor_stop, sound_offer, sound_return, sound_rest}
 
@@ -43,30 +43,35 @@ follows_nothing s b = record {
   connections = λ c d. refl;
   agents = λ n. refl;
   balances = λ g. nothing_counted s g;
-  order = λ events n o. subst (λ (j : ℕ). Ordered b j s (events ++ [])) (omega arith) (subst (Ordered b n s) (sym (append-nil events)) o) }
+  order = λ events n o. subst (λ (j : ℕ). Ordered b j s (events ++ [])) (omega arith) (subst (Ordered b n s) (sym (append-nil events)) o);
+}
 
 -- sound moves lead on
 pub follows_moves : (s : Rows) (b c d m : ℕ) (t : Rows) (es : List Event) (ms : List Move) → Follows s b c t es → Sound m c d t ms → Follows s b d (moved t ms) (es ++ events_of m ms)
 follows_moves s b c d m t es ms f g = record {
   connections = λ call device. shown_after t m ms g.truthful call device ∙ ap (λ v. after (connection_told call device) v (events_of m ms)) (f.connections call device)
-    ∙ sym (after-append (connection_told call device) (shown s call device) es (events_of m ms));
+      ∙ sym (after-append (connection_told call device) (shown s call device) es (events_of m ms));
   agents = λ agent. seat_after t m ms g.truthful agent ∙ ap (λ v. after (seat_told agent) v (events_of m ms)) (f.agents agent)
-    ∙ sym (after-append (seat_told agent) (seat s agent) es (events_of m ms));
+      ∙ sym (after-append (seat_told agent) (seat s agent) es (events_of m ms));
   balances = λ x.
-    let a = f.balances x in
-    let e = balanced_events t m ms g.balances x in
-    let j : figures_of x (es ++ events_of m ms) ≡ _ = figures_joined x es (events_of m ms) in
-    let j1 : (figures_of x (es ++ events_of m ms)).entered ≡ (figures_of x es).entered + (figures_of x (events_of m ms)).entered = ap (λ (w : Figures). w.entered) j in
-    let j2 : (figures_of x (es ++ events_of m ms)).answered ≡ (figures_of x es).answered + (figures_of x (events_of m ms)).answered = ap (λ (w : Figures). w.answered) j in
-    let j3 : (figures_of x (es ++ events_of m ms)).abandoned ≡ (figures_of x es).abandoned + (figures_of x (events_of m ms)).abandoned = ap (λ (w : Figures). w.abandoned) j in
-    let j4 : (figures_of x (es ++ events_of m ms)).moved ≡ (figures_of x es).moved + (figures_of x (events_of m ms)).moved = ap (λ (w : Figures). w.moved) j in
-    omega (arith, a, e, j1, j2, j3, j4);
-  order = λ events n o. ordered_on d n (moved t ms) events es (events_of m ms) (g.order (events ++ numbered n es) (n + length es) (f.order events n o)) }
+      let a = f.balances x in
+      let e = balanced_events t m ms g.balances x in
+      let j : figures_of x (es ++ events_of m ms) ≡ _ = figures_joined x es (events_of m ms) in
+      let j1 : (figures_of x (es ++ events_of m ms)).entered ≡ (figures_of x es).entered + (figures_of x (events_of m ms)).entered = ap (λ (w : Figures). w.entered) j in
+      let j2 : (figures_of x (es ++ events_of m ms)).answered ≡ (figures_of x es).answered + (figures_of x (events_of m ms)).answered = ap (λ (w : Figures). w.answered) j in
+      let j3 : (figures_of x (es ++ events_of m ms)).abandoned ≡ (figures_of x es).abandoned + (figures_of x (events_of m ms)).abandoned = ap (λ (w : Figures). w.abandoned) j in
+      let j4 : (figures_of x (es ++ events_of m ms)).moved ≡ (figures_of x es).moved + (figures_of x (events_of m ms)).moved = ap (λ (w : Figures). w.moved) j in
+      omega (arith, a, e, j1, j2, j3, j4);
+  order = λ events n o. ordered_on d n (moved t ms) events es (events_of m ms) (g.order (events ++ numbered n es) (n + length es) (f.order events n o));
+}
 
 follows_later : (s : Rows) (b c d : ℕ) (t : Rows) (es : List Event) → c ≤ d → Follows s b c t es → Follows s b d t es
 follows_later s b c d t es l f = record {
-  connections = f.connections; agents = f.agents; balances = f.balances;
-  order = λ events n o. let w = f.order events n o in record { in_order = w.in_order; up_to = record { entries = w.up_to.entries; places = λ g x p h. let e = w.up_to.places g x p h in omega (arith, e, l) } } }
+  connections = f.connections;
+  agents = f.agents;
+  balances = f.balances;
+  order = λ events n o. let w = f.order events n o in record { in_order = w.in_order; up_to = record { entries = w.up_to.entries; places = λ g x p h. let e = w.up_to.places g x p h in omega (arith, e, l) } };
+}
 
 -- a service, and tick
 
@@ -91,10 +96,10 @@ follows_serve s m k b (MonitorStart device) r l = follows_sound s m k b _ (sound
 follows_serve s m k b (MonitorStop monitor) r l = follows_sound s m k b _ (sound_monitor_stop s m k b monitor l)
 follows_serve s m k b Tick r l =
     follows_later s b b k _ _ (omega (arith, l))
-      (tick_keeps (Follows s b b) m k
-        (λ t es x g rt f own alerting group. follows_moves s b b b m t es _ f (sound_return t m k b g x rt own alerting group))
-        (λ t es a rt f own works. follows_moves s b b b m t es _ f (sound_rest t m k b a own))
-        s [] r (follows_nothing s b)).1
+    (tick_keeps (Follows s b b) m k
+    (λ t es x g rt f own alerting group. follows_moves s b b b m t es _ f (sound_return t m k b g x rt own alerting group))
+    (λ t es a rt f own works. follows_moves s b b b m t es _ f (sound_rest t m k b a own))
+    s [] r (follows_nothing s b)).1
 
 -- the moves of a step: the service's, then the distribution's
 pub follows_step : (s : Rows) (m k b : ℕ) (c : Command) → Rules s → b < k → Follows s b k (moved s (step_moves s m (serve s m k c))) (events_of m (step_moves s m (serve s m k c)))
@@ -102,4 +107,4 @@ follows_step s m k b c r l =
     let ms : List Move = moves_of (serve s m k c) in
     let t : Rows = moved s ms in
     kept-append (Follows s b k) m s [] ms (distribution t m)
-      (distribution_keeps (Follows s b k) m (λ v es o rv f e. follows_moves s b k k m v es _ f (sound_offer v m k o rv e)) t (events_of m ms) (rules_serve s m k c r) (follows_serve s m k b c r l))
+    (distribution_keeps (Follows s b k) m (λ v es o rv f e. follows_moves s b k k m v es _ f (sound_offer v m k o rv e)) t (events_of m ms) (rules_serve s m k c r) (follows_serve s m k b c r l))

@@ -1,54 +1,26 @@
 -- The rules are kept by arriveCall.
-use Rattle.std.proofs.Common.{◌≡◌, ◌≢◌, ℕ, zero, suc, ◌+◌, ◌<◌, ◌≤◌, ◌⊎◌, inl, inr, Bool, true, false, not, ◌&&◌, ◌||◌, cond, List, [], ◌∷◌, ◌++◌, Option, Some, None, refl, sym, ◌∙◌, ap, subst, arith, length, eq-eqb}
-use Rattle.std.specs.Prelude.{◌==◌, if◌then◌else◌, IsTrue, IsFalse, is_some, is_none, filter, find, nat_le, max}
-use Rattle.std.specs.List.{list_any, list_all}
-use Rattle.std.specs.Cmp.{IsTotalOrder}
-use Rattle.std.specs.declared.cmp.Ordering.{Ordering}
-use Rattle.std.specs.declared.cmp.Ordering.TheVariants.{Less, Equal, Greater}
-use Rattle.std.proofs.lemmas.Bool.{and_parts, and_from, eqb-true, eqb-false, ne_eqb, false_from_ne_true, and_left, and_right, and_cases, or_cases, cases_eq, or_parts, not-false, not-true, or_right, or_left, cond-false, cond-true}
+use Rattle.std.proofs.Common.{◌≡◌, ℕ, ◌+◌, ◌≤◌, inr, Bool, true, false, cond, Some, None, refl, sym, ◌∙◌, ap, subst, arith}
+use Rattle.std.specs.Prelude.{◌==◌, IsTrue, is_some}
+use Rattle.std.proofs.lemmas.Bool.{and_parts, eqb-true, false_from_ne_true, and_right, or_parts, not-false, or_right}
 use Rattle.acd_terms.specs.declared.rows.Rows.{Rows}
-use Rattle.acd_terms.specs.declared.record.GroupRecord.{GroupRecord}
-use Rattle.acd_terms.specs.declared.record.StationRecord.{StationRecord}
-use Rattle.acd_terms.specs.declared.record.AgentRecord.{AgentRecord}
 use Rattle.acd_terms.specs.declared.record.CallRecord.{CallRecord}
 use Rattle.acd_terms.specs.declared.record.ConnectionRecord.{ConnectionRecord}
-use Rattle.acd_terms.specs.declared.record.MonitorRecord.{MonitorRecord}
-use Rattle.acd_terms.specs.declared.state.AgentState.{AgentState}
-use Rattle.acd_terms.specs.declared.state.AgentState.TheVariants as A
-use Rattle.acd_terms.specs.declared.state.Pending.{Pending}
-use Rattle.acd_terms.specs.declared.state.Pending.TheVariants as W
-use Rattle.acd_terms.specs.declared.state.ConnectionState.{ConnectionState}
 use Rattle.acd_terms.specs.declared.state.ConnectionState.TheVariants as S
-use Rattle.acd_terms.specs.declared.event.Cause.{Cause}
-use Rattle.acd_terms.specs.declared.event.Cause.TheVariants as C
-use Rattle.acd_terms.specs.declared.moves.Move.{Move}
-use Rattle.acd_terms.specs.declared.moves.Change.{Change}
-use Rattle.acd_terms.specs.declared.moves.Change.TheVariants.{Nothing, PutGroup, PutStation, PutAgent, PutCall, PutConnection, PutMonitor, RemoveCall, RemoveConnection, RemoveMonitor}
-use Rattle.acd_terms.specs.declared.moves.Destination.{Destination}
-use Rattle.acd_terms.specs.declared.moves.Destination.TheVariants as D
-use Rattle.acd_terms.specs.declared.moves.Ending.{Ending}
-use Rattle.acd_terms.specs.declared.moves.Ending.TheVariants.{Answered, Unanswered, NoAnswer}
-use Rattle.acd_terms.specs.declared.moves.Release.{Release}
-use Rattle.acd_terms.specs.declared.moves.Release.TheVariants.{Stays, Goes}
-use Rattle.acd_terms.specs.declared.moves.Served.{Served}
-use Rattle.acd_terms.specs.declared.moves.Served.TheVariants.{Refused, Done}
-use Rattle.acd_terms.specs.declared.answer.Refusal.{Refusal}
-use Rattle.acd_terms.specs.Lists.{find_by, put_by, remove_by, count, total, Among, Every, AllAfter, IsAscending}
-use Rattle.acd_terms.specs.States.{is_null, is_ready, is_busy, is_working_after_call, is_initiated, is_alerting, is_connected, is_hold, is_queued, is_fail, is_answered, is_live, is_occupying, state_wanted, is_in}
-use Rattle.acd_terms.specs.Scans.{at_group, at_station, at_agent, at_call, at_connection, at_monitor, group_of, station_of, agent_of, call_of, connection_of, monitor_of, is_group, is_station, is_planned, has, agent_at, connections_of, other_of, is_distributed, is_live_at, is_taken, is_idle, is_occupied, waiting_in, is_idle_there, is_eligible, eligible_in, is_calling, queued_in_all}
-use Rattle.acd_terms.specs.Writes.{with_group, with_station, with_agent, with_call, with_connection, with_monitor, without_call, without_connection, without_monitor, with_last}
-use Rattle.acd_terms.specs.Moves.{no_move, silent, reported, changed, moved}
-use Rattle.acd_terms.specs.CallMoves.{plain, queueing, begin, connect_caller, initiate, originate, met_at, destination_of, arriving, arrival, arrive, talking, answer, hold, retrieve, ringing, offer, go_back, divert, transfer, clear, end_call}
-use Rattle.acd_terms.specs.AgentMoves.{kept_in, in_state, go_to, go_from, log_on_at, become_busy, wait_for}
-use Rattle.acd_terms.specs.Release.{release_of, released, release_agent, ending_of, release}
-use Rattle.acd_terms.specs.Served.{refuse_if, with_found, moves_of}
-use Rattle.acd_terms.specs.Rules.Plan.{group_order, station_order, agent_order, call_order, connection_order, monitor_order}
-use Rattle.acd_laws.specs.Counts.{RulesBut, Rules, Orders, IsUnseated, IsPlannedStation, IsPlannedGroup, SeatedAs, AgentRule, CallRule, Bare, InQueue, Offered, AlertingColumns, HasColumns, GroupColumn, IsCaller, StandsAt, ConnectionRule, is_open, of_call, initiated_of, open_of, live_at, alerting_at, held_at, distributed_at, ringing_at, talking_at, seated_at, ready_at, busy_at, pending_at, two_if}
-use Rattle.acd_laws.proofs.Lists.{one, find-put_hit, find-put_miss, find-filter, find-filter_none, find_passes, find_among, find_none, none_found, find_found, some_found, any-find, any-put, any_none, any_some, any_found, filter_among, among-filter, after_among, ascending-put, ascending-filter, ascending-remove, count-put_new, count-put_old, count-put_most, count-remove_most, count-removed, every_among, every_from, every-put, every-remove, among-remove, among-put, among-put_other, among-remove_other, counted, none_counted, fewer, count_same, two_counted, both_fewer, count_zero, none_of_zero, the_one, some_counted, all_true, all_from, count-append, total-append, count_length, none_from, some_from, some_is, eq_is, is_eq_of}
-use Rattle.acd_laws.proofs.State.{eqb_self, cmp_equal, cmp_self, key_is, is_of, is_of_true, is_of_self, order_equal, order_same, connection_key, groups_total, stations_total, agents_total, calls_total, connections_total, monitors_total, connection_find, agent_find, call_find, group_find, station_find, monitor_find, is_group_any, is_station_any, at_put, connections_without, calls_without, at_remove, agent_put, call_put, call_remove, group_put, station_put, found_key, own_key, connection_among, connection_found, agent_among, agent_key, agent_own, agent_found, call_among, call_key, call_found, put_other, removed_other, still_none}
-use Rattle.acd_laws.proofs.Found.{count_new, count_old, count_less, count_agent, none_above, no_call_above, none_of_call}
+use Rattle.acd_terms.specs.declared.moves.Change.TheVariants.{PutCall, PutConnection}
+use Rattle.acd_terms.specs.Lists.{count}
+use Rattle.acd_terms.specs.States.{is_alerting, is_live}
+use Rattle.acd_terms.specs.Scans.{group_of, station_of, call_of, connection_of, is_group, is_station, is_planned, is_idle}
+use Rattle.acd_terms.specs.Writes.{with_call, with_connection}
+use Rattle.acd_terms.specs.Moves.{changed, moved}
+use Rattle.acd_terms.specs.CallMoves.{plain, arrive}
+use Rattle.acd_terms.specs.Served.{moves_of}
+use Rattle.acd_terms.specs.Rules.Plan.{call_order, connection_order}
+use Rattle.acd_laws.specs.Counts.{Rules, CallRule, IsCaller, ConnectionRule, is_open, of_call, initiated_of, open_of, live_at, alerting_at, held_at, distributed_at, ringing_at, talking_at, two_if}
+use Rattle.acd_laws.proofs.Lists.{one, ascending-put, every_among, every_from, every-put, fewer}
+use Rattle.acd_laws.proofs.State.{eqb_self, calls_total, connections_total, call_put, put_other}
+use Rattle.acd_laws.proofs.Found.{count_new, none_above, no_call_above, none_of_call}
 use Rattle.acd_laws.proofs.Arriving.{Arrived, arrived, idle_counts, rule_same}
-use Rattle.acd_laws.proofs.Serving.{by_refusal, by_found, moved-append}
+use Rattle.acd_laws.proofs.Serving.{by_refusal}
 use Rattle.acd_terms.specs.Services.NewCalls.{arrive_call}
 
 pub one_le : (b : Bool) → one b ≤ 1
@@ -59,8 +31,9 @@ one_le false = omega arith
 pub caller_stays : (s : Rows) (c : CallRecord) (n d : ℕ) → call_of s c.call ≡ None → IsCaller (call_of s n) d → IsCaller (cond (c.call == n) (Some c) (call_of s n)) d
 caller_stays s c n d none h =
     (elim (c.call == n) as (λ b. (c.call == n) ≡ b → IsCaller (cond b (Some c) (call_of s n)) d) [
-      true ↦ λ q. absurd (subst (λ o. IsCaller o d) none (subst (λ v. IsCaller (call_of s v) d) (sym (eqb-true c.call n q)) h))
-      | false ↦ λ q. h ]) refl
+      | true ↦ λ q. absurd (subst (λ o. IsCaller o d) none (subst (λ v. IsCaller (call_of s v) d) (sym (eqb-true c.call n q)) h))
+      | false ↦ λ q. h
+    ]) refl
 
 -- a device outside the plan is no station
 not_station : (s : Rows) (d e : ℕ) → is_planned s d ≡ false → IsTrue (is_station s e) → (d == e) ≡ false
@@ -82,59 +55,69 @@ begun s c y r number outside inside a =
     let zero : count (of_call c.call) s.connections ≡ 0 = none_of_call s r c.call no_call in
     let there : connection_of v y.call y.device ≡ None = rw (a.call, a.device) (put_other u x c.call c.called (λ _ e. apart e) ∙ none c.called) in
     let counts : (p : ConnectionRecord → Bool) → count p t.connections ≡ one (p y) + (one (p x) + count p s.connections) =
-        λ p. count_new p v y there ∙ ap (λ n. one (p y) + n) (count_new p u x (none c.caller)) in
+    λ p. count_new p v y there ∙ ap (λ n. one (p y) + n) (count_new p u x (none c.caller)) in
     let calls : (n : ℕ) → call_of t n ≡ cond (c.call == n) (Some c) (call_of s n) = λ n. call_put s c n in
     record {
-      orders = record { groups = r.orders.groups; stations = r.orders.stations; agents = r.orders.agents; monitors = r.orders.monitors;
+      orders = record {
+        groups = r.orders.groups;
+        stations = r.orders.stations;
+        agents = r.orders.agents;
+        monitors = r.orders.monitors;
         calls = ascending-put call_order calls_total c s.calls r.orders.calls;
-        connections = ascending-put connection_order connections_total y v.connections (ascending-put connection_order connections_total x s.connections r.orders.connections) };
+        connections = ascending-put connection_order connections_total y v.connections (ascending-put connection_order connections_total x s.connections r.orders.connections);
+      };
       kinds = r.kinds;
       agents = r.agents;
       calls = every-put (call_order c) (CallRule t) c (omega arith, inside, (λ e. apart (sym e)), (or_parts _ _ outside).0) s.calls
-        (every_from (CallRule t) s.calls (λ k b. let h = every_among (CallRule s) s.calls k r.calls b in let l : k.call ≤ s.last_call = h.0 in (omega (arith, l), h.1, h.2, h.3)));
+          (every_from (CallRule t) s.calls (λ k b. let h = every_among (CallRule s) s.calls k r.calls b in let l : k.call ≤ s.last_call = h.0 in (omega (arith, l), h.1, h.2, h.3)));
       connections =
-        every-put (connection_order y) (ConnectionRule t) y (rule_same s t (λ _. refl) (λ _. refl) y (λ k. rw (calls y.call) (caller_stays s c y.call y.device no_call k)) a.rule) v.connections
+          every-put (connection_order y) (ConnectionRule t) y (rule_same s t (λ _. refl) (λ _. refl) y (λ k. rw (calls y.call) (caller_stays s c y.call y.device no_call k)) a.rule) v.connections
           (every-put (connection_order x) (ConnectionRule t) x (record { place = refl; queued = refl; offered = refl }, tt, inr (outside, rw (calls c.call, eqb_self c.call) refl)) s.connections
-            (every_from (ConnectionRule t) s.connections (λ z b. rule_same s t (λ _. refl) (λ _. refl) z (λ k. rw (calls z.call) (caller_stays s c z.call z.device no_call k)) (every_among (ConnectionRule s) s.connections z r.connections b))));
+          (every_from (ConnectionRule t) s.connections (λ z b. rule_same s t (λ _. refl) (λ _. refl) z (λ k. rw (calls z.call) (caller_stays s c z.call z.device no_call k)) (every_among (ConnectionRule s) s.connections z r.connections b))));
       parties = λ n.
-        let e1 = counts (of_call n) in let e2 = counts (initiated_of n) in let p = r.parties n in
-        let i : one (initiated_of n y) ≡ 0 = rw a.not_initiated refl in
-        (elim (c.call == n) as (λ b. (c.call == n) ≡ b → count (of_call n) t.connections + count (initiated_of n) t.connections ≡ two_if (is_some (cond b (Some c) (call_of s n)))) [
-          true ↦ λ q.
-            let f : one (y.call == n) ≡ 1 = rw (a.call, q) refl in let g : one (c.call == n) ≡ 1 = rw q refl in
-            let z : two_if (is_some (call_of s n)) ≡ 0 = rw (← eqb-true c.call n q, no_call) refl in omega (arith, e1, e2, p, i, f, g, z)
-          | false ↦ λ q.
-            let f : one (y.call == n) ≡ 0 = rw (a.call, q) refl in let g : one (c.call == n) ≡ 0 = rw q refl in omega (arith, e1, e2, p, i, f, g) ]) refl
-        ∙ ap (λ o. two_if (is_some o)) (sym (calls n));
+          let e1 = counts (of_call n) in let e2 = counts (initiated_of n) in let p = r.parties n in
+          let i : one (initiated_of n y) ≡ 0 = rw a.not_initiated refl in
+          (elim (c.call == n) as (λ b. (c.call == n) ≡ b → count (of_call n) t.connections + count (initiated_of n) t.connections ≡ two_if (is_some (cond b (Some c) (call_of s n)))) [
+            | true ↦ λ q.
+                let f : one (y.call == n) ≡ 1 = rw (a.call, q) refl in let g : one (c.call == n) ≡ 1 = rw q refl in
+                let z : two_if (is_some (call_of s n)) ≡ 0 = rw (← eqb-true c.call n q, no_call) refl in omega (arith, e1, e2, p, i, f, g, z)
+            | false ↦ λ q.
+                let f : one (y.call == n) ≡ 0 = rw (a.call, q) refl in let g : one (c.call == n) ≡ 0 = rw q refl in omega (arith, e1, e2, p, i, f, g)
+          ]) refl
+          ∙ ap (λ o. two_if (is_some o)) (sym (calls n));
       one_open = λ n.
-        let e = counts (open_of n) in let o = r.one_open n in
-        (elim (c.call == n) as (λ b. (c.call == n) ≡ b → count (open_of n) t.connections ≤ 1) [
-          true ↦ λ q.
-            let z : count (of_call n) s.connections ≡ 0 = subst (λ v. count (of_call v) s.connections ≡ 0) (eqb-true c.call n q) zero in
-            let l = fewer (open_of n) (of_call n) (λ w h. (and_parts (is_open w.state) (w.call == n) h).1) s.connections in
-            let b = one_le (open_of n y) in omega (arith, e, z, l, b)
-          | false ↦ λ q.
-            let f : one (open_of n y) ≡ 0 = ap one (and_right (is_open y.state) (y.call == n) (rw a.call q)) in omega (arith, e, o, f) ]) refl;
+          let e = counts (open_of n) in let o = r.one_open n in
+          (elim (c.call == n) as (λ b. (c.call == n) ≡ b → count (open_of n) t.connections ≤ 1) [
+            | true ↦ λ q.
+                let z : count (of_call n) s.connections ≡ 0 = subst (λ v. count (of_call v) s.connections ≡ 0) (eqb-true c.call n q) zero in
+                let l = fewer (open_of n) (of_call n) (λ w h. (and_parts (is_open w.state) (w.call == n) h).1) s.connections in
+                let b = one_le (open_of n y) in omega (arith, e, z, l, b)
+            | false ↦ λ q.
+                let f : one (open_of n y) ≡ 0 = ap one (and_right (is_open y.state) (y.call == n) (rw a.call q)) in omega (arith, e, o, f)
+          ]) refl;
       one_live = λ d h.
-        let e = counts (live_at d) in let o = r.one_live d h in let g : one (c.caller == d) ≡ 0 = ap one (not_station s c.caller d outside h) in
-        (elim (live_at d y) as (λ b. live_at d y ≡ b → count (live_at d) t.connections ≤ 1) [
-          true ↦ λ q. let k = and_parts (is_live y.state) (y.device == d) q in
-            let z = (idle_counts s d (subst (λ v. is_idle s v ≡ true) (sym a.device ∙ eqb-true y.device d k.1) (a.idle k.0))).0 in
-            let f : one (live_at d y) ≤ 1 = one_le (live_at d y) in omega (arith, e, g, z, f)
-          | false ↦ λ q. let f : one (live_at d y) ≡ 0 = ap one q in omega (arith, e, o, g, f) ]) refl;
+          let e = counts (live_at d) in let o = r.one_live d h in let g : one (c.caller == d) ≡ 0 = ap one (not_station s c.caller d outside h) in
+          (elim (live_at d y) as (λ b. live_at d y ≡ b → count (live_at d) t.connections ≤ 1) [
+            | true ↦ λ q. let k = and_parts (is_live y.state) (y.device == d) q in
+                let z = (idle_counts s d (subst (λ v. is_idle s v ≡ true) (sym a.device ∙ eqb-true y.device d k.1) (a.idle k.0))).0 in
+                let f : one (live_at d y) ≤ 1 = one_le (live_at d y) in omega (arith, e, g, z, f)
+            | false ↦ λ q. let f : one (live_at d y) ≡ 0 = ap one q in omega (arith, e, o, g, f)
+          ]) refl;
       no_hold = λ d h l.
-        let e = counts (alerting_at d) in let e2 = counts (held_at d) in
-        let i : one (held_at d y) ≡ 0 = rw a.not_hold refl in
-        (elim (alerting_at d y) as (λ b. alerting_at d y ≡ b → count (held_at d) t.connections ≡ 0) [
-          true ↦ λ q. let k = and_parts (is_alerting y.state) (y.device == d) q in
-            let z = (idle_counts s d (subst (λ v. is_idle s v ≡ true) (sym a.device ∙ eqb-true y.device d k.1) (a.alerting_idle k.0))).2 in omega (arith, e2, i, z)
-          | false ↦ λ q. let f : one (alerting_at d y) ≡ 0 = ap one q in let z = r.no_hold d h (omega (arith, e, f, l)) in omega (arith, e2, i, z) ]) refl;
+          let e = counts (alerting_at d) in let e2 = counts (held_at d) in
+          let i : one (held_at d y) ≡ 0 = rw a.not_hold refl in
+          (elim (alerting_at d y) as (λ b. alerting_at d y ≡ b → count (held_at d) t.connections ≡ 0) [
+            | true ↦ λ q. let k = and_parts (is_alerting y.state) (y.device == d) q in
+                let z = (idle_counts s d (subst (λ v. is_idle s v ≡ true) (sym a.device ∙ eqb-true y.device d k.1) (a.alerting_idle k.0))).2 in omega (arith, e2, i, z)
+            | false ↦ λ q. let f : one (alerting_at d y) ≡ 0 = ap one q in let z = r.no_hold d h (omega (arith, e, f, l)) in omega (arith, e2, i, z)
+          ]) refl;
       one_offer = λ d. let e = counts (distributed_at d) in let b = r.one_offer d in let f : one (distributed_at d y) ≡ 0 = rw a.not_distributed refl in omega (arith, e, b, f);
       one_agent = r.one_agent;
       ready = λ d _. let e = counts (ringing_at d) in let b = r.ready d refl in let f : one (ringing_at d y) ≡ 0 = rw a.not_ringing refl in omega (arith, e, b, f);
       busy = λ d _. let e = counts (talking_at d) in let b = r.busy d refl in let f : one (talking_at d y) ≡ 0 = rw a.not_answered refl in omega (arith, e, b, f);
       pending = λ d _. let e = counts (distributed_at d) in let o = r.pending d refl in omega (arith, e, o);
-      free = λ d q. absurd (cc (q)) }
+      free = λ d q. absurd (cc (q));
+    }
 
 pub kept_arrive_call : (s : Rows) (m k caller called : ℕ) → Rules s → Rules (moved s (moves_of (arrive_call s m k caller called)))
 unfolding arrive_call arrive
@@ -142,5 +125,5 @@ kept_arrive_call s m k caller called r =
     by_refusal (λ v. Rules (moved s (moves_of v))) _ _ _ (λ _. r) (λ outside.
     by_refusal (λ v. Rules (moved s (moves_of v))) _ _ _ (λ _. r) (λ known.
     by_refusal (λ v. Rules (moved s (moves_of v))) _ _ _ (λ _. r) (λ _.
-      let inside : is_planned s called ≡ true = not-false (is_planned s called) known in
-      begun s (record { call = s.last_call + 1; caller = caller; called = called; since = m }) _ r refl outside inside (arrived s m k (s.last_call + 1) called inside))))
+    let inside : is_planned s called ≡ true = not-false (is_planned s called) known in
+    begun s (record { call = s.last_call + 1; caller = caller; called = called; since = m }) _ r refl outside inside (arrived s m k (s.last_call + 1) called inside))))

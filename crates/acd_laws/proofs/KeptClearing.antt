@@ -1,59 +1,29 @@
 -- The rules are kept by clearConnection.
-use Rattle.std.proofs.Common.{◌≡◌, ◌≢◌, ℕ, zero, suc, ◌+◌, ◌<◌, ◌≤◌, ◌⊎◌, inl, inr, Bool, true, false, not, ◌&&◌, ◌||◌, cond, List, [], ◌∷◌, ◌++◌, Option, Some, None, refl, sym, ◌∙◌, ap, subst, arith, length, eq-eqb}
-use Rattle.std.specs.Prelude.{◌==◌, if◌then◌else◌, IsTrue, IsFalse, is_some, is_none, filter, find, nat_le, max}
-use Rattle.std.specs.List.{list_any, list_all}
-use Rattle.std.specs.Cmp.{IsTotalOrder}
-use Rattle.std.specs.declared.cmp.Ordering.{Ordering}
-use Rattle.std.specs.declared.cmp.Ordering.TheVariants.{Less, Equal, Greater}
-use Rattle.std.proofs.lemmas.Bool.{and_parts, and_from, eqb-true, eqb-false, ne_eqb, false_from_ne_true, and_left, and_right, and_cases, or_cases, cases_eq, or_parts, not-false, not-true, or_right, or_left, cond-false, cond-true}
+use Rattle.std.proofs.Common.{◌≡◌, ℕ, ◌+◌, ◌≤◌, inl, inr, Bool, true, false, not, ◌&&◌, ◌||◌, cond, List, [], ◌∷◌, Option, Some, None, refl, sym, ◌∙◌, ap, subst, arith, eq-eqb}
+use Rattle.std.specs.Prelude.{◌==◌, is_some}
+use Rattle.std.proofs.lemmas.Bool.{and_parts, and_from, eqb-true, false_from_ne_true, and_right, or_cases, or_parts, or_right, or_left}
 use Rattle.acd_terms.specs.declared.rows.Rows.{Rows}
-use Rattle.acd_terms.specs.declared.record.GroupRecord.{GroupRecord}
-use Rattle.acd_terms.specs.declared.record.StationRecord.{StationRecord}
-use Rattle.acd_terms.specs.declared.record.AgentRecord.{AgentRecord}
-use Rattle.acd_terms.specs.declared.record.CallRecord.{CallRecord}
 use Rattle.acd_terms.specs.declared.record.ConnectionRecord.{ConnectionRecord}
-use Rattle.acd_terms.specs.declared.record.MonitorRecord.{MonitorRecord}
-use Rattle.acd_terms.specs.declared.state.AgentState.{AgentState}
-use Rattle.acd_terms.specs.declared.state.AgentState.TheVariants as A
-use Rattle.acd_terms.specs.declared.state.Pending.{Pending}
-use Rattle.acd_terms.specs.declared.state.Pending.TheVariants as W
-use Rattle.acd_terms.specs.declared.state.ConnectionState.{ConnectionState}
-use Rattle.acd_terms.specs.declared.state.ConnectionState.TheVariants as S
-use Rattle.acd_terms.specs.declared.event.Cause.{Cause}
-use Rattle.acd_terms.specs.declared.event.Cause.TheVariants as C
-use Rattle.acd_terms.specs.declared.moves.Move.{Move}
-use Rattle.acd_terms.specs.declared.moves.Change.{Change}
-use Rattle.acd_terms.specs.declared.moves.Change.TheVariants.{Nothing, PutGroup, PutStation, PutAgent, PutCall, PutConnection, PutMonitor, RemoveCall, RemoveConnection, RemoveMonitor}
-use Rattle.acd_terms.specs.declared.moves.Destination.{Destination}
-use Rattle.acd_terms.specs.declared.moves.Destination.TheVariants as D
-use Rattle.acd_terms.specs.declared.moves.Ending.{Ending}
-use Rattle.acd_terms.specs.declared.moves.Ending.TheVariants.{Answered, Unanswered, NoAnswer}
-use Rattle.acd_terms.specs.declared.moves.Release.{Release}
-use Rattle.acd_terms.specs.declared.moves.Release.TheVariants.{Stays, Goes}
-use Rattle.acd_terms.specs.declared.moves.Served.{Served}
-use Rattle.acd_terms.specs.declared.moves.Served.TheVariants.{Refused, Done}
-use Rattle.acd_terms.specs.declared.answer.Refusal.{Refusal}
-use Rattle.acd_terms.specs.Lists.{find_by, put_by, remove_by, count, total, Among, Every, AllAfter, IsAscending}
-use Rattle.acd_terms.specs.States.{is_null, is_ready, is_busy, is_working_after_call, is_initiated, is_alerting, is_connected, is_hold, is_queued, is_fail, is_answered, is_live, is_occupying, state_wanted, is_in}
-use Rattle.acd_terms.specs.Scans.{at_group, at_station, at_agent, at_call, at_connection, at_monitor, group_of, station_of, agent_of, call_of, connection_of, monitor_of, is_group, is_station, is_planned, has, agent_at, connections_of, other_of, is_distributed, is_live_at, is_taken, is_idle, is_occupied, waiting_in, is_idle_there, is_eligible, eligible_in, is_calling, queued_in_all}
-use Rattle.acd_terms.specs.Writes.{with_group, with_station, with_agent, with_call, with_connection, with_monitor, without_call, without_connection, without_monitor, with_last}
-use Rattle.acd_terms.specs.Moves.{no_move, silent, reported, changed, moved}
-use Rattle.acd_terms.specs.CallMoves.{plain, queueing, begin, connect_caller, initiate, originate, met_at, destination_of, arriving, arrival, arrive, talking, answer, hold, retrieve, ringing, offer, go_back, divert, transfer, clear, end_call}
-use Rattle.acd_terms.specs.AgentMoves.{kept_in, in_state, go_to, go_from, log_on_at, become_busy, wait_for}
-use Rattle.acd_terms.specs.Release.{release_of, released, release_agent, ending_of, release}
-use Rattle.acd_terms.specs.Served.{refuse_if, with_found, moves_of}
-use Rattle.acd_terms.specs.Rules.Plan.{group_order, station_order, agent_order, call_order, connection_order, monitor_order}
-use Rattle.acd_laws.specs.Counts.{RulesBut, Rules, Orders, IsUnseated, IsPlannedStation, IsPlannedGroup, SeatedAs, AgentRule, CallRule, Bare, InQueue, Offered, AlertingColumns, HasColumns, GroupColumn, IsCaller, StandsAt, ConnectionRule, is_open, of_call, initiated_of, open_of, live_at, alerting_at, held_at, distributed_at, ringing_at, talking_at, seated_at, ready_at, busy_at, pending_at, two_if}
-use Rattle.acd_laws.proofs.Lists.{one, find-put_hit, find-put_miss, find-filter, find-filter_none, find_passes, find_among, find_none, none_found, find_found, some_found, any-find, any-put, any_none, any_some, any_found, filter_among, among-filter, after_among, ascending-put, ascending-filter, ascending-remove, count-put_new, count-put_old, count-put_most, count-remove_most, count-removed, every_among, every_from, every-put, every-remove, among-remove, among-put, among-put_other, among-remove_other, counted, none_counted, fewer, count_same, two_counted, both_fewer, count_zero, none_of_zero, the_one, some_counted, all_true, all_from, count-append, total-append, count_length, none_from, some_from, some_is, eq_is, is_eq_of}
-use Rattle.acd_laws.proofs.State.{eqb_self, cmp_equal, cmp_self, key_is, is_of, is_of_true, is_of_self, order_equal, order_same, connection_key, groups_total, stations_total, agents_total, calls_total, connections_total, monitors_total, connection_find, agent_find, call_find, group_find, station_find, monitor_find, is_group_any, is_station_any, at_put, connections_without, calls_without, at_remove, agent_put, call_put, call_remove, group_put, station_put, found_key, own_key, connection_among, connection_found, agent_among, agent_key, agent_own, agent_found, call_among, call_key, call_found, put_other, removed_other, still_none}
-use Rattle.acd_laws.proofs.Found.{count_new, count_old, count_less, count_agent, connection_rule, connection_there, other_among, other_device, other_agents, left_among}
+use Rattle.acd_terms.specs.declared.moves.Change.TheVariants.{RemoveConnection}
+use Rattle.acd_terms.specs.Lists.{remove_by, count, Among, IsAscending}
+use Rattle.acd_terms.specs.States.{is_initiated}
+use Rattle.acd_terms.specs.Scans.{at_call, at_connection, group_of, station_of, agent_of, call_of, connection_of, other_of, is_distributed}
+use Rattle.acd_terms.specs.Writes.{with_connection, without_call, without_connection}
+use Rattle.acd_terms.specs.Moves.{changed, moved}
+use Rattle.acd_terms.specs.CallMoves.{clear, end_call}
+use Rattle.acd_terms.specs.Release.{ending_of, release}
+use Rattle.acd_terms.specs.Served.{moves_of}
+use Rattle.acd_terms.specs.Rules.Plan.{call_order, connection_order}
+use Rattle.acd_laws.specs.Counts.{RulesBut, Rules, CallRule, ConnectionRule, of_call, initiated_of, open_of, live_at, alerting_at, held_at, distributed_at, ringing_at, talking_at, two_if}
+use Rattle.acd_laws.proofs.Lists.{one, find_none, ascending-remove, every_among, every_from, every-remove, among-remove, counted, fewer, count_zero}
+use Rattle.acd_laws.proofs.State.{eqb_self, is_of, call_remove, own_key, connection_among, removed_other}
+use Rattle.acd_laws.proofs.Found.{count_less, connection_rule, connection_there, other_among, other_device, other_agents, left_among}
 use Rattle.acd_laws.proofs.Arriving.{rule_same}
-use Rattle.acd_laws.proofs.KeptArrival.{one_le}
-use Rattle.acd_laws.proofs.KeptOffer.{ringing_is, talking_is, alerting_is, ready_is}
-use Rattle.acd_laws.proofs.Releasing.{Serves, serving, Ends, ends_by, after_release, loosen, release_other_kept}
+use Rattle.acd_laws.proofs.KeptOffer.{talking_is}
+use Rattle.acd_laws.proofs.Releasing.{ends_by, after_release, loosen, release_other_kept}
 use Rattle.acd_laws.proofs.KeptReturn.{and_not}
 use Rattle.acd_laws.proofs.Serving.{by_found}
-use Rattle.acd_terms.specs.Services.Clearing.{clear_connection, clearing, clear_other, release_other, cleared_group, waiting_group}
+use Rattle.acd_terms.specs.Services.Clearing.{clear_connection, clearing, cleared_group, waiting_group}
 
 -- a call ends: l is what is left of the connections
 ended : (s : Rows) (call : ℕ) (l : List ConnectionRecord) (loose : ℕ → Bool) → Rules s → IsAscending connection_order l → ((z : ConnectionRecord) → Among z l → Among z s.connections)
@@ -68,21 +38,29 @@ ended s call l loose r sorted within less gone others talk dist free =
     let v : Rows = record s { connections = l; calls = remove_by (at_call call) s.calls } in
     let calls : (n : ℕ) → call_of v n ≡ cond (call == n) None (call_of s n) = λ n. call_remove s call n r.orders.calls in
     record {
-      orders = record { groups = r.orders.groups; stations = r.orders.stations; agents = r.orders.agents; monitors = r.orders.monitors;
-        calls = ascending-remove call_order (at_call call) s.calls r.orders.calls; connections = sorted };
-      kinds = r.kinds; agents = r.agents;
+      orders = record {
+        groups = r.orders.groups;
+        stations = r.orders.stations;
+        agents = r.orders.agents;
+        monitors = r.orders.monitors;
+        calls = ascending-remove call_order (at_call call) s.calls r.orders.calls;
+        connections = sorted;
+      };
+      kinds = r.kinds;
+      agents = r.agents;
       calls = every-remove _ (CallRule s) s.calls r.calls;
       connections = every_from (ConnectionRule v) l (λ z a.
-        let other : (call == z.call) ≡ false = false_from_ne_true (call == z.call) (λ q.
+          let other : (call == z.call) ≡ false = false_from_ne_true (call == z.call) (λ q.
           let c = counted (of_call call) l z a (eq-eqb z.call call (sym (eqb-true call z.call q))) in omega (arith, c, gone)) in
-        rule_same s v (λ _. refl) (λ _. refl) z (λ h. rw (calls z.call, other) h) (every_among (ConnectionRule s) s.connections z r.connections (within z a)));
+          rule_same s v (λ _. refl) (λ _. refl) z (λ h. rw (calls z.call, other) h) (every_among (ConnectionRule s) s.connections z r.connections (within z a)));
       parties = λ n.
-        (elim (call == n) as (λ b. (call == n) ≡ b → count (of_call n) l + count (initiated_of n) l ≡ two_if (is_some (cond b None (call_of s n)))) [
-          true ↦ λ q.
-            let z : count (of_call n) l ≡ 0 = subst (λ w. count (of_call w) l ≡ 0) (eqb-true call n q) gone in
-            let f = fewer (initiated_of n) (of_call n) (λ w h. (and_parts (is_initiated w.state) (w.call == n) h).1) l in omega (arith, z, f)
-          | false ↦ λ q. let o = others n q in let p = r.parties n in omega (arith, o.0, o.1, p) ]) refl
-        ∙ ap (λ o. two_if (is_some o)) (sym (calls n));
+          (elim (call == n) as (λ b. (call == n) ≡ b → count (of_call n) l + count (initiated_of n) l ≡ two_if (is_some (cond b None (call_of s n)))) [
+            | true ↦ λ q.
+                let z : count (of_call n) l ≡ 0 = subst (λ w. count (of_call w) l ≡ 0) (eqb-true call n q) gone in
+                let f = fewer (initiated_of n) (of_call n) (λ w h. (and_parts (is_initiated w.state) (w.call == n) h).1) l in omega (arith, z, f)
+            | false ↦ λ q. let o = others n q in let p = r.parties n in omega (arith, o.0, o.1, p)
+          ]) refl
+          ∙ ap (λ o. two_if (is_some o)) (sym (calls n));
       one_open = λ n. let a = less (open_of n) in let b = r.one_open n in omega (arith, a, b);
       one_live = λ e h. let a = less (live_at e) in let b = r.one_live e h in omega (arith, a, b);
       no_hold = λ e h q. let a = less (alerting_at e) in let b = less (held_at e) in let c = r.no_hold e h (omega (arith, a, q)) in omega (arith, b, c);
@@ -91,7 +69,8 @@ ended s call l loose r sorted within less gone others talk dist free =
       ready = λ e h. let a = less (ringing_at e) in let b = r.ready e refl in omega (arith, a, b);
       busy = λ e h. talk e h ∙ r.busy e refl;
       pending = λ e h. let d = dist e h in let o = r.pending e refl in omega (arith, d, o);
-      free = free }
+      free = free;
+    }
 
 pub two_le : (b : Bool) → two_if b ≤ 2
 two_le true = omega arith
@@ -112,23 +91,23 @@ kept_clear s m k x None eo r ex =
     let l : List ConnectionRecord = remove_by (at_connection x.call x.device) s.connections in
     let counts : (p : ConnectionRecord → Bool) → count p l + one (p x) ≡ count p s.connections = λ p. count_less p s x.call x.device x ex in
     let gone : count (of_call call) l ≡ 0 = count_zero (of_call call) l (λ z a.
-      let h = left_among s x.call x.device r.orders.connections z a in
-      false_from_ne_true (z.call == call) (λ q.
-        let same : (z.call == x.call) ≡ true = q in
-        let other = find_none (λ (w : ConnectionRecord). w.call == x.call && not (w.device == x.device)) s.connections eo z h.0 in
-        let elsewhere : (z.device == x.device) ≡ false = false_from_ne_true _ (λ w. let k : is_of x.call x.device z ≡ true = and_from _ _ same w in cc (rw k at h.1)) in
-        cc (other, and_from _ _ same (ap not elsewhere)))) in
+    let h = left_among s x.call x.device r.orders.connections z a in
+    false_from_ne_true (z.call == call) (λ q.
+    let same : (z.call == x.call) ≡ true = q in
+    let other = find_none (λ (w : ConnectionRecord). w.call == x.call && not (w.device == x.device)) s.connections eo z h.0 in
+    let elsewhere : (z.device == x.device) ≡ false = false_from_ne_true _ (λ w. let k : is_of x.call x.device z ≡ true = and_from _ _ same w in cc (rw k at h.1)) in
+    cc (other, and_from _ _ same (ap not elsewhere)))) in
     let v : Rows = moved s (clear x ∷ end_call x.call (waiting_group x) ∷ []) in
     let loose : ℕ → Bool = λ e. is_distributed x && (x.device == e) in
     let free : (e : ℕ) → loose e ≡ true → count (distributed_at e) l ≡ 0 = λ e q. let c = counts (distributed_at e) in let b = r.one_offer e in let f : one (distributed_at e x) ≡ 1 = ap one q in omega (arith, c, b, f) in
     let rv : RulesBut loose v = ended s call l loose r (ascending-remove connection_order (at_connection x.call x.device) s.connections r.orders.connections) (λ z a. (left_among s x.call x.device r.orders.connections z a).0)
-      (λ p. let c = counts p in omega (arith, c)) gone
-      (λ n q. let a = counts (of_call n) in let b = counts (initiated_of n) in
-        let f : one (of_call n x) ≡ 0 = rw q refl in let g : one (initiated_of n x) ≡ 0 = ap one (and_right (is_initiated x.state) (x.call == n) (rw q refl)) in (omega (arith, a, f), omega (arith, b, g)))
-      (λ e q. let a = counts (talking_at e) in
-        let f : one (talking_at e x) ≡ 0 = ap one (false_from_ne_true (talking_at e x) (λ w. cc (talking_is e x w, q))) in omega (arith, a, f))
-      (λ e q. let a = counts (distributed_at e) in let f : one (distributed_at e x) ≡ 0 = ap one q in omega (arith, a, f))
-      free in
+    (λ p. let c = counts p in omega (arith, c)) gone
+    (λ n q. let a = counts (of_call n) in let b = counts (initiated_of n) in
+    let f : one (of_call n x) ≡ 0 = rw q refl in let g : one (initiated_of n x) ≡ 0 = ap one (and_right (is_initiated x.state) (x.call == n) (rw q refl)) in (omega (arith, a, f), omega (arith, b, g)))
+    (λ e q. let a = counts (talking_at e) in
+    let f : one (talking_at e x) ≡ 0 = ap one (false_from_ne_true (talking_at e x) (λ w. cc (talking_is e x w, q))) in omega (arith, a, f))
+    (λ e q. let a = counts (distributed_at e) in let f : one (distributed_at e x) ≡ 0 = ap one q in omega (arith, a, f))
+    free in
     let r1 = after_release loose s v x (ending_of x) m k rv (λ a h. h.there) r among (λ d. free x.device (and_from _ _ d (eqb_self x.device))) (ends_by s x (connection_rule s r x.call x.device x ex)) in
     loosen (λ e. loose e && not (loose e)) (λ _. false) _ (λ e q. absurd (cc (q))) (λ e q. and_not (loose e)) r1
 kept_clear s m k x (Some y) eo r ex =
@@ -142,33 +121,33 @@ kept_clear s m k x (Some y) eo r ex =
     let l : List ConnectionRecord = remove_by (at_connection y.call y.device) u.connections in
     let su = ascending-remove connection_order (at_connection x.call x.device) s.connections r.orders.connections in
     let counts : (p : ConnectionRecord → Bool) → (count p l + one (p y)) + one (p x) ≡ count p s.connections = λ p.
-      let a = count_less p s x.call x.device x ex in
-      let b = count_less p u y.call y.device y (removed_other s x.call x.device y.call y.device r.orders.connections (λ _ q. od.1 q) ∙ ey) in omega (arith, a, b) in
+    let a = count_less p s x.call x.device x ex in
+    let b = count_less p u y.call y.device y (removed_other s x.call x.device y.call y.device r.orders.connections (λ _ q. od.1 q) ∙ ey) in omega (arith, a, b) in
     let gone : count (of_call call) l ≡ 0 =
-      let c = counts (of_call call) in let p = r.parties call in let t = two_le (is_some (call_of s call)) in
-      let f : one (of_call call x) ≡ 1 = ap one (eqb_self x.call) in let g : one (of_call call y) ≡ 1 = ap one (eq-eqb y.call call yc) in omega (arith, c, p, t, f, g) in
+    let c = counts (of_call call) in let p = r.parties call in let t = two_le (is_some (call_of s call)) in
+    let f : one (of_call call x) ≡ 1 = ap one (eqb_self x.call) in let g : one (of_call call y) ≡ 1 = ap one (eq-eqb y.call call yc) in omega (arith, c, p, t, f, g) in
     let v : Rows = moved s (clear x ∷ clear y ∷ end_call x.call (cleared_group x (Some y)) ∷ []) in
     let loose : ℕ → Bool = λ e. (is_distributed x && (x.device == e)) || (is_distributed y && (y.device == e)) in
     let free : (e : ℕ) → loose e ≡ true → count (distributed_at e) l ≡ 0 = λ e q. let c = counts (distributed_at e) in let b = r.one_offer e in
-      elim (or_cases (is_distributed x && (x.device == e)) (is_distributed y && (y.device == e)) q) [ inl w ↦ (let f : one (distributed_at e x) ≡ 1 = ap one w in omega (arith, c, b, f)) | inr w ↦ (let f : one (distributed_at e y) ≡ 1 = ap one w in omega (arith, c, b, f)) ] in
+    elim (or_cases (is_distributed x && (x.device == e)) (is_distributed y && (y.device == e)) q) [ inl w ↦ (let f : one (distributed_at e x) ≡ 1 = ap one w in omega (arith, c, b, f)) | inr w ↦ (let f : one (distributed_at e y) ≡ 1 = ap one w in omega (arith, c, b, f)) ] in
     let rv : RulesBut loose v = ended s call l loose r (ascending-remove connection_order (at_connection y.call y.device) u.connections su)
-      (λ z a. among-remove (at_connection x.call x.device) s.connections z (among-remove (at_connection y.call y.device) u.connections z a))
-      (λ p. let c = counts p in omega (arith, c)) gone
-      (λ n q. let a = counts (of_call n) in let b = counts (initiated_of n) in
-        let f : one (of_call n x) ≡ 0 = rw q refl in let g : one (initiated_of n x) ≡ 0 = ap one (and_right (is_initiated x.state) (x.call == n) (rw q refl)) in
-        let h : one (of_call n y) ≡ 0 = rw (yc, q) refl in let i : one (initiated_of n y) ≡ 0 = ap one (and_right (is_initiated y.state) (y.call == n) (rw (yc, q) refl)) in (omega (arith, a, f, h), omega (arith, b, g, i)))
-      (λ e q. let a = counts (talking_at e) in let w = or_parts (is_distributed x && (x.device == e)) (is_distributed y && (y.device == e)) q in
-        let f : one (talking_at e x) ≡ 0 = ap one (false_from_ne_true (talking_at e x) (λ t. cc (talking_is e x t, w.0))) in
-        let g : one (talking_at e y) ≡ 0 = ap one (false_from_ne_true (talking_at e y) (λ t. cc (talking_is e y t, w.1))) in omega (arith, a, f, g))
-      (λ e q. let a = counts (distributed_at e) in let w = or_parts (is_distributed x && (x.device == e)) (is_distributed y && (y.device == e)) q in
-        let f : one (distributed_at e x) ≡ 0 = ap one w.0 in let g : one (distributed_at e y) ≡ 0 = ap one w.1 in omega (arith, a, f, g))
-      free in
+    (λ z a. among-remove (at_connection x.call x.device) s.connections z (among-remove (at_connection y.call y.device) u.connections z a))
+    (λ p. let c = counts p in omega (arith, c)) gone
+    (λ n q. let a = counts (of_call n) in let b = counts (initiated_of n) in
+    let f : one (of_call n x) ≡ 0 = rw q refl in let g : one (initiated_of n x) ≡ 0 = ap one (and_right (is_initiated x.state) (x.call == n) (rw q refl)) in
+    let h : one (of_call n y) ≡ 0 = rw (yc, q) refl in let i : one (initiated_of n y) ≡ 0 = ap one (and_right (is_initiated y.state) (y.call == n) (rw (yc, q) refl)) in (omega (arith, a, f, h), omega (arith, b, g, i)))
+    (λ e q. let a = counts (talking_at e) in let w = or_parts (is_distributed x && (x.device == e)) (is_distributed y && (y.device == e)) q in
+    let f : one (talking_at e x) ≡ 0 = ap one (false_from_ne_true (talking_at e x) (λ t. cc (talking_is e x t, w.0))) in
+    let g : one (talking_at e y) ≡ 0 = ap one (false_from_ne_true (talking_at e y) (λ t. cc (talking_is e y t, w.1))) in omega (arith, a, f, g))
+    (λ e q. let a = counts (distributed_at e) in let w = or_parts (is_distributed x && (x.device == e)) (is_distributed y && (y.device == e)) q in
+    let f : one (distributed_at e x) ≡ 0 = ap one w.0 in let g : one (distributed_at e y) ≡ 0 = ap one w.1 in omega (arith, a, f, g))
+    free in
     let r1 = after_release loose s v x (ending_of x) m k rv (λ a h. h.there) r among (λ d. free x.device (or_left _ _ (and_from _ _ d (eqb_self x.device)))) (ends_by s x (connection_rule s r x.call x.device x ex)) in
     let apart : (x.device == y.device) ≡ false = false_from_ne_true _ (λ q. od.1 (eqb-true x.device y.device q)) in
     let r2 = after_release (λ e. loose e && not (is_distributed x && (x.device == e))) s (changed v (release s m k x (ending_of x)).change) y (ending_of y) m k r1
-      (λ b h. release_other_kept s v x (ending_of x) m k b.agent (λ a e. other_agents s r.orders.agents x.device y.device a b e h.at_station od.1) ∙ h.there) r among_y
-      (λ d. r1.free y.device (and_from _ _ (or_right (is_distributed x && (x.device == y.device)) _ (and_from _ _ d (eqb_self y.device))) (ap not (and_right (is_distributed x) (x.device == y.device) apart))))
-      (ends_by s y (connection_rule s r y.call y.device y ey)) in
+    (λ b h. release_other_kept s v x (ending_of x) m k b.agent (λ a e. other_agents s r.orders.agents x.device y.device a b e h.at_station od.1) ∙ h.there) r among_y
+    (λ d. r1.free y.device (and_from _ _ (or_right (is_distributed x && (x.device == y.device)) _ (and_from _ _ d (eqb_self y.device))) (ap not (and_right (is_distributed x) (x.device == y.device) apart))))
+    (ends_by s y (connection_rule s r y.call y.device y ey)) in
     loosen _ (λ _. false) _ (λ e q. absurd (cc (q))) (λ e q. either_and_not (is_distributed x && (x.device == e)) (is_distributed y && (y.device == e))) r2
 
 pub kept_clear_connection : (s : Rows) (m k call device : ℕ) → Rules s → Rules (moved s (moves_of (clear_connection s m k call device)))
@@ -176,4 +155,4 @@ unfolding clear_connection
 kept_clear_connection s m k call device r =
     by_found (λ v. Rules (moved s (moves_of v))) _ _ _ (λ _. r) (λ c ec.
     by_found (λ v. Rules (moved s (moves_of v))) _ _ _ (λ _. r) (λ x ex.
-      kept_clear s m k x (other_of s x) refl r (own_key s call device x ex)))
+    kept_clear s m k x (other_of s x) refl r (own_key s call device x ex)))

@@ -1,61 +1,34 @@
 -- The rules are kept by deflectCall and singleStepTransfer.
-use Rattle.std.proofs.Common.{◌≡◌, ◌≢◌, ℕ, zero, suc, ◌+◌, ◌<◌, ◌≤◌, ◌⊎◌, inl, inr, Bool, true, false, not, ◌&&◌, ◌||◌, cond, List, [], ◌∷◌, ◌++◌, Option, Some, None, refl, sym, ◌∙◌, ap, subst, arith, length, eq-eqb}
-use Rattle.std.specs.Prelude.{◌==◌, if◌then◌else◌, IsTrue, IsFalse, is_some, is_none, filter, find, nat_le, max}
-use Rattle.std.specs.List.{list_any, list_all}
-use Rattle.std.specs.Cmp.{IsTotalOrder}
-use Rattle.std.specs.declared.cmp.Ordering.{Ordering}
-use Rattle.std.specs.declared.cmp.Ordering.TheVariants.{Less, Equal, Greater}
-use Rattle.std.proofs.lemmas.Bool.{and_parts, and_from, eqb-true, eqb-false, ne_eqb, false_from_ne_true, and_left, and_right, and_cases, or_cases, cases_eq, or_parts, not-false, not-true, or_right, or_left, cond-false, cond-true}
+use Rattle.std.proofs.Common.{◌≡◌, ℕ, ◌+◌, ◌≤◌, Bool, true, false, not, ◌&&◌, ◌||◌, Option, Some, None, refl, sym, ◌∙◌, ap, subst, arith, eq-eqb}
+use Rattle.std.specs.Prelude.{◌==◌, is_some}
+use Rattle.std.proofs.lemmas.Bool.{and_parts, and_from, eqb-true, false_from_ne_true, and_right, not-false, or_left}
 use Rattle.acd_terms.specs.declared.rows.Rows.{Rows}
-use Rattle.acd_terms.specs.declared.record.GroupRecord.{GroupRecord}
-use Rattle.acd_terms.specs.declared.record.StationRecord.{StationRecord}
-use Rattle.acd_terms.specs.declared.record.AgentRecord.{AgentRecord}
-use Rattle.acd_terms.specs.declared.record.CallRecord.{CallRecord}
 use Rattle.acd_terms.specs.declared.record.ConnectionRecord.{ConnectionRecord}
-use Rattle.acd_terms.specs.declared.record.MonitorRecord.{MonitorRecord}
-use Rattle.acd_terms.specs.declared.state.AgentState.{AgentState}
-use Rattle.acd_terms.specs.declared.state.AgentState.TheVariants as A
-use Rattle.acd_terms.specs.declared.state.Pending.{Pending}
-use Rattle.acd_terms.specs.declared.state.Pending.TheVariants as W
 use Rattle.acd_terms.specs.declared.state.ConnectionState.{ConnectionState}
 use Rattle.acd_terms.specs.declared.state.ConnectionState.TheVariants as S
-use Rattle.acd_terms.specs.declared.event.Cause.{Cause}
-use Rattle.acd_terms.specs.declared.event.Cause.TheVariants as C
-use Rattle.acd_terms.specs.declared.moves.Move.{Move}
-use Rattle.acd_terms.specs.declared.moves.Change.{Change}
-use Rattle.acd_terms.specs.declared.moves.Change.TheVariants.{Nothing, PutGroup, PutStation, PutAgent, PutCall, PutConnection, PutMonitor, RemoveCall, RemoveConnection, RemoveMonitor}
-use Rattle.acd_terms.specs.declared.moves.Destination.{Destination}
-use Rattle.acd_terms.specs.declared.moves.Destination.TheVariants as D
-use Rattle.acd_terms.specs.declared.moves.Ending.{Ending}
-use Rattle.acd_terms.specs.declared.moves.Ending.TheVariants.{Answered, Unanswered, NoAnswer}
-use Rattle.acd_terms.specs.declared.moves.Release.{Release}
-use Rattle.acd_terms.specs.declared.moves.Release.TheVariants.{Stays, Goes}
-use Rattle.acd_terms.specs.declared.moves.Served.{Served}
-use Rattle.acd_terms.specs.declared.moves.Served.TheVariants.{Refused, Done}
-use Rattle.acd_terms.specs.declared.answer.Refusal.{Refusal}
-use Rattle.acd_terms.specs.Lists.{find_by, put_by, remove_by, count, total, Among, Every, AllAfter, IsAscending}
-use Rattle.acd_terms.specs.States.{is_null, is_ready, is_busy, is_working_after_call, is_initiated, is_alerting, is_connected, is_hold, is_queued, is_fail, is_answered, is_live, is_occupying, state_wanted, is_in}
-use Rattle.acd_terms.specs.Scans.{at_group, at_station, at_agent, at_call, at_connection, at_monitor, group_of, station_of, agent_of, call_of, connection_of, monitor_of, is_group, is_station, is_planned, has, agent_at, connections_of, other_of, is_distributed, is_live_at, is_taken, is_idle, is_occupied, waiting_in, is_idle_there, is_eligible, eligible_in, is_calling, queued_in_all}
-use Rattle.acd_terms.specs.Writes.{with_group, with_station, with_agent, with_call, with_connection, with_monitor, without_call, without_connection, without_monitor, with_last}
-use Rattle.acd_terms.specs.Moves.{no_move, silent, reported, changed, moved}
-use Rattle.acd_terms.specs.CallMoves.{plain, queueing, begin, connect_caller, initiate, originate, met_at, destination_of, arriving, arrival, arrive, talking, answer, hold, retrieve, ringing, offer, go_back, divert, transfer, clear, end_call}
-use Rattle.acd_terms.specs.AgentMoves.{kept_in, in_state, go_to, go_from, log_on_at, become_busy, wait_for}
-use Rattle.acd_terms.specs.Release.{release_of, released, release_agent, ending_of, release}
-use Rattle.acd_terms.specs.Served.{refuse_if, with_found, moves_of}
-use Rattle.acd_terms.specs.Rules.Plan.{group_order, station_order, agent_order, call_order, connection_order, monitor_order}
-use Rattle.acd_laws.specs.Counts.{RulesBut, Rules, Orders, IsUnseated, IsPlannedStation, IsPlannedGroup, SeatedAs, AgentRule, CallRule, Bare, InQueue, Offered, AlertingColumns, HasColumns, GroupColumn, IsCaller, StandsAt, ConnectionRule, is_open, of_call, initiated_of, open_of, live_at, alerting_at, held_at, distributed_at, ringing_at, talking_at, seated_at, ready_at, busy_at, pending_at, two_if}
-use Rattle.acd_laws.proofs.Lists.{one, find-put_hit, find-put_miss, find-filter, find-filter_none, find_passes, find_among, find_none, none_found, find_found, some_found, any-find, any-put, any_none, any_some, any_found, filter_among, among-filter, after_among, ascending-put, ascending-filter, ascending-remove, count-put_new, count-put_old, count-put_most, count-remove_most, count-removed, every_among, every_from, every-put, every-remove, among-remove, among-put, among-put_other, among-remove_other, counted, none_counted, fewer, count_same, two_counted, both_fewer, count_zero, none_of_zero, the_one, some_counted, all_true, all_from, count-append, total-append, count_length, none_from, some_from, some_is, eq_is, is_eq_of}
-use Rattle.acd_laws.proofs.State.{eqb_self, cmp_equal, cmp_self, key_is, is_of, is_of_true, is_of_self, order_equal, order_same, connection_key, groups_total, stations_total, agents_total, calls_total, connections_total, monitors_total, connection_find, agent_find, call_find, group_find, station_find, monitor_find, is_group_any, is_station_any, at_put, connections_without, calls_without, at_remove, agent_put, call_put, call_remove, group_put, station_put, found_key, own_key, connection_among, connection_found, agent_among, agent_key, agent_own, agent_found, call_among, call_key, call_found, put_other, removed_other, still_none}
-use Rattle.acd_laws.proofs.Found.{count_new, count_old, count_less, count_agent, connection_rule, connection_there, other_among, other_device}
+use Rattle.acd_terms.specs.declared.moves.Change.TheVariants.{PutConnection, RemoveConnection}
+use Rattle.acd_terms.specs.Lists.{count, Among}
+use Rattle.acd_terms.specs.States.{is_initiated, is_alerting, is_connected, is_queued, is_answered, is_live}
+use Rattle.acd_terms.specs.Scans.{group_of, station_of, agent_of, call_of, connection_of, is_planned, other_of, is_distributed, is_idle}
+use Rattle.acd_terms.specs.Writes.{with_connection, without_connection}
+use Rattle.acd_terms.specs.Moves.{changed, moved}
+use Rattle.acd_terms.specs.CallMoves.{destination_of, arriving, arrive}
+use Rattle.acd_terms.specs.Release.{ending_of, release}
+use Rattle.acd_terms.specs.Served.{moves_of}
+use Rattle.acd_terms.specs.Rules.Plan.{connection_order}
+use Rattle.acd_laws.specs.Counts.{RulesBut, Rules, ConnectionRule, is_open, of_call, initiated_of, open_of, live_at, alerting_at, held_at, distributed_at, ringing_at, talking_at}
+use Rattle.acd_laws.proofs.Lists.{one, ascending-put, ascending-remove, every-put, every-remove, two_counted, both_fewer, none_from}
+use Rattle.acd_laws.proofs.State.{eqb_self, connections_total, found_key, own_key, connection_among, still_none}
+use Rattle.acd_laws.proofs.Found.{count_new, count_less, connection_rule, other_among, other_device}
 use Rattle.acd_laws.proofs.Arriving.{Arrived, arrived, idle_counts}
 use Rattle.acd_laws.proofs.KeptArrival.{one_le}
-use Rattle.acd_laws.proofs.KeptOffer.{ringing_is, talking_is, alerting_is, ready_is}
-use Rattle.acd_laws.proofs.Releasing.{Serves, serving, Ends, ends_by, after_release, loosen}
+use Rattle.acd_laws.proofs.KeptOffer.{talking_is}
+use Rattle.acd_laws.proofs.Releasing.{ends_by, after_release, loosen}
 use Rattle.acd_laws.proofs.KeptReturn.{and_not}
 use Rattle.acd_laws.proofs.KeptClearing.{two_le}
 use Rattle.acd_laws.proofs.KeptTalking.{connected_is}
 use Rattle.acd_laws.proofs.Serving.{by_found, by_refusal}
-use Rattle.acd_terms.specs.Services.GivingAway.{deflect_call, single_step_transfer, is_answered_by, is_in_call, is_busy_station}
+use Rattle.acd_terms.specs.Services.GivingAway.{deflect_call, single_step_transfer, is_answered_by}
 
 -- the connection x ends and the call comes to y: by a deflection, where x is open, or a transfer, where none of the call is
 moved_on : (s : Rows) (m k : ℕ) (x y : ConnectionRecord) (c d : ℕ) → x.call ≡ c → Rules s → connection_of s x.call x.device ≡ Some x → Arrived s c d y → connection_of s c d ≡ None → is_initiated x.state ≡ false
@@ -67,41 +40,53 @@ moved_on s m k x y call d xc r ex a none_d not_initiated opens =
     let among : Among x s.connections = connection_among s x.call x.device x ex in
     let new : connection_of u y.call y.device ≡ None = rw (a.call, a.device) (still_none s x.call x.device call d r.orders.connections none_d) in
     let counts : (p : ConnectionRecord → Bool) → count p v.connections + one (p x) ≡ one (p y) + count p s.connections = λ p.
-      let e1 = count_new p u y new in let e2 = count_less p s x.call x.device x ex in omega (arith, e1, e2) in
+    let e1 = count_new p u y new in let e2 = count_less p s x.call x.device x ex in omega (arith, e1, e2) in
     let loose : ℕ → Bool = λ e. is_distributed x && (x.device == e) in
     let free : (e : ℕ) → loose e ≡ true → count (distributed_at e) v.connections ≡ 0 = λ e q. let c = counts (distributed_at e) in let b = r.one_offer e in
-      let f : one (distributed_at e x) ≡ 1 = ap one q in let g : one (distributed_at e y) ≡ 0 = rw a.not_distributed refl in omega (arith, c, b, f, g) in
+    let f : one (distributed_at e x) ≡ 1 = ap one q in let g : one (distributed_at e y) ≡ 0 = rw a.not_distributed refl in omega (arith, c, b, f, g) in
     let rv : RulesBut loose v = record {
-      orders = record { groups = r.orders.groups; stations = r.orders.stations; agents = r.orders.agents; monitors = r.orders.monitors; calls = r.orders.calls;
-        connections = ascending-put connection_order connections_total y u.connections (ascending-remove connection_order _ s.connections r.orders.connections) };
-      kinds = r.kinds; agents = r.agents; calls = r.calls;
+      orders = record {
+        groups = r.orders.groups;
+        stations = r.orders.stations;
+        agents = r.orders.agents;
+        monitors = r.orders.monitors;
+        calls = r.orders.calls;
+        connections = ascending-put connection_order connections_total y u.connections (ascending-remove connection_order _ s.connections r.orders.connections);
+      };
+      kinds = r.kinds;
+      agents = r.agents;
+      calls = r.calls;
       connections = every-put (connection_order y) (ConnectionRule s) y a.rule u.connections (every-remove _ (ConnectionRule s) s.connections r.connections);
       parties = λ n. let e1 = counts (of_call n) in let e2 = counts (initiated_of n) in let p = r.parties n in
-        let f : one (of_call n y) ≡ one (of_call n x) = rw (a.call, xc) refl in let i : one (initiated_of n x) ≡ 0 = rw not_initiated refl in let j : one (initiated_of n y) ≡ 0 = rw a.not_initiated refl in omega (arith, e1, e2, p, f, i, j);
+          let f : one (of_call n y) ≡ one (of_call n x) = rw (a.call, xc) refl in let i : one (initiated_of n x) ≡ 0 = rw not_initiated refl in let j : one (initiated_of n y) ≡ 0 = rw a.not_initiated refl in omega (arith, e1, e2, p, f, i, j);
       one_open = λ n. let c = counts (open_of n) in let o = r.one_open n in
-        (elim (call == n) as (λ b. (call == n) ≡ b → count (open_of n) v.connections ≤ 1) [
-          true ↦ λ q. let z : count (open_of n) s.connections ≤ one (is_open x.state) = subst (λ w. count (open_of w) s.connections ≤ one (is_open x.state)) (eqb-true call n q) opens in
-            let f : one (open_of n x) ≡ one (is_open x.state) = rw (xc, q) (ap one (and_true_is (is_open x.state))) in let g = one_le (open_of n y) in omega (arith, c, z, f, g)
-          | false ↦ λ q. let g : one (open_of n y) ≡ 0 = ap one (and_right (is_open y.state) (y.call == n) (rw a.call q)) in omega (arith, c, o, g) ]) refl;
+          (elim (call == n) as (λ b. (call == n) ≡ b → count (open_of n) v.connections ≤ 1) [
+            | true ↦ λ q. let z : count (open_of n) s.connections ≤ one (is_open x.state) = subst (λ w. count (open_of w) s.connections ≤ one (is_open x.state)) (eqb-true call n q) opens in
+                let f : one (open_of n x) ≡ one (is_open x.state) = rw (xc, q) (ap one (and_true_is (is_open x.state))) in let g = one_le (open_of n y) in omega (arith, c, z, f, g)
+            | false ↦ λ q. let g : one (open_of n y) ≡ 0 = ap one (and_right (is_open y.state) (y.call == n) (rw a.call q)) in omega (arith, c, o, g)
+          ]) refl;
       one_live = λ e h. let c = counts (live_at e) in let o = r.one_live e h in
-        (elim (live_at e y) as (λ b. live_at e y ≡ b → count (live_at e) v.connections ≤ 1) [
-          true ↦ λ q. let w = and_parts (is_live y.state) (y.device == e) q in
-            let z = (idle_counts s e (subst (λ t. is_idle s t ≡ true) (sym a.device ∙ eqb-true y.device e w.1) (a.idle w.0))).0 in let g = one_le (live_at e y) in omega (arith, c, z, g)
-          | false ↦ λ q. let g : one (live_at e y) ≡ 0 = ap one q in omega (arith, c, o, g) ]) refl;
+          (elim (live_at e y) as (λ b. live_at e y ≡ b → count (live_at e) v.connections ≤ 1) [
+            | true ↦ λ q. let w = and_parts (is_live y.state) (y.device == e) q in
+                let z = (idle_counts s e (subst (λ t. is_idle s t ≡ true) (sym a.device ∙ eqb-true y.device e w.1) (a.idle w.0))).0 in let g = one_le (live_at e y) in omega (arith, c, z, g)
+            | false ↦ λ q. let g : one (live_at e y) ≡ 0 = ap one q in omega (arith, c, o, g)
+          ]) refl;
       no_hold = λ e h l. let c = counts (alerting_at e) in let ch = counts (held_at e) in let i : one (held_at e y) ≡ 0 = rw a.not_hold refl in
-        (elim (alerting_at e y) as (λ b. alerting_at e y ≡ b → count (held_at e) v.connections ≡ 0) [
-          true ↦ λ q. let w = and_parts (is_alerting y.state) (y.device == e) q in
-            let z = (idle_counts s e (subst (λ t. is_idle s t ≡ true) (sym a.device ∙ eqb-true y.device e w.1) (a.alerting_idle w.0))).2 in omega (arith, ch, i, z)
-          | false ↦ λ q. let g : one (alerting_at e y) ≡ 0 = ap one q in let z = r.no_hold e h (omega (arith, c, g, l)) in omega (arith, ch, i, z) ]) refl;
+          (elim (alerting_at e y) as (λ b. alerting_at e y ≡ b → count (held_at e) v.connections ≡ 0) [
+            | true ↦ λ q. let w = and_parts (is_alerting y.state) (y.device == e) q in
+                let z = (idle_counts s e (subst (λ t. is_idle s t ≡ true) (sym a.device ∙ eqb-true y.device e w.1) (a.alerting_idle w.0))).2 in omega (arith, ch, i, z)
+            | false ↦ λ q. let g : one (alerting_at e y) ≡ 0 = ap one q in let z = r.no_hold e h (omega (arith, c, g, l)) in omega (arith, ch, i, z)
+          ]) refl;
       one_offer = λ e. let c = counts (distributed_at e) in let o = r.one_offer e in let g : one (distributed_at e y) ≡ 0 = rw a.not_distributed refl in omega (arith, c, o, g);
       one_agent = r.one_agent;
       ready = λ e _. let c = counts (ringing_at e) in let o = r.ready e refl in let g : one (ringing_at e y) ≡ 0 = rw a.not_ringing refl in omega (arith, c, o, g);
       busy = λ e q. let c = counts (talking_at e) in let o = r.busy e refl in let g : one (talking_at e y) ≡ 0 = rw a.not_answered refl in
-        let f : one (talking_at e x) ≡ 0 = ap one (false_from_ne_true (talking_at e x) (λ w. cc (talking_is e x w, q))) in omega (arith, c, o, f, g);
+          let f : one (talking_at e x) ≡ 0 = ap one (false_from_ne_true (talking_at e x) (λ w. cc (talking_is e x w, q))) in omega (arith, c, o, f, g);
       pending = λ e q. let c = counts (distributed_at e) in let o = r.pending e refl in let g : one (distributed_at e y) ≡ 0 = rw a.not_distributed refl in let f : one (distributed_at e x) ≡ 0 = ap one q in omega (arith, c, o, f, g);
-      free = free } in
+      free = free;
+    } in
     loosen (λ e. loose e && not (loose e)) (λ _. false) _ (λ e q. absurd (cc (q))) (λ e q. and_not (loose e))
-      (after_release loose s v x (ending_of x) m k rv (λ a h. h.there) r among (λ d. free x.device (and_from _ _ d (eqb_self x.device))) (ends_by s x (connection_rule s r x.call x.device x ex)))
+    (after_release loose s v x (ending_of x) m k rv (λ a h. h.there) r among (λ d. free x.device (and_from _ _ d (eqb_self x.device))) (ends_by s x (connection_rule s r x.call x.device x ex)))
   where
     and_true_is : (b : Bool) → (b && true) ≡ b
     and_true_is true = refl
@@ -144,7 +129,7 @@ closed_call s call x r among xc connected answered_by =
     let y = answered_other (other_of s x) answered_by in
     let od = other_device s x y.0 y.1 in
     let two = two_counted (closed_of call) s.connections x y.0 among (other_among s x y.0 y.1) (closed_is call x (closed_when x.state (or_left _ _ connected)) xc) (closed_is call y.0 (closed_when y.0.state y.2) (od.0 ∙ xc))
-      (λ e. od.1 (ap (λ (z : ConnectionRecord). z.device) e)) in
+    (λ e. od.1 (ap (λ (z : ConnectionRecord). z.device) e)) in
     let w = both_fewer (open_of call) (closed_of call) (of_call call) (open_or_closed call) s.connections in
     let p = r.parties call in let t = two_le (is_some (call_of s call)) in omega (arith, two, w, p, t)
 
@@ -157,13 +142,13 @@ kept_deflect_call s m k call device to r =
     by_refusal (λ v. Rules (moved s (moves_of v))) _ _ _ (λ _. r) (λ known.
     by_refusal (λ v. Rules (moved s (moves_of v))) _ _ _ (λ _. r) (λ new.
     by_refusal (λ v. Rules (moved s (moves_of v))) _ _ _ (λ _. r) (λ _.
-        let key = found_key s call device x ex in
-        let planned : is_planned s to ≡ true = not-false (is_planned s to) known in
-        let none : connection_of s call to ≡ None = none_from (connection_of s call to) (λ z e. cc (new, ap is_some e)) in
-        let was = open_cases x.state (not-false (is_alerting x.state || is_queued x.state) state) in
-        let o = r.one_open call in
-        let f : one (is_open x.state) ≡ 1 = ap one was.1 in
-        moved_on s m k x (arriving (destination_of s to) m k call to) call to key.0 r (own_key s call device x ex) (arrived s m k call to planned) none was.0 (omega (arith, o, f))))))))
+    let key = found_key s call device x ex in
+    let planned : is_planned s to ≡ true = not-false (is_planned s to) known in
+    let none : connection_of s call to ≡ None = none_from (connection_of s call to) (λ z e. cc (new, ap is_some e)) in
+    let was = open_cases x.state (not-false (is_alerting x.state || is_queued x.state) state) in
+    let o = r.one_open call in
+    let f : one (is_open x.state) ≡ 1 = ap one was.1 in
+    moved_on s m k x (arriving (destination_of s to) m k call to) call to key.0 r (own_key s call device x ex) (arrived s m k call to planned) none was.0 (omega (arith, o, f))))))))
 
 pub kept_single_step_transfer : (s : Rows) (m k call device to : ℕ) → Rules s → Rules (moved s (moves_of (single_step_transfer s m k call device to)))
 unfolding single_step_transfer arrive
@@ -175,10 +160,10 @@ kept_single_step_transfer s m k call device to r =
     by_refusal (λ v. Rules (moved s (moves_of v))) _ _ _ (λ _. r) (λ known.
     by_refusal (λ v. Rules (moved s (moves_of v))) _ _ _ (λ _. r) (λ new.
     by_refusal (λ v. Rules (moved s (moves_of v))) _ _ _ (λ _. r) (λ _.
-        let key = found_key s call device x ex in
-        let planned : is_planned s to ≡ true = not-false (is_planned s to) known in
-        let none : connection_of s call to ≡ None = none_from (connection_of s call to) (λ z e. cc (new, ap is_some e)) in
-        let both = and_parts (is_connected x.state) (is_answered_by (other_of s x)) (not-false (is_connected x.state && is_answered_by (other_of s x)) state) in
-        let xs : x.state ≡ S.Connected = connected_is x.state both.0 in
-        moved_on s m k x (arriving (destination_of s to) m k call to) call to key.0 r (own_key s call device x ex) (arrived s m k call to planned) none (rw xs refl)
-          (closed_call s call x r (connection_among s call device x ex) key.0 both.0 both.1))))))))
+    let key = found_key s call device x ex in
+    let planned : is_planned s to ≡ true = not-false (is_planned s to) known in
+    let none : connection_of s call to ≡ None = none_from (connection_of s call to) (λ z e. cc (new, ap is_some e)) in
+    let both = and_parts (is_connected x.state) (is_answered_by (other_of s x)) (not-false (is_connected x.state && is_answered_by (other_of s x)) state) in
+    let xs : x.state ≡ S.Connected = connected_is x.state both.0 in
+    moved_on s m k x (arriving (destination_of s to) m k call to) call to key.0 r (own_key s call device x ex) (arrived s m k call to planned) none (rw xs refl)
+    (closed_call s call x r (connection_among s call device x ex) key.0 both.0 both.1))))))))

@@ -1,52 +1,25 @@
 -- The rules are kept by makeCall and phoneOffHook.
-use Rattle.std.proofs.Common.{◌≡◌, ◌≢◌, ℕ, zero, suc, ◌+◌, ◌<◌, ◌≤◌, ◌⊎◌, inl, inr, Bool, true, false, not, ◌&&◌, ◌||◌, cond, List, [], ◌∷◌, ◌++◌, Option, Some, None, refl, sym, ◌∙◌, ap, subst, arith, length, eq-eqb}
-use Rattle.std.specs.Prelude.{◌==◌, if◌then◌else◌, IsTrue, IsFalse, is_some, is_none, filter, find, nat_le, max}
-use Rattle.std.specs.List.{list_any, list_all}
-use Rattle.std.specs.Cmp.{IsTotalOrder}
-use Rattle.std.specs.declared.cmp.Ordering.{Ordering}
-use Rattle.std.specs.declared.cmp.Ordering.TheVariants.{Less, Equal, Greater}
-use Rattle.std.proofs.lemmas.Bool.{and_parts, and_from, eqb-true, eqb-false, ne_eqb, false_from_ne_true, and_left, and_right, and_cases, or_cases, cases_eq, or_parts, not-false, not-true, or_right, or_left, cond-false, cond-true}
+use Rattle.std.proofs.Common.{◌≡◌, ℕ, ◌+◌, ◌≤◌, inl, Bool, true, false, not, ◌&&◌, cond, Option, Some, None, refl, sym, ◌∙◌, ap, subst, arith, eq-eqb}
+use Rattle.std.specs.Prelude.{◌==◌, IsTrue, IsFalse, is_some}
+use Rattle.std.proofs.lemmas.Bool.{and_parts, and_from, eqb-true, false_from_ne_true, and_left, and_right, not-false}
 use Rattle.acd_terms.specs.declared.rows.Rows.{Rows}
-use Rattle.acd_terms.specs.declared.record.GroupRecord.{GroupRecord}
-use Rattle.acd_terms.specs.declared.record.StationRecord.{StationRecord}
-use Rattle.acd_terms.specs.declared.record.AgentRecord.{AgentRecord}
 use Rattle.acd_terms.specs.declared.record.CallRecord.{CallRecord}
 use Rattle.acd_terms.specs.declared.record.ConnectionRecord.{ConnectionRecord}
-use Rattle.acd_terms.specs.declared.record.MonitorRecord.{MonitorRecord}
-use Rattle.acd_terms.specs.declared.state.AgentState.{AgentState}
-use Rattle.acd_terms.specs.declared.state.AgentState.TheVariants as A
-use Rattle.acd_terms.specs.declared.state.Pending.{Pending}
-use Rattle.acd_terms.specs.declared.state.Pending.TheVariants as W
 use Rattle.acd_terms.specs.declared.state.ConnectionState.{ConnectionState}
 use Rattle.acd_terms.specs.declared.state.ConnectionState.TheVariants as S
-use Rattle.acd_terms.specs.declared.event.Cause.{Cause}
-use Rattle.acd_terms.specs.declared.event.Cause.TheVariants as C
-use Rattle.acd_terms.specs.declared.moves.Move.{Move}
-use Rattle.acd_terms.specs.declared.moves.Change.{Change}
-use Rattle.acd_terms.specs.declared.moves.Change.TheVariants.{Nothing, PutGroup, PutStation, PutAgent, PutCall, PutConnection, PutMonitor, RemoveCall, RemoveConnection, RemoveMonitor}
-use Rattle.acd_terms.specs.declared.moves.Destination.{Destination}
-use Rattle.acd_terms.specs.declared.moves.Destination.TheVariants as D
-use Rattle.acd_terms.specs.declared.moves.Ending.{Ending}
-use Rattle.acd_terms.specs.declared.moves.Ending.TheVariants.{Answered, Unanswered, NoAnswer}
-use Rattle.acd_terms.specs.declared.moves.Release.{Release}
-use Rattle.acd_terms.specs.declared.moves.Release.TheVariants.{Stays, Goes}
-use Rattle.acd_terms.specs.declared.moves.Served.{Served}
-use Rattle.acd_terms.specs.declared.moves.Served.TheVariants.{Refused, Done}
-use Rattle.acd_terms.specs.declared.answer.Refusal.{Refusal}
-use Rattle.acd_terms.specs.Lists.{find_by, put_by, remove_by, count, total, Among, Every, AllAfter, IsAscending}
-use Rattle.acd_terms.specs.States.{is_null, is_ready, is_busy, is_working_after_call, is_initiated, is_alerting, is_connected, is_hold, is_queued, is_fail, is_answered, is_live, is_occupying, state_wanted, is_in}
-use Rattle.acd_terms.specs.Scans.{at_group, at_station, at_agent, at_call, at_connection, at_monitor, group_of, station_of, agent_of, call_of, connection_of, monitor_of, is_group, is_station, is_planned, has, agent_at, connections_of, other_of, is_distributed, is_live_at, is_taken, is_idle, is_occupied, waiting_in, is_idle_there, is_eligible, eligible_in, is_calling, queued_in_all}
-use Rattle.acd_terms.specs.Writes.{with_group, with_station, with_agent, with_call, with_connection, with_monitor, without_call, without_connection, without_monitor, with_last}
-use Rattle.acd_terms.specs.Moves.{no_move, silent, reported, changed, moved}
-use Rattle.acd_terms.specs.CallMoves.{plain, queueing, begin, connect_caller, initiate, originate, met_at, destination_of, arriving, arrival, arrive, talking, answer, hold, retrieve, ringing, offer, go_back, divert, transfer, clear, end_call}
-use Rattle.acd_terms.specs.AgentMoves.{kept_in, in_state, go_to, go_from, log_on_at, become_busy, wait_for}
-use Rattle.acd_terms.specs.Release.{release_of, released, release_agent, ending_of, release}
-use Rattle.acd_terms.specs.Served.{refuse_if, with_found, moves_of}
-use Rattle.acd_terms.specs.Rules.Plan.{group_order, station_order, agent_order, call_order, connection_order, monitor_order}
-use Rattle.acd_laws.specs.Counts.{RulesBut, Rules, Orders, IsUnseated, IsPlannedStation, IsPlannedGroup, SeatedAs, AgentRule, CallRule, Bare, InQueue, Offered, AlertingColumns, HasColumns, GroupColumn, IsCaller, StandsAt, ConnectionRule, is_open, of_call, initiated_of, open_of, live_at, alerting_at, held_at, distributed_at, ringing_at, talking_at, seated_at, ready_at, busy_at, pending_at, two_if}
-use Rattle.acd_laws.proofs.Lists.{one, find-put_hit, find-put_miss, find-filter, find-filter_none, find_passes, find_among, find_none, none_found, find_found, some_found, any-find, any-put, any_none, any_some, any_found, filter_among, among-filter, after_among, ascending-put, ascending-filter, ascending-remove, count-put_new, count-put_old, count-put_most, count-remove_most, count-removed, every_among, every_from, every-put, every-remove, among-remove, among-put, among-put_other, among-remove_other, counted, none_counted, fewer, count_same, two_counted, both_fewer, count_zero, none_of_zero, the_one, some_counted, all_true, all_from, count-append, total-append, count_length, none_from, some_from, some_is, eq_is, is_eq_of}
-use Rattle.acd_laws.proofs.State.{eqb_self, cmp_equal, cmp_self, key_is, is_of, is_of_true, is_of_self, order_equal, order_same, connection_key, groups_total, stations_total, agents_total, calls_total, connections_total, monitors_total, connection_find, agent_find, call_find, group_find, station_find, monitor_find, is_group_any, is_station_any, at_put, connections_without, calls_without, at_remove, agent_put, call_put, call_remove, group_put, station_put, found_key, own_key, connection_among, connection_found, agent_among, agent_key, agent_own, agent_found, call_among, call_key, call_found, put_other, removed_other, still_none}
-use Rattle.acd_laws.proofs.Found.{count_new, count_old, count_less, count_agent, connection_rule, connection_there, no_call_above, none_of_call, none_above}
+use Rattle.acd_terms.specs.declared.moves.Change.TheVariants.{PutCall, PutConnection}
+use Rattle.acd_terms.specs.Lists.{count, Among}
+use Rattle.acd_terms.specs.States.{is_initiated, is_alerting, is_queued, is_live}
+use Rattle.acd_terms.specs.Scans.{group_of, station_of, agent_of, call_of, connection_of, is_group, is_station, is_planned, is_distributed, is_live_at, is_idle}
+use Rattle.acd_terms.specs.Writes.{with_call, with_connection}
+use Rattle.acd_terms.specs.Moves.{changed, moved}
+use Rattle.acd_terms.specs.CallMoves.{plain, originate, destination_of, arriving, arrive}
+use Rattle.acd_terms.specs.Served.{moves_of}
+use Rattle.acd_terms.specs.Rules.Plan.{call_order, connection_order}
+use Rattle.acd_laws.specs.Counts.{Rules, CallRule, HasColumns, IsCaller, StandsAt, ConnectionRule, is_open, of_call, initiated_of, open_of, live_at, alerting_at, held_at, distributed_at, ringing_at, talking_at, two_if}
+use Rattle.acd_laws.proofs.Lists.{one, ascending-put, every_among, every_from, every-put, counted, fewer, two_counted, both_fewer, none_from}
+use Rattle.acd_laws.proofs.State.{eqb_self, calls_total, connections_total, call_put, found_key, own_key, connection_among, call_among, put_other}
+use Rattle.acd_laws.proofs.Found.{count_new, count_old, connection_rule, no_call_above, none_of_call, none_above}
 use Rattle.acd_laws.proofs.Arriving.{Arrived, arrived, idle_counts, rule_same}
 use Rattle.acd_laws.proofs.KeptArrival.{one_le, caller_stays}
 use Rattle.acd_laws.proofs.KeptClearing.{two_le}
@@ -72,32 +45,42 @@ made s m device called r station planned differ free =
     let counts : (p : ConnectionRecord → Bool) → count p t.connections ≡ one (p y) + count p s.connections = λ p. count_new p u y (none_above s r c.call device (omega arith)) in
     let calls : (n : ℕ) → call_of t n ≡ cond (c.call == n) (Some c) (call_of s n) = λ n. call_put s c n in
     record {
-      orders = record { groups = r.orders.groups; stations = r.orders.stations; agents = r.orders.agents; monitors = r.orders.monitors;
-        calls = ascending-put call_order calls_total c s.calls r.orders.calls; connections = ascending-put connection_order connections_total y s.connections r.orders.connections };
-      kinds = r.kinds; agents = r.agents;
+      orders = record {
+        groups = r.orders.groups;
+        stations = r.orders.stations;
+        agents = r.orders.agents;
+        monitors = r.orders.monitors;
+        calls = ascending-put call_order calls_total c s.calls r.orders.calls;
+        connections = ascending-put connection_order connections_total y s.connections r.orders.connections;
+      };
+      kinds = r.kinds;
+      agents = r.agents;
       calls = every-put (call_order c) (CallRule t) c (omega arith, planned, (λ e. cc (differ, eq-eqb called device e)), station_no_group s device r.kinds station) s.calls
-        (every_from (CallRule t) s.calls (λ k b. let w = every_among (CallRule s) s.calls k r.calls b in let l : k.call ≤ s.last_call = w.0 in (omega (arith, l), w.1, w.2, w.3)));
+          (every_from (CallRule t) s.calls (λ k b. let w = every_among (CallRule s) s.calls k r.calls b in let l : k.call ≤ s.last_call = w.0 in (omega (arith, l), w.1, w.2, w.3)));
       connections = every-put (connection_order y) (ConnectionRule t) y ((record { place = refl; queued = refl; offered = refl }, refl), tt, (station, rw (calls c.call, eqb_self c.call) refl)) s.connections
-        (every_from (ConnectionRule t) s.connections (λ z b. rule_same s t (λ _. refl) (λ _. refl) z (λ k. rw (calls z.call) (caller_stays s c z.call z.device no_call k)) (every_among (ConnectionRule s) s.connections z r.connections b)));
+          (every_from (ConnectionRule t) s.connections (λ z b. rule_same s t (λ _. refl) (λ _. refl) z (λ k. rw (calls z.call) (caller_stays s c z.call z.device no_call k)) (every_among (ConnectionRule s) s.connections z r.connections b)));
       parties = λ n. let e1 = counts (of_call n) in let e2 = counts (initiated_of n) in let p = r.parties n in
-        (elim (c.call == n) as (λ b. (c.call == n) ≡ b → count (of_call n) t.connections + count (initiated_of n) t.connections ≡ two_if (is_some (cond b (Some c) (call_of s n)))) [
-          true ↦ λ q. let f : one (of_call n y) ≡ 1 = ap one q in let g : one (initiated_of n y) ≡ 1 = ap one q in
-            let z : two_if (is_some (call_of s n)) ≡ 0 = rw (← eqb-true c.call n q, no_call) refl in omega (arith, e1, e2, p, f, g, z)
-          | false ↦ λ q. let f : one (of_call n y) ≡ 0 = ap one q in let g : one (initiated_of n y) ≡ 0 = ap one q in omega (arith, e1, e2, p, f, g) ]) refl
-        ∙ ap (λ o. two_if (is_some o)) (sym (calls n));
+          (elim (c.call == n) as (λ b. (c.call == n) ≡ b → count (of_call n) t.connections + count (initiated_of n) t.connections ≡ two_if (is_some (cond b (Some c) (call_of s n)))) [
+            | true ↦ λ q. let f : one (of_call n y) ≡ 1 = ap one q in let g : one (initiated_of n y) ≡ 1 = ap one q in
+                let z : two_if (is_some (call_of s n)) ≡ 0 = rw (← eqb-true c.call n q, no_call) refl in omega (arith, e1, e2, p, f, g, z)
+            | false ↦ λ q. let f : one (of_call n y) ≡ 0 = ap one q in let g : one (initiated_of n y) ≡ 0 = ap one q in omega (arith, e1, e2, p, f, g)
+          ]) refl
+          ∙ ap (λ o. two_if (is_some o)) (sym (calls n));
       one_open = λ n. let e = counts (open_of n) in let o = r.one_open n in omega (arith, e, o);
       one_live = λ d w. let e = counts (live_at d) in
-        (elim (device == d) as (λ b. (device == d) ≡ b → count (live_at d) t.connections ≤ 1) [
-          true ↦ λ q. let z : count (live_at d) s.connections ≡ 0 = subst (λ x. count (live_at x) s.connections ≡ 0) (eqb-true device d q) (no_live s device free) in
-            let g = one_le (live_at d y) in omega (arith, e, z, g)
-          | false ↦ λ q. let o = r.one_live d w in let g : one (live_at d y) ≡ 0 = ap one q in omega (arith, e, o, g) ]) refl;
+          (elim (device == d) as (λ b. (device == d) ≡ b → count (live_at d) t.connections ≤ 1) [
+            | true ↦ λ q. let z : count (live_at d) s.connections ≡ 0 = subst (λ x. count (live_at x) s.connections ≡ 0) (eqb-true device d q) (no_live s device free) in
+                let g = one_le (live_at d y) in omega (arith, e, z, g)
+            | false ↦ λ q. let o = r.one_live d w in let g : one (live_at d y) ≡ 0 = ap one q in omega (arith, e, o, g)
+          ]) refl;
       no_hold = λ d w l. let c1 = counts (alerting_at d) in let c2 = counts (held_at d) in let o = r.no_hold d w (omega (arith, c1, l)) in omega (arith, c2, o);
       one_offer = λ d. let e = counts (distributed_at d) in let o = r.one_offer d in omega (arith, e, o);
       one_agent = r.one_agent;
       ready = λ d _. let e = counts (ringing_at d) in let o = r.ready d refl in omega (arith, e, o);
       busy = λ d _. let e = counts (talking_at d) in let o = r.busy d refl in omega (arith, e, o);
       pending = λ d _. let e = counts (distributed_at d) in let o = r.pending d refl in omega (arith, e, o);
-      free = λ d q. absurd (cc (q)) }
+      free = λ d q. absurd (cc (q));
+    }
 
 pub kept_make_call : (s : Rows) (m device called : ℕ) → Rules s → Rules (moved s (moves_of (make_call s m device called)))
 unfolding make_call
@@ -108,7 +91,7 @@ kept_make_call s m device called r =
     by_refusal (λ v. Rules (moved s (moves_of v))) _ _ _ (λ _. r) (λ differ.
     by_refusal (λ v. Rules (moved s (moves_of v))) _ _ _ (λ _. r) (λ free.
     by_refusal (λ v. Rules (moved s (moves_of v))) _ _ _ (λ _. r) (λ _.
-      made s m device called r (not-false (is_station s device) station) (not-false (is_planned s called) known) differ free))))))
+    made s m device called r (not-false (is_station s device) station) (not-false (is_planned s called) known) differ free))))))
 
 pub initiated_is : (st : ConnectionState) → is_initiated st ≡ true → st ≡ S.Initiated
 initiated_is S.Initiated e = refl
@@ -142,40 +125,52 @@ gone_out s x y c d r ex initiated ec apart a none =
     let no_group : is_some x.group ≡ false = group_none x xs rule.0 in
     let among = connection_among s x.call x.device x ex in
     let counts : (p : ConnectionRecord → Bool) → count p t.connections + one (p x) ≡ one (p y) + (one (p x2) + count p s.connections) = λ p.
-      let e1 = count_new p u y (rw (a.call, a.device) (put_other s x2 x.call d (λ _ q. apart q) ∙ none)) in let e2 = count_old p s x2 x r.orders.connections ex in omega (arith, e1, e2) in
+    let e1 = count_new p u y (rw (a.call, a.device) (put_other s x2 x.call d (λ _ q. apart q) ∙ none)) in let e2 = count_old p s x2 x r.orders.connections ex in omega (arith, e1, e2) in
     let alone : count (of_call x.call) s.connections ≡ 1 =
-      let p = r.parties x.call in let w = counted (initiated_of x.call) s.connections x among (and_from _ _ initiated (eqb_self x.call)) in
-      let f = fewer (initiated_of x.call) (of_call x.call) (λ z h. (and_parts (is_initiated z.state) (z.call == x.call) h).1) s.connections in let t = two_le (is_some (call_of s x.call)) in omega (arith, p, w, f, t) in
+    let p = r.parties x.call in let w = counted (initiated_of x.call) s.connections x among (and_from _ _ initiated (eqb_self x.call)) in
+    let f = fewer (initiated_of x.call) (of_call x.call) (λ z h. (and_parts (is_initiated z.state) (z.call == x.call) h).1) s.connections in let t = two_le (is_some (call_of s x.call)) in omega (arith, p, w, f, t) in
     record {
-      orders = record { groups = r.orders.groups; stations = r.orders.stations; agents = r.orders.agents; monitors = r.orders.monitors; calls = r.orders.calls;
-        connections = ascending-put connection_order connections_total y u.connections (ascending-put connection_order connections_total x2 s.connections r.orders.connections) };
-      kinds = r.kinds; agents = r.agents; calls = r.calls;
+      orders = record {
+        groups = r.orders.groups;
+        stations = r.orders.stations;
+        agents = r.orders.agents;
+        monitors = r.orders.monitors;
+        calls = r.orders.calls;
+        connections = ascending-put connection_order connections_total y u.connections (ascending-put connection_order connections_total x2 s.connections r.orders.connections);
+      };
+      kinds = r.kinds;
+      agents = r.agents;
+      calls = r.calls;
       connections = every-put (connection_order y) (ConnectionRule s) y a.rule u.connections
-        (every-put (connection_order x2) (ConnectionRule s) x2 (record { place = bare_of.0.place; queued = bare_of.0.queued; offered = bare_of.0.offered }, rule.1, inl st.0) s.connections r.connections);
+          (every-put (connection_order x2) (ConnectionRule s) x2 (record { place = bare_of.0.place; queued = bare_of.0.queued; offered = bare_of.0.offered }, rule.1, inl st.0) s.connections r.connections);
       parties = λ n. let e1 = counts (of_call n) in let e2 = counts (initiated_of n) in let p = r.parties n in
-        let f : one (of_call n y) ≡ one (of_call n x) = rw a.call refl in let i : one (initiated_of n x) ≡ one (of_call n x) = rw xs refl in let j : one (initiated_of n y) ≡ 0 = rw a.not_initiated refl in omega (arith, e1, e2, p, f, i, j);
+          let f : one (of_call n y) ≡ one (of_call n x) = rw a.call refl in let i : one (initiated_of n x) ≡ one (of_call n x) = rw xs refl in let j : one (initiated_of n y) ≡ 0 = rw a.not_initiated refl in omega (arith, e1, e2, p, f, i, j);
       one_open = λ n. let e = counts (open_of n) in let o = r.one_open n in
-        (elim (x.call == n) as (λ b. (x.call == n) ≡ b → count (open_of n) t.connections ≤ 1) [
-          true ↦ λ q. let al : count (of_call n) s.connections ≡ 1 = subst (λ v. count (of_call v) s.connections ≡ 1) (eqb-true x.call n q) alone in
-            let w = counted (closed_of n) s.connections x among (closed_is n x (rw xs refl) (eqb-true x.call n q)) in
-            let b = both_fewer (open_of n) (closed_of n) (of_call n) (open_or_closed n) s.connections in let g = one_le (open_of n y) in omega (arith, e, al, w, b, g)
-          | false ↦ λ q. let g : one (open_of n y) ≡ 0 = ap one (and_right (is_open y.state) (y.call == n) (rw a.call q)) in omega (arith, e, o, g) ]) refl;
+          (elim (x.call == n) as (λ b. (x.call == n) ≡ b → count (open_of n) t.connections ≤ 1) [
+            | true ↦ λ q. let al : count (of_call n) s.connections ≡ 1 = subst (λ v. count (of_call v) s.connections ≡ 1) (eqb-true x.call n q) alone in
+                let w = counted (closed_of n) s.connections x among (closed_is n x (rw xs refl) (eqb-true x.call n q)) in
+                let b = both_fewer (open_of n) (closed_of n) (of_call n) (open_or_closed n) s.connections in let g = one_le (open_of n y) in omega (arith, e, al, w, b, g)
+            | false ↦ λ q. let g : one (open_of n y) ≡ 0 = ap one (and_right (is_open y.state) (y.call == n) (rw a.call q)) in omega (arith, e, o, g)
+          ]) refl;
       one_live = λ e h. let c = counts (live_at e) in let o = r.one_live e h in let f : one (live_at e x) ≡ one (x.device == e) = rw xs refl in
-        (elim (live_at e y) as (λ b. live_at e y ≡ b → count (live_at e) t.connections ≤ 1) [
-          true ↦ λ q. let w = and_parts (is_live y.state) (y.device == e) q in
-            let z = (idle_counts s e (subst (λ t. is_idle s t ≡ true) (sym a.device ∙ eqb-true y.device e w.1) (a.idle w.0))).0 in let g = one_le (live_at e y) in omega (arith, c, f, z, g)
-          | false ↦ λ q. let g : one (live_at e y) ≡ 0 = ap one q in omega (arith, c, o, f, g) ]) refl;
+          (elim (live_at e y) as (λ b. live_at e y ≡ b → count (live_at e) t.connections ≤ 1) [
+            | true ↦ λ q. let w = and_parts (is_live y.state) (y.device == e) q in
+                let z = (idle_counts s e (subst (λ t. is_idle s t ≡ true) (sym a.device ∙ eqb-true y.device e w.1) (a.idle w.0))).0 in let g = one_le (live_at e y) in omega (arith, c, f, z, g)
+            | false ↦ λ q. let g : one (live_at e y) ≡ 0 = ap one q in omega (arith, c, o, f, g)
+          ]) refl;
       no_hold = λ e h l. let c = counts (alerting_at e) in let ch = counts (held_at e) in let i : one (held_at e y) ≡ 0 = rw a.not_hold refl in
-        (elim (alerting_at e y) as (λ b. alerting_at e y ≡ b → count (held_at e) t.connections ≡ 0) [
-          true ↦ λ q. let w = and_parts (is_alerting y.state) (y.device == e) q in
-            let z = (idle_counts s e (subst (λ t. is_idle s t ≡ true) (sym a.device ∙ eqb-true y.device e w.1) (a.alerting_idle w.0))).2 in omega (arith, ch, i, z)
-          | false ↦ λ q. let g : one (alerting_at e y) ≡ 0 = ap one q in let z = r.no_hold e h (omega (arith, c, g, l)) in omega (arith, ch, i, z) ]) refl;
+          (elim (alerting_at e y) as (λ b. alerting_at e y ≡ b → count (held_at e) t.connections ≡ 0) [
+            | true ↦ λ q. let w = and_parts (is_alerting y.state) (y.device == e) q in
+                let z = (idle_counts s e (subst (λ t. is_idle s t ≡ true) (sym a.device ∙ eqb-true y.device e w.1) (a.alerting_idle w.0))).2 in omega (arith, ch, i, z)
+            | false ↦ λ q. let g : one (alerting_at e y) ≡ 0 = ap one q in let z = r.no_hold e h (omega (arith, c, g, l)) in omega (arith, ch, i, z)
+          ]) refl;
       one_offer = λ e. let c = counts (distributed_at e) in let o = r.one_offer e in let g : one (distributed_at e y) ≡ 0 = rw a.not_distributed refl in let h : one (distributed_at e x2) ≡ 0 = rw no_group refl in omega (arith, c, o, g, h);
       one_agent = r.one_agent;
       ready = λ e _. let c = counts (ringing_at e) in let o = r.ready e refl in let g : one (ringing_at e y) ≡ 0 = rw a.not_ringing refl in omega (arith, c, o, g);
       busy = λ e _. let c = counts (talking_at e) in let o = r.busy e refl in let g : one (talking_at e y) ≡ 0 = rw a.not_answered refl in let f : one (talking_at e x) ≡ 0 = rw xs refl in let h : one (talking_at e x2) ≡ 0 = rw no_group refl in omega (arith, c, o, f, g, h);
       pending = λ e _. let c = counts (distributed_at e) in let o = r.pending e refl in let g : one (distributed_at e y) ≡ 0 = rw a.not_distributed refl in let f : one (distributed_at e x) ≡ 0 = ap one (and_left (is_distributed x) (x.device == e) (ap (λ b. b && not (is_queued x.state)) (group_none x xs rule.0))) in omega (arith, c, o, f, g);
-      free = λ e h. absurd (cc (h)) }
+      free = λ e h. absurd (cc (h));
+    }
 
 pub initiated_alone : (s : Rows) (x : ConnectionRecord) → Rules s → Among x s.connections → is_initiated x.state ≡ true → count (of_call x.call) s.connections ≡ 1
 initiated_alone s x r among initiated =
@@ -194,11 +189,14 @@ outgoing s x c r ex initiated ec =
     let st : IsTrue (is_station s x.device) × IsCaller (call_of s x.call) x.device = subst (StandsAt s x) xs (connection_rule s r x.call x.device x ex).2 in
     let rule = every_among (CallRule s) s.calls c r.calls (call_among s x.call c ec) in
     let apart : x.device ≡ c.called → ⊥ = λ e. rule.2 (sym e ∙ sym (is_caller_of (call_of s x.call) c x.device ec st.1)) in
-    record { planned = rule.1; apart = apart;
+    record {
+      planned = rule.1;
+      apart = apart;
       new = none_from (connection_of s x.call c.called) (λ z e.
-        let k = found_key s x.call c.called z e in
-        let two = two_counted (of_call x.call) s.connections x z (connection_among s x.call x.device x ex) (connection_among s x.call c.called z e) (eqb_self x.call) (eq-eqb z.call x.call k.0) (λ q. apart (ap (λ (z : ConnectionRecord). z.device) q ∙ k.1)) in
-        let al = initiated_alone s x r (connection_among s x.call x.device x ex) initiated in omega (arith, two, al)) }
+          let k = found_key s x.call c.called z e in
+          let two = two_counted (of_call x.call) s.connections x z (connection_among s x.call x.device x ex) (connection_among s x.call c.called z e) (eqb_self x.call) (eq-eqb z.call x.call k.0) (λ q. apart (ap (λ (z : ConnectionRecord). z.device) q ∙ k.1)) in
+          let al = initiated_alone s x r (connection_among s x.call x.device x ex) initiated in omega (arith, two, al));
+    }
 
 pub kept_phone_off_hook : (s : Rows) (m k call device : ℕ) → Rules s → Rules (moved s (moves_of (phone_off_hook s m k call device)))
 unfolding phone_off_hook arrive
@@ -206,10 +204,10 @@ kept_phone_off_hook s m k call device r =
     by_found (λ v. Rules (moved s (moves_of v))) _ _ _ (λ _. r) (λ c ec.
     by_found (λ v. Rules (moved s (moves_of v))) _ _ _ (λ _. r) (λ x ex.
     by_refusal (λ v. Rules (moved s (moves_of v))) _ _ _ (λ _. r) (λ state.
-      let key = found_key s call device x ex in
-      let own = own_key s call device x ex in
-      let initiated : is_initiated x.state ≡ true = not-false (is_initiated x.state) state in
-      let ec2 : call_of s x.call ≡ Some c = ap (call_of s) key.0 ∙ ec in
-      let go = outgoing s x c r own initiated ec2 in
-      subst (λ n. Rules (changed (changed s (originate x c.called).change) (PutConnection (arriving (destination_of s c.called) m k n c.called)))) key.0
-        (gone_out s x (arriving (destination_of s c.called) m k x.call c.called) c c.called r own initiated ec2 go.apart (arrived s m k x.call c.called go.planned) go.new))))
+    let key = found_key s call device x ex in
+    let own = own_key s call device x ex in
+    let initiated : is_initiated x.state ≡ true = not-false (is_initiated x.state) state in
+    let ec2 : call_of s x.call ≡ Some c = ap (call_of s) key.0 ∙ ec in
+    let go = outgoing s x c r own initiated ec2 in
+    subst (λ n. Rules (changed (changed s (originate x c.called).change) (PutConnection (arriving (destination_of s c.called) m k n c.called)))) key.0
+    (gone_out s x (arriving (destination_of s c.called) m k x.call c.called) c c.called r own initiated ec2 go.apart (arrived s m k x.call c.called go.planned) go.new))))

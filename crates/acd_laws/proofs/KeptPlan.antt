@@ -1,11 +1,8 @@
 -- The rules are kept by addGroup, addStation, addAgent, monitorStart and monitorStop.
-use Rattle.std.proofs.Common.{◌≡◌, ◌≢◌, ℕ, zero, suc, ◌+◌, ◌<◌, ◌≤◌, ◌⊎◌, inl, inr, Bool, true, false, not, ◌&&◌, ◌||◌, cond, List, [], ◌∷◌, ◌++◌, Option, Some, None, refl, sym, ◌∙◌, ap, subst, arith, length, eq-eqb}
-use Rattle.std.specs.Prelude.{◌==◌, if◌then◌else◌, IsTrue, IsFalse, is_some, is_none, filter, find, nat_le, max}
-use Rattle.std.specs.List.{list_any, list_all}
-use Rattle.std.specs.Cmp.{IsTotalOrder}
-use Rattle.std.specs.declared.cmp.Ordering.{Ordering}
-use Rattle.std.specs.declared.cmp.Ordering.TheVariants.{Less, Equal, Greater}
-use Rattle.std.proofs.lemmas.Bool.{and_parts, and_from, eqb-true, eqb-false, ne_eqb, false_from_ne_true, and_left, and_right, and_cases, or_cases, cases_eq, or_parts, not-false, not-true, or_right, or_left, cond-false, cond-true}
+use Rattle.std.proofs.Common.{◌≡◌, ℕ, ◌+◌, inl, inr, Bool, true, false, ◌&&◌, ◌||◌, List, Option, Some, None, refl, sym, ◌∙◌, ap, subst, arith, eq-eqb}
+use Rattle.std.specs.Prelude.{◌==◌, IsTrue, is_some, max}
+use Rattle.std.specs.List.{list_any}
+use Rattle.std.proofs.lemmas.Bool.{eqb-true, false_from_ne_true, and_right, or_cases, or_parts, or_right, or_left}
 use Rattle.acd_terms.specs.declared.rows.Rows.{Rows}
 use Rattle.acd_terms.specs.declared.record.GroupRecord.{GroupRecord}
 use Rattle.acd_terms.specs.declared.record.StationRecord.{StationRecord}
@@ -15,38 +12,19 @@ use Rattle.acd_terms.specs.declared.record.ConnectionRecord.{ConnectionRecord}
 use Rattle.acd_terms.specs.declared.record.MonitorRecord.{MonitorRecord}
 use Rattle.acd_terms.specs.declared.state.AgentState.{AgentState}
 use Rattle.acd_terms.specs.declared.state.AgentState.TheVariants as A
-use Rattle.acd_terms.specs.declared.state.Pending.{Pending}
-use Rattle.acd_terms.specs.declared.state.Pending.TheVariants as W
 use Rattle.acd_terms.specs.declared.state.ConnectionState.{ConnectionState}
 use Rattle.acd_terms.specs.declared.state.ConnectionState.TheVariants as S
-use Rattle.acd_terms.specs.declared.event.Cause.{Cause}
-use Rattle.acd_terms.specs.declared.event.Cause.TheVariants as C
-use Rattle.acd_terms.specs.declared.moves.Move.{Move}
-use Rattle.acd_terms.specs.declared.moves.Change.{Change}
-use Rattle.acd_terms.specs.declared.moves.Change.TheVariants.{Nothing, PutGroup, PutStation, PutAgent, PutCall, PutConnection, PutMonitor, RemoveCall, RemoveConnection, RemoveMonitor}
-use Rattle.acd_terms.specs.declared.moves.Destination.{Destination}
-use Rattle.acd_terms.specs.declared.moves.Destination.TheVariants as D
-use Rattle.acd_terms.specs.declared.moves.Ending.{Ending}
-use Rattle.acd_terms.specs.declared.moves.Ending.TheVariants.{Answered, Unanswered, NoAnswer}
-use Rattle.acd_terms.specs.declared.moves.Release.{Release}
-use Rattle.acd_terms.specs.declared.moves.Release.TheVariants.{Stays, Goes}
-use Rattle.acd_terms.specs.declared.moves.Served.{Served}
-use Rattle.acd_terms.specs.declared.moves.Served.TheVariants.{Refused, Done}
-use Rattle.acd_terms.specs.declared.answer.Refusal.{Refusal}
-use Rattle.acd_terms.specs.Lists.{find_by, put_by, remove_by, count, total, Among, Every, AllAfter, IsAscending}
-use Rattle.acd_terms.specs.States.{is_null, is_ready, is_busy, is_working_after_call, is_initiated, is_alerting, is_connected, is_hold, is_queued, is_fail, is_answered, is_live, is_occupying, state_wanted, is_in}
-use Rattle.acd_terms.specs.Scans.{at_group, at_station, at_agent, at_call, at_connection, at_monitor, group_of, station_of, agent_of, call_of, connection_of, monitor_of, is_group, is_station, is_planned, has, agent_at, connections_of, other_of, is_distributed, is_live_at, is_taken, is_idle, is_occupied, waiting_in, is_idle_there, is_eligible, eligible_in, is_calling, queued_in_all}
-use Rattle.acd_terms.specs.Writes.{with_group, with_station, with_agent, with_call, with_connection, with_monitor, without_call, without_connection, without_monitor, with_last}
-use Rattle.acd_terms.specs.Moves.{no_move, silent, reported, changed, moved}
-use Rattle.acd_terms.specs.CallMoves.{plain, queueing, begin, connect_caller, initiate, originate, met_at, destination_of, arriving, arrival, arrive, talking, answer, hold, retrieve, ringing, offer, go_back, divert, transfer, clear, end_call}
-use Rattle.acd_terms.specs.AgentMoves.{kept_in, in_state, go_to, go_from, log_on_at, become_busy, wait_for}
-use Rattle.acd_terms.specs.Release.{release_of, released, release_agent, ending_of, release}
-use Rattle.acd_terms.specs.Served.{refuse_if, with_found, moves_of}
-use Rattle.acd_terms.specs.Rules.Plan.{group_order, station_order, agent_order, call_order, connection_order, monitor_order}
-use Rattle.acd_laws.specs.Counts.{RulesBut, Rules, Orders, IsUnseated, IsPlannedStation, IsPlannedGroup, SeatedAs, AgentRule, CallRule, Bare, InQueue, Offered, AlertingColumns, HasColumns, GroupColumn, IsCaller, StandsAt, ConnectionRule, is_open, of_call, initiated_of, open_of, live_at, alerting_at, held_at, distributed_at, ringing_at, talking_at, seated_at, ready_at, busy_at, pending_at, two_if}
-use Rattle.acd_laws.proofs.Lists.{one, find-put_hit, find-put_miss, find-filter, find-filter_none, find_passes, find_among, find_none, none_found, find_found, some_found, any-find, any-put, any_none, any_some, any_found, filter_among, among-filter, after_among, ascending-put, ascending-filter, ascending-remove, count-put_new, count-put_old, count-put_most, count-remove_most, count-removed, every_among, every_from, every-put, every-remove, among-remove, among-put, among-put_other, among-remove_other, counted, none_counted, fewer, count_same, two_counted, both_fewer, count_zero, none_of_zero, the_one, some_counted, all_true, all_from, count-append, total-append, count_length, none_from, some_from, some_is, eq_is, is_eq_of}
-use Rattle.acd_laws.proofs.State.{eqb_self, cmp_equal, cmp_self, key_is, is_of, is_of_true, is_of_self, order_equal, order_same, connection_key, groups_total, stations_total, agents_total, calls_total, connections_total, monitors_total, connection_find, agent_find, call_find, group_find, station_find, monitor_find, is_group_any, is_station_any, at_put, connections_without, calls_without, at_remove, agent_put, call_put, call_remove, group_put, station_put, found_key, own_key, connection_among, connection_found, agent_among, agent_key, agent_own, agent_found, call_among, call_key, call_found, put_other, removed_other, still_none}
-use Rattle.acd_laws.proofs.Found.{count_new, count_old, count_less, count_agent, connection_rule, connection_there}
+use Rattle.acd_terms.specs.declared.moves.Change.TheVariants.{PutGroup, PutStation, PutAgent, PutMonitor, RemoveMonitor}
+use Rattle.acd_terms.specs.Lists.{put_by, remove_by, count, Among, IsAscending}
+use Rattle.acd_terms.specs.States.{is_hold, is_live}
+use Rattle.acd_terms.specs.Scans.{at_monitor, group_of, station_of, agent_of, call_of, connection_of, is_group, is_station, is_planned, is_calling}
+use Rattle.acd_terms.specs.Writes.{with_group, with_station, with_agent, with_monitor, without_monitor}
+use Rattle.acd_terms.specs.Moves.{changed, moved}
+use Rattle.acd_terms.specs.Served.{moves_of}
+use Rattle.acd_terms.specs.Rules.Plan.{group_order, station_order, agent_order, monitor_order}
+use Rattle.acd_laws.specs.Counts.{Rules, IsPlannedStation, IsPlannedGroup, SeatedAs, AgentRule, CallRule, GroupColumn, IsCaller, StandsAt, ConnectionRule, seated_at, ready_at, busy_at, pending_at}
+use Rattle.acd_laws.proofs.Lists.{one, any_some, ascending-put, ascending-remove, count-put_new, every_among, every_from, every-put, count_zero, none_from}
+use Rattle.acd_laws.proofs.State.{cmp_equal, groups_total, stations_total, agents_total, monitors_total, agent_find, group_put, station_put, call_among}
 use Rattle.acd_laws.proofs.Serving.{by_found, by_refusal}
 use Rattle.acd_terms.specs.Services.Plan.{add_group, add_station, add_agent, is_used, new_group, new_agent}
 use Rattle.acd_terms.specs.Services.Monitors.{monitor_start, monitor_stop, next_monitor}
@@ -61,12 +39,13 @@ nobody_at s d r free z a =
     let f = or_parts (is_planned s d) _ free in
     let p = or_parts (is_group s d) (is_station s d) f.0 in
     false_from_ne_true (z.device == d) (λ q.
-      let e : z.device ≡ d = eqb-true z.device d q in
-      cases z.state e p.0 p.1 f.1 (every_among (ConnectionRule s) s.connections z r.connections a).2)
+    let e : z.device ≡ d = eqb-true z.device d q in
+    cases z.state e p.0 p.1 f.1 (every_among (ConnectionRule s) s.connections z r.connections a).2)
   where
     caller : (o : Option CallRecord) → call_of s z.call ≡ o → z.device ≡ d → list_any (λ (c : CallRecord). c.caller == d) s.calls ≡ false → IsCaller o z.device → ⊥
     caller None e q f h = h
     caller (Some c) e q f h = cc (any_false (λ (c : CallRecord). c.caller == d) s.calls f c (call_among s z.call c e), eq-eqb c.caller d (h ∙ q))
+
     cases : (st : ConnectionState) → z.device ≡ d → is_group s d ≡ false → is_station s d ≡ false → list_any (λ (c : CallRecord). c.caller == d) s.calls ≡ false → StandsAt s z st → ⊥
     cases S.Queued e g t f h = cc (subst (λ v. is_group s v ≡ true) e h, g)
     cases S.Initiated e g t f h = cc (subst (λ v. is_station s v ≡ true) e h.0, t)
@@ -119,12 +98,25 @@ kept_group s g r free =
       orders = record { groups = ascending-put group_order groups_total g s.groups r.orders.groups; stations = r.orders.stations; agents = r.orders.agents; monitors = r.orders.monitors; calls = r.orders.calls; connections = r.orders.connections };
       kinds = λ d h. elim (or_cases (g.device == d) (is_group s d) (sym (group_put s g d) ∙ h)) [ inl e ↦ subst (λ v. is_station s v ≡ false) (eqb-true g.device d e) p.1 | inr w ↦ r.kinds d w ];
       agents = every_from (AgentRule t) s.agents (λ a i. more_seat s t (λ d h. h) more a a.state (every_among (AgentRule s) s.agents a r.agents i));
-      calls = every_from (CallRule t) s.calls (λ c i. let h = every_among (CallRule s) s.calls c r.calls i in
-        (h.0, (elim (or_cases (is_group s c.called) (is_station s c.called) h.1) [ inl w ↦ or_left _ _ (more c.called w) | inr w ↦ or_right (is_group t c.called) _ w ]), h.2,
-          other c.caller (any_false (λ (c : CallRecord). c.caller == g.device) s.calls f.1 c i) ∙ h.3));
+      calls = every_from (CallRule t) s.calls (λ c i. let h = every_among (CallRule s) s.calls c r.calls i in (
+        h.0,
+        (elim (or_cases (is_group s c.called) (is_station s c.called) h.1) [ inl w ↦ or_left _ _ (more c.called w) | inr w ↦ or_right (is_group t c.called) _ w ]),
+        h.2,
+        other c.caller (any_false (λ (c : CallRecord). c.caller == g.device) s.calls f.1 c i) ∙ h.3,
+      ));
       connections = every_from (ConnectionRule t) s.connections (λ z i. let h = every_among (ConnectionRule s) s.connections z r.connections i in
-        (h.0, more_column s t more z.group h.1, more_stands s t (λ d w. w) more z refl (λ w. ap (λ b. b || is_station s z.device) (other z.device (nobody_at s g.device r free z i)) ∙ w) z.state h.2));
-      parties = r.parties; one_open = r.one_open; one_live = r.one_live; no_hold = r.no_hold; one_offer = r.one_offer; one_agent = r.one_agent; ready = r.ready; busy = r.busy; pending = r.pending; free = r.free }
+          (h.0, more_column s t more z.group h.1, more_stands s t (λ d w. w) more z refl (λ w. ap (λ b. b || is_station s z.device) (other z.device (nobody_at s g.device r free z i)) ∙ w) z.state h.2));
+      parties = r.parties;
+      one_open = r.one_open;
+      one_live = r.one_live;
+      no_hold = r.no_hold;
+      one_offer = r.one_offer;
+      one_agent = r.one_agent;
+      ready = r.ready;
+      busy = r.busy;
+      pending = r.pending;
+      free = r.free;
+    }
 
 -- a station is planned
 kept_station : (s : Rows) (g : StationRecord) → Rules s → is_used s g.device ≡ false → Rules (changed s (PutStation g))
@@ -136,33 +128,40 @@ kept_station s g r free =
     let more : (d : ℕ) → IsTrue (is_station s d) → IsTrue (is_station t d) = λ d h. station_put s g d ∙ or_right (g.device == d) (is_station s d) h in
     let other : (d : ℕ) → (d == g.device) ≡ false → is_station t d ≡ is_station s d = λ d h. station_put s g d ∙ ap (λ b. b || is_station s d) (false_from_ne_true (g.device == d) (λ q. cc (h, eq-eqb d g.device (sym (eqb-true g.device d q))))) in
     let empty : (q : ConnectionState → Bool) (d : ℕ) → (g.device == d) ≡ true → count (λ x. q x.state && x.device == d) s.connections ≡ 0 = λ q d e.
-      count_zero (λ x. q x.state && x.device == d) s.connections (λ z i. and_right (q z.state) (z.device == d) (subst (λ v. (z.device == v) ≡ false) (eqb-true g.device d e) (nobody_at s g.device r free z i))) in
+    count_zero (λ x. q x.state && x.device == d) s.connections (λ z i. and_right (q z.state) (z.device == d) (subst (λ v. (z.device == v) ≡ false) (eqb-true g.device d e) (nobody_at s g.device r free z i))) in
     record {
       orders = record { stations = ascending-put station_order stations_total g s.stations r.orders.stations; groups = r.orders.groups; agents = r.orders.agents; monitors = r.orders.monitors; calls = r.orders.calls; connections = r.orders.connections };
       kinds = λ d h. other d (false_from_ne_true (d == g.device) (λ q. cc (subst (λ v. is_group s v ≡ true) (eqb-true d g.device q) h, p.0))) ∙ r.kinds d h;
       agents = every_from (AgentRule t) s.agents (λ a i. more_seat s t more (λ d h. h) a a.state (every_among (AgentRule s) s.agents a r.agents i));
       calls = every_from (CallRule t) s.calls (λ c i. let h = every_among (CallRule s) s.calls c r.calls i in
-        (h.0, (elim (or_cases (is_group s c.called) (is_station s c.called) h.1) [ inl w ↦ or_left _ _ w | inr w ↦ or_right (is_group s c.called) _ (more c.called w) ]), h.2, h.3));
+          (h.0, (elim (or_cases (is_group s c.called) (is_station s c.called) h.1) [ inl w ↦ or_left _ _ w | inr w ↦ or_right (is_group s c.called) _ (more c.called w) ]), h.2, h.3));
       connections = every_from (ConnectionRule t) s.connections (λ z i. let h = every_among (ConnectionRule s) s.connections z r.connections i in
-        (h.0, h.1, more_stands s t more (λ d w. w) z refl (λ w. ap (λ b. is_group s z.device || b) (other z.device (nobody_at s g.device r free z i)) ∙ w) z.state h.2));
-      parties = r.parties; one_open = r.one_open;
+          (h.0, h.1, more_stands s t more (λ d w. w) z refl (λ w. ap (λ b. is_group s z.device || b) (other z.device (nobody_at s g.device r free z i)) ∙ w) z.state h.2));
+      parties = r.parties;
+      one_open = r.one_open;
       one_live = λ d h. elim (or_cases (g.device == d) (is_station s d) (sym (station_put s g d) ∙ h)) [ inl e ↦ (let z = empty is_live d e in omega (arith, z)) | inr w ↦ r.one_live d w ];
       no_hold = λ d h l. elim (or_cases (g.device == d) (is_station s d) (sym (station_put s g d) ∙ h)) [ inl e ↦ empty is_hold d e | inr w ↦ r.no_hold d w l ];
-      one_offer = r.one_offer; one_agent = r.one_agent; ready = r.ready; busy = r.busy; pending = r.pending; free = r.free }
+      one_offer = r.one_offer;
+      one_agent = r.one_agent;
+      ready = r.ready;
+      busy = r.busy;
+      pending = r.pending;
+      free = r.free;
+    }
 
 pub kept_add_group : (s : Rows) (device : ℕ) (name : List ℕ) (ring wrap : ℕ) → Rules s → Rules (moved s (moves_of (add_group s device name ring wrap)))
 unfolding add_group
 kept_add_group s device name ring wrap r =
     by_refusal (λ v. Rules (moved s (moves_of v))) _ _ _ (λ _. r) (λ free.
     by_refusal (λ v. Rules (moved s (moves_of v))) _ _ _ (λ _. r) (λ _.
-      kept_group s (new_group device name ring wrap) r free))
+    kept_group s (new_group device name ring wrap) r free))
 
 pub kept_add_station : (s : Rows) (device : ℕ) → Rules s → Rules (moved s (moves_of (add_station s device)))
 unfolding add_station
 kept_add_station s device r =
     by_refusal (λ v. Rules (moved s (moves_of v))) _ _ _ (λ _. r) (λ free.
     by_refusal (λ v. Rules (moved s (moves_of v))) _ _ _ (λ _. r) (λ _.
-      kept_station s (record { device = device }) r free))
+    kept_station s (record { device = device }) r free))
 
 -- an agent is planned, in null
 kept_new_agent : (s : Rows) (m k agent : ℕ) (name : List ℕ) → Rules s → agent_of s agent ≡ None → Rules (changed s (PutAgent (new_agent m k agent name)))
@@ -170,31 +169,52 @@ unfolding with_agent call_of connection_of group_of station_of
 kept_new_agent s m k agent name r none =
     let b : AgentRecord = new_agent m k agent name in
     let counts : (p : AgentRecord → Bool) → count p (put_by (agent_order b) s.agents b) ≡ one (p b) + count p s.agents = λ p.
-      count-put_new agent_order (λ (y : AgentRecord). y.agent == agent) p b (λ y q. eq-eqb y.agent agent (sym (cmp_equal agent y.agent q))) s.agents (sym (agent_find s agent) ∙ none) in
+    count-put_new agent_order (λ (y : AgentRecord). y.agent == agent) p b (λ y q. eq-eqb y.agent agent (sym (cmp_equal agent y.agent q))) s.agents (sym (agent_find s agent) ∙ none) in
     record {
       orders = record { agents = ascending-put agent_order agents_total b s.agents r.orders.agents; groups = r.orders.groups; stations = r.orders.stations; monitors = r.orders.monitors; calls = r.orders.calls; connections = r.orders.connections };
-      kinds = r.kinds; agents = every-put (agent_order b) (AgentRule s) b (refl, refl, refl) s.agents r.agents; calls = r.calls; connections = r.connections;
-      parties = r.parties; one_open = r.one_open; one_live = r.one_live; no_hold = r.no_hold; one_offer = r.one_offer;
+      kinds = r.kinds;
+      agents = every-put (agent_order b) (AgentRule s) b (refl, refl, refl) s.agents r.agents;
+      calls = r.calls;
+      connections = r.connections;
+      parties = r.parties;
+      one_open = r.one_open;
+      one_live = r.one_live;
+      no_hold = r.no_hold;
+      one_offer = r.one_offer;
       one_agent = λ d. let c = counts (seated_at d) in let o = r.one_agent d in omega (arith, c, o);
       ready = λ d q. let c = counts (ready_at d) in let o = r.ready d q in omega (arith, c, o);
       busy = λ d q. let c = counts (busy_at d) in let o = r.busy d q in omega (arith, c, o);
       pending = λ d q. let c = counts (pending_at d) in let o = r.pending d q in omega (arith, c, o);
-      free = r.free }
+      free = r.free;
+    }
 
 pub kept_add_agent : (s : Rows) (m k agent : ℕ) (name : List ℕ) → Rules s → Rules (moved s (moves_of (add_agent s m k agent name)))
 unfolding add_agent
 kept_add_agent s m k agent name r =
     by_refusal (λ v. Rules (moved s (moves_of v))) _ _ _ (λ _. r) (λ new.
     by_refusal (λ v. Rules (moved s (moves_of v))) _ _ _ (λ _. r) (λ _.
-      kept_new_agent s m k agent name r (none_from (agent_of s agent) (λ a e. cc (new, ap is_some e)))))
+    kept_new_agent s m k agent name r (none_from (agent_of s agent) (λ a e. cc (new, ap is_some e)))))
 
 -- the monitors may change
 pub with_monitors : (s : Rows) (ws : List MonitorRecord) (n : ℕ) → Rules s → IsAscending monitor_order ws → Rules (record s { monitors = ws; last_monitor = n })
 unfolding call_of connection_of agent_of group_of station_of
 with_monitors s ws n r h = record {
-    orders = record { monitors = h; agents = r.orders.agents; groups = r.orders.groups; stations = r.orders.stations; calls = r.orders.calls; connections = r.orders.connections };
-    kinds = r.kinds; agents = r.agents; calls = r.calls; connections = r.connections; parties = r.parties; one_open = r.one_open; one_live = r.one_live; no_hold = r.no_hold; one_offer = r.one_offer;
-    one_agent = r.one_agent; ready = r.ready; busy = r.busy; pending = r.pending; free = r.free }
+  orders = record { monitors = h; agents = r.orders.agents; groups = r.orders.groups; stations = r.orders.stations; calls = r.orders.calls; connections = r.orders.connections };
+  kinds = r.kinds;
+  agents = r.agents;
+  calls = r.calls;
+  connections = r.connections;
+  parties = r.parties;
+  one_open = r.one_open;
+  one_live = r.one_live;
+  no_hold = r.no_hold;
+  one_offer = r.one_offer;
+  one_agent = r.one_agent;
+  ready = r.ready;
+  busy = r.busy;
+  pending = r.pending;
+  free = r.free;
+}
 
 started : (s : Rows) (w : MonitorRecord) → Rules s → Rules (changed s (PutMonitor w))
 unfolding with_monitor
@@ -209,7 +229,7 @@ unfolding monitor_start
 kept_monitor_start s device r =
     by_refusal (λ v. Rules (moved s (moves_of v))) _ _ _ (λ _. r) (λ _.
     by_refusal (λ v. Rules (moved s (moves_of v))) _ _ _ (λ _. r) (λ _.
-      started s (record { monitor = next_monitor s; device = device; after_event = s.last_event }) r))
+    started s (record { monitor = next_monitor s; device = device; after_event = s.last_event }) r))
 
 pub kept_monitor_stop : (s : Rows) (monitor : ℕ) → Rules s → Rules (moved s (moves_of (monitor_stop s monitor)))
 unfolding monitor_stop

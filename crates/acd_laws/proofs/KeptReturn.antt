@@ -1,55 +1,26 @@
 -- The rules are kept by the return of a call to its group.
-use Rattle.std.proofs.Common.{◌≡◌, ◌≢◌, ℕ, zero, suc, ◌+◌, ◌<◌, ◌≤◌, ◌⊎◌, inl, inr, Bool, true, false, not, ◌&&◌, ◌||◌, cond, List, [], ◌∷◌, ◌++◌, Option, Some, None, refl, sym, ◌∙◌, ap, subst, arith, length, eq-eqb}
-use Rattle.std.specs.Prelude.{◌==◌, if◌then◌else◌, IsTrue, IsFalse, is_some, is_none, filter, find, nat_le, max}
-use Rattle.std.specs.List.{list_any, list_all}
-use Rattle.std.specs.Cmp.{IsTotalOrder}
-use Rattle.std.specs.declared.cmp.Ordering.{Ordering}
-use Rattle.std.specs.declared.cmp.Ordering.TheVariants.{Less, Equal, Greater}
-use Rattle.std.proofs.lemmas.Bool.{and_parts, and_from, eqb-true, eqb-false, ne_eqb, false_from_ne_true, and_left, and_right, and_cases, or_cases, cases_eq, or_parts, not-false, not-true, or_right, or_left, cond-false, cond-true}
+use Rattle.std.proofs.Common.{◌≡◌, ℕ, ◌+◌, inl, inr, Bool, true, false, not, ◌&&◌, Some, None, refl, sym, ◌∙◌, ap, subst, arith, eq-eqb}
+use Rattle.std.specs.Prelude.{◌==◌, IsTrue, IsFalse}
+use Rattle.std.proofs.lemmas.Bool.{and_parts, and_from, eqb-true, or_left}
 use Rattle.acd_terms.specs.declared.rows.Rows.{Rows}
-use Rattle.acd_terms.specs.declared.record.GroupRecord.{GroupRecord}
-use Rattle.acd_terms.specs.declared.record.StationRecord.{StationRecord}
-use Rattle.acd_terms.specs.declared.record.AgentRecord.{AgentRecord}
-use Rattle.acd_terms.specs.declared.record.CallRecord.{CallRecord}
 use Rattle.acd_terms.specs.declared.record.ConnectionRecord.{ConnectionRecord}
-use Rattle.acd_terms.specs.declared.record.MonitorRecord.{MonitorRecord}
-use Rattle.acd_terms.specs.declared.state.AgentState.{AgentState}
-use Rattle.acd_terms.specs.declared.state.AgentState.TheVariants as A
-use Rattle.acd_terms.specs.declared.state.Pending.{Pending}
-use Rattle.acd_terms.specs.declared.state.Pending.TheVariants as W
 use Rattle.acd_terms.specs.declared.state.ConnectionState.{ConnectionState}
 use Rattle.acd_terms.specs.declared.state.ConnectionState.TheVariants as S
-use Rattle.acd_terms.specs.declared.event.Cause.{Cause}
-use Rattle.acd_terms.specs.declared.event.Cause.TheVariants as C
-use Rattle.acd_terms.specs.declared.moves.Move.{Move}
-use Rattle.acd_terms.specs.declared.moves.Change.{Change}
-use Rattle.acd_terms.specs.declared.moves.Change.TheVariants.{Nothing, PutGroup, PutStation, PutAgent, PutCall, PutConnection, PutMonitor, RemoveCall, RemoveConnection, RemoveMonitor}
-use Rattle.acd_terms.specs.declared.moves.Destination.{Destination}
-use Rattle.acd_terms.specs.declared.moves.Destination.TheVariants as D
-use Rattle.acd_terms.specs.declared.moves.Ending.{Ending}
-use Rattle.acd_terms.specs.declared.moves.Ending.TheVariants.{Answered, Unanswered, NoAnswer}
-use Rattle.acd_terms.specs.declared.moves.Release.{Release}
-use Rattle.acd_terms.specs.declared.moves.Release.TheVariants.{Stays, Goes}
-use Rattle.acd_terms.specs.declared.moves.Served.{Served}
-use Rattle.acd_terms.specs.declared.moves.Served.TheVariants.{Refused, Done}
-use Rattle.acd_terms.specs.declared.answer.Refusal.{Refusal}
-use Rattle.acd_terms.specs.Lists.{find_by, put_by, remove_by, count, total, Among, Every, AllAfter, IsAscending}
-use Rattle.acd_terms.specs.States.{is_null, is_ready, is_busy, is_working_after_call, is_initiated, is_alerting, is_connected, is_hold, is_queued, is_fail, is_answered, is_live, is_occupying, state_wanted, is_in}
-use Rattle.acd_terms.specs.Scans.{at_group, at_station, at_agent, at_call, at_connection, at_monitor, group_of, station_of, agent_of, call_of, connection_of, monitor_of, is_group, is_station, is_planned, has, agent_at, connections_of, other_of, is_distributed, is_live_at, is_taken, is_idle, is_occupied, waiting_in, is_idle_there, is_eligible, eligible_in, is_calling, queued_in_all}
-use Rattle.acd_terms.specs.Writes.{with_group, with_station, with_agent, with_call, with_connection, with_monitor, without_call, without_connection, without_monitor, with_last}
-use Rattle.acd_terms.specs.Moves.{no_move, silent, reported, changed, moved}
-use Rattle.acd_terms.specs.CallMoves.{plain, queueing, begin, connect_caller, initiate, originate, met_at, destination_of, arriving, arrival, arrive, talking, answer, hold, retrieve, ringing, offer, go_back, divert, transfer, clear, end_call}
-use Rattle.acd_terms.specs.AgentMoves.{kept_in, in_state, go_to, go_from, log_on_at, become_busy, wait_for}
-use Rattle.acd_terms.specs.Release.{release_of, released, release_agent, ending_of, release}
-use Rattle.acd_terms.specs.Served.{refuse_if, with_found, moves_of}
-use Rattle.acd_terms.specs.Rules.Plan.{group_order, station_order, agent_order, call_order, connection_order, monitor_order}
-use Rattle.acd_laws.specs.Counts.{RulesBut, Rules, Orders, IsUnseated, IsPlannedStation, IsPlannedGroup, SeatedAs, AgentRule, CallRule, Bare, InQueue, Offered, AlertingColumns, HasColumns, GroupColumn, IsCaller, StandsAt, ConnectionRule, is_open, of_call, initiated_of, open_of, live_at, alerting_at, held_at, distributed_at, ringing_at, talking_at, seated_at, ready_at, busy_at, pending_at, two_if}
-use Rattle.acd_laws.proofs.Lists.{one, find-put_hit, find-put_miss, find-filter, find-filter_none, find_passes, find_among, find_none, none_found, find_found, some_found, any-find, any-put, any_none, any_some, any_found, filter_among, among-filter, after_among, ascending-put, ascending-filter, ascending-remove, count-put_new, count-put_old, count-put_most, count-remove_most, count-removed, every_among, every_from, every-put, every-remove, among-remove, among-put, among-put_other, among-remove_other, counted, none_counted, fewer, count_same, two_counted, both_fewer, count_zero, none_of_zero, the_one, some_counted, all_true, all_from, count-append, total-append, count_length, none_from, some_from, some_is, eq_is, is_eq_of}
-use Rattle.acd_laws.proofs.State.{eqb_self, cmp_equal, cmp_self, key_is, is_of, is_of_true, is_of_self, order_equal, order_same, connection_key, groups_total, stations_total, agents_total, calls_total, connections_total, monitors_total, connection_find, agent_find, call_find, group_find, station_find, monitor_find, is_group_any, is_station_any, at_put, connections_without, calls_without, at_remove, agent_put, call_put, call_remove, group_put, station_put, found_key, own_key, connection_among, connection_found, agent_among, agent_key, agent_own, agent_found, call_among, call_key, call_found, put_other, removed_other, still_none}
-use Rattle.acd_laws.proofs.Found.{count_new, count_old, count_less, count_agent, connection_rule}
-use Rattle.acd_laws.proofs.KeptArrival.{one_le}
-use Rattle.acd_laws.proofs.KeptOffer.{ringing_is, talking_is, alerting_is, ready_is}
-use Rattle.acd_laws.proofs.Releasing.{Serves, serving, Ends, ends_by, after_release, loosen}
+use Rattle.acd_terms.specs.declared.moves.Change.TheVariants.{PutConnection, RemoveConnection}
+use Rattle.acd_terms.specs.declared.moves.Ending.TheVariants.{NoAnswer}
+use Rattle.acd_terms.specs.Lists.{count, Among}
+use Rattle.acd_terms.specs.States.{is_alerting}
+use Rattle.acd_terms.specs.Scans.{group_of, station_of, agent_of, call_of, connection_of, is_group, is_station, is_distributed}
+use Rattle.acd_terms.specs.Writes.{with_connection, without_connection}
+use Rattle.acd_terms.specs.Moves.{changed, moved}
+use Rattle.acd_terms.specs.CallMoves.{queueing}
+use Rattle.acd_terms.specs.Rules.Plan.{connection_order}
+use Rattle.acd_laws.specs.Counts.{RulesBut, Rules, Offered, AlertingColumns, HasColumns, GroupColumn, StandsAt, ConnectionRule, is_open, of_call, initiated_of, open_of, live_at, alerting_at, held_at, distributed_at, ringing_at, talking_at}
+use Rattle.acd_laws.proofs.Lists.{one, ascending-put, ascending-remove, every-put, every-remove, two_counted, none_from}
+use Rattle.acd_laws.proofs.State.{eqb_self, connections_total, found_key, connection_among, still_none}
+use Rattle.acd_laws.proofs.Found.{count_new, count_less, connection_rule}
+use Rattle.acd_laws.proofs.KeptOffer.{alerting_is}
+use Rattle.acd_laws.proofs.Releasing.{after_release, loosen}
 use Rattle.acd_terms.specs.Tick.{return_to}
 
 -- a connection at a group is queued
@@ -75,12 +46,12 @@ return_new s g x r ex alerting group =
     let at_x : IsTrue (is_station s x.device) = subst (StandsAt s x) xs rule.2 in
     let apart : x.device ≡ g → ⊥ = λ e. cc (r.kinds g at_g, ap (is_station s) e, at_x) in
     none_from (connection_of s x.call g) (λ z e.
-      let key = found_key s x.call g z e in
-      let zs = at_group_queued s z z.state r.kinds (connection_rule s r x.call g z e).2 (subst (λ d. IsTrue (is_group s d)) (sym key.1) at_g) in
-      let two = two_counted (open_of x.call) s.connections x z (connection_among s x.call x.device x ex) (connection_among s x.call g z e)
-        (and_from (is_open x.state) (x.call == x.call) (rw xs refl) (eqb_self x.call)) (and_from (is_open z.state) (z.call == x.call) (rw zs refl) (eq-eqb z.call x.call key.0))
-        (λ w. apart (ap (λ (z : ConnectionRecord). z.device) w ∙ key.1)) in
-      let l = r.one_open x.call in omega (arith, two, l))
+    let key = found_key s x.call g z e in
+    let zs = at_group_queued s z z.state r.kinds (connection_rule s r x.call g z e).2 (subst (λ d. IsTrue (is_group s d)) (sym key.1) at_g) in
+    let two = two_counted (open_of x.call) s.connections x z (connection_among s x.call x.device x ex) (connection_among s x.call g z e)
+    (and_from (is_open x.state) (x.call == x.call) (rw xs refl) (eqb_self x.call)) (and_from (is_open z.state) (z.call == x.call) (rw zs refl) (eq-eqb z.call x.call key.0))
+    (λ w. apart (ap (λ (z : ConnectionRecord). z.device) w ∙ key.1)) in
+    let l = r.one_open x.call in omega (arith, two, l))
 
 -- an offer goes back to its group
 pub kept_return_to : (s : Rows) (m k g : ℕ) (x : ConnectionRecord) → Rules s → connection_of s x.call x.device ≡ Some x → is_alerting x.state ≡ true → x.group ≡ Some g → Rules (moved s (return_to s m k x (Some g)))
@@ -96,29 +67,37 @@ kept_return_to s m k g x r ex alerting group =
     let at_g : IsTrue (is_group s g) = subst (GroupColumn s) group rule.1 in
     let none : connection_of s x.call g ≡ None = return_new s g x r ex alerting group in
     let counts : (p : ConnectionRecord → Bool) → count p v.connections + one (p x) ≡ one (p y) + count p s.connections = λ p.
-      let e1 = count_new p u y (still_none s x.call x.device x.call g r.orders.connections none) in
-      let e2 = count_less p s x.call x.device x ex in omega (arith, e1, e2) in
+    let e1 = count_new p u y (still_none s x.call x.device x.call g r.orders.connections none) in
+    let e2 = count_less p s x.call x.device x ex in omega (arith, e1, e2) in
     let dist : is_distributed x ≡ true = rw (group, xs) refl in
     let vacant : count (distributed_at x.device) v.connections ≡ 0 =
-      let c = counts (distributed_at x.device) in let o = r.one_offer x.device in
-      let f : one (distributed_at x.device x) ≡ 1 = ap one (and_from _ _ dist (eqb_self x.device)) in omega (arith, c, o, f) in
+    let c = counts (distributed_at x.device) in let o = r.one_offer x.device in
+    let f : one (distributed_at x.device x) ≡ 1 = ap one (and_from _ _ dist (eqb_self x.device)) in omega (arith, c, o, f) in
     let loose : ℕ → Bool = λ e. is_distributed x && (x.device == e) in
     let rv : RulesBut loose v = record {
-      orders = record { groups = r.orders.groups; stations = r.orders.stations; agents = r.orders.agents; monitors = r.orders.monitors; calls = r.orders.calls;
-        connections = ascending-put connection_order connections_total y u.connections (ascending-remove connection_order _ s.connections r.orders.connections) };
-      kinds = r.kinds; agents = r.agents; calls = r.calls;
+      orders = record {
+        groups = r.orders.groups;
+        stations = r.orders.stations;
+        agents = r.orders.agents;
+        monitors = r.orders.monitors;
+        calls = r.orders.calls;
+        connections = ascending-put connection_order connections_total y u.connections (ascending-remove connection_order _ s.connections r.orders.connections);
+      };
+      kinds = r.kinds;
+      agents = r.agents;
+      calls = r.calls;
       connections = every-put (connection_order y) (ConnectionRule s) y (record { group = refl; place = columns.place; queued = columns.queued; offered = refl }, at_g, at_g) u.connections (every-remove _ (ConnectionRule s) s.connections r.connections);
       parties = λ n. let e1 = counts (of_call n) in let e2 = counts (initiated_of n) in let p = r.parties n in let i : one (initiated_of n x) ≡ 0 = rw xs refl in omega (arith, e1, e2, p, i);
       one_open = λ n. let e = counts (open_of n) in let o = r.one_open n in let f : one (open_of n x) ≡ one (x.call == n) = rw xs refl in omega (arith, e, o, f);
       one_live = λ e h. let c = counts (live_at e) in let o = r.one_live e h in omega (arith, c, o);
       no_hold = λ e h l. let c = counts (alerting_at e) in let ch = counts (held_at e) in let fh : one (held_at e x) ≡ 0 = rw xs refl in
-        let o = r.no_hold e h (omega (arith, c, l)) in omega (arith, ch, fh, o);
+          let o = r.no_hold e h (omega (arith, c, l)) in omega (arith, ch, fh, o);
       one_offer = λ e. let c = counts (distributed_at e) in let o = r.one_offer e in omega (arith, c, o);
       one_agent = r.one_agent;
       ready = λ e _. let c = counts (ringing_at e) in let o = r.ready e refl in omega (arith, c, o);
       busy = λ e _. let c = counts (talking_at e) in let o = r.busy e refl in let f : one (talking_at e x) ≡ 0 = rw xs refl in omega (arith, c, o, f);
       pending = λ e h. let c = counts (distributed_at e) in let o = r.pending e refl in let f : one (distributed_at e x) ≡ 0 = ap one h in omega (arith, c, o, f);
-      free = λ e h. subst (λ d. count (distributed_at d) v.connections ≡ 0) (eqb-true x.device e (and_parts (is_distributed x) (x.device == e) h).1) vacant } in
+      free = λ e h. subst (λ d. count (distributed_at d) v.connections ≡ 0) (eqb-true x.device e (and_parts (is_distributed x) (x.device == e) h).1) vacant;
+    } in
     loosen (λ e. loose e && not (loose e)) (λ _. false) _ (λ e q. absurd (cc (q))) (λ e q. and_not (loose e))
-      (after_release loose s v x NoAnswer m k rv (λ a h. h.there) r among (λ _. vacant) (record { stays = λ _ w q. alerting }))
-
+    (after_release loose s v x NoAnswer m k rv (λ a h. h.there) r among (λ _. vacant) (record { stays = λ _ w q. alerting }))

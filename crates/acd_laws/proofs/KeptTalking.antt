@@ -1,54 +1,29 @@
 -- The rules are kept by answerCall, holdCall and retrieveCall.
-use Rattle.std.proofs.Common.{◌≡◌, ◌≢◌, ℕ, zero, suc, ◌+◌, ◌<◌, ◌≤◌, ◌⊎◌, inl, inr, Bool, true, false, not, ◌&&◌, ◌||◌, cond, List, [], ◌∷◌, ◌++◌, Option, Some, None, refl, sym, ◌∙◌, ap, subst, arith, length, eq-eqb}
-use Rattle.std.specs.Prelude.{◌==◌, if◌then◌else◌, IsTrue, IsFalse, is_some, is_none, filter, find, nat_le, max}
-use Rattle.std.specs.List.{list_any, list_all}
-use Rattle.std.specs.Cmp.{IsTotalOrder}
-use Rattle.std.specs.declared.cmp.Ordering.{Ordering}
-use Rattle.std.specs.declared.cmp.Ordering.TheVariants.{Less, Equal, Greater}
-use Rattle.std.proofs.lemmas.Bool.{and_parts, and_from, eqb-true, eqb-false, ne_eqb, false_from_ne_true, and_left, and_right, and_cases, or_cases, cases_eq, or_parts, not-false, not-true, or_right, or_left, cond-false, cond-true}
+use Rattle.std.proofs.Common.{◌≡◌, ℕ, ◌+◌, ◌≤◌, inl, Bool, true, false, not, ◌&&◌, cond, List, [], ◌∷◌, Option, Some, None, refl, sym, ap, subst, arith}
+use Rattle.std.specs.Prelude.{◌==◌, IsTrue, is_some}
+use Rattle.std.proofs.lemmas.Bool.{and_parts, and_from, eqb-true, false_from_ne_true, not-false}
 use Rattle.acd_terms.specs.declared.rows.Rows.{Rows}
-use Rattle.acd_terms.specs.declared.record.GroupRecord.{GroupRecord}
-use Rattle.acd_terms.specs.declared.record.StationRecord.{StationRecord}
 use Rattle.acd_terms.specs.declared.record.AgentRecord.{AgentRecord}
-use Rattle.acd_terms.specs.declared.record.CallRecord.{CallRecord}
 use Rattle.acd_terms.specs.declared.record.ConnectionRecord.{ConnectionRecord}
-use Rattle.acd_terms.specs.declared.record.MonitorRecord.{MonitorRecord}
-use Rattle.acd_terms.specs.declared.state.AgentState.{AgentState}
 use Rattle.acd_terms.specs.declared.state.AgentState.TheVariants as A
-use Rattle.acd_terms.specs.declared.state.Pending.{Pending}
-use Rattle.acd_terms.specs.declared.state.Pending.TheVariants as W
 use Rattle.acd_terms.specs.declared.state.ConnectionState.{ConnectionState}
 use Rattle.acd_terms.specs.declared.state.ConnectionState.TheVariants as S
-use Rattle.acd_terms.specs.declared.event.Cause.{Cause}
-use Rattle.acd_terms.specs.declared.event.Cause.TheVariants as C
-use Rattle.acd_terms.specs.declared.moves.Move.{Move}
-use Rattle.acd_terms.specs.declared.moves.Change.{Change}
-use Rattle.acd_terms.specs.declared.moves.Change.TheVariants.{Nothing, PutGroup, PutStation, PutAgent, PutCall, PutConnection, PutMonitor, RemoveCall, RemoveConnection, RemoveMonitor}
-use Rattle.acd_terms.specs.declared.moves.Destination.{Destination}
-use Rattle.acd_terms.specs.declared.moves.Destination.TheVariants as D
-use Rattle.acd_terms.specs.declared.moves.Ending.{Ending}
-use Rattle.acd_terms.specs.declared.moves.Ending.TheVariants.{Answered, Unanswered, NoAnswer}
-use Rattle.acd_terms.specs.declared.moves.Release.{Release}
-use Rattle.acd_terms.specs.declared.moves.Release.TheVariants.{Stays, Goes}
-use Rattle.acd_terms.specs.declared.moves.Served.{Served}
-use Rattle.acd_terms.specs.declared.moves.Served.TheVariants.{Refused, Done}
-use Rattle.acd_terms.specs.declared.answer.Refusal.{Refusal}
-use Rattle.acd_terms.specs.Lists.{find_by, put_by, remove_by, count, total, Among, Every, AllAfter, IsAscending}
-use Rattle.acd_terms.specs.States.{is_null, is_ready, is_busy, is_working_after_call, is_initiated, is_alerting, is_connected, is_hold, is_queued, is_fail, is_answered, is_live, is_occupying, state_wanted, is_in}
-use Rattle.acd_terms.specs.Scans.{at_group, at_station, at_agent, at_call, at_connection, at_monitor, group_of, station_of, agent_of, call_of, connection_of, monitor_of, is_group, is_station, is_planned, has, agent_at, connections_of, other_of, is_distributed, is_live_at, is_taken, is_idle, is_occupied, waiting_in, is_idle_there, is_eligible, eligible_in, is_calling, queued_in_all}
-use Rattle.acd_terms.specs.Writes.{with_group, with_station, with_agent, with_call, with_connection, with_monitor, without_call, without_connection, without_monitor, with_last}
-use Rattle.acd_terms.specs.Moves.{no_move, silent, reported, changed, moved}
-use Rattle.acd_terms.specs.CallMoves.{plain, queueing, begin, connect_caller, initiate, originate, met_at, destination_of, arriving, arrival, arrive, talking, answer, hold, retrieve, ringing, offer, go_back, divert, transfer, clear, end_call}
-use Rattle.acd_terms.specs.AgentMoves.{kept_in, in_state, go_to, go_from, log_on_at, become_busy, wait_for}
-use Rattle.acd_terms.specs.Release.{release_of, released, release_agent, ending_of, release}
-use Rattle.acd_terms.specs.Served.{refuse_if, with_found, moves_of}
-use Rattle.acd_terms.specs.Rules.Plan.{group_order, station_order, agent_order, call_order, connection_order, monitor_order}
-use Rattle.acd_laws.specs.Counts.{RulesBut, Rules, Orders, IsUnseated, IsPlannedStation, IsPlannedGroup, SeatedAs, AgentRule, CallRule, Bare, InQueue, Offered, AlertingColumns, HasColumns, GroupColumn, IsCaller, StandsAt, ConnectionRule, is_open, of_call, initiated_of, open_of, live_at, alerting_at, held_at, distributed_at, ringing_at, talking_at, seated_at, ready_at, busy_at, pending_at, two_if}
-use Rattle.acd_laws.proofs.Lists.{one, find-put_hit, find-put_miss, find-filter, find-filter_none, find_passes, find_among, find_none, none_found, find_found, some_found, any-find, any-put, any_none, any_some, any_found, filter_among, among-filter, after_among, ascending-put, ascending-filter, ascending-remove, count-put_new, count-put_old, count-put_most, count-remove_most, count-removed, every_among, every_from, every-put, every-remove, among-remove, among-put, among-put_other, among-remove_other, counted, none_counted, fewer, count_same, two_counted, both_fewer, count_zero, none_of_zero, the_one, some_counted, all_true, all_from, count-append, total-append, count_length, none_from, some_from, some_is, eq_is, is_eq_of}
-use Rattle.acd_laws.proofs.State.{eqb_self, cmp_equal, cmp_self, key_is, is_of, is_of_true, is_of_self, order_equal, order_same, connection_key, groups_total, stations_total, agents_total, calls_total, connections_total, monitors_total, connection_find, agent_find, call_find, group_find, station_find, monitor_find, is_group_any, is_station_any, at_put, connections_without, calls_without, at_remove, agent_put, call_put, call_remove, group_put, station_put, found_key, own_key, connection_among, connection_found, agent_among, agent_key, agent_own, agent_found, call_among, call_key, call_found, put_other, removed_other, still_none}
-use Rattle.acd_laws.proofs.Found.{count_new, count_old, count_less, count_agent, connection_rule, connection_there}
+use Rattle.acd_terms.specs.declared.moves.Change.TheVariants.{PutConnection}
+use Rattle.acd_terms.specs.Lists.{put_by, count, Every, IsAscending}
+use Rattle.acd_terms.specs.States.{is_initiated, is_alerting, is_connected, is_hold, is_queued, is_answered, is_live}
+use Rattle.acd_terms.specs.Scans.{group_of, station_of, agent_of, call_of, connection_of, is_station, has, agent_at, is_distributed, is_live_at}
+use Rattle.acd_terms.specs.Writes.{with_agent, with_connection}
+use Rattle.acd_terms.specs.Moves.{no_move, changed, moved}
+use Rattle.acd_terms.specs.CallMoves.{talking, hold, retrieve}
+use Rattle.acd_terms.specs.AgentMoves.{become_busy}
+use Rattle.acd_terms.specs.Served.{moves_of}
+use Rattle.acd_terms.specs.Rules.Plan.{agent_order, connection_order}
+use Rattle.acd_laws.specs.Counts.{Rules, AgentRule, Bare, HasColumns, StandsAt, ConnectionRule, is_open, of_call, initiated_of, open_of, live_at, alerting_at, held_at, distributed_at, ringing_at, talking_at, seated_at, ready_at, busy_at, pending_at}
+use Rattle.acd_laws.proofs.Lists.{one, ascending-put, every-put, counted, none_counted, fewer, both_fewer}
+use Rattle.acd_laws.proofs.State.{agents_total, connections_total, found_key, own_key, connection_among}
+use Rattle.acd_laws.proofs.Found.{count_old, count_agent, connection_rule}
 use Rattle.acd_laws.proofs.KeptArrival.{one_le}
-use Rattle.acd_laws.proofs.KeptOffer.{ringing_is, talking_is, alerting_is, ready_is}
+use Rattle.acd_laws.proofs.KeptOffer.{ringing_is, alerting_is, ready_is}
 use Rattle.acd_laws.proofs.Releasing.{Serves, serving}
 use Rattle.acd_laws.proofs.Serving.{by_found, by_refusal}
 use Rattle.acd_terms.specs.Services.Talking.{answer_call, hold_call, retrieve_call, occupy, busy_agent}
@@ -68,9 +43,17 @@ after_answer s x agents r ex alerting sorted rules one_agent ready busy pending 
     let at_x : IsTrue (is_station s x.device) = subst (StandsAt s x) xs rule.2 in
     let counts : (p : ConnectionRecord → Bool) → count p (put_by (connection_order y) s.connections y) + one (p x) ≡ one (p y) + count p s.connections = λ p. count_old p s y x r.orders.connections ex in
     record {
-      orders = record { groups = r.orders.groups; stations = r.orders.stations; agents = sorted; monitors = r.orders.monitors; calls = r.orders.calls;
-        connections = ascending-put connection_order connections_total y s.connections r.orders.connections };
-      kinds = r.kinds; agents = rules; calls = r.calls;
+      orders = record {
+        groups = r.orders.groups;
+        stations = r.orders.stations;
+        agents = sorted;
+        monitors = r.orders.monitors;
+        calls = r.orders.calls;
+        connections = ascending-put connection_order connections_total y s.connections r.orders.connections;
+      };
+      kinds = r.kinds;
+      agents = rules;
+      calls = r.calls;
       connections = every-put (connection_order y) (ConnectionRule s) y (record { place = refl; queued = refl; offered = refl }, rule.1, inl at_x) s.connections r.connections;
       parties = λ n. let e1 = counts (of_call n) in let e2 = counts (initiated_of n) in let p = r.parties n in let i : one (initiated_of n x) ≡ 0 = rw xs refl in omega (arith, e1, e2, p, i);
       one_open = λ n. let e = counts (open_of n) in let o = r.one_open n in omega (arith, e, o);
@@ -81,7 +64,8 @@ after_answer s x agents r ex alerting sorted rules one_agent ready busy pending 
       ready = λ e _. let c = counts (ringing_at e) in let o = ready e in omega (arith, c, o);
       busy = λ e _. let c = counts (talking_at e) in let o = busy e in let f : one (talking_at e x) ≡ 0 = rw xs refl in let g : one (ringing_at e x) ≡ one (talking_at e y) = rw xs refl in omega (arith, c, o, f, g);
       pending = λ e _. let c = counts (distributed_at e) in let o = pending e in let f : one (distributed_at e x) ≡ one (distributed_at e y) = rw xs refl in omega (arith, c, o, f);
-      free = λ e h. absurd (cc (h)) }
+      free = λ e h. absurd (cc (h));
+    }
 
 -- the agent of a distributed connection becomes busy
 answer_busy : (s : Rows) (m k : ℕ) (x : ConnectionRecord) → Rules s → connection_of s x.call x.device ≡ Some x → is_alerting x.state ≡ true → is_distributed x ≡ true → (a : AgentRecord) → Serves s x a
@@ -93,13 +77,13 @@ answer_busy s m k x r ex alerting dist a h =
     let is : a.state ≡ A.Ready = ready_is a.state (h.ready alerting) in
     let counts : (p : AgentRecord → Bool) → count p (put_by (agent_order b) s.agents b) + one (p a) ≡ one (p b) + count p s.agents = λ p. count_agent p s b a r.orders.agents h.there in
     let ringing : (e : ℕ) → one (ringing_at e x) ≡ one (has a.station e) = λ e.
-      rw (xs, (and_parts (is_some x.group) (not (is_queued x.state)) dist).0, h.station) refl in
+    rw (xs, (and_parts (is_some x.group) (not (is_queued x.state)) dist).0, h.station) refl in
     after_answer s x (put_by (agent_order b) s.agents b) r ex alerting (ascending-put agent_order agents_total b s.agents r.orders.agents)
-      (every-put (agent_order b) (AgentRule s) b h.seat s.agents r.agents)
-      (λ d. let c = counts (seated_at d) in let o = r.one_agent d in omega (arith, c, o))
-      (λ d. let c = counts (ready_at d) in let o = r.ready d refl in let f : one (ready_at d a) ≡ one (has a.station d) = rw is refl in let g = ringing d in omega (arith, c, o, f, g))
-      (λ d. let c = counts (busy_at d) in let o = r.busy d refl in let f : one (busy_at d a) ≡ 0 = rw is refl in let g = ringing d in omega (arith, c, o, f, g))
-      (λ d. let c = counts (pending_at d) in let o = r.pending d refl in omega (arith, c, o))
+    (every-put (agent_order b) (AgentRule s) b h.seat s.agents r.agents)
+    (λ d. let c = counts (seated_at d) in let o = r.one_agent d in omega (arith, c, o))
+    (λ d. let c = counts (ready_at d) in let o = r.ready d refl in let f : one (ready_at d a) ≡ one (has a.station d) = rw is refl in let g = ringing d in omega (arith, c, o, f, g))
+    (λ d. let c = counts (busy_at d) in let o = r.busy d refl in let f : one (busy_at d a) ≡ 0 = rw is refl in let g = ringing d in omega (arith, c, o, f, g))
+    (λ d. let c = counts (pending_at d) in let o = r.pending d refl in omega (arith, c, o))
 
 answer_plain : (s : Rows) (x : ConnectionRecord) → Rules s → connection_of s x.call x.device ≡ Some x → is_alerting x.state ≡ true → is_distributed x ≡ false → Rules (changed s (PutConnection (talking x)))
 unfolding with_connection call_of connection_of agent_of group_of station_of
@@ -107,7 +91,7 @@ answer_plain s x r ex alerting dist =
     let xs : x.state ≡ S.Alerting = alerting_is x.state alerting in
     let none : (e : ℕ) → one (ringing_at e x) ≡ 0 = λ e. ap one (false_from_ne_true (ringing_at e x) (λ q. cc ((and_parts (is_distributed x) (x.device == e) (ringing_is e x q)).0, dist))) in
     after_answer s x s.agents r ex alerting r.orders.agents r.agents r.one_agent
-      (λ d. let o = r.ready d refl in omega (arith, o)) (λ d. let o = r.busy d refl in let f = none d in omega (arith, o, f)) (λ d. r.pending d refl)
+    (λ d. let o = r.ready d refl in omega (arith, o)) (λ d. let o = r.busy d refl in let f = none d in omega (arith, o, f)) (λ d. r.pending d refl)
 
 busy_by : (s : Rows) (m k : ℕ) (x : ConnectionRecord) (o : Option AgentRecord) (a : AgentRecord) → o ≡ Some a → Rules (changed (changed s (PutConnection (talking x))) (become_busy m k a x.device).change) → Rules (changed (changed s (PutConnection (talking x))) (busy_agent m k o x.device).change)
 busy_by s m k x None a e r = absurd (cc (e))
@@ -118,9 +102,10 @@ kept_answer : (s : Rows) (m k : ℕ) (x : ConnectionRecord) → Rules s → conn
 unfolding occupy
 kept_answer s m k x r ex alerting =
     (elim (is_distributed x) as (λ b. is_distributed x ≡ b → Rules (changed (changed s (PutConnection (talking x))) (cond b (busy_agent m k (agent_at s x.device) x.device) no_move).change)) [
-      true ↦ λ e. let h = serving s x r (connection_among s x.call x.device x ex) e in
-        busy_by s m k x (agent_at s x.device) h.0 h.1.at_station (answer_busy s m k x r ex alerting e h.0 h.1)
-      | false ↦ λ e. answer_plain s x r ex alerting e ]) refl
+      | true ↦ λ e. let h = serving s x r (connection_among s x.call x.device x ex) e in
+          busy_by s m k x (agent_at s x.device) h.0 h.1.at_station (answer_busy s m k x r ex alerting e h.0 h.1)
+      | false ↦ λ e. answer_plain s x r ex alerting e
+    ]) refl
 
 pub kept_answer_call : (s : Rows) (m k call device : ℕ) → Rules s → Rules (moved s (moves_of (answer_call s m k call device)))
 unfolding answer_call
@@ -128,7 +113,7 @@ kept_answer_call s m k call device r =
     by_found (λ v. Rules (moved s (moves_of v))) _ _ _ (λ _. r) (λ c ec.
     by_found (λ v. Rules (moved s (moves_of v))) _ _ _ (λ _. r) (λ x ex.
     by_refusal (λ v. Rules (moved s (moves_of v))) _ _ _ (λ _. r) (λ alerting.
-      kept_answer s m k x r (own_key s call device x ex) (not-false (is_alerting x.state) alerting))))
+    kept_answer s m k x r (own_key s call device x ex) (not-false (is_alerting x.state) alerting))))
 
 pub connected_is : (st : ConnectionState) → is_connected st ≡ true → st ≡ S.Connected
 connected_is S.Connected e = refl
@@ -159,12 +144,20 @@ turned s x y r ex yc yd rule ax ay yg one_live no_hold =
     let none : (st : ConnectionState) → is_answered st ≡ true → (is_initiated st ≡ false) × (is_open st ≡ false) × (is_alerting st ≡ false) × (is_queued st ≡ false) = answered_only in
     let nx = none x.state ax in let ny = none y.state ay in
     record {
-      orders = record { groups = r.orders.groups; stations = r.orders.stations; agents = r.orders.agents; monitors = r.orders.monitors; calls = r.orders.calls;
-        connections = ascending-put connection_order connections_total y s.connections r.orders.connections };
-      kinds = r.kinds; agents = r.agents; calls = r.calls;
+      orders = record {
+        groups = r.orders.groups;
+        stations = r.orders.stations;
+        agents = r.orders.agents;
+        monitors = r.orders.monitors;
+        calls = r.orders.calls;
+        connections = ascending-put connection_order connections_total y s.connections r.orders.connections;
+      };
+      kinds = r.kinds;
+      agents = r.agents;
+      calls = r.calls;
       connections = every-put (connection_order y) (ConnectionRule s) y rule s.connections r.connections;
       parties = λ n. let e1 = counts (of_call n) in let e2 = counts (initiated_of n) in let p = r.parties n in
-        let i : one (initiated_of n x) ≡ 0 = rw nx.0 refl in let j : one (initiated_of n y) ≡ 0 = rw ny.0 refl in let c : one (of_call n y) ≡ one (of_call n x) = rw yc refl in omega (arith, e1, e2, p, i, j, c);
+          let i : one (initiated_of n x) ≡ 0 = rw nx.0 refl in let j : one (initiated_of n y) ≡ 0 = rw ny.0 refl in let c : one (of_call n y) ≡ one (of_call n x) = rw yc refl in omega (arith, e1, e2, p, i, j, c);
       one_open = λ n. let e = counts (open_of n) in let o = r.one_open n in let i : one (open_of n y) ≡ 0 = rw ny.1 refl in omega (arith, e, o, i);
       one_live = one_live;
       no_hold = λ d h l. let c = counts (alerting_at d) in let i : one (alerting_at d y) ≡ 0 = rw ny.2 refl in no_hold d h (omega (arith, c, i, l));
@@ -173,7 +166,8 @@ turned s x y r ex yc yd rule ax ay yg one_live no_hold =
       ready = λ d _. let c = counts (ringing_at d) in let o = r.ready d refl in let i : one (ringing_at d y) ≡ 0 = rw ny.2 refl in omega (arith, c, o, i);
       busy = λ d _. let c = counts (talking_at d) in let o = r.busy d refl in let i : one (talking_at d y) ≡ one (talking_at d x) = rw (yd, yg, ax, ay) refl in omega (arith, c, o, i);
       pending = λ d _. let c = counts (distributed_at d) in let o = r.pending d refl in let i : one (distributed_at d y) ≡ one (distributed_at d x) = rw (yd, yg, ny.3, nx.3) refl in omega (arith, c, o, i);
-      free = λ d h. absurd (cc (h)) }
+      free = λ d h. absurd (cc (h));
+    }
   where
     answered_only : (st : ConnectionState) → is_answered st ≡ true → (is_initiated st ≡ false) × (is_open st ≡ false) × (is_alerting st ≡ false) × (is_queued st ≡ false)
     answered_only S.Connected e = (refl, refl, refl, refl)
@@ -197,7 +191,13 @@ connected_at d x = is_connected x.state && x.device == d
 alerting_or_connected : (d : ℕ) (x : ConnectionRecord) → one (alerting_at d x) + one (connected_at d x) ≤ one (live_at d x)
 unfolding connected_at
 alerting_or_connected d x = elim x.state as (λ st. one (is_alerting st && x.device == d) + one (is_connected st && x.device == d) ≤ one (is_live st && x.device == d)) [
-    S.Queued ↦ omega arith | S.Alerting ↦ omega arith | S.Fail ↦ omega arith | S.Initiated ↦ omega arith | S.Connected ↦ omega arith | S.Hold ↦ omega arith ]
+  | S.Queued ↦ omega arith
+  | S.Alerting ↦ omega arith
+  | S.Fail ↦ omega arith
+  | S.Initiated ↦ omega arith
+  | S.Connected ↦ omega arith
+  | S.Hold ↦ omega arith
+]
 
 pub kept_hold : (s : Rows) (x : ConnectionRecord) → Rules s → connection_of s x.call x.device ≡ Some x → IsTrue (is_station s x.device) → is_connected x.state ≡ true → Rules (moved s (hold x ∷ []))
 unfolding connected_at
@@ -209,12 +209,13 @@ kept_hold s x r ex station connected =
     let b : Bare x = subst (HasColumns x) xs rule.0 in
     let counts : (p : ConnectionRecord → Bool) → count p (put_by (connection_order y) s.connections y) + one (p x) ≡ one (p y) + count p s.connections = λ p. count_old p s y x r.orders.connections ex in
     turned s x y r ex refl refl (record { place = b.place; queued = b.queued; offered = b.offered }, rule.1, station) (rw xs refl) refl refl
-      (λ d h. let c = counts (live_at d) in let o = r.one_live d h in omega (arith, c, o))
-      (λ d h l. let c = counts (held_at d) in let f : one (held_at d x) ≡ 0 = rw xs refl in
-        (elim (x.device == d) as (λ v. (x.device == d) ≡ v → count (held_at d) (put_by (connection_order y) s.connections y) ≡ 0) [
-          true ↦ λ e. let o = r.one_live d h in let w = counted (connected_at d) s.connections x among (and_from _ _ connected e) in
-            let k = both_fewer (alerting_at d) (connected_at d) (live_at d) (alerting_or_connected d) s.connections in absurd (omega (arith, o, w, k, l))
-          | false ↦ λ e. let o = r.no_hold d h l in let g : one (held_at d y) ≡ 0 = ap one e in omega (arith, c, f, g, o) ]) refl)
+    (λ d h. let c = counts (live_at d) in let o = r.one_live d h in omega (arith, c, o))
+    (λ d h l. let c = counts (held_at d) in let f : one (held_at d x) ≡ 0 = rw xs refl in
+    (elim (x.device == d) as (λ v. (x.device == d) ≡ v → count (held_at d) (put_by (connection_order y) s.connections y) ≡ 0) [
+      | true ↦ λ e. let o = r.one_live d h in let w = counted (connected_at d) s.connections x among (and_from _ _ connected e) in
+          let k = both_fewer (alerting_at d) (connected_at d) (live_at d) (alerting_or_connected d) s.connections in absurd (omega (arith, o, w, k, l))
+      | false ↦ λ e. let o = r.no_hold d h l in let g : one (held_at d y) ≡ 0 = ap one e in omega (arith, c, f, g, o)
+    ]) refl)
 
 pub no_live : (s : Rows) (d : ℕ) → is_live_at s d ≡ false → count (live_at d) s.connections ≡ 0
 unfolding is_live_at
@@ -231,12 +232,13 @@ kept_retrieve s x r ex holds free =
     let station : IsTrue (is_station s x.device) = subst (StandsAt s x) xs rule.2 in
     let counts : (p : ConnectionRecord → Bool) → count p (put_by (connection_order y) s.connections y) + one (p x) ≡ one (p y) + count p s.connections = λ p. count_old p s y x r.orders.connections ex in
     turned s x y r ex refl refl (record { place = b.place; queued = b.queued; offered = b.offered }, rule.1, inl station) (rw xs refl) refl refl
-      (λ d h. let c = counts (live_at d) in
-        (elim (x.device == d) as (λ v. (x.device == d) ≡ v → count (live_at d) (put_by (connection_order y) s.connections y) ≤ 1) [
-          true ↦ λ e. let z : count (live_at d) s.connections ≡ 0 = subst (λ w. count (live_at w) s.connections ≡ 0) (eqb-true x.device d e) (no_live s x.device free) in
-            let g = one_le (live_at d y) in omega (arith, c, z, g)
-          | false ↦ λ e. let o = r.one_live d h in let g : one (live_at d y) ≡ 0 = ap one e in omega (arith, c, o, g) ]) refl)
-      (λ d h l. let c = counts (held_at d) in let o = r.no_hold d h l in omega (arith, c, o))
+    (λ d h. let c = counts (live_at d) in
+    (elim (x.device == d) as (λ v. (x.device == d) ≡ v → count (live_at d) (put_by (connection_order y) s.connections y) ≤ 1) [
+      | true ↦ λ e. let z : count (live_at d) s.connections ≡ 0 = subst (λ w. count (live_at w) s.connections ≡ 0) (eqb-true x.device d e) (no_live s x.device free) in
+          let g = one_le (live_at d y) in omega (arith, c, z, g)
+      | false ↦ λ e. let o = r.one_live d h in let g : one (live_at d y) ≡ 0 = ap one e in omega (arith, c, o, g)
+    ]) refl)
+    (λ d h l. let c = counts (held_at d) in let o = r.no_hold d h l in omega (arith, c, o))
 
 pub kept_hold_call : (s : Rows) (call device : ℕ) → Rules s → Rules (moved s (moves_of (hold_call s call device)))
 unfolding hold_call
@@ -245,7 +247,7 @@ kept_hold_call s call device r =
     by_found (λ v. Rules (moved s (moves_of v))) _ _ _ (λ _. r) (λ x ex.
     by_refusal (λ v. Rules (moved s (moves_of v))) _ _ _ (λ _. r) (λ station.
     by_refusal (λ v. Rules (moved s (moves_of v))) _ _ _ (λ _. r) (λ connected.
-      kept_hold s x r (own_key s call device x ex) (subst (λ d. IsTrue (is_station s d)) (sym (found_key s call device x ex).1) (not-false (is_station s device) station)) (not-false (is_connected x.state) connected)))))
+    kept_hold s x r (own_key s call device x ex) (subst (λ d. IsTrue (is_station s d)) (sym (found_key s call device x ex).1) (not-false (is_station s device) station)) (not-false (is_connected x.state) connected)))))
 
 pub kept_retrieve_call : (s : Rows) (call device : ℕ) → Rules s → Rules (moved s (moves_of (retrieve_call s call device)))
 unfolding retrieve_call
@@ -254,4 +256,4 @@ kept_retrieve_call s call device r =
     by_found (λ v. Rules (moved s (moves_of v))) _ _ _ (λ _. r) (λ x ex.
     by_refusal (λ v. Rules (moved s (moves_of v))) _ _ _ (λ _. r) (λ holds.
     by_refusal (λ v. Rules (moved s (moves_of v))) _ _ _ (λ _. r) (λ free.
-      kept_retrieve s x r (own_key s call device x ex) (not-false (is_hold x.state) holds) (subst (λ d. is_live_at s d ≡ false) (sym (found_key s call device x ex).1) free)))))
+    kept_retrieve s x r (own_key s call device x ex) (not-false (is_hold x.state) holds) (subst (λ d. is_live_at s d ≡ false) (sym (found_key s call device x ex).1) free)))))

@@ -2,7 +2,6 @@ pub mod Least
 pub mod OfferFound
 pub mod Members
 pub mod MoveEvents
-pub mod Deciding
 pub mod CountedEvents
 pub mod FiguresFit
 pub mod GroupsFound

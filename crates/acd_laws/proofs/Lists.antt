@@ -1,10 +1,10 @@
 -- Lemmas on lists of records in ascending key.
-use Rattle.std.proofs.Common.{◌≡◌, ℕ, zero, suc, ◌+◌, ◌<◌, ◌≤◌, ◌⊎◌, inl, inr, Bool, true, false, not, ◌&&◌, ◌||◌, cond, List, [], ◌∷◌, ◌++◌, Option, Some, None, refl, sym, ◌∙◌, ap, subst, arith, length}
+use Rattle.std.proofs.Common.{◌≡◌, ℕ, ◌+◌, ◌≤◌, inl, inr, Bool, true, false, not, ◌||◌, cond, List, [], ◌∷◌, ◌++◌, Option, Some, None, refl, sym, ◌∙◌, ap, subst, arith, length}
 use Rattle.std.specs.Prelude.{is_some, filter, find}
 use Rattle.std.specs.List.{list_any, list_all}
 use Rattle.std.specs.declared.cmp.Ordering.{Ordering}
 use Rattle.std.specs.declared.cmp.Ordering.TheVariants.{Less, Equal, Greater}
-use Rattle.std.proofs.lemmas.Bool.{cases_Bool, true≢false, false_from_ne_true, and_parts, and_from}
+use Rattle.std.proofs.lemmas.Bool.{false_from_ne_true, and_parts, and_from}
 use Rattle.std.specs.Cmp.{IsTotalOrder}
 use Rattle.std.specs.Ordering.{ordering_reverse, is_eq, match_ordering}
 use Rattle.acd_terms.specs.Lists.{find_by, put_by, remove_by, count, total, Among, Every, AllAfter, IsAscending}
@@ -65,35 +65,40 @@ pub find-put_hit : {X : Type 0} (cmp : X → X → Ordering) (p : X → Bool) (x
 find-put_hit cmp p x e h [] = simp e
 find-put_hit cmp p x e h (y ∷ ys) =
     (elim (cmp x y) as (λ o. cmp x y ≡ o → find p (match_ordering o (x ∷ y ∷ ys) (x ∷ ys) (y ∷ put_by (cmp x) ys x)) ≡ Some x) [
-      Less ↦ λ _. simp e
+      | Less ↦ λ _. simp e
       | Equal ↦ λ _. simp e
-      | Greater ↦ λ q. 
+      | Greater ↦ λ q.
           (elim (p y) as (λ b. p y ≡ b → cond b (Some y) (find p (put_by (cmp x) ys x)) ≡ Some x) [
-            true ↦ λ r. absurd (cc (q, h y r))
-            | false ↦ λ _. find-put_hit cmp p x e h ys ]) refl ]) refl
+            | true ↦ λ r. absurd (cc (q, h y r))
+            | false ↦ λ _. find-put_hit cmp p x e h ys
+          ]) refl
+    ]) refl
 
 -- and no other is lost or made
 pub find-put_miss : {X : Type 0} (cmp : X → X → Ordering) (p : X → Bool) (x : X) → p x ≡ false → ((y : X) → cmp x y ≡ Equal → p y ≡ false) → (xs : List X) → find p (put_by (cmp x) xs x) ≡ find p xs
 find-put_miss cmp p x e h [] = simp e
 find-put_miss cmp p x e h (y ∷ ys) =
     (elim (cmp x y) as (λ o. cmp x y ≡ o → find p (match_ordering o (x ∷ y ∷ ys) (x ∷ ys) (y ∷ put_by (cmp x) ys x)) ≡ find p (y ∷ ys)) [
-      Less ↦ λ _. simp e
+      | Less ↦ λ _. simp e
       | Equal ↦ λ q. simp (e, h y q)
-      | Greater ↦ λ q. ap (λ r. cond (p y) (Some y) r) (find-put_miss cmp p x e h ys) ]) refl
+      | Greater ↦ λ q. ap (λ r. cond (p y) (Some y) r) (find-put_miss cmp p x e h ys)
+    ]) refl
 
 pub find_passes : {X : Type 0} (p : X → Bool) (xs : List X) (x : X) → find p xs ≡ Some x → p x ≡ true
 find_passes p [] x e = absurd (cc (e))
 find_passes p (y ∷ ys) x e =
     (elim (p y) as (λ b. p y ≡ b → cond b (Some y) (find p ys) ≡ Some x → p x ≡ true) [
-      true ↦ λ r q. cc
-      | false ↦ λ r q. find_passes p ys x q ]) refl e
+      | true ↦ λ r q. cc
+      | false ↦ λ r q. find_passes p ys x q
+    ]) refl e
 
 pub find_among : {X : Type 0} (p : X → Bool) (xs : List X) (x : X) → find p xs ≡ Some x → Among x xs
 find_among p [] x e = absurd (cc (e))
 find_among p (y ∷ ys) x e =
     (elim (p y) as (λ b. cond b (Some y) (find p ys) ≡ Some x → Among x (y ∷ ys)) [
-      true ↦ λ q. inl cc
-      | false ↦ λ q. inr (find_among p ys x q) ]) e
+      | true ↦ λ q. inl cc
+      | false ↦ λ q. inr (find_among p ys x q)
+    ]) e
 
 pub find_none : {X : Type 0} (p : X → Bool) (xs : List X) → find p xs ≡ None → (x : X) → Among x xs → p x ≡ false
 find_none p [] e x a = absurd a
@@ -117,16 +122,18 @@ pub any-put : {X : Type 0} (cmp : X → X → Ordering) (p : X → Bool) (x : X)
 any-put cmp p x h [] = refl
 any-put cmp p x h (y ∷ ys) =
     (elim (cmp x y) as (λ o. cmp x y ≡ o → list_any p (match_ordering o (x ∷ y ∷ ys) (x ∷ ys) (y ∷ put_by (cmp x) ys x)) ≡ (p x || (p y || list_any p ys))) [
-      Less ↦ λ _. refl
+      | Less ↦ λ _. refl
       | Equal ↦ λ e. rw (h y e) (or_twice (p x) (list_any p ys))
-      | Greater ↦ λ _. ap (λ r. p y || r) (any-put cmp p x h ys) ∙ or_swap (p y) (p x) (list_any p ys) ]) refl
+      | Greater ↦ λ _. ap (λ r. p y || r) (any-put cmp p x h ys) ∙ or_swap (p y) (p x) (list_any p ys)
+    ]) refl
 
 pub any_none : {X : Type 0} (p : X → Bool) (xs : List X) → list_any p xs ≡ false → find p xs ≡ None
 any_none p [] e = refl
 any_none p (y ∷ ys) e =
     (elim (p y) as (λ b. (b || list_any p ys) ≡ false → cond b (Some y) (find p ys) ≡ None) [
-      true ↦ λ q. absurd (cc (q))
-      | false ↦ λ q. any_none p ys q ]) e
+      | true ↦ λ q. absurd (cc (q))
+      | false ↦ λ q. any_none p ys q
+    ]) e
 
 pub any_some : {X : Type 0} (p : X → Bool) (xs : List X) (x : X) → Among x xs → p x ≡ true → list_any p xs ≡ true
 any_some p [] x a e = absurd a
@@ -141,8 +148,9 @@ pub filter_among : {X : Type 0} (p : X → Bool) (xs : List X) (x : X) → Among
 filter_among p [] x a = absurd a
 filter_among p (y ∷ ys) x a =
     (elim (p y) as (λ b. p y ≡ b → Among x (cond b (y ∷ filter p ys) (filter p ys)) → Among x (y ∷ ys) × (p x ≡ true)) [
-      true ↦ λ r w. elim w [ inl q ↦ (inl q, cc) | inr v ↦ (inr (filter_among p ys x v).0, (filter_among p ys x v).1) ]
-      | false ↦ λ r w. (inr (filter_among p ys x w).0, (filter_among p ys x w).1) ]) refl a
+      | true ↦ λ r w. elim w [ inl q ↦ (inl q, cc) | inr v ↦ (inr (filter_among p ys x v).0, (filter_among p ys x v).1) ]
+      | false ↦ λ r w. (inr (filter_among p ys x w).0, (filter_among p ys x w).1)
+    ]) refl a
 
 pub among-filter : {X : Type 0} (p : X → Bool) (xs : List X) (z : X) → Among z xs → p z ≡ true → Among z (filter p xs)
 among-filter p [] z a e = absurd a
@@ -168,29 +176,35 @@ pub after-put : {X : Type 0} (cmp : X → X → Ordering) (z x : X) → cmp z x 
 after-put cmp z x e [] h = (e, tt)
 after-put cmp z x e (y ∷ ys) h =
     elim (cmp x y) as (λ o. AllAfter cmp z (match_ordering o (x ∷ y ∷ ys) (x ∷ ys) (y ∷ put_by (cmp x) ys x))) [
-      Less ↦ (e, h)
+      | Less ↦ (e, h)
       | Equal ↦ (e, h.1)
-      | Greater ↦ (h.0, after-put cmp z x e ys h.1) ]
+      | Greater ↦ (h.0, after-put cmp z x e ys h.1)
+    ]
 
 pub ascending-put : {X : Type 0} (cmp : X → X → Ordering) (o : IsTotalOrder cmp) (x : X) (xs : List X) → IsAscending cmp xs → IsAscending cmp (put_by (cmp x) xs x)
 ascending-put cmp o x [] h = (tt, tt)
 ascending-put cmp o x (y ∷ ys) h =
     (elim (cmp x y) as (λ r. cmp x y ≡ r → IsAscending cmp (match_ordering r (x ∷ y ∷ ys) (x ∷ ys) (y ∷ put_by (cmp x) ys x))) [
-      Less ↦ λ e. ((e, after_lower cmp o x y e ys h.0), h)
+      | Less ↦ λ e. ((e, after_lower cmp o x y e ys h.0), h)
       | Equal ↦ λ e. (after_same cmp o x y e ys h.0, h.1)
-      | Greater ↦ λ e. (after-put cmp y x (o.antisymm y x ∙ ap ordering_reverse e) ys h.0, ascending-put cmp o x ys h.1) ]) refl
+      | Greater ↦ λ e. (after-put cmp y x (o.antisymm y x ∙ ap ordering_reverse e) ys h.0, ascending-put cmp o x ys h.1)
+    ]) refl
 
 pub after-filter : {X : Type 0} (cmp : X → X → Ordering) (p : X → Bool) (z : X) (xs : List X) → AllAfter cmp z xs → AllAfter cmp z (filter p xs)
 after-filter cmp p z [] h = tt
 after-filter cmp p z (y ∷ ys) h =
     elim (p y) as (λ b. AllAfter cmp z (cond b (y ∷ filter p ys) (filter p ys))) [
-      true ↦ (h.0, after-filter cmp p z ys h.1) | false ↦ after-filter cmp p z ys h.1 ]
+      | true ↦ (h.0, after-filter cmp p z ys h.1)
+      | false ↦ after-filter cmp p z ys h.1
+    ]
 
 pub ascending-filter : {X : Type 0} (cmp : X → X → Ordering) (p : X → Bool) (xs : List X) → IsAscending cmp xs → IsAscending cmp (filter p xs)
 ascending-filter cmp p [] h = tt
 ascending-filter cmp p (y ∷ ys) h =
     elim (p y) as (λ b. IsAscending cmp (cond b (y ∷ filter p ys) (filter p ys))) [
-      true ↦ (after-filter cmp p y ys h.0, ascending-filter cmp p ys h.1) | false ↦ ascending-filter cmp p ys h.1 ]
+      | true ↦ (after-filter cmp p y ys h.0, ascending-filter cmp p ys h.1)
+      | false ↦ ascending-filter cmp p ys h.1
+    ]
 
 -- a record of an ascending list is the one found by its key
 pub find_found : {X : Type 0} (cmp : X → X → Ordering) (k : X → Bool) (x : X) → k x ≡ true → ((y : X) → k y ≡ true → cmp y x ≡ Equal) → (xs : List X) → IsAscending cmp xs → Among x xs → find k xs ≡ Some x
@@ -198,8 +212,9 @@ find_found cmp k x e h [] s a = absurd a
 find_found cmp k x e h (y ∷ ys) s (inl q) = rw (← q, e) refl
 find_found cmp k x e h (y ∷ ys) s (inr a) =
     (elim (k y) as (λ b. k y ≡ b → cond b (Some y) (find k ys) ≡ Some x) [
-      true ↦ λ r. absurd (cc (h y r, after_among cmp y ys x s.0 a))
-      | false ↦ λ r. find_found cmp k x e h ys s.1 a ]) refl
+      | true ↦ λ r. absurd (cc (h y r, after_among cmp y ys x s.0 a))
+      | false ↦ λ r. find_found cmp k x e h ys s.1 a
+    ]) refl
 
 key_only : {X : Type 0} (cmp : X → X → Ordering) (k : X → Bool) → ((y z : X) → k y ≡ true → k z ≡ true → cmp y z ≡ Equal) → (y : X) → k y ≡ true → (ys : List X) → AllAfter cmp y ys → (x : X) → Among x ys → k x ≡ false
 key_only cmp k h y r ys s x a = false_from_ne_true (k x) (λ e. cc (h y x r e, after_among cmp y ys x s a))
@@ -214,28 +229,33 @@ pub remove_is : {X : Type 0} (cmp : X → X → Ordering) (at : X → Ordering) 
 remove_is cmp at k f h [] s = refl
 remove_is cmp at k f h (y ∷ ys) s =
     rw (f y) ((elim (k y) as (λ b. k y ≡ b → cond b ys (y ∷ remove_by at ys) ≡ cond (not b) (y ∷ filter (λ w. not (k w)) ys) (filter (λ w. not (k w)) ys)) [
-      true ↦ λ r. sym (filter_all (λ w. not (k w)) ys (λ x a. ap not (key_only cmp k h y r ys s.0 x a)))
-      | false ↦ λ r. ap (λ t. y ∷ t) (remove_is cmp at k f h ys s.1) ]) refl)
+      | true ↦ λ r. sym (filter_all (λ w. not (k w)) ys (λ x a. ap not (key_only cmp k h y r ys s.0 x a)))
+      | false ↦ λ r. ap (λ t. y ∷ t) (remove_is cmp at k f h ys s.1)
+    ]) refl)
 
 pub find-filter : {X : Type 0} (p q : X → Bool) → ((y : X) → p y ≡ true → q y ≡ true) → (xs : List X) → find p (filter q xs) ≡ find p xs
 find-filter p q h [] = refl
 find-filter p q h (y ∷ ys) =
     (elim (q y) as (λ b. q y ≡ b → find p (cond b (y ∷ filter q ys) (filter q ys)) ≡ find p (y ∷ ys)) [
-      true ↦ λ _. ap (λ r. cond (p y) (Some y) r) (find-filter p q h ys)
+      | true ↦ λ _. ap (λ r. cond (p y) (Some y) r) (find-filter p q h ys)
       | false ↦ λ e.
           (elim (p y) as (λ b. p y ≡ b → find p (filter q ys) ≡ cond b (Some y) (find p ys)) [
-            true ↦ λ r. absurd (cc (e, h y r))
-            | false ↦ λ _. find-filter p q h ys ]) refl ]) refl
+            | true ↦ λ r. absurd (cc (e, h y r))
+            | false ↦ λ _. find-filter p q h ys
+          ]) refl
+    ]) refl
 
 pub find-filter_none : {X : Type 0} (p q : X → Bool) → ((y : X) → p y ≡ true → q y ≡ false) → (xs : List X) → find p (filter q xs) ≡ None
 find-filter_none p q h [] = refl
 find-filter_none p q h (y ∷ ys) =
     (elim (q y) as (λ b. q y ≡ b → find p (cond b (y ∷ filter q ys) (filter q ys)) ≡ None) [
-      true ↦ λ e.
+      | true ↦ λ e.
           (elim (p y) as (λ b. p y ≡ b → cond b (Some y) (find p (filter q ys)) ≡ None) [
-            true ↦ λ r. absurd (cc (e, h y r))
-            | false ↦ λ _. find-filter_none p q h ys ]) refl
-      | false ↦ λ _. find-filter_none p q h ys ]) refl
+            | true ↦ λ r. absurd (cc (e, h y r))
+            | false ↦ λ _. find-filter_none p q h ys
+          ]) refl
+      | false ↦ λ _. find-filter_none p q h ys
+    ]) refl
 
 -- counts
 
@@ -243,21 +263,23 @@ pub count-put_new : {X : Type 0} (cmp : X → X → Ordering) (k p : X → Bool)
 count-put_new cmp k p x h [] e = refl
 count-put_new cmp k p x h (y ∷ ys) e =
     (elim (cmp x y) as (λ o. cmp x y ≡ o → count p (match_ordering o (x ∷ y ∷ ys) (x ∷ ys) (y ∷ put_by (cmp x) ys x)) ≡ one (p x) + (one (p y) + count p ys)) [
-      Less ↦ λ _. refl
+      | Less ↦ λ _. refl
       | Equal ↦ λ q. absurd (none_head k y ys (h y q) e)
-      | Greater ↦ λ _. let ih = count-put_new cmp k p x h ys (none_tail k y ys e) in omega (arith, ih) ]) refl
+      | Greater ↦ λ _. let ih = count-put_new cmp k p x h ys (none_tail k y ys e) in omega (arith, ih)
+    ]) refl
 
 pub count-put_old : {X : Type 0} (cmp : X → X → Ordering) (o : IsTotalOrder cmp) (k p : X → Bool) (x : X) → ((y : X) → cmp x y ≡ Equal → k y ≡ true) → ((y : X) → k y ≡ true → cmp x y ≡ Equal)
     → (xs : List X) → IsAscending cmp xs → (z : X) → find k xs ≡ Some z → count p (put_by (cmp x) xs x) + one (p z) ≡ one (p x) + count p xs
 count-put_old cmp o k p x h g [] s z e = absurd (cc (e))
 count-put_old cmp o k p x h g (y ∷ ys) s z e =
     (elim (cmp x y) as (λ r. cmp x y ≡ r → count p (match_ordering r (x ∷ y ∷ ys) (x ∷ ys) (y ∷ put_by (cmp x) ys x)) + one (p z) ≡ one (p x) + (one (p y) + count p ys)) [
-      Less ↦ λ q. let l : cmp x z ≡ Less = after_among cmp x (y ∷ ys) z (q, after_lower cmp o x y q ys s.0) (find_among k (y ∷ ys) z e) in
+      | Less ↦ λ q. let l : cmp x z ≡ Less = after_among cmp x (y ∷ ys) z (q, after_lower cmp o x y q ys s.0) (find_among k (y ∷ ys) z e) in
           absurd (cc (l, g z (find_passes k (y ∷ ys) z e)))
       | Equal ↦ λ q. let same : y ≡ z = some_head k y ys z (h y q) e in rw same (omega arith)
       | Greater ↦ λ q.
           let other : k y ≡ false = not_key cmp k x y g q in
-          let ih = count-put_old cmp o k p x h g ys s.1 z (some_tail k y ys z other e) in omega (arith, ih) ]) refl
+          let ih = count-put_old cmp o k p x h g ys s.1 z (some_tail k y ys z other e) in omega (arith, ih)
+    ]) refl
 
 -- a put adds no more than the record
 pub count-put_most : {X : Type 0} (at : X → Ordering) (p : X → Bool) (x : X) (xs : List X) → count p (put_by at xs x) ≤ one (p x) + count p xs
@@ -265,7 +287,10 @@ count-put_most at p x [] = omega arith
 count-put_most at p x (y ∷ ys) =
     let ih = count-put_most at p x ys in
     elim (at y) as (λ o. count p (match_ordering o (x ∷ y ∷ ys) (x ∷ ys) (y ∷ put_by at ys x)) ≤ one (p x) + (one (p y) + count p ys)) [
-      Less ↦ omega arith | Equal ↦ omega arith | Greater ↦ omega (arith, ih) ]
+      | Less ↦ omega arith
+      | Equal ↦ omega arith
+      | Greater ↦ omega (arith, ih)
+    ]
 
 pub count-remove_most : {X : Type 0} (at : X → Ordering) (p : X → Bool) (xs : List X) → count p (remove_by at xs) ≤ count p xs
 count-remove_most at p [] = omega arith
@@ -277,8 +302,9 @@ pub count-removed : {X : Type 0} (at : X → Ordering) (p : X → Bool) (xs : Li
 count-removed at p [] z e = absurd (cc (e))
 count-removed at p (y ∷ ys) z e =
     (elim (is_eq (at y)) as (λ b. cond b (Some y) (find_by at ys) ≡ Some z → count p (cond b ys (y ∷ remove_by at ys)) + one (p z) ≡ one (p y) + count p ys) [
-      true ↦ λ q. let same : y ≡ z = cc in rw same (omega arith)
-      | false ↦ λ q. let ih = count-removed at p ys z q in omega (arith, ih) ]) e
+      | true ↦ λ q. let same : y ≡ z = cc in rw same (omega arith)
+      | false ↦ λ q. let ih = count-removed at p ys z q in omega (arith, ih)
+    ]) e
 
 -- each of a list
 
@@ -304,8 +330,9 @@ pub among-remove : {X : Type 0} (at : X → Ordering) (xs : List X) (x : X) → 
 among-remove at [] x a = absurd a
 among-remove at (y ∷ ys) x a =
     (elim (is_eq (at y)) as (λ b. Among x (cond b ys (y ∷ remove_by at ys)) → Among x (y ∷ ys)) [
-      true ↦ λ w. inr w
-      | false ↦ λ w. elim w [ inl q ↦ inl q | inr v ↦ inr (among-remove at ys x v) ] ]) a
+      | true ↦ λ w. inr w
+      | false ↦ λ w. elim w [ inl q ↦ inl q | inr v ↦ inr (among-remove at ys x v) ]
+    ]) a
 
 pub after-remove : {X : Type 0} (cmp : X → X → Ordering) (at : X → Ordering) (z : X) (xs : List X) → AllAfter cmp z xs → AllAfter cmp z (remove_by at xs)
 after-remove cmp at z [] h = tt
@@ -381,14 +408,16 @@ the_one p q h [] a l m e = absurd (cc (e))
 the_one p q h (y ∷ ys) a l m e =
     let f = fewer q p h ys in
     (elim (p y) as (λ b. p y ≡ b → one b + count p ys ≤ 1 → cond b (Some y) (find p ys) ≡ Some a → q a ≡ true) [
-      true ↦ λ r l2 e2.
-        (elim (q y) as (λ b. q y ≡ b → q a ≡ true) [
-          true ↦ λ w. let same : Some y ≡ Some a = e2 in cc
-          | false ↦ λ w. let z : one (q y) ≡ 0 = ap one w in absurd (omega (arith, f, l2, m, z)) ]) refl
+      | true ↦ λ r l2 e2.
+          (elim (q y) as (λ b. q y ≡ b → q a ≡ true) [
+            | true ↦ λ w. let same : Some y ≡ Some a = e2 in cc
+            | false ↦ λ w. let z : one (q y) ≡ 0 = ap one w in absurd (omega (arith, f, l2, m, z))
+          ]) refl
       | false ↦ λ r l2 e2.
-        let w : q y ≡ false = false_from_ne_true (q y) (λ v. cc (h y v, r)) in
-        let z : one (q y) ≡ 0 = ap one w in
-        the_one p q h ys a (omega (arith, l2)) (omega (arith, m, z)) e2 ]) refl l e
+          let w : q y ≡ false = false_from_ne_true (q y) (λ v. cc (h y v, r)) in
+          let z : one (q y) ≡ 0 = ap one w in
+          the_one p q h ys a (omega (arith, l2)) (omega (arith, m, z)) e2
+    ]) refl l e
 
 pub some_counted : {X : Type 0} (p : X → Bool) (xs : List X) → 1 ≤ count p xs → is_some (find p xs) ≡ true
 some_counted p [] l = absurd (omega (arith, l))

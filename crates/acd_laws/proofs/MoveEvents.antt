@@ -1,5 +1,5 @@
 -- The events of moves in a row.
-use Rattle.std.proofs.Common.{◌≡◌, ℕ, ◌+◌, List, [], ◌∷◌, ◌++◌, Option, Some, None, refl, sym, ◌∙◌, ap, length, arith}
+use Rattle.std.proofs.Common.{◌≡◌, ℕ, ◌+◌, List, [], ◌∷◌, ◌++◌, Option, Some, None, refl, ◌∙◌, ap, length, arith}
 use Rattle.acd_terms.specs.Moves.{with_event, events_of}
 use Rattle.acd_terms.specs.Step.{numbered}
 use Rattle.acd_terms.specs.declared.event.Event.{Event}

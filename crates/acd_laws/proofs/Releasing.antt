@@ -1,54 +1,34 @@
 -- A release keeps the rules.
-use Rattle.std.proofs.Common.{◌≡◌, ◌≢◌, ℕ, zero, suc, ◌+◌, ◌<◌, ◌≤◌, ◌⊎◌, inl, inr, Bool, true, false, not, ◌&&◌, ◌||◌, cond, List, [], ◌∷◌, ◌++◌, Option, Some, None, refl, sym, ◌∙◌, ap, subst, arith, length, eq-eqb}
-use Rattle.std.specs.Prelude.{◌==◌, if◌then◌else◌, IsTrue, IsFalse, is_some, is_none, filter, find, nat_le, max}
-use Rattle.std.specs.List.{list_any, list_all}
-use Rattle.std.specs.Cmp.{IsTotalOrder}
-use Rattle.std.specs.declared.cmp.Ordering.{Ordering}
-use Rattle.std.specs.declared.cmp.Ordering.TheVariants.{Less, Equal, Greater}
-use Rattle.std.proofs.lemmas.Bool.{and_parts, and_from, eqb-true, eqb-false, ne_eqb, false_from_ne_true, and_left, and_right, and_cases, or_cases, cases_eq, or_parts, not-false, not-true, or_right, or_left, cond-false, cond-true}
+use Rattle.std.proofs.Common.{◌≡◌, ℕ, ◌+◌, ◌≤◌, ◌⊎◌, inl, inr, Bool, true, false, not, ◌&&◌, cond, Option, Some, None, refl, sym, ◌∙◌, ap, subst, arith}
+use Rattle.std.specs.Prelude.{◌==◌, is_some}
+use Rattle.std.proofs.lemmas.Bool.{and_parts, and_from, eqb-true, false_from_ne_true, and_right, and_cases, cond-false}
 use Rattle.acd_terms.specs.declared.rows.Rows.{Rows}
-use Rattle.acd_terms.specs.declared.record.GroupRecord.{GroupRecord}
-use Rattle.acd_terms.specs.declared.record.StationRecord.{StationRecord}
 use Rattle.acd_terms.specs.declared.record.AgentRecord.{AgentRecord}
-use Rattle.acd_terms.specs.declared.record.CallRecord.{CallRecord}
 use Rattle.acd_terms.specs.declared.record.ConnectionRecord.{ConnectionRecord}
-use Rattle.acd_terms.specs.declared.record.MonitorRecord.{MonitorRecord}
 use Rattle.acd_terms.specs.declared.state.AgentState.{AgentState}
 use Rattle.acd_terms.specs.declared.state.AgentState.TheVariants as A
 use Rattle.acd_terms.specs.declared.state.Pending.{Pending}
 use Rattle.acd_terms.specs.declared.state.Pending.TheVariants as W
 use Rattle.acd_terms.specs.declared.state.ConnectionState.{ConnectionState}
 use Rattle.acd_terms.specs.declared.state.ConnectionState.TheVariants as S
-use Rattle.acd_terms.specs.declared.event.Cause.{Cause}
-use Rattle.acd_terms.specs.declared.event.Cause.TheVariants as C
-use Rattle.acd_terms.specs.declared.moves.Move.{Move}
-use Rattle.acd_terms.specs.declared.moves.Change.{Change}
-use Rattle.acd_terms.specs.declared.moves.Change.TheVariants.{Nothing, PutGroup, PutStation, PutAgent, PutCall, PutConnection, PutMonitor, RemoveCall, RemoveConnection, RemoveMonitor}
-use Rattle.acd_terms.specs.declared.moves.Destination.{Destination}
-use Rattle.acd_terms.specs.declared.moves.Destination.TheVariants as D
+use Rattle.acd_terms.specs.declared.moves.Change.TheVariants.{PutAgent}
 use Rattle.acd_terms.specs.declared.moves.Ending.{Ending}
 use Rattle.acd_terms.specs.declared.moves.Ending.TheVariants.{Answered, Unanswered, NoAnswer}
 use Rattle.acd_terms.specs.declared.moves.Release.{Release}
 use Rattle.acd_terms.specs.declared.moves.Release.TheVariants.{Stays, Goes}
-use Rattle.acd_terms.specs.declared.moves.Served.{Served}
-use Rattle.acd_terms.specs.declared.moves.Served.TheVariants.{Refused, Done}
-use Rattle.acd_terms.specs.declared.answer.Refusal.{Refusal}
-use Rattle.acd_terms.specs.Lists.{find_by, put_by, remove_by, count, total, Among, Every, AllAfter, IsAscending}
-use Rattle.acd_terms.specs.States.{is_null, is_ready, is_busy, is_working_after_call, is_initiated, is_alerting, is_connected, is_hold, is_queued, is_fail, is_answered, is_live, is_occupying, state_wanted, is_in}
-use Rattle.acd_terms.specs.Scans.{at_group, at_station, at_agent, at_call, at_connection, at_monitor, group_of, station_of, agent_of, call_of, connection_of, monitor_of, is_group, is_station, is_planned, has, agent_at, connections_of, other_of, is_distributed, is_live_at, is_taken, is_idle, is_occupied, waiting_in, is_idle_there, is_eligible, eligible_in, is_calling, queued_in_all}
-use Rattle.acd_terms.specs.Writes.{with_group, with_station, with_agent, with_call, with_connection, with_monitor, without_call, without_connection, without_monitor, with_last}
-use Rattle.acd_terms.specs.Moves.{no_move, silent, reported, changed, moved}
-use Rattle.acd_terms.specs.CallMoves.{plain, queueing, begin, connect_caller, initiate, originate, met_at, destination_of, arriving, arrival, arrive, talking, answer, hold, retrieve, ringing, offer, go_back, divert, transfer, clear, end_call}
-use Rattle.acd_terms.specs.AgentMoves.{kept_in, in_state, go_to, go_from, log_on_at, become_busy, wait_for}
+use Rattle.acd_terms.specs.Lists.{put_by, count, Among}
+use Rattle.acd_terms.specs.States.{is_ready, is_busy, is_alerting, is_queued, is_answered, state_wanted}
+use Rattle.acd_terms.specs.Scans.{group_of, station_of, agent_of, call_of, has, agent_at, is_distributed}
+use Rattle.acd_terms.specs.Writes.{with_agent}
+use Rattle.acd_terms.specs.Moves.{no_move, changed}
+use Rattle.acd_terms.specs.AgentMoves.{in_state}
 use Rattle.acd_terms.specs.Release.{release_of, released, release_agent, ending_of, release}
-use Rattle.acd_terms.specs.Served.{refuse_if, with_found, moves_of}
-use Rattle.acd_terms.specs.Rules.Plan.{group_order, station_order, agent_order, call_order, connection_order, monitor_order}
-use Rattle.acd_laws.specs.Counts.{RulesBut, Rules, Orders, IsUnseated, IsPlannedStation, IsPlannedGroup, SeatedAs, AgentRule, CallRule, Bare, InQueue, Offered, AlertingColumns, HasColumns, GroupColumn, IsCaller, StandsAt, ConnectionRule, is_open, of_call, initiated_of, open_of, live_at, alerting_at, held_at, distributed_at, ringing_at, talking_at, seated_at, ready_at, busy_at, pending_at, two_if}
-use Rattle.acd_laws.proofs.Lists.{one, find-put_hit, find-put_miss, find-filter, find-filter_none, find_passes, find_among, find_none, none_found, find_found, some_found, any-find, any-put, any_none, any_some, any_found, filter_among, among-filter, after_among, ascending-put, ascending-filter, ascending-remove, count-put_new, count-put_old, count-put_most, count-remove_most, count-removed, every_among, every_from, every-put, every-remove, among-remove, among-put, among-put_other, among-remove_other, counted, none_counted, fewer, count_same, two_counted, both_fewer, count_zero, none_of_zero, the_one, some_counted, all_true, all_from, count-append, total-append, count_length, none_from, some_from, some_is, eq_is, is_eq_of}
-use Rattle.acd_laws.proofs.State.{eqb_self, cmp_equal, cmp_self, key_is, is_of, is_of_true, is_of_self, order_equal, order_same, connection_key, groups_total, stations_total, agents_total, calls_total, connections_total, monitors_total, connection_find, agent_find, call_find, group_find, station_find, monitor_find, is_group_any, is_station_any, at_put, connections_without, calls_without, at_remove, agent_put, call_put, call_remove, group_put, station_put, found_key, own_key, connection_among, connection_found, agent_among, agent_key, agent_own, agent_found, call_among, call_key, call_found, put_other, removed_other, still_none}
-use Rattle.acd_laws.proofs.Found.{count_agent, agent_seat, agent_there, agent_at_find}
-use Rattle.acd_laws.proofs.KeptArrival.{one_le}
-use Rattle.acd_laws.proofs.KeptOffer.{ringing_is, talking_is, alerting_is, ready_is}
+use Rattle.acd_terms.specs.Rules.Plan.{agent_order}
+use Rattle.acd_laws.specs.Counts.{RulesBut, Rules, IsPlannedStation, IsPlannedGroup, SeatedAs, AgentRule, HasColumns, ConnectionRule, distributed_at, ringing_at, talking_at, seated_at, ready_at, busy_at, pending_at}
+use Rattle.acd_laws.proofs.Lists.{one, ascending-put, every_among, every-put, among-put, counted, fewer, both_fewer, the_one, some_counted, some_from}
+use Rattle.acd_laws.proofs.State.{eqb_self, agents_total, agent_put, agent_among}
+use Rattle.acd_laws.proofs.Found.{count_agent, agent_seat, agent_there}
+use Rattle.acd_laws.proofs.KeptOffer.{ringing_is, talking_is, ready_is}
 
 -- a seat that a station has
 pub seat_from : (s : Rows) (a : AgentRecord) (d : ℕ) (st : AgentState) → SeatedAs s a st → a.station ≡ Some d → IsPlannedStation s a.station × IsPlannedGroup s a.group
@@ -139,37 +119,46 @@ pub left_keeps : (loose : ℕ → Bool) (v : Rows) (a b : AgentRecord) (d : ℕ)
 unfolding with_agent call_of group_of station_of
 left_keeps loose v a b d r there station vacant l =
     let counts : (p : AgentRecord → Bool) → count p (put_by (agent_order b) v.agents b) + one (p a) ≡ one (p b) + count p v.agents = λ p.
-      count_agent p v b a r.orders.agents (rw l.agent there) in
+    count_agent p v b a r.orders.agents (rw l.agent there) in
     let elsewhere : (e : ℕ) → (d == e) ≡ false → (has a.station e ≡ false) × (has b.station e ≡ false) = λ e q.
-      let f : has a.station e ≡ false = rw (station, q) refl in (f, false_from_ne_true _ (λ w. cc (f, l.station e w))) in
+    let f : has a.station e ≡ false = rw (station, q) refl in (f, false_from_ne_true _ (λ w. cc (f, l.station e w))) in
     let nobody : (e : ℕ) → (d == e) ≡ true → count (distributed_at e) v.connections ≡ 0 = λ e q. subst (λ w. count (distributed_at w) v.connections ≡ 0) (eqb-true d e q) vacant in
     let tight : (e : ℕ) → (loose e && not (d == e)) ≡ false → (d == e) ≡ false → loose e ≡ false = λ e h q.
-      elim (and_cases (loose e) (not (d == e)) h) [ inl w ↦ w | inr w ↦ absurd (cc (rw q at w)) ] in
+    elim (and_cases (loose e) (not (d == e)) h) [ inl w ↦ w | inr w ↦ absurd (cc (rw q at w)) ] in
     let one_left : (e : ℕ) → count (seated_at e) (put_by (agent_order b) v.agents b) ≤ 1 = λ e. let c = counts (seated_at e) in let o = r.one_agent e in
-        (elim (has b.station e) as (λ x. has b.station e ≡ x → count (seated_at e) (put_by (agent_order b) v.agents b) ≤ 1) [
-          true ↦ λ q. let f : one (seated_at e a) ≡ 1 = ap one (l.station e q) in let g : one (seated_at e b) ≡ 1 = ap one q in omega (arith, c, o, f, g)
-          | false ↦ λ q. let g : one (seated_at e b) ≡ 0 = ap one q in omega (arith, c, o, g) ]) refl in
+    (elim (has b.station e) as (λ x. has b.station e ≡ x → count (seated_at e) (put_by (agent_order b) v.agents b) ≤ 1) [
+      | true ↦ λ q. let f : one (seated_at e a) ≡ 1 = ap one (l.station e q) in let g : one (seated_at e b) ≡ 1 = ap one q in omega (arith, c, o, f, g)
+      | false ↦ λ q. let g : one (seated_at e b) ≡ 0 = ap one q in omega (arith, c, o, g)
+    ]) refl in
     let none_busy : (e : ℕ) → (d == e) ≡ true → count (busy_at e) (put_by (agent_order b) v.agents b) ≡ 0 = λ e h.
-      let c = counts (seated_at e) in let o = r.one_agent e in let s1 = one_left e in
-      let here : one (seated_at e a) ≡ 1 = rw (station, h) refl in
-      (elim (has b.station e) as (λ x. has b.station e ≡ x → count (busy_at e) (put_by (agent_order b) v.agents b) ≡ 0) [
-        true ↦ λ q.
+    let c = counts (seated_at e) in let o = r.one_agent e in let s1 = one_left e in
+    let here : one (seated_at e a) ≡ 1 = rw (station, h) refl in
+    (elim (has b.station e) as (λ x. has b.station e ≡ x → count (busy_at e) (put_by (agent_order b) v.agents b) ≡ 0) [
+      | true ↦ λ q.
           let w = counted (still_at e) (put_by (agent_order b) v.agents b) b (among-put (agent_order b) b v.agents) (still b e l.not_busy q) in
           let f = both_fewer (busy_at e) (still_at e) (seated_at e) (busy_or_still e) (put_by (agent_order b) v.agents b) in omega (arith, w, f, s1)
-        | false ↦ λ q. let g : one (seated_at e b) ≡ 0 = ap one q in
-          let f = fewer (busy_at e) (seated_at e) (λ z w. (and_parts (is_busy z.state) (has z.station e) w).1) (put_by (agent_order b) v.agents b) in omega (arith, c, o, here, g, f) ]) refl in
+      | false ↦ λ q. let g : one (seated_at e b) ≡ 0 = ap one q in
+          let f = fewer (busy_at e) (seated_at e) (λ z w. (and_parts (is_busy z.state) (has z.station e) w).1) (put_by (agent_order b) v.agents b) in omega (arith, c, o, here, g, f)
+    ]) refl in
     let none_pending : (e : ℕ) → (d == e) ≡ true → count (pending_at e) (put_by (agent_order b) v.agents b) ≡ 0 = λ e h.
-      let c = counts (seated_at e) in let o = r.one_agent e in let s1 = one_left e in
-      let here : one (seated_at e a) ≡ 1 = rw (station, h) refl in
-      (elim (has b.station e) as (λ x. has b.station e ≡ x → count (pending_at e) (put_by (agent_order b) v.agents b) ≡ 0) [
-        true ↦ λ q.
+    let c = counts (seated_at e) in let o = r.one_agent e in let s1 = one_left e in
+    let here : one (seated_at e a) ≡ 1 = rw (station, h) refl in
+    (elim (has b.station e) as (λ x. has b.station e ≡ x → count (pending_at e) (put_by (agent_order b) v.agents b) ≡ 0) [
+      | true ↦ λ q.
           let w = counted (settled_at e) (put_by (agent_order b) v.agents b) b (among-put (agent_order b) b v.agents) (settled_is b e l.settled q) in
           let f = both_fewer (pending_at e) (settled_at e) (seated_at e) (pending_or_settled e) (put_by (agent_order b) v.agents b) in omega (arith, w, f, s1)
-        | false ↦ λ q. let g : one (seated_at e b) ≡ 0 = ap one q in
-          let f = fewer (pending_at e) (seated_at e) (λ z w. (and_parts (is_some z.pending) (has z.station e) w).1) (put_by (agent_order b) v.agents b) in omega (arith, c, o, here, g, f) ]) refl in
+      | false ↦ λ q. let g : one (seated_at e b) ≡ 0 = ap one q in
+          let f = fewer (pending_at e) (seated_at e) (λ z w. (and_parts (is_some z.pending) (has z.station e) w).1) (put_by (agent_order b) v.agents b) in omega (arith, c, o, here, g, f)
+    ]) refl in
     record {
-      orders = record { groups = r.orders.groups; stations = r.orders.stations; monitors = r.orders.monitors; calls = r.orders.calls; connections = r.orders.connections;
-        agents = ascending-put agent_order agents_total b v.agents r.orders.agents };
+      orders = record {
+        groups = r.orders.groups;
+        stations = r.orders.stations;
+        monitors = r.orders.monitors;
+        calls = r.orders.calls;
+        connections = r.orders.connections;
+        agents = ascending-put agent_order agents_total b v.agents r.orders.agents;
+      };
       kinds = r.kinds;
       agents = every-put (agent_order b) (AgentRule v) b l.rule v.agents r.agents;
       calls = r.calls;
@@ -181,25 +170,29 @@ left_keeps loose v a b d r there station vacant l =
       one_offer = r.one_offer;
       one_agent = one_left;
       ready = λ e h.
-        (elim (d == e) as (λ x. (d == e) ≡ x → count (ringing_at e) v.connections ≤ count (ready_at e) (put_by (agent_order b) v.agents b)) [
-          true ↦ λ q. let z = nobody e q in let f = fewer (ringing_at e) (distributed_at e) (ringing_is e) v.connections in omega (arith, z, f)
-          | false ↦ λ q. let c = counts (ready_at e) in let o = r.ready e (tight e h q) in
-            let f : one (ready_at e a) ≡ 0 = ap one (and_right (is_ready a.state) (has a.station e) (elsewhere e q).0) in
-            let g : one (ready_at e b) ≡ 0 = ap one (and_right (is_ready b.state) (has b.station e) (elsewhere e q).1) in omega (arith, c, o, f, g) ]) refl;
+          (elim (d == e) as (λ x. (d == e) ≡ x → count (ringing_at e) v.connections ≤ count (ready_at e) (put_by (agent_order b) v.agents b)) [
+            | true ↦ λ q. let z = nobody e q in let f = fewer (ringing_at e) (distributed_at e) (ringing_is e) v.connections in omega (arith, z, f)
+            | false ↦ λ q. let c = counts (ready_at e) in let o = r.ready e (tight e h q) in
+                let f : one (ready_at e a) ≡ 0 = ap one (and_right (is_ready a.state) (has a.station e) (elsewhere e q).0) in
+                let g : one (ready_at e b) ≡ 0 = ap one (and_right (is_ready b.state) (has b.station e) (elsewhere e q).1) in omega (arith, c, o, f, g)
+          ]) refl;
       busy = λ e h.
-        (elim (d == e) as (λ x. (d == e) ≡ x → count (talking_at e) v.connections ≡ count (busy_at e) (put_by (agent_order b) v.agents b)) [
-          true ↦ λ q. let z = nobody e q in let f = fewer (talking_at e) (distributed_at e) (talking_is e) v.connections in
-            let w = none_busy e q in omega (arith, z, f, w)
-          | false ↦ λ q. let c = counts (busy_at e) in let o = r.busy e (tight e h q) in
-            let f : one (busy_at e a) ≡ 0 = ap one (and_right (is_busy a.state) (has a.station e) (elsewhere e q).0) in
-            let g : one (busy_at e b) ≡ 0 = ap one (and_right (is_busy b.state) (has b.station e) (elsewhere e q).1) in omega (arith, c, o, f, g) ]) refl;
+          (elim (d == e) as (λ x. (d == e) ≡ x → count (talking_at e) v.connections ≡ count (busy_at e) (put_by (agent_order b) v.agents b)) [
+            | true ↦ λ q. let z = nobody e q in let f = fewer (talking_at e) (distributed_at e) (talking_is e) v.connections in
+                let w = none_busy e q in omega (arith, z, f, w)
+            | false ↦ λ q. let c = counts (busy_at e) in let o = r.busy e (tight e h q) in
+                let f : one (busy_at e a) ≡ 0 = ap one (and_right (is_busy a.state) (has a.station e) (elsewhere e q).0) in
+                let g : one (busy_at e b) ≡ 0 = ap one (and_right (is_busy b.state) (has b.station e) (elsewhere e q).1) in omega (arith, c, o, f, g)
+          ]) refl;
       pending = λ e h.
-        (elim (d == e) as (λ x. (d == e) ≡ x → count (pending_at e) (put_by (agent_order b) v.agents b) ≤ count (distributed_at e) v.connections) [
-          true ↦ λ q. let w = none_pending e q in omega (arith, w)
-          | false ↦ λ q. let c = counts (pending_at e) in let o = r.pending e (tight e h q) in
-            let f : one (pending_at e a) ≡ 0 = ap one (and_right (is_some a.pending) (has a.station e) (elsewhere e q).0) in
-            let g : one (pending_at e b) ≡ 0 = ap one (and_right (is_some b.pending) (has b.station e) (elsewhere e q).1) in omega (arith, c, o, f, g) ]) refl;
-      free = λ e h. r.free e (and_parts (loose e) (not (d == e)) h).0 }
+          (elim (d == e) as (λ x. (d == e) ≡ x → count (pending_at e) (put_by (agent_order b) v.agents b) ≤ count (distributed_at e) v.connections) [
+            | true ↦ λ q. let w = none_pending e q in omega (arith, w)
+            | false ↦ λ q. let c = counts (pending_at e) in let o = r.pending e (tight e h q) in
+                let f : one (pending_at e a) ≡ 0 = ap one (and_right (is_some a.pending) (has a.station e) (elsewhere e q).0) in
+                let g : one (pending_at e b) ≡ 0 = ap one (and_right (is_some b.pending) (has b.station e) (elsewhere e q).1) in omega (arith, c, o, f, g)
+          ]) refl;
+      free = λ e h. r.free e (and_parts (loose e) (not (d == e)) h).0;
+    }
 
 -- the agent of a distributed connection
 pub record Serves (s : Rows) (x : ConnectionRecord) (a : AgentRecord) : Type 0 where
@@ -231,20 +224,25 @@ serving s x r among e =
     let lr = fewer (ready_at d) (seated_at d) (λ z w. (and_parts (is_ready z.state) (has z.station d) w).1) s.agents in
     let lb = fewer (busy_at d) (seated_at d) (λ z w. (and_parts (is_busy z.state) (has z.station d) w).1) s.agents in
     let ringing : is_alerting x.state ≡ true → 1 ≤ count (ready_at d) s.agents = λ w.
-      let c = counted (ringing_at d) s.connections x among (and_from _ _ (and_from _ _ w g) (eqb_self d)) in let h = r.ready d refl in omega (arith, c, h) in
+    let c = counted (ringing_at d) s.connections x among (and_from _ _ (and_from _ _ w g) (eqb_self d)) in let h = r.ready d refl in omega (arith, c, h) in
     let talking : is_answered x.state ≡ true → 1 ≤ count (busy_at d) s.agents = λ w.
-      let c = counted (talking_at d) s.connections x among (and_from _ _ (and_from _ _ w g) (eqb_self d)) in let h = r.busy d refl in omega (arith, c, h) in
+    let c = counted (talking_at d) s.connections x among (and_from _ _ (and_from _ _ w g) (eqb_self d)) in let h = r.busy d refl in omega (arith, c, h) in
     let some : 1 ≤ count (seated_at d) s.agents =
-      elim (alerting_or_answered s x rule e) [ inl w ↦ (let h = ringing w in omega (arith, h, lr)) | inr w ↦ (let h = talking w in omega (arith, h, lb)) ] in
+    elim (alerting_or_answered s x rule e) [ inl w ↦ (let h = ringing w in omega (arith, h, lr)) | inr w ↦ (let h = talking w in omega (arith, h, lb)) ] in
     let found = some_from (agent_at s d) (some_counted (seated_at d) s.agents some) in
     let a : AgentRecord = found.0 in
     let there : agent_of s a.agent ≡ Some a = agent_there s r.orders.agents d a found.1 in
-    let station : a.station ≡ Some d = (agent_seat s d a found.1).1 in
-    (a, record {
-      at_station = found.1; there = there; station = station;
-      seat = seat_from s a d a.state (every_among (AgentRule s) s.agents a r.agents (agent_seat s d a found.1).0) station;
-      ready = λ w. (and_parts _ _ (the_one (seated_at d) (ready_at d) (λ z v. (and_parts (is_ready z.state) (has z.station d) v).1) s.agents a (r.one_agent d) (ringing w) found.1)).0;
-      busy = λ w. (and_parts _ _ (the_one (seated_at d) (busy_at d) (λ z v. (and_parts (is_busy z.state) (has z.station d) v).1) s.agents a (r.one_agent d) (talking w) found.1)).0 })
+    let station : a.station ≡ Some d = (agent_seat s d a found.1).1 in (
+      a,
+      record {
+        at_station = found.1;
+        there = there;
+        station = station;
+        seat = seat_from s a d a.state (every_among (AgentRule s) s.agents a r.agents (agent_seat s d a found.1).0) station;
+        ready = λ w. (and_parts _ _ (the_one (seated_at d) (ready_at d) (λ z v. (and_parts (is_ready z.state) (has z.station d) v).1) s.agents a (r.one_agent d) (ringing w) found.1)).0;
+        busy = λ w. (and_parts _ _ (the_one (seated_at d) (busy_at d) (λ z v. (and_parts (is_busy z.state) (has z.station d) v).1) s.agents a (r.one_agent d) (talking w) found.1)).0;
+      },
+    )
 
 -- how the connection ends: unanswered only where it alerts
 pub record Ends (x : ConnectionRecord) (how : Ending) : Type 0 where
@@ -267,8 +265,23 @@ released_agent loose v (Some z) a x how m k r e there station vacant idle =
     rw same (subst (λ c. RulesBut (λ e. loose e && not (x.device == e)) (changed v c)) (sym l.1) (left_keeps loose v a l.0 x.device r there station vacant l.2))
 
 pub loosen : (p q : ℕ → Bool) (v : Rows) → ((e : ℕ) → q e ≡ true → p e ≡ true) → ((e : ℕ) → q e ≡ false → p e ≡ false) → RulesBut p v → RulesBut q v
-loosen p q v f g r = record { orders = r.orders; kinds = r.kinds; agents = r.agents; calls = r.calls; connections = r.connections; parties = r.parties; one_open = r.one_open; one_live = r.one_live; no_hold = r.no_hold;
-    one_offer = r.one_offer; one_agent = r.one_agent; ready = λ d h. r.ready d (g d h); busy = λ d h. r.busy d (g d h); pending = λ d h. r.pending d (g d h); free = λ d h. r.free d (f d h) }
+loosen p q v f g r = record {
+  orders = r.orders;
+  kinds = r.kinds;
+  agents = r.agents;
+  calls = r.calls;
+  connections = r.connections;
+  parties = r.parties;
+  one_open = r.one_open;
+  one_live = r.one_live;
+  no_hold = r.no_hold;
+  one_offer = r.one_offer;
+  one_agent = r.one_agent;
+  ready = λ d h. r.ready d (g d h);
+  busy = λ d h. r.busy d (g d h);
+  pending = λ d h. r.pending d (g d h);
+  free = λ d h. r.free d (f d h);
+}
 
 not_and : (a : Bool) → a ≡ (a && not false)
 not_and true = refl
@@ -281,11 +294,12 @@ pub after_release : (loose : ℕ → Bool) (s v : Rows) (x : ConnectionRecord) (
 unfolding release
 after_release loose s v x how m k r kept rs among vacant ends =
     (elim (is_distributed x) as (λ b. is_distributed x ≡ b → RulesBut (λ e. loose e && not (b && (x.device == e))) (changed v (cond b (release_agent m k (agent_at s x.device) x.device how) no_move).change)) [
-      true ↦ λ e.
-        let h = serving s x rs among e in
-        released_agent loose v (agent_at s x.device) h.0 x how m k r h.1.at_station (kept h.0 h.1) h.1.station (vacant e)
+      | true ↦ λ e.
+          let h = serving s x rs among e in
+          released_agent loose v (agent_at s x.device) h.0 x how m k r h.1.at_station (kept h.0 h.1) h.1.station (vacant e)
           (λ n. rw (ready_is h.0.state (h.1.ready (ends.stays e h.0.pending n))) refl)
-      | false ↦ λ e. loosen loose (λ e. loose e && not false) v (λ e q. not_and (loose e) ∙ q) (λ e q. not_and (loose e) ∙ q) r ]) refl
+      | false ↦ λ e. loosen loose (λ e. loose e && not false) v (λ e q. not_and (loose e) ∙ q) (λ e q. not_and (loose e) ∙ q) r
+    ]) refl
 
 answered_moves : (w : Option Pending) → release_of Answered w ≡ Stays → ⊥
 answered_moves None e = cc
@@ -296,10 +310,13 @@ answered_moves (Some W.WorkingAfterCall) e = cc
 
 -- as a clearing or a deflection ends it
 pub ends_by : (s : Rows) (x : ConnectionRecord) → ConnectionRule s x → Ends x (ending_of x)
-ends_by s x rule = record { stays = λ d w e.
-    elim (alerting_or_answered s x rule d) [
-      inl a ↦ a
-      | inr a ↦ absurd (answered_moves w (subst (λ b. release_of (cond b Answered Unanswered) w ≡ Stays) a e)) ] }
+ends_by s x rule = record {
+  stays = λ d w e.
+      elim (alerting_or_answered s x rule d) [
+        | inl a ↦ a
+        | inr a ↦ absurd (answered_moves w (subst (λ b. release_of (cond b Answered Unanswered) w ≡ Stays) a e))
+      ];
+}
 
 -- a release leaves the agents of other numbers
 released_other : (t : Rows) (o : Option AgentRecord) (d : ℕ) (how : Ending) (m k n : ℕ) → ((a : AgentRecord) → o ≡ Some a → (a.agent == n) ≡ false) → agent_of (changed t (release_agent m k o d how).change) n ≡ agent_of t n
@@ -314,4 +331,6 @@ pub release_other_kept : (s t : Rows) (x : ConnectionRecord) (how : Ending) (m k
 unfolding release
 release_other_kept s t x how m k n h =
     elim (is_distributed x) as (λ b. agent_of (changed t (cond b (release_agent m k (agent_at s x.device) x.device how) no_move).change) n ≡ agent_of t n) [
-      true ↦ released_other t (agent_at s x.device) x.device how m k n h | false ↦ refl ]
+      | true ↦ released_other t (agent_at s x.device) x.device how m k n h
+      | false ↦ refl
+    ]

@@ -1,11 +1,9 @@
 -- Rows that keep the rules as counts and facts break no rule.
-use Rattle.std.proofs.Common.{◌≡◌, ◌≢◌, ℕ, zero, suc, ◌+◌, ◌*◌, ◌<◌, ◌≤◌, ◌⊎◌, inl, inr, Bool, true, false, not, ◌&&◌, ◌||◌, cond, List, [], ◌∷◌, ◌++◌, Option, Some, None, refl, sym, ◌∙◌, ap, subst, arith, length, eq-eqb}
-use Rattle.std.specs.Prelude.{◌==◌, if◌then◌else◌, IsTrue, IsFalse, is_some, is_none, filter, find, nat_le, max}
-use Rattle.std.specs.List.{list_any, list_all}
-use Rattle.std.specs.Cmp.{IsTotalOrder}
+use Rattle.std.proofs.Common.{◌≡◌, ℕ, ◌*◌, ◌≤◌, ◌⊎◌, inl, inr, true, false, not, ◌&&◌, ◌||◌, List, [], ◌∷◌, Option, Some, None, refl, sym, ◌∙◌, ap, subst, arith, length, eq-eqb}
+use Rattle.std.specs.Prelude.{◌==◌, if◌then◌else◌, is_some, is_none, nat_le}
+use Rattle.std.specs.List.{list_all}
 use Rattle.std.specs.declared.cmp.Ordering.{Ordering}
-use Rattle.std.specs.declared.cmp.Ordering.TheVariants.{Less, Equal, Greater}
-use Rattle.std.proofs.lemmas.Bool.{and_parts, and_from, eqb-true, eqb-false, ne_eqb, false_from_ne_true, and_left, and_right, and_cases, or_cases, cases_eq, or_parts, not-false, not-true, or_right, or_left, cond-false, cond-true}
+use Rattle.std.proofs.lemmas.Bool.{and_parts, and_from, eqb-true, false_from_ne_true, not-false, not-true, or_right, or_left}
 use Rattle.acd_terms.specs.declared.rows.Rows.{Rows}
 use Rattle.acd_terms.specs.declared.record.GroupRecord.{GroupRecord}
 use Rattle.acd_terms.specs.declared.record.StationRecord.{StationRecord}
@@ -16,55 +14,32 @@ use Rattle.acd_terms.specs.declared.record.MonitorRecord.{MonitorRecord}
 use Rattle.acd_terms.specs.declared.state.AgentState.{AgentState}
 use Rattle.acd_terms.specs.declared.state.AgentState.TheVariants as A
 use Rattle.acd_terms.specs.declared.state.Pending.{Pending}
-use Rattle.acd_terms.specs.declared.state.Pending.TheVariants as W
 use Rattle.acd_terms.specs.declared.state.ConnectionState.{ConnectionState}
 use Rattle.acd_terms.specs.declared.state.ConnectionState.TheVariants as S
-use Rattle.acd_terms.specs.declared.event.Cause.{Cause}
-use Rattle.acd_terms.specs.declared.event.Cause.TheVariants as C
-use Rattle.acd_terms.specs.declared.moves.Move.{Move}
-use Rattle.acd_terms.specs.declared.moves.Change.{Change}
-use Rattle.acd_terms.specs.declared.moves.Change.TheVariants.{Nothing, PutGroup, PutStation, PutAgent, PutCall, PutConnection, PutMonitor, RemoveCall, RemoveConnection, RemoveMonitor}
-use Rattle.acd_terms.specs.declared.moves.Destination.{Destination}
-use Rattle.acd_terms.specs.declared.moves.Destination.TheVariants as D
-use Rattle.acd_terms.specs.declared.moves.Ending.{Ending}
-use Rattle.acd_terms.specs.declared.moves.Ending.TheVariants.{Answered, Unanswered, NoAnswer}
-use Rattle.acd_terms.specs.declared.moves.Release.{Release}
-use Rattle.acd_terms.specs.declared.moves.Release.TheVariants.{Stays, Goes}
-use Rattle.acd_terms.specs.declared.moves.Served.{Served}
-use Rattle.acd_terms.specs.declared.moves.Served.TheVariants.{Refused, Done}
-use Rattle.acd_terms.specs.declared.answer.Refusal.{Refusal}
-use Rattle.acd_terms.specs.Lists.{find_by, put_by, remove_by, count, total, Among, Every, AllAfter, IsAscending}
-use Rattle.acd_terms.specs.States.{is_null, is_ready, is_busy, is_working_after_call, is_initiated, is_alerting, is_connected, is_hold, is_queued, is_fail, is_answered, is_live, is_occupying, state_wanted, is_in}
-use Rattle.acd_terms.specs.Scans.{at_group, at_station, at_agent, at_call, at_connection, at_monitor, group_of, station_of, agent_of, call_of, connection_of, monitor_of, is_group, is_station, is_planned, has, agent_at, connections_of, other_of, is_distributed, is_live_at, is_taken, is_idle, is_occupied, waiting_in, is_idle_there, is_eligible, eligible_in, is_calling, queued_in_all}
-use Rattle.acd_terms.specs.Writes.{with_group, with_station, with_agent, with_call, with_connection, with_monitor, without_call, without_connection, without_monitor, with_last}
-use Rattle.acd_terms.specs.Moves.{no_move, silent, reported, changed, moved}
-use Rattle.acd_terms.specs.CallMoves.{plain, queueing, begin, connect_caller, initiate, originate, met_at, destination_of, arriving, arrival, arrive, talking, answer, hold, retrieve, ringing, offer, go_back, divert, transfer, clear, end_call}
-use Rattle.acd_terms.specs.AgentMoves.{kept_in, in_state, go_to, go_from, log_on_at, become_busy, wait_for}
-use Rattle.acd_terms.specs.Release.{release_of, released, release_agent, ending_of, release}
-use Rattle.acd_terms.specs.Served.{refuse_if, with_found, moves_of}
+use Rattle.acd_terms.specs.Lists.{count, Among, Every, IsAscending}
+use Rattle.acd_terms.specs.States.{is_null, is_ready, is_busy, is_initiated, is_alerting, is_queued, is_answered}
+use Rattle.acd_terms.specs.Scans.{call_of, is_group, is_station, is_planned, has, agent_at, is_distributed, is_occupied, waiting_in, eligible_in}
 use Rattle.acd_terms.specs.Rules.Plan.{group_order, station_order, agent_order, call_order, connection_order, monitor_order}
-use Rattle.acd_laws.specs.Counts.{RulesBut, Rules, Orders, IsUnseated, IsPlannedStation, IsPlannedGroup, SeatedAs, AgentRule, CallRule, Bare, InQueue, Offered, AlertingColumns, HasColumns, GroupColumn, IsCaller, StandsAt, ConnectionRule, is_open, of_call, initiated_of, open_of, live_at, alerting_at, held_at, distributed_at, ringing_at, talking_at, seated_at, ready_at, busy_at, pending_at, two_if}
-use Rattle.acd_laws.proofs.Lists.{one, find-put_hit, find-put_miss, find-filter, find-filter_none, find_passes, find_among, find_none, none_found, find_found, some_found, any-find, any-put, any_none, any_some, any_found, filter_among, among-filter, after_among, ascending-put, ascending-filter, ascending-remove, count-put_new, count-put_old, count-put_most, count-remove_most, count-removed, every_among, every_from, every-put, every-remove, among-remove, among-put, among-put_other, among-remove_other, counted, none_counted, fewer, count_same, two_counted, both_fewer, count_zero, none_of_zero, the_one, some_counted, all_true, all_from, count-append, total-append, count_length, none_from, some_from, some_is, eq_is, is_eq_of}
-use Rattle.acd_laws.proofs.State.{eqb_self, cmp_equal, cmp_self, key_is, is_of, is_of_true, is_of_self, order_equal, order_same, connection_key, groups_total, stations_total, agents_total, calls_total, connections_total, monitors_total, connection_find, agent_find, call_find, group_find, station_find, monitor_find, is_group_any, is_station_any, at_put, connections_without, calls_without, at_remove, agent_put, call_put, call_remove, group_put, station_put, found_key, own_key, connection_among, connection_found, agent_among, agent_key, agent_own, agent_found, call_among, call_key, call_found, put_other, removed_other, still_none}
-use Rattle.std.proofs.lemmas.Bool.{leb-true, le-leb, lt-leb, leb-false}
-use Rattle.acd_terms.specs.Limits.{limits_fit}
+use Rattle.acd_laws.specs.Counts.{Rules, Orders, IsPlannedStation, IsPlannedGroup, SeatedAs, AgentRule, CallRule, Bare, AlertingColumns, HasColumns, GroupColumn, IsCaller, StandsAt, ConnectionRule, of_call, initiated_of, alerting_at, distributed_at, talking_at, seated_at, busy_at, pending_at, two_if}
+use Rattle.acd_laws.proofs.Lists.{one, any_some, every_among, counted, fewer, all_from, some_is}
+use Rattle.acd_laws.proofs.State.{eqb_self, is_group_any, is_station_any, call_found}
+use Rattle.std.proofs.lemmas.Bool.{le-leb}
 use Rattle.acd_terms.specs.Offers.{HasNoOffer}
 use Rattle.acd_terms.specs.OneOffer.{is_distributed_at}
 use Rattle.acd_terms.specs.Watched.{is_caller}
 use Rattle.acd_terms.specs.Rules.Plan.{keeps_limits, keeps_order, keeps_device, keeps_agent, keeps_monitor, is_less, ascends, is_station_there, is_group_there, is_alone_at, is_seated}
 use Rattle.acd_terms.specs.Rules.Calls.{keeps_call, keeps_connection, keeps_parties, keeps_live, is_bare, is_placed, has_columns, is_group_or_none, may_stand, is_being_made, has_two_parties, initiated_at, parties_of}
 use Rattle.acd_terms.specs.Rules.Calls as calls
-use Rattle.acd_terms.specs.Rules.Occupied.{keeps_occupied, keeps_offer, keeps_balance, attends, is_attended, is_talking, is_busy_only_talking, is_empty, waits_in, rings_from, is_balanced}
+use Rattle.acd_terms.specs.Rules.Occupied.{keeps_occupied, keeps_offer, keeps_balance, attends, is_attended, is_talking, is_busy_only_talking, is_empty, is_balanced}
 use Rattle.acd_terms.specs.Rules.Counters.{keeps_counters, is_stamp, is_moment_or_none, is_own_place, is_offered_after, is_timed, is_countable}
 use Rattle.acd_terms.specs.Rules.First.{BreaksNoRule}
-use Rattle.acd_laws.specs.Bounds.{Sizes, AgentTimed, CallTimed, IsPlace, IsMoment, IsAfter, ConnectionTimed, at_place, Timed, OnePlace, MonitorRule, Monitored, IsCountedUpTo, IsBalanced, KeepsRules}
-use Rattle.acd_laws.proofs.Found.{has_is, agent_at_find, agent_seat, call_known, none_of_call, connection_there}
-use Rattle.acd_laws.proofs.KeptOffer.{ringing_is, talking_is}
-use Rattle.acd_laws.proofs.KeptOut.{initiated_is, initiated_alone}
-use Rattle.acd_laws.proofs.KeptClearing.{two_le}
-use Rattle.acd_laws.proofs.Releasing.{Serves, serving, alerting_or_answered, seat_from}
-use Rattle.acd_laws.proofs.RulesRead.{Tests, broken_none, one_that, zero_or}
-use Rattle.acd_laws.proofs.ConnectionsRead.{open_counts, initiated_counts, live_counts, alerting_counts, held_counts, distributed_counts, and_swap}
+use Rattle.acd_laws.specs.Bounds.{Sizes, AgentTimed, CallTimed, IsPlace, IsMoment, IsAfter, ConnectionTimed, at_place, OnePlace, MonitorRule, Monitored, IsCountedUpTo, IsBalanced, KeepsRules}
+use Rattle.acd_laws.proofs.Found.{none_of_call}
+use Rattle.acd_laws.proofs.KeptOffer.{talking_is}
+use Rattle.acd_laws.proofs.KeptOut.{initiated_is}
+use Rattle.acd_laws.proofs.Releasing.{serving, alerting_or_answered}
+use Rattle.acd_laws.proofs.RulesRead.{broken_none, one_that, zero_or}
+use Rattle.acd_laws.proofs.ConnectionsRead.{open_counts, initiated_counts, live_counts, alerting_counts, held_counts, distributed_counts}
 
 -- limits and order
 
@@ -72,7 +47,7 @@ limits_written : (s : Rows) → Sizes s → s.last_stamp ≤ s.limits.requests �
 unfolding keeps_limits
 limits_written s z a b c =
     and_from _ _ (and_from _ _ (and_from _ _ (and_from _ _ (and_from _ _ (and_from _ _ (and_from _ _ (and_from _ _ z.limits (le-leb (length s.groups) s.limits.groups z.groups)) (le-leb (length s.stations) s.limits.stations z.stations))
-      (le-leb (length s.agents) s.limits.agents z.agents)) (le-leb (length s.calls) s.limits.calls z.calls)) (le-leb (length s.monitors) s.limits.monitors z.monitors)) (le-leb s.last_stamp s.limits.requests a)) (le-leb s.last_call s.last_stamp b)) (le-leb s.last_monitor s.last_stamp c)
+    (le-leb (length s.agents) s.limits.agents z.agents)) (le-leb (length s.calls) s.limits.calls z.calls)) (le-leb (length s.monitors) s.limits.monitors z.monitors)) (le-leb s.last_stamp s.limits.requests a)) (le-leb s.last_call s.last_stamp b)) (le-leb s.last_monitor s.last_stamp c)
 
 ascends_from : {X : Type 0} (cmp : X → X → Ordering) (xs : List X) → IsAscending cmp xs → ascends cmp xs ≡ true
 ascends_from cmp [] h = refl
@@ -83,7 +58,7 @@ order_written : (s : Rows) → Orders s → keeps_order s ≡ true
 unfolding keeps_order
 order_written s o =
     and_from _ _ (and_from _ _ (and_from _ _ (and_from _ _ (and_from _ _ (ascends_from group_order s.groups o.groups) (ascends_from station_order s.stations o.stations)) (ascends_from agent_order s.agents o.agents))
-      (ascends_from call_order s.calls o.calls)) (ascends_from connection_order s.connections o.connections)) (ascends_from monitor_order s.monitors o.monitors)
+    (ascends_from call_order s.calls o.calls)) (ascends_from connection_order s.connections o.connections)) (ascends_from monitor_order s.monitors o.monitors)
 
 device_written : (s : Rows) → ((d : ℕ) → is_group s d ≡ true → is_station s d ≡ false) → keeps_device s ≡ true
 unfolding keeps_device
@@ -169,18 +144,19 @@ stands_written s x S.Alerting e n h = (or_right (is_caller (call_of s x.call) x.
 stands_written s x S.Hold e n h = (or_right (is_caller (call_of s x.call) x.device) _ (or_right (is_group s x.device) (is_station s x.device) h), h)
 stands_written s x S.Fail e n h = (or_right (is_caller (call_of s x.call) x.device) _ (or_right (is_group s x.device) (is_station s x.device) h), h)
 stands_written s x S.Connected e n (inl h) = (or_right (is_caller (call_of s x.call) x.device) _ (or_right (is_group s x.device) (is_station s x.device) h), or_left (is_station s x.device) _ h)
-stands_written s x S.Connected e n (inr h) =
-    (or_left (is_caller (call_of s x.call) x.device) _ (caller_written (call_of s x.call) x.device h.1),
-     or_right (is_station s x.device) _ (and_from _ _ (ap not h.0) (plain_none x x.group (n h.0) (ap is_queued e))))
+stands_written s x S.Connected e n (inr h) = (
+  or_left (is_caller (call_of s x.call) x.device) _ (caller_written (call_of s x.call) x.device h.1),
+  or_right (is_station s x.device) _ (and_from _ _ (ap not h.0) (plain_none x x.group (n h.0) (ap is_queued e))),
+)
 
 connection_written : (s : Rows) → Rules s → keeps_connection s ≡ true
 unfolding keeps_connection
 connection_written s r = all_from (λ (x : ConnectionRecord). is_some (call_of s x.call) && (is_caller (call_of s x.call) x.device || is_planned s x.device)
-      && has_columns x.state x && is_group_or_none s x.group && may_stand s x.state x) s.connections (λ x i.
+    && has_columns x.state x && is_group_or_none s x.group && may_stand s x.state x) s.connections (λ x i.
     let h = every_among (ConnectionRule s) s.connections x r.connections i in
     let live : is_some (call_of s x.call) ≡ true = not-false (is_some (call_of s x.call)) (false_from_ne_true (not (is_some (call_of s x.call))) (λ n.
-      let e = no_some (call_of s x.call) (not-true (is_some (call_of s x.call)) n) in
-      let z = none_of_call s r x.call e in let c = counted (of_call x.call) s.connections x i (eqb_self x.call) in absurd (omega (arith, z, c)))) in
+    let e = no_some (call_of s x.call) (not-true (is_some (call_of s x.call)) n) in
+    let z = none_of_call s r x.call e in let c = counted (of_call x.call) s.connections x i (eqb_self x.call) in absurd (omega (arith, z, c)))) in
     let p = stands_written s x x.state refl (outside_plain s x r i) h.2 in
     and_from _ _ (and_from _ _ (and_from _ _ (and_from _ _ live p.0) (columns_written x x.state h.0)) (column_written s x.group h.1)) p.1)
   where
@@ -198,20 +174,22 @@ parties_written s r = all_from (λ (c : CallRecord). is_being_made s c || has_tw
     let live : two_if (is_some (call_of s c.call)) ≡ 2 = rw there refl in
     let f = fewer (initiated_of c.call) (of_call c.call) (λ z h. (and_parts (is_initiated z.state) (z.call == c.call) h).1) s.connections in
     elim (zero_or (count (initiated_of c.call) s.connections)) [
-      inl z ↦ or_right (is_being_made s c) (has_two_parties s c)
-        (let o = r.one_open c.call in let oc = open_counts s c.call in let ic = initiated_counts s c.call in
-         and_from _ _ (and_from _ _ (eq-eqb (count (parties_of c.call) s.connections) 2 (omega (arith, p, live, z))) (eq-eqb (count (calls.initiated_of c.call) s.connections) 0 (ic ∙ z)))
-           (le-leb (count (calls.open_of c.call) s.connections) 1 (omega (arith, o, oc))))
+      | inl z ↦ or_right (is_being_made s c) (has_two_parties s c)
+          (let o = r.one_open c.call in let oc = open_counts s c.call in let ic = initiated_counts s c.call in
+          and_from _ _ (and_from _ _ (eq-eqb (count (parties_of c.call) s.connections) 2 (omega (arith, p, live, z))) (eq-eqb (count (calls.initiated_of c.call) s.connections) 0 (ic ∙ z)))
+          (le-leb (count (calls.open_of c.call) s.connections) 1 (omega (arith, o, oc))))
       | inr l ↦ or_left (is_being_made s c) (has_two_parties s c)
-        (let y = one_that (initiated_of c.call) s.connections l in
-         let q = and_parts (is_initiated y.0.state) (y.0.call == c.call) y.1.1 in
-         let at : IsCaller (Some c) y.0.device = caller_at s y.0 c r y.1.0 (eqb-true y.0.call c.call q.1) (initiated_is y.0.state q.0) there in
-         let k = counted (initiated_at c.call c.caller) s.connections y.0 y.1.0 (and_from _ _ (and_from _ _ q.1 q.0) (eq-eqb y.0.device c.caller (sym at))) in
-         let m = fewer (initiated_at c.call c.caller) (initiated_of c.call) (initiated_one c.call c.caller) s.connections in
-         and_from _ _ (eq-eqb (count (parties_of c.call) s.connections) 1 (omega (arith, p, live, l, f))) (eq-eqb (count (initiated_at c.call c.caller) s.connections) 1 (omega (arith, p, live, f, k, m)))) ])
+          (let y = one_that (initiated_of c.call) s.connections l in
+          let q = and_parts (is_initiated y.0.state) (y.0.call == c.call) y.1.1 in
+          let at : IsCaller (Some c) y.0.device = caller_at s y.0 c r y.1.0 (eqb-true y.0.call c.call q.1) (initiated_is y.0.state q.0) there in
+          let k = counted (initiated_at c.call c.caller) s.connections y.0 y.1.0 (and_from _ _ (and_from _ _ q.1 q.0) (eq-eqb y.0.device c.caller (sym at))) in
+          let m = fewer (initiated_at c.call c.caller) (initiated_of c.call) (initiated_one c.call c.caller) s.connections in
+          and_from _ _ (eq-eqb (count (parties_of c.call) s.connections) 1 (omega (arith, p, live, l, f))) (eq-eqb (count (initiated_at c.call c.caller) s.connections) 1 (omega (arith, p, live, f, k, m))))
+    ])
   where
     initiated_one : (n d : ℕ) (x : ConnectionRecord) → initiated_at n d x ≡ true → initiated_of n x ≡ true
     initiated_one n d x e = let h = and_parts (x.call == n && is_initiated x.state) (x.device == d) e in let q = and_parts (x.call == n) (is_initiated x.state) h.0 in and_from _ _ q.1 q.0
+
     caller_at : (s : Rows) (y : ConnectionRecord) (c : CallRecord) → Rules s → Among y s.connections → y.call ≡ c.call → y.state ≡ S.Initiated → call_of s c.call ≡ Some c → IsCaller (Some c) y.device
     caller_at s y c r i e st there =
         let h = subst (StandsAt s y) st (every_among (ConnectionRule s) s.connections y r.connections i).2 in
@@ -220,14 +198,15 @@ parties_written s r = all_from (λ (c : CallRecord). is_being_made s c || has_tw
 live_written : (s : Rows) → Rules s → keeps_live s ≡ true
 unfolding keeps_live
 live_written s r = all_from (λ (t : StationRecord). nat_le (count (calls.live_at t.device) s.connections) 1
-        && (count (calls.alerting_at t.device) s.connections == 0 || count (calls.hold_at t.device) s.connections == 0)) s.stations (λ t i.
+    && (count (calls.alerting_at t.device) s.connections == 0 || count (calls.hold_at t.device) s.connections == 0)) s.stations (λ t i.
     let d : ℕ = t.device in
     let at : is_station s d ≡ true = is_station_any s d ∙ any_some (λ (x : StationRecord). x.device == d) s.stations t i (eqb_self d) in
     let l = r.one_live d at in let lc = live_counts s d in let ac = alerting_counts s d in
     and_from _ _ (le-leb (count (calls.live_at d) s.connections) 1 (omega (arith, l, lc)))
-      (elim (zero_or (count (alerting_at d) s.connections)) [
-        inl z ↦ or_left _ _ (eq-eqb (count (calls.alerting_at d) s.connections) 0 (ac ∙ z))
-        | inr k ↦ or_right (count (calls.alerting_at d) s.connections == 0) _ (eq-eqb (count (calls.hold_at d) s.connections) 0 (held_counts s d ∙ r.no_hold d at k)) ]))
+    (elim (zero_or (count (alerting_at d) s.connections)) [
+      | inl z ↦ or_left _ _ (eq-eqb (count (calls.alerting_at d) s.connections) 0 (ac ∙ z))
+      | inr k ↦ or_right (count (calls.alerting_at d) s.connections == 0) _ (eq-eqb (count (calls.hold_at d) s.connections) 0 (held_counts s d ∙ r.no_hold d at k))
+    ]))
 
 -- occupied
 
@@ -236,16 +215,17 @@ attends_written x None a e w f g = absurd (cc (e))
 attends_written x (Some z) a e w f g =
     let same : a ≡ z = sym (some_is z a e) in
     subst (λ (b : AgentRecord). ((is_alerting x.state && is_ready b.state) || (is_answered x.state && is_busy b.state)) ≡ true) same
-      (elim w [ inl q ↦ or_left _ _ (and_from _ _ q (f q)) | inr q ↦ or_right (is_alerting x.state && is_ready a.state) _ (and_from _ _ q (g q)) ])
+    (elim w [ inl q ↦ or_left _ _ (and_from _ _ q (f q)) | inr q ↦ or_right (is_alerting x.state && is_ready a.state) _ (and_from _ _ q (g q)) ])
 
 attended_written : (s : Rows) (x : ConnectionRecord) → Rules s → Among x s.connections → is_attended s x ≡ true
 attended_written s x r i =
     (elim (is_distributed x) as (λ b. is_distributed x ≡ b → (not b || (nat_le (count (is_distributed_at x.device) s.connections) 1 && attends x (agent_at s x.device))) ≡ true) [
-      false ↦ λ _. refl
+      | false ↦ λ _. refl
       | true ↦ λ e.
-        let b = serving s x r i e in let o = r.one_offer x.device in let c = distributed_counts s x.device in
-        and_from _ _ (le-leb (count (is_distributed_at x.device) s.connections) 1 (omega (arith, o, c)))
-          (attends_written x (agent_at s x.device) b.0 b.1.at_station (alerting_or_answered s x (every_among (ConnectionRule s) s.connections x r.connections i) e) b.1.ready b.1.busy) ]) refl
+          let b = serving s x r i e in let o = r.one_offer x.device in let c = distributed_counts s x.device in
+          and_from _ _ (le-leb (count (is_distributed_at x.device) s.connections) 1 (omega (arith, o, c)))
+          (attends_written x (agent_at s x.device) b.0 b.1.at_station (alerting_or_answered s x (every_among (ConnectionRule s) s.connections x r.connections i) e) b.1.ready b.1.busy)
+    ]) refl
 
 -- the station of an agent that isn't in null
 seat_of_agent : (s : Rows) (a : AgentRecord) (st : AgentState) → is_null st ≡ false → SeatedAs s a st → (d : ℕ) × (a.station ≡ Some d)
@@ -257,6 +237,7 @@ seat_of_agent s a st n h = there a.station (planned st n h)
     planned A.Ready n h = h.0
     planned A.Busy n h = h.0
     planned A.WorkingAfterCall n h = h.0
+
     there : (o : Option ℕ) → IsPlannedStation s o → (d : ℕ) × (o ≡ Some d)
     there None h = absurd h
     there (Some d) h = (d, refl)
@@ -289,7 +270,7 @@ talking_written s a r i e =
     let h = and_parts (is_answered x.0.state && is_some x.0.group) (x.0.device == d.0) x.1.1 in
     let q = and_parts (is_answered x.0.state) (is_some x.0.group) h.0 in
     any_some (λ (x : ConnectionRecord). has a.station x.device && is_distributed x && is_answered x.state) s.connections x.0 x.1.0
-      (and_from _ _ (and_from _ _ (subst (λ v. has a.station v ≡ true) (sym (eqb-true x.0.device d.0 h.1)) at) (and_parts (is_distributed x.0) (x.0.device == d.0) (talking_is d.0 x.0 x.1.1)).0) q.0)
+    (and_from _ _ (and_from _ _ (subst (λ v. has a.station v ≡ true) (sym (eqb-true x.0.device d.0 h.1)) at) (and_parts (is_distributed x.0) (x.0.device == d.0) (talking_is d.0 x.0 x.1.1)).0) q.0)
 
 occupied_written_by : (s : Rows) (a : AgentRecord) (d : ℕ) → has a.station d ≡ true → 1 ≤ count (distributed_at d) s.connections → is_occupied s a ≡ true
 unfolding is_occupied
@@ -297,7 +278,7 @@ occupied_written_by s a d at l =
     let x = one_that (distributed_at d) s.connections l in
     let h = and_parts (is_distributed x.0) (x.0.device == d) x.1.1 in
     any_some (λ (c : ConnectionRecord). has a.station c.device && is_distributed c) s.connections x.0 x.1.0
-      (and_from _ _ (subst (λ v. has a.station v ≡ true) (sym (eqb-true x.0.device d h.1)) at) h.0)
+    (and_from _ _ (subst (λ v. has a.station v ≡ true) (sym (eqb-true x.0.device d h.1)) at) h.0)
 
 pending_written : (s : Rows) (a : AgentRecord) → Rules s → Among a s.agents → is_some a.pending ≡ true → is_occupied s a ≡ true
 pending_written s a r i e =
@@ -337,19 +318,19 @@ after_written (Some q) (Some o) h = le-leb q o h
 countable_written : (s : Rows) (g : GroupRecord) → IsCountedUpTo s.last_stamp s.last_moment g → IsBalanced s g → is_countable s g ≡ true
 countable_written s g h b =
     and_from _ _ (and_from _ _ (and_from _ _ (and_from _ _ (le-leb g.figures.entered s.last_stamp h.0) (le-leb g.figures.answered g.figures.entered (omega (arith, b)))) (le-leb g.figures.abandoned g.figures.entered (omega (arith, b))))
-      (le-leb g.figures.moved g.figures.entered (omega (arith, b)))) (le-leb g.figures.waited (g.figures.answered * s.last_moment) h.1)
+    (le-leb g.figures.moved g.figures.entered (omega (arith, b)))) (le-leb g.figures.waited (g.figures.answered * s.last_moment) h.1)
 
 counters_written : (s : Rows) → KeepsRules s → keeps_counters s ≡ true
 unfolding keeps_counters
 counters_written s h =
     and_from _ _ (and_from _ _ (and_from _ _ (and_from _ _
-      (all_from (λ (a : AgentRecord). is_stamp s a.stamp && nat_le a.since s.last_moment) s.agents (λ a i. let t = every_among (AgentTimed s.last_stamp s.last_moment) s.agents a h.timed.agents i in
-        and_from _ _ (and_from _ _ (le-leb 1 a.stamp t.above) (le-leb a.stamp s.last_stamp t.stamp)) (le-leb a.since s.last_moment t.since)))
-      (all_from (λ (c : CallRecord). nat_le c.since s.last_moment) s.calls (λ c i. le-leb c.since s.last_moment (every_among (CallTimed s.last_moment) s.calls c h.timed.calls i))))
-      (all_from (is_timed s) s.connections (λ x i. let t = every_among (ConnectionTimed s.last_stamp s.last_moment) s.connections x h.timed.connections i in
-        and_from _ _ (and_from _ _ (and_from _ _ (place_written s x.place h.places t.place) (moment_written s x.queued t.queued)) (moment_written s x.offered t.offered)) (after_written x.queued x.offered t.order))))
-      (all_from (is_countable s) s.groups (λ g i. countable_written s g (every_among (IsCountedUpTo s.last_stamp s.last_moment) s.groups g h.figures i) (every_among (IsBalanced s) s.groups g h.balance i))))
-      (le-leb s.last_event (100000 * s.last_stamp) h.last_event)
+    (all_from (λ (a : AgentRecord). is_stamp s a.stamp && nat_le a.since s.last_moment) s.agents (λ a i. let t = every_among (AgentTimed s.last_stamp s.last_moment) s.agents a h.timed.agents i in
+    and_from _ _ (and_from _ _ (le-leb 1 a.stamp t.above) (le-leb a.stamp s.last_stamp t.stamp)) (le-leb a.since s.last_moment t.since)))
+    (all_from (λ (c : CallRecord). nat_le c.since s.last_moment) s.calls (λ c i. le-leb c.since s.last_moment (every_among (CallTimed s.last_moment) s.calls c h.timed.calls i))))
+    (all_from (is_timed s) s.connections (λ x i. let t = every_among (ConnectionTimed s.last_stamp s.last_moment) s.connections x h.timed.connections i in
+    and_from _ _ (and_from _ _ (and_from _ _ (place_written s x.place h.places t.place) (moment_written s x.queued t.queued)) (moment_written s x.offered t.offered)) (after_written x.queued x.offered t.order))))
+    (all_from (is_countable s) s.groups (λ g i. countable_written s g (every_among (IsCountedUpTo s.last_stamp s.last_moment) s.groups g h.figures i) (every_among (IsBalanced s) s.groups g h.balance i))))
+    (le-leb s.last_event (100000 * s.last_stamp) h.last_event)
 
 -- offers, monitors, balance
 
@@ -369,6 +350,17 @@ balance_written s h = all_from (is_balanced s) s.groups (λ g i. eq-eqb g.figure
 
 pub keeps_written : (s : Rows) → KeepsRules s → s.last_stamp ≤ s.limits.requests → BreaksNoRule s
 keeps_written s h l = broken_none s (record {
-    limits = limits_written s h.sizes l h.last_call h.last_monitor; order = order_written s h.rules.orders; device = device_written s h.rules.kinds; agent = agent_written s h.rules; call = call_written s h.rules;
-    connection = connection_written s h.rules; parties = parties_written s h.rules; live = live_written s h.rules; occupied = occupied_written s h.rules; counters = counters_written s h;
-    offer = offer_written s h.offers; monitor = monitor_written s h.monitors; balance = balance_written s h.balance })
+  limits = limits_written s h.sizes l h.last_call h.last_monitor;
+  order = order_written s h.rules.orders;
+  device = device_written s h.rules.kinds;
+  agent = agent_written s h.rules;
+  call = call_written s h.rules;
+  connection = connection_written s h.rules;
+  parties = parties_written s h.rules;
+  live = live_written s h.rules;
+  occupied = occupied_written s h.rules;
+  counters = counters_written s h;
+  offer = offer_written s h.offers;
+  monitor = monitor_written s h.monitors;
+  balance = balance_written s h.balance;
+})

@@ -1,5 +1,5 @@
 -- What each step keeps, every run keeps; and the state with which a run begins.
-use Rattle.std.proofs.Common.{◌≡◌, ℕ, List, [], ◌∷◌, ◌++◌, refl, sym, subst, append-nil, append_assoc, arith}
+use Rattle.std.proofs.Common.{ℕ, List, [], ◌∷◌, ◌++◌, refl, sym, subst, append-nil, append_assoc, arith}
 use Rattle.acd_terms.specs.Scans.{group_of, station_of, call_of}
 use Rattle.acd_terms.specs.Writes.{empty_rows}
 use Rattle.acd_terms.specs.Step.{step}
@@ -28,16 +28,19 @@ kept_by_run P f limits h asked = kept_on P f asked (empty_rows limits) [] h
 pub rules_first : (limits : Limits) → Rules (empty_rows limits)
 unfolding group_of station_of call_of
 rules_first limits = record {
-    orders = record { groups = tt; stations = tt; agents = tt; calls = tt; connections = tt; monitors = tt };
-    kinds = λ d h. absurd (cc (h));
-    agents = tt; calls = tt; connections = tt;
-    parties = λ c. refl;
-    one_open = λ c. omega arith;
-    one_live = λ d h. omega arith;
-    no_hold = λ d h l. refl;
-    one_offer = λ d. omega arith;
-    one_agent = λ d. omega arith;
-    ready = λ d h. omega arith;
-    busy = λ d h. refl;
-    pending = λ d h. omega arith;
-    free = λ d h. refl }
+  orders = record { groups = tt; stations = tt; agents = tt; calls = tt; connections = tt; monitors = tt };
+  kinds = λ d h. absurd (cc (h));
+  agents = tt;
+  calls = tt;
+  connections = tt;
+  parties = λ c. refl;
+  one_open = λ c. omega arith;
+  one_live = λ d h. omega arith;
+  no_hold = λ d h l. refl;
+  one_offer = λ d. omega arith;
+  one_agent = λ d. omega arith;
+  ready = λ d h. omega arith;
+  busy = λ d h. refl;
+  pending = λ d h. omega arith;
+  free = λ d h. refl;
+}

@@ -1,10 +1,10 @@
 -- How to show a fact of what a service answers: of each refusal, and of what follows where no test holds.
-use Rattle.std.proofs.Common.{◌≡◌, ℕ, Bool, true, false, List, [], ◌∷◌, ◌++◌, Option, Some, None, refl, sym, ◌∙◌, ap, subst}
+use Rattle.std.proofs.Common.{◌≡◌, Bool, true, false, List, [], ◌∷◌, ◌++◌, Option, Some, None, refl}
 use Rattle.acd_terms.specs.declared.rows.Rows.{Rows}
 use Rattle.acd_terms.specs.declared.answer.Refusal.{Refusal}
 use Rattle.acd_terms.specs.declared.moves.Move.{Move}
 use Rattle.acd_terms.specs.declared.moves.Served.{Served}
-use Rattle.acd_terms.specs.declared.moves.Served.TheVariants.{Refused, Done}
+use Rattle.acd_terms.specs.declared.moves.Served.TheVariants.{Refused}
 use Rattle.acd_terms.specs.Served.{refuse_if, with_found}
 use Rattle.acd_terms.specs.Moves.{moved, changed}
 

@@ -1,31 +1,27 @@
 -- What moves tell, balance and keep in order, all three together.
-use Rattle.std.proofs.Common.{◌≡◌, ℕ, ◌+◌, ◌<◌, ◌≤◌, ◌⊎◌, inl, inr, Bool, true, false, not, ◌&&◌, ◌||◌, cond, List, [], ◌∷◌, ◌++◌, Option, Some, None, refl, sym, ◌∙◌, ap, subst, arith, eq-eqb}
+use Rattle.std.proofs.Common.{◌≡◌, ℕ, ◌+◌, ◌<◌, ◌≤◌, Bool, true, false, not, ◌&&◌, ◌||◌, cond, List, [], ◌∷◌, ◌++◌, Option, Some, None, refl, sym, ◌∙◌, ap, subst, arith}
 use Rattle.std.specs.Prelude.{◌==◌}
-use Rattle.std.proofs.lemmas.Bool.{and_right, and_left, and_from, or_left, or_right, eqb-true}
-use Rattle.acd_terms.specs.Lists.{Among, IsAscending, find_by, put_by, remove_by, count}
-use Rattle.acd_terms.specs.Scans.{at_connection, connection_of, agent_of, group_of, station_of, agent_at, is_group, is_station, is_planned, is_idle, is_distributed, has}
-use Rattle.acd_terms.specs.States.{is_queued, is_alerting}
-use Rattle.acd_terms.specs.Writes.{with_group, with_station, with_agent, with_call, with_connection, with_monitor, without_call, without_connection, without_monitor}
+use Rattle.std.proofs.lemmas.Bool.{and_right, and_from}
+use Rattle.acd_terms.specs.Lists.{Among, find_by}
+use Rattle.acd_terms.specs.Scans.{at_connection, connection_of, agent_of, agent_at, is_group, is_planned, is_idle, is_distributed}
+use Rattle.acd_terms.specs.Writes.{with_group, with_station, with_agent, with_call, with_monitor, without_call, without_monitor}
 use Rattle.acd_terms.specs.Moves.{no_move, silent, reported, changed, moved}
 use Rattle.acd_terms.specs.CallMoves.{plain, queueing, met_at, arriving, arrival, arrive, destination_of}
-use Rattle.acd_terms.specs.AgentMoves.{in_state, state_report, go_to, go_from, become_busy, wait_for, log_on_at}
+use Rattle.acd_terms.specs.AgentMoves.{in_state, state_report, go_to, go_from, become_busy, wait_for}
 use Rattle.acd_terms.specs.Release.{release, release_agent, released, release_of}
 use Rattle.acd_terms.specs.Services.Talking.{busy_agent, occupy}
 use Rattle.acd_terms.specs.Columns.{columns_of}
 use Rattle.acd_terms.specs.Figures.{is_entry, is_no_answer}
-use Rattle.acd_terms.specs.Told.{state_by, Seat, seat_by}
-use Rattle.acd_terms.specs.Watched.{is_held_by, IsHeldAt, seat_of}
-use Rattle.acd_terms.specs.Rules.Plan.{connection_order}
+use Rattle.acd_terms.specs.Told.{seat_by}
+use Rattle.acd_terms.specs.Watched.{is_held_by, seat_of}
 use Rattle.acd_terms.specs.declared.rows.Rows.{Rows}
 use Rattle.acd_terms.specs.declared.record.AgentRecord.{AgentRecord}
 use Rattle.acd_terms.specs.declared.record.ConnectionRecord.{ConnectionRecord}
 use Rattle.acd_terms.specs.declared.state.AgentState.{AgentState}
 use Rattle.acd_terms.specs.declared.state.AgentState.TheVariants as A
-use Rattle.acd_terms.specs.declared.state.ConnectionState.{ConnectionState}
 use Rattle.acd_terms.specs.declared.state.ConnectionState.TheVariants as S
 use Rattle.acd_terms.specs.declared.state.Pending.{Pending}
 use Rattle.acd_terms.specs.declared.event.Cause.{Cause}
-use Rattle.acd_terms.specs.declared.event.Report.{Report}
 use Rattle.acd_terms.specs.declared.moves.Move.{Move}
 use Rattle.acd_terms.specs.declared.moves.Ending.{Ending}
 use Rattle.acd_terms.specs.declared.moves.Release.{Release}
@@ -33,11 +29,10 @@ use Rattle.acd_terms.specs.declared.moves.Release.TheVariants.{Stays, Goes}
 use Rattle.acd_terms.specs.declared.moves.Change.{Change}
 use Rattle.acd_terms.specs.declared.moves.Change.TheVariants.{Nothing, PutGroup, PutStation, PutAgent, PutCall, PutConnection, PutMonitor, RemoveCall, RemoveConnection, RemoveMonitor}
 use Rattle.acd_laws.specs.Counts.{is_open}
-use Rattle.acd_laws.specs.WatchedLaws.{seat}
 use Rattle.acd_laws.proofs.Lists.{one}
 use Rattle.acd_laws.proofs.Told.{Truthful, AllTruthful, truthful-append, truthful_put, truthful_nothing, truthful_agent, truthful_silent_agent}
-use Rattle.acd_laws.proofs.Balance.{Balances, balances-append, holding, held, holding_new, entries, leaves, entry_by, gone_by}
-use Rattle.acd_laws.proofs.Order.{OrderKept, stays, order-append, order_later, held_within, Enters, comes}
+use Rattle.acd_laws.proofs.Balance.{Balances, balances-append, holding, held, holding_new, entry_by, gone_by}
+use Rattle.acd_laws.proofs.Order.{OrderKept, stays, order-append, order_later, held_within, comes}
 
 pub record Sound (m b c : ℕ) (s : Rows) (ms : List Move) : Type 0 where
   pub truthful : AllTruthful s ms
@@ -48,7 +43,8 @@ pub sound-append : (m a b c : ℕ) (s : Rows) (ms ns : List Move) → Sound m a 
 sound-append m a b c s ms ns f g = record {
   truthful = truthful-append s ms ns f.truthful g.truthful;
   balances = balances-append s ms ns f.balances g.balances;
-  order = order-append m a b c s ms ns f.order g.order }
+  order = order-append m a b c s ms ns f.order g.order;
+}
 
 pub sound_later : (m b c : ℕ) (s : Rows) (ms : List Move) → b ≤ c → Sound m b b s ms → Sound m b c s ms
 sound_later m b c s ms l f = record { truthful = f.truthful; balances = f.balances; order = order_later m b c s ms l f.order }
@@ -93,7 +89,8 @@ sound_unheard m b s x t u =
     record {
       truthful = (t, tt);
       balances = λ g. let e = u.entry g in let f = u.gone g in let h : holding (changed s x.change) g ≡ holding s g = held_same (changed s x.change) s g same in omega (arith, e, f, h);
-      order = stays m b s (x ∷ []) (λ g. let e = u.entry g in omega (arith, e)) (λ g c p h. held_within s (changed s x.change) g c p (λ z a. subst (Among z) same a) h) }
+      order = stays m b s (x ∷ []) (λ g. let e = u.entry g in omega (arith, e)) (λ g c p h. held_within s (changed s x.change) g c p (λ z a. subst (Among z) same a) h);
+    }
   where
     held_same : (t v : Rows) (g : ℕ) → t.connections ≡ v.connections → holding t g ≡ holding v g
     held_same t v g e = rw e refl
@@ -152,8 +149,8 @@ sound_busy : (m b k : ℕ) (t : Rows) (o : Option AgentRecord) (station : ℕ) �
 sound_busy m b k t None station h = sound_unheard m b t no_move (truthful_nothing t) unheard_nothing
 sound_busy m b k t (Some a) station h =
     sound_unheard m b t (become_busy m k a station)
-      (truthful_agent t (record a { state = A.Busy; stamp = k; since = m }) (state_report A.Busy a.agent station) refl refl (ap (λ o. seat_by (columns_of (state_report A.Busy a.agent station)).kind (Some station) (seat_of o)) (sym (h a refl))))
-      (record { leaves = tt; entry = λ g. refl; gone = λ g. refl })
+    (truthful_agent t (record a { state = A.Busy; stamp = k; since = m }) (state_report A.Busy a.agent station) refl refl (ap (λ o. seat_by (columns_of (state_report A.Busy a.agent station)).kind (Some station) (seat_of o)) (sym (h a refl))))
+    (record { leaves = tt; entry = λ g. refl; gone = λ g. refl })
 
 pub sound_occupy : (m b k : ℕ) (s t : Rows) (x : ConnectionRecord) → ((a : AgentRecord) → agent_at s x.device ≡ Some a → agent_of t a.agent ≡ Some a) → Sound m b b t (occupy s m k x ∷ [])
 unfolding occupy
@@ -182,6 +179,7 @@ balances_arriving true i t m k call to cause e n g =
     and_yes : (b : Bool) → (b && true) ≡ b
     and_yes true = refl
     and_yes false = refl
+
     waits : (b c : Bool) → one (b && true) + one (c && false) ≡ one b
     waits true true = refl
     waits true false = refl
@@ -217,4 +215,6 @@ sound_arrive m b k s t call to cause l p n none new = record {
     new = new;
     call_is = call_arriving (is_group s to) (is_idle s to) m k call to;
     reported = call_arrival (is_group s to) (is_idle s to) call to cause;
-    queue = queue_arriving (is_group s to) (is_idle s to) m k call to cause n }) }
+    queue = queue_arriving (is_group s to) (is_idle s to) m k call to cause n;
+  });
+}

@@ -1,19 +1,16 @@
 -- What a put or a removal of one connection tells, balances and keeps in order.
-use Rattle.std.proofs.Common.{◌≡◌, ℕ, ◌+◌, ◌<◌, ◌≤◌, ◌⊎◌, inl, inr, Bool, true, false, not, ◌&&◌, ◌||◌, cond, List, [], ◌∷◌, ◌++◌, Option, Some, None, refl, sym, ◌∙◌, ap, subst, arith, eq-eqb}
+use Rattle.std.proofs.Common.{◌≡◌, ℕ, ◌+◌, ◌≤◌, Bool, true, false, ◌&&◌, ◌||◌, cond, [], ◌∷◌, Option, Some, None, refl, sym, ◌∙◌, ap, subst, arith, eq-eqb}
 use Rattle.std.specs.Prelude.{◌==◌}
-use Rattle.std.proofs.lemmas.Bool.{and_right, and_left, or_left, or_right, not-false, and_parts}
+use Rattle.std.proofs.lemmas.Bool.{and_right, or_left, or_right}
 use Rattle.acd_terms.specs.Lists.{Among, IsAscending, put_by, remove_by, count}
-use Rattle.acd_terms.specs.Scans.{at_connection, connection_of, agent_of, group_of, station_of, call_of, agent_at, is_group, is_station, is_planned, has}
-use Rattle.acd_terms.specs.States.{is_queued, is_alerting, is_answered, is_connected}
+use Rattle.acd_terms.specs.Scans.{at_connection, connection_of, agent_of, group_of, station_of, is_group, is_station, is_planned, has}
+use Rattle.acd_terms.specs.States.{is_queued, is_alerting}
 use Rattle.acd_terms.specs.Writes.{with_group, with_station, with_agent, with_call, with_connection, with_monitor, without_call, without_connection, without_monitor}
-use Rattle.acd_terms.specs.Moves.{no_move, silent, reported, changed, moved}
+use Rattle.acd_terms.specs.Moves.{changed}
 use Rattle.acd_terms.specs.Services.Clearing.{waiting_group}
-use Rattle.acd_terms.specs.Figures.{is_entry}
-use Rattle.acd_terms.specs.Watched.{is_held_by, IsHeldAt}
+use Rattle.acd_terms.specs.Watched.{is_held_by}
 use Rattle.acd_terms.specs.Rules.Plan.{connection_order}
-use Rattle.acd_terms.specs.Rules.Occupied.{waits_in, rings_from}
 use Rattle.acd_terms.specs.declared.rows.Rows.{Rows}
-use Rattle.acd_terms.specs.declared.record.AgentRecord.{AgentRecord}
 use Rattle.acd_terms.specs.declared.record.ConnectionRecord.{ConnectionRecord}
 use Rattle.acd_terms.specs.declared.state.ConnectionState.{ConnectionState}
 use Rattle.acd_terms.specs.declared.state.ConnectionState.TheVariants as S
@@ -21,12 +18,12 @@ use Rattle.acd_terms.specs.declared.event.Report.{Report}
 use Rattle.acd_terms.specs.declared.moves.Move.{Move}
 use Rattle.acd_terms.specs.declared.moves.Change.{Change}
 use Rattle.acd_terms.specs.declared.moves.Change.TheVariants.{Nothing, PutGroup, PutStation, PutAgent, PutCall, PutConnection, PutMonitor, RemoveCall, RemoveConnection, RemoveMonitor}
-use Rattle.acd_laws.specs.Counts.{is_open, HasColumns, StandsAt, open_of, Rules}
+use Rattle.acd_laws.specs.Counts.{is_open, HasColumns, open_of}
 use Rattle.acd_laws.proofs.Lists.{one, among-remove, counted, ascending-put, ascending-remove}
 use Rattle.acd_laws.proofs.State.{connections_total}
 use Rattle.acd_laws.proofs.Found.{count_less}
 use Rattle.acd_laws.proofs.Told.{Truthful}
-use Rattle.acd_laws.proofs.Balance.{holding, held, holding_new, holding_old, holding_less, entry_by, gone_by}
+use Rattle.acd_laws.proofs.Balance.{held, holding_new, holding_old, holding_less, entry_by, gone_by}
 use Rattle.acd_laws.proofs.Order.{stays, held_within, held_put}
 use Rattle.acd_laws.proofs.SoundMoves.{Sound}
 
@@ -62,12 +59,13 @@ ascending_less s c d h = ascending-remove connection_order (at_connection c d) s
 pub held_shut : (g : ℕ) (x : ConnectionRecord) → is_open x.state ≡ false → held g x ≡ 0
 held_shut g x e =
     (elim x.state as (λ st. is_open st ≡ false → held g (record x { state = st }) ≡ 0) [
-      S.Initiated ↦ λ _. none
+      | S.Initiated ↦ λ _. none
       | S.Connected ↦ λ _. none
       | S.Hold ↦ λ _. none
       | S.Alerting ↦ λ q. absurd (cc (q))
       | S.Queued ↦ λ q. absurd (cc (q))
-      | S.Fail ↦ λ q. absurd (cc (q)) ]) e
+      | S.Fail ↦ λ q. absurd (cc (q))
+    ]) e
   where
     none : one ((x.device == g) && false) + one (has x.group g && false) ≡ 0
     none = rw (and_right (x.device == g) false refl, and_right (has x.group g) false refl) refl
@@ -75,12 +73,13 @@ held_shut g x e =
 pub not_held : (g : ℕ) (x : ConnectionRecord) → is_open x.state ≡ false → is_held_by g x ≡ false
 not_held g x e =
     (elim x.state as (λ st. is_open st ≡ false → is_held_by g (record x { state = st }) ≡ false) [
-      S.Initiated ↦ λ _. refl
+      | S.Initiated ↦ λ _. refl
       | S.Connected ↦ λ _. refl
       | S.Hold ↦ λ _. refl
       | S.Alerting ↦ λ q. absurd (cc (q))
       | S.Queued ↦ λ q. absurd (cc (q))
-      | S.Fail ↦ λ q. absurd (cc (q)) ]) e
+      | S.Fail ↦ λ q. absurd (cc (q))
+    ]) e
 
 -- one that waits or rings is held by its group, any other by none
 pub held_is : (g : ℕ) (x : ConnectionRecord) → HasColumns x x.state → held g x ≡ one (has (waiting_group x) g)
@@ -88,9 +87,11 @@ held_is g x h = go x.state h
   where
     shut : one ((x.device == g) && false) + one (has x.group g && false) ≡ 0
     shut = rw (and_right (x.device == g) false refl, and_right (has x.group g) false refl) refl
+
     and_yes : (b : Bool) → (b && true) ≡ b
     and_yes true = refl
     and_yes false = refl
+
     go : (st : ConnectionState) → HasColumns x st → one ((x.device == g) && is_queued st) + one (has x.group g && is_alerting st) ≡ one (has (cond (is_queued st || is_alerting st) x.group None) g)
     go S.Queued c = rw (and_yes (x.device == g), and_right (has x.group g) false refl) (let e : one (x.device == g) ≡ one (has x.group g) = ap (λ o. one (has o g)) (sym c.group) in omega (arith, e))
     go S.Alerting c = rw (and_yes (has x.group g), and_right (x.device == g) false refl) (omega arith)
@@ -105,6 +106,7 @@ held_by_is g x h = go x.state h
     or_no : (b : Bool) → ((b && true) || false) ≡ b
     or_no true = refl
     or_no false = refl
+
     go : (st : ConnectionState) → HasColumns x st → ((is_queued st && (x.device == g)) || (is_alerting st && has x.group g)) ≡ has (cond (is_queued st || is_alerting st) x.group None) g
     go S.Queued c = either (x.device == g) ∙ ap (λ o. has o g) (sym c.group)
       where
@@ -147,7 +149,8 @@ pub sound_put_new : (m b : ℕ) (s : Rows) (y : ConnectionRecord) (o : Option Re
 sound_put_new m b s y o t none shut entry gone = record {
   truthful = (t, tt);
   balances = λ g. let h = holding_new s y g none in let e = held_shut g y shut in let f = entry g in let k = gone g in omega (arith, h, e, f, k);
-  order = stays m b s (put y o ∷ []) (λ g. let f = entry g in omega (arith, f)) (λ g c p h. held_put s (with_connection s y) s.connections y g c p (λ z a. a) (λ q. absurd (cc (q, not_held g y shut))) (connections_put s y) h) }
+  order = stays m b s (put y o ∷ []) (λ g. let f = entry g in omega (arith, f)) (λ g c p h. held_put s (with_connection s y) s.connections y g c p (λ z a. a) (λ q. absurd (cc (q, not_held g y shut))) (connections_put s y) h);
+}
 
 -- or in place of another, which its group lets go by the report
 pub sound_put_old : (m b : ℕ) (s : Rows) (x y : ConnectionRecord) (o : Option Report) → Truthful s (put y o) → IsAscending connection_order s.connections → connection_of s y.call y.device ≡ Some x
@@ -155,7 +158,8 @@ pub sound_put_old : (m b : ℕ) (s : Rows) (x y : ConnectionRecord) (o : Option 
 sound_put_old m b s x y o t asc there shut entry gone = record {
   truthful = (t, tt);
   balances = λ g. let h = holding_old s y x g asc there in let e = held_shut g y shut in let f = entry g in let k = gone g in omega (arith, h, e, f, k);
-  order = stays m b s (put y o ∷ []) (λ g. let f = entry g in omega (arith, f)) (λ g c p h. held_put s (with_connection s y) s.connections y g c p (λ z a. a) (λ q. absurd (cc (q, not_held g y shut))) (connections_put s y) h) }
+  order = stays m b s (put y o ∷ []) (λ g. let f = entry g in omega (arith, f)) (λ g c p h. held_put s (with_connection s y) s.connections y g c p (λ z a. a) (λ q. absurd (cc (q, not_held g y shut))) (connections_put s y) h);
+}
 
 -- a connection ends, which its group lets go by the report
 pub sound_remove : (m b : ℕ) (s : Rows) (x : ConnectionRecord) (o : Option Report) → Truthful s (remove x o) → connection_of s x.call x.device ≡ Some x
@@ -163,7 +167,8 @@ pub sound_remove : (m b : ℕ) (s : Rows) (x : ConnectionRecord) (o : Option Rep
 sound_remove m b s x o t there entry gone = record {
   truthful = (t, tt);
   balances = λ g. let h = holding_less s x.call x.device x g there in let f = entry g in let k = gone g in omega (arith, h, f, k);
-  order = stays m b s (remove x o ∷ []) (λ g. let f = entry g in omega (arith, f)) (λ g c p h. held_within s (without_connection s x.call x.device) g c p (removed_within s x.call x.device) h) }
+  order = stays m b s (remove x o ∷ []) (λ g. let f = entry g in omega (arith, f)) (λ g c p h. held_within s (without_connection s x.call x.device) g c p (removed_within s x.call x.device) h);
+}
 
 -- what other changes leave
 
@@ -213,6 +218,7 @@ open_gone s call x there xc most z a e q =
   where
     both : (a b : Bool) → a ≡ true → b ≡ true → (a && b) ≡ true
     both a b e f = rw (e, f) refl
+
     first : (a b : Bool) → b ≡ true → (a && b) ≡ a
     first true b e = e
     first false b e = refl

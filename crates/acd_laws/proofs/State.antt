@@ -1,17 +1,17 @@
 -- What the look-ups answer after each change.
-use Rattle.std.proofs.Common.{◌≡◌, ℕ, zero, suc, ◌+◌, ◌<◌, ◌≤◌, ◌⊎◌, inl, inr, Bool, true, false, not, ◌&&◌, ◌||◌, cond, List, [], ◌∷◌, ◌++◌, Option, Some, None, refl, sym, ◌∙◌, ap, subst, arith, length, eq-eqb}
+use Rattle.std.proofs.Common.{◌≡◌, ℕ, Bool, true, false, not, ◌&&◌, ◌||◌, cond, Option, Some, None, refl, sym, ◌∙◌, ap, subst, arith, eq-eqb}
 use Rattle.std.specs.Prelude.{◌==◌, is_some, find, filter}
 use Rattle.std.specs.List.{list_any}
 use Rattle.std.specs.Cmp.{IsTotalOrder, both_ways}
 use Rattle.std.specs.Ordering.{nat_cmp, ordering_then, is_eq}
 use Rattle.std.specs.declared.cmp.Ordering.{Ordering}
 use Rattle.std.specs.declared.cmp.Ordering.TheVariants.{Less, Equal, Greater}
-use Rattle.std.proofs.lemmas.Bool.{and_parts, and_from, eqb-true, eqb-false, ne_eqb, false_from_ne_true, and_left, and_right, cond-false}
+use Rattle.std.proofs.lemmas.Bool.{and_parts, and_from, eqb-true, false_from_ne_true, cond-false}
 use Rattle.std.proofs.lemmas.Bool.Decides.{nat_tests}
 use Rattle.std.proofs.lemmas.Cmp.{nat_cmp_total, on_total, then_total}
-use Rattle.acd_terms.specs.Lists.{find_by, put_by, remove_by, Among, IsAscending}
-use Rattle.acd_terms.specs.Scans.{at_group, at_station, at_agent, at_call, at_connection, at_monitor, group_of, station_of, agent_of, call_of, connection_of, monitor_of, is_planned, is_group, is_station}
-use Rattle.acd_terms.specs.Writes.{with_group, with_station, with_agent, with_call, with_connection, with_monitor, without_call, without_connection, without_monitor}
+use Rattle.acd_terms.specs.Lists.{put_by, Among, IsAscending}
+use Rattle.acd_terms.specs.Scans.{at_group, at_station, at_agent, at_call, at_connection, at_monitor, group_of, station_of, agent_of, call_of, connection_of, monitor_of, is_group, is_station}
+use Rattle.acd_terms.specs.Writes.{with_group, with_station, with_agent, with_call, with_connection, without_call, without_connection}
 use Rattle.acd_terms.specs.Rules.Plan.{group_order, station_order, agent_order, call_order, connection_order, monitor_order}
 use Rattle.acd_terms.specs.declared.rows.Rows.{Rows}
 use Rattle.acd_terms.specs.declared.record.GroupRecord.{GroupRecord}
@@ -20,7 +20,7 @@ use Rattle.acd_terms.specs.declared.record.AgentRecord.{AgentRecord}
 use Rattle.acd_terms.specs.declared.record.CallRecord.{CallRecord}
 use Rattle.acd_terms.specs.declared.record.ConnectionRecord.{ConnectionRecord}
 use Rattle.acd_terms.specs.declared.record.MonitorRecord.{MonitorRecord}
-use Rattle.acd_laws.proofs.Lists.{eq_is, is_eq_of, find_by_find, find-put_hit, find-put_miss, find-filter, find-filter_none, find_passes, find_among, find_found, any-find, any-put, remove_is, some_is}
+use Rattle.acd_laws.proofs.Lists.{eq_is, is_eq_of, find_by_find, find-put_hit, find-put_miss, find-filter, find-filter_none, find_passes, find_among, find_found, any-find, any-put, remove_is}
 
 pub eqb_self : (n : ℕ) → (n == n) ≡ true
 eqb_self n = eq-eqb n n refl
@@ -128,8 +128,9 @@ unfolding with_connection
 at_put s x c d =
     connection_find (with_connection s x) c d ∙
     (elim (is_of c d x) as (λ b. is_of c d x ≡ b → find (is_of c d) (put_by (connection_order x) s.connections x) ≡ cond b (Some x) (connection_of s c d)) [
-      true ↦ λ e. find-put_hit connection_order (is_of c d) x e (key_of x c d e) s.connections
-      | false ↦ λ e. find-put_miss connection_order (is_of c d) x e (not_key_of x c d e) s.connections ∙ sym (connection_find s c d) ]) refl
+      | true ↦ λ e. find-put_hit connection_order (is_of c d) x e (key_of x c d e) s.connections
+      | false ↦ λ e. find-put_miss connection_order (is_of c d) x e (not_key_of x c d e) s.connections ∙ sym (connection_find s c d)
+    ]) refl
 
 pub connections_without : (s : Rows) (a b : ℕ) → IsAscending connection_order s.connections → (without_connection s a b).connections ≡ filter (λ x. not (is_of a b x)) s.connections
 unfolding without_connection
@@ -145,42 +146,46 @@ pub at_remove : (s : Rows) (a b c d : ℕ) → IsAscending connection_order s.co
 at_remove s a b c d h =
     connection_find (without_connection s a b) c d ∙ ap (find (is_of c d)) (connections_without s a b h) ∙
     (elim (a == c && b == d) as (λ v. (a == c && b == d) ≡ v → find (is_of c d) (filter (λ x. not (is_of a b x)) s.connections) ≡ cond v None (connection_of s c d)) [
-      true ↦ λ e. let h = and_parts (a == c) (b == d) e in
+      | true ↦ λ e. let h = and_parts (a == c) (b == d) e in
           find-filter_none (is_of c d) (λ x. not (is_of a b x)) (λ y q. let g = is_of_true c d y q in
-            ap not (is_of_self a b y (g.0 ∙ sym (eqb-true a c h.0)) (g.1 ∙ sym (eqb-true b d h.1)))) s.connections
-      | false ↦ λ e. 
+          ap not (is_of_self a b y (g.0 ∙ sym (eqb-true a c h.0)) (g.1 ∙ sym (eqb-true b d h.1)))) s.connections
+      | false ↦ λ e.
           find-filter (is_of c d) (λ x. not (is_of a b x)) (λ y q. let g = is_of_true c d y q in
-            ap not (false_from_ne_true (is_of a b y) (λ r. let f = is_of_true a b y r in
-              cc (e, and_from (a == c) (b == d) (eq-eqb a c (sym f.0 ∙ g.0)) (eq-eqb b d (sym f.1 ∙ g.1)))))) s.connections ∙ sym (connection_find s c d) ]) refl
+          ap not (false_from_ne_true (is_of a b y) (λ r. let f = is_of_true a b y r in
+          cc (e, and_from (a == c) (b == d) (eq-eqb a c (sym f.0 ∙ g.0)) (eq-eqb b d (sym f.1 ∙ g.1)))))) s.connections ∙ sym (connection_find s c d)
+    ]) refl
 
 pub agent_put : (s : Rows) (a : AgentRecord) (n : ℕ) → agent_of (with_agent s a) n ≡ cond (a.agent == n) (Some a) (agent_of s n)
 unfolding with_agent
 agent_put s a n =
     agent_find (with_agent s a) n ∙
     (elim (a.agent == n) as (λ b. (a.agent == n) ≡ b → find (λ (x : AgentRecord). x.agent == n) (put_by (agent_order a) s.agents a) ≡ cond b (Some a) (agent_of s n)) [
-      true ↦ λ e. find-put_hit agent_order (λ (x : AgentRecord). x.agent == n) a e
+      | true ↦ λ e. find-put_hit agent_order (λ (x : AgentRecord). x.agent == n) a e
           (λ y q. cmp_self a.agent y.agent (eqb-true a.agent n e ∙ sym (eqb-true y.agent n q))) s.agents
       | false ↦ λ e. find-put_miss agent_order (λ (x : AgentRecord). x.agent == n) a e
-          (λ y q. ap (λ v. v == n) (sym (cmp_equal a.agent y.agent q)) ∙ e) s.agents ∙ sym (agent_find s n) ]) refl
+          (λ y q. ap (λ v. v == n) (sym (cmp_equal a.agent y.agent q)) ∙ e) s.agents ∙ sym (agent_find s n)
+    ]) refl
 
 pub call_put : (s : Rows) (a : CallRecord) (n : ℕ) → call_of (with_call s a) n ≡ cond (a.call == n) (Some a) (call_of s n)
 unfolding with_call
 call_put s a n =
     call_find (with_call s a) n ∙
     (elim (a.call == n) as (λ b. (a.call == n) ≡ b → find (λ (x : CallRecord). x.call == n) (put_by (call_order a) s.calls a) ≡ cond b (Some a) (call_of s n)) [
-      true ↦ λ e. find-put_hit call_order (λ (x : CallRecord). x.call == n) a e
+      | true ↦ λ e. find-put_hit call_order (λ (x : CallRecord). x.call == n) a e
           (λ y q. cmp_self a.call y.call (eqb-true a.call n e ∙ sym (eqb-true y.call n q))) s.calls
       | false ↦ λ e. find-put_miss call_order (λ (x : CallRecord). x.call == n) a e
-          (λ y q. ap (λ v. v == n) (sym (cmp_equal a.call y.call q)) ∙ e) s.calls ∙ sym (call_find s n) ]) refl
+          (λ y q. ap (λ v. v == n) (sym (cmp_equal a.call y.call q)) ∙ e) s.calls ∙ sym (call_find s n)
+    ]) refl
 
 pub call_remove : (s : Rows) (c n : ℕ) → IsAscending call_order s.calls → call_of (without_call s c) n ≡ cond (c == n) None (call_of s n)
 call_remove s c n h =
     call_find (without_call s c) n ∙ ap (find (λ (x : CallRecord). x.call == n)) (calls_without s c h) ∙
     (elim (c == n) as (λ v. (c == n) ≡ v → find (λ (x : CallRecord). x.call == n) (filter (λ (x : CallRecord). not (x.call == c)) s.calls) ≡ cond v None (call_of s n)) [
-      true ↦ λ e. find-filter_none (λ (x : CallRecord). x.call == n) (λ (x : CallRecord). not (x.call == c)) (λ y q.
-            ap not (eq-eqb y.call c (eqb-true y.call n q ∙ sym (eqb-true c n e)))) s.calls
+      | true ↦ λ e. find-filter_none (λ (x : CallRecord). x.call == n) (λ (x : CallRecord). not (x.call == c)) (λ y q.
+          ap not (eq-eqb y.call c (eqb-true y.call n q ∙ sym (eqb-true c n e)))) s.calls
       | false ↦ λ e. find-filter (λ (x : CallRecord). x.call == n) (λ (x : CallRecord). not (x.call == c)) (λ y q.
-            ap not (false_from_ne_true (y.call == c) (λ r. cc (e, eq-eqb c n (sym (eqb-true y.call c r) ∙ eqb-true y.call n q))))) s.calls ∙ sym (call_find s n) ]) refl
+          ap not (false_from_ne_true (y.call == c) (λ r. cc (e, eq-eqb c n (sym (eqb-true y.call c r) ∙ eqb-true y.call n q))))) s.calls ∙ sym (call_find s n)
+    ]) refl
 
 pub group_put : (s : Rows) (g : GroupRecord) (d : ℕ) → is_group (with_group s g) d ≡ (g.device == d || is_group s d)
 unfolding with_group

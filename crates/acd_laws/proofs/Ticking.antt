@@ -1,56 +1,36 @@
 -- tick: what each return of a call and each end of after-call work keeps, all of them keep.
-use Rattle.std.proofs.Common.{◌≡◌, ◌≢◌, ℕ, zero, suc, ◌+◌, ◌<◌, ◌≤◌, ◌⊎◌, inl, inr, Bool, true, false, not, ◌&&◌, ◌||◌, cond, List, [], ◌∷◌, ◌++◌, Option, Some, None, refl, sym, ◌∙◌, ap, subst, arith, length, eq-eqb}
-use Rattle.std.specs.Prelude.{◌==◌, if◌then◌else◌, IsTrue, IsFalse, is_some, is_none, filter, find, nat_le, max}
-use Rattle.std.specs.List.{list_any, list_all}
-use Rattle.std.specs.Cmp.{IsTotalOrder}
-use Rattle.std.specs.declared.cmp.Ordering.{Ordering}
-use Rattle.std.specs.declared.cmp.Ordering.TheVariants.{Less, Equal, Greater}
-use Rattle.std.proofs.lemmas.Bool.{and_parts, and_from, eqb-true, eqb-false, ne_eqb, false_from_ne_true, and_left, and_right, and_cases, or_cases, cases_eq, or_parts, not-false, not-true, or_right, or_left, cond-false, cond-true}
+use Rattle.std.proofs.Common.{◌≡◌, ℕ, inl, inr, true, false, cond, List, [], ◌∷◌, ◌++◌, Option, Some, None, refl, sym, ◌∙◌, ap, subst, arith, eq-eqb}
+use Rattle.std.specs.Prelude.{◌==◌, is_some}
+use Rattle.std.specs.declared.cmp.Ordering.TheVariants.{Less}
+use Rattle.std.proofs.lemmas.Bool.{and_parts, and_from, eqb-true, false_from_ne_true, cond-false}
 use Rattle.acd_terms.specs.declared.rows.Rows.{Rows}
-use Rattle.acd_terms.specs.declared.record.GroupRecord.{GroupRecord}
-use Rattle.acd_terms.specs.declared.record.StationRecord.{StationRecord}
 use Rattle.acd_terms.specs.declared.record.AgentRecord.{AgentRecord}
-use Rattle.acd_terms.specs.declared.record.CallRecord.{CallRecord}
 use Rattle.acd_terms.specs.declared.record.ConnectionRecord.{ConnectionRecord}
-use Rattle.acd_terms.specs.declared.record.MonitorRecord.{MonitorRecord}
-use Rattle.acd_terms.specs.declared.state.AgentState.{AgentState}
 use Rattle.acd_terms.specs.declared.state.AgentState.TheVariants as A
-use Rattle.acd_terms.specs.declared.state.Pending.{Pending}
-use Rattle.acd_terms.specs.declared.state.Pending.TheVariants as W
 use Rattle.acd_terms.specs.declared.state.ConnectionState.{ConnectionState}
 use Rattle.acd_terms.specs.declared.state.ConnectionState.TheVariants as S
-use Rattle.acd_terms.specs.declared.event.Cause.{Cause}
-use Rattle.acd_terms.specs.declared.event.Cause.TheVariants as C
 use Rattle.acd_terms.specs.declared.moves.Move.{Move}
-use Rattle.acd_terms.specs.declared.moves.Change.{Change}
-use Rattle.acd_terms.specs.declared.moves.Change.TheVariants.{Nothing, PutGroup, PutStation, PutAgent, PutCall, PutConnection, PutMonitor, RemoveCall, RemoveConnection, RemoveMonitor}
-use Rattle.acd_terms.specs.declared.moves.Destination.{Destination}
-use Rattle.acd_terms.specs.declared.moves.Destination.TheVariants as D
 use Rattle.acd_terms.specs.declared.moves.Ending.{Ending}
-use Rattle.acd_terms.specs.declared.moves.Ending.TheVariants.{Answered, Unanswered, NoAnswer}
+use Rattle.acd_terms.specs.declared.moves.Ending.TheVariants.{NoAnswer}
 use Rattle.acd_terms.specs.declared.moves.Release.{Release}
 use Rattle.acd_terms.specs.declared.moves.Release.TheVariants.{Stays, Goes}
-use Rattle.acd_terms.specs.declared.moves.Served.{Served}
-use Rattle.acd_terms.specs.declared.moves.Served.TheVariants.{Refused, Done}
-use Rattle.acd_terms.specs.declared.answer.Refusal.{Refusal}
-use Rattle.acd_terms.specs.Lists.{find_by, put_by, remove_by, count, total, Among, Every, AllAfter, IsAscending}
-use Rattle.acd_terms.specs.States.{is_null, is_ready, is_busy, is_working_after_call, is_initiated, is_alerting, is_connected, is_hold, is_queued, is_fail, is_answered, is_live, is_occupying, state_wanted, is_in}
-use Rattle.acd_terms.specs.Scans.{at_group, at_station, at_agent, at_call, at_connection, at_monitor, group_of, station_of, agent_of, call_of, connection_of, monitor_of, is_group, is_station, is_planned, has, agent_at, connections_of, other_of, is_distributed, is_live_at, is_taken, is_idle, is_occupied, waiting_in, is_idle_there, is_eligible, eligible_in, is_calling, queued_in_all}
-use Rattle.acd_terms.specs.Writes.{with_group, with_station, with_agent, with_call, with_connection, with_monitor, without_call, without_connection, without_monitor, with_last}
-use Rattle.acd_terms.specs.Moves.{no_move, silent, reported, changed, moved}
-use Rattle.acd_terms.specs.CallMoves.{plain, queueing, begin, connect_caller, initiate, originate, met_at, destination_of, arriving, arrival, arrive, talking, answer, hold, retrieve, ringing, offer, go_back, divert, transfer, clear, end_call}
-use Rattle.acd_terms.specs.AgentMoves.{kept_in, in_state, go_to, go_from, log_on_at, become_busy, wait_for}
-use Rattle.acd_terms.specs.Release.{release_of, released, release_agent, ending_of, release}
-use Rattle.acd_terms.specs.Served.{refuse_if, with_found, moves_of}
-use Rattle.acd_terms.specs.Rules.Plan.{group_order, station_order, agent_order, call_order, connection_order, monitor_order}
-use Rattle.acd_laws.specs.Counts.{RulesBut, Rules, Orders, IsUnseated, IsPlannedStation, IsPlannedGroup, SeatedAs, AgentRule, CallRule, Bare, InQueue, Offered, AlertingColumns, HasColumns, GroupColumn, IsCaller, StandsAt, ConnectionRule, is_open, of_call, initiated_of, open_of, live_at, alerting_at, held_at, distributed_at, ringing_at, talking_at, seated_at, ready_at, busy_at, pending_at, two_if}
-use Rattle.acd_laws.proofs.Lists.{one, find-put_hit, find-put_miss, find-filter, find-filter_none, find_passes, find_among, find_none, none_found, find_found, some_found, any-find, any-put, any_none, any_some, any_found, filter_among, among-filter, after_among, ascending-put, ascending-filter, ascending-remove, count-put_new, count-put_old, count-put_most, count-remove_most, count-removed, every_among, every_from, every-put, every-remove, among-remove, among-put, among-put_other, among-remove_other, counted, none_counted, fewer, count_same, two_counted, both_fewer, count_zero, none_of_zero, the_one, some_counted, all_true, all_from, count-append, total-append, count_length, none_from, some_from, some_is, eq_is, is_eq_of}
-use Rattle.acd_laws.proofs.State.{eqb_self, cmp_equal, cmp_self, key_is, is_of, is_of_true, is_of_self, order_equal, order_same, connection_key, groups_total, stations_total, agents_total, calls_total, connections_total, monitors_total, connection_find, agent_find, call_find, group_find, station_find, monitor_find, is_group_any, is_station_any, at_put, connections_without, calls_without, at_remove, agent_put, call_put, call_remove, group_put, station_put, found_key, own_key, connection_among, connection_found, agent_among, agent_key, agent_own, agent_found, call_among, call_key, call_found, put_other, removed_other, still_none}
+use Rattle.acd_terms.specs.Lists.{remove_by, Among, IsAscending}
+use Rattle.acd_terms.specs.States.{is_working_after_call, is_alerting}
+use Rattle.acd_terms.specs.Scans.{at_connection, agent_of, connection_of, agent_at, is_distributed}
+use Rattle.acd_terms.specs.Writes.{with_agent, with_connection, without_connection}
+use Rattle.acd_terms.specs.Moves.{no_move, changed, moved}
+use Rattle.acd_terms.specs.CallMoves.{queueing}
+use Rattle.acd_terms.specs.AgentMoves.{in_state, go_from}
+use Rattle.acd_terms.specs.Release.{release_of, released, release_agent, release}
+use Rattle.acd_terms.specs.Rules.Plan.{agent_order, connection_order}
+use Rattle.acd_laws.specs.Counts.{Rules, is_open, open_of}
+use Rattle.acd_laws.proofs.Lists.{filter_among, after_among, ascending-filter, among-put_other, among-remove_other, two_counted, some_from}
+use Rattle.acd_laws.proofs.State.{eqb_self, cmp_self, is_of, is_of_true, order_equal, order_same, connection_key, agent_put, agent_found}
 use Rattle.std.proofs.Common.{append_assoc, append-nil}
 use Rattle.acd_terms.specs.declared.event.Event.{Event}
 use Rattle.acd_terms.specs.Moves.{events_of}
 use Rattle.acd_terms.specs.Tick.{is_overdue_offer, is_overdue, overdue_in, return_to, return_moves, is_rested, rested_in, rest_moves, each, returns, rests, tick, is_over_in}
-use Rattle.acd_laws.proofs.Deciding.{events-append}
+use Rattle.acd_laws.proofs.MoveEvents.{events-append}
 use Rattle.acd_laws.proofs.Serving.{moved-append}
 use Rattle.acd_laws.proofs.Found.{connection_there}
 use Rattle.acd_laws.proofs.KeptReturn.{kept_return_to}
@@ -67,7 +47,7 @@ kept_nothing P m s es h = subst (P s) (sym (append-nil es)) h
 pub kept-append : (P : Rows → List Event → Type 0) (m : ℕ) (s : Rows) (es : List Event) (ms ns : List Move) → Kept P m (moved s ms) (es ++ events_of m ms) ns → Kept P m s es (ms ++ ns)
 kept-append P m s es ms ns h =
     subst (λ t. P t (es ++ events_of m (ms ++ ns))) (sym (moved-append s ms ns))
-      (subst (P (moved (moved s ms) ns)) (append_assoc es (events_of m ms) (events_of m ns) ∙ ap (λ qs. es ++ qs) (sym (events-append m ms ns))) h)
+    (subst (P (moved (moved s ms) ns)) (append_assoc es (events_of m ms) (events_of m ns) ∙ ap (λ qs. es ++ qs) (sym (events-append m ms ns))) h)
 
 -- a release leaves the connections
 
@@ -84,7 +64,9 @@ pub release_connections : (s t : Rows) (x : ConnectionRecord) (how : Ending) (m 
 unfolding release
 release_connections s t x how m k =
     elim (is_distributed x) as (λ b. (changed t (cond b (release_agent m k (agent_at s x.device) x.device how) no_move).change).connections ≡ t.connections) [
-      true ↦ released_connections t (agent_at s x.device) x.device how m k | false ↦ refl ]
+      | true ↦ released_connections t (agent_at s x.device) x.device how m k
+      | false ↦ refl
+    ]
 
 -- offers that go back, one after the other
 
@@ -92,9 +74,9 @@ pub return_stays : (t : Rows) (m k g : ℕ) (x z : ConnectionRecord) → Among z
 unfolding with_connection without_connection
 return_stays t m k g x z a ne =
     subst (Among z) (sym (release_connections t _ x NoAnswer m k))
-      (among-put_other (at_connection x.call g) (queueing x.call g x.place x.queued) (remove_by (at_connection x.call x.device) t.connections) z
-        (among-remove_other (at_connection x.call x.device) t.connections z a (connection_key x.call x.device z ∙ false_from_ne_true (is_of x.call x.device z) (λ e. ne (is_of_true x.call x.device z e).0)))
-        (λ e. ne (sym (order_equal (queueing x.call g x.place x.queued) z e).0)))
+    (among-put_other (at_connection x.call g) (queueing x.call g x.place x.queued) (remove_by (at_connection x.call x.device) t.connections) z
+    (among-remove_other (at_connection x.call x.device) t.connections z a (connection_key x.call x.device z ∙ false_from_ne_true (is_of x.call x.device z) (λ e. ne (is_of_true x.call x.device z e).0)))
+    (λ e. ne (sym (order_equal (queueing x.call g x.place x.queued) z e).0)))
 
 opens : (st : ConnectionState) → is_alerting st ≡ true → is_open st ≡ true
 opens S.Alerting e = refl
@@ -108,7 +90,7 @@ opens S.Fail e = absurd (cc (e))
 pub other_call : (t : Rows) (x z : ConnectionRecord) → Rules t → Among x t.connections → Among z t.connections → is_alerting x.state ≡ true → is_alerting z.state ≡ true → connection_order x z ≡ Less → z.call ≡ x.call → ⊥
 other_call t x z r a b ax az l e =
     let two = two_counted (open_of x.call) t.connections x z a b (and_from (is_open x.state) (x.call == x.call) (opens x.state ax) (eqb_self x.call)) (and_from (is_open z.state) (z.call == x.call) (opens z.state az) (eq-eqb z.call x.call e))
-      (λ q. cc (l, order_same x z (ap (λ (w : ConnectionRecord). w.call) q) (ap (λ (w : ConnectionRecord). w.device) q))) in
+    (λ q. cc (l, order_same x z (ap (λ (w : ConnectionRecord). w.call) q) (ap (λ (w : ConnectionRecord). w.device) q))) in
     let o = r.one_open x.call in absurd (omega (arith, two, o))
 
 -- what a return of a call keeps
@@ -143,9 +125,11 @@ returns_keep P m k f t es (x ∷ xs) so b r h =
     let r1 : Rules (moved t one) = subst (λ ms. Rules (moved t ms)) same (kept_return_to t m k g.0 x r own bx.alerting g.1) in
     let h1 : Kept P m t es one = subst (Kept P m t es) same (f t es x g.0 r h own bx.alerting g.1) in
     let ih = returns_keep P m k f (moved t one) (es ++ events_of m one) xs so.1
-      (λ z a. let bz = b z (inr a) in record {
-        there = subst (λ ms. Among z (moved t ms).connections) same (return_stays t m k g.0 x z bz.there (other_call t x z r bx.there bz.there bx.alerting bz.alerting (after_among connection_order x xs z so.0 a)));
-        alerting = bz.alerting; grouped = bz.grouped }) r1 h1 in
+    (λ z a. let bz = b z (inr a) in record {
+      there = subst (λ ms. Among z (moved t ms).connections) same (return_stays t m k g.0 x z bz.there (other_call t x z r bx.there bz.there bx.alerting bz.alerting (after_among connection_order x xs z so.0 a)));
+      alerting = bz.alerting;
+      grouped = bz.grouped;
+    }) r1 h1 in
     (subst Rules (sym (moved-append t one rest)) ih.0, kept-append P m t es one rest ih.1)
 
 -- ends of after-call work, one after the other
@@ -164,8 +148,8 @@ rests_keep P m k f t es (a ∷ xs) so b r h =
     let r1 : Rules (moved t one) = kept_rest_moves t m k a r ba.0 ba.1 in
     let h1 : Kept P m t es one = f t es a r h ba.0 ba.1 in
     let ih = rests_keep P m k f (moved t one) (es ++ events_of m one) xs so.1
-      (λ c i. let bc = b c (inr i) in
-        (rest_stays t m k a a.station c.agent (false_from_ne_true (a.agent == c.agent) (λ q. cc (after_among agent_order a xs c so.0 i, cmp_self a.agent c.agent (eqb-true a.agent c.agent q)))) ∙ bc.0, bc.1)) r1 h1 in
+    (λ c i. let bc = b c (inr i) in
+    (rest_stays t m k a a.station c.agent (false_from_ne_true (a.agent == c.agent) (λ q. cc (after_among agent_order a xs c so.0 i, cmp_self a.agent c.agent (eqb-true a.agent c.agent q)))) ∙ bc.0, bc.1)) r1 h1 in
     (subst Rules (sym (moved-append t one rest)) ih.0, kept-append P m t es one rest ih.1)
 
 overdue_back : (s : Rows) (m : ℕ) (z : ConnectionRecord) → Among z (overdue_in s m) → Back s z

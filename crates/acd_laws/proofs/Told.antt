@@ -1,5 +1,5 @@
 -- What the reports tell of connections and agents: by each move.
-use Rattle.std.proofs.Common.{◌≡◌, ℕ, ◌+◌, Bool, true, false, not, ◌&&◌, ◌||◌, cond, List, [], ◌∷◌, ◌++◌, Option, Some, None, refl, sym, ◌∙◌, ap, subst}
+use Rattle.std.proofs.Common.{◌≡◌, ℕ, ◌+◌, Bool, true, false, ◌&&◌, ◌||◌, cond, List, [], ◌∷◌, ◌++◌, Option, Some, None, refl, sym, ◌∙◌, ap}
 use Rattle.std.specs.Prelude.{◌==◌, option_map}
 use Rattle.std.proofs.lemmas.Bool.{and_right, eqb-true}
 use Rattle.acd_terms.specs.Lists.{IsAscending}
@@ -7,7 +7,7 @@ use Rattle.acd_terms.specs.Scans.{connection_of, agent_of, group_of, station_of,
 use Rattle.acd_terms.specs.Writes.{with_group, with_station, with_agent, with_call, with_connection, with_monitor, without_call, without_connection, without_monitor}
 use Rattle.acd_terms.specs.Moves.{no_move, silent, reported, changed, moved, with_event, events_of}
 use Rattle.acd_terms.specs.Columns.{columns_of}
-use Rattle.acd_terms.specs.Told.{after, connection_told, names, state_by, Seat, seat_told, seat_by}
+use Rattle.acd_terms.specs.Told.{after, connection_told, names, state_by, seat_told, seat_by}
 use Rattle.acd_terms.specs.Watched.{state_at, seat_of}
 use Rattle.acd_terms.specs.Step.{numbered}
 use Rattle.acd_terms.specs.Rules.Plan.{connection_order}
@@ -97,21 +97,25 @@ seat_untold s r n e = rw e refl
 pub truthful_put : (s : Rows) (x : ConnectionRecord) (r : Report) → (columns_of r).call ≡ Some x.call → (columns_of r).device ≡ Some x.device → (columns_of r).agent ≡ None
     → state_by (columns_of r).kind ≡ Some x.state → is_planned s x.device ≡ true → Truthful s (reported (PutConnection x) r)
 truthful_put s x r e f a k p = record {
-    connections = λ c d. shown_put s x c d ∙
+  connections = λ c d. shown_put s x c d ∙
       (elim (is_of c d x) as (λ b. is_of c d x ≡ b → cond (is_planned s d) (state_of (cond b (Some x) (connection_of s c d))) None ≡ cond b (state_by (columns_of r).kind) (shown s c d)) [
-        true ↦ λ q. rw (← (is_of_true c d x q).1, p) (sym k)
-        | false ↦ λ q. refl ]) refl
+        | true ↦ λ q. rw (← (is_of_true c d x q).1, p) (sym k)
+        | false ↦ λ q. refl
+      ]) refl
       ∙ ap (λ b. cond b (state_by (columns_of r).kind) (shown s c d)) (sym (named_as r x.call x.device c d e f));
-    agents = λ n. seat_put s x n ∙ seat_untold s r n a }
+  agents = λ n. seat_put s x n ∙ seat_untold s r n a;
+}
 
 -- one that is outside the plan, with none
 pub truthful_outside : (s : Rows) (x : ConnectionRecord) → is_planned s x.device ≡ false → Truthful s (silent (PutConnection x))
 truthful_outside s x p = record {
-    connections = λ c d. shown_put s x c d ∙
+  connections = λ c d. shown_put s x c d ∙
       (elim (is_of c d x) as (λ b. is_of c d x ≡ b → cond (is_planned s d) (state_of (cond b (Some x) (connection_of s c d))) None ≡ shown s c d) [
-        true ↦ λ q. rw (← (is_of_true c d x q).1, p) refl
-        | false ↦ λ q. refl ]) refl;
-    agents = λ n. seat_put s x n }
+        | true ↦ λ q. rw (← (is_of_true c d x q).1, p) refl
+        | false ↦ λ q. refl
+      ]) refl;
+  agents = λ n. seat_put s x n;
+}
 
 shown_remove : (s : Rows) (a b c d : ℕ) → IsAscending connection_order s.connections → shown (without_connection s a b) c d ≡ cond (is_planned s d) (state_of (cond (a == c && b == d) None (connection_of s c d))) None
 unfolding without_connection group_of station_of
@@ -125,12 +129,14 @@ seat_remove s a b n = refl
 pub truthful_remove : (s : Rows) (a b : ℕ) (r : Report) → IsAscending connection_order s.connections → (columns_of r).call ≡ Some a → (columns_of r).device ≡ Some b → (columns_of r).agent ≡ None
     → state_by (columns_of r).kind ≡ None → Truthful s (reported (RemoveConnection a b) r)
 truthful_remove s a b r h e f n k = record {
-    connections = λ c d. shown_remove s a b c d h ∙
+  connections = λ c d. shown_remove s a b c d h ∙
       (elim (a == c && b == d) as (λ v. cond (is_planned s d) (state_of (cond v None (connection_of s c d))) None ≡ cond v (state_by (columns_of r).kind) (shown s c d)) [
-        true ↦ both_none (is_planned s d) ∙ sym k
-        | false ↦ refl ])
+        | true ↦ both_none (is_planned s d) ∙ sym k
+        | false ↦ refl
+      ])
       ∙ ap (λ v. cond v (state_by (columns_of r).kind) (shown s c d)) (sym (named_as r a b c d e f));
-    agents = λ m. seat_remove s a b m ∙ seat_untold s r m n }
+  agents = λ m. seat_remove s a b m ∙ seat_untold s r m n;
+}
 
 -- moves that nobody sees
 
@@ -165,11 +171,13 @@ seat_group s g n = refl
 
 pub truthful_group : (s : Rows) (g : GroupRecord) → ((call : ℕ) → connection_of s call g.device ≡ None) → Truthful s (silent (PutGroup g))
 truthful_group s g h = record {
-    connections = λ c d. shown_group s g c d ∙ ap (λ v. cond (v || is_station s d) (state_at s c d) None) (group_put s g d) ∙
+  connections = λ c d. shown_group s g c d ∙ ap (λ v. cond (v || is_station s d) (state_at s c d) None) (group_put s g d) ∙
       (elim (g.device == d) as (λ b. (g.device == d) ≡ b → cond ((b || is_group s d) || is_station s d) (state_at s c d) None ≡ shown s c d) [
-        true ↦ λ q. rw (← eqb-true g.device d q, h c) (sym (both_none (is_planned s g.device)))
-        | false ↦ λ q. refl ]) refl;
-    agents = λ n. seat_group s g n }
+        | true ↦ λ q. rw (← eqb-true g.device d q, h c) (sym (both_none (is_planned s g.device)))
+        | false ↦ λ q. refl
+      ]) refl;
+  agents = λ n. seat_group s g n;
+}
 
 shown_station : (s : Rows) (t : StationRecord) (c d : ℕ) → shown (with_station s t) c d ≡ cond (is_group s d || is_station (with_station s t) d) (state_at s c d) None
 unfolding with_station group_of connection_of
@@ -181,11 +189,13 @@ seat_station s t n = refl
 
 pub truthful_station : (s : Rows) (t : StationRecord) → ((call : ℕ) → connection_of s call t.device ≡ None) → Truthful s (silent (PutStation t))
 truthful_station s t h = record {
-    connections = λ c d. shown_station s t c d ∙ ap (λ v. cond (is_group s d || v) (state_at s c d) None) (station_put s t d) ∙
+  connections = λ c d. shown_station s t c d ∙ ap (λ v. cond (is_group s d || v) (state_at s c d) None) (station_put s t d) ∙
       (elim (t.device == d) as (λ b. (t.device == d) ≡ b → cond (is_group s d || (b || is_station s d)) (state_at s c d) None ≡ shown s c d) [
-        true ↦ λ q. rw (← eqb-true t.device d q, h c) (both_none (is_group s t.device || true) ∙ sym (both_none (is_planned s t.device)))
-        | false ↦ λ q. refl ]) refl;
-    agents = λ n. seat_station s t n }
+        | true ↦ λ q. rw (← eqb-true t.device d q, h c) (both_none (is_group s t.device || true) ∙ sym (both_none (is_planned s t.device)))
+        | false ↦ λ q. refl
+      ]) refl;
+  agents = λ n. seat_station s t n;
+}
 
 -- moves of agents
 
@@ -200,18 +210,22 @@ shown_untold s r c d e = rw e refl
 pub truthful_agent : (s : Rows) (a : AgentRecord) (r : Report) → (columns_of r).agent ≡ Some a.agent → (columns_of r).call ≡ None
     → seat_of (Some a) ≡ seat_by (columns_of r).kind (columns_of r).device (seat s a.agent) → Truthful s (reported (PutAgent a) r)
 truthful_agent s a r e f q = record {
-    connections = λ c d. shown_agent s a c d ∙ shown_untold s r c d f;
-    agents = λ n. ap seat_of (agent_put s a n) ∙
+  connections = λ c d. shown_agent s a c d ∙ shown_untold s r c d f;
+  agents = λ n. ap seat_of (agent_put s a n) ∙
       (elim (a.agent == n) as (λ b. (a.agent == n) ≡ b → seat_of (cond b (Some a) (agent_of s n)) ≡ cond b (seat_by (columns_of r).kind (columns_of r).device (seat s n)) (seat s n)) [
-        true ↦ λ w. rw (← eqb-true a.agent n w) q
-        | false ↦ λ w. refl ]) refl
-      ∙ ap (λ o. cond (has o n) (seat_by (columns_of r).kind (columns_of r).device (seat s n)) (seat s n)) (sym e) }
+        | true ↦ λ w. rw (← eqb-true a.agent n w) q
+        | false ↦ λ w. refl
+      ]) refl
+      ∙ ap (λ o. cond (has o n) (seat_by (columns_of r).kind (columns_of r).device (seat s n)) (seat s n)) (sym e);
+}
 
 -- or with none, where nothing is seen of the change
 pub truthful_silent_agent : (s : Rows) (a : AgentRecord) → seat_of (Some a) ≡ seat s a.agent → Truthful s (silent (PutAgent a))
 truthful_silent_agent s a q = record {
-    connections = λ c d. shown_agent s a c d;
-    agents = λ n. ap seat_of (agent_put s a n) ∙
+  connections = λ c d. shown_agent s a c d;
+  agents = λ n. ap seat_of (agent_put s a n) ∙
       (elim (a.agent == n) as (λ b. (a.agent == n) ≡ b → seat_of (cond b (Some a) (agent_of s n)) ≡ seat s n) [
-        true ↦ λ w. rw (← eqb-true a.agent n w) q
-        | false ↦ λ w. refl ]) refl }
+        | true ↦ λ w. rw (← eqb-true a.agent n w) q
+        | false ↦ λ w. refl
+      ]) refl;
+}

@@ -1,20 +1,18 @@
 -- The reports of every run tell its state; every run is balanced, and leaves no offer.
-use Rattle.std.proofs.Common.{◌≡◌, ℕ, ◌+◌, ◌<◌, ◌≤◌, ◌⊎◌, inl, inr, Bool, true, false, not, ◌&&◌, ◌||◌, cond, List, [], ◌∷◌, ◌++◌, Option, Some, None, refl, sym, ◌∙◌, ap, subst, length, arith, eq-eqb}
-use Rattle.std.specs.Prelude.{option_map, ◌==◌}
+use Rattle.std.proofs.Common.{◌≡◌, ℕ, ◌+◌, inl, inr, Bool, true, false, not, ◌&&◌, ◌||◌, cond, List, [], ◌++◌, Option, Some, None, refl, sym, ◌∙◌, ap, subst, length, arith, eq-eqb}
+use Rattle.std.specs.Prelude.{option_map}
 use Rattle.std.proofs.lemmas.Bool.{or_left, or_right}
-use Rattle.acd_terms.specs.Lists.{Among, count}
 use Rattle.acd_terms.specs.Scans.{connection_of, agent_of, call_of, group_of, station_of, is_group, is_station, is_planned, is_occupied, is_taken, is_eligible, waiting_in, eligible_in}
 use Rattle.acd_terms.specs.Writes.{empty_rows, with_last}
 use Rattle.acd_terms.specs.Moves.{moved, events_of}
 use Rattle.acd_terms.specs.Figures.{figures_of, sum_of_figures, counting, with_figures}
 use Rattle.acd_terms.specs.Offers.{HasNoOffer}
-use Rattle.acd_terms.specs.Told.{after, connection_told, seat_told, last_entry}
-use Rattle.acd_terms.specs.Watched.{state_at, is_caller, is_external_caller, IsHeldAt, InOrder, IsWatched}
+use Rattle.acd_terms.specs.Told.{after, connection_told, seat_told}
+use Rattle.acd_terms.specs.Watched.{state_at, is_caller, is_external_caller, IsHeldAt, IsWatched}
 use Rattle.acd_terms.specs.Services.Serve.{serve}
 use Rattle.acd_terms.specs.Distribution.{distribution}
 use Rattle.acd_terms.specs.Served.{moves_of}
 use Rattle.acd_terms.specs.Step.{numbered, executed_moment, next_stamp, step_moves, step}
-use Rattle.acd_terms.specs.Rules.Occupied.{waits_in, rings_from}
 use Rattle.acd_terms.specs.declared.rows.Rows.{Rows}
 use Rattle.acd_terms.specs.declared.rows.Limits.{Limits}
 use Rattle.acd_terms.specs.declared.record.Figures.{Figures}
@@ -35,7 +33,7 @@ use Rattle.acd_laws.proofs.Members.{mapped_among}
 use Rattle.acd_laws.proofs.State.{found_key}
 use Rattle.acd_laws.proofs.Serving.{moved-append}
 use Rattle.acd_laws.proofs.Found.{connection_rule}
-use Rattle.acd_laws.proofs.CountedEvents.{figures_joined, figures_numbered, no_events}
+use Rattle.acd_laws.proofs.CountedEvents.{figures_joined, figures_numbered}
 use Rattle.acd_laws.proofs.Told.{after-append, after-numbered}
 use Rattle.acd_laws.proofs.Balance.{holding}
 use Rattle.acd_laws.proofs.Order.{Ordered}
@@ -68,7 +66,8 @@ ordered_ended : (t : Rows) (es : List Event) (k m n : ℕ) (events : List Event)
 unfolding with_last with_figures
 ordered_ended t es k m n events o = record {
   in_order = λ g c d p q a b l. o.in_order g c d p q (back g c p a) (back g d q b) l;
-  up_to = record { entries = o.up_to.entries; places = λ g c p a. o.up_to.places g c p (back g c p a) } }
+  up_to = record { entries = o.up_to.entries; places = λ g c p a. o.up_to.places g c p (back g c p a) };
+}
   where
     back : (g c p : ℕ) → IsHeldAt (ended t es k m n) g c p → IsHeldAt t g c p
     back g c p h = record { connection = h.connection; there = h.there; held = h.held; of_call = h.of_call; at_place = h.at_place }
@@ -92,11 +91,12 @@ tells_ended s t events es k m told f =
     let c = counters_ended t es k m n in
     record {
       connections = λ call device. shown_ended t es k m n call device ∙ f.connections call device ∙ ap (λ v. after (connection_told call device) v es) (told.connections call device)
-        ∙ sym (after-append (connection_told call device) None events (numbered s.last_event es) ∙ after-numbered (connection_told call device) _ s.last_event es);
+          ∙ sym (after-append (connection_told call device) None events (numbered s.last_event es) ∙ after-numbered (connection_told call device) _ s.last_event es);
       agents = λ agent. seat_ended t es k m n agent ∙ f.agents agent ∙ ap (λ v. after (seat_told agent) v es) (told.agents agent)
-        ∙ sym (after-append (seat_told agent) _ events (numbered s.last_event es) ∙ after-numbered (seat_told agent) _ s.last_event es);
+          ∙ sym (after-append (seat_told agent) _ events (numbered s.last_event es) ∙ after-numbered (seat_told agent) _ s.last_event es);
       queues = w.in_order;
-      up_to = subst (λ v. UpTo v e.last_event e (events ++ numbered s.last_event es)) c.0 (subst (λ v. UpTo k v e (events ++ numbered s.last_event es)) c.1 w.up_to) }
+      up_to = subst (λ v. UpTo v e.last_event e (events ++ numbered s.last_event es)) c.0 (subst (λ v. UpTo k v e (events ++ numbered s.last_event es)) c.1 w.up_to);
+    }
 
 pub step_tells : StepTells
 unfolding step
@@ -131,11 +131,13 @@ pub watched_by : (s : Rows) (events : List Event) → Rules s → Tells s events
 watched_by s events r told = record {
   connections = λ c d e. told_at c d e ∙ told.connections c d;
   agents = told.agents;
-  queues = told.queues }
+  queues = told.queues;
+}
   where
     at : (c d : ℕ) (b : Bool) → is_planned s d ≡ b → (not b && is_caller (call_of s c) d) ≡ false → state_at s c d ≡ cond b (state_at s c d) None
     at c d true p e = refl
     at c d false p e = ap (option_map (λ (x : ConnectionRecord). x.state)) (none_outside s c d r p e)
+
     told_at : (c d : ℕ) → is_external_caller s c d ≡ false → state_at s c d ≡ shown s c d
     told_at c d e = at c d (is_planned s d) refl e
 
@@ -173,7 +175,7 @@ step_leaves_no_offer s moment command r =
     let ms : List Move = moves_of (serve s m k command) in
     let all : List Move = step_moves s m (serve s m k command) in
     no_offer_ended (moved s all) (events_of m all) k m (s.last_event + length (events_of m all))
-      (subst LeavesNoOffer (sym (moved-append s ms (distribution (moved s ms) m))) (λ g a. nothing_left (moved s ms) m g (rules_serve s m k command r) a))
+    (subst LeavesNoOffer (sym (moved-append s ms (distribution (moved s ms) m))) (λ g a. nothing_left (moved s ms) m g (rules_serve s m k command r) a))
 
 -- runs
 
@@ -194,7 +196,8 @@ nothing_told limits = record {
   connections = λ c d. both_none (is_planned (empty_rows limits) d);
   agents = λ a. refl;
   queues = λ g c d p q a b l. absurd a.there;
-  up_to = record { entries = λ g c. omega arith; places = λ g c p a. absurd a.there } }
+  up_to = record { entries = λ g c. omega arith; places = λ g c p a. absurd a.there };
+}
 
 nothing_entered : (limits : Limits) → IsBalanced (empty_rows limits) []
 unfolding figures_of
@@ -208,7 +211,8 @@ holds_step s events moment command h = record {
   rules = rules_step s moment command h.rules;
   tells = step_tells s events moment command h.rules h.tells;
   balanced = step_balances s events moment command h.rules h.balanced;
-  no_offer = step_leaves_no_offer s moment command h.rules }
+  no_offer = step_leaves_no_offer s moment command h.rules;
+}
 
 pub run_is_watched : RunIsWatched
 run_is_watched limits asked = let h = kept_by_run Holds holds_step limits (holds_first limits) asked in watched_by _ _ h.rules h.tells

@@ -1,5 +1,5 @@
 -- The rules of rows that bound: sizes, stamps and moments, monitors and figures; and all rules together, as facts.
-use Rattle.std.specs.Prelude.{◌≡◌, ℕ, ◌+◌, ◌*◌, ◌≤◌, Bool, true, List, Option, Some, None, length}
+use Rattle.std.specs.Prelude.{◌≡◌, ℕ, ◌+◌, ◌*◌, ◌≤◌, Bool, true, Option, Some, None, length}
 use Rattle.acd_terms.specs.Lists.{Among, Every, count}
 use Rattle.acd_terms.specs.Scans.{is_planned, has}
 use Rattle.acd_terms.specs.Limits.{limits_fit}

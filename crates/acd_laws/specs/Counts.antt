@@ -1,8 +1,8 @@
 -- The rules of rows as the laws use them: facts of each record, and counts over the plain lists.
-use Rattle.std.specs.Prelude.{◌≡◌, ◌≢◌, ◌⊎◌, ℕ, ◌+◌, ◌≤◌, Bool, true, false, ◌&&◌, ◌==◌, List, Option, Some, None, is_some, if◌then◌else◌}
+use Rattle.std.specs.Prelude.{◌≡◌, ◌≢◌, ◌⊎◌, ℕ, ◌+◌, ◌≤◌, Bool, true, false, ◌&&◌, ◌==◌, Option, Some, None, is_some, if◌then◌else◌}
 use Rattle.acd_terms.specs.Lists.{Every, IsAscending, count}
 use Rattle.acd_terms.specs.Scans.{call_of, is_group, is_station, is_planned, is_distributed, has}
-use Rattle.acd_terms.specs.States.{is_initiated, is_alerting, is_queued, is_fail, is_hold, is_live, is_answered, is_ready, is_busy}
+use Rattle.acd_terms.specs.States.{is_initiated, is_alerting, is_hold, is_live, is_answered, is_ready, is_busy}
 use Rattle.acd_terms.specs.Rules.Plan.{group_order, station_order, agent_order, call_order, connection_order, monitor_order}
 use Rattle.acd_terms.specs.declared.rows.Rows.{Rows}
 use Rattle.acd_terms.specs.declared.record.AgentRecord.{AgentRecord}
