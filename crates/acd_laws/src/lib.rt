@@ -34,6 +34,8 @@ pub fn step_adds_figures()
 /// A refused request takes a stamp and a moment, and changes nothing else.
 pub fn refusal_changes_nothing()
     ensures { RefusalChangesNothing }
+{}
+
 /// What the reports tell of a state that keeps the rules, they tell of the next one with the reports of the step.
 pub fn step_tells()
     ensures { StepTells }
