@@ -26,6 +26,7 @@ abbrev pub ◌>>=◌ : {A B : Type 0} → Result A Member → (A → Result B Me
 (Ok x) >>= f = f x
 (Err m) >>= f = Err m
 
+-- the members of addGroup, the first faulty one first
 unfoldable pub add_group_in : Data → Result Command Member
 add_group_in d = do
   device ← device_in member.Device d
@@ -34,14 +35,14 @@ add_group_in d = do
   wrap ← seconds_in member.Wrap d
   Ok (AddGroup device name ring wrap)
 
--- of two devices that are named one after the other
+-- two devices, the first member before the second
 unfoldable pub two_devices_in : Member → Member → Data → Result (ℕ × ℕ) Member
 two_devices_in m n d = do
   first ← device_in m d
   second ← device_in n d
   Ok (first, second)
 
--- of a call at a device
+-- a call, then a device
 unfoldable pub connection_in : Data → Result (ℕ × ℕ) Member
 connection_in d = do
   call ← serial_in member.Call d
@@ -55,6 +56,7 @@ requested_in d asked.LoggedOn = do
   Ok (requested.LoggedOn place.0 place.1)
 requested_in d (asked.State state) = Ok (requested.State state)
 
+-- an agent, then what is asked for, then what only loggedOn has
 unfoldable pub set_agent_state_in : Data → Result Command Member
 set_agent_state_in d = do
   agent ← agent_in d
@@ -75,16 +77,19 @@ to_device make d = do
   to ← device_in member.To d
   Ok (make c.0 c.1 to)
 
+-- a service on two devices
 abbrev pub at_devices : (ℕ → ℕ → Command) → Member → Member → Data → Result Command Member
 at_devices make m n d = do
   p ← two_devices_in m n d
   Ok (make p.0 p.1)
 
+-- a service on a device
 abbrev pub at_device : (ℕ → Command) → Data → Result Command Member
 at_device make d = do
   device ← device_in member.Device d
   Ok (make device)
 
+-- an agent, then a name
 unfoldable pub add_agent_in : Data → Result Command Member
 add_agent_in d = do
   agent ← agent_in d
@@ -115,6 +120,7 @@ command_in service.MonitorStart d = at_device MonitorStart d
 command_in service.MonitorStop d = monitor_stop_in d
 command_in service.Tick d = Ok Tick
 
+-- the key, then the service, then its members; all other members are ignored
 unfoldable pub request_in : Data → Result Request Member
 request_in d = do
   requester ← requester_in d
