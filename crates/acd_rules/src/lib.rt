@@ -4,5 +4,9 @@
 //! each test goes over whole lists, in any order, and no sum or product wraps.
 #![tactic(auto)]
 
+pub mod calls;
+pub mod counters;
+pub mod first;
+pub mod occupied;
 pub mod plan;
 pub mod scans;
