@@ -1,6 +1,6 @@
 //! The switch.
 
-ghost use Rattle.std.specs.Prelude.{◌≡◌, ◌<◌, ◌+◌, ◌-◌, ◌^◌, ◌++◌, length, IfOk, OnOk, IfErr};
+ghost use Rattle.std.specs.Prelude.{◌≡◌, ◌<◌, ◌+◌, ◌-◌, ◌^◌, ◌++◌, length, nat_le, IfOk, IfErr, OnOk};
 ghost use Rattle.acd_terms.specs.Writes.{empty_rows};
 ghost use Rattle.acd_terms.specs.Moves.{moved, events_of};
 ghost use Rattle.acd_terms.specs.Served.{outcome_of, moves_of};
@@ -9,6 +9,7 @@ ghost use Rattle.acd_terms.specs.Step.{step, numbered};
 ghost use Rattle.acd_terms.specs.Rules.First.{BreaksNoRule};
 ghost use Rattle.acd_switch.specs.RowFaults.{IsFaultOf};
 ghost use Rattle.acd_switch.specs.Room.{HasRoom, Fits, closed};
+ghost use Rattle.acd_switch.specs.Kept.{figures_at};
 
 use crate::distribution::distribute;
 use crate::row_fault::RowFault;
@@ -19,6 +20,8 @@ use acd_tables::tables::Tables;
 use acd_terms::answer::{Answer, Outcome};
 use acd_terms::command::Command;
 use acd_terms::event::Event;
+use acd_terms::id::DeviceId;
+use acd_terms::record::Figures;
 use acd_terms::rows::{Limits, Rows};
 use std::alloc::{AllocError, Global};
 use std::marker::Model;
@@ -61,6 +64,23 @@ impl Switch {
         match Tables::from_rows(alloc, rows) {
             Ok(tables) => Ok(Switch { alloc, tables }),
             Err(AllocError) => Err(RowFault::NoMemory),
+        }
+    }
+
+    /// As many requests were executed as the limit allows: no more may be.
+    pub fn is_full(&self) -> bool
+        ensures { result ≡ nat_le self.now.limits.requests self.now.last_stamp }
+    {
+        self.tables.limits().requests <= self.tables.last_stamp()
+    }
+
+    /// What the group has counted, where it is planned.
+    pub fn figures(&self, group: DeviceId) -> Option<Figures>
+        ensures { result ≡ figures_at self.now group }
+    {
+        match self.tables.group(group) {
+            None => None,
+            Some(group) => Some(group.figures),
         }
     }
 
