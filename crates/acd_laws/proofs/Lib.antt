@@ -37,6 +37,11 @@ pub mod ConnectionsRead
 pub mod BoundsRead
 pub mod RulesWritten
 pub mod SoundOffers
+pub mod Steady
+pub mod Orderly
+pub mod Behaving
+pub mod Rounds
+pub mod Numbers
 pub mod Following
 pub mod Runs
 pub mod WatchedRuns
@@ -46,3 +51,5 @@ pub mod Placed
 pub mod Cleared
 pub mod ClearedBy
 pub mod PlacedRuns
+pub mod BoundsStep
+pub mod RulesAll

@@ -10,6 +10,7 @@ ghost use Rattle.acd_laws.specs.WatchedLaws.{StepTells, RunIsWatched};
 ghost use Rattle.acd_laws.specs.BalanceLaws.{StepBalances, RunIsBalanced};
 ghost use Rattle.acd_laws.specs.OfferLaws.{StepLeavesNoOffer, RunLeavesNoOffer};
 ghost use Rattle.acd_laws.specs.PlacedLaws.{StepNamesNoLaterCall, RunNamesNoLaterCall, StepKeepsClearings, StepPlaces, RunIsPlaced, PlacesExclude};
+ghost use Rattle.acd_laws.specs.RuleLaws.{StepKeepsRules, RunKeepsRules, RulesBound, RulesLeaveRoom};
 ghost use Rattle.acd_laws.specs.PlacedLaws.{RulesGiveOneOffer, RunHasOneOffer};
 
 /// The offer that is found is the one that the relation allows, and one is found wherever there is one.
@@ -100,4 +101,24 @@ pub fn run_is_placed()
 /// A call stands in one way at most: cleared, waiting in a queue, or at devices.
 pub fn places_exclude()
     ensures { PlacesExclude }
+{}
+
+/// Rows that break no rule break none after a step, while a request more is allowed.
+pub fn step_keeps_rules()
+    ensures { StepKeepsRules }
+{}
+
+/// No run of at most as many requests as are allowed breaks a rule.
+pub fn run_keeps_rules()
+    ensures { RunKeepsRules }
+{}
+
+/// Rows that break no rule have their counters and figures within bounds.
+pub fn rules_bound()
+    ensures { RulesBound }
+{}
+
+/// Where moments are of 32 bits, the figures of rows that break no rule are below 2 to the 63.
+pub fn rules_leave_room()
+    ensures { RulesLeaveRoom }
 {}
