@@ -46,6 +46,7 @@ pub mod Numbers
 pub mod Following
 pub mod Runs
 pub mod WatchedRuns
+pub mod Refused
 pub mod OneOffer
 pub mod Known
 pub mod Placed

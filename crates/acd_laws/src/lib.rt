@@ -5,6 +5,7 @@
 #![tactic(auto)]
 
 ghost use Rattle.acd_terms.specs.Offers.{FindsTheOffer};
+ghost use Rattle.acd_laws.specs.RefusalLaws.{RefusalChangesNothing};
 ghost use Rattle.acd_laws.specs.FigureLaws.{StepKeepsFigures, RunKeepsFigures, StepAddsFigures};
 ghost use Rattle.acd_laws.specs.WatchedLaws.{StepTells, RunIsWatched};
 ghost use Rattle.acd_laws.specs.BalanceLaws.{StepBalances, RunIsBalanced};
@@ -31,6 +32,11 @@ pub fn run_keeps_figures()
 /// Of a planned group a step changes the figures alone, by what its events count.
 pub fn step_adds_figures()
     ensures { StepAddsFigures }
+{}
+
+/// A refused request takes a stamp and a moment, and changes nothing else.
+pub fn refusal_changes_nothing()
+    ensures { RefusalChangesNothing }
 {}
 
 /// What the reports tell of a state that keeps the rules, they tell of the next one with the reports of the step.

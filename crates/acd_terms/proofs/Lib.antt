@@ -1,2 +1,5 @@
 pub mod Texts
 pub mod Identifiers
+pub mod OnLiterals
+pub mod MoveLemmas
+pub mod ReadBack

@@ -25,3 +25,5 @@ pub mod Placed
 pub mod OneOffer
 pub mod Watched
 pub mod Rules
+pub mod Examples
+pub mod EventNames

@@ -2,6 +2,7 @@
 
 ghost use Rattle.std.specs.Prelude.{◌≡◌};
 ghost use Rattle.acd_terms.specs.Columns.{columns_of, at_device, of_agent};
+ghost use Rattle.acd_terms.specs.EventNames.{kind_name, cause_name};
 
 use crate::id::{AgentId, DeviceId};
 
@@ -14,6 +15,22 @@ pub enum Cause {
     Transferred,
     NoAnswer,
     Busy,
+}
+
+impl Cause {
+    /// The name as it is written.
+    pub fn name(self) -> &'static str
+        ensures { result.now ≡ cause_name self }
+    {
+        match self {
+            Cause::NewCall => "newCall",
+            Cause::Distributed => "distributed",
+            Cause::Deflected => "deflected",
+            Cause::Transferred => "transferred",
+            Cause::NoAnswer => "noAnswer",
+            Cause::Busy => "busy",
+        }
+    }
 }
 
 /// For how many seconds an answered call had waited, and in which group.
@@ -136,6 +153,34 @@ pub enum EventKind {
     AgentReady,
     AgentBusy,
     AgentWorkingAfterCall,
+}
+
+impl EventKind {
+    /// The name as it is written.
+    pub fn name(self) -> &'static str
+        ensures { result.now ≡ kind_name self }
+    {
+        match self {
+            EventKind::ServiceInitiated => "serviceInitiated",
+            EventKind::Originated => "originated",
+            EventKind::Queued => "queued",
+            EventKind::Delivered => "delivered",
+            EventKind::Diverted => "diverted",
+            EventKind::Established => "established",
+            EventKind::Held => "held",
+            EventKind::Retrieved => "retrieved",
+            EventKind::Transferred => "transferred",
+            EventKind::Failed => "failed",
+            EventKind::ConnectionCleared => "connectionCleared",
+            EventKind::CallCleared => "callCleared",
+            EventKind::AgentLoggedOn => "agentLoggedOn",
+            EventKind::AgentLoggedOff => "agentLoggedOff",
+            EventKind::AgentNotReady => "agentNotReady",
+            EventKind::AgentReady => "agentReady",
+            EventKind::AgentBusy => "agentBusy",
+            EventKind::AgentWorkingAfterCall => "agentWorkingAfterCall",
+        }
+    }
 }
 
 /// A report as the columns of a table: texts, exports and stores go by it.

@@ -9,6 +9,7 @@
 pub mod answer;
 pub mod command;
 pub mod event;
+pub mod examples;
 pub mod id;
 pub mod listed;
 pub mod moves;

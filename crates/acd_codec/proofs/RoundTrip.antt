@@ -1,0 +1,151 @@
+-- What is written for a request reads as that request.
+use Rattle.std.proofs.Common.{◌≡◌, ℕ, ◌^◌, ◌<◌, ◌≤◌, List, true, Some, Result, Ok, Err, refl, sym, ap, ◌∙◌, lit≤, lit<, arith, IsUtf8}
+use Rattle.json.specs.Tree as tree
+use Rattle.json.proofs.Printed.Utf8.{IsUtf8-are_ascii, are_ascii}
+use Rattle.serde_json.specs.Data.{object}
+use Rattle.serde_json.specs.Read.{read, of_json, max_depth}
+use Rattle.serde_json.specs.Written.{outline, compact_text}
+use Rattle.serde_json.proofs.Numbers.{number_of-decimal}
+use Rattle.acd_terms.specs.Forms.{is_name_byte, is_requester_byte, digits_of, IsNumberOf, IsName, IsRequester, IsBetween}
+use Rattle.acd_terms.specs.States.{pending_name}
+use Rattle.acd_terms.specs.declared.state.Pending.{Pending}
+use Rattle.acd_terms.specs.declared.state.Pending.TheVariants as pending
+use Rattle.acd_terms.specs.declared.command.Request.{Request}
+use Rattle.acd_terms.specs.declared.command.Requested.TheVariants as requested
+use Rattle.acd_terms.specs.declared.command.Command.{Command}
+use Rattle.acd_terms.specs.declared.command.Command.TheVariants.{AddGroup, AddStation, AddAgent, ArriveCall, MakeCall, PhoneOffHook, AnswerCall, HoldCall, RetrieveCall, ClearConnection, DeflectCall, SingleStepTransfer, SetAgentState, MonitorStart, MonitorStop, Tick}
+use Rattle.acd_terms.proofs.Identifiers.{ascii_name, ascii_requester, digits_ascii}
+use Rattle.acd_terms.proofs.Texts.{utf8_ascii}
+use Rattle.acd_terms.proofs.ReadBack.{id_again, text_again, number_again}
+use Rattle.acd_codec.specs.declared.member.Member.{Member}
+use Rattle.acd_codec.specs.declared.service.Asked.TheVariants as asked
+use Rattle.acd_codec.specs.Services.{asked_of}
+use Rattle.acd_codec.specs.MemberReading.{device_in, agent_in, name_in, requester_in, invoke_in, seconds_in, serial_in, service_in, asked_in}
+use Rattle.acd_codec.specs.Reading.{reads_as, request_in, command_in, add_group_in, add_agent_in, two_devices_in, connection_in, requested_in, set_agent_state_in}
+use Rattle.acd_codec.specs.RequestTexts.{request_members, request_data, request_text}
+use Rattle.acd_codec.specs.Formed.{IsCommand, IsRequest}
+use Rattle.acd_codec.proofs.Plain.{IsPlain, MembersArePlain, read_plain, utf8_text}
+use Rattle.acd_codec.proofs.Readings.{reads_object}
+
+word : (s : List ℕ) → are_ascii s ≡ true → IsUtf8 s
+word s e = IsUtf8-are_ascii s e
+
+state_word : (p : Pending) → IsUtf8 (pending_name p)
+state_word pending.LoggedOff = word _ refl
+state_word pending.NotReady = word _ refl
+state_word pending.Ready = word _ refl
+state_word pending.WorkingAfterCall = word _ refl
+
+digits_word : (longest n : ℕ) → IsNumberOf longest n → IsUtf8 (digits_of n)
+digits_word longest n h = utf8_ascii (digits_of n) (digits_ascii n h.range)
+
+name_word : (t : List ℕ) → IsName t → IsUtf8 t
+name_word t h = utf8_ascii t (ascii_name t h.all)
+
+requester_word : (t : List ℕ) → IsRequester t → IsUtf8 t
+requester_word t h = utf8_ascii t (ascii_requester t h.all)
+
+small : (least greatest n : ℕ) → greatest < 2 ^ 64 → IsBetween least greatest n → n < 2 ^ 64
+small least greatest n l h = omega (arith, h.1)
+
+plain : (q : List ℕ) (i : ℕ) (c : Command) → IsRequester q → IsBetween 1 999999999 i → IsCommand c → MembersArePlain (request_members q i c)
+plain q i (AddGroup device name ring wrap) hq hi hc = (word _ refl, digits_word 15 device hc.0, (word _ refl, small 1 999999999 i (lit< tt) hi, (word _ refl, name_word name hc.1, (word _ refl, requester_word q hq, (word _ refl, small 0 3600 ring (lit< tt) hc.2, (word _ refl, word _ refl, (word _ refl, small 0 3600 wrap (lit< tt) hc.3, tt)))))))
+plain q i (AddStation device) hq hi hc = (word _ refl, digits_word 15 device hc, (word _ refl, small 1 999999999 i (lit< tt) hi, (word _ refl, requester_word q hq, (word _ refl, word _ refl, tt))))
+plain q i (AddAgent agent name) hq hi hc = (word _ refl, digits_word 9 agent hc.0, (word _ refl, small 1 999999999 i (lit< tt) hi, (word _ refl, name_word name hc.1, (word _ refl, requester_word q hq, (word _ refl, word _ refl, tt)))))
+plain q i (ArriveCall caller called) hq hi hc = (word _ refl, digits_word 15 called hc.1, (word _ refl, digits_word 15 caller hc.0, (word _ refl, small 1 999999999 i (lit< tt) hi, (word _ refl, requester_word q hq, (word _ refl, word _ refl, tt)))))
+plain q i (MakeCall device called) hq hi hc = (word _ refl, digits_word 15 called hc.1, (word _ refl, digits_word 15 device hc.0, (word _ refl, small 1 999999999 i (lit< tt) hi, (word _ refl, requester_word q hq, (word _ refl, word _ refl, tt)))))
+plain q i (PhoneOffHook call device) hq hi hc = (word _ refl, small 1 1000000000 call (lit< tt) hc.0, (word _ refl, digits_word 15 device hc.1, (word _ refl, small 1 999999999 i (lit< tt) hi, (word _ refl, requester_word q hq, (word _ refl, word _ refl, tt)))))
+plain q i (AnswerCall call device) hq hi hc = (word _ refl, small 1 1000000000 call (lit< tt) hc.0, (word _ refl, digits_word 15 device hc.1, (word _ refl, small 1 999999999 i (lit< tt) hi, (word _ refl, requester_word q hq, (word _ refl, word _ refl, tt)))))
+plain q i (HoldCall call device) hq hi hc = (word _ refl, small 1 1000000000 call (lit< tt) hc.0, (word _ refl, digits_word 15 device hc.1, (word _ refl, small 1 999999999 i (lit< tt) hi, (word _ refl, requester_word q hq, (word _ refl, word _ refl, tt)))))
+plain q i (RetrieveCall call device) hq hi hc = (word _ refl, small 1 1000000000 call (lit< tt) hc.0, (word _ refl, digits_word 15 device hc.1, (word _ refl, small 1 999999999 i (lit< tt) hi, (word _ refl, requester_word q hq, (word _ refl, word _ refl, tt)))))
+plain q i (ClearConnection call device) hq hi hc = (word _ refl, small 1 1000000000 call (lit< tt) hc.0, (word _ refl, digits_word 15 device hc.1, (word _ refl, small 1 999999999 i (lit< tt) hi, (word _ refl, requester_word q hq, (word _ refl, word _ refl, tt)))))
+plain q i (DeflectCall call device to) hq hi hc = (word _ refl, small 1 1000000000 call (lit< tt) hc.0, (word _ refl, digits_word 15 device hc.1, (word _ refl, small 1 999999999 i (lit< tt) hi, (word _ refl, requester_word q hq, (word _ refl, word _ refl, (word _ refl, digits_word 15 to hc.2, tt))))))
+plain q i (SingleStepTransfer call device to) hq hi hc = (word _ refl, small 1 1000000000 call (lit< tt) hc.0, (word _ refl, digits_word 15 device hc.1, (word _ refl, small 1 999999999 i (lit< tt) hi, (word _ refl, requester_word q hq, (word _ refl, word _ refl, (word _ refl, digits_word 15 to hc.2, tt))))))
+plain q i (SetAgentState agent (requested.LoggedOn device group)) hq hi hc = (word _ refl, digits_word 9 agent hc.0, (word _ refl, digits_word 15 device hc.1.0, (word _ refl, digits_word 15 group hc.1.1, (word _ refl, small 1 999999999 i (lit< tt) hi, (word _ refl, word _ refl, (word _ refl, requester_word q hq, (word _ refl, word _ refl, tt)))))))
+plain q i (SetAgentState agent (requested.State state)) hq hi hc = (word _ refl, digits_word 9 agent hc.0, (word _ refl, small 1 999999999 i (lit< tt) hi, (word _ refl, state_word state, (word _ refl, requester_word q hq, (word _ refl, word _ refl, tt)))))
+plain q i (MonitorStart device) hq hi hc = (word _ refl, digits_word 15 device hc, (word _ refl, small 1 999999999 i (lit< tt) hi, (word _ refl, requester_word q hq, (word _ refl, word _ refl, tt))))
+plain q i (MonitorStop monitor) hq hi hc = (word _ refl, small 1 999999999 i (lit< tt) hi, (word _ refl, small 1 1000000000 monitor (lit< tt) hc, (word _ refl, requester_word q hq, (word _ refl, word _ refl, tt))))
+plain q i Tick hq hi hc = (word _ refl, small 1 999999999 i (lit< tt) hi, (word _ refl, requester_word q hq, (word _ refl, word _ refl, tt)))
+
+-- the keys are distinct and in order
+keyed : (q : List ℕ) (i : ℕ) (c : Command) → IsBetween 1 999999999 i → IsCommand c → of_json (outline (object (request_members q i c))) ≡ Some (object (request_members q i c))
+keyed q i (AddGroup device name ring wrap) hi hc = rw (number_of-decimal i (small 1 999999999 i (lit< tt) hi), number_of-decimal ring (small 0 3600 ring (lit< tt) hc.2), number_of-decimal wrap (small 0 3600 wrap (lit< tt) hc.3)) refl
+keyed q i (AddStation device) hi hc = rw (number_of-decimal i (small 1 999999999 i (lit< tt) hi)) refl
+keyed q i (AddAgent agent name) hi hc = rw (number_of-decimal i (small 1 999999999 i (lit< tt) hi)) refl
+keyed q i (ArriveCall caller called) hi hc = rw (number_of-decimal i (small 1 999999999 i (lit< tt) hi)) refl
+keyed q i (MakeCall device called) hi hc = rw (number_of-decimal i (small 1 999999999 i (lit< tt) hi)) refl
+keyed q i (PhoneOffHook call device) hi hc = rw (number_of-decimal i (small 1 999999999 i (lit< tt) hi), number_of-decimal call (small 1 1000000000 call (lit< tt) hc.0)) refl
+keyed q i (AnswerCall call device) hi hc = rw (number_of-decimal i (small 1 999999999 i (lit< tt) hi), number_of-decimal call (small 1 1000000000 call (lit< tt) hc.0)) refl
+keyed q i (HoldCall call device) hi hc = rw (number_of-decimal i (small 1 999999999 i (lit< tt) hi), number_of-decimal call (small 1 1000000000 call (lit< tt) hc.0)) refl
+keyed q i (RetrieveCall call device) hi hc = rw (number_of-decimal i (small 1 999999999 i (lit< tt) hi), number_of-decimal call (small 1 1000000000 call (lit< tt) hc.0)) refl
+keyed q i (ClearConnection call device) hi hc = rw (number_of-decimal i (small 1 999999999 i (lit< tt) hi), number_of-decimal call (small 1 1000000000 call (lit< tt) hc.0)) refl
+keyed q i (DeflectCall call device to) hi hc = rw (number_of-decimal i (small 1 999999999 i (lit< tt) hi), number_of-decimal call (small 1 1000000000 call (lit< tt) hc.0)) refl
+keyed q i (SingleStepTransfer call device to) hi hc = rw (number_of-decimal i (small 1 999999999 i (lit< tt) hi), number_of-decimal call (small 1 1000000000 call (lit< tt) hc.0)) refl
+keyed q i (SetAgentState agent (requested.LoggedOn device group)) hi hc = rw (number_of-decimal i (small 1 999999999 i (lit< tt) hi)) refl
+keyed q i (SetAgentState agent (requested.State state)) hi hc = rw (number_of-decimal i (small 1 999999999 i (lit< tt) hi)) refl
+keyed q i (MonitorStart device) hi hc = rw (number_of-decimal i (small 1 999999999 i (lit< tt) hi)) refl
+keyed q i (MonitorStop monitor) hi hc = rw (number_of-decimal i (small 1 999999999 i (lit< tt) hi), number_of-decimal monitor (small 1 1000000000 monitor (lit< tt) hc)) refl
+keyed q i Tick hi hc = rw (number_of-decimal i (small 1 999999999 i (lit< tt) hi)) refl
+
+shallow : (q : List ℕ) (i : ℕ) (c : Command) → tree.depth (outline (object (request_members q i c))) ≤ max_depth
+shallow q i (AddGroup device name ring wrap) = lit≤ tt
+shallow q i (AddStation device) = lit≤ tt
+shallow q i (AddAgent agent name) = lit≤ tt
+shallow q i (ArriveCall caller called) = lit≤ tt
+shallow q i (MakeCall device called) = lit≤ tt
+shallow q i (PhoneOffHook call device) = lit≤ tt
+shallow q i (AnswerCall call device) = lit≤ tt
+shallow q i (HoldCall call device) = lit≤ tt
+shallow q i (RetrieveCall call device) = lit≤ tt
+shallow q i (ClearConnection call device) = lit≤ tt
+shallow q i (DeflectCall call device to) = lit≤ tt
+shallow q i (SingleStepTransfer call device to) = lit≤ tt
+shallow q i (SetAgentState agent (requested.LoggedOn device group)) = lit≤ tt
+shallow q i (SetAgentState agent (requested.State state)) = lit≤ tt
+shallow q i (MonitorStart device) = lit≤ tt
+shallow q i (MonitorStop monitor) = lit≤ tt
+shallow q i Tick = lit≤ tt
+
+asked_again : (p : Pending) → asked_of (pending_name p) ≡ Some (asked.State p)
+asked_again pending.LoggedOff = refl
+asked_again pending.NotReady = refl
+asked_again pending.Ready = refl
+asked_again pending.WorkingAfterCall = refl
+
+-- reading the members of the value
+taken : (q : List ℕ) (i : ℕ) (c : Command) → IsRequester q → IsBetween 1 999999999 i → IsCommand c → request_in (object (request_members q i c)) ≡ Ok (record { requester = q; invoke = i; command = c })
+unfolding request_in requester_in invoke_in service_in command_in device_in agent_in name_in seconds_in serial_in asked_in add_group_in add_agent_in two_devices_in connection_in requested_in set_agent_state_in
+taken q i (AddGroup device name ring wrap) hq hi hc = rw (text_again is_requester_byte 32 q hq, number_again 1 999999999 i hi, id_again 15 device hc.0, text_again is_name_byte 40 name hc.1, number_again 0 3600 ring hc.2, number_again 0 3600 wrap hc.3) refl
+taken q i (AddStation device) hq hi hc = rw (text_again is_requester_byte 32 q hq, number_again 1 999999999 i hi, id_again 15 device hc) refl
+taken q i (AddAgent agent name) hq hi hc = rw (text_again is_requester_byte 32 q hq, number_again 1 999999999 i hi, id_again 9 agent hc.0, text_again is_name_byte 40 name hc.1) refl
+taken q i (ArriveCall caller called) hq hi hc = rw (text_again is_requester_byte 32 q hq, number_again 1 999999999 i hi, id_again 15 caller hc.0, id_again 15 called hc.1) refl
+taken q i (MakeCall device called) hq hi hc = rw (text_again is_requester_byte 32 q hq, number_again 1 999999999 i hi, id_again 15 device hc.0, id_again 15 called hc.1) refl
+taken q i (PhoneOffHook call device) hq hi hc = rw (text_again is_requester_byte 32 q hq, number_again 1 999999999 i hi, number_again 1 1000000000 call hc.0, id_again 15 device hc.1) refl
+taken q i (AnswerCall call device) hq hi hc = rw (text_again is_requester_byte 32 q hq, number_again 1 999999999 i hi, number_again 1 1000000000 call hc.0, id_again 15 device hc.1) refl
+taken q i (HoldCall call device) hq hi hc = rw (text_again is_requester_byte 32 q hq, number_again 1 999999999 i hi, number_again 1 1000000000 call hc.0, id_again 15 device hc.1) refl
+taken q i (RetrieveCall call device) hq hi hc = rw (text_again is_requester_byte 32 q hq, number_again 1 999999999 i hi, number_again 1 1000000000 call hc.0, id_again 15 device hc.1) refl
+taken q i (ClearConnection call device) hq hi hc = rw (text_again is_requester_byte 32 q hq, number_again 1 999999999 i hi, number_again 1 1000000000 call hc.0, id_again 15 device hc.1) refl
+taken q i (DeflectCall call device to) hq hi hc = rw (text_again is_requester_byte 32 q hq, number_again 1 999999999 i hi, number_again 1 1000000000 call hc.0, id_again 15 device hc.1, id_again 15 to hc.2) refl
+taken q i (SingleStepTransfer call device to) hq hi hc = rw (text_again is_requester_byte 32 q hq, number_again 1 999999999 i hi, number_again 1 1000000000 call hc.0, id_again 15 device hc.1, id_again 15 to hc.2) refl
+taken q i (SetAgentState agent (requested.LoggedOn device group)) hq hi hc = rw (text_again is_requester_byte 32 q hq, number_again 1 999999999 i hi, id_again 9 agent hc.0, id_again 15 device hc.1.0, id_again 15 group hc.1.1) refl
+taken q i (SetAgentState agent (requested.State state)) hq hi hc = rw (text_again is_requester_byte 32 q hq, number_again 1 999999999 i hi, id_again 9 agent hc.0, asked_again state) refl
+taken q i (MonitorStart device) hq hi hc = rw (text_again is_requester_byte 32 q hq, number_again 1 999999999 i hi, id_again 15 device hc) refl
+taken q i (MonitorStop monitor) hq hi hc = rw (text_again is_requester_byte 32 q hq, number_again 1 999999999 i hi, number_again 1 1000000000 monitor hc) refl
+taken q i Tick hq hi hc = rw (text_again is_requester_byte 32 q hq, number_again 1 999999999 i hi) refl
+
+-- what is written for a request reads as it
+pub reads_back : (r : Request) → IsRequest r → reads_as (request_text r) ≡ Ok r
+unfolding request_data request_text
+reads_back r h =
+    let d = request_data r in
+    let flat : IsPlain d = plain r.requester r.invoke r.command h.requester h.invoke h.command in
+    let again : read (compact_text d) ≡ Some d = read_plain d flat (shallow r.requester r.invoke r.command) (keyed r.requester r.invoke r.command h.invoke h.command) in
+    reads_object (compact_text d) d (utf8_text d flat) again refl ∙ taken r.requester r.invoke r.command h.requester h.invoke h.command
+
+abbrev or_else : Request → Result Request Member → Request
+or_else d (Ok x) = x
+or_else d (Err m) = d
+
+-- requests with one text are one
+pub same_request : (a b : Request) → IsRequest a → IsRequest b → request_text a ≡ request_text b → a ≡ b
+same_request a b ha hb e = ap (or_else a) (sym (reads_back a ha) ∙ ap reads_as e ∙ reads_back b hb)

@@ -1,0 +1,149 @@
+-- The request that bytes stand for, or the first faulty member.
+use Rattle.std.specs.Prelude.{◌≡◌, ℕ, List, Option, Some, None, Result, Ok, Err, if◌then◌else◌}
+use Rattle.std.specs.Option.{is_some}
+use Rattle.std.specs.Str.{is_utf8}
+use Rattle.serde_json.specs.Data.{Data}
+use Rattle.serde_json.specs.Read.{read}
+use Rattle.serde_json.specs.Find.{as_object}
+use Rattle.acd_terms.specs.declared.command.Request.{Request}
+use Rattle.acd_terms.specs.declared.command.Requested.{Requested}
+use Rattle.acd_terms.specs.declared.command.Requested.TheVariants as requested
+use Rattle.acd_terms.specs.declared.command.Command.{Command}
+use Rattle.acd_terms.specs.declared.command.Command.TheVariants.{AddGroup, AddStation, AddAgent, ArriveCall, MakeCall, PhoneOffHook, AnswerCall, HoldCall, RetrieveCall, ClearConnection, DeflectCall, SingleStepTransfer, SetAgentState, MonitorStart, MonitorStop, Tick}
+use Rattle.acd_codec.specs.declared.member.Member.{Member}
+use Rattle.acd_codec.specs.declared.member.Member.TheVariants as member
+use Rattle.acd_codec.specs.declared.fault.ReadFault.{ReadFault}
+use Rattle.acd_codec.specs.declared.fault.ReadFault.TheVariants.{Malformed, NoMemory}
+use Rattle.acd_codec.specs.declared.service.Asked.{Asked}
+use Rattle.acd_codec.specs.declared.service.Asked.TheVariants as asked
+use Rattle.acd_codec.specs.declared.service.Service.{Service}
+use Rattle.acd_codec.specs.declared.service.Service.TheVariants as service
+use Rattle.acd_codec.specs.MemberReading.{device_in, agent_in, name_in, requester_in, invoke_in, seconds_in, serial_in, service_in, asked_in}
+
+-- the first faulty member ends the reading
+infixl 10 ◌>>=◌
+abbrev pub ◌>>=◌ : {A B : Type 0} → Result A Member → (A → Result B Member) → Result B Member
+(Ok x) >>= f = f x
+(Err m) >>= f = Err m
+
+-- the members of addGroup, the first faulty one first
+unfoldable pub add_group_in : Data → Result Command Member
+add_group_in d = do
+  device ← device_in member.Device d
+  name ← name_in d
+  ring ← seconds_in member.Ring d
+  wrap ← seconds_in member.Wrap d
+  Ok (AddGroup device name ring wrap)
+
+-- two devices, the first member before the second
+unfoldable pub two_devices_in : Member → Member → Data → Result (ℕ × ℕ) Member
+two_devices_in m n d = do
+  first ← device_in m d
+  second ← device_in n d
+  Ok (first, second)
+
+-- a call, then a device
+unfoldable pub connection_in : Data → Result (ℕ × ℕ) Member
+connection_in d = do
+  call ← serial_in member.Call d
+  device ← device_in member.Device d
+  Ok (call, device)
+
+-- only loggedOn has a device and a group
+unfoldable pub requested_in : Data → Asked → Result Requested Member
+requested_in d asked.LoggedOn = do
+  place ← two_devices_in member.Device member.Group d
+  Ok (requested.LoggedOn place.0 place.1)
+requested_in d (asked.State state) = Ok (requested.State state)
+
+-- an agent, then what is asked for, then what only loggedOn has
+unfoldable pub set_agent_state_in : Data → Result Command Member
+set_agent_state_in d = do
+  agent ← agent_in d
+  asked ← asked_in d
+  requested ← requested_in d asked
+  Ok (SetAgentState agent requested)
+
+-- a service on a connection
+abbrev pub at_connection : (ℕ → ℕ → Command) → Data → Result Command Member
+at_connection make d = do
+  c ← connection_in d
+  Ok (make c.0 c.1)
+
+-- a service that gives a connection's call to another device
+abbrev pub to_device : (ℕ → ℕ → ℕ → Command) → Data → Result Command Member
+to_device make d = do
+  c ← connection_in d
+  to ← device_in member.To d
+  Ok (make c.0 c.1 to)
+
+-- a service on two devices
+abbrev pub at_devices : (ℕ → ℕ → Command) → Member → Member → Data → Result Command Member
+at_devices make m n d = do
+  p ← two_devices_in m n d
+  Ok (make p.0 p.1)
+
+-- a service on a device
+abbrev pub at_device : (ℕ → Command) → Data → Result Command Member
+at_device make d = do
+  device ← device_in member.Device d
+  Ok (make device)
+
+-- an agent, then a name
+unfoldable pub add_agent_in : Data → Result Command Member
+add_agent_in d = do
+  agent ← agent_in d
+  name ← name_in d
+  Ok (AddAgent agent name)
+
+abbrev pub monitor_stop_in : Data → Result Command Member
+monitor_stop_in d = do
+  monitor ← serial_in member.Monitor d
+  Ok (MonitorStop monitor)
+
+-- the members of a service, in their order
+unfoldable pub command_in : Service → Data → Result Command Member
+command_in service.AddGroup d = add_group_in d
+command_in service.AddStation d = at_device AddStation d
+command_in service.AddAgent d = add_agent_in d
+command_in service.ArriveCall d = at_devices ArriveCall member.Caller member.Called d
+command_in service.MakeCall d = at_devices MakeCall member.Device member.Called d
+command_in service.PhoneOffHook d = at_connection PhoneOffHook d
+command_in service.AnswerCall d = at_connection AnswerCall d
+command_in service.HoldCall d = at_connection HoldCall d
+command_in service.RetrieveCall d = at_connection RetrieveCall d
+command_in service.ClearConnection d = at_connection ClearConnection d
+command_in service.DeflectCall d = to_device DeflectCall d
+command_in service.SingleStepTransfer d = to_device SingleStepTransfer d
+command_in service.SetAgentState d = set_agent_state_in d
+command_in service.MonitorStart d = at_device MonitorStart d
+command_in service.MonitorStop d = monitor_stop_in d
+command_in service.Tick d = Ok Tick
+
+-- the key, then the service, then its members; all other members are ignored
+unfoldable pub request_in : Data → Result Request Member
+request_in d = do
+  requester ← requester_in d
+  invoke ← invoke_in d
+  service ← service_in d
+  command ← command_in service d
+  Ok (record { requester = requester; invoke = invoke; command = command })
+
+-- what is read is an object
+abbrev pub request_from : Option Data → Result Request Member
+request_from None = Err member.Json
+request_from (Some d) = if is_some (as_object d) then request_in d else Err member.Json
+
+-- the request that the bytes stand for
+unfoldable pub reads_as : List ℕ → Result Request Member
+reads_as bytes = if is_utf8 bytes then request_from (read bytes) else Err member.Json
+
+-- the fault is this reading's, or memory ran out
+abbrev pub IsFault : {A : Type 0} → ReadFault → Result A Member → Type 0
+IsFault (Malformed m) reading = reading ≡ Err m
+IsFault NoMemory reading = Unit {0}
+
+-- what a reader returned is this, unless memory ran out
+abbrev pub Gives : {A : Type 0} → Result A ReadFault → Result A Member → Type 0
+Gives (Ok x) reading = reading ≡ Ok x
+Gives (Err e) reading = IsFault e reading

@@ -1,0 +1,102 @@
+//! What holds of requests and their texts.
+
+ghost use Rattle.std.specs.Prelude.{◌≡◌, ◌↔◌, Ok};
+ghost use Rattle.acd_codec.specs.Formed.{IsSerial, IsDevice, IsRequested, IsCommand, IsRequest};
+ghost use Rattle.acd_codec.specs.Reading.{reads_as};
+ghost use Rattle.acd_codec.specs.RequestTexts.{request_text};
+
+use acd_terms::command::{Command, Request, Requested};
+use acd_terms::id::DeviceId;
+use acd_terms::number::Serial;
+
+fn connection_formed(call: &Serial, device: &DeviceId)
+    ensures call { IsSerial call.now }
+    ensures device { IsDevice device.now }
+{
+    call.number();
+    device.number();
+}
+
+fn requested_formed(requested: &Requested)
+    ensures { IsRequested requested.now }
+{
+    if let Requested::LoggedOn { device, group } = requested {
+        device.number();
+        group.number();
+    }
+}
+
+fn command_formed(command: &Command)
+    ensures { IsCommand command.now }
+{
+    match command {
+        Command::AddGroup {
+            device,
+            name,
+            ring,
+            wrap,
+        } => {
+            device.number();
+            name.as_str();
+            ring.number();
+            wrap.number();
+        }
+        Command::AddStation { device } | Command::MonitorStart { device } => {
+            device.number();
+        }
+        Command::AddAgent { agent, name } => {
+            agent.number();
+            name.as_str();
+        }
+        Command::ArriveCall {
+            caller: device,
+            called,
+        }
+        | Command::MakeCall { device, called } => {
+            device.number();
+            called.number();
+        }
+        Command::PhoneOffHook { call, device }
+        | Command::AnswerCall { call, device }
+        | Command::HoldCall { call, device }
+        | Command::RetrieveCall { call, device }
+        | Command::ClearConnection { call, device } => connection_formed(call, device),
+        Command::DeflectCall { call, device, to }
+        | Command::SingleStepTransfer { call, device, to } => {
+            connection_formed(call, device);
+            to.number();
+        }
+        Command::SetAgentState { agent, requested } => {
+            agent.number();
+            requested_formed(requested);
+        }
+        Command::MonitorStop { monitor } => {
+            monitor.number();
+        }
+        Command::Tick => {}
+    }
+}
+
+/// Each part of a request is of its form.
+pub fn request_formed(request: &Request)
+    ensures { IsRequest request.now }
+{
+    request.requester.as_str();
+    request.invoke.number();
+    command_formed(&request.command);
+}
+
+/// What is written for a request reads as that request.
+pub fn reads_back(request: &Request)
+    ensures { reads_as (request_text request.now) ≡ Ok request.now }
+{
+    request_formed(request);
+}
+
+/// Two requests are the same exactly where their texts are equal.
+pub fn same_text(a: &Request, b: &Request)
+    ensures { (request_text a.now ≡ request_text b.now) ↔ (a.now ≡ b.now) }
+{
+    request_formed(a);
+    request_formed(b);
+}

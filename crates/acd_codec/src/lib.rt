@@ -1,0 +1,25 @@
+//! JSON in and out: requests are read and written, replies and event reports are written.
+//!
+//! All that is written is compact JSON, the members of each object in the order of their names.
+#![tactic(auto)]
+
+mod events;
+mod fault;
+mod laws;
+mod member;
+mod parts;
+mod reading;
+mod replies;
+mod requests;
+mod service;
+
+pub use events::event_text;
+pub use fault::{FixedAnswer, ReadFault};
+pub use laws::{reads_back, request_formed, same_text};
+pub use member::{MALFORMED_STATUS, Member};
+pub use reading::read_request;
+pub use replies::{Rejected, outcome_status, rejected_text, reply_text};
+pub use requests::request_text;
+
+#[cfg(test)]
+mod tests;

@@ -1,0 +1,136 @@
+//! The names of services, and of the states that can be asked for.
+
+ghost use Rattle.std.specs.Prelude.{◌≡◌};
+ghost use Rattle.acd_codec.specs.Services.{service_name, service_of, service_of_command, asked_name, asked_of};
+
+use acd_terms::command::Command;
+use acd_terms::state::Pending;
+
+/// A service, without its members.
+#[derive(Clone, Copy, Debug, PartialEq, Eq)]
+pub enum Service {
+    AddGroup,
+    AddStation,
+    AddAgent,
+    ArriveCall,
+    MakeCall,
+    PhoneOffHook,
+    AnswerCall,
+    HoldCall,
+    RetrieveCall,
+    ClearConnection,
+    DeflectCall,
+    SingleStepTransfer,
+    SetAgentState,
+    MonitorStart,
+    MonitorStop,
+    Tick,
+}
+
+impl Service {
+    /// The service of a command.
+    pub fn of(command: &Command) -> Service
+        ensures { result ≡ service_of_command command.now }
+    {
+        match command {
+            Command::AddGroup { .. } => Service::AddGroup,
+            Command::AddStation { .. } => Service::AddStation,
+            Command::AddAgent { .. } => Service::AddAgent,
+            Command::ArriveCall { .. } => Service::ArriveCall,
+            Command::MakeCall { .. } => Service::MakeCall,
+            Command::PhoneOffHook { .. } => Service::PhoneOffHook,
+            Command::AnswerCall { .. } => Service::AnswerCall,
+            Command::HoldCall { .. } => Service::HoldCall,
+            Command::RetrieveCall { .. } => Service::RetrieveCall,
+            Command::ClearConnection { .. } => Service::ClearConnection,
+            Command::DeflectCall { .. } => Service::DeflectCall,
+            Command::SingleStepTransfer { .. } => Service::SingleStepTransfer,
+            Command::SetAgentState { .. } => Service::SetAgentState,
+            Command::MonitorStart { .. } => Service::MonitorStart,
+            Command::MonitorStop { .. } => Service::MonitorStop,
+            Command::Tick => Service::Tick,
+        }
+    }
+
+    /// The service with this name.
+    pub fn named(text: &str) -> Option<Service>
+        ensures { result ≡ service_of text.now }
+    {
+        match text {
+            "addGroup" => Some(Service::AddGroup),
+            "addStation" => Some(Service::AddStation),
+            "addAgent" => Some(Service::AddAgent),
+            "arriveCall" => Some(Service::ArriveCall),
+            "makeCall" => Some(Service::MakeCall),
+            "phoneOffHook" => Some(Service::PhoneOffHook),
+            "answerCall" => Some(Service::AnswerCall),
+            "holdCall" => Some(Service::HoldCall),
+            "retrieveCall" => Some(Service::RetrieveCall),
+            "clearConnection" => Some(Service::ClearConnection),
+            "deflectCall" => Some(Service::DeflectCall),
+            "singleStepTransfer" => Some(Service::SingleStepTransfer),
+            "setAgentState" => Some(Service::SetAgentState),
+            "monitorStart" => Some(Service::MonitorStart),
+            "monitorStop" => Some(Service::MonitorStop),
+            "tick" => Some(Service::Tick),
+            _ => None,
+        }
+    }
+
+    /// The name as it is written.
+    pub fn name(self) -> &'static str
+        ensures { result.now ≡ service_name self }
+    {
+        match self {
+            Service::AddGroup => "addGroup",
+            Service::AddStation => "addStation",
+            Service::AddAgent => "addAgent",
+            Service::ArriveCall => "arriveCall",
+            Service::MakeCall => "makeCall",
+            Service::PhoneOffHook => "phoneOffHook",
+            Service::AnswerCall => "answerCall",
+            Service::HoldCall => "holdCall",
+            Service::RetrieveCall => "retrieveCall",
+            Service::ClearConnection => "clearConnection",
+            Service::DeflectCall => "deflectCall",
+            Service::SingleStepTransfer => "singleStepTransfer",
+            Service::SetAgentState => "setAgentState",
+            Service::MonitorStart => "monitorStart",
+            Service::MonitorStop => "monitorStop",
+            Service::Tick => "tick",
+        }
+    }
+}
+
+/// What Set Agent State asks for, without the members that only loggedOn has.
+#[derive(Clone, Copy, Debug, PartialEq, Eq)]
+pub enum Asked {
+    LoggedOn,
+    State(Pending),
+}
+
+impl Asked {
+    /// What this name asks for.
+    pub fn named(text: &str) -> Option<Asked>
+        ensures { result ≡ asked_of text.now }
+    {
+        match text {
+            "loggedOn" => Some(Asked::LoggedOn),
+            "loggedOff" => Some(Asked::State(Pending::LoggedOff)),
+            "notReady" => Some(Asked::State(Pending::NotReady)),
+            "ready" => Some(Asked::State(Pending::Ready)),
+            "workingAfterCall" => Some(Asked::State(Pending::WorkingAfterCall)),
+            _ => None,
+        }
+    }
+
+    /// The name as it is written.
+    pub fn name(self) -> &'static str
+        ensures { result.now ≡ asked_name self }
+    {
+        match self {
+            Asked::LoggedOn => "loggedOn",
+            Asked::State(state) => state.name(),
+        }
+    }
+}

@@ -1,0 +1,81 @@
+//! What becomes of an agent whose distributed connection ends.
+
+ghost use Rattle.std.specs.Prelude.{◌≡◌};
+ghost use Rattle.acd_terms.specs.Scans.{is_distributed};
+ghost use Rattle.acd_terms.specs.Release.{release_of, released, ending_of, release};
+
+use crate::agent_moves::{go_to, wait_for};
+use crate::call_moves::no_move;
+use acd_tables::tables::Tables;
+use acd_terms::id::DeviceId;
+use acd_terms::moves::{Ending, Move, Release};
+use acd_terms::record::{AgentRecord, ConnectionRecord};
+use acd_terms::state::{AgentState, Pending};
+
+/// A connection that distribution offered, until it ends.
+pub fn is_distributed(connection: &ConnectionRecord) -> bool
+    ensures { result ≡ is_distributed connection.now }
+{
+    connection.group.is_some() && !connection.state.is_queued()
+}
+
+// The table of release.
+fn release_of(how: Ending, pending: Option<Pending>) -> Release
+    ensures { result ≡ release_of how pending }
+{
+    match (how, pending) {
+        (Ending::Answered, None) => Release::Goes(AgentState::WorkingAfterCall),
+        (Ending::Unanswered, None | Some(Pending::Ready)) => Release::Stays,
+        (Ending::NoAnswer, None | Some(Pending::Ready)) => Release::Goes(AgentState::NotReady),
+        (_, Some(wanted)) => Release::Goes(wanted.state()),
+    }
+}
+
+fn released(
+    moment: u32,
+    stamp: u64,
+    agent: &AgentRecord,
+    station: DeviceId,
+    release: Release,
+) -> Move
+    ensures { result ≡ released moment stamp agent.now station release }
+{
+    match release {
+        Release::Stays => wait_for(agent, None),
+        Release::Goes(state) => go_to(moment, stamp, agent, station, state),
+    }
+}
+
+/// How a connection ends that is cleared, deflected or transferred.
+pub fn ending_of(connection: &ConnectionRecord) -> Ending
+    ensures { result ≡ ending_of connection.now }
+{
+    if connection.state.is_answered() {
+        Ending::Answered
+    } else {
+        Ending::Unanswered
+    }
+}
+
+/// Where a distributed connection ends, the agent at its station is released.
+#[tactic(auto, unfolding(acd_terms::specs::Release::release))]
+pub fn release(
+    tables: &Tables,
+    moment: u32,
+    stamp: u64,
+    connection: &ConnectionRecord,
+    how: Ending,
+) -> Move
+    ensures { result ≡ release tables.now moment stamp connection.now how }
+{
+    if !is_distributed(connection) {
+        return no_move();
+    }
+    match tables.agent_at(connection.device) {
+        None => no_move(),
+        Some(agent) => {
+            let next = release_of(how, agent.pending);
+            released(moment, stamp, &agent, connection.device, next)
+        }
+    }
+}

@@ -1,0 +1,31 @@
+-- Rounds of offers, and the moves for each of a list in turn.
+use Rattle.std.proofs.Common.{◌≡◌, ℕ, zero, suc, [], ◌∷◌, ◌++◌, List, Some, None, refl, sym, ap, ◌∙◌, append_assoc}
+use Rattle.acd_terms.specs.declared.rows.Rows.{Rows}
+use Rattle.acd_terms.specs.declared.event.Event.{Event}
+use Rattle.acd_terms.specs.declared.moves.Move.{Move}
+use Rattle.acd_terms.specs.declared.moves.Offer.{Offer}
+use Rattle.acd_terms.specs.Choice.{offer_of}
+use Rattle.acd_terms.specs.Moves.{moved, events_of}
+use Rattle.acd_terms.specs.Distribution.{offer_moves, offers}
+use Rattle.acd_terms.specs.Tick.{each}
+use Rattle.acd_terms.proofs.MoveLemmas.{moved_append, events_of_append}
+
+pub offers-none : (n : ℕ) (s : Rows) (m : ℕ) → offer_of s ≡ None → offers n s m ≡ []
+offers-none zero s m h = refl
+offers-none (suc n) s m h = rw h refl
+
+pub offers-some : (n k : ℕ) (s : Rows) (m : ℕ) (o : Offer) → n ≡ suc k → offer_of s ≡ Some o → offers n s m ≡ offer_moves s m o ++ offers k (moved s (offer_moves s m o)) m
+offers-some n k s m o e h = rw e (rw h refl)
+
+-- one of a list is done
+pub rows_next : {T : Type 0} (f : Rows → T → List Move) (s t r : Rows) (x : T) (xs ys : List T) → xs ≡ x ∷ ys → moved s (each f s xs) ≡ r → t ≡ moved s (f s x) → moved t (each f t ys) ≡ r
+rows_next f s t r x xs ys e h g =
+    ap (λ (u : Rows). moved u (each f u ys)) g ∙ sym (moved_append s (f s x) (each f (moved s (f s x)) ys)) ∙ ap (λ l. moved s (each f s l)) (sym e) ∙ h
+
+pub events_next : {T : Type 0} (f : Rows → T → List Move) (s t : Rows) (m : ℕ) (x : T) (xs ys : List T) (es fs r : List Event) → xs ≡ x ∷ ys → es ++ events_of m (each f s xs) ≡ r → t ≡ moved s (f s x) → fs ≡ es ++ events_of m (f s x)
+    → fs ++ events_of m (each f t ys) ≡ r
+events_next f s t m x xs ys es fs r e h g k =
+    ap (λ (l : List Event). l ++ events_of m (each f t ys)) k ∙ append_assoc es (events_of m (f s x)) (events_of m (each f t ys))
+    ∙ ap (λ (u : Rows). es ++ (events_of m (f s x) ++ events_of m (each f u ys))) g
+    ∙ ap (λ (l : List Event). es ++ l) (sym (events_of_append m (f s x) (each f (moved s (f s x)) ys)))
+    ∙ ap (λ l. es ++ events_of m (each f s l)) (sym e) ∙ h

@@ -1,0 +1,18 @@
+use Rattle.std.proofs.Common.{◌≡◌, ◌+◌, ◌∷◌, drop, arith, List}
+use Rattle.std.proofs.lemmas.Grind.{common_steps}
+use Rattle.acd_terms.specs.declared.record.ConnectionRecord.{ConnectionRecord}
+use Rattle.acd_terms.specs.Tick.{return_moves}
+use Rattle.acd_switch.proofs.Rounds.{rows_next, events_next}
+use Rattle.acd_switch.proofs.tick.return_overdue.Goals as goal
+
+pub loop-connection-preserved : goal.loop-connection-preserved
+loop-connection-preserved c =
+    let items = c.as_slice-connection-items.result.now in
+    let i = c.loop-connection.connection-index in
+    let x = c.connection-item.result in
+    let parts : drop i items ≡ x ∷ drop (i + 1) items = grind (arith, common_steps) in
+    record {
+      rows = rows_next (λ t y. return_moves t c.args.moment c.args.stamp y) _ _ _ x _ _ parts c.loop-connection.invariant.rows c.in_ok-take_back.ensures.rows;
+      told = events_next (λ t y. return_moves t c.args.moment c.args.stamp y) _ _ _ x _ _ _ _ _ parts c.loop-connection.invariant.told c.in_ok-take_back.ensures.rows c.in_ok-take_back.ensures.events;
+      all = c.loop-connection.invariant.all;
+    }

@@ -1,0 +1,22 @@
+-- Where the counters of a state have room in their types.
+use Rattle.std.specs.Prelude.{ℕ, ◌<◌, ◌-◌, ◌+◌, ◌^◌, List, length}
+use Rattle.acd_tables.specs.Counting.{AllFit}
+use Rattle.acd_terms.specs.Writes.{with_last}
+use Rattle.acd_terms.specs.Figures.{with_figures}
+use Rattle.acd_terms.specs.declared.rows.Rows.{Rows}
+use Rattle.acd_terms.specs.declared.event.Event.{Event}
+
+-- one more request, call and monitor can be numbered
+pub record HasRoom (s : Rows) : Type 0 where
+  pub stamp : s.last_stamp < 2 ^ 64 - 1
+  pub call : s.last_call < 2 ^ 64 - 1
+  pub monitor : s.last_monitor < 2 ^ 64 - 1
+
+-- the last event and the figures are numbers of 64 bits
+pub record Fits (s : Rows) : Type 0 where
+  pub event : s.last_event < 2 ^ 64
+  pub figures : AllFit s.groups
+
+-- the state once the events are counted and numbered on from the last one
+abbrev pub closed : Rows → ℕ → ℕ → ℕ → List Event → Rows
+closed s m k last events = with_last (with_figures s events) k m (last + length events)

@@ -1,0 +1,83 @@
+//! Offers of waiting calls to ready agents.
+
+ghost use Rattle.std.specs.Prelude.{◌≡◌, ◌++◌, OnOk};
+ghost use Rattle.acd_terms.specs.Choice.{offer_of};
+ghost use Rattle.acd_terms.specs.Moves.{moved, events_of};
+ghost use Rattle.acd_terms.specs.Distribution.{offer_moves, distribution};
+
+use acd_services::call_moves::{divert, offer};
+use acd_services::make::make_all;
+use acd_tables::tables::Tables;
+use acd_terms::event::{Cause, Event};
+use acd_terms::moves::Offer;
+use std::alloc::AllocError;
+
+/// The offer that is to be made next: in the first group that has a waiting call and an eligible
+/// agent, the call of least place and the agent of least stamp.
+#[tactic(auto, unfolding(acd_terms::specs::Choice::offer_of))]
+pub fn next_offer(tables: &Tables) -> Option<Offer>
+    ensures { result ≡ offer_of tables.now }
+{
+    for group in tables.groups() {
+        let device = group.device;
+        let waiting = tables.first_waiting(device);
+        let ready = tables.first_eligible(device);
+        if let Some((_, call)) = waiting {
+            if let Some((_, agent)) = ready {
+                return Some(Offer {
+                    group: device,
+                    call,
+                    agent,
+                });
+            }
+        }
+    }
+    None
+}
+
+// Makes the offer.
+#[tactic(auto, unfolding(acd_terms::specs::Distribution::offer_moves))]
+fn make_offer(
+    tables: &mut Tables,
+    moment: u32,
+    offered: Offer,
+    events: &mut Vec<Event>,
+) -> Result<(), AllocError>
+    ensures rows { OnOk result (tables.new ≡ moved tables.old (offer_moves tables.old moment offered)) }
+    ensures events { OnOk result (events.new.items ≡ events.old.items ++ events_of moment (offer_moves tables.old moment offered)) }
+{
+    let Some(connection) = tables.connection(offered.call, offered.group) else {
+        return Ok(());
+    };
+    let Some(agent) = tables.agent(offered.agent) else {
+        return Ok(());
+    };
+    let Some(station) = agent.station else {
+        return Ok(());
+    };
+    let moves = [
+        divert(&connection, station, Cause::Distributed),
+        offer(moment, &connection, station),
+    ];
+    make_all(tables, moment, &moves, events)
+}
+
+/// Makes offers until there is none. After an error tables and events are only to be dropped.
+#[tactic(auto, unfolding(acd_terms::specs::Distribution::distribution))]
+pub fn distribute(
+    tables: &mut Tables,
+    moment: u32,
+    events: &mut Vec<Event>,
+) -> Result<(), AllocError>
+    ensures rows { OnOk result (tables.new ≡ moved tables.old (distribution tables.old moment)) }
+    ensures events { OnOk result (events.new.items ≡ events.old.items ++ events_of moment (distribution tables.old moment)) }
+{
+    let most = tables.queued_count();
+    for round in 0..most {
+        let Some(offer) = next_offer(tables) else {
+            return Ok(());
+        };
+        make_offer(tables, moment, offer, events)?;
+    }
+    Ok(())
+}

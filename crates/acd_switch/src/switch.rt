@@ -1,0 +1,184 @@
+//! The switch.
+
+ghost use Rattle.std.specs.Prelude.{◌≡◌, ◌<◌, ◌+◌, ◌-◌, ◌^◌, ◌++◌, length, true, nat_le, IfOk, IfErr, OnOk};
+ghost use Rattle.acd_terms.specs.Writes.{empty_rows};
+ghost use Rattle.acd_terms.specs.Limits.{limits_fit};
+ghost use Rattle.acd_terms.specs.Moves.{moved, events_of};
+ghost use Rattle.acd_terms.specs.Served.{outcome_of, moves_of};
+ghost use Rattle.acd_terms.specs.Services.Serve.{serve};
+ghost use Rattle.acd_terms.specs.Step.{step, numbered};
+ghost use Rattle.acd_terms.specs.Rules.First.{BreaksNoRule};
+ghost use Rattle.acd_switch.specs.RowFaults.{IsFaultOf};
+ghost use Rattle.acd_switch.specs.Room.{HasRoom, Fits, closed};
+ghost use Rattle.acd_switch.specs.Kept.{figures_at, IsRefused};
+ghost use Rattle.acd_laws.specs.RefusalLaws.{ChangesNothing};
+
+use crate::distribution::distribute;
+use crate::row_fault::RowFault;
+use crate::tick::tick;
+use acd_rules::first::first_broken;
+use acd_services::serve::serve;
+use acd_tables::tables::Tables;
+use acd_terms::answer::{Answer, Outcome};
+use acd_terms::command::Command;
+use acd_terms::event::Event;
+use acd_terms::id::DeviceId;
+use acd_terms::record::Figures;
+use acd_terms::rows::{Limits, Rows};
+use std::alloc::{AllocError, Global};
+use std::marker::Model;
+
+/// The switch, seen as its rows.
+#[derive(Debug, Drop)]
+pub struct Switch {
+    alloc: Global,
+    tables: Tables,
+}
+
+impl Model for Switch {
+    ghost use Rattle.acd_terms.specs.declared.rows.Rows.{Rows};
+
+    ghost Value = { Rows };
+
+    ghost view = { λ s. s.tables };
+}
+
+impl Switch {
+    /// A switch with no plan, no call and no executed request. The caller keeps the limits so that they
+    /// fit ([`Limits::fits`]).
+    pub fn new(alloc: Global, limits: Limits) -> Self
+        ensures empty { result ≡ empty_rows limits }
+        ensures kept { limits_fit limits ≡ true → BreaksNoRule result }
+    {
+        Switch {
+            alloc,
+            tables: Tables::new(alloc, limits),
+        }
+    }
+
+    /// A switch of these rows, where they break no rule.
+    pub fn from_rows(alloc: Global, rows: &Rows) -> Result<Self, RowFault>
+        ensures ok { IfOk result (λ s. s ≡ rows.now) }
+        ensures sound { OnOk result (BreaksNoRule rows.now) }
+        ensures err { IfErr result (IsFaultOf rows.now) }
+    {
+        if let Some(rule) = first_broken(rows) {
+            return Err(RowFault::Broken(rule));
+        }
+        match Tables::from_rows(alloc, rows) {
+            Ok(tables) => Ok(Switch { alloc, tables }),
+            Err(AllocError) => Err(RowFault::NoMemory),
+        }
+    }
+
+    /// Executes one request at a moment (in seconds): its outcome and its events. A moment before the
+    /// last one is taken as the last one. A refused request takes a stamp and a moment, and changes
+    /// nothing else. After an error of memory the switch is only to be dropped.
+    pub fn step(
+        &mut self,
+        moment: u32,
+        command: &Command,
+    ) -> Result<(Outcome, Vec<Event>), AllocError>
+        requires rules { BreaksNoRule self.old }
+        requires room { self.old.last_stamp < self.old.limits.requests }
+        ensures outcome { IfOk result (λ r. r.0 ≡ (step self.old moment command.now).outcome) }
+        ensures events { IfOk result (λ r. r.1.items ≡ (step self.old moment command.now).events) }
+        ensures rows { OnOk result (self.new ≡ (step self.old moment command.now).rows) }
+        ensures kept { OnOk result (BreaksNoRule self.new) }
+        ensures refused { IfOk result (λ r. IsRefused r.0 → ChangesNothing self.old moment command.now) }
+    {
+        execute(self.alloc, &mut self.tables, moment, command)
+    }
+
+    /// As many requests were executed as the limit allows: no more may be.
+    pub fn is_full(&self) -> bool
+        ensures { result ≡ nat_le self.now.limits.requests self.now.last_stamp }
+    {
+        self.tables.limits().requests <= self.tables.last_stamp()
+    }
+
+    /// What the group has counted, where it is planned.
+    pub fn figures(&self, group: DeviceId) -> Option<Figures>
+        ensures { result ≡ figures_at self.now group }
+    {
+        match self.tables.group(group) {
+            None => None,
+            Some(group) => Some(group.figures),
+        }
+    }
+
+    /// The state as lists.
+    pub fn rows(&self) -> Result<Rows, AllocError>
+        ensures { IfOk result (λ r. r ≡ self.now) }
+    {
+        self.tables.rows(self.alloc)
+    }
+}
+
+// Executes one request. After an error the tables are only to be dropped.
+fn execute(
+    alloc: Global,
+    tables: &mut Tables,
+    moment: u32,
+    command: &Command,
+) -> Result<(Outcome, Vec<Event>), AllocError>
+    requires rules { BreaksNoRule tables.old }
+    requires room { tables.old.last_stamp < tables.old.limits.requests }
+    ensures outcome { IfOk result (λ r. r.0 ≡ (step tables.old moment command.now).outcome) }
+    ensures events { IfOk result (λ r. r.1.items ≡ (step tables.old moment command.now).events) }
+    ensures rows { OnOk result (tables.new ≡ (step tables.old moment command.now).rows) }
+{
+    let moment = moment.max(tables.last_moment());
+    let stamp = tables.last_stamp() + 1;
+    let last = tables.last_event();
+    let mut events = Vec::new(alloc);
+    let outcome = run_command(alloc, tables, moment, stamp, command, &mut events)?;
+    distribute(tables, moment, &mut events)?;
+    close(tables, moment, stamp, last, &mut events);
+    Ok((outcome, events))
+}
+
+// Adds the events to the figures, numbers them on from the last one, and sets the counters.
+fn close(tables: &mut Tables, moment: u32, stamp: u64, last: u64, events: &mut Vec<Event>)
+    requires { Fits (closed tables.old moment stamp last events.old.items) }
+    ensures rows { tables.new ≡ closed tables.old moment stamp last events.old.items }
+    ensures events { events.new.items ≡ numbered last events.old.items }
+{
+    tables.add_figures(events);
+    let count = events.len() as u64;
+    number(events, last);
+    tables.set_last(stamp, moment, last + count);
+}
+
+// The service, or tick.
+fn run_command(
+    alloc: Global,
+    tables: &mut Tables,
+    moment: u32,
+    stamp: u64,
+    command: &Command,
+    events: &mut Vec<Event>,
+) -> Result<Outcome, AllocError>
+    requires { HasRoom tables.old }
+    ensures outcome { IfOk result (λ o. o ≡ outcome_of (serve tables.old moment stamp command.now)) }
+    ensures rows { OnOk result (tables.new ≡ moved tables.old (moves_of (serve tables.old moment stamp command.now))) }
+    ensures events { OnOk result (events.new.items ≡ events.old.items ++ events_of moment (moves_of (serve tables.old moment stamp command.now))) }
+{
+    match command {
+        Command::Tick => {
+            tick(alloc, tables, moment, stamp, events)?;
+            Ok(Outcome::Done(Answer::Nothing))
+        }
+        _ => serve(tables, moment, stamp, command, events),
+    }
+}
+
+// Numbers the events on from the last one.
+fn number(events: &mut [Event], last: u64)
+    requires { last + length events.old < 2 ^ 64 }
+    ensures { events.new ≡ numbered last events.old }
+{
+    for i in 0..events.len() {
+        events[i].number = last + 1 + i as u64;
+    }
+}

@@ -1,0 +1,194 @@
+//! tick: offers that rang too long go back, and after-call work that lasted long enough ends.
+
+ghost use Rattle.std.specs.Prelude.{◌≡◌, ◌++◌, OnOk, IfOk};
+ghost use Rattle.acd_terms.specs.Moves.{moved, events_of};
+ghost use Rattle.acd_terms.specs.Scans.{group_of};
+ghost use Rattle.acd_terms.specs.Tick.{is_over, ring_of, wrap_of, is_overdue, overdue_in, return_moves, is_rested, rested_in, rest_moves, returns, rests, tick};
+
+use acd_services::agent_moves::go_from;
+use acd_services::call_moves::{divert, go_back};
+use acd_services::make::make_all;
+use acd_services::release::release;
+use acd_tables::tables::Tables;
+use acd_terms::event::{Cause, Event};
+use acd_terms::id::DeviceId;
+use acd_terms::moves::Ending;
+use acd_terms::record::{AgentRecord, ConnectionRecord};
+use acd_terms::state::AgentState;
+use std::alloc::{AllocError, Global};
+
+// So many seconds have passed since then. 0 seconds mean never.
+fn is_over(seconds: u16, since: u32, moment: u32) -> bool
+    ensures { result ≡ is_over seconds since moment }
+{
+    seconds != 0 && u64::from(since) + u64::from(seconds) <= u64::from(moment)
+}
+
+fn ring_of(tables: &Tables, group: DeviceId) -> u16
+    ensures { result ≡ ring_of (group_of tables.now group) }
+{
+    match tables.group(group) {
+        None => 0,
+        Some(group) => group.ring.number(),
+    }
+}
+
+fn wrap_of(tables: &Tables, group: DeviceId) -> u16
+    ensures { result ≡ wrap_of (group_of tables.now group) }
+{
+    match tables.group(group) {
+        None => 0,
+        Some(group) => group.wrap.number(),
+    }
+}
+
+#[tactic(auto, unfolding(acd_terms::specs::Tick::is_overdue))]
+fn is_overdue(tables: &Tables, moment: u32, connection: &ConnectionRecord) -> bool
+    ensures { result ≡ is_overdue tables.now moment connection.now }
+{
+    if !connection.state.is_alerting() {
+        return false;
+    }
+    let Some(group) = connection.group else {
+        return false;
+    };
+    match connection.offered {
+        None => false,
+        Some(offered) => is_over(ring_of(tables, group), offered, moment),
+    }
+}
+
+#[tactic(auto, unfolding(acd_terms::specs::Tick::is_rested))]
+fn is_rested(tables: &Tables, moment: u32, agent: &AgentRecord) -> bool
+    ensures { result ≡ is_rested tables.now moment agent.now }
+{
+    if !agent.state.is_working_after_call() {
+        return false;
+    }
+    match agent.group {
+        None => false,
+        Some(group) => is_over(wrap_of(tables, group), agent.since, moment),
+    }
+}
+
+// The offers that rang too long, in ascending call number.
+#[tactic(auto, unfolding(acd_terms::specs::Tick::overdue_in))]
+fn overdue_in(
+    alloc: Global,
+    tables: &Tables,
+    moment: u32,
+) -> Result<Vec<ConnectionRecord>, AllocError>
+    ensures { IfOk result (λ v. v.items ≡ overdue_in tables.now moment) }
+{
+    let mut overdue = Vec::new(alloc);
+    for connection in tables.connections() {
+        if is_overdue(tables, moment, connection) {
+            overdue.push(*connection)?;
+        }
+    }
+    Ok(overdue)
+}
+
+// The agents whose after-call work lasted long enough, in ascending number.
+#[tactic(auto, unfolding(acd_terms::specs::Tick::rested_in))]
+fn rested_in(alloc: Global, tables: &Tables, moment: u32) -> Result<Vec<AgentRecord>, AllocError>
+    ensures { IfOk result (λ v. v.items ≡ rested_in tables.now moment) }
+{
+    let mut rested = Vec::new(alloc);
+    for agent in tables.agents() {
+        if is_rested(tables, moment, agent) {
+            rested.push(*agent)?;
+        }
+    }
+    Ok(rested)
+}
+
+// The call goes back to the group that offered it, and the agent is released.
+fn take_back(
+    tables: &mut Tables,
+    moment: u32,
+    stamp: u64,
+    connection: &ConnectionRecord,
+    events: &mut Vec<Event>,
+) -> Result<(), AllocError>
+    ensures rows { OnOk result (tables.new ≡ moved tables.old (return_moves tables.old moment stamp connection.now)) }
+    ensures events { OnOk result (events.new.items ≡ events.old.items ++ events_of moment (return_moves tables.old moment stamp connection.now)) }
+{
+    let Some(group) = connection.group else {
+        return Ok(());
+    };
+    let moves = [
+        divert(connection, group, Cause::NoAnswer),
+        go_back(connection, group),
+        release(tables, moment, stamp, connection, Ending::NoAnswer),
+    ];
+    make_all(tables, moment, &moves, events)
+}
+
+// The agent's after-call work ends.
+fn end_work(
+    tables: &mut Tables,
+    moment: u32,
+    stamp: u64,
+    agent: &AgentRecord,
+    events: &mut Vec<Event>,
+) -> Result<(), AllocError>
+    ensures rows { OnOk result (tables.new ≡ moved tables.old (rest_moves moment stamp agent.now)) }
+    ensures events { OnOk result (events.new.items ≡ events.old.items ++ events_of moment (rest_moves moment stamp agent.now)) }
+{
+    let moves = [go_from(moment, stamp, agent, AgentState::Ready)];
+    make_all(tables, moment, &moves, events)
+}
+
+#[tactic(auto, using(acd_terms::proofs::MoveLemmas::moved_append, acd_terms::proofs::MoveLemmas::events_of_append, std::proofs::lemmas::Grind::common_steps), unfolding(acd_terms::specs::Tick::returns))]
+fn return_overdue(
+    alloc: Global,
+    tables: &mut Tables,
+    moment: u32,
+    stamp: u64,
+    events: &mut Vec<Event>,
+) -> Result<(), AllocError>
+    ensures rows { OnOk result (tables.new ≡ moved tables.old (returns tables.old moment stamp)) }
+    ensures events { OnOk result (events.new.items ≡ events.old.items ++ events_of moment (returns tables.old moment stamp)) }
+{
+    let overdue = overdue_in(alloc, tables, moment)?;
+    for connection in overdue.as_slice() {
+        take_back(tables, moment, stamp, connection, events)?;
+    }
+    Ok(())
+}
+
+#[tactic(auto, unfolding(acd_terms::specs::Tick::rests))]
+fn end_rested(
+    alloc: Global,
+    tables: &mut Tables,
+    moment: u32,
+    stamp: u64,
+    events: &mut Vec<Event>,
+) -> Result<(), AllocError>
+    ensures rows { OnOk result (tables.new ≡ moved tables.old (rests tables.old moment stamp)) }
+    ensures events { OnOk result (events.new.items ≡ events.old.items ++ events_of moment (rests tables.old moment stamp)) }
+{
+    let rested = rested_in(alloc, tables, moment)?;
+    for agent in rested.as_slice() {
+        end_work(tables, moment, stamp, agent, events)?;
+    }
+    Ok(())
+}
+
+/// Takes overdue offers back, one call after the other, then ends after-call work. After an error
+/// tables and events are only to be dropped.
+#[tactic(auto, using(acd_terms::proofs::MoveLemmas::moved_append, acd_terms::proofs::MoveLemmas::events_of_append, std::proofs::lemmas::Grind::common_steps), unfolding(acd_terms::specs::Tick::tick))]
+pub fn tick(
+    alloc: Global,
+    tables: &mut Tables,
+    moment: u32,
+    stamp: u64,
+    events: &mut Vec<Event>,
+) -> Result<(), AllocError>
+    ensures rows { OnOk result (tables.new ≡ moved tables.old (tick tables.old moment stamp)) }
+    ensures events { OnOk result (events.new.items ≡ events.old.items ++ events_of moment (tick tables.old moment stamp)) }
+{
+    return_overdue(alloc, tables, moment, stamp, events)?;
+    end_rested(alloc, tables, moment, stamp, events)
+}

@@ -1,0 +1,10 @@
+-- What is planned at a device.
+use Rattle.std.specs.Prelude.{ℕ, Option, Some, None, if◌then◌else◌}
+use Rattle.acd_terms.specs.Scans.{is_group, is_station}
+use Rattle.acd_terms.specs.declared.rows.Rows.{Rows}
+use Rattle.acd_tables.specs.declared.tables.DeviceKind.{DeviceKind}
+use Rattle.acd_tables.specs.declared.tables.DeviceKind.TheVariants.{Group, Station}
+
+-- a group, a station, or nothing
+unfoldable pub kind_of : Rows → ℕ → Option DeviceKind
+kind_of s device = if is_group s device then Some Group else (if is_station s device then Some Station else None)

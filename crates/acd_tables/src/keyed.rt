@@ -1,0 +1,107 @@
+//! Records with a key.
+
+ghost use Rattle.std.specs.Prelude.{◌≡◌};
+
+use acd_terms::id::{AgentId, DeviceId};
+use acd_terms::record::{
+    AgentRecord, CallRecord, ConnectionRecord, GroupRecord, MonitorRecord, StationRecord,
+};
+
+/// A record with a key. Keys that compare equal are equal.
+pub trait Keyed: Copy {
+    type Key: Ord + Copy;
+
+    ghost key_of: { Self → Self.Key };
+
+    fn key(&self) -> Self::Key
+        ensures { result ≡ key_of self.now };
+
+    ghost use Rattle.std.proofs.lemmas.Map.Lookups.{CmpEqualImpliesEq};
+
+    ghost exact: { CmpEqualImpliesEq Self.Key.cmp };
+}
+
+impl Keyed for GroupRecord {
+    type Key = DeviceId;
+
+    ghost key_of = { λ r. r.device };
+
+    ghost use Rattle.std.proofs.lemmas.Map.Lookups.{exact_unsigned};
+
+    ghost exact = { exact_unsigned };
+
+    fn key(&self) -> DeviceId {
+        self.device
+    }
+}
+
+impl Keyed for StationRecord {
+    type Key = DeviceId;
+
+    ghost key_of = { λ r. r.device };
+
+    ghost use Rattle.std.proofs.lemmas.Map.Lookups.{exact_unsigned};
+
+    ghost exact = { exact_unsigned };
+
+    fn key(&self) -> DeviceId {
+        self.device
+    }
+}
+
+impl Keyed for AgentRecord {
+    type Key = AgentId;
+
+    ghost key_of = { λ r. r.agent };
+
+    ghost use Rattle.std.proofs.lemmas.Map.Lookups.{exact_unsigned};
+
+    ghost exact = { exact_unsigned };
+
+    fn key(&self) -> AgentId {
+        self.agent
+    }
+}
+
+impl Keyed for CallRecord {
+    type Key = u64;
+
+    ghost key_of = { λ r. r.call };
+
+    ghost use Rattle.std.proofs.lemmas.Map.Lookups.{exact_unsigned};
+
+    ghost exact = { exact_unsigned };
+
+    fn key(&self) -> u64 {
+        self.call
+    }
+}
+
+impl Keyed for ConnectionRecord {
+    type Key = (u64, DeviceId);
+
+    ghost key_of = { λ r. (r.call, r.device) };
+
+    ghost use Rattle.std.specs.Ordering.{nat_cmp};
+    ghost use Rattle.std.proofs.lemmas.Map.Lookups.{exact_unsigned, exact_pairs};
+
+    ghost exact = { exact_pairs nat_cmp nat_cmp exact_unsigned exact_unsigned };
+
+    fn key(&self) -> (u64, DeviceId) {
+        (self.call, self.device)
+    }
+}
+
+impl Keyed for MonitorRecord {
+    type Key = u64;
+
+    ghost key_of = { λ r. r.monitor };
+
+    ghost use Rattle.std.proofs.lemmas.Map.Lookups.{exact_unsigned};
+
+    ghost exact = { exact_unsigned };
+
+    fn key(&self) -> u64 {
+        self.monitor
+    }
+}

@@ -1,0 +1,14 @@
+//! The tables of the switch: its records by key, the look-ups that its services use, and the writes.
+//!
+//! [`tables::Tables`] is seen as [`acd_terms::rows::Rows`], so each look-up answers a scan of the state,
+//! and each write changes the one record that it names. Look-ups take no memory.
+#![tactic(auto)]
+
+pub mod figures;
+pub mod keyed;
+pub mod scans;
+pub mod table;
+pub mod tables;
+#[cfg(test)]
+mod tests;
+pub mod writes;

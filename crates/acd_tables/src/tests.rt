@@ -1,0 +1,243 @@
+//! Each write and each look-up once, on values.
+
+use crate::figures::figures_in;
+use crate::table::Table;
+use crate::tables::{DeviceKind, Tables};
+use acd_terms::event::{Cause, Report, Waited};
+use acd_terms::id::{AgentId, DeviceId};
+use acd_terms::name::Name;
+use acd_terms::number::Seconds;
+use acd_terms::record::{
+    AgentRecord, CallRecord, ConnectionRecord, Figures, GroupRecord, MonitorRecord, StationRecord,
+};
+use acd_terms::rows::Limits;
+use acd_terms::state::{AgentState, ConnectionState};
+use std::alloc::AllocError;
+use std::process::Abort;
+use std::test::Fail;
+
+fn device(rt: &impl Abort, digits: &str) -> DeviceId {
+    DeviceId::read(digits.as_bytes()).expect(rt, "a device")
+}
+
+fn agent(rt: &impl Abort, digits: &str) -> AgentId {
+    AgentId::read(digits.as_bytes()).expect(rt, "an agent")
+}
+
+fn station(rt: &impl Abort, digits: &str) -> StationRecord {
+    StationRecord {
+        device: device(rt, digits),
+    }
+}
+
+fn plan_group(rt: &impl Abort, tables: &mut Tables, digits: &str) -> Result<(), AllocError> {
+    tables.put_group(GroupRecord {
+        device: device(rt, digits),
+        name: Name::read(b"Help").expect(rt, "a name"),
+        ring: Seconds::new(20).expect(rt, "seconds"),
+        wrap: Seconds::new(0).expect(rt, "seconds"),
+        figures: Figures {
+            entered: 0,
+            answered: 0,
+            abandoned: 0,
+            moved: 0,
+            waited: 0,
+        },
+    })
+}
+
+fn plan_station(rt: &impl Abort, tables: &mut Tables, digits: &str) -> Result<(), AllocError> {
+    tables.put_station(station(rt, digits))
+}
+
+// An agent of the group 500, ready since a stamp.
+fn log_on(
+    rt: &impl Abort,
+    tables: &mut Tables,
+    digits: &str,
+    at: &str,
+    stamp: u64,
+) -> Result<(), AllocError> {
+    tables.put_agent(AgentRecord {
+        agent: agent(rt, digits),
+        name: Name::read(b"Ann").expect(rt, "a name"),
+        state: AgentState::Ready,
+        pending: None,
+        station: Some(device(rt, at)),
+        group: Some(device(rt, "500")),
+        stamp,
+        since: 0,
+    })
+}
+
+// The call waits in the group 500 at a place.
+fn queue(rt: &impl Abort, tables: &mut Tables, call: u64, place: u64) -> Result<(), AllocError> {
+    tables.put_connection(ConnectionRecord {
+        call,
+        device: device(rt, "500"),
+        state: ConnectionState::Queued,
+        group: Some(device(rt, "500")),
+        place: Some(place),
+        queued: Some(0),
+        offered: None,
+    })
+}
+
+fn plain(rt: &impl Abort, call: u64, at: &str, state: ConnectionState) -> ConnectionRecord {
+    ConnectionRecord {
+        call,
+        device: device(rt, at),
+        state,
+        group: None,
+        place: None,
+        queued: None,
+        offered: None,
+    }
+}
+
+#[test]
+fn a_table_keeps_the_order_of_its_keys(rt: HostRuntime) -> Result<(), Fail> {
+    let mut table: Table<StationRecord> = Table::new(rt.alloc());
+    table.put(station(&rt, "100"))?;
+    table.put(station(&rt, "07"))?;
+    let stations = table.as_slice();
+    assert_eq!(rt; stations.first().copied(), Some(station(&rt, "07")));
+    assert_eq!(rt; table.find(device(&rt, "100")), Some(station(&rt, "100")));
+    table.remove(device(&rt, "07"))?;
+    assert_eq!(rt; table.len(), 1);
+    Ok(())
+}
+
+#[test]
+fn plans_devices(rt: HostRuntime) -> Result<(), Fail> {
+    let mut tables = Tables::new(rt.alloc(), Limits::GREATEST);
+    plan_group(&rt, &mut tables, "500")?;
+    plan_station(&rt, &mut tables, "101")?;
+    assert!(rt; tables.kind_of(device(&rt, "500")) == Some(DeviceKind::Group));
+    assert!(rt; tables.kind_of(device(&rt, "101")) == Some(DeviceKind::Station));
+    Ok(())
+}
+
+// Two calls wait, the second at the lesser place.
+fn queue_two(rt: &impl Abort, tables: &mut Tables) -> Result<(), AllocError> {
+    queue(rt, tables, 1, 9)?;
+    queue(rt, tables, 2, 8)
+}
+
+#[test]
+fn chooses_the_least_place(rt: HostRuntime) -> Result<(), Fail> {
+    let mut tables = Tables::new(rt.alloc(), Limits::GREATEST);
+    queue_two(&rt, &mut tables)?;
+    let help = device(&rt, "500");
+    assert!(rt; tables.queued_count() == 2);
+    assert!(rt; tables.first_waiting(help) == Some((8, 2)));
+    tables.remove_connection(2, help)?;
+    assert!(rt; tables.first_waiting(help) == Some((9, 1)));
+    Ok(())
+}
+
+// Three agents are ready, the second and third for the longest.
+fn log_on_three(rt: &impl Abort, tables: &mut Tables) -> Result<(), AllocError> {
+    log_on(rt, tables, "1", "101", 6)?;
+    log_on(rt, tables, "3", "103", 5)?;
+    log_on(rt, tables, "2", "102", 5)
+}
+
+#[test]
+fn chooses_the_least_stamp(rt: HostRuntime) -> Result<(), Fail> {
+    let mut tables = Tables::new(rt.alloc(), Limits::GREATEST);
+    log_on_three(&rt, &mut tables)?;
+    let (stamp, number) = tables.first_eligible(device(&rt, "500")).ok_or("none")?;
+    assert!(rt; stamp == 5);
+    assert!(rt; number == agent(&rt, "2"));
+    Ok(())
+}
+
+#[test]
+fn finds_the_parties_of_a_call(rt: HostRuntime) -> Result<(), Fail> {
+    let mut tables = Tables::new(rt.alloc(), Limits::GREATEST);
+    let caller = plain(&rt, 7, "0201", ConnectionState::Connected);
+    let called = plain(&rt, 7, "101", ConnectionState::Fail);
+    tables.put_connection(caller)?;
+    tables.put_connection(called)?;
+    assert!(rt; tables.is_idle(called.device));
+    assert!(rt; tables.connections_of(7) == [Some(called), Some(caller)]);
+    assert!(rt; tables.other_of(&called) == Some(caller));
+    Ok(())
+}
+
+#[test]
+fn raises_the_last_call(rt: HostRuntime) -> Result<(), Fail> {
+    let mut tables = Tables::new(rt.alloc(), Limits::GREATEST);
+    let caller = device(&rt, "0201");
+    tables.put_call(CallRecord {
+        call: 7,
+        caller,
+        called: device(&rt, "101"),
+        since: 4,
+    })?;
+    assert!(rt; tables.is_used(caller));
+    tables.remove_call(7)?;
+    assert!(rt; tables.call(7).is_none() && tables.last_call() == 7);
+    Ok(())
+}
+
+#[test]
+fn raises_the_last_monitor(rt: HostRuntime) -> Result<(), Fail> {
+    let mut tables = Tables::new(rt.alloc(), Limits::GREATEST);
+    tables.put_monitor(MonitorRecord {
+        monitor: 2,
+        device: device(&rt, "500"),
+        after_event: 1,
+    })?;
+    tables.remove_monitor(2)?;
+    assert!(rt; tables.monitor(2).is_none() && tables.last_monitor() == 2);
+    Ok(())
+}
+
+#[test]
+fn keeps_the_last_numbers(rt: HostRuntime) -> Result<(), Fail> {
+    let mut tables = Tables::new(rt.alloc(), Limits::GREATEST);
+    tables.set_last(5, 6, 7);
+    tables.set_last_ids(8, 9);
+    tables.add_figures(&[]);
+    let rows = tables.rows(rt.alloc())?;
+    assert!(rt; rows.last_stamp == 5 && rows.last_moment == 6 && rows.last_event == 7);
+    assert!(rt; rows.last_call == 8 && rows.last_monitor == 9);
+    Ok(())
+}
+
+#[test]
+fn counts_what_a_report_says(rt: HostRuntime) {
+    let help = device(&rt, "500");
+    let entry = figures_in(
+        help,
+        &Report::Queued {
+            call: 1,
+            group: help,
+            cause: Cause::Deflected,
+        },
+    );
+    assert_eq!(rt; (entry.entered, entry.moved), (1, 0));
+    let back = figures_in(
+        help,
+        &Report::Queued {
+            call: 1,
+            group: help,
+            cause: Cause::NoAnswer,
+        },
+    );
+    assert_eq!(rt; back.entered, 0);
+    let answer = figures_in(
+        help,
+        &Report::Established {
+            call: 1,
+            station: device(&rt, "101"),
+            waited: Some(Waited {
+                group: help,
+                seconds: 30,
+            }),
+        },
+    );
+    assert_eq!(rt; (answer.answered, answer.waited), (1, 30));
+}

@@ -1,0 +1,4 @@
+pub mod Words
+pub mod Queue
+pub mod Agents
+pub mod Stations
