@@ -19,7 +19,7 @@ use std::process::Abort;
 use std::test::Fail;
 
 /// The parts of the rows, which a test alters one by one.
-#[derive(Clone, Copy)]
+#[derive(Drop)]
 struct Parts {
     limits: Limits,
     group: GroupRecord,
@@ -50,6 +50,24 @@ fn plain(call: u64, device: DeviceId, state: ConnectionState) -> ConnectionRecor
         place: None,
         queued: None,
         offered: None,
+    }
+}
+
+fn waiting(group: DeviceId) -> ConnectionRecord {
+    ConnectionRecord {
+        group: Some(group),
+        place: Some(9),
+        queued: Some(25),
+        ..plain(2, group, ConnectionState::Queued)
+    }
+}
+
+/// A monitor above the last.
+fn monitor_at(device: DeviceId) -> MonitorRecord {
+    MonitorRecord {
+        monitor: 1,
+        device,
+        after_event: 7,
     }
 }
 
@@ -168,115 +186,33 @@ fn fault_of(alloc: Global, parts: &Parts) -> Result<Option<RowFault>, AllocError
     }
 }
 
-/// The rows altered so that they break the rule, and none before it.
-fn breaking(parts: Parts, rule: Rule) -> Parts {
-    let [group, station] = [parts.group.device, parts.stations[0].device];
+/// Alters the rows so that they break the rule, and none before it.
+fn break_rule(rt: &impl Abort, parts: &mut Parts, rule: Rule) {
+    let group = device(rt, "100");
+    let station = device(rt, "201");
     match rule {
-        Rule::Limits => Parts {
-            last_call: 10,
-            ..parts
-        },
-        Rule::Order => Parts {
-            sides: [parts.sides[1], parts.sides[0]],
-            ..parts
-        },
-        Rule::Device => Parts {
-            group: GroupRecord {
-                device: station,
-                ..parts.group
-            },
-            ..parts
-        },
-        Rule::Agent => Parts {
-            agents: [
-                parts.agents[0],
-                AgentRecord {
-                    pending: Some(Pending::Ready),
-                    ..parts.agents[1]
-                },
-            ],
-            ..parts
-        },
-        Rule::Call => Parts {
-            call: CallRecord {
-                called: parts.call.caller,
-                ..parts.call
-            },
-            ..parts
-        },
-        Rule::Connection => Parts {
-            sides: [
-                ConnectionRecord {
-                    place: Some(6),
-                    ..parts.sides[0]
-                },
-                parts.sides[1],
-            ],
-            ..parts
-        },
-        Rule::Parties => Parts {
-            sides: [
-                plain(1, station, ConnectionState::Initiated),
-                parts.sides[1],
-            ],
-            ..parts
-        },
-        Rule::Live => Parts {
-            second: Some(plain(2, station, ConnectionState::Alerting)),
-            last_call: 2,
-            ..parts
-        },
-        Rule::Occupied => Parts {
-            agents: [
-                AgentRecord {
-                    state: AgentState::Ready,
-                    ..parts.agents[0]
-                },
-                parts.agents[1],
-            ],
-            ..parts
-        },
-        Rule::Counters => Parts {
-            last_event: 1000000,
-            ..parts
-        },
-        Rule::Offer => Parts {
-            agents: [
-                parts.agents[0],
-                AgentRecord {
-                    state: AgentState::Ready,
-                    station: Some(parts.stations[1].device),
-                    group: Some(group),
-                    ..parts.agents[1]
-                },
-            ],
-            second: Some(ConnectionRecord {
-                group: Some(group),
-                place: Some(9),
-                queued: Some(25),
-                ..plain(2, group, ConnectionState::Queued)
-            }),
-            last_call: 2,
-            ..parts
-        },
-        Rule::Monitor => Parts {
-            monitor: Some(MonitorRecord {
-                monitor: 1,
-                device: station,
-                after_event: 7,
-            }),
-            ..parts
-        },
-        Rule::Balance => Parts {
-            group: GroupRecord {
-                figures: Figures {
-                    entered: 2,
-                    ..parts.group.figures
-                },
-                ..parts.group
-            },
-            ..parts
-        },
+        Rule::Limits => parts.last_call = 10,
+        Rule::Order => parts.sides.swap(0, 1),
+        Rule::Device => parts.group.device = station,
+        Rule::Agent => parts.agents[1].pending = Some(Pending::Ready),
+        Rule::Call => parts.call.called = device(rt, "0301234"),
+        Rule::Connection => parts.sides[0].place = Some(6),
+        Rule::Parties => parts.sides[0] = plain(1, station, ConnectionState::Initiated),
+        Rule::Live => {
+            parts.second = Some(plain(2, station, ConnectionState::Alerting));
+            parts.last_call = 2;
+        }
+        Rule::Occupied => parts.agents[0].state = AgentState::Ready,
+        Rule::Counters => parts.last_event = 1000000,
+        Rule::Offer => {
+            parts.agents[1].state = AgentState::Ready;
+            parts.agents[1].station = Some(device(rt, "202"));
+            parts.agents[1].group = Some(group);
+            parts.second = Some(waiting(group));
+            parts.last_call = 2;
+        }
+        Rule::Monitor => parts.monitor = Some(monitor_at(station)),
+        Rule::Balance => parts.group.figures.entered = 2,
     }
 }
 
@@ -309,52 +245,55 @@ fn rows_that_break_no_rule_make_a_switch(rt: HostRuntime) -> Result<(), Fail> {
 
 #[test]
 fn each_rule_refuses_what_breaks_it(rt: HostRuntime) -> Result<(), Fail> {
-    let parts = answered_call(&rt);
     for rule in RULES {
-        let fault = fault_of(rt.alloc(), &breaking(parts, rule))?;
+        let mut parts = answered_call(&rt);
+        break_rule(&rt, &mut parts, rule);
+        let fault = fault_of(rt.alloc(), &parts)?;
         assert_eq!(rt; fault, Some(RowFault::Broken(rule)));
     }
     Ok(())
 }
 
-/// Rows whose event number or figures stand at the end of their type.
-fn at_the_end(parts: Parts) -> [Parts; 4] {
-    let counted = |figures: Figures| Parts {
-        group: GroupRecord {
-            figures,
-            ..parts.group
-        },
-        ..parts
-    };
-    let figures = parts.group.figures;
+/// A counter whose number stands at the end of its type.
+#[derive(Clone, Copy)]
+enum AtTheEnd {
+    LastEvent,
+    Waited,
+    Answered,
+    AllFigures,
+}
+
+fn put_at_the_end(parts: &mut Parts, counter: AtTheEnd) {
     let most = u64::MAX;
-    [
-        Parts {
-            last_event: most,
-            ..parts
-        },
-        counted(Figures {
-            waited: most,
-            ..figures
-        }),
-        counted(Figures {
-            entered: most,
-            answered: most,
-            ..figures
-        }),
-        counted(Figures {
-            entered: most,
-            answered: most,
-            abandoned: most,
-            moved: most,
-            waited: most,
-        }),
-    ]
+    match counter {
+        AtTheEnd::LastEvent => parts.last_event = most,
+        AtTheEnd::Waited => parts.group.figures.waited = most,
+        AtTheEnd::Answered => {
+            parts.group.figures.entered = most;
+            parts.group.figures.answered = most;
+        }
+        AtTheEnd::AllFigures => {
+            parts.group.figures = Figures {
+                entered: most,
+                answered: most,
+                abandoned: most,
+                moved: most,
+                waited: most,
+            };
+        }
+    }
 }
 
 #[test]
 fn no_counter_may_stand_at_the_end_of_its_type(rt: HostRuntime) -> Result<(), Fail> {
-    for parts in at_the_end(answered_call(&rt)) {
+    for counter in [
+        AtTheEnd::LastEvent,
+        AtTheEnd::Waited,
+        AtTheEnd::Answered,
+        AtTheEnd::AllFigures,
+    ] {
+        let mut parts = answered_call(&rt);
+        put_at_the_end(&mut parts, counter);
         let fault = fault_of(rt.alloc(), &parts)?;
         assert_eq!(rt; fault, Some(RowFault::Broken(Rule::Counters)));
     }
