@@ -12,15 +12,19 @@ use crate::serve::{feed, finish};
 use acd_switch::switch::Switch;
 use std::alloc::Global;
 use std::io::{ErrorKind, Read, Write};
+use thiserror::Error;
 
 /// Why not all lines were answered.
-#[derive(Clone, Copy, Debug, PartialEq, Eq)]
+#[derive(Clone, Copy, Debug, PartialEq, Eq, Error)]
 pub enum LinesFault {
     /// The reader failed, or was called as often as it may be.
+    #[error("cannot read")]
     Read,
     /// The writer failed, or was called as often as it may be.
+    #[error("cannot write")]
     Write,
     /// Memory ran out in a line. The switch is then only to be dropped.
+    #[error("no memory")]
     NoMemory,
 }
 
