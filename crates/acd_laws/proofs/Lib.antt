@@ -37,7 +37,15 @@ pub mod ConnectionsRead
 pub mod BoundsRead
 pub mod RulesWritten
 pub mod SoundOffers
+pub mod Steady
+pub mod Orderly
+pub mod Behaving
+pub mod Rounds
+pub mod Numbers
 pub mod Following
 pub mod Runs
 pub mod WatchedRuns
 pub mod Refused
+pub mod OneOffer
+pub mod BoundsStep
+pub mod RulesAll

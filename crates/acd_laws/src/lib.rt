@@ -10,6 +10,8 @@ ghost use Rattle.acd_laws.specs.FigureLaws.{StepKeepsFigures, RunKeepsFigures, S
 ghost use Rattle.acd_laws.specs.WatchedLaws.{StepTells, RunIsWatched};
 ghost use Rattle.acd_laws.specs.BalanceLaws.{StepBalances, RunIsBalanced};
 ghost use Rattle.acd_laws.specs.OfferLaws.{StepLeavesNoOffer, RunLeavesNoOffer};
+ghost use Rattle.acd_laws.specs.RuleLaws.{StepKeepsRules, RunKeepsRules, RulesBound, RulesLeaveRoom};
+ghost use Rattle.acd_laws.specs.PlacedLaws.{RulesGiveOneOffer, RunHasOneOffer};
 
 /// The offer that is found is the one that the relation allows, and one is found wherever there is one.
 pub fn finds_the_offer()
@@ -64,4 +66,34 @@ pub fn step_leaves_no_offer()
 /// After every run no group has both a waiting call and an eligible agent.
 pub fn run_leaves_no_offer()
     ensures { RunLeavesNoOffer }
+{}
+
+/// Where a state keeps the rules, a station has one distributed connection at most, its agent is ready or busy with it, and no other agent is busy.
+pub fn rules_give_one_offer()
+    ensures { RulesGiveOneOffer }
+{}
+
+/// After every run a station has one distributed connection at most, its agent is ready or busy with it, and no other agent is busy.
+pub fn run_has_one_offer()
+    ensures { RunHasOneOffer }
+{}
+
+/// Rows that break no rule break none after a step, while a request more is allowed.
+pub fn step_keeps_rules()
+    ensures { StepKeepsRules }
+{}
+
+/// No run of at most as many requests as are allowed breaks a rule.
+pub fn run_keeps_rules()
+    ensures { RunKeepsRules }
+{}
+
+/// Rows that break no rule have their counters and figures within bounds.
+pub fn rules_bound()
+    ensures { RulesBound }
+{}
+
+/// Where moments are of 32 bits, the figures of rows that break no rule are below 2 to the 63.
+pub fn rules_leave_room()
+    ensures { RulesLeaveRoom }
 {}

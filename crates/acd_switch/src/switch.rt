@@ -1,16 +1,20 @@
 //! The switch.
 
-ghost use Rattle.std.specs.Prelude.{◌≡◌, ◌<◌, ◌+◌, ◌-◌, ◌^◌, ◌++◌, length, nat_le, IfOk, OnOk};
+ghost use Rattle.std.specs.Prelude.{◌≡◌, ◌<◌, ◌+◌, ◌-◌, ◌^◌, ◌++◌, length, nat_le, IfOk, IfErr, OnOk};
 ghost use Rattle.acd_terms.specs.Writes.{empty_rows};
 ghost use Rattle.acd_terms.specs.Moves.{moved, events_of};
 ghost use Rattle.acd_terms.specs.Served.{outcome_of, moves_of};
 ghost use Rattle.acd_terms.specs.Services.Serve.{serve};
 ghost use Rattle.acd_terms.specs.Step.{step, numbered};
+ghost use Rattle.acd_terms.specs.Rules.First.{BreaksNoRule};
+ghost use Rattle.acd_switch.specs.RowFaults.{IsFaultOf};
 ghost use Rattle.acd_switch.specs.Room.{HasRoom, Fits, closed};
 ghost use Rattle.acd_switch.specs.Kept.{figures_at};
 
 use crate::distribution::distribute;
+use crate::row_fault::RowFault;
 use crate::tick::tick;
+use acd_rules::first::first_broken;
 use acd_services::serve::serve;
 use acd_tables::tables::Tables;
 use acd_terms::answer::{Answer, Outcome};
@@ -45,6 +49,21 @@ impl Switch {
         Switch {
             alloc,
             tables: Tables::new(alloc, limits),
+        }
+    }
+
+    /// A switch of these rows, where they break no rule.
+    pub fn from_rows(alloc: Global, rows: &Rows) -> Result<Self, RowFault>
+        ensures ok { IfOk result (λ s. s ≡ rows.now) }
+        ensures sound { OnOk result (BreaksNoRule rows.now) }
+        ensures err { IfErr result (IsFaultOf rows.now) }
+    {
+        if let Some(rule) = first_broken(rows) {
+            return Err(RowFault::Broken(rule));
+        }
+        match Tables::from_rows(alloc, rows) {
+            Ok(tables) => Ok(Switch { alloc, tables }),
+            Err(AllocError) => Err(RowFault::NoMemory),
         }
     }
 
