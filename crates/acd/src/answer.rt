@@ -9,10 +9,10 @@ ghost use Rattle.acd_codec.specs.ReplyTexts.{malformed_text};
 ghost use Rattle.acd.specs.Parts.{answered_text, HasStatus};
 
 use crate::moment::moment_of;
-use acd_codec::fault::{FixedAnswer, ReadFault};
-use acd_codec::member::{MALFORMED_STATUS, Member};
-use acd_codec::reading::read_request;
-use acd_codec::replies::{Rejected, outcome_status, rejected_text, reply_text};
+use acd_codec::{
+    FixedAnswer, MALFORMED_STATUS, Member, ReadFault, Rejected, outcome_status, read_request,
+    rejected_text, reply_text,
+};
 use acd_switch::switch::Switch;
 use acd_terms::command::Request;
 use std::alloc::{AllocError, Global};
