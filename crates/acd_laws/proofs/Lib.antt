@@ -47,5 +47,10 @@ pub mod Runs
 pub mod WatchedRuns
 pub mod Refused
 pub mod OneOffer
+pub mod Known
+pub mod Placed
+pub mod Cleared
+pub mod ClearedBy
+pub mod PlacedRuns
 pub mod BoundsStep
 pub mod RulesAll

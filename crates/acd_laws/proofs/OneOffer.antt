@@ -1,18 +1,17 @@
 -- No agent has two distributed calls: from the rules of rows.
-use Rattle.std.proofs.Common.{◌≡◌, ℕ, ◌+◌, ◌≤◌, Bool, true, false, ◌&&◌, List, Option, Some, None, refl, sym, ◌∙◌, ap, subst, arith}
+use Rattle.std.proofs.Common.{◌≡◌, ℕ, ◌≤◌, true, ◌&&◌, Option, Some, None, refl, sym, ◌∙◌, ap, subst, arith}
 use Rattle.std.specs.Prelude.{◌==◌, is_some}
 use Rattle.std.proofs.lemmas.Bool.{and_parts, and_from, eqb-true}
-use Rattle.acd_terms.specs.Lists.{Among, count}
+use Rattle.acd_terms.specs.Lists.{Among}
 use Rattle.acd_terms.specs.States.{is_busy, is_answered}
 use Rattle.acd_terms.specs.Scans.{has, is_distributed}
-use Rattle.acd_terms.specs.OneOffer.{is_distributed_at, IsAttended, IsTalking, HasOneOffer}
+use Rattle.acd_terms.specs.OneOffer.{IsAttended, IsTalking}
 use Rattle.acd_terms.specs.declared.rows.Rows.{Rows}
-use Rattle.acd_terms.specs.declared.rows.Limits.{Limits}
 use Rattle.acd_terms.specs.declared.record.AgentRecord.{AgentRecord}
 use Rattle.acd_terms.specs.declared.record.ConnectionRecord.{ConnectionRecord}
 use Rattle.acd_terms.specs.declared.state.AgentState.{AgentState}
 use Rattle.acd_terms.specs.declared.state.AgentState.TheVariants as A
-use Rattle.acd_laws.specs.Counts.{Rules, IsPlannedStation, SeatedAs, AgentRule, distributed_at, talking_at, busy_at}
+use Rattle.acd_laws.specs.Counts.{Rules, IsPlannedStation, SeatedAs, AgentRule, talking_at, busy_at}
 use Rattle.acd_laws.specs.PlacedLaws.{RulesGiveOneOffer, RunHasOneOffer}
 use Rattle.acd_laws.proofs.Lists.{every_among, counted, some_from}
 use Rattle.acd_laws.proofs.State.{eqb_self}

@@ -4,7 +4,7 @@ use Rattle.acd_terms.specs.Lists.{Every}
 use Rattle.acd_terms.specs.Scans.{call_of}
 use Rattle.acd_terms.specs.Writes.{empty_rows}
 use Rattle.acd_terms.specs.Columns.{columns_of}
-use Rattle.acd_terms.specs.Placed.{cleared_by, IsPlaced}
+use Rattle.acd_terms.specs.Placed.{cleared_by, IsCleared, IsWaiting, IsAtDevices, IsPlaced}
 use Rattle.acd_terms.specs.OneOffer.{HasOneOffer}
 use Rattle.acd_terms.specs.Step.{step}
 use Rattle.acd_terms.specs.Run.{Asked, run}
@@ -49,6 +49,11 @@ StepPlaces = (s : Rows) (events : List Event) (moment : ℕ) (command : Command)
 
 abbrev pub RunIsPlaced : Type 0
 RunIsPlaced = (limits : Limits) (asked : List Asked) → IsPlaced (run (empty_rows limits) asked).rows (run (empty_rows limits) asked).events
+
+-- the three ways in which a call may stand exclude one another, so that just one of them holds
+abbrev pub PlacesExclude : Type 0
+PlacesExclude = (s : Rows) (events : List Event) (call : ℕ) → (IsCleared s events call → IsWaiting s events call → ⊥)
+    × (IsCleared s events call → IsAtDevices s events call → ⊥) × (IsWaiting s events call → IsAtDevices s events call → ⊥)
 
 -- no agent has two distributed calls where the rules are kept
 abbrev pub RulesGiveOneOffer : Type 0

@@ -1,3 +1,5 @@
 pub mod Rounds
 pub mod Closing
 pub mod RoomOfRules
+pub mod Refusing
+pub mod Beginning

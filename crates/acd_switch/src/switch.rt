@@ -1,7 +1,8 @@
 //! The switch.
 
-ghost use Rattle.std.specs.Prelude.{◌≡◌, ◌<◌, ◌+◌, ◌-◌, ◌^◌, ◌++◌, length, nat_le, IfOk, IfErr, OnOk};
+ghost use Rattle.std.specs.Prelude.{◌≡◌, ◌<◌, ◌+◌, ◌-◌, ◌^◌, ◌++◌, length, true, nat_le, IfOk, IfErr, OnOk};
 ghost use Rattle.acd_terms.specs.Writes.{empty_rows};
+ghost use Rattle.acd_terms.specs.Limits.{limits_fit};
 ghost use Rattle.acd_terms.specs.Moves.{moved, events_of};
 ghost use Rattle.acd_terms.specs.Served.{outcome_of, moves_of};
 ghost use Rattle.acd_terms.specs.Services.Serve.{serve};
@@ -9,7 +10,8 @@ ghost use Rattle.acd_terms.specs.Step.{step, numbered};
 ghost use Rattle.acd_terms.specs.Rules.First.{BreaksNoRule};
 ghost use Rattle.acd_switch.specs.RowFaults.{IsFaultOf};
 ghost use Rattle.acd_switch.specs.Room.{HasRoom, Fits, closed};
-ghost use Rattle.acd_switch.specs.Kept.{figures_at};
+ghost use Rattle.acd_switch.specs.Kept.{figures_at, IsRefused};
+ghost use Rattle.acd_laws.specs.RefusalLaws.{ChangesNothing};
 
 use crate::distribution::distribute;
 use crate::row_fault::RowFault;
@@ -42,9 +44,11 @@ impl Model for Switch {
 }
 
 impl Switch {
-    /// A switch with no plan, no call and no executed request.
+    /// A switch with no plan, no call and no executed request. The caller keeps the limits so that they
+    /// fit ([`Limits::fits`]).
     pub fn new(alloc: Global, limits: Limits) -> Self
-        ensures { result ≡ empty_rows limits }
+        ensures empty { result ≡ empty_rows limits }
+        ensures kept { limits_fit limits ≡ true → BreaksNoRule result }
     {
         Switch {
             alloc,
@@ -65,6 +69,25 @@ impl Switch {
             Ok(tables) => Ok(Switch { alloc, tables }),
             Err(AllocError) => Err(RowFault::NoMemory),
         }
+    }
+
+    /// Executes one request at a moment (in seconds): its outcome and its events. A moment before the
+    /// last one is taken as the last one. A refused request takes a stamp and a moment, and changes
+    /// nothing else. After an error of memory the switch is only to be dropped.
+    pub fn step(
+        &mut self,
+        moment: u32,
+        command: &Command,
+    ) -> Result<(Outcome, Vec<Event>), AllocError>
+        requires rules { BreaksNoRule self.old }
+        requires room { self.old.last_stamp < self.old.limits.requests }
+        ensures outcome { IfOk result (λ r. r.0 ≡ (step self.old moment command.now).outcome) }
+        ensures events { IfOk result (λ r. r.1.items ≡ (step self.old moment command.now).events) }
+        ensures rows { OnOk result (self.new ≡ (step self.old moment command.now).rows) }
+        ensures kept { OnOk result (BreaksNoRule self.new) }
+        ensures refused { IfOk result (λ r. IsRefused r.0 → ChangesNothing self.old moment command.now) }
+    {
+        execute(self.alloc, &mut self.tables, moment, command)
     }
 
     /// As many requests were executed as the limit allows: no more may be.
@@ -92,15 +115,15 @@ impl Switch {
     }
 }
 
-// Executes one request, where the counters have room. After an error the tables are only to be dropped.
+// Executes one request. After an error the tables are only to be dropped.
 fn execute(
     alloc: Global,
     tables: &mut Tables,
     moment: u32,
     command: &Command,
 ) -> Result<(Outcome, Vec<Event>), AllocError>
-    requires before { HasRoom tables.old }
-    requires after { Fits (step tables.old moment command.now).rows }
+    requires rules { BreaksNoRule tables.old }
+    requires room { tables.old.last_stamp < tables.old.limits.requests }
     ensures outcome { IfOk result (λ r. r.0 ≡ (step tables.old moment command.now).outcome) }
     ensures events { IfOk result (λ r. r.1.items ≡ (step tables.old moment command.now).events) }
     ensures rows { OnOk result (tables.new ≡ (step tables.old moment command.now).rows) }
