@@ -5,4 +5,3 @@ pub mod Cuts
 pub mod AnswerTexts
 pub mod Reaching
 pub mod Turns
-pub mod Beginnings

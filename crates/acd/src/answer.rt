@@ -56,7 +56,12 @@ fn execute(
             body,
         });
     }
-    Err(AllocError)
+    let (outcome, _events) = switch.step(moment, &request.command)?;
+    let body = reply_text(alloc, &request.requester, request.invoke, outcome)?;
+    Ok(Answered::Made {
+        status: outcome_status(outcome),
+        body,
+    })
 }
 
 fn read(

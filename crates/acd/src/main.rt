@@ -31,7 +31,7 @@ fn asks_for_lines(rt: &(impl Env + Alloc)) -> io::Result<bool> {
 }
 
 // Answers standard input on standard output, over a new switch with the greatest limits.
-#[tactic(auto, using(crate::proofs::Beginnings::new_switch_breaks_no_rule))]
+#[tactic(auto, unfolding(acd_terms::specs::Limits::limits_fit))]
 fn run_lines(rt: &HostRuntime) -> Result<(), LinesFault> {
     let mut switch = Switch::new(rt.alloc(), Limits::GREATEST);
     lines(rt.alloc(), &mut switch, &mut rt.reader(), &mut io::writer(rt))
