@@ -9,12 +9,14 @@ use std::io::{self, ErrorKind, Read, Write};
 use std::process::Abort;
 use std::test::Fail;
 
-const GROUP: &str = "0 {\"requester\":\"plan\",\"invoke\":1,\"service\":\"addGroup\",\"device\":\"100\",\"name\":\"Billing\",\"ring\":20,\"wrap\":30}\n";
+const GROUP: &str =
+    "0 {\"requester\":\"plan\",\"invoke\":1,\"service\":\"addGroup\",\"device\":\"100\",\"name\":\"Billing\",\"ring\":20,\"wrap\":30}\n";
 
 const STATION: &str =
     "0 {\"requester\":\"plan\",\"invoke\":2,\"service\":\"addStation\",\"device\":\"201\"}\n";
 
-const CALL: &str = "10 {\"requester\":\"pbx\",\"invoke\":1,\"service\":\"arriveCall\",\"caller\":\"0301234\",\"called\":\"100\"}\n";
+const CALL: &str =
+    "10 {\"requester\":\"pbx\",\"invoke\":1,\"service\":\"arriveCall\",\"caller\":\"0301234\",\"called\":\"100\"}\n";
 
 const GROUP_ANSWER: &str = "200 {\"invoke\":1,\"requester\":\"plan\",\"result\":{}}\n";
 
@@ -37,11 +39,7 @@ fn answered(alloc: Global, input: &[u8]) -> Result<Vec<u8>, LinesFault> {
 }
 
 /// The input is these texts, and the output is those.
-fn gives(
-    rt: &(impl Abort + AllocGlobal),
-    input: &[&str],
-    output: &[&str],
-) -> Result<(), Fail> {
+fn gives(rt: &(impl Abort + AllocGlobal), input: &[&str], output: &[&str]) -> Result<(), Fail> {
     let mut bytes = Vec::new(rt.alloc());
     for text in input {
         bytes.extend_from_slice(text.as_bytes())?;
@@ -107,8 +105,19 @@ fn moments_at_their_bounds(rt: HostRuntime) -> Result<(), Fail> {
     gives(
         &rt,
         &["\n", "12345678901 {}\n", "4294967296 {}\n", "7\n", " {}\n"],
-        &[MOMENT_ANSWER, MOMENT_ANSWER, MOMENT_ANSWER, MOMENT_ANSWER, MOMENT_ANSWER],
+        &[
+            MOMENT_ANSWER,
+            MOMENT_ANSWER,
+            MOMENT_ANSWER,
+            MOMENT_ANSWER,
+            MOMENT_ANSWER,
+        ],
     )?;
-    let requester = "400 {\"error\":{\"code\":30,\"member\":\"requester\",\"name\":\"malformed\"}}\n";
-    gives(&rt, &["4294967295 {}\n", "0000000007 {}\n"], &[requester, requester])
+    let requester =
+        "400 {\"error\":{\"code\":30,\"member\":\"requester\",\"name\":\"malformed\"}}\n";
+    gives(
+        &rt,
+        &["4294967295 {}\n", "0000000007 {}\n"],
+        &[requester, requester],
+    )
 }
