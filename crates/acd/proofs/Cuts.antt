@@ -51,8 +51,8 @@ no_last : (part : List ℕ) → has_no_feed part ≡ true → ends_with_byte 10 
 no_last [] h = refl
 no_last (x ∷ xs) h =
     elim (get_or (x ∷ xs) (length (x ∷ xs) - 1) 0 == 10) as (λ b. (get_or (x ∷ xs) (length (x ∷ xs) - 1) 0 == 10) ≡ b → (nat_lt 0 (length (x ∷ xs)) && b) ≡ false) [
-    | true ↦ λ e. absurd (true≢false (sym h ∙ list_all_at (λ y. not (y == 10)) (x ∷ xs) (length (x ∷ xs) - 1) 0 (omega arith) (rw e refl)))
-    | false ↦ λ e. rw (lt-ltb 0 (length (x ∷ xs)) (omega arith)) refl
+      | true ↦ λ e. absurd (true≢false (sym h ∙ list_all_at (λ y. not (y == 10)) (x ∷ xs) (length (x ∷ xs) - 1) 0 (omega arith) (rw e refl)))
+      | false ↦ λ e. rw (lt-ltb 0 (length (x ∷ xs)) (omega arith)) refl
     ] refl
 
 pub text_open : (part : List ℕ) → has_no_feed part ≡ true → text_of part ≡ part

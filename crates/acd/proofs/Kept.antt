@@ -39,10 +39,10 @@ unfolding number_then
 number_more n v some [] zs h = absurd (omega arith)
 number_more n v some (y ∷ ys) zs h =
     elim (nat_lt 0 n && is_ascii_digit y) as (λ b. (nat_lt 0 n && is_ascii_digit y) ≡ b
-      → (if b then number_then (n - 1) (v * 10 + (y - 48)) true (ys ++ zs) else (if some && (y == 32) then Some (v, ys ++ zs) else None))
-        ≡ option_map {T = ℕ × List ℕ} {U = ℕ × List ℕ} (λ p. (p.0, p.1 ++ zs)) (if b then number_then (n - 1) (v * 10 + (y - 48)) true ys else (if some && (y == 32) then Some (v, ys) else None))) [
-    | true ↦ λ e. let both = and_parts (nat_lt 0 n) (is_ascii_digit y) e in number_more (n - 1) (v * 10 + (y - 48)) true ys zs (let positive = ltb-true 0 n both.0 in omega arith)
-    | false ↦ λ e. elim (some && (y == 32)) as (λ c. (if c then Some (v, ys ++ zs) else None) ≡ option_map {T = ℕ × List ℕ} {U = ℕ × List ℕ} (λ p. (p.0, p.1 ++ zs)) (if c then Some (v, ys) else None)) [ true ↦ refl | false ↦ refl ]
+    → (if b then number_then (n - 1) (v * 10 + (y - 48)) true (ys ++ zs) else (if some && (y == 32) then Some (v, ys ++ zs) else None))
+    ≡ option_map {T = ℕ × List ℕ} {U = ℕ × List ℕ} (λ p. (p.0, p.1 ++ zs)) (if b then number_then (n - 1) (v * 10 + (y - 48)) true ys else (if some && (y == 32) then Some (v, ys) else None))) [
+      | true ↦ λ e. let both = and_parts (nat_lt 0 n) (is_ascii_digit y) e in number_more (n - 1) (v * 10 + (y - 48)) true ys zs (let positive = ltb-true 0 n both.0 in omega arith)
+      | false ↦ λ e. elim (some && (y == 32)) as (λ c. (if c then Some (v, ys ++ zs) else None) ≡ option_map {T = ℕ × List ℕ} {U = ℕ × List ℕ} (λ p. (p.0, p.1 ++ zs)) (if c then Some (v, ys) else None)) [ true ↦ refl | false ↦ refl ]
     ] refl
 
 weaken : {T : Type 0} (o : Option T) (P Q : T → Type 0) → ((x : T) → P x → Q x) → MatchOption o (Unit {0}) P → MatchOption o (Unit {0}) Q
@@ -54,11 +54,11 @@ unfolding number_then
 number_rest n v some [] = tt
 number_rest n v some (y ∷ ys) =
     elim (nat_lt 0 n && is_ascii_digit y) as (λ b. (nat_lt 0 n && is_ascii_digit y) ≡ b
-      → MatchOption {T = ℕ × List ℕ} (if b then number_then (n - 1) (v * 10 + (y - 48)) true ys else (if some && (y == 32) then Some (v, ys) else None)) (Unit {0}) (λ (p : ℕ × List ℕ). length (y ∷ ys) ≤ length p.1 + n + 1)) [
-    | true ↦ λ e. let both = and_parts (nat_lt 0 n) (is_ascii_digit y) e in
-        let positive = ltb-true 0 n both.0 in
-        weaken (number_then (n - 1) (v * 10 + (y - 48)) true ys) (λ (p : ℕ × List ℕ). length ys ≤ length p.1 + (n - 1) + 1) (λ (p : ℕ × List ℕ). length (y ∷ ys) ≤ length p.1 + n + 1) (λ (p : ℕ × List ℕ) h. omega arith) (number_rest (n - 1) (v * 10 + (y - 48)) true ys)
-    | false ↦ λ e. elim (some && (y == 32)) as (λ c. MatchOption {T = ℕ × List ℕ} (if c then Some (v, ys) else None) (Unit {0}) (λ (p : ℕ × List ℕ). length (y ∷ ys) ≤ length p.1 + n + 1)) [ true ↦ omega arith | false ↦ tt ]
+    → MatchOption {T = ℕ × List ℕ} (if b then number_then (n - 1) (v * 10 + (y - 48)) true ys else (if some && (y == 32) then Some (v, ys) else None)) (Unit {0}) (λ (p : ℕ × List ℕ). length (y ∷ ys) ≤ length p.1 + n + 1)) [
+      | true ↦ λ e. let both = and_parts (nat_lt 0 n) (is_ascii_digit y) e in
+          let positive = ltb-true 0 n both.0 in
+          weaken (number_then (n - 1) (v * 10 + (y - 48)) true ys) (λ (p : ℕ × List ℕ). length ys ≤ length p.1 + (n - 1) + 1) (λ (p : ℕ × List ℕ). length (y ∷ ys) ≤ length p.1 + n + 1) (λ (p : ℕ × List ℕ) h. omega arith) (number_rest (n - 1) (v * 10 + (y - 48)) true ys)
+      | false ↦ λ e. elim (some && (y == 32)) as (λ c. MatchOption {T = ℕ × List ℕ} (if c then Some (v, ys) else None) (Unit {0}) (λ (p : ℕ × List ℕ). length (y ∷ ys) ≤ length p.1 + n + 1)) [ true ↦ omega arith | false ↦ tt ]
     ] refl
 
 abbrev long_line : Option (ℕ × List ℕ) → Line
@@ -70,8 +70,8 @@ behind None u h = refl
 behind (Some p) u h =
     let over : 4096 < length (p.1 ++ u) = omega (arith, length-append p.1 u) in
     elim (nat_le p.0 4294967295) as (λ b. line_behind (if b then Some (p.0, p.1 ++ u) else None) ≡ (if b then too_long else faulty members.Moment)) [
-    | true ↦ rw (lt-ltb 4096 (length (p.1 ++ u)) over) refl
-    | false ↦ refl
+      | true ↦ rw (lt-ltb 4096 (length (p.1 ++ u)) over) refl
+      | false ↦ refl
     ]
 
 line_long : (base u : List ℕ) → 4107 < length base → line_of (base ++ u) ≡ long_line (number_then 10 0 false base)
@@ -87,8 +87,8 @@ same_long base u v xs ys h e f = ap line_of e ∙ line_long base u h ∙ sym (li
 long_strip : (m : ℕ) (xs : List ℕ) → m < length xs → (u : List ℕ) × (strip_last 13 xs ≡ take m xs ++ u)
 long_strip m xs h =
     elim (ends_with_byte 13 xs) as (λ b. (u : List ℕ) × ((if b then take (length xs - 1) xs else xs) ≡ take m xs ++ u)) [
-    | true ↦ (take (length xs - 1 - m) (drop m xs), ap (λ (k : ℕ). take k xs) (omega arith) ∙ take-add m (length xs - 1 - m) xs)
-    | false ↦ (drop m xs, sym (take-append-drop m xs))
+      | true ↦ (take (length xs - 1 - m) (drop m xs), ap (λ (k : ℕ). take k xs) (omega arith) ∙ take-add m (length xs - 1 - m) xs)
+      | false ↦ (drop m xs, sym (take-append-drop m xs))
     ]
 
 front_kept : (m : ℕ) (part : List ℕ) → m < length part → take m (take (m + 1) part) ≡ take m part
@@ -112,4 +112,3 @@ kept_strip m part big = elim (short_or_long m part) [
       same_long (take m part) kept.0 all.0 (strip_last 13 (take (m + 1) part)) (strip_last 13 part) (omega (arith, length-take-le m part (omega arith)))
       (kept.1 ∙ ap (λ (l : List ℕ). l ++ kept.0) (front_kept m part (omega arith))) all.1
 ]
-

@@ -9,7 +9,7 @@ use Rattle.acd.specs.Input.{number_then}
 -- one byte, by the two tests
 pub one_step : (n v : ℕ) (some : Bool) (text : List ℕ) (i : ℕ) → i < length text
     → number_then n v some (drop i text) ≡ if nat_lt 0 n && is_ascii_digit (get_or text i 0) then number_then (n - 1) (v * 10 + (get_or text i 0 - 48)) true (drop (i + 1) text)
-      else (if some && (get_or text i 0 == 32) then Some (v, drop (i + 1) text) else None)
+    else (if some && (get_or text i 0 == 32) then Some (v, drop (i + 1) text) else None)
 unfolding number_then
 one_step n v some text i h = rw (drop-cons text i 0, add-one) refl
 

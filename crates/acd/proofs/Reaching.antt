@@ -14,7 +14,6 @@ concat_one : (outs : List (List ℕ)) (out : List ℕ) → concat outs ++ out �
 concat_one outs out = ap (λ (l : List ℕ). concat outs ++ l) (sym (append-nil out)) ∙ sym (concat-append outs (out ∷ []))
 
 module _ {S : Type 0} (A : S → Line → List ℕ → S → Type 0) where
-
   -- one line more
   pub serves_more : (s : S) (pieces outs : List (List ℕ)) (mid : S) (piece out : List ℕ) (t : S) → Serves A s pieces outs mid → A mid (line_of (text_of piece)) out t → Serves A s (pieces ++ piece ∷ []) (outs ++ out ∷ []) t
   serves_more s [] [] mid piece out t h a = (t, subst (λ (n : S). A n (line_of (text_of piece)) out t) h a, refl)

@@ -54,7 +54,6 @@ input_begun (Some xs) None seen h = absurd h
 input_begun (Some xs) (Some ys) seen h = (ys, h)
 
 module _ {S : Type 0} (A : S → Line → List ℕ → S → Type 0) where
-
   -- what is kept of the line that has not ended, and what was written
   abbrev pub Stands : ℕ → S → List ℕ → List ℕ → List ℕ → S → Option (List ℕ) → Option (List ℕ) → Type 0
   Stands n s seen kept written t a c = (part out : List ℕ) × (kept ≡ take n part) × Reached A s seen part (written ++ out) t × Appends a c out
@@ -83,10 +82,13 @@ module _ {S : Type 0} (A : S → Line → List ℕ → S → Type 0) where
   -- no more than what stands was written, and the input may go on with any bytes
   stops_here : (s : S) (seen whole written : List ℕ) (part out : List ℕ) (t : S) (a c : Option (List ℕ)) (fault : LinesFault) (now : S) → Reached A s seen part (written ++ out) t → Appends a c out → IsLeft fault t now
       → (left : List ℕ) → whole ≡ seen ++ left → Stops A fault s whole written now a c
-  stops_here s seen whole written part out t a c fault now h sent left_state left is_whole =
-      (out, t,
-      λ more. subst (λ (l : List ℕ). ServesSome A s l (written ++ out) t) (sym (ap (λ (l : List ℕ). l ++ more) is_whole ∙ append_assoc seen left more)) (some_reached A s seen part (written ++ out) (left ++ more) t h),
-      left_state, sent)
+  stops_here s seen whole written part out t a c fault now h sent left_state left is_whole = (
+    out,
+    t,
+    λ more. subst (λ (l : List ℕ). ServesSome A s l (written ++ out) t) (sym (ap (λ (l : List ℕ). l ++ more) is_whole ∙ append_assoc seen left more)) (some_reached A s seen part (written ++ out) (left ++ more) t h),
+    left_state,
+    sent,
+  )
 
   -- a line stopped: its answer was not written whole, or memory ran out
   pub stop_line : (fault : LinesFault) (m : ℕ) (s : S) (seen whole kept text written : List ℕ) (mid t : S) (a b c : Option (List ℕ)) → 4107 < m → Stands (m + 1) s seen kept written mid a b → text ≡ strip_last 13 kept
@@ -98,12 +100,14 @@ module _ {S : Type 0} (A : S → Line → List ℕ → S → Type 0) where
       let line = line_text_of m h.0 kept text big h.2 is_text in
       let out = stopped.0 in
       let begun = stopped.2 in
-      let served = λ (more : List ℕ). some_line A s seen h.0 (written ++ h.1) mid out (left ++ more) t begun.0 begun.1 h.3 (subst (λ (l : Line). A mid l out t) line stopped.1) begun.2 in
-      (h.1 ++ begun.0, t,
-      λ more. subst (λ (w : List ℕ). ServesSome A s (whole ++ more) w t) (append_assoc written h.1 begun.0)
-          (subst (λ (l : List ℕ). ServesSome A s l ((written ++ h.1) ++ begun.0) t) (sym (ap (λ (l : List ℕ). l ++ more) is_whole ∙ append_assoc (seen ++ 10 ∷ []) left more)) (served more)),
-      refl,
-      Appends-trans a b c h.1 begun.0 h.4 begun.3)
+      let served = λ (more : List ℕ). some_line A s seen h.0 (written ++ h.1) mid out (left ++ more) t begun.0 begun.1 h.3 (subst (λ (l : Line). A mid l out t) line stopped.1) begun.2 in (
+        h.1 ++ begun.0,
+        t,
+        λ more. subst (λ (w : List ℕ). ServesSome A s (whole ++ more) w t) (append_assoc written h.1 begun.0)
+            (subst (λ (l : List ℕ). ServesSome A s l ((written ++ h.1) ++ begun.0) t) (sym (ap (λ (l : List ℕ). l ++ more) is_whole ∙ append_assoc (seen ++ 10 ∷ []) left more)) (served more)),
+        refl,
+        Appends-trans a b c h.1 begun.0 h.4 begun.3,
+      )
 
   -- the input ends in a line feed, or is empty
   pub end_empty : (m : ℕ) (s : S) (seen part written : List ℕ) (t : S) (kept : List ℕ) → kept ≡ take (m + 1) part → length kept ≡ 0 → Reached A s seen part written t → ServesAll A s seen written t
@@ -121,10 +125,13 @@ module _ {S : Type 0} (A : S → Line → List ℕ → S → Type 0) where
   pub end_stop : (fault : LinesFault) (m : ℕ) (s : S) (seen part written kept : List ℕ) (mid t : S) (b c : Option (List ℕ)) → 4107 < m → kept ≡ take (m + 1) part → 0 < length kept → Reached A s seen part written mid → LineStops A fault mid (line_of kept) t b c
       → StopsIn A fault s seen written t b c
   end_stop fault.Read m s seen part written kept mid t b c big e some h stopped = absurd stopped
-  end_stop fault.NoMemory m s seen part written kept mid t b c big e some h stopped =
-      ([], mid,
-      subst (λ (l : List ℕ). ServesSome A s l (written ++ []) mid) (append-nil seen) (subst (λ (w : List ℕ). ServesSome A s (seen ++ []) w mid) (sym (append-nil written)) (some_reached A s seen part written [] mid h)),
-      tt, Appends-kept b b c [] (Appends-nil b) stopped)
+  end_stop fault.NoMemory m s seen part written kept mid t b c big e some h stopped = (
+    [],
+    mid,
+    subst (λ (l : List ℕ). ServesSome A s l (written ++ []) mid) (append-nil seen) (subst (λ (w : List ℕ). ServesSome A s (seen ++ []) w mid) (sym (append-nil written)) (some_reached A s seen part written [] mid h)),
+    tt,
+    Appends-kept b b c [] (Appends-nil b) stopped,
+  )
   end_stop fault.Write m s seen part written kept mid t b c big e some h stopped =
       let line = ap line_of e ∙ kept_line m part big ∙ ap line_of (sym (text_open part h.no_feed)) in
       let out = stopped.0 in

@@ -15,7 +15,6 @@ abbrev pub whole_lines : List ℕ → List (List ℕ)
 whole_lines bytes = filter (ends_with_byte 10) (cut bytes)
 
 module _ {S : Type 0} (Answers : S → Line → List ℕ → S → Type 0) where
-
   -- the lines are answered in order, each by the state that the earlier ones left
   abbrev pub Serves : S → List (List ℕ) → List (List ℕ) → S → Type 0
   Serves s [] [] t = t ≡ s

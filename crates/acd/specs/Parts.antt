@@ -20,7 +20,6 @@ abbrev pub Begins : Option (List ℕ) → Option (List ℕ) → List ℕ → Typ
 Begins old new whole = (front rest : List ℕ) × (whole ≡ front ++ rest) × Appends old new front
 
 module _ {S : Type 0} (Answers : S → Line → List ℕ → S → Type 0) where
-
   -- the whole lines of seen were answered, and part is what came behind them
   pub record Reached (s : S) (seen part written : List ℕ) (t : S) : Type 0 where
     pub pieces : List (List ℕ)

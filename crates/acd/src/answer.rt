@@ -50,7 +50,12 @@ fn execute(
     ensures kept { OnOk result (BreaksNoRule switch.new) }
 {
     if switch.is_full() {
-        let body = rejected_text(alloc, &request.requester, request.invoke, Rejected::DeskFull)?;
+        let body = rejected_text(
+            alloc,
+            &request.requester,
+            request.invoke,
+            Rejected::DeskFull,
+        )?;
         return Ok(Answered::Made {
             status: Rejected::DeskFull.status(),
             body,

@@ -34,7 +34,12 @@ fn asks_for_lines(rt: &(impl Env + Alloc)) -> io::Result<bool> {
 #[tactic(auto, unfolding(acd_terms::specs::Limits::limits_fit))]
 fn run_lines(rt: &HostRuntime) -> Result<(), LinesFault> {
     let mut switch = Switch::new(rt.alloc(), Limits::GREATEST);
-    lines(rt.alloc(), &mut switch, &mut rt.reader(), &mut io::writer(rt))
+    lines(
+        rt.alloc(),
+        &mut switch,
+        &mut rt.reader(),
+        &mut io::writer(rt),
+    )
 }
 
 fn main(rt: HostRuntime) -> ExitCode {

@@ -53,7 +53,11 @@ fn digits(status: u16) -> [u8; 3]
 }
 
 // Writes the answer line.
-fn send_answer<W: Write>(writer: &mut W, calls: &mut u64, answered: &Answered) -> Result<(), Stopped>
+fn send_answer<W: Write>(
+    writer: &mut W,
+    calls: &mut u64,
+    answered: &Answered,
+) -> Result<(), Stopped>
     requires { HasStatus answered.now }
     ensures ok { OnOk result (Appends (W.contents writer.old) (W.contents writer.new) (answered_text answered.now)) }
     ensures err { OnErr result (Begins (W.contents writer.old) (W.contents writer.new) (answered_text answered.now)) }
@@ -118,7 +122,13 @@ pub(crate) fn feed<W: Write>(
 {
     for b in chunk {
         if *b == b'\n' {
-            serve(alloc, switch, writer, calls, without_return(partial.as_slice()))?;
+            serve(
+                alloc,
+                switch,
+                writer,
+                calls,
+                without_return(partial.as_slice()),
+            )?;
             partial.clear();
         } else {
             partial.push(*b);

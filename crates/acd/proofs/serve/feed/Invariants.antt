@@ -10,6 +10,6 @@ abbrev pub invariant-loop-b : goal.invariant-loop-b
 invariant-loop-b g l = record {
   rules : BreaksNoRule l.switch;
   answered : (s : Rows) (seen part written : List ℕ) → l.fn.partial ≡ take 4109 part → Reached SwitchAnswers s seen part written l.fn.switch
-    → (part' out : List ℕ) × (l.partial ≡ take 4109 part') × Reached SwitchAnswers s (seen ++ take l.b-index l.chunk) part' (written ++ out) l.switch
-    × Appends (g.W.Write.contents l.fn.writer) (g.W.Write.contents l.writer) out;
+      → (part' out : List ℕ) × (l.partial ≡ take 4109 part') × Reached SwitchAnswers s (seen ++ take l.b-index l.chunk) part' (written ++ out) l.switch
+      × Appends (g.W.Write.contents l.fn.writer) (g.W.Write.contents l.writer) out;
 }

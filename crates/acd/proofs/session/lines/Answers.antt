@@ -16,17 +16,21 @@ loop-preserved g c =
     let seen = c.loop.invariant.0 in
     let stands = c.loop.invariant.2 in
     elim c.match-read.branch [
-    | in-Ok-read+in-Ok-feed w ↦
-        let chunk = take w.in-Ok-read.n c.read.new.buf in
-        let done = w.in-Ok-feed.ensures.ok c.args.switch.now seen stands.0 stands.1 stands.2 stands.3 in
-        let after = fed SwitchAnswers 4109 c.args.switch.now seen chunk w.feed.new.partial w.feed.new.switch (g.W.Write.contents c.args.writer.now) (g.W.Write.contents c.loop.writer) (g.W.Write.contents w.feed.new.writer) stands.1 stands.4 done in
-        (seen ++ chunk, Consumes-trans _ _ _ seen chunk c.loop.invariant.1 w.in-Ok-read.ensures.bytes.0,
-         stands_kept SwitchAnswers 4109 c.args.switch.now (seen ++ chunk) w.feed.new.partial c.match-read.partial [] w.feed.new.switch c.match-read.switch (g.W.Write.contents c.args.writer.now) (g.W.Write.contents w.feed.new.writer) (g.W.Write.contents c.match-read.writer) w.partial-is w.switch-is (ap g.W.Write.contents w.writer-is) after,
-         subst BreaksNoRule (sym w.switch-is) w.in-Ok-feed.ensures.kept)
-    | in-Err-read+else-ne w ↦
-        (seen, Consumes-kept _ _ _ seen c.loop.invariant.1 w.in-Err-read.ensures.bytes,
-         stands_kept SwitchAnswers 4109 c.args.switch.now seen c.loop.partial c.match-read.partial [] c.loop.switch c.match-read.switch (g.W.Write.contents c.args.writer.now) (g.W.Write.contents c.loop.writer) (g.W.Write.contents c.match-read.writer) w.partial-is w.switch-is (ap g.W.Write.contents w.writer-is) stands,
-         subst BreaksNoRule (sym w.switch-is) c.loop.invariant.3)
+      | in-Ok-read+in-Ok-feed w ↦
+          let chunk = take w.in-Ok-read.n c.read.new.buf in
+          let done = w.in-Ok-feed.ensures.ok c.args.switch.now seen stands.0 stands.1 stands.2 stands.3 in
+          let after = fed SwitchAnswers 4109 c.args.switch.now seen chunk w.feed.new.partial w.feed.new.switch (g.W.Write.contents c.args.writer.now) (g.W.Write.contents c.loop.writer) (g.W.Write.contents w.feed.new.writer) stands.1 stands.4 done in (
+            seen ++ chunk,
+            Consumes-trans _ _ _ seen chunk c.loop.invariant.1 w.in-Ok-read.ensures.bytes.0,
+            stands_kept SwitchAnswers 4109 c.args.switch.now (seen ++ chunk) w.feed.new.partial c.match-read.partial [] w.feed.new.switch c.match-read.switch (g.W.Write.contents c.args.writer.now) (g.W.Write.contents w.feed.new.writer) (g.W.Write.contents c.match-read.writer) w.partial-is w.switch-is (ap g.W.Write.contents w.writer-is) after,
+            subst BreaksNoRule (sym w.switch-is) w.in-Ok-feed.ensures.kept,
+          )
+      | in-Err-read+else-ne w ↦ (
+        seen,
+        Consumes-kept _ _ _ seen c.loop.invariant.1 w.in-Err-read.ensures.bytes,
+        stands_kept SwitchAnswers 4109 c.args.switch.now seen c.loop.partial c.match-read.partial [] c.loop.switch c.match-read.switch (g.W.Write.contents c.args.writer.now) (g.W.Write.contents c.loop.writer) (g.W.Write.contents c.match-read.writer) w.partial-is w.switch-is (ap g.W.Write.contents w.writer-is) stands,
+        subst BreaksNoRule (sym w.switch-is) c.loop.invariant.3,
+      )
     ]
 
 pub returns-in-Ok-finish-clause-ok : goal.returns-in-Ok-finish-clause-ok
