@@ -1,6 +1,8 @@
 //! Whole sessions over memory, with the bytes that the formats prescribe, and readers and writers that
 //! fail midway.
 
+ghost use Rattle.acd_terms.specs.Rules.First.{BreaksNoRule};
+
 use crate::session::{LinesFault, lines};
 use acd_switch::switch::Switch;
 use acd_terms::rows::Limits;
@@ -32,9 +34,17 @@ const REQUESTER_ANSWER: &str =
 
 const TOO_LONG_ANSWER: &str = "413 {\"error\":{\"code\":38,\"name\":\"bodyTooLarge\"}}\n";
 
+// A new switch with the greatest limits.
+#[tactic(auto, unfolding(acd_terms::specs::Limits::limits_fit))]
+fn new_switch(alloc: Global) -> Switch
+    ensures { BreaksNoRule result }
+{
+    Switch::new(alloc, Limits::GREATEST)
+}
+
 /// What a new switch with the greatest limits writes for the input.
 fn answered(alloc: Global, input: &[u8]) -> Result<Vec<u8>, LinesFault> {
-    let mut switch = Switch::new(alloc, Limits::GREATEST);
+    let mut switch = new_switch(alloc);
     let mut reader = input;
     let mut written = Vec::new(alloc);
     lines(alloc, &mut switch, &mut reader, &mut written)?;
@@ -163,6 +173,7 @@ fn full_desk(rt: HostRuntime) -> Result<(), Fail> {
         requests: 2,
         ..Limits::GREATEST
     };
+    assert!(rt; limits.fits());
     let mut switch = Switch::new(rt.alloc(), limits);
     let mut input = Vec::new(rt.alloc());
     for text in [GROUP, STATION, CALL, CALL] {
@@ -210,7 +221,7 @@ impl Read for Torn<'_> {
 
 #[test]
 fn reader_that_fails_midway(rt: HostRuntime) -> Result<(), Fail> {
-    let mut switch = Switch::new(rt.alloc(), Limits::GREATEST);
+    let mut switch = new_switch(rt.alloc());
     let mut input = Vec::new(rt.alloc());
     input.extend_from_slice(GROUP.as_bytes())?;
     input.extend_from_slice(b"0 {\"requester\":\"plan\"")?;
@@ -257,7 +268,7 @@ impl Write for Narrow {
 
 #[test]
 fn writer_that_fails_midway(rt: HostRuntime) -> Result<(), Fail> {
-    let mut switch = Switch::new(rt.alloc(), Limits::GREATEST);
+    let mut switch = new_switch(rt.alloc());
     let mut input = Vec::new(rt.alloc());
     for text in [GROUP, STATION, CALL] {
         input.extend_from_slice(text.as_bytes())?;
@@ -300,7 +311,7 @@ impl Read for LongLine {
 
 #[test]
 fn line_of_ten_megabytes(rt: HostRuntime) -> Result<(), Fail> {
-    let mut switch = Switch::new(rt.alloc(), Limits::GREATEST);
+    let mut switch = new_switch(rt.alloc());
     let mut reader = LongLine { left: 10_000_000 };
     let mut written = Vec::new(rt.alloc());
     lines(rt.alloc(), &mut switch, &mut reader, &mut written)?;
