@@ -10,3 +10,5 @@ pub mod reading;
 pub mod replies;
 pub mod requests;
 pub mod service;
+#[cfg(test)]
+mod tests;

@@ -1,0 +1,391 @@
+//! Worked examples of event reports, and each kind with its members.
+
+use crate::events::event_text;
+use acd_terms::event::{Cause, Event, Report, Waited};
+use acd_terms::id::{AgentId, DeviceId};
+use std::alloc::Global;
+use std::process::Abort;
+
+fn device(rt: &impl Abort, digits: &str) -> DeviceId {
+    DeviceId::read(digits.as_bytes()).expect(rt, "a device")
+}
+
+fn agent(rt: &impl Abort, digits: &str) -> AgentId {
+    AgentId::read(digits.as_bytes()).expect(rt, "an agent")
+}
+
+fn expect_event(
+    rt: &impl Abort,
+    alloc: Global,
+    number: u64,
+    moment: u32,
+    report: Report,
+    wanted: &str,
+) {
+    let event = Event {
+        number,
+        moment,
+        report,
+    };
+    let text = event_text(alloc, &event).expect(rt, "memory");
+    assert_eq!(rt; text.as_str(), wanted);
+}
+
+#[test]
+fn distributed_call(rt: HostRuntime) {
+    let alloc = rt.alloc();
+    let group = device(&rt, "100");
+    let station = device(&rt, "201");
+    let report = Report::Queued {
+        call: 1,
+        group,
+        cause: Cause::NewCall,
+    };
+    expect_event(
+        &rt,
+        alloc,
+        1,
+        10,
+        report,
+        "{\"call\":1,\"cause\":\"newCall\",\"device\":\"100\",\"event\":\"queued\",\"moment\":10,\"number\":1}",
+    );
+    let report = Report::Diverted {
+        call: 1,
+        device: group,
+        to: station,
+        cause: Cause::Distributed,
+        group: Some(group),
+    };
+    expect_event(
+        &rt,
+        alloc,
+        4,
+        18,
+        report,
+        "{\"call\":1,\"cause\":\"distributed\",\"device\":\"100\",\"event\":\"diverted\",\"group\":\"100\",\"moment\":18,\"number\":4,\"to\":\"201\"}",
+    );
+    let report = Report::Delivered {
+        call: 1,
+        station,
+        cause: Cause::Distributed,
+        group: Some(group),
+    };
+    expect_event(
+        &rt,
+        alloc,
+        5,
+        18,
+        report,
+        "{\"call\":1,\"cause\":\"distributed\",\"device\":\"201\",\"event\":\"delivered\",\"group\":\"100\",\"moment\":18,\"number\":5}",
+    );
+    let report = Report::Established {
+        call: 1,
+        station,
+        waited: Some(Waited { group, seconds: 15 }),
+    };
+    expect_event(
+        &rt,
+        alloc,
+        6,
+        25,
+        report,
+        "{\"call\":1,\"device\":\"201\",\"event\":\"established\",\"group\":\"100\",\"moment\":25,\"number\":6,\"waited\":15}",
+    );
+}
+
+#[test]
+fn returned_and_moved(rt: HostRuntime) {
+    let alloc = rt.alloc();
+    let group = device(&rt, "100");
+    let station = device(&rt, "201");
+    let other = device(&rt, "202");
+    let report = Report::Diverted {
+        call: 1,
+        device: station,
+        to: group,
+        cause: Cause::NoAnswer,
+        group: Some(group),
+    };
+    expect_event(
+        &rt,
+        alloc,
+        6,
+        120,
+        report,
+        "{\"call\":1,\"cause\":\"noAnswer\",\"device\":\"201\",\"event\":\"diverted\",\"group\":\"100\",\"moment\":120,\"number\":6,\"to\":\"100\"}",
+    );
+    let report = Report::Queued {
+        call: 1,
+        group,
+        cause: Cause::NoAnswer,
+    };
+    expect_event(
+        &rt,
+        alloc,
+        7,
+        120,
+        report,
+        "{\"call\":1,\"cause\":\"noAnswer\",\"device\":\"100\",\"event\":\"queued\",\"moment\":120,\"number\":7}",
+    );
+    let report = Report::Diverted {
+        call: 1,
+        device: station,
+        to: other,
+        cause: Cause::Deflected,
+        group: None,
+    };
+    expect_event(
+        &rt,
+        alloc,
+        6,
+        20,
+        report,
+        "{\"call\":1,\"cause\":\"deflected\",\"device\":\"201\",\"event\":\"diverted\",\"moment\":20,\"number\":6,\"to\":\"202\"}",
+    );
+    let report = Report::Delivered {
+        call: 1,
+        station: other,
+        cause: Cause::Transferred,
+        group: None,
+    };
+    expect_event(
+        &rt,
+        alloc,
+        9,
+        33,
+        report,
+        "{\"call\":1,\"cause\":\"transferred\",\"device\":\"202\",\"event\":\"delivered\",\"moment\":33,\"number\":9}",
+    );
+}
+
+#[test]
+fn private_call(rt: HostRuntime) {
+    let alloc = rt.alloc();
+    let station = device(&rt, "201");
+    let other = device(&rt, "202");
+    let report = Report::ServiceInitiated { call: 1, station };
+    expect_event(
+        &rt,
+        alloc,
+        3,
+        7,
+        report,
+        "{\"call\":1,\"device\":\"201\",\"event\":\"serviceInitiated\",\"moment\":7,\"number\":3}",
+    );
+    let report = Report::Originated {
+        call: 1,
+        station,
+        to: other,
+    };
+    expect_event(
+        &rt,
+        alloc,
+        4,
+        8,
+        report,
+        "{\"call\":1,\"device\":\"201\",\"event\":\"originated\",\"moment\":8,\"number\":4,\"to\":\"202\"}",
+    );
+    let report = Report::Established {
+        call: 1,
+        station: other,
+        waited: None,
+    };
+    expect_event(
+        &rt,
+        alloc,
+        6,
+        9,
+        report,
+        "{\"call\":1,\"device\":\"202\",\"event\":\"established\",\"moment\":9,\"number\":6}",
+    );
+    let report = Report::Failed { call: 2, station };
+    expect_event(
+        &rt,
+        alloc,
+        8,
+        26,
+        report,
+        "{\"call\":2,\"cause\":\"busy\",\"device\":\"201\",\"event\":\"failed\",\"moment\":26,\"number\":8}",
+    );
+}
+
+#[test]
+fn held_and_transferred(rt: HostRuntime) {
+    let alloc = rt.alloc();
+    let station = device(&rt, "201");
+    let other = device(&rt, "202");
+    let report = Report::Held { call: 1, station };
+    expect_event(
+        &rt,
+        alloc,
+        8,
+        30,
+        report,
+        "{\"call\":1,\"device\":\"201\",\"event\":\"held\",\"moment\":30,\"number\":8}",
+    );
+    let report = Report::Retrieved { call: 1, station };
+    expect_event(
+        &rt,
+        alloc,
+        9,
+        34,
+        report,
+        "{\"call\":1,\"device\":\"201\",\"event\":\"retrieved\",\"moment\":34,\"number\":9}",
+    );
+    let report = Report::Transferred {
+        call: 1,
+        station,
+        to: other,
+    };
+    expect_event(
+        &rt,
+        alloc,
+        8,
+        33,
+        report,
+        "{\"call\":1,\"device\":\"201\",\"event\":\"transferred\",\"moment\":33,\"number\":8,\"to\":\"202\"}",
+    );
+}
+
+#[test]
+fn cleared_call(rt: HostRuntime) {
+    let alloc = rt.alloc();
+    let group = device(&rt, "100");
+    let caller = device(&rt, "0301234");
+    let report = Report::ConnectionCleared {
+        call: 1,
+        device: caller,
+    };
+    expect_event(
+        &rt,
+        alloc,
+        8,
+        40,
+        report,
+        "{\"call\":1,\"device\":\"0301234\",\"event\":\"connectionCleared\",\"moment\":40,\"number\":8}",
+    );
+    let report = Report::CallCleared {
+        call: 1,
+        group: None,
+    };
+    expect_event(
+        &rt,
+        alloc,
+        10,
+        40,
+        report,
+        "{\"call\":1,\"event\":\"callCleared\",\"moment\":40,\"number\":10}",
+    );
+    let report = Report::CallCleared {
+        call: 1,
+        group: Some(group),
+    };
+    expect_event(
+        &rt,
+        alloc,
+        4,
+        12,
+        report,
+        "{\"call\":1,\"event\":\"callCleared\",\"group\":\"100\",\"moment\":12,\"number\":4}",
+    );
+}
+
+#[test]
+fn logged_on_and_off(rt: HostRuntime) {
+    let alloc = rt.alloc();
+    let group = device(&rt, "100");
+    let station = device(&rt, "201");
+    let seven = agent(&rt, "7");
+    let report = Report::AgentLoggedOn {
+        agent: seven,
+        station,
+        group,
+    };
+    expect_event(
+        &rt,
+        alloc,
+        2,
+        15,
+        report,
+        "{\"agent\":\"7\",\"device\":\"201\",\"event\":\"agentLoggedOn\",\"group\":\"100\",\"moment\":15,\"number\":2}",
+    );
+    let report = Report::AgentLoggedOff {
+        agent: seven,
+        station,
+    };
+    expect_event(
+        &rt,
+        alloc,
+        11,
+        40,
+        report,
+        "{\"agent\":\"7\",\"device\":\"201\",\"event\":\"agentLoggedOff\",\"moment\":40,\"number\":11}",
+    );
+    let report = Report::AgentLoggedOff {
+        agent: seven,
+        station,
+    };
+    expect_event(
+        &rt,
+        alloc,
+        18446744073709551615,
+        4294967295,
+        report,
+        "{\"agent\":\"7\",\"device\":\"201\",\"event\":\"agentLoggedOff\",\"moment\":4294967295,\"number\":18446744073709551615}",
+    );
+}
+
+#[test]
+fn agent_states(rt: HostRuntime) {
+    let alloc = rt.alloc();
+    let station = device(&rt, "201");
+    let seven = agent(&rt, "7");
+    let report = Report::AgentNotReady {
+        agent: seven,
+        station,
+    };
+    expect_event(
+        &rt,
+        alloc,
+        8,
+        120,
+        report,
+        "{\"agent\":\"7\",\"device\":\"201\",\"event\":\"agentNotReady\",\"moment\":120,\"number\":8}",
+    );
+    let report = Report::AgentReady {
+        agent: seven,
+        station,
+    };
+    expect_event(
+        &rt,
+        alloc,
+        3,
+        18,
+        report,
+        "{\"agent\":\"7\",\"device\":\"201\",\"event\":\"agentReady\",\"moment\":18,\"number\":3}",
+    );
+    let report = Report::AgentBusy {
+        agent: seven,
+        station,
+    };
+    expect_event(
+        &rt,
+        alloc,
+        7,
+        25,
+        report,
+        "{\"agent\":\"7\",\"device\":\"201\",\"event\":\"agentBusy\",\"moment\":25,\"number\":7}",
+    );
+    let report = Report::AgentWorkingAfterCall {
+        agent: seven,
+        station,
+    };
+    expect_event(
+        &rt,
+        alloc,
+        22,
+        52,
+        report,
+        "{\"agent\":\"7\",\"device\":\"201\",\"event\":\"agentWorkingAfterCall\",\"moment\":52,\"number\":22}",
+    );
+}

@@ -1,0 +1,6 @@
+use Rattle.acd_laws.proofs.BoundsRead.{keeps_read}
+use Rattle.acd_laws.proofs.Refused.{refused, no_offer}
+use Rattle.acd_laws.proofs.refusal_changes_nothing.Goals as goal
+
+pub returns : goal.returns
+returns c = λ s moment command refusal h e. refused s moment command refusal (no_offer s (keeps_read s h).offers) e
