@@ -1,0 +1,4 @@
+pub mod Firsts
+pub mod Replies
+pub mod Served
+pub mod Stands
