@@ -2,3 +2,4 @@ pub mod Steps
 pub mod Keys
 pub mod Runs
 pub mod Counting
+pub mod Longer

@@ -57,7 +57,7 @@ cond_has true x p q = refl
 cond_has false x p q = or-nil (is_key p q x.request)
 
 -- what is left has every key
-has-distinct : (l seen : List Arrival) (p : List ℕ) (q : ℕ) → (has_key seen p q || has_key (distinct_from seen l) p q) ≡ (has_key seen p q || has_key l p q)
+pub has-distinct : (l seen : List Arrival) (p : List ℕ) (q : ℕ) → (has_key seen p q || has_key (distinct_from seen l) p q) ≡ (has_key seen p q || has_key l p q)
 has-distinct [] seen p q = refl
 has-distinct (x ∷ l) seen p q =
     let again : ((has_key seen p q || is_key p q x.request) || has_key (distinct_from (seen ++ x ∷ []) l) p q) ≡ ((has_key seen p q || is_key p q x.request) || has_key l p q)
@@ -102,7 +102,7 @@ run_any (x ∷ l) c p q =
     ∙ ap (λ (b : Bool). b || has_key l p q) (list_any-append (λ (k : Kept). is_key p q k.request) c.kept (record_of c x ∷ []) ∙ ap (λ (b : Bool). list_any (λ (k : Kept). is_key p q k.request) c.kept || b) (or-nil (is_key p q x.request)))
     ∙ or-assoc (list_any (λ (k : Kept). is_key p q k.request) c.kept) (is_key p q x.request) (has_key l p q)
 
-run-found : (n : Limits) (l : List Arrival) (p : List ℕ) (q : ℕ) → is_some (kept_of (run_from (empty_content n) l).kept p q) ≡ has_key l p q
+pub run-found : (n : Limits) (l : List Arrival) (p : List ℕ) (q : ℕ) → is_some (kept_of (run_from (empty_content n) l).kept p q) ≡ has_key l p q
 run-found n l p q = some_any (run_from (empty_content n) l).kept p q ∙ run_any l (empty_content n) p q
 
 -- ---- one more arrival ----
@@ -115,7 +115,7 @@ has-firsts n l p q h =
     ∙ ap (λ (b : Bool). b || has_key (drop n (distinct_from [] l)) p q) h
 
 -- where there is room, none was cut off
-firsts-room : (n : ℕ) (l : List Arrival) → length (firsts n l) < n → firsts n l ≡ distinct_from [] l
+pub firsts-room : (n : ℕ) (l : List Arrival) → length (firsts n l) < n → firsts n l ≡ distinct_from [] l
 firsts-room n l h = grind (arith, common_steps)
 
 firsts-push : (n : ℕ) (l : List Arrival) (a : Arrival)
