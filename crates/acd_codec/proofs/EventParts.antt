@@ -1,5 +1,5 @@
 -- The parts of an event, put into an empty object, give its text.
-use Rattle.std.proofs.Common.{◌≡◌, ◌++◌, refl, sym, ap, ◌∙◌}
+use Rattle.std.proofs.Common.{◌≡◌, refl, ap, ◌∙◌}
 use Rattle.serde_json.specs.Data.{object, Members, no_members}
 use Rattle.serde_json.specs.Written.{compact_text}
 use Rattle.acd_terms.specs.Columns.{columns_of}

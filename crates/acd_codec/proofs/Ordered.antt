@@ -1,10 +1,10 @@
 -- Parts in the order of their names, put into an empty object, are its members.
-use Rattle.std.proofs.Common.{◌≡◌, ℕ, List, [], ◌∷◌, ◌++◌, Bool, true, false, ◌&&◌, Option, Some, None, Ordering, Less, Equal, Greater, refl, sym, ap, ◌∙◌}
+use Rattle.std.proofs.Common.{◌≡◌, ℕ, List, [], ◌∷◌, ◌++◌, Bool, true, false, ◌&&◌, Some, None, Ordering, Less, Equal, Greater, refl, sym, ap, ◌∙◌}
 use Rattle.std.specs.Ordering.{nat_cmp, match_ordering}
 use Rattle.std.specs.Cmp.Lexicographic.{slice_cmp}
 use Rattle.std.proofs.lemmas.Bool.{and_parts, true≢false}
 use Rattle.serde_json.specs.Data.{Data, string, number, object, unsigned, Members, no_members, member, put}
-use Rattle.serde_json.specs.Written.{has_float, members_have_float, compact_text}
+use Rattle.serde_json.specs.Written.{members_have_float, compact_text}
 use Rattle.acd_codec.specs.Parts.{Part, text_part, number_part, written, parts_text, put_part, put_parts}
 
 abbrev pub is_greater : Ordering → Bool

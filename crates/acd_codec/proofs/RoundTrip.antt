@@ -1,8 +1,8 @@
 -- What is written for a request reads as that request.
-use Rattle.std.proofs.Common.{◌≡◌, ℕ, ◌^◌, ◌<◌, ◌≤◌, List, true, Option, Some, Result, Ok, Err, refl, sym, ap, ◌∙◌, lit≤, lit<, arith, IsUtf8}
+use Rattle.std.proofs.Common.{◌≡◌, ℕ, ◌^◌, ◌<◌, ◌≤◌, List, true, Some, Result, Ok, Err, refl, sym, ap, ◌∙◌, lit≤, lit<, arith, IsUtf8}
 use Rattle.json.specs.Tree as tree
 use Rattle.json.proofs.Printed.Utf8.{IsUtf8-are_ascii, are_ascii}
-use Rattle.serde_json.specs.Data.{Data, object}
+use Rattle.serde_json.specs.Data.{object}
 use Rattle.serde_json.specs.Read.{read, of_json, max_depth}
 use Rattle.serde_json.specs.Written.{outline, compact_text}
 use Rattle.serde_json.proofs.Numbers.{number_of-decimal}
@@ -20,9 +20,10 @@ use Rattle.acd_terms.proofs.ReadBack.{id_again, text_again, number_again}
 use Rattle.acd_codec.specs.declared.member.Member.{Member}
 use Rattle.acd_codec.specs.declared.service.Asked.TheVariants as asked
 use Rattle.acd_codec.specs.Services.{asked_of}
-use Rattle.acd_codec.specs.Reading.{reads_as, request_in, requester_in, invoke_in, service_in, command_in, device_in, agent_in, name_in, seconds_in, serial_in, asked_in, add_group_in, add_agent_in, two_devices_in, connection_in, requested_in, set_agent_state_in}
+use Rattle.acd_codec.specs.MemberReading.{device_in, agent_in, name_in, requester_in, invoke_in, seconds_in, serial_in, service_in, asked_in}
+use Rattle.acd_codec.specs.Reading.{reads_as, request_in, command_in, add_group_in, add_agent_in, two_devices_in, connection_in, requested_in, set_agent_state_in}
 use Rattle.acd_codec.specs.RequestTexts.{request_members, request_data, request_text}
-use Rattle.acd_codec.specs.Formed.{IsDevice, IsSerial, IsCommand, IsRequest}
+use Rattle.acd_codec.specs.Formed.{IsCommand, IsRequest}
 use Rattle.acd_codec.proofs.Plain.{IsPlain, MembersArePlain, read_plain, utf8_text}
 use Rattle.acd_codec.proofs.Readings.{reads_object}
 

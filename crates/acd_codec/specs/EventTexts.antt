@@ -29,5 +29,6 @@ further_parts number moment c =
 abbrev pub event_parts : Event → List Part
 event_parts e = subject_parts (columns_of e.report) ++ further_parts e.number e.moment (columns_of e.report)
 
+-- compact JSON
 unfoldable pub event_text : Event → List ℕ
 event_text e = parts_text (event_parts e)

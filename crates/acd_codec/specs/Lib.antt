@@ -1,5 +1,6 @@
 pub mod Members
 pub mod Services
+pub mod MemberReading
 pub mod Reading
 pub mod RequestTexts
 pub mod ReplyTexts

@@ -1,6 +1,6 @@
 -- Objects of texts and whole numbers, where a member may be missing.
 use Rattle.std.specs.Prelude.{ℕ, List, [], ◌∷◌, Option, Some, None}
-use Rattle.serde_json.specs.Data.{Data, string, number, object, unsigned, Members, member, no_members, put}
+use Rattle.serde_json.specs.Data.{string, number, object, unsigned, Members, member, no_members, put}
 use Rattle.serde_json.specs.Written.{compact_text}
 
 -- a name, and what stands under it, if anything

@@ -1,12 +1,10 @@
 -- The request that bytes stand for, or the first faulty member.
-use Rattle.std.specs.Prelude.{◌≡◌, ℕ, List, Option, Some, None, option_and_then, Result, Ok, Err, if◌then◌else◌}
-use Rattle.std.specs.Option.{ok_or, is_some}
-use Rattle.std.specs.Result.{result_ok}
+use Rattle.std.specs.Prelude.{◌≡◌, ℕ, List, Option, Some, None, Result, Ok, Err, if◌then◌else◌}
+use Rattle.std.specs.Option.{is_some}
 use Rattle.std.specs.Str.{is_utf8}
 use Rattle.serde_json.specs.Data.{Data}
 use Rattle.serde_json.specs.Read.{read}
-use Rattle.serde_json.specs.Find.{get, as_str, as_number, as_u64, as_object}
-use Rattle.acd_terms.specs.Forms.{device_digits, agent_digits, read_id, read_text, is_name_byte, is_requester_byte, number_between}
+use Rattle.serde_json.specs.Find.{as_object}
 use Rattle.acd_terms.specs.declared.command.Request.{Request}
 use Rattle.acd_terms.specs.declared.command.Requested.{Requested}
 use Rattle.acd_terms.specs.declared.command.Requested.TheVariants as requested
@@ -20,8 +18,7 @@ use Rattle.acd_codec.specs.declared.service.Asked.{Asked}
 use Rattle.acd_codec.specs.declared.service.Asked.TheVariants as asked
 use Rattle.acd_codec.specs.declared.service.Service.{Service}
 use Rattle.acd_codec.specs.declared.service.Service.TheVariants as service
-use Rattle.acd_codec.specs.Members.{member_name}
-use Rattle.acd_codec.specs.Services.{service_of, asked_of}
+use Rattle.acd_codec.specs.MemberReading.{device_in, agent_in, name_in, requester_in, invoke_in, seconds_in, serial_in, service_in, asked_in}
 
 -- the first faulty member ends the reading
 infixl 10 ◌>>=◌
@@ -29,49 +26,7 @@ abbrev pub ◌>>=◌ : {A B : Type 0} → Result A Member → (A → Result B Me
 (Ok x) >>= f = f x
 (Err m) >>= f = Err m
 
--- a member that is a text
-abbrev pub text_in : Member → Data → Option (List ℕ)
-text_in m d = option_and_then as_str (get (member_name m) d)
-
--- a member that is a whole number: no fraction, no exponent and no sign
-abbrev pub number_in : Member → Data → Option ℕ
-number_in m d = option_and_then as_u64 (option_and_then as_number (get (member_name m) d))
-
--- the member's text as this reader reads it, or the member as faulty
-abbrev pub read_in : {A : Type 0} → (List ℕ → Option A) → Member → Data → Result A Member
-read_in reader m d = ok_or (option_and_then reader (text_in m d)) m
-
-abbrev pub number_within : ℕ → ℕ → Member → Data → Result ℕ Member
-number_within least greatest m d = ok_or (option_and_then (number_between least greatest) (number_in m d)) m
-
-unfoldable pub device_in : Member → Data → Result ℕ Member
-device_in m d = read_in (λ t. result_ok (read_id device_digits t)) m d
-
-unfoldable pub agent_in : Data → Result ℕ Member
-agent_in d = read_in (λ t. result_ok (read_id agent_digits t)) member.Agent d
-
-unfoldable pub name_in : Data → Result (List ℕ) Member
-name_in d = read_in (λ t. result_ok (read_text is_name_byte 40 t)) member.Name d
-
-unfoldable pub requester_in : Data → Result (List ℕ) Member
-requester_in d = read_in (λ t. result_ok (read_text is_requester_byte 32 t)) member.Requester d
-
-unfoldable pub invoke_in : Data → Result ℕ Member
-invoke_in d = number_within 1 999999999 member.Invoke d
-
-unfoldable pub seconds_in : Member → Data → Result ℕ Member
-seconds_in m d = number_within 0 3600 m d
-
--- a call or a monitor
-unfoldable pub serial_in : Member → Data → Result ℕ Member
-serial_in m d = number_within 1 1000000000 m d
-
-unfoldable pub service_in : Data → Result Service Member
-service_in d = read_in service_of member.Service d
-
-unfoldable pub asked_in : Data → Result Asked Member
-asked_in d = read_in asked_of member.Requested d
-
+-- the members of addGroup, the first faulty one first
 unfoldable pub add_group_in : Data → Result Command Member
 add_group_in d = do
   device ← device_in member.Device d
@@ -80,14 +35,14 @@ add_group_in d = do
   wrap ← seconds_in member.Wrap d
   Ok (AddGroup device name ring wrap)
 
--- of two devices that are named one after the other
+-- two devices, the first member before the second
 unfoldable pub two_devices_in : Member → Member → Data → Result (ℕ × ℕ) Member
 two_devices_in m n d = do
   first ← device_in m d
   second ← device_in n d
   Ok (first, second)
 
--- of a call at a device
+-- a call, then a device
 unfoldable pub connection_in : Data → Result (ℕ × ℕ) Member
 connection_in d = do
   call ← serial_in member.Call d
@@ -101,6 +56,7 @@ requested_in d asked.LoggedOn = do
   Ok (requested.LoggedOn place.0 place.1)
 requested_in d (asked.State state) = Ok (requested.State state)
 
+-- an agent, then what is asked for, then what only loggedOn has
 unfoldable pub set_agent_state_in : Data → Result Command Member
 set_agent_state_in d = do
   agent ← agent_in d
@@ -121,16 +77,19 @@ to_device make d = do
   to ← device_in member.To d
   Ok (make c.0 c.1 to)
 
+-- a service on two devices
 abbrev pub at_devices : (ℕ → ℕ → Command) → Member → Member → Data → Result Command Member
 at_devices make m n d = do
   p ← two_devices_in m n d
   Ok (make p.0 p.1)
 
+-- a service on a device
 abbrev pub at_device : (ℕ → Command) → Data → Result Command Member
 at_device make d = do
   device ← device_in member.Device d
   Ok (make device)
 
+-- an agent, then a name
 unfoldable pub add_agent_in : Data → Result Command Member
 add_agent_in d = do
   agent ← agent_in d
@@ -161,6 +120,7 @@ command_in service.MonitorStart d = at_device MonitorStart d
 command_in service.MonitorStop d = monitor_stop_in d
 command_in service.Tick d = Ok Tick
 
+-- the key, then the service, then its members; all other members are ignored
 unfoldable pub request_in : Data → Result Request Member
 request_in d = do
   requester ← requester_in d

@@ -83,10 +83,12 @@ result_of (answer.Pending state next) = member (codes "pending") (string (pendin
 abbrev pub to_whom : List ℕ → ℕ → Members → Members
 to_whom requester invoke more = member (codes "invoke") (number (unsigned invoke)) (member (codes "requester") (string requester) more)
 
+-- a refusal: its code and name
 abbrev pub error_data : ℕ → List ℕ → List ℕ → ℕ → Data
 error_data code name requester invoke =
     object (member (codes "error") (object (member (codes "code") (number (unsigned code)) (member (codes "name") (string name) no_members))) (to_whom requester invoke no_members))
 
+-- a result or a refusal, and whose request it answers
 abbrev pub reply_data : List ℕ → ℕ → Outcome → Data
 reply_data requester invoke (Done answer) = object (to_whom requester invoke (member (codes "result") (object (result_of answer)) no_members))
 reply_data requester invoke (Refused refusal) = error_data (refusal_code refusal) (refusal_name refusal) requester invoke

@@ -3,6 +3,8 @@ use Rattle.std.specs.Prelude.{ℕ, List, [], ◌∷◌, codes, Option}
 use Rattle.std.specs.List.{find}
 use Rattle.std.specs.Str.{bytes_eq}
 use Rattle.acd_terms.specs.States.{pending_name}
+use Rattle.acd_terms.specs.declared.command.Command.{Command}
+use Rattle.acd_terms.specs.declared.command.Command.TheVariants as command
 use Rattle.acd_terms.specs.declared.state.Pending.TheVariants as pending
 use Rattle.acd_codec.specs.declared.service.Asked.{Asked}
 use Rattle.acd_codec.specs.declared.service.Asked.TheVariants as asked
@@ -36,6 +38,25 @@ services =
 -- the service with this name
 abbrev pub service_of : List ℕ → Option Service
 service_of text = find (λ s. bytes_eq text (service_name s)) services
+
+-- the service of a command
+abbrev pub service_of_command : Command → Service
+service_of_command (command.AddGroup device name ring wrap) = AddGroup
+service_of_command (command.AddStation device) = AddStation
+service_of_command (command.AddAgent agent name) = AddAgent
+service_of_command (command.ArriveCall caller called) = ArriveCall
+service_of_command (command.MakeCall device called) = MakeCall
+service_of_command (command.PhoneOffHook call device) = PhoneOffHook
+service_of_command (command.AnswerCall call device) = AnswerCall
+service_of_command (command.HoldCall call device) = HoldCall
+service_of_command (command.RetrieveCall call device) = RetrieveCall
+service_of_command (command.ClearConnection call device) = ClearConnection
+service_of_command (command.DeflectCall call device to) = DeflectCall
+service_of_command (command.SingleStepTransfer call device to) = SingleStepTransfer
+service_of_command (command.SetAgentState agent requested) = SetAgentState
+service_of_command (command.MonitorStart device) = MonitorStart
+service_of_command (command.MonitorStop monitor) = MonitorStop
+service_of_command command.Tick = Tick
 
 abbrev pub asked_name : Asked → List ℕ
 asked_name asked.LoggedOn = codes "loggedOn"

@@ -15,7 +15,8 @@ fn put_subject(
     alloc: Global,
     columns: &Columns,
 ) -> Result<(), AllocError>
-    ensures { OnOk result (members_view map.new.entries ≡ put_parts (subject_parts columns.now) (members_view map.old.entries)) }
+    ensures { OnOk result (members_view map.new.entries
+        ≡ put_parts (subject_parts columns.now) (members_view map.old.entries)) }
 {
     put_agent(map, alloc, "agent", columns.agent)?;
     put_number(map, alloc, "call", columns.call)?;
@@ -31,7 +32,8 @@ fn put_further(
     moment: u32,
     columns: &Columns,
 ) -> Result<(), AllocError>
-    ensures { OnOk result (members_view map.new.entries ≡ put_parts (further_parts number moment columns.now) (members_view map.old.entries)) }
+    ensures { OnOk result (members_view map.new.entries
+        ≡ put_parts (further_parts number moment columns.now) (members_view map.old.entries)) }
 {
     put_device(map, alloc, "group", columns.group)?;
     put_number(map, alloc, "moment", Some(u64::from(moment)))?;

@@ -1,14 +1,25 @@
-//! JSON in and out.
+//! JSON in and out: requests are read and written, replies and event reports are written.
+//!
+//! All that is written is compact JSON, the members of each object in the order of their names.
 #![tactic(auto)]
 
-pub mod events;
-pub mod fault;
-pub mod laws;
-pub mod member;
+mod events;
+mod fault;
+mod laws;
+mod member;
 mod parts;
-pub mod reading;
-pub mod replies;
-pub mod requests;
-pub mod service;
+mod reading;
+mod replies;
+mod requests;
+mod service;
+
+pub use events::event_text;
+pub use fault::{FixedAnswer, ReadFault};
+pub use laws::{reads_back, request_formed, same_text};
+pub use member::{MALFORMED_STATUS, Member};
+pub use reading::read_request;
+pub use replies::{Rejected, outcome_status, rejected_text, reply_text};
+pub use requests::request_text;
+
 #[cfg(test)]
 mod tests;

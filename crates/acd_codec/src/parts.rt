@@ -18,7 +18,8 @@ pub(crate) fn put_text(
     key: &str,
     text: Option<&str>,
 ) -> Result<(), AllocError>
-    ensures { OnOk result (members_view map.new.entries ≡ put_part (text_part key.now (option_map (λ t. t.now) text.entry)) (members_view map.old.entries)) }
+    ensures { OnOk result (members_view map.new.entries
+        ≡ put_part (text_part key.now (option_map (λ t. t.now) text.entry)) (members_view map.old.entries)) }
 {
     match text {
         None => Ok(()),
@@ -33,7 +34,8 @@ pub(crate) fn put_number(
     key: &str,
     number: Option<u64>,
 ) -> Result<(), AllocError>
-    ensures { OnOk result (members_view map.new.entries ≡ put_part (number_part key.now number) (members_view map.old.entries)) }
+    ensures { OnOk result (members_view map.new.entries
+        ≡ put_part (number_part key.now number) (members_view map.old.entries)) }
 {
     match number {
         None => Ok(()),
@@ -48,7 +50,8 @@ pub(crate) fn put_device(
     key: &str,
     device: Option<DeviceId>,
 ) -> Result<(), AllocError>
-    ensures { OnOk result (members_view map.new.entries ≡ put_part (text_part key.now (option_map digits_of device)) (members_view map.old.entries)) }
+    ensures { OnOk result (members_view map.new.entries
+        ≡ put_part (text_part key.now (option_map digits_of device)) (members_view map.old.entries)) }
 {
     match device {
         None => Ok(()),
@@ -66,7 +69,8 @@ pub(crate) fn put_agent(
     key: &str,
     agent: Option<AgentId>,
 ) -> Result<(), AllocError>
-    ensures { OnOk result (members_view map.new.entries ≡ put_part (text_part key.now (option_map digits_of agent)) (members_view map.old.entries)) }
+    ensures { OnOk result (members_view map.new.entries
+        ≡ put_part (text_part key.now (option_map digits_of agent)) (members_view map.old.entries)) }
 {
     match agent {
         None => Ok(()),

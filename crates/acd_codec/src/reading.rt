@@ -2,7 +2,8 @@
 
 ghost use Rattle.std.specs.Prelude.{◌≡◌, Some, option_map, IfOk, IfErr};
 ghost use Rattle.serde_json.specs.View.{view};
-ghost use Rattle.acd_codec.specs.Reading.{Gives, IsFault, request_from, text_in, number_in, device_in, agent_in, name_in, requester_in, invoke_in, seconds_in, serial_in, service_in, asked_in, add_group_in, add_agent_in, two_devices_in, connection_in, requested_in, set_agent_state_in, command_in, request_in, reads_as};
+ghost use Rattle.acd_codec.specs.MemberReading.{text_in, number_in, device_in, agent_in, name_in, requester_in, invoke_in, seconds_in, serial_in, service_in, asked_in};
+ghost use Rattle.acd_codec.specs.Reading.{Gives, IsFault, add_group_in, add_agent_in, two_devices_in, connection_in, requested_in, set_agent_state_in, command_in, request_in, request_from, reads_as};
 
 use crate::fault::ReadFault;
 use crate::member::Member;
@@ -26,7 +27,7 @@ fn number_in(value: &Value, member: Member) -> Option<u64>
     value.get(member.name()).and_then(Value::as_u64)
 }
 
-#[tactic(auto, unfolding(crate::specs::Reading::device_in))]
+#[tactic(auto, unfolding(crate::specs::MemberReading::device_in))]
 fn device_in(value: &Value, member: Member) -> Result<DeviceId, Member>
     ensures { result ≡ device_in member (view value.now) }
 {
@@ -36,7 +37,7 @@ fn device_in(value: &Value, member: Member) -> Result<DeviceId, Member>
     }
 }
 
-#[tactic(auto, unfolding(crate::specs::Reading::agent_in))]
+#[tactic(auto, unfolding(crate::specs::MemberReading::agent_in))]
 fn agent_in(value: &Value) -> Result<AgentId, Member>
     ensures { result ≡ agent_in (view value.now) }
 {
@@ -46,7 +47,7 @@ fn agent_in(value: &Value) -> Result<AgentId, Member>
     }
 }
 
-#[tactic(auto, unfolding(crate::specs::Reading::name_in))]
+#[tactic(auto, unfolding(crate::specs::MemberReading::name_in))]
 fn name_in(value: &Value) -> Result<Name, Member>
     ensures { result ≡ name_in (view value.now) }
 {
@@ -56,7 +57,7 @@ fn name_in(value: &Value) -> Result<Name, Member>
     }
 }
 
-#[tactic(auto, unfolding(crate::specs::Reading::requester_in))]
+#[tactic(auto, unfolding(crate::specs::MemberReading::requester_in))]
 fn requester_in(value: &Value) -> Result<Requester, Member>
     ensures { result ≡ requester_in (view value.now) }
 {
@@ -68,7 +69,7 @@ fn requester_in(value: &Value) -> Result<Requester, Member>
     }
 }
 
-#[tactic(auto, unfolding(crate::specs::Reading::invoke_in))]
+#[tactic(auto, unfolding(crate::specs::MemberReading::invoke_in))]
 fn invoke_in(value: &Value) -> Result<Invoke, Member>
     ensures { result ≡ invoke_in (view value.now) }
 {
@@ -78,7 +79,7 @@ fn invoke_in(value: &Value) -> Result<Invoke, Member>
     }
 }
 
-#[tactic(auto, unfolding(crate::specs::Reading::seconds_in))]
+#[tactic(auto, unfolding(crate::specs::MemberReading::seconds_in))]
 fn seconds_in(value: &Value, member: Member) -> Result<Seconds, Member>
     ensures { result ≡ seconds_in member (view value.now) }
 {
@@ -88,7 +89,7 @@ fn seconds_in(value: &Value, member: Member) -> Result<Seconds, Member>
     }
 }
 
-#[tactic(auto, unfolding(crate::specs::Reading::serial_in))]
+#[tactic(auto, unfolding(crate::specs::MemberReading::serial_in))]
 fn serial_in(value: &Value, member: Member) -> Result<Serial, Member>
     ensures { result ≡ serial_in member (view value.now) }
 {
@@ -98,7 +99,7 @@ fn serial_in(value: &Value, member: Member) -> Result<Serial, Member>
     }
 }
 
-#[tactic(auto, unfolding(crate::specs::Reading::service_in))]
+#[tactic(auto, unfolding(crate::specs::MemberReading::service_in))]
 fn service_in(value: &Value) -> Result<Service, Member>
     ensures { result ≡ service_in (view value.now) }
 {
@@ -108,7 +109,7 @@ fn service_in(value: &Value) -> Result<Service, Member>
     }
 }
 
-#[tactic(auto, unfolding(crate::specs::Reading::asked_in))]
+#[tactic(auto, unfolding(crate::specs::MemberReading::asked_in))]
 fn asked_in(value: &Value) -> Result<Asked, Member>
     ensures { result ≡ asked_in (view value.now) }
 {

@@ -21,7 +21,8 @@ fn add_group(
     ring: &Seconds,
     wrap: &Seconds,
 ) -> Result<Value, AllocError>
-    ensures { IfOk result (λ v. view v ≡ object (add_group request.now.requester request.now.invoke device.now name.now ring.now wrap.now)) }
+    ensures { let r = request.now in
+        IfOk result (λ v. view v ≡ object (add_group r.requester r.invoke device.now name.now ring.now wrap.now)) }
 {
     json!(in alloc; {
         "device": device.text().as_str(),
@@ -40,7 +41,8 @@ fn add_agent(
     agent: &AgentId,
     name: &Name,
 ) -> Result<Value, AllocError>
-    ensures { IfOk result (λ v. view v ≡ object (add_agent request.now.requester request.now.invoke agent.now name.now)) }
+    ensures { let r = request.now in
+        IfOk result (λ v. view v ≡ object (add_agent r.requester r.invoke agent.now name.now)) }
 {
     json!(in alloc; {
         "agent": agent.text().as_str(),
@@ -57,7 +59,8 @@ fn at_device(
     service: Service,
     device: &DeviceId,
 ) -> Result<Value, AllocError>
-    ensures { IfOk result (λ v. view v ≡ object (at_device request.now.requester request.now.invoke service device.now)) }
+    ensures { let r = request.now in
+        IfOk result (λ v. view v ≡ object (at_device r.requester r.invoke service device.now)) }
 {
     json!(in alloc; {
         "device": device.text().as_str(),
@@ -74,7 +77,8 @@ fn at_connection(
     call: &Serial,
     device: &DeviceId,
 ) -> Result<Value, AllocError>
-    ensures { IfOk result (λ v. view v ≡ object (at_connection request.now.requester request.now.invoke service call.now device.now)) }
+    ensures { let r = request.now in
+        IfOk result (λ v. view v ≡ object (at_connection r.requester r.invoke service call.now device.now)) }
 {
     json!(in alloc; {
         "call": call.number(),
@@ -93,7 +97,8 @@ fn to_device(
     device: &DeviceId,
     to: &DeviceId,
 ) -> Result<Value, AllocError>
-    ensures { IfOk result (λ v. view v ≡ object (to_device request.now.requester request.now.invoke service call.now device.now to.now)) }
+    ensures { let r = request.now in
+        IfOk result (λ v. view v ≡ object (to_device r.requester r.invoke service call.now device.now to.now)) }
 {
     json!(in alloc; {
         "call": call.number(),
@@ -111,7 +116,8 @@ fn arrive_call(
     caller: &DeviceId,
     called: &DeviceId,
 ) -> Result<Value, AllocError>
-    ensures { IfOk result (λ v. view v ≡ object (arrive_call request.now.requester request.now.invoke caller.now called.now)) }
+    ensures { let r = request.now in
+        IfOk result (λ v. view v ≡ object (arrive_call r.requester r.invoke caller.now called.now)) }
 {
     json!(in alloc; {
         "called": called.text().as_str(),
@@ -128,7 +134,8 @@ fn make_call(
     device: &DeviceId,
     called: &DeviceId,
 ) -> Result<Value, AllocError>
-    ensures { IfOk result (λ v. view v ≡ object (make_call request.now.requester request.now.invoke device.now called.now)) }
+    ensures { let r = request.now in
+        IfOk result (λ v. view v ≡ object (make_call r.requester r.invoke device.now called.now)) }
 {
     json!(in alloc; {
         "called": called.text().as_str(),
@@ -145,7 +152,8 @@ fn set_agent_state(
     agent: &AgentId,
     requested: &Requested,
 ) -> Result<Value, AllocError>
-    ensures { IfOk result (λ v. view v ≡ object (set_agent_state request.now.requester request.now.invoke agent.now requested.now)) }
+    ensures { let r = request.now in
+        IfOk result (λ v. view v ≡ object (set_agent_state r.requester r.invoke agent.now requested.now)) }
 {
     let service = Service::SetAgentState.name();
     match requested {
@@ -169,7 +177,8 @@ fn set_agent_state(
 }
 
 fn monitor_stop(alloc: Global, request: &Request, monitor: &Serial) -> Result<Value, AllocError>
-    ensures { IfOk result (λ v. view v ≡ object (monitor_stop request.now.requester request.now.invoke monitor.now)) }
+    ensures { let r = request.now in
+        IfOk result (λ v. view v ≡ object (monitor_stop r.requester r.invoke monitor.now)) }
 {
     json!(in alloc; {
         "invoke": request.invoke.number(),
@@ -180,7 +189,8 @@ fn monitor_stop(alloc: Global, request: &Request, monitor: &Serial) -> Result<Va
 }
 
 fn tick(alloc: Global, request: &Request) -> Result<Value, AllocError>
-    ensures { IfOk result (λ v. view v ≡ object (sent request.now.requester request.now.invoke Service.Tick no_members)) }
+    ensures { let r = request.now in
+        IfOk result (λ v. view v ≡ object (sent r.requester r.invoke Service.Tick no_members)) }
 {
     json!(in alloc; {
         "invoke": request.invoke.number(),
@@ -193,67 +203,36 @@ fn tick(alloc: Global, request: &Request) -> Result<Value, AllocError>
 fn value_of(alloc: Global, request: &Request) -> Result<Value, AllocError>
     ensures { IfOk result (λ v. view v ≡ request_data request.now) }
 {
-    use Command::*;
+    let service = Service::of(&request.command);
     match &request.command {
-        AddGroup {
+        Command::AddGroup {
             device,
             name,
             ring,
             wrap,
         } => add_group(alloc, request, device, name, ring, wrap),
-        AddStation { device } => at_device(alloc, request, Service::AddStation, device),
-        AddAgent { agent, name } => add_agent(alloc, request, agent, name),
-        ArriveCall { caller, called } => arrive_call(alloc, request, caller, called),
-        MakeCall { device, called } => make_call(alloc, request, device, called),
-        PhoneOffHook { call, device } => at_connection(
-            alloc,
-            request,
-            Service::PhoneOffHook,
-            call,
-            device,
-        ),
-        AnswerCall { call, device } => at_connection(
-            alloc,
-            request,
-            Service::AnswerCall,
-            call,
-            device,
-        ),
-        HoldCall { call, device } => at_connection(alloc, request, Service::HoldCall, call, device),
-        RetrieveCall { call, device } => at_connection(
-            alloc,
-            request,
-            Service::RetrieveCall,
-            call,
-            device,
-        ),
-        ClearConnection { call, device } => at_connection(
-            alloc,
-            request,
-            Service::ClearConnection,
-            call,
-            device,
-        ),
-        DeflectCall { call, device, to } => to_device(
-            alloc,
-            request,
-            Service::DeflectCall,
-            call,
-            device,
-            to,
-        ),
-        SingleStepTransfer { call, device, to } => to_device(
-            alloc,
-            request,
-            Service::SingleStepTransfer,
-            call,
-            device,
-            to,
-        ),
-        SetAgentState { agent, requested } => set_agent_state(alloc, request, agent, requested),
-        MonitorStart { device } => at_device(alloc, request, Service::MonitorStart, device),
-        MonitorStop { monitor } => monitor_stop(alloc, request, monitor),
-        Tick => tick(alloc, request),
+        Command::AddAgent { agent, name } => add_agent(alloc, request, agent, name),
+        Command::AddStation { device } | Command::MonitorStart { device } => {
+            at_device(alloc, request, service, device)
+        }
+        Command::ArriveCall { caller, called } => arrive_call(alloc, request, caller, called),
+        Command::MakeCall { device, called } => make_call(alloc, request, device, called),
+        Command::PhoneOffHook { call, device }
+        | Command::AnswerCall { call, device }
+        | Command::HoldCall { call, device }
+        | Command::RetrieveCall { call, device }
+        | Command::ClearConnection { call, device } => {
+            at_connection(alloc, request, service, call, device)
+        }
+        Command::DeflectCall { call, device, to }
+        | Command::SingleStepTransfer { call, device, to } => {
+            to_device(alloc, request, service, call, device, to)
+        }
+        Command::SetAgentState { agent, requested } => {
+            set_agent_state(alloc, request, agent, requested)
+        }
+        Command::MonitorStop { monitor } => monitor_stop(alloc, request, monitor),
+        Command::Tick => tick(alloc, request),
     }
 }
 

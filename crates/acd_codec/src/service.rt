@@ -1,8 +1,9 @@
 //! The names of services, and of the states that can be asked for.
 
 ghost use Rattle.std.specs.Prelude.{◌≡◌};
-ghost use Rattle.acd_codec.specs.Services.{service_name, service_of, asked_name, asked_of};
+ghost use Rattle.acd_codec.specs.Services.{service_name, service_of, service_of_command, asked_name, asked_of};
 
+use acd_terms::command::Command;
 use acd_terms::state::Pending;
 
 /// A service, without its members.
@@ -27,6 +28,30 @@ pub enum Service {
 }
 
 impl Service {
+    /// The service of a command.
+    pub fn of(command: &Command) -> Service
+        ensures { result ≡ service_of_command command.now }
+    {
+        match command {
+            Command::AddGroup { .. } => Service::AddGroup,
+            Command::AddStation { .. } => Service::AddStation,
+            Command::AddAgent { .. } => Service::AddAgent,
+            Command::ArriveCall { .. } => Service::ArriveCall,
+            Command::MakeCall { .. } => Service::MakeCall,
+            Command::PhoneOffHook { .. } => Service::PhoneOffHook,
+            Command::AnswerCall { .. } => Service::AnswerCall,
+            Command::HoldCall { .. } => Service::HoldCall,
+            Command::RetrieveCall { .. } => Service::RetrieveCall,
+            Command::ClearConnection { .. } => Service::ClearConnection,
+            Command::DeflectCall { .. } => Service::DeflectCall,
+            Command::SingleStepTransfer { .. } => Service::SingleStepTransfer,
+            Command::SetAgentState { .. } => Service::SetAgentState,
+            Command::MonitorStart { .. } => Service::MonitorStart,
+            Command::MonitorStop { .. } => Service::MonitorStop,
+            Command::Tick => Service::Tick,
+        }
+    }
+
     /// The service with this name.
     pub fn named(text: &str) -> Option<Service>
         ensures { result ≡ service_of text.now }

@@ -173,7 +173,7 @@ rested_ascend : (s : Rows) (m : ℕ) → Rules s → IsAscending agent_order (re
 unfolding rested_in
 rested_ascend s m r = ascending-filter agent_order (is_rested s m) s.agents r.orders.agents
 
-returned : (P : Rows → List Event → Type 0) (m k : ℕ) → ReturnKeeps P m k → (s : Rows) (es : List Event) → Rules s → P s es → Rules (moved s (returns s m k)) × Kept P m s es (returns s m k)
+pub returned : (P : Rows → List Event → Type 0) (m k : ℕ) → ReturnKeeps P m k → (s : Rows) (es : List Event) → Rules s → P s es → Rules (moved s (returns s m k)) × Kept P m s es (returns s m k)
 unfolding returns
 returned P m k f s es r h = returns_keep P m k f s es (overdue_in s m) (overdue_ascend s m r) (overdue_back s m) r h
 

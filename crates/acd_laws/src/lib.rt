@@ -10,6 +10,9 @@ ghost use Rattle.acd_laws.specs.FigureLaws.{StepKeepsFigures, RunKeepsFigures, S
 ghost use Rattle.acd_laws.specs.WatchedLaws.{StepTells, RunIsWatched};
 ghost use Rattle.acd_laws.specs.BalanceLaws.{StepBalances, RunIsBalanced};
 ghost use Rattle.acd_laws.specs.OfferLaws.{StepLeavesNoOffer, RunLeavesNoOffer};
+ghost use Rattle.acd_laws.specs.PlacedLaws.{StepNamesNoLaterCall, RunNamesNoLaterCall, StepKeepsClearings, StepPlaces, RunIsPlaced, PlacesExclude};
+ghost use Rattle.acd_laws.specs.RuleLaws.{StepKeepsRules, RunKeepsRules, RulesBound, RulesLeaveRoom};
+ghost use Rattle.acd_laws.specs.PlacedLaws.{RulesGiveOneOffer, RunHasOneOffer};
 
 /// The offer that is found is the one that the relation allows, and one is found wherever there is one.
 pub fn finds_the_offer()
@@ -64,4 +67,64 @@ pub fn step_leaves_no_offer()
 /// After every run no group has both a waiting call and an eligible agent.
 pub fn run_leaves_no_offer()
     ensures { RunLeavesNoOffer }
+{}
+
+/// Where a state keeps the rules, a station has one distributed connection at most, its agent is ready or busy with it, and no other agent is busy.
+pub fn rules_give_one_offer()
+    ensures { RulesGiveOneOffer }
+{}
+
+/// After every run a station has one distributed connection at most, its agent is ready or busy with it, and no other agent is busy.
+pub fn run_has_one_offer()
+    ensures { RunHasOneOffer }
+{}
+
+/// Where a state keeps the rules, and no event up to it names a call above the last, none does after a step.
+pub fn step_names_no_later_call()
+    ensures { StepNamesNoLaterCall }
+{}
+
+/// After every run no event names a call above the last.
+pub fn run_names_no_later_call()
+    ensures { RunNamesNoLaterCall }
+{}
+
+/// Where a state keeps the rules, and each call up to the last that isn't live was cleared once and any other never, so it is after a step.
+pub fn step_keeps_clearings()
+    ensures { StepKeepsClearings }
+{}
+
+/// From such a state each call after a step is cleared, waits in one queue, or is at devices.
+pub fn step_places()
+    ensures { StepPlaces }
+{}
+
+/// After every run each call up to the last is cleared, waits in one queue, or is at devices.
+pub fn run_is_placed()
+    ensures { RunIsPlaced }
+{}
+
+/// A call stands in one way at most: cleared, waiting in a queue, or at devices.
+pub fn places_exclude()
+    ensures { PlacesExclude }
+{}
+
+/// Rows that break no rule break none after a step, while a request more is allowed.
+pub fn step_keeps_rules()
+    ensures { StepKeepsRules }
+{}
+
+/// No run of at most as many requests as are allowed breaks a rule.
+pub fn run_keeps_rules()
+    ensures { RunKeepsRules }
+{}
+
+/// Rows that break no rule have their counters and figures within bounds.
+pub fn rules_bound()
+    ensures { RulesBound }
+{}
+
+/// Where moments are of 32 bits, the figures of rows that break no rule are below 2 to the 63.
+pub fn rules_leave_room()
+    ensures { RulesLeaveRoom }
 {}

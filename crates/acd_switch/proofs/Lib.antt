@@ -1,3 +1,4 @@
 pub mod Rounds
 pub mod Closing
 pub mod RoomOfRules
+pub mod Refusing

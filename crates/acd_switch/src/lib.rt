@@ -1,9 +1,11 @@
 //! One executed request on the switch: the service or tick, then distribution.
 //!
 //! [`switch::Switch`] holds the state; [`switch::Switch::step`] executes a request and answers its
-//! outcome and its events.
+//! outcome and its events. [`switch::Switch::from_rows`] makes a switch of rows of any origin, and
+//! refuses those that break a rule.
 #![tactic(auto)]
 
 pub mod distribution;
+pub mod row_fault;
 pub mod switch;
 pub mod tick;

@@ -1,16 +1,21 @@
 //! The switch.
 
-ghost use Rattle.std.specs.Prelude.{◌≡◌, ◌<◌, ◌+◌, ◌-◌, ◌^◌, ◌++◌, length, nat_le, IfOk, OnOk};
+ghost use Rattle.std.specs.Prelude.{◌≡◌, ◌<◌, ◌+◌, ◌-◌, ◌^◌, ◌++◌, length, nat_le, IfOk, IfErr, OnOk};
 ghost use Rattle.acd_terms.specs.Writes.{empty_rows};
 ghost use Rattle.acd_terms.specs.Moves.{moved, events_of};
 ghost use Rattle.acd_terms.specs.Served.{outcome_of, moves_of};
 ghost use Rattle.acd_terms.specs.Services.Serve.{serve};
 ghost use Rattle.acd_terms.specs.Step.{step, numbered};
+ghost use Rattle.acd_terms.specs.Rules.First.{BreaksNoRule};
+ghost use Rattle.acd_switch.specs.RowFaults.{IsFaultOf};
 ghost use Rattle.acd_switch.specs.Room.{HasRoom, Fits, closed};
-ghost use Rattle.acd_switch.specs.Kept.{figures_at};
+ghost use Rattle.acd_switch.specs.Kept.{figures_at, IsRefused};
+ghost use Rattle.acd_laws.specs.RefusalLaws.{ChangesNothing};
 
 use crate::distribution::distribute;
+use crate::row_fault::RowFault;
 use crate::tick::tick;
+use acd_rules::first::first_broken;
 use acd_services::serve::serve;
 use acd_tables::tables::Tables;
 use acd_terms::answer::{Answer, Outcome};
@@ -48,6 +53,40 @@ impl Switch {
         }
     }
 
+    /// A switch of these rows, where they break no rule.
+    pub fn from_rows(alloc: Global, rows: &Rows) -> Result<Self, RowFault>
+        ensures ok { IfOk result (λ s. s ≡ rows.now) }
+        ensures sound { OnOk result (BreaksNoRule rows.now) }
+        ensures err { IfErr result (IsFaultOf rows.now) }
+    {
+        if let Some(rule) = first_broken(rows) {
+            return Err(RowFault::Broken(rule));
+        }
+        match Tables::from_rows(alloc, rows) {
+            Ok(tables) => Ok(Switch { alloc, tables }),
+            Err(AllocError) => Err(RowFault::NoMemory),
+        }
+    }
+
+    /// Executes one request at a moment (in seconds): its outcome and its events. A moment before the
+    /// last one is taken as the last one. A refused request takes a stamp and a moment, and changes
+    /// nothing else. After an error of memory the switch is only to be dropped.
+    pub fn step(
+        &mut self,
+        moment: u32,
+        command: &Command,
+    ) -> Result<(Outcome, Vec<Event>), AllocError>
+        requires rules { BreaksNoRule self.old }
+        requires room { self.old.last_stamp < self.old.limits.requests }
+        ensures outcome { IfOk result (λ r. r.0 ≡ (step self.old moment command.now).outcome) }
+        ensures events { IfOk result (λ r. r.1.items ≡ (step self.old moment command.now).events) }
+        ensures rows { OnOk result (self.new ≡ (step self.old moment command.now).rows) }
+        ensures kept { OnOk result (BreaksNoRule self.new) }
+        ensures refused { IfOk result (λ r. IsRefused r.0 → ChangesNothing self.old moment command.now) }
+    {
+        execute(self.alloc, &mut self.tables, moment, command)
+    }
+
     /// As many requests were executed as the limit allows: no more may be.
     pub fn is_full(&self) -> bool
         ensures { result ≡ nat_le self.now.limits.requests self.now.last_stamp }
@@ -73,15 +112,15 @@ impl Switch {
     }
 }
 
-// Executes one request, where the counters have room. After an error the tables are only to be dropped.
+// Executes one request. After an error the tables are only to be dropped.
 fn execute(
     alloc: Global,
     tables: &mut Tables,
     moment: u32,
     command: &Command,
 ) -> Result<(Outcome, Vec<Event>), AllocError>
-    requires before { HasRoom tables.old }
-    requires after { Fits (step tables.old moment command.now).rows }
+    requires rules { BreaksNoRule tables.old }
+    requires room { tables.old.last_stamp < tables.old.limits.requests }
     ensures outcome { IfOk result (λ r. r.0 ≡ (step tables.old moment command.now).outcome) }
     ensures events { IfOk result (λ r. r.1.items ≡ (step tables.old moment command.now).events) }
     ensures rows { OnOk result (tables.new ≡ (step tables.old moment command.now).rows) }

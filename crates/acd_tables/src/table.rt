@@ -37,6 +37,15 @@ impl<R: Keyed> Table<R> {
         }
     }
 
+    /// A table of these records, which stand in ascending key.
+    pub fn from_slice(alloc: Global, records: &[R]) -> Result<Self, AllocError>
+        ensures { IfOk result (λ t. t ≡ records.now) }
+    {
+        Ok(Table {
+            records: records.iter().copied().collect(alloc)?,
+        })
+    }
+
     pub fn as_slice(&self) -> &[R]
         ensures { result.now ≡ self.now }
     {
@@ -53,12 +62,7 @@ impl<R: Keyed> Table<R> {
     pub fn find(&self, key: R::Key) -> Option<R>
         ensures { result ≡ find_by (λ x. R.Key.cmp key (R.key_of x)) self.now }
     {
-        for x in &self.records {
-            if key.cmp(&x.key()).is_eq() {
-                return Some(*x);
-            }
-        }
-        None
+        find(&self.records, key)
     }
 
     /// Puts the record at its key. One that finds no memory changes nothing.
@@ -94,6 +98,18 @@ impl Table<GroupRecord> {
     {
         add_figures(&mut self.records, events);
     }
+}
+
+/// The first of the records at the key.
+pub fn find<R: Keyed>(records: &[R], key: R::Key) -> Option<R>
+    ensures { result ≡ find_by (λ x. R.Key.cmp key (R.key_of x)) records.now }
+{
+    for x in records {
+        if key.cmp(&x.key()).is_eq() {
+            return Some(*x);
+        }
+    }
+    None
 }
 
 // Puts the record at its key.

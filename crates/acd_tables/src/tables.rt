@@ -80,6 +80,26 @@ impl Tables {
         }
     }
 
+    /// Tables of these rows, whose lists stand in ascending key.
+    pub fn from_rows(alloc: Global, rows: &Rows) -> Result<Self, AllocError>
+        ensures { IfOk result (λ t. t ≡ rows.now) }
+    {
+        Ok(Tables {
+            limits: rows.limits,
+            groups: Table::from_slice(alloc, rows.groups.as_slice())?,
+            stations: Table::from_slice(alloc, rows.stations.as_slice())?,
+            agents: Table::from_slice(alloc, rows.agents.as_slice())?,
+            calls: Table::from_slice(alloc, rows.calls.as_slice())?,
+            connections: Table::from_slice(alloc, rows.connections.as_slice())?,
+            monitors: Table::from_slice(alloc, rows.monitors.as_slice())?,
+            last_stamp: rows.last_stamp,
+            last_moment: rows.last_moment,
+            last_call: rows.last_call,
+            last_monitor: rows.last_monitor,
+            last_event: rows.last_event,
+        })
+    }
+
     /// The records and counters, copied.
     pub fn rows(&self, alloc: Global) -> Result<Rows, AllocError>
         ensures { IfOk result (λ r. r ≡ self.now) }

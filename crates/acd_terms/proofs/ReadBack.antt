@@ -1,5 +1,5 @@
 -- What is written for an identifier or a name reads as it.
-use Rattle.std.proofs.Common.{◌≡◌, ℕ, ◌+◌, ◌<◌, ◌≤◌, Bool, true, false, not, List, [], ◌∷◌, length, drop, get_or, Option, Some, None, Result, Ok, Err, cond, ◌==◌, nat_lt, decimal, refl, sym, ap, ◌∙◌, arith, le-leb}
+use Rattle.std.proofs.Common.{◌≡◌, ℕ, ◌+◌, ◌<◌, ◌≤◌, Bool, true, false, not, List, [], ◌∷◌, length, drop, get_or, Some, None, Ok, ◌==◌, nat_lt, decimal, refl, sym, ap, ◌∙◌, arith, le-leb}
 use Rattle.std.proofs.lemmas.Fmt.{decimal_is_IsNumeral}
 use Rattle.std.proofs.lemmas.Bool.{and_parts}
 use Rattle.std.proofs.lemmas.Bool.Decides.{nat_tests}
@@ -7,7 +7,7 @@ use Rattle.std.proofs.lemmas.Iterator.Adapters.{position_from-zero}
 use Rattle.std.specs.List.{list_all, position, position_from}
 use Rattle.std.specs.Char.{is_ascii_digit}
 use Rattle.std.specs.Str.Parse.{AllDigits, digits_value}
-use Rattle.acd_terms.specs.Forms.{read_id, read_text, number_of, digits_of, is_not_digit, number_between, IsNumberOf, IsText, IsBetween}
+use Rattle.acd_terms.specs.Forms.{read_id, read_text, number_of, digits_of, number_between, IsNumberOf, IsText, IsBetween}
 use Rattle.acd_terms.proofs.Identifiers.{all_digits}
 
 -- where each character passes, none fails

@@ -1,0 +1,65 @@
+-- The members of a request, each read by the form of what it names.
+use Rattle.std.specs.Prelude.{ℕ, List, Option, option_and_then, Result}
+use Rattle.std.specs.Option.{ok_or}
+use Rattle.std.specs.Result.{result_ok}
+use Rattle.serde_json.specs.Data.{Data}
+use Rattle.serde_json.specs.Find.{get, as_str, as_number, as_u64}
+use Rattle.acd_terms.specs.Forms.{device_digits, agent_digits, read_id, read_text, is_name_byte, is_requester_byte, number_between}
+use Rattle.acd_codec.specs.declared.member.Member.{Member}
+use Rattle.acd_codec.specs.declared.member.Member.TheVariants as member
+use Rattle.acd_codec.specs.declared.service.Asked.{Asked}
+use Rattle.acd_codec.specs.declared.service.Service.{Service}
+use Rattle.acd_codec.specs.Members.{member_name}
+use Rattle.acd_codec.specs.Services.{service_of, asked_of}
+
+-- a member that is a text
+abbrev pub text_in : Member → Data → Option (List ℕ)
+text_in m d = option_and_then as_str (get (member_name m) d)
+
+-- a member that is a whole number, written with no fraction, exponent or sign
+abbrev pub number_in : Member → Data → Option ℕ
+number_in m d = option_and_then as_u64 (option_and_then as_number (get (member_name m) d))
+
+-- the member's text as this reader reads it, or the member as faulty
+abbrev pub read_in : {A : Type 0} → (List ℕ → Option A) → Member → Data → Result A Member
+read_in reader m d = ok_or (option_and_then reader (text_in m d)) m
+
+-- the member's number, where it lies from the least to the greatest
+abbrev pub number_within : ℕ → ℕ → Member → Data → Result ℕ Member
+number_within least greatest m d = ok_or (option_and_then (number_between least greatest) (number_in m d)) m
+
+-- a device is 1 to 15 digits
+unfoldable pub device_in : Member → Data → Result ℕ Member
+device_in m d = read_in (λ t. result_ok (read_id device_digits t)) m d
+
+-- an agent is 1 to 9 digits
+unfoldable pub agent_in : Data → Result ℕ Member
+agent_in d = read_in (λ t. result_ok (read_id agent_digits t)) member.Agent d
+
+-- a name is 1 to 40 printable characters
+unfoldable pub name_in : Data → Result (List ℕ) Member
+name_in d = read_in (λ t. result_ok (read_text is_name_byte 40 t)) member.Name d
+
+-- a requester is 1 to 32 lower-case letters, digits and hyphens
+unfoldable pub requester_in : Data → Result (List ℕ) Member
+requester_in d = read_in (λ t. result_ok (read_text is_requester_byte 32 t)) member.Requester d
+
+-- an invoke number is 1 to 999999999
+unfoldable pub invoke_in : Data → Result ℕ Member
+invoke_in d = number_within 1 999999999 member.Invoke d
+
+-- a time of a group is 0 to 3600 seconds
+unfoldable pub seconds_in : Member → Data → Result ℕ Member
+seconds_in m d = number_within 0 3600 m d
+
+-- a call or a monitor is 1 to 1000000000
+unfoldable pub serial_in : Member → Data → Result ℕ Member
+serial_in m d = number_within 1 1000000000 m d
+
+-- a service goes by one of the sixteen names
+unfoldable pub service_in : Data → Result Service Member
+service_in d = read_in service_of member.Service d
+
+-- what is asked for is loggedOn or one of four states
+unfoldable pub asked_in : Data → Result Asked Member
+asked_in d = read_in asked_of member.Requested d

@@ -1,0 +1,164 @@
+-- The moves of a step stay within bounds.
+use Rattle.std.proofs.Common.{◌≡◌, ◌≢◌, ℕ, zero, suc, ◌+◌, ◌*◌, ◌^◌, ◌<◌, ◌≤◌, ◌⊎◌, inl, inr, Bool, true, false, not, ◌&&◌, ◌||◌, cond, List, [], ◌∷◌, ◌++◌, Option, Some, None, refl, sym, ◌∙◌, ap, subst, arith, length, eq-eqb}
+use Rattle.std.specs.Prelude.{◌==◌, if◌then◌else◌, IsTrue, IsFalse, is_some, is_none, filter, find, nat_le, max}
+use Rattle.std.specs.List.{list_any, list_all}
+use Rattle.std.specs.Cmp.{IsTotalOrder}
+use Rattle.std.specs.declared.cmp.Ordering.{Ordering}
+use Rattle.std.specs.declared.cmp.Ordering.TheVariants.{Less, Equal, Greater}
+use Rattle.std.proofs.lemmas.Bool.{and_parts, and_from, eqb-true, eqb-false, ne_eqb, false_from_ne_true, and_left, and_right, and_cases, or_cases, cases_eq, or_parts, not-false, not-true, or_right, or_left, cond-false, cond-true}
+use Rattle.acd_terms.specs.declared.rows.Rows.{Rows}
+use Rattle.acd_terms.specs.declared.record.GroupRecord.{GroupRecord}
+use Rattle.acd_terms.specs.declared.record.StationRecord.{StationRecord}
+use Rattle.acd_terms.specs.declared.record.AgentRecord.{AgentRecord}
+use Rattle.acd_terms.specs.declared.record.CallRecord.{CallRecord}
+use Rattle.acd_terms.specs.declared.record.ConnectionRecord.{ConnectionRecord}
+use Rattle.acd_terms.specs.declared.record.MonitorRecord.{MonitorRecord}
+use Rattle.acd_terms.specs.declared.state.AgentState.{AgentState}
+use Rattle.acd_terms.specs.declared.state.AgentState.TheVariants as A
+use Rattle.acd_terms.specs.declared.state.Pending.{Pending}
+use Rattle.acd_terms.specs.declared.state.Pending.TheVariants as W
+use Rattle.acd_terms.specs.declared.state.ConnectionState.{ConnectionState}
+use Rattle.acd_terms.specs.declared.state.ConnectionState.TheVariants as S
+use Rattle.acd_terms.specs.declared.event.Cause.{Cause}
+use Rattle.acd_terms.specs.declared.event.Cause.TheVariants as C
+use Rattle.acd_terms.specs.declared.moves.Move.{Move}
+use Rattle.acd_terms.specs.declared.moves.Change.{Change}
+use Rattle.acd_terms.specs.declared.moves.Change.TheVariants.{Nothing, PutGroup, PutStation, PutAgent, PutCall, PutConnection, PutMonitor, RemoveCall, RemoveConnection, RemoveMonitor}
+use Rattle.acd_terms.specs.declared.moves.Destination.{Destination}
+use Rattle.acd_terms.specs.declared.moves.Destination.TheVariants as D
+use Rattle.acd_terms.specs.declared.moves.Ending.{Ending}
+use Rattle.acd_terms.specs.declared.moves.Ending.TheVariants.{Answered, Unanswered, NoAnswer}
+use Rattle.acd_terms.specs.declared.moves.Release.{Release}
+use Rattle.acd_terms.specs.declared.moves.Release.TheVariants.{Stays, Goes}
+use Rattle.acd_terms.specs.declared.moves.Served.{Served}
+use Rattle.acd_terms.specs.declared.moves.Served.TheVariants.{Refused, Done}
+use Rattle.acd_terms.specs.declared.answer.Refusal.{Refusal}
+use Rattle.acd_terms.specs.Lists.{find_by, put_by, remove_by, count, total, Among, Every, AllAfter, IsAscending}
+use Rattle.acd_terms.specs.States.{is_null, is_ready, is_busy, is_working_after_call, is_initiated, is_alerting, is_connected, is_hold, is_queued, is_fail, is_answered, is_live, is_occupying, state_wanted, is_in}
+use Rattle.acd_terms.specs.Scans.{at_group, at_station, at_agent, at_call, at_connection, at_monitor, group_of, station_of, agent_of, call_of, connection_of, monitor_of, is_group, is_station, is_planned, has, agent_at, connections_of, other_of, is_distributed, is_live_at, is_taken, is_idle, is_occupied, waiting_in, is_idle_there, is_eligible, eligible_in, is_calling, queued_in_all}
+use Rattle.acd_terms.specs.Writes.{with_group, with_station, with_agent, with_call, with_connection, with_monitor, without_call, without_connection, without_monitor, with_last}
+use Rattle.acd_terms.specs.Moves.{no_move, silent, reported, changed, moved}
+use Rattle.acd_terms.specs.CallMoves.{plain, queueing, begin, connect_caller, initiate, originate, met_at, destination_of, arriving, arrival, arrive, talking, answer, hold, retrieve, ringing, offer, go_back, divert, transfer, clear, end_call}
+use Rattle.acd_terms.specs.AgentMoves.{kept_in, in_state, go_to, go_from, log_on_at, become_busy, wait_for}
+use Rattle.acd_terms.specs.Release.{release_of, released, release_agent, ending_of, release}
+use Rattle.acd_terms.specs.Served.{refuse_if, with_found, moves_of}
+use Rattle.acd_terms.specs.Rules.Plan.{group_order, station_order, agent_order, call_order, connection_order, monitor_order}
+use Rattle.acd_laws.specs.Counts.{RulesBut, Rules, Orders, IsUnseated, IsPlannedStation, IsPlannedGroup, SeatedAs, AgentRule, CallRule, Bare, InQueue, Offered, AlertingColumns, HasColumns, GroupColumn, IsCaller, StandsAt, ConnectionRule, is_open, of_call, initiated_of, open_of, live_at, alerting_at, held_at, distributed_at, ringing_at, talking_at, seated_at, ready_at, busy_at, pending_at, two_if}
+use Rattle.acd_laws.proofs.Lists.{one, find-put_hit, find-put_miss, find-filter, find-filter_none, find_passes, find_among, find_none, none_found, find_found, some_found, any-find, any-put, any_none, any_some, any_found, filter_among, among-filter, after_among, ascending-put, ascending-filter, ascending-remove, count-put_new, count-put_old, count-put_most, count-remove_most, count-removed, every_among, every_from, every-put, every-remove, among-remove, among-put, among-put_other, among-remove_other, counted, none_counted, fewer, count_same, two_counted, both_fewer, count_zero, none_of_zero, the_one, some_counted, all_true, all_from, count-append, total-append, count_length, none_from, some_from, some_is, eq_is, is_eq_of}
+use Rattle.acd_laws.proofs.State.{eqb_self, cmp_equal, cmp_self, key_is, is_of, is_of_true, is_of_self, order_equal, order_same, connection_key, groups_total, stations_total, agents_total, calls_total, connections_total, monitors_total, connection_find, agent_find, call_find, group_find, station_find, monitor_find, is_group_any, is_station_any, at_put, connections_without, calls_without, at_remove, agent_put, call_put, call_remove, group_put, station_put, found_key, own_key, connection_among, connection_found, agent_among, agent_key, agent_own, agent_found, call_among, call_key, call_found, put_other, removed_other, still_none}
+use Rattle.std.proofs.Common.{map}
+use Rattle.acd_terms.specs.declared.event.Event.{Event}
+use Rattle.acd_terms.specs.declared.command.Command.{Command}
+use Rattle.acd_terms.specs.declared.command.Command.TheVariants.{AddGroup, AddStation, AddAgent, ArriveCall, MakeCall, PhoneOffHook, AnswerCall, HoldCall, RetrieveCall, ClearConnection, DeflectCall, SingleStepTransfer, SetAgentState, MonitorStart, MonitorStop, Tick}
+use Rattle.acd_terms.specs.Moves.{events_of}
+use Rattle.acd_terms.specs.Figures.{is_entry}
+use Rattle.acd_terms.specs.Services.Plan.{no_figures}
+use Rattle.acd_terms.specs.Services.Serve.{serve}
+use Rattle.acd_terms.specs.Distribution.{distribution}
+use Rattle.acd_terms.specs.Tick.{tick}
+use Rattle.acd_terms.specs.Step.{step_moves}
+use Rattle.acd_laws.specs.Bounds.{Sizes, at_place, Timed, Monitored, IsPlace, ConnectionTimed}
+use Rattle.acd_laws.proofs.Balance.{entries}
+use Rattle.acd_laws.proofs.Serving.{moved-append}
+use Rattle.acd_laws.proofs.MoveEvents.{events-append}
+use Rattle.acd_laws.proofs.RulesKept.{rules_serve}
+use Rattle.acd_laws.proofs.Steady.{IsNew, Steadied, Settled, sizes_steadied, monitored_steadied}
+use Rattle.acd_laws.proofs.Orderly.{AllFit, Orderly, timed_moved}
+use Rattle.acd_laws.proofs.Behaving.{Behaves, behaves_add_group, behaves_add_station, behaves_add_agent, behaves_arrive_call, behaves_make_call, behaves_phone_off_hook, behaves_answer_call, behaves_hold_call, behaves_retrieve_call, behaves_clear_connection, behaves_deflect_call, behaves_single_step_transfer, behaves_set_agent_state, behaves_monitor_start, behaves_monitor_stop}
+use Rattle.acd_laws.proofs.Rounds.{AllWait, entered_is, waits_events, every-append, Within, distribution_within, tick_within, returns_agents}
+use Rattle.acd_laws.proofs.Numbers.{events_length, connections_length, Greatest, greatest, distribution_length, tick_length}
+
+-- what holds after moves of a step, with their events
+pub record After (s : Rows) (k m most : ℕ) (t : Rows) (es : List Event) : Type 0 where
+  pub timed : Timed k m t
+  pub places : (p : ℕ) → count (at_place p) t.connections ≤ one (k == p) + count (at_place p) s.connections
+  pub sizes : Sizes t
+  pub monitors : Monitored t
+  pub groups : (g : GroupRecord) → Among g t.groups → Among g s.groups ⊎ IsNew s g
+  pub limits : t.limits ≡ s.limits
+  pub last_call : t.last_call ≤ s.last_call + 1
+  pub last_monitor : t.last_monitor ≤ s.last_monitor + 1
+  pub last_event : t.last_event ≡ s.last_event
+  pub entries : (g : ℕ) → count (λ (e : Event). is_entry g e.report) es ≤ 1
+  pub waits : AllWait m es
+  pub few : length es ≤ most
+
+-- what holds before
+pub record Before (s : Rows) (k m : ℕ) : Type 0 where
+  pub rules : Rules s
+  pub timed : Timed k m s
+  pub stamp : 1 ≤ k
+  pub sizes : Sizes s
+  pub monitors : Monitored s
+
+after_service : (s : Rows) (k m : ℕ) (ms : List Move) → Before s k m → Behaves s k m ms → After s k m 13000 (moved s ms) (events_of m ms)
+after_service s k m ms b h = record {
+    timed = timed_moved s s k m ms b.timed h.0.fit; places = h.0.places; sizes = h.1.sizes b.sizes; monitors = h.1.monitors b.monitors; groups = h.1.groups; limits = h.1.limits;
+    last_call = h.1.last_call; last_monitor = h.1.last_monitor; last_event = h.1.last_event;
+    entries = λ g. (let e = entered_is g m ms in let f = h.0.entries g in omega (arith, e, f));
+    waits = waits_events s k m ms h.0.fit; few = (let a = events_length m ms in let c = h.0.few in omega (arith, a, c)) }
+
+-- rounds after moves
+after_rounds : (s : Rows) (k m most more : ℕ) (t u : Rows) (es fs : List Event) → After s k m most t es → Within t k m u fs → length fs ≤ more → After s k m (most + more) u (es ++ fs)
+after_rounds s k m most more t u es fs a w l = record {
+    timed = w.timed;
+    places = λ p. (let x = a.places p in let y = w.places p in omega (arith, x, y));
+    sizes = sizes_steadied t u w.steady a.sizes; monitors = monitored_steadied t u w.steady a.monitors; groups = λ g i. a.groups g (subst (Among g) w.steady.groups i); limits = w.steady.limits ∙ a.limits;
+    last_call = (let x = a.last_call in let y = w.steady.last_call in omega (arith, x, y)); last_monitor = (let x = a.last_monitor in let y = w.steady.last_monitor in omega (arith, x, y)); last_event = w.steady.last_event ∙ a.last_event;
+    entries = λ g. (let x = a.entries g in let y = w.entries g in let z = count-append (λ (e : Event). is_entry g e.report) es fs in omega (arith, x, y, z));
+    waits = every-append _ es fs a.waits w.waits;
+    few = (let x = a.few in let z = length-joined es fs in omega (arith, x, z, l)) }
+  where
+    length-joined : (xs ys : List Event) → length (xs ++ ys) ≡ length xs + length ys
+    length-joined [] ys = omega arith
+    length-joined (x ∷ xs) ys = (let ih = length-joined xs ys in omega (arith, ih))
+
+after_nothing : (s : Rows) (k m : ℕ) → Before s k m → After s k m 0 s []
+after_nothing s k m b = record { timed = b.timed; places = λ p. omega arith; sizes = b.sizes; monitors = b.monitors; groups = λ g i. inl i; limits = refl; last_call = omega arith; last_monitor = omega arith; last_event = refl; entries = λ g. omega arith; waits = tt; few = omega arith }
+
+after_tick : (s : Rows) (k m : ℕ) → Before s k m → After s k m 13000 (moved s (tick s m k)) (events_of m (tick s m k))
+after_tick s k m b =
+    let w = tick_within s k m b.stamp b.rules b.timed in
+    let a = events_length m (tick s m k) in
+    let c = tick_length s m k in
+    let d = connections_length s b.rules in
+    let e = returns_agents s k m b.stamp b.rules b.timed in
+    let f = greatest s b.sizes.limits in
+    let x = b.sizes.calls in let y = b.sizes.agents in let fc = f.calls in let fa = f.agents in
+    after_rounds s k m 0 13000 s (moved s (tick s m k)) [] (events_of m (tick s m k)) (after_nothing s k m b) w (omega (arith, a, c, d, e, x, y, fc, fa))
+
+pub after_serve : (s : Rows) (k m : ℕ) (c : Command) → Before s k m → After s k m 13000 (moved s (moves_of (serve s m k c))) (events_of m (moves_of (serve s m k c)))
+after_serve s k m (AddGroup device name ring wrap) b = after_service s k m (moves_of (serve s m k (AddGroup device name ring wrap))) b (behaves_add_group s k m device name ring wrap)
+after_serve s k m (AddStation device) b = after_service s k m (moves_of (serve s m k (AddStation device))) b (behaves_add_station s k m device)
+after_serve s k m (AddAgent agent name) b = after_service s k m (moves_of (serve s m k (AddAgent agent name))) b (behaves_add_agent s k m agent name b.stamp)
+after_serve s k m (ArriveCall caller called) b = after_service s k m (moves_of (serve s m k (ArriveCall caller called))) b (behaves_arrive_call s k m caller called b.stamp b.rules.orders.agents)
+after_serve s k m (MakeCall device called) b = after_service s k m (moves_of (serve s m k (MakeCall device called))) b (behaves_make_call s k m device called b.rules.orders.agents)
+after_serve s k m (PhoneOffHook call device) b = after_service s k m (moves_of (serve s m k (PhoneOffHook call device))) b (behaves_phone_off_hook s k m call device b.stamp b.rules.orders b.timed)
+after_serve s k m (AnswerCall call device) b = after_service s k m (moves_of (serve s m k (AnswerCall call device))) b (behaves_answer_call s k m call device b.stamp b.rules.orders)
+after_serve s k m (HoldCall call device) b = after_service s k m (moves_of (serve s m k (HoldCall call device))) b (behaves_hold_call s k m call device b.rules.orders b.timed)
+after_serve s k m (RetrieveCall call device) b = after_service s k m (moves_of (serve s m k (RetrieveCall call device))) b (behaves_retrieve_call s k m call device b.rules.orders b.timed)
+after_serve s k m (ClearConnection call device) b = after_service s k m (moves_of (serve s m k (ClearConnection call device))) b (behaves_clear_connection s k m call device b.stamp b.rules.orders b.timed)
+after_serve s k m (DeflectCall call device to) b = after_service s k m (moves_of (serve s m k (DeflectCall call device to))) b (behaves_deflect_call s k m call device to b.stamp b.rules.orders b.timed)
+after_serve s k m (SingleStepTransfer call device to) b = after_service s k m (moves_of (serve s m k (SingleStepTransfer call device to))) b (behaves_single_step_transfer s k m call device to b.stamp b.rules.orders b.timed)
+after_serve s k m (SetAgentState agent q) b = after_service s k m (moves_of (serve s m k (SetAgentState agent q))) b (behaves_set_agent_state s k m agent q b.stamp b.rules.orders.agents b.timed)
+after_serve s k m (MonitorStart device) b = after_service s k m (moves_of (serve s m k (MonitorStart device))) b (behaves_monitor_start s k m device)
+after_serve s k m (MonitorStop monitor) b = after_service s k m (moves_of (serve s m k (MonitorStop monitor))) b (behaves_monitor_stop s k m monitor b.rules.orders.agents)
+after_serve s k m Tick b = after_tick s k m b
+
+-- the service, then the distribution
+pub after_moves : (s : Rows) (k m : ℕ) (c : Command) → Before s k m
+    → After s k m 21000 (moved s (step_moves s m (serve s m k c))) (events_of m (step_moves s m (serve s m k c)))
+after_moves s k m c b =
+    let ms : List Move = moves_of (serve s m k c) in
+    let t : Rows = moved s ms in
+    let ns : List Move = distribution t m in
+    let a = after_serve s k m c b in
+    let r : Rules t = rules_serve s m k c b.rules in
+    let w = distribution_within t k m r a.timed in
+    let e = events_length m ns in
+    let f = distribution_length t m in
+    let d = connections_length t r in
+    let g = greatest t a.sizes.limits in
+    let x = a.sizes.calls in let gc = g.calls in
+    subst (λ u. After s k m 21000 u (events_of m (ms ++ ns))) (sym (moved-append s ms ns))
+      (subst (After s k m 21000 (moved t ns)) (sym (events-append m ms ns)) (after_rounds s k m 13000 8000 t (moved t ns) (events_of m ms) (events_of m ns) a w (omega (arith, e, f, d, x, gc))))

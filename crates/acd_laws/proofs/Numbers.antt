@@ -1,0 +1,188 @@
+-- How many events a step makes at most.
+use Rattle.std.proofs.Common.{◌≡◌, ◌≢◌, ℕ, zero, suc, ◌+◌, ◌*◌, ◌^◌, ◌<◌, ◌≤◌, ◌⊎◌, inl, inr, Bool, true, false, not, ◌&&◌, ◌||◌, cond, List, [], ◌∷◌, ◌++◌, Option, Some, None, refl, sym, ◌∙◌, ap, subst, arith, length, eq-eqb}
+use Rattle.std.specs.Prelude.{◌==◌, if◌then◌else◌, IsTrue, IsFalse, is_some, is_none, filter, find, nat_le, max}
+use Rattle.std.specs.List.{list_any, list_all}
+use Rattle.std.specs.Cmp.{IsTotalOrder}
+use Rattle.std.specs.declared.cmp.Ordering.{Ordering}
+use Rattle.std.specs.declared.cmp.Ordering.TheVariants.{Less, Equal, Greater}
+use Rattle.std.proofs.lemmas.Bool.{and_parts, and_from, eqb-true, eqb-false, ne_eqb, false_from_ne_true, and_left, and_right, and_cases, or_cases, cases_eq, or_parts, not-false, not-true, or_right, or_left, cond-false, cond-true}
+use Rattle.acd_terms.specs.declared.rows.Rows.{Rows}
+use Rattle.acd_terms.specs.declared.record.GroupRecord.{GroupRecord}
+use Rattle.acd_terms.specs.declared.record.StationRecord.{StationRecord}
+use Rattle.acd_terms.specs.declared.record.AgentRecord.{AgentRecord}
+use Rattle.acd_terms.specs.declared.record.CallRecord.{CallRecord}
+use Rattle.acd_terms.specs.declared.record.ConnectionRecord.{ConnectionRecord}
+use Rattle.acd_terms.specs.declared.record.MonitorRecord.{MonitorRecord}
+use Rattle.acd_terms.specs.declared.state.AgentState.{AgentState}
+use Rattle.acd_terms.specs.declared.state.AgentState.TheVariants as A
+use Rattle.acd_terms.specs.declared.state.Pending.{Pending}
+use Rattle.acd_terms.specs.declared.state.Pending.TheVariants as W
+use Rattle.acd_terms.specs.declared.state.ConnectionState.{ConnectionState}
+use Rattle.acd_terms.specs.declared.state.ConnectionState.TheVariants as S
+use Rattle.acd_terms.specs.declared.event.Cause.{Cause}
+use Rattle.acd_terms.specs.declared.event.Cause.TheVariants as C
+use Rattle.acd_terms.specs.declared.moves.Move.{Move}
+use Rattle.acd_terms.specs.declared.moves.Change.{Change}
+use Rattle.acd_terms.specs.declared.moves.Change.TheVariants.{Nothing, PutGroup, PutStation, PutAgent, PutCall, PutConnection, PutMonitor, RemoveCall, RemoveConnection, RemoveMonitor}
+use Rattle.acd_terms.specs.declared.moves.Destination.{Destination}
+use Rattle.acd_terms.specs.declared.moves.Destination.TheVariants as D
+use Rattle.acd_terms.specs.declared.moves.Ending.{Ending}
+use Rattle.acd_terms.specs.declared.moves.Ending.TheVariants.{Answered, Unanswered, NoAnswer}
+use Rattle.acd_terms.specs.declared.moves.Release.{Release}
+use Rattle.acd_terms.specs.declared.moves.Release.TheVariants.{Stays, Goes}
+use Rattle.acd_terms.specs.declared.moves.Served.{Served}
+use Rattle.acd_terms.specs.declared.moves.Served.TheVariants.{Refused, Done}
+use Rattle.acd_terms.specs.declared.answer.Refusal.{Refusal}
+use Rattle.acd_terms.specs.Lists.{find_by, put_by, remove_by, count, total, Among, Every, AllAfter, IsAscending}
+use Rattle.acd_terms.specs.States.{is_null, is_ready, is_busy, is_working_after_call, is_initiated, is_alerting, is_connected, is_hold, is_queued, is_fail, is_answered, is_live, is_occupying, state_wanted, is_in}
+use Rattle.acd_terms.specs.Scans.{at_group, at_station, at_agent, at_call, at_connection, at_monitor, group_of, station_of, agent_of, call_of, connection_of, monitor_of, is_group, is_station, is_planned, has, agent_at, connections_of, other_of, is_distributed, is_live_at, is_taken, is_idle, is_occupied, waiting_in, is_idle_there, is_eligible, eligible_in, is_calling, queued_in_all}
+use Rattle.acd_terms.specs.Writes.{with_group, with_station, with_agent, with_call, with_connection, with_monitor, without_call, without_connection, without_monitor, with_last}
+use Rattle.acd_terms.specs.Moves.{no_move, silent, reported, changed, moved}
+use Rattle.acd_terms.specs.CallMoves.{plain, queueing, begin, connect_caller, initiate, originate, met_at, destination_of, arriving, arrival, arrive, talking, answer, hold, retrieve, ringing, offer, go_back, divert, transfer, clear, end_call}
+use Rattle.acd_terms.specs.AgentMoves.{kept_in, in_state, go_to, go_from, log_on_at, become_busy, wait_for}
+use Rattle.acd_terms.specs.Release.{release_of, released, release_agent, ending_of, release}
+use Rattle.acd_terms.specs.Served.{refuse_if, with_found, moves_of}
+use Rattle.acd_terms.specs.Rules.Plan.{group_order, station_order, agent_order, call_order, connection_order, monitor_order}
+use Rattle.acd_laws.specs.Counts.{RulesBut, Rules, Orders, IsUnseated, IsPlannedStation, IsPlannedGroup, SeatedAs, AgentRule, CallRule, Bare, InQueue, Offered, AlertingColumns, HasColumns, GroupColumn, IsCaller, StandsAt, ConnectionRule, is_open, of_call, initiated_of, open_of, live_at, alerting_at, held_at, distributed_at, ringing_at, talking_at, seated_at, ready_at, busy_at, pending_at, two_if}
+use Rattle.acd_laws.proofs.Lists.{one, find-put_hit, find-put_miss, find-filter, find-filter_none, find_passes, find_among, find_none, none_found, find_found, some_found, any-find, any-put, any_none, any_some, any_found, filter_among, among-filter, after_among, ascending-put, ascending-filter, ascending-remove, count-put_new, count-put_old, count-put_most, count-remove_most, count-removed, every_among, every_from, every-put, every-remove, among-remove, among-put, among-put_other, among-remove_other, counted, none_counted, fewer, count_same, two_counted, both_fewer, count_zero, none_of_zero, the_one, some_counted, all_true, all_from, count-append, total-append, count_length, none_from, some_from, some_is, eq_is, is_eq_of}
+use Rattle.acd_laws.proofs.State.{eqb_self, cmp_equal, cmp_self, key_is, is_of, is_of_true, is_of_self, order_equal, order_same, connection_key, groups_total, stations_total, agents_total, calls_total, connections_total, monitors_total, connection_find, agent_find, call_find, group_find, station_find, monitor_find, is_group_any, is_station_any, at_put, connections_without, calls_without, at_remove, agent_put, call_put, call_remove, group_put, station_put, found_key, own_key, connection_among, connection_found, agent_among, agent_key, agent_own, agent_found, call_among, call_key, call_found, put_other, removed_other, still_none}
+use Rattle.std.proofs.Common.{map, length-append}
+use Rattle.std.proofs.lemmas.Bool.{leb-true, le-leb, lt-leb, leb-false}
+use Rattle.acd_terms.specs.Limits.{limits_fit}
+use Rattle.acd_terms.specs.declared.event.Event.{Event}
+use Rattle.acd_terms.specs.declared.event.Report.{Report}
+use Rattle.acd_terms.specs.declared.moves.Offer.{Offer}
+use Rattle.acd_terms.specs.Moves.{with_event, events_of}
+use Rattle.acd_terms.specs.Choice.{offer_of}
+use Rattle.acd_terms.specs.Distribution.{offer_at, offer_moves, with_offer, offers, distribution, station_of_agent}
+use Rattle.acd_terms.specs.Tick.{return_to, return_moves, rest_moves, each, is_overdue, overdue_in, is_rested, rested_in, returns, rests, tick}
+use Rattle.acd_laws.specs.Bounds.{Sizes}
+use Rattle.acd_laws.proofs.Found.{none_of_call}
+use Rattle.acd_laws.proofs.KeptClearing.{two_le}
+use Rattle.acd_laws.proofs.Steady.{count_all}
+
+-- no more events than moves
+event_length : (m : ℕ) (o : Option Report) (es : List Event) → length (with_event m o es) ≤ 1 + length es
+event_length m None es = omega arith
+event_length m (Some r) es = omega arith
+
+pub events_length : (m : ℕ) (ms : List Move) → length (events_of m ms) ≤ length ms
+events_length m [] = omega arith
+events_length m (x ∷ xs) = let a = event_length m x.report (events_of m xs) in let b = events_length m xs in omega (arith, a, b)
+
+pub filter_length : {X : Type 0} (p : X → Bool) (xs : List X) → length (filter p xs) ≤ length xs
+filter_length p xs = let a = count_length p xs in let b = count_all xs in let c = fewer p (λ _. true) (λ x e. refl) xs in omega (arith, a, b, c)
+
+-- at most two connections for each call
+
+record HasCall (cs : List CallRecord) (x : ConnectionRecord) : Type 0 where
+  call : CallRecord
+  there : Among call cs
+  same : call.call ≡ x.call
+
+split_length : {X : Type 0} (p : X → Bool) (xs : List X) → length xs ≡ count p xs + length (filter (λ x. not (p x)) xs)
+split_length p [] = refl
+split_length p (x ∷ xs) =
+    let ih = split_length p xs in
+    elim (p x) as (λ b. suc (length xs) ≡ (one b + count p xs) + length (cond (not b) (x ∷ filter (λ x. not (p x)) xs) (filter (λ x. not (p x)) xs))) [ true ↦ omega (arith, ih) | false ↦ omega (arith, ih) ]
+
+fewer_filtered : {X : Type 0} (p q : X → Bool) (xs : List X) → count p (filter q xs) ≤ count p xs
+fewer_filtered p q [] = omega arith
+fewer_filtered p q (x ∷ xs) =
+    let ih = fewer_filtered p q xs in
+    elim (q x) as (λ b. count p (cond b (x ∷ filter q xs) (filter q xs)) ≤ one (p x) + count p xs) [ true ↦ omega (arith, ih) | false ↦ omega (arith, ih) ]
+
+two_each : (cs : List CallRecord) (xs : List ConnectionRecord) → ((x : ConnectionRecord) → Among x xs → HasCall cs x) → ((c : CallRecord) → Among c cs → count (of_call c.call) xs ≤ 2) → length xs ≤ 2 * length cs
+two_each [] [] h f = omega arith
+two_each [] (x ∷ xs) h f = absurd ((h x (inl refl)).there)
+two_each (c ∷ cs) xs h f =
+    let rest : List ConnectionRecord = filter (λ x. not (of_call c.call x)) xs in
+    let a = split_length (of_call c.call) xs in
+    let b = f c (inl refl) in
+    let ih = two_each cs rest
+      (λ x i. (let w = filter_among (λ x. not (of_call c.call x)) xs x i in let k = h x w.0 in
+        elim k.there [
+          inl e ↦ absurd (cc (not-true (x.call == c.call) w.1, eq-eqb x.call c.call (sym k.same ∙ ap (λ (z : CallRecord). z.call) e)))
+          | inr t ↦ record { call = k.call; there = t; same = k.same } ]))
+      (λ d i. (let u = f d (inr i) in let v = fewer_filtered (of_call d.call) (λ x. not (of_call c.call x)) xs in omega (arith, u, v))) in
+    omega (arith, a, b, ih)
+
+no_some : (o : Option CallRecord) → ((c : CallRecord) → o ≡ Some c → ⊥) → o ≡ None
+no_some None h = refl
+no_some (Some c) h = absurd (h c refl)
+
+pub connections_length : (s : Rows) → Rules s → length s.connections ≤ 2 * length s.calls
+connections_length s r = two_each s.calls s.connections
+    (λ x i. (elim (call_of s x.call) as (λ o. call_of s x.call ≡ o → HasCall s.calls x) [
+      None ↦ λ e. (let z = none_of_call s r x.call e in let c = counted (of_call x.call) s.connections x i (eqb_self x.call) in absurd (omega (arith, z, c)))
+      | Some c ↦ λ e. record { call = c; there = call_among s x.call c e; same = call_key s x.call c e } ]) refl)
+    (λ c i. (let p = r.parties c.call in let t = two_le (is_some (call_of s c.call)) in omega (arith, p, t)))
+
+-- limits
+
+pub record Greatest (s : Rows) : Type 0 where
+  pub calls : s.limits.calls ≤ 2000
+  pub agents : s.limits.agents ≤ 1000
+  pub requests : s.limits.requests ≤ 1000000000
+
+pub greatest : (s : Rows) → limits_fit s.limits ≡ true → Greatest s
+unfolding limits_fit
+greatest s e =
+    let a = and_parts (nat_le s.limits.requests 1000000000 && nat_le s.limits.calls 2000 && nat_le s.limits.groups 64 && nat_le s.limits.stations 1000 && nat_le s.limits.agents 1000) (nat_le s.limits.monitors 256) e in
+    let b = and_parts (nat_le s.limits.requests 1000000000 && nat_le s.limits.calls 2000 && nat_le s.limits.groups 64 && nat_le s.limits.stations 1000) (nat_le s.limits.agents 1000) a.0 in
+    let c = and_parts (nat_le s.limits.requests 1000000000 && nat_le s.limits.calls 2000 && nat_le s.limits.groups 64) (nat_le s.limits.stations 1000) b.0 in
+    let d = and_parts (nat_le s.limits.requests 1000000000 && nat_le s.limits.calls 2000) (nat_le s.limits.groups 64) c.0 in
+    let f = and_parts (nat_le s.limits.requests 1000000000) (nat_le s.limits.calls 2000) d.0 in
+    record { calls = leb-true s.limits.calls 2000 f.1; agents = leb-true s.limits.agents 1000 b.1; requests = leb-true s.limits.requests 1000000000 f.0 }
+
+-- the moves of a distribution and of tick
+
+offer_at_length : (m : ℕ) (o : Option ConnectionRecord) (d : Option ℕ) → length (offer_at m o d) ≤ 2
+offer_at_length m None None = omega arith
+offer_at_length m None (Some d) = omega arith
+offer_at_length m (Some x) None = omega arith
+offer_at_length m (Some x) (Some d) = omega arith
+
+offer_length : (s : Rows) (m : ℕ) (o : Offer) → length (offer_moves s m o) ≤ 2
+unfolding offer_moves
+offer_length s m o = offer_at_length m (connection_of s o.call o.group) (station_of_agent (agent_of s o.agent))
+
+offers_length : (n : ℕ) (s : Rows) (m : ℕ) → length (offers n s m) ≤ 2 * n
+offers_length zero s m = omega arith
+offers_length (suc n) s m =
+    elim (offer_of s) as (λ p. length (with_offer p [] (λ o. offer_moves s m o ++ offers n (moved s (offer_moves s m o)) m)) ≤ 2 * suc n) [
+      None ↦ omega arith
+      | Some o ↦ (let a = length-append (offer_moves s m o) (offers n (moved s (offer_moves s m o)) m) in let b = offer_length s m o in let c = offers_length n (moved s (offer_moves s m o)) m in omega (arith, a, b, c)) ]
+
+pub distribution_length : (s : Rows) (m : ℕ) → length (distribution s m) ≤ 2 * length s.connections
+unfolding distribution queued_in_all
+distribution_length s m = let a = offers_length (length (queued_in_all s)) s m in let b = filter_length (λ (c : ConnectionRecord). is_queued c.state) s.connections in omega (arith, a, b)
+
+return_length : (s : Rows) (m k : ℕ) (x : ConnectionRecord) (o : Option ℕ) → length (return_to s m k x o) ≤ 3
+return_length s m k x None = omega arith
+return_length s m k x (Some g) = omega arith
+
+each_returns : (m k : ℕ) (t : Rows) (xs : List ConnectionRecord) → length (each (λ t x. return_moves t m k x) t xs) ≤ 3 * length xs
+each_returns m k t [] = omega arith
+each_returns m k t (x ∷ xs) =
+    let ms : List Move = return_moves t m k x in
+    let a = length-append ms (each (λ t x. return_moves t m k x) (moved t ms) xs) in let b = return_length t m k x x.group in let c = each_returns m k (moved t ms) xs in omega (arith, a, b, c)
+
+each_rests : (m k : ℕ) (t : Rows) (xs : List AgentRecord) → length (each (λ t a. rest_moves m k a) t xs) ≤ length xs
+each_rests m k t [] = omega arith
+each_rests m k t (a ∷ xs) =
+    let ms : List Move = rest_moves m k a in
+    let b = length-append ms (each (λ t a. rest_moves m k a) (moved t ms) xs) in let c = each_rests m k (moved t ms) xs in omega (arith, b, c)
+
+returns_length : (s : Rows) (m k : ℕ) → length (returns s m k) ≤ 3 * length s.connections
+unfolding returns overdue_in
+returns_length s m k = let a = each_returns m k s (filter (is_overdue s m) s.connections) in let b = filter_length (is_overdue s m) s.connections in omega (arith, a, b)
+
+rests_length : (s : Rows) (m k : ℕ) → length (rests s m k) ≤ length s.agents
+unfolding rests rested_in
+rests_length s m k = let a = each_rests m k s (filter (is_rested s m) s.agents) in let b = filter_length (is_rested s m) s.agents in omega (arith, a, b)
+
+pub tick_length : (s : Rows) (m k : ℕ) → length (tick s m k) ≤ 3 * length s.connections + length (moved s (returns s m k)).agents
+unfolding tick
+tick_length s m k =
+    let a = length-append (returns s m k) (rests (moved s (returns s m k)) m k) in let b = returns_length s m k in let c = rests_length (moved s (returns s m k)) m k in omega (arith, a, b, c)

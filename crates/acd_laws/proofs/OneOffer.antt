@@ -1,0 +1,68 @@
+-- No agent has two distributed calls: from the rules of rows.
+use Rattle.std.proofs.Common.{◌≡◌, ℕ, ◌≤◌, true, ◌&&◌, Option, Some, None, refl, sym, ◌∙◌, ap, subst, arith}
+use Rattle.std.specs.Prelude.{◌==◌, is_some}
+use Rattle.std.proofs.lemmas.Bool.{and_parts, and_from, eqb-true}
+use Rattle.acd_terms.specs.Lists.{Among}
+use Rattle.acd_terms.specs.States.{is_busy, is_answered}
+use Rattle.acd_terms.specs.Scans.{has, is_distributed}
+use Rattle.acd_terms.specs.OneOffer.{IsAttended, IsTalking}
+use Rattle.acd_terms.specs.declared.rows.Rows.{Rows}
+use Rattle.acd_terms.specs.declared.record.AgentRecord.{AgentRecord}
+use Rattle.acd_terms.specs.declared.record.ConnectionRecord.{ConnectionRecord}
+use Rattle.acd_terms.specs.declared.state.AgentState.{AgentState}
+use Rattle.acd_terms.specs.declared.state.AgentState.TheVariants as A
+use Rattle.acd_laws.specs.Counts.{Rules, IsPlannedStation, SeatedAs, AgentRule, talking_at, busy_at}
+use Rattle.acd_laws.specs.PlacedLaws.{RulesGiveOneOffer, RunHasOneOffer}
+use Rattle.acd_laws.proofs.Lists.{every_among, counted, some_from}
+use Rattle.acd_laws.proofs.State.{eqb_self}
+use Rattle.acd_laws.proofs.KeptOffer.{ready_is, talking_is}
+use Rattle.acd_laws.proofs.Releasing.{serving}
+use Rattle.acd_laws.proofs.RulesRead.{one_that}
+use Rattle.acd_laws.proofs.ConnectionsRead.{distributed_counts}
+use Rattle.acd_laws.proofs.RulesStep.{rules_step}
+use Rattle.acd_laws.proofs.Runs.{kept_by_run, rules_first}
+
+busy_is : (st : AgentState) → is_busy st ≡ true → st ≡ A.Busy
+busy_is A.Busy e = refl
+busy_is A.Null e = absurd (cc (e))
+busy_is A.NotReady e = absurd (cc (e))
+busy_is A.Ready e = absurd (cc (e))
+busy_is A.WorkingAfterCall e = absurd (cc (e))
+
+planned_some : (s : Rows) (o : Option ℕ) → IsPlannedStation s o → is_some o ≡ true
+planned_some s None h = absurd h
+planned_some s (Some d) h = refl
+
+-- a distributed connection has its agent
+attended : (s : Rows) (x : ConnectionRecord) → Rules s → Among x s.connections → is_distributed x ≡ true → IsAttended s x
+attended s x r i e =
+    let h = serving s x r i e in
+    record { agent = h.0; there = h.1.at_station; ready = λ w. ready_is h.0.state (h.1.ready w); busy = λ w. busy_is h.0.state (h.1.busy w) }
+
+-- a busy agent has its distributed connection
+talking : (s : Rows) (a : AgentRecord) → Rules s → Among a s.agents → a.state ≡ A.Busy → IsTalking s a
+talking s a r i e =
+    let seat = subst (SeatedAs s a) e (every_among (AgentRule s) s.agents a r.agents i) in
+    let d = some_from a.station (planned_some s a.station seat.0) in
+    let at : has a.station d.0 ≡ true = subst (λ o. has o d.0 ≡ true) (sym d.1) (eqb_self d.0) in
+    let c = counted (busy_at d.0) s.agents a i (and_from (is_busy a.state) (has a.station d.0) (ap is_busy e) at) in
+    let b = r.busy d.0 refl in
+    let x = one_that (talking_at d.0) s.connections (omega (arith, b, c)) in
+    let h = and_parts (is_answered x.0.state && is_some x.0.group) (x.0.device == d.0) x.1.1 in
+    record {
+      connection = x.0;
+      there = x.1.0;
+      distributed = (and_parts (is_distributed x.0) (x.0.device == d.0) (talking_is d.0 x.0 x.1.1)).0;
+      answered = (and_parts (is_answered x.0.state) (is_some x.0.group) h.0).0;
+      station = d.1 ∙ ap Some (sym (eqb-true x.0.device d.0 h.1));
+    }
+
+pub rules_give_one_offer : RulesGiveOneOffer
+rules_give_one_offer s r = record {
+  one = λ d. subst (λ n. n ≤ 1) (sym (distributed_counts s d)) (r.one_offer d);
+  attended = λ x i e. attended s x r i e;
+  no_other = λ a i e. talking s a r i e;
+}
+
+pub run_has_one_offer : RunHasOneOffer
+run_has_one_offer limits asked = rules_give_one_offer _ (kept_by_run (λ s events. Rules s) (λ s events moment command r. rules_step s moment command r) limits (rules_first limits) asked)

@@ -1,0 +1,172 @@
+-- Offers, returns and ends of after-call work keep what they meet within bounds.
+use Rattle.std.proofs.Common.{◌≡◌, ◌≢◌, ℕ, zero, suc, ◌+◌, ◌*◌, ◌^◌, ◌<◌, ◌≤◌, ◌⊎◌, inl, inr, Bool, true, false, not, ◌&&◌, ◌||◌, cond, List, [], ◌∷◌, ◌++◌, Option, Some, None, refl, sym, ◌∙◌, ap, subst, arith, length, eq-eqb}
+use Rattle.std.specs.Prelude.{◌==◌, if◌then◌else◌, IsTrue, IsFalse, is_some, is_none, filter, find, nat_le, max}
+use Rattle.std.specs.List.{list_any, list_all}
+use Rattle.std.specs.Cmp.{IsTotalOrder}
+use Rattle.std.specs.declared.cmp.Ordering.{Ordering}
+use Rattle.std.specs.declared.cmp.Ordering.TheVariants.{Less, Equal, Greater}
+use Rattle.std.proofs.lemmas.Bool.{and_parts, and_from, eqb-true, eqb-false, ne_eqb, false_from_ne_true, and_left, and_right, and_cases, or_cases, cases_eq, or_parts, not-false, not-true, or_right, or_left, cond-false, cond-true}
+use Rattle.acd_terms.specs.declared.rows.Rows.{Rows}
+use Rattle.acd_terms.specs.declared.record.GroupRecord.{GroupRecord}
+use Rattle.acd_terms.specs.declared.record.StationRecord.{StationRecord}
+use Rattle.acd_terms.specs.declared.record.AgentRecord.{AgentRecord}
+use Rattle.acd_terms.specs.declared.record.CallRecord.{CallRecord}
+use Rattle.acd_terms.specs.declared.record.ConnectionRecord.{ConnectionRecord}
+use Rattle.acd_terms.specs.declared.record.MonitorRecord.{MonitorRecord}
+use Rattle.acd_terms.specs.declared.state.AgentState.{AgentState}
+use Rattle.acd_terms.specs.declared.state.AgentState.TheVariants as A
+use Rattle.acd_terms.specs.declared.state.Pending.{Pending}
+use Rattle.acd_terms.specs.declared.state.Pending.TheVariants as W
+use Rattle.acd_terms.specs.declared.state.ConnectionState.{ConnectionState}
+use Rattle.acd_terms.specs.declared.state.ConnectionState.TheVariants as S
+use Rattle.acd_terms.specs.declared.event.Cause.{Cause}
+use Rattle.acd_terms.specs.declared.event.Cause.TheVariants as C
+use Rattle.acd_terms.specs.declared.moves.Move.{Move}
+use Rattle.acd_terms.specs.declared.moves.Change.{Change}
+use Rattle.acd_terms.specs.declared.moves.Change.TheVariants.{Nothing, PutGroup, PutStation, PutAgent, PutCall, PutConnection, PutMonitor, RemoveCall, RemoveConnection, RemoveMonitor}
+use Rattle.acd_terms.specs.declared.moves.Destination.{Destination}
+use Rattle.acd_terms.specs.declared.moves.Destination.TheVariants as D
+use Rattle.acd_terms.specs.declared.moves.Ending.{Ending}
+use Rattle.acd_terms.specs.declared.moves.Ending.TheVariants.{Answered, Unanswered, NoAnswer}
+use Rattle.acd_terms.specs.declared.moves.Release.{Release}
+use Rattle.acd_terms.specs.declared.moves.Release.TheVariants.{Stays, Goes}
+use Rattle.acd_terms.specs.declared.moves.Served.{Served}
+use Rattle.acd_terms.specs.declared.moves.Served.TheVariants.{Refused, Done}
+use Rattle.acd_terms.specs.declared.answer.Refusal.{Refusal}
+use Rattle.acd_terms.specs.Lists.{find_by, put_by, remove_by, count, total, Among, Every, AllAfter, IsAscending}
+use Rattle.acd_terms.specs.States.{is_null, is_ready, is_busy, is_working_after_call, is_initiated, is_alerting, is_connected, is_hold, is_queued, is_fail, is_answered, is_live, is_occupying, state_wanted, is_in}
+use Rattle.acd_terms.specs.Scans.{at_group, at_station, at_agent, at_call, at_connection, at_monitor, group_of, station_of, agent_of, call_of, connection_of, monitor_of, is_group, is_station, is_planned, has, agent_at, connections_of, other_of, is_distributed, is_live_at, is_taken, is_idle, is_occupied, waiting_in, is_idle_there, is_eligible, eligible_in, is_calling, queued_in_all}
+use Rattle.acd_terms.specs.Writes.{with_group, with_station, with_agent, with_call, with_connection, with_monitor, without_call, without_connection, without_monitor, with_last}
+use Rattle.acd_terms.specs.Moves.{no_move, silent, reported, changed, moved}
+use Rattle.acd_terms.specs.CallMoves.{plain, queueing, begin, connect_caller, initiate, originate, met_at, destination_of, arriving, arrival, arrive, talking, answer, hold, retrieve, ringing, offer, go_back, divert, transfer, clear, end_call}
+use Rattle.acd_terms.specs.AgentMoves.{kept_in, in_state, go_to, go_from, log_on_at, become_busy, wait_for}
+use Rattle.acd_terms.specs.Release.{release_of, released, release_agent, ending_of, release}
+use Rattle.acd_terms.specs.Served.{refuse_if, with_found, moves_of}
+use Rattle.acd_terms.specs.Rules.Plan.{group_order, station_order, agent_order, call_order, connection_order, monitor_order}
+use Rattle.acd_laws.specs.Counts.{RulesBut, Rules, Orders, IsUnseated, IsPlannedStation, IsPlannedGroup, SeatedAs, AgentRule, CallRule, Bare, InQueue, Offered, AlertingColumns, HasColumns, GroupColumn, IsCaller, StandsAt, ConnectionRule, is_open, of_call, initiated_of, open_of, live_at, alerting_at, held_at, distributed_at, ringing_at, talking_at, seated_at, ready_at, busy_at, pending_at, two_if}
+use Rattle.acd_laws.proofs.Lists.{one, find-put_hit, find-put_miss, find-filter, find-filter_none, find_passes, find_among, find_none, none_found, find_found, some_found, any-find, any-put, any_none, any_some, any_found, filter_among, among-filter, after_among, ascending-put, ascending-filter, ascending-remove, count-put_new, count-put_old, count-put_most, count-remove_most, count-removed, every_among, every_from, every-put, every-remove, among-remove, among-put, among-put_other, among-remove_other, counted, none_counted, fewer, count_same, two_counted, both_fewer, count_zero, none_of_zero, the_one, some_counted, all_true, all_from, count-append, total-append, count_length, none_from, some_from, some_is, eq_is, is_eq_of}
+use Rattle.acd_laws.proofs.State.{eqb_self, cmp_equal, cmp_self, key_is, is_of, is_of_true, is_of_self, order_equal, order_same, connection_key, groups_total, stations_total, agents_total, calls_total, connections_total, monitors_total, connection_find, agent_find, call_find, group_find, station_find, monitor_find, is_group_any, is_station_any, at_put, connections_without, calls_without, at_remove, agent_put, call_put, call_remove, group_put, station_put, found_key, own_key, connection_among, connection_found, agent_among, agent_key, agent_own, agent_found, call_among, call_key, call_found, put_other, removed_other, still_none}
+use Rattle.acd_terms.specs.declared.event.Event.{Event}
+use Rattle.acd_terms.specs.declared.event.Report.{Report}
+use Rattle.acd_terms.specs.declared.moves.Offer.{Offer}
+use Rattle.acd_terms.specs.Moves.{with_event, events_of, event_at}
+use Rattle.acd_terms.specs.Figures.{is_entry, is_no_answer}
+use Rattle.acd_terms.specs.Choice.{offer_of}
+use Rattle.acd_terms.specs.Distribution.{offer_at, offer_moves, distribution}
+use Rattle.acd_terms.specs.Tick.{return_to, rest_moves, returns, tick}
+use Rattle.acd_laws.specs.Bounds.{AgentTimed, CallTimed, IsPlace, IsMoment, IsAfter, ConnectionTimed, at_place, Timed}
+use Rattle.acd_laws.proofs.Balance.{entries, entry_by}
+use Rattle.acd_laws.proofs.Found.{count_less}
+use Rattle.acd_laws.proofs.Steady.{knows, Steady, AllSteady, Steadied, steadied, steadied_then, unchanged}
+use Rattle.acd_laws.proofs.Orderly.{Fit, FitMove, AllFit, WaitsUpTo, timed_moved, fit_go_from, fit_release, entry_release, entry_go_from, places_put, places_remove, places_release, steady_release, steady_go_from}
+use Rattle.acd_laws.proofs.Ticking.{Kept, ReturnKeeps, RestKeeps, returned, tick_keeps, release_connections}
+use Rattle.acd_laws.proofs.Distributing.{Offering, offering, offer_moves_are, offer_own, distribution_keeps}
+use Rattle.acd_laws.proofs.Behaving.{behaves_go_from, go_from_connections}
+
+-- the entries of moves are those of their events
+entered_event : (g m : ℕ) (o : Option Report) (es : List Event) → count (λ (e : Event). is_entry g e.report) (with_event m o es) ≡ entry_by g o + count (λ (e : Event). is_entry g e.report) es
+entered_event g m None es = omega arith
+entered_event g m (Some r) es = refl
+
+pub entered_is : (g m : ℕ) (ms : List Move) → count (λ (e : Event). is_entry g e.report) (events_of m ms) ≡ entries g ms
+entered_is g m [] = refl
+entered_is g m (x ∷ xs) = entered_event g m x.report (events_of m xs) ∙ ap (λ n. entry_by g x.report + n) (entered_is g m xs)
+
+abbrev pub AllWait : ℕ → List Event → Type 0
+AllWait m es = Every (λ (e : Event). WaitsUpTo m (Some e.report)) es
+
+waits_event : (m : ℕ) (o : Option Report) (es : List Event) → WaitsUpTo m o → AllWait m es → AllWait m (with_event m o es)
+waits_event m None es h g = g
+waits_event m (Some r) es h g = (h, g)
+
+pub waits_events : (s : Rows) (k m : ℕ) (ms : List Move) → AllFit s k m ms → AllWait m (events_of m ms)
+waits_events s k m [] f = tt
+waits_events s k m (x ∷ xs) f = waits_event m x.report (events_of m xs) f.0.waits (waits_events s k m xs f.1)
+
+pub every-append : {X : Type 0} (P : X → Type 0) (xs ys : List X) → Every P xs → Every P ys → Every P (xs ++ ys)
+every-append P [] ys h g = g
+every-append P (x ∷ xs) ys h g = (h.0, every-append P xs ys h.1 g)
+
+-- what rounds keep, from the state in which they begin
+pub record Within (s : Rows) (k m : ℕ) (t : Rows) (es : List Event) : Type 0 where
+  pub timed : Timed k m t
+  pub places : (p : ℕ) → count (at_place p) t.connections ≤ count (at_place p) s.connections
+  pub steady : Steadied s t
+  pub entries : (g : ℕ) → count (λ (e : Event). is_entry g e.report) es ≡ 0
+  pub waits : AllWait m es
+
+-- moves without an entry that keep the places
+within : (s : Rows) (k m : ℕ) (t : Rows) (es : List Event) (ms : List Move) → Within s k m t es → AllFit t k m ms → AllSteady t ms → ((g : ℕ) → entries g ms ≡ 0)
+    → ((p : ℕ) → count (at_place p) (moved t ms).connections ≤ count (at_place p) t.connections) → Within s k m (moved t ms) (es ++ events_of m ms)
+within s k m t es ms h f a n p = record {
+    timed = timed_moved t t k m ms h.timed f;
+    places = λ q. (let x = p q in let y = h.places q in omega (arith, x, y));
+    steady = steadied_then s t (moved t ms) h.steady (steadied t ms h.steady.ascending a);
+    entries = λ g. (let x = count-append (λ (e : Event). is_entry g e.report) es (events_of m ms) in let y = h.entries g in let z = entered_is g m ms in let w = n g in omega (arith, x, y, z, w));
+    waits = every-append (λ (e : Event). WaitsUpTo m (Some e.report)) es (events_of m ms) h.waits (waits_events t k m ms f) }
+
+pub within_nothing : (s : Rows) (k m : ℕ) → IsAscending agent_order s.agents → Timed k m s → Within s k m s []
+within_nothing s k m h t = record { timed = t; places = λ p. omega arith; steady = unchanged s h; entries = λ g. refl; waits = tt }
+
+-- a connection moves, with its place
+places_carried : (t : Rows) (x y : ConnectionRecord) (p : ℕ) → connection_of t x.call x.device ≡ Some x → y.place ≡ x.place → count (at_place p) (with_connection (without_connection t x.call x.device) y).connections ≤ count (at_place p) t.connections
+unfolding without_connection
+places_carried t x y p ex e =
+    let a = places_put (without_connection t x.call x.device) y p in
+    let b = count_less (at_place p) t x.call x.device x ex in
+    let c : one (at_place p y) ≡ one (at_place p x) = ap (λ o. one (has o p)) e in omega (arith, a, b, c)
+
+-- an offer
+
+timed_ringing : (k m d : ℕ) (x : ConnectionRecord) → ConnectionTimed k m x → ConnectionTimed k m (ringing m x d)
+timed_ringing k m d x h = record { place = h.place; queued = h.queued; offered = omega arith; order = after x.queued h.queued }
+  where
+    after : (o : Option ℕ) → IsMoment m o → IsAfter o (Some m)
+    after None h = tt
+    after (Some q) h = h
+
+offer_within : (s : Rows) (k m : ℕ) (t : Rows) (es : List Event) (x : ConnectionRecord) (d : ℕ) → Within s k m t es → connection_of t x.call x.device ≡ Some x → Within s k m (moved t (offer_at m (Some x) (Some d))) (es ++ events_of m (offer_at m (Some x) (Some d)))
+offer_within s k m t es x d h ex =
+    within s k m t es (offer_at m (Some x) (Some d)) h
+      (record { fit = tt; waits = tt }, (record { fit = timed_ringing k m d x (every_among (ConnectionTimed k m) t.connections x h.timed.connections (connection_among t x.call x.device x ex)); waits = tt }, tt))
+      (tt, (tt, tt)) (λ g. refl) (λ p. places_carried t x (ringing m x d) p ex refl)
+
+pub distribution_within : (s : Rows) (k m : ℕ) → Rules s → Timed k m s → Within s k m (moved s (distribution s m)) (events_of m (distribution s m))
+distribution_within s k m r t =
+    distribution_keeps (Within s k m) m
+      (λ u es o ru h e. (let f = offering u ru o e in
+        subst (λ ms. Within s k m (moved u ms) (es ++ events_of m ms)) (sym (offer_moves_are u m o f.0 f.1.0 f.1.1.0 f.1.1.1)) (offer_within s k m u es f.0 f.1.1.0 h (offer_own u o f.0 f.1.0 f.1.1.0 ru f.1.1.1))))
+      s [] r (within_nothing s k m r.orders.agents t)
+
+-- a return of a call
+
+timed_back : (k m g : ℕ) (x : ConnectionRecord) → ConnectionTimed k m x → ConnectionTimed k m (queueing x.call g x.place x.queued)
+timed_back k m g x h = record { place = h.place; queued = h.queued; offered = tt; order = after x.queued }
+  where
+    after : (o : Option ℕ) → IsAfter o None
+    after None = tt
+    after (Some q) = tt
+
+return_within : (s : Rows) (k m : ℕ) → 1 ≤ k → ReturnKeeps (Within s k m) m k
+return_within s k m l t es x g r h ex al eg =
+    let y : ConnectionRecord = queueing x.call g x.place x.queued in
+    let v : Rows = with_connection (without_connection t x.call x.device) y in
+    within s k m t es (return_to t m k x (Some g)) h
+      (record { fit = tt; waits = tt }, (record { fit = timed_back k m g x (every_among (ConnectionTimed k m) t.connections x h.timed.connections (connection_among t x.call x.device x ex)); waits = tt },
+        (fit_release t t k m x NoAnswer l h.timed, tt)))
+      (tt, (tt, (steady_release t m k x NoAnswer r.orders.agents, tt)))
+      (λ i. (let a = entry_release i t m k x NoAnswer in let b : one ((g == i) && not (is_no_answer C.NoAnswer)) ≡ 0 = ap one (and_right (g == i) false refl) in omega (arith, a, b)))
+      (λ p. (let a = places_carried t x y p ex refl in let b = places_release t v x NoAnswer m k p in omega (arith, a, b)))
+
+rest_within : (s : Rows) (k m : ℕ) → 1 ≤ k → RestKeeps (Within s k m) m k
+rest_within s k m l t es a r h there working =
+    let b = behaves_go_from t k m a a.station A.Ready l r.orders.agents (ap is_some there) in
+    within s k m t es (rest_moves m k a) h b.0.fit (steady_go_from t m k a a.station A.Ready (ap is_some there), tt)
+      (λ g. (let e = entry_go_from g m k a a.station A.Ready in omega (arith, e))) (λ p. (let e : count (at_place p) (changed t (go_from m k a a.station A.Ready).change).connections ≡ count (at_place p) t.connections = ap (count (at_place p)) (go_from_connections t m k a a.station A.Ready) in omega (arith, e)))
+
+pub tick_within : (s : Rows) (k m : ℕ) → 1 ≤ k → Rules s → Timed k m s → Within s k m (moved s (tick s m k)) (events_of m (tick s m k))
+tick_within s k m l r t = (tick_keeps (Within s k m) m k (return_within s k m l) (rest_within s k m l) s [] r (within_nothing s k m r.orders.agents t)).1
+
+-- the agents are as many after the returns
+pub returns_agents : (s : Rows) (k m : ℕ) → 1 ≤ k → Rules s → Timed k m s → length (moved s (returns s m k)).agents ≡ length s.agents
+returns_agents s k m l r t = ((returned (Within s k m) m k (return_within s k m l) s [] r (within_nothing s k m r.orders.agents t)).1).steady.agents

@@ -1,0 +1,309 @@
+-- Rows that break no rule break none after a step.
+use Rattle.std.proofs.Common.{◌≡◌, ◌≢◌, ℕ, zero, suc, ◌+◌, ◌*◌, ◌^◌, ◌<◌, ◌≤◌, ◌⊎◌, inl, inr, Bool, true, false, not, ◌&&◌, ◌||◌, cond, List, [], ◌∷◌, ◌++◌, Option, Some, None, refl, sym, ◌∙◌, ap, subst, arith, length, eq-eqb}
+use Rattle.std.specs.Prelude.{◌==◌, if◌then◌else◌, IsTrue, IsFalse, is_some, is_none, filter, find, nat_le, max}
+use Rattle.std.specs.List.{list_any, list_all}
+use Rattle.std.specs.Cmp.{IsTotalOrder}
+use Rattle.std.specs.declared.cmp.Ordering.{Ordering}
+use Rattle.std.specs.declared.cmp.Ordering.TheVariants.{Less, Equal, Greater}
+use Rattle.std.proofs.lemmas.Bool.{and_parts, and_from, eqb-true, eqb-false, ne_eqb, false_from_ne_true, and_left, and_right, and_cases, or_cases, cases_eq, or_parts, not-false, not-true, or_right, or_left, cond-false, cond-true}
+use Rattle.acd_terms.specs.declared.rows.Rows.{Rows}
+use Rattle.acd_terms.specs.declared.record.GroupRecord.{GroupRecord}
+use Rattle.acd_terms.specs.declared.record.StationRecord.{StationRecord}
+use Rattle.acd_terms.specs.declared.record.AgentRecord.{AgentRecord}
+use Rattle.acd_terms.specs.declared.record.CallRecord.{CallRecord}
+use Rattle.acd_terms.specs.declared.record.ConnectionRecord.{ConnectionRecord}
+use Rattle.acd_terms.specs.declared.record.MonitorRecord.{MonitorRecord}
+use Rattle.acd_terms.specs.declared.state.AgentState.{AgentState}
+use Rattle.acd_terms.specs.declared.state.AgentState.TheVariants as A
+use Rattle.acd_terms.specs.declared.state.Pending.{Pending}
+use Rattle.acd_terms.specs.declared.state.Pending.TheVariants as W
+use Rattle.acd_terms.specs.declared.state.ConnectionState.{ConnectionState}
+use Rattle.acd_terms.specs.declared.state.ConnectionState.TheVariants as S
+use Rattle.acd_terms.specs.declared.event.Cause.{Cause}
+use Rattle.acd_terms.specs.declared.event.Cause.TheVariants as C
+use Rattle.acd_terms.specs.declared.moves.Move.{Move}
+use Rattle.acd_terms.specs.declared.moves.Change.{Change}
+use Rattle.acd_terms.specs.declared.moves.Change.TheVariants.{Nothing, PutGroup, PutStation, PutAgent, PutCall, PutConnection, PutMonitor, RemoveCall, RemoveConnection, RemoveMonitor}
+use Rattle.acd_terms.specs.declared.moves.Destination.{Destination}
+use Rattle.acd_terms.specs.declared.moves.Destination.TheVariants as D
+use Rattle.acd_terms.specs.declared.moves.Ending.{Ending}
+use Rattle.acd_terms.specs.declared.moves.Ending.TheVariants.{Answered, Unanswered, NoAnswer}
+use Rattle.acd_terms.specs.declared.moves.Release.{Release}
+use Rattle.acd_terms.specs.declared.moves.Release.TheVariants.{Stays, Goes}
+use Rattle.acd_terms.specs.declared.moves.Served.{Served}
+use Rattle.acd_terms.specs.declared.moves.Served.TheVariants.{Refused, Done}
+use Rattle.acd_terms.specs.declared.answer.Refusal.{Refusal}
+use Rattle.acd_terms.specs.Lists.{find_by, put_by, remove_by, count, total, Among, Every, AllAfter, IsAscending}
+use Rattle.acd_terms.specs.States.{is_null, is_ready, is_busy, is_working_after_call, is_initiated, is_alerting, is_connected, is_hold, is_queued, is_fail, is_answered, is_live, is_occupying, state_wanted, is_in}
+use Rattle.acd_terms.specs.Scans.{at_group, at_station, at_agent, at_call, at_connection, at_monitor, group_of, station_of, agent_of, call_of, connection_of, monitor_of, is_group, is_station, is_planned, has, agent_at, connections_of, other_of, is_distributed, is_live_at, is_taken, is_idle, is_occupied, waiting_in, is_idle_there, is_eligible, eligible_in, is_calling, queued_in_all}
+use Rattle.acd_terms.specs.Writes.{with_group, with_station, with_agent, with_call, with_connection, with_monitor, without_call, without_connection, without_monitor, with_last}
+use Rattle.acd_terms.specs.Moves.{no_move, silent, reported, changed, moved}
+use Rattle.acd_terms.specs.CallMoves.{plain, queueing, begin, connect_caller, initiate, originate, met_at, destination_of, arriving, arrival, arrive, talking, answer, hold, retrieve, ringing, offer, go_back, divert, transfer, clear, end_call}
+use Rattle.acd_terms.specs.AgentMoves.{kept_in, in_state, go_to, go_from, log_on_at, become_busy, wait_for}
+use Rattle.acd_terms.specs.Release.{release_of, released, release_agent, ending_of, release}
+use Rattle.acd_terms.specs.Served.{refuse_if, with_found, moves_of}
+use Rattle.acd_terms.specs.Rules.Plan.{group_order, station_order, agent_order, call_order, connection_order, monitor_order}
+use Rattle.acd_laws.specs.Counts.{RulesBut, Rules, Orders, IsUnseated, IsPlannedStation, IsPlannedGroup, SeatedAs, AgentRule, CallRule, Bare, InQueue, Offered, AlertingColumns, HasColumns, GroupColumn, IsCaller, StandsAt, ConnectionRule, is_open, of_call, initiated_of, open_of, live_at, alerting_at, held_at, distributed_at, ringing_at, talking_at, seated_at, ready_at, busy_at, pending_at, two_if}
+use Rattle.acd_laws.proofs.Lists.{one, find-put_hit, find-put_miss, find-filter, find-filter_none, find_passes, find_among, find_none, none_found, find_found, some_found, any-find, any-put, any_none, any_some, any_found, filter_among, among-filter, after_among, ascending-put, ascending-filter, ascending-remove, count-put_new, count-put_old, count-put_most, count-remove_most, count-removed, every_among, every_from, every-put, every-remove, among-remove, among-put, among-put_other, among-remove_other, counted, none_counted, fewer, count_same, two_counted, both_fewer, count_zero, none_of_zero, the_one, some_counted, all_true, all_from, count-append, total-append, count_length, none_from, some_from, some_is, eq_is, is_eq_of}
+use Rattle.acd_laws.proofs.State.{eqb_self, cmp_equal, cmp_self, key_is, is_of, is_of_true, is_of_self, order_equal, order_same, connection_key, groups_total, stations_total, agents_total, calls_total, connections_total, monitors_total, connection_find, agent_find, call_find, group_find, station_find, monitor_find, is_group_any, is_station_any, at_put, connections_without, calls_without, at_remove, agent_put, call_put, call_remove, group_put, station_put, found_key, own_key, connection_among, connection_found, agent_among, agent_key, agent_own, agent_found, call_among, call_key, call_found, put_other, removed_other, still_none}
+use Rattle.std.proofs.Common.{map}
+use Rattle.std.proofs.lemmas.Nat.{mul-le}
+use Rattle.std.proofs.Math.Nat.{add-mul}
+use Rattle.std.proofs.lemmas.Bool.{le-leb}
+use Rattle.acd_terms.specs.declared.event.Event.{Event}
+use Rattle.acd_terms.specs.declared.event.Report.{Report}
+use Rattle.acd_terms.specs.declared.event.Report.TheVariants as report
+use Rattle.acd_terms.specs.declared.event.Waited.{Waited}
+use Rattle.acd_terms.specs.declared.record.Figures.{Figures}
+use Rattle.acd_terms.specs.declared.rows.Limits.{Limits}
+use Rattle.acd_terms.specs.declared.command.Command.{Command}
+use Rattle.acd_terms.specs.Limits.{limits_fit}
+use Rattle.acd_terms.specs.Offers.{HasNoOffer}
+use Rattle.acd_terms.specs.Moves.{events_of}
+use Rattle.acd_terms.specs.Figures.{is_entry, is_answer, waited_there, figures_of, counting, with_figures}
+use Rattle.acd_terms.specs.Services.Plan.{no_figures}
+use Rattle.acd_terms.specs.Services.Serve.{serve}
+use Rattle.acd_terms.specs.Rules.Occupied.{waits_in, rings_from}
+use Rattle.acd_terms.specs.Rules.First.{BreaksNoRule}
+use Rattle.acd_terms.specs.Step.{step_moves, step, executed_moment, next_stamp, counted as with_counters}
+use Rattle.acd_terms.specs.Run.{Asked, run}
+use Rattle.acd_terms.specs.Writes.{empty_rows}
+use Rattle.acd_laws.specs.Bounds.{Sizes, IsPlace, ConnectionTimed, at_place, Timed, OnePlace, MonitorRule, Monitored, IsCountedUpTo, IsBalanced, KeepsRules}
+use Rattle.acd_laws.specs.RuleLaws.{StepKeepsRules, RunKeepsRules, FiguresWithin, IsWithinBounds, RulesBound, FiguresHaveRoom, RulesLeaveRoom}
+use Rattle.acd_laws.proofs.Members.{mapped_among}
+use Rattle.acd_laws.proofs.Balance.{holding}
+use Rattle.acd_laws.proofs.Following.{follows_step}
+use Rattle.acd_laws.proofs.WatchedRuns.{step_leaves_no_offer}
+use Rattle.acd_laws.proofs.Runs.{rules_first}
+use Rattle.acd_laws.proofs.Steady.{IsNew}
+use Rattle.acd_laws.proofs.Orderly.{WaitsUpTo, timed_more}
+use Rattle.acd_laws.proofs.Rounds.{AllWait}
+use Rattle.acd_laws.proofs.Numbers.{Greatest, greatest}
+use Rattle.acd_laws.proofs.BoundsStep.{After, Before, after_moves}
+use Rattle.acd_laws.proofs.BoundsRead.{keeps_read, requests_read}
+use Rattle.acd_laws.proofs.RulesWritten.{keeps_written}
+use Rattle.acd_laws.proofs.RulesStep.{is_group_counting, rules_step}
+
+-- places
+
+place_known : (k p : ℕ) (o : Option ℕ) → has o p ≡ true → IsPlace k o → p ≤ k
+place_known k p None e h = absurd (cc (e))
+place_known k p (Some q) e h = let a = eqb-true q p e in let b = h.1 in omega (arith, a, b)
+
+-- the next stamp is nobody's place
+no_place : (s : Rows) (m p : ℕ) → Timed s.last_stamp m s → s.last_stamp < p → count (at_place p) s.connections ≡ 0
+no_place s m p t l = count_zero (at_place p) s.connections (λ x i. false_from_ne_true (at_place p x) (λ e.
+    let h = every_among (ConnectionTimed s.last_stamp m) s.connections x t.connections i in
+    let b = place_known s.last_stamp p x.place e h.place in absurd (omega (arith, b, l))))
+
+places_after : (s t : Rows) (m k : ℕ) → k ≡ s.last_stamp + 1 → OnePlace s → Timed s.last_stamp m s → ((p : ℕ) → count (at_place p) t.connections ≤ one (k == p) + count (at_place p) s.connections) → OnePlace t
+places_after s t m k e single t0 h p =
+    let a = h p in
+    (elim (k == p) as (λ b. (k == p) ≡ b → count (at_place p) t.connections ≤ one b + count (at_place p) s.connections → count (at_place p) t.connections ≤ 1) [
+      true ↦ λ q l. let same : k ≡ p = eqb-true k p q in let z = no_place s m p t0 (omega (arith, same, e)) in omega (arith, l, z)
+      | false ↦ λ q l. let o = single p in omega (arith, l, o) ]) refl a
+
+-- figures
+
+waited_one : (g m : ℕ) (r : Report) → WaitsUpTo m (Some r) → waited_there g r ≤ one (is_answer g r) * m
+waited_one g m (report.Established call station (Some w)) h =
+    elim (w.group == g) as (λ b. cond b w.seconds 0 ≤ one b * m) [ true ↦ omega (arith, h) | false ↦ omega arith ]
+waited_one g m (report.Established call station None) h = omega arith
+waited_one g m _ h = omega arith
+
+waited_fits : (g m : ℕ) (es : List Event) → AllWait m es → total (λ (e : Event). waited_there g e.report) es ≤ count (λ (e : Event). is_answer g e.report) es * m
+waited_fits g m [] h = omega arith
+waited_fits g m (e ∷ es) h =
+    let a = waited_one g m e.report h.0 in
+    let b = waited_fits g m es h.1 in
+    let c = add-mul (one (is_answer g e.report)) (count (λ (x : Event). is_answer g x.report) es) m in
+    omega (arith, a, b, c)
+
+waited_figures : (g m : ℕ) (es : List Event) → AllWait m es → (figures_of g es).waited ≤ (figures_of g es).answered * m
+unfolding figures_of
+waited_figures g m es h = waited_fits g m es h
+
+entered_figures : (g : ℕ) (es : List Event) → count (λ (e : Event). is_entry g e.report) es ≤ 1 → (figures_of g es).entered ≤ 1
+unfolding figures_of
+entered_figures g es h = h
+
+counted_up : (k m j n : ℕ) (g : GroupRecord) (es : List Event) → IsCountedUpTo j n g → k ≡ j + 1 → n ≤ m → (figures_of g.device es).entered ≤ 1 → (figures_of g.device es).waited ≤ (figures_of g.device es).answered * m
+    → IsCountedUpTo k m (counting es g)
+counted_up k m j n g es h e l a b =
+    let c = h.0 in let d = h.1 in
+    let f = mul-le g.figures.answered n g.figures.answered m (omega arith) l in
+    let q = add-mul g.figures.answered (figures_of g.device es).answered m in
+    (omega (arith, c, a, e), omega (arith, d, b, f, q))
+
+new_counted : (j n : ℕ) (f : Figures) → f ≡ no_figures → (f.entered ≤ j) × (f.waited ≤ f.answered * n)
+new_counted j n f e = rw e (omega arith, omega arith)
+
+-- what a group that isn't planned holds
+none_held : (s : Rows) (d : ℕ) → Rules s → is_group s d ≡ false → holding s d ≡ 0
+none_held s d r e =
+    let a = count_zero (waits_in d) s.connections (λ x i. false_from_ne_true (waits_in d x) (λ q.
+      let h = and_parts (x.device == d) (is_queued x.state) q in
+      cc (e, subst (λ v. is_group s v ≡ true) (eqb-true x.device d h.0) (stands x x.state h.1 (every_among (ConnectionRule s) s.connections x r.connections i).2)))) in
+    let b = count_zero (rings_from d) s.connections (λ x i. false_from_ne_true (rings_from d x) (λ q.
+      let h = and_parts (has x.group d) (is_alerting x.state) q in
+      cc (e, column x.group h.0 (every_among (ConnectionRule s) s.connections x r.connections i).1))) in
+    omega (arith, a, b)
+  where
+    stands : (x : ConnectionRecord) (st : ConnectionState) → is_queued st ≡ true → StandsAt s x st → is_group s x.device ≡ true
+    stands x S.Queued q h = h
+    stands x S.Initiated q h = absurd (cc (q))
+    stands x S.Alerting q h = absurd (cc (q))
+    stands x S.Connected q h = absurd (cc (q))
+    stands x S.Hold q h = absurd (cc (q))
+    stands x S.Fail q h = absurd (cc (q))
+    column : (o : Option ℕ) → has o d ≡ true → GroupColumn s o → is_group s d ≡ true
+    column None q h = absurd (cc (q))
+    column (Some g) q h = subst (λ v. is_group s v ≡ true) (eqb-true g d q) h
+
+new_balanced : (n : ℕ) (f : Figures) → f ≡ no_figures → n ≡ 0 → f.entered ≡ n + f.answered + f.abandoned + f.moved
+new_balanced n f e z = rw e (omega (arith, z))
+
+-- what a group of the state after the moves had before the step
+record WasKept (s : Rows) (g : GroupRecord) : Type 0 where
+  counted : IsCountedUpTo s.last_stamp s.last_moment g
+  balanced : g.figures.entered ≡ holding s g.device + g.figures.answered + g.figures.abandoned + g.figures.moved
+
+was_kept : (s : Rows) (g : GroupRecord) → KeepsRules s → Among g s.groups ⊎ IsNew s g → WasKept s g
+was_kept s g h (inl i) = record { counted = every_among (IsCountedUpTo s.last_stamp s.last_moment) s.groups g h.figures i; balanced = every_among (IsBalanced s) s.groups g h.balance i }
+was_kept s g h (inr n) = record { counted = new_counted s.last_stamp s.last_moment g.figures n.0; balanced = new_balanced (holding s g.device) g.figures n.0 (none_held s g.device h.rules n.1) }
+
+-- the end of a step sets figures and counters
+
+length-map : {X Y : Type 0} (f : X → Y) (xs : List X) → length (map f xs) ≡ length xs
+length-map f [] = refl
+length-map f (x ∷ xs) = let ih = length-map f xs in omega (arith, ih)
+
+every-map : {X : Type 0} (P : X → Type 0) (f : X → X) (xs : List X) → ((x : X) → Among x xs → P (f x)) → Every P (map f xs)
+every-map P f [] h = tt
+every-map P f (x ∷ xs) h = (h x (inl refl), every-map P f xs (λ z i. h z (inr i)))
+
+abbrev ended : Rows → List Event → ℕ → ℕ → ℕ → Rows
+ended t es k m n = with_last (with_figures t es) k m n
+
+sizes_ended : (t : Rows) (es : List Event) (k m n : ℕ) → Sizes t → Sizes (ended t es k m n)
+unfolding with_last with_figures
+sizes_ended t es k m n h = let a = length-map (counting es) t.groups in let b = h.groups in record { limits = h.limits; groups = omega (arith, a, b); stations = h.stations; agents = h.agents; calls = h.calls; monitors = h.monitors }
+
+timed_ended : (t : Rows) (es : List Event) (k m n : ℕ) → Timed k m t → Timed (ended t es k m n).last_stamp (ended t es k m n).last_moment (ended t es k m n)
+unfolding with_last with_figures
+timed_ended t es k m n h = record { agents = h.agents; calls = h.calls; connections = h.connections }
+
+places_ended : (t : Rows) (es : List Event) (k m n : ℕ) → OnePlace t → OnePlace (ended t es k m n)
+unfolding with_last with_figures
+places_ended t es k m n h = h
+
+planned_ended : (t : Rows) (es : List Event) (k m n d : ℕ) → is_planned (ended t es k m n) d ≡ is_planned t d
+unfolding with_last with_figures group_of station_of
+planned_ended t es k m n d = ap (λ b. b || is_station t d) (is_group_counting t es d)
+
+monitors_ended : (t : Rows) (es : List Event) (k m n : ℕ) → t.last_event ≤ n → ((d : ℕ) → is_planned (ended t es k m n) d ≡ is_planned t d) → Monitored t → Monitored (ended t es k m n)
+unfolding with_last with_figures
+monitors_ended t es k m n l p h = every_from (MonitorRule (ended t es k m n)) t.monitors (λ w i. let q = every_among (MonitorRule t) t.monitors w h i in let a = q.2 in (p w.device ∙ q.0, q.1, omega (arith, a, l)))
+
+figures_ended : (s t : Rows) (es : List Event) (k m n : ℕ) → k ≡ s.last_stamp + 1 → s.last_moment ≤ m → AllWait m es → ((g : ℕ) → count (λ (e : Event). is_entry g e.report) es ≤ 1)
+    → ((g : GroupRecord) → Among g t.groups → WasKept s g) → Every (IsCountedUpTo (ended t es k m n).last_stamp (ended t es k m n).last_moment) (ended t es k m n).groups
+unfolding with_last with_figures
+figures_ended s t es k m n e l w one kept = every-map (IsCountedUpTo k m) (counting es) t.groups (λ g i.
+    counted_up k m s.last_stamp s.last_moment g es (kept g i).counted e l (entered_figures g.device es (one g.device)) (waited_figures g.device m es w))
+
+balance_ended : (s t : Rows) (es : List Event) (k m n : ℕ) → ((g : GroupRecord) → Among g t.groups → WasKept s g)
+    → ((g : ℕ) → holding t g + ((figures_of g es).answered + (figures_of g es).abandoned + (figures_of g es).moved) ≡ holding s g + (figures_of g es).entered)
+    → Every (IsBalanced (ended t es k m n)) (ended t es k m n).groups
+unfolding with_last with_figures
+balance_ended s t es k m n kept b = every-map (IsBalanced (ended t es k m n)) (counting es) t.groups (λ g i. let a = (kept g i).balanced in let c = b g.device in omega (arith, a, c))
+
+counters_ended : (s t : Rows) (es : List Event) (k m n : ℕ) → k ≡ s.last_stamp + 1 → t.last_call ≤ s.last_call + 1 → t.last_monitor ≤ s.last_monitor + 1 → s.last_call ≤ s.last_stamp → s.last_monitor ≤ s.last_stamp → n ≤ 100000 * s.last_stamp + 21000
+    → ((ended t es k m n).last_call ≤ (ended t es k m n).last_stamp) × ((ended t es k m n).last_monitor ≤ (ended t es k m n).last_stamp) × ((ended t es k m n).last_event ≤ 100000 * (ended t es k m n).last_stamp)
+unfolding with_last with_figures
+counters_ended s t es k m n e a b c d f = (omega (arith, a, c, e), omega (arith, b, d, e), omega (arith, f, e))
+
+keeps_ended : (s t : Rows) (es : List Event) (k m : ℕ) → KeepsRules s → k ≡ s.last_stamp + 1 → s.last_moment ≤ m → After s k m 21000 t es
+    → ((g : ℕ) → holding t g + ((figures_of g es).answered + (figures_of g es).abandoned + (figures_of g es).moved) ≡ holding s g + (figures_of g es).entered)
+    → Rules (ended t es k m (s.last_event + length es)) → ((g : GroupRecord) → Among g (ended t es k m (s.last_event + length es)).groups → HasNoOffer (ended t es k m (s.last_event + length es)) g.device)
+    → KeepsRules (ended t es k m (s.last_event + length es))
+keeps_ended s t es k m h e l a b rules offers =
+    let n : ℕ = s.last_event + length es in
+    let kept : (g : GroupRecord) → Among g t.groups → WasKept s g = λ g i. was_kept s g h (a.groups g i) in
+    let few = a.few in let le = h.last_event in let same = a.last_event in
+    let c = counters_ended s t es k m n e a.last_call a.last_monitor h.last_call h.last_monitor (omega (arith, few, le)) in
+    record {
+      rules = rules; sizes = sizes_ended t es k m n a.sizes; last_call = c.0; last_monitor = c.1; last_event = c.2;
+      timed = timed_ended t es k m n a.timed;
+      places = places_ended t es k m n (places_after s t s.last_moment k e h.places h.timed a.places);
+      figures = figures_ended s t es k m n e l a.waits a.entries kept;
+      offers = offers;
+      monitors = monitors_ended t es k m n (omega (arith, same)) (planned_ended t es k m n) a.monitors;
+      balance = balance_ended s t es k m n kept b }
+
+keeps_step : (s : Rows) (moment : ℕ) (c : Command) → KeepsRules s → KeepsRules (step s moment c).rows
+unfolding step
+keeps_step s moment c h =
+    let m : ℕ = executed_moment s moment in
+    let k : ℕ = next_stamp s in
+    let ms : List Move = step_moves s m (serve s m k c) in
+    let es : List Event = events_of m ms in
+    let before : Before s k m = record { rules = h.rules; timed = timed_more s.last_stamp k s.last_moment m s (omega arith) (omega arith) h.timed; stamp = omega arith; sizes = h.sizes; monitors = h.monitors } in
+    keeps_ended s (moved s ms) es k m h refl (omega arith) (after_moves s k m c before) (follows_step s m k s.last_stamp c h.rules (omega arith)).balances
+      (rules_step s moment c h.rules) (step_leaves_no_offer s moment c h.rules)
+
+stamp_step : (s : Rows) (moment : ℕ) (c : Command) → (step s moment c).rows.last_stamp ≡ s.last_stamp + 1
+unfolding step with_last
+stamp_step s moment c = refl
+
+limits_step : (s : Rows) (moment : ℕ) (c : Command) → KeepsRules s → (step s moment c).rows.limits ≡ s.limits
+unfolding step with_last with_figures
+limits_step s moment c h =
+    let m : ℕ = executed_moment s moment in
+    let k : ℕ = next_stamp s in
+    let before : Before s k m = record { rules = h.rules; timed = timed_more s.last_stamp k s.last_moment m s (omega arith) (omega arith) h.timed; stamp = omega arith; sizes = h.sizes; monitors = h.monitors } in
+    (after_moves s k m c before).limits
+
+pub step_keeps_rules : StepKeepsRules
+step_keeps_rules s moment c e l =
+    let h = keeps_read s e in
+    let a = stamp_step s moment c in
+    let b : (step s moment c).rows.limits.requests ≡ s.limits.requests = ap (λ (w : Limits). w.requests) (limits_step s moment c h) in
+    keeps_written (step s moment c).rows (keeps_step s moment c h) (omega (arith, a, b, l))
+
+-- runs
+
+keeps_first : (limits : Limits) → limits_fit limits ≡ true → KeepsRules (empty_rows limits)
+keeps_first limits e = record { rules = rules_first limits; sizes = record { limits = e; groups = omega arith; stations = omega arith; agents = omega arith; calls = omega arith; monitors = omega arith };
+    last_call = omega arith; last_monitor = omega arith; timed = record { agents = tt; calls = tt; connections = tt }; places = λ p. omega arith; figures = tt; last_event = omega arith; offers = λ g i. absurd i; monitors = tt; balance = tt }
+
+run_on : (asked : List Asked) (s : Rows) → BreaksNoRule s → s.last_stamp + length asked ≤ s.limits.requests → BreaksNoRule (run s asked).rows
+unfolding run
+run_on [] s e l = e
+run_on (q ∷ more) s e l =
+    let h = keeps_read s e in
+    let a = stamp_step s q.moment q.command in
+    let b : (step s q.moment q.command).rows.limits.requests ≡ s.limits.requests = ap (λ (w : Limits). w.requests) (limits_step s q.moment q.command h) in
+    run_on more (step s q.moment q.command).rows (step_keeps_rules s q.moment q.command e (omega (arith, l))) (omega (arith, a, b, l))
+
+pub run_keeps_rules : RunKeepsRules
+run_keeps_rules limits asked e l = run_on asked (empty_rows limits) (keeps_written (empty_rows limits) (keeps_first limits e) (omega arith)) (omega (arith, l))
+
+-- bounds
+
+pub rules_bound : RulesBound
+rules_bound s e =
+    let h = keeps_read s e in
+    let g = greatest s h.sizes.limits in
+    record {
+      requests = g.requests; last_stamp = requests_read s e; last_call = h.last_call; last_monitor = h.last_monitor; last_event = h.last_event;
+      figures = λ x i. let a = every_among (IsCountedUpTo s.last_stamp s.last_moment) s.groups x h.figures i in let b = every_among (IsBalanced s) s.groups x h.balance i in
+        record { entered = a.0; answered = omega (arith, b); abandoned = omega (arith, b); moved = omega (arith, b); waited = a.1 } }
+
+pub rules_leave_room : RulesLeaveRoom
+rules_leave_room s g e l i =
+    let b = rules_bound s e in
+    let f = b.figures g i in
+    let r = b.requests in let t = b.last_stamp in
+    let n = f.entered in let a = f.answered in let c = f.abandoned in let d = f.moved in let w = f.waited in
+    let q = mul-le g.figures.answered s.last_moment 1000000000 (2 ^ 32) (omega (arith, n, a, r, t)) (omega (arith, l)) in
+    record { entered = omega (arith, n, r, t); answered = omega (arith, n, a, r, t); abandoned = omega (arith, n, c, r, t); moved = omega (arith, n, d, r, t); waited = omega (arith, w, q) }

@@ -1,0 +1,194 @@
+-- Moves that put no new record but connections leave the sizes, the monitors and the last identifiers as they are.
+use Rattle.std.proofs.Common.{◌≡◌, ◌≢◌, ℕ, zero, suc, ◌+◌, ◌*◌, ◌^◌, ◌<◌, ◌≤◌, ◌⊎◌, inl, inr, Bool, true, false, not, ◌&&◌, ◌||◌, cond, List, [], ◌∷◌, ◌++◌, Option, Some, None, refl, sym, ◌∙◌, ap, subst, arith, length, eq-eqb}
+use Rattle.std.specs.Prelude.{◌==◌, if◌then◌else◌, IsTrue, IsFalse, is_some, is_none, filter, find, nat_le, max}
+use Rattle.std.specs.List.{list_any, list_all}
+use Rattle.std.specs.Cmp.{IsTotalOrder}
+use Rattle.std.specs.declared.cmp.Ordering.{Ordering}
+use Rattle.std.specs.declared.cmp.Ordering.TheVariants.{Less, Equal, Greater}
+use Rattle.std.proofs.lemmas.Bool.{and_parts, and_from, eqb-true, eqb-false, ne_eqb, false_from_ne_true, and_left, and_right, and_cases, or_cases, cases_eq, or_parts, not-false, not-true, or_right, or_left, cond-false, cond-true}
+use Rattle.acd_terms.specs.declared.rows.Rows.{Rows}
+use Rattle.acd_terms.specs.declared.record.GroupRecord.{GroupRecord}
+use Rattle.acd_terms.specs.declared.record.StationRecord.{StationRecord}
+use Rattle.acd_terms.specs.declared.record.AgentRecord.{AgentRecord}
+use Rattle.acd_terms.specs.declared.record.CallRecord.{CallRecord}
+use Rattle.acd_terms.specs.declared.record.ConnectionRecord.{ConnectionRecord}
+use Rattle.acd_terms.specs.declared.record.MonitorRecord.{MonitorRecord}
+use Rattle.acd_terms.specs.declared.state.AgentState.{AgentState}
+use Rattle.acd_terms.specs.declared.state.AgentState.TheVariants as A
+use Rattle.acd_terms.specs.declared.state.Pending.{Pending}
+use Rattle.acd_terms.specs.declared.state.Pending.TheVariants as W
+use Rattle.acd_terms.specs.declared.state.ConnectionState.{ConnectionState}
+use Rattle.acd_terms.specs.declared.state.ConnectionState.TheVariants as S
+use Rattle.acd_terms.specs.declared.event.Cause.{Cause}
+use Rattle.acd_terms.specs.declared.event.Cause.TheVariants as C
+use Rattle.acd_terms.specs.declared.moves.Move.{Move}
+use Rattle.acd_terms.specs.declared.moves.Change.{Change}
+use Rattle.acd_terms.specs.declared.moves.Change.TheVariants.{Nothing, PutGroup, PutStation, PutAgent, PutCall, PutConnection, PutMonitor, RemoveCall, RemoveConnection, RemoveMonitor}
+use Rattle.acd_terms.specs.declared.moves.Destination.{Destination}
+use Rattle.acd_terms.specs.declared.moves.Destination.TheVariants as D
+use Rattle.acd_terms.specs.declared.moves.Ending.{Ending}
+use Rattle.acd_terms.specs.declared.moves.Ending.TheVariants.{Answered, Unanswered, NoAnswer}
+use Rattle.acd_terms.specs.declared.moves.Release.{Release}
+use Rattle.acd_terms.specs.declared.moves.Release.TheVariants.{Stays, Goes}
+use Rattle.acd_terms.specs.declared.moves.Served.{Served}
+use Rattle.acd_terms.specs.declared.moves.Served.TheVariants.{Refused, Done}
+use Rattle.acd_terms.specs.declared.answer.Refusal.{Refusal}
+use Rattle.acd_terms.specs.Lists.{find_by, put_by, remove_by, count, total, Among, Every, AllAfter, IsAscending}
+use Rattle.acd_terms.specs.States.{is_null, is_ready, is_busy, is_working_after_call, is_initiated, is_alerting, is_connected, is_hold, is_queued, is_fail, is_answered, is_live, is_occupying, state_wanted, is_in}
+use Rattle.acd_terms.specs.Scans.{at_group, at_station, at_agent, at_call, at_connection, at_monitor, group_of, station_of, agent_of, call_of, connection_of, monitor_of, is_group, is_station, is_planned, has, agent_at, connections_of, other_of, is_distributed, is_live_at, is_taken, is_idle, is_occupied, waiting_in, is_idle_there, is_eligible, eligible_in, is_calling, queued_in_all}
+use Rattle.acd_terms.specs.Writes.{with_group, with_station, with_agent, with_call, with_connection, with_monitor, without_call, without_connection, without_monitor, with_last}
+use Rattle.acd_terms.specs.Moves.{no_move, silent, reported, changed, moved}
+use Rattle.acd_terms.specs.CallMoves.{plain, queueing, begin, connect_caller, initiate, originate, met_at, destination_of, arriving, arrival, arrive, talking, answer, hold, retrieve, ringing, offer, go_back, divert, transfer, clear, end_call}
+use Rattle.acd_terms.specs.AgentMoves.{kept_in, in_state, go_to, go_from, log_on_at, become_busy, wait_for}
+use Rattle.acd_terms.specs.Release.{release_of, released, release_agent, ending_of, release}
+use Rattle.acd_terms.specs.Served.{refuse_if, with_found, moves_of}
+use Rattle.acd_terms.specs.Rules.Plan.{group_order, station_order, agent_order, call_order, connection_order, monitor_order}
+use Rattle.acd_laws.specs.Counts.{RulesBut, Rules, Orders, IsUnseated, IsPlannedStation, IsPlannedGroup, SeatedAs, AgentRule, CallRule, Bare, InQueue, Offered, AlertingColumns, HasColumns, GroupColumn, IsCaller, StandsAt, ConnectionRule, is_open, of_call, initiated_of, open_of, live_at, alerting_at, held_at, distributed_at, ringing_at, talking_at, seated_at, ready_at, busy_at, pending_at, two_if}
+use Rattle.acd_laws.proofs.Lists.{one, find-put_hit, find-put_miss, find-filter, find-filter_none, find_passes, find_among, find_none, none_found, find_found, some_found, any-find, any-put, any_none, any_some, any_found, filter_among, among-filter, after_among, ascending-put, ascending-filter, ascending-remove, count-put_new, count-put_old, count-put_most, count-remove_most, count-removed, every_among, every_from, every-put, every-remove, among-remove, among-put, among-put_other, among-remove_other, counted, none_counted, fewer, count_same, two_counted, both_fewer, count_zero, none_of_zero, the_one, some_counted, all_true, all_from, count-append, total-append, count_length, none_from, some_from, some_is, eq_is, is_eq_of}
+use Rattle.acd_laws.proofs.State.{eqb_self, cmp_equal, cmp_self, key_is, is_of, is_of_true, is_of_self, order_equal, order_same, connection_key, groups_total, stations_total, agents_total, calls_total, connections_total, monitors_total, connection_find, agent_find, call_find, group_find, station_find, monitor_find, is_group_any, is_station_any, at_put, connections_without, calls_without, at_remove, agent_put, call_put, call_remove, group_put, station_put, found_key, own_key, connection_among, connection_found, agent_among, agent_key, agent_own, agent_found, call_among, call_key, call_found, put_other, removed_other, still_none}
+use Rattle.acd_terms.specs.Limits.{limits_fit}
+use Rattle.acd_laws.specs.Bounds.{Sizes, MonitorRule, Monitored}
+use Rattle.acd_terms.specs.Services.Plan.{no_figures}
+
+-- a change that puts no record but a connection, or the record of an agent who is known
+abbrev pub Steady : (ℕ → Bool) → Change → Type 0
+Steady known (PutGroup g) = ⊥
+Steady known (PutStation t) = ⊥
+Steady known (PutCall c) = ⊥
+Steady known (PutMonitor w) = ⊥
+Steady known (PutAgent a) = known a.agent ≡ true
+Steady known _ = Unit {0}
+
+abbrev pub knows : Rows → ℕ → Bool
+knows s n = is_some (agent_of s n)
+
+abbrev pub AllSteady : Rows → List Move → Type 0
+AllSteady s ms = Every (λ (x : Move). Steady (knows s) x.change) ms
+
+-- what such moves leave
+pub record Steadied (s t : Rows) : Type 0 where
+  pub limits : t.limits ≡ s.limits
+  pub groups : t.groups ≡ s.groups
+  pub stations : t.stations ≡ s.stations
+  pub agents : length t.agents ≡ length s.agents
+  pub ascending : IsAscending agent_order t.agents
+  pub known : (n : ℕ) → knows s n ≡ true → knows t n ≡ true
+  pub calls : length t.calls ≤ length s.calls
+  pub monitors : (w : MonitorRecord) → Among w t.monitors → Among w s.monitors
+  pub running : length t.monitors ≤ length s.monitors
+  pub last_call : t.last_call ≡ s.last_call
+  pub last_monitor : t.last_monitor ≡ s.last_monitor
+  pub last_event : t.last_event ≡ s.last_event
+
+pub unchanged : (s : Rows) → IsAscending agent_order s.agents → Steadied s s
+unchanged s h = record { limits = refl; groups = refl; stations = refl; agents = refl; ascending = h; known = λ n e. e; calls = omega arith; monitors = λ w a. a; running = omega arith; last_call = refl; last_monitor = refl; last_event = refl }
+
+pub steadied_then : (s t u : Rows) → Steadied s t → Steadied t u → Steadied s u
+steadied_then s t u f g = record {
+    limits = g.limits ∙ f.limits; groups = g.groups ∙ f.groups; stations = g.stations ∙ f.stations; agents = g.agents ∙ f.agents; ascending = g.ascending;
+    known = λ n e. g.known n (f.known n e);
+    calls = (let a = f.calls in let b = g.calls in omega (arith, a, b)); monitors = λ w a. f.monitors w (g.monitors w a); running = (let a = f.running in let b = g.running in omega (arith, a, b));
+    last_call = g.last_call ∙ f.last_call; last_monitor = g.last_monitor ∙ f.last_monitor; last_event = g.last_event ∙ f.last_event }
+
+-- lengths
+
+pub count_all : {X : Type 0} (xs : List X) → count (λ _. true) xs ≡ length xs
+count_all [] = refl
+count_all (x ∷ xs) = let ih = count_all xs in omega (arith, ih)
+
+pub length-remove : {X : Type 0} (at : X → Ordering) (xs : List X) → length (remove_by at xs) ≤ length xs
+length-remove at xs = let a = count_all (remove_by at xs) in let b = count_all xs in let c = count-remove_most at (λ _. true) xs in omega (arith, a, b, c)
+
+pub length-put : {X : Type 0} (at : X → Ordering) (x : X) (xs : List X) → length (put_by at xs x) ≤ length xs + 1
+length-put at x xs = let a = count_all (put_by at xs x) in let b = count_all xs in let c = count-put_most at (λ _. true) x xs in omega (arith, a, b, c)
+
+length-put_agent : (s : Rows) (a : AgentRecord) → IsAscending agent_order s.agents → knows s a.agent ≡ true → length (put_by (agent_order a) s.agents a) ≡ length s.agents
+length-put_agent s a h e =
+    let z = some_from (agent_of s a.agent) e in
+    let c = count-put_old agent_order agents_total (λ (y : AgentRecord). y.agent == a.agent) (λ _. true) a
+      (λ y q. eq-eqb y.agent a.agent (sym (cmp_equal a.agent y.agent q))) (λ y q. cmp_self a.agent y.agent (sym (eqb-true y.agent a.agent q))) s.agents h z.0 (sym (agent_find s a.agent) ∙ z.1) in
+    let p = count_all (put_by (agent_order a) s.agents a) in let q = count_all s.agents in omega (arith, c, p, q)
+
+known_put : (s : Rows) (a : AgentRecord) (n : ℕ) → knows s n ≡ true → knows (with_agent s a) n ≡ true
+known_put s a n e = ap is_some (agent_put s a n) ∙ either (a.agent == n) (agent_of s n) e
+  where
+    either : (b : Bool) (o : Option AgentRecord) → is_some o ≡ true → is_some (cond b (Some a) o) ≡ true
+    either true o q = refl
+    either false o q = q
+
+steadied_change : (s : Rows) (c : Change) → IsAscending agent_order s.agents → Steady (knows s) c → Steadied s (changed s c)
+unfolding with_agent with_connection without_call without_connection without_monitor agent_of
+steadied_change s Nothing h st = unchanged s h
+steadied_change s (PutGroup g) h st = absurd st
+steadied_change s (PutStation t) h st = absurd st
+steadied_change s (PutCall c) h st = absurd st
+steadied_change s (PutMonitor w) h st = absurd st
+steadied_change s (PutAgent a) h st = record { limits = refl; groups = refl; stations = refl; agents = length-put_agent s a h st; ascending = ascending-put agent_order agents_total a s.agents h; known = known_put s a; calls = omega arith; monitors = λ w a. a; running = omega arith; last_call = refl; last_monitor = refl; last_event = refl }
+steadied_change s (PutConnection x) h st = record { limits = refl; groups = refl; stations = refl; agents = refl; ascending = h; known = λ n e. e; calls = omega arith; monitors = λ w a. a; running = omega arith; last_call = refl; last_monitor = refl; last_event = refl }
+steadied_change s (RemoveCall c) h st = record { limits = refl; groups = refl; stations = refl; agents = refl; ascending = h; known = λ n e. e; calls = length-remove (at_call c) s.calls; monitors = λ w a. a; running = omega arith; last_call = refl; last_monitor = refl; last_event = refl }
+steadied_change s (RemoveConnection c d) h st = record { limits = refl; groups = refl; stations = refl; agents = refl; ascending = h; known = λ n e. e; calls = omega arith; monitors = λ w a. a; running = omega arith; last_call = refl; last_monitor = refl; last_event = refl }
+steadied_change s (RemoveMonitor n) h st = record { limits = refl; groups = refl; stations = refl; agents = refl; ascending = h; known = λ n e. e; calls = omega arith; monitors = λ w a. among-remove (at_monitor n) s.monitors w a; running = length-remove (at_monitor n) s.monitors; last_call = refl; last_monitor = refl; last_event = refl }
+
+steady_more : (p q : ℕ → Bool) (c : Change) → ((n : ℕ) → p n ≡ true → q n ≡ true) → Steady p c → Steady q c
+steady_more p q Nothing f h = tt
+steady_more p q (PutGroup g) f h = absurd h
+steady_more p q (PutStation t) f h = absurd h
+steady_more p q (PutCall c) f h = absurd h
+steady_more p q (PutMonitor w) f h = absurd h
+steady_more p q (PutAgent a) f h = f a.agent h
+steady_more p q (PutConnection x) f h = tt
+steady_more p q (RemoveCall c) f h = tt
+steady_more p q (RemoveConnection c d) f h = tt
+steady_more p q (RemoveMonitor n) f h = tt
+
+steadied_from : (s t : Rows) (ms : List Move) → Steadied s t → AllSteady s ms → Steadied s (moved t ms)
+steadied_from s t [] f h = f
+steadied_from s t (x ∷ xs) f h =
+    steadied_from s (changed t x.change) xs (steadied_then s t (changed t x.change) f (steadied_change t x.change f.ascending (steady_more (knows s) (knows t) x.change f.known h.0))) h.1
+
+pub steadied : (s : Rows) (ms : List Move) → IsAscending agent_order s.agents → AllSteady s ms → Steadied s (moved s ms)
+steadied s ms h a = steadied_from s s ms (unchanged s h) a
+
+-- sizes and monitors after them
+
+pub sizes_steadied : (s t : Rows) → Steadied s t → Sizes s → Sizes t
+sizes_steadied s t f h =
+    let a = h.groups in let b = h.stations in let c = h.agents in let d = h.calls in let e = h.monitors in
+    let p = f.agents in let q = f.calls in let r = f.running in
+    record {
+      limits = subst (λ l. limits_fit l ≡ true) (sym f.limits) h.limits;
+      groups = rw (f.groups, f.limits) a; stations = rw (f.stations, f.limits) b;
+      agents = rw (f.limits) (omega (arith, c, p)); calls = rw (f.limits) (omega (arith, d, q)); monitors = rw (f.limits) (omega (arith, e, r)) }
+
+planned_same : (s t : Rows) → t.groups ≡ s.groups → t.stations ≡ s.stations → (d : ℕ) → is_planned t d ≡ is_planned s d
+unfolding group_of station_of
+planned_same s t g h d = rw (g, h) refl
+
+pub monitored_steadied : (s t : Rows) → Steadied s t → Monitored s → Monitored t
+monitored_steadied s t f h = every_from (MonitorRule t) t.monitors (λ w i.
+    let q = every_among (MonitorRule s) s.monitors w h (f.monitors w i) in let a = q.1 in let b = q.2 in let c = f.last_monitor in let d = f.last_event in
+    (planned_same s t f.groups f.stations w.device ∙ q.0, omega (arith, a, c), omega (arith, b, d)))
+
+-- a group that wasn't there, and has counted nothing
+abbrev pub IsNew : Rows → GroupRecord → Type 0
+IsNew s g = (g.figures ≡ no_figures) × (is_group s g.device ≡ false)
+
+-- what a service leaves of the bounds
+pub record Settled (s : Rows) (ms : List Move) : Type 0 where
+  pub sizes : Sizes s → Sizes (moved s ms)
+  pub monitors : Monitored s → Monitored (moved s ms)
+  pub groups : (g : GroupRecord) → Among g (moved s ms).groups → Among g s.groups ⊎ IsNew s g
+  pub limits : (moved s ms).limits ≡ s.limits
+  pub last_call : (moved s ms).last_call ≤ s.last_call + 1
+  pub last_monitor : (moved s ms).last_monitor ≤ s.last_monitor + 1
+  pub last_event : (moved s ms).last_event ≡ s.last_event
+
+pub settled : (s : Rows) (ms : List Move) → IsAscending agent_order s.agents → AllSteady s ms → Settled s ms
+settled s ms h a =
+    let f = steadied s ms h a in
+    let c = f.last_call in let d = f.last_monitor in
+    record { sizes = sizes_steadied s (moved s ms) f; monitors = monitored_steadied s (moved s ms) f; groups = λ g i. inl (subst (Among g) f.groups i); limits = f.limits;
+      last_call = omega (arith, c); last_monitor = omega (arith, d); last_event = f.last_event }
+
+pub settled_nothing : (s : Rows) → Settled s []
+settled_nothing s = record { sizes = λ h. h; monitors = λ h. h; groups = λ g i. inl i; limits = refl; last_call = omega arith; last_monitor = omega arith; last_event = refl }

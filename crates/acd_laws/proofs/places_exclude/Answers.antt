@@ -1,0 +1,6 @@
+-- The law that a call stands in one way.
+use Rattle.acd_laws.proofs.Placed.{places_exclude}
+use Rattle.acd_laws.proofs.places_exclude.Goals as goal
+
+pub returns : goal.returns
+returns c = places_exclude

@@ -1,0 +1,6 @@
+-- What the rules bound.
+use Rattle.acd_laws.proofs.RulesAll.{rules_bound}
+use Rattle.acd_laws.proofs.rules_bound.Goals as goal
+
+pub returns : goal.returns
+returns c = rules_bound

@@ -1,0 +1,6 @@
+-- The law of where each call stands, after every run.
+use Rattle.acd_laws.proofs.PlacedRuns.{run_is_placed}
+use Rattle.acd_laws.proofs.run_is_placed.Goals as goal
+
+pub returns : goal.returns
+returns c = run_is_placed

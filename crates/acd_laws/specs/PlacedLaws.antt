@@ -1,0 +1,63 @@
+-- Where each call stands, how often it was cleared, and which calls events name.
+use Rattle.std.specs.Prelude.{◌≡◌, ℕ, ◌<◌, ◌≤◌, ◌&&◌, nat_le, List, ◌++◌, Option, Some, None, is_none, if◌then◌else◌}
+use Rattle.acd_terms.specs.Lists.{Every}
+use Rattle.acd_terms.specs.Scans.{call_of}
+use Rattle.acd_terms.specs.Writes.{empty_rows}
+use Rattle.acd_terms.specs.Columns.{columns_of}
+use Rattle.acd_terms.specs.Placed.{cleared_by, IsCleared, IsWaiting, IsAtDevices, IsPlaced}
+use Rattle.acd_terms.specs.OneOffer.{HasOneOffer}
+use Rattle.acd_terms.specs.Step.{step}
+use Rattle.acd_terms.specs.Run.{Asked, run}
+use Rattle.acd_terms.specs.declared.rows.Rows.{Rows}
+use Rattle.acd_terms.specs.declared.rows.Limits.{Limits}
+use Rattle.acd_terms.specs.declared.command.Command.{Command}
+use Rattle.acd_terms.specs.declared.event.Event.{Event}
+use Rattle.acd_laws.specs.Counts.{Rules}
+
+-- the call that may be named isn't above the last
+abbrev pub IsUpTo : ℕ → Option ℕ → Type 0
+IsUpTo last None = Unit {0}
+IsUpTo last (Some call) = call ≤ last
+
+-- no event names a call above the last
+abbrev pub NamesNoLaterCall : Rows → List Event → Type 0
+NamesNoLaterCall s events = Every (λ (e : Event). IsUpTo s.last_call (columns_of e.report).call) events
+
+-- a call up to the last that isn't live was cleared once, any other never
+abbrev pub clearings : Rows → ℕ → ℕ
+clearings s call = if nat_le call s.last_call && is_none (call_of s call) then 1 else 0
+
+-- the callCleared events of each call, counted from all events
+abbrev pub KeepsClearings : Rows → List Event → Type 0
+KeepsClearings s events = (call : ℕ) → 0 < call → cleared_by call events ≡ clearings s call
+
+abbrev pub StepNamesNoLaterCall : Type 0
+StepNamesNoLaterCall = (s : Rows) (events : List Event) (moment : ℕ) (command : Command) → Rules s → NamesNoLaterCall s events
+    → NamesNoLaterCall (step s moment command).rows (events ++ (step s moment command).events)
+
+abbrev pub RunNamesNoLaterCall : Type 0
+RunNamesNoLaterCall = (limits : Limits) (asked : List Asked) → NamesNoLaterCall (run (empty_rows limits) asked).rows (run (empty_rows limits) asked).events
+
+abbrev pub StepKeepsClearings : Type 0
+StepKeepsClearings = (s : Rows) (events : List Event) (moment : ℕ) (command : Command) → Rules s → KeepsClearings s events
+    → KeepsClearings (step s moment command).rows (events ++ (step s moment command).events)
+
+-- from a state that keeps the rules, where each call was cleared as often as it has ended
+abbrev pub StepPlaces : Type 0
+StepPlaces = (s : Rows) (events : List Event) (moment : ℕ) (command : Command) → Rules s → KeepsClearings s events
+    → IsPlaced (step s moment command).rows (events ++ (step s moment command).events)
+
+abbrev pub RunIsPlaced : Type 0
+RunIsPlaced = (limits : Limits) (asked : List Asked) → IsPlaced (run (empty_rows limits) asked).rows (run (empty_rows limits) asked).events
+
+-- the three ways in which a call may stand exclude one another, so that just one of them holds
+abbrev pub PlacesExclude : Type 0
+PlacesExclude = (s : Rows) (events : List Event) (call : ℕ) → (IsCleared s events call → IsWaiting s events call → ⊥)
+    × (IsCleared s events call → IsAtDevices s events call → ⊥) × (IsWaiting s events call → IsAtDevices s events call → ⊥)
+
+-- no agent has two distributed calls where the rules are kept
+abbrev pub RulesGiveOneOffer : Type 0
+RulesGiveOneOffer = (s : Rows) → Rules s → HasOneOffer s
+
+abbrev pub RunHasOneOffer : Type 0
+RunHasOneOffer = (limits : Limits) (asked : List Asked) → HasOneOffer (run (empty_rows limits) asked).rows

@@ -1,0 +1,121 @@
+//! The rule counters.
+
+ghost use Rattle.std.specs.Prelude.{◌≡◌, ◌&&◌, nat_le, length, filter};
+ghost use Rattle.std.specs.List.{list_all};
+ghost use Rattle.acd_terms.specs.Scans.{has};
+ghost use Rattle.acd_terms.specs.Rules.Counters.{is_stamp, is_moment_or_none, is_own_place, is_offered_after, is_timed, is_countable, keeps_counters};
+ghost use Rattle.acd_terms.specs.declared.record.AgentRecord.{AgentRecord};
+ghost use Rattle.acd_terms.specs.declared.record.CallRecord.{CallRecord};
+ghost use Rattle.acd_terms.specs.declared.record.ConnectionRecord.{ConnectionRecord};
+
+use acd_terms::record::{ConnectionRecord, GroupRecord};
+use acd_terms::rows::Rows;
+
+fn is_stamp(rows: &Rows, stamp: u64) -> bool
+    ensures { result ≡ is_stamp rows.now stamp }
+{
+    1 <= stamp && stamp <= rows.last_stamp
+}
+
+fn is_moment_or_none(rows: &Rows, moment: Option<u32>) -> bool
+    ensures { result ≡ is_moment_or_none rows.now moment }
+{
+    moment.is_none_or(|m| m <= rows.last_moment)
+}
+
+fn connections_with(rows: &Rows, place: u64) -> usize
+    ensures { result ≡ length (filter (λ (x : ConnectionRecord). has x.place place) rows.now.connections) }
+{
+    rows.connections
+        .as_slice()
+        .iter()
+        .filter(|x| x.place == Some(place))
+        .count()
+}
+
+// The place is a stamp, and no other connection has it.
+#[tactic(auto, using(crate::proofs::RuleLists::count_is_length))]
+fn is_own_place(rows: &Rows, place: Option<u64>) -> bool
+    ensures { result ≡ is_own_place rows.now place }
+{
+    match place {
+        None => true,
+        Some(p) => is_stamp(rows, p) && connections_with(rows, p) <= 1,
+    }
+}
+
+fn is_offered_after(queued: Option<u32>, offered: Option<u32>) -> bool
+    ensures { result ≡ is_offered_after queued offered }
+{
+    match (queued, offered) {
+        (Some(queued), Some(offered)) => queued <= offered,
+        _ => true,
+    }
+}
+
+fn is_timed(rows: &Rows, connection: &ConnectionRecord) -> bool
+    ensures { result ≡ is_timed rows.now connection.now }
+{
+    is_own_place(rows, connection.place)
+        && is_moment_or_none(rows, connection.queued)
+        && is_moment_or_none(rows, connection.offered)
+        && is_offered_after(connection.queued, connection.offered)
+}
+
+// What a group counted is no more than can have been.
+fn is_countable(rows: &Rows, group: &GroupRecord) -> bool
+    ensures { result ≡ is_countable rows.now group.now }
+{
+    let figures = group.figures;
+    figures.entered <= rows.last_stamp
+        && figures.answered <= figures.entered
+        && figures.abandoned <= figures.entered
+        && figures.moved <= figures.entered
+        && u128::from(figures.waited) <= u128::from(figures.answered) * u128::from(rows.last_moment)
+}
+
+fn are_agents_timed(rows: &Rows) -> bool
+    ensures { result ≡ list_all (λ (a : AgentRecord). is_stamp rows.now a.stamp && nat_le a.since rows.now.last_moment) rows.now.agents }
+{
+    rows.agents
+        .as_slice()
+        .iter()
+        .all(|a| is_stamp(rows, a.stamp) && a.since <= rows.last_moment)
+}
+
+fn are_calls_timed(rows: &Rows) -> bool
+    ensures { result ≡ list_all (λ (c : CallRecord). nat_le c.since rows.now.last_moment) rows.now.calls }
+{
+    rows.calls
+        .as_slice()
+        .iter()
+        .all(|c| c.since <= rows.last_moment)
+}
+
+fn are_connections_timed(rows: &Rows) -> bool
+    ensures { result ≡ list_all (is_timed rows.now) rows.now.connections }
+{
+    rows.connections
+        .as_slice()
+        .iter()
+        .all(|x| is_timed(rows, x))
+}
+
+fn are_groups_countable(rows: &Rows) -> bool
+    ensures { result ≡ list_all (is_countable rows.now) rows.now.groups }
+{
+    rows.groups.as_slice().iter().all(|g| is_countable(rows, g))
+}
+
+/// Stamps and places are from 1 to the last stamp, moments up to the last, figures and events
+/// within bounds.
+#[tactic(auto, unfolding(acd_terms::specs::Rules::Counters::keeps_counters))]
+pub fn keeps_counters(rows: &Rows) -> bool
+    ensures { result ≡ keeps_counters rows.now }
+{
+    are_agents_timed(rows)
+        && are_calls_timed(rows)
+        && are_connections_timed(rows)
+        && are_groups_countable(rows)
+        && u128::from(rows.last_event) <= 100000 * u128::from(rows.last_stamp)
+}

@@ -1,0 +1,16 @@
+-- What a refused outcome says of a step.
+use Rattle.std.proofs.Common.{◌≡◌, ℕ, refl, sym}
+use Rattle.acd_terms.specs.declared.rows.Rows.{Rows}
+use Rattle.acd_terms.specs.declared.command.Command.{Command}
+use Rattle.acd_terms.specs.declared.answer.Outcome.{Outcome}
+use Rattle.acd_terms.specs.declared.answer.Outcome.TheVariants.{Done, Refused}
+use Rattle.acd_terms.specs.Step.{step}
+use Rattle.acd_terms.specs.Rules.First.{BreaksNoRule}
+use Rattle.acd_laws.specs.RefusalLaws.{ChangesNothing}
+use Rattle.acd_laws.proofs.BoundsRead.{keeps_read}
+use Rattle.acd_laws.proofs.Refused.{refused, no_offer}
+use Rattle.acd_switch.specs.Kept.{IsRefused}
+
+pub where_refused : (s : Rows) (moment : ℕ) (command : Command) (o : Outcome) → BreaksNoRule s → o ≡ (step s moment command).outcome → IsRefused o → ChangesNothing s moment command
+where_refused s moment command (Done answer) h e r = absurd r
+where_refused s moment command (Refused refusal) h e r = refused s moment command refusal (no_offer s (keeps_read s h).offers) (sym e)
