@@ -31,13 +31,13 @@ counted_executed c a h =
     let stamp = step_stamp c.rows a.moment a.request.command in
     let event = step_event c.rows a.moment a.request.command in
     let numbers = step_numbers c.rows a.moment a.request.command in
-    let es : List Event = (stepped c a).events in
+    let es : List Event = (stepped c.rows a).events in
     record {
-      events = every_append (λ (e : Event). e.number ≤ (stepped c a).rows.last_event) c.events es
-        (events_raised c.rows.last_event (stepped c a).rows.last_event c.events (omega (arith, event)) h.events)
-        (going_on c.rows.last_event (stepped c a).rows.last_event es numbers (omega (arith, event)));
-      kept = every_append (λ (k : Kept). k.stamp ≤ (stepped c a).rows.last_stamp) c.kept (record_of c a ∷ [])
-        (kept_raised c.rows.last_stamp (stepped c a).rows.last_stamp c.kept (omega (arith, stamp)) h.kept)
+      events = every_append (λ (e : Event). e.number ≤ (stepped c.rows a).rows.last_event) c.events es
+        (events_raised c.rows.last_event (stepped c.rows a).rows.last_event c.events (omega (arith, event)) h.events)
+        (going_on c.rows.last_event (stepped c.rows a).rows.last_event es numbers (omega (arith, event)));
+      kept = every_append (λ (k : Kept). k.stamp ≤ (stepped c.rows a).rows.last_stamp) c.kept (record_of c.rows a ∷ [])
+        (kept_raised c.rows.last_stamp (stepped c.rows a).rows.last_stamp c.kept (omega (arith, stamp)) h.kept)
         (omega (arith, stamp), tt);
     }
 

@@ -3,3 +3,6 @@ pub mod Keys
 pub mod Runs
 pub mod Counting
 pub mod Longer
+pub mod Commits
+pub mod Sound
+pub mod ContentLaws

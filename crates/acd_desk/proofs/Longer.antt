@@ -31,7 +31,7 @@ find_stays c a p q there =
       = λ x. elim x as (λ x. (y : Bool) → nat_lt c.rows.last_stamp c.rows.limits.requests ≡ y → P x y) [
         | true ↦ λ y room. refl
         | false ↦ λ y. elim y as (λ y. nat_lt c.rows.last_stamp c.rows.limits.requests ≡ y → P false y) [
-          | true ↦ λ room. find-append (λ (k : Kept). is_key p q k.request) c.kept (record_of c a ∷ []) ∙ option_or-some (kept_of c.kept p q) (kept_of (record_of c a ∷ []) p q) (there (ltb-true c.rows.last_stamp c.rows.limits.requests room))
+          | true ↦ λ room. find-append (λ (k : Kept). is_key p q k.request) c.kept (record_of c.rows a ∷ []) ∙ option_or-some (kept_of c.kept p q) (kept_of (record_of c.rows a ∷ []) p q) (there (ltb-true c.rows.last_stamp c.rows.limits.requests room))
           | false ↦ λ room. refl
           ]
         ] in

@@ -99,7 +99,7 @@ run_any : (l : List Arrival) (c : Content) (p : List ℕ) (q : ℕ) → list_any
 run_any [] c p q = sym (or-nil (list_any (λ (k : Kept). is_key p q k.request) c.kept))
 run_any (x ∷ l) c p q =
     run_any l (executed c x) p q
-    ∙ ap (λ (b : Bool). b || has_key l p q) (list_any-append (λ (k : Kept). is_key p q k.request) c.kept (record_of c x ∷ []) ∙ ap (λ (b : Bool). list_any (λ (k : Kept). is_key p q k.request) c.kept || b) (or-nil (is_key p q x.request)))
+    ∙ ap (λ (b : Bool). b || has_key l p q) (list_any-append (λ (k : Kept). is_key p q k.request) c.kept (record_of c.rows x ∷ []) ∙ ap (λ (b : Bool). list_any (λ (k : Kept). is_key p q k.request) c.kept || b) (or-nil (is_key p q x.request)))
     ∙ or-assoc (list_any (λ (k : Kept). is_key p q k.request) c.kept) (is_key p q x.request) (has_key l p q)
 
 pub run-found : (n : Limits) (l : List Arrival) (p : List ℕ) (q : ℕ) → is_some (kept_of (run_from (empty_content n) l).kept p q) ≡ has_key l p q
@@ -174,9 +174,9 @@ executes c a new room =
 
 -- its answer is its record's
 pub answers_new : (c : Content) (a : Arrival) → kept_of c.kept a.request.requester a.request.invoke ≡ None
-    → answer_in (executed c a) a.request ≡ Reply (record_of c a).status (record_of c a).body
+    → answer_in (executed c a) a.request ≡ Reply (record_of c.rows a).status (record_of c.rows a).body
 answers_new c a new =
     let r : Request = a.request in
-    let k : Kept = record_of c a in
+    let k : Kept = record_of c.rows a in
     ap (λ (o : Option Kept). answer_of o r) (find-append (λ (k : Kept). is_key r.requester r.invoke k.request) c.kept (k ∷ []) ∙ ap (λ (o : Option Kept). option_or o (cond (is_key r.requester r.invoke r) (Some k) None)) new ∙ ap (λ (b : Bool). cond b (Some k) None) (key_own r))
     ∙ ap (λ (b : Bool). cond b (Reply k.status k.body) InvokeReused) (same_own r)

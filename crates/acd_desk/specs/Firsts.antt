@@ -5,6 +5,8 @@ use Rattle.acd_terms.specs.Step.{Stepped, step, executed_moment, next_stamp}
 use Rattle.acd_terms.specs.declared.rows.Limits.{Limits}
 use Rattle.acd_terms.specs.declared.rows.Rows.{Rows}
 use Rattle.acd_terms.specs.declared.command.Arrival.{Arrival}
+use Rattle.acd_terms.specs.declared.command.Request.{Request}
+use Rattle.acd_terms.specs.declared.answer.Outcome.{Outcome}
 use Rattle.acd_codec.specs.ReplyTexts.{outcome_status, reply_text}
 use Rattle.acd_book.specs.declared.kept.Kept.{Kept}
 use Rattle.acd_book.specs.Content.{Content, empty_content, committed, is_key}
@@ -22,22 +24,21 @@ distinct_from seen (a ∷ rest) = cond (has_key seen a.request.requester a.reque
 abbrev pub firsts : ℕ → List Arrival → List Arrival
 firsts limit list = take limit (distinct_from [] list)
 
-abbrev pub stepped : Content → Arrival → Stepped
-stepped c a = step c.rows a.moment a.request.command
+abbrev pub stepped : Rows → Arrival → Stepped
+stepped s a = step s a.moment a.request.command
+
+-- a record with the reply that an outcome gives
+abbrev pub kept_at : ℕ → ℕ → Request → Outcome → Kept
+kept_at stamp moment r outcome =
+    record { stamp = stamp; moment = moment; request = r; status = outcome_status outcome; body = reply_text r.requester r.invoke outcome }
 
 -- what is kept of an executed arrival: its stamp, its executed moment, and the reply
-abbrev pub record_of : Content → Arrival → Kept
-record_of c a = record {
-  stamp = next_stamp c.rows;
-  moment = executed_moment c.rows a.moment;
-  request = a.request;
-  status = outcome_status (stepped c a).outcome;
-  body = reply_text a.request.requester a.request.invoke (stepped c a).outcome;
-}
+abbrev pub record_of : Rows → Arrival → Kept
+record_of s a = kept_at (next_stamp s) (executed_moment s a.moment) a.request (stepped s a).outcome
 
 -- one step, with its events and its reply kept
 abbrev pub executed : Content → Arrival → Content
-executed c a = committed (stepped c a).rows (stepped c a).events (record_of c a) c
+executed c a = committed (stepped c.rows a).rows (stepped c.rows a).events (record_of c.rows a) c
 
 -- one arrival after the other
 abbrev pub run_from : Content → List Arrival → Content

@@ -1,13 +1,16 @@
 -- What a sound content is, and what a run of the desk leaves.
-use Rattle.std.specs.Prelude.{◌≡◌, ◌⊎◌, ◌≤◌, ℕ, Bool, true, false, List, [], ◌∷◌, ◌++◌, map, length}
+use Rattle.std.specs.Prelude.{◌≡◌, ◌⊎◌, ◌≤◌, ℕ, Bool, true, false, List, [], ◌∷◌, ◌++◌, map, length, Option, None}
 use Rattle.std.specs.List.{Contains}
 use Rattle.acd_terms.specs.Limits.{limits_fit}
 use Rattle.acd_terms.specs.declared.rows.Rows.{Rows}
 use Rattle.acd_terms.specs.declared.command.Arrival.{Arrival}
 use Rattle.acd_book.specs.declared.kept.Kept.{Kept}
-use Rattle.acd_book.specs.Content.{Content, IsCounted}
+use Rattle.acd_terms.specs.declared.command.Request.{Request}
+use Rattle.acd_book.specs.Content.{Content, IsCounted, kept_of}
 use Rattle.acd_desk.specs.declared.taken.Taken.{Taken}
-use Rattle.acd_desk.specs.Firsts.{distinct_from, run}
+use Rattle.acd_terms.specs.Step.{executed_moment}
+use Rattle.acd_terms.specs.Run.{Asked}
+use Rattle.acd_desk.specs.Firsts.{distinct_from, executed, run}
 use Rattle.acd_desk.specs.Replies.{reply_to}
 
 -- the kept requests at their moments
@@ -40,3 +43,16 @@ InStep rows failed is_open c = is_open → failed ≡ false → (c.rows ≡ rows
 -- the premises of a run: a sound book that is open, a desk in step with it, and a sound content
 abbrev pub StartsWell : Type 0 → Type 0 → Rows → Bool → Content → Type 0
 StartsWell is_sound is_open rows failed c = is_sound × is_open × InStep rows failed is_open c × IsSound c
+
+-- no record has the key of the request
+abbrev pub IsNew : Content → Request → Type 0
+IsNew c r = kept_of c.kept r.requester r.invoke ≡ None
+
+-- the list, each at the moment at which a run from there executes it
+abbrev pub raised_from : Content → List Arrival → List Arrival
+raised_from c [] = []
+raised_from c (a ∷ rest) = record { moment = executed_moment c.rows a.moment; request = a.request } ∷ raised_from (executed c a) rest
+
+-- the commands of arrivals at their moments
+abbrev pub asked_of : List Arrival → List Asked
+asked_of list = map (λ (a : Arrival). record { moment = a.moment; command = a.request.command }) list

@@ -1,18 +1,10 @@
-//! The desk.
+//! The desk: it executes each request once, keeps its reply, and gives a repeat the kept one.
+//!
+//! [`desk::Desk`] stands over any [`acd_book::book::Book`]. What it answers and leaves is what
+//! `specs/Firsts` and `specs/Replies` say: the abstract switch run once over each request's first arrival.
 #![tactic(auto)]
 
+pub mod desk;
+mod next;
+pub mod requests;
 pub mod taken;
-
-ghost use Rattle.std.specs.Prelude.{◌≡◌};
-ghost use Rattle.acd_desk.specs.Stands.{IsSound};
-ghost use Rattle.acd_desk.specs.Replies.{same_request};
-ghost use Rattle.acd_desk.specs.Served.{served};
-
-use acd_terms::command::Request;
-
-#[tactic(auto, unfolding(crate::specs::Replies::same_request))]
-pub fn is_same(a: &Request, b: &Request) -> bool
-    ensures { result ≡ same_request a.now b.now }
-{
-    *a == *b
-}

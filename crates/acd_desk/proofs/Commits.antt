@@ -1,0 +1,51 @@
+-- What a desk commits for an arrival is what the abstract desk makes of it.
+use Rattle.std.proofs.Common.{◌≡◌, ℕ, ◌+◌, ◌<◌, List, Bool, true, false, Option, Some, None, refl, sym, ap, ◌∙◌, subst, length}
+use Rattle.acd_terms.specs.Rules.Plan.{keeps_limits, keeps_order, keeps_device, keeps_agent, keeps_monitor}
+use Rattle.acd_terms.specs.Rules.Calls.{keeps_call, keeps_connection, keeps_parties, keeps_live}
+use Rattle.acd_terms.specs.Rules.Occupied.{keeps_occupied, keeps_offer, keeps_balance}
+use Rattle.acd_terms.specs.Rules.Counters.{keeps_counters}
+use Rattle.acd_terms.specs.Rules.First.{or_broken, first_broken, BreaksNoRule}
+use Rattle.acd_terms.specs.declared.rows.Rows.{Rows}
+use Rattle.acd_terms.specs.declared.rows.Rule.{Rule}
+use Rattle.acd_terms.specs.declared.event.Event.{Event}
+use Rattle.acd_terms.specs.declared.command.Arrival.{Arrival}
+use Rattle.acd_book.specs.declared.kept.Kept.{Kept}
+use Rattle.acd_book.specs.Content.{Content, committed, kept_of, GoOn, IsCounted, Follows}
+use Rattle.acd_desk.specs.Firsts.{stepped, record_of, executed}
+use Rattle.acd_desk.proofs.Steps.{step_limits, step_stamp, step_numbers, step_event}
+
+some_none : {T : Type 0} (x : T) → Some x ≡ None → ⊥
+some_none x h = cc
+
+keeps_first : (kept : Bool) (which : Rule) (rest : Option Rule) → or_broken kept which rest ≡ None → (kept ≡ true) × (rest ≡ None)
+keeps_first true which rest h = (refl, h)
+keeps_first false which rest h = absurd (some_none which h)
+
+pub ordered : (s : Rows) → BreaksNoRule s → keeps_order s ≡ true
+unfolding first_broken
+ordered s h = (keeps_first (keeps_order s) _ _ (keeps_first (keeps_limits s) _ _ h).1).0
+
+-- it follows what is kept
+pub follows : (c : Content) (r next : Rows) (es : List Event) (k : Kept) (a : Arrival) → c.rows ≡ r → IsCounted c → kept_of c.kept a.request.requester a.request.invoke ≡ None
+    → next ≡ (stepped r a).rows → es ≡ (stepped r a).events → k ≡ record_of r a → BreaksNoRule next → Follows next es k c
+follows c r next es k a same counted new e1 e2 e3 rules =
+    let s : Rows = c.rows in
+    let limits : (stepped s a).rows.limits ≡ s.limits = step_limits s a.moment a.request.command in
+    let stamp : (stepped s a).rows.last_stamp ≡ s.last_stamp + 1 = step_stamp s a.moment a.request.command in
+    let next_is : next ≡ (stepped s a).rows = e1 ∙ ap (λ (x : Rows). (stepped x a).rows) (sym same) in
+    let events_are : es ≡ (stepped s a).events = e2 ∙ ap (λ (x : Rows). (stepped x a).events) (sym same) in
+    let kept_is : k ≡ record_of s a = e3 ∙ ap (λ (x : Rows). record_of x a) (sym same) in
+    record {
+      limits = ap (λ (x : Rows). x.limits) next_is ∙ limits;
+      next = ap (λ (x : Kept). x.stamp) kept_is;
+      stamp = ap (λ (x : Rows). x.last_stamp) next_is ∙ stamp ∙ sym (ap (λ (x : Kept). x.stamp) kept_is);
+      numbers = subst (GoOn s.last_event) (sym events_are) (step_numbers s a.moment a.request.command);
+      event = ap (λ (x : Rows). x.last_event) next_is ∙ step_event s a.moment a.request.command ∙ ap (λ (l : List Event). s.last_event + length l) (sym events_are);
+      ordered = ordered next rules;
+      unkept = ap (λ (x : Kept). kept_of c.kept x.request.requester x.request.invoke) kept_is ∙ new;
+      counted = counted;
+    }
+
+pub made : (c : Content) (r next : Rows) (es : List Event) (k : Kept) (a : Arrival) → c.rows ≡ r
+    → next ≡ (stepped r a).rows → es ≡ (stepped r a).events → k ≡ record_of r a → committed next es k c ≡ executed c a
+made c r next es k a e1 e2 e3 e4 = cc
