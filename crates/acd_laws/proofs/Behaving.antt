@@ -118,13 +118,15 @@ group_stays s g d = refl
 
 planned_group : (s : Rows) (g : GroupRecord) (d : ℕ) → is_planned s d ≡ true → is_planned (with_group s g) d ≡ true
 planned_group s g d e = elim (or_cases (is_group s d) (is_station s d) e) [
-    inl w ↦ or_left _ _ (group_put s g d ∙ or_right (g.device == d) (is_group s d) w)
-    | inr w ↦ or_right (is_group (with_group s g) d) _ (station_stays s g d ∙ w) ]
+  | inl w ↦ or_left _ _ (group_put s g d ∙ or_right (g.device == d) (is_group s d) w)
+  | inr w ↦ or_right (is_group (with_group s g) d) _ (station_stays s g d ∙ w)
+]
 
 planned_station : (s : Rows) (g : StationRecord) (d : ℕ) → is_planned s d ≡ true → is_planned (with_station s g) d ≡ true
 planned_station s g d e = elim (or_cases (is_group s d) (is_station s d) e) [
-    inl w ↦ or_left _ _ (group_stays s g d ∙ w)
-    | inr w ↦ or_right (is_group (with_station s g) d) _ (station_put s g d ∙ or_right (g.device == d) (is_station s d) w) ]
+  | inl w ↦ or_left _ _ (group_stays s g d ∙ w)
+  | inr w ↦ or_right (is_group (with_station s g) d) _ (station_put s g d ∙ or_right (g.device == d) (is_station s d) w)
+]
 
 put_new : (s : Rows) (g z : GroupRecord) → IsNew s g → (z ≡ g) ⊎ Among z s.groups → Among z s.groups ⊎ IsNew s z
 put_new s g z new (inl e) = inr (subst (IsNew s) (sym e) new)
@@ -132,39 +134,69 @@ put_new s g z new (inr a) = inl a
 
 behaves_group : (s : Rows) (k m : ℕ) (g : GroupRecord) → nat_le s.limits.groups (length s.groups) ≡ false → IsNew s g → Behaves s k m (silent (PutGroup g) ∷ [])
 unfolding with_group
-behaves_group s k m g room new = (quiet s k m (PutGroup g) tt refl, record { sizes = sizes_group s g room;
-    monitors = monitored_more s (with_group s g) (planned_group s g) refl refl refl; groups = λ z a. put_new s g z new (among_put (at_group g.device) g s.groups z a); limits = refl; last_call = omega arith; last_monitor = omega arith; last_event = refl })
+behaves_group s k m g room new = (
+  quiet s k m (PutGroup g) tt refl,
+  record {
+    sizes = sizes_group s g room;
+    monitors = monitored_more s (with_group s g) (planned_group s g) refl refl refl;
+    groups = λ z a. put_new s g z new (among_put (at_group g.device) g s.groups z a);
+    limits = refl;
+    last_call = omega arith;
+    last_monitor = omega arith;
+    last_event = refl;
+  },
+)
 
 behaves_station : (s : Rows) (k m : ℕ) (g : StationRecord) → nat_le s.limits.stations (length s.stations) ≡ false → Behaves s k m (silent (PutStation g) ∷ [])
 unfolding with_station
-behaves_station s k m g room = (quiet s k m (PutStation g) tt refl, record { sizes = sizes_station s g room;
-    monitors = monitored_more s (with_station s g) (planned_station s g) refl refl refl; groups = λ z a. inl a; limits = refl; last_call = omega arith; last_monitor = omega arith; last_event = refl })
+behaves_station s k m g room = (
+  quiet s k m (PutStation g) tt refl,
+  record {
+    sizes = sizes_station s g room;
+    monitors = monitored_more s (with_station s g) (planned_station s g) refl refl refl;
+    groups = λ z a. inl a;
+    limits = refl;
+    last_call = omega arith;
+    last_monitor = omega arith;
+    last_event = refl;
+  },
+)
 
 behaves_agent : (s : Rows) (k m : ℕ) (g : AgentRecord) → nat_le s.limits.agents (length s.agents) ≡ false → AgentTimed k m g → Behaves s k m (silent (PutAgent g) ∷ [])
 unfolding with_agent group_of station_of
-behaves_agent s k m g room h = (quiet s k m (PutAgent g) h refl, record { sizes = sizes_agent s g room;
-    monitors = monitored_more s (with_agent s g) (λ d e. e) refl refl refl; groups = λ z a. inl a; limits = refl; last_call = omega arith; last_monitor = omega arith; last_event = refl })
+behaves_agent s k m g room h = (
+  quiet s k m (PutAgent g) h refl,
+  record {
+    sizes = sizes_agent s g room;
+    monitors = monitored_more s (with_agent s g) (λ d e. e) refl refl refl;
+    groups = λ z a. inl a;
+    limits = refl;
+    last_call = omega arith;
+    last_monitor = omega arith;
+    last_event = refl;
+  },
+)
 
 pub behaves_add_group : (s : Rows) (k m device : ℕ) (name : List ℕ) (ring wrap : ℕ) → Behaves s k m (moves_of (add_group s device name ring wrap))
 unfolding add_group
 behaves_add_group s k m device name ring wrap =
     by_refusal (λ v. Behaves s k m (moves_of v)) _ _ _ (λ _. behaves_nothing s k m) (λ free.
     by_refusal (λ v. Behaves s k m (moves_of v)) _ _ _ (λ _. behaves_nothing s k m) (λ room.
-      behaves_group s k m (new_group device name ring wrap) room (refl, (or_parts (is_group s device) (is_station s device) (or_parts (is_planned s device) (is_calling s device) free).0).0)))
+    behaves_group s k m (new_group device name ring wrap) room (refl, (or_parts (is_group s device) (is_station s device) (or_parts (is_planned s device) (is_calling s device) free).0).0)))
 
 pub behaves_add_station : (s : Rows) (k m device : ℕ) → Behaves s k m (moves_of (add_station s device))
 unfolding add_station
 behaves_add_station s k m device =
     by_refusal (λ v. Behaves s k m (moves_of v)) _ _ _ (λ _. behaves_nothing s k m) (λ _.
     by_refusal (λ v. Behaves s k m (moves_of v)) _ _ _ (λ _. behaves_nothing s k m) (λ room.
-      behaves_station s k m (record { device = device }) room))
+    behaves_station s k m (record { device = device }) room))
 
 pub behaves_add_agent : (s : Rows) (k m agent : ℕ) (name : List ℕ) → 1 ≤ k → Behaves s k m (moves_of (add_agent s m k agent name))
 unfolding add_agent
 behaves_add_agent s k m agent name l =
     by_refusal (λ v. Behaves s k m (moves_of v)) _ _ _ (λ _. behaves_nothing s k m) (λ _.
     by_refusal (λ v. Behaves s k m (moves_of v)) _ _ _ (λ _. behaves_nothing s k m) (λ room.
-      behaves_agent s k m (new_agent m k agent name) room (record { above = l; stamp = omega arith; since = omega arith })))
+    behaves_agent s k m (new_agent m k agent name) room (record { above = l; stamp = omega arith; since = omega arith })))
 
 -- monitors
 
@@ -183,7 +215,7 @@ unfolding monitor_start
 behaves_monitor_start s k m device =
     by_refusal (λ v. Behaves s k m (moves_of v)) _ _ _ (λ _. behaves_nothing s k m) (λ known.
     by_refusal (λ v. Behaves s k m (moves_of v)) _ _ _ (λ _. behaves_nothing s k m) (λ room.
-      behaves_monitor s k m (record { monitor = next_monitor s; device = device; after_event = s.last_event }) room (not-false (is_planned s device) known) refl refl))
+    behaves_monitor s k m (record { monitor = next_monitor s; device = device; after_event = s.last_event }) room (not-false (is_planned s device) known) refl refl))
 
 quiet_stop : (s : Rows) (k m n : ℕ) → Orderly s k m (silent (RemoveMonitor n) ∷ [])
 unfolding without_monitor
@@ -236,32 +268,41 @@ settled_call s c ms room n f =
     record {
       sizes = λ h. sizes_steadied (with_call s c) t f (sizes_call s c room h);
       monitors = λ h. monitored_steadied (with_call s c) t f (called s c h);
-      groups = λ z i. inl (subst (Among z) (f.groups ∙ same_groups s c) i); limits = f.limits ∙ same_limits s c; last_call = raised s c (moved (with_call s c) ms).last_call n a; last_monitor = same_monitor s c t.last_monitor b; last_event = f.last_event ∙ same_event s c }
+      groups = λ z i. inl (subst (Among z) (f.groups ∙ same_groups s c) i);
+      limits = f.limits ∙ same_limits s c;
+      last_call = raised s c (moved (with_call s c) ms).last_call n a;
+      last_monitor = same_monitor s c t.last_monitor b;
+      last_event = f.last_event ∙ same_event s c;
+    }
 
 arriving_behaves : (s : Rows) (k m : ℕ) (c : CallRecord) → 1 ≤ k → IsAscending agent_order s.agents → c.call ≡ s.last_call + 1 → c.since ≤ m → nat_le s.limits.calls (length s.calls) ≡ false
     → Behaves s k m (begin c ∷ connect_caller c.call c.caller ∷ arrive s m k c.call c.called C.NewCall ∷ [])
 arriving_behaves s k m c l h n since room =
     let u : Rows = with_call s c in
     let x : ConnectionRecord = plain c.call c.caller S.Connected in
-    let rest : List Move = connect_caller c.call c.caller ∷ arrive s m k c.call c.called C.NewCall ∷ [] in
-    (record {
-      fit = (record { fit = since; waits = tt }, (record { fit = timed_plain k m c.call c.caller S.Connected; waits = tt }, (fit_arrive s s k m c.call c.called C.NewCall l, tt)));
-      entries = λ g. (let e = entry_most g (arrive s m k c.call c.called C.NewCall) in omega (arith, e));
-      places = λ p. (let a = places_called s c p in let b = places_put u x p in let d = places_arrive s (with_connection u x) m k c.call c.called C.NewCall p in omega (arith, a, b, d));
-      few = omega arith },
-     settled_call s c rest room n (steadied u rest (ascending_called s c h) (tt, (steady_arrive s u m k c.call c.called C.NewCall, tt))))
+    let rest : List Move = connect_caller c.call c.caller ∷ arrive s m k c.call c.called C.NewCall ∷ [] in (
+      record {
+        fit = (record { fit = since; waits = tt }, (record { fit = timed_plain k m c.call c.caller S.Connected; waits = tt }, (fit_arrive s s k m c.call c.called C.NewCall l, tt)));
+        entries = λ g. (let e = entry_most g (arrive s m k c.call c.called C.NewCall) in omega (arith, e));
+        places = λ p. (let a = places_called s c p in let b = places_put u x p in let d = places_arrive s (with_connection u x) m k c.call c.called C.NewCall p in omega (arith, a, b, d));
+        few = omega arith;
+      },
+      settled_call s c rest room n (steadied u rest (ascending_called s c h) (tt, (steady_arrive s u m k c.call c.called C.NewCall, tt))),
+    )
 
 making_behaves : (s : Rows) (k m : ℕ) (c : CallRecord) → IsAscending agent_order s.agents → c.call ≡ s.last_call + 1 → c.since ≤ m → nat_le s.limits.calls (length s.calls) ≡ false
     → Behaves s k m (begin c ∷ initiate c.call c.caller ∷ [])
 making_behaves s k m c h n since room =
     let u : Rows = with_call s c in
-    let x : ConnectionRecord = plain c.call c.caller S.Initiated in
-    (record {
-      fit = (record { fit = since; waits = tt }, (record { fit = timed_plain k m c.call c.caller S.Initiated; waits = tt }, tt));
-      entries = λ g. omega arith;
-      places = λ p. (let a = places_called s c p in let b = places_put u x p in omega (arith, a, b));
-      few = omega arith },
-     settled_call s c (initiate c.call c.caller ∷ []) room n (steadied u (initiate c.call c.caller ∷ []) (ascending_called s c h) (tt, tt)))
+    let x : ConnectionRecord = plain c.call c.caller S.Initiated in (
+      record {
+        fit = (record { fit = since; waits = tt }, (record { fit = timed_plain k m c.call c.caller S.Initiated; waits = tt }, tt));
+        entries = λ g. omega arith;
+        places = λ p. (let a = places_called s c p in let b = places_put u x p in omega (arith, a, b));
+        few = omega arith;
+      },
+      settled_call s c (initiate c.call c.caller ∷ []) room n (steadied u (initiate c.call c.caller ∷ []) (ascending_called s c h) (tt, tt)),
+    )
 
 pub behaves_arrive_call : (s : Rows) (k m caller called : ℕ) → 1 ≤ k → IsAscending agent_order s.agents → Behaves s k m (moves_of (arrive_call s m k caller called))
 unfolding arrive_call
@@ -269,7 +310,7 @@ behaves_arrive_call s k m caller called l h =
     by_refusal (λ v. Behaves s k m (moves_of v)) _ _ _ (λ _. behaves_nothing s k m) (λ _.
     by_refusal (λ v. Behaves s k m (moves_of v)) _ _ _ (λ _. behaves_nothing s k m) (λ _.
     by_refusal (λ v. Behaves s k m (moves_of v)) _ _ _ (λ _. behaves_nothing s k m) (λ room.
-      arriving_behaves s k m (record { call = next_call s; caller = caller; called = called; since = m }) l h refl (omega arith) room)))
+    arriving_behaves s k m (record { call = next_call s; caller = caller; called = called; since = m }) l h refl (omega arith) room)))
 
 pub behaves_make_call : (s : Rows) (k m device called : ℕ) → IsAscending agent_order s.agents → Behaves s k m (moves_of (make_call s m device called))
 unfolding make_call
@@ -280,7 +321,7 @@ behaves_make_call s k m device called h =
     by_refusal (λ v. Behaves s k m (moves_of v)) _ _ _ (λ _. behaves_nothing s k m) (λ _.
     by_refusal (λ v. Behaves s k m (moves_of v)) _ _ _ (λ _. behaves_nothing s k m) (λ _.
     by_refusal (λ v. Behaves s k m (moves_of v)) _ _ _ (λ _. behaves_nothing s k m) (λ room.
-      making_behaves s k m (record { call = next_call s; caller = device; called = called; since = m }) h refl (omega arith) room))))))
+    making_behaves s k m (record { call = next_call s; caller = device; called = called; since = m }) h refl (omega arith) room))))))
 
 -- the same place
 places_same : (s : Rows) (x : ConnectionRecord) (st : ConnectionState) (p : ℕ) → IsAscending connection_order s.connections → connection_of s x.call x.device ≡ Some x → count (at_place p) (with_connection s (record x { state = st })).connections ≡ count (at_place p) s.connections
@@ -293,14 +334,16 @@ behaves_phone_off_hook s k m call device l o t =
     by_found (λ v. Behaves s k m (moves_of v)) _ _ _ (λ _. behaves_nothing s k m) (λ c _.
     by_found (λ v. Behaves s k m (moves_of v)) _ _ _ (λ _. behaves_nothing s k m) (λ x ex.
     by_refusal (λ v. Behaves s k m (moves_of v)) _ _ _ (λ _. behaves_nothing s k m) (λ _.
-      let y : ConnectionRecord = record x { state = S.Connected } in
-      let ms : List Move = originate x c.called ∷ arrive s m k call c.called C.NewCall ∷ [] in
-      (record {
+    let y : ConnectionRecord = record x { state = S.Connected } in
+    let ms : List Move = originate x c.called ∷ arrive s m k call c.called C.NewCall ∷ [] in (
+      record {
         fit = (record { fit = timed_state k m x S.Connected (every_among (ConnectionTimed k m) s.connections x t.connections (connection_among s call device x ex)); waits = tt }, (fit_arrive s s k m call c.called C.NewCall l, tt));
         entries = λ g. (let e = entry_most g (arrive s m k call c.called C.NewCall) in omega (arith, e));
         places = λ p. (let a = places_same s x S.Connected p o.connections (own_key s call device x ex) in let b = places_arrive s (with_connection s y) m k call c.called C.NewCall p in omega (arith, a, b));
-        few = omega arith },
-       settled s ms o.agents (tt, (steady_arrive s s m k call c.called C.NewCall, tt))))))
+        few = omega arith;
+      },
+      settled s ms o.agents (tt, (steady_arrive s s m k call c.called C.NewCall, tt)),
+    ))))
 
 pub behaves_answer_call : (s : Rows) (k m call device : ℕ) → 1 ≤ k → Orders s → Behaves s k m (moves_of (answer_call s m k call device))
 unfolding answer_call
@@ -308,23 +351,27 @@ behaves_answer_call s k m call device l o =
     by_found (λ v. Behaves s k m (moves_of v)) _ _ _ (λ _. behaves_nothing s k m) (λ c _.
     by_found (λ v. Behaves s k m (moves_of v)) _ _ _ (λ _. behaves_nothing s k m) (λ x ex.
     by_refusal (λ v. Behaves s k m (moves_of v)) _ _ _ (λ _. behaves_nothing s k m) (λ _.
-      let ms : List Move = answer m x ∷ occupy s m k x ∷ [] in
-      (record {
+    let ms : List Move = answer m x ∷ occupy s m k x ∷ [] in (
+      record {
         fit = (fit_answer s k m x, (fit_occupy s s k m x l, tt));
         entries = λ g. (let e = entry_occupy g s m k x in omega (arith, e));
         places = λ p. (let a = places_put s (talking x) p in let b = places_occupy s (with_connection s (talking x)) m k x p in omega (arith, a, b));
-        few = omega arith },
-       settled s ms o.agents (tt, (steady_occupy s m k x o.agents, tt))))))
+        few = omega arith;
+      },
+      settled s ms o.agents (tt, (steady_occupy s m k x o.agents, tt)),
+    ))))
 
 turned : (s : Rows) (k m : ℕ) (x : ConnectionRecord) (st : ConnectionState) (y : Move) → y.change ≡ PutConnection (record x { state = st }) → ((g : ℕ) → entry_by g y.report ≡ 0) → WaitsUpTo m y.report
     → Orders s → Timed k m s → connection_of s x.call x.device ≡ Some x → Behaves s k m (y ∷ [])
-turned s k m x st y e n w o t ex =
-    (record {
-      fit = (record { fit = subst (Fit k m) (sym e) (timed_state k m x st (every_among (ConnectionTimed k m) s.connections x t.connections (connection_among s x.call x.device x ex))); waits = w }, tt);
-      entries = λ g. (let f = n g in omega (arith, f));
-      places = λ p. (let a : count (at_place p) (changed s y.change).connections ≡ count (at_place p) s.connections = subst (λ c. count (at_place p) (changed s c).connections ≡ count (at_place p) s.connections) (sym e) (places_same s x st p o.connections ex) in omega (arith, a));
-      few = omega arith },
-     settled s (y ∷ []) o.agents (subst (Steady (knows s)) (sym e) tt, tt))
+turned s k m x st y e n w o t ex = (
+  record {
+    fit = (record { fit = subst (Fit k m) (sym e) (timed_state k m x st (every_among (ConnectionTimed k m) s.connections x t.connections (connection_among s x.call x.device x ex))); waits = w }, tt);
+    entries = λ g. (let f = n g in omega (arith, f));
+    places = λ p. (let a : count (at_place p) (changed s y.change).connections ≡ count (at_place p) s.connections = subst (λ c. count (at_place p) (changed s c).connections ≡ count (at_place p) s.connections) (sym e) (places_same s x st p o.connections ex) in omega (arith, a));
+    few = omega arith;
+  },
+  settled s (y ∷ []) o.agents (subst (Steady (knows s)) (sym e) tt, tt),
+)
 
 pub behaves_hold_call : (s : Rows) (k m call device : ℕ) → Orders s → Timed k m s → Behaves s k m (moves_of (hold_call s call device))
 unfolding hold_call
@@ -333,7 +380,7 @@ behaves_hold_call s k m call device o t =
     by_found (λ v. Behaves s k m (moves_of v)) _ _ _ (λ _. behaves_nothing s k m) (λ x ex.
     by_refusal (λ v. Behaves s k m (moves_of v)) _ _ _ (λ _. behaves_nothing s k m) (λ _.
     by_refusal (λ v. Behaves s k m (moves_of v)) _ _ _ (λ _. behaves_nothing s k m) (λ _.
-      turned s k m x S.Hold (hold x) refl (λ g. refl) tt o t (own_key s call device x ex)))))
+    turned s k m x S.Hold (hold x) refl (λ g. refl) tt o t (own_key s call device x ex)))))
 
 pub behaves_retrieve_call : (s : Rows) (k m call device : ℕ) → Orders s → Timed k m s → Behaves s k m (moves_of (retrieve_call s call device))
 unfolding retrieve_call
@@ -342,48 +389,54 @@ behaves_retrieve_call s k m call device o t =
     by_found (λ v. Behaves s k m (moves_of v)) _ _ _ (λ _. behaves_nothing s k m) (λ x ex.
     by_refusal (λ v. Behaves s k m (moves_of v)) _ _ _ (λ _. behaves_nothing s k m) (λ _.
     by_refusal (λ v. Behaves s k m (moves_of v)) _ _ _ (λ _. behaves_nothing s k m) (λ _.
-      turned s k m x S.Connected (retrieve x) refl (λ g. refl) tt o t (own_key s call device x ex)))))
+    turned s k m x S.Connected (retrieve x) refl (λ g. refl) tt o t (own_key s call device x ex)))))
 
 behaves_clearing : (s : Rows) (k m : ℕ) (x : ConnectionRecord) (other : Option ConnectionRecord) → 1 ≤ k → Orders s → Timed k m s → Behaves s k m (clearing s m k x other)
 unfolding without_call
 behaves_clearing s k m x None l o t =
-    let v : Rows = without_call (without_connection s x.call x.device) x.call in
-    (record {
-      fit = (record { fit = tt; waits = tt }, (record { fit = tt; waits = tt }, (record { fit = tt; waits = tt }, (fit_release s s k m x (ending_of x) l t, (record { fit = tt; waits = tt }, tt)))));
-      entries = λ g. (let a = entry_release g s m k x (ending_of x) in omega (arith, a));
-      places = λ p. (let a = places_remove s x.call x.device p in let b = places_release s v x (ending_of x) m k p in omega (arith, a, b));
-      few = omega arith },
-     settled s (clearing s m k x None) o.agents (tt, (tt, (tt, (steady_release s m k x (ending_of x) o.agents, (tt, tt))))))
+    let v : Rows = without_call (without_connection s x.call x.device) x.call in (
+      record {
+        fit = (record { fit = tt; waits = tt }, (record { fit = tt; waits = tt }, (record { fit = tt; waits = tt }, (fit_release s s k m x (ending_of x) l t, (record { fit = tt; waits = tt }, tt)))));
+        entries = λ g. (let a = entry_release g s m k x (ending_of x) in omega (arith, a));
+        places = λ p. (let a = places_remove s x.call x.device p in let b = places_release s v x (ending_of x) m k p in omega (arith, a, b));
+        few = omega arith;
+      },
+      settled s (clearing s m k x None) o.agents (tt, (tt, (tt, (steady_release s m k x (ending_of x) o.agents, (tt, tt))))),
+    )
 behaves_clearing s k m x (Some y) l o t =
     let u : Rows = without_connection s x.call x.device in
-    let v : Rows = without_call (without_connection u y.call y.device) x.call in
-    (record {
-      fit = (record { fit = tt; waits = tt }, (record { fit = tt; waits = tt }, (record { fit = tt; waits = tt }, (fit_release s s k m x (ending_of x) l t, (fit_release s s k m y (ending_of y) l t, tt)))));
-      entries = λ g. (let a = entry_release g s m k x (ending_of x) in let b = entry_release g s m k y (ending_of y) in omega (arith, a, b));
-      places = λ p. (let a = places_remove s x.call x.device p in let b = places_remove u y.call y.device p in let c = places_release s v x (ending_of x) m k p in
-        let d = places_release s (changed v (release s m k x (ending_of x)).change) y (ending_of y) m k p in omega (arith, a, b, c, d));
-      few = omega arith },
-     settled s (clearing s m k x (Some y)) o.agents (tt, (tt, (tt, (steady_release s m k x (ending_of x) o.agents, (steady_release s m k y (ending_of y) o.agents, tt))))))
+    let v : Rows = without_call (without_connection u y.call y.device) x.call in (
+      record {
+        fit = (record { fit = tt; waits = tt }, (record { fit = tt; waits = tt }, (record { fit = tt; waits = tt }, (fit_release s s k m x (ending_of x) l t, (fit_release s s k m y (ending_of y) l t, tt)))));
+        entries = λ g. (let a = entry_release g s m k x (ending_of x) in let b = entry_release g s m k y (ending_of y) in omega (arith, a, b));
+        places = λ p. (let a = places_remove s x.call x.device p in let b = places_remove u y.call y.device p in let c = places_release s v x (ending_of x) m k p in
+            let d = places_release s (changed v (release s m k x (ending_of x)).change) y (ending_of y) m k p in omega (arith, a, b, c, d));
+        few = omega arith;
+      },
+      settled s (clearing s m k x (Some y)) o.agents (tt, (tt, (tt, (steady_release s m k x (ending_of x) o.agents, (steady_release s m k y (ending_of y) o.agents, tt))))),
+    )
 
 pub behaves_clear_connection : (s : Rows) (k m call device : ℕ) → 1 ≤ k → Orders s → Timed k m s → Behaves s k m (moves_of (clear_connection s m k call device))
 unfolding clear_connection
 behaves_clear_connection s k m call device l o t =
     by_found (λ v. Behaves s k m (moves_of v)) _ _ _ (λ _. behaves_nothing s k m) (λ c _.
     by_found (λ v. Behaves s k m (moves_of v)) _ _ _ (λ _. behaves_nothing s k m) (λ x ex.
-      behaves_clearing s k m x (other_of s x) l o t))
+    behaves_clearing s k m x (other_of s x) l o t))
 
 -- a connection ends, and its call goes elsewhere
 gone_on : (s : Rows) (k m call to : ℕ) (x : ConnectionRecord) (cause : Cause) (y : Move) → y.change ≡ RemoveConnection x.call x.device → ((g : ℕ) → entry_by g y.report ≡ 0) → WaitsUpTo m y.report → 1 ≤ k → Orders s → Timed k m s
     → Behaves s k m (y ∷ arrive s m k call to cause ∷ release s m k x (ending_of x) ∷ [])
 gone_on s k m call to x cause y e n w l o t =
-    let u : Rows = changed s y.change in
-    (record {
-      fit = (record { fit = subst (Fit k m) (sym e) tt; waits = w }, (fit_arrive s s k m call to cause l, (fit_release s s k m x (ending_of x) l t, tt)));
-      entries = λ g. (let a = n g in let b = entry_most g (arrive s m k call to cause) in let c = entry_release g s m k x (ending_of x) in omega (arith, a, b, c));
-      places = λ p. (let a : count (at_place p) u.connections ≤ count (at_place p) s.connections = subst (λ c. count (at_place p) (changed s c).connections ≤ count (at_place p) s.connections) (sym e) (places_remove s x.call x.device p) in
-        let b = places_arrive s u m k call to cause p in let c = places_release s (changed u (arrive s m k call to cause).change) x (ending_of x) m k p in omega (arith, a, b, c));
-      few = omega arith },
-     settled s (y ∷ arrive s m k call to cause ∷ release s m k x (ending_of x) ∷ []) o.agents (subst (Steady (knows s)) (sym e) tt, (steady_arrive s s m k call to cause, (steady_release s m k x (ending_of x) o.agents, tt))))
+    let u : Rows = changed s y.change in (
+      record {
+        fit = (record { fit = subst (Fit k m) (sym e) tt; waits = w }, (fit_arrive s s k m call to cause l, (fit_release s s k m x (ending_of x) l t, tt)));
+        entries = λ g. (let a = n g in let b = entry_most g (arrive s m k call to cause) in let c = entry_release g s m k x (ending_of x) in omega (arith, a, b, c));
+        places = λ p. (let a : count (at_place p) u.connections ≤ count (at_place p) s.connections = subst (λ c. count (at_place p) (changed s c).connections ≤ count (at_place p) s.connections) (sym e) (places_remove s x.call x.device p) in
+            let b = places_arrive s u m k call to cause p in let c = places_release s (changed u (arrive s m k call to cause).change) x (ending_of x) m k p in omega (arith, a, b, c));
+        few = omega arith;
+      },
+      settled s (y ∷ arrive s m k call to cause ∷ release s m k x (ending_of x) ∷ []) o.agents (subst (Steady (knows s)) (sym e) tt, (steady_arrive s s m k call to cause, (steady_release s m k x (ending_of x) o.agents, tt))),
+    )
 
 pub behaves_deflect_call : (s : Rows) (k m call device to : ℕ) → 1 ≤ k → Orders s → Timed k m s → Behaves s k m (moves_of (deflect_call s m k call device to))
 unfolding deflect_call
@@ -394,7 +447,7 @@ behaves_deflect_call s k m call device to l o t =
     by_refusal (λ v. Behaves s k m (moves_of v)) _ _ _ (λ _. behaves_nothing s k m) (λ _.
     by_refusal (λ v. Behaves s k m (moves_of v)) _ _ _ (λ _. behaves_nothing s k m) (λ _.
     by_refusal (λ v. Behaves s k m (moves_of v)) _ _ _ (λ _. behaves_nothing s k m) (λ _.
-      gone_on s k m call to x C.Deflected (divert x to C.Deflected) refl (λ g. refl) tt l o t))))))
+    gone_on s k m call to x C.Deflected (divert x to C.Deflected) refl (λ g. refl) tt l o t))))))
 
 pub behaves_single_step_transfer : (s : Rows) (k m call device to : ℕ) → 1 ≤ k → Orders s → Timed k m s → Behaves s k m (moves_of (single_step_transfer s m k call device to))
 unfolding single_step_transfer
@@ -406,7 +459,7 @@ behaves_single_step_transfer s k m call device to l o t =
     by_refusal (λ v. Behaves s k m (moves_of v)) _ _ _ (λ _. behaves_nothing s k m) (λ _.
     by_refusal (λ v. Behaves s k m (moves_of v)) _ _ _ (λ _. behaves_nothing s k m) (λ _.
     by_refusal (λ v. Behaves s k m (moves_of v)) _ _ _ (λ _. behaves_nothing s k m) (λ _.
-      gone_on s k m call to x C.Transferred (transfer x to) refl (λ g. refl) tt l o t)))))))
+    gone_on s k m call to x C.Transferred (transfer x to) refl (λ g. refl) tt l o t)))))))
 
 -- agents
 
@@ -419,25 +472,32 @@ go_from_connections s m k a None st = refl
 go_from_connections s m k a (Some d) st = agent_connections s (in_state st m k a)
 
 pub behaves_go_from : (s : Rows) (k m : ℕ) (a : AgentRecord) (o : Option ℕ) (st : AgentState) → 1 ≤ k → IsAscending agent_order s.agents → knows s a.agent ≡ true → Behaves s k m (go_from m k a o st ∷ [])
-behaves_go_from s k m a o st l h known =
-    (record {
-      fit = (fit_go_from s k m a o st l, tt); entries = λ g. (let e = entry_go_from g m k a o st in omega (arith, e));
-      places = λ p. (let e : count (at_place p) (changed s (go_from m k a o st).change).connections ≡ count (at_place p) s.connections = ap (count (at_place p)) (go_from_connections s m k a o st) in omega (arith, e));
-      few = omega arith },
-     settled s (go_from m k a o st ∷ []) h (steady_go_from s m k a o st known, tt))
+behaves_go_from s k m a o st l h known = (
+  record {
+    fit = (fit_go_from s k m a o st l, tt);
+    entries = λ g. (let e = entry_go_from g m k a o st in omega (arith, e));
+    places = λ p. (let e : count (at_place p) (changed s (go_from m k a o st).change).connections ≡ count (at_place p) s.connections = ap (count (at_place p)) (go_from_connections s m k a o st) in omega (arith, e));
+    few = omega arith;
+  },
+  settled s (go_from m k a o st ∷ []) h (steady_go_from s m k a o st known, tt),
+)
 
 behaves_wait : (s : Rows) (k m : ℕ) (a : AgentRecord) (o : Option Pending) → AgentTimed k m a → IsAscending agent_order s.agents → knows s a.agent ≡ true → Behaves s k m (wait_for a o ∷ [])
-behaves_wait s k m a o t h known =
-    (quiet s k m (PutAgent (record a { pending = o })) (record { above = t.above; stamp = t.stamp; since = t.since }) (agent_connections s (record a { pending = o })),
-     settled s (wait_for a o ∷ []) h (known, tt))
+behaves_wait s k m a o t h known = (
+  quiet s k m (PutAgent (record a { pending = o })) (record { above = t.above; stamp = t.stamp; since = t.since }) (agent_connections s (record a { pending = o })),
+  settled s (wait_for a o ∷ []) h (known, tt),
+)
 
 behaves_log_on : (s : Rows) (k m : ℕ) (a : AgentRecord) (device group : ℕ) → 1 ≤ k → IsAscending agent_order s.agents → knows s a.agent ≡ true → Behaves s k m (log_on_at m k a device group ∷ [])
-behaves_log_on s k m a device group l h known =
-    (record {
-      fit = (record { fit = record { above = l; stamp = omega arith; since = omega arith }; waits = tt }, tt); entries = λ g. omega arith;
-      places = λ p. (let e : count (at_place p) (changed s (log_on_at m k a device group).change).connections ≡ count (at_place p) s.connections = ap (count (at_place p)) (agent_connections s _) in omega (arith, e));
-      few = omega arith },
-     settled s (log_on_at m k a device group ∷ []) h (known, tt))
+behaves_log_on s k m a device group l h known = (
+  record {
+    fit = (record { fit = record { above = l; stamp = omega arith; since = omega arith }; waits = tt }, tt);
+    entries = λ g. omega arith;
+    places = λ p. (let e : count (at_place p) (changed s (log_on_at m k a device group).change).connections ≡ count (at_place p) s.connections = ap (count (at_place p)) (agent_connections s _) in omega (arith, e));
+    few = omega arith;
+  },
+  settled s (log_on_at m k a device group ∷ []) h (known, tt),
+)
 
 behaves_log_on_service : (s : Rows) (k m agent device group : ℕ) → 1 ≤ k → IsAscending agent_order s.agents → Behaves s k m (moves_of (log_on s m k agent device group))
 unfolding log_on
@@ -449,23 +509,25 @@ behaves_log_on_service s k m agent device group l h =
     by_refusal (λ v. Behaves s k m (moves_of v)) _ _ _ (λ _. behaves_nothing s k m) (λ _.
     by_refusal (λ v. Behaves s k m (moves_of v)) _ _ _ (λ _. behaves_nothing s k m) (λ _.
     by_refusal (λ v. Behaves s k m (moves_of v)) _ _ _ (λ _. behaves_nothing s k m) (λ _.
-      behaves_log_on s k m a device group l h (ap is_some (agent_own s agent a ea)))))))))
+    behaves_log_on s k m a device group l h (ap is_some (agent_own s agent a ea)))))))))
 
 behaves_go_or_wait : (s : Rows) (k m : ℕ) (a : AgentRecord) (w : Pending) → 1 ≤ k → IsAscending agent_order s.agents → knows s a.agent ≡ true → AgentTimed k m a → Behaves s k m (moves_of (go_or_wait s m k a w))
 behaves_go_or_wait s k m a w l h known t =
     elim (is_occupied s a) as (λ b. Behaves s k m (moves_of (cond b (Done (answer.Pending a.state w) (wait_for a (Some w) ∷ []))
-        (cond (is_in a.state w) (Done (answer.State a.state) []) (Done (answer.State (state_wanted w)) (go_from m k a a.station (state_wanted w) ∷ [])))))) [
-      true ↦ behaves_wait s k m a (Some w) t h known
+    (cond (is_in a.state w) (Done (answer.State a.state) []) (Done (answer.State (state_wanted w)) (go_from m k a a.station (state_wanted w) ∷ [])))))) [
+      | true ↦ behaves_wait s k m a (Some w) t h known
       | false ↦ elim (is_in a.state w) as (λ b. Behaves s k m (moves_of (cond b (Done (answer.State a.state) []) (Done (answer.State (state_wanted w)) (go_from m k a a.station (state_wanted w) ∷ []))))) [
-          true ↦ behaves_nothing s k m
-          | false ↦ behaves_go_from s k m a a.station (state_wanted w) l h known ] ]
+        | true ↦ behaves_nothing s k m
+        | false ↦ behaves_go_from s k m a a.station (state_wanted w) l h known
+      ]
+    ]
 
 behaves_change_state : (s : Rows) (k m agent : ℕ) (w : Pending) → 1 ≤ k → IsAscending agent_order s.agents → Timed k m s → Behaves s k m (moves_of (change_state s m k agent w))
 unfolding change_state
 behaves_change_state s k m agent w l h t =
     by_found (λ v. Behaves s k m (moves_of v)) _ _ _ (λ _. behaves_nothing s k m) (λ a ea.
     by_refusal (λ v. Behaves s k m (moves_of v)) _ _ _ (λ _. behaves_nothing s k m) (λ _.
-      behaves_go_or_wait s k m a w l h (ap is_some (agent_own s agent a ea)) (every_among (AgentTimed k m) s.agents a t.agents (agent_among s agent a ea))))
+    behaves_go_or_wait s k m a w l h (ap is_some (agent_own s agent a ea)) (every_among (AgentTimed k m) s.agents a t.agents (agent_among s agent a ea))))
 
 pub behaves_set_agent_state : (s : Rows) (k m agent : ℕ) (q : Requested) → 1 ≤ k → IsAscending agent_order s.agents → Timed k m s → Behaves s k m (moves_of (set_agent_state s m k agent q))
 behaves_set_agent_state s k m agent (requested.LoggedOn device group) l h t = behaves_log_on_service s k m agent device group l h

@@ -93,21 +93,36 @@ pub record Before (s : Rows) (k m : ℕ) : Type 0 where
 
 after_service : (s : Rows) (k m : ℕ) (ms : List Move) → Before s k m → Behaves s k m ms → After s k m 13000 (moved s ms) (events_of m ms)
 after_service s k m ms b h = record {
-    timed = timed_moved s s k m ms b.timed h.0.fit; places = h.0.places; sizes = h.1.sizes b.sizes; monitors = h.1.monitors b.monitors; groups = h.1.groups; limits = h.1.limits;
-    last_call = h.1.last_call; last_monitor = h.1.last_monitor; last_event = h.1.last_event;
-    entries = λ g. (let e = entered_is g m ms in let f = h.0.entries g in omega (arith, e, f));
-    waits = waits_events s k m ms h.0.fit; few = (let a = events_length m ms in let c = h.0.few in omega (arith, a, c)) }
+  timed = timed_moved s s k m ms b.timed h.0.fit;
+  places = h.0.places;
+  sizes = h.1.sizes b.sizes;
+  monitors = h.1.monitors b.monitors;
+  groups = h.1.groups;
+  limits = h.1.limits;
+  last_call = h.1.last_call;
+  last_monitor = h.1.last_monitor;
+  last_event = h.1.last_event;
+  entries = λ g. (let e = entered_is g m ms in let f = h.0.entries g in omega (arith, e, f));
+  waits = waits_events s k m ms h.0.fit;
+  few = (let a = events_length m ms in let c = h.0.few in omega (arith, a, c));
+}
 
 -- rounds after moves
 after_rounds : (s : Rows) (k m most more : ℕ) (t u : Rows) (es fs : List Event) → After s k m most t es → Within t k m u fs → length fs ≤ more → After s k m (most + more) u (es ++ fs)
 after_rounds s k m most more t u es fs a w l = record {
-    timed = w.timed;
-    places = λ p. (let x = a.places p in let y = w.places p in omega (arith, x, y));
-    sizes = sizes_steadied t u w.steady a.sizes; monitors = monitored_steadied t u w.steady a.monitors; groups = λ g i. a.groups g (subst (Among g) w.steady.groups i); limits = w.steady.limits ∙ a.limits;
-    last_call = (let x = a.last_call in let y = w.steady.last_call in omega (arith, x, y)); last_monitor = (let x = a.last_monitor in let y = w.steady.last_monitor in omega (arith, x, y)); last_event = w.steady.last_event ∙ a.last_event;
-    entries = λ g. (let x = a.entries g in let y = w.entries g in let z = count-append (λ (e : Event). is_entry g e.report) es fs in omega (arith, x, y, z));
-    waits = every-append _ es fs a.waits w.waits;
-    few = (let x = a.few in let z = length-joined es fs in omega (arith, x, z, l)) }
+  timed = w.timed;
+  places = λ p. (let x = a.places p in let y = w.places p in omega (arith, x, y));
+  sizes = sizes_steadied t u w.steady a.sizes;
+  monitors = monitored_steadied t u w.steady a.monitors;
+  groups = λ g i. a.groups g (subst (Among g) w.steady.groups i);
+  limits = w.steady.limits ∙ a.limits;
+  last_call = (let x = a.last_call in let y = w.steady.last_call in omega (arith, x, y));
+  last_monitor = (let x = a.last_monitor in let y = w.steady.last_monitor in omega (arith, x, y));
+  last_event = w.steady.last_event ∙ a.last_event;
+  entries = λ g. (let x = a.entries g in let y = w.entries g in let z = count-append (λ (e : Event). is_entry g e.report) es fs in omega (arith, x, y, z));
+  waits = every-append _ es fs a.waits w.waits;
+  few = (let x = a.few in let z = length-joined es fs in omega (arith, x, z, l));
+}
   where
     length-joined : (xs ys : List Event) → length (xs ++ ys) ≡ length xs + length ys
     length-joined [] ys = omega arith
@@ -161,4 +176,4 @@ after_moves s k m c b =
     let g = greatest t a.sizes.limits in
     let x = a.sizes.calls in let gc = g.calls in
     subst (λ u. After s k m 21000 u (events_of m (ms ++ ns))) (sym (moved-append s ms ns))
-      (subst (After s k m 21000 (moved t ns)) (sym (events-append m ms ns)) (after_rounds s k m 13000 8000 t (moved t ns) (events_of m ms) (events_of m ns) a w (omega (arith, e, f, d, x, gc))))
+    (subst (After s k m 21000 (moved t ns)) (sym (events-append m ms ns)) (after_rounds s k m 13000 8000 t (moved t ns) (events_of m ms) (events_of m ns) a w (omega (arith, e, f, d, x, gc))))

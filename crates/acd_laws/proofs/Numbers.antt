@@ -100,11 +100,12 @@ two_each (c ∷ cs) xs h f =
     let a = split_length (of_call c.call) xs in
     let b = f c (inl refl) in
     let ih = two_each cs rest
-      (λ x i. (let w = filter_among (λ x. not (of_call c.call x)) xs x i in let k = h x w.0 in
-        elim k.there [
-          inl e ↦ absurd (cc (not-true (x.call == c.call) w.1, eq-eqb x.call c.call (sym k.same ∙ ap (λ (z : CallRecord). z.call) e)))
-          | inr t ↦ record { call = k.call; there = t; same = k.same } ]))
-      (λ d i. (let u = f d (inr i) in let v = fewer_filtered (of_call d.call) (λ x. not (of_call c.call x)) xs in omega (arith, u, v))) in
+    (λ x i. (let w = filter_among (λ x. not (of_call c.call x)) xs x i in let k = h x w.0 in
+    elim k.there [
+      | inl e ↦ absurd (cc (not-true (x.call == c.call) w.1, eq-eqb x.call c.call (sym k.same ∙ ap (λ (z : CallRecord). z.call) e)))
+      | inr t ↦ record { call = k.call; there = t; same = k.same }
+    ]))
+    (λ d i. (let u = f d (inr i) in let v = fewer_filtered (of_call d.call) (λ x. not (of_call c.call x)) xs in omega (arith, u, v))) in
     omega (arith, a, b, ih)
 
 no_some : (o : Option CallRecord) → ((c : CallRecord) → o ≡ Some c → ⊥) → o ≡ None
@@ -114,8 +115,9 @@ no_some (Some c) h = absurd (h c refl)
 pub connections_length : (s : Rows) → Rules s → length s.connections ≤ 2 * length s.calls
 connections_length s r = two_each s.calls s.connections
     (λ x i. (elim (call_of s x.call) as (λ o. call_of s x.call ≡ o → HasCall s.calls x) [
-      None ↦ λ e. (let z = none_of_call s r x.call e in let c = counted (of_call x.call) s.connections x i (eqb_self x.call) in absurd (omega (arith, z, c)))
-      | Some c ↦ λ e. record { call = c; there = call_among s x.call c e; same = call_key s x.call c e } ]) refl)
+      | None ↦ λ e. (let z = none_of_call s r x.call e in let c = counted (of_call x.call) s.connections x i (eqb_self x.call) in absurd (omega (arith, z, c)))
+      | Some c ↦ λ e. record { call = c; there = call_among s x.call c e; same = call_key s x.call c e }
+    ]) refl)
     (λ c i. (let p = r.parties c.call in let t = two_le (is_some (call_of s c.call)) in omega (arith, p, t)))
 
 -- limits
@@ -151,8 +153,9 @@ offers_length : (n : ℕ) (s : Rows) (m : ℕ) → length (offers n s m) ≤ 2 *
 offers_length zero s m = omega arith
 offers_length (suc n) s m =
     elim (offer_of s) as (λ p. length (with_offer p [] (λ o. offer_moves s m o ++ offers n (moved s (offer_moves s m o)) m)) ≤ 2 * suc n) [
-      None ↦ omega arith
-      | Some o ↦ (let a = length-append (offer_moves s m o) (offers n (moved s (offer_moves s m o)) m) in let b = offer_length s m o in let c = offers_length n (moved s (offer_moves s m o)) m in omega (arith, a, b, c)) ]
+      | None ↦ omega arith
+      | Some o ↦ (let a = length-append (offer_moves s m o) (offers n (moved s (offer_moves s m o)) m) in let b = offer_length s m o in let c = offers_length n (moved s (offer_moves s m o)) m in omega (arith, a, b, c))
+    ]
 
 pub distribution_length : (s : Rows) (m : ℕ) → length (distribution s m) ≤ 2 * length s.connections
 unfolding distribution queued_in_all

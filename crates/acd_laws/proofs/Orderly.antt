@@ -122,10 +122,11 @@ moment_more m n (Some p) l h = omega (arith, l, h)
 
 pub timed_more : (k j m n : ℕ) (s : Rows) → k ≤ j → m ≤ n → Timed k m s → Timed j n s
 timed_more k j m n s l q h = record {
-    agents = every_more (AgentTimed k m) (AgentTimed j n) s.agents (λ a t. let x = t.stamp in let y = t.since in record { above = t.above; stamp = omega (arith, x, l); since = omega (arith, y, q) }) h.agents;
-    calls = every_more (CallTimed m) (CallTimed n) s.calls (λ c t. omega (arith, t, q)) h.calls;
-    connections = every_more (ConnectionTimed k m) (ConnectionTimed j n) s.connections
-      (λ x t. record { place = place_more k j x.place l t.place; queued = moment_more m n x.queued q t.queued; offered = moment_more m n x.offered q t.offered; order = t.order }) h.connections }
+  agents = every_more (AgentTimed k m) (AgentTimed j n) s.agents (λ a t. let x = t.stamp in let y = t.since in record { above = t.above; stamp = omega (arith, x, l); since = omega (arith, y, q) }) h.agents;
+  calls = every_more (CallTimed m) (CallTimed n) s.calls (λ c t. omega (arith, t, q)) h.calls;
+  connections = every_more (ConnectionTimed k m) (ConnectionTimed j n) s.connections
+      (λ x t. record { place = place_more k j x.place l t.place; queued = moment_more m n x.queued q t.queued; offered = moment_more m n x.offered q t.offered; order = t.order }) h.connections;
+}
 
 -- records that services put
 
@@ -275,7 +276,9 @@ pub places_occupy : (s t : Rows) (m k : ℕ) (x : ConnectionRecord) (p : ℕ) �
 unfolding occupy
 places_occupy s t m k x p =
     elim (is_distributed x) as (λ b. count (at_place p) (changed t (cond b (busy_agent m k (agent_at s x.device) x.device) no_move).change).connections ≡ count (at_place p) t.connections) [
-      true ↦ ap (count (at_place p)) (busy_connections t (agent_at s x.device) m k x.device) | false ↦ refl ]
+      | true ↦ ap (count (at_place p)) (busy_connections t (agent_at s x.device) m k x.device)
+      | false ↦ refl
+    ]
 
 -- agents that are put are known
 
@@ -293,7 +296,9 @@ steady_release_agent s m k d (Some a) how h = by (release_of how a.pending)
 pub steady_release : (s : Rows) (m k : ℕ) (x : ConnectionRecord) (how : Ending) → IsAscending agent_order s.agents → Steady (knows s) (release s m k x how).change
 unfolding release
 steady_release s m k x how h = elim (is_distributed x) as (λ b. Steady (knows s) (cond b (release_agent m k (agent_at s x.device) x.device how) no_move).change) [
-    true ↦ steady_release_agent s m k x.device (agent_at s x.device) how (knows_at s x.device h) | false ↦ tt ]
+  | true ↦ steady_release_agent s m k x.device (agent_at s x.device) how (knows_at s x.device h)
+  | false ↦ tt
+]
 
 steady_busy : (s : Rows) (m k d : ℕ) (o : Option AgentRecord) → ((a : AgentRecord) → o ≡ Some a → knows s a.agent ≡ true) → Steady (knows s) (busy_agent m k o d).change
 steady_busy s m k d None h = tt
@@ -302,7 +307,9 @@ steady_busy s m k d (Some a) h = h a refl
 pub steady_occupy : (s : Rows) (m k : ℕ) (x : ConnectionRecord) → IsAscending agent_order s.agents → Steady (knows s) (occupy s m k x).change
 unfolding occupy
 steady_occupy s m k x h = elim (is_distributed x) as (λ b. Steady (knows s) (cond b (busy_agent m k (agent_at s x.device) x.device) no_move).change) [
-    true ↦ steady_busy s m k x.device (agent_at s x.device) (knows_at s x.device h) | false ↦ tt ]
+  | true ↦ steady_busy s m k x.device (agent_at s x.device) (knows_at s x.device h)
+  | false ↦ tt
+]
 
 pub steady_go_from : (s : Rows) (m k : ℕ) (a : AgentRecord) (o : Option ℕ) (st : AgentState) → knows s a.agent ≡ true → Steady (knows s) (go_from m k a o st).change
 steady_go_from s m k a None st h = tt

@@ -99,11 +99,12 @@ pub record Within (s : Rows) (k m : ℕ) (t : Rows) (es : List Event) : Type 0 w
 within : (s : Rows) (k m : ℕ) (t : Rows) (es : List Event) (ms : List Move) → Within s k m t es → AllFit t k m ms → AllSteady t ms → ((g : ℕ) → entries g ms ≡ 0)
     → ((p : ℕ) → count (at_place p) (moved t ms).connections ≤ count (at_place p) t.connections) → Within s k m (moved t ms) (es ++ events_of m ms)
 within s k m t es ms h f a n p = record {
-    timed = timed_moved t t k m ms h.timed f;
-    places = λ q. (let x = p q in let y = h.places q in omega (arith, x, y));
-    steady = steadied_then s t (moved t ms) h.steady (steadied t ms h.steady.ascending a);
-    entries = λ g. (let x = count-append (λ (e : Event). is_entry g e.report) es (events_of m ms) in let y = h.entries g in let z = entered_is g m ms in let w = n g in omega (arith, x, y, z, w));
-    waits = every-append (λ (e : Event). WaitsUpTo m (Some e.report)) es (events_of m ms) h.waits (waits_events t k m ms f) }
+  timed = timed_moved t t k m ms h.timed f;
+  places = λ q. (let x = p q in let y = h.places q in omega (arith, x, y));
+  steady = steadied_then s t (moved t ms) h.steady (steadied t ms h.steady.ascending a);
+  entries = λ g. (let x = count-append (λ (e : Event). is_entry g e.report) es (events_of m ms) in let y = h.entries g in let z = entered_is g m ms in let w = n g in omega (arith, x, y, z, w));
+  waits = every-append (λ (e : Event). WaitsUpTo m (Some e.report)) es (events_of m ms) h.waits (waits_events t k m ms f);
+}
 
 pub within_nothing : (s : Rows) (k m : ℕ) → IsAscending agent_order s.agents → Timed k m s → Within s k m s []
 within_nothing s k m h t = record { timed = t; places = λ p. omega arith; steady = unchanged s h; entries = λ g. refl; waits = tt }
@@ -128,15 +129,15 @@ timed_ringing k m d x h = record { place = h.place; queued = h.queued; offered =
 offer_within : (s : Rows) (k m : ℕ) (t : Rows) (es : List Event) (x : ConnectionRecord) (d : ℕ) → Within s k m t es → connection_of t x.call x.device ≡ Some x → Within s k m (moved t (offer_at m (Some x) (Some d))) (es ++ events_of m (offer_at m (Some x) (Some d)))
 offer_within s k m t es x d h ex =
     within s k m t es (offer_at m (Some x) (Some d)) h
-      (record { fit = tt; waits = tt }, (record { fit = timed_ringing k m d x (every_among (ConnectionTimed k m) t.connections x h.timed.connections (connection_among t x.call x.device x ex)); waits = tt }, tt))
-      (tt, (tt, tt)) (λ g. refl) (λ p. places_carried t x (ringing m x d) p ex refl)
+    (record { fit = tt; waits = tt }, (record { fit = timed_ringing k m d x (every_among (ConnectionTimed k m) t.connections x h.timed.connections (connection_among t x.call x.device x ex)); waits = tt }, tt))
+    (tt, (tt, tt)) (λ g. refl) (λ p. places_carried t x (ringing m x d) p ex refl)
 
 pub distribution_within : (s : Rows) (k m : ℕ) → Rules s → Timed k m s → Within s k m (moved s (distribution s m)) (events_of m (distribution s m))
 distribution_within s k m r t =
     distribution_keeps (Within s k m) m
-      (λ u es o ru h e. (let f = offering u ru o e in
-        subst (λ ms. Within s k m (moved u ms) (es ++ events_of m ms)) (sym (offer_moves_are u m o f.0 f.1.0 f.1.1.0 f.1.1.1)) (offer_within s k m u es f.0 f.1.1.0 h (offer_own u o f.0 f.1.0 f.1.1.0 ru f.1.1.1))))
-      s [] r (within_nothing s k m r.orders.agents t)
+    (λ u es o ru h e. (let f = offering u ru o e in
+    subst (λ ms. Within s k m (moved u ms) (es ++ events_of m ms)) (sym (offer_moves_are u m o f.0 f.1.0 f.1.1.0 f.1.1.1)) (offer_within s k m u es f.0 f.1.1.0 h (offer_own u o f.0 f.1.0 f.1.1.0 ru f.1.1.1))))
+    s [] r (within_nothing s k m r.orders.agents t)
 
 -- a return of a call
 
@@ -151,18 +152,22 @@ return_within : (s : Rows) (k m : ℕ) → 1 ≤ k → ReturnKeeps (Within s k m
 return_within s k m l t es x g r h ex al eg =
     let y : ConnectionRecord = queueing x.call g x.place x.queued in
     let v : Rows = with_connection (without_connection t x.call x.device) y in
-    within s k m t es (return_to t m k x (Some g)) h
-      (record { fit = tt; waits = tt }, (record { fit = timed_back k m g x (every_among (ConnectionTimed k m) t.connections x h.timed.connections (connection_among t x.call x.device x ex)); waits = tt },
-        (fit_release t t k m x NoAnswer l h.timed, tt)))
-      (tt, (tt, (steady_release t m k x NoAnswer r.orders.agents, tt)))
-      (λ i. (let a = entry_release i t m k x NoAnswer in let b : one ((g == i) && not (is_no_answer C.NoAnswer)) ≡ 0 = ap one (and_right (g == i) false refl) in omega (arith, a, b)))
-      (λ p. (let a = places_carried t x y p ex refl in let b = places_release t v x NoAnswer m k p in omega (arith, a, b)))
+    within s k m t es (return_to t m k x (Some g)) h (
+      record { fit = tt; waits = tt },
+      (
+        record { fit = timed_back k m g x (every_among (ConnectionTimed k m) t.connections x h.timed.connections (connection_among t x.call x.device x ex)); waits = tt },
+        (fit_release t t k m x NoAnswer l h.timed, tt),
+      ),
+    )
+    (tt, (tt, (steady_release t m k x NoAnswer r.orders.agents, tt)))
+    (λ i. (let a = entry_release i t m k x NoAnswer in let b : one ((g == i) && not (is_no_answer C.NoAnswer)) ≡ 0 = ap one (and_right (g == i) false refl) in omega (arith, a, b)))
+    (λ p. (let a = places_carried t x y p ex refl in let b = places_release t v x NoAnswer m k p in omega (arith, a, b)))
 
 rest_within : (s : Rows) (k m : ℕ) → 1 ≤ k → RestKeeps (Within s k m) m k
 rest_within s k m l t es a r h there working =
     let b = behaves_go_from t k m a a.station A.Ready l r.orders.agents (ap is_some there) in
     within s k m t es (rest_moves m k a) h b.0.fit (steady_go_from t m k a a.station A.Ready (ap is_some there), tt)
-      (λ g. (let e = entry_go_from g m k a a.station A.Ready in omega (arith, e))) (λ p. (let e : count (at_place p) (changed t (go_from m k a a.station A.Ready).change).connections ≡ count (at_place p) t.connections = ap (count (at_place p)) (go_from_connections t m k a a.station A.Ready) in omega (arith, e)))
+    (λ g. (let e = entry_go_from g m k a a.station A.Ready in omega (arith, e))) (λ p. (let e : count (at_place p) (changed t (go_from m k a a.station A.Ready).change).connections ≡ count (at_place p) t.connections = ap (count (at_place p)) (go_from_connections t m k a a.station A.Ready) in omega (arith, e)))
 
 pub tick_within : (s : Rows) (k m : ℕ) → 1 ≤ k → Rules s → Timed k m s → Within s k m (moved s (tick s m k)) (events_of m (tick s m k))
 tick_within s k m l r t = (tick_keeps (Within s k m) m k (return_within s k m l) (rest_within s k m l) s [] r (within_nothing s k m r.orders.agents t)).1

@@ -100,8 +100,9 @@ places_after : (s t : Rows) (m k : ℕ) → k ≡ s.last_stamp + 1 → OnePlace 
 places_after s t m k e single t0 h p =
     let a = h p in
     (elim (k == p) as (λ b. (k == p) ≡ b → count (at_place p) t.connections ≤ one b + count (at_place p) s.connections → count (at_place p) t.connections ≤ 1) [
-      true ↦ λ q l. let same : k ≡ p = eqb-true k p q in let z = no_place s m p t0 (omega (arith, same, e)) in omega (arith, l, z)
-      | false ↦ λ q l. let o = single p in omega (arith, l, o) ]) refl a
+      | true ↦ λ q l. let same : k ≡ p = eqb-true k p q in let z = no_place s m p t0 (omega (arith, same, e)) in omega (arith, l, z)
+      | false ↦ λ q l. let o = single p in omega (arith, l, o)
+    ]) refl a
 
 -- figures
 
@@ -142,11 +143,11 @@ new_counted j n f e = rw e (omega arith, omega arith)
 none_held : (s : Rows) (d : ℕ) → Rules s → is_group s d ≡ false → holding s d ≡ 0
 none_held s d r e =
     let a = count_zero (waits_in d) s.connections (λ x i. false_from_ne_true (waits_in d x) (λ q.
-      let h = and_parts (x.device == d) (is_queued x.state) q in
-      cc (e, subst (λ v. is_group s v ≡ true) (eqb-true x.device d h.0) (stands x x.state h.1 (every_among (ConnectionRule s) s.connections x r.connections i).2)))) in
+    let h = and_parts (x.device == d) (is_queued x.state) q in
+    cc (e, subst (λ v. is_group s v ≡ true) (eqb-true x.device d h.0) (stands x x.state h.1 (every_among (ConnectionRule s) s.connections x r.connections i).2)))) in
     let b = count_zero (rings_from d) s.connections (λ x i. false_from_ne_true (rings_from d x) (λ q.
-      let h = and_parts (has x.group d) (is_alerting x.state) q in
-      cc (e, column x.group h.0 (every_among (ConnectionRule s) s.connections x r.connections i).1))) in
+    let h = and_parts (has x.group d) (is_alerting x.state) q in
+    cc (e, column x.group h.0 (every_among (ConnectionRule s) s.connections x r.connections i).1))) in
     omega (arith, a, b)
   where
     stands : (x : ConnectionRecord) (st : ConnectionState) → is_queued st ≡ true → StandsAt s x st → is_group s x.device ≡ true
@@ -156,6 +157,7 @@ none_held s d r e =
     stands x S.Connected q h = absurd (cc (q))
     stands x S.Hold q h = absurd (cc (q))
     stands x S.Fail q h = absurd (cc (q))
+
     column : (o : Option ℕ) → has o d ≡ true → GroupColumn s o → is_group s d ≡ true
     column None q h = absurd (cc (q))
     column (Some g) q h = subst (λ v. is_group s v ≡ true) (eqb-true g d q) h
@@ -232,13 +234,18 @@ keeps_ended s t es k m h e l a b rules offers =
     let few = a.few in let le = h.last_event in let same = a.last_event in
     let c = counters_ended s t es k m n e a.last_call a.last_monitor h.last_call h.last_monitor (omega (arith, few, le)) in
     record {
-      rules = rules; sizes = sizes_ended t es k m n a.sizes; last_call = c.0; last_monitor = c.1; last_event = c.2;
+      rules = rules;
+      sizes = sizes_ended t es k m n a.sizes;
+      last_call = c.0;
+      last_monitor = c.1;
+      last_event = c.2;
       timed = timed_ended t es k m n a.timed;
       places = places_ended t es k m n (places_after s t s.last_moment k e h.places h.timed a.places);
       figures = figures_ended s t es k m n e l a.waits a.entries kept;
       offers = offers;
       monitors = monitors_ended t es k m n (omega (arith, same)) (planned_ended t es k m n) a.monitors;
-      balance = balance_ended s t es k m n kept b }
+      balance = balance_ended s t es k m n kept b;
+    }
 
 keeps_step : (s : Rows) (moment : ℕ) (c : Command) → KeepsRules s → KeepsRules (step s moment c).rows
 unfolding step
@@ -249,7 +256,7 @@ keeps_step s moment c h =
     let es : List Event = events_of m ms in
     let before : Before s k m = record { rules = h.rules; timed = timed_more s.last_stamp k s.last_moment m s (omega arith) (omega arith) h.timed; stamp = omega arith; sizes = h.sizes; monitors = h.monitors } in
     keeps_ended s (moved s ms) es k m h refl (omega arith) (after_moves s k m c before) (follows_step s m k s.last_stamp c h.rules (omega arith)).balances
-      (rules_step s moment c h.rules) (step_leaves_no_offer s moment c h.rules)
+    (rules_step s moment c h.rules) (step_leaves_no_offer s moment c h.rules)
 
 stamp_step : (s : Rows) (moment : ℕ) (c : Command) → (step s moment c).rows.last_stamp ≡ s.last_stamp + 1
 unfolding step with_last
@@ -273,8 +280,19 @@ step_keeps_rules s moment c e l =
 -- runs
 
 keeps_first : (limits : Limits) → limits_fit limits ≡ true → KeepsRules (empty_rows limits)
-keeps_first limits e = record { rules = rules_first limits; sizes = record { limits = e; groups = omega arith; stations = omega arith; agents = omega arith; calls = omega arith; monitors = omega arith };
-    last_call = omega arith; last_monitor = omega arith; timed = record { agents = tt; calls = tt; connections = tt }; places = λ p. omega arith; figures = tt; last_event = omega arith; offers = λ g i. absurd i; monitors = tt; balance = tt }
+keeps_first limits e = record {
+  rules = rules_first limits;
+  sizes = record { limits = e; groups = omega arith; stations = omega arith; agents = omega arith; calls = omega arith; monitors = omega arith };
+  last_call = omega arith;
+  last_monitor = omega arith;
+  timed = record { agents = tt; calls = tt; connections = tt };
+  places = λ p. omega arith;
+  figures = tt;
+  last_event = omega arith;
+  offers = λ g i. absurd i;
+  monitors = tt;
+  balance = tt;
+}
 
 run_on : (asked : List Asked) (s : Rows) → BreaksNoRule s → s.last_stamp + length asked ≤ s.limits.requests → BreaksNoRule (run s asked).rows
 unfolding run
@@ -295,9 +313,14 @@ rules_bound s e =
     let h = keeps_read s e in
     let g = greatest s h.sizes.limits in
     record {
-      requests = g.requests; last_stamp = requests_read s e; last_call = h.last_call; last_monitor = h.last_monitor; last_event = h.last_event;
+      requests = g.requests;
+      last_stamp = requests_read s e;
+      last_call = h.last_call;
+      last_monitor = h.last_monitor;
+      last_event = h.last_event;
       figures = λ x i. let a = every_among (IsCountedUpTo s.last_stamp s.last_moment) s.groups x h.figures i in let b = every_among (IsBalanced s) s.groups x h.balance i in
-        record { entered = a.0; answered = omega (arith, b); abandoned = omega (arith, b); moved = omega (arith, b); waited = a.1 } }
+          record { entered = a.0; answered = omega (arith, b); abandoned = omega (arith, b); moved = omega (arith, b); waited = a.1 };
+    }
 
 pub rules_leave_room : RulesLeaveRoom
 rules_leave_room s g e l i =

@@ -85,10 +85,19 @@ unchanged s h = record { limits = refl; groups = refl; stations = refl; agents =
 
 pub steadied_then : (s t u : Rows) → Steadied s t → Steadied t u → Steadied s u
 steadied_then s t u f g = record {
-    limits = g.limits ∙ f.limits; groups = g.groups ∙ f.groups; stations = g.stations ∙ f.stations; agents = g.agents ∙ f.agents; ascending = g.ascending;
-    known = λ n e. g.known n (f.known n e);
-    calls = (let a = f.calls in let b = g.calls in omega (arith, a, b)); monitors = λ w a. f.monitors w (g.monitors w a); running = (let a = f.running in let b = g.running in omega (arith, a, b));
-    last_call = g.last_call ∙ f.last_call; last_monitor = g.last_monitor ∙ f.last_monitor; last_event = g.last_event ∙ f.last_event }
+  limits = g.limits ∙ f.limits;
+  groups = g.groups ∙ f.groups;
+  stations = g.stations ∙ f.stations;
+  agents = g.agents ∙ f.agents;
+  ascending = g.ascending;
+  known = λ n e. g.known n (f.known n e);
+  calls = (let a = f.calls in let b = g.calls in omega (arith, a, b));
+  monitors = λ w a. f.monitors w (g.monitors w a);
+  running = (let a = f.running in let b = g.running in omega (arith, a, b));
+  last_call = g.last_call ∙ f.last_call;
+  last_monitor = g.last_monitor ∙ f.last_monitor;
+  last_event = g.last_event ∙ f.last_event;
+}
 
 -- lengths
 
@@ -106,7 +115,7 @@ length-put_agent : (s : Rows) (a : AgentRecord) → IsAscending agent_order s.ag
 length-put_agent s a h e =
     let z = some_from (agent_of s a.agent) e in
     let c = count-put_old agent_order agents_total (λ (y : AgentRecord). y.agent == a.agent) (λ _. true) a
-      (λ y q. eq-eqb y.agent a.agent (sym (cmp_equal a.agent y.agent q))) (λ y q. cmp_self a.agent y.agent (sym (eqb-true y.agent a.agent q))) s.agents h z.0 (sym (agent_find s a.agent) ∙ z.1) in
+    (λ y q. eq-eqb y.agent a.agent (sym (cmp_equal a.agent y.agent q))) (λ y q. cmp_self a.agent y.agent (sym (eqb-true y.agent a.agent q))) s.agents h z.0 (sym (agent_find s a.agent) ∙ z.1) in
     let p = count_all (put_by (agent_order a) s.agents a) in let q = count_all s.agents in omega (arith, c, p, q)
 
 known_put : (s : Rows) (a : AgentRecord) (n : ℕ) → knows s n ≡ true → knows (with_agent s a) n ≡ true
@@ -157,8 +166,12 @@ sizes_steadied s t f h =
     let p = f.agents in let q = f.calls in let r = f.running in
     record {
       limits = subst (λ l. limits_fit l ≡ true) (sym f.limits) h.limits;
-      groups = rw (f.groups, f.limits) a; stations = rw (f.stations, f.limits) b;
-      agents = rw (f.limits) (omega (arith, c, p)); calls = rw (f.limits) (omega (arith, d, q)); monitors = rw (f.limits) (omega (arith, e, r)) }
+      groups = rw (f.groups, f.limits) a;
+      stations = rw (f.stations, f.limits) b;
+      agents = rw (f.limits) (omega (arith, c, p));
+      calls = rw (f.limits) (omega (arith, d, q));
+      monitors = rw (f.limits) (omega (arith, e, r));
+    }
 
 planned_same : (s t : Rows) → t.groups ≡ s.groups → t.stations ≡ s.stations → (d : ℕ) → is_planned t d ≡ is_planned s d
 unfolding group_of station_of
@@ -187,8 +200,15 @@ pub settled : (s : Rows) (ms : List Move) → IsAscending agent_order s.agents �
 settled s ms h a =
     let f = steadied s ms h a in
     let c = f.last_call in let d = f.last_monitor in
-    record { sizes = sizes_steadied s (moved s ms) f; monitors = monitored_steadied s (moved s ms) f; groups = λ g i. inl (subst (Among g) f.groups i); limits = f.limits;
-      last_call = omega (arith, c); last_monitor = omega (arith, d); last_event = f.last_event }
+    record {
+      sizes = sizes_steadied s (moved s ms) f;
+      monitors = monitored_steadied s (moved s ms) f;
+      groups = λ g i. inl (subst (Among g) f.groups i);
+      limits = f.limits;
+      last_call = omega (arith, c);
+      last_monitor = omega (arith, d);
+      last_event = f.last_event;
+    }
 
 pub settled_nothing : (s : Rows) → Settled s []
 settled_nothing s = record { sizes = λ h. h; monitors = λ h. h; groups = λ g i. inl i; limits = refl; last_call = omega arith; last_monitor = omega arith; last_event = refl }

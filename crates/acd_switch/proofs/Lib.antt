@@ -2,3 +2,4 @@ pub mod Rounds
 pub mod Closing
 pub mod RoomOfRules
 pub mod Refusing
+pub mod Beginning

@@ -1,7 +1,8 @@
 //! The switch.
 
-ghost use Rattle.std.specs.Prelude.{◌≡◌, ◌<◌, ◌+◌, ◌-◌, ◌^◌, ◌++◌, length, nat_le, IfOk, IfErr, OnOk};
+ghost use Rattle.std.specs.Prelude.{◌≡◌, ◌<◌, ◌+◌, ◌-◌, ◌^◌, ◌++◌, length, true, nat_le, IfOk, IfErr, OnOk};
 ghost use Rattle.acd_terms.specs.Writes.{empty_rows};
+ghost use Rattle.acd_terms.specs.Limits.{limits_fit};
 ghost use Rattle.acd_terms.specs.Moves.{moved, events_of};
 ghost use Rattle.acd_terms.specs.Served.{outcome_of, moves_of};
 ghost use Rattle.acd_terms.specs.Services.Serve.{serve};
@@ -43,9 +44,11 @@ impl Model for Switch {
 }
 
 impl Switch {
-    /// A switch with no plan, no call and no executed request.
+    /// A switch with no plan, no call and no executed request. The caller keeps the limits so that they
+    /// fit ([`Limits::fits`]).
     pub fn new(alloc: Global, limits: Limits) -> Self
-        ensures { result ≡ empty_rows limits }
+        ensures empty { result ≡ empty_rows limits }
+        ensures kept { limits_fit limits ≡ true → BreaksNoRule result }
     {
         Switch {
             alloc,

@@ -6,6 +6,9 @@ use Rattle.acd_switch.proofs.RoomOfRules.{has_room, fits_after}
 use Rattle.acd_laws.proofs.RulesAll.{step_keeps_rules}
 use Rattle.acd_switch.proofs.switch.execute.Goals as goal
 
+pub overflow_add-stamp : goal.overflow_add-stamp
+overflow_add-stamp c = let room = has_room c.args.tables.now c.requires.rules c.requires.room in omega (arith, room.stamp, c.last_stamp-stamp.ensures)
+
 pub run_command-requires : goal.run_command-requires
 run_command-requires c = has_room c.args.tables.now c.requires.rules c.requires.room
 
@@ -17,7 +20,7 @@ close-requires c =
     let kept = step_keeps_rules c.args.tables.now c.args.moment c.args.command.now c.requires.rules c.requires.room in
     subst Fits
     (sym (rows_is c.args.tables.now c.run_command.new.tables c.distribute.new.tables c.args.moment c.max-moment.result _ c.last_event-last.result c.args.command.now _ _ _
-      executed stamp c.last_event-last.ensures c.new-events.ensures.items c.in_ok-outcome.ensures.rows c.in_ok-outcome.ensures.events c.in_ok-distribute.ensures.rows c.in_ok-distribute.ensures.events))
+    executed stamp c.last_event-last.ensures c.new-events.ensures.items c.in_ok-outcome.ensures.rows c.in_ok-outcome.ensures.events c.in_ok-distribute.ensures.rows c.in_ok-distribute.ensures.events))
     (fits_after c.args.tables.now c.args.moment c.args.command.now c.requires.rules c.requires.room kept small)
 
 pub returns-clause-rows : goal.returns-clause-rows
