@@ -1,5 +1,5 @@
 -- What a run leaves is sound: it replays to itself.
-use Rattle.std.proofs.Common.{◌≡◌, ℕ, ◌+◌, ◌<◌, ◌≤◌, List, [], ◌∷◌, ◌++◌, length, take, map, zero, suc, refl, sym, ap, ap₂, subst, ◌∙◌, arith, append_assoc, append-nil, Bool, true, false, cond, ◌||◌, take_all, length-take}
+use Rattle.std.proofs.Common.{◌≡◌, ℕ, ◌+◌, ◌<◌, ◌≤◌, List, [], ◌∷◌, ◌++◌, length, take, map, zero, suc, refl, sym, ap, ap₂, subst, ◌∙◌, arith, append_assoc, append-nil, Bool, true, false, cond, ◌||◌, take_all, length-take, inl, inr}
 use Rattle.std.proofs.lemmas.List.{map-append}
 use Rattle.std.proofs.lemmas.Grind.{common_steps}
 use Rattle.acd_terms.specs.Limits.{limits_fit}
@@ -11,7 +11,7 @@ use Rattle.acd_terms.specs.declared.answer.Outcome.{Outcome}
 use Rattle.acd_book.specs.declared.kept.Kept.{Kept}
 use Rattle.acd_book.specs.Content.{Content, empty_content, is_key}
 use Rattle.acd_desk.specs.Firsts.{has_key, distinct_from, firsts, kept_at, record_of, executed, run_from, run}
-use Rattle.acd_desk.specs.Stands.{arrivals_of, IsSound, ran_after, raised_from}
+use Rattle.acd_desk.specs.Stands.{arrivals_of, IsSound, ran_after, raised_from, StopsAt}
 use Rattle.acd_desk.proofs.Steps.{step_raised, raised_again}
 use Rattle.acd_desk.proofs.Keys.{key_same}
 use Rattle.acd_desk.proofs.Runs.{has-push, run-limits}
@@ -131,3 +131,10 @@ ran_sound start l sound = run_sound start.rows.limits (arrivals_of start.kept ++
 -- what a run has kept is its first arrivals, each at its executed moment
 pub ran_kept : (start : Content) (l : List Arrival) → arrivals_of (ran_after start l).kept ≡ raised_from (empty_content start.rows.limits) (firsts start.rows.limits.requests (arrivals_of start.kept ++ l))
 ran_kept start l = kept-raised (firsts start.rows.limits.requests (arrivals_of start.kept ++ l)) (empty_content start.rows.limits)
+
+-- whatever a stop leaves is sound
+pub stop_sound : (start : Content) (l others : List Arrival) (c : Content) → IsSound start → StopsAt start l others c → IsSound c
+stop_sound start l others c sound at = elim at [
+  | inl same ↦ subst IsSound (sym same) (ran_sound start l sound)
+  | inr more ↦ subst IsSound (sym more.2) (ran_sound start (l ++ more.0 ∷ []) sound)
+  ]

@@ -87,19 +87,12 @@ impl<B: Book> Desk<B> {
         let Ok(next) = Next::executed(self.alloc, &self.switch, moment, request) else {
             return Taken::NoMemory;
         };
-        let Next {
-            switch,
-            rows,
-            events,
-            kept,
-        } = next;
-        match self.book.commit(&rows, &events, &kept) {
-            Ok(()) => {
-                self.switch = switch;
-                let Kept { status, body, .. } = kept;
-                Taken::Reply { status, body }
+        match self.book.commit(&next.rows, &next.events, &next.kept) {
+            Ok(()) => next.exchanged(&mut self.switch),
+            Err(fault) => {
+                drop(next);
+                self.fault(fault)
             }
-            Err(fault) => self.fault(fault),
         }
     }
 

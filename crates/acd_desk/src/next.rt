@@ -5,9 +5,10 @@ ghost use Rattle.acd_terms.specs.Rules.First.{BreaksNoRule};
 ghost use Rattle.acd_desk.specs.Arrived.{at};
 ghost use Rattle.acd_desk.specs.Firsts.{stepped, kept_at, record_of};
 
+use crate::taken::Taken;
 use acd_book::kept::Kept;
 use acd_book::text::Text;
-use acd_codec::replies::{outcome_status, reply_text};
+use acd_codec::{outcome_status, reply_text};
 use acd_switch::row_fault::RowFault;
 use acd_switch::switch::Switch;
 use acd_terms::answer::Outcome;
@@ -51,6 +52,22 @@ impl Next {
             events,
             kept,
         })
+    }
+
+    /// The second switch takes the place of the first, and the reply goes out. It takes no memory.
+    pub(crate) fn exchanged(self, switch: &mut Switch) -> Taken
+        ensures switch { switch.new ≡ self.switch }
+        ensures reply { result ≡ Taken.Reply self.kept.status self.kept.body }
+    {
+        let Next {
+            switch: next,
+            rows: _,
+            events: _,
+            kept,
+        } = self;
+        *switch = next;
+        let Kept { status, body, .. } = kept;
+        Taken::Reply { status, body }
     }
 }
 
