@@ -40,6 +40,7 @@ pub mod SoundOffers
 pub mod Steady
 pub mod Orderly
 pub mod Behaving
+pub mod BehavingCalls
 pub mod Rounds
 pub mod Numbers
 pub mod Following

@@ -7,5 +7,7 @@
 
 pub mod distribution;
 pub mod row_fault;
+#[cfg(test)]
+mod rows_tests;
 pub mod switch;
 pub mod tick;

@@ -142,9 +142,9 @@ impl Tables {
         ensures { result ≡ first_eligible self.now group }
     {
         let mut best = None;
-        for a in self.agents.as_slice() {
-            if self.is_eligible(group, a) {
-                best = Some(lesser_agent(best, (a.stamp, a.agent)));
+        for agent in self.agents.as_slice() {
+            if self.is_eligible(group, agent) {
+                best = Some(lesser_agent(best, (agent.stamp, agent.agent)));
             }
         }
         best

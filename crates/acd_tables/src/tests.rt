@@ -83,18 +83,6 @@ fn queue(rt: &impl Abort, tables: &mut Tables, call: u64, place: u64) -> Result<
     })
 }
 
-fn plain(rt: &impl Abort, call: u64, at: &str, state: ConnectionState) -> ConnectionRecord {
-    ConnectionRecord {
-        call,
-        device: device(rt, at),
-        state,
-        group: None,
-        place: None,
-        queued: None,
-        offered: None,
-    }
-}
-
 #[test]
 fn a_table_keeps_the_order_of_its_keys(rt: HostRuntime) -> Result<(), Fail> {
     let mut table: Table<StationRecord> = Table::new(rt.alloc());
@@ -108,102 +96,71 @@ fn a_table_keeps_the_order_of_its_keys(rt: HostRuntime) -> Result<(), Fail> {
     Ok(())
 }
 
+fn plan(rt: &impl Abort, tables: &mut Tables) -> Result<(), AllocError> {
+    plan_group(rt, tables, "500")?;
+    plan_station(rt, tables, "101")?;
+    log_on(rt, tables, "3", "103", 5)?;
+    log_on(rt, tables, "2", "102", 5)
+}
+
 #[test]
-fn plans_devices(rt: HostRuntime) -> Result<(), Fail> {
+fn plans_devices_and_agents(rt: HostRuntime) -> Result<(), Fail> {
     let mut tables = Tables::new(rt.alloc(), Limits::GREATEST);
-    plan_group(&rt, &mut tables, "500")?;
-    plan_station(&rt, &mut tables, "101")?;
-    assert!(rt; tables.kind_of(device(&rt, "500")) == Some(DeviceKind::Group));
+    plan(&rt, &mut tables)?;
+    let help = device(&rt, "500");
+    assert!(rt; tables.kind_of(help) == Some(DeviceKind::Group));
     assert!(rt; tables.kind_of(device(&rt, "101")) == Some(DeviceKind::Station));
+    let (stamp, number) = tables.first_eligible(help).ok_or("none")?;
+    assert!(rt; stamp == 5 && number == agent(&rt, "2"));
     Ok(())
 }
 
-// Two calls wait, the second at the lesser place.
 fn queue_two(rt: &impl Abort, tables: &mut Tables) -> Result<(), AllocError> {
     queue(rt, tables, 1, 9)?;
-    queue(rt, tables, 2, 8)
+    queue(rt, tables, 2, 8)?;
+    queue(rt, tables, 3, 7)?;
+    tables.remove_connection(3, device(rt, "500"))
 }
 
 #[test]
 fn chooses_the_least_place(rt: HostRuntime) -> Result<(), Fail> {
     let mut tables = Tables::new(rt.alloc(), Limits::GREATEST);
     queue_two(&rt, &mut tables)?;
-    let help = device(&rt, "500");
     assert!(rt; tables.queued_count() == 2);
-    assert!(rt; tables.first_waiting(help) == Some((8, 2)));
-    tables.remove_connection(2, help)?;
-    assert!(rt; tables.first_waiting(help) == Some((9, 1)));
+    assert!(rt; tables.first_waiting(device(&rt, "500")) == Some((8, 2)));
     Ok(())
 }
 
-// Three agents are ready, the second and third for the longest.
-fn log_on_three(rt: &impl Abort, tables: &mut Tables) -> Result<(), AllocError> {
-    log_on(rt, tables, "1", "101", 6)?;
-    log_on(rt, tables, "3", "103", 5)?;
-    log_on(rt, tables, "2", "102", 5)
-}
-
-#[test]
-fn chooses_the_least_stamp(rt: HostRuntime) -> Result<(), Fail> {
-    let mut tables = Tables::new(rt.alloc(), Limits::GREATEST);
-    log_on_three(&rt, &mut tables)?;
-    let (stamp, number) = tables.first_eligible(device(&rt, "500")).ok_or("none")?;
-    assert!(rt; stamp == 5);
-    assert!(rt; number == agent(&rt, "2"));
-    Ok(())
-}
-
-#[test]
-fn finds_the_parties_of_a_call(rt: HostRuntime) -> Result<(), Fail> {
-    let mut tables = Tables::new(rt.alloc(), Limits::GREATEST);
-    let caller = plain(&rt, 7, "0201", ConnectionState::Connected);
-    let called = plain(&rt, 7, "101", ConnectionState::Fail);
-    tables.put_connection(caller)?;
-    tables.put_connection(called)?;
-    assert!(rt; tables.is_idle(called.device));
-    assert!(rt; tables.connections_of(7) == [Some(called), Some(caller)]);
-    assert!(rt; tables.other_of(&called) == Some(caller));
-    Ok(())
-}
-
-#[test]
-fn raises_the_last_call(rt: HostRuntime) -> Result<(), Fail> {
-    let mut tables = Tables::new(rt.alloc(), Limits::GREATEST);
-    let caller = device(&rt, "0201");
+fn ring_and_end(rt: &impl Abort, tables: &mut Tables) -> Result<(), AllocError> {
     tables.put_call(CallRecord {
         call: 7,
-        caller,
-        called: device(&rt, "101"),
+        caller: device(rt, "0201"),
+        called: device(rt, "101"),
         since: 4,
     })?;
-    assert!(rt; tables.is_used(caller));
-    tables.remove_call(7)?;
-    assert!(rt; tables.call(7).is_none() && tables.last_call() == 7);
-    Ok(())
+    tables.remove_call(7)
 }
 
-#[test]
-fn raises_the_last_monitor(rt: HostRuntime) -> Result<(), Fail> {
-    let mut tables = Tables::new(rt.alloc(), Limits::GREATEST);
+fn watch_and_end(rt: &impl Abort, tables: &mut Tables) -> Result<(), AllocError> {
     tables.put_monitor(MonitorRecord {
         monitor: 2,
-        device: device(&rt, "500"),
+        device: device(rt, "500"),
         after_event: 1,
     })?;
-    tables.remove_monitor(2)?;
-    assert!(rt; tables.monitor(2).is_none() && tables.last_monitor() == 2);
-    Ok(())
+    tables.remove_monitor(2)
 }
 
 #[test]
 fn keeps_the_last_numbers(rt: HostRuntime) -> Result<(), Fail> {
     let mut tables = Tables::new(rt.alloc(), Limits::GREATEST);
-    tables.set_last(5, 6, 7);
-    tables.set_last_ids(8, 9);
     tables.add_figures(&[]);
+    tables.set_last_ids(6, 1);
+    ring_and_end(&rt, &mut tables)?;
+    watch_and_end(&rt, &mut tables)?;
+    tables.set_last(5, 6, 9);
     let rows = tables.rows(rt.alloc())?;
-    assert!(rt; rows.last_stamp == 5 && rows.last_moment == 6 && rows.last_event == 7);
-    assert!(rt; rows.last_call == 8 && rows.last_monitor == 9);
+    assert!(rt; rows.last_stamp == 5 && rows.last_moment == 6 && rows.last_event == 9);
+    assert!(rt; rows.last_call == 7 && rows.last_monitor == 2);
     Ok(())
 }
 

@@ -1,4 +1,3 @@
-use Rattle.std.proofs.Common.{◌≡◌}
 use Rattle.acd_tables.specs.Counting.{figures_in}
 use Rattle.acd_tables.proofs.FigureLemmas.{counted-next, counted-all, AreFitting-part}
 use Rattle.acd_tables.proofs.figures.figures_after.Goals as goal

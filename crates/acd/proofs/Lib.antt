@@ -1,0 +1,7 @@
+pub mod Moments
+pub mod Sends
+pub mod Kept
+pub mod Cuts
+pub mod AnswerTexts
+pub mod Reaching
+pub mod Turns

@@ -1,0 +1,4 @@
+pub mod Input
+pub mod Answers
+pub mod Output
+pub mod Parts

@@ -1,0 +1,638 @@
+//! The worked examples.
+
+use super::*;
+
+#[test]
+fn call_waits(rt: HostRuntime) {
+    play(
+        &rt,
+        rt.alloc(),
+        &[PLAN, CALL_ARRIVES],
+        &[r#"{"call":1,"cause":"newCall","device":"100","event":"queued","moment":10,"number":1}"#],
+    );
+}
+
+#[test]
+fn offered_to_the_ready_agent(rt: HostRuntime) {
+    play(
+        &rt,
+        rt.alloc(),
+        &[PLAN, CALL_ARRIVES, ANA_BECOMES_READY],
+        &[
+            r#"{"call":1,"cause":"newCall","device":"100","event":"queued","moment":10,"number":1}"#,
+            r#"{"agent":"7","device":"201","event":"agentLoggedOn","group":"100","moment":15,"number":2}"#,
+            r#"{"agent":"7","device":"201","event":"agentReady","moment":18,"number":3}"#,
+            r#"{"call":1,"cause":"distributed","device":"100","event":"diverted","group":"100","moment":18,"number":4,"to":"201"}"#,
+            r#"{"call":1,"cause":"distributed","device":"201","event":"delivered","group":"100","moment":18,"number":5}"#,
+        ],
+    );
+}
+
+#[test]
+fn answered_call(rt: HostRuntime) {
+    play(
+        &rt,
+        rt.alloc(),
+        &[PLAN, CALL_ARRIVES, ANA_BECOMES_READY, ANA_ANSWERS],
+        &[
+            r#"{"call":1,"cause":"newCall","device":"100","event":"queued","moment":10,"number":1}"#,
+            r#"{"agent":"7","device":"201","event":"agentLoggedOn","group":"100","moment":15,"number":2}"#,
+            r#"{"agent":"7","device":"201","event":"agentReady","moment":18,"number":3}"#,
+            r#"{"call":1,"cause":"distributed","device":"100","event":"diverted","group":"100","moment":18,"number":4,"to":"201"}"#,
+            r#"{"call":1,"cause":"distributed","device":"201","event":"delivered","group":"100","moment":18,"number":5}"#,
+            r#"{"call":1,"device":"201","event":"established","group":"100","moment":25,"number":6,"waited":15}"#,
+            r#"{"agent":"7","device":"201","event":"agentBusy","moment":25,"number":7}"#,
+        ],
+    );
+}
+
+#[test]
+fn longest_ready_first(rt: HostRuntime) {
+    play(
+        &rt,
+        rt.alloc(),
+        &[PLAN, TWO_READY],
+        &[
+            r#"{"agent":"7","device":"201","event":"agentLoggedOn","group":"100","moment":5,"number":1}"#,
+            r#"{"agent":"8","device":"202","event":"agentLoggedOn","group":"100","moment":5,"number":2}"#,
+            r#"{"agent":"8","device":"202","event":"agentReady","moment":6,"number":3}"#,
+            r#"{"agent":"7","device":"201","event":"agentReady","moment":7,"number":4}"#,
+            r#"{"call":1,"cause":"newCall","device":"100","event":"queued","moment":10,"number":5}"#,
+            r#"{"call":1,"cause":"distributed","device":"100","event":"diverted","group":"100","moment":10,"number":6,"to":"202"}"#,
+            r#"{"call":1,"cause":"distributed","device":"202","event":"delivered","group":"100","moment":10,"number":7}"#,
+        ],
+    );
+}
+
+#[test]
+fn wrap_up_and_tick(rt: HostRuntime) {
+    play(
+        &rt,
+        rt.alloc(),
+        &[
+            PLAN,
+            TWO_READY,
+            &[
+                (
+                    11,
+                    r#"{"called":"100","caller":"0309999","invoke":2,"requester":"pbx","service":"arriveCall"}"#,
+                    200,
+                    r#"{"invoke":2,"requester":"pbx","result":{"call":2}}"#,
+                ),
+                (
+                    12,
+                    r#"{"call":1,"device":"202","invoke":5,"requester":"desk","service":"answerCall"}"#,
+                    200,
+                    r#"{"invoke":5,"requester":"desk","result":{}}"#,
+                ),
+                (
+                    13,
+                    r#"{"call":2,"device":"201","invoke":6,"requester":"desk","service":"answerCall"}"#,
+                    200,
+                    r#"{"invoke":6,"requester":"desk","result":{}}"#,
+                ),
+                (
+                    50,
+                    r#"{"call":1,"device":"0301234","invoke":3,"requester":"pbx","service":"clearConnection"}"#,
+                    200,
+                    r#"{"invoke":3,"requester":"pbx","result":{}}"#,
+                ),
+                (
+                    52,
+                    r#"{"call":2,"device":"0309999","invoke":4,"requester":"pbx","service":"clearConnection"}"#,
+                    200,
+                    r#"{"invoke":4,"requester":"pbx","result":{}}"#,
+                ),
+                (
+                    82,
+                    r#"{"invoke":1,"requester":"clock","service":"tick"}"#,
+                    200,
+                    r#"{"invoke":1,"requester":"clock","result":{}}"#,
+                ),
+                (
+                    83,
+                    r#"{"called":"100","caller":"0305555","invoke":5,"requester":"pbx","service":"arriveCall"}"#,
+                    200,
+                    r#"{"invoke":5,"requester":"pbx","result":{"call":3}}"#,
+                ),
+            ],
+        ],
+        &[
+            r#"{"agent":"7","device":"201","event":"agentLoggedOn","group":"100","moment":5,"number":1}"#,
+            r#"{"agent":"8","device":"202","event":"agentLoggedOn","group":"100","moment":5,"number":2}"#,
+            r#"{"agent":"8","device":"202","event":"agentReady","moment":6,"number":3}"#,
+            r#"{"agent":"7","device":"201","event":"agentReady","moment":7,"number":4}"#,
+            r#"{"call":1,"cause":"newCall","device":"100","event":"queued","moment":10,"number":5}"#,
+            r#"{"call":1,"cause":"distributed","device":"100","event":"diverted","group":"100","moment":10,"number":6,"to":"202"}"#,
+            r#"{"call":1,"cause":"distributed","device":"202","event":"delivered","group":"100","moment":10,"number":7}"#,
+            r#"{"call":2,"cause":"newCall","device":"100","event":"queued","moment":11,"number":8}"#,
+            r#"{"call":2,"cause":"distributed","device":"100","event":"diverted","group":"100","moment":11,"number":9,"to":"201"}"#,
+            r#"{"call":2,"cause":"distributed","device":"201","event":"delivered","group":"100","moment":11,"number":10}"#,
+            r#"{"call":1,"device":"202","event":"established","group":"100","moment":12,"number":11,"waited":2}"#,
+            r#"{"agent":"8","device":"202","event":"agentBusy","moment":12,"number":12}"#,
+            r#"{"call":2,"device":"201","event":"established","group":"100","moment":13,"number":13,"waited":2}"#,
+            r#"{"agent":"7","device":"201","event":"agentBusy","moment":13,"number":14}"#,
+            r#"{"call":1,"device":"0301234","event":"connectionCleared","moment":50,"number":15}"#,
+            r#"{"call":1,"device":"202","event":"connectionCleared","moment":50,"number":16}"#,
+            r#"{"call":1,"event":"callCleared","moment":50,"number":17}"#,
+            r#"{"agent":"8","device":"202","event":"agentWorkingAfterCall","moment":50,"number":18}"#,
+            r#"{"call":2,"device":"0309999","event":"connectionCleared","moment":52,"number":19}"#,
+            r#"{"call":2,"device":"201","event":"connectionCleared","moment":52,"number":20}"#,
+            r#"{"call":2,"event":"callCleared","moment":52,"number":21}"#,
+            r#"{"agent":"7","device":"201","event":"agentWorkingAfterCall","moment":52,"number":22}"#,
+            r#"{"agent":"7","device":"201","event":"agentReady","moment":82,"number":23}"#,
+            r#"{"agent":"8","device":"202","event":"agentReady","moment":82,"number":24}"#,
+            r#"{"call":3,"cause":"newCall","device":"100","event":"queued","moment":83,"number":25}"#,
+            r#"{"call":3,"cause":"distributed","device":"100","event":"diverted","group":"100","moment":83,"number":26,"to":"201"}"#,
+            r#"{"call":3,"cause":"distributed","device":"201","event":"delivered","group":"100","moment":83,"number":27}"#,
+        ],
+    );
+}
+
+#[test]
+fn pending_log_off(rt: HostRuntime) {
+    play(
+        &rt,
+        rt.alloc(),
+        &[
+            PLAN,
+            CALL_ARRIVES,
+            ANA_BECOMES_READY,
+            ANA_ANSWERS,
+            &[
+                (
+                    30,
+                    r#"{"agent":"7","invoke":4,"requested":"loggedOff","requester":"desk","service":"setAgentState"}"#,
+                    200,
+                    r#"{"invoke":4,"requester":"desk","result":{"pending":"loggedOff","state":"busy"}}"#,
+                ),
+                (
+                    40,
+                    r#"{"call":1,"device":"0301234","invoke":2,"requester":"pbx","service":"clearConnection"}"#,
+                    200,
+                    r#"{"invoke":2,"requester":"pbx","result":{}}"#,
+                ),
+            ],
+        ],
+        &[
+            r#"{"call":1,"cause":"newCall","device":"100","event":"queued","moment":10,"number":1}"#,
+            r#"{"agent":"7","device":"201","event":"agentLoggedOn","group":"100","moment":15,"number":2}"#,
+            r#"{"agent":"7","device":"201","event":"agentReady","moment":18,"number":3}"#,
+            r#"{"call":1,"cause":"distributed","device":"100","event":"diverted","group":"100","moment":18,"number":4,"to":"201"}"#,
+            r#"{"call":1,"cause":"distributed","device":"201","event":"delivered","group":"100","moment":18,"number":5}"#,
+            r#"{"call":1,"device":"201","event":"established","group":"100","moment":25,"number":6,"waited":15}"#,
+            r#"{"agent":"7","device":"201","event":"agentBusy","moment":25,"number":7}"#,
+            r#"{"call":1,"device":"0301234","event":"connectionCleared","moment":40,"number":8}"#,
+            r#"{"call":1,"device":"201","event":"connectionCleared","moment":40,"number":9}"#,
+            r#"{"call":1,"event":"callCleared","moment":40,"number":10}"#,
+            r#"{"agent":"7","device":"201","event":"agentLoggedOff","moment":40,"number":11}"#,
+        ],
+    );
+}
+
+#[test]
+fn no_answer_returns_to_its_place(rt: HostRuntime) {
+    play(
+        &rt,
+        rt.alloc(),
+        &[
+            PLAN,
+            &[
+                (
+                    90,
+                    r#"{"agent":"7","device":"201","group":"100","invoke":1,"requested":"loggedOn","requester":"desk","service":"setAgentState"}"#,
+                    200,
+                    r#"{"invoke":1,"requester":"desk","result":{"state":"notReady"}}"#,
+                ),
+                (
+                    91,
+                    r#"{"agent":"7","invoke":2,"requested":"ready","requester":"desk","service":"setAgentState"}"#,
+                    200,
+                    r#"{"invoke":2,"requester":"desk","result":{"state":"ready"}}"#,
+                ),
+                (
+                    100,
+                    r#"{"called":"100","caller":"0301234","invoke":1,"requester":"pbx","service":"arriveCall"}"#,
+                    200,
+                    r#"{"invoke":1,"requester":"pbx","result":{"call":1}}"#,
+                ),
+                (
+                    119,
+                    r#"{"invoke":1,"requester":"clock","service":"tick"}"#,
+                    200,
+                    r#"{"invoke":1,"requester":"clock","result":{}}"#,
+                ),
+                (
+                    120,
+                    r#"{"invoke":2,"requester":"clock","service":"tick"}"#,
+                    200,
+                    r#"{"invoke":2,"requester":"clock","result":{}}"#,
+                ),
+            ],
+        ],
+        &[
+            r#"{"agent":"7","device":"201","event":"agentLoggedOn","group":"100","moment":90,"number":1}"#,
+            r#"{"agent":"7","device":"201","event":"agentReady","moment":91,"number":2}"#,
+            r#"{"call":1,"cause":"newCall","device":"100","event":"queued","moment":100,"number":3}"#,
+            r#"{"call":1,"cause":"distributed","device":"100","event":"diverted","group":"100","moment":100,"number":4,"to":"201"}"#,
+            r#"{"call":1,"cause":"distributed","device":"201","event":"delivered","group":"100","moment":100,"number":5}"#,
+            r#"{"call":1,"cause":"noAnswer","device":"201","event":"diverted","group":"100","moment":120,"number":6,"to":"100"}"#,
+            r#"{"call":1,"cause":"noAnswer","device":"100","event":"queued","moment":120,"number":7}"#,
+            r#"{"agent":"7","device":"201","event":"agentNotReady","moment":120,"number":8}"#,
+        ],
+    );
+}
+
+#[test]
+fn moment_never_goes_back(rt: HostRuntime) {
+    play(
+        &rt,
+        rt.alloc(),
+        &[
+            PLAN,
+            &[
+                (
+                    100,
+                    r#"{"called":"100","caller":"0301234","invoke":1,"requester":"pbx","service":"arriveCall"}"#,
+                    200,
+                    r#"{"invoke":1,"requester":"pbx","result":{"call":1}}"#,
+                ),
+                (
+                    50,
+                    r#"{"called":"100","caller":"0309999","invoke":2,"requester":"pbx","service":"arriveCall"}"#,
+                    200,
+                    r#"{"invoke":2,"requester":"pbx","result":{"call":2}}"#,
+                ),
+            ],
+        ],
+        &[
+            r#"{"call":1,"cause":"newCall","device":"100","event":"queued","moment":100,"number":1}"#,
+            r#"{"call":2,"cause":"newCall","device":"100","event":"queued","moment":100,"number":2}"#,
+        ],
+    );
+}
+
+#[test]
+fn busy_station_fails(rt: HostRuntime) {
+    play(
+        &rt,
+        rt.alloc(),
+        &[
+            PLAN,
+            CALL_ARRIVES,
+            ANA_BECOMES_READY,
+            ANA_ANSWERS,
+            &[
+                (
+                    26,
+                    r#"{"called":"201","caller":"0401","invoke":2,"requester":"pbx","service":"arriveCall"}"#,
+                    200,
+                    r#"{"invoke":2,"requester":"pbx","result":{"call":2}}"#,
+                ),
+                (
+                    27,
+                    r#"{"call":2,"device":"0401","invoke":3,"requester":"pbx","service":"clearConnection"}"#,
+                    200,
+                    r#"{"invoke":3,"requester":"pbx","result":{}}"#,
+                ),
+            ],
+        ],
+        &[
+            r#"{"call":1,"cause":"newCall","device":"100","event":"queued","moment":10,"number":1}"#,
+            r#"{"agent":"7","device":"201","event":"agentLoggedOn","group":"100","moment":15,"number":2}"#,
+            r#"{"agent":"7","device":"201","event":"agentReady","moment":18,"number":3}"#,
+            r#"{"call":1,"cause":"distributed","device":"100","event":"diverted","group":"100","moment":18,"number":4,"to":"201"}"#,
+            r#"{"call":1,"cause":"distributed","device":"201","event":"delivered","group":"100","moment":18,"number":5}"#,
+            r#"{"call":1,"device":"201","event":"established","group":"100","moment":25,"number":6,"waited":15}"#,
+            r#"{"agent":"7","device":"201","event":"agentBusy","moment":25,"number":7}"#,
+            r#"{"call":2,"cause":"busy","device":"201","event":"failed","moment":26,"number":8}"#,
+            r#"{"call":2,"device":"0401","event":"connectionCleared","moment":27,"number":9}"#,
+            r#"{"call":2,"device":"201","event":"connectionCleared","moment":27,"number":10}"#,
+            r#"{"call":2,"event":"callCleared","moment":27,"number":11}"#,
+        ],
+    );
+}
+
+#[test]
+fn private_call_then_distribution(rt: HostRuntime) {
+    play(
+        &rt,
+        rt.alloc(),
+        &[
+            PLAN,
+            &[
+                (
+                    5,
+                    r#"{"agent":"7","device":"201","group":"100","invoke":1,"requested":"loggedOn","requester":"desk","service":"setAgentState"}"#,
+                    200,
+                    r#"{"invoke":1,"requester":"desk","result":{"state":"notReady"}}"#,
+                ),
+                (
+                    6,
+                    r#"{"agent":"7","invoke":2,"requested":"ready","requester":"desk","service":"setAgentState"}"#,
+                    200,
+                    r#"{"invoke":2,"requester":"desk","result":{"state":"ready"}}"#,
+                ),
+                (
+                    7,
+                    r#"{"called":"202","device":"201","invoke":3,"requester":"desk","service":"makeCall"}"#,
+                    200,
+                    r#"{"invoke":3,"requester":"desk","result":{"call":1}}"#,
+                ),
+                (
+                    8,
+                    r#"{"call":1,"device":"201","invoke":4,"requester":"desk","service":"phoneOffHook"}"#,
+                    200,
+                    r#"{"invoke":4,"requester":"desk","result":{}}"#,
+                ),
+                (
+                    9,
+                    r#"{"called":"100","caller":"0301234","invoke":1,"requester":"pbx","service":"arriveCall"}"#,
+                    200,
+                    r#"{"invoke":1,"requester":"pbx","result":{"call":2}}"#,
+                ),
+                (
+                    20,
+                    r#"{"call":1,"device":"201","invoke":5,"requester":"desk","service":"clearConnection"}"#,
+                    200,
+                    r#"{"invoke":5,"requester":"desk","result":{}}"#,
+                ),
+            ],
+        ],
+        &[
+            r#"{"agent":"7","device":"201","event":"agentLoggedOn","group":"100","moment":5,"number":1}"#,
+            r#"{"agent":"7","device":"201","event":"agentReady","moment":6,"number":2}"#,
+            r#"{"call":1,"device":"201","event":"serviceInitiated","moment":7,"number":3}"#,
+            r#"{"call":1,"device":"201","event":"originated","moment":8,"number":4,"to":"202"}"#,
+            r#"{"call":1,"cause":"newCall","device":"202","event":"delivered","moment":8,"number":5}"#,
+            r#"{"call":2,"cause":"newCall","device":"100","event":"queued","moment":9,"number":6}"#,
+            r#"{"call":1,"device":"201","event":"connectionCleared","moment":20,"number":7}"#,
+            r#"{"call":1,"device":"202","event":"connectionCleared","moment":20,"number":8}"#,
+            r#"{"call":1,"event":"callCleared","moment":20,"number":9}"#,
+            r#"{"call":2,"cause":"distributed","device":"100","event":"diverted","group":"100","moment":20,"number":10,"to":"201"}"#,
+            r#"{"call":2,"cause":"distributed","device":"201","event":"delivered","group":"100","moment":20,"number":11}"#,
+        ],
+    );
+}
+
+#[test]
+fn caller_number_taken(rt: HostRuntime) {
+    play(
+        &rt,
+        rt.alloc(),
+        &[
+            PLAN,
+            CALL_ARRIVES,
+            &[(
+                11,
+                r#"{"device":"0301234","invoke":6,"requester":"plan","service":"addStation"}"#,
+                409,
+                r#"{"error":{"code":7,"name":"deviceExists"},"invoke":6,"requester":"plan"}"#,
+            )],
+        ],
+        &[r#"{"call":1,"cause":"newCall","device":"100","event":"queued","moment":10,"number":1}"#],
+    );
+}
+
+#[test]
+fn transfer_to_station(rt: HostRuntime) {
+    play(
+        &rt,
+        rt.alloc(),
+        &[
+            PLAN,
+            CALL_ARRIVES,
+            ANA_BECOMES_READY,
+            ANA_ANSWERS,
+            &[(
+                33,
+                r#"{"call":1,"device":"201","invoke":4,"requester":"desk","service":"singleStepTransfer","to":"202"}"#,
+                200,
+                r#"{"invoke":4,"requester":"desk","result":{}}"#,
+            )],
+        ],
+        &[
+            r#"{"call":1,"cause":"newCall","device":"100","event":"queued","moment":10,"number":1}"#,
+            r#"{"agent":"7","device":"201","event":"agentLoggedOn","group":"100","moment":15,"number":2}"#,
+            r#"{"agent":"7","device":"201","event":"agentReady","moment":18,"number":3}"#,
+            r#"{"call":1,"cause":"distributed","device":"100","event":"diverted","group":"100","moment":18,"number":4,"to":"201"}"#,
+            r#"{"call":1,"cause":"distributed","device":"201","event":"delivered","group":"100","moment":18,"number":5}"#,
+            r#"{"call":1,"device":"201","event":"established","group":"100","moment":25,"number":6,"waited":15}"#,
+            r#"{"agent":"7","device":"201","event":"agentBusy","moment":25,"number":7}"#,
+            r#"{"call":1,"device":"201","event":"transferred","moment":33,"number":8,"to":"202"}"#,
+            r#"{"call":1,"cause":"transferred","device":"202","event":"delivered","moment":33,"number":9}"#,
+            r#"{"agent":"7","device":"201","event":"agentWorkingAfterCall","moment":33,"number":10}"#,
+        ],
+    );
+}
+
+#[test]
+fn abandoned_in_queue(rt: HostRuntime) {
+    play(
+        &rt,
+        rt.alloc(),
+        &[
+            PLAN,
+            CALL_ARRIVES,
+            &[(
+                12,
+                r#"{"call":1,"device":"0301234","invoke":2,"requester":"pbx","service":"clearConnection"}"#,
+                200,
+                r#"{"invoke":2,"requester":"pbx","result":{}}"#,
+            )],
+        ],
+        &[
+            r#"{"call":1,"cause":"newCall","device":"100","event":"queued","moment":10,"number":1}"#,
+            r#"{"call":1,"device":"0301234","event":"connectionCleared","moment":12,"number":2}"#,
+            r#"{"call":1,"device":"100","event":"connectionCleared","moment":12,"number":3}"#,
+            r#"{"call":1,"event":"callCleared","group":"100","moment":12,"number":4}"#,
+        ],
+    );
+}
+
+#[test]
+fn deflected_to_station(rt: HostRuntime) {
+    play(
+        &rt,
+        rt.alloc(),
+        &[
+            PLAN,
+            CALL_ARRIVES,
+            ANA_BECOMES_READY,
+            &[(
+                20,
+                r#"{"call":1,"device":"201","invoke":3,"requester":"desk","service":"deflectCall","to":"202"}"#,
+                200,
+                r#"{"invoke":3,"requester":"desk","result":{}}"#,
+            )],
+        ],
+        &[
+            r#"{"call":1,"cause":"newCall","device":"100","event":"queued","moment":10,"number":1}"#,
+            r#"{"agent":"7","device":"201","event":"agentLoggedOn","group":"100","moment":15,"number":2}"#,
+            r#"{"agent":"7","device":"201","event":"agentReady","moment":18,"number":3}"#,
+            r#"{"call":1,"cause":"distributed","device":"100","event":"diverted","group":"100","moment":18,"number":4,"to":"201"}"#,
+            r#"{"call":1,"cause":"distributed","device":"201","event":"delivered","group":"100","moment":18,"number":5}"#,
+            r#"{"call":1,"cause":"deflected","device":"201","event":"diverted","group":"100","moment":20,"number":6,"to":"202"}"#,
+            r#"{"call":1,"cause":"deflected","device":"202","event":"delivered","moment":20,"number":7}"#,
+        ],
+    );
+}
+
+#[test]
+fn hold_and_pending(rt: HostRuntime) {
+    play(
+        &rt,
+        rt.alloc(),
+        &[
+            PLAN,
+            CALL_ARRIVES,
+            ANA_BECOMES_READY,
+            ANA_ANSWERS,
+            &[
+                (
+                    30,
+                    r#"{"call":1,"device":"201","invoke":4,"requester":"desk","service":"holdCall"}"#,
+                    200,
+                    r#"{"invoke":4,"requester":"desk","result":{}}"#,
+                ),
+                (
+                    31,
+                    r#"{"agent":"7","invoke":5,"requested":"ready","requester":"desk","service":"setAgentState"}"#,
+                    200,
+                    r#"{"invoke":5,"requester":"desk","result":{"pending":"ready","state":"busy"}}"#,
+                ),
+                (
+                    32,
+                    r#"{"agent":"7","invoke":6,"requested":"notReady","requester":"desk","service":"setAgentState"}"#,
+                    200,
+                    r#"{"invoke":6,"requester":"desk","result":{"pending":"notReady","state":"busy"}}"#,
+                ),
+                (
+                    33,
+                    r#"{"call":1,"device":"201","invoke":7,"requester":"desk","service":"holdCall"}"#,
+                    409,
+                    r#"{"error":{"code":5,"name":"wrongConnectionState"},"invoke":7,"requester":"desk"}"#,
+                ),
+                (
+                    34,
+                    r#"{"call":1,"device":"201","invoke":8,"requester":"desk","service":"retrieveCall"}"#,
+                    200,
+                    r#"{"invoke":8,"requester":"desk","result":{}}"#,
+                ),
+                (
+                    40,
+                    r#"{"call":1,"device":"201","invoke":2,"requester":"pbx","service":"clearConnection"}"#,
+                    200,
+                    r#"{"invoke":2,"requester":"pbx","result":{}}"#,
+                ),
+            ],
+        ],
+        &[
+            r#"{"call":1,"cause":"newCall","device":"100","event":"queued","moment":10,"number":1}"#,
+            r#"{"agent":"7","device":"201","event":"agentLoggedOn","group":"100","moment":15,"number":2}"#,
+            r#"{"agent":"7","device":"201","event":"agentReady","moment":18,"number":3}"#,
+            r#"{"call":1,"cause":"distributed","device":"100","event":"diverted","group":"100","moment":18,"number":4,"to":"201"}"#,
+            r#"{"call":1,"cause":"distributed","device":"201","event":"delivered","group":"100","moment":18,"number":5}"#,
+            r#"{"call":1,"device":"201","event":"established","group":"100","moment":25,"number":6,"waited":15}"#,
+            r#"{"agent":"7","device":"201","event":"agentBusy","moment":25,"number":7}"#,
+            r#"{"call":1,"device":"201","event":"held","moment":30,"number":8}"#,
+            r#"{"call":1,"device":"201","event":"retrieved","moment":34,"number":9}"#,
+            r#"{"call":1,"device":"201","event":"connectionCleared","moment":40,"number":10}"#,
+            r#"{"call":1,"device":"0301234","event":"connectionCleared","moment":40,"number":11}"#,
+            r#"{"call":1,"event":"callCleared","moment":40,"number":12}"#,
+            r#"{"agent":"7","device":"201","event":"agentNotReady","moment":40,"number":13}"#,
+        ],
+    );
+}
+
+#[test]
+fn transfer_to_group(rt: HostRuntime) {
+    play(
+        &rt,
+        rt.alloc(),
+        &[
+            PLAN,
+            CALL_ARRIVES,
+            ANA_BECOMES_READY,
+            ANA_ANSWERS,
+            &[(
+                33,
+                r#"{"call":1,"device":"201","invoke":4,"requester":"desk","service":"singleStepTransfer","to":"100"}"#,
+                200,
+                r#"{"invoke":4,"requester":"desk","result":{}}"#,
+            )],
+        ],
+        &[
+            r#"{"call":1,"cause":"newCall","device":"100","event":"queued","moment":10,"number":1}"#,
+            r#"{"agent":"7","device":"201","event":"agentLoggedOn","group":"100","moment":15,"number":2}"#,
+            r#"{"agent":"7","device":"201","event":"agentReady","moment":18,"number":3}"#,
+            r#"{"call":1,"cause":"distributed","device":"100","event":"diverted","group":"100","moment":18,"number":4,"to":"201"}"#,
+            r#"{"call":1,"cause":"distributed","device":"201","event":"delivered","group":"100","moment":18,"number":5}"#,
+            r#"{"call":1,"device":"201","event":"established","group":"100","moment":25,"number":6,"waited":15}"#,
+            r#"{"agent":"7","device":"201","event":"agentBusy","moment":25,"number":7}"#,
+            r#"{"call":1,"device":"201","event":"transferred","moment":33,"number":8,"to":"100"}"#,
+            r#"{"call":1,"cause":"transferred","device":"100","event":"queued","moment":33,"number":9}"#,
+            r#"{"agent":"7","device":"201","event":"agentWorkingAfterCall","moment":33,"number":10}"#,
+        ],
+    );
+}
+
+#[test]
+fn second_call_while_holding(rt: HostRuntime) {
+    play(
+        &rt,
+        rt.alloc(),
+        &[
+            PLAN,
+            CALL_ARRIVES,
+            ANA_BECOMES_READY,
+            ANA_ANSWERS,
+            &[
+                (
+                    30,
+                    r#"{"call":1,"device":"201","invoke":4,"requester":"desk","service":"holdCall"}"#,
+                    200,
+                    r#"{"invoke":4,"requester":"desk","result":{}}"#,
+                ),
+                (
+                    31,
+                    r#"{"called":"202","device":"201","invoke":5,"requester":"desk","service":"makeCall"}"#,
+                    200,
+                    r#"{"invoke":5,"requester":"desk","result":{"call":2}}"#,
+                ),
+                (
+                    32,
+                    r#"{"call":1,"device":"201","invoke":6,"requester":"desk","service":"retrieveCall"}"#,
+                    409,
+                    r#"{"error":{"code":14,"name":"stationBusy"},"invoke":6,"requester":"desk"}"#,
+                ),
+                (
+                    33,
+                    r#"{"call":2,"device":"201","invoke":7,"requester":"desk","service":"clearConnection"}"#,
+                    200,
+                    r#"{"invoke":7,"requester":"desk","result":{}}"#,
+                ),
+                (
+                    34,
+                    r#"{"call":1,"device":"201","invoke":8,"requester":"desk","service":"retrieveCall"}"#,
+                    200,
+                    r#"{"invoke":8,"requester":"desk","result":{}}"#,
+                ),
+            ],
+        ],
+        &[
+            r#"{"call":1,"cause":"newCall","device":"100","event":"queued","moment":10,"number":1}"#,
+            r#"{"agent":"7","device":"201","event":"agentLoggedOn","group":"100","moment":15,"number":2}"#,
+            r#"{"agent":"7","device":"201","event":"agentReady","moment":18,"number":3}"#,
+            r#"{"call":1,"cause":"distributed","device":"100","event":"diverted","group":"100","moment":18,"number":4,"to":"201"}"#,
+            r#"{"call":1,"cause":"distributed","device":"201","event":"delivered","group":"100","moment":18,"number":5}"#,
+            r#"{"call":1,"device":"201","event":"established","group":"100","moment":25,"number":6,"waited":15}"#,
+            r#"{"agent":"7","device":"201","event":"agentBusy","moment":25,"number":7}"#,
+            r#"{"call":1,"device":"201","event":"held","moment":30,"number":8}"#,
+            r#"{"call":2,"device":"201","event":"serviceInitiated","moment":31,"number":9}"#,
+            r#"{"call":2,"device":"201","event":"connectionCleared","moment":33,"number":10}"#,
+            r#"{"call":2,"event":"callCleared","moment":33,"number":11}"#,
+            r#"{"call":1,"device":"201","event":"retrieved","moment":34,"number":12}"#,
+        ],
+    );
+}

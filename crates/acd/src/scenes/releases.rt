@@ -1,0 +1,557 @@
+//! Every cell of the table of release, with its event.
+
+use super::*;
+
+#[test]
+fn after_an_answer_with_nothing_pending(rt: HostRuntime) {
+    play(
+        &rt,
+        rt.alloc(),
+        &[
+            PLAN,
+            CALL_ARRIVES,
+            ANA_BECOMES_READY,
+            ANA_ANSWERS,
+            &[(
+                40,
+                r#"{"call":1,"device":"0301234","invoke":2,"requester":"pbx","service":"clearConnection"}"#,
+                200,
+                r#"{"invoke":2,"requester":"pbx","result":{}}"#,
+            )],
+        ],
+        &[
+            r#"{"call":1,"cause":"newCall","device":"100","event":"queued","moment":10,"number":1}"#,
+            r#"{"agent":"7","device":"201","event":"agentLoggedOn","group":"100","moment":15,"number":2}"#,
+            r#"{"agent":"7","device":"201","event":"agentReady","moment":18,"number":3}"#,
+            r#"{"call":1,"cause":"distributed","device":"100","event":"diverted","group":"100","moment":18,"number":4,"to":"201"}"#,
+            r#"{"call":1,"cause":"distributed","device":"201","event":"delivered","group":"100","moment":18,"number":5}"#,
+            r#"{"call":1,"device":"201","event":"established","group":"100","moment":25,"number":6,"waited":15}"#,
+            r#"{"agent":"7","device":"201","event":"agentBusy","moment":25,"number":7}"#,
+            r#"{"call":1,"device":"0301234","event":"connectionCleared","moment":40,"number":8}"#,
+            r#"{"call":1,"device":"201","event":"connectionCleared","moment":40,"number":9}"#,
+            r#"{"call":1,"event":"callCleared","moment":40,"number":10}"#,
+            r#"{"agent":"7","device":"201","event":"agentWorkingAfterCall","moment":40,"number":11}"#,
+        ],
+    );
+}
+
+#[test]
+fn after_an_answer_with_ready_pending(rt: HostRuntime) {
+    play(
+        &rt,
+        rt.alloc(),
+        &[
+            PLAN,
+            CALL_ARRIVES,
+            ANA_BECOMES_READY,
+            ANA_ANSWERS,
+            &[
+                (
+                    30,
+                    r#"{"agent":"7","invoke":4,"requested":"ready","requester":"desk","service":"setAgentState"}"#,
+                    200,
+                    r#"{"invoke":4,"requester":"desk","result":{"pending":"ready","state":"busy"}}"#,
+                ),
+                (
+                    40,
+                    r#"{"call":1,"device":"0301234","invoke":2,"requester":"pbx","service":"clearConnection"}"#,
+                    200,
+                    r#"{"invoke":2,"requester":"pbx","result":{}}"#,
+                ),
+            ],
+        ],
+        &[
+            r#"{"call":1,"cause":"newCall","device":"100","event":"queued","moment":10,"number":1}"#,
+            r#"{"agent":"7","device":"201","event":"agentLoggedOn","group":"100","moment":15,"number":2}"#,
+            r#"{"agent":"7","device":"201","event":"agentReady","moment":18,"number":3}"#,
+            r#"{"call":1,"cause":"distributed","device":"100","event":"diverted","group":"100","moment":18,"number":4,"to":"201"}"#,
+            r#"{"call":1,"cause":"distributed","device":"201","event":"delivered","group":"100","moment":18,"number":5}"#,
+            r#"{"call":1,"device":"201","event":"established","group":"100","moment":25,"number":6,"waited":15}"#,
+            r#"{"agent":"7","device":"201","event":"agentBusy","moment":25,"number":7}"#,
+            r#"{"call":1,"device":"0301234","event":"connectionCleared","moment":40,"number":8}"#,
+            r#"{"call":1,"device":"201","event":"connectionCleared","moment":40,"number":9}"#,
+            r#"{"call":1,"event":"callCleared","moment":40,"number":10}"#,
+            r#"{"agent":"7","device":"201","event":"agentReady","moment":40,"number":11}"#,
+        ],
+    );
+}
+
+#[test]
+fn after_an_answer_with_not_ready_pending(rt: HostRuntime) {
+    play(
+        &rt,
+        rt.alloc(),
+        &[
+            PLAN,
+            CALL_ARRIVES,
+            ANA_BECOMES_READY,
+            ANA_ANSWERS,
+            &[
+                (
+                    30,
+                    r#"{"agent":"7","invoke":4,"requested":"notReady","requester":"desk","service":"setAgentState"}"#,
+                    200,
+                    r#"{"invoke":4,"requester":"desk","result":{"pending":"notReady","state":"busy"}}"#,
+                ),
+                (
+                    40,
+                    r#"{"call":1,"device":"0301234","invoke":2,"requester":"pbx","service":"clearConnection"}"#,
+                    200,
+                    r#"{"invoke":2,"requester":"pbx","result":{}}"#,
+                ),
+            ],
+        ],
+        &[
+            r#"{"call":1,"cause":"newCall","device":"100","event":"queued","moment":10,"number":1}"#,
+            r#"{"agent":"7","device":"201","event":"agentLoggedOn","group":"100","moment":15,"number":2}"#,
+            r#"{"agent":"7","device":"201","event":"agentReady","moment":18,"number":3}"#,
+            r#"{"call":1,"cause":"distributed","device":"100","event":"diverted","group":"100","moment":18,"number":4,"to":"201"}"#,
+            r#"{"call":1,"cause":"distributed","device":"201","event":"delivered","group":"100","moment":18,"number":5}"#,
+            r#"{"call":1,"device":"201","event":"established","group":"100","moment":25,"number":6,"waited":15}"#,
+            r#"{"agent":"7","device":"201","event":"agentBusy","moment":25,"number":7}"#,
+            r#"{"call":1,"device":"0301234","event":"connectionCleared","moment":40,"number":8}"#,
+            r#"{"call":1,"device":"201","event":"connectionCleared","moment":40,"number":9}"#,
+            r#"{"call":1,"event":"callCleared","moment":40,"number":10}"#,
+            r#"{"agent":"7","device":"201","event":"agentNotReady","moment":40,"number":11}"#,
+        ],
+    );
+}
+
+#[test]
+fn after_an_answer_with_working_after_call_pending(rt: HostRuntime) {
+    play(
+        &rt,
+        rt.alloc(),
+        &[
+            PLAN,
+            CALL_ARRIVES,
+            ANA_BECOMES_READY,
+            ANA_ANSWERS,
+            &[
+                (
+                    30,
+                    r#"{"agent":"7","invoke":4,"requested":"workingAfterCall","requester":"desk","service":"setAgentState"}"#,
+                    200,
+                    r#"{"invoke":4,"requester":"desk","result":{"pending":"workingAfterCall","state":"busy"}}"#,
+                ),
+                (
+                    40,
+                    r#"{"call":1,"device":"0301234","invoke":2,"requester":"pbx","service":"clearConnection"}"#,
+                    200,
+                    r#"{"invoke":2,"requester":"pbx","result":{}}"#,
+                ),
+            ],
+        ],
+        &[
+            r#"{"call":1,"cause":"newCall","device":"100","event":"queued","moment":10,"number":1}"#,
+            r#"{"agent":"7","device":"201","event":"agentLoggedOn","group":"100","moment":15,"number":2}"#,
+            r#"{"agent":"7","device":"201","event":"agentReady","moment":18,"number":3}"#,
+            r#"{"call":1,"cause":"distributed","device":"100","event":"diverted","group":"100","moment":18,"number":4,"to":"201"}"#,
+            r#"{"call":1,"cause":"distributed","device":"201","event":"delivered","group":"100","moment":18,"number":5}"#,
+            r#"{"call":1,"device":"201","event":"established","group":"100","moment":25,"number":6,"waited":15}"#,
+            r#"{"agent":"7","device":"201","event":"agentBusy","moment":25,"number":7}"#,
+            r#"{"call":1,"device":"0301234","event":"connectionCleared","moment":40,"number":8}"#,
+            r#"{"call":1,"device":"201","event":"connectionCleared","moment":40,"number":9}"#,
+            r#"{"call":1,"event":"callCleared","moment":40,"number":10}"#,
+            r#"{"agent":"7","device":"201","event":"agentWorkingAfterCall","moment":40,"number":11}"#,
+        ],
+    );
+}
+
+#[test]
+fn after_an_answer_with_logged_off_pending(rt: HostRuntime) {
+    play(
+        &rt,
+        rt.alloc(),
+        &[
+            PLAN,
+            CALL_ARRIVES,
+            ANA_BECOMES_READY,
+            ANA_ANSWERS,
+            &[
+                (
+                    30,
+                    r#"{"agent":"7","invoke":4,"requested":"loggedOff","requester":"desk","service":"setAgentState"}"#,
+                    200,
+                    r#"{"invoke":4,"requester":"desk","result":{"pending":"loggedOff","state":"busy"}}"#,
+                ),
+                (
+                    40,
+                    r#"{"call":1,"device":"0301234","invoke":2,"requester":"pbx","service":"clearConnection"}"#,
+                    200,
+                    r#"{"invoke":2,"requester":"pbx","result":{}}"#,
+                ),
+            ],
+        ],
+        &[
+            r#"{"call":1,"cause":"newCall","device":"100","event":"queued","moment":10,"number":1}"#,
+            r#"{"agent":"7","device":"201","event":"agentLoggedOn","group":"100","moment":15,"number":2}"#,
+            r#"{"agent":"7","device":"201","event":"agentReady","moment":18,"number":3}"#,
+            r#"{"call":1,"cause":"distributed","device":"100","event":"diverted","group":"100","moment":18,"number":4,"to":"201"}"#,
+            r#"{"call":1,"cause":"distributed","device":"201","event":"delivered","group":"100","moment":18,"number":5}"#,
+            r#"{"call":1,"device":"201","event":"established","group":"100","moment":25,"number":6,"waited":15}"#,
+            r#"{"agent":"7","device":"201","event":"agentBusy","moment":25,"number":7}"#,
+            r#"{"call":1,"device":"0301234","event":"connectionCleared","moment":40,"number":8}"#,
+            r#"{"call":1,"device":"201","event":"connectionCleared","moment":40,"number":9}"#,
+            r#"{"call":1,"event":"callCleared","moment":40,"number":10}"#,
+            r#"{"agent":"7","device":"201","event":"agentLoggedOff","moment":40,"number":11}"#,
+        ],
+    );
+}
+
+#[test]
+fn unanswered_with_nothing_pending(rt: HostRuntime) {
+    play(
+        &rt,
+        rt.alloc(),
+        &[
+            PLAN,
+            CALL_ARRIVES,
+            ANA_BECOMES_READY,
+            &[(
+                40,
+                r#"{"call":1,"device":"0301234","invoke":2,"requester":"pbx","service":"clearConnection"}"#,
+                200,
+                r#"{"invoke":2,"requester":"pbx","result":{}}"#,
+            )],
+        ],
+        &[
+            r#"{"call":1,"cause":"newCall","device":"100","event":"queued","moment":10,"number":1}"#,
+            r#"{"agent":"7","device":"201","event":"agentLoggedOn","group":"100","moment":15,"number":2}"#,
+            r#"{"agent":"7","device":"201","event":"agentReady","moment":18,"number":3}"#,
+            r#"{"call":1,"cause":"distributed","device":"100","event":"diverted","group":"100","moment":18,"number":4,"to":"201"}"#,
+            r#"{"call":1,"cause":"distributed","device":"201","event":"delivered","group":"100","moment":18,"number":5}"#,
+            r#"{"call":1,"device":"0301234","event":"connectionCleared","moment":40,"number":6}"#,
+            r#"{"call":1,"device":"201","event":"connectionCleared","moment":40,"number":7}"#,
+            r#"{"call":1,"event":"callCleared","group":"100","moment":40,"number":8}"#,
+        ],
+    );
+}
+
+#[test]
+fn unanswered_with_ready_pending(rt: HostRuntime) {
+    play(
+        &rt,
+        rt.alloc(),
+        &[
+            PLAN,
+            CALL_ARRIVES,
+            ANA_BECOMES_READY,
+            &[
+                (
+                    30,
+                    r#"{"agent":"7","invoke":4,"requested":"ready","requester":"desk","service":"setAgentState"}"#,
+                    200,
+                    r#"{"invoke":4,"requester":"desk","result":{"pending":"ready","state":"ready"}}"#,
+                ),
+                (
+                    40,
+                    r#"{"call":1,"device":"0301234","invoke":2,"requester":"pbx","service":"clearConnection"}"#,
+                    200,
+                    r#"{"invoke":2,"requester":"pbx","result":{}}"#,
+                ),
+            ],
+        ],
+        &[
+            r#"{"call":1,"cause":"newCall","device":"100","event":"queued","moment":10,"number":1}"#,
+            r#"{"agent":"7","device":"201","event":"agentLoggedOn","group":"100","moment":15,"number":2}"#,
+            r#"{"agent":"7","device":"201","event":"agentReady","moment":18,"number":3}"#,
+            r#"{"call":1,"cause":"distributed","device":"100","event":"diverted","group":"100","moment":18,"number":4,"to":"201"}"#,
+            r#"{"call":1,"cause":"distributed","device":"201","event":"delivered","group":"100","moment":18,"number":5}"#,
+            r#"{"call":1,"device":"0301234","event":"connectionCleared","moment":40,"number":6}"#,
+            r#"{"call":1,"device":"201","event":"connectionCleared","moment":40,"number":7}"#,
+            r#"{"call":1,"event":"callCleared","group":"100","moment":40,"number":8}"#,
+        ],
+    );
+}
+
+#[test]
+fn unanswered_with_not_ready_pending(rt: HostRuntime) {
+    play(
+        &rt,
+        rt.alloc(),
+        &[
+            PLAN,
+            CALL_ARRIVES,
+            ANA_BECOMES_READY,
+            &[
+                (
+                    30,
+                    r#"{"agent":"7","invoke":4,"requested":"notReady","requester":"desk","service":"setAgentState"}"#,
+                    200,
+                    r#"{"invoke":4,"requester":"desk","result":{"pending":"notReady","state":"ready"}}"#,
+                ),
+                (
+                    40,
+                    r#"{"call":1,"device":"0301234","invoke":2,"requester":"pbx","service":"clearConnection"}"#,
+                    200,
+                    r#"{"invoke":2,"requester":"pbx","result":{}}"#,
+                ),
+            ],
+        ],
+        &[
+            r#"{"call":1,"cause":"newCall","device":"100","event":"queued","moment":10,"number":1}"#,
+            r#"{"agent":"7","device":"201","event":"agentLoggedOn","group":"100","moment":15,"number":2}"#,
+            r#"{"agent":"7","device":"201","event":"agentReady","moment":18,"number":3}"#,
+            r#"{"call":1,"cause":"distributed","device":"100","event":"diverted","group":"100","moment":18,"number":4,"to":"201"}"#,
+            r#"{"call":1,"cause":"distributed","device":"201","event":"delivered","group":"100","moment":18,"number":5}"#,
+            r#"{"call":1,"device":"0301234","event":"connectionCleared","moment":40,"number":6}"#,
+            r#"{"call":1,"device":"201","event":"connectionCleared","moment":40,"number":7}"#,
+            r#"{"call":1,"event":"callCleared","group":"100","moment":40,"number":8}"#,
+            r#"{"agent":"7","device":"201","event":"agentNotReady","moment":40,"number":9}"#,
+        ],
+    );
+}
+
+#[test]
+fn unanswered_with_working_after_call_pending(rt: HostRuntime) {
+    play(
+        &rt,
+        rt.alloc(),
+        &[
+            PLAN,
+            CALL_ARRIVES,
+            ANA_BECOMES_READY,
+            &[
+                (
+                    30,
+                    r#"{"agent":"7","invoke":4,"requested":"workingAfterCall","requester":"desk","service":"setAgentState"}"#,
+                    200,
+                    r#"{"invoke":4,"requester":"desk","result":{"pending":"workingAfterCall","state":"ready"}}"#,
+                ),
+                (
+                    40,
+                    r#"{"call":1,"device":"0301234","invoke":2,"requester":"pbx","service":"clearConnection"}"#,
+                    200,
+                    r#"{"invoke":2,"requester":"pbx","result":{}}"#,
+                ),
+            ],
+        ],
+        &[
+            r#"{"call":1,"cause":"newCall","device":"100","event":"queued","moment":10,"number":1}"#,
+            r#"{"agent":"7","device":"201","event":"agentLoggedOn","group":"100","moment":15,"number":2}"#,
+            r#"{"agent":"7","device":"201","event":"agentReady","moment":18,"number":3}"#,
+            r#"{"call":1,"cause":"distributed","device":"100","event":"diverted","group":"100","moment":18,"number":4,"to":"201"}"#,
+            r#"{"call":1,"cause":"distributed","device":"201","event":"delivered","group":"100","moment":18,"number":5}"#,
+            r#"{"call":1,"device":"0301234","event":"connectionCleared","moment":40,"number":6}"#,
+            r#"{"call":1,"device":"201","event":"connectionCleared","moment":40,"number":7}"#,
+            r#"{"call":1,"event":"callCleared","group":"100","moment":40,"number":8}"#,
+            r#"{"agent":"7","device":"201","event":"agentWorkingAfterCall","moment":40,"number":9}"#,
+        ],
+    );
+}
+
+#[test]
+fn unanswered_with_logged_off_pending(rt: HostRuntime) {
+    play(
+        &rt,
+        rt.alloc(),
+        &[
+            PLAN,
+            CALL_ARRIVES,
+            ANA_BECOMES_READY,
+            &[
+                (
+                    30,
+                    r#"{"agent":"7","invoke":4,"requested":"loggedOff","requester":"desk","service":"setAgentState"}"#,
+                    200,
+                    r#"{"invoke":4,"requester":"desk","result":{"pending":"loggedOff","state":"ready"}}"#,
+                ),
+                (
+                    40,
+                    r#"{"call":1,"device":"0301234","invoke":2,"requester":"pbx","service":"clearConnection"}"#,
+                    200,
+                    r#"{"invoke":2,"requester":"pbx","result":{}}"#,
+                ),
+            ],
+        ],
+        &[
+            r#"{"call":1,"cause":"newCall","device":"100","event":"queued","moment":10,"number":1}"#,
+            r#"{"agent":"7","device":"201","event":"agentLoggedOn","group":"100","moment":15,"number":2}"#,
+            r#"{"agent":"7","device":"201","event":"agentReady","moment":18,"number":3}"#,
+            r#"{"call":1,"cause":"distributed","device":"100","event":"diverted","group":"100","moment":18,"number":4,"to":"201"}"#,
+            r#"{"call":1,"cause":"distributed","device":"201","event":"delivered","group":"100","moment":18,"number":5}"#,
+            r#"{"call":1,"device":"0301234","event":"connectionCleared","moment":40,"number":6}"#,
+            r#"{"call":1,"device":"201","event":"connectionCleared","moment":40,"number":7}"#,
+            r#"{"call":1,"event":"callCleared","group":"100","moment":40,"number":8}"#,
+            r#"{"agent":"7","device":"201","event":"agentLoggedOff","moment":40,"number":9}"#,
+        ],
+    );
+}
+
+#[test]
+fn no_answer_with_nothing_pending(rt: HostRuntime) {
+    play(
+        &rt,
+        rt.alloc(),
+        &[
+            PLAN,
+            CALL_ARRIVES,
+            ANA_BECOMES_READY,
+            &[(
+                40,
+                r#"{"invoke":1,"requester":"clock","service":"tick"}"#,
+                200,
+                r#"{"invoke":1,"requester":"clock","result":{}}"#,
+            )],
+        ],
+        &[
+            r#"{"call":1,"cause":"newCall","device":"100","event":"queued","moment":10,"number":1}"#,
+            r#"{"agent":"7","device":"201","event":"agentLoggedOn","group":"100","moment":15,"number":2}"#,
+            r#"{"agent":"7","device":"201","event":"agentReady","moment":18,"number":3}"#,
+            r#"{"call":1,"cause":"distributed","device":"100","event":"diverted","group":"100","moment":18,"number":4,"to":"201"}"#,
+            r#"{"call":1,"cause":"distributed","device":"201","event":"delivered","group":"100","moment":18,"number":5}"#,
+            r#"{"call":1,"cause":"noAnswer","device":"201","event":"diverted","group":"100","moment":40,"number":6,"to":"100"}"#,
+            r#"{"call":1,"cause":"noAnswer","device":"100","event":"queued","moment":40,"number":7}"#,
+            r#"{"agent":"7","device":"201","event":"agentNotReady","moment":40,"number":8}"#,
+        ],
+    );
+}
+
+#[test]
+fn no_answer_with_ready_pending(rt: HostRuntime) {
+    play(
+        &rt,
+        rt.alloc(),
+        &[
+            PLAN,
+            CALL_ARRIVES,
+            ANA_BECOMES_READY,
+            &[
+                (
+                    30,
+                    r#"{"agent":"7","invoke":4,"requested":"ready","requester":"desk","service":"setAgentState"}"#,
+                    200,
+                    r#"{"invoke":4,"requester":"desk","result":{"pending":"ready","state":"ready"}}"#,
+                ),
+                (
+                    40,
+                    r#"{"invoke":1,"requester":"clock","service":"tick"}"#,
+                    200,
+                    r#"{"invoke":1,"requester":"clock","result":{}}"#,
+                ),
+            ],
+        ],
+        &[
+            r#"{"call":1,"cause":"newCall","device":"100","event":"queued","moment":10,"number":1}"#,
+            r#"{"agent":"7","device":"201","event":"agentLoggedOn","group":"100","moment":15,"number":2}"#,
+            r#"{"agent":"7","device":"201","event":"agentReady","moment":18,"number":3}"#,
+            r#"{"call":1,"cause":"distributed","device":"100","event":"diverted","group":"100","moment":18,"number":4,"to":"201"}"#,
+            r#"{"call":1,"cause":"distributed","device":"201","event":"delivered","group":"100","moment":18,"number":5}"#,
+            r#"{"call":1,"cause":"noAnswer","device":"201","event":"diverted","group":"100","moment":40,"number":6,"to":"100"}"#,
+            r#"{"call":1,"cause":"noAnswer","device":"100","event":"queued","moment":40,"number":7}"#,
+            r#"{"agent":"7","device":"201","event":"agentNotReady","moment":40,"number":8}"#,
+        ],
+    );
+}
+
+#[test]
+fn no_answer_with_not_ready_pending(rt: HostRuntime) {
+    play(
+        &rt,
+        rt.alloc(),
+        &[
+            PLAN,
+            CALL_ARRIVES,
+            ANA_BECOMES_READY,
+            &[
+                (
+                    30,
+                    r#"{"agent":"7","invoke":4,"requested":"notReady","requester":"desk","service":"setAgentState"}"#,
+                    200,
+                    r#"{"invoke":4,"requester":"desk","result":{"pending":"notReady","state":"ready"}}"#,
+                ),
+                (
+                    40,
+                    r#"{"invoke":1,"requester":"clock","service":"tick"}"#,
+                    200,
+                    r#"{"invoke":1,"requester":"clock","result":{}}"#,
+                ),
+            ],
+        ],
+        &[
+            r#"{"call":1,"cause":"newCall","device":"100","event":"queued","moment":10,"number":1}"#,
+            r#"{"agent":"7","device":"201","event":"agentLoggedOn","group":"100","moment":15,"number":2}"#,
+            r#"{"agent":"7","device":"201","event":"agentReady","moment":18,"number":3}"#,
+            r#"{"call":1,"cause":"distributed","device":"100","event":"diverted","group":"100","moment":18,"number":4,"to":"201"}"#,
+            r#"{"call":1,"cause":"distributed","device":"201","event":"delivered","group":"100","moment":18,"number":5}"#,
+            r#"{"call":1,"cause":"noAnswer","device":"201","event":"diverted","group":"100","moment":40,"number":6,"to":"100"}"#,
+            r#"{"call":1,"cause":"noAnswer","device":"100","event":"queued","moment":40,"number":7}"#,
+            r#"{"agent":"7","device":"201","event":"agentNotReady","moment":40,"number":8}"#,
+        ],
+    );
+}
+
+#[test]
+fn no_answer_with_working_after_call_pending(rt: HostRuntime) {
+    play(
+        &rt,
+        rt.alloc(),
+        &[
+            PLAN,
+            CALL_ARRIVES,
+            ANA_BECOMES_READY,
+            &[
+                (
+                    30,
+                    r#"{"agent":"7","invoke":4,"requested":"workingAfterCall","requester":"desk","service":"setAgentState"}"#,
+                    200,
+                    r#"{"invoke":4,"requester":"desk","result":{"pending":"workingAfterCall","state":"ready"}}"#,
+                ),
+                (
+                    40,
+                    r#"{"invoke":1,"requester":"clock","service":"tick"}"#,
+                    200,
+                    r#"{"invoke":1,"requester":"clock","result":{}}"#,
+                ),
+            ],
+        ],
+        &[
+            r#"{"call":1,"cause":"newCall","device":"100","event":"queued","moment":10,"number":1}"#,
+            r#"{"agent":"7","device":"201","event":"agentLoggedOn","group":"100","moment":15,"number":2}"#,
+            r#"{"agent":"7","device":"201","event":"agentReady","moment":18,"number":3}"#,
+            r#"{"call":1,"cause":"distributed","device":"100","event":"diverted","group":"100","moment":18,"number":4,"to":"201"}"#,
+            r#"{"call":1,"cause":"distributed","device":"201","event":"delivered","group":"100","moment":18,"number":5}"#,
+            r#"{"call":1,"cause":"noAnswer","device":"201","event":"diverted","group":"100","moment":40,"number":6,"to":"100"}"#,
+            r#"{"call":1,"cause":"noAnswer","device":"100","event":"queued","moment":40,"number":7}"#,
+            r#"{"agent":"7","device":"201","event":"agentWorkingAfterCall","moment":40,"number":8}"#,
+        ],
+    );
+}
+
+#[test]
+fn no_answer_with_logged_off_pending(rt: HostRuntime) {
+    play(
+        &rt,
+        rt.alloc(),
+        &[
+            PLAN,
+            CALL_ARRIVES,
+            ANA_BECOMES_READY,
+            &[
+                (
+                    30,
+                    r#"{"agent":"7","invoke":4,"requested":"loggedOff","requester":"desk","service":"setAgentState"}"#,
+                    200,
+                    r#"{"invoke":4,"requester":"desk","result":{"pending":"loggedOff","state":"ready"}}"#,
+                ),
+                (
+                    40,
+                    r#"{"invoke":1,"requester":"clock","service":"tick"}"#,
+                    200,
+                    r#"{"invoke":1,"requester":"clock","result":{}}"#,
+                ),
+            ],
+        ],
+        &[
+            r#"{"call":1,"cause":"newCall","device":"100","event":"queued","moment":10,"number":1}"#,
+            r#"{"agent":"7","device":"201","event":"agentLoggedOn","group":"100","moment":15,"number":2}"#,
+            r#"{"agent":"7","device":"201","event":"agentReady","moment":18,"number":3}"#,
+            r#"{"call":1,"cause":"distributed","device":"100","event":"diverted","group":"100","moment":18,"number":4,"to":"201"}"#,
+            r#"{"call":1,"cause":"distributed","device":"201","event":"delivered","group":"100","moment":18,"number":5}"#,
+            r#"{"call":1,"cause":"noAnswer","device":"201","event":"diverted","group":"100","moment":40,"number":6,"to":"100"}"#,
+            r#"{"call":1,"cause":"noAnswer","device":"100","event":"queued","moment":40,"number":7}"#,
+            r#"{"agent":"7","device":"201","event":"agentLoggedOff","moment":40,"number":8}"#,
+        ],
+    );
+}
