@@ -71,17 +71,19 @@ pub commits : (r : Rows) (a : Arrival) (switch next : Rows) (es : List Event) (k
 commits r a switch next es k p c step new room =
     let short : c.rows.last_stamp < c.rows.limits.requests = subst (λ (s : Rows). s.last_stamp < s.limits.requests) (sym step.0) (leb-false r.limits.requests r.last_stamp room) in
     let does : after c a ≡ executed c a = executes c a new short in
-    let next_is : next ≡ (stepped r a).rows = p.rows_are ∙ p.switch_is in
-    ( follows c r next es k a step.0 step.1 new next_is p.events_are p.kept_is (subst BreaksNoRule (sym p.rows_are) p.rules)
-    , made c r next es k a step.0 next_is p.events_are p.kept_is ∙ sym does
-    , does )
+    let next_is : next ≡ (stepped r a).rows = p.rows_are ∙ p.switch_is in (
+      follows c r next es k a step.0 step.1 new next_is p.events_are p.kept_is (subst BreaksNoRule (sym p.rows_are) p.rules),
+      made c r next es k a step.0 next_is p.events_are p.kept_is ∙ sym does,
+      does,
+    )
 
 -- the desk is in step with what it has executed
 pub executed_in_step : (r : Rows) (a : Arrival) (switch next : Rows) (es : List Event) (k : Kept) → Prepared r a switch next es k
     → (c new : Content) → (c.rows ≡ r) × IsCounted c → new ≡ executed c a → (new.rows ≡ switch) × IsCounted new
-executed_in_step r a switch next es k p c new step is =
-    ( ap (λ (x : Content). x.rows) is ∙ ap (λ (s : Rows). (stepped s a).rows) step.0 ∙ sym p.switch_is
-    , subst IsCounted (sym is) (counted_executed c a step.1) )
+executed_in_step r a switch next es k p c new step is = (
+  ap (λ (x : Content). x.rows) is ∙ ap (λ (s : Rows). (stepped s a).rows) step.0 ∙ sym p.switch_is,
+  subst IsCounted (sym is) (counted_executed c a step.1),
+)
 
 -- its reply is the record's
 pub executed_reply : (r : Rows) (a : Arrival) (switch next : Rows) (es : List Event) (k : Kept) → Prepared r a switch next es k

@@ -34,11 +34,11 @@ counted_executed c a h =
     let es : List Event = (stepped c.rows a).events in
     record {
       events = every_append (λ (e : Event). e.number ≤ (stepped c.rows a).rows.last_event) c.events es
-        (events_raised c.rows.last_event (stepped c.rows a).rows.last_event c.events (omega (arith, event)) h.events)
-        (going_on c.rows.last_event (stepped c.rows a).rows.last_event es numbers (omega (arith, event)));
+          (events_raised c.rows.last_event (stepped c.rows a).rows.last_event c.events (omega (arith, event)) h.events)
+          (going_on c.rows.last_event (stepped c.rows a).rows.last_event es numbers (omega (arith, event)));
       kept = every_append (λ (k : Kept). k.stamp ≤ (stepped c.rows a).rows.last_stamp) c.kept (record_of c.rows a ∷ [])
-        (kept_raised c.rows.last_stamp (stepped c.rows a).rows.last_stamp c.kept (omega (arith, stamp)) h.kept)
-        (omega (arith, stamp), tt);
+          (kept_raised c.rows.last_stamp (stepped c.rows a).rows.last_stamp c.kept (omega (arith, stamp)) h.kept)
+          (omega (arith, stamp), tt);
     }
 
 run_counted : (l : List Arrival) (c : Content) → IsCounted c → IsCounted (run_from c l)

@@ -6,3 +6,5 @@ pub mod Longer
 pub mod Commits
 pub mod Sound
 pub mod ContentLaws
+pub mod SameRequests
+pub mod ByPlace

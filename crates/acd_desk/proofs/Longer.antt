@@ -28,13 +28,13 @@ find_stays : (c : Content) (a : Arrival) (p : List ℕ) (q : ℕ) → ((c.rows.l
 find_stays c a p q there =
     let P : Bool → Bool → Type 0 = λ x y. kept_of (cond x c (cond y (executed c a) c)).kept p q ≡ kept_of c.kept p q in
     let cases : (x y : Bool) → nat_lt c.rows.last_stamp c.rows.limits.requests ≡ y → P x y
-      = λ x. elim x as (λ x. (y : Bool) → nat_lt c.rows.last_stamp c.rows.limits.requests ≡ y → P x y) [
-        | true ↦ λ y room. refl
-        | false ↦ λ y. elim y as (λ y. nat_lt c.rows.last_stamp c.rows.limits.requests ≡ y → P false y) [
-          | true ↦ λ room. find-append (λ (k : Kept). is_key p q k.request) c.kept (record_of c.rows a ∷ []) ∙ option_or-some (kept_of c.kept p q) (kept_of (record_of c.rows a ∷ []) p q) (there (ltb-true c.rows.last_stamp c.rows.limits.requests room))
-          | false ↦ λ room. refl
-          ]
-        ] in
+    = λ x. elim x as (λ x. (y : Bool) → nat_lt c.rows.last_stamp c.rows.limits.requests ≡ y → P x y) [
+      | true ↦ λ y room. refl
+      | false ↦ λ y. elim y as (λ y. nat_lt c.rows.last_stamp c.rows.limits.requests ≡ y → P false y) [
+        | true ↦ λ room. find-append (λ (k : Kept). is_key p q k.request) c.kept (record_of c.rows a ∷ []) ∙ option_or-some (kept_of c.kept p q) (kept_of (record_of c.rows a ∷ []) p q) (there (ltb-true c.rows.last_stamp c.rows.limits.requests room))
+        | false ↦ λ room. refl
+      ]
+    ] in
     cases (is_some (kept_of c.kept a.request.requester a.request.invoke)) (nat_lt c.rows.last_stamp c.rows.limits.requests) refl
 
 -- a key of the list is in its run, where that isn't full
@@ -66,7 +66,7 @@ replies_stay : (n : Limits) (x : Arrival) (l pre : List Arrival)
 replies_stay n x [] pre = refl
 replies_stay n x (b ∷ l) pre =
     let rest : map (λ (a : Arrival). reply_to n ((pre ++ b ∷ l) ++ x ∷ []) a.request) l ≡ map (λ (a : Arrival). reply_to n (pre ++ b ∷ l) a.request) l
-      = subst (λ (s : List Arrival). map (λ (a : Arrival). reply_to n (s ++ x ∷ []) a.request) l ≡ map (λ (a : Arrival). reply_to n s a.request) l) (append_assoc pre (b ∷ []) l) (replies_stay n x l (pre ++ b ∷ [])) in
+    = subst (λ (s : List Arrival). map (λ (a : Arrival). reply_to n (s ++ x ∷ []) a.request) l ≡ map (λ (a : Arrival). reply_to n s a.request) l) (append_assoc pre (b ∷ []) l) (replies_stay n x l (pre ++ b ∷ [])) in
     ap (λ (t : Taken). t ∷ map (λ (a : Arrival). reply_to n ((pre ++ b ∷ l) ++ x ∷ []) a.request) l) (reply_stays n (pre ++ b ∷ l) x b.request (has_within pre l b))
     ∙ ap (λ (ts : List Taken). reply_to n (pre ++ b ∷ l) b.request ∷ ts) rest
 
@@ -116,17 +116,17 @@ sent-push [] t = cond-not (is_fault t) t
 sent-push (u ∷ ts) t = elim (not (is_fault u)) as (λ b. cond b (u ∷ sent (ts ++ t ∷ [])) (sent (ts ++ t ∷ [])) ≡ cond b (u ∷ sent ts) (sent ts) ++ cond (is_fault t) [] (t ∷ [])) [
   | true ↦ ap (λ (s : List Taken). u ∷ s) (sent-push ts t)
   | false ↦ sent-push ts t
-  ]
+]
 
 pub one_said : (start : Content) (l : List Arrival) (ts : List Taken) (a : Arrival) (t : Taken) → sent ts ≡ replies start l
     → (is_fault t ≡ false → t ≡ answer_in (after (ran_after start l) a) a.request) → sent (ts ++ t ∷ []) ≡ replies start (l ++ cond (is_fault t) [] (a ∷ []))
 one_said start l ts a t so_far says =
     let P : Bool → Type 0 = λ b. replies start l ++ cond b [] (t ∷ []) ≡ replies start (l ++ cond b [] (a ∷ [])) in
     let cases : (b : Bool) → is_fault t ≡ b → P b
-      = λ b. elim b as (λ b. is_fault t ≡ b → P b) [
-        | true ↦ λ e. append-nil (replies start l) ∙ ap (replies start) (sym (append-nil l))
-        | false ↦ λ e. ap (λ (u : Taken). replies start l ++ u ∷ []) (says e) ∙ replies_push start l a
-        ] in
+    = λ b. elim b as (λ b. is_fault t ≡ b → P b) [
+      | true ↦ λ e. append-nil (replies start l) ∙ ap (replies start) (sym (append-nil l))
+      | false ↦ λ e. ap (λ (u : Taken). replies start l ++ u ∷ []) (says e) ∙ replies_push start l a
+    ] in
     sent-push ts t ∙ ap (λ (s : List Taken). s ++ cond (is_fault t) [] (t ∷ [])) so_far ∙ cases (is_fault t) refl
 
 pub one_content : (start : Content) (l : List Arrival) (a : Arrival) (t : Taken) (new : Content)
@@ -134,10 +134,10 @@ pub one_content : (start : Content) (l : List Arrival) (a : Arrival) (t : Taken)
 one_content start l a t new good bad =
     let P : Bool → Type 0 = λ b. new ≡ ran_after start (l ++ cond b [] (a ∷ [])) in
     let cases : (b : Bool) → is_fault t ≡ b → P b
-      = λ b. elim b as (λ b. is_fault t ≡ b → P b) [
-        | true ↦ λ e. bad e ∙ ap (ran_after start) (sym (append-nil l))
-        | false ↦ λ e. good e ∙ ran_push start l a
-        ] in
+    = λ b. elim b as (λ b. is_fault t ≡ b → P b) [
+      | true ↦ λ e. bad e ∙ ap (ran_after start) (sym (append-nil l))
+      | false ↦ λ e. good e ∙ ran_push start l a
+    ] in
     cases (is_fault t) refl
 
 pub one_stop : (start : Content) (l u : List Arrival) (a : Arrival) (t : Taken) (c : Content)
@@ -146,15 +146,15 @@ pub one_stop : (start : Content) (l u : List Arrival) (a : Arrival) (t : Taken) 
 one_stop start l u a t c good bad =
     let P : Bool → Type 0 = λ b. StopsAt start (l ++ cond b [] (a ∷ [])) (u ++ cond b (a ∷ []) []) c in
     let cases : (b : Bool) → is_fault t ≡ b → P b
-      = λ b. elim b as (λ b. is_fault t ≡ b → P b) [
-        | true ↦ λ e. subst (λ (s : List Arrival). StopsAt start s (u ++ a ∷ []) c) (sym (append-nil l))
-            (elim (bad e) [
+    = λ b. elim b as (λ b. is_fault t ≡ b → P b) [
+      | true ↦ λ e. subst (λ (s : List Arrival). StopsAt start s (u ++ a ∷ []) c) (sym (append-nil l))
+          (elim (bad e) [
             | inl old ↦ elim old [
               | inl same ↦ inl same
               | inr more ↦ inr (more.0, Contains-append_left u (a ∷ []) more.0 more.1, more.2)
-              ]
+            ]
             | inr made ↦ inr (a, Contains-push u a, made ∙ ran_push start l a)
-            ])
-        | false ↦ λ e. inl (good e ∙ ran_push start l a)
-        ] in
+          ])
+      | false ↦ λ e. inl (good e ∙ ran_push start l a)
+    ] in
     cases (is_fault t) refl

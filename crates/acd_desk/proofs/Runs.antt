@@ -61,13 +61,13 @@ pub has-distinct : (l seen : List Arrival) (p : List ℕ) (q : ℕ) → (has_key
 has-distinct [] seen p q = refl
 has-distinct (x ∷ l) seen p q =
     let again : ((has_key seen p q || is_key p q x.request) || has_key (distinct_from (seen ++ x ∷ []) l) p q) ≡ ((has_key seen p q || is_key p q x.request) || has_key l p q)
-      = subst (λ (b : Bool). (b || has_key (distinct_from (seen ++ x ∷ []) l) p q) ≡ (b || has_key l p q)) (has-push seen x p q) (has-distinct l (seen ++ x ∷ []) p q) in
+    = subst (λ (b : Bool). (b || has_key (distinct_from (seen ++ x ∷ []) l) p q) ≡ (b || has_key l p q)) (has-push seen x p q) (has-distinct l (seen ++ x ∷ []) p q) in
     ap (λ (b : Bool). has_key seen p q || b)
-        (list_any-append (λ (a : Arrival). is_key p q a.request) (cond (has_key seen x.request.requester x.request.invoke) [] (x ∷ [])) (distinct_from (seen ++ x ∷ []) l)
-        ∙ ap (λ (b : Bool). b || has_key (distinct_from (seen ++ x ∷ []) l) p q) (cond_has (has_key seen x.request.requester x.request.invoke) x p q))
+    (list_any-append (λ (a : Arrival). is_key p q a.request) (cond (has_key seen x.request.requester x.request.invoke) [] (x ∷ [])) (distinct_from (seen ++ x ∷ []) l)
+    ∙ ap (λ (b : Bool). b || has_key (distinct_from (seen ++ x ∷ []) l) p q) (cond_has (has_key seen x.request.requester x.request.invoke) x p q))
     ∙ either_way (has_key seen p q) (is_key p q x.request) (has_key (distinct_from (seen ++ x ∷ []) l) p q) (has_key l p q) (has_key seen x.request.requester x.request.invoke)
-        (λ same. let both : (x.request.requester ≡ p) × (x.request.invoke ≡ q) = key_same p q x.request same in ap (λ (n : List ℕ). has_key seen n x.request.invoke) both.0 ∙ ap (λ (n : ℕ). has_key seen p n) both.1)
-        again
+    (λ same. let both : (x.request.requester ≡ p) × (x.request.invoke ≡ q) = key_same p q x.request same in ap (λ (n : List ℕ). has_key seen n x.request.invoke) both.0 ∙ ap (λ (n : ℕ). has_key seen p n) both.1)
+    again
 
 -- ---- the run ----
 
@@ -138,7 +138,7 @@ fresh : (n : ℕ) (l : List Arrival) (a : Arrival) → length (firsts n l) < n �
 fresh n l a room new =
     let whole : firsts n l ≡ distinct_from [] l = firsts-room n l room in
     let none : has_key l a.request.requester a.request.invoke ≡ false
-      = sym (has-distinct l [] a.request.requester a.request.invoke) ∙ ap (λ (s : List Arrival). has_key s a.request.requester a.request.invoke) (sym whole) ∙ new in
+    = sym (has-distinct l [] a.request.requester a.request.invoke) ∙ ap (λ (s : List Arrival). has_key s a.request.requester a.request.invoke) (sym whole) ∙ new in
     let short : length (distinct_from [] l ++ a ∷ []) ≤ n = subst (λ (s : List Arrival). length (s ++ a ∷ []) ≤ n) whole (grind (arith, common_steps)) in
     firsts-push n l a
     ∙ ap (λ (b : Bool). take n (distinct_from [] l ++ cond b [] (a ∷ []))) none
@@ -157,13 +157,13 @@ after_firsts n l a =
     let limit : c.rows.limits.requests ≡ n.requests = ap (λ (x : Limits). x.requests) (run-limits f (empty_content n)) in
     let P : Bool → Bool → Type 0 = λ x y. cond x c (cond y (executed c a) c) ≡ run n (l ++ a ∷ []) in
     let cases : (x y : Bool) → is_some (kept_of c.kept p q) ≡ x → nat_lt c.rows.last_stamp c.rows.limits.requests ≡ y → P x y
-      = λ x. elim x as (λ x. (y : Bool) → is_some (kept_of c.kept p q) ≡ x → nat_lt c.rows.last_stamp c.rows.limits.requests ≡ y → P x y) [
-        | true ↦ λ y old room. ap (run_from (empty_content n)) (sym (known n.requests l a (sym found ∙ old)))
-        | false ↦ λ y. elim y as (λ y. is_some (kept_of c.kept p q) ≡ false → nat_lt c.rows.last_stamp c.rows.limits.requests ≡ y → P false y) [
-          | true ↦ λ new room. let lt : c.rows.last_stamp < c.rows.limits.requests = ltb-true c.rows.last_stamp c.rows.limits.requests room in sym (run-push (empty_content n) f a) ∙ ap (run_from (empty_content n)) (sym (fresh n.requests l a (omega (arith, lt, stamp, limit)) (sym found ∙ new)))
-          | false ↦ λ new room. let le : c.rows.limits.requests ≤ c.rows.last_stamp = ltb-false c.rows.last_stamp c.rows.limits.requests room in ap (run_from (empty_content n)) (sym (full n.requests l a (omega (arith, le, stamp, limit))))
-          ]
-        ] in
+    = λ x. elim x as (λ x. (y : Bool) → is_some (kept_of c.kept p q) ≡ x → nat_lt c.rows.last_stamp c.rows.limits.requests ≡ y → P x y) [
+      | true ↦ λ y old room. ap (run_from (empty_content n)) (sym (known n.requests l a (sym found ∙ old)))
+      | false ↦ λ y. elim y as (λ y. is_some (kept_of c.kept p q) ≡ false → nat_lt c.rows.last_stamp c.rows.limits.requests ≡ y → P false y) [
+        | true ↦ λ new room. let lt : c.rows.last_stamp < c.rows.limits.requests = ltb-true c.rows.last_stamp c.rows.limits.requests room in sym (run-push (empty_content n) f a) ∙ ap (run_from (empty_content n)) (sym (fresh n.requests l a (omega (arith, lt, stamp, limit)) (sym found ∙ new)))
+        | false ↦ λ new room. let le : c.rows.limits.requests ≤ c.rows.last_stamp = ltb-false c.rows.last_stamp c.rows.limits.requests room in ap (run_from (empty_content n)) (sym (full n.requests l a (omega (arith, le, stamp, limit))))
+      ]
+    ] in
     cases (is_some (kept_of c.kept p q)) (nat_lt c.rows.last_stamp c.rows.limits.requests) refl refl
 
 -- an arrival that is executed

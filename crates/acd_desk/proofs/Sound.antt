@@ -42,7 +42,7 @@ same_known : (s t : List Arrival) (x : Arrival) → SameKeys s t → has_key t x
 same_known s t x same known p q =
     same p q
     ∙ or_known (has_key t p q) (is_key p q x.request) (λ is. let both : (x.request.requester ≡ p) × (x.request.invoke ≡ q) = key_same p q x.request is in
-        sym (ap (λ (n : List ℕ). has_key t n x.request.invoke) both.0 ∙ ap (λ (n : ℕ). has_key t p n) both.1) ∙ known)
+    sym (ap (λ (n : List ℕ). has_key t n x.request.invoke) both.0 ∙ ap (λ (n : ℕ). has_key t p n) both.1) ∙ known)
     ∙ sym (has-push t x p q)
 
 distinct-new : (l seen mine : List Arrival) → SameKeys mine seen → New mine (distinct_from seen l)
@@ -50,10 +50,10 @@ distinct-new [] seen mine same = tt
 distinct-new (x ∷ l) seen mine same =
     let P : Bool → Type 0 = λ b. New mine (cond b [] (x ∷ []) ++ distinct_from (seen ++ x ∷ []) l) in
     let cases : (b : Bool) → has_key seen x.request.requester x.request.invoke ≡ b → P b
-      = λ b. elim b as (λ b. has_key seen x.request.requester x.request.invoke ≡ b → P b) [
-        | true ↦ λ e. distinct-new l (seen ++ x ∷ []) mine (same_known mine seen x same e)
-        | false ↦ λ e. (same x.request.requester x.request.invoke ∙ e, distinct-new l (seen ++ x ∷ []) (mine ++ x ∷ []) (same-push mine seen x x same refl))
-        ] in
+    = λ b. elim b as (λ b. has_key seen x.request.requester x.request.invoke ≡ b → P b) [
+      | true ↦ λ e. distinct-new l (seen ++ x ∷ []) mine (same_known mine seen x same e)
+      | false ↦ λ e. (same x.request.requester x.request.invoke ∙ e, distinct-new l (seen ++ x ∷ []) (mine ++ x ∷ []) (same-push mine seen x x same refl))
+    ] in
     cases (has_key seen x.request.requester x.request.invoke) refl
 
 new-take : (n : ℕ) (l seen : List Arrival) → New seen l → New seen (take n l)
@@ -74,7 +74,7 @@ length-raised (x ∷ l) c = let e = length-raised l (executed c x) in omega (ari
 executed-raised : (c : Content) (x : Arrival) → executed c (record { moment = executed_moment c.rows x.moment; request = x.request }) ≡ executed c x
 executed-raised c x =
     ap₂ (λ (s : Stepped) (m : ℕ). record { rows = s.rows; events = c.events ++ s.events; kept = c.kept ++ kept_at (c.rows.last_stamp + 1) m x.request s.outcome ∷ [] })
-        (step_raised c.rows x.moment x.request.command) (raised_again c.rows x.moment)
+    (step_raised c.rows x.moment x.request.command) (raised_again c.rows x.moment)
 
 run-raised : (l : List Arrival) (c : Content) → run_from c (raised_from c l) ≡ run_from c l
 run-raised [] c = refl
@@ -122,7 +122,7 @@ run_sound n l fits =
       distinct = ap (distinct_from []) kept ∙ distinct ∙ sym kept;
       few = omega (arith, size, as_long, short, raised, limit);
       replays = sym (run-raised f (empty_content n)) ∙ ap (run_from (empty_content n)) (sym own) ∙ ap (run n) (sym kept)
-        ∙ ap (λ (m : Limits). run m (arrivals_of (run n l).kept)) (sym limits);
+          ∙ ap (λ (m : Limits). run m (arrivals_of (run n l).kept)) (sym limits);
     }
 
 pub ran_sound : (start : Content) (l : List Arrival) → IsSound start → IsSound (ran_after start l)
@@ -137,4 +137,4 @@ pub stop_sound : (start : Content) (l others : List Arrival) (c : Content) → I
 stop_sound start l others c sound at = elim at [
   | inl same ↦ subst IsSound (sym same) (ran_sound start l sound)
   | inr more ↦ subst IsSound (sym more.2) (ran_sound start (l ++ more.0 ∷ []) sound)
-  ]
+]

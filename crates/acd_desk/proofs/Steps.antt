@@ -26,7 +26,6 @@ changed_limits s (RemoveCall call) = refl
 changed_limits s (RemoveConnection call device) = refl
 changed_limits s (RemoveMonitor monitor) = refl
 
-
 moved_limits : (s : Rows) (ms : List Move) → (moved s ms).limits ≡ s.limits
 moved_limits s [] = refl
 moved_limits s (x ∷ ms) = moved_limits (changed s x.change) ms ∙ changed_limits s x.change

@@ -5,3 +5,4 @@ pub mod Stands
 pub mod Arrived
 pub mod Laws
 pub mod Opening
+pub mod DeskLaws

@@ -1,5 +1,5 @@
 -- What is answered to an arrival of a list, and what a desk does with one more.
-use Rattle.std.specs.Prelude.{◌≡◌, ◌≢◌, ℕ, Bool, true, cond, nat_lt, List, Option, Some, None, is_some, slice_get}
+use Rattle.std.specs.Prelude.{◌≡◌, ◌≢◌, ◌⊎◌, ℕ, Bool, true, false, cond, nat_lt, List, [], ◌∷◌, Option, Some, None, is_some}
 use Rattle.acd_terms.specs.declared.rows.Limits.{Limits}
 use Rattle.acd_terms.specs.declared.command.Request.{Request}
 use Rattle.acd_terms.specs.declared.command.Arrival.{Arrival}
@@ -8,7 +8,7 @@ use Rattle.acd_book.specs.declared.kept.Kept.{Kept}
 use Rattle.acd_book.specs.Content.{Content, is_key, kept_of}
 use Rattle.acd_desk.specs.declared.taken.Taken.{Taken}
 use Rattle.acd_desk.specs.declared.taken.Taken.TheVariants.{Reply, InvokeReused, DeskFull}
-use Rattle.acd_desk.specs.Firsts.{executed, firsts, run}
+use Rattle.acd_desk.specs.Firsts.{has_key, executed, firsts, run}
 
 -- the same key, service and members, by the comparison that is derived
 unfoldable pub same_request : Request → Request → Bool
@@ -26,11 +26,22 @@ answer_in c r = answer_of (kept_of c.kept r.requester r.invoke) r
 abbrev pub reply_to : Limits → List Arrival → Request → Taken
 reply_to limits list r = answer_in (run limits list) r
 
--- an arrival that stands in the first arrivals, with what the run keeps of it
-pub record StandsFirst (limits : Limits) (list : List Arrival) (a : Arrival) (kept : Kept) : Type 0 where
-  pub place : ℕ
-  pub stands : slice_get (firsts limits.requests list) place ≡ Some a
-  pub replied : slice_get (run limits list).kept place ≡ Some kept
+-- x and k stand at one place of the two lists
+abbrev pub StandTogether : List Arrival → List Kept → Arrival → Kept → Type 0
+StandTogether (a ∷ list) (r ∷ kept) x k = ((x ≡ a) × (k ≡ r)) ⊎ StandTogether list kept x k
+StandTogether _ _ x k = ⊥
+
+-- an arrival with the key of the request stands in the first arrivals, and the run keeps this of it
+pub record StandsFirst (limits : Limits) (list : List Arrival) (r : Request) (first : Arrival) (kept : Kept) : Type 0 where
+  pub key : is_key r.requester r.invoke first.request ≡ true
+  pub place : StandTogether (firsts limits.requests list) (run limits list).kept first kept
+
+-- the reply of the first arrival of its key where that is the same request, and else invokeReused; deskFull where no arrival of its key stands there
+abbrev pub IsReplyAt : Limits → List Arrival → Request → Taken → Type 0
+IsReplyAt limits list r answer =
+    ((first : Arrival) × (kept : Kept) × StandsFirst limits list r first kept
+    × (first.request ≡ r → answer ≡ Reply kept.status kept.body) × (first.request ≢ r → answer ≡ InvokeReused))
+    ⊎ ((has_key (firsts limits.requests list) r.requester r.invoke ≡ false) × (answer ≡ DeskFull))
 
 -- the content after one more arrival: where its key is new and the desk isn't full, that with it executed
 abbrev pub after : Content → Arrival → Content

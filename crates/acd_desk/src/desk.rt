@@ -24,6 +24,7 @@ pub enum OpenFault {
 }
 
 /// A desk: the switch, and the book that keeps it.
+#[derive(Drop)]
 pub struct Desk<B: Book> {
     alloc: Global,
     book: B,
@@ -36,6 +37,7 @@ impl<B: Book> Desk<B> {
     ghost use Rattle.std.specs.Prelude.{ℕ, ◌⊎◌, true, false, length, OnErr, OnOk, IfOk, IfErr, MatchResult};
     ghost use Rattle.acd_book.specs.Content.{Content, kept_of, IsCounted, Within, HasRisen};
     ghost use Rattle.acd_desk.specs.Arrived.{at};
+    ghost use Rattle.acd_desk.specs.Laws.{KeepsLaws};
     ghost use Rattle.acd_desk.specs.Opening.{RefusesBy, IsNoRule};
     ghost use Rattle.acd_desk.specs.Replies.{answer_in, after};
     ghost use Rattle.acd_desk.specs.Served.{is_fault, served, unserved, sent};
@@ -158,6 +160,8 @@ impl<B: Book> Desk<B> {
             → IfOk result (λ answers. B.content self.new.book ≡ ran_after (B.content self.old.book) (served arrivals.now answers.items)) }
         ensures whole { B.is_clean self.new.book → StartsWell (B.is_sound self.old.book) (B.is_open self.old.book) self.old.switch self.old.failed (B.content self.old.book) → B.is_open self.new.book
             → OnOk result (IsSound (B.content self.new.book)) }
+        ensures laws { B.is_clean self.new.book → StartsWell (B.is_sound self.old.book) (B.is_open self.old.book) self.old.switch self.old.failed (B.content self.old.book) → B.is_open self.new.book
+            → OnOk result (KeepsLaws (B.content self.new.book)) }
         // whatever a stop leaves is that run, or that with one more arrival, which was answered by a fault
         ensures stops { B.is_clean self.new.book → StartsWell (B.is_sound self.old.book) (B.is_open self.old.book) self.old.switch self.old.failed (B.content self.old.book) → (c : Content) → B.stops self.new.book c
             → IfOk result (λ answers. StopsAt (B.content self.old.book) (served arrivals.now answers.items) (unserved arrivals.now answers.items) c) }
@@ -173,7 +177,7 @@ impl<B: Book> Desk<B> {
     }
 
     /// A desk over a book whose rows break no rule. It changes nothing.
-    #[tactic(auto, using(crate::proofs::ContentLaws::sound_rules))]
+    #[tactic(auto, using(crate::proofs::ContentLaws::sound_rules, crate::proofs::ContentLaws::sound_counted))]
     pub fn open(alloc: Global, mut book: B) -> Result<Desk<B>, (OpenFault, B)>
         ensures clean { MatchResult result (λ desk. B.is_clean desk.book → B.is_clean book) (λ fault. B.is_clean fault.1 → B.is_clean book) }
         ensures sound { MatchResult result (λ desk. B.is_clean desk.book → B.is_sound book → B.is_sound desk.book) (λ fault. B.is_clean fault.1 → B.is_sound book → B.is_sound fault.1) }
@@ -185,6 +189,7 @@ impl<B: Book> Desk<B> {
         ensures refuses { IfErr result (λ fault. B.is_clean fault.1 → B.is_sound book → RefusesBy fault.0 (B.content book).rows) }
         // a sound content is never refused
         ensures well { IfErr result (λ fault. B.is_clean fault.1 → B.is_sound book → IsSound (B.content book) → IsNoRule fault.0) }
+        ensures starts { IfOk result (λ desk. B.is_clean desk.book → B.is_sound book → IsSound (B.content book) → StartsWell (B.is_sound desk.book) (B.is_open desk.book) desk.switch desk.failed (B.content desk.book)) }
         ensures cause { IfErr result (λ fault. fault.0 ≡ OpenFault.Store → HasRisen (B.count book) (B.count fault.1)) }
     {
         let rows = match book.rows() {

@@ -5,6 +5,9 @@
 #![tactic(auto)]
 
 pub mod desk;
+pub mod laws;
 mod next;
 pub mod requests;
 pub mod taken;
+#[cfg(test)]
+mod tests;

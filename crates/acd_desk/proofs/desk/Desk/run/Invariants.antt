@@ -9,20 +9,20 @@ invariant-loop-i g l = record {
   clean : g.B.Book.is_clean l.self.book → g.B.Book.is_clean l.fn.self.book;
   sound : g.B.Book.is_clean l.self.book → g.B.Book.is_sound l.fn.self.book → g.B.Book.is_sound l.self.book;
   in_step : g.B.Book.is_clean l.self.book → g.B.Book.is_sound l.fn.self.book
-    → InStep l.fn.self.switch l.fn.self.failed (g.B.Book.is_open l.fn.self.book) (g.B.Book.content l.fn.self.book)
-    → InStep l.self.switch l.self.failed (g.B.Book.is_open l.self.book) (g.B.Book.content l.self.book);
+      → InStep l.fn.self.switch l.fn.self.failed (g.B.Book.is_open l.fn.self.book) (g.B.Book.content l.fn.self.book)
+      → InStep l.self.switch l.self.failed (g.B.Book.is_open l.self.book) (g.B.Book.content l.self.book);
   count : vec_len l.answers ≡ l.i;
   even : length l.answers.items ≡ l.i;
   room : length l.arrivals ≤ vec_capacity l.answers;
   said : g.B.Book.is_clean l.self.book
-    → StartsWell (g.B.Book.is_sound l.fn.self.book) (g.B.Book.is_open l.fn.self.book) l.fn.self.switch l.fn.self.failed (g.B.Book.content l.fn.self.book)
-    → sent l.answers.items ≡ replies (g.B.Book.content l.fn.self.book) (served (take l.i l.arrivals) l.answers.items);
+      → StartsWell (g.B.Book.is_sound l.fn.self.book) (g.B.Book.is_open l.fn.self.book) l.fn.self.switch l.fn.self.failed (g.B.Book.content l.fn.self.book)
+      → sent l.answers.items ≡ replies (g.B.Book.content l.fn.self.book) (served (take l.i l.arrivals) l.answers.items);
   content : g.B.Book.is_clean l.self.book
-    → StartsWell (g.B.Book.is_sound l.fn.self.book) (g.B.Book.is_open l.fn.self.book) l.fn.self.switch l.fn.self.failed (g.B.Book.content l.fn.self.book)
-    → g.B.Book.is_open l.self.book
-    → g.B.Book.content l.self.book ≡ ran_after (g.B.Book.content l.fn.self.book) (served (take l.i l.arrivals) l.answers.items);
+      → StartsWell (g.B.Book.is_sound l.fn.self.book) (g.B.Book.is_open l.fn.self.book) l.fn.self.switch l.fn.self.failed (g.B.Book.content l.fn.self.book)
+      → g.B.Book.is_open l.self.book
+      → g.B.Book.content l.self.book ≡ ran_after (g.B.Book.content l.fn.self.book) (served (take l.i l.arrivals) l.answers.items);
   stops : g.B.Book.is_clean l.self.book
-    → StartsWell (g.B.Book.is_sound l.fn.self.book) (g.B.Book.is_open l.fn.self.book) l.fn.self.switch l.fn.self.failed (g.B.Book.content l.fn.self.book)
-    → (c : Content) → g.B.Book.stops l.self.book c
-    → StopsAt (g.B.Book.content l.fn.self.book) (served (take l.i l.arrivals) l.answers.items) (unserved (take l.i l.arrivals) l.answers.items) c;
+      → StartsWell (g.B.Book.is_sound l.fn.self.book) (g.B.Book.is_open l.fn.self.book) l.fn.self.switch l.fn.self.failed (g.B.Book.content l.fn.self.book)
+      → (c : Content) → g.B.Book.stops l.self.book c
+      → StopsAt (g.B.Book.content l.fn.self.book) (served (take l.i l.arrivals) l.answers.items) (unserved (take l.i l.arrivals) l.answers.items) c;
 }
