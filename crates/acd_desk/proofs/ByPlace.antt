@@ -1,14 +1,13 @@
 -- The look-up by key answers what the table by place says.
-use Rattle.std.proofs.Common.{◌≡◌, ◌≢◌, ◌⊎◌, inl, inr, ℕ, Bool, true, false, cond, ◌||◌, List, [], ◌∷◌, ◌++◌, Option, Some, None, refl, sym, ap, subst, ◌∙◌, append-nil, append_assoc, true≢false}
+use Rattle.std.proofs.Common.{◌≡◌, ◌≢◌, ◌⊎◌, inl, inr, ℕ, Bool, true, false, cond, ◌||◌, List, [], ◌∷◌, ◌++◌, Option, Some, None, refl, sym, ap, subst, ◌∙◌, append-nil, append_assoc}
 use Rattle.acd_terms.specs.declared.rows.Limits.{Limits}
 use Rattle.acd_terms.specs.declared.command.Request.{Request}
 use Rattle.acd_terms.specs.declared.command.Arrival.{Arrival}
 use Rattle.acd_book.specs.declared.kept.Kept.{Kept}
 use Rattle.acd_book.specs.Content.{Content, empty_content, is_key, kept_of}
-use Rattle.acd_desk.specs.declared.taken.Taken.{Taken}
-use Rattle.acd_desk.specs.declared.taken.Taken.TheVariants.{Reply, InvokeReused, DeskFull}
+use Rattle.acd_desk.specs.declared.taken.Taken.TheVariants.{Reply, InvokeReused}
 use Rattle.acd_desk.specs.Firsts.{has_key, firsts, record_of, executed, run_from, run}
-use Rattle.acd_desk.specs.Replies.{same_request, answer_of, reply_to, StandTogether, StandsFirst, IsReplyAt}
+use Rattle.acd_desk.specs.Replies.{same_request, answer_of, reply_to, StandTogether, IsReplyAt}
 use Rattle.acd_desk.proofs.Keys.{same_own}
 use Rattle.acd_desk.proofs.SameRequests.{same_true}
 

@@ -1,9 +1,6 @@
 -- What a desk commits for an arrival is what the abstract desk makes of it.
-use Rattle.std.proofs.Common.{◌≡◌, ℕ, ◌+◌, ◌<◌, List, Bool, true, false, Option, Some, None, refl, sym, ap, ◌∙◌, subst, length, nat_le, leb-false}
-use Rattle.acd_terms.specs.Rules.Plan.{keeps_limits, keeps_order, keeps_device, keeps_agent, keeps_monitor}
-use Rattle.acd_terms.specs.Rules.Calls.{keeps_call, keeps_connection, keeps_parties, keeps_live}
-use Rattle.acd_terms.specs.Rules.Occupied.{keeps_occupied, keeps_offer, keeps_balance}
-use Rattle.acd_terms.specs.Rules.Counters.{keeps_counters}
+use Rattle.std.proofs.Common.{◌≡◌, ◌+◌, ◌<◌, List, Bool, true, false, Option, Some, None, refl, sym, ap, ◌∙◌, subst, length, nat_le, leb-false}
+use Rattle.acd_terms.specs.Rules.Plan.{keeps_limits, keeps_order}
 use Rattle.acd_terms.specs.Rules.First.{or_broken, first_broken, BreaksNoRule}
 use Rattle.acd_terms.specs.declared.rows.Rows.{Rows}
 use Rattle.acd_terms.specs.declared.rows.Rule.{Rule}

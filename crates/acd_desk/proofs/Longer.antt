@@ -1,6 +1,5 @@
 -- A longer list: the replies stay, and what one more answer adds to a run of the desk.
-use Rattle.std.proofs.Common.{◌≡◌, ℕ, ◌+◌, ◌<◌, ◌≤◌, List, [], ◌∷◌, ◌++◌, length, take, drop, map, filter, refl, sym, ap, ap₂, subst, ◌∙◌, arith, append_assoc, append-nil, Bool, true, false, cond, not, ◌&&◌, ◌||◌, nat_lt, Option, Some, None, is_some, inl, inr, ◌⊎◌, get_or, add-one, lt-ltb, ltb-true, true≢false, take_all}
-use Rattle.std.specs.List.{list_any}
+use Rattle.std.proofs.Common.{◌≡◌, ℕ, ◌+◌, ◌<◌, List, [], ◌∷◌, ◌++◌, length, map, refl, sym, ap, subst, ◌∙◌, arith, append_assoc, append-nil, Bool, true, false, cond, not, ◌||◌, nat_lt, Option, Some, None, is_some, inl, inr, ◌⊎◌, ltb-true, true≢false}
 use Rattle.std.specs.Option.{option_or}
 use Rattle.std.proofs.lemmas.List.{map-append}
 use Rattle.std.proofs.lemmas.List.Folds.{list_any-append, find-append}
@@ -11,7 +10,7 @@ use Rattle.acd_terms.specs.declared.command.Arrival.{Arrival}
 use Rattle.acd_book.specs.declared.kept.Kept.{Kept}
 use Rattle.acd_book.specs.Content.{Content, empty_content, is_key, kept_of}
 use Rattle.acd_desk.specs.declared.taken.Taken.{Taken}
-use Rattle.acd_desk.specs.Firsts.{has_key, distinct_from, firsts, record_of, executed, run}
+use Rattle.acd_desk.specs.Firsts.{has_key, firsts, record_of, executed, run}
 use Rattle.acd_desk.specs.Replies.{answer_of, answer_in, reply_to, after}
 use Rattle.acd_desk.specs.Served.{is_fault, served, sent, unserved}
 use Rattle.acd_desk.specs.Stands.{arrivals_of, IsSound, ran_after, replies, StopsAt}

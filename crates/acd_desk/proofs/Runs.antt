@@ -1,27 +1,18 @@
 -- The run over the first arrivals, and one arrival more.
-use Rattle.std.proofs.Common.{◌≡◌, ℕ, ◌+◌, ◌<◌, ◌≤◌, List, [], ◌∷◌, ◌++◌, length, take, drop, map, filter, refl, sym, ap, subst, ◌∙◌, arith, append_assoc, append-nil, Bool, true, false, cond, not, ◌&&◌, ◌||◌, ◌==◌, nat_lt, Option, Some, None, is_some, inl, inr, ◌⊎◌, zero, suc, add-one, take-append-drop, take_all, length-take, lt-ltb, ltb-true, ltb-false, true≢false}
-use Rattle.std.specs.List.{find, list_any}
+use Rattle.std.proofs.Common.{◌≡◌, ℕ, ◌+◌, ◌<◌, ◌≤◌, List, [], ◌∷◌, ◌++◌, length, take, drop, refl, sym, ap, subst, ◌∙◌, arith, append_assoc, append-nil, Bool, true, false, cond, ◌||◌, nat_lt, Option, Some, None, is_some, take-append-drop, take_all, lt-ltb, ltb-true, ltb-false}
+use Rattle.std.specs.List.{list_any}
 use Rattle.std.specs.Option.{option_or}
-use Rattle.std.proofs.lemmas.List.{map-append, take-append-le}
+use Rattle.std.proofs.lemmas.List.{take-append-le}
 use Rattle.std.proofs.lemmas.List.Folds.{list_any-append, find-append}
 use Rattle.std.proofs.lemmas.Grind.{common_steps}
-use Rattle.std.proofs.lemmas.List.Elements.{Contains-push, Contains-append_left}
-use Rattle.acd_terms.specs.Step.{Stepped, step, executed_moment}
 use Rattle.acd_terms.specs.declared.rows.Limits.{Limits}
-use Rattle.acd_terms.specs.declared.rows.Rows.{Rows}
-use Rattle.acd_terms.specs.declared.event.Event.{Event}
-use Rattle.acd_terms.specs.declared.answer.Outcome.{Outcome}
 use Rattle.acd_terms.specs.declared.command.Request.{Request}
 use Rattle.acd_terms.specs.declared.command.Arrival.{Arrival}
-use Rattle.acd_codec.specs.ReplyTexts.{outcome_status, reply_text}
 use Rattle.acd_book.specs.declared.kept.Kept.{Kept}
-use Rattle.acd_book.specs.Content.{Content, empty_content, committed, is_key, kept_of}
-use Rattle.acd_desk.specs.declared.taken.Taken.{Taken}
+use Rattle.acd_book.specs.Content.{Content, empty_content, is_key, kept_of}
 use Rattle.acd_desk.specs.declared.taken.Taken.TheVariants.{Reply, InvokeReused}
-use Rattle.acd_desk.specs.Firsts.{has_key, distinct_from, firsts, stepped, record_of, executed, run_from, run}
-use Rattle.acd_desk.specs.Replies.{same_request, answer_of, answer_in, reply_to, after}
-use Rattle.acd_desk.specs.Served.{is_fault, served, sent, unserved}
-use Rattle.acd_desk.specs.Stands.{arrivals_of, IsSound, ran_after, replies, StopsAt}
+use Rattle.acd_desk.specs.Firsts.{has_key, distinct_from, firsts, record_of, executed, run_from, run}
+use Rattle.acd_desk.specs.Replies.{answer_of, answer_in, after}
 use Rattle.acd_desk.proofs.Steps.{step_limits, step_stamp}
 use Rattle.acd_desk.proofs.Keys.{key_same, key_own, same_own}
 

@@ -1,13 +1,11 @@
 -- What a run leaves is sound: it replays to itself.
-use Rattle.std.proofs.Common.{◌≡◌, ℕ, ◌+◌, ◌<◌, ◌≤◌, List, [], ◌∷◌, ◌++◌, length, take, map, zero, suc, refl, sym, ap, ap₂, subst, ◌∙◌, arith, append_assoc, append-nil, Bool, true, false, cond, ◌||◌, take_all, length-take, inl, inr}
+use Rattle.std.proofs.Common.{◌≡◌, ℕ, ◌+◌, ◌≤◌, List, [], ◌∷◌, ◌++◌, length, take, zero, suc, refl, sym, ap, ap₂, subst, ◌∙◌, arith, append_assoc, append-nil, Bool, true, false, cond, ◌||◌, take_all, inl, inr}
 use Rattle.std.proofs.lemmas.List.{map-append}
 use Rattle.std.proofs.lemmas.Grind.{common_steps}
 use Rattle.acd_terms.specs.Limits.{limits_fit}
-use Rattle.acd_terms.specs.Step.{Stepped, step, executed_moment}
+use Rattle.acd_terms.specs.Step.{Stepped, executed_moment}
 use Rattle.acd_terms.specs.declared.rows.Limits.{Limits}
-use Rattle.acd_terms.specs.declared.rows.Rows.{Rows}
 use Rattle.acd_terms.specs.declared.command.Arrival.{Arrival}
-use Rattle.acd_terms.specs.declared.answer.Outcome.{Outcome}
 use Rattle.acd_book.specs.declared.kept.Kept.{Kept}
 use Rattle.acd_book.specs.Content.{Content, empty_content, is_key}
 use Rattle.acd_desk.specs.Firsts.{has_key, distinct_from, firsts, kept_at, record_of, executed, run_from, run}

@@ -1,10 +1,10 @@
 -- What a step does to the counters and the limits.
-use Rattle.std.proofs.Common.{◌≡◌, ℕ, ◌+◌, ◌<◌, ◌≤◌, List, [], ◌∷◌, length, refl, sym, ap, ◌∙◌, arith, max}
+use Rattle.std.proofs.Common.{◌≡◌, ℕ, ◌+◌, List, [], ◌∷◌, length, refl, sym, ap, ◌∙◌, arith, max}
 use Rattle.acd_terms.specs.Moves.{changed, moved, events_of}
 use Rattle.acd_terms.specs.Writes.{with_group, with_station, with_agent, with_call, with_connection, with_monitor, without_call, without_connection, without_monitor, with_last}
 use Rattle.acd_terms.specs.Figures.{with_figures}
 use Rattle.acd_terms.specs.Services.Serve.{serve}
-use Rattle.acd_terms.specs.Step.{Stepped, step, step_at, step_moves, numbered, executed_moment, next_stamp}
+use Rattle.acd_terms.specs.Step.{step, step_at, step_moves, numbered, executed_moment, next_stamp}
 use Rattle.acd_terms.specs.declared.rows.Rows.{Rows}
 use Rattle.acd_terms.specs.declared.command.Command.{Command}
 use Rattle.acd_terms.specs.declared.event.Event.{Event}

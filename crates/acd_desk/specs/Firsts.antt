@@ -1,5 +1,5 @@
 -- The abstract desk: the switch run once over each request's first arrival.
-use Rattle.std.specs.Prelude.{ℕ, ◌+◌, List, [], ◌∷◌, ◌++◌, take, Bool, cond}
+use Rattle.std.specs.Prelude.{ℕ, List, [], ◌∷◌, ◌++◌, take, Bool, cond}
 use Rattle.std.specs.List.{list_any}
 use Rattle.acd_terms.specs.Step.{Stepped, step, executed_moment, next_stamp}
 use Rattle.acd_terms.specs.declared.rows.Limits.{Limits}

@@ -1,5 +1,5 @@
 -- What is answered to an arrival of a list, and what a desk does with one more.
-use Rattle.std.specs.Prelude.{◌≡◌, ◌≢◌, ◌⊎◌, ℕ, Bool, true, false, cond, nat_lt, List, [], ◌∷◌, Option, Some, None, is_some}
+use Rattle.std.specs.Prelude.{◌≡◌, ◌≢◌, ◌⊎◌, Bool, true, false, cond, nat_lt, List, ◌∷◌, Option, Some, None, is_some}
 use Rattle.acd_terms.specs.declared.rows.Limits.{Limits}
 use Rattle.acd_terms.specs.declared.command.Request.{Request}
 use Rattle.acd_terms.specs.declared.command.Arrival.{Arrival}

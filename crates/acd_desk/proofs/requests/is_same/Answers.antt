@@ -1,4 +1,4 @@
-use Rattle.std.proofs.Common.{◌≡◌, ◌∙◌, ap, sym}
+use Rattle.std.proofs.Common.{◌∙◌, ap, sym}
 use Rattle.acd_terms.specs.declared.command.Request.{Request}
 use Rattle.acd_desk.specs.Replies.{same_request}
 use Rattle.acd_desk.proofs.Keys.{same_own}

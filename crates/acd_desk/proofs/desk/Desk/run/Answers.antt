@@ -1,11 +1,11 @@
-use Rattle.std.proofs.Common.{rules, ◌≡◌, ◌<◌, ◌≤◌, ◌+◌, ◌∙◌, ℕ, ◌⊎◌, inl, inr, true, false, length, take, get_or, Bool, List, [], ◌∷◌, ◌++◌, cond, ap, ap₂, sym, subst, refl, arith}
+use Rattle.std.proofs.Common.{rules, ◌≡◌, ◌<◌, ◌+◌, ◌∙◌, ℕ, inl, inr, true, false, length, take, get_or, List, [], ◌∷◌, ◌++◌, cond, ap, ap₂, sym, subst, arith}
 use Rattle.std.proofs.lemmas.Grind.{common_steps}
 use Rattle.acd_terms.specs.declared.command.Arrival.{Arrival}
 use Rattle.acd_book.specs.Content.{Content}
 use Rattle.acd_desk.specs.declared.taken.Taken.{Taken}
 use Rattle.acd_desk.specs.Replies.{answer_in, after}
 use Rattle.acd_desk.specs.Served.{is_fault, sent, served, unserved}
-use Rattle.acd_desk.specs.Stands.{InStep, replies, ran_after, StopsAt, StartsWell, IsSound}
+use Rattle.acd_desk.specs.Stands.{replies, ran_after, StopsAt, IsSound}
 use Rattle.acd_desk.proofs.Longer.{one_said, one_content, one_stop, served-push, unserved-push}
 use Rattle.acd_desk.proofs.Sound.{ran_sound, stop_sound}
 use Rattle.acd_desk.proofs.ContentLaws.{sound_keeps_laws}
