@@ -1,0 +1,51 @@
+//! The faults of identifiers and names, each at its place.
+
+use super::*;
+use acd_terms::id::{AgentId, DeviceId, IdFault};
+use acd_terms::name::{Name, NameFault, Requester};
+use acd_terms::number::{Invoke, Seconds, Serial};
+
+#[test]
+fn faults_of_devices(rt: HostRuntime) {
+    assert_eq!(rt; DeviceId::read(b""), Err(IdFault::Empty));
+    assert_eq!(rt; DeviceId::read(b"1234567890123456"), Err(IdFault::TooLong));
+    assert_eq!(rt; DeviceId::read(b"x123456789012345"), Err(IdFault::TooLong));
+    assert_eq!(rt; DeviceId::read(b"x01"), Err(IdFault::NotDigit(0)));
+    assert_eq!(rt; DeviceId::read(b"12+4x"), Err(IdFault::NotDigit(2)));
+    let device = DeviceId::read(b"0301234").expect(&rt, "a device");
+    assert_eq!(rt; device.number(), 10301234);
+    assert_eq!(rt; device.text().as_str(), "0301234");
+}
+
+#[test]
+fn faults_of_agents(rt: HostRuntime) {
+    assert_eq!(rt; AgentId::read(b""), Err(IdFault::Empty));
+    assert_eq!(rt; AgentId::read(b"1234567890"), Err(IdFault::TooLong));
+    assert_eq!(rt; AgentId::read(b"7 "), Err(IdFault::NotDigit(1)));
+    let agent = AgentId::read(b"123456789").expect(&rt, "an agent");
+    assert_eq!(rt; agent.number(), 1123456789);
+}
+
+#[test]
+fn faults_of_names(rt: HostRuntime) {
+    assert_eq!(rt; Name::read(b""), Err(NameFault::Empty));
+    assert_eq!(rt; Name::read(&[b'n'; 41]), Err(NameFault::TooLong));
+    assert_eq!(rt; Name::read(b"An\x7fa"), Err(NameFault::BadCharacter(2)));
+    assert_eq!(rt; Requester::read(b""), Err(NameFault::Empty));
+    assert_eq!(rt; Requester::read(&[b'a'; 33]), Err(NameFault::TooLong));
+    assert_eq!(rt; Requester::read(b"pBx"), Err(NameFault::BadCharacter(1)));
+    let name = Name::read(b" ~").expect(&rt, "a name");
+    assert_eq!(rt; name.as_str(), " ~");
+}
+
+#[test]
+fn bounds_of_numbers(rt: HostRuntime) {
+    assert!(rt; Invoke::new(0).is_none());
+    assert!(rt; Invoke::new(999999999).is_some());
+    assert!(rt; Invoke::new(1000000000).is_none());
+    assert!(rt; Seconds::new(3600).is_some());
+    assert!(rt; Seconds::new(3601).is_none());
+    assert!(rt; Serial::new(0).is_none());
+    assert!(rt; Serial::new(1000000000).is_some());
+    assert!(rt; Serial::new(1000000001).is_none());
+}
