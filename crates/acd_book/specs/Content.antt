@@ -1,0 +1,91 @@
+-- What a book holds, what it tells of it, and what a commit makes of it.
+use Rattle.std.specs.Prelude.{◌≡◌, ◌⊎◌, ℕ, ◌+◌, ◌-◌, ◌^◌, ◌<◌, ◌≤◌, Bool, true, ◌&&◌, ◌==◌, nat_lt, List, [], ◌∷◌, ◌++◌, length, take, filter, find, max, Option, Some, None}
+use Rattle.std.specs.Str.{bytes_eq}
+use Rattle.acd_terms.specs.Lists.{Every}
+use Rattle.acd_terms.specs.Columns.{columns_of}
+use Rattle.acd_terms.specs.Scans.{monitor_of, has}
+use Rattle.acd_terms.specs.Writes.{empty_rows}
+use Rattle.acd_terms.specs.Rules.Plan.{keeps_order}
+use Rattle.acd_terms.specs.declared.rows.Limits.{Limits}
+use Rattle.acd_terms.specs.declared.rows.Rows.{Rows}
+use Rattle.acd_terms.specs.declared.record.MonitorRecord.{MonitorRecord}
+use Rattle.acd_terms.specs.declared.event.Event.{Event}
+use Rattle.acd_terms.specs.declared.command.Request.{Request}
+use Rattle.acd_book.specs.declared.kept.Kept.{Kept}
+
+-- the rows are the limits and the tables
+pub record Content : Type 0 where
+  pub rows : Rows
+  pub events : List Event
+  pub kept : List Kept
+
+-- a new book
+abbrev pub empty_content : Limits → Content
+empty_content limits = record { rows = empty_rows limits; events = []; kept = [] }
+
+-- the request has this key
+abbrev pub is_key : List ℕ → ℕ → Request → Bool
+is_key requester invoke r = bytes_eq r.requester requester && (r.invoke == invoke)
+
+-- the record that is kept under a key
+abbrev pub kept_of : List Kept → List ℕ → ℕ → Option Kept
+kept_of kept requester invoke = find (λ (k : Kept). is_key requester invoke k.request) kept
+
+-- the record of the least greater stamp: records stand in ascending stamp
+abbrev pub kept_behind : List Kept → ℕ → Option Kept
+kept_behind kept stamp = find (λ (k : Kept). nat_lt stamp k.stamp) kept
+
+-- the event is at the device, where one is named
+abbrev pub is_at : Option ℕ → Event → Bool
+is_at None e = true
+is_at (Some device) e = has (columns_of e.report).device device
+
+-- and above the number
+abbrev pub is_told : Option ℕ → ℕ → Event → Bool
+is_told device number e = is_at device e && nat_lt number e.number
+
+-- the first events above a number
+abbrev pub events_behind : List Event → ℕ → ℕ → List Event
+events_behind events number limit = take limit (filter (λ (e : Event). nat_lt number e.number) events)
+
+-- the first events at its device above a number and above the last one before the monitor was started
+abbrev pub watched_by : Option MonitorRecord → List Event → ℕ → ℕ → List Event
+watched_by None events number limit = []
+watched_by (Some w) events number limit = take limit (filter (is_told (Some w.device) (max number w.after_event)) events)
+
+-- none where the monitor isn't running
+abbrev pub events_of_monitor : Content → ℕ → ℕ → ℕ → List Event
+events_of_monitor c monitor number limit = watched_by (monitor_of c.rows monitor) c.events number limit
+
+-- the tables replaced, and the events and the kept record added
+abbrev pub committed : Rows → List Event → Kept → Content → Content
+committed rows events kept c = record { rows = rows; events = c.events ++ events; kept = c.kept ++ kept ∷ [] }
+
+-- events numbered on from a number
+abbrev pub GoOn : ℕ → List Event → Type 0
+GoOn last [] = Unit {0}
+GoOn last (e ∷ es) = (e.number ≡ last + 1) × GoOn (last + 1) es
+
+-- no event and no kept record stands above the counters, so that what is added stands at the end
+pub record IsCounted (c : Content) : Type 0 where
+  pub events : Every (λ (e : Event). e.number ≤ c.rows.last_event) c.events
+  pub kept : Every (λ (k : Kept). k.stamp ≤ c.rows.last_stamp) c.kept
+
+-- the conditions of a commit: it goes on from the counters, the key is new, and the lists are in order
+pub record Follows (rows : Rows) (events : List Event) (kept : Kept) (c : Content) : Type 0 where
+  pub limits : rows.limits ≡ c.rows.limits
+  pub next : kept.stamp ≡ c.rows.last_stamp + 1
+  pub stamp : rows.last_stamp ≡ kept.stamp
+  pub numbers : GoOn c.rows.last_event events
+  pub event : rows.last_event ≡ c.rows.last_event + length events
+  pub ordered : keeps_order rows ≡ true
+  pub unkept : kept_of c.kept kept.request.requester kept.request.invoke ≡ None
+  pub counted : IsCounted c
+
+-- nothing that a reopening may find is new
+abbrev pub Within : (Content → Type 0) → (Content → Type 0) → Type 0
+Within new old = (c : Content) → new c → old c
+
+-- the count has risen, or stands at its greatest value
+abbrev pub HasRisen : ℕ → ℕ → Type 0
+HasRisen old new = (old < new) ⊎ (new ≡ 2 ^ 64 - 1)

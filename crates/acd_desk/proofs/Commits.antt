@@ -1,0 +1,99 @@
+-- What a desk commits for an arrival is what the abstract desk makes of it.
+use Rattle.std.proofs.Common.{◌≡◌, ◌+◌, ◌<◌, List, Bool, true, false, Option, Some, None, refl, sym, ap, ◌∙◌, subst, length, nat_le, leb-false}
+use Rattle.acd_terms.specs.Rules.Plan.{keeps_limits, keeps_order}
+use Rattle.acd_terms.specs.Rules.First.{or_broken, first_broken, BreaksNoRule}
+use Rattle.acd_terms.specs.declared.rows.Rows.{Rows}
+use Rattle.acd_terms.specs.declared.rows.Rule.{Rule}
+use Rattle.acd_terms.specs.Step.{next_stamp, executed_moment}
+use Rattle.acd_terms.specs.declared.answer.Outcome.{Outcome}
+use Rattle.acd_terms.specs.declared.event.Event.{Event}
+use Rattle.acd_terms.specs.declared.command.Arrival.{Arrival}
+use Rattle.acd_book.specs.declared.kept.Kept.{Kept}
+use Rattle.acd_book.specs.Content.{Content, committed, kept_of, GoOn, IsCounted, Follows}
+use Rattle.acd_desk.specs.Firsts.{stepped, kept_at, record_of, executed}
+use Rattle.acd_desk.specs.declared.taken.Taken.TheVariants.{Reply}
+use Rattle.acd_desk.specs.Replies.{answer_in, after}
+use Rattle.acd_desk.proofs.Steps.{step_limits, step_stamp, step_moment, step_numbers, step_event}
+use Rattle.acd_desk.proofs.Runs.{executes, answers_new}
+use Rattle.acd_desk.proofs.Counting.{counted_executed}
+
+some_none : {T : Type 0} (x : T) → Some x ≡ None → ⊥
+some_none x h = cc
+
+keeps_first : (kept : Bool) (which : Rule) (rest : Option Rule) → or_broken kept which rest ≡ None → (kept ≡ true) × (rest ≡ None)
+keeps_first true which rest h = (refl, h)
+keeps_first false which rest h = absurd (some_none which h)
+
+pub ordered : (s : Rows) → BreaksNoRule s → keeps_order s ≡ true
+unfolding first_broken
+ordered s h = (keeps_first (keeps_order s) _ _ (keeps_first (keeps_limits s) _ _ h).1).0
+
+-- it follows what is kept
+pub follows : (c : Content) (r next : Rows) (es : List Event) (k : Kept) (a : Arrival) → c.rows ≡ r → IsCounted c → kept_of c.kept a.request.requester a.request.invoke ≡ None
+    → next ≡ (stepped r a).rows → es ≡ (stepped r a).events → k ≡ record_of r a → BreaksNoRule next → Follows next es k c
+follows c r next es k a same counted new e1 e2 e3 rules =
+    let s : Rows = c.rows in
+    let limits : (stepped s a).rows.limits ≡ s.limits = step_limits s a.moment a.request.command in
+    let stamp : (stepped s a).rows.last_stamp ≡ s.last_stamp + 1 = step_stamp s a.moment a.request.command in
+    let next_is : next ≡ (stepped s a).rows = e1 ∙ ap (λ (x : Rows). (stepped x a).rows) (sym same) in
+    let events_are : es ≡ (stepped s a).events = e2 ∙ ap (λ (x : Rows). (stepped x a).events) (sym same) in
+    let kept_is : k ≡ record_of s a = e3 ∙ ap (λ (x : Rows). record_of x a) (sym same) in
+    record {
+      limits = ap (λ (x : Rows). x.limits) next_is ∙ limits;
+      next = ap (λ (x : Kept). x.stamp) kept_is;
+      stamp = ap (λ (x : Rows). x.last_stamp) next_is ∙ stamp ∙ sym (ap (λ (x : Kept). x.stamp) kept_is);
+      numbers = subst (GoOn s.last_event) (sym events_are) (step_numbers s a.moment a.request.command);
+      event = ap (λ (x : Rows). x.last_event) next_is ∙ step_event s a.moment a.request.command ∙ ap (λ (l : List Event). s.last_event + length l) (sym events_are);
+      ordered = ordered next rules;
+      unkept = ap (λ (x : Kept). kept_of c.kept x.request.requester x.request.invoke) kept_is ∙ new;
+      counted = counted;
+    }
+
+pub made : (c : Content) (r next : Rows) (es : List Event) (k : Kept) (a : Arrival) → c.rows ≡ r
+    → next ≡ (stepped r a).rows → es ≡ (stepped r a).events → k ≡ record_of r a → committed next es k c ≡ executed c a
+made c r next es k a e1 e2 e3 e4 = cc
+
+-- what is prepared for a commit, of a switch and an arrival
+pub record Prepared (r : Rows) (a : Arrival) (switch next : Rows) (es : List Event) (k : Kept) : Type 0 where
+  pub switch_is : switch ≡ (stepped r a).rows
+  pub rows_are : next ≡ switch
+  pub events_are : es ≡ (stepped r a).events
+  pub kept_is : k ≡ record_of r a
+  pub rules : BreaksNoRule switch
+
+-- it follows the content that the switch is in step with, and makes of it what the abstract desk does
+pub commits : (r : Rows) (a : Arrival) (switch next : Rows) (es : List Event) (k : Kept) → Prepared r a switch next es k
+    → (c : Content) → (c.rows ≡ r) × IsCounted c → kept_of c.kept a.request.requester a.request.invoke ≡ None → nat_le r.limits.requests r.last_stamp ≡ false
+    → Follows next es k c × (committed next es k c ≡ after c a) × (after c a ≡ executed c a)
+commits r a switch next es k p c step new room =
+    let short : c.rows.last_stamp < c.rows.limits.requests = subst (λ (s : Rows). s.last_stamp < s.limits.requests) (sym step.0) (leb-false r.limits.requests r.last_stamp room) in
+    let does : after c a ≡ executed c a = executes c a new short in
+    let next_is : next ≡ (stepped r a).rows = p.rows_are ∙ p.switch_is in (
+      follows c r next es k a step.0 step.1 new next_is p.events_are p.kept_is (subst BreaksNoRule (sym p.rows_are) p.rules),
+      made c r next es k a step.0 next_is p.events_are p.kept_is ∙ sym does,
+      does,
+    )
+
+-- the desk is in step with what it has executed
+pub executed_in_step : (r : Rows) (a : Arrival) (switch next : Rows) (es : List Event) (k : Kept) → Prepared r a switch next es k
+    → (c new : Content) → (c.rows ≡ r) × IsCounted c → new ≡ executed c a → (new.rows ≡ switch) × IsCounted new
+executed_in_step r a switch next es k p c new step is = (
+  ap (λ (x : Content). x.rows) is ∙ ap (λ (s : Rows). (stepped s a).rows) step.0 ∙ sym p.switch_is,
+  subst IsCounted (sym is) (counted_executed c a step.1),
+)
+
+-- its reply is the record's
+pub executed_reply : (r : Rows) (a : Arrival) (switch next : Rows) (es : List Event) (k : Kept) → Prepared r a switch next es k
+    → (c : Content) → c.rows ≡ r → kept_of c.kept a.request.requester a.request.invoke ≡ None → after c a ≡ executed c a
+    → Reply k.status k.body ≡ answer_in (after c a) a.request
+executed_reply r a switch next es k p c same new does =
+    ap (λ (x : Kept). Reply x.status x.body) (p.kept_is ∙ ap (λ (s : Rows). record_of s a) (sym same))
+    ∙ sym (ap (λ (x : Content). answer_in x a.request) does ∙ answers_new c a new)
+
+-- the record that is made by the rows after a step
+pub kept_by_rows : (s copy next rows : Rows) (a : Arrival) (outcome : Outcome) (k : Kept) → copy ≡ s → next ≡ (stepped copy a).rows → outcome ≡ (stepped copy a).outcome → rows ≡ next
+    → k ≡ kept_at rows.last_stamp rows.last_moment a.request outcome → k ≡ record_of s a
+kept_by_rows s copy next rows a outcome k e1 e2 e3 e4 e5 =
+    let stamp : (stepped s a).rows.last_stamp ≡ next_stamp s = step_stamp s a.moment a.request.command in
+    let moment : (stepped s a).rows.last_moment ≡ executed_moment s a.moment = step_moment s a.moment a.request.command in
+    cc

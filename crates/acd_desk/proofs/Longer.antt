@@ -1,0 +1,159 @@
+-- A longer list: the replies stay, and what one more answer adds to a run of the desk.
+use Rattle.std.proofs.Common.{◌≡◌, ℕ, ◌+◌, ◌<◌, List, [], ◌∷◌, ◌++◌, length, map, refl, sym, ap, subst, ◌∙◌, arith, append_assoc, append-nil, Bool, true, false, cond, not, ◌||◌, nat_lt, Option, Some, None, is_some, inl, inr, ◌⊎◌, ltb-true, true≢false}
+use Rattle.std.specs.Option.{option_or}
+use Rattle.std.proofs.lemmas.List.{map-append}
+use Rattle.std.proofs.lemmas.List.Folds.{list_any-append, find-append}
+use Rattle.std.proofs.lemmas.List.Elements.{Contains-push, Contains-append_left}
+use Rattle.acd_terms.specs.declared.rows.Limits.{Limits}
+use Rattle.acd_terms.specs.declared.command.Request.{Request}
+use Rattle.acd_terms.specs.declared.command.Arrival.{Arrival}
+use Rattle.acd_book.specs.declared.kept.Kept.{Kept}
+use Rattle.acd_book.specs.Content.{Content, empty_content, is_key, kept_of}
+use Rattle.acd_desk.specs.declared.taken.Taken.{Taken}
+use Rattle.acd_desk.specs.Firsts.{has_key, firsts, record_of, executed, run}
+use Rattle.acd_desk.specs.Replies.{answer_of, answer_in, reply_to, after}
+use Rattle.acd_desk.specs.Served.{is_fault, served, sent, unserved}
+use Rattle.acd_desk.specs.Stands.{arrivals_of, IsSound, ran_after, replies, StopsAt}
+use Rattle.acd_desk.proofs.Keys.{key_own}
+use Rattle.acd_desk.proofs.Runs.{run-stamp, run-limits, run-found, firsts-room, has-distinct, after_firsts}
+
+-- ---- a reply stays ----
+
+option_or-some : (o u : Option Kept) → is_some o ≡ true → option_or o u ≡ o
+option_or-some None u h = absurd (true≢false (sym h))
+option_or-some (Some k) u h = refl
+
+find_stays : (c : Content) (a : Arrival) (p : List ℕ) (q : ℕ) → ((c.rows.last_stamp < c.rows.limits.requests) → is_some (kept_of c.kept p q) ≡ true) → kept_of (after c a).kept p q ≡ kept_of c.kept p q
+find_stays c a p q there =
+    let P : Bool → Bool → Type 0 = λ x y. kept_of (cond x c (cond y (executed c a) c)).kept p q ≡ kept_of c.kept p q in
+    let cases : (x y : Bool) → nat_lt c.rows.last_stamp c.rows.limits.requests ≡ y → P x y
+    = λ x. elim x as (λ x. (y : Bool) → nat_lt c.rows.last_stamp c.rows.limits.requests ≡ y → P x y) [
+      | true ↦ λ y room. refl
+      | false ↦ λ y. elim y as (λ y. nat_lt c.rows.last_stamp c.rows.limits.requests ≡ y → P false y) [
+        | true ↦ λ room. find-append (λ (k : Kept). is_key p q k.request) c.kept (record_of c.rows a ∷ []) ∙ option_or-some (kept_of c.kept p q) (kept_of (record_of c.rows a ∷ []) p q) (there (ltb-true c.rows.last_stamp c.rows.limits.requests room))
+        | false ↦ λ room. refl
+      ]
+    ] in
+    cases (is_some (kept_of c.kept a.request.requester a.request.invoke)) (nat_lt c.rows.last_stamp c.rows.limits.requests) refl
+
+-- a key of the list is in its run, where that isn't full
+pub known_in_run : (n : Limits) (l : List Arrival) (p : List ℕ) (q : ℕ) → has_key l p q ≡ true → (run n l).rows.last_stamp < (run n l).rows.limits.requests → is_some (kept_of (run n l).kept p q) ≡ true
+known_in_run n l p q there room =
+    let f : List Arrival = firsts n.requests l in
+    let stamp : (run n l).rows.last_stamp ≡ 0 + length f = run-stamp f (empty_content n) in
+    let limit : (run n l).rows.limits.requests ≡ n.requests = ap (λ (x : Limits). x.requests) (run-limits f (empty_content n)) in
+    let short : length f < n.requests = omega (arith, room, stamp, limit) in
+    run-found n f p q ∙ ap (λ (s : List Arrival). has_key s p q) (firsts-room n.requests l short) ∙ has-distinct l [] p q ∙ there
+
+reply_stays : (n : Limits) (l : List Arrival) (a : Arrival) (r : Request) → has_key l r.requester r.invoke ≡ true → reply_to n (l ++ a ∷ []) r ≡ reply_to n l r
+reply_stays n l a r there =
+    ap (λ (x : Content). answer_in x r) (sym (after_firsts n l a))
+    ∙ ap (λ (o : Option Kept). answer_of o r) (find_stays (run n l) a r.requester r.invoke (known_in_run n l r.requester r.invoke there))
+
+or-true : (b : Bool) → (b || true) ≡ true
+or-true true = refl
+or-true false = refl
+
+has_within : (pre post : List Arrival) (a : Arrival) → has_key (pre ++ a ∷ post) a.request.requester a.request.invoke ≡ true
+has_within pre post a =
+    list_any-append (λ (x : Arrival). is_key a.request.requester a.request.invoke x.request) pre (a ∷ post)
+    ∙ ap (λ (b : Bool). has_key pre a.request.requester a.request.invoke || (b || has_key post a.request.requester a.request.invoke)) (key_own a.request)
+    ∙ or-true (has_key pre a.request.requester a.request.invoke)
+
+replies_stay : (n : Limits) (x : Arrival) (l pre : List Arrival)
+    → map (λ (a : Arrival). reply_to n ((pre ++ l) ++ x ∷ []) a.request) l ≡ map (λ (a : Arrival). reply_to n (pre ++ l) a.request) l
+replies_stay n x [] pre = refl
+replies_stay n x (b ∷ l) pre =
+    let rest : map (λ (a : Arrival). reply_to n ((pre ++ b ∷ l) ++ x ∷ []) a.request) l ≡ map (λ (a : Arrival). reply_to n (pre ++ b ∷ l) a.request) l
+    = subst (λ (s : List Arrival). map (λ (a : Arrival). reply_to n (s ++ x ∷ []) a.request) l ≡ map (λ (a : Arrival). reply_to n s a.request) l) (append_assoc pre (b ∷ []) l) (replies_stay n x l (pre ++ b ∷ [])) in
+    ap (λ (t : Taken). t ∷ map (λ (a : Arrival). reply_to n ((pre ++ b ∷ l) ++ x ∷ []) a.request) l) (reply_stays n (pre ++ b ∷ l) x b.request (has_within pre l b))
+    ∙ ap (λ (ts : List Taken). reply_to n (pre ++ b ∷ l) b.request ∷ ts) rest
+
+-- ---- the run of a desk ----
+
+pub ran_none : (start : Content) → IsSound start → start ≡ ran_after start []
+ran_none start sound =
+    sound.replays ∙ ap (run start.rows.limits) (sym (append-nil (arrivals_of start.kept)))
+
+pub ran_push : (start : Content) (l : List Arrival) (a : Arrival) → after (ran_after start l) a ≡ ran_after start (l ++ a ∷ [])
+ran_push start l a =
+    after_firsts start.rows.limits (arrivals_of start.kept ++ l) a
+    ∙ ap (run start.rows.limits) (append_assoc (arrivals_of start.kept) l (a ∷ []))
+
+pub replies_push : (start : Content) (l : List Arrival) (a : Arrival)
+    → replies start l ++ answer_in (after (ran_after start l) a) a.request ∷ [] ≡ replies start (l ++ a ∷ [])
+replies_push start l a =
+    let n : Limits = start.rows.limits in
+    let k : List Arrival = arrivals_of start.kept in
+    ap (λ (ts : List Taken). ts ++ answer_in (after (ran_after start l) a) a.request ∷ []) (sym (replies_stay n a l k))
+    ∙ ap (λ (c : Content). map (λ (x : Arrival). reply_to n ((k ++ l) ++ a ∷ []) x.request) l ++ answer_in c a.request ∷ []) (after_firsts n (k ++ l) a)
+    ∙ sym (map-append (λ (x : Arrival). reply_to n ((k ++ l) ++ a ∷ []) x.request) l (a ∷ []))
+    ∙ ap (λ (s : List Arrival). map (λ (x : Arrival). reply_to n s x.request) (l ++ a ∷ [])) (append_assoc k l (a ∷ []))
+
+pub served-push : (l : List Arrival) (ts : List Taken) (a : Arrival) (t : Taken) → length l ≡ length ts → served (l ++ a ∷ []) (ts ++ t ∷ []) ≡ served l ts ++ cond (is_fault t) [] (a ∷ [])
+served-push [] [] a t same = append-nil (cond (is_fault t) [] (a ∷ []))
+served-push [] (u ∷ ts) a t same = absurd (omega arith)
+served-push (b ∷ l) [] a t same = absurd (omega arith)
+served-push (b ∷ l) (u ∷ ts) a t same =
+    let less : length l ≡ length ts = omega arith in
+    ap (λ (s : List Arrival). cond (is_fault u) [] (b ∷ []) ++ s) (served-push l ts a t less) ∙ sym (append_assoc (cond (is_fault u) [] (b ∷ [])) (served l ts) (cond (is_fault t) [] (a ∷ [])))
+
+pub unserved-push : (l : List Arrival) (ts : List Taken) (a : Arrival) (t : Taken) → length l ≡ length ts → unserved (l ++ a ∷ []) (ts ++ t ∷ []) ≡ unserved l ts ++ cond (is_fault t) (a ∷ []) []
+unserved-push [] [] a t same = append-nil (cond (is_fault t) (a ∷ []) [])
+unserved-push [] (u ∷ ts) a t same = absurd (omega arith)
+unserved-push (b ∷ l) [] a t same = absurd (omega arith)
+unserved-push (b ∷ l) (u ∷ ts) a t same =
+    let less : length l ≡ length ts = omega arith in
+    ap (λ (s : List Arrival). cond (is_fault u) (b ∷ []) [] ++ s) (unserved-push l ts a t less) ∙ sym (append_assoc (cond (is_fault u) (b ∷ []) []) (unserved l ts) (cond (is_fault t) (a ∷ []) []))
+
+cond-not : (b : Bool) (t : Taken) → cond (not b) (t ∷ []) [] ≡ cond b [] (t ∷ [])
+cond-not true t = refl
+cond-not false t = refl
+
+pub sent-push : (ts : List Taken) (t : Taken) → sent (ts ++ t ∷ []) ≡ sent ts ++ cond (is_fault t) [] (t ∷ [])
+sent-push [] t = cond-not (is_fault t) t
+sent-push (u ∷ ts) t = elim (not (is_fault u)) as (λ b. cond b (u ∷ sent (ts ++ t ∷ [])) (sent (ts ++ t ∷ [])) ≡ cond b (u ∷ sent ts) (sent ts) ++ cond (is_fault t) [] (t ∷ [])) [
+  | true ↦ ap (λ (s : List Taken). u ∷ s) (sent-push ts t)
+  | false ↦ sent-push ts t
+]
+
+pub one_said : (start : Content) (l : List Arrival) (ts : List Taken) (a : Arrival) (t : Taken) → sent ts ≡ replies start l
+    → (is_fault t ≡ false → t ≡ answer_in (after (ran_after start l) a) a.request) → sent (ts ++ t ∷ []) ≡ replies start (l ++ cond (is_fault t) [] (a ∷ []))
+one_said start l ts a t so_far says =
+    let P : Bool → Type 0 = λ b. replies start l ++ cond b [] (t ∷ []) ≡ replies start (l ++ cond b [] (a ∷ [])) in
+    let cases : (b : Bool) → is_fault t ≡ b → P b
+    = λ b. elim b as (λ b. is_fault t ≡ b → P b) [
+      | true ↦ λ e. append-nil (replies start l) ∙ ap (replies start) (sym (append-nil l))
+      | false ↦ λ e. ap (λ (u : Taken). replies start l ++ u ∷ []) (says e) ∙ replies_push start l a
+    ] in
+    sent-push ts t ∙ ap (λ (s : List Taken). s ++ cond (is_fault t) [] (t ∷ [])) so_far ∙ cases (is_fault t) refl
+
+pub one_content : (start : Content) (l : List Arrival) (a : Arrival) (t : Taken) (new : Content)
+    → (is_fault t ≡ false → new ≡ after (ran_after start l) a) → (is_fault t ≡ true → new ≡ ran_after start l) → new ≡ ran_after start (l ++ cond (is_fault t) [] (a ∷ []))
+one_content start l a t new good bad =
+    let P : Bool → Type 0 = λ b. new ≡ ran_after start (l ++ cond b [] (a ∷ [])) in
+    let cases : (b : Bool) → is_fault t ≡ b → P b
+    = λ b. elim b as (λ b. is_fault t ≡ b → P b) [
+      | true ↦ λ e. bad e ∙ ap (ran_after start) (sym (append-nil l))
+      | false ↦ λ e. good e ∙ ran_push start l a
+    ] in
+    cases (is_fault t) refl
+
+pub one_stop : (start : Content) (l u : List Arrival) (a : Arrival) (t : Taken) (c : Content)
+    → (is_fault t ≡ false → c ≡ after (ran_after start l) a) → (is_fault t ≡ true → StopsAt start l u c ⊎ (c ≡ after (ran_after start l) a))
+    → StopsAt start (l ++ cond (is_fault t) [] (a ∷ [])) (u ++ cond (is_fault t) (a ∷ []) []) c
+one_stop start l u a t c good bad =
+    let P : Bool → Type 0 = λ b. StopsAt start (l ++ cond b [] (a ∷ [])) (u ++ cond b (a ∷ []) []) c in
+    let cases : (b : Bool) → is_fault t ≡ b → P b
+    = λ b. elim b as (λ b. is_fault t ≡ b → P b) [
+      | true ↦ λ e. subst (λ (s : List Arrival). StopsAt start s (u ++ a ∷ []) c) (sym (append-nil l))
+          (elim (bad e) [
+            | inl old ↦ elim old [
+              | inl same ↦ inl same
+              | inr more ↦ inr (more.0, Contains-append_left u (a ∷ []) more.0 more.1, more.2)
+            ]
+            | inr made ↦ inr (a, Contains-push u a, made ∙ ran_push start l a)
+          ])
+      | false ↦ λ e. inl (good e ∙ ran_push start l a)
+    ] in
+    cases (is_fault t) refl

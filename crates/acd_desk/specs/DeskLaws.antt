@@ -1,0 +1,32 @@
+-- What holds of the abstract desk.
+use Rattle.std.specs.Prelude.{◌≡◌, List, [], ◌∷◌, ◌++◌}
+use Rattle.acd_terms.specs.declared.rows.Limits.{Limits}
+use Rattle.acd_terms.specs.declared.command.Request.{Request}
+use Rattle.acd_terms.specs.declared.command.Arrival.{Arrival}
+use Rattle.acd_book.specs.Content.{Content, empty_content}
+use Rattle.acd_desk.specs.Firsts.{firsts, run}
+use Rattle.acd_desk.specs.Replies.{reply_to, IsReplyAt, after}
+use Rattle.acd_desk.specs.Stands.{arrivals_of, IsSound, ran_after, raised_from}
+use Rattle.acd_desk.specs.Laws.{KeepsLaws}
+
+-- one more arrival leads from the run of a list to the run of the longer list
+abbrev pub OneMoreArrival : Type 0
+OneMoreArrival = (limits : Limits) (list : List Arrival) (a : Arrival) → after (run limits list) a ≡ run limits (list ++ a ∷ [])
+
+-- the look-up by key answers what the table by place says
+abbrev pub AnswersByPlace : Type 0
+AnswersByPlace = (limits : Limits) (list : List Arrival) (r : Request) → IsReplyAt limits list r (reply_to limits list r)
+
+-- a sound content keeps the laws of runs, and breaks no rule of rows
+abbrev pub SoundKeepsLaws : Type 0
+SoundKeepsLaws = (c : Content) → IsSound c → KeepsLaws c
+
+-- one more arrival leaves a sound content sound
+abbrev pub StaysSound : Type 0
+StaysSound = (c : Content) (a : Arrival) → IsSound c → IsSound (after c a)
+
+-- what is kept after a run is the first arrivals of the list, each at its executed moment
+abbrev pub KeepsFirsts : Type 0
+KeepsFirsts = (start : Content) (list : List Arrival)
+    → arrivals_of (ran_after start list).kept
+    ≡ raised_from (empty_content start.rows.limits) (firsts start.rows.limits.requests (arrivals_of start.kept ++ list))

@@ -1,0 +1,49 @@
+-- What is answered to an arrival of a list, and what a desk does with one more.
+use Rattle.std.specs.Prelude.{◌≡◌, ◌≢◌, ◌⊎◌, Bool, true, false, cond, nat_lt, List, ◌∷◌, Option, Some, None, is_some}
+use Rattle.acd_terms.specs.declared.rows.Limits.{Limits}
+use Rattle.acd_terms.specs.declared.command.Request.{Request}
+use Rattle.acd_terms.specs.declared.command.Arrival.{Arrival}
+use Rattle.acd_terms.specs.contracts.command.RequestPartialEq.TheImpl as request
+use Rattle.acd_book.specs.declared.kept.Kept.{Kept}
+use Rattle.acd_book.specs.Content.{Content, is_key, kept_of}
+use Rattle.acd_desk.specs.declared.taken.Taken.{Taken}
+use Rattle.acd_desk.specs.declared.taken.Taken.TheVariants.{Reply, InvokeReused, DeskFull}
+use Rattle.acd_desk.specs.Firsts.{has_key, executed, firsts, run}
+
+-- the same key, service and members, by the comparison that is derived
+unfoldable pub same_request : Request → Request → Bool
+same_request a b = (request.eq-value).it a b
+
+-- what the record of its key answers to a request
+abbrev pub answer_of : Option Kept → Request → Taken
+answer_of None r = DeskFull
+answer_of (Some k) r = cond (same_request k.request r) (Reply k.status k.body) InvokeReused
+
+abbrev pub answer_in : Content → Request → Taken
+answer_in c r = answer_of (kept_of c.kept r.requester r.invoke) r
+
+-- the answer to a request of the list, looked up by its key
+abbrev pub reply_to : Limits → List Arrival → Request → Taken
+reply_to limits list r = answer_in (run limits list) r
+
+-- x and k stand at one place of the two lists
+abbrev pub StandTogether : List Arrival → List Kept → Arrival → Kept → Type 0
+StandTogether (a ∷ list) (r ∷ kept) x k = ((x ≡ a) × (k ≡ r)) ⊎ StandTogether list kept x k
+StandTogether _ _ x k = ⊥
+
+-- an arrival with the key of the request stands in the first arrivals, and the run keeps this of it
+pub record StandsFirst (limits : Limits) (list : List Arrival) (r : Request) (first : Arrival) (kept : Kept) : Type 0 where
+  pub key : is_key r.requester r.invoke first.request ≡ true
+  pub place : StandTogether (firsts limits.requests list) (run limits list).kept first kept
+
+-- the reply of the first arrival of its key where that is the same request, and else invokeReused; deskFull where no arrival of its key stands there
+abbrev pub IsReplyAt : Limits → List Arrival → Request → Taken → Type 0
+IsReplyAt limits list r answer =
+    ((first : Arrival) × (kept : Kept) × StandsFirst limits list r first kept
+    × (first.request ≡ r → answer ≡ Reply kept.status kept.body) × (first.request ≢ r → answer ≡ InvokeReused))
+    ⊎ ((has_key (firsts limits.requests list) r.requester r.invoke ≡ false) × (answer ≡ DeskFull))
+
+-- the content after one more arrival: where its key is new and the desk isn't full, that with it executed
+abbrev pub after : Content → Arrival → Content
+after c a = cond (is_some (kept_of c.kept a.request.requester a.request.invoke)) c
+    (cond (nat_lt c.rows.last_stamp c.rows.limits.requests) (executed c a) c)

@@ -1,0 +1,27 @@
+-- Which arrivals of a run were served, and what was answered to them.
+use Rattle.std.specs.Prelude.{Bool, true, false, not, cond, List, [], ◌∷◌, ◌++◌, filter}
+use Rattle.acd_terms.specs.declared.command.Arrival.{Arrival}
+use Rattle.acd_desk.specs.declared.taken.Taken.{Taken}
+use Rattle.acd_desk.specs.declared.taken.Taken.TheVariants.{Reply, InvokeReused, DeskFull, NoMemory, StoreFault}
+
+-- noMemory and storeFault
+abbrev pub is_fault : Taken → Bool
+is_fault (Reply status body) = false
+is_fault InvokeReused = false
+is_fault DeskFull = false
+is_fault NoMemory = true
+is_fault StoreFault = true
+
+-- the arrivals that were answered neither noMemory nor storeFault
+abbrev pub served : List Arrival → List Taken → List Arrival
+served (a ∷ rest) (t ∷ ts) = cond (is_fault t) [] (a ∷ []) ++ served rest ts
+served _ _ = []
+
+-- their answers
+abbrev pub sent : List Taken → List Taken
+sent answers = filter (λ (t : Taken). not (is_fault t)) answers
+
+-- those that were
+abbrev pub unserved : List Arrival → List Taken → List Arrival
+unserved (a ∷ rest) (t ∷ ts) = cond (is_fault t) (a ∷ []) [] ++ unserved rest ts
+unserved _ _ = []

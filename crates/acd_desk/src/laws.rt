@@ -1,0 +1,29 @@
+//! What holds of the abstract desk, whichever book keeps it. Each law is the contract of a function with
+//! an empty body, and is stated in `specs/`.
+
+ghost use Rattle.acd_desk.specs.DeskLaws.{OneMoreArrival, AnswersByPlace, SoundKeepsLaws, StaysSound, KeepsFirsts};
+
+/// One more arrival leads from the run of a list to the run of the longer list.
+pub fn one_more_arrival()
+    ensures { OneMoreArrival }
+{}
+
+/// An answer, which is looked up by its key, is that of the first arrival of its key.
+pub fn answers_by_place()
+    ensures { AnswersByPlace }
+{}
+
+/// A sound content keeps the laws of runs, and breaks no rule of rows.
+pub fn sound_keeps_laws()
+    ensures { SoundKeepsLaws }
+{}
+
+/// One more arrival leaves a sound content sound.
+pub fn stays_sound()
+    ensures { StaysSound }
+{}
+
+/// What is kept after a run is the first arrivals of the list, each at its executed moment.
+pub fn keeps_firsts()
+    ensures { KeepsFirsts }
+{}

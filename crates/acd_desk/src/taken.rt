@@ -1,0 +1,18 @@
+//! What a desk answers to an arrival.
+
+use acd_book::text::Text;
+
+/// The answer to one arrival.
+#[derive(Drop)]
+pub enum Taken {
+    /// The reply, which is kept: the status, as of HTTP, and the JSON.
+    Reply { status: u16, body: Text },
+    /// The key is kept with another request.
+    InvokeReused,
+    /// The key is new, and as many requests were executed as may be.
+    DeskFull,
+    /// Nothing has changed.
+    NoMemory,
+    /// The store has failed: the request was executed or not, and the desk answers nothing else.
+    StoreFault,
+}

@@ -1,0 +1,91 @@
+//! A book whose store fails once.
+
+ghost use Rattle.std.specs.Prelude.{◌≡◌, ⊤, refl, if◌then◌else◌};
+
+use acd_book::book::{Book, BookFault};
+use acd_book::kept::Kept;
+use acd_book::memory::MemoryBook;
+use acd_terms::event::Event;
+use acd_terms::name::Requester;
+use acd_terms::number::Invoke;
+use acd_terms::rows::{Limits, Rows};
+
+/// A book in memory that refuses one commit, after so many good ones.
+#[derive(Drop)]
+pub struct FailingBook {
+    inner: MemoryBook,
+    left: u8,
+    failed: bool,
+}
+
+impl FailingBook {
+    pub fn new(inner: MemoryBook, left: u8) -> FailingBook {
+        FailingBook {
+            inner,
+            left,
+            failed: false,
+        }
+    }
+}
+
+impl Book for FailingBook {
+    ghost content = { λ b. b.inner };
+
+    ghost stops = { λ b c. c ≡ b.inner };
+
+    ghost is_sound = { λ b. ⊤ };
+
+    ghost is_clean = { λ b. ⊤ };
+
+    ghost is_open = { λ b. ⊤ };
+
+    ghost count = { λ b. (if b.failed then 1 else 0) };
+
+    ghost settled = { λ b c clean sound up found. found };
+
+    ghost stays = { λ b clean sound up. refl };
+
+    fn failures(&self) -> u64 {
+        if self.failed { 1 } else { 0 }
+    }
+
+    fn limits(&mut self) -> Result<Limits, BookFault> {
+        self.inner.limits()
+    }
+
+    fn rows(&mut self) -> Result<Rows, BookFault> {
+        self.inner.rows()
+    }
+
+    fn kept(&mut self, requester: &Requester, invoke: Invoke) -> Result<Option<Kept>, BookFault> {
+        self.inner.kept(requester, invoke)
+    }
+
+    fn kept_after(&mut self, stamp: u64) -> Result<Option<Kept>, BookFault> {
+        self.inner.kept_after(stamp)
+    }
+
+    fn events_after(&mut self, number: u64, limit: usize) -> Result<Vec<Event>, BookFault> {
+        self.inner.events_after(number, limit)
+    }
+
+    fn events_of_monitor(
+        &mut self,
+        monitor: u64,
+        number: u64,
+        limit: usize,
+    ) -> Result<Vec<Event>, BookFault> {
+        self.inner.events_of_monitor(monitor, number, limit)
+    }
+
+    fn commit(&mut self, rows: &Rows, events: &[Event], kept: &Kept) -> Result<(), BookFault> {
+        if self.left == 0 && !self.failed {
+            self.failed = true;
+            return Err(BookFault::Store);
+        }
+        if self.left > 0 {
+            self.left -= 1;
+        }
+        self.inner.commit(rows, events, kept)
+    }
+}
