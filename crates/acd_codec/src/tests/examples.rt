@@ -28,11 +28,13 @@ fn expect_rejected(
 
 const GROUP_ADDED: &str = "{\"invoke\":1,\"requester\":\"plan\",\"result\":{}}";
 
-const GROUP_TEXT: &str = "{\"device\":\"100\",\"invoke\":1,\"name\":\"Billing\",\"requester\":\"plan\",\"ring\":20,\"service\":\"addGroup\",\"wrap\":30}";
+const GROUP_TEXT: &str =
+    "{\"device\":\"100\",\"invoke\":1,\"name\":\"Billing\",\"requester\":\"plan\",\"ring\":20,\"service\":\"addGroup\",\"wrap\":30}";
 
 #[test]
 fn first_group(rt: HostRuntime) {
-    let asked = "{\"requester\":\"plan\",\"invoke\":1,\"service\":\"addGroup\",\"device\":\"100\",\"name\":\"Billing\",\"ring\":20,\"wrap\":30}";
+    let asked =
+        "{\"requester\":\"plan\",\"invoke\":1,\"service\":\"addGroup\",\"device\":\"100\",\"name\":\"Billing\",\"ring\":20,\"wrap\":30}";
     expect_texts(&rt, rt.alloc(), &[(asked, GROUP_TEXT)]);
     let outcome = Outcome::Done(Answer::Nothing);
     expect_reply(&rt, rt.alloc(), ("plan", 1), outcome, (200, GROUP_ADDED));
@@ -41,7 +43,8 @@ fn first_group(rt: HostRuntime) {
 // Spacing and order differ, and the text of the request is the same.
 #[test]
 fn repeat_gets_the_kept_reply(rt: HostRuntime) {
-    let asked = "{ \"wrap\":30, \"ring\":20, \"name\":\"Billing\", \"device\":\"100\", \"service\":\"addGroup\", \"invoke\":1, \"requester\":\"plan\" }";
+    let asked =
+        "{ \"wrap\":30, \"ring\":20, \"name\":\"Billing\", \"device\":\"100\", \"service\":\"addGroup\", \"invoke\":1, \"requester\":\"plan\" }";
     expect_texts(&rt, rt.alloc(), &[(asked, GROUP_TEXT)]);
     let outcome = Outcome::Done(Answer::Nothing);
     expect_reply(&rt, rt.alloc(), ("plan", 1), outcome, (200, GROUP_ADDED));
@@ -50,10 +53,13 @@ fn repeat_gets_the_kept_reply(rt: HostRuntime) {
 // Another name makes another text under the same key.
 #[test]
 fn same_key_other_request(rt: HostRuntime) {
-    let asked = "{\"requester\":\"plan\",\"invoke\":1,\"service\":\"addGroup\",\"device\":\"100\",\"name\":\"Sales\",\"ring\":20,\"wrap\":30}";
-    let written = "{\"device\":\"100\",\"invoke\":1,\"name\":\"Sales\",\"requester\":\"plan\",\"ring\":20,\"service\":\"addGroup\",\"wrap\":30}";
+    let asked =
+        "{\"requester\":\"plan\",\"invoke\":1,\"service\":\"addGroup\",\"device\":\"100\",\"name\":\"Sales\",\"ring\":20,\"wrap\":30}";
+    let written =
+        "{\"device\":\"100\",\"invoke\":1,\"name\":\"Sales\",\"requester\":\"plan\",\"ring\":20,\"service\":\"addGroup\",\"wrap\":30}";
     expect_texts(&rt, rt.alloc(), &[(asked, written)]);
-    let reply = "{\"error\":{\"code\":31,\"name\":\"invokeReused\"},\"invoke\":1,\"requester\":\"plan\"}";
+    let reply =
+        "{\"error\":{\"code\":31,\"name\":\"invokeReused\"},\"invoke\":1,\"requester\":\"plan\"}";
     expect_rejected(
         &rt,
         rt.alloc(),
@@ -129,7 +135,8 @@ fn pending_log_off(rt: HostRuntime) {
         state: AgentState::Busy,
         pending: Pending::LoggedOff,
     });
-    let reply = "{\"invoke\":4,\"requester\":\"desk\",\"result\":{\"pending\":\"loggedOff\",\"state\":\"busy\"}}";
+    let reply =
+        "{\"invoke\":4,\"requester\":\"desk\",\"result\":{\"pending\":\"loggedOff\",\"state\":\"busy\"}}";
     expect_reply(&rt, alloc, ("desk", 4), outcome, (200, reply));
     let cleared = "{\"invoke\":2,\"requester\":\"pbx\",\"result\":{}}";
     let outcome = Outcome::Done(Answer::Nothing);
@@ -182,7 +189,8 @@ fn pending_log_off_events(rt: &impl Abort, alloc: Global) {
 #[test]
 fn full_desk(rt: HostRuntime) {
     let alloc = rt.alloc();
-    let full = "{\"error\":{\"code\":32,\"name\":\"deskFull\"},\"invoke\":3,\"requester\":\"plan\"}";
+    let full =
+        "{\"error\":{\"code\":32,\"name\":\"deskFull\"},\"invoke\":3,\"requester\":\"plan\"}";
     expect_rejected(&rt, alloc, ("plan", 3), Rejected::DeskFull, (507, full));
     let outcome = Outcome::Done(Answer::Nothing);
     let kept = "{\"invoke\":2,\"requester\":\"plan\",\"result\":{}}";
