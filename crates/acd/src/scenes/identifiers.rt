@@ -12,7 +12,10 @@ fn faults_of_devices(rt: HostRuntime) {
     assert_eq!(rt; DeviceId::read(b"x123456789012345"), Err(IdFault::TooLong));
     assert_eq!(rt; DeviceId::read(b"x01"), Err(IdFault::NotDigit(0)));
     assert_eq!(rt; DeviceId::read(b"12+4x"), Err(IdFault::NotDigit(2)));
-    assert_eq!(rt; DeviceId::read(b"12345678901234 "), Err(IdFault::NotDigit(14)));
+    assert_eq!(rt;
+        DeviceId::read(b"12345678901234 "),
+        Err(IdFault::NotDigit(14))
+    );
     let device = DeviceId::read(b"0301234").expect(&rt, "a device");
     assert_eq!(rt; device.number(), 10301234);
     assert_eq!(rt; device.text().as_str(), "0301234");
