@@ -1,26 +1,13 @@
-//! Worked examples of event reports, and each kind with its members.
+//! Event reports: each kind with its members.
 
 use super::{agent, device, expect_event};
-use acd_terms::event::{Cause, Report, Waited};
+use acd_terms::event::{Cause, Report};
 
 #[test]
 fn distributed_call(rt: HostRuntime) {
     let alloc = rt.alloc();
     let group = device(&rt, "100");
     let station = device(&rt, "201");
-    let report = Report::Queued {
-        call: 1,
-        group,
-        cause: Cause::NewCall,
-    };
-    expect_event(
-        &rt,
-        alloc,
-        1,
-        10,
-        report,
-        "{\"call\":1,\"cause\":\"newCall\",\"device\":\"100\",\"event\":\"queued\",\"moment\":10,\"number\":1}",
-    );
     let report = Report::Diverted {
         call: 1,
         device: group,
@@ -50,27 +37,13 @@ fn distributed_call(rt: HostRuntime) {
         report,
         "{\"call\":1,\"cause\":\"distributed\",\"device\":\"201\",\"event\":\"delivered\",\"group\":\"100\",\"moment\":18,\"number\":5}",
     );
-    let report = Report::Established {
-        call: 1,
-        station,
-        waited: Some(Waited { group, seconds: 15 }),
-    };
-    expect_event(
-        &rt,
-        alloc,
-        6,
-        25,
-        report,
-        "{\"call\":1,\"device\":\"201\",\"event\":\"established\",\"group\":\"100\",\"moment\":25,\"number\":6,\"waited\":15}",
-    );
 }
 
 #[test]
-fn returned_and_moved(rt: HostRuntime) {
+fn returned_for_no_answer(rt: HostRuntime) {
     let alloc = rt.alloc();
     let group = device(&rt, "100");
     let station = device(&rt, "201");
-    let other = device(&rt, "202");
     let report = Report::Diverted {
         call: 1,
         device: station,
@@ -99,6 +72,49 @@ fn returned_and_moved(rt: HostRuntime) {
         report,
         "{\"call\":1,\"cause\":\"noAnswer\",\"device\":\"100\",\"event\":\"queued\",\"moment\":120,\"number\":7}",
     );
+}
+
+#[test]
+fn deflected_to_station(rt: HostRuntime) {
+    let alloc = rt.alloc();
+    let other = device(&rt, "202");
+    let report = Report::Diverted {
+        call: 1,
+        device: device(&rt, "201"),
+        to: other,
+        cause: Cause::Deflected,
+        group: Some(device(&rt, "100")),
+    };
+    expect_event(
+        &rt,
+        alloc,
+        6,
+        20,
+        report,
+        "{\"call\":1,\"cause\":\"deflected\",\"device\":\"201\",\"event\":\"diverted\",\"group\":\"100\",\"moment\":20,\"number\":6,\"to\":\"202\"}",
+    );
+    let report = Report::Delivered {
+        call: 1,
+        station: other,
+        cause: Cause::Deflected,
+        group: None,
+    };
+    expect_event(
+        &rt,
+        alloc,
+        7,
+        20,
+        report,
+        "{\"call\":1,\"cause\":\"deflected\",\"device\":\"202\",\"event\":\"delivered\",\"moment\":20,\"number\":7}",
+    );
+}
+
+// A call that was not distributed leaves no group, and a transferred one has its own cause.
+#[test]
+fn given_to_another_station(rt: HostRuntime) {
+    let alloc = rt.alloc();
+    let station = device(&rt, "201");
+    let other = device(&rt, "202");
     let report = Report::Diverted {
         call: 1,
         device: station,
@@ -170,6 +186,12 @@ fn private_call(rt: HostRuntime) {
         report,
         "{\"call\":1,\"device\":\"202\",\"event\":\"established\",\"moment\":9,\"number\":6}",
     );
+}
+
+#[test]
+fn busy_station(rt: HostRuntime) {
+    let alloc = rt.alloc();
+    let station = device(&rt, "201");
     let report = Report::Failed { call: 2, station };
     expect_event(
         &rt,
@@ -220,34 +242,9 @@ fn held_and_transferred(rt: HostRuntime) {
 }
 
 #[test]
-fn cleared_call(rt: HostRuntime) {
+fn call_cleared_from_a_queue(rt: HostRuntime) {
     let alloc = rt.alloc();
     let group = device(&rt, "100");
-    let caller = device(&rt, "0301234");
-    let report = Report::ConnectionCleared {
-        call: 1,
-        device: caller,
-    };
-    expect_event(
-        &rt,
-        alloc,
-        8,
-        40,
-        report,
-        "{\"call\":1,\"device\":\"0301234\",\"event\":\"connectionCleared\",\"moment\":40,\"number\":8}",
-    );
-    let report = Report::CallCleared {
-        call: 1,
-        group: None,
-    };
-    expect_event(
-        &rt,
-        alloc,
-        10,
-        40,
-        report,
-        "{\"call\":1,\"event\":\"callCleared\",\"moment\":40,\"number\":10}",
-    );
     let report = Report::CallCleared {
         call: 1,
         group: Some(group),
@@ -280,18 +277,6 @@ fn logged_on_and_off(rt: HostRuntime) {
         15,
         report,
         "{\"agent\":\"7\",\"device\":\"201\",\"event\":\"agentLoggedOn\",\"group\":\"100\",\"moment\":15,\"number\":2}",
-    );
-    let report = Report::AgentLoggedOff {
-        agent: seven,
-        station,
-    };
-    expect_event(
-        &rt,
-        alloc,
-        11,
-        40,
-        report,
-        "{\"agent\":\"7\",\"device\":\"201\",\"event\":\"agentLoggedOff\",\"moment\":40,\"number\":11}",
     );
     let report = Report::AgentLoggedOff {
         agent: seven,
@@ -335,18 +320,6 @@ fn agent_states(rt: HostRuntime) {
         18,
         report,
         "{\"agent\":\"7\",\"device\":\"201\",\"event\":\"agentReady\",\"moment\":18,\"number\":3}",
-    );
-    let report = Report::AgentBusy {
-        agent: seven,
-        station,
-    };
-    expect_event(
-        &rt,
-        alloc,
-        7,
-        25,
-        report,
-        "{\"agent\":\"7\",\"device\":\"201\",\"event\":\"agentBusy\",\"moment\":25,\"number\":7}",
     );
     let report = Report::AgentWorkingAfterCall {
         agent: seven,
