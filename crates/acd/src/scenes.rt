@@ -4,6 +4,7 @@
 mod examples;
 mod refusals;
 mod releases;
+mod reports;
 
 ghost use Rattle.acd_terms.specs.Rules.First.{BreaksNoRule};
 
