@@ -1,73 +1,68 @@
 //! Worked examples over books in memory, and over one whose store fails.
 
-use crate::desk::{Desk, OpenFault};
+use crate::desk::Desk;
 use crate::taken::Taken;
-use acd_book::book::{Book, BookFault};
+use acd_book::book::Book;
 use acd_book::memory::MemoryBook;
-use acd_codec::{ReadFault, read_request};
+use acd_codec::read_request;
 use acd_terms::command::Arrival;
 use acd_terms::rows::Limits;
 use std::alloc::Global;
-use std::test::Fail;
+use std::process::Abort;
 
 mod failing;
 mod kept;
 mod store;
 
-// The plan: group 100, stations 201 and 202, agents 7 and 8.
-const PLAN: [&[u8]; 5] = [BILLING, STATION, SECOND_STATION, ANA, BEN];
+// A moment, a request, and what is told of its answer.
+type Asked = (u32, &'static [u8], u16, &'static str);
 
 const BILLING: &[u8] =
     br#"{"requester":"plan","invoke":1,"service":"addGroup","device":"100","name":"Billing","ring":20,"wrap":30}"#;
 
+const BILLING_REPLY: &str = r#"{"invoke":1,"requester":"plan","result":{}}"#;
+
 const STATION: &[u8] = br#"{"requester":"plan","invoke":2,"service":"addStation","device":"201"}"#;
+
+const STATION_REPLY: &str = r#"{"invoke":2,"requester":"plan","result":{}}"#;
 
 const SECOND_STATION: &[u8] =
     br#"{"requester":"plan","invoke":3,"service":"addStation","device":"202"}"#;
 
-const ANA: &[u8] =
-    br#"{"requester":"plan","invoke":4,"service":"addAgent","agent":"7","name":"Ana"}"#;
+// Group 100, stations 201 and 202, agents 7 and 8.
+const PLAN: &[Asked] = &[
+    (0, BILLING, 200, BILLING_REPLY),
+    (0, STATION, 200, STATION_REPLY),
+    (
+        0,
+        SECOND_STATION,
+        200,
+        r#"{"invoke":3,"requester":"plan","result":{}}"#,
+    ),
+    (
+        0,
+        br#"{"requester":"plan","invoke":4,"service":"addAgent","agent":"7","name":"Ana"}"#,
+        200,
+        r#"{"invoke":4,"requester":"plan","result":{}}"#,
+    ),
+    (
+        0,
+        br#"{"requester":"plan","invoke":5,"service":"addAgent","agent":"8","name":"Ben"}"#,
+        200,
+        r#"{"invoke":5,"requester":"plan","result":{}}"#,
+    ),
+];
 
-const BEN: &[u8] =
-    br#"{"requester":"plan","invoke":5,"service":"addAgent","agent":"8","name":"Ben"}"#;
-
-const BILLING_REPLY: &str = r#"{"invoke":1,"requester":"plan","result":{}}"#;
-
-const STATION_REPLY: &str = r#"{"invoke":2,"requester":"plan","result":{}}"#;
+fn opened<B: Book + Drop>(rt: &impl Abort, alloc: Global, book: B) -> Desk<B> {
+    match Desk::open(alloc, book) {
+        Ok(desk) => desk,
+        Err((fault, _)) => panic!(rt; "{fault:?}"),
+    }
+}
 
 // A desk over a new book in memory.
-fn new_desk(alloc: Global, limits: Limits) -> Result<Desk<MemoryBook>, OpenFault> {
-    opened(alloc, MemoryBook::new(alloc, limits))
-}
-
-fn opened<B: Book + Drop>(alloc: Global, book: B) -> Result<Desk<B>, OpenFault> {
-    match Desk::open(alloc, book) {
-        Ok(desk) => Ok(desk),
-        Err((fault, _)) => Err(fault),
-    }
-}
-
-fn take<B: Book>(
-    alloc: Global,
-    desk: &mut Desk<B>,
-    moment: u32,
-    json: &[u8],
-) -> Result<Taken, ReadFault> {
-    let request = read_request(alloc, json)?;
-    Ok(desk.take(moment, &request))
-}
-
-fn arrival(alloc: Global, moment: u32, json: &[u8]) -> Result<Arrival, ReadFault> {
-    let request = read_request(alloc, json)?;
-    Ok(Arrival { moment, request })
-}
-
-// The plan is taken at moment 0.
-fn plan(alloc: Global, desk: &mut Desk<MemoryBook>) -> Result<(), ReadFault> {
-    for json in PLAN {
-        let _ = take(alloc, desk, 0, json)?;
-    }
-    Ok(())
+fn new_desk(rt: &impl Abort, alloc: Global, limits: Limits) -> Desk<MemoryBook> {
+    opened(rt, alloc, MemoryBook::new(alloc, limits))
 }
 
 // The status and the text, or what stands for them.
@@ -81,8 +76,36 @@ fn told(taken: &Taken) -> (u16, &str) {
     }
 }
 
+fn ask<B: Book>(rt: &impl Abort, alloc: Global, desk: &mut Desk<B>, asked: &Asked) {
+    let (moment, json, status, text) = *asked;
+    let request = read_request(alloc, json).expect(rt, "a request");
+    let taken = desk.take(moment, &request);
+    assert_eq!(rt; told(&taken), (status, text));
+}
+
+// Asks one request after the other.
+fn ask_all<B: Book>(rt: &impl Abort, alloc: Global, desk: &mut Desk<B>, scene: &[Asked]) {
+    for asked in scene {
+        ask(rt, alloc, desk, asked);
+    }
+}
+
+fn arrival(rt: &impl Abort, alloc: Global, moment: u32, json: &[u8]) -> Arrival {
+    let request = read_request(alloc, json).expect(rt, "a request");
+    Arrival { moment, request }
+}
+
 // The last stamp, moment and event number.
-fn counters(book: &mut MemoryBook) -> Result<(u64, u32, u64), BookFault> {
-    let rows = book.rows()?;
-    Ok((rows.last_stamp, rows.last_moment, rows.last_event))
+fn counters(rt: &impl Abort, book: &mut MemoryBook) -> (u64, u32, u64) {
+    let rows = book.rows().expect(rt, "memory");
+    (rows.last_stamp, rows.last_moment, rows.last_event)
+}
+
+// The moment of the first event above a number.
+fn moment_after(rt: &impl Abort, book: &mut MemoryBook, number: u64) -> Option<u32> {
+    let events = book.events_after(number, 1).expect(rt, "memory");
+    match events.first() {
+        Some(event) => Some(event.moment),
+        None => None,
+    }
 }

@@ -3,20 +3,24 @@
 use super::failing::FailingBook;
 use super::*;
 
+// A desk over the book is asked, and gives it back.
+fn book_after(rt: &impl Abort, alloc: Global, book: FailingBook, scene: &[Asked]) -> FailingBook {
+    let mut desk = opened(rt, alloc, book);
+    ask_all(rt, alloc, &mut desk, scene);
+    desk.close()
+}
+
 #[test]
-fn store_fails_midway(rt: HostRuntime) -> Result<(), Fail> {
-    let inner = MemoryBook::new(rt.alloc(), Limits::GREATEST);
-    let mut desk = opened(rt.alloc(), FailingBook::new(inner, 1))?;
-    let first = take(rt.alloc(), &mut desk, 0, BILLING)?;
-    assert_eq!(rt; told(&first), (200, BILLING_REPLY));
-    let lost = take(rt.alloc(), &mut desk, 0, STATION)?;
-    assert_eq!(rt; told(&lost), (503, "storeFault"));
-    let shut = take(rt.alloc(), &mut desk, 0, BILLING)?;
-    assert_eq!(rt; told(&shut), (503, "storeFault"));
-    let book = desk.close();
-    assert_eq!(rt; book.failures(), 1);
-    let mut again = opened(rt.alloc(), book)?;
-    let repeat = take(rt.alloc(), &mut again, 0, BILLING)?;
-    assert_eq!(rt; told(&repeat), (200, BILLING_REPLY));
-    Ok(())
+fn store_fails_midway(rt: HostRuntime) {
+    let new = FailingBook::new(MemoryBook::new(rt.alloc(), Limits::GREATEST), 1);
+    let scene: &[Asked] = &[
+        (0, BILLING, 200, BILLING_REPLY),
+        (0, STATION, 503, "storeFault"),
+        (0, BILLING, 503, "storeFault"),
+    ];
+    let failed = book_after(&rt, rt.alloc(), new, scene);
+    assert_eq!(rt; failed.failures(), 1);
+    // the desk is opened again
+    let repeat: &[Asked] = &[(0, BILLING, 200, BILLING_REPLY)];
+    let _ = book_after(&rt, rt.alloc(), failed, repeat);
 }
