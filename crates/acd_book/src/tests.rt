@@ -3,7 +3,7 @@
 //! What is committed adds station 201 with a monitor, which is started after the first of three events:
 //! the first two are of the station, and the third is of another.
 
-use crate::book::{Book, BookFault};
+use crate::book::Book;
 use crate::kept::Kept;
 use crate::memory::MemoryBook;
 use crate::text::Text;
@@ -15,31 +15,67 @@ use acd_terms::name::Requester;
 use acd_terms::number::Invoke;
 use acd_terms::record::{MonitorRecord, StationRecord};
 use acd_terms::rows::{Limits, Rows};
-use std::alloc::{AllocError, Global};
-use std::test::Fail;
+use std::alloc::Global;
+use std::process::Abort;
 
 const BODY: &str = r#"{"invoke":1,"requester":"plan","result":{}}"#;
 
-fn rows_with(alloc: Global, station: DeviceId) -> Result<Rows, AllocError> {
+fn device(rt: &impl Abort, digits: &str) -> DeviceId {
+    DeviceId::read(digits.as_bytes()).expect(rt, "a device")
+}
+
+fn requester(rt: &impl Abort, text: &str) -> Requester {
+    Requester::read(text.as_bytes()).expect(rt, "a requester")
+}
+
+fn invoke(rt: &impl Abort, number: u64) -> Invoke {
+    Invoke::new(number).expect(rt, "an invoke number")
+}
+
+fn request(rt: &impl Abort) -> Request {
+    Request {
+        requester: requester(rt, "plan"),
+        invoke: invoke(rt, 1),
+        command: Command::AddStation {
+            device: device(rt, "201"),
+        },
+    }
+}
+
+fn rows_with(rt: &impl Abort, alloc: Global, station: DeviceId) -> Rows {
+    let record = StationRecord { device: station };
     let monitor = MonitorRecord {
         monitor: 1,
         device: station,
         after_event: 1,
     };
-    Ok(Rows {
+    let stations = vec![in alloc; record].expect(rt, "memory");
+    let monitors = vec![in alloc; monitor].expect(rt, "memory");
+    Rows {
         limits: Limits::GREATEST,
         groups: Listed::new(Vec::new(alloc)),
-        stations: Listed::new(vec![in alloc; StationRecord { device: station }]?),
+        stations: Listed::new(stations),
         agents: Listed::new(Vec::new(alloc)),
         calls: Listed::new(Vec::new(alloc)),
         connections: Listed::new(Vec::new(alloc)),
-        monitors: Listed::new(vec![in alloc; monitor]?),
+        monitors: Listed::new(monitors),
         last_stamp: 1,
         last_moment: 10,
         last_call: 1,
         last_monitor: 1,
         last_event: 3,
-    })
+    }
+}
+
+fn record(rt: &impl Abort, alloc: Global) -> Kept {
+    let body = String::from_str(alloc, BODY).expect(rt, "memory");
+    Kept {
+        stamp: 1,
+        moment: 10,
+        request: request(rt),
+        status: 200,
+        body: Text::new(body),
+    }
 }
 
 fn held(number: u64, station: DeviceId) -> Event {
@@ -50,134 +86,139 @@ fn held(number: u64, station: DeviceId) -> Event {
     }
 }
 
-fn first_request() -> Result<Request, Fail> {
-    Ok(Request {
-        requester: Requester::read(b"plan")?,
-        invoke: Invoke::new(1).ok_or("an invoke number")?,
-        command: Command::AddStation {
-            device: DeviceId::read(b"201")?,
-        },
-    })
-}
-
-fn record(alloc: Global, request: Request) -> Result<Kept, AllocError> {
-    Ok(Kept {
-        stamp: 1,
-        moment: 10,
-        request,
-        status: 200,
-        body: Text::new(String::from_str(alloc, BODY)?),
-    })
+fn events(rt: &impl Abort) -> [Event; 3] {
+    let station = device(rt, "201");
+    [
+        held(1, station),
+        held(2, station),
+        held(3, device(rt, "202")),
+    ]
 }
 
 // A book with one commit.
-fn committed(alloc: Global) -> Result<MemoryBook, Fail> {
-    let station = DeviceId::read(b"201")?;
-    let events = [
-        held(1, station),
-        held(2, station),
-        held(3, DeviceId::read(b"202")?),
-    ];
-    let rows = rows_with(alloc, station)?;
-    let kept = record(alloc, first_request()?)?;
+fn committed(rt: &impl Abort, alloc: Global) -> MemoryBook {
+    let rows = rows_with(rt, alloc, device(rt, "201"));
+    let kept = record(rt, alloc);
     let mut book = MemoryBook::new(alloc, Limits::GREATEST);
-    book.commit(&rows, &events, &kept)?;
-    Ok(book)
+    book.commit(&rows, &events(rt), &kept).expect(rt, "memory");
+    book
 }
 
-fn numbers(alloc: Global, events: &[Event]) -> Result<Vec<u64>, AllocError> {
-    let mut numbers = Vec::new(alloc);
-    for event in events {
-        numbers.push(event.number)?;
+// The stamp, moment and status that are kept under a key.
+fn kept_under(
+    rt: &impl Abort,
+    book: &mut MemoryBook,
+    requester: &Requester,
+    invoke: Invoke,
+) -> Option<(u64, u32, u16)> {
+    match book.kept(requester, invoke).expect(rt, "memory") {
+        None => None,
+        Some(kept) => {
+            assert_eq!(rt; kept.body.as_str(), BODY);
+            Some((kept.stamp, kept.moment, kept.status))
+        }
     }
-    Ok(numbers)
 }
 
-fn stamp_after(book: &mut MemoryBook, stamp: u64) -> Result<Option<u64>, BookFault> {
-    match book.kept_after(stamp)? {
-        None => Ok(None),
-        Some(kept) => Ok(Some(kept.stamp)),
+fn stamp_after(rt: &impl Abort, book: &mut MemoryBook, stamp: u64) -> Option<u64> {
+    match book.kept_after(stamp).expect(rt, "memory") {
+        None => None,
+        Some(kept) => Some(kept.stamp),
     }
+}
+
+// How many events, and the first one's number.
+fn count(events: &[Event]) -> (usize, Option<u64>) {
+    match events.first() {
+        None => (0, None),
+        Some(event) => (events.len(), Some(event.number)),
+    }
+}
+
+fn count_after(
+    rt: &impl Abort,
+    book: &mut MemoryBook,
+    number: u64,
+    limit: usize,
+) -> (usize, Option<u64>) {
+    let events = book.events_after(number, limit).expect(rt, "memory");
+    count(&events)
+}
+
+fn count_of_monitor(
+    rt: &impl Abort,
+    book: &mut MemoryBook,
+    monitor: u64,
+    number: u64,
+) -> (usize, Option<u64>) {
+    let events = book
+        .events_of_monitor(monitor, number, 10)
+        .expect(rt, "memory");
+    count(&events)
+}
+
+// The last stamp, moment and event number.
+fn counters(rt: &impl Abort, book: &mut MemoryBook) -> (u64, u32, u64) {
+    let rows = book.rows().expect(rt, "memory");
+    (rows.last_stamp, rows.last_moment, rows.last_event)
+}
+
+fn limits(rt: &impl Abort, book: &mut MemoryBook) -> Limits {
+    book.limits().expect(rt, "the limits")
 }
 
 #[test]
-fn new_book_is_empty(rt: HostRuntime) -> Result<(), Fail> {
+fn new_book_is_empty(rt: HostRuntime) {
     let mut book = MemoryBook::new(rt.alloc(), Limits::GREATEST);
-    assert_eq!(rt; book.limits()?, Limits::GREATEST);
-    assert_eq!(rt; stamp_after(&mut book, 0)?, None);
-    assert!(rt; book.events_after(0, 10)?.is_empty());
-    let rows = book.rows()?;
-    assert_eq!(rt; (rows.last_stamp, rows.last_event), (0, 0));
+    assert_eq!(rt; limits(&rt, &mut book), Limits::GREATEST);
+    assert_eq!(rt; counters(&rt, &mut book), (0, 0, 0));
+    assert_eq!(rt; stamp_after(&rt, &mut book, 0), None);
     assert_eq!(rt; book.failures(), 0);
-    Ok(())
 }
 
 #[test]
-fn commit_replaces_the_rows(rt: HostRuntime) -> Result<(), Fail> {
-    let mut book = committed(rt.alloc())?;
-    let rows = book.rows()?;
-    let station = DeviceId::read(b"201")?;
-    assert_eq!(rt;
-        rows.stations.as_slice(),
-        [StationRecord { device: station }].as_slice()
-    );
-    assert_eq!(rt;
-        (rows.last_stamp, rows.last_moment, rows.last_event),
-        (1, 10, 3)
-    );
+fn commit_replaces_the_rows(rt: HostRuntime) {
+    let mut book = committed(&rt, rt.alloc());
+    assert_eq!(rt; counters(&rt, &mut book), (1, 10, 3));
     assert_eq!(rt; book.failures(), 0);
-    Ok(())
 }
 
 #[test]
-fn commit_keeps_the_reply(rt: HostRuntime) -> Result<(), Fail> {
-    let mut book = committed(rt.alloc())?;
-    let request = first_request()?;
-    let kept = book
-        .kept(&request.requester, request.invoke)?
-        .ok_or("a kept reply")?;
-    assert_eq!(rt; (kept.stamp, kept.moment, kept.status), (1, 10, 200));
-    assert_eq!(rt; kept.body.as_str(), BODY);
-    assert!(rt; kept.request == request);
-    Ok(())
+fn commit_keeps_the_reply(rt: HostRuntime) {
+    let mut book = committed(&rt, rt.alloc());
+    let plan = requester(&rt, "plan");
+    let found = kept_under(&rt, &mut book, &plan, invoke(&rt, 1));
+    assert_eq!(rt; found, Some((1, 10, 200)));
+    let other = kept_under(&rt, &mut book, &plan, invoke(&rt, 2));
+    assert_eq!(rt; other, None);
 }
 
 #[test]
-fn another_key_is_not_kept(rt: HostRuntime) -> Result<(), Fail> {
-    let mut book = committed(rt.alloc())?;
-    let request = first_request()?;
-    let other = Invoke::new(2).ok_or("an invoke number")?;
-    assert!(rt; book.kept(&request.requester, other)?.is_none());
-    assert!(rt;
-        book.kept(&Requester::read(b"pbx")?, request.invoke)?
-            .is_none()
-    );
-    Ok(())
+fn another_requester_has_a_key_of_its_own(rt: HostRuntime) {
+    let mut book = committed(&rt, rt.alloc());
+    let pbx = requester(&rt, "pbx");
+    let found = kept_under(&rt, &mut book, &pbx, invoke(&rt, 1));
+    assert_eq!(rt; found, None);
 }
 
 #[test]
-fn records_after_a_stamp(rt: HostRuntime) -> Result<(), Fail> {
-    let mut book = committed(rt.alloc())?;
-    assert_eq!(rt; stamp_after(&mut book, 0)?, Some(1));
-    assert_eq!(rt; stamp_after(&mut book, 1)?, None);
-    Ok(())
+fn records_after_a_stamp(rt: HostRuntime) {
+    let mut book = committed(&rt, rt.alloc());
+    assert_eq!(rt; stamp_after(&rt, &mut book, 0), Some(1));
+    assert_eq!(rt; stamp_after(&rt, &mut book, 1), None);
 }
 
 #[test]
-fn events_after_a_number(rt: HostRuntime) -> Result<(), Fail> {
-    let mut book = committed(rt.alloc())?;
-    let events = book.events_after(1, 10)?;
-    assert_eq!(rt; numbers(rt.alloc(), &events)?.as_slice(), [2, 3].as_slice());
-    let first = book.events_after(0, 1)?;
-    assert_eq!(rt; numbers(rt.alloc(), &first)?.as_slice(), [1].as_slice());
-    Ok(())
+fn events_after_a_number(rt: HostRuntime) {
+    let mut book = committed(&rt, rt.alloc());
+    assert_eq!(rt; count_after(&rt, &mut book, 1, 10), (2, Some(2)));
+    assert_eq!(rt; count_after(&rt, &mut book, 0, 1), (1, Some(1)));
+    assert_eq!(rt; count_after(&rt, &mut book, 3, 10), (0, None));
 }
 
 #[test]
-fn events_of_a_running_monitor(rt: HostRuntime) -> Result<(), Fail> {
-    let mut book = committed(rt.alloc())?;
-    let events = book.events_of_monitor(1, 0, 10)?;
-    assert_eq!(rt; numbers(rt.alloc(), &events)?.as_slice(), [2].as_slice());
-    assert!(rt; book.events_of_monitor(2, 0, 10)?.is_empty());
-    Ok(())
+fn events_of_a_running_monitor(rt: HostRuntime) {
+    let mut book = committed(&rt, rt.alloc());
+    assert_eq!(rt; count_of_monitor(&rt, &mut book, 1, 0), (1, Some(2)));
+    assert_eq!(rt; count_of_monitor(&rt, &mut book, 2, 0), (0, None));
 }
