@@ -5,6 +5,7 @@ mod examples;
 mod identifiers;
 mod refusals;
 mod releases;
+mod reports;
 
 ghost use Rattle.acd_terms.specs.Rules.First.{BreaksNoRule};
 

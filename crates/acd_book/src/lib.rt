@@ -7,4 +7,6 @@
 pub mod book;
 pub mod kept;
 pub mod memory;
+#[cfg(test)]
+mod tests;
 pub mod text;

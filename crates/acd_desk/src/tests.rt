@@ -1,68 +1,68 @@
 //! Worked examples over books in memory, and over one whose store fails.
 
-use crate::desk::{Desk, OpenFault};
+use crate::desk::Desk;
 use crate::taken::Taken;
 use acd_book::book::Book;
 use acd_book::memory::MemoryBook;
-use acd_codec::{ReadFault, read_request};
-use acd_terms::command::{Arrival, Request};
+use acd_codec::read_request;
+use acd_terms::command::Arrival;
 use acd_terms::rows::Limits;
 use std::alloc::Global;
-use std::test::Fail;
+use std::process::Abort;
 
 mod failing;
+mod kept;
+mod store;
 
-use failing::FailingBook;
+// A moment, a request, and what is told of its answer.
+type Asked = (u32, &'static [u8], u16, &'static str);
 
 const BILLING: &[u8] =
     br#"{"requester":"plan","invoke":1,"service":"addGroup","device":"100","name":"Billing","ring":20,"wrap":30}"#;
 
-const SALES: &[u8] =
-    br#"{"requester":"plan","invoke":1,"service":"addGroup","device":"100","name":"Sales","ring":20,"wrap":30}"#;
+const BILLING_REPLY: &str = r#"{"invoke":1,"requester":"plan","result":{}}"#;
 
 const STATION: &[u8] = br#"{"requester":"plan","invoke":2,"service":"addStation","device":"201"}"#;
+
+const STATION_REPLY: &str = r#"{"invoke":2,"requester":"plan","result":{}}"#;
 
 const SECOND_STATION: &[u8] =
     br#"{"requester":"plan","invoke":3,"service":"addStation","device":"202"}"#;
 
-const CLEAR: &[u8] =
-    br#"{"requester":"pbx","invoke":1,"service":"clearConnection","call":1,"device":"0301234"}"#;
+// Group 100, stations 201 and 202, agents 7 and 8.
+const PLAN: &[Asked] = &[
+    (0, BILLING, 200, BILLING_REPLY),
+    (0, STATION, 200, STATION_REPLY),
+    (
+        0,
+        SECOND_STATION,
+        200,
+        r#"{"invoke":3,"requester":"plan","result":{}}"#,
+    ),
+    (
+        0,
+        br#"{"requester":"plan","invoke":4,"service":"addAgent","agent":"7","name":"Ana"}"#,
+        200,
+        r#"{"invoke":4,"requester":"plan","result":{}}"#,
+    ),
+    (
+        0,
+        br#"{"requester":"plan","invoke":5,"service":"addAgent","agent":"8","name":"Ben"}"#,
+        200,
+        r#"{"invoke":5,"requester":"plan","result":{}}"#,
+    ),
+];
 
-const ARRIVE: &[u8] =
-    br#"{"requester":"pbx","invoke":2,"service":"arriveCall","caller":"0301234","called":"100"}"#;
-
-const ARRIVE_AGAIN: &[u8] =
-    br#"{"requester":"pbx","invoke":3,"service":"arriveCall","caller":"0309999","called":"100"}"#;
-
-const BILLING_REPLY: &str = r#"{"invoke":1,"requester":"plan","result":{}}"#;
-
-const STATION_REPLY: &str = r#"{"invoke":2,"requester":"plan","result":{}}"#;
-
-const CLEAR_REPLY: &str =
-    r#"{"error":{"code":3,"name":"unknownCall"},"invoke":1,"requester":"pbx"}"#;
-
-const ARRIVE_REPLY: &str = r#"{"invoke":2,"requester":"pbx","result":{"call":1}}"#;
-
-fn opened<B: Book + Drop>(alloc: Global, book: B) -> Result<Desk<B>, OpenFault> {
+fn opened<B: Book + Drop>(rt: &impl Abort, alloc: Global, book: B) -> Desk<B> {
     match Desk::open(alloc, book) {
-        Ok(desk) => Ok(desk),
-        Err((fault, _)) => Err(fault),
+        Ok(desk) => desk,
+        Err((fault, _)) => panic!(rt; "{fault:?}"),
     }
 }
 
-fn take<B: Book>(
-    alloc: Global,
-    desk: &mut Desk<B>,
-    moment: u32,
-    json: &[u8],
-) -> Result<Taken, ReadFault> {
-    let request = read_request(alloc, json)?;
-    Ok(desk.take(moment, &request))
-}
-
-fn arrival(alloc: Global, moment: u32, json: &[u8]) -> Result<Arrival, ReadFault> {
-    let request = read_request(alloc, json)?;
-    Ok(Arrival { moment, request })
+// A desk over a new book in memory.
+fn new_desk(rt: &impl Abort, alloc: Global, limits: Limits) -> Desk<MemoryBook> {
+    opened(rt, alloc, MemoryBook::new(alloc, limits))
 }
 
 // The status and the text, or what stands for them.
@@ -76,83 +76,36 @@ fn told(taken: &Taken) -> (u16, &str) {
     }
 }
 
-#[test]
-fn repeat_gets_the_kept_reply(rt: HostRuntime) -> Result<(), Fail> {
-    let book = MemoryBook::new(rt.alloc(), Limits::GREATEST);
-    let mut desk = opened(rt.alloc(), book)?;
-    let first = take(rt.alloc(), &mut desk, 0, BILLING)?;
-    assert_eq!(rt; told(&first), (200, BILLING_REPLY));
-    let repeat = take(rt.alloc(), &mut desk, 900, BILLING)?;
-    assert_eq!(rt; told(&repeat), (200, BILLING_REPLY));
-    let other = take(rt.alloc(), &mut desk, 900, SALES)?;
-    assert_eq!(rt; told(&other), (422, "invokeReused"));
-    let mut book = desk.close();
-    assert_eq!(rt; book.rows().map_or(1, |r| r.last_moment), 0);
-    Ok(())
+fn ask<B: Book>(rt: &impl Abort, alloc: Global, desk: &mut Desk<B>, asked: &Asked) {
+    let (moment, json, status, text) = *asked;
+    let request = read_request(alloc, json).expect(rt, "a request");
+    let taken = desk.take(moment, &request);
+    assert_eq!(rt; told(&taken), (status, text));
 }
 
-#[test]
-fn refusal_is_kept(rt: HostRuntime) -> Result<(), Fail> {
-    let book = MemoryBook::new(rt.alloc(), Limits::GREATEST);
-    let mut desk = opened(rt.alloc(), book)?;
-    let _ = take(rt.alloc(), &mut desk, 0, BILLING)?;
-    let refused = take(rt.alloc(), &mut desk, 10, CLEAR)?;
-    assert_eq!(rt; told(&refused), (409, CLEAR_REPLY));
-    let arrived = take(rt.alloc(), &mut desk, 11, ARRIVE)?;
-    assert_eq!(rt; told(&arrived), (200, ARRIVE_REPLY));
-    let again = take(rt.alloc(), &mut desk, 12, CLEAR)?;
-    assert_eq!(rt; told(&again), (409, CLEAR_REPLY));
-    Ok(())
+// Asks one request after the other.
+fn ask_all<B: Book>(rt: &impl Abort, alloc: Global, desk: &mut Desk<B>, scene: &[Asked]) {
+    for asked in scene {
+        ask(rt, alloc, desk, asked);
+    }
 }
 
-#[test]
-fn moment_never_goes_back(rt: HostRuntime) -> Result<(), Fail> {
-    let book = MemoryBook::new(rt.alloc(), Limits::GREATEST);
-    let mut desk = opened(rt.alloc(), book)?;
-    let arrivals = [
-        arrival(rt.alloc(), 0, BILLING)?,
-        arrival(rt.alloc(), 100, ARRIVE)?,
-        arrival(rt.alloc(), 50, ARRIVE_AGAIN)?,
-    ];
-    let answers = desk.run(&arrivals)?;
-    assert_eq!(rt; answers.len(), 3);
-    let mut book = desk.close();
-    let moments = book
-        .events_after(1, 100)
-        .map_or(0, |events| events.first().map_or(0, |e| e.moment));
-    assert_eq!(rt; moments, 100);
-    Ok(())
+fn arrival(rt: &impl Abort, alloc: Global, moment: u32, json: &[u8]) -> Arrival {
+    let request = read_request(alloc, json).expect(rt, "a request");
+    Arrival { moment, request }
 }
 
-#[test]
-fn full_desk(rt: HostRuntime) -> Result<(), Fail> {
-    let limits = Limits {
-        requests: 2,
-        ..Limits::GREATEST
-    };
-    let book = MemoryBook::new(rt.alloc(), limits);
-    let mut desk = opened(rt.alloc(), book)?;
-    let _ = take(rt.alloc(), &mut desk, 0, BILLING)?;
-    let _ = take(rt.alloc(), &mut desk, 0, STATION)?;
-    let full = take(rt.alloc(), &mut desk, 0, SECOND_STATION)?;
-    assert_eq!(rt; told(&full), (507, "deskFull"));
-    let repeat = take(rt.alloc(), &mut desk, 0, STATION)?;
-    assert_eq!(rt; told(&repeat), (200, STATION_REPLY));
-    Ok(())
+// The last stamp, moment and event number.
+fn counters(rt: &impl Abort, book: &mut MemoryBook) -> (u64, u32, u64) {
+    let rows = book.rows().expect(rt, "memory");
+    (rows.last_stamp, rows.last_moment, rows.last_event)
 }
 
-#[test]
-fn store_fails_midway(rt: HostRuntime) -> Result<(), Fail> {
-    let inner = MemoryBook::new(rt.alloc(), Limits::GREATEST);
-    let mut desk = opened(rt.alloc(), FailingBook::new(inner, 1))?;
-    let first = take(rt.alloc(), &mut desk, 0, BILLING)?;
-    assert_eq!(rt; told(&first), (200, BILLING_REPLY));
-    let lost = take(rt.alloc(), &mut desk, 0, STATION)?;
-    assert_eq!(rt; told(&lost), (503, "storeFault"));
-    let shut = take(rt.alloc(), &mut desk, 0, BILLING)?;
-    assert_eq!(rt; told(&shut), (503, "storeFault"));
-    let mut again = opened(rt.alloc(), desk.close())?;
-    let repeat = take(rt.alloc(), &mut again, 0, BILLING)?;
-    assert_eq!(rt; told(&repeat), (200, BILLING_REPLY));
-    Ok(())
+// The moment of the first event above a number.
+fn moment_after(rt: &impl Abort, book: &mut MemoryBook, number: u64) -> Option<u32> {
+    let events = book.events_after(number, 1).expect(rt, "memory");
+    match events.first() {
+        Some(event) => Some(event.moment),
+        None => None,
+    }
 }

@@ -1,6 +1,6 @@
 //! A book whose store fails once.
 
-ghost use Rattle.std.specs.Prelude.{◌≡◌, ⊤, refl, if◌then◌else◌};
+ghost use Rattle.std.specs.Prelude.{◌≡◌, ⊤, refl};
 
 use acd_book::book::{Book, BookFault};
 use acd_book::kept::Kept;
@@ -15,7 +15,7 @@ use acd_terms::rows::{Limits, Rows};
 pub struct FailingBook {
     inner: MemoryBook,
     left: u8,
-    failed: bool,
+    failures: u64,
 }
 
 impl FailingBook {
@@ -23,7 +23,7 @@ impl FailingBook {
         FailingBook {
             inner,
             left,
-            failed: false,
+            failures: 0,
         }
     }
 }
@@ -39,14 +39,14 @@ impl Book for FailingBook {
 
     ghost is_open = { λ b. ⊤ };
 
-    ghost count = { λ b. (if b.failed then 1 else 0) };
+    ghost count = { λ b. b.failures };
 
     ghost settled = { λ b c clean sound up found. found };
 
     ghost stays = { λ b clean sound up. refl };
 
     fn failures(&self) -> u64 {
-        if self.failed { 1 } else { 0 }
+        self.failures
     }
 
     fn limits(&mut self) -> Result<Limits, BookFault> {
@@ -79,12 +79,11 @@ impl Book for FailingBook {
     }
 
     fn commit(&mut self, rows: &Rows, events: &[Event], kept: &Kept) -> Result<(), BookFault> {
-        if self.left == 0 && !self.failed {
-            self.failed = true;
-            return Err(BookFault::Store);
-        }
         if self.left > 0 {
             self.left -= 1;
+        } else if self.failures == 0 {
+            self.failures = 1;
+            return Err(BookFault::Store);
         }
         self.inner.commit(rows, events, kept)
     }

@@ -1,0 +1,368 @@
+//! The requests of the examples over a desk: no memory is wanting, and after each request the event
+//! reports alone tell the connections, the agents and the order of the queues that stand in the rows.
+
+use super::*;
+use acd_book::book::Book;
+use acd_book::memory::MemoryBook;
+use acd_desk::desk::Desk;
+use acd_desk::taken::Taken;
+use acd_switch::row_fault::RowFault;
+use acd_terms::event::{Cause, EventKind, Report};
+use acd_terms::id::{AgentId, DeviceId};
+use acd_terms::record::ConnectionRecord;
+use acd_terms::rows::{Rows, Rule};
+use acd_terms::state::{AgentState, ConnectionState};
+use std::test::Fail;
+
+// More events than any scene has.
+const ALL: usize = 1000;
+
+// What an event tells of its call at its device.
+fn state_told(kind: EventKind) -> Option<ConnectionState> {
+    match kind {
+        EventKind::ServiceInitiated => Some(ConnectionState::Initiated),
+        EventKind::Originated | EventKind::Established | EventKind::Retrieved => {
+            Some(ConnectionState::Connected)
+        }
+        EventKind::Held => Some(ConnectionState::Hold),
+        EventKind::Delivered => Some(ConnectionState::Alerting),
+        EventKind::Queued => Some(ConnectionState::Queued),
+        EventKind::Failed => Some(ConnectionState::Fail),
+        _ => None,
+    }
+}
+
+// The last event with both tells the connection.
+fn connection_told(events: &[Event], call: u64, device: DeviceId) -> Option<ConnectionState> {
+    let mut told = None;
+    for event in events {
+        let columns = event.report.columns();
+        if columns.call == Some(call) && columns.device == Some(device) {
+            told = state_told(columns.kind);
+        }
+    }
+    told
+}
+
+// An agent's state, and station unless it is null.
+type Seat = (AgentState, Option<DeviceId>);
+
+// What an event of the agent tells, of whom this is known.
+fn seat_after(seat: Seat, kind: EventKind, device: Option<DeviceId>) -> Seat {
+    match kind {
+        EventKind::AgentLoggedOn => (AgentState::NotReady, device),
+        EventKind::AgentLoggedOff => (AgentState::Null, None),
+        EventKind::AgentNotReady => (AgentState::NotReady, seat.1),
+        EventKind::AgentReady => (AgentState::Ready, seat.1),
+        EventKind::AgentBusy => (AgentState::Busy, seat.1),
+        EventKind::AgentWorkingAfterCall => (AgentState::WorkingAfterCall, seat.1),
+        _ => seat,
+    }
+}
+
+fn seat_told(events: &[Event], agent: AgentId) -> Seat {
+    let mut seat = (AgentState::Null, None);
+    for event in events {
+        let columns = event.report.columns();
+        if columns.agent == Some(agent) {
+            seat = seat_after(seat, columns.kind, columns.device);
+        }
+    }
+    seat
+}
+
+// The number of the call's last entry into the group's queue: a return after no answer is none.
+fn last_entry(events: &[Event], group: DeviceId, call: u64) -> u64 {
+    let mut number = 0;
+    for event in events {
+        if let Report::Queued {
+            call: entered,
+            group: queue,
+            cause,
+        } = event.report
+        {
+            if entered == call && queue == group && cause != Cause::NoAnswer {
+                number = event.number;
+            }
+        }
+    }
+    number
+}
+
+fn is_planned(rows: &Rows, device: DeviceId) -> bool {
+    rows.groups.as_slice().iter().any(|g| g.device == device)
+        || rows.stations.as_slice().iter().any(|s| s.device == device)
+}
+
+// The device is no planned one, and the caller of the live call.
+fn is_external_caller(rows: &Rows, call: u64, device: DeviceId) -> bool {
+    rows.calls
+        .as_slice()
+        .iter()
+        .any(|c| c.call == call && c.caller == device)
+        && !is_planned(rows, device)
+}
+
+fn state_kept(rows: &Rows, call: u64, device: DeviceId) -> Option<ConnectionState> {
+    for connection in rows.connections.as_slice() {
+        if connection.call == call && connection.device == device {
+            return Some(connection.state);
+        }
+    }
+    None
+}
+
+fn compare_connection(rt: &impl Abort, events: &[Event], rows: &Rows, call: u64, device: DeviceId) {
+    if !is_external_caller(rows, call, device) {
+        assert_eq!(rt;
+            connection_told(events, call, device),
+            state_kept(rows, call, device)
+        );
+    }
+}
+
+// Each connection of the rows, and each of which an event tells.
+fn compare_connections(rt: &impl Abort, events: &[Event], rows: &Rows) {
+    for connection in rows.connections.as_slice() {
+        compare_connection(rt, events, rows, connection.call, connection.device);
+    }
+    for event in events {
+        let columns = event.report.columns();
+        if let (Some(call), Some(device)) = (columns.call, columns.device) {
+            compare_connection(rt, events, rows, call, device);
+        }
+    }
+}
+
+fn compare_agents(rt: &impl Abort, events: &[Event], rows: &Rows) {
+    for agent in rows.agents.as_slice() {
+        assert_eq!(rt;
+            seat_told(events, agent.agent),
+            (agent.state, agent.station)
+        );
+    }
+    for event in events {
+        if let Some(told) = event.report.columns().agent {
+            assert!(rt; rows.agents.as_slice().iter().any(|a| a.agent == told));
+        }
+    }
+}
+
+// It waits in the group, or rings from it.
+fn is_held_by(connection: &ConnectionRecord, group: DeviceId) -> bool {
+    (connection.state.is_queued() && connection.device == group)
+        || (connection.state.is_alerting() && connection.group == Some(group))
+}
+
+// An earlier place is an earlier entry.
+fn compare_queue(rt: &impl Abort, events: &[Event], rows: &Rows, group: DeviceId) {
+    for first in rows.connections.as_slice() {
+        for second in rows.connections.as_slice() {
+            if is_held_by(first, group) && is_held_by(second, group) {
+                let entry = last_entry(events, group, first.call);
+                let other = last_entry(events, group, second.call);
+                assert!(rt; entry > 0);
+                assert_eq!(rt; first.place.cmp(&second.place), entry.cmp(&other));
+            }
+        }
+    }
+}
+
+fn compare(rt: &impl Abort, book: &mut MemoryBook) {
+    let events = book.events_after(0, ALL).expect(rt, "memory");
+    let rows = book.rows().expect(rt, "memory");
+    compare_connections(rt, &events, &rows);
+    compare_agents(rt, &events, &rows);
+    for group in rows.groups.as_slice() {
+        compare_queue(rt, &events, &rows, group.device);
+    }
+}
+
+fn opened(rt: &impl Abort, alloc: Global, book: MemoryBook) -> Desk<MemoryBook> {
+    match Desk::open(alloc, book) {
+        Ok(desk) => desk,
+        Err((fault, _)) => panic!(rt; "{fault:?}"),
+    }
+}
+
+// A desk over the book takes one request, and gives the book back.
+fn taken(rt: &impl Abort, alloc: Global, book: MemoryBook, asked: &Asked) -> MemoryBook {
+    let (moment, text, wanted, reply) = *asked;
+    let request = read_request(alloc, text.as_bytes()).expect(rt, "a request");
+    let mut desk = opened(rt, alloc, book);
+    match desk.take(moment, &request) {
+        Taken::Reply { status, body } => {
+            assert_eq!(rt; body.as_str(), reply);
+            assert_eq!(rt; status, wanted);
+        }
+        _ => panic!(rt; "no reply"),
+    }
+    desk.close()
+}
+
+// The book after all requests of the scenes, compared after each.
+fn watched(rt: &impl Abort, alloc: Global, scenes: &[&[Asked]]) -> MemoryBook {
+    let mut book = MemoryBook::new(alloc, Limits::GREATEST);
+    for scene in scenes {
+        for asked in *scene {
+            book = taken(rt, alloc, book, asked);
+            compare(rt, &mut book);
+        }
+    }
+    book
+}
+
+const WRAP_UP_AND_TICK: &[Asked] = &[
+    (
+        11,
+        r#"{"called":"100","caller":"0309999","invoke":2,"requester":"pbx","service":"arriveCall"}"#,
+        200,
+        r#"{"invoke":2,"requester":"pbx","result":{"call":2}}"#,
+    ),
+    (
+        12,
+        r#"{"call":1,"device":"202","invoke":5,"requester":"desk","service":"answerCall"}"#,
+        200,
+        r#"{"invoke":5,"requester":"desk","result":{}}"#,
+    ),
+    (
+        13,
+        r#"{"call":2,"device":"201","invoke":6,"requester":"desk","service":"answerCall"}"#,
+        200,
+        r#"{"invoke":6,"requester":"desk","result":{}}"#,
+    ),
+    (
+        50,
+        r#"{"call":1,"device":"0301234","invoke":3,"requester":"pbx","service":"clearConnection"}"#,
+        200,
+        r#"{"invoke":3,"requester":"pbx","result":{}}"#,
+    ),
+    (
+        52,
+        r#"{"call":2,"device":"0309999","invoke":4,"requester":"pbx","service":"clearConnection"}"#,
+        200,
+        r#"{"invoke":4,"requester":"pbx","result":{}}"#,
+    ),
+    (
+        82,
+        r#"{"invoke":1,"requester":"clock","service":"tick"}"#,
+        200,
+        r#"{"invoke":1,"requester":"clock","result":{}}"#,
+    ),
+    (
+        83,
+        r#"{"called":"100","caller":"0305555","invoke":5,"requester":"pbx","service":"arriveCall"}"#,
+        200,
+        r#"{"invoke":5,"requester":"pbx","result":{"call":3}}"#,
+    ),
+];
+
+const PENDING_LOG_OFF: &[Asked] = &[
+    (
+        30,
+        r#"{"agent":"7","invoke":4,"requested":"loggedOff","requester":"desk","service":"setAgentState"}"#,
+        200,
+        r#"{"invoke":4,"requester":"desk","result":{"pending":"loggedOff","state":"busy"}}"#,
+    ),
+    (
+        40,
+        r#"{"call":1,"device":"0301234","invoke":2,"requester":"pbx","service":"clearConnection"}"#,
+        200,
+        r#"{"invoke":2,"requester":"pbx","result":{}}"#,
+    ),
+];
+
+const NO_ANSWER: &[Asked] = &[
+    (
+        90,
+        r#"{"agent":"7","device":"201","group":"100","invoke":1,"requested":"loggedOn","requester":"desk","service":"setAgentState"}"#,
+        200,
+        r#"{"invoke":1,"requester":"desk","result":{"state":"notReady"}}"#,
+    ),
+    (
+        91,
+        r#"{"agent":"7","invoke":2,"requested":"ready","requester":"desk","service":"setAgentState"}"#,
+        200,
+        r#"{"invoke":2,"requester":"desk","result":{"state":"ready"}}"#,
+    ),
+    (
+        100,
+        r#"{"called":"100","caller":"0301234","invoke":1,"requester":"pbx","service":"arriveCall"}"#,
+        200,
+        r#"{"invoke":1,"requester":"pbx","result":{"call":1}}"#,
+    ),
+    (
+        119,
+        r#"{"invoke":1,"requester":"clock","service":"tick"}"#,
+        200,
+        r#"{"invoke":1,"requester":"clock","result":{}}"#,
+    ),
+    (
+        120,
+        r#"{"invoke":2,"requester":"clock","service":"tick"}"#,
+        200,
+        r#"{"invoke":2,"requester":"clock","result":{}}"#,
+    ),
+];
+
+const TRANSFER_TO_STATION: &[Asked] = &[(
+    33,
+    r#"{"call":1,"device":"201","invoke":4,"requester":"desk","service":"singleStepTransfer","to":"202"}"#,
+    200,
+    r#"{"invoke":4,"requester":"desk","result":{}}"#,
+)];
+
+const ABANDONED_IN_QUEUE: &[Asked] = &[(
+    12,
+    r#"{"call":1,"device":"0301234","invoke":2,"requester":"pbx","service":"clearConnection"}"#,
+    200,
+    r#"{"invoke":2,"requester":"pbx","result":{}}"#,
+)];
+
+const DEFLECTED_TO_STATION: &[Asked] = &[(
+    20,
+    r#"{"call":1,"device":"201","invoke":3,"requester":"desk","service":"deflectCall","to":"202"}"#,
+    200,
+    r#"{"invoke":3,"requester":"desk","result":{}}"#,
+)];
+
+#[test]
+fn reports_tell_the_rows(rt: HostRuntime) {
+    let scenes: [&[&[Asked]]; 6] = [
+        &[PLAN, TWO_READY, WRAP_UP_AND_TICK],
+        &[
+            PLAN,
+            CALL_ARRIVES,
+            ANA_BECOMES_READY,
+            ANA_ANSWERS,
+            PENDING_LOG_OFF,
+        ],
+        &[PLAN, NO_ANSWER],
+        &[
+            PLAN,
+            CALL_ARRIVES,
+            ANA_BECOMES_READY,
+            ANA_ANSWERS,
+            TRANSFER_TO_STATION,
+        ],
+        &[PLAN, CALL_ARRIVES, ABANDONED_IN_QUEUE],
+        &[PLAN, CALL_ARRIVES, ANA_BECOMES_READY, DEFLECTED_TO_STATION],
+    ];
+    for scene in scenes {
+        let _ = watched(&rt, rt.alloc(), scene);
+    }
+}
+
+#[test]
+fn event_number_out_of_bounds(rt: HostRuntime) -> Result<(), Fail> {
+    let answered = [PLAN, CALL_ARRIVES, ANA_BECOMES_READY, ANA_ANSWERS];
+    let mut book = watched(&rt, rt.alloc(), &answered);
+    let mut rows = book.rows()?;
+    assert!(rt; Switch::from_rows(rt.alloc(), &rows).is_ok());
+    rows.last_event = 1000000;
+    match Switch::from_rows(rt.alloc(), &rows) {
+        Err(RowFault::Broken(rule)) => assert_eq!(rt; rule, Rule::Counters),
+        _ => panic!(rt; "not refused by a rule"),
+    }
+    Ok(())
+}
