@@ -77,29 +77,29 @@ ran_more s m n l ts a t settles ran took =
     let no : unserved (l ++ a ∷ []) (ts ++ t ∷ []) ≡ unserved l ts ++ cond (is_fault t) (a ∷ []) [] = unserved-push l ts a t ran.even in
     let content : n.is_clean → Starts s → n.is_open → n.content ≡ ran_after start (served (l ++ a ∷ []) (ts ++ t ∷ []))
     = λ clean starts opened.
-        let before = took.clean clean in
-        let sound = ran.sound before starts.0 in
-        let step = ran.in_step before starts.0 starts.2 in
-        one_content start (served l ts) a t n.content
-        (λ (fine : is_fault t ≡ false). (took.sent fine clean sound step).1 ∙ ap (λ (x : Content). after x a) (ran.content before starts (took.up fine clean sound).0))
-        (λ (bad : is_fault t ≡ true). (took.unsent bad clean sound step opened).1 ∙ ran.content before starts (took.unsent bad clean sound step opened).0)
-        ∙ ap (ran_after start) (sym yes) in
+    let before = took.clean clean in
+    let sound = ran.sound before starts.0 in
+    let step = ran.in_step before starts.0 starts.2 in
+    one_content start (served l ts) a t n.content
+    (λ (fine : is_fault t ≡ false). (took.sent fine clean sound step).1 ∙ ap (λ (x : Content). after x a) (ran.content before starts (took.up fine clean sound).0))
+    (λ (bad : is_fault t ≡ true). (took.unsent bad clean sound step opened).1 ∙ ran.content before starts (took.unsent bad clean sound step opened).0)
+    ∙ ap (ran_after start) (sym yes) in
     let stops : n.is_clean → Starts s → (c : Content) → n.stops c → StopsAt start (served (l ++ a ∷ []) (ts ++ t ∷ [])) (unserved (l ++ a ∷ []) (ts ++ t ∷ [])) c
     = λ clean starts c stop.
-        let before = took.clean clean in
-        let sound = ran.sound before starts.0 in
-        let step = ran.in_step before starts.0 starts.2 in
-        let at : StopsAt start (served l ts ++ cond (is_fault t) [] (a ∷ [])) (unserved l ts ++ cond (is_fault t) (a ∷ []) []) c
-        = one_stop start (served l ts) (unserved l ts) a t c
-        (λ (fine : is_fault t ≡ false).
-        settles c clean (took.sound clean sound) (took.up fine clean sound).1 stop
-        ∙ (took.sent fine clean sound step).1 ∙ ap (λ (x : Content). after x a) (ran.content before starts (took.up fine clean sound).0))
-        (λ (bad : is_fault t ≡ true). elim (took.stops clean sound step c stop) [
-          | inl old ↦ inl (ran.stops before starts c old)
-          | inr made ↦ inr (made.1 ∙ ap (λ (x : Content). after x a) (ran.content before starts made.0))
-        ]) in
-        subst (λ (y : List Arrival). StopsAt start y (unserved (l ++ a ∷ []) (ts ++ t ∷ [])) c) (sym yes)
-        (subst (λ (z : List Arrival). StopsAt start (served l ts ++ cond (is_fault t) [] (a ∷ [])) z c) (sym no) at) in
+    let before = took.clean clean in
+    let sound = ran.sound before starts.0 in
+    let step = ran.in_step before starts.0 starts.2 in
+    let at : StopsAt start (served l ts ++ cond (is_fault t) [] (a ∷ [])) (unserved l ts ++ cond (is_fault t) (a ∷ []) []) c
+    = one_stop start (served l ts) (unserved l ts) a t c
+    (λ (fine : is_fault t ≡ false).
+    settles c clean (took.sound clean sound) (took.up fine clean sound).1 stop
+    ∙ (took.sent fine clean sound step).1 ∙ ap (λ (x : Content). after x a) (ran.content before starts (took.up fine clean sound).0))
+    (λ (bad : is_fault t ≡ true). elim (took.stops clean sound step c stop) [
+      | inl old ↦ inl (ran.stops before starts c old)
+      | inr made ↦ inr (made.1 ∙ ap (λ (x : Content). after x a) (ran.content before starts made.0))
+    ]) in
+    subst (λ (y : List Arrival). StopsAt start y (unserved (l ++ a ∷ []) (ts ++ t ∷ [])) c) (sym yes)
+    (subst (λ (z : List Arrival). StopsAt start (served l ts ++ cond (is_fault t) [] (a ∷ [])) z c) (sym no) at) in
     let whole : n.is_clean → Starts s → n.is_open → IsSound n.content
     = λ clean starts opened. subst IsSound (sym (content clean starts opened)) (ran_sound start (served (l ++ a ∷ []) (ts ++ t ∷ [])) starts.3) in
     record {
