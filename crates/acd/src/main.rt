@@ -15,27 +15,13 @@ mod tests;
 
 use acd_book::memory::MemoryBook;
 use acd_desk::desk::{Desk, OpenFault};
-use acd_terms::rows::{Limits, Rule};
+use acd_terms::rows::Limits;
 use session::{LinesFault, lines};
 use std::process::ExitCode;
 use std::rt::Env;
 use std::{env, io};
-use thiserror::Error;
 
 const USAGE: &str = "usage: acd lines";
-
-/// Why the program ended with status 1.
-#[derive(Clone, Copy, Debug, PartialEq, Eq, Error)]
-enum Fault {
-    #[error("{0}")]
-    Lines(LinesFault),
-    #[error("no memory")]
-    NoMemory,
-    #[error("store fault")]
-    Store,
-    #[error("bad rows: {0}")]
-    Rows(&'static str),
-}
 
 // The arguments are exactly the word `lines`.
 fn asks_for_lines(rt: &(impl Env + Alloc)) -> io::Result<bool> {
@@ -47,38 +33,15 @@ fn asks_for_lines(rt: &(impl Env + Alloc)) -> io::Result<bool> {
     Ok(word.as_str() == "lines" && words.next().is_none())
 }
 
-// The name of a rule of rows as it is printed.
-fn rule_name(rule: Rule) -> &'static str {
-    match rule {
-        Rule::Limits => "limits",
-        Rule::Order => "order",
-        Rule::Device => "device",
-        Rule::Agent => "agent",
-        Rule::Call => "call",
-        Rule::Connection => "connection",
-        Rule::Parties => "parties",
-        Rule::Live => "live",
-        Rule::Occupied => "occupied",
-        Rule::Counters => "counters",
-        Rule::Offer => "offer",
-        Rule::Monitor => "monitor",
-        Rule::Balance => "balance",
-    }
-}
-
 // Answers standard input on standard output, over a new book in memory with the greatest limits.
-fn run_lines(rt: &HostRuntime) -> Result<(), Fault> {
+#[tactic(auto, using(acd_desk::proofs::ContentLaws::empty_sound), unfolding(acd_terms::specs::Limits::limits_fit))]
+fn run_lines(rt: &HostRuntime) -> Result<(), LinesFault> {
     let book = MemoryBook::new(rt.alloc(), Limits::GREATEST);
-    let mut desk = match Desk::open(rt.alloc(), book) {
-        Ok(desk) => desk,
-        Err((OpenFault::NoMemory, _)) => return Err(Fault::NoMemory),
-        Err((OpenFault::Store, _)) => return Err(Fault::Store),
-        Err((OpenFault::Rows(rule), _)) => return Err(Fault::Rows(rule_name(rule))),
-    };
-    let mut reader = rt.reader();
-    match lines(rt.alloc(), &mut desk, &mut reader, &mut io::writer(rt)) {
-        Ok(()) => Ok(()),
-        Err(fault) => Err(Fault::Lines(fault)),
+    match Desk::open(rt.alloc(), book) {
+        Ok(mut desk) => lines(rt.alloc(), &mut desk, &mut rt.reader(), &mut io::writer(rt)),
+        Err((OpenFault::NoMemory, _)) => Err(LinesFault::NoMemory),
+        // its rows break no rule, and it has no store
+        Err((OpenFault::Rows(_) | OpenFault::Store, _)) => unreachable!(),
     }
 }
 

@@ -48,6 +48,7 @@ fn answer_lines<B: Book, R: Read, W: Write>(
         × ServesRead (Answers (standing B.Book)) desk.old bytes written desk.new × Appends (W.contents writer.old) (W.contents writer.new) written) }
     ensures stopped { OnErr result ((input written : List ℕ) × IsInput (R.remaining reader.old) input
         × ServesSome (Answers (standing B.Book)) desk.old input written desk.new × Appends (W.contents writer.old) (W.contents writer.new) written) }
+    ensures memory { IfErr result (λ fault. fault ≡ LinesFault.NoMemory → (reader.new ≡ reader.old) × (writer.new ≡ writer.old) × (desk.new ≡ desk.old)) }
 {
     let mut partial = match Partial::new(alloc) {
         Ok(partial) => partial,
@@ -96,6 +97,8 @@ pub fn lines<B: Book, R: Read, W: Write>(
     ensures stopped { OnErr result ((input written : List ℕ) × (n : ℕ) × (answers : List Taken) × IsInput (R.remaining reader.old) input
         × IsBegun (lines_of (take n (cut input))) answers written × Appends (W.contents writer.old) (W.contents writer.new) written
         × Ran (standing B.Book desk.old) (arrivals_in (lines_of (take n (cut input)))) answers (standing B.Book desk.new)) }
+    // without memory nothing was read
+    ensures memory { IfErr result (λ fault. fault ≡ LinesFault.NoMemory → (reader.new ≡ reader.old) × (writer.new ≡ writer.old) × (desk.new ≡ desk.old)) }
 {
     answer_lines(alloc, desk, reader, writer)
 }

@@ -1,5 +1,5 @@
 -- A sound content keeps the laws of runs.
-use Rattle.std.proofs.Common.{◌≡◌, List, [], ◌∷◌, ◌++◌, length, refl, sym, ap, subst, ◌∙◌, arith, append_assoc, append-nil}
+use Rattle.std.proofs.Common.{◌≡◌, ℕ, zero, suc, take, List, [], ◌∷◌, ◌++◌, length, true, refl, sym, ap, subst, ◌∙◌, arith, append_assoc, append-nil}
 use Rattle.acd_terms.specs.Lists.{Among}
 use Rattle.acd_terms.specs.Writes.{empty_rows}
 use Rattle.acd_terms.specs.Step.{step}
@@ -7,6 +7,8 @@ use Rattle.acd_terms.specs.Run.{Asked, Ran}
 use Rattle.acd_terms.specs.Run as terms
 use Rattle.acd_terms.specs.Rules.First.{BreaksNoRule}
 use Rattle.acd_terms.specs.declared.rows.Rows.{Rows}
+use Rattle.acd_terms.specs.declared.rows.Limits.{Limits}
+use Rattle.acd_terms.specs.Limits.{limits_fit}
 use Rattle.acd_terms.specs.declared.command.Arrival.{Arrival}
 use Rattle.acd_terms.specs.declared.event.Event.{Event}
 use Rattle.acd_terms.specs.declared.record.GroupRecord.{GroupRecord}
@@ -87,3 +89,11 @@ sound_counted c sound = subst IsCounted (sym sound.replays) (counted_run c.rows.
 pub after_sound : (c : Content) (a : Arrival) → IsSound c → IsSound (after c a)
 after_sound c a sound =
     subst IsSound (sym (ap (λ (x : Content). after x a) (ran_none c sound) ∙ ran_push c [] a)) (ran_sound c (a ∷ []) sound)
+
+nothing_taken : (k : ℕ) → ◌≡◌ {A = List Arrival} [] (take k [])
+nothing_taken zero = refl
+nothing_taken (suc k) = refl
+
+-- a new book's content
+pub empty_sound : (n : Limits) → limits_fit n ≡ true → IsSound (empty_content n)
+empty_sound n fits = record { fits = fits; distinct = refl; few = omega arith; replays = ap (run_from (empty_content n)) (nothing_taken n.requests) }
