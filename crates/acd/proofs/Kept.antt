@@ -1,20 +1,15 @@
 -- Lines that are kept up to a limit.
-use Rattle.std.proofs.Common.{◌≡◌, ℕ, zero, suc, ◌+◌, ◌-◌, ◌*◌, ◌<◌, ◌≤◌, min, Bool, true, false, not, ◌&&◌, ◌==◌, nat_lt, nat_le, List, [], ◌∷◌, ◌++◌, length, take, drop, Option, Some, None, option_map, cond, refl, sym, ap, ◌∙◌, subst, arith, append_assoc, append-nil, length-append, length-drop, lt-ltb, inl, inr, ◌⊎◌, ltb-true, get_or}
-use Rattle.std.proofs.lemmas.List.{take_all, take_at, take_more_set, length-take, length-take-le, take-append-drop}
+use Rattle.std.proofs.Common.{◌≡◌, ℕ, zero, suc, ◌+◌, ◌-◌, ◌*◌, ◌<◌, ◌≤◌, Bool, true, false, ◌&&◌, ◌==◌, nat_lt, nat_le, List, [], ◌∷◌, ◌++◌, length, take, drop, Option, Some, None, option_map, refl, sym, ap, ◌∙◌, arith, length-append, lt-ltb, inl, inr, ◌⊎◌, ltb-true}
+use Rattle.std.proofs.lemmas.List.{take_all, take_at, take_more_set, length-take-le, take-append-drop}
 use Rattle.std.proofs.Math.Seq.{take-add}
-use Rattle.std.proofs.lemmas.List.{get_or_at}
 use Rattle.std.proofs.lemmas.Bool.{cases_lt}
-use Rattle.std.proofs.Math.ListN.{set, length-set}
-use Rattle.std.proofs.lemmas.Bool.{and_parts, true≢false}
-use Rattle.std.specs.Cmp.Derive.{both_true}
+use Rattle.std.proofs.Math.ListN.{set}
+use Rattle.std.proofs.lemmas.Bool.{and_parts}
 use Rattle.std.specs.Option.{MatchOption}
 use Rattle.std.specs.Bool.{if◌then◌else◌}
-use Rattle.std.specs.List.{concat, list_all}
-use Rattle.std.proofs.lemmas.List.Folds.{concat-append, list_all-append, list_all_at}
 use Rattle.std.specs.Char.{is_ascii_digit}
 use Rattle.std.specs.Io.BufRead.{ends_with_byte, strip_last}
-use Rattle.acd_codec.specs.declared.member.Member.TheVariants as members
-use Rattle.acd.specs.Input.{number_then, if_moment, moment_of, Line, too_long, faulty, line_behind, line_of}
+use Rattle.acd.specs.Input.{number_then, if_moment, moment_of, Line, no_moment, too_long, line_behind, line_of}
 
 pub kept_more : (n : ℕ) (items : List ℕ) (len b : ℕ) (old : List ℕ) → length items ≡ n → len < n → take len items ≡ old → take (len + 1) (set items len b) ≡ take n (old ++ b ∷ [])
 kept_more n items len b old size room is =
@@ -62,14 +57,14 @@ number_rest n v some (y ∷ ys) =
     ] refl
 
 abbrev long_line : Option (ℕ × List ℕ) → Line
-long_line None = faulty members.Moment
-long_line (Some p) = if nat_le p.0 4294967295 then too_long else faulty members.Moment
+long_line None = no_moment
+long_line (Some p) = if nat_le p.0 4294967295 then too_long else no_moment
 
 behind : (o : Option (ℕ × List ℕ)) (u : List ℕ) → MatchOption o (Unit {0}) (λ p. 4096 < length p.1) → line_behind (if_moment (option_map (λ p. (p.0, p.1 ++ u)) o)) ≡ long_line o
 behind None u h = refl
 behind (Some p) u h =
     let over : 4096 < length (p.1 ++ u) = omega (arith, length-append p.1 u) in
-    elim (nat_le p.0 4294967295) as (λ b. line_behind (if b then Some (p.0, p.1 ++ u) else None) ≡ (if b then too_long else faulty members.Moment)) [
+    elim (nat_le p.0 4294967295) as (λ b. line_behind (if b then Some (p.0, p.1 ++ u) else None) ≡ (if b then too_long else no_moment)) [
       | true ↦ rw (lt-ltb 4096 (length (p.1 ++ u)) over) refl
       | false ↦ refl
     ]

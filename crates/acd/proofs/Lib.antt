@@ -5,3 +5,4 @@ pub mod Cuts
 pub mod AnswerTexts
 pub mod Reaching
 pub mod Turns
+pub mod Telling

@@ -1,13 +1,12 @@
 -- The lines of an input that were answered so far.
-use Rattle.std.proofs.Common.{◌≡◌, ℕ, zero, suc, ◌+◌, ◌<◌, ◌≤◌, Bool, true, not, ◌&&◌, ◌==◌, List, [], ◌∷◌, ◌++◌, length, take, refl, sym, ap, ◌∙◌, subst, arith, append_assoc, append-nil, length-append, ne_eqb}
+use Rattle.std.proofs.Common.{◌≡◌, ℕ, ◌<◌, not, ◌==◌, List, [], ◌∷◌, ◌++◌, length, take, refl, sym, ap, ◌∙◌, subst, arith, append_assoc, append-nil, ne_eqb}
 use Rattle.std.proofs.lemmas.List.{take_at, take_all}
 use Rattle.std.specs.Cmp.Derive.{both_true}
-use Rattle.std.specs.List.{concat, list_all}
+use Rattle.std.specs.List.{concat}
 use Rattle.std.proofs.lemmas.List.Folds.{concat-append, list_all-append}
 use Rattle.std.specs.Io.BufRead.{ends_with_byte}
 use Rattle.acd.specs.Input.{cut, text_of, Line, line_of}
-use Rattle.acd.specs.Output.{Serves, ServesAll, ServesRead, ServesSome, whole_lines}
-use Rattle.acd.specs.Parts.{Reached, has_no_feed}
+use Rattle.acd.specs.Parts.{Serves, ServesAll, ServesRead, ServesSome, Reached}
 use Rattle.acd.proofs.Cuts.{cut_line, cut_open, ends_in_feed, whole_of}
 
 concat_one : (outs : List (List ℕ)) (out : List ℕ) → concat outs ++ out ≡ concat (outs ++ out ∷ [])

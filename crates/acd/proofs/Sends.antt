@@ -1,5 +1,5 @@
 -- A write of a part of the bytes that are left.
-use Rattle.std.proofs.Common.{◌≡◌, ℕ, ◌+◌, ◌-◌, ◌≤◌, List, ◌++◌, length, take, drop, Option, refl, sym, ap, ◌∙◌, arith, subst, length-drop, append_assoc, Result, Ok, Err, OnOk, OnErr, IfErr}
+use Rattle.std.proofs.Common.{◌≡◌, ℕ, ◌+◌, ◌-◌, ◌≤◌, List, ◌++◌, length, take, drop, Option, sym, ap, ◌∙◌, arith, subst, length-drop, append_assoc, Result, Ok, Err, OnOk, OnErr, IfErr}
 use Rattle.std.proofs.lemmas.List.{take_all, take-append-drop}
 use Rattle.std.proofs.Math.Seq.{take-add}
 use Rattle.std.specs.Io.KnownBytes.{Appends}
@@ -46,3 +46,7 @@ IfErr-weaker (Err e) P Q f h = f e h
 pub IfErr-is : {T E : Type 0} (r : Result T E) (x : E) (P : E → Type 0) → IsErrAnd r (λ e. e ≡ x) → P x → IfErr r P
 IfErr-is (Ok v) x P h p = tt
 IfErr-is (Err e) x P h p = subst P (sym h) p
+
+pub OnErr-is : {T E : Type 0} (r : Result T E) (x : E) (P : Type 0) → IsErrAnd r (λ e. e ≡ x) → P → OnErr r P
+OnErr-is (Ok v) x P h p = tt
+OnErr-is (Err e) x P h p = p

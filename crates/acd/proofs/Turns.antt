@@ -1,15 +1,13 @@
 -- One byte of the input, over plain values.
-use Rattle.std.proofs.Common.{◌≡◌, ℕ, zero, suc, ◌+◌, ◌<◌, ◌≤◌, List, [], ◌∷◌, ◌++◌, length, take, drop, get_or, Option, Some, None, false, ◌==◌, refl, sym, ap, ◌∙◌, subst, arith, append_assoc, append-nil}
-use Rattle.std.proofs.lemmas.List.{take_more, take_all, length-take, take-append-drop}
+use Rattle.std.proofs.Common.{◌≡◌, ℕ, zero, suc, ◌+◌, ◌<◌, List, [], ◌∷◌, ◌++◌, length, take, drop, get_or, Option, Some, None, false, ◌==◌, refl, sym, ap, ◌∙◌, subst, arith, append_assoc, append-nil}
+use Rattle.std.proofs.lemmas.List.{take_more, length-take, take-append-drop}
 use Rattle.std.specs.Io.BufRead.{strip_last}
-use Rattle.std.specs.Io.KnownBytes.{Appends, Keeps, Consumes, IsAtEnd}
-use Rattle.std.proofs.KnownBytes.{Appends-trans, Appends-nil, Appends-kept, Consumes-nil, Consumes-trans, Consumes-whole}
+use Rattle.std.specs.Io.KnownBytes.{Appends, Consumes, IsAtEnd}
+use Rattle.std.proofs.KnownBytes.{Appends-trans, Appends-nil, Consumes-nil, Consumes-trans, Consumes-whole}
 use Rattle.std.proofs.lemmas.Bool.{true≢false}
-use Rattle.acd.specs.declared.session.LinesFault.{LinesFault}
-use Rattle.acd.specs.declared.session.LinesFault.TheVariants as fault
 use Rattle.acd.specs.Input.{line_of, text_of, Line}
-use Rattle.acd.specs.Output.{ServesAll, ServesRead, ServesSome, IsInput, IsLeft}
-use Rattle.acd.specs.Parts.{Begins, Reached, LineStops, Stops, StopsIn}
+use Rattle.acd.specs.Output.{IsInput}
+use Rattle.acd.specs.Parts.{ServesAll, ServesRead, ServesSome, Reached, LineStops, Stops, StopsIn}
 use Rattle.acd.proofs.Kept.{kept_push, kept_line, kept_strip}
 use Rattle.acd.proofs.Cuts.{text_line, text_open}
 use Rattle.acd.proofs.Reaching.{reached_byte, reached_line, read_reached, some_reached, some_line, all_ended, all_open, some_open}
@@ -79,33 +77,17 @@ module _ {S : Type 0} (A : S → Line → List ℕ → S → Type 0) where
   pub stands_kept : (n : ℕ) (s : S) (seen kept kept' written : List ℕ) (t t' : S) (a c c' : Option (List ℕ)) → kept' ≡ kept → t' ≡ t → c' ≡ c → Stands n s seen kept written t a c → Stands n s seen kept' written t' a c'
   stands_kept n s seen kept kept' written t t' a c c' k e f h = let now = stands_now n s seen kept written t t' a c c' e f h in (now.0, now.1, k ∙ now.2, now.3, now.4)
 
-  -- no more than what stands was written, and the input may go on with any bytes
-  stops_here : (s : S) (seen whole written : List ℕ) (part out : List ℕ) (t : S) (a c : Option (List ℕ)) (fault : LinesFault) (now : S) → Reached A s seen part (written ++ out) t → Appends a c out → IsLeft fault t now
-      → (left : List ℕ) → whole ≡ seen ++ left → Stops A fault s whole written now a c
-  stops_here s seen whole written part out t a c fault now h sent left_state left is_whole = (
-    out,
-    t,
-    λ more. subst (λ (l : List ℕ). ServesSome A s l (written ++ out) t) (sym (ap (λ (l : List ℕ). l ++ more) is_whole ∙ append_assoc seen left more)) (some_reached A s seen part (written ++ out) (left ++ more) t h),
-    left_state,
-    sent,
-  )
-
-  -- a line stopped: its answer was not written whole, or memory ran out
-  pub stop_line : (fault : LinesFault) (m : ℕ) (s : S) (seen whole kept text written : List ℕ) (mid t : S) (a b c : Option (List ℕ)) → 4107 < m → Stands (m + 1) s seen kept written mid a b → text ≡ strip_last 13 kept
-      → LineStops A fault mid (line_of text) t b c → (left : List ℕ) → whole ≡ (seen ++ 10 ∷ []) ++ left → Stops A fault s whole written t a c
-  stop_line fault.Read m s seen whole kept text written mid t a b c big h is_text stopped left is_whole = absurd stopped
-  stop_line fault.NoMemory m s seen whole kept text written mid t a b c big h is_text stopped left is_whole =
-      stops_here s seen whole written h.0 h.1 mid a c fault.NoMemory t h.3 (Appends-kept a b c h.1 h.4 stopped) tt (10 ∷ left) (is_whole ∙ append_assoc seen (10 ∷ []) left)
-  stop_line fault.Write m s seen whole kept text written mid t a b c big h is_text stopped left is_whole =
+  -- a line stopped: its answer was not written whole
+  pub stop_line : (m : ℕ) (s : S) (seen whole kept text written : List ℕ) (mid t : S) (a b c : Option (List ℕ)) → 4107 < m → Stands (m + 1) s seen kept written mid a b → text ≡ strip_last 13 kept
+      → LineStops A mid (line_of text) t b c → (left : List ℕ) → whole ≡ (seen ++ 10 ∷ []) ++ left → Stops A s whole written t a c
+  stop_line m s seen whole kept text written mid t a b c big h is_text stopped left is_whole =
       let line = line_text_of m h.0 kept text big h.2 is_text in
       let out = stopped.0 in
       let begun = stopped.2 in
       let served = λ (more : List ℕ). some_line A s seen h.0 (written ++ h.1) mid out (left ++ more) t begun.0 begun.1 h.3 (subst (λ (l : Line). A mid l out t) line stopped.1) begun.2 in (
         h.1 ++ begun.0,
-        t,
         λ more. subst (λ (w : List ℕ). ServesSome A s (whole ++ more) w t) (append_assoc written h.1 begun.0)
             (subst (λ (l : List ℕ). ServesSome A s l ((written ++ h.1) ++ begun.0) t) (sym (ap (λ (l : List ℕ). l ++ more) is_whole ∙ append_assoc (seen ++ 10 ∷ []) left more)) (served more)),
-        refl,
         Appends-trans a b c h.1 begun.0 h.4 begun.3,
       )
 
@@ -122,35 +104,27 @@ module _ {S : Type 0} (A : S → Line → List ℕ → S → Type 0) where
       all_open A s seen part written mid out t h (omega (arith, ap length e, length-take (m + 1) part)) (subst (λ (l : Line). A mid l out t) line answered)
 
   -- such a line stopped
-  pub end_stop : (fault : LinesFault) (m : ℕ) (s : S) (seen part written kept : List ℕ) (mid t : S) (b c : Option (List ℕ)) → 4107 < m → kept ≡ take (m + 1) part → 0 < length kept → Reached A s seen part written mid → LineStops A fault mid (line_of kept) t b c
-      → StopsIn A fault s seen written t b c
-  end_stop fault.Read m s seen part written kept mid t b c big e some h stopped = absurd stopped
-  end_stop fault.NoMemory m s seen part written kept mid t b c big e some h stopped = (
-    [],
-    mid,
-    subst (λ (l : List ℕ). ServesSome A s l (written ++ []) mid) (append-nil seen) (subst (λ (w : List ℕ). ServesSome A s (seen ++ []) w mid) (sym (append-nil written)) (some_reached A s seen part written [] mid h)),
-    tt,
-    Appends-kept b b c [] (Appends-nil b) stopped,
-  )
-  end_stop fault.Write m s seen part written kept mid t b c big e some h stopped =
+  pub end_stop : (m : ℕ) (s : S) (seen part written kept : List ℕ) (mid t : S) (b c : Option (List ℕ)) → 4107 < m → kept ≡ take (m + 1) part → 0 < length kept → Reached A s seen part written mid → LineStops A mid (line_of kept) t b c
+      → StopsIn A s seen written t b c
+  end_stop m s seen part written kept mid t b c big e some h stopped =
       let line = ap line_of e ∙ kept_line m part big ∙ ap line_of (sym (text_open part h.no_feed)) in
       let out = stopped.0 in
       let begun = stopped.2 in
-      (begun.0, t, some_open A s seen part written mid out t begun.0 begun.1 h (omega (arith, ap length e, length-take (m + 1) part)) (subst (λ (l : Line). A mid l out t) line stopped.1) begun.2, refl, begun.3)
+      (begun.0, some_open A s seen part written mid out t begun.0 begun.1 h (omega (arith, ap length e, length-take (m + 1) part)) (subst (λ (l : Line). A mid l out t) line stopped.1) begun.2, begun.3)
 
-  -- a reader's fault between two lines
+  -- a stop between two lines
   pub stops_between : (n : ℕ) (s : S) (seen kept : List ℕ) (t now : S) (a b : Option (List ℕ)) (p q : Option (List ℕ)) → now ≡ t → Consumes p q seen → Stands n s seen kept [] t a b
-      → (input written : List ℕ) × (left : S) × IsInput p input × ServesSome A s input written left × IsLeft fault.Read left now × Appends a b written
+      → (input written : List ℕ) × IsInput p input × ServesSome A s input written now × Appends a b written
   stops_between n s seen kept t now a b p q same h stands =
       let more = input_begun p q seen h in
-      (seen ++ more.0, stands.1, t, more.1, some_reached A s seen stands.0 stands.1 more.0 t stands.3, same, stands.4)
+      (seen ++ more.0, stands.1, more.1, subst (λ (x : S). ServesSome A s (seen ++ more.0) stands.1 x) (sym same) (some_reached A s seen stands.0 stands.1 more.0 t stands.3), stands.4)
 
-  -- memory ran out before the first read
-  pub nothing_read : (s now : S) (p a : Option (List ℕ)) → (input written : List ℕ) × (left : S) × IsInput p input × ServesSome A s input written left × IsLeft fault.NoMemory left now × Appends a a written
-  nothing_read s now p a =
+  -- nothing was read
+  pub nothing_read : (s : S) (p a : Option (List ℕ)) → (input written : List ℕ) × IsInput p input × ServesSome A s input written s × Appends a a written
+  nothing_read s p a =
       let more = input_begun p p [] (Consumes-nil p) in
       let stands = starts 0 s [] a refl in
-      (more.0, stands.1, s, more.1, some_reached A s [] stands.0 stands.1 more.0 s stands.3, tt, stands.4)
+      (more.0, stands.1, more.1, some_reached A s [] stands.0 stands.1 more.0 s stands.3, stands.4)
 
   -- the lines that had ended in what was read
   pub reads_up_to : (n : ℕ) (s : S) (seen kept : List ℕ) (t : S) (a b : Option (List ℕ)) → Stands n s seen kept [] t a b → (written : List ℕ) × ServesRead A s seen written t × Appends a b written

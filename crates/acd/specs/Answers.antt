@@ -1,38 +1,50 @@
--- What a switch answers to one line.
-use Rattle.std.specs.Prelude.{◌≡◌, ℕ, List, [], ◌∷◌, ◌++◌, Bool, nat_le, decimal, if◌then◌else◌}
-use Rattle.acd_terms.specs.declared.rows.Rows.{Rows}
+-- What is written for one line, and what becomes of the desk.
+use Rattle.std.specs.Prelude.{◌≡◌, ◌⊎◌, ℕ, List, ◌∷◌, ◌++◌, [], true, decimal}
 use Rattle.acd_terms.specs.declared.command.Request.{Request}
-use Rattle.acd_terms.specs.declared.answer.Outcome.{Outcome}
-use Rattle.acd_terms.specs.Step.{step}
-use Rattle.acd_codec.specs.declared.replies.Rejected.TheVariants.{DeskFull}
-use Rattle.acd_codec.specs.declared.fault.FixedAnswer.TheVariants.{BodyTooLarge}
-use Rattle.acd_codec.specs.ReplyTexts.{malformed_text, fixed_status, fixed_text, outcome_status, reply_text, rejected_status, rejected_text}
-use Rattle.acd.specs.Input.{Line, faulty, too_long, arrival}
+use Rattle.acd_codec.specs.declared.member.Member.{Member}
+use Rattle.acd_codec.specs.declared.member.Member.TheVariants as members
+use Rattle.acd_codec.specs.declared.replies.Rejected.{Rejected}
+use Rattle.acd_codec.specs.declared.replies.Rejected.TheVariants as rejections
+use Rattle.acd_codec.specs.declared.fault.FixedAnswer.{FixedAnswer}
+use Rattle.acd_codec.specs.declared.fault.FixedAnswer.TheVariants as fixed
+use Rattle.acd_codec.specs.ReplyTexts.{malformed_text, fixed_status, fixed_text, rejected_status, rejected_text}
+use Rattle.acd_desk.specs.declared.taken.Taken.{Taken}
+use Rattle.acd_desk.specs.declared.taken.Taken.TheVariants as taken
+use Rattle.acd_desk.specs.Arrived.{at}
+use Rattle.acd_desk.specs.Served.{is_rejection}
+use Rattle.acd_desk.specs.Ran.{Standing, Took}
+use Rattle.acd.specs.Input.{Line, no_moment, too_long, faulty, arrival}
 
 -- status, space, body, line feed
 abbrev pub line_text : ℕ → List ℕ → List ℕ
 line_text status body = decimal status ++ 32 ∷ (body ++ 10 ∷ [])
 
--- as many requests were executed as the limit allows
-abbrev pub is_full : Rows → Bool
-is_full s = nat_le s.limits.requests s.last_stamp
+abbrev pub malformed_line : Member → List ℕ
+malformed_line member = line_text 400 (malformed_text member)
 
-abbrev pub reply_line : Request → Outcome → List ℕ
-reply_line r outcome = line_text (outcome_status outcome) (reply_text r.requester r.invoke outcome)
+-- an answer that is the same for all requests
+abbrev pub fixed_line : FixedAnswer → List ℕ
+fixed_line answer = line_text (fixed_status answer) (fixed_text answer)
 
-abbrev pub full_line : Request → List ℕ
-full_line r = line_text (rejected_status DeskFull) (rejected_text r.requester r.invoke DeskFull)
+abbrev pub rejected_line : Request → Rejected → List ℕ
+rejected_line r why = line_text (rejected_status why) (rejected_text r.requester r.invoke why)
 
--- the answer to a request is its outcome, unless the switch is full
-unfoldable pub answer_to : Rows → ℕ → Request → List ℕ
-answer_to s moment r = if is_full s then full_line r else reply_line r (step s moment r.command).outcome
+-- the answer of the desk to a request
+abbrev pub taken_line : Request → Taken → List ℕ
+taken_line r (taken.Reply status body) = line_text status body
+taken_line r taken.InvokeReused = rejected_line r rejections.InvokeReused
+taken_line r taken.DeskFull = rejected_line r rejections.DeskFull
+taken_line r taken.NoMemory = fixed_line fixed.NoMemory
+taken_line r taken.StoreFault = fixed_line fixed.StoreFault
 
--- a request is executed, unless the switch is full
-unfoldable pub state_after : Rows → ℕ → Request → Rows
-state_after s moment r = if is_full s then s else (step s moment r.command).rows
+-- the text of a rejection may find no memory
+abbrev pub IsWritten : Request → Taken → List ℕ → Type 0
+IsWritten r t out = (out ≡ taken_line r t) ⊎ ((is_rejection t ≡ true) × (out ≡ fixed_line fixed.NoMemory))
 
--- the switch, a line, what is written for it, and the switch after it
-abbrev pub SwitchAnswers : Rows → Line → List ℕ → Rows → Type 0
-SwitchAnswers s (faulty member) out t = (out ≡ line_text 400 (malformed_text member)) × (t ≡ s)
-SwitchAnswers s too_long out t = (out ≡ line_text (fixed_status BodyTooLarge) (fixed_text BodyTooLarge)) × (t ≡ s)
-SwitchAnswers s (arrival moment request) out t = (out ≡ answer_to s moment request) × (t ≡ state_after s moment request)
+module _ {D : Type 0} (stands : D → Standing) where
+  -- the desk, a line, what is written for it, and the desk after it
+  abbrev pub Answers : D → Line → List ℕ → D → Type 0
+  Answers d no_moment out e = (out ≡ malformed_line members.Moment) × (e ≡ d)
+  Answers d too_long out e = (out ≡ fixed_line fixed.BodyTooLarge) × (e ≡ d)
+  Answers d (faulty member) out e = ((out ≡ malformed_line member) ⊎ (out ≡ fixed_line fixed.NoMemory)) × (e ≡ d)
+  Answers d (arrival moment request) out e = (t : Taken) × (out ≡ taken_line request t) × Took (stands d) (at moment request) t (stands e)

@@ -1,11 +1,12 @@
 -- An input is lines, and a line is a moment, a space and a request.
-use Rattle.std.specs.Prelude.{◌≡◌, ℕ, zero, suc, ◌+◌, ◌-◌, ◌*◌, ◌<◌, List, [], ◌∷◌, ◌++◌, length, Bool, true, false, not, ◌&&◌, ◌==◌, nat_lt, nat_le, if◌then◌else◌, Option, Some, None, Result, Ok, Err}
+use Rattle.std.specs.Prelude.{ℕ, ◌+◌, ◌-◌, ◌*◌, List, [], ◌∷◌, length, map, Bool, true, false, ◌&&◌, ◌==◌, nat_lt, nat_le, if◌then◌else◌, Option, Some, None, Result, Ok, Err}
 use Rattle.std.specs.Char.{is_ascii_digit}
 use Rattle.std.specs.Io.BufRead.{ends_with_byte, strip_last}
 use Rattle.acd_terms.specs.declared.command.Request.{Request}
+use Rattle.acd_terms.specs.declared.command.Arrival.{Arrival}
 use Rattle.acd_codec.specs.declared.member.Member.{Member}
-use Rattle.acd_codec.specs.declared.member.Member.TheVariants as members
 use Rattle.acd_codec.specs.Reading.{reads_as}
+use Rattle.acd_desk.specs.Arrived.{at}
 
 -- x goes onto the first piece
 abbrev pub onto : ℕ → List (List ℕ) → List (List ℕ)
@@ -37,10 +38,11 @@ if_moment (Some p) = if nat_le p.0 4294967295 then Some p else None
 unfoldable pub moment_of : List ℕ → Option (ℕ × List ℕ)
 moment_of text = if_moment (number_then 10 0 false text)
 
--- what a line is: malformed, longer than is read, or a request that comes in at a moment
+-- what a line is: without a moment, with JSON longer than is read, with faulty JSON, or a request that comes in at a moment
 pub data Line : Type 0 where
-  faulty : Member → Line
+  no_moment : Line
   too_long : Line
+  faulty : Member → Line
   arrival : ℕ → Request → Line
 
 abbrev pub line_read : ℕ → Result Request Member → Line
@@ -49,9 +51,21 @@ line_read moment (Err member) = faulty member
 
 -- the moment is looked at first, then the length of what follows it, then the request
 abbrev pub line_behind : Option (ℕ × List ℕ) → Line
-line_behind None = faulty members.Moment
+line_behind None = no_moment
 line_behind (Some p) = if nat_lt 4096 (length p.1) then too_long else line_read p.0 (reads_as p.1)
 
 -- what a line is
 unfoldable pub line_of : List ℕ → Line
 line_of text = line_behind (moment_of text)
+
+-- the lines that some pieces are
+abbrev pub lines_of : List (List ℕ) → List Line
+lines_of pieces = map (λ (piece : List ℕ). line_of (text_of piece)) pieces
+
+-- the arrivals among some lines
+abbrev pub arrivals_in : List Line → List Arrival
+arrivals_in [] = []
+arrivals_in (no_moment ∷ lines) = arrivals_in lines
+arrivals_in (too_long ∷ lines) = arrivals_in lines
+arrivals_in (faulty member ∷ lines) = arrivals_in lines
+arrivals_in (arrival moment request ∷ lines) = at moment request ∷ arrivals_in lines

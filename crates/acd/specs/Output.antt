@@ -1,10 +1,12 @@
--- The output that may come of an input, where one line is answered by a relation of the state, the line, what is written for it, and the state after it.
-use Rattle.std.specs.Prelude.{◌≡◌, ℕ, ◌≤◌, List, [], ◌∷◌, ◌++◌, length, take, filter, Option, IfSome}
+-- The output of an input: one answer line for each line, with the answers to the arrivals in order.
+use Rattle.std.specs.Prelude.{◌≡◌, ◌⊎◌, ℕ, ◌≤◌, List, [], ◌∷◌, ◌++◌, length, filter, Option, IfSome}
 use Rattle.std.specs.List.{concat}
 use Rattle.std.specs.Io.BufRead.{ends_with_byte}
-use Rattle.acd.specs.Input.{Line, line_of, text_of, cut}
-use Rattle.acd.specs.declared.session.LinesFault.{LinesFault}
-use Rattle.acd.specs.declared.session.LinesFault.TheVariants as fault
+use Rattle.acd_codec.specs.declared.member.Member.TheVariants as members
+use Rattle.acd_codec.specs.declared.fault.FixedAnswer.TheVariants as fixed
+use Rattle.acd_desk.specs.declared.taken.Taken.{Taken}
+use Rattle.acd.specs.Input.{Line, no_moment, too_long, faulty, arrival, cut}
+use Rattle.acd.specs.Answers.{malformed_line, fixed_line, taken_line}
 
 -- an input, which is what the reader had where that is known
 abbrev pub IsInput : Option (List ℕ) → List ℕ → Type 0
@@ -14,40 +16,28 @@ IsInput known input = IfSome known (λ xs. xs ≡ input)
 abbrev pub whole_lines : List ℕ → List (List ℕ)
 whole_lines bytes = filter (ends_with_byte 10) (cut bytes)
 
-module _ {S : Type 0} (Answers : S → Line → List ℕ → S → Type 0) where
-  -- the lines are answered in order, each by the state that the earlier ones left
-  abbrev pub Serves : S → List (List ℕ) → List (List ℕ) → S → Type 0
-  Serves s [] [] t = t ≡ s
-  Serves s [] (out ∷ outs) t = ⊥
-  Serves s (piece ∷ pieces) [] t = ⊥
-  Serves s (piece ∷ pieces) (out ∷ outs) t = (mid : S) × Answers s (line_of (text_of piece)) out mid × Serves mid pieces outs t
+-- some lines, the answers to the arrivals among them, and the answer lines: faulty JSON may find no memory
+abbrev pub AnswerLines : List Line → List Taken → List (List ℕ) → Type 0
+AnswerLines [] [] [] = Unit {0}
+AnswerLines (no_moment ∷ lines) answers (out ∷ outs) = (out ≡ malformed_line members.Moment) × AnswerLines lines answers outs
+AnswerLines (too_long ∷ lines) answers (out ∷ outs) = (out ≡ fixed_line fixed.BodyTooLarge) × AnswerLines lines answers outs
+AnswerLines (faulty member ∷ lines) answers (out ∷ outs) = ((out ≡ malformed_line member) ⊎ (out ≡ fixed_line fixed.NoMemory)) × AnswerLines lines answers outs
+AnswerLines (arrival moment request ∷ lines) (t ∷ answers) (out ∷ outs) = (out ≡ taken_line request t) × AnswerLines lines answers outs
+AnswerLines _ _ _ = ⊥
 
-  -- the whole input was answered
-  pub record ServesAll (s : S) (input written : List ℕ) (t : S) : Type 0 where
-    pub outs : List (List ℕ)
-    pub serves : Serves s (cut input) outs t
-    pub whole : written ≡ concat outs
+-- all answer lines were written
+pub record IsOutput (lines : List Line) (answers : List Taken) (written : List ℕ) : Type 0 where
+  pub outs : List (List ℕ)
+  pub answered : AnswerLines lines answers outs
+  pub whole : written ≡ concat outs
 
-  -- the lines that had ended in what was read were answered
-  pub record ServesRead (s : S) (bytes written : List ℕ) (t : S) : Type 0 where
-    pub outs : List (List ℕ)
-    pub serves : Serves s (whole_lines bytes) outs t
-    pub whole : written ≡ concat outs
-
-  -- The first n lines of the input were answered. The answers were written whole, but for the last one at most, of which a beginning was.
-  pub record ServesSome (s : S) (input written : List ℕ) (t : S) : Type 0 where
-    pub n : ℕ
-    pub outs : List (List ℕ)
-    pub last : List (List ℕ)
-    pub serves : Serves s (take n (cut input)) (outs ++ last) t
-    pub at_most_one : length last ≤ 1
-    pub front : List ℕ
-    pub unwritten : List ℕ
-    pub begins : concat last ≡ front ++ unwritten
-    pub whole : written ≡ concat outs ++ front
-
--- after want of memory nothing is said of the state
-abbrev pub IsLeft : {S : Type 0} → LinesFault → S → S → Type 0
-IsLeft fault.NoMemory t now = Unit {0}
-IsLeft fault.Read t now = now ≡ t
-IsLeft fault.Write t now = now ≡ t
+-- all were written, but for the last one at most, of which a beginning was
+pub record IsBegun (lines : List Line) (answers : List Taken) (written : List ℕ) : Type 0 where
+  pub outs : List (List ℕ)
+  pub last : List (List ℕ)
+  pub answered : AnswerLines lines answers (outs ++ last)
+  pub at_most_one : length last ≤ 1
+  pub front : List ℕ
+  pub unwritten : List ℕ
+  pub begins : concat last ≡ front ++ unwritten
+  pub whole : written ≡ concat outs ++ front

@@ -1,35 +1,44 @@
 //! The answer to one line.
 
-ghost use Rattle.std.specs.Prelude.{◌≡◌, IfOk, OnOk};
-ghost use Rattle.acd_terms.specs.Rules.First.{BreaksNoRule};
+ghost use Rattle.std.specs.Prelude.{◌≡◌, ◌⊎◌};
 ghost use Rattle.acd_codec.specs.Reading.{reads_as};
+ghost use Rattle.acd_desk.specs.Ran.{standing};
 ghost use Rattle.acd.specs.Input.{line_of, line_read, arrival};
-ghost use Rattle.acd.specs.Answers.{line_text, SwitchAnswers};
-ghost use Rattle.acd_codec.specs.ReplyTexts.{malformed_text};
-ghost use Rattle.acd.specs.Parts.{answered_text, HasStatus};
+ghost use Rattle.acd.specs.Answers.{malformed_line, fixed_line, rejected_line, IsWritten, Answers};
+ghost use Rattle.acd.specs.Parts.{answered_text};
 
 use crate::moment::moment_of;
+use acd_book::book::Book;
+use acd_book::text::Text;
 use acd_codec::{
-    FixedAnswer, MALFORMED_STATUS, Member, ReadFault, Rejected, outcome_status, read_request,
-    rejected_text, reply_text,
+    FixedAnswer, MALFORMED_STATUS, Member, ReadFault, Rejected, read_request, rejected_text,
 };
-use acd_switch::switch::Switch;
+use acd_desk::desk::Desk;
+use acd_desk::taken::Taken;
 use acd_terms::command::Request;
 use std::alloc::{AllocError, Global};
 
 /// The answer to a line: its status and its body.
 #[derive(Drop)]
 pub(crate) enum Answered {
-    Made { status: u16, body: String },
+    Made { status: u16, body: Text },
     Fixed { status: u16, body: &'static str },
 }
 
 // How many bytes of JSON are read at most.
 const LONGEST: usize = 4096;
 
+fn fixed(answer: FixedAnswer) -> Answered
+    ensures { answered_text result ≡ fixed_line answer }
+{
+    Answered::Fixed {
+        status: answer.status(),
+        body: answer.text(),
+    }
+}
+
 fn malformed(member: Member) -> Answered
-    ensures value { answered_text result ≡ line_text 400 (malformed_text member) }
-    ensures status { HasStatus result }
+    ensures { answered_text result ≡ malformed_line member }
 {
     Answered::Fixed {
         status: MALFORMED_STATUS,
@@ -37,76 +46,59 @@ fn malformed(member: Member) -> Answered
     }
 }
 
-#[tactic(auto, unfolding(crate::specs::Answers::answer_to, crate::specs::Answers::state_after))]
-fn execute(
-    alloc: Global,
-    switch: &mut Switch,
-    moment: u32,
-    request: &Request,
-) -> Result<Answered, AllocError>
-    requires { BreaksNoRule switch.old }
-    ensures value { IfOk result (λ a. SwitchAnswers switch.old (arrival moment request.now) (answered_text a) switch.new) }
-    ensures status { IfOk result (λ a. HasStatus a) }
-    ensures kept { OnOk result (BreaksNoRule switch.new) }
+// The text takes memory, and where there is none the answer is noMemory.
+fn rejected(alloc: Global, request: &Request, why: Rejected) -> Answered
+    ensures { (answered_text result ≡ rejected_line request.now why) ⊎ (answered_text result ≡ fixed_line FixedAnswer.NoMemory) }
 {
-    if switch.is_full() {
-        let body = rejected_text(
-            alloc,
-            &request.requester,
-            request.invoke,
-            Rejected::DeskFull,
-        )?;
-        return Ok(Answered::Made {
-            status: Rejected::DeskFull.status(),
-            body,
-        });
+    match rejected_text(alloc, &request.requester, request.invoke, why) {
+        Ok(body) => Answered::Made {
+            status: why.status(),
+            body: Text::new(body),
+        },
+        Err(AllocError) => fixed(FixedAnswer::NoMemory),
     }
-    let (outcome, _events) = switch.step(moment, &request.command)?;
-    let body = reply_text(alloc, &request.requester, request.invoke, outcome)?;
-    Ok(Answered::Made {
-        status: outcome_status(outcome),
-        body,
-    })
 }
 
-fn read(
-    alloc: Global,
-    switch: &mut Switch,
-    moment: u32,
-    json: &[u8],
-) -> Result<Answered, AllocError>
-    requires { BreaksNoRule switch.old }
-    ensures value { IfOk result (λ a. SwitchAnswers switch.old (line_read moment (reads_as json.now)) (answered_text a) switch.new) }
-    ensures status { IfOk result (λ a. HasStatus a) }
-    ensures kept { OnOk result (BreaksNoRule switch.new) }
+// What is written for the desk's answer.
+fn written(alloc: Global, request: &Request, taken: Taken) -> Answered
+    ensures { IsWritten request.now taken (answered_text result) }
+{
+    match taken {
+        Taken::Reply { status, body } => Answered::Made { status, body },
+        Taken::InvokeReused => rejected(alloc, request, Rejected::InvokeReused),
+        Taken::DeskFull => rejected(alloc, request, Rejected::DeskFull),
+        Taken::NoMemory => fixed(FixedAnswer::NoMemory),
+        Taken::StoreFault => fixed(FixedAnswer::StoreFault),
+    }
+}
+
+fn execute<B: Book>(alloc: Global, desk: &mut Desk<B>, moment: u32, request: &Request) -> Answered
+    ensures { Answers (standing B.Book) desk.old (arrival moment request.now) (answered_text result) desk.new }
+{
+    let taken = desk.take(moment, request);
+    written(alloc, request, taken)
+}
+
+fn read<B: Book>(alloc: Global, desk: &mut Desk<B>, moment: u32, json: &[u8]) -> Answered
+    ensures { Answers (standing B.Book) desk.old (line_read moment (reads_as json.now)) (answered_text result) desk.new }
 {
     match read_request(alloc, json) {
-        Ok(request) => execute(alloc, switch, moment, &request),
-        Err(ReadFault::Malformed(member)) => Ok(malformed(member)),
-        Err(ReadFault::NoMemory) => Err(AllocError),
+        Ok(request) => execute(alloc, desk, moment, &request),
+        Err(ReadFault::Malformed(member)) => malformed(member),
+        Err(ReadFault::NoMemory) => fixed(FixedAnswer::NoMemory),
     }
 }
 
-/// The answer to a line, whose line end is left out. After an error the switch is only to be dropped.
+/// The answer to a line, whose line end is left out.
 #[tactic(auto, unfolding(crate::specs::Input::line_of))]
-pub(crate) fn answer(
-    alloc: Global,
-    switch: &mut Switch,
-    text: &[u8],
-) -> Result<Answered, AllocError>
-    requires { BreaksNoRule switch.old }
-    ensures value { IfOk result (λ a. SwitchAnswers switch.old (line_of text.now) (answered_text a) switch.new) }
-    ensures status { IfOk result (λ a. HasStatus a) }
-    ensures kept { OnOk result (BreaksNoRule switch.new) }
+pub(crate) fn answer<B: Book>(alloc: Global, desk: &mut Desk<B>, text: &[u8]) -> Answered
+    ensures { Answers (standing B.Book) desk.old (line_of text.now) (answered_text result) desk.new }
 {
     let Some((moment, json)) = moment_of(text) else {
-        return Ok(malformed(Member::Moment));
+        return malformed(Member::Moment);
     };
     if json.len() > LONGEST {
-        return Ok(Answered::Fixed {
-            status: FixedAnswer::BodyTooLarge.status(),
-            body: FixedAnswer::BodyTooLarge.text(),
-        });
+        return fixed(FixedAnswer::BodyTooLarge);
     }
-    read(alloc, switch, moment, json)
+    read(alloc, desk, moment, json)
 }

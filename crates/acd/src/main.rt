@@ -13,14 +13,29 @@ mod session;
 #[cfg(test)]
 mod tests;
 
-use acd_switch::switch::Switch;
-use acd_terms::rows::Limits;
+use acd_book::memory::MemoryBook;
+use acd_desk::desk::{Desk, OpenFault};
+use acd_terms::rows::{Limits, Rule};
 use session::{LinesFault, lines};
 use std::process::ExitCode;
 use std::rt::Env;
 use std::{env, io};
+use thiserror::Error;
 
 const USAGE: &str = "usage: acd lines";
+
+/// Why the program ended with status 1.
+#[derive(Clone, Copy, Debug, PartialEq, Eq, Error)]
+enum Fault {
+    #[error("{0}")]
+    Lines(LinesFault),
+    #[error("no memory")]
+    NoMemory,
+    #[error("store fault")]
+    Store,
+    #[error("bad rows: {0}")]
+    Rows(&'static str),
+}
 
 // The arguments are exactly the word `lines`.
 fn asks_for_lines(rt: &(impl Env + Alloc)) -> io::Result<bool> {
@@ -32,16 +47,39 @@ fn asks_for_lines(rt: &(impl Env + Alloc)) -> io::Result<bool> {
     Ok(word.as_str() == "lines" && words.next().is_none())
 }
 
-// Answers standard input on standard output, over a new switch with the greatest limits.
-#[tactic(auto, unfolding(acd_terms::specs::Limits::limits_fit))]
-fn run_lines(rt: &HostRuntime) -> Result<(), LinesFault> {
-    let mut switch = Switch::new(rt.alloc(), Limits::GREATEST);
-    lines(
-        rt.alloc(),
-        &mut switch,
-        &mut rt.reader(),
-        &mut io::writer(rt),
-    )
+// The name of a rule of rows as it is printed.
+fn rule_name(rule: Rule) -> &'static str {
+    match rule {
+        Rule::Limits => "limits",
+        Rule::Order => "order",
+        Rule::Device => "device",
+        Rule::Agent => "agent",
+        Rule::Call => "call",
+        Rule::Connection => "connection",
+        Rule::Parties => "parties",
+        Rule::Live => "live",
+        Rule::Occupied => "occupied",
+        Rule::Counters => "counters",
+        Rule::Offer => "offer",
+        Rule::Monitor => "monitor",
+        Rule::Balance => "balance",
+    }
+}
+
+// Answers standard input on standard output, over a new book in memory with the greatest limits.
+fn run_lines(rt: &HostRuntime) -> Result<(), Fault> {
+    let book = MemoryBook::new(rt.alloc(), Limits::GREATEST);
+    let mut desk = match Desk::open(rt.alloc(), book) {
+        Ok(desk) => desk,
+        Err((OpenFault::NoMemory, _)) => return Err(Fault::NoMemory),
+        Err((OpenFault::Store, _)) => return Err(Fault::Store),
+        Err((OpenFault::Rows(rule), _)) => return Err(Fault::Rows(rule_name(rule))),
+    };
+    let mut reader = rt.reader();
+    match lines(rt.alloc(), &mut desk, &mut reader, &mut io::writer(rt)) {
+        Ok(()) => Ok(()),
+        Err(fault) => Err(Fault::Lines(fault)),
+    }
 }
 
 fn main(rt: HostRuntime) -> ExitCode {

@@ -2,6 +2,7 @@
 //! the events of the whole scene are compared with their texts. All run with ample memory.
 
 mod examples;
+mod identifiers;
 mod refusals;
 mod releases;
 mod reports;

@@ -1,15 +1,19 @@
 //! Lines in, answer lines out.
 
-ghost use Rattle.std.specs.Prelude.{◌≡◌, ℕ, ◌≢◌, ◌++◌, List, take, OnOk, IfErr};
+ghost use Rattle.std.specs.Prelude.{◌≡◌, ℕ, List, take, OnOk, OnErr, IfErr};
 ghost use Rattle.std.specs.Io.KnownBytes.{Appends, Consumes};
-ghost use Rattle.acd_terms.specs.Rules.First.{BreaksNoRule};
-ghost use Rattle.acd_terms.specs.declared.rows.Rows.{Rows};
-ghost use Rattle.acd.specs.Answers.{SwitchAnswers};
-ghost use Rattle.acd.specs.Output.{ServesAll, ServesRead, ServesSome, IsInput, IsLeft};
+ghost use Rattle.acd_desk.specs.declared.taken.Taken.{Taken};
+ghost use Rattle.acd_desk.specs.Ran.{standing, Ran};
+ghost use Rattle.acd.specs.Input.{cut, lines_of, arrivals_in};
+ghost use Rattle.acd.specs.Answers.{Answers};
+ghost use Rattle.acd.specs.Output.{IsInput, IsOutput, IsBegun, whole_lines};
+ghost use Rattle.acd.specs.Parts.{ServesAll, ServesRead, ServesSome};
 
 use crate::partial::Partial;
+use crate::send::Stopped;
 use crate::serve::{feed, finish};
-use acd_switch::switch::Switch;
+use acd_book::book::Book;
+use acd_desk::desk::Desk;
 use std::alloc::Global;
 use std::io::{ErrorKind, Read, Write};
 use thiserror::Error;
@@ -23,7 +27,7 @@ pub enum LinesFault {
     /// The writer failed, or was called as often as it may be.
     #[error("cannot write")]
     Write,
-    /// Memory ran out in a line. The switch is then only to be dropped.
+    /// There was no memory for the beginning of a line. Nothing was read.
     #[error("no memory")]
     NoMemory,
 }
@@ -31,23 +35,19 @@ pub enum LinesFault {
 /// How often the reader is called at most, and how often the writer.
 const CALLS: u64 = 1000000000000;
 
-/// Writes one answer line for each line that is read. Each line that has ended is answered before
-/// more is read, and no more than 4109 bytes of a line are held. Calls that are interrupted are made
-/// again.
-pub fn lines<R: Read, W: Write>(
+// Reads and answers, line by line.
+fn answer_lines<B: Book, R: Read, W: Write>(
     alloc: Global,
-    switch: &mut Switch,
+    desk: &mut Desk<B>,
     reader: &mut R,
     writer: &mut W,
 ) -> Result<(), LinesFault>
-    requires { BreaksNoRule switch.old }
     ensures ok { OnOk result ((input written : List ℕ) × IsInput (R.remaining reader.old) input
-        × ServesAll SwitchAnswers switch.old input written switch.new × Appends (W.contents writer.old) (W.contents writer.new) written) }
-    ensures kept { OnOk result (BreaksNoRule switch.new) }
+        × ServesAll (Answers (standing B.Book)) desk.old input written desk.new × Appends (W.contents writer.old) (W.contents writer.new) written) }
     ensures read { IfErr result (λ fault. fault ≡ LinesFault.Read → (bytes written : List ℕ) × Consumes (R.remaining reader.old) (R.remaining reader.new) bytes
-        × ServesRead SwitchAnswers switch.old bytes written switch.new × Appends (W.contents writer.old) (W.contents writer.new) written) }
-    ensures stopped { IfErr result (λ fault. (input written : List ℕ) × (left : Rows) × IsInput (R.remaining reader.old) input
-        × ServesSome SwitchAnswers switch.old input written left × IsLeft fault left switch.new × Appends (W.contents writer.old) (W.contents writer.new) written) }
+        × ServesRead (Answers (standing B.Book)) desk.old bytes written desk.new × Appends (W.contents writer.old) (W.contents writer.new) written) }
+    ensures stopped { OnErr result ((input written : List ℕ) × IsInput (R.remaining reader.old) input
+        × ServesSome (Answers (standing B.Book)) desk.old input written desk.new × Appends (W.contents writer.old) (W.contents writer.new) written) }
 {
     let mut partial = match Partial::new(alloc) {
         Ok(partial) => partial,
@@ -57,13 +57,13 @@ pub fn lines<R: Read, W: Write>(
     let mut calls = CALLS;
     for _ in 0..CALLS {
         match reader.read(&mut chunk) {
-            Ok(0) => match finish(alloc, switch, &partial, writer, &mut calls) {
+            Ok(0) => match finish(alloc, desk, &partial, writer, &mut calls) {
                 Ok(()) => return Ok(()),
-                Err(fault) => return Err(fault),
+                Err(Stopped) => return Err(LinesFault::Write),
             },
-            Ok(n) => match feed(alloc, switch, &mut partial, writer, &mut calls, &chunk[..n]) {
+            Ok(n) => match feed(alloc, desk, &mut partial, writer, &mut calls, &chunk[..n]) {
                 Ok(()) => {}
-                Err(fault) => return Err(fault),
+                Err(Stopped) => return Err(LinesFault::Write),
             },
             Err(e) => {
                 if e.kind() != ErrorKind::Interrupted {
@@ -73,4 +73,29 @@ pub fn lines<R: Read, W: Write>(
         }
     }
     Err(LinesFault::Read)
+}
+
+/// Writes one answer line for each line that is read. Each line that has ended is answered before
+/// more is read, and no more than 4109 bytes of a line are held. Calls that are interrupted are made
+/// again. Want of memory in a line is its answer, and so is a store that fails.
+pub fn lines<B: Book, R: Read, W: Write>(
+    alloc: Global,
+    desk: &mut Desk<B>,
+    reader: &mut R,
+    writer: &mut W,
+) -> Result<(), LinesFault>
+    // one answer line for each line, and the desk has run over the arrivals among them
+    ensures ok { OnOk result ((input written : List ℕ) × (answers : List Taken) × IsInput (R.remaining reader.old) input
+        × IsOutput (lines_of (cut input)) answers written × Appends (W.contents writer.old) (W.contents writer.new) written
+        × Ran (standing B.Book desk.old) (arrivals_in (lines_of (cut input))) answers (standing B.Book desk.new)) }
+    // where reading failed, for the lines that had ended in what was read
+    ensures read { IfErr result (λ fault. fault ≡ LinesFault.Read → (bytes written : List ℕ) × (answers : List Taken) × Consumes (R.remaining reader.old) (R.remaining reader.new) bytes
+        × IsOutput (lines_of (whole_lines bytes)) answers written × Appends (W.contents writer.old) (W.contents writer.new) written
+        × Ran (standing B.Book desk.old) (arrivals_in (lines_of (whole_lines bytes))) answers (standing B.Book desk.new)) }
+    // after any fault, for a beginning of the input
+    ensures stopped { OnErr result ((input written : List ℕ) × (n : ℕ) × (answers : List Taken) × IsInput (R.remaining reader.old) input
+        × IsBegun (lines_of (take n (cut input))) answers written × Appends (W.contents writer.old) (W.contents writer.new) written
+        × Ran (standing B.Book desk.old) (arrivals_in (lines_of (take n (cut input)))) answers (standing B.Book desk.new)) }
+{
+    answer_lines(alloc, desk, reader, writer)
 }

@@ -1,10 +1,10 @@
 //! Whole sessions over memory, with the bytes that the formats prescribe, and readers and writers that
 //! fail midway.
 
-ghost use Rattle.acd_terms.specs.Rules.First.{BreaksNoRule};
-
 use crate::session::{LinesFault, lines};
-use acd_switch::switch::Switch;
+use acd_book::book::Book;
+use acd_book::memory::MemoryBook;
+use acd_desk::desk::{Desk, OpenFault};
 use acd_terms::rows::Limits;
 use std::alloc::Global;
 use std::io::{self, ErrorKind, Read, Write};
@@ -34,20 +34,26 @@ const REQUESTER_ANSWER: &str =
 
 const TOO_LONG_ANSWER: &str = "413 {\"error\":{\"code\":38,\"name\":\"bodyTooLarge\"}}\n";
 
-// A new switch with the greatest limits.
-#[tactic(auto, unfolding(acd_terms::specs::Limits::limits_fit))]
-fn new_switch(alloc: Global) -> Switch
-    ensures { BreaksNoRule result }
-{
-    Switch::new(alloc, Limits::GREATEST)
+// A desk over a new book in memory.
+fn opened(alloc: Global, limits: Limits) -> Result<Desk<MemoryBook>, OpenFault> {
+    match Desk::open(alloc, MemoryBook::new(alloc, limits)) {
+        Ok(desk) => Ok(desk),
+        Err((fault, _)) => Err(fault),
+    }
 }
 
-/// What a new switch with the greatest limits writes for the input.
-fn answered(alloc: Global, input: &[u8]) -> Result<Vec<u8>, LinesFault> {
-    let mut switch = new_switch(alloc);
+/// How many requests the desk has executed.
+fn executed(desk: Desk<MemoryBook>) -> u64 {
+    let mut book = desk.close();
+    book.rows().map_or(0, |rows| rows.last_stamp)
+}
+
+/// What a new desk with the greatest limits writes for the input.
+fn answered(alloc: Global, input: &[u8]) -> Result<Vec<u8>, Fail> {
+    let mut desk = opened(alloc, Limits::GREATEST)?;
     let mut reader = input;
     let mut written = Vec::new(alloc);
-    lines(alloc, &mut switch, &mut reader, &mut written)?;
+    lines(alloc, &mut desk, &mut reader, &mut written)?;
     Ok(written)
 }
 
@@ -99,12 +105,7 @@ fn lines_repeated_before_replies_are_kept(rt: HostRuntime) -> Result<(), Fail> {
     gives(
         &rt,
         &[GROUP, STATION, CALL, CALL],
-        &[
-            GROUP_ANSWER,
-            STATION_ANSWER,
-            CALL_ANSWER,
-            "200 {\"invoke\":1,\"requester\":\"pbx\",\"result\":{\"call\":2}}\n",
-        ],
+        &[GROUP_ANSWER, STATION_ANSWER, CALL_ANSWER, CALL_ANSWER],
     )
 }
 
@@ -166,31 +167,50 @@ fn carriage_return_before_line_feed(rt: HostRuntime) -> Result<(), Fail> {
     Ok(())
 }
 
-/// Executed requests are as many as the limit: the next one is not executed, and the desk says so.
+/// Executed requests are as many as the limit: the next one is not executed, and the desk says so. A
+/// repeat gets its kept reply.
 #[test]
 fn full_desk(rt: HostRuntime) -> Result<(), Fail> {
     let limits = Limits {
         requests: 2,
         ..Limits::GREATEST
     };
-    assert!(rt; limits.fits());
-    let mut switch = Switch::new(rt.alloc(), limits);
+    let mut desk = opened(rt.alloc(), limits)?;
     let mut input = Vec::new(rt.alloc());
-    for text in [GROUP, STATION, CALL, CALL] {
+    for text in [GROUP, STATION, CALL, STATION] {
         input.extend_from_slice(text.as_bytes())?;
     }
     let mut written = Vec::new(rt.alloc());
     let mut wanted = Vec::new(rt.alloc());
     let full =
         "507 {\"error\":{\"code\":32,\"name\":\"deskFull\"},\"invoke\":1,\"requester\":\"pbx\"}\n";
-    for text in [GROUP_ANSWER, STATION_ANSWER, full, full] {
+    for text in [GROUP_ANSWER, STATION_ANSWER, full, STATION_ANSWER] {
         wanted.extend_from_slice(text.as_bytes())?;
     }
     let mut reader = input.as_slice();
-    lines(rt.alloc(), &mut switch, &mut reader, &mut written)?;
+    lines(rt.alloc(), &mut desk, &mut reader, &mut written)?;
     assert_eq!(rt; written.as_slice(), wanted.as_slice());
-    assert_eq!(rt; switch.rows()?.last_stamp, 2);
+    assert_eq!(rt; executed(desk), 2);
     Ok(())
+}
+
+/// A repeat, in another order of its members and at a later moment, and then another request under
+/// its key.
+#[test]
+fn same_key_other_request(rt: HostRuntime) -> Result<(), Fail> {
+    gives(
+        &rt,
+        &[
+            GROUP,
+            "900 { \"wrap\":30, \"ring\":20, \"name\":\"Billing\", \"device\":\"100\", \"service\":\"addGroup\", \"invoke\":1, \"requester\":\"plan\" }\n",
+            "900 {\"requester\":\"plan\",\"invoke\":1,\"service\":\"addGroup\",\"device\":\"100\",\"name\":\"Sales\",\"ring\":20,\"wrap\":30}\n",
+        ],
+        &[
+            GROUP_ANSWER,
+            GROUP_ANSWER,
+            "422 {\"error\":{\"code\":31,\"name\":\"invokeReused\"},\"invoke\":1,\"requester\":\"plan\"}\n",
+        ],
+    )
 }
 
 /// Gives its bytes one at a time, and then fails for good.
@@ -221,7 +241,7 @@ impl Read for Torn<'_> {
 
 #[test]
 fn reader_that_fails_midway(rt: HostRuntime) -> Result<(), Fail> {
-    let mut switch = new_switch(rt.alloc());
+    let mut desk = opened(rt.alloc(), Limits::GREATEST)?;
     let mut input = Vec::new(rt.alloc());
     input.extend_from_slice(GROUP.as_bytes())?;
     input.extend_from_slice(b"0 {\"requester\":\"plan\"")?;
@@ -230,10 +250,10 @@ fn reader_that_fails_midway(rt: HostRuntime) -> Result<(), Fail> {
         interrupted: false,
     };
     let mut written = Vec::new(rt.alloc());
-    let ended = lines(rt.alloc(), &mut switch, &mut reader, &mut written);
+    let ended = lines(rt.alloc(), &mut desk, &mut reader, &mut written);
     assert_eq!(rt; ended, Err(LinesFault::Read));
     assert_eq!(rt; written.as_slice(), GROUP_ANSWER.as_bytes());
-    assert_eq!(rt; switch.rows()?.last_stamp, 1);
+    assert_eq!(rt; executed(desk), 1);
     Ok(())
 }
 
@@ -268,7 +288,7 @@ impl Write for Narrow {
 
 #[test]
 fn writer_that_fails_midway(rt: HostRuntime) -> Result<(), Fail> {
-    let mut switch = new_switch(rt.alloc());
+    let mut desk = opened(rt.alloc(), Limits::GREATEST)?;
     let mut input = Vec::new(rt.alloc());
     for text in [GROUP, STATION, CALL] {
         input.extend_from_slice(text.as_bytes())?;
@@ -279,13 +299,13 @@ fn writer_that_fails_midway(rt: HostRuntime) -> Result<(), Fail> {
         interrupted: false,
     };
     let mut reader = input.as_slice();
-    let ended = lines(rt.alloc(), &mut switch, &mut reader, &mut writer);
+    let ended = lines(rt.alloc(), &mut desk, &mut reader, &mut writer);
     assert_eq!(rt; ended, Err(LinesFault::Write));
     let mut wanted = Vec::new(rt.alloc());
     wanted.extend_from_slice(GROUP_ANSWER.as_bytes())?;
     wanted.extend_from_slice(b"200 {\"invoke")?;
     assert_eq!(rt; writer.taken.as_slice(), wanted.as_slice());
-    assert_eq!(rt; switch.rows()?.last_stamp, 2);
+    assert_eq!(rt; executed(desk), 2);
     Ok(())
 }
 
@@ -311,10 +331,10 @@ impl Read for LongLine {
 
 #[test]
 fn line_of_ten_megabytes(rt: HostRuntime) -> Result<(), Fail> {
-    let mut switch = new_switch(rt.alloc());
+    let mut desk = opened(rt.alloc(), Limits::GREATEST)?;
     let mut reader = LongLine { left: 10_000_000 };
     let mut written = Vec::new(rt.alloc());
-    lines(rt.alloc(), &mut switch, &mut reader, &mut written)?;
+    lines(rt.alloc(), &mut desk, &mut reader, &mut written)?;
     assert_eq!(rt; written.as_slice(), TOO_LONG_ANSWER.as_bytes());
     Ok(())
 }

@@ -86,6 +86,6 @@ pub record Follows (rows : Rows) (events : List Event) (kept : Kept) (c : Conten
 abbrev pub Within : (Content → Type 0) → (Content → Type 0) → Type 0
 Within new old = (c : Content) → new c → old c
 
--- the count has risen, or stands at its greatest value
+-- the count has risen, or has reached its greatest value
 abbrev pub HasRisen : ℕ → ℕ → Type 0
-HasRisen old new = (old < new) ⊎ (new ≡ 2 ^ 64 - 1)
+HasRisen old new = (old < new) ⊎ (2 ^ 64 - 1 ≤ new)

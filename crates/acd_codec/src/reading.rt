@@ -3,7 +3,7 @@
 ghost use Rattle.std.specs.Prelude.{◌≡◌, Some, option_map, IfOk, IfErr};
 ghost use Rattle.serde_json.specs.View.{view};
 ghost use Rattle.acd_codec.specs.MemberReading.{text_in, number_in, device_in, agent_in, name_in, requester_in, invoke_in, seconds_in, serial_in, service_in, asked_in};
-ghost use Rattle.acd_codec.specs.Reading.{Gives, IsFault, add_group_in, add_agent_in, two_devices_in, connection_in, requested_in, set_agent_state_in, command_in, request_in, request_from, reads_as};
+ghost use Rattle.acd_codec.specs.Reading.{Gives, IsFault, at_connection, at_device, at_devices, to_device, add_group_in, add_agent_in, monitor_stop_in, two_devices_in, connection_in, requested_in, set_agent_state_in, command_in, request_in, request_from, reads_as};
 
 use crate::fault::ReadFault;
 use crate::member::Member;
@@ -191,6 +191,92 @@ fn set_agent_state_in(value: &Value) -> Result<Command, Member>
     Ok(Command::SetAgentState { agent, requested })
 }
 
+fn add_station_in(value: &Value) -> Result<Command, Member>
+    ensures { result ≡ at_device Command.AddStation (view value.now) }
+{
+    let device = device_in(value, Member::Device)?;
+    Ok(Command::AddStation { device })
+}
+
+fn arrive_call_in(value: &Value) -> Result<Command, Member>
+    ensures { result ≡ at_devices Command.ArriveCall Member.Caller Member.Called (view value.now) }
+{
+    let (caller, called) = two_devices_in(value, Member::Caller, Member::Called)?;
+    Ok(Command::ArriveCall { caller, called })
+}
+
+fn make_call_in(value: &Value) -> Result<Command, Member>
+    ensures { result ≡ at_devices Command.MakeCall Member.Device Member.Called (view value.now) }
+{
+    let (device, called) = two_devices_in(value, Member::Device, Member::Called)?;
+    Ok(Command::MakeCall { device, called })
+}
+
+fn phone_off_hook_in(value: &Value) -> Result<Command, Member>
+    ensures { result ≡ at_connection Command.PhoneOffHook (view value.now) }
+{
+    let (call, device) = connection_in(value)?;
+    Ok(Command::PhoneOffHook { call, device })
+}
+
+fn answer_call_in(value: &Value) -> Result<Command, Member>
+    ensures { result ≡ at_connection Command.AnswerCall (view value.now) }
+{
+    let (call, device) = connection_in(value)?;
+    Ok(Command::AnswerCall { call, device })
+}
+
+fn hold_call_in(value: &Value) -> Result<Command, Member>
+    ensures { result ≡ at_connection Command.HoldCall (view value.now) }
+{
+    let (call, device) = connection_in(value)?;
+    Ok(Command::HoldCall { call, device })
+}
+
+fn retrieve_call_in(value: &Value) -> Result<Command, Member>
+    ensures { result ≡ at_connection Command.RetrieveCall (view value.now) }
+{
+    let (call, device) = connection_in(value)?;
+    Ok(Command::RetrieveCall { call, device })
+}
+
+fn clear_connection_in(value: &Value) -> Result<Command, Member>
+    ensures { result ≡ at_connection Command.ClearConnection (view value.now) }
+{
+    let (call, device) = connection_in(value)?;
+    Ok(Command::ClearConnection { call, device })
+}
+
+fn deflect_call_in(value: &Value) -> Result<Command, Member>
+    ensures { result ≡ to_device Command.DeflectCall (view value.now) }
+{
+    let (call, device) = connection_in(value)?;
+    let to = device_in(value, Member::To)?;
+    Ok(Command::DeflectCall { call, device, to })
+}
+
+fn single_step_transfer_in(value: &Value) -> Result<Command, Member>
+    ensures { result ≡ to_device Command.SingleStepTransfer (view value.now) }
+{
+    let (call, device) = connection_in(value)?;
+    let to = device_in(value, Member::To)?;
+    Ok(Command::SingleStepTransfer { call, device, to })
+}
+
+fn monitor_start_in(value: &Value) -> Result<Command, Member>
+    ensures { result ≡ at_device Command.MonitorStart (view value.now) }
+{
+    let device = device_in(value, Member::Device)?;
+    Ok(Command::MonitorStart { device })
+}
+
+fn monitor_stop_in(value: &Value) -> Result<Command, Member>
+    ensures { result ≡ monitor_stop_in (view value.now) }
+{
+    let monitor = serial_in(value, Member::Monitor)?;
+    Ok(Command::MonitorStop { monitor })
+}
+
 // The members of a service, in their order.
 #[tactic(auto, unfolding(crate::specs::Reading::command_in))]
 fn command_in(service: Service, value: &Value) -> Result<Command, Member>
@@ -198,58 +284,20 @@ fn command_in(service: Service, value: &Value) -> Result<Command, Member>
 {
     match service {
         Service::AddGroup => add_group_in(value),
-        Service::AddStation => {
-            let device = device_in(value, Member::Device)?;
-            Ok(Command::AddStation { device })
-        }
+        Service::AddStation => add_station_in(value),
         Service::AddAgent => add_agent_in(value),
-        Service::ArriveCall => {
-            let (caller, called) = two_devices_in(value, Member::Caller, Member::Called)?;
-            Ok(Command::ArriveCall { caller, called })
-        }
-        Service::MakeCall => {
-            let (device, called) = two_devices_in(value, Member::Device, Member::Called)?;
-            Ok(Command::MakeCall { device, called })
-        }
-        Service::PhoneOffHook => {
-            let (call, device) = connection_in(value)?;
-            Ok(Command::PhoneOffHook { call, device })
-        }
-        Service::AnswerCall => {
-            let (call, device) = connection_in(value)?;
-            Ok(Command::AnswerCall { call, device })
-        }
-        Service::HoldCall => {
-            let (call, device) = connection_in(value)?;
-            Ok(Command::HoldCall { call, device })
-        }
-        Service::RetrieveCall => {
-            let (call, device) = connection_in(value)?;
-            Ok(Command::RetrieveCall { call, device })
-        }
-        Service::ClearConnection => {
-            let (call, device) = connection_in(value)?;
-            Ok(Command::ClearConnection { call, device })
-        }
-        Service::DeflectCall => {
-            let (call, device) = connection_in(value)?;
-            let to = device_in(value, Member::To)?;
-            Ok(Command::DeflectCall { call, device, to })
-        }
-        Service::SingleStepTransfer => {
-            let (call, device) = connection_in(value)?;
-            let to = device_in(value, Member::To)?;
-            Ok(Command::SingleStepTransfer { call, device, to })
-        }
+        Service::ArriveCall => arrive_call_in(value),
+        Service::MakeCall => make_call_in(value),
+        Service::PhoneOffHook => phone_off_hook_in(value),
+        Service::AnswerCall => answer_call_in(value),
+        Service::HoldCall => hold_call_in(value),
+        Service::RetrieveCall => retrieve_call_in(value),
+        Service::ClearConnection => clear_connection_in(value),
+        Service::DeflectCall => deflect_call_in(value),
+        Service::SingleStepTransfer => single_step_transfer_in(value),
         Service::SetAgentState => set_agent_state_in(value),
-        Service::MonitorStart => {
-            let device = device_in(value, Member::Device)?;
-            Ok(Command::MonitorStart { device })
-        }
-        Service::MonitorStop => {
-            let monitor = serial_in(value, Member::Monitor)?;
-            Ok(Command::MonitorStop { monitor })
-        }
+        Service::MonitorStart => monitor_start_in(value),
+        Service::MonitorStop => monitor_stop_in(value),
         Service::Tick => Ok(Command::Tick),
     }
 }

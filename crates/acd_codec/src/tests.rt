@@ -1,15 +1,23 @@
 //! What no clause says: that the definitions are the formats, and that calls succeed.
 
+mod examples;
 mod faulty;
 mod read;
 mod replies;
 mod reports;
 mod worked;
 
+use crate::events::event_text;
 use crate::fault::ReadFault;
 use crate::member::Member;
 use crate::reading::read_request;
+use crate::replies::{outcome_status, reply_text};
 use crate::requests::request_text;
+use acd_terms::answer::Outcome;
+use acd_terms::event::{Event, Report};
+use acd_terms::id::{AgentId, DeviceId};
+use acd_terms::name::Requester;
+use acd_terms::number::Invoke;
 use std::alloc::Global;
 use std::process::Abort;
 
@@ -35,4 +43,45 @@ fn expect_texts(rt: &impl Abort, alloc: Global, table: &[(&str, &str)]) {
         let written = request_text(alloc, &request).expect(rt, "memory");
         assert_eq!(rt; written.as_str(), *wanted);
     }
+}
+
+fn device(rt: &impl Abort, digits: &str) -> DeviceId {
+    DeviceId::read(digits.as_bytes()).expect(rt, "a device")
+}
+
+fn agent(rt: &impl Abort, digits: &str) -> AgentId {
+    AgentId::read(digits.as_bytes()).expect(rt, "an agent")
+}
+
+// The report of this number and moment has this text.
+fn expect_event(
+    rt: &impl Abort,
+    alloc: Global,
+    number: u64,
+    moment: u32,
+    report: Report,
+    wanted: &str,
+) {
+    let event = Event {
+        number,
+        moment,
+        report,
+    };
+    let text = event_text(alloc, &event).expect(rt, "memory");
+    assert_eq!(rt; text.as_str(), wanted);
+}
+
+// The outcome of the request of this key has this status and this text.
+fn expect_reply(
+    rt: &impl Abort,
+    alloc: Global,
+    key: (&str, u64),
+    outcome: Outcome,
+    wanted: (u16, &str),
+) {
+    let requester = Requester::read(key.0.as_bytes()).expect(rt, "a requester");
+    let invoke = Invoke::new(key.1).expect(rt, "an invoke number");
+    let text = reply_text(alloc, &requester, invoke, outcome).expect(rt, "memory");
+    assert_eq!(rt; outcome_status(outcome), wanted.0);
+    assert_eq!(rt; text.as_str(), wanted.1);
 }

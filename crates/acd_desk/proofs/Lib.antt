@@ -8,3 +8,4 @@ pub mod Sound
 pub mod ContentLaws
 pub mod SameRequests
 pub mod ByPlace
+pub mod Many

@@ -6,3 +6,4 @@ pub mod Arrived
 pub mod Laws
 pub mod Opening
 pub mod DeskLaws
+pub mod Ran

@@ -12,6 +12,14 @@ is_fault DeskFull = false
 is_fault NoMemory = true
 is_fault StoreFault = true
 
+-- invokeReused and deskFull
+abbrev pub is_rejection : Taken → Bool
+is_rejection (Reply status body) = false
+is_rejection InvokeReused = true
+is_rejection DeskFull = true
+is_rejection NoMemory = false
+is_rejection StoreFault = false
+
 -- the arrivals that were answered neither noMemory nor storeFault
 abbrev pub served : List Arrival → List Taken → List Arrival
 served (a ∷ rest) (t ∷ ts) = cond (is_fault t) [] (a ∷ []) ++ served rest ts

@@ -34,21 +34,21 @@ pub struct Desk<B: Book> {
 }
 
 impl<B: Book> Desk<B> {
-    ghost use Rattle.std.specs.Prelude.{ℕ, ◌⊎◌, true, false, length, OnErr, OnOk, IfOk, IfErr, MatchResult};
-    ghost use Rattle.acd_book.specs.Content.{Content, kept_of, IsCounted, Within, HasRisen};
+    ghost use Rattle.std.specs.Prelude.{◌⊎◌, true, false, OnErr, IfOk, IfErr, MatchResult};
+    ghost use Rattle.acd_book.specs.Content.{Content, Within, HasRisen};
     ghost use Rattle.acd_desk.specs.Arrived.{at};
-    ghost use Rattle.acd_desk.specs.Laws.{KeepsLaws};
     ghost use Rattle.acd_desk.specs.Opening.{RefusesBy, IsNoRule};
     ghost use Rattle.acd_desk.specs.Replies.{answer_in, after};
-    ghost use Rattle.acd_desk.specs.Served.{is_fault, served, unserved, sent};
-    ghost use Rattle.acd_desk.specs.Stands.{IsSound, ran_after, replies, StopsAt, InStep, StartsWell, IsNew};
+    ghost use Rattle.acd_desk.specs.Ran.{standing, Took, Ran};
+    ghost use Rattle.acd_desk.specs.Served.{is_fault};
+    ghost use Rattle.acd_desk.specs.Stands.{IsSound, InStep, StartsWell, IsNew};
 
     // Shuts the desk where the store has failed.
     fn fault(&mut self, fault: BookFault) -> Taken
         ensures same { (self.new.book ≡ self.old.book) × (self.new.switch ≡ self.old.switch) }
         ensures fault { is_fault result ≡ true }
         ensures failed { self.new.failed ≡ false → self.old.failed ≡ false }
-        ensures store { result ≡ Taken.StoreFault → fault ≡ BookFault.Store }
+        ensures store { self.new.failed ≡ true → (self.old.failed ≡ true) ⊎ (fault ≡ BookFault.Store) }
         ensures shuts { result ≡ Taken.StoreFault → self.new.failed ≡ true }
     {
         match fault {
@@ -80,7 +80,7 @@ impl<B: Book> Desk<B> {
             → (c : Content) → B.stops self.new.book c → B.stops self.old.book c
             ⊎ (B.is_open self.old.book × (c ≡ after (B.content self.old.book) (at moment request.now))) }
         ensures shuts { result ≡ Taken.StoreFault → self.new.failed ≡ true }
-        ensures cause { result ≡ Taken.StoreFault → HasRisen (B.count self.old.book) (B.count self.new.book) }
+        ensures cause { self.new.failed ≡ true → HasRisen (B.count self.old.book) (B.count self.new.book) }
         ensures counts { B.count self.old.book ≤ B.count self.new.book }
     {
         if self.switch.is_full() {
@@ -103,28 +103,8 @@ impl<B: Book> Desk<B> {
     ///
     /// Tested in this order: the store failed before, the key is kept, the desk is full.
     pub fn take(&mut self, moment: u32, request: &Request) -> Taken
-        ensures clean { B.is_clean self.new.book → B.is_clean self.old.book }
-        ensures sound { B.is_clean self.new.book → B.is_sound self.old.book → B.is_sound self.new.book }
-        ensures in_step { B.is_clean self.new.book → B.is_sound self.old.book
-            → InStep self.old.switch self.old.failed (B.is_open self.old.book) (B.content self.old.book)
-            → InStep self.new.switch self.new.failed (B.is_open self.new.book) (B.content self.new.book) }
-        ensures up { is_fault result ≡ false → B.is_clean self.new.book → B.is_sound self.old.book → B.is_open self.old.book × B.is_open self.new.book }
-        // what is answered, and what the book holds then
-        ensures sent { is_fault result ≡ false → B.is_clean self.new.book → B.is_sound self.old.book
-            → InStep self.old.switch self.old.failed (B.is_open self.old.book) (B.content self.old.book)
-            → (result ≡ answer_in (after (B.content self.old.book) (at moment request.now)) request.now)
-            × (B.content self.new.book ≡ after (B.content self.old.book) (at moment request.now)) }
-        // after a fault an open book holds what it held
-        ensures unsent { is_fault result ≡ true → B.is_clean self.new.book → B.is_sound self.old.book → B.is_open self.new.book
-            → B.is_open self.old.book × (B.content self.new.book ≡ B.content self.old.book) }
-        ensures stops { B.is_clean self.new.book → B.is_sound self.old.book
-            → InStep self.old.switch self.old.failed (B.is_open self.old.book) (B.content self.old.book)
-            → (c : Content) → B.stops self.new.book c → B.stops self.old.book c
-            ⊎ (B.is_open self.old.book × (c ≡ after (B.content self.old.book) (at moment request.now))) }
+        ensures took { Took (standing B.Book self.old) (at moment request.now) result (standing B.Book self.new) }
         ensures shut { self.old.failed ≡ true → result ≡ Taken.StoreFault }
-        ensures shuts { result ≡ Taken.StoreFault → self.new.failed ≡ true }
-        ensures fails { self.new.failed ≡ false → self.old.failed ≡ false }
-        ensures cause { result ≡ Taken.StoreFault → (self.old.failed ≡ true) ⊎ HasRisen (B.count self.old.book) (B.count self.new.book) }
     {
         if self.failed {
             return Taken::StoreFault;
@@ -145,28 +125,8 @@ impl<B: Book> Desk<B> {
 
     /// Takes each arrival in turn. Where there is no room for the answers, nothing was executed.
     pub fn run(&mut self, arrivals: &[Arrival]) -> Result<Vec<Taken>, AllocError>
-        ensures clean { B.is_clean self.new.book → B.is_clean self.old.book }
-        ensures sound { B.is_clean self.new.book → B.is_sound self.old.book → B.is_sound self.new.book }
-        ensures in_step { B.is_clean self.new.book → B.is_sound self.old.book
-            → InStep self.old.switch self.old.failed (B.is_open self.old.book) (B.content self.old.book)
-            → InStep self.new.switch self.new.failed (B.is_open self.new.book) (B.content self.new.book) }
+        ensures ran { IfOk result (λ answers. Ran (standing B.Book self.old) arrivals.now answers.items (standing B.Book self.new)) }
         ensures none { OnErr result (self.new ≡ self.old) }
-        ensures length { IfOk result (λ answers. length answers.items ≡ length arrivals.now) }
-        // each answer but the faults is that of the abstract desk, at its place in the list of what was kept and served
-        ensures replies { B.is_clean self.new.book → StartsWell (B.is_sound self.old.book) (B.is_open self.old.book) self.old.switch self.old.failed (B.content self.old.book)
-            → IfOk result (λ answers. sent answers.items ≡ replies (B.content self.old.book) (served arrivals.now answers.items)) }
-        // the book holds the run over the first arrivals of that list
-        ensures content { B.is_clean self.new.book → StartsWell (B.is_sound self.old.book) (B.is_open self.old.book) self.old.switch self.old.failed (B.content self.old.book) → B.is_open self.new.book
-            → IfOk result (λ answers. B.content self.new.book ≡ ran_after (B.content self.old.book) (served arrivals.now answers.items)) }
-        ensures whole { B.is_clean self.new.book → StartsWell (B.is_sound self.old.book) (B.is_open self.old.book) self.old.switch self.old.failed (B.content self.old.book) → B.is_open self.new.book
-            → OnOk result (IsSound (B.content self.new.book)) }
-        ensures laws { B.is_clean self.new.book → StartsWell (B.is_sound self.old.book) (B.is_open self.old.book) self.old.switch self.old.failed (B.content self.old.book) → B.is_open self.new.book
-            → OnOk result (KeepsLaws (B.content self.new.book)) }
-        // whatever a stop leaves is that run, or that with one more arrival, which was answered by a fault
-        ensures stops { B.is_clean self.new.book → StartsWell (B.is_sound self.old.book) (B.is_open self.old.book) self.old.switch self.old.failed (B.content self.old.book) → (c : Content) → B.stops self.new.book c
-            → IfOk result (λ answers. StopsAt (B.content self.old.book) (served arrivals.now answers.items) (unserved arrivals.now answers.items) c) }
-        ensures sound_stops { B.is_clean self.new.book → StartsWell (B.is_sound self.old.book) (B.is_open self.old.book) self.old.switch self.old.failed (B.content self.old.book) → (c : Content) → B.stops self.new.book c
-            → OnOk result (IsSound c) }
     {
         let mut answers = Vec::with_capacity(self.alloc, arrivals.len())?;
         for (i, arrival) in arrivals.iter().enumerate() {

@@ -1,35 +1,7 @@
 //! Worked examples of event reports, and each kind with its members.
 
-use crate::events::event_text;
-use acd_terms::event::{Cause, Event, Report, Waited};
-use acd_terms::id::{AgentId, DeviceId};
-use std::alloc::Global;
-use std::process::Abort;
-
-fn device(rt: &impl Abort, digits: &str) -> DeviceId {
-    DeviceId::read(digits.as_bytes()).expect(rt, "a device")
-}
-
-fn agent(rt: &impl Abort, digits: &str) -> AgentId {
-    AgentId::read(digits.as_bytes()).expect(rt, "an agent")
-}
-
-fn expect_event(
-    rt: &impl Abort,
-    alloc: Global,
-    number: u64,
-    moment: u32,
-    report: Report,
-    wanted: &str,
-) {
-    let event = Event {
-        number,
-        moment,
-        report,
-    };
-    let text = event_text(alloc, &event).expect(rt, "memory");
-    assert_eq!(rt; text.as_str(), wanted);
-}
+use super::{agent, device, expect_event};
+use acd_terms::event::{Cause, Report, Waited};
 
 #[test]
 fn distributed_call(rt: HostRuntime) {

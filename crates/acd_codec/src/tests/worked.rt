@@ -25,12 +25,6 @@ fn first_fault_in_order(rt: HostRuntime) {
 }
 
 #[test]
-fn first_faulty_member(rt: HostRuntime) {
-    let text = "{\"requester\":\"Plan\",\"invoke\":0}";
-    expect_faults(&rt, rt.alloc(), &[(text, Member::Requester)]);
-}
-
-#[test]
 fn last_member_counts(rt: HostRuntime) {
     let text = "{\"requester\":\"pbx\",\"invoke\":1,\"invoke\":2,\"service\":\"tick\"}";
     let written = "{\"invoke\":2,\"requester\":\"pbx\",\"service\":\"tick\"}";

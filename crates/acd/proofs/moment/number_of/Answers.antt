@@ -1,10 +1,9 @@
-use Rattle.std.proofs.Common.{◌≡◌, ◌+◌, ◌-◌, ◌*◌, ◌^◌, ◌<◌, ◌≤◌, length, take, drop, get_or, true, false, nat_lt, arith, sym, ap, ◌∙◌, Some, lt-ltb, refl, length-drop}
+use Rattle.std.proofs.Common.{◌+◌, ◌-◌, ◌*◌, ◌<◌, length, drop, get_or, nat_lt, arith, sym, ap, ◌∙◌, Some, length-drop}
 use Rattle.std.specs.Char.{is_ascii_digit}
 use Rattle.std.proofs.lemmas.List.{take_all}
 use Rattle.std.proofs.lemmas.Bool.{and_parts}
 use Rattle.std.proofs.lemmas.Bool.Decides.{nat_tests}
-use Rattle.acd.specs.Input.{number_then}
-use Rattle.acd.proofs.Moments.{one_step, end_step, power_step, digit_small, next}
+use Rattle.acd.proofs.Moments.{one_step, end_step, digit_small, next}
 use Rattle.acd.proofs.moment.number_of.Goals as goal
 
 pub returns-then-is_end : goal.returns-then-is_end

@@ -1,6 +1,5 @@
-use Rattle.std.proofs.Common.{◌≡◌, ◌+◌, ◌-◌, ◌≤◌, length, take, drop, arith, subst, length-drop, List, ℕ}
-use Rattle.std.specs.Io.KnownBytes.{Appends}
-use Rattle.std.proofs.KnownBytes.{Appends-trans, Appends-kept}
+use Rattle.std.proofs.Common.{◌+◌}
+use Rattle.std.proofs.KnownBytes.{Appends-kept}
 use Rattle.acd.proofs.Sends.{one_write, room_left, begins_part}
 use Rattle.acd.proofs.send.send.Goals as goal
 

@@ -1,77 +1,32 @@
-use Rattle.std.proofs.Common.{◌≡◌, ℕ, ◌++◌, List, take, [], Option, sym, ap, ◌∙◌, subst, arith, refl}
-use Rattle.std.specs.Io.KnownBytes.{Appends, Consumes}
-use Rattle.std.proofs.KnownBytes.{Consumes-nil, Consumes-kept, Consumes-trans, Appends-trans, Appends-nil}
-use Rattle.acd_terms.specs.Rules.First.{BreaksNoRule}
-use Rattle.acd.specs.Answers.{SwitchAnswers}
-use Rattle.acd.specs.Output.{ServesAll, ServesSome, IsInput}
-use Rattle.acd.proofs.Turns.{Stands, starts, input_ended, input_begun, stops_between, nothing_read, reads_up_to, stands_kept, fed}
+use Rattle.std.proofs.Common.{take, ◌++◌}
+use Rattle.acd_desk.specs.Ran.{standing}
+use Rattle.acd.specs.Input.{cut}
+use Rattle.acd.specs.Output.{whole_lines}
+use Rattle.acd.proofs.Sends.{OnOk-weaker, OnErr-weaker, IfErr-weaker}
+use Rattle.acd.proofs.Telling.{told}
 use Rattle.acd.proofs.session.lines.Goals as goal
-use Rattle.acd.proofs.session.lines.Goals.{in-Ok-read+in-Ok-feed, in-Err-read+else-ne}
 
-pub loop-init : goal.loop-init
-loop-init g c = ([], Consumes-nil _, starts SwitchAnswers 4109 c.args.switch.now c.in-Ok.partial _ c.in-Ok.ensures, c.requires)
-
-pub loop-preserved : goal.loop-preserved
-loop-preserved g c =
-    let seen = c.loop.invariant.0 in
-    let stands = c.loop.invariant.2 in
-    elim c.match-read.branch [
-      | in-Ok-read+in-Ok-feed w ↦
-          let chunk = take w.in-Ok-read.n c.read.new.buf in
-          let done = w.in-Ok-feed.ensures.ok c.args.switch.now seen stands.0 stands.1 stands.2 stands.3 in
-          let after = fed SwitchAnswers 4109 c.args.switch.now seen chunk w.feed.new.partial w.feed.new.switch (g.W.Write.contents c.args.writer.now) (g.W.Write.contents c.loop.writer) (g.W.Write.contents w.feed.new.writer) stands.1 stands.4 done in (
-            seen ++ chunk,
-            Consumes-trans _ _ _ seen chunk c.loop.invariant.1 w.in-Ok-read.ensures.bytes.0,
-            stands_kept SwitchAnswers 4109 c.args.switch.now (seen ++ chunk) w.feed.new.partial c.match-read.partial [] w.feed.new.switch c.match-read.switch (g.W.Write.contents c.args.writer.now) (g.W.Write.contents w.feed.new.writer) (g.W.Write.contents c.match-read.writer) w.partial-is w.switch-is (ap g.W.Write.contents w.writer-is) after,
-            subst BreaksNoRule (sym w.switch-is) w.in-Ok-feed.ensures.kept,
-          )
-      | in-Err-read+else-ne w ↦ (
-        seen,
-        Consumes-kept _ _ _ seen c.loop.invariant.1 w.in-Err-read.ensures.bytes,
-        stands_kept SwitchAnswers 4109 c.args.switch.now seen c.loop.partial c.match-read.partial [] c.loop.switch c.match-read.switch (g.W.Write.contents c.args.writer.now) (g.W.Write.contents c.loop.writer) (g.W.Write.contents c.match-read.writer) w.partial-is w.switch-is (ap g.W.Write.contents w.writer-is) stands,
-        subst BreaksNoRule (sym w.switch-is) c.loop.invariant.3,
-      )
-    ]
-
-pub returns-in-Ok-finish-clause-ok : goal.returns-in-Ok-finish-clause-ok
-returns-in-Ok-finish-clause-ok g c =
-    let seen = c.loop.invariant.0 in
-    let stands = c.loop.invariant.2 in
-    let done = c.in-Ok-finish.ensures.ok c.args.switch.now seen stands.0 stands.1 stands.2 stands.3 in
-    (seen, stands.1 ++ done.0, input_ended _ _ _ seen c.read.new.buf c.in-Ok-eq0.field-0 c.loop.invariant.1 c.in-Ok-eq0.ensures.bytes.0 c.in-Ok-eq0.field-0-test (c.in-Ok-eq0.ensures.bytes.1 c.in-Ok-eq0.field-0-test (let same = c.read.auto.buf in omega arith)), done.1, Appends-trans _ _ _ stands.1 done.0 stands.4 done.2)
-
-pub returns-in-Err-finish-clause-stopped : goal.returns-in-Err-finish-clause-stopped
-returns-in-Err-finish-clause-stopped g c =
-    let seen = c.loop.invariant.0 in
-    let stands = c.loop.invariant.2 in
-    let done = c.in-Err-finish.ensures.err c.args.switch.now seen stands.0 stands.1 stands.2 stands.3 in
-    (seen, stands.1 ++ done.0, done.1, input_ended _ _ _ seen c.read.new.buf c.in-Ok-eq0.field-0 c.loop.invariant.1 c.in-Ok-eq0.ensures.bytes.0 c.in-Ok-eq0.field-0-test (c.in-Ok-eq0.ensures.bytes.1 c.in-Ok-eq0.field-0-test (let same = c.read.auto.buf in omega arith)), done.2, done.3, Appends-trans _ _ _ stands.1 done.0 stands.4 done.4)
-
-pub returns-in-Err-feed-clause-stopped : goal.returns-in-Err-feed-clause-stopped
-returns-in-Err-feed-clause-stopped g c =
-    let seen = c.loop.invariant.0 in
-    let stands = c.loop.invariant.2 in
-    let done = c.in-Err-feed.ensures.err c.args.switch.now seen stands.0 stands.1 stands.2 stands.3 in
-    let chunk = take c.in-Ok-read.n c.read.new.buf in
-    let more = input_begun (g.R.Read.remaining c.args.reader.now) (g.R.Read.remaining c.read.new.self) (seen ++ chunk) (Consumes-trans _ _ _ seen chunk c.loop.invariant.1 c.in-Ok-read.ensures.bytes.0) in
-    ((seen ++ chunk) ++ more.0, stands.1 ++ done.0, done.1, more.1, done.2 more.0, done.3, Appends-trans _ _ _ stands.1 done.0 stands.4 done.4)
-
-pub returns-then-ne-clause-stopped : goal.returns-then-ne-clause-stopped
-returns-then-ne-clause-stopped g c = stops_between SwitchAnswers 4109 c.args.switch.now c.loop.invariant.0 c.loop.partial c.loop.switch c.loop.switch _ _ _ _ refl c.loop.invariant.1 c.loop.invariant.2
-
-pub returns-clause-stopped : goal.returns-clause-stopped
-returns-clause-stopped g c = stops_between SwitchAnswers 4109 c.args.switch.now c.loop.invariant.0 c.loop.partial c.loop.switch c.loop.switch _ _ _ _ refl c.loop.invariant.1 c.loop.invariant.2
-
-pub returns-in-Err-clause-stopped : goal.returns-in-Err-clause-stopped
-returns-in-Err-clause-stopped g c =
-    nothing_read SwitchAnswers c.args.switch.now c.args.switch.now (g.R.Read.remaining c.args.reader.now) (g.W.Write.contents c.args.writer.now)
-
-pub returns-then-ne-clause-read : goal.returns-then-ne-clause-read
-returns-then-ne-clause-read g c = λ _.
-    let read = reads_up_to SwitchAnswers 4109 c.args.switch.now c.loop.invariant.0 c.loop.partial c.loop.switch _ _ c.loop.invariant.2 in
-    (c.loop.invariant.0, read.0, Consumes-kept _ _ _ c.loop.invariant.0 c.loop.invariant.1 c.in-Err-read.ensures.bytes, read.1, read.2)
+pub returns-clause-ok : goal.returns-clause-ok
+returns-clause-ok g c = OnOk-weaker c.answer_lines.result _ _ (λ h.
+    let all = told (standing g.B.Book) (λ d x clean sound opened stop. g.met.B.Book.settled d.book x clean sound opened stop) c.args.desk.now c.answer_lines.new.desk (cut h.0) h.3.outs h.3.serves in
+    (h.0, h.1, all.0, h.2, record { outs = h.3.outs; answered = all.1; whole = h.3.whole }, h.4, all.2)) c.answer_lines.ensures.ok
 
 pub returns-clause-read : goal.returns-clause-read
-returns-clause-read g c = λ _.
-    let read = reads_up_to SwitchAnswers 4109 c.args.switch.now c.loop.invariant.0 c.loop.partial c.loop.switch _ _ c.loop.invariant.2 in
-    (c.loop.invariant.0, read.0, c.loop.invariant.1, read.1, read.2)
+returns-clause-read g c = IfErr-weaker c.answer_lines.result _ _ (λ fault told_of is.
+    let h = told_of is in
+    let all = told (standing g.B.Book) (λ d x clean sound opened stop. g.met.B.Book.settled d.book x clean sound opened stop) c.args.desk.now c.answer_lines.new.desk (whole_lines h.0) h.3.outs h.3.serves in
+    (h.0, h.1, all.0, h.2, record { outs = h.3.outs; answered = all.1; whole = h.3.whole }, h.4, all.2)) c.answer_lines.ensures.read
+
+pub returns-clause-stopped : goal.returns-clause-stopped
+returns-clause-stopped g c = OnErr-weaker c.answer_lines.result _ _ (λ h.
+    let some = h.3 in
+    let all = told (standing g.B.Book) (λ d x clean sound opened stop. g.met.B.Book.settled d.book x clean sound opened stop) c.args.desk.now c.answer_lines.new.desk (take some.n (cut h.0)) (some.outs ++ some.last) some.serves in (
+      h.0,
+      h.1,
+      some.n,
+      all.0,
+      h.2,
+      record { outs = some.outs; last = some.last; answered = all.1; at_most_one = some.at_most_one; front = some.front; unwritten = some.unwritten; begins = some.begins; whole = some.whole },
+      h.4,
+      all.2,
+    )) c.answer_lines.ensures.stopped

@@ -1,4 +1,4 @@
-use Rattle.std.proofs.Common.{◌≡◌, ◌+◌, ◌∷◌, ◌++◌, [], length, take, sym, ap, ◌∙◌, arith, length-append}
+use Rattle.std.proofs.Common.{arith}
 use Rattle.acd.proofs.Kept.{kept_more, kept_full}
 use Rattle.acd.proofs.partial.Partial.push.Goals as goal
 
