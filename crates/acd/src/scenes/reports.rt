@@ -12,7 +12,6 @@ use acd_terms::id::{AgentId, DeviceId};
 use acd_terms::record::ConnectionRecord;
 use acd_terms::rows::{Rows, Rule};
 use acd_terms::state::{AgentState, ConnectionState};
-use std::test::Fail;
 
 // More events than any scene has.
 const ALL: usize = 1000;
@@ -353,16 +352,21 @@ fn reports_tell_the_rows(rt: HostRuntime) {
     }
 }
 
+// The rule that the rows break.
+fn broken(rt: &impl Abort, alloc: Global, rows: &Rows) -> Option<Rule> {
+    match Switch::from_rows(alloc, rows) {
+        Ok(_) => None,
+        Err(RowFault::Broken(rule)) => Some(rule),
+        Err(RowFault::NoMemory) => panic!(rt; "no memory"),
+    }
+}
+
 #[test]
-fn event_number_out_of_bounds(rt: HostRuntime) -> Result<(), Fail> {
+fn event_number_out_of_bounds(rt: HostRuntime) {
     let answered = [PLAN, CALL_ARRIVES, ANA_BECOMES_READY, ANA_ANSWERS];
     let mut book = watched(&rt, rt.alloc(), &answered);
-    let mut rows = book.rows()?;
-    assert!(rt; Switch::from_rows(rt.alloc(), &rows).is_ok());
+    let mut rows = book.rows().expect(&rt, "memory");
+    assert_eq!(rt; broken(&rt, rt.alloc(), &rows), None);
     rows.last_event = 1000000;
-    match Switch::from_rows(rt.alloc(), &rows) {
-        Err(RowFault::Broken(rule)) => assert_eq!(rt; rule, Rule::Counters),
-        _ => panic!(rt; "not refused by a rule"),
-    }
-    Ok(())
+    assert_eq!(rt; broken(&rt, rt.alloc(), &rows), Some(Rule::Counters));
 }
