@@ -1,17 +1,14 @@
 -- Many calls of a desk, one after the other.
-use Rattle.std.proofs.Common.{◌≡◌, ℕ, ◌+◌, ◌≤◌, List, [], ◌∷◌, ◌++◌, Bool, true, false, cond, refl, sym, ap, subst, ◌∙◌, arith, inl, inr, length-append, nat_lt, true≢false, Option, Some, None, is_some}
+use Rattle.std.proofs.Common.{◌≡◌, ℕ, ◌+◌, ◌≤◌, List, [], ◌∷◌, ◌++◌, true, false, cond, refl, sym, ap, subst, ◌∙◌, arith, inl, inr, length-append, true≢false}
 use Rattle.std.proofs.lemmas.List.Elements.{Contains-push_cases}
 use Rattle.acd_terms.specs.declared.command.Arrival.{Arrival}
-use Rattle.acd_book.specs.declared.kept.Kept.{Kept}
-use Rattle.acd_book.specs.Content.{Content, HasRisen, kept_of}
+use Rattle.acd_book.specs.Content.{Content, HasRisen}
 use Rattle.acd_desk.specs.declared.taken.Taken.{Taken}
 use Rattle.acd_desk.specs.declared.taken.Taken.TheVariants.{Reply, InvokeReused, DeskFull, NoMemory, StoreFault}
-use Rattle.acd_desk.specs.Firsts.{executed}
 use Rattle.acd_desk.specs.Replies.{answer_in, after}
-use Rattle.acd_desk.specs.Served.{is_fault, is_rejection, served, unserved}
+use Rattle.acd_desk.specs.Served.{is_fault, is_rejection, is_reply, served, unserved}
 use Rattle.acd_desk.specs.Stands.{IsSound, ran_after, replies, StopsAt}
 use Rattle.acd_desk.specs.Ran.{Standing, Starts, IsCause, Took, Ran}
-use Rattle.acd_desk.proofs.Runs.{answers_new}
 use Rattle.acd_desk.proofs.Longer.{ran_none, one_said, one_content, one_stop, served-push, unserved-push}
 use Rattle.acd_desk.proofs.Sound.{ran_sound, stop_sound}
 use Rattle.acd_desk.proofs.ContentLaws.{sound_keeps_laws}
@@ -69,6 +66,13 @@ lasts s m n high h = elim h [
   | inr risen ↦ inr (stays s.failures m.failures n.failures high risen)
 ]
 
+fault_no_reply : (t : Taken) → is_fault t ≡ true → is_reply t ≡ false
+fault_no_reply (Reply status body) h = absurd (true≢false (sym h))
+fault_no_reply InvokeReused h = refl
+fault_no_reply DeskFull h = refl
+fault_no_reply NoMemory h = refl
+fault_no_reply StoreFault h = refl
+
 -- one more call
 pub ran_more : (s m n : Standing) (l : List Arrival) (ts : List Taken) (a : Arrival) (t : Taken) → Settles n → Ran s l ts m → Took m a t n → Ran s (l ++ a ∷ []) (ts ++ t ∷ []) n
 ran_more s m n l ts a t settles ran took =
@@ -82,7 +86,7 @@ ran_more s m n l ts a t settles ran took =
     let step = ran.in_step before starts.0 starts.2 in
     one_content start (served l ts) a t n.content
     (λ (fine : is_fault t ≡ false). (took.sent fine clean sound step).1 ∙ ap (λ (x : Content). after x a) (ran.content before starts (took.up fine clean sound).0))
-    (λ (bad : is_fault t ≡ true). (took.unsent bad clean sound step opened).1 ∙ ran.content before starts (took.unsent bad clean sound step opened).0)
+    (λ (bad : is_fault t ≡ true). (took.unmoved (fault_no_reply t bad) clean sound opened).1 ∙ ran.content before starts (took.unmoved (fault_no_reply t bad) clean sound opened).0)
     ∙ ap (ran_after start) (sym yes) in
     let stops : n.is_clean → Starts s → (c : Content) → n.stops c → StopsAt start (served (l ++ a ∷ []) (ts ++ t ∷ [])) (unserved (l ++ a ∷ []) (ts ++ t ∷ [])) c
     = λ clean starts c stop.
@@ -126,54 +130,30 @@ ran_more s m n l ts a t settles ran took =
       counts = omega (arith, ran.counts, took.counts);
     }
 
-none_of : (o : Option Kept) → is_some o ≡ false → o ≡ None
-none_of None h = refl
-none_of (Some k) h = absurd (true≢false h)
-
--- what a rejection answers leaves all as it was
-unmoved : (c : Content) (a : Arrival) (t : Taken) → is_rejection t ≡ true → t ≡ answer_in (after c a) a.request → after c a ≡ c
-unmoved c a t rejected says =
-    let k : Option Kept = kept_of c.kept a.request.requester a.request.invoke in
-    let room : Bool = nat_lt c.rows.last_stamp c.rows.limits.requests in
-    let P : Bool → Bool → Type 0 = λ x y. t ≡ answer_in (cond x c (cond y (executed c a) c)) a.request → cond x c (cond y (executed c a) c) ≡ c in
-    let cases : (x y : Bool) → is_some k ≡ x → P x y
-    = λ x. elim x as (λ x. (y : Bool) → is_some k ≡ x → P x y) [
-      | true ↦ λ y h says. refl
-      | false ↦ λ y. elim y as (λ y. is_some k ≡ false → P false y) [
-        | true ↦ λ h says. absurd (true≢false (sym rejected ∙ ap is_rejection (says ∙ answers_new c a (none_of k h))))
-        | false ↦ λ h says. refl
-      ]
-    ] in
-    cases (is_some k) room refl says
-
-fault_not_rejection : (t : Taken) → is_rejection t ≡ true → is_fault t ≡ false
-fault_not_rejection (Reply status body) h = refl
-fault_not_rejection InvokeReused h = refl
-fault_not_rejection DeskFull h = refl
-fault_not_rejection NoMemory h = absurd (true≢false (sym h))
-fault_not_rejection StoreFault h = absurd (true≢false (sym h))
+rejection_no_reply : (t : Taken) → is_rejection t ≡ true → is_reply t ≡ false
+rejection_no_reply (Reply status body) h = absurd (true≢false (sym h))
+rejection_no_reply InvokeReused h = refl
+rejection_no_reply DeskFull h = refl
+rejection_no_reply NoMemory h = refl
+rejection_no_reply StoreFault h = refl
 
 no_store : NoMemory ≡ StoreFault → ⊥
 no_store h = cc
 
--- so that its text may not be made, and noMemory be answered
+-- the text of a rejection may not be made, and noMemory be answered
 pub forgets : (m n : Standing) (a : Arrival) (t : Taken) → is_rejection t ≡ true → Took m a t n → Took m a NoMemory n
-forgets m n a t rejected took =
-    let fine : is_fault t ≡ false = fault_not_rejection t rejected in
-    record {
-      clean = took.clean;
-      sound = took.sound;
-      in_step = took.in_step;
-      up = λ h. absurd (true≢false h);
-      sent = λ h. absurd (true≢false h);
-      unsent = λ bad clean sound step opened.
-          let sent = took.sent fine clean sound step in
-          ((took.up fine clean sound).0, sent.1 ∙ unmoved m.content a t rejected sent.0);
-      stops = took.stops;
-      shuts = λ h. absurd (no_store h);
-      cause = took.cause;
-      counts = took.counts;
-    }
+forgets m n a t rejected took = record {
+  clean = took.clean;
+  sound = took.sound;
+  in_step = took.in_step;
+  up = λ h. absurd (true≢false h);
+  sent = λ h. absurd (true≢false h);
+  unmoved = λ none. took.unmoved (rejection_no_reply t rejected);
+  stops = took.stops;
+  shuts = λ h. absurd (no_store h);
+  cause = took.cause;
+  counts = took.counts;
+}
 
 -- nothing was asked of the desk
 pub took_nothing : (s : Standing) (a : Arrival) → Took s a NoMemory s
@@ -183,7 +163,7 @@ took_nothing s a = record {
   in_step = λ clean sound step. step;
   up = λ h. absurd (true≢false h);
   sent = λ h. absurd (true≢false h);
-  unsent = λ bad clean sound step opened. (opened, refl);
+  unmoved = λ none clean sound opened. (opened, refl);
   stops = λ clean sound step c stop. inl stop;
   shuts = λ h. absurd (no_store h);
   cause = λ h. inl h;

@@ -9,7 +9,7 @@ use Rattle.acd_desk.specs.declared.desk.Desk.{Desk}
 use Rattle.acd_desk.specs.declared.taken.Taken.{Taken}
 use Rattle.acd_desk.specs.declared.taken.Taken.TheVariants.{StoreFault}
 use Rattle.acd_desk.specs.Replies.{answer_in, after}
-use Rattle.acd_desk.specs.Served.{is_fault, served, unserved, sent}
+use Rattle.acd_desk.specs.Served.{is_fault, is_reply, served, unserved, sent}
 use Rattle.acd_desk.specs.Stands.{IsSound, ran_after, replies, StopsAt, InStep, StartsWell}
 use Rattle.acd_desk.specs.Laws.{KeepsLaws}
 
@@ -49,7 +49,7 @@ pub record Took (old : Standing) (a : Arrival) (t : Taken) (new : Standing) : Ty
   pub up : is_fault t ≡ false → new.is_clean → old.is_sound → old.is_open × new.is_open
   pub sent : is_fault t ≡ false → new.is_clean → old.is_sound → InStep old.switch old.failed old.is_open old.content
       → (t ≡ answer_in (after old.content a) a.request) × (new.content ≡ after old.content a)
-  pub unsent : is_fault t ≡ true → new.is_clean → old.is_sound → InStep old.switch old.failed old.is_open old.content → new.is_open → old.is_open × (new.content ≡ old.content)
+  pub unmoved : is_reply t ≡ false → new.is_clean → old.is_sound → new.is_open → old.is_open × (new.content ≡ old.content)
   pub stops : new.is_clean → old.is_sound → InStep old.switch old.failed old.is_open old.content → (c : Content) → new.stops c → old.stops c ⊎ (old.is_open × (c ≡ after old.content a))
   pub shuts : t ≡ StoreFault → new.failed ≡ true
   pub cause : new.failed ≡ true → IsCause old new

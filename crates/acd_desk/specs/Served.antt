@@ -20,6 +20,14 @@ is_rejection DeskFull = true
 is_rejection NoMemory = false
 is_rejection StoreFault = false
 
+-- neither a fault nor a rejection
+abbrev pub is_reply : Taken → Bool
+is_reply (Reply status body) = true
+is_reply InvokeReused = false
+is_reply DeskFull = false
+is_reply NoMemory = false
+is_reply StoreFault = false
+
 -- the arrivals that were answered neither noMemory nor storeFault
 abbrev pub served : List Arrival → List Taken → List Arrival
 served (a ∷ rest) (t ∷ ts) = cond (is_fault t) [] (a ∷ []) ++ served rest ts

@@ -40,13 +40,14 @@ impl<B: Book> Desk<B> {
     ghost use Rattle.acd_desk.specs.Opening.{RefusesBy, IsNoRule};
     ghost use Rattle.acd_desk.specs.Replies.{answer_in, after};
     ghost use Rattle.acd_desk.specs.Ran.{standing, Took, Ran};
-    ghost use Rattle.acd_desk.specs.Served.{is_fault};
+    ghost use Rattle.acd_desk.specs.Served.{is_fault, is_reply};
     ghost use Rattle.acd_desk.specs.Stands.{IsSound, InStep, StartsWell, IsNew};
 
     // Shuts the desk where the store has failed.
     fn fault(&mut self, fault: BookFault) -> Taken
         ensures same { (self.new.book ≡ self.old.book) × (self.new.switch ≡ self.old.switch) }
-        ensures fault { is_fault result ≡ true }
+        ensures fault { is_reply result ≡ false }
+        ensures faulty { is_fault result ≡ true }
         ensures failed { self.new.failed ≡ false → self.old.failed ≡ false }
         ensures store { self.new.failed ≡ true → (self.old.failed ≡ true) ⊎ (fault ≡ BookFault.Store) }
         ensures shuts { result ≡ Taken.StoreFault → self.new.failed ≡ true }
@@ -73,7 +74,7 @@ impl<B: Book> Desk<B> {
             → InStep self.old.switch false (B.is_open self.old.book) (B.content self.old.book)
             → (result ≡ answer_in (after (B.content self.old.book) (at moment request.now)) request.now)
             × (B.content self.new.book ≡ after (B.content self.old.book) (at moment request.now)) }
-        ensures unsent { is_fault result ≡ true → B.is_clean self.new.book → B.is_sound self.old.book → B.is_open self.new.book
+        ensures unmoved { is_reply result ≡ false → B.is_clean self.new.book → B.is_sound self.old.book → B.is_open self.new.book
             → B.is_open self.old.book × (B.content self.new.book ≡ B.content self.old.book) }
         ensures stops { B.is_clean self.new.book → B.is_sound self.old.book → IsNew (B.content self.old.book) request.now
             → InStep self.old.switch false (B.is_open self.old.book) (B.content self.old.book)
