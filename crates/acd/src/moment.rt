@@ -1,3 +1,5 @@
+//! The moment at the head of a line.
+
 ghost use Rattle.std.specs.Char.{is_ascii_digit};
 ghost use Rattle.std.specs.Prelude.{◌≡◌, ◌≤◌, ◌-◌, ◌==◌, ◌&&◌, nat_lt, option_map, false};
 ghost use Rattle.acd.specs.Input.{moment_of, number_then};

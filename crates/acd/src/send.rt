@@ -1,10 +1,12 @@
+//! Bytes that are written whole.
+
 ghost use Rattle.std.specs.Prelude.{OnOk, OnErr};
 ghost use Rattle.std.specs.Io.KnownBytes.{Appends};
 ghost use Rattle.acd.specs.Parts.{Begins};
 
 use std::io::{ErrorKind, Write};
 
-/// How often a reader or a writer may still be called.
+/// The writer failed, or was called as often as it may be.
 #[derive(Clone, Copy, Debug)]
 pub(crate) struct Stopped;
 

@@ -47,6 +47,7 @@ pub trait Book {
     fn failures(&self) -> u64
         ensures { result ≡ count self.now };
 
+    /// The limits under which the book was made.
     fn limits(&mut self) -> Result<Limits, BookFault>
         ensures clean { is_clean self.new → is_clean self.old }
         ensures sound { is_clean self.new → is_sound self.old → is_sound self.new }
