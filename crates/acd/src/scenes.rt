@@ -159,8 +159,9 @@ fn answers(rt: &impl Abort, alloc: Global, limits: Limits, scenes: &[&[Asked]]) 
     ask_all(rt, alloc, &mut switch, scenes, &mut Vec::new(alloc));
 }
 
-// The answers of the scenes, and all their events.
+// The answers of the scenes, and all their events; and the same answers of a desk.
 fn play(rt: &impl Abort, alloc: Global, scenes: &[&[Asked]], wanted: &[&str]) {
+    let _ = reports::watched(rt, alloc, scenes);
     let mut switch = Switch::new(alloc, Limits::GREATEST);
     let mut events = Vec::new(alloc);
     ask_all(rt, alloc, &mut switch, scenes, &mut events);

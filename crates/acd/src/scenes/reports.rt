@@ -200,7 +200,7 @@ fn taken(rt: &impl Abort, alloc: Global, book: MemoryBook, asked: &Asked) -> Mem
 }
 
 // The book after all requests of the scenes, compared after each.
-fn watched(rt: &impl Abort, alloc: Global, scenes: &[&[Asked]]) -> MemoryBook {
+pub fn watched(rt: &impl Abort, alloc: Global, scenes: &[&[Asked]]) -> MemoryBook {
     let mut book = MemoryBook::new(alloc, Limits::GREATEST);
     for scene in scenes {
         for asked in *scene {
