@@ -43,10 +43,6 @@ pub IfErr-weaker : {T E : Type 0} (r : Result T E) (P Q : E → Type 0) → ((e 
 IfErr-weaker (Ok x) P Q f h = tt
 IfErr-weaker (Err e) P Q f h = f e h
 
-pub IfErr-is : {T E : Type 0} (r : Result T E) (x : E) (P : E → Type 0) → IsErrAnd r (λ e. e ≡ x) → P x → IfErr r P
-IfErr-is (Ok v) x P h p = tt
-IfErr-is (Err e) x P h p = subst P (sym h) p
-
 pub OnErr-is : {T E : Type 0} (r : Result T E) (x : E) (P : Type 0) → IsErrAnd r (λ e. e ≡ x) → P → OnErr r P
 OnErr-is (Ok v) x P h p = tt
 OnErr-is (Err e) x P h p = p

@@ -1,16 +1,14 @@
 -- What the lines that a desk answered one after the other say of the desk.
-use Rattle.std.proofs.Common.{◌≡◌, ℕ, List, [], ◌∷◌, ◌++◌, Result, Ok, Err, refl, sym, ap, subst, ◌∙◌, inl, inr, append_assoc, append-nil}
+use Rattle.std.proofs.Common.{◌≡◌, ℕ, List, [], ◌∷◌, ◌++◌, refl, sym, ap, subst, ◌∙◌, inl, inr, append_assoc, append-nil}
 use Rattle.acd_terms.specs.declared.command.Request.{Request}
 use Rattle.acd_terms.specs.declared.command.Arrival.{Arrival}
-use Rattle.acd_codec.specs.declared.member.Member.{Member}
-use Rattle.acd_codec.specs.declared.fault.FixedAnswer.TheVariants as fixed
 use Rattle.acd_desk.specs.declared.taken.Taken.{Taken}
 use Rattle.acd_desk.specs.declared.taken.Taken.TheVariants as taken
 use Rattle.acd_desk.specs.Arrived.{at}
 use Rattle.acd_desk.specs.Ran.{Standing, Took, Ran}
-use Rattle.acd_desk.proofs.Many.{Settles, ran_nothing, ran_more, forgets, took_nothing}
-use Rattle.acd.specs.Input.{Line, no_moment, too_long, faulty, arrival, line_of, text_of, line_read, lines_of, arrivals_in}
-use Rattle.acd.specs.Answers.{Answers, IsWritten, fixed_line}
+use Rattle.acd_desk.proofs.Many.{Settles, ran_nothing, ran_more, forgets}
+use Rattle.acd.specs.Input.{Line, no_moment, too_long, faulty, arrival, line_of, text_of, lines_of, arrivals_in}
+use Rattle.acd.specs.Answers.{Answers, IsWritten}
 use Rattle.acd.specs.Output.{AnswerLines}
 use Rattle.acd.specs.Parts.{Serves}
 
@@ -28,11 +26,6 @@ module _ {D : Type 0} (stands : D → Standing) where
     | inl whole ↦ (t, whole, took)
     | inr lost ↦ (taken.NoMemory, lost.1, forgets (stands d) (stands e) (at moment r) t lost.0 took)
   ]
-
-  -- a line whose JSON found no memory
-  pub answers_unread : (d e : D) (moment : ℕ) (read : Result Request Member) (out : List ℕ) → e ≡ d → out ≡ fixed_line fixed.NoMemory → Answers stands d (line_read moment read) out e
-  answers_unread d e moment (Ok r) out same is = (taken.NoMemory, is, subst (λ (x : D). Took (stands d) (at moment r) taken.NoMemory (stands x)) (sym same) (took_nothing (stands d) (at moment r)))
-  answers_unread d e moment (Err member) out same is = (inr is, same)
 
   -- one line more
   abbrev pub OneLine : D → List Arrival → List Taken → D → Line → List ℕ → Type 0

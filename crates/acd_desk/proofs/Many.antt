@@ -154,18 +154,3 @@ forgets m n a t rejected took = record {
   cause = took.cause;
   counts = took.counts;
 }
-
--- nothing was asked of the desk
-pub took_nothing : (s : Standing) (a : Arrival) → Took s a NoMemory s
-took_nothing s a = record {
-  clean = λ clean. clean;
-  sound = λ clean sound. sound;
-  in_step = λ clean sound step. step;
-  up = λ h. absurd (true≢false h);
-  sent = λ h. absurd (true≢false h);
-  unmoved = λ none clean sound opened. (opened, refl);
-  stops = λ clean sound step c stop. inl stop;
-  shuts = λ h. absurd (no_store h);
-  cause = λ h. inl h;
-  counts = omega arith;
-}
