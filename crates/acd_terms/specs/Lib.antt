@@ -19,6 +19,7 @@ pub mod Distribution
 pub mod Tick
 pub mod Figures
 pub mod Step
+pub mod Changes
 pub mod Run
 pub mod Told
 pub mod Placed
