@@ -6,8 +6,8 @@ ghost use Rattle.acd_terms.specs.declared.record.AgentRecord.{AgentRecord};
 ghost use Rattle.acd_terms.specs.Rules.Plan.{keeps_limits, keeps_order, keeps_device, keeps_agent, keeps_monitor, ascends, is_station_there, is_group_there, is_alone_at, is_seated};
 
 use crate::scans::{is_group, is_planned, is_station};
-use acd_tables::keyed::Keyed;
 use acd_terms::id::DeviceId;
+use acd_terms::keyed::Keyed;
 use acd_terms::record::AgentRecord;
 use acd_terms::rows::Rows;
 

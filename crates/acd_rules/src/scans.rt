@@ -3,8 +3,8 @@
 ghost use Rattle.std.specs.Prelude.{◌≡◌};
 ghost use Rattle.acd_terms.specs.Scans.{call_of, is_group, is_station, is_planned, agent_at};
 
-use acd_tables::table::find;
 use acd_terms::id::DeviceId;
+use acd_terms::keyed::find;
 use acd_terms::record::{AgentRecord, CallRecord};
 use acd_terms::rows::Rows;
 

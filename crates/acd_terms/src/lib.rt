@@ -11,6 +11,7 @@ pub mod command;
 pub mod event;
 pub mod examples;
 pub mod id;
+pub mod keyed;
 pub mod listed;
 pub mod moves;
 pub mod name;
