@@ -18,5 +18,6 @@ pub mod name;
 pub mod number;
 pub mod record;
 pub mod rows;
+pub mod scans;
 pub mod short_text;
 pub mod state;
