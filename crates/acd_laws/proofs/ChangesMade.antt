@@ -1,10 +1,10 @@
 -- One put of a group for each event that counts makes the figures grow, so the changes of a step make its rows.
-use Rattle.std.proofs.Common.{◌≡◌, ℕ, suc, ◌+◌, Bool, true, false, not, cond, List, [], ◌∷◌, ◌++◌, Option, Some, None, refl, sym, ◌∙◌, ap, subst, inl, inr, length, map, arith}
+use Rattle.std.proofs.Common.{◌≡◌, ℕ, suc, ◌+◌, true, false, not, cond, List, [], ◌∷◌, Some, None, refl, sym, ◌∙◌, ap, subst, inl, inr, length, map}
 use Rattle.std.specs.Prelude.{◌==◌}
 use Rattle.std.specs.Cmp.{IsTotalOrder}
 use Rattle.std.specs.Ordering.{ordering_reverse, is_eq, nat_cmp}
 use Rattle.std.specs.declared.cmp.Ordering.{Ordering}
-use Rattle.std.specs.declared.cmp.Ordering.TheVariants.{Less, Equal, Greater}
+use Rattle.std.specs.declared.cmp.Ordering.TheVariants.{Equal, Greater}
 use Rattle.std.proofs.lemmas.Bool.{and_left, and_right, eqb-true, false_from_ne_true}
 use Rattle.acd_terms.specs.Lists.{Among, IsAscending, find_by, put_by}
 use Rattle.acd_terms.specs.Scans.{at_group, group_of, has}
@@ -19,7 +19,6 @@ use Rattle.acd_terms.specs.Rules.Plan.{group_order}
 use Rattle.acd_terms.specs.declared.rows.Rows.{Rows}
 use Rattle.acd_terms.specs.declared.record.GroupRecord.{GroupRecord}
 use Rattle.acd_terms.specs.declared.event.Event.{Event}
-use Rattle.acd_terms.specs.declared.event.Cause.{Cause}
 use Rattle.acd_terms.specs.declared.event.Report.{Report}
 use Rattle.acd_terms.specs.declared.event.Report.TheVariants.{Queued, Established, CallCleared, Diverted}
 use Rattle.acd_terms.specs.declared.moves.Move.{Move}
@@ -95,12 +94,12 @@ with_nothing es g e = ap (λ f. let h : GroupRecord = record g { figures = f } i
 counts_nothing : (e : Event) (g : GroupRecord) → has (counted_group e.report) g.device ≡ false → counting (e ∷ []) g ≡ g
 counts_nothing e g h = with_nothing (e ∷ []) g (figures_skipped g.device e [] (still g.device e.report h) ∙ no_events g.device)
 
-counting_more : (e : Event) (es : List Event) (g : GroupRecord) → counting es (counting (e ∷ []) g) ≡ counting (e ∷ es) g
+pub counting_more : (e : Event) (es : List Event) (g : GroupRecord) → counting es (counting (e ∷ []) g) ≡ counting (e ∷ es) g
 counting_more e es g =
     ap (λ f. let h : GroupRecord = record g { figures = f } in h)
     (sum_joined g.figures (figures_of g.device (e ∷ [])) (figures_of g.device es) ∙ ap (sum_of_figures g.figures) (sym (figures_joined g.device (e ∷ []) es)))
 
-counting_both : (e : Event) (es : List Event) (gs : List GroupRecord) → map (counting es) (map (counting (e ∷ [])) gs) ≡ map (counting (e ∷ es)) gs
+pub counting_both : (e : Event) (es : List Event) (gs : List GroupRecord) → map (counting es) (map (counting (e ∷ [])) gs) ≡ map (counting (e ∷ es)) gs
 counting_both e es [] = refl
 counting_both e es (g ∷ gs) = ap (λ h. h ∷ map (counting es) (map (counting (e ∷ [])) gs)) (counting_more e es g) ∙ ap (λ l. counting (e ∷ es) g ∷ l) (counting_both e es gs)
 
@@ -146,8 +145,11 @@ pub figures_more : (s : Rows) (e : Event) (es : List Event) → with_figures (wi
 unfolding with_figures
 figures_more s e es = ap (λ gs. let t : Rows = record s { groups = gs } in t) (counting_both e es s.groups)
 
+pub figures_none : (s : Rows) → with_figures s [] ≡ s
+figures_none s = sym (none_grown s [] (λ g i. with_nothing [] g (no_events g.device)))
+
 pub all_grown : (es : List Event) (s : Rows) → IsAscending group_order s.groups → changed_by s (growth s es) ≡ with_figures s es
-all_grown [] s a = none_grown s [] (λ g i. with_nothing [] g (no_events g.device))
+all_grown [] s a = sym (figures_none s)
 all_grown (e ∷ es) s a =
     let t : Rows = changed_by s (growth_by s e) in
     changed_by_append s (growth_by s e) (growth t es) ∙ all_grown es t (ascending_grown s e a) ∙ ap (λ r. with_figures r es) (one_grown s e a) ∙ figures_more s e es
