@@ -6,6 +6,8 @@
 #![tactic(auto)]
 
 pub mod distribution;
+pub mod figures;
+pub mod journal;
 pub mod row_fault;
 #[cfg(test)]
 mod rows_tests;
