@@ -5,6 +5,8 @@
 //! refuses those that break a rule.
 #![tactic(auto)]
 
+#[cfg(test)]
+mod changes_tests;
 pub mod distribution;
 pub mod figures;
 pub mod journal;
