@@ -82,10 +82,8 @@ impl Switch {
         if let Some(rule) = first_broken(rows) {
             return Err(RowFault::Broken(rule));
         }
-        match Tables::from_rows(alloc, rows) {
-            Ok(tables) => Ok(Switch { alloc, tables }),
-            Err(AllocError) => Err(RowFault::NoMemory),
-        }
+        let tables = Tables::from_rows(alloc, rows)?;
+        Ok(Switch { alloc, tables })
     }
 
     /// Executes one request at a moment (in seconds): its outcome and its events. A moment before the
