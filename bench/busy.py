@@ -1,13 +1,14 @@
 #!/usr/bin/env python3
 """Input lines of a busy call centre for `acd lines`: the same arguments print the same lines.
 
-usage: busy.py REQUESTS [--plan small|full] [--seed N]
+usage: busy.py REQUESTS [--plan small|full] [--groups N] [--agents N] [--calls N] [--seed N]
 
 First comes the opening: the plan, agents who log on and become ready, calls up to the wanted number, and an answer
 to each call that rings. Then REQUESTS lines of a working day follow: calls that arrive, are answered, held, retrieved
 and cleared, agents who become ready again, and ticks. `busy.py 0` prints the opening alone.
 
 small: 2 groups, 10 stations, 10 agents, 18 live calls; full: 64 groups, 1000 stations, 1000 agents, 1800 live calls.
+The other words change one of these; there are as many stations as agents.
 The generator keeps count of who rings where, so that each line is a request that the desk grants."""
 import argparse
 import heapq
@@ -219,9 +220,13 @@ def main():
     parser = argparse.ArgumentParser(description=__doc__, formatter_class=argparse.RawDescriptionHelpFormatter)
     parser.add_argument("requests", type=int)
     parser.add_argument("--plan", choices=sorted(PLANS), default="small")
+    parser.add_argument("--groups", type=int, dest="groups")
+    parser.add_argument("--agents", type=int, dest="stations")
+    parser.add_argument("--calls", type=int, dest="live")
     parser.add_argument("--seed", type=int, default=1)
     args = parser.parse_args()
-    centre = Centre(PLANS[args.plan], random.Random(args.seed))
+    changed = {name: vars(args)[name] for name in Plan._fields if vars(args)[name] is not None}
+    centre = Centre(PLANS[args.plan]._replace(**changed), random.Random(args.seed))
     centre.open()
     for _ in range(args.requests):
         centre.work()

@@ -2,21 +2,13 @@
 //! standard output.
 #![tactic(auto)]
 
-mod answer;
-mod moment;
-mod partial;
 #[cfg(test)]
 mod scenes;
-mod send;
-mod serve;
-mod session;
-#[cfg(test)]
-mod tests;
 
 use acd_book::memory::MemoryBook;
 use acd_desk::desk::{Desk, OpenFault};
+use acd_lines::{LinesFault, lines};
 use acd_terms::rows::Limits;
-use session::{LinesFault, lines};
 use std::process::ExitCode;
 use std::rt::Env;
 use std::{env, io};

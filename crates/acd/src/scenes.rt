@@ -2,10 +2,14 @@
 //! the events of the whole scene are compared with their texts. All run with ample memory.
 
 mod examples;
+mod handed_on;
 mod identifiers;
+mod limits;
+mod records;
 mod refusals;
 mod releases;
 mod reports;
+mod waiting;
 
 ghost use Rattle.acd_terms.specs.Rules.First.{BreaksNoRule};
 

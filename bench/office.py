@@ -1,0 +1,300 @@
+#!/usr/bin/env python3
+"""A day in an office of working size: input lines for `acd lines`, and the answers that have to come.
+
+usage: office.py given | wanted | seen
+
+given prints the input lines, wanted the answer lines, seen how often each situation came up. The answers are those of
+bench/switch.py, which knows nothing of the verified program. 12 groups, 40 stations, 40 agents, some 60 live calls, 3000
+requests of eight requesters; then 300 repeats, other requests under keys that are used, and a last call.
+The same lines come at each run. crates/acd_office has them as its stdin and stdout."""
+import json
+import random
+import sys
+from collections import Counter
+
+from switch import REFUSALS, Desk
+
+REQUESTS, REPEATS, LIVE_CALLS = 3000, 300, 60
+GROUPS = [("100", 20, 30), ("101", 20, 30), ("0100", 15, 20), ("110", 30, 45), ("9", 20, 0), ("120", 0, 30), ("00", 25, 40),
+          ("900000000000001", 20, 30), ("900000000000002", 12, 15), ("130", 40, 60), ("140", 20, 30), ("999999999999999", 0, 0)]
+STATIONS = ([f"2{n:02}" for n in range(1, 25)] + [f"02{n:02}" for n in range(1, 9)]
+            + [f"30000000000000{n}" for n in range(4)] + ["7", "07", "007", "77"])
+AGENTS = [str(n) for n in range(1, 21)] + [f"0{n}" for n in range(1, 11)] + [f"90000000{n}" for n in range(8)] + ["000000000", "999999999"]
+STATES = ["notReady", "ready", "workingAfterCall", "loggedOff"]
+PLANNER, EXCHANGE, CLOCK, WATCHER = (f"{name}-of-the-help-line-office" for name in ("planning", "exchange", "the-time", "watchers"))
+DESKS = [f"help-line-office-of-the-city-00{n}" for n in range(1, 5)]
+# what has to come up, and how often at least
+WANTED = {"tick with several overdue offers": 8, "several offers after one request": 15, "several offers, not after tick": 3,
+          "queued call deflected": 30, "offered call deflected": 30, "offered call deflected to its own group": 5,
+          "call transferred": 30, "private call answered": 20, "two agents released": 1, "state pending": 20, "call abandoned": 20,
+          "call failed": 10, "monitorStart": 20, "monitorStop": 10, "moment before the last": 20}
+UNREACHED = {"tooManyCalls", "planFull"}  # the limits are greater than this office
+
+
+class Office:
+    def __init__(self, seed=3000):
+        self.rng = random.Random(seed)
+        self.desk = Desk()
+        self.switch = self.desk.switch
+        self.now, self.given, self.wanted, self.asked, self.seen = 0, [], [], [], Counter()
+        self.invokes = dict.fromkeys([PLANNER, EXCHANGE, CLOCK, WATCHER, *DESKS], 0)
+        self.pace = 1
+
+    # lines
+
+    def invoke(self, requester):
+        self.invokes[requester] += 1
+        count = self.invokes[requester]
+        return {DESKS[3]: 1000000000 - count, WATCHER: 123456789 + 7 * count}.get(requester, count)
+
+    def line(self, moment, request):
+        """The request's text: mostly its members in order, at times with spaces, others members or another order."""
+        if self.rng.random() < 0.85:
+            return f"{moment} {json.dumps(request, separators=(',', ':'))}"
+        members = list(request.items())
+        self.rng.shuffle(members)
+        text = json.dumps(dict([("note", [1, {"to": None}]), *members]), indent=self.rng.choice([None, 0])).replace("\n", " ")
+        return f"{moment:010} {text}"
+
+    def send(self, moment, requester, invoke, service, members):
+        request = {"requester": requester, "invoke": invoke, "service": service, **members}
+        self.given.append(self.line(moment, request))
+        self.wanted.append(self.desk.take(moment, requester, invoke, service, **members))
+
+    def ask(self, requester, service, **members):
+        """A new request, a while after the last one; at times it is late, with a moment before the last."""
+        if self.rng.random() < 0.4:
+            self.now += self.rng.randrange(1, 4)
+        late = self.rng.random() < 0.03
+        moment = max(0, self.now - 5) if late else self.now
+        known, before = len(self.switch.events), self.switch.moment
+        invoke = self.invoke(requester)
+        if service == "tick" and len(self.switch_overdue(moment)) > 1:
+            self.seen["tick with several overdue offers"] += 1
+        self.send(moment, requester, invoke, service, members)
+        self.asked.append((requester, invoke, service, members))
+        self.seen["moment before the last"] += moment < before
+        self.watch(service, json.loads(self.wanted[-1][4:]), self.switch.events[known:])
+
+    def switch_overdue(self, moment):
+        switch, kept = self.switch, self.switch.moment
+        switch.moment = max(switch.moment, moment)
+        overdue = switch.overdue()
+        switch.moment = kept
+        return overdue
+
+    def watch(self, service, reply, events):
+        """Counts what came up."""
+        if "error" in reply:
+            self.seen[reply["error"]["name"]] += 1
+            return
+        self.seen[service] += 1
+        self.seen["state pending"] += "pending" in reply["result"]
+        offers = sum(event["event"] == "delivered" and event["cause"] == "distributed" for event in events)
+        self.seen["several offers after one request"] += offers > 1
+        self.seen["several offers, not after tick"] += offers > 1 and service != "tick"
+        first = events[0] if events else {"event": None}
+        if service == "deflectCall":
+            offered = first["device"] in self.switch.stations and "group" in first
+            self.seen["offered call deflected"] += offered
+            self.seen["offered call deflected to its own group"] += offered and first["group"] == first["to"]
+            self.seen["queued call deflected"] += first["device"] in self.switch.groups
+        self.seen["call transferred"] += first["event"] == "transferred"
+        self.seen["private call answered"] += first["event"] == "established" and "group" not in first
+        names = Counter(event["event"] for event in events)
+        self.seen["two agents released"] += service == "clearConnection" and names["agentWorkingAfterCall"] == 2
+        self.seen["call abandoned"] += any(event["event"] == "callCleared" and "group" in event for event in events)
+        self.seen["call failed"] += names["failed"] > 0
+
+    # what is there to act on
+
+    def connections(self, *states, distributed=None):
+        """Call and device of the connections in these states."""
+        return [(number, device) for number, call in self.switch.calls.items() for device, connection in call.connections.items()
+                if connection.state in states and distributed in (None, self.switch.distributed(device, connection))]
+
+    def agents(self, *states):
+        return [agent for agent, record in self.switch.agents.items() if record.state in states]
+
+    def at_stations(self, *states):
+        return [end for end in self.connections(*states) if end[1] in self.switch.stations]
+
+    def idle_stations(self):
+        return [station for station in STATIONS if self.switch.idle(station)]
+
+    def desk_name(self):
+        return self.rng.choice(DESKS)
+
+    def pick(self, *lists):
+        """One out of a list, the first list that has any."""
+        return self.rng.choice(next(each for each in lists if each))
+
+    # requests
+
+    def open(self):
+        for device, ring, wrap in GROUPS:
+            self.ask(PLANNER, "addGroup", device=device, name=f"Group {device} \"of\" the help line"[:40], ring=ring, wrap=wrap)
+        for station in STATIONS:
+            self.ask(PLANNER, "addStation", device=station)
+        for agent in AGENTS:
+            self.ask(PLANNER, "addAgent", agent=agent, name=f"Agent {agent} \\ of the help line office \\"[:40])
+        for place, (agent, station) in enumerate(zip(self.rng.sample(AGENTS, 40), STATIONS)):
+            self.ask(self.desk_name(), "setAgentState", agent=agent, requested="loggedOn", device=station, group=GROUPS[place % 12][0])
+            if place % 3 == 0:
+                self.set_state(agent, "ready")
+
+    def set_state(self, agent, requested):
+        free = [station for station in STATIONS if self.switch.agent_at(station) is None]
+        groups = [group for group, _, _ in GROUPS]
+        members = {"device": self.place(free or STATIONS), "group": self.place(groups)} if requested == "loggedOn" else {}
+        self.ask(self.desk_name(), "setAgentState", agent=agent, requested=requested, **members)
+
+    def place(self, devices):
+        """One of these devices; at times one of the other kind."""
+        return self.rng.choice(devices if self.rng.random() < 0.9 else [STATIONS[0], GROUPS[0][0]])
+
+    def arrive(self):
+        caller = f"03{self.rng.randrange(500):07}"
+        called = self.rng.choice(GROUPS)[0] if self.rng.random() < 0.93 else self.rng.choice(STATIONS)
+        self.ask(EXCHANGE, "arriveCall", caller=caller, called=called)
+
+    def make_call(self):
+        device = self.pick([station for station in STATIONS if not self.switch.live_at(station)], STATIONS)
+        called = self.pick(self.idle_stations(), STATIONS) if self.rng.random() < 0.5 else self.rng.choice(GROUPS)[0]
+        self.ask(self.desk_name(), "makeCall", device=device, called=called)
+
+    def destination(self, own=None):
+        """Where a call is given to: its own group, some group or some station."""
+        chance = self.rng.random()
+        if own and chance < 0.2:
+            return own
+        if chance < 0.6:
+            return self.rng.choice(GROUPS)[0]
+        return self.pick(self.idle_stations(), STATIONS) if chance < 0.9 else self.rng.choice(STATIONS)
+
+    def deflect(self, end):
+        own = self.switch.calls[end[0]].connections[end[1]].group
+        self.ask(self.desk_name(), "deflectCall", call=end[0], device=end[1], to=self.destination(own))
+
+    def transfer(self, end):
+        self.ask(self.desk_name(), "singleStepTransfer", call=end[0], device=end[1], to=self.destination())
+
+    def beside_agents(self):
+        """The ends at stations of calls whose other end was distributed and answered."""
+        answered = self.connections("connected", "hold", distributed=True)
+        return [end for end in self.at_stations("connected") if any(other[0] == end[0] and other[1] != end[1] for other in answered)]
+
+    def transfer_to_group(self, end):
+        self.ask(self.desk_name(), "singleStepTransfer", call=end[0], device=end[1], to=self.rng.choice(GROUPS)[0])
+
+    def act(self, service):
+        return lambda end: self.ask(self.desk_name(), service, call=end[0], device=end[1])
+
+    def clear(self, end):
+        self.ask(EXCHANGE, "clearConnection", call=end[0], device=end[1])
+
+    def tick(self):
+        self.now += self.rng.choice([0, 1, 5, 12, 25, 30])
+        self.ask(CLOCK, "tick")
+
+    def wild(self):
+        """A request with members out of the blue, which is mostly refused."""
+        others = [self.switch.last_call + 1, 1, 1000000000]
+        call = self.rng.choice(list(self.switch.calls) if self.switch.calls and self.rng.random() < 0.8 else others)
+        ends = list(self.switch.calls[call].connections) if call in self.switch.calls else []
+        devices = [group for group, _, _ in GROUPS] + self.rng.sample(STATIONS, 12) + ["5", "031234567890123"]
+        callers = [record.caller for record in self.switch.calls.values()][:3]
+        near = self.rng.choice(ends if ends and self.rng.random() < 0.6 else devices + callers)
+        to = self.rng.choice(ends if ends and self.rng.random() < 0.2 else devices)
+        agent = self.rng.choice(AGENTS) if self.rng.random() < 0.8 else "5555"
+        ring, wrap = self.rng.choice([0, 20, 3600]), self.rng.choice([0, 30])
+        service, members = self.rng.choice([
+            ("addGroup", {"device": near, "name": " ", "ring": ring, "wrap": wrap}) if self.switch.planned(near) or near in callers else ("tick", {}),
+            ("addStation", {"device": near}) if self.switch.planned(near) or near in callers else ("tick", {}),
+            ("addAgent", {"agent": self.rng.choice(AGENTS), "name": "~"}),
+            ("arriveCall", {"caller": self.rng.choice(devices), "called": to}), ("makeCall", {"device": near, "called": to}),
+            ("setAgentState", {"agent": agent, "requested": "loggedOn", "device": near, "group": to}),
+            ("setAgentState", {"agent": self.pick(self.agents("null"), AGENTS), "requested": "loggedOn", "device": self.rng.choice(STATIONS), "group": to}),
+            ("setAgentState", {"agent": agent, "requested": self.rng.choice(STATES)}),
+            ("monitorStart", {"device": near}), ("monitorStop", {"monitor": self.rng.choice([1, 1000000000, self.switch.last_monitor + 1])}),
+            ("deflectCall", {"call": call, "device": near, "to": to}), ("singleStepTransfer", {"call": call, "device": near, "to": to}),
+            *((each, {"call": call, "device": near}) for each in
+              ("phoneOffHook", "answerCall", "holdCall", "retrieveCall")),
+            ("clearConnection", {"call": call, "device": self.rng.choice(devices)}),
+        ])
+        self.ask(self.rng.choice([PLANNER, EXCHANGE, WATCHER, *DESKS]), service, **members)
+
+    def ways(self):
+        """Weight, request and what it may act on. The pace decides how soon calls that ring are answered."""
+        own_calls = [end for end in self.connections("connected") if end[1] not in self.switch.stations]
+        return [
+            (6 * self.pace, self.act("answerCall"), self.connections("alerting", distributed=True)),
+            (4, self.act("answerCall"), self.connections("alerting", distributed=False)),
+            (4, self.act("phoneOffHook"), self.connections("initiated")),
+            (3, self.act("holdCall"), self.at_stations("connected")), (3, self.act("retrieveCall"), self.connections("hold")),
+            (2, self.clear, own_calls), (3, self.clear, self.at_stations("connected", "hold")), (2, self.clear, self.connections("fail")),
+            (1, self.clear, self.connections("queued")), (1, self.clear, self.connections("alerting")),
+            (2, self.deflect, self.connections("queued")), (3, self.deflect, self.connections("alerting")),
+            (3, self.transfer, self.at_stations("connected")), (6, self.transfer_to_group, self.beside_agents()),
+            (4, self.clear, [end for end in self.beside_agents() if end in self.connections("connected", distributed=True)]),
+            (5, lambda agent: self.set_state(agent, "ready"), self.agents("notReady", "workingAfterCall")),
+            (2, lambda agent: self.set_state(agent, self.rng.choice(STATES)), self.agents("ready", "busy")),
+            (2, lambda agent: self.set_state(agent, self.rng.choice(STATES)), self.agents("notReady", "workingAfterCall")),
+            (6, lambda agent: self.set_state(agent, "loggedOn"), self.agents("null")),
+            (2, lambda _: self.make_call(), [None]), (3, lambda _: self.wild(), [None]), (2, lambda _: self.tick(), [None]),
+            (1, lambda device: self.ask(WATCHER, "monitorStart", device=device), STATIONS),
+            (1, lambda monitor: self.ask(WATCHER, "monitorStop", monitor=monitor), list(self.switch.monitors)),
+        ]
+
+    def work(self):
+        """One request of the day."""
+        if self.rng.random() < 0.01:
+            self.pace = self.rng.choice([0, 1, 2])
+        if self.rng.random() < 0.01:
+            self.repeat()
+        if len(self.switch.calls) < LIVE_CALLS and self.rng.random() < 0.6:
+            return self.arrive()
+        ways = [way for way in self.ways() if way[2]]
+        _, request, things = self.rng.choices(ways, [way[0] for way in ways])[0]
+        return request(self.rng.choice(things))
+
+    def repeat(self, service=None):
+        """A request of before once more, at some moment; or another service under its key."""
+        requester, invoke, first, members = self.rng.choice([each for each in self.asked if each[2] != service])
+        moment = self.rng.randrange(2 * self.now)
+        self.send(moment, requester, invoke, service or first, {} if service else members)
+
+    def check(self):
+        """Refuses a day on which something didn't come up."""
+        rare = {what: self.seen[what] for what, least in WANTED.items() if self.seen[what] < least}
+        rare |= {name: 0 for name in REFUSALS if name not in UNREACHED and self.seen[name] == 0}
+        if rare:
+            sys.exit(f"too seldom: {rare}")
+
+    def day(self):
+        self.open()
+        while len(self.asked) < REQUESTS:
+            self.work()
+        for _ in range(REPEATS):
+            self.repeat()
+        for _ in range(10):
+            self.repeat("tick")
+        self.ask(EXCHANGE, "arriveCall", caller="0301234", called="100")
+        self.check()
+
+
+def main():
+    office = Office()
+    office.day()
+    if sys.argv[1:] == ["given"]:
+        print(*office.given, sep="\n")
+    elif sys.argv[1:] == ["wanted"]:
+        print(*office.wanted, sep="\n")
+    elif sys.argv[1:] == ["seen"]:
+        print(*(f"{count:6} {what}" for what, count in sorted(office.seen.items())), sep="\n")
+    else:
+        sys.exit(__doc__)
+
+
+if __name__ == "__main__":
+    main()

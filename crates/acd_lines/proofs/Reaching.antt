@@ -1,0 +1,123 @@
+-- The lines of an input that were answered so far.
+use Rattle.std.proofs.Common.{◌≡◌, ℕ, ◌<◌, not, ◌==◌, List, [], ◌∷◌, ◌++◌, length, take, refl, sym, ap, ◌∙◌, subst, arith, append_assoc, append-nil, ne_eqb}
+use Rattle.std.proofs.lemmas.List.{take_at, take_all}
+use Rattle.std.specs.Cmp.Derive.{both_true}
+use Rattle.std.specs.List.{concat}
+use Rattle.std.proofs.lemmas.List.Folds.{concat-append, list_all-append}
+use Rattle.std.specs.Io.BufRead.{ends_with_byte}
+use Rattle.acd_lines.specs.Input.{cut, text_of, Line, line_of}
+use Rattle.acd_lines.specs.Parts.{Serves, ServesAll, ServesRead, ServesSome, Reached}
+use Rattle.acd_lines.proofs.Cuts.{cut_line, cut_open, ends_in_feed, whole_of}
+
+concat_one : (outs : List (List ℕ)) (out : List ℕ) → concat outs ++ out ≡ concat (outs ++ out ∷ [])
+concat_one outs out = ap (λ (l : List ℕ). concat outs ++ l) (sym (append-nil out)) ∙ sym (concat-append outs (out ∷ []))
+
+module _ {S : Type 0} (A : S → Line → List ℕ → S → Type 0) where
+  -- one line more
+  pub serves_more : (s : S) (pieces outs : List (List ℕ)) (mid : S) (piece out : List ℕ) (t : S) → Serves A s pieces outs mid → A mid (line_of (text_of piece)) out t → Serves A s (pieces ++ piece ∷ []) (outs ++ out ∷ []) t
+  serves_more s [] [] mid piece out t h a = (t, subst (λ (n : S). A n (line_of (text_of piece)) out t) h a, refl)
+  serves_more s [] (o ∷ os) mid piece out t h a = absurd h
+  serves_more s (p ∷ ps) [] mid piece out t h a = absurd h
+  serves_more s (p ∷ ps) (o ∷ os) mid piece out t h a = (h.0, h.1, serves_more h.0 ps os mid piece out t h.2 a)
+
+  pub reached_byte : (s : S) (seen part written : List ℕ) (t : S) (b : ℕ) → (b ≡ 10 → ⊥) → Reached A s seen part written t → Reached A s (seen ++ b ∷ []) (part ++ b ∷ []) written t
+  reached_byte s seen part written t b other h = record {
+    pieces = h.pieces;
+    outs = h.outs;
+    cuts = λ rest. ap cut (append_assoc seen (b ∷ []) rest) ∙ h.cuts (b ∷ rest) ∙ ap (λ (l : List ℕ). h.pieces ++ cut l) (sym (append_assoc part (b ∷ []) rest));
+    ended = h.ended;
+    no_feed = list_all-append (λ x. not (x == 10)) part (b ∷ []) ∙ both_true h.no_feed (rw (ne_eqb b 10 other) refl);
+    serves = h.serves;
+    whole = h.whole;
+  }
+
+  line_cuts : (s : S) (seen part written : List ℕ) (t : S) → (h : Reached A s seen part written t) → (rest : List ℕ) → cut ((seen ++ 10 ∷ []) ++ rest) ≡ (h.pieces ++ (part ++ 10 ∷ []) ∷ []) ++ cut rest
+  line_cuts s seen part written t h rest =
+      ap cut (append_assoc seen (10 ∷ []) rest) ∙ h.cuts (10 ∷ rest) ∙ ap (λ l. h.pieces ++ l) (cut_line part rest h.no_feed) ∙ sym (append_assoc h.pieces ((part ++ 10 ∷ []) ∷ []) (cut rest))
+
+  pub reached_line : (s : S) (seen part written : List ℕ) (mid : S) (out : List ℕ) (t : S) → Reached A s seen part written mid → A mid (line_of (text_of (part ++ 10 ∷ []))) out t → Reached A s (seen ++ 10 ∷ []) [] (written ++ out) t
+  reached_line s seen part written mid out t h a = record {
+    pieces = h.pieces ++ (part ++ 10 ∷ []) ∷ [];
+    outs = h.outs ++ out ∷ [];
+    cuts = line_cuts s seen part written mid h;
+    ended = list_all-append (ends_with_byte 10) h.pieces ((part ++ 10 ∷ []) ∷ []) ∙ both_true h.ended (rw (ends_in_feed part) refl);
+    no_feed = refl;
+    serves = serves_more s h.pieces h.outs mid (part ++ 10 ∷ []) out t h.serves a;
+    whole = ap (λ (l : List ℕ). l ++ out) h.whole ∙ concat_one h.outs out;
+  }
+
+  -- what was read up to now
+  pub read_reached : (s : S) (seen part written : List ℕ) (t : S) → Reached A s seen part written t → ServesRead A s seen written t
+  read_reached s seen part written t h = record {
+    outs = h.outs;
+    serves = subst (λ l. Serves A s l h.outs t) (sym (whole_of seen part h.pieces h.cuts h.ended h.no_feed)) h.serves;
+    whole = h.whole;
+  }
+
+  -- a fault behind whole lines
+  pub some_reached : (s : S) (seen part written more : List ℕ) (t : S) → Reached A s seen part written t → ServesSome A s (seen ++ more) written t
+  some_reached s seen part written more t h = record {
+    n = length h.pieces;
+    outs = h.outs;
+    last = [];
+    serves = subst (λ l. Serves A s l (h.outs ++ []) t) (sym (ap (take (length h.pieces)) (h.cuts more) ∙ take_at h.pieces _ _ refl)) (subst (λ l. Serves A s h.pieces l t) (sym (append-nil h.outs)) h.serves);
+    at_most_one = omega arith;
+    front = [];
+    unwritten = [];
+    begins = refl;
+    whole = h.whole ∙ sym (append-nil (concat h.outs));
+  }
+
+  -- the same, where a part of the last answer was written
+  pub some_line : (s : S) (seen part written : List ℕ) (mid : S) (out more : List ℕ) (t : S) (front rest : List ℕ) → Reached A s seen part written mid → A mid (line_of (text_of (part ++ 10 ∷ []))) out t → out ≡ front ++ rest
+      → ServesSome A s ((seen ++ 10 ∷ []) ++ more) (written ++ front) t
+  some_line s seen part written mid out more t front rest h a e =
+      let pieces = h.pieces ++ (part ++ 10 ∷ []) ∷ [] in
+      record {
+        n = length pieces;
+        outs = h.outs;
+        last = out ∷ [];
+        serves = subst (λ l. Serves A s l (h.outs ++ out ∷ []) t) (sym (ap (take (length pieces)) (line_cuts s seen part written mid h more) ∙ take_at pieces (cut more) _ refl)) (serves_more s h.pieces h.outs mid (part ++ 10 ∷ []) out t h.serves a);
+        at_most_one = omega arith;
+        front = front;
+        unwritten = rest;
+        begins = append-nil out ∙ e;
+        whole = ap (λ (l : List ℕ). l ++ front) h.whole;
+      }
+
+  -- the end of the input
+  pub all_ended : (s : S) (seen written : List ℕ) (t : S) → Reached A s seen [] written t → ServesAll A s seen written t
+  unfolding cut
+  all_ended s seen written t h = record {
+    outs = h.outs;
+    serves = subst (λ l. Serves A s l h.outs t) (sym (ap cut (sym (append-nil seen)) ∙ h.cuts [] ∙ append-nil h.pieces)) h.serves;
+    whole = h.whole;
+  }
+
+  open_cut : (s : S) (seen part written : List ℕ) (t : S) → (h : Reached A s seen part written t) → 0 < length part → cut seen ≡ h.pieces ++ part ∷ []
+  open_cut s seen part written t h some = ap cut (sym (append-nil seen)) ∙ h.cuts [] ∙ ap (λ l. h.pieces ++ l) (ap cut (append-nil part) ∙ cut_open part h.no_feed some)
+
+  -- the end of the input behind a last line with no line feed
+  pub all_open : (s : S) (seen part written : List ℕ) (mid : S) (out : List ℕ) (t : S) → Reached A s seen part written mid → 0 < length part → A mid (line_of (text_of part)) out t
+      → ServesAll A s seen (written ++ out) t
+  all_open s seen part written mid out t h some a = record {
+    outs = h.outs ++ out ∷ [];
+    serves = subst (λ l. Serves A s l (h.outs ++ out ∷ []) t) (sym (open_cut s seen part written mid h some)) (serves_more s h.pieces h.outs mid part out t h.serves a);
+    whole = ap (λ (l : List ℕ). l ++ out) h.whole ∙ concat_one h.outs out;
+  }
+
+  -- a stop within the last answer
+  pub some_open : (s : S) (seen part written : List ℕ) (mid : S) (out : List ℕ) (t : S) (front rest : List ℕ) → Reached A s seen part written mid → 0 < length part → A mid (line_of (text_of part)) out t → out ≡ front ++ rest
+      → ServesSome A s seen (written ++ front) t
+  some_open s seen part written mid out t front rest h some a e =
+      record {
+        n = length (cut seen);
+        outs = h.outs;
+        last = out ∷ [];
+        serves = subst (λ l. Serves A s l (h.outs ++ out ∷ []) t) (sym (take_all (length (cut seen)) (cut seen) (omega arith) ∙ open_cut s seen part written mid h some)) (serves_more s h.pieces h.outs mid part out t h.serves a);
+        at_most_one = omega arith;
+        front = front;
+        unwritten = rest;
+        begins = append-nil out ∙ e;
+        whole = ap (λ (l : List ℕ). l ++ front) h.whole;
+      }

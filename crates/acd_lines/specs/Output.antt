@@ -1,0 +1,43 @@
+-- The output of an input: one answer line for each line, with the answers to the arrivals in order.
+use Rattle.std.specs.Prelude.{◌≡◌, ◌⊎◌, ℕ, ◌≤◌, List, [], ◌∷◌, ◌++◌, length, filter, Option, IfSome}
+use Rattle.std.specs.List.{concat}
+use Rattle.std.specs.Io.BufRead.{ends_with_byte}
+use Rattle.acd_codec.specs.declared.member.Member.TheVariants as members
+use Rattle.acd_codec.specs.declared.fault.FixedAnswer.TheVariants as fixed
+use Rattle.acd_desk.specs.declared.taken.Taken.{Taken}
+use Rattle.acd_lines.specs.Input.{Line, no_moment, too_long, faulty, arrival, cut}
+use Rattle.acd_lines.specs.Answers.{malformed_line, fixed_line, taken_line}
+
+-- an input, which is what the reader had where that is known
+abbrev pub IsInput : Option (List ℕ) → List ℕ → Type 0
+IsInput known input = IfSome known (λ xs. xs ≡ input)
+
+-- the lines of some bytes that have ended
+abbrev pub whole_lines : List ℕ → List (List ℕ)
+whole_lines bytes = filter (ends_with_byte 10) (cut bytes)
+
+-- some lines, the answers to the arrivals among them, and the answer lines: faulty JSON may find no memory
+abbrev pub AnswerLines : List Line → List Taken → List (List ℕ) → Type 0
+AnswerLines [] [] [] = Unit {0}
+AnswerLines (no_moment ∷ lines) answers (out ∷ outs) = (out ≡ malformed_line members.Moment) × AnswerLines lines answers outs
+AnswerLines (too_long ∷ lines) answers (out ∷ outs) = (out ≡ fixed_line fixed.BodyTooLarge) × AnswerLines lines answers outs
+AnswerLines (faulty member ∷ lines) answers (out ∷ outs) = ((out ≡ malformed_line member) ⊎ (out ≡ fixed_line fixed.NoMemory)) × AnswerLines lines answers outs
+AnswerLines (arrival moment request ∷ lines) (t ∷ answers) (out ∷ outs) = (out ≡ taken_line request t) × AnswerLines lines answers outs
+AnswerLines _ _ _ = ⊥
+
+-- all answer lines were written
+pub record IsOutput (lines : List Line) (answers : List Taken) (written : List ℕ) : Type 0 where
+  pub outs : List (List ℕ)
+  pub answered : AnswerLines lines answers outs
+  pub whole : written ≡ concat outs
+
+-- all were written, but for the last one at most, of which a beginning was
+pub record IsBegun (lines : List Line) (answers : List Taken) (written : List ℕ) : Type 0 where
+  pub outs : List (List ℕ)
+  pub last : List (List ℕ)
+  pub answered : AnswerLines lines answers (outs ++ last)
+  pub at_most_one : length last ≤ 1
+  pub front : List ℕ
+  pub unwritten : List ℕ
+  pub begins : concat last ≡ front ++ unwritten
+  pub whole : written ≡ concat outs ++ front

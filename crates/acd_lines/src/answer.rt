@@ -1,0 +1,104 @@
+//! The answer to one line.
+
+ghost use Rattle.std.specs.Prelude.{◌≡◌, ◌⊎◌};
+ghost use Rattle.acd_codec.specs.Reading.{reads_as};
+ghost use Rattle.acd_desk.specs.Ran.{standing};
+ghost use Rattle.acd_lines.specs.Input.{line_of, line_read, arrival};
+ghost use Rattle.acd_lines.specs.Answers.{malformed_line, fixed_line, rejected_line, IsWritten, Answers};
+ghost use Rattle.acd_lines.specs.Parts.{answered_text};
+
+use crate::moment::moment_of;
+use acd_book::book::Book;
+use acd_book::text::Text;
+use acd_codec::{
+    FixedAnswer, MALFORMED_STATUS, Member, ReadFault, Rejected, read_request, rejected_text,
+};
+use acd_desk::desk::Desk;
+use acd_desk::taken::Taken;
+use acd_terms::command::Request;
+use std::alloc::{AllocError, Global};
+
+/// The answer to a line: its status and its body.
+#[derive(Drop)]
+pub(crate) enum Answered {
+    Made { status: u16, body: Text },
+    Fixed { status: u16, body: &'static str },
+}
+
+// How many bytes of JSON are read at most.
+const LONGEST: usize = 4096;
+
+fn fixed(answer: FixedAnswer) -> Answered
+    ensures { answered_text result ≡ fixed_line answer }
+{
+    Answered::Fixed {
+        status: answer.status(),
+        body: answer.text(),
+    }
+}
+
+fn malformed(member: Member) -> Answered
+    ensures { answered_text result ≡ malformed_line member }
+{
+    Answered::Fixed {
+        status: MALFORMED_STATUS,
+        body: member.malformed_text(),
+    }
+}
+
+// The text takes memory, and where there is none the answer is noMemory.
+fn rejected(alloc: Global, request: &Request, why: Rejected) -> Answered
+    ensures { (answered_text result ≡ rejected_line request.now why) ⊎ (answered_text result ≡ fixed_line FixedAnswer.NoMemory) }
+{
+    match rejected_text(alloc, &request.requester, request.invoke, why) {
+        Ok(body) => Answered::Made {
+            status: why.status(),
+            body: Text::new(body),
+        },
+        Err(AllocError) => fixed(FixedAnswer::NoMemory),
+    }
+}
+
+// What is written for the desk's answer.
+fn written(alloc: Global, request: &Request, taken: Taken) -> Answered
+    ensures { IsWritten request.now taken (answered_text result) }
+{
+    match taken {
+        Taken::Reply { status, body } => Answered::Made { status, body },
+        Taken::InvokeReused => rejected(alloc, request, Rejected::InvokeReused),
+        Taken::DeskFull => rejected(alloc, request, Rejected::DeskFull),
+        Taken::NoMemory => fixed(FixedAnswer::NoMemory),
+        Taken::StoreFault => fixed(FixedAnswer::StoreFault),
+    }
+}
+
+fn execute<B: Book>(alloc: Global, desk: &mut Desk<B>, moment: u32, request: &Request) -> Answered
+    ensures { Answers (standing B.Book) desk.old (arrival moment request.now) (answered_text result) desk.new }
+{
+    let taken = desk.take(moment, request);
+    written(alloc, request, taken)
+}
+
+fn read<B: Book>(alloc: Global, desk: &mut Desk<B>, moment: u32, json: &[u8]) -> Answered
+    ensures { Answers (standing B.Book) desk.old (line_read moment (reads_as json.now)) (answered_text result) desk.new }
+{
+    match read_request(alloc, json) {
+        Ok(request) => execute(alloc, desk, moment, &request),
+        Err(ReadFault::Malformed(member)) => malformed(member),
+        Err(ReadFault::NoMemory) => fixed(FixedAnswer::NoMemory),
+    }
+}
+
+/// The answer to a line, whose line end is left out.
+#[tactic(auto, unfolding(crate::specs::Input::line_of))]
+pub(crate) fn answer<B: Book>(alloc: Global, desk: &mut Desk<B>, text: &[u8]) -> Answered
+    ensures { Answers (standing B.Book) desk.old (line_of text.now) (answered_text result) desk.new }
+{
+    let Some((moment, json)) = moment_of(text) else {
+        return malformed(Member::Moment);
+    };
+    if json.len() > LONGEST {
+        return fixed(FixedAnswer::BodyTooLarge);
+    }
+    read(alloc, desk, moment, json)
+}

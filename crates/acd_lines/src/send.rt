@@ -1,0 +1,35 @@
+//! Bytes that are written whole.
+
+ghost use Rattle.std.specs.Prelude.{OnOk, OnErr};
+ghost use Rattle.std.specs.Io.KnownBytes.{Appends};
+ghost use Rattle.acd_lines.specs.Parts.{Begins};
+
+use std::io::{ErrorKind, Write};
+
+/// The writer failed, or was called as often as it may be.
+#[derive(Clone, Copy, Debug)]
+pub(crate) struct Stopped;
+
+/// Writes all of the bytes.
+pub(crate) fn send<W: Write>(writer: &mut W, calls: &mut u64, bytes: &[u8]) -> Result<(), Stopped>
+    ensures ok { OnOk result (Appends (W.contents writer.old) (W.contents writer.new) bytes.now) }
+    ensures err { OnErr result (Begins (W.contents writer.old) (W.contents writer.new) bytes.now) }
+{
+    let mut done = 0;
+    while done < bytes.len() {
+        if *calls == 0 {
+            return Err(Stopped);
+        }
+        *calls -= 1;
+        match writer.write(&bytes[done..]) {
+            Ok(0) => return Err(Stopped),
+            Ok(n) => done += n,
+            Err(e) => {
+                if e.kind() != ErrorKind::Interrupted {
+                    return Err(Stopped);
+                }
+            }
+        }
+    }
+    Ok(())
+}
