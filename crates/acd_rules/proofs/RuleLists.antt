@@ -1,10 +1,10 @@
 -- Lists as the tests of rules go over them.
-use Rattle.std.proofs.Common.{◌≡◌, ℕ, suc, ◌+◌, ◌-◌, ◌<◌, ◌≤◌, Bool, true, false, cond, List, [], ◌∷◌, length, get_or, refl, ap, sym, ◌∙◌, arith, drop, length-drop, add-one}
+use Rattle.std.proofs.Common.{◌≡◌, ℕ, ◌+◌, ◌≤◌, Bool, true, false, cond, List, [], ◌∷◌, length, refl, arith, drop, length-drop}
 use Rattle.std.specs.Prelude.{filter, if◌then◌else◌, not, ◌||◌}
 use Rattle.std.specs.List.{list_any}
 use Rattle.std.specs.declared.cmp.Ordering.{Ordering}
 use Rattle.acd_terms.specs.Lists.{count}
-use Rattle.acd_terms.specs.Rules.Plan.{ascends, is_less}
+use Rattle.acd_terms.specs.Rules.Plan.{ascends}
 use Rattle.acd_terms.specs.Rules.Occupied.{is_empty}
 
 counted : {T : Type 0} (b : Bool) (x : T) (xs : List T) (n : ℕ) → n ≡ length xs → (if b then 1 else 0) + n ≡ length (cond b (x ∷ xs) xs)

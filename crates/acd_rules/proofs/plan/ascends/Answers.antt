@@ -1,4 +1,4 @@
-use Rattle.std.proofs.Common.{◌≡◌, ◌+◌, ◌-◌, ◌≤◌, length, sym, ◌∙◌, arith}
+use Rattle.std.proofs.Common.{◌+◌, ◌-◌, ◌≤◌, length, sym, ◌∙◌, arith}
 use Rattle.acd_rules.proofs.RuleLists.{ascends_end}
 use Rattle.acd_rules.proofs.plan.ascends.Goals as goal
 
