@@ -3,7 +3,7 @@ use Rattle.std.proofs.Common.{◌≡◌, ℕ, inl, inr, true, false, ◌&&◌, �
 use Rattle.std.specs.Prelude.{nat_lt, ◌==◌}
 use Rattle.std.proofs.lemmas.Bool.Decides.{nat_tests}
 use Rattle.acd_terms.specs.Choice.{pair_lt, lesser, least_from}
-use Rattle.acd_terms.specs.Offers.{IsLeast}
+use Rattle.acd_terms.specs.Offers.{IsLeast, FindsLeast}
 
 itself : (a b : ℕ) → (nat_lt a a || (a == a && nat_lt b b)) ≡ false
 itself a b = grind (arith, nat_tests)
@@ -89,3 +89,10 @@ least_found (x ∷ ps) p h =
 pub none_mapped : {T : Type 0} (f : T → ℕ × ℕ) (xs : List T) → map f xs ≡ [] → xs ≡ []
 none_mapped f [] e = refl
 none_mapped f (x ∷ xs) e = absurd (cc (e))
+
+-- the scan finds the least
+pub finds_least : (ps : List (ℕ × ℕ)) → FindsLeast (least_from None ps) ps
+finds_least ps = record {
+  least = λ p. (least_is ps p, least_found ps p);
+  none = (none_of ps, λ e. ap (least_from None) e);
+}

@@ -4,7 +4,7 @@
 //! definitions of `acd_terms` that the switch itself is proved by.
 #![tactic(auto)]
 
-ghost use Rattle.acd_terms.specs.Offers.{FindsTheOffer};
+ghost use Rattle.acd_terms.specs.Offers.{FindsFirstWaiting, FindsFirstEligible, FindsTheOffer};
 ghost use Rattle.acd_laws.specs.RefusalLaws.{RefusalChangesNothing};
 ghost use Rattle.acd_laws.specs.FigureLaws.{StepKeepsFigures, RunKeepsFigures, StepAddsFigures};
 ghost use Rattle.acd_laws.specs.WatchedLaws.{StepTells, RunIsWatched};
@@ -12,7 +12,18 @@ ghost use Rattle.acd_laws.specs.BalanceLaws.{StepBalances, RunIsBalanced};
 ghost use Rattle.acd_laws.specs.OfferLaws.{StepLeavesNoOffer, RunLeavesNoOffer};
 ghost use Rattle.acd_laws.specs.PlacedLaws.{StepNamesNoLaterCall, RunNamesNoLaterCall, StepKeepsClearings, StepPlaces, RunIsPlaced, PlacesExclude};
 ghost use Rattle.acd_laws.specs.RuleLaws.{StepKeepsRules, RunKeepsRules, RulesBound, RulesLeaveRoom};
+ghost use Rattle.acd_laws.specs.ChangeLaws.{StepMakesItsChanges};
 ghost use Rattle.acd_laws.specs.PlacedLaws.{RulesGiveOneOffer, RunHasOneOffer};
+
+/// The call that is found to wait first in a group is the least one that waits there, and one is found wherever one waits.
+pub fn finds_the_first_waiting()
+    ensures { FindsFirstWaiting }
+{}
+
+/// The agent that is found to be ready longest in a group is the least eligible one, and one is found wherever there is one.
+pub fn finds_the_first_eligible()
+    ensures { FindsFirstEligible }
+{}
 
 /// The offer that is found is the one that the relation allows, and one is found wherever there is one.
 pub fn finds_the_offer()
@@ -127,4 +138,9 @@ pub fn rules_bound()
 /// Where moments are of 32 bits, the figures of rows that break no rule are below 2 to the 63.
 pub fn rules_leave_room()
     ensures { RulesLeaveRoom }
+{}
+
+/// What the changes of a step make of rows that break no rule, with the counters of the request and its events, is the rows after it.
+pub fn step_makes_its_changes()
+    ensures { StepMakesItsChanges }
 {}

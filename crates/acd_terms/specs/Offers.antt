@@ -1,9 +1,9 @@
 -- What an offer is, as a relation.
-use Rattle.std.specs.Prelude.{◌≡◌, ◌⊎◌, ◌↔◌, ℕ, ◌<◌, false, List, [], map, Some}
+use Rattle.std.specs.Prelude.{◌≡◌, ◌⊎◌, ◌↔◌, ℕ, ◌<◌, false, List, [], map, Option, Some, None}
 use Rattle.std.specs.Ordering.{nat_cmp}
 use Rattle.acd_terms.specs.Lists.{Among, IsAscending}
 use Rattle.acd_terms.specs.Scans.{waiting_in, eligible_in}
-use Rattle.acd_terms.specs.Choice.{pair_lt, waiting_pair, ready_pair, offer_of}
+use Rattle.acd_terms.specs.Choice.{pair_lt, waiting_pair, ready_pair, first_waiting, first_eligible, offer_of}
 use Rattle.acd_terms.specs.declared.rows.Rows.{Rows}
 use Rattle.acd_terms.specs.declared.record.GroupRecord.{GroupRecord}
 use Rattle.acd_terms.specs.declared.moves.Offer.{Offer}
@@ -12,6 +12,19 @@ use Rattle.acd_terms.specs.declared.moves.Offer.{Offer}
 pub record IsLeast (p : ℕ × ℕ) (ps : List (ℕ × ℕ)) : Type 0 where
   pub there : Among p ps
   pub least : (q : ℕ × ℕ) → Among q ps → pair_lt q p ≡ false
+
+-- the one that is found is the least, and none is found where there is none
+pub record FindsLeast (found : Option (ℕ × ℕ)) (ps : List (ℕ × ℕ)) : Type 0 where
+  pub least : (p : ℕ × ℕ) → (found ≡ Some p) ↔ IsLeast p ps
+  pub none : (found ≡ None) ↔ (ps ≡ [])
+
+-- the call that waits first in a group has the least place there
+abbrev pub FindsFirstWaiting : Type 0
+FindsFirstWaiting = (s : Rows) (group : ℕ) → FindsLeast (first_waiting s group) (map waiting_pair (waiting_in s group))
+
+-- the agent that is ready longest has the least stamp, and among equal stamps the least number
+abbrev pub FindsFirstEligible : Type 0
+FindsFirstEligible = (s : Rows) (group : ℕ) → FindsLeast (first_eligible s group) (map ready_pair (eligible_in s group))
 
 -- the group has no waiting call, or no eligible agent
 abbrev pub HasNoOffer : Rows → ℕ → Type 0
