@@ -3,8 +3,8 @@
 
 usage: office.py given | wanted | seen
 
-given prints the input lines, wanted the answer lines, seen how often each situation came up. The answers are those of
-bench/switch.py, which knows nothing of the verified program. 12 groups, 40 stations, 40 agents, some 60 live calls, 3000
+given prints the input lines, wanted the answer lines and then all event reports, seen how often each situation came up. They
+are those of bench/switch.py, which knows nothing of the verified program. 12 groups, 40 stations, 40 agents, some 60 live calls, 3000
 requests of eight requesters; then 300 repeats, other requests under keys that are used, and a last call.
 The same lines come at each run. crates/acd_office has them as its stdin and stdout."""
 import json
@@ -12,7 +12,7 @@ import random
 import sys
 from collections import Counter
 
-from switch import REFUSALS, Desk
+from switch import REFUSALS, Desk, compact
 
 REQUESTS, REPEATS, LIVE_CALLS = 3000, 300, 60
 GROUPS = [("100", 20, 30), ("101", 20, 30), ("0100", 15, 20), ("110", 30, 45), ("9", 20, 0), ("120", 0, 30), ("00", 25, 40),
@@ -289,7 +289,7 @@ def main():
     if sys.argv[1:] == ["given"]:
         print(*office.given, sep="\n")
     elif sys.argv[1:] == ["wanted"]:
-        print(*office.wanted, sep="\n")
+        print(*office.wanted, *map(compact, office.switch.events), sep="\n")
     elif sys.argv[1:] == ["seen"]:
         print(*(f"{count:6} {what}" for what, count in sorted(office.seen.items())), sep="\n")
     else:
