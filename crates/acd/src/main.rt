@@ -13,7 +13,7 @@ mod session;
 #[cfg(test)]
 mod tests;
 
-use acd_book::memory::MemoryBook;
+use acd_book::MemoryBook;
 use acd_desk::desk::{Desk, OpenFault};
 use acd_terms::rows::Limits;
 use session::{LinesFault, lines};

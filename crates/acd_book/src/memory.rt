@@ -4,12 +4,15 @@ ghost use Rattle.std.specs.Prelude.{◌≡◌, [], refl, ⊤, Some, IfOk, IfErr,
 ghost use Rattle.acd_terms.specs.Lists.{find_by};
 ghost use Rattle.acd_terms.specs.Scans.{at_monitor};
 ghost use Rattle.acd_book.specs.Content.{Content, empty_content, is_told};
+ghost use Rattle.acd_book.specs.State.{unfailing};
 
-use crate::book::{Book, BookFault};
+use crate::book::Book;
+use crate::fault::BookFault;
 use crate::kept::Kept;
 use acd_terms::event::Event;
 use acd_terms::id::DeviceId;
 use acd_terms::listed::Listed;
+use acd_terms::moves::Change;
 use acd_terms::name::Requester;
 use acd_terms::number::Invoke;
 use acd_terms::record::MonitorRecord;
@@ -113,17 +116,7 @@ fn told(
 }
 
 impl Book for MemoryBook {
-    ghost content = { λ b. b };
-
-    ghost stops = { λ b c. c ≡ b };
-
-    ghost is_sound = { λ b. ⊤ };
-
-    ghost is_clean = { λ b. ⊤ };
-
-    ghost is_open = { λ b. ⊤ };
-
-    ghost count = { λ b. 0 };
+    ghost state = { unfailing };
 
     ghost settled = { λ b c clean sound up found. found };
 
@@ -197,6 +190,15 @@ impl Book for MemoryBook {
         }
         self.rows = rows;
         Ok(())
+    }
+
+    fn commit_changes(
+        &mut self,
+        _changes: &[Change],
+        _events: &[Event],
+        _kept: &Kept,
+    ) -> Result<(), BookFault> {
+        Err(BookFault::NoMemory)
     }
 }
 
