@@ -1,1 +1,4 @@
 mod Unfailing
+mod Changing
+mod Numbered
+pub mod Keys

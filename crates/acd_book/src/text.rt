@@ -1,12 +1,12 @@
 //! Text that contracts see as its bytes.
 
-ghost use Rattle.std.specs.Prelude.{◌≡◌, IfOk, string_bytes};
+ghost use Rattle.std.specs.Prelude.{◌≡◌, string_bytes};
 
-use std::alloc::{AllocError, Global};
+use std::alloc::AllocError;
 use std::marker::Model;
 
 /// A text, seen as its bytes.
-#[derive(Drop)]
+#[derive(Debug, Drop)]
 pub struct Text {
     characters: String,
 }
@@ -32,12 +32,14 @@ impl Text {
     {
         self.characters.as_str()
     }
+}
 
-    /// A copy of its own.
-    pub fn copied(&self, alloc: Global) -> Result<Text, AllocError>
-        ensures { IfOk result (λ t. t ≡ self.now) }
-    {
-        let characters = String::from_str(alloc, self.characters.as_str())?;
-        Ok(Text { characters })
+impl Clone for Text {
+    ghost is_clone = { λ text clone. clone ≡ text };
+
+    fn clone(&self) -> Result<Text, AllocError> {
+        Ok(Text {
+            characters: self.characters.clone()?,
+        })
     }
 }

@@ -63,7 +63,7 @@ impl Name {
 }
 
 /// Who sends requests: 1 to 32 lower-case letters, digits and hyphens.
-#[derive(Clone, Copy, Debug, PartialEq, Eq, Hash)]
+#[derive(Clone, Copy, Debug, PartialEq, Eq)]
 pub struct Requester {
     text: ShortText<32>,
 }

@@ -8,7 +8,7 @@ use std::marker::Model;
 use std::str;
 
 /// At most `N` characters of ASCII. It takes no memory beyond its own.
-#[derive(Clone, Copy, Debug, PartialEq, Eq, Hash)]
+#[derive(Clone, Copy, Debug, PartialEq, Eq)]
 pub struct ShortText<const N: usize> {
     cells: [u8; N],
     len: usize,
