@@ -5,7 +5,6 @@
 #![tactic(auto)]
 
 pub mod figures;
-pub mod keyed;
 pub mod scans;
 pub mod table;
 pub mod tables;

@@ -6,8 +6,8 @@ ghost use Rattle.acd_terms.specs.Figures.{counting};
 ghost use Rattle.acd_tables.specs.Counting.{AllFit};
 
 use crate::figures::figures_after;
-use crate::keyed::Keyed;
 use acd_terms::event::Event;
+use acd_terms::keyed::{find, Keyed};
 use acd_terms::listed::Listed;
 use acd_terms::record::GroupRecord;
 use std::alloc::{AllocError, Global};
@@ -98,18 +98,6 @@ impl Table<GroupRecord> {
     {
         add_figures(&mut self.records, events);
     }
-}
-
-/// The first of the records at the key.
-pub fn find<R: Keyed>(records: &[R], key: R::Key) -> Option<R>
-    ensures { result ≡ find_by (λ x. R.Key.cmp key (R.key_of x)) records.now }
-{
-    for x in records {
-        if key.cmp(&x.key()).is_eq() {
-            return Some(*x);
-        }
-    }
-    None
 }
 
 // Puts the record at its key.

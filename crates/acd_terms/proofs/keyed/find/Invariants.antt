@@ -1,6 +1,6 @@
 use Rattle.std.proofs.Common.{◌≡◌, drop}
 use Rattle.acd_terms.specs.Lists.{find_by}
-use Rattle.acd_tables.proofs.table.find.Given as goal
+use Rattle.acd_terms.proofs.keyed.find.Given as goal
 
 abbrev pub invariant-loop-x : goal.invariant-loop-x
 invariant-loop-x g l =

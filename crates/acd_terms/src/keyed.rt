@@ -1,9 +1,10 @@
-//! Records with a key.
+//! Records with a key, and the one at a key.
 
 ghost use Rattle.std.specs.Prelude.{◌≡◌};
+ghost use Rattle.acd_terms.specs.Lists.{find_by};
 
-use acd_terms::id::{AgentId, DeviceId};
-use acd_terms::record::{
+use crate::id::{AgentId, DeviceId};
+use crate::record::{
     AgentRecord, CallRecord, ConnectionRecord, GroupRecord, MonitorRecord, StationRecord,
 };
 
@@ -104,4 +105,16 @@ impl Keyed for MonitorRecord {
     fn key(&self) -> u64 {
         self.monitor
     }
+}
+
+/// The first of the records at the key.
+pub fn find<R: Keyed>(records: &[R], key: R::Key) -> Option<R>
+    ensures { result ≡ find_by (λ x. R.Key.cmp key (R.key_of x)) records.now }
+{
+    for x in records {
+        if key.cmp(&x.key()).is_eq() {
+            return Some(*x);
+        }
+    }
+    None
 }
