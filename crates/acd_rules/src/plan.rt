@@ -3,10 +3,10 @@
 ghost use Rattle.std.specs.Prelude.{◌≡◌, length, filter};
 ghost use Rattle.acd_terms.specs.Scans.{has};
 ghost use Rattle.acd_terms.specs.declared.record.AgentRecord.{AgentRecord};
-ghost use Rattle.acd_terms.specs.Rules.Plan.{keeps_limits, keeps_order, keeps_device, keeps_agent, keeps_monitor, ascends, is_station_there, is_group_there, is_alone_at, is_seated};
+ghost use Rattle.acd_terms.specs.Rules.Plan.{keeps_limits, keeps_order, keeps_device, keeps_agent, keeps_monitor, is_station_there, is_group_there, is_alone_at, is_seated};
 
 use acd_terms::id::DeviceId;
-use acd_terms::keyed::Keyed;
+use acd_terms::keyed::ascends;
 use acd_terms::record::AgentRecord;
 use acd_terms::rows::Rows;
 use acd_terms::scans::{is_group, is_planned, is_station};
@@ -26,18 +26,6 @@ pub fn keeps_limits(rows: &Rows) -> bool
         && rows.last_stamp <= limits.requests
         && rows.last_call <= rows.last_stamp
         && rows.last_monitor <= rows.last_stamp
-}
-
-// Each record stands before the next.
-fn ascends<R: Keyed>(records: &[R]) -> bool
-    ensures { result ≡ ascends (λ x y. R.Key.cmp (R.key_of x) (R.key_of y)) records.now }
-{
-    for i in 1..records.len() {
-        if !records[i - 1].key().cmp(&records[i].key()).is_lt() {
-            return false;
-        }
-    }
-    true
 }
 
 /// Each list is strictly ascending in its key.

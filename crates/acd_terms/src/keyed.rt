@@ -1,7 +1,8 @@
-//! Records with a key, and the one at a key.
+//! Records with a key, the one at a key, and lists in the order of keys.
 
 ghost use Rattle.std.specs.Prelude.{◌≡◌};
 ghost use Rattle.acd_terms.specs.Lists.{find_by};
+ghost use Rattle.acd_terms.specs.Rules.Plan.{ascends};
 
 use crate::id::{AgentId, DeviceId};
 use crate::record::{
@@ -117,4 +118,16 @@ pub fn find<R: Keyed>(records: &[R], key: R::Key) -> Option<R>
         }
     }
     None
+}
+
+/// Each record stands before the next.
+pub fn ascends<R: Keyed>(records: &[R]) -> bool
+    ensures { result ≡ ascends (λ x y. R.Key.cmp (R.key_of x) (R.key_of y)) records.now }
+{
+    for i in 1..records.len() {
+        if !records[i - 1].key().cmp(&records[i].key()).is_lt() {
+            return false;
+        }
+    }
+    true
 }

@@ -1,6 +1,6 @@
 use Rattle.std.proofs.Common.{◌≡◌, ◌++◌, take, drop}
 use Rattle.acd_terms.specs.Lists.{put_by}
-use Rattle.acd_tables.proofs.table.put.Given as goal
+use Rattle.acd_tables.proofs.vec_table.put.Given as goal
 
 abbrev pub invariant-loop-i : goal.invariant-loop-i
 invariant-loop-i g l =

@@ -1,7 +1,7 @@
 use Rattle.std.proofs.Common.{rules, ◌≡◌, ◌<◌, length, get_or, sym, ◌∙◌}
 use Rattle.std.specs.declared.cmp.Ordering.TheVariants.{Equal}
-use Rattle.acd_tables.proofs.ListLemmas.{put_by-at_equal}
-use Rattle.acd_tables.proofs.table.put.Goals as goal
+use Rattle.acd_tables.proofs.VecLists.{put_by-at_equal}
+use Rattle.acd_tables.proofs.vec_table.put.Goals as goal
 
 pub returns-in-Equal-clause-ok : goal.returns-in-Equal-clause-ok
 returns-in-Equal-clause-ok g c =

@@ -1,6 +1,6 @@
 use Rattle.std.proofs.Common.{◌≡◌, ◌++◌, take, drop, map}
 use Rattle.acd_terms.specs.Figures.{counting}
-use Rattle.acd_tables.proofs.table.add_figures.Given as goal
+use Rattle.acd_tables.proofs.vec_table.add_figures.Given as goal
 
 abbrev pub invariant-loop-group : goal.invariant-loop-group
 invariant-loop-group l =

@@ -1,6 +1,6 @@
 use Rattle.std.proofs.Common.{◌≡◌, ◌++◌, take, drop}
 use Rattle.acd_terms.specs.Lists.{remove_by}
-use Rattle.acd_tables.proofs.table.remove.Given as goal
+use Rattle.acd_tables.proofs.vec_table.remove.Given as goal
 
 abbrev pub invariant-loop-i : goal.invariant-loop-i
 invariant-loop-i g l =

@@ -1,6 +1,6 @@
 use Rattle.std.proofs.Common.{◌<◌, length, arith}
 use Rattle.acd_tables.proofs.FigureLemmas.{AreFitting-next}
-use Rattle.acd_tables.proofs.table.add_figures.Goals as goal
+use Rattle.acd_tables.proofs.vec_table.add_figures.Goals as goal
 
 pub figures_after-group-requires : goal.figures_after-group-requires
 figures_after-group-requires c =

@@ -1,6 +1,6 @@
 use Rattle.std.proofs.Common.{◌≡◌, ◌-◌, drop}
 use Rattle.acd_terms.specs.Rules.Plan.{ascends}
-use Rattle.acd_rules.proofs.plan.ascends.Given as goal
+use Rattle.acd_terms.proofs.keyed.ascends.Given as goal
 
 abbrev pub invariant-loop-i : goal.invariant-loop-i
 invariant-loop-i g l =
