@@ -1,8 +1,8 @@
 -- Keys of kept records, and the places that a map has of them.
 use Rattle.std.proofs.Common.{arith, ◌≡◌, ℕ, ◌+◌, ◌-◌, ◌≤◌, suc, Bool, true, false, cond, ◌&&◌, ◌==◌, List, [], ◌∷◌, ◌++◌, length, slice_get, Option, Some, None, refl, ap, ap₂, ◌∙◌, sym, subst, eqb-true, eq-eqb, true≢false, find}
 use Rattle.std.specs.Str.{bytes_eq}
-use Rattle.std.specs.Prelude.{replicate, nat_eq, unwrap_or, is_none}
-use Rattle.std.specs.Cmp.Lexicographic.{same_text, pointwise}
+use Rattle.std.specs.Prelude.{unwrap_or, is_none}
+use Rattle.std.specs.Cmp.Lexicographic.{same_text}
 use Rattle.std.specs.List.{position_from}
 use Rattle.std.specs.HashMap.{HashMap, get, Updates}
 use Rattle.std.specs.declared.hash.FoldHasher.{FoldHasher}
@@ -10,12 +10,10 @@ use Rattle.std.specs.declared.hash.BuildHasherDefault.{BuildHasherDefault}
 use Rattle.std.proofs.lemmas.Bool.{and_from}
 use Rattle.std.proofs.lemmas.Option.{none-some}
 use Rattle.acd_terms.specs.declared.command.Request.{Request}
-use Rattle.acd_terms.proofs.HeldTexts.{held_text}
 use Rattle.acd_book.specs.Content.{is_key, kept_of}
 use Rattle.acd_book.specs.Memory.{key_of, is_kept_under, same_key, IsPlaced}
 use Rattle.acd_book.specs.declared.kept.Kept.{Kept}
 use Rattle.acd_book.specs.declared.key.Key.{Key}
-use Rattle.acd_book.specs.contracts.key.KeyEq.TheImpl.Laws.{laws-law}
 use Rattle.acd_book.proofs.Numbered.{both}
 
 -- a request has the key of one that has it
@@ -38,12 +36,12 @@ key p q = record { requester = p; invoke = q }
 same_is : (a b : Key) → same_key a b ≡ true → a ≡ b
 unfolding same_key
 same_is a b h =
-    let parts = both (pointwise nat_eq (a.requester ++ replicate (32 - length a.requester) 0) (b.requester ++ replicate (32 - length b.requester) 0) && (length a.requester == length b.requester)) (a.invoke == b.invoke) h in
-    ap₂ (λ (p : List ℕ) (q : ℕ). record { requester = p; invoke = q }) (held_text 32 a.requester b.requester parts.0) (eqb-true a.invoke b.invoke parts.1)
+    let parts = both (bytes_eq a.requester b.requester) (a.invoke == b.invoke) h in
+    ap₂ (λ (p : List ℕ) (q : ℕ). record { requester = p; invoke = q }) (same_text a.requester b.requester (sym parts.0)) (eqb-true a.invoke b.invoke parts.1)
 
 own_same : (a : Key) → same_key a a ≡ true
 unfolding same_key
-own_same a = laws-law.refl a
+own_same a = and_from (bytes_eq a.requester a.requester) (a.invoke == a.invoke) (own_text a.requester) (eq-eqb a.invoke a.invoke refl)
 
 -- the two tests of a key agree
 agree : (p q : Bool) → (p ≡ true → q ≡ true) → (q ≡ true → p ≡ true) → p ≡ q
@@ -55,7 +53,7 @@ same_kept : (x : Kept) (k : Key) → same_key (key_of x) k ≡ is_kept_under k x
 same_kept x k = agree (same_key (key_of x) k) (is_kept_under k x)
     (λ h. subst (λ (k : Key). is_kept_under k x ≡ true) (same_is (key_of x) k h) (key_own x.request))
     (λ h. let parts = key_same k.requester k.invoke x.request h in
-      subst (λ (k : Key). same_key (key_of x) k ≡ true) (ap₂ (λ (p : List ℕ) (q : ℕ). record { requester = p; invoke = q }) parts.0 parts.1) (own_same (key_of x)))
+    subst (λ (k : Key). same_key (key_of x) k ≡ true) (ap₂ (λ (p : List ℕ) (q : ℕ). record { requester = p; invoke = q }) parts.0 parts.1) (own_same (key_of x)))
 
 none_is : {T : Type 0} (o : Option T) → is_none o ≡ true → o ≡ None
 none_is None h = refl

@@ -2,3 +2,4 @@ mod Unfailing
 mod Changing
 mod Numbered
 pub mod Keys
+mod Watching

@@ -26,7 +26,7 @@ numbered-append f b (x ∷ xs) ys h more =
     let parts = both (f x == b + 1) (is_numbered f (b + 1) xs) h in
     let behind : b + length (x ∷ xs) ≡ (b + 1) + length xs = omega arith in
     and_from (f x == b + 1) (is_numbered f (b + 1) (xs ++ ys)) parts.0
-        (numbered-append f (b + 1) xs ys parts.1 (subst (λ n. is_numbered f n ys ≡ true) behind more))
+    (numbered-append f (b + 1) xs ys parts.1 (subst (λ n. is_numbered f n ys ≡ true) behind more))
 
 -- one more than the last
 pub numbered-push : {T : Type 0} (f : T → ℕ) (xs : List T) (x : T) → is_numbered f 0 xs ≡ true → f x ≡ length xs + 1 → is_numbered f 0 (xs ++ x ∷ []) ≡ true
@@ -63,7 +63,7 @@ filter_numbered f p b (suc n) (x ∷ xs) h =
     let parts = first f b x xs h in
     let behind : b + suc n ≡ (b + 1) + n = omega arith in
     ap (λ (c : Bool). cond c (x ∷ filter (λ x. p x && nat_lt (b + suc n) (f x)) xs) (filter (λ x. p x && nat_lt (b + suc n) (f x)) xs))
-        (ap (λ (c : Bool). p x && c) (le-ltb (b + suc n) (f x) (omega (arith, parts.0))) ∙ and-false (p x))
+    (ap (λ (c : Bool). p x && c) (le-ltb (b + suc n) (f x) (omega (arith, parts.0))) ∙ and-false (p x))
     ∙ ap (λ (m : ℕ). filter (λ x. p x && nat_lt m (f x)) xs) behind
     ∙ filter_numbered f p (b + 1) n xs parts.1
 

@@ -125,7 +125,8 @@ impl Contents {
         self.log.reserve(events.len())?;
         self.replies.push(kept)?;
         self.log.append(events);
-        self.ledger.append(changes, stamp, moment, events.len() as u64);
+        self.ledger
+            .append(changes, stamp, moment, events.len() as u64);
         self.ledger.settle();
         Ok(())
     }

@@ -8,7 +8,7 @@ use acd_terms::command::Request;
 use std::alloc::AllocError;
 
 /// What is kept of an executed request.
-#[derive(Debug, Drop)]
+#[derive(Debug, Drop, PartialEq, Eq)]
 pub struct Kept {
     /// Its number among the executed requests, from 1.
     pub stamp: u64,

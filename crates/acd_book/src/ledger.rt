@@ -5,7 +5,7 @@ ghost use Rattle.acd_terms.specs.Changes.{rows_made};
 ghost use Rattle.acd_terms.specs.Scans.{monitor_of};
 ghost use Rattle.acd_terms.specs.Writes.{empty_rows};
 
-use crate::records::Records;
+use acd_tables::records::Records;
 use acd_terms::moves::Change;
 use acd_terms::record::MonitorRecord;
 use acd_terms::rows::{Limits, Rows};

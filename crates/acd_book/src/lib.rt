@@ -18,7 +18,6 @@ mod key;
 mod ledger;
 mod log;
 mod memory;
-mod records;
 mod replies;
 #[cfg(test)]
 mod tests;

@@ -1,6 +1,6 @@
 //! The kept records of a book in memory.
 
-ghost use Rattle.std.specs.Prelude.{◌≡◌, ◌++◌, ◌∷◌, ◌+◌, ◌&&◌, ◌==◌, [], length, true, is_none, option_copied, OnOk, OnErr};
+ghost use Rattle.std.specs.Prelude.{◌≡◌, ◌++◌, ◌∷◌, ◌+◌, ◌&&◌, ◌==◌, [], length, true, is_none, slice_get, option_copied, OnOk, OnErr};
 ghost use Rattle.acd_book.specs.Content.{kept_of, kept_behind};
 ghost use Rattle.acd_book.specs.Memory.{is_numbered, stamp_of, IsPlaced};
 
@@ -39,14 +39,14 @@ impl Replies {
             invoke,
         };
         let place = *self.places.get(&key)?;
-        self.records.get(place)
+        record_at(&self.records, place)
     }
 
     /// The record of the least greater stamp.
     pub(crate) fn after(&self, stamp: u64) -> Option<&Kept>
         ensures { option_copied result ≡ kept_behind self.now.records.items stamp }
     {
-        self.records.get(stamp as usize)
+        record_at(&self.records, stamp as usize)
     }
 
     /// Its stamp goes on, and its key is new.
@@ -72,4 +72,10 @@ impl Replies {
         self.records.push(kept)?;
         Ok(())
     }
+}
+
+fn record_at(records: &[Kept], place: usize) -> Option<&Kept>
+    ensures { option_copied result ≡ slice_get records.now place }
+{
+    records.get(place)
 }

@@ -9,11 +9,11 @@ unfolding same_key
 returns-in_err-place c =
     let s = c.args.self.now in
     ap option_copied c.from_residual.ensures
-    ∙ sym (unkept s.places s.records.items c.args.requester.now c.args.invoke s.placed (sym c.get.ensures.value ∙ ap option_copied (c.in_err-place.was)))
+    ∙ sym (unkept s.places s.records.items c.args.requester.now c.args.invoke s.placed (sym c.get.ensures.value ∙ ap option_copied c.in_err-place.was))
 
 pub returns : goal.returns
 unfolding same_key
 returns c =
     let s = c.args.self.now in
-    let got : option_copied c.get-2.result ≡ slice_get s.records.items c.in_ok-place.field-0.now = search (rules, c.get-2.ensures.lookup) in
-    got ∙ sym (kept_at s.places s.records.items c.args.requester.now c.args.invoke c.in_ok-place.field-0.now s.placed (sym c.get.ensures.value ∙ ap option_copied c.in_ok-place.was))
+    let at = kept_at s.places s.records.items c.args.requester.now c.args.invoke c.in_ok-place.field-0.now s.placed (sym c.get.ensures.value ∙ ap option_copied c.in_ok-place.was) in
+    search (rules, at)
