@@ -6,8 +6,7 @@ ghost use Rattle.acd_desk.specs.Arrived.{at};
 ghost use Rattle.acd_desk.specs.Firsts.{stepped, kept_at, record_of};
 
 use crate::taken::Taken;
-use acd_book::kept::Kept;
-use acd_book::text::Text;
+use acd_book::{Kept, Text};
 use acd_codec::{outcome_status, reply_text};
 use acd_switch::row_fault::RowFault;
 use acd_switch::switch::Switch;

@@ -2,8 +2,7 @@
 
 use crate::desk::Desk;
 use crate::taken::Taken;
-use acd_book::book::Book;
-use acd_book::memory::MemoryBook;
+use acd_book::{Book, MemoryBook};
 use acd_codec::read_request;
 use acd_terms::command::Arrival;
 use acd_terms::rows::Limits;

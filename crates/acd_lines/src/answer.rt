@@ -8,8 +8,7 @@ ghost use Rattle.acd_lines.specs.Answers.{malformed_line, fixed_line, rejected_l
 ghost use Rattle.acd_lines.specs.Parts.{answered_text};
 
 use crate::moment::moment_of;
-use acd_book::book::Book;
-use acd_book::text::Text;
+use acd_book::{Book, Text};
 use acd_codec::{
     FixedAnswer, MALFORMED_STATUS, Member, ReadFault, Rejected, read_request, rejected_text,
 };

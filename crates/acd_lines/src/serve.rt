@@ -11,7 +11,7 @@ ghost use Rattle.acd_lines.specs.Parts.{Begins, LineDone, LineStops, Feeds, Feed
 use crate::answer::{Answered, answer};
 use crate::partial::Partial;
 use crate::send::{Stopped, send};
-use acd_book::book::Book;
+use acd_book::Book;
 use acd_desk::desk::Desk;
 use itoa::Buffer;
 use std::alloc::Global;

@@ -12,7 +12,7 @@ ghost use Rattle.acd_lines.specs.Parts.{ServesAll, ServesRead, ServesSome};
 use crate::partial::Partial;
 use crate::send::Stopped;
 use crate::serve::{feed, finish};
-use acd_book::book::Book;
+use acd_book::Book;
 use acd_desk::desk::Desk;
 use std::alloc::Global;
 use std::io::{ErrorKind, Read, Write};

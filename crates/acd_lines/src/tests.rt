@@ -2,8 +2,7 @@
 //! fail midway.
 
 use crate::session::{LinesFault, lines};
-use acd_book::book::Book;
-use acd_book::memory::MemoryBook;
+use acd_book::{Book, MemoryBook};
 use acd_desk::desk::{Desk, OpenFault};
 use acd_terms::rows::Limits;
 use std::alloc::Global;

@@ -2,9 +2,7 @@
 
 ghost use Rattle.std.specs.Prelude.{◌≡◌, ⊤, refl};
 
-use acd_book::book::{Book, BookFault};
-use acd_book::kept::Kept;
-use acd_book::memory::MemoryBook;
+use acd_book::{Book, BookFault, Kept, MemoryBook};
 use acd_terms::event::Event;
 use acd_terms::name::Requester;
 use acd_terms::number::Invoke;
