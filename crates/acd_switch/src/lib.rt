@@ -5,7 +5,11 @@
 //! refuses those that break a rule.
 #![tactic(auto)]
 
+#[cfg(test)]
+mod changes_tests;
 pub mod distribution;
+pub mod figures;
+pub mod journal;
 pub mod row_fault;
 #[cfg(test)]
 mod rows_tests;
