@@ -14,7 +14,7 @@ mod session;
 mod tests;
 
 use acd_book::MemoryBook;
-use acd_desk::desk::{Desk, OpenFault};
+use acd_desk::{Desk, OpenFault};
 use acd_terms::rows::Limits;
 use session::{LinesFault, lines};
 use std::process::ExitCode;

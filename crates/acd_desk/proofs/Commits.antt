@@ -21,7 +21,7 @@ use Rattle.acd_desk.proofs.Steps.{step_limits, step_stamp, step_moment, step_num
 use Rattle.acd_desk.proofs.Runs.{executes, answers_new}
 use Rattle.acd_desk.proofs.Counting.{counted_executed}
 
-some_none : {T : Type 0} (x : T) → Some x ≡ None → ⊥
+pub some_none : {T : Type 0} (x : T) → Some x ≡ None → ⊥
 some_none x h = cc
 
 keeps_first : (kept : Bool) (which : Rule) (rest : Option Rule) → or_broken kept which rest ≡ None → (kept ≡ true) × (rest ≡ None)

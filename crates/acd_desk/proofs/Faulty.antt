@@ -1,5 +1,5 @@
 -- What a call of a desk leaves that is answered by a fault.
-use Rattle.std.proofs.Common.{◌≡◌, ◌≤◌, ℕ, Bool, true, false, Option, Some, None, Result, Ok, Err, refl, sym, ap, subst, ◌∙◌, arith, inl, inr, ◌⊎◌, true≢false}
+use Rattle.std.proofs.Common.{◌≡◌, ◌≤◌, ℕ, Bool, true, false, Option, None, Result, Ok, Err, refl, sym, ap, subst, ◌∙◌, arith, inl, inr, ◌⊎◌, true≢false}
 use Rattle.acd_terms.specs.Rules.First.{BreaksNoRule}
 use Rattle.acd_terms.specs.declared.rows.Rows.{Rows}
 use Rattle.acd_terms.specs.declared.command.Arrival.{Arrival}
@@ -7,7 +7,6 @@ use Rattle.acd_book.specs.Content.{Content, IsCounted, HasRisen}
 use Rattle.acd_book.specs.State.{BookState, Reads}
 use Rattle.acd_book.specs.declared.fault.BookFault.{BookFault}
 use Rattle.acd_book.specs.declared.fault.BookFault.TheVariants as faults
-use Rattle.acd_desk.specs.declared.taken.Taken.{Taken}
 use Rattle.acd_desk.specs.declared.taken.Taken.TheVariants.{NoMemory, StoreFault}
 use Rattle.acd_desk.specs.declared.working.Working.{Working}
 use Rattle.acd_desk.specs.declared.working.Working.TheVariants.{Unloaded}
@@ -15,6 +14,8 @@ use Rattle.acd_desk.specs.Faults.{answer_to, left_by}
 use Rattle.acd_desk.specs.Replies.{after}
 use Rattle.acd_desk.specs.Standing.{Standing, switch_of, is_failed, Mirrors, InStep}
 use Rattle.acd_desk.specs.Ran.{IsCause, IsDeceived, Took}
+use Rattle.acd_desk.proofs.Many.{no_store}
+use Rattle.acd_desk.proofs.Calls.{ok_err}
 
 -- what a call of the book leaves that did nothing, or nothing that is known
 pub record Undone (old : Standing) (a : Arrival) (new : BookState) : Type 0 where
@@ -23,14 +24,6 @@ pub record Undone (old : Standing) (a : Arrival) (new : BookState) : Type 0 wher
   pub same : new.is_clean → old.book.is_sound → new.is_open → old.book.is_open × (new.content ≡ old.book.content)
   pub stops : new.is_clean → old.book.is_sound → InStep old → (c : Content) → new.stops c → old.book.stops c ⊎ (old.book.is_open × (c ≡ after old.book.content a))
 
-pub nothing : (s : Standing) (a : Arrival) → Undone s a s.book
-nothing s a = record {
-  clean = λ clean. clean;
-  sound = λ clean sound. sound;
-  same = λ clean sound opened. (opened, refl);
-  stops = λ clean sound step c at. inl at;
-}
-
 pub read : {A : Type 0} (s : Standing) (a : Arrival) (d : BookState) (result : Result A BookFault) (IsAnswer : Content → A → Type 0) → Reads s.book d result IsAnswer → Undone s a d
 read s a d result IsAnswer reads = record {
   clean = reads.clean;
@@ -38,9 +31,6 @@ read s a d result IsAnswer reads = record {
   same = reads.same;
   stops = λ clean sound step c at. inl (reads.stops clean sound c at);
 }
-
-no_store : NoMemory ≡ StoreFault → ⊥
-no_store h = cc
 
 -- no memory: what is left in memory mirrors what was there mirrored
 pub no_memory : (old : Standing) (a : Arrival) (d : BookState) (left : Option Rows) → Undone old a d → d.failures ≡ old.book.failures → old.failed ≡ false
@@ -86,17 +76,8 @@ store_fault old a d undone counts cause = record {
   unloads = λ working. absurd (true≢false working);
 }
 
--- the desk had failed
-pub failed_before : (s : Standing) (a : Arrival) → s.switch ≡ None → s.failed ≡ true → Took s a StoreFault s
-failed_before s a gone failed =
-    let P : Option Rows → Bool → Type 0 = λ o f. Took s a StoreFault (record { book = s.book; switch = o; failed = f }) in
-    subst (λ (o : Option Rows). P o s.failed) (sym gone) (subst (λ (f : Bool). P None f) (sym failed) (store_fault s a s.book (nothing s a) (omega arith) (inl (inl failed))))
-
 no_fault : faults.NoMemory ≡ faults.Store → ⊥
 no_fault h = cc
-
-ok_err : {A : Type 0} {found : A} {e : BookFault} → ◌≡◌ {A = Result A BookFault} (Ok found) (Err e) → ⊥
-ok_err h = cc
 
 -- a fault of the book
 pub faulted : (old : Standing) (a : Arrival) (d : BookState) (w : Working) (f : BookFault) → Undone old a d

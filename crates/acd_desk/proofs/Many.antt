@@ -10,7 +10,7 @@ use Rattle.acd_desk.specs.declared.taken.Taken.TheVariants.{Reply, InvokeReused,
 use Rattle.acd_desk.specs.Replies.{answer_in, after}
 use Rattle.acd_desk.specs.Served.{is_fault, is_rejection, is_reply, served, unserved}
 use Rattle.acd_desk.specs.Stands.{IsSound, ran_after, replies, StopsAt}
-use Rattle.acd_desk.specs.Standing.{Standing, InStep, Starts}
+use Rattle.acd_desk.specs.Standing.{Standing, Starts}
 use Rattle.acd_desk.specs.Ran.{IsCause, IsDeceived, WasUnloaded, StaysShut, Took, Ran}
 use Rattle.acd_desk.proofs.Longer.{ran_none, one_said, one_content, one_stop, served-push, unserved-push}
 use Rattle.acd_desk.proofs.Sound.{ran_sound, stop_sound}
@@ -209,7 +209,7 @@ rejection_no_reply StoreFault h = refl
 rejection_no_store : (t : Taken) → is_rejection t ≡ true → ¬ (t ≡ StoreFault)
 rejection_no_store t rejected is = true≢false (sym rejected ∙ ap is_rejection is)
 
-no_store : NoMemory ≡ StoreFault → ⊥
+pub no_store : NoMemory ≡ StoreFault → ⊥
 no_store h = cc
 
 -- the text of a rejection may not be made, and noMemory be answered

@@ -1,70 +1,29 @@
 -- What a call of a desk leaves that executes a request with a new key.
-use Rattle.std.proofs.Common.{◌≡◌, ◌≤◌, ℕ, Bool, true, false, List, Option, Some, None, Result, Ok, Err, refl, sym, ap, subst, ◌∙◌, arith, inl, inr, ◌⊎◌, true≢false, cond, nat_le, nat_lt, is_some, leb-true, le-ltb}
+use Rattle.std.proofs.Common.{◌≡◌, ℕ, false, List, Some, None, Result, Ok, Err, refl, sym, ap, subst, ◌∙◌, inl, inr, true≢false, nat_le}
 use Rattle.acd_terms.specs.Rules.First.{BreaksNoRule}
 use Rattle.acd_terms.specs.declared.rows.Rows.{Rows}
 use Rattle.acd_terms.specs.declared.moves.Change.{Change}
 use Rattle.acd_terms.specs.declared.event.Event.{Event}
 use Rattle.acd_terms.specs.declared.command.Arrival.{Arrival}
 use Rattle.acd_book.specs.declared.kept.Kept.{Kept}
-use Rattle.acd_book.specs.Content.{Content, IsCounted, kept_of, FollowsBy, committed_by}
+use Rattle.acd_book.specs.Content.{FollowsBy, committed_by}
 use Rattle.acd_book.specs.State.{BookState, Commits}
 use Rattle.acd_book.specs.declared.fault.BookFault.{BookFault}
-use Rattle.acd_book.specs.declared.fault.BookFault.TheVariants as faults
-use Rattle.acd_desk.specs.declared.taken.Taken.{Taken}
-use Rattle.acd_desk.specs.declared.taken.Taken.TheVariants.{Reply, DeskFull, NoMemory, StoreFault}
+use Rattle.acd_desk.specs.declared.taken.Taken.TheVariants.{Reply, NoMemory, StoreFault}
 use Rattle.acd_desk.specs.declared.working.Working.TheVariants.{Unloaded}
 use Rattle.acd_desk.specs.Faults.{answer_to, left_by}
-use Rattle.acd_desk.specs.Firsts.{executed}
 use Rattle.acd_desk.specs.Prepared.{Prepared}
-use Rattle.acd_desk.specs.Replies.{answer_of, answer_in, after}
-use Rattle.acd_desk.specs.Standing.{Standing, switch_of, is_failed, holding, Mirrors, InStep, with_new_key}
+use Rattle.acd_desk.specs.Standing.{Standing, switch_of, is_failed, holding, Mirrors, with_new_key}
 use Rattle.acd_desk.specs.Ran.{Took}
-use Rattle.acd_desk.proofs.Commits.{commits, executed_in_step, executed_reply}
+use Rattle.acd_desk.proofs.Calls.{ok_err}
+use Rattle.acd_desk.proofs.Commits.{some_none, commits, executed_in_step, executed_reply}
 use Rattle.acd_desk.proofs.Faulty.{Undone, faulted, no_memory}
-
-full_store : DeskFull ≡ StoreFault → ⊥
-full_store h = cc
-
--- a new key, and as many requests were executed as may be
-pub full : (s : Standing) (rows : Rows) (a : Arrival) → nat_le rows.limits.requests rows.last_stamp ≡ true
-    → Took (with_new_key (holding s rows) a.request) a DeskFull (record { book = s.book; switch = Some rows; failed = false })
-full s rows a most =
-    let c : Content = s.book.content in
-    let room : c.rows ≡ rows → nat_lt c.rows.last_stamp c.rows.limits.requests ≡ false
-    = λ is. subst (λ (x : Rows). nat_lt x.last_stamp x.limits.requests ≡ false) (sym is) (le-ltb rows.last_stamp rows.limits.requests (leb-true rows.limits.requests rows.last_stamp most)) in
-    let still : kept_of c.kept a.request.requester a.request.invoke ≡ None → c.rows ≡ rows → after c a ≡ c
-    = λ new is. ap (λ (o : Option Kept). cond (is_some o) c (cond (nat_lt c.rows.last_stamp c.rows.limits.requests) (executed c a) c)) new
-    ∙ ap (λ (b : Bool). cond b (executed c a) c) (room is) in
-    record {
-      clean = λ clean. clean;
-      sound = λ clean sound. sound.0;
-      in_step = λ clean sound step. step;
-      up = λ fine clean sound. (sound.1, sound.1);
-      sent = λ fine clean sound step.
-          let same = still sound.2 (step sound.1 refl).0 in
-          (ap (λ (o : Option Kept). answer_of o a.request) (sym sound.2) ∙ ap (λ (x : Content). answer_in x a.request) (sym same), sym same);
-      unmoved = λ none clean sound opened. (opened, refl);
-      stops = λ clean sound step x at. inl at;
-      shuts = λ h. absurd (full_store h);
-      tells = λ h. absurd (true≢false (sym h));
-      shut = λ h. absurd (true≢false (sym h));
-      cause = λ h. absurd (true≢false (sym h));
-      quiet = λ none. refl;
-      counts = omega arith;
-      unloads = λ working gone. inl gone;
-    }
-
-ok_err : {e : BookFault} → ◌≡◌ {A = Result (Unit {0}) BookFault} (Ok tt) (Err e) → ⊥
-ok_err h = cc
 
 err_is : {e f : BookFault} → ◌≡◌ {A = Result (Unit {0}) BookFault} (Err e) (Err f) → e ≡ f
 err_is h = cc
 
 reply_store : (status : ℕ) (body : List ℕ) → Reply status body ≡ StoreFault → ⊥
 reply_store status body h = cc
-
-some_none : (rows : Rows) → Some rows ≡ None → ⊥
-some_none rows h = cc
 
 -- it was executed, and is kept
 pub kept_new : (s : Standing) (rows next : Rows) (a : Arrival) (changes : List Change) (es : List Event) (k : Kept) (d : BookState) → Prepared rows a changes es k next

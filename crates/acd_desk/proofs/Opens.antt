@@ -1,35 +1,26 @@
 -- What opening a desk leaves.
-use Rattle.std.proofs.Common.{◌≡◌, Option, Some, None, Result, Ok, Err, false, refl, sym, ap, subst, ◌∙◌}
+use Rattle.std.proofs.Common.{◌≡◌, Some, Ok, false, refl, sym, ap, subst, ◌∙◌}
 use Rattle.acd_terms.specs.Rules.First.{first_broken, BreaksNoRule}
 use Rattle.acd_terms.specs.declared.rows.Rows.{Rows}
 use Rattle.acd_terms.specs.declared.rows.Rule.{Rule}
 use Rattle.acd_book.specs.Content.{Content, IsCounted}
 use Rattle.acd_book.specs.State.{BookState, Reads}
-use Rattle.acd_book.specs.declared.fault.BookFault.{BookFault}
-use Rattle.acd_book.specs.declared.fault.BookFault.TheVariants as book
 use Rattle.acd_switch.specs.RowFaults.{IsFaultOf}
 use Rattle.acd_switch.specs.declared.row_fault.RowFault.{RowFault}
 use Rattle.acd_switch.specs.declared.row_fault.RowFault.TheVariants as row
 use Rattle.acd_desk.specs.declared.open_fault.OpenFault.{OpenFault}
 use Rattle.acd_desk.specs.declared.open_fault.OpenFault.TheVariants as fault
 use Rattle.acd_desk.specs.Stands.{IsSound}
-use Rattle.acd_desk.specs.Opening.{by_book, by_rows, Opened, Refused}
+use Rattle.acd_desk.specs.Opening.{by_rows, Opened, Refused}
+use Rattle.acd_desk.proofs.Calls.{ok_err}
+use Rattle.acd_desk.proofs.Commits.{some_none}
 use Rattle.acd_desk.proofs.ContentLaws.{sound_rules, sound_counted}
-
-ok_err : {e : BookFault} {found : Rows} → ◌≡◌ {A = Result Rows BookFault} (Ok found) (Err e) → ⊥
-ok_err h = cc
-
-some_none : (rule : Rule) → Some rule ≡ None → ⊥
-some_none rule h = cc
 
 rows_store : (rule : Rule) → fault.Rows rule ≡ fault.Store → ⊥
 rows_store rule h = cc
 
 memory_store : fault.NoMemory ≡ fault.Store → ⊥
 memory_store h = cc
-
-err_memory : ◌≡◌ {A = Result Rows BookFault} (Err book.NoMemory) (Err book.Store) → ⊥
-err_memory h = cc
 
 pub opens : (b d : BookState) (rows switch : Rows) → Reads b d (Ok rows) (λ (c : Content) (found : Rows). found ≡ c.rows) → switch ≡ rows → BreaksNoRule rows
     → Opened b (record { book = d; switch = Some switch; failed = false })
@@ -80,33 +71,5 @@ refuses b d rows row.NoMemory reads broken = record {
   counts = reads.counts;
 }
 
--- the rows weren't read
-unread : (b d : BookState) (f : BookFault) → Reads b d (Err f) (λ (c : Content) (found : Rows). found ≡ c.rows) → Refused b (by_book f) d
-unread b d book.NoMemory reads = record {
-  clean = reads.clean;
-  sound = reads.sound;
-  stops = reads.stops;
-  same = reads.same;
-  refuses = λ clean sound. tt;
-  well = λ clean sound whole. tt;
-  cause = λ h. absurd (memory_store h);
-  quiet = λ none. reads.quiet (λ is. err_memory is);
-  counts = reads.counts;
-}
-unread b d book.Store reads = record {
-  clean = reads.clean;
-  sound = reads.sound;
-  stops = reads.stops;
-  same = reads.same;
-  refuses = λ clean sound. tt;
-  well = λ clean sound whole. tt;
-  cause = λ h. reads.cause refl;
-  quiet = λ none. absurd (none refl);
-  counts = reads.counts;
-}
-
 pub rows_refused : (b d : BookState) (rows : Rows) (f : RowFault) (o : OpenFault) → Reads b d (Ok rows) (λ (c : Content) (found : Rows). found ≡ c.rows) → IsFaultOf rows f → o ≡ by_rows f → Refused b o d
 rows_refused b d rows f o reads broken is = subst (λ (x : OpenFault). Refused b x d) (sym is) (refuses b d rows f reads broken)
-
-pub book_refused : (b d : BookState) (f : BookFault) (o : OpenFault) → Reads b d (Err f) (λ (c : Content) (found : Rows). found ≡ c.rows) → o ≡ by_book f → Refused b o d
-book_refused b d f o reads is = subst (λ (x : OpenFault). Refused b x d) (sym is) (unread b d f reads)

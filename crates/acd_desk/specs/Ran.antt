@@ -9,7 +9,8 @@ use Rattle.acd_desk.specs.declared.taken.Taken.TheVariants.{NoMemory, StoreFault
 use Rattle.acd_desk.specs.Replies.{answer_in, after}
 use Rattle.acd_desk.specs.Served.{is_fault, is_reply, served, unserved, sent}
 use Rattle.acd_desk.specs.Stands.{IsSound, ran_after, replies, StopsAt}
-use Rattle.acd_desk.specs.Standing.{Standing, InStep, Starts}
+pub use Rattle.acd_desk.specs.Standing.{Standing, standing}
+use Rattle.acd_desk.specs.Standing.{InStep, Starts}
 use Rattle.acd_desk.specs.Laws.{KeepsLaws}
 
 -- the desk had failed before, or its store has failed since

@@ -4,7 +4,6 @@ use Rattle.acd_desk.specs.declared.working.Working.{Working}
 use Rattle.acd_desk.specs.declared.taken.Taken.TheVariants.{NoMemory}
 use Rattle.acd_desk.specs.Arrived.{at}
 use Rattle.acd_desk.specs.Faults.{answer_to, left_by}
-use Rattle.acd_desk.specs.Prepared.{Prepared}
 use Rattle.acd_desk.specs.Standing.{Standing, standing, holding, switch_of, is_failed, with_new_key}
 use Rattle.acd_desk.specs.Ran.{Took}
 use Rattle.acd_desk.proofs.Calls.{leaves}
