@@ -11,9 +11,14 @@
 #![tactic(auto)]
 
 mod book;
+mod contents;
 mod fault;
 mod kept;
+mod key;
+mod ledger;
+mod log;
 mod memory;
+mod replies;
 #[cfg(test)]
 mod tests;
 mod text;

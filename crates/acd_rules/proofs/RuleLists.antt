@@ -1,10 +1,8 @@
 -- Lists as the tests of rules go over them.
-use Rattle.std.proofs.Common.{◌≡◌, ℕ, suc, ◌+◌, ◌-◌, ◌<◌, ◌≤◌, Bool, true, false, cond, List, [], ◌∷◌, length, get_or, refl, ap, sym, ◌∙◌, arith, drop, length-drop, add-one}
+use Rattle.std.proofs.Common.{◌≡◌, ℕ, ◌+◌, Bool, true, false, cond, List, [], ◌∷◌, length, refl, arith}
 use Rattle.std.specs.Prelude.{filter, if◌then◌else◌, not, ◌||◌}
 use Rattle.std.specs.List.{list_any}
-use Rattle.std.specs.declared.cmp.Ordering.{Ordering}
 use Rattle.acd_terms.specs.Lists.{count}
-use Rattle.acd_terms.specs.Rules.Plan.{ascends, is_less}
 use Rattle.acd_terms.specs.Rules.Occupied.{is_empty}
 
 counted : {T : Type 0} (b : Bool) (x : T) (xs : List T) (n : ℕ) → n ≡ length xs → (if b then 1 else 0) + n ≡ length (cond b (x ∷ xs) xs)
@@ -14,15 +12,6 @@ counted b x xs n e = elim b as (λ v. (if v then 1 else 0) + n ≡ length (cond 
 pub count_is_length : {T : Type 0} (p : T → Bool) (xs : List T) → count p xs ≡ length (filter p xs)
 count_is_length p [] = refl
 count_is_length p (x ∷ xs) = counted (p x) x (filter p xs) (count p xs) (count_is_length p xs)
-
-short_ascends : {T : Type 0} (cmp : T → T → Ordering) (xs : List T) → length xs ≤ 1 → ascends cmp xs ≡ true
-short_ascends cmp [] lt = refl
-short_ascends cmp (x ∷ []) lt = refl
-short_ascends cmp (x ∷ y ∷ ys) lt = absurd (omega arith)
-
--- from the last one on, all ascend
-pub ascends_end : {T : Type 0} (cmp : T → T → Ordering) (xs : List T) (i : ℕ) → length xs ≤ i + 1 → ascends cmp (drop i xs) ≡ true
-ascends_end cmp xs i lt = short_ascends cmp (drop i xs) (omega (arith, length-drop i xs))
 
 -- a filter leaves none where none passes
 pub none_left : {T : Type 0} (p : T → Bool) (xs : List T) → is_empty (filter p xs) ≡ not (list_any p xs)

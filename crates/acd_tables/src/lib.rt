@@ -5,10 +5,11 @@
 #![tactic(auto)]
 
 pub mod figures;
-pub mod keyed;
+pub mod records;
 pub mod scans;
 pub mod table;
 pub mod tables;
 #[cfg(test)]
 mod tests;
+pub mod vec_table;
 pub mod writes;

@@ -1,31 +1,31 @@
 //! Records in ascending key.
 
-ghost use Rattle.std.specs.Prelude.{◌≡◌, [], length, map, OnOk, OnErr, IfOk};
+ghost use Rattle.std.specs.Prelude.{◌≡◌, [], length, OnOk, OnErr, IfOk};
 ghost use Rattle.acd_terms.specs.Lists.{find_by, put_by, remove_by};
-ghost use Rattle.acd_terms.specs.Figures.{counting};
-ghost use Rattle.acd_tables.specs.Counting.{AllFit};
 
-use crate::figures::figures_after;
-use crate::keyed::Keyed;
-use acd_terms::event::Event;
+use acd_terms::keyed::{ascends, Keyed};
 use acd_terms::listed::Listed;
-use acd_terms::record::GroupRecord;
 use std::alloc::{AllocError, Global};
-use std::cmp::Ordering;
+use std::collections::btree_map::Values;
+use std::collections::BTreeMap;
 use std::marker::Model;
 
-/// Records in ascending key, seen as a list.
-#[derive(Debug, Drop)]
+/// Records by key, seen as a list in ascending key.
+#[derive(Drop)]
 pub struct Table<R: Keyed> {
-    records: Vec<R>,
+    map: BTreeMap<R::Key, R>,
 }
 
 impl<R: Keyed> Model for Table<R> {
-    ghost use Rattle.std.specs.Prelude.{List};
+    ghost use Rattle.std.specs.Prelude.{◌≡◌, List};
+    ghost use Rattle.std.specs.BTreeMap.{values};
+    ghost use Rattle.acd_tables.specs.KeyedMaps.{keyed};
 
     ghost Value = { List R };
 
-    ghost view = { λ t. t.records.items };
+    ghost view = { λ t. values t.map };
+
+    ghost invariant = { λ t. t.map.entries ≡ keyed R.key_of (values t.map) };
 }
 
 impl<R: Keyed> Table<R> {
@@ -33,36 +33,42 @@ impl<R: Keyed> Table<R> {
         ensures { result ≡ [] }
     {
         Table {
-            records: Vec::new(alloc),
+            map: BTreeMap::new(alloc),
         }
     }
 
-    /// A table of these records, which stand in ascending key.
+    /// A table of these records. Records that don't stand in ascending key are refused as if there were no memory.
     pub fn from_slice(alloc: Global, records: &[R]) -> Result<Self, AllocError>
         ensures { IfOk result (λ t. t ≡ records.now) }
     {
-        Ok(Table {
-            records: records.iter().copied().collect(alloc)?,
-        })
+        if !ascends(records) {
+            return Err(AllocError);
+        }
+        let mut table = Table::new(alloc);
+        for record in records {
+            table.put(*record)?;
+        }
+        Ok(table)
     }
 
-    pub fn as_slice(&self) -> &[R]
-        ensures { result.now ≡ self.now }
+    /// The records in ascending key.
+    pub fn values(&self) -> Values<'_, R::Key, R>
+        ensures { result ≡ self.now }
     {
-        &self.records
+        self.map.values()
     }
 
     pub fn len(&self) -> usize
         ensures { result ≡ length self.now }
     {
-        self.records.len()
+        self.map.len()
     }
 
     /// The record at the key.
     pub fn find(&self, key: R::Key) -> Option<R>
         ensures { result ≡ find_by (λ x. R.Key.cmp key (R.key_of x)) self.now }
     {
-        find(&self.records, key)
+        self.map.get(&key).copied()
     }
 
     /// Puts the record at its key. One that finds no memory changes nothing.
@@ -70,89 +76,21 @@ impl<R: Keyed> Table<R> {
         ensures ok { OnOk result (self.new ≡ put_by (λ x. R.Key.cmp (R.key_of item) (R.key_of x)) self.old item) }
         ensures err { OnErr result (self.new ≡ self.old) }
     {
-        put(&mut self.records, item)
-    }
-
-    /// Removes the record at the key. A removal that finds no memory changes nothing.
-    pub fn remove(&mut self, key: R::Key) -> Result<(), AllocError>
-        ensures ok { OnOk result (self.new ≡ remove_by (λ x. R.Key.cmp key (R.key_of x)) self.old) }
-        ensures err { OnErr result (self.new ≡ self.old) }
-    {
-        remove(&mut self.records, key);
+        self.map.insert(item.key(), item)?;
         Ok(())
     }
 
-    /// The records in ascending key.
+    /// Removes the record at the key.
+    pub fn remove(&mut self, key: R::Key)
+        ensures { self.new ≡ remove_by (λ x. R.Key.cmp key (R.key_of x)) self.old }
+    {
+        self.map.remove(&key);
+    }
+
+    /// The records in ascending key, copied.
     pub fn copied(&self, alloc: Global) -> Result<Listed<R>, AllocError>
         ensures { IfOk result (λ l. l ≡ self.now) }
     {
-        Ok(Listed::new(self.records.iter().copied().collect(alloc)?))
-    }
-}
-
-impl Table<GroupRecord> {
-    /// Each group's figures grow by what the events count.
-    pub fn add_figures(&mut self, events: &[Event])
-        requires { AllFit (map (counting events.now) self.old) }
-        ensures { self.new ≡ map (counting events.now) self.old }
-    {
-        add_figures(&mut self.records, events);
-    }
-}
-
-/// The first of the records at the key.
-pub fn find<R: Keyed>(records: &[R], key: R::Key) -> Option<R>
-    ensures { result ≡ find_by (λ x. R.Key.cmp key (R.key_of x)) records.now }
-{
-    for x in records {
-        if key.cmp(&x.key()).is_eq() {
-            return Some(*x);
-        }
-    }
-    None
-}
-
-// Puts the record at its key.
-fn put<R: Keyed>(records: &mut Vec<R>, item: R) -> Result<(), AllocError>
-    ensures ok { OnOk result (records.new.items ≡ put_by (λ x. R.Key.cmp (R.key_of item) (R.key_of x)) records.old.items item) }
-    ensures err { OnErr result (records.new.items ≡ records.old.items) }
-{
-    let key = item.key();
-    for i in 0..records.len() {
-        match key.cmp(&records[i].key()) {
-            Ordering::Less => {
-                records.insert(i, item)?;
-                return Ok(());
-            }
-            Ordering::Equal => {
-                records[i] = item;
-                return Ok(());
-            }
-            Ordering::Greater => {}
-        }
-    }
-    records.push(item)?;
-    Ok(())
-}
-
-// Removes the record at the key.
-fn remove<R: Keyed>(records: &mut Vec<R>, key: R::Key)
-    ensures { records.new.items ≡ remove_by (λ x. R.Key.cmp key (R.key_of x)) records.old.items }
-{
-    for i in 0..records.len() {
-        if key.cmp(&records[i].key()).is_eq() {
-            records.remove(i);
-            return;
-        }
-    }
-}
-
-// Each group's figures grow by what the events count.
-fn add_figures(groups: &mut [GroupRecord], events: &[Event])
-    requires { AllFit (map (counting events.now) groups.old) }
-    ensures { groups.new ≡ map (counting events.now) groups.old }
-{
-    for group in groups {
-        group.figures = figures_after(group.figures, group.device, events);
+        Ok(Listed::new(self.map.values().copied().collect(alloc)?))
     }
 }

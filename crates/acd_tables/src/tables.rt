@@ -5,7 +5,7 @@ ghost use Rattle.acd_terms.specs.Scans.{group_of, station_of, agent_of, call_of,
 ghost use Rattle.acd_terms.specs.Writes.{empty_rows};
 ghost use Rattle.acd_tables.specs.Kinds.{kind_of};
 
-use crate::table::Table;
+use crate::vec_table::VecTable;
 use acd_terms::id::{AgentId, DeviceId};
 use acd_terms::record::{
     AgentRecord, CallRecord, ConnectionRecord, GroupRecord, MonitorRecord, StationRecord,
@@ -25,12 +25,12 @@ pub enum DeviceKind {
 #[derive(Debug, Drop)]
 pub struct Tables {
     pub(crate) limits: Limits,
-    pub(crate) groups: Table<GroupRecord>,
-    pub(crate) stations: Table<StationRecord>,
-    pub(crate) agents: Table<AgentRecord>,
-    pub(crate) calls: Table<CallRecord>,
-    pub(crate) connections: Table<ConnectionRecord>,
-    pub(crate) monitors: Table<MonitorRecord>,
+    pub(crate) groups: VecTable<GroupRecord>,
+    pub(crate) stations: VecTable<StationRecord>,
+    pub(crate) agents: VecTable<AgentRecord>,
+    pub(crate) calls: VecTable<CallRecord>,
+    pub(crate) connections: VecTable<ConnectionRecord>,
+    pub(crate) monitors: VecTable<MonitorRecord>,
     pub(crate) last_stamp: u64,
     pub(crate) last_moment: u32,
     pub(crate) last_call: u64,
@@ -66,12 +66,12 @@ impl Tables {
     {
         Tables {
             limits,
-            groups: Table::new(alloc),
-            stations: Table::new(alloc),
-            agents: Table::new(alloc),
-            calls: Table::new(alloc),
-            connections: Table::new(alloc),
-            monitors: Table::new(alloc),
+            groups: VecTable::new(alloc),
+            stations: VecTable::new(alloc),
+            agents: VecTable::new(alloc),
+            calls: VecTable::new(alloc),
+            connections: VecTable::new(alloc),
+            monitors: VecTable::new(alloc),
             last_stamp: 0,
             last_moment: 0,
             last_call: 0,
@@ -86,12 +86,12 @@ impl Tables {
     {
         Ok(Tables {
             limits: rows.limits,
-            groups: Table::from_slice(alloc, rows.groups.as_slice())?,
-            stations: Table::from_slice(alloc, rows.stations.as_slice())?,
-            agents: Table::from_slice(alloc, rows.agents.as_slice())?,
-            calls: Table::from_slice(alloc, rows.calls.as_slice())?,
-            connections: Table::from_slice(alloc, rows.connections.as_slice())?,
-            monitors: Table::from_slice(alloc, rows.monitors.as_slice())?,
+            groups: VecTable::from_slice(alloc, rows.groups.as_slice())?,
+            stations: VecTable::from_slice(alloc, rows.stations.as_slice())?,
+            agents: VecTable::from_slice(alloc, rows.agents.as_slice())?,
+            calls: VecTable::from_slice(alloc, rows.calls.as_slice())?,
+            connections: VecTable::from_slice(alloc, rows.connections.as_slice())?,
+            monitors: VecTable::from_slice(alloc, rows.monitors.as_slice())?,
             last_stamp: rows.last_stamp,
             last_moment: rows.last_moment,
             last_call: rows.last_call,

@@ -1,7 +1,7 @@
 //! Each write and each look-up once, on values.
 
 use crate::figures::figures_in;
-use crate::table::Table;
+use crate::vec_table::VecTable;
 use crate::tables::{DeviceKind, Tables};
 use acd_terms::event::{Cause, Report, Waited};
 use acd_terms::id::{AgentId, DeviceId};
@@ -85,7 +85,7 @@ fn queue(rt: &impl Abort, tables: &mut Tables, call: u64, place: u64) -> Result<
 
 #[test]
 fn a_table_keeps_the_order_of_its_keys(rt: HostRuntime) -> Result<(), Fail> {
-    let mut table: Table<StationRecord> = Table::new(rt.alloc());
+    let mut table: VecTable<StationRecord> = VecTable::new(rt.alloc());
     table.put(station(&rt, "100"))?;
     table.put(station(&rt, "07"))?;
     let stations = table.as_slice();

@@ -3,4 +3,5 @@ pub mod Identifiers
 pub mod OnLiterals
 pub mod MoveLemmas
 pub mod ReadBack
+pub mod OptionLists
 pub mod ChangeLemmas

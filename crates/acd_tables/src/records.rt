@@ -1,0 +1,255 @@
+//! The records of the switch and its counters, seen as rows.
+
+pub mod writes;
+
+ghost use Rattle.std.specs.Prelude.{◌≡◌, length, not, nat_le, IfOk};
+ghost use Rattle.acd_terms.specs.Scans.{group_of, station_of, agent_of, call_of, connection_of, monitor_of};
+ghost use Rattle.acd_terms.specs.Writes.{empty_rows};
+
+use crate::table::Table;
+use acd_terms::id::{AgentId, DeviceId};
+use acd_terms::record::{
+    AgentRecord, CallRecord, ConnectionRecord, GroupRecord, MonitorRecord, StationRecord,
+};
+use acd_terms::rows::{Limits, Rows};
+use std::alloc::{AllocError, Global};
+use std::collections::btree_map::Values;
+use std::marker::Model;
+
+/// The records by key, the limits and the counters.
+#[derive(Drop)]
+pub struct Records {
+    limits: Limits,
+    groups: Table<GroupRecord>,
+    stations: Table<StationRecord>,
+    agents: Table<AgentRecord>,
+    calls: Table<CallRecord>,
+    connections: Table<ConnectionRecord>,
+    monitors: Table<MonitorRecord>,
+    last_stamp: u64,
+    last_moment: u32,
+    last_call: u64,
+    last_monitor: u64,
+    last_event: u64,
+}
+
+impl Model for Records {
+    ghost use Rattle.acd_terms.specs.declared.rows.Rows.{Rows};
+
+    ghost Value = { Rows };
+
+    ghost view = { λ t. record {
+      limits = t.limits;
+      groups = t.groups;
+      stations = t.stations;
+      agents = t.agents;
+      calls = t.calls;
+      connections = t.connections;
+      monitors = t.monitors;
+      last_stamp = t.last_stamp;
+      last_moment = t.last_moment;
+      last_call = t.last_call;
+      last_monitor = t.last_monitor;
+      last_event = t.last_event;
+    } };
+}
+
+impl Records {
+    /// No record.
+    pub fn new(alloc: Global, limits: Limits) -> Self
+        ensures { result ≡ empty_rows limits }
+    {
+        Records {
+            limits,
+            groups: Table::new(alloc),
+            stations: Table::new(alloc),
+            agents: Table::new(alloc),
+            calls: Table::new(alloc),
+            connections: Table::new(alloc),
+            monitors: Table::new(alloc),
+            last_stamp: 0,
+            last_moment: 0,
+            last_call: 0,
+            last_monitor: 0,
+            last_event: 0,
+        }
+    }
+
+    /// The records of these rows. Lists that don't stand in strictly ascending key are refused as if
+    /// there were no memory.
+    pub fn from_rows(alloc: Global, rows: &Rows) -> Result<Self, AllocError>
+        ensures { IfOk result (λ t. t ≡ rows.now) }
+    {
+        Ok(Records {
+            limits: rows.limits,
+            groups: Table::from_slice(alloc, rows.groups.as_slice())?,
+            stations: Table::from_slice(alloc, rows.stations.as_slice())?,
+            agents: Table::from_slice(alloc, rows.agents.as_slice())?,
+            calls: Table::from_slice(alloc, rows.calls.as_slice())?,
+            connections: Table::from_slice(alloc, rows.connections.as_slice())?,
+            monitors: Table::from_slice(alloc, rows.monitors.as_slice())?,
+            last_stamp: rows.last_stamp,
+            last_moment: rows.last_moment,
+            last_call: rows.last_call,
+            last_monitor: rows.last_monitor,
+            last_event: rows.last_event,
+        })
+    }
+
+    /// The records and counters, copied.
+    pub fn rows(&self, alloc: Global) -> Result<Rows, AllocError>
+        ensures { IfOk result (λ r. r ≡ self.now) }
+    {
+        Ok(Rows {
+            limits: self.limits,
+            groups: self.groups.copied(alloc)?,
+            stations: self.stations.copied(alloc)?,
+            agents: self.agents.copied(alloc)?,
+            calls: self.calls.copied(alloc)?,
+            connections: self.connections.copied(alloc)?,
+            monitors: self.monitors.copied(alloc)?,
+            last_stamp: self.last_stamp,
+            last_moment: self.last_moment,
+            last_call: self.last_call,
+            last_monitor: self.last_monitor,
+            last_event: self.last_event,
+        })
+    }
+
+    #[tactic(auto, unfolding(acd_terms::specs::Scans::group_of))]
+    pub fn group(&self, device: DeviceId) -> Option<GroupRecord>
+        ensures { result ≡ group_of self.now device }
+    {
+        self.groups.find(device)
+    }
+
+    #[tactic(auto, unfolding(acd_terms::specs::Scans::station_of))]
+    pub fn station(&self, device: DeviceId) -> Option<StationRecord>
+        ensures { result ≡ station_of self.now device }
+    {
+        self.stations.find(device)
+    }
+
+    #[tactic(auto, unfolding(acd_terms::specs::Scans::agent_of))]
+    pub fn agent(&self, agent: AgentId) -> Option<AgentRecord>
+        ensures { result ≡ agent_of self.now agent }
+    {
+        self.agents.find(agent)
+    }
+
+    #[tactic(auto, unfolding(acd_terms::specs::Scans::call_of))]
+    pub fn call(&self, call: u64) -> Option<CallRecord>
+        ensures { result ≡ call_of self.now call }
+    {
+        self.calls.find(call)
+    }
+
+    #[tactic(auto, unfolding(acd_terms::specs::Scans::connection_of))]
+    pub fn connection(&self, call: u64, device: DeviceId) -> Option<ConnectionRecord>
+        ensures { result ≡ connection_of self.now call device }
+    {
+        self.connections.find((call, device))
+    }
+
+    #[tactic(auto, unfolding(acd_terms::specs::Scans::monitor_of))]
+    pub fn monitor(&self, monitor: u64) -> Option<MonitorRecord>
+        ensures { result ≡ monitor_of self.now monitor }
+    {
+        self.monitors.find(monitor)
+    }
+
+    /// The groups in ascending device.
+    pub fn groups(&self) -> Values<'_, DeviceId, GroupRecord>
+        ensures { result ≡ self.now.groups }
+    {
+        self.groups.values()
+    }
+
+    /// The agents in ascending number.
+    pub fn agents(&self) -> Values<'_, AgentId, AgentRecord>
+        ensures { result ≡ self.now.agents }
+    {
+        self.agents.values()
+    }
+
+    /// The calls in ascending number.
+    pub fn calls(&self) -> Values<'_, u64, CallRecord>
+        ensures { result ≡ self.now.calls }
+    {
+        self.calls.values()
+    }
+
+    /// The connections in ascending call and device.
+    pub fn connections(&self) -> Values<'_, (u64, DeviceId), ConnectionRecord>
+        ensures { result ≡ self.now.connections }
+    {
+        self.connections.values()
+    }
+
+    pub fn has_room_for_group(&self) -> bool
+        ensures { result ≡ not (nat_le self.now.limits.groups (length self.now.groups)) }
+    {
+        (self.groups.len() as u64) < self.limits.groups
+    }
+
+    pub fn has_room_for_station(&self) -> bool
+        ensures { result ≡ not (nat_le self.now.limits.stations (length self.now.stations)) }
+    {
+        (self.stations.len() as u64) < self.limits.stations
+    }
+
+    pub fn has_room_for_agent(&self) -> bool
+        ensures { result ≡ not (nat_le self.now.limits.agents (length self.now.agents)) }
+    {
+        (self.agents.len() as u64) < self.limits.agents
+    }
+
+    pub fn has_room_for_call(&self) -> bool
+        ensures { result ≡ not (nat_le self.now.limits.calls (length self.now.calls)) }
+    {
+        (self.calls.len() as u64) < self.limits.calls
+    }
+
+    pub fn has_room_for_monitor(&self) -> bool
+        ensures { result ≡ not (nat_le self.now.limits.monitors (length self.now.monitors)) }
+    {
+        (self.monitors.len() as u64) < self.limits.monitors
+    }
+
+    pub fn limits(&self) -> Limits
+        ensures { result ≡ self.now.limits }
+    {
+        self.limits
+    }
+
+    pub fn last_stamp(&self) -> u64
+        ensures { result ≡ self.now.last_stamp }
+    {
+        self.last_stamp
+    }
+
+    /// The moment of the last executed request, in seconds.
+    pub fn last_moment(&self) -> u32
+        ensures { result ≡ self.now.last_moment }
+    {
+        self.last_moment
+    }
+
+    pub fn last_call(&self) -> u64
+        ensures { result ≡ self.now.last_call }
+    {
+        self.last_call
+    }
+
+    pub fn last_monitor(&self) -> u64
+        ensures { result ≡ self.now.last_monitor }
+    {
+        self.last_monitor
+    }
+
+    pub fn last_event(&self) -> u64
+        ensures { result ≡ self.now.last_event }
+    {
+        self.last_event
+    }
+}
