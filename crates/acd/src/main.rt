@@ -6,7 +6,7 @@
 mod scenes;
 
 use acd_book::MemoryBook;
-use acd_desk::desk::{Desk, OpenFault};
+use acd_desk::{Desk, OpenFault};
 use acd_lines::{LinesFault, lines};
 use acd_terms::rows::Limits;
 use std::process::ExitCode;

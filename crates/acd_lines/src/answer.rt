@@ -12,8 +12,8 @@ use acd_book::{Book, Text};
 use acd_codec::{
     FixedAnswer, MALFORMED_STATUS, Member, ReadFault, Rejected, read_request, rejected_text,
 };
-use acd_desk::desk::Desk;
-use acd_desk::taken::Taken;
+use acd_desk::Desk;
+use acd_desk::Taken;
 use acd_terms::command::Request;
 use std::alloc::{AllocError, Global};
 

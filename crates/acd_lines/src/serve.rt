@@ -12,7 +12,7 @@ use crate::answer::{Answered, answer};
 use crate::partial::Partial;
 use crate::send::{Stopped, send};
 use acd_book::Book;
-use acd_desk::desk::Desk;
+use acd_desk::Desk;
 use itoa::Buffer;
 use std::alloc::Global;
 use std::io::Write;

@@ -13,7 +13,7 @@ use crate::partial::Partial;
 use crate::send::Stopped;
 use crate::serve::{feed, finish};
 use acd_book::Book;
-use acd_desk::desk::Desk;
+use acd_desk::Desk;
 use std::alloc::Global;
 use std::io::{ErrorKind, Read, Write};
 use thiserror::Error;
