@@ -3,8 +3,7 @@
 //! `stdout`.
 #![tactic(auto)]
 
-use acd_book::Book;
-use acd_book::MemoryBook;
+use acd_book::{Book, MemoryBook};
 use acd_codec::event_text;
 use acd_desk::{Desk, OpenFault};
 use acd_lines::{LinesFault, lines};
