@@ -3,13 +3,16 @@
 #![tactic(auto)]
 
 mod answer;
+mod answer_line;
 mod moment;
+mod outbox;
 mod partial;
 #[cfg(test)]
 mod scenes;
 mod send;
 mod serve;
 mod session;
+mod split;
 #[cfg(test)]
 mod tests;
 
