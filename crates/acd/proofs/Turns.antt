@@ -1,6 +1,6 @@
 -- One line of the input, and one read, over plain values.
-use Rattle.std.proofs.Common.{◌≡◌, ℕ, zero, suc, ◌+◌, ◌<◌, true, false, List, [], ◌∷◌, ◌++◌, length, take, Option, Some, None, refl, sym, ap, ◌∙◌, subst, arith, lit<, append_assoc, append-nil}
-use Rattle.std.proofs.lemmas.List.{length-take}
+use Rattle.std.proofs.Common.{◌≡◌, ℕ, zero, suc, ◌+◌, ◌<◌, true, false, List, [], ◌∷◌, ◌++◌, length, take, drop, Option, Some, None, refl, sym, ap, ◌∙◌, subst, arith, lit<, append_assoc, append-nil}
+use Rattle.std.proofs.lemmas.List.{length-take, take_at}
 use Rattle.std.proofs.lemmas.List.Folds.{list_all-append}
 use Rattle.std.specs.Cmp.Derive.{both_true}
 use Rattle.std.specs.Io.BufRead.{strip_last}
@@ -59,6 +59,10 @@ input_begun None b seen h = ([], tt)
 input_begun (Some xs) None seen h = absurd h
 input_begun (Some xs) (Some ys) seen h = (ys, h)
 
+-- the buffer after a read
+pub chunk_read : (items buf : List ℕ) (len : ℕ) → length buf ≡ length items → len ≡ length items → take len (buf ++ drop (length buf) items) ≡ buf
+chunk_read items buf len same size = take_at buf (drop (length buf) items) len (same ∙ sym size)
+
 module _ {S : Type 0} (A : S → Line → List ℕ → S → Type 0) where
   -- nothing was read
   pub starts : (n : ℕ) (s : S) (kept waiting : List ℕ) (a : Option (List ℕ)) → kept ≡ [] → waiting ≡ [] → Stands A n s [] kept [] [] waiting s a a
@@ -115,6 +119,16 @@ module _ {S : Type 0} (A : S → Line → List ℕ → S → Type 0) where
     keeps = is ∙ ap (λ (l : List ℕ). take n (l ++ bytes)) h.keeps ∙ kept_more n h.part bytes;
     reached = reached_bytes A s seen h.part (earlier ++ h.answers) t bytes none h.reached;
     passes = h.passes;
+  }
+
+  -- the same values
+  pub stands_same : (n : ℕ) (s : S) (seen kept kept' earlier before waiting waiting' : List ℕ) (t t' : S) (a b b' : Option (List ℕ)) → kept' ≡ kept → waiting' ≡ waiting → t' ≡ t → b' ≡ b → Stands A n s seen kept earlier before waiting t a b → Stands A n s seen kept' earlier before waiting' t' a b'
+  stands_same n s seen kept kept' earlier before waiting waiting' t t' a b b' e f i j h = record {
+    part = h.part;
+    answers = h.answers;
+    keeps = e ∙ h.keeps;
+    reached = subst (λ (u : S). Reached A s seen h.part (earlier ++ h.answers) u) (sym i) h.reached;
+    passes = subst (λ (o : Option (List ℕ)). Passes a o waiting' (before ++ h.answers)) (sym j) (subst (λ (w : List ℕ). Passes a b w (before ++ h.answers)) (sym f) h.passes);
   }
 
   -- the same bytes

@@ -32,7 +32,10 @@ pub enum LinesFault {
 }
 
 impl From<AllocError> for LinesFault {
-    ghost from_gives = { λ x y. y ≡ LinesFault.NoMemory };
+    ghost use Rattle.acd.specs.declared.session.LinesFault.{LinesFault};
+    ghost use Rattle.acd.specs.declared.session.LinesFault.TheVariants as faults;
+
+    ghost from_gives = { λ x y. y ≡ faults.NoMemory };
 
     fn from(_: AllocError) -> LinesFault {
         LinesFault::NoMemory
@@ -40,7 +43,10 @@ impl From<AllocError> for LinesFault {
 }
 
 impl From<Stopped> for LinesFault {
-    ghost from_gives = { λ x y. y ≡ LinesFault.Write };
+    ghost use Rattle.acd.specs.declared.session.LinesFault.{LinesFault};
+    ghost use Rattle.acd.specs.declared.session.LinesFault.TheVariants as faults;
+
+    ghost from_gives = { λ x y. y ≡ faults.Write };
 
     fn from(_: Stopped) -> LinesFault {
         LinesFault::Write

@@ -26,11 +26,11 @@ returns-in_err-serve-clause-err g c =
 pub returns-clause-ok : goal.returns-clause-ok
 returns-clause-ok g c =
     let some = positive (length c.args.partial.now) (sym c.is_empty.ensures ∙ c.if-is_empty.false) in
-    OnOk-weaker c.flush-else-is_empty.result _ _ (λ out. finish_line (Answers (standing g.B.Book)) c.args.desk.now c.serve.new.desk c.args.partial.now c.as_slice.result.now
-    (g.W.Write.contents c.args.writer.now) (g.W.Write.contents c.serve.new.writer) (g.W.Write.contents c.flush-else-is_empty.new.writer) c.args.outbox.now.waiting.items c.serve.new.outbox.waiting.items some c.as_slice.ensures c.in_ok-serve.ensures.ok out) c.flush-else-is_empty.ensures.ok
+    OnOk-weaker c.flush-2.result _ _ (λ out. finish_line (Answers (standing g.B.Book)) c.args.desk.now c.serve.new.desk c.args.partial.now c.as_slice.result.now
+    (g.W.Write.contents c.args.writer.now) (g.W.Write.contents c.serve.new.writer) (g.W.Write.contents c.flush-2.new.writer) c.args.outbox.now.waiting.items c.serve.new.outbox.waiting.items some c.as_slice.ensures c.in_ok-serve.ensures.ok out) c.flush-2.ensures.ok
 
 pub returns-clause-err : goal.returns-clause-err
 returns-clause-err g c =
     let some = positive (length c.args.partial.now) (sym c.is_empty.ensures ∙ c.if-is_empty.false) in
-    OnErr-weaker c.flush-else-is_empty.result _ _ (λ begun. finish_line_stops (Answers (standing g.B.Book)) c.args.desk.now c.serve.new.desk c.args.partial.now c.as_slice.result.now
-    (g.W.Write.contents c.args.writer.now) (g.W.Write.contents c.serve.new.writer) (g.W.Write.contents c.flush-else-is_empty.new.writer) c.args.outbox.now.waiting.items c.serve.new.outbox.waiting.items some c.as_slice.ensures c.in_ok-serve.ensures.ok begun) c.flush-else-is_empty.ensures.err
+    OnErr-weaker c.flush-2.result _ _ (λ begun. finish_line_stops (Answers (standing g.B.Book)) c.args.desk.now c.serve.new.desk c.args.partial.now c.as_slice.result.now
+    (g.W.Write.contents c.args.writer.now) (g.W.Write.contents c.serve.new.writer) (g.W.Write.contents c.flush-2.new.writer) c.args.outbox.now.waiting.items c.serve.new.outbox.waiting.items some c.as_slice.ensures c.in_ok-serve.ensures.ok begun) c.flush-2.ensures.err
