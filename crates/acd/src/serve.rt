@@ -77,7 +77,13 @@ fn end_line<B: Book, W: Write>(
         return serve(alloc, desk, outbox, writer, without_return(end));
     }
     partial.extend(end);
-    serve(alloc, desk, outbox, writer, without_return(partial.as_slice()))?;
+    serve(
+        alloc,
+        desk,
+        outbox,
+        writer,
+        without_return(partial.as_slice()),
+    )?;
     partial.clear();
     Ok(())
 }

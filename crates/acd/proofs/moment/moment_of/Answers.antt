@@ -1,4 +1,4 @@
-use Rattle.std.proofs.Common.{List, ℕ, Some, None, option_map, sym, ap, ◌∙◌, refl}
+use Rattle.std.proofs.Common.{option_map, sym, ap, ◌∙◌}
 use Rattle.acd.proofs.Moments.{moment_none, moment_split}
 use Rattle.acd.proofs.moment.moment_of.Goals as goal
 

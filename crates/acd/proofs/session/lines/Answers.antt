@@ -3,7 +3,6 @@ use Rattle.std.specs.Io.KnownBytes.{Consumes}
 use Rattle.std.proofs.KnownBytes.{Consumes-nil, Consumes-kept, Consumes-trans}
 use Rattle.acd_desk.specs.Ran.{standing}
 use Rattle.acd.specs.Answers.{Answers}
-use Rattle.acd.specs.Parts.{Stands, Stops}
 use Rattle.acd.proofs.Sends.{on_err}
 use Rattle.acd.proofs.Turns.{chunk_read, starts, stands_same, input_ended, fed, all_done, end_stopped, feed_stopped, read_done, read_stopped, nothing_read}
 use Rattle.acd.proofs.Telling.{all_told, read_told, some_told}

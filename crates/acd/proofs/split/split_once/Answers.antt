@@ -1,4 +1,4 @@
-use Rattle.std.proofs.Common.{◌+◌, drop, length, arith, length-drop}
+use Rattle.std.proofs.Common.{◌+◌, drop, arith, length-drop}
 use Rattle.std.proofs.lemmas.List.{take_all}
 use Rattle.acd.proofs.Splits.{nowhere_none, first_none, first_split}
 use Rattle.acd.proofs.split.split_once.Goals as goal

@@ -1,4 +1,4 @@
-use Rattle.std.proofs.Common.{◌+◌, ◌-◌, ◌++◌, length, take, arith, ap, refl, ◌∙◌}
+use Rattle.std.proofs.Common.{◌-◌, ◌++◌, length, arith, ap, refl, ◌∙◌}
 use Rattle.acd.proofs.Kept.{take_room, kept_room}
 use Rattle.acd.proofs.partial.Partial.extend.Goals as goal
 
