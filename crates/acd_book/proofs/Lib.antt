@@ -1,4 +1,3 @@
-mod Unfailing
 mod Changing
 mod Numbered
 pub mod Keys
