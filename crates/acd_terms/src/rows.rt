@@ -50,7 +50,7 @@ impl Limits {
 }
 
 /// The state: the limits, lists in ascending key, and the counters.
-#[derive(Clone, Debug, Drop)]
+#[derive(Clone, Debug, PartialEq, Eq, Drop)]
 pub struct Rows {
     pub limits: Limits,
     pub groups: Listed<GroupRecord>,
