@@ -5,8 +5,8 @@
 #[cfg(test)]
 mod scenes;
 
-use acd_book::memory::MemoryBook;
-use acd_desk::desk::{Desk, OpenFault};
+use acd_book::MemoryBook;
+use acd_desk::{Desk, OpenFault};
 use acd_lines::{LinesFault, lines};
 use acd_terms::rows::Limits;
 use std::process::ExitCode;

@@ -5,11 +5,13 @@ use Rattle.acd_terms.specs.Lists.{Every}
 use Rattle.acd_terms.specs.Columns.{columns_of}
 use Rattle.acd_terms.specs.Scans.{monitor_of, has}
 use Rattle.acd_terms.specs.Writes.{empty_rows}
+use Rattle.acd_terms.specs.Changes.{rows_made}
 use Rattle.acd_terms.specs.Rules.Plan.{keeps_order}
 use Rattle.acd_terms.specs.declared.rows.Limits.{Limits}
 use Rattle.acd_terms.specs.declared.rows.Rows.{Rows}
 use Rattle.acd_terms.specs.declared.record.MonitorRecord.{MonitorRecord}
 use Rattle.acd_terms.specs.declared.event.Event.{Event}
+use Rattle.acd_terms.specs.declared.moves.Change.{Change}
 use Rattle.acd_terms.specs.declared.command.Request.{Request}
 use Rattle.acd_book.specs.declared.kept.Kept.{Kept}
 
@@ -81,6 +83,17 @@ pub record Follows (rows : Rows) (events : List Event) (kept : Kept) (c : Conten
   pub ordered : keeps_order rows ≡ true
   pub unkept : kept_of c.kept kept.request.requester kept.request.invoke ≡ None
   pub counted : IsCounted c
+
+-- the tables that changes make of a content's, with the counters that the kept record and the events give
+abbrev pub rows_by : List Change → List Event → Kept → Content → Rows
+rows_by changes events kept c = rows_made c.rows changes kept.stamp kept.moment (length events)
+
+-- the conditions of a commit of changes, and what it makes: those of a commit of the tables that they make
+abbrev pub FollowsBy : List Change → List Event → Kept → Content → Type 0
+FollowsBy changes events kept c = Follows (rows_by changes events kept c) events kept c
+
+abbrev pub committed_by : List Change → List Event → Kept → Content → Content
+committed_by changes events kept c = committed (rows_by changes events kept c) events kept c
 
 -- nothing that a reopening may find is new
 abbrev pub Within : (Content → Type 0) → (Content → Type 0) → Type 0

@@ -1,16 +1,14 @@
 //! The replies that are kept.
 
-ghost use Rattle.std.specs.Prelude.{◌≡◌, IfOk};
-ghost use Rattle.acd_book.specs.Content.{is_key};
+ghost use Rattle.std.specs.Prelude.{◌≡◌};
 
+use crate::key::Key;
 use crate::text::Text;
 use acd_terms::command::Request;
-use acd_terms::name::Requester;
-use acd_terms::number::Invoke;
-use std::alloc::{AllocError, Global};
+use std::alloc::AllocError;
 
 /// What is kept of an executed request.
-#[derive(Drop)]
+#[derive(Debug, Drop, PartialEq, Eq)]
 pub struct Kept {
     /// Its number among the executed requests, from 1.
     pub stamp: u64,
@@ -24,24 +22,26 @@ pub struct Kept {
 }
 
 impl Kept {
-    /// The request has this key.
-    pub fn has_key(&self, requester: &Requester, invoke: Invoke) -> bool
-        ensures { result ≡ is_key requester.now invoke self.now.request }
-    {
-        self.request.requester.as_str() == requester.as_str()
-            && self.request.invoke.number() == invoke.number()
-    }
+    ghost use Rattle.acd_book.specs.Memory.{key_of};
 
-    /// A copy of its own.
-    pub fn copied(&self, alloc: Global) -> Result<Kept, AllocError>
-        ensures { IfOk result (λ k. k ≡ self.now) }
+    /// What it is kept under.
+    pub(crate) fn key(&self) -> Key
+        ensures { result ≡ key_of self.now }
     {
+        Key {
+            requester: self.request.requester,
+            invoke: self.request.invoke,
+        }
+    }
+}
+
+impl Clone for Kept {
+    ghost is_clone = { λ kept clone. clone ≡ kept };
+
+    fn clone(&self) -> Result<Kept, AllocError> {
         Ok(Kept {
-            stamp: self.stamp,
-            moment: self.moment,
-            request: self.request,
-            status: self.status,
-            body: self.body.copied(alloc)?,
+            body: self.body.clone()?,
+            ..*self
         })
     }
 }

@@ -1,12 +1,30 @@
 //! The book: where a desk keeps its tables, its event reports and the replies that it gave.
 //!
-//! [`book::Book`] is what a desk asks of a store, also of one whose calls may stop half-way.
-//! [`memory::MemoryBook`] keeps all of it in memory.
+//! [`Book`] is what a desk asks of a store, also of one whose calls may stop half-way. [`MemoryBook`]
+//! keeps all of it in memory. [`Kept`] is what is kept of an executed request.
+//!
+//! ```ignore
+//! let mut book = MemoryBook::new(alloc, Limits::GREATEST);
+//! book.commit_changes(&changes, &events, &kept)?;
+//! let again = book.kept(&requester, invoke)?;
+//! ```
 #![tactic(auto)]
 
-pub mod book;
-pub mod kept;
-pub mod memory;
+mod book;
+mod contents;
+mod fault;
+mod kept;
+mod key;
+mod ledger;
+mod log;
+mod memory;
+mod replies;
 #[cfg(test)]
 mod tests;
-pub mod text;
+mod text;
+
+pub use book::Book;
+pub use fault::BookFault;
+pub use kept::Kept;
+pub use memory::MemoryBook;
+pub use text::Text;

@@ -1,7 +1,9 @@
-//! Each call of a book in memory once, on its happy path.
+//! Each call of a book in memory once, on its happy path; commits of changes stand apart.
 //!
 //! What is committed adds station 201 with a monitor, which is started after the first of three events:
 //! the first two are of the station, and the third is of another.
+
+mod commits;
 
 use crate::book::Book;
 use crate::kept::Kept;
@@ -32,47 +34,46 @@ fn invoke(rt: &impl Abort, number: u64) -> Invoke {
     Invoke::new(number).expect(rt, "an invoke number")
 }
 
-fn request(rt: &impl Abort) -> Request {
+fn request(rt: &impl Abort, number: u64) -> Request {
     Request {
         requester: requester(rt, "plan"),
-        invoke: invoke(rt, 1),
+        invoke: invoke(rt, number),
         command: Command::AddStation {
             device: device(rt, "201"),
         },
     }
 }
 
-fn rows_with(rt: &impl Abort, alloc: Global, station: DeviceId) -> Rows {
-    let record = StationRecord { device: station };
-    let monitor = MonitorRecord {
+fn watched(station: DeviceId) -> MonitorRecord {
+    MonitorRecord {
         monitor: 1,
         device: station,
         after_event: 1,
-    };
-    let stations = vec![in alloc; record].expect(rt, "memory");
-    let monitors = vec![in alloc; monitor].expect(rt, "memory");
-    Rows {
-        limits: Limits::GREATEST,
-        groups: Listed::new(Vec::new(alloc)),
-        stations: Listed::new(stations),
-        agents: Listed::new(Vec::new(alloc)),
-        calls: Listed::new(Vec::new(alloc)),
-        connections: Listed::new(Vec::new(alloc)),
-        monitors: Listed::new(monitors),
-        last_stamp: 1,
-        last_moment: 10,
-        last_call: 1,
-        last_monitor: 1,
-        last_event: 3,
     }
 }
 
-fn record(rt: &impl Abort, alloc: Global) -> Kept {
+fn rows_with(rt: &impl Abort, alloc: Global, station: DeviceId) -> Rows {
+    let record = StationRecord { device: station };
+    let stations = vec![in alloc; record].expect(rt, "memory");
+    let monitors = vec![in alloc; watched(station)].expect(rt, "memory");
+    Rows {
+        stations: Listed::new(stations),
+        monitors: Listed::new(monitors),
+        last_stamp: 1,
+        last_moment: 10,
+        last_monitor: 1,
+        last_event: 3,
+        ..Rows::empty(alloc, Limits::GREATEST)
+    }
+}
+
+// The record of a stamp, of the request with an invoke number.
+fn record(rt: &impl Abort, alloc: Global, stamp: u64, number: u64) -> Kept {
     let body = String::from_str(alloc, BODY).expect(rt, "memory");
     Kept {
-        stamp: 1,
+        stamp,
         moment: 10,
-        request: request(rt),
+        request: request(rt, number),
         status: 200,
         body: Text::new(body),
     }
@@ -98,7 +99,7 @@ fn events(rt: &impl Abort) -> [Event; 3] {
 // A book with one commit.
 fn committed(rt: &impl Abort, alloc: Global) -> MemoryBook {
     let rows = rows_with(rt, alloc, device(rt, "201"));
-    let kept = record(rt, alloc);
+    let kept = record(rt, alloc, 1, 1);
     let mut book = MemoryBook::new(alloc, Limits::GREATEST);
     book.commit(&rows, &events(rt), &kept).expect(rt, "memory");
     book

@@ -1,12 +1,14 @@
 //! Text that contracts see as its bytes.
 
-ghost use Rattle.std.specs.Prelude.{◌≡◌, IfOk, string_bytes};
+ghost use Rattle.std.specs.Prelude.{◌≡◌, string_bytes, bytes_eq};
+ghost use Rattle.std.specs.Cmp.{partial_equiv_from_equiv};
+ghost use Rattle.std.specs.Cmp.Lexicographic.{nat_list_eq_equiv};
 
-use std::alloc::{AllocError, Global};
+use std::alloc::AllocError;
 use std::marker::Model;
 
 /// A text, seen as its bytes.
-#[derive(Drop)]
+#[derive(Debug, Drop)]
 pub struct Text {
     characters: String,
 }
@@ -32,12 +34,28 @@ impl Text {
     {
         self.characters.as_str()
     }
+}
 
-    /// A copy of its own.
-    pub fn copied(&self, alloc: Global) -> Result<Text, AllocError>
-        ensures { IfOk result (λ t. t ≡ self.now) }
-    {
-        let characters = String::from_str(alloc, self.characters.as_str())?;
-        Ok(Text { characters })
+impl Clone for Text {
+    ghost is_clone = { λ text clone. clone ≡ text };
+
+    fn clone(&self) -> Result<Text, AllocError> {
+        Ok(Text {
+            characters: self.characters.clone()?,
+        })
     }
+}
+
+impl PartialEq for Text {
+    ghost eq = { bytes_eq };
+
+    ghost laws = { partial_equiv_from_equiv nat_list_eq_equiv };
+
+    fn eq(&self, other: &Text) -> bool {
+        self.as_str() == other.as_str()
+    }
+}
+
+impl Eq for Text {
+    ghost laws = { nat_list_eq_equiv };
 }

@@ -9,7 +9,11 @@ use Rattle.acd_terms.specs.declared.answer.Outcome.{Outcome}
 use Rattle.acd_terms.specs.declared.event.Event.{Event}
 use Rattle.acd_terms.specs.declared.command.Arrival.{Arrival}
 use Rattle.acd_book.specs.declared.kept.Kept.{Kept}
-use Rattle.acd_book.specs.Content.{Content, committed, kept_of, GoOn, IsCounted, Follows}
+use Rattle.acd_terms.specs.Changes.{rows_made}
+use Rattle.acd_terms.specs.declared.moves.Change.{Change}
+use Rattle.acd_book.specs.Content.{Content, committed, committed_by, kept_of, rows_by, GoOn, IsCounted, Follows, FollowsBy}
+use Rattle.acd_desk.specs.Stands.{IsNew}
+use Rattle.acd_desk.specs.Prepared.{Prepared}
 use Rattle.acd_desk.specs.Firsts.{stepped, kept_at, record_of, executed}
 use Rattle.acd_desk.specs.declared.taken.Taken.TheVariants.{Reply}
 use Rattle.acd_desk.specs.Replies.{answer_in, after}
@@ -17,7 +21,7 @@ use Rattle.acd_desk.proofs.Steps.{step_limits, step_stamp, step_moment, step_num
 use Rattle.acd_desk.proofs.Runs.{executes, answers_new}
 use Rattle.acd_desk.proofs.Counting.{counted_executed}
 
-some_none : {T : Type 0} (x : T) → Some x ≡ None → ⊥
+pub some_none : {T : Type 0} (x : T) → Some x ≡ None → ⊥
 some_none x h = cc
 
 keeps_first : (kept : Bool) (which : Rule) (rest : Option Rule) → or_broken kept which rest ≡ None → (kept ≡ true) × (rest ≡ None)
@@ -53,47 +57,59 @@ pub made : (c : Content) (r next : Rows) (es : List Event) (k : Kept) (a : Arriv
     → next ≡ (stepped r a).rows → es ≡ (stepped r a).events → k ≡ record_of r a → committed next es k c ≡ executed c a
 made c r next es k a e1 e2 e3 e4 = cc
 
--- what is prepared for a commit, of a switch and an arrival
-pub record Prepared (r : Rows) (a : Arrival) (switch next : Rows) (es : List Event) (k : Kept) : Type 0 where
-  pub switch_is : switch ≡ (stepped r a).rows
-  pub rows_are : next ≡ switch
-  pub events_are : es ≡ (stepped r a).events
-  pub kept_is : k ≡ record_of r a
-  pub rules : BreaksNoRule switch
-
 -- it follows the content that the switch is in step with, and makes of it what the abstract desk does
-pub commits : (r : Rows) (a : Arrival) (switch next : Rows) (es : List Event) (k : Kept) → Prepared r a switch next es k
-    → (c : Content) → (c.rows ≡ r) × IsCounted c → kept_of c.kept a.request.requester a.request.invoke ≡ None → nat_le r.limits.requests r.last_stamp ≡ false
-    → Follows next es k c × (committed next es k c ≡ after c a) × (after c a ≡ executed c a)
-commits r a switch next es k p c step new room =
+pub commits : (r : Rows) (a : Arrival) (changes : List Change) (es : List Event) (k : Kept) (next : Rows) → Prepared r a changes es k next
+    → (c : Content) → (c.rows ≡ r) × IsCounted c → IsNew c a.request → nat_le r.limits.requests r.last_stamp ≡ false
+    → FollowsBy changes es k c × (committed_by changes es k c ≡ after c a) × (after c a ≡ executed c a)
+commits r a changes es k next p c step new room =
     let short : c.rows.last_stamp < c.rows.limits.requests = subst (λ (s : Rows). s.last_stamp < s.limits.requests) (sym step.0) (leb-false r.limits.requests r.last_stamp room) in
     let does : after c a ≡ executed c a = executes c a new short in
-    let next_is : next ≡ (stepped r a).rows = p.rows_are ∙ p.switch_is in (
-      follows c r next es k a step.0 step.1 new next_is p.events_are p.kept_is (subst BreaksNoRule (sym p.rows_are) p.rules),
-      made c r next es k a step.0 next_is p.events_are p.kept_is ∙ sym does,
+    let rows : rows_by changes es k c ≡ next = ap (λ (s : Rows). rows_made s changes k.stamp k.moment (length es)) step.0 ∙ p.made in (
+      subst (λ (s : Rows). Follows s es k c) (sym rows) (follows c r next es k a step.0 step.1 new p.next_is p.events_are p.kept_is p.rules),
+      ap (λ (s : Rows). committed s es k c) rows ∙ made c r next es k a step.0 p.next_is p.events_are p.kept_is ∙ sym does,
       does,
     )
 
 -- the desk is in step with what it has executed
-pub executed_in_step : (r : Rows) (a : Arrival) (switch next : Rows) (es : List Event) (k : Kept) → Prepared r a switch next es k
-    → (c new : Content) → (c.rows ≡ r) × IsCounted c → new ≡ executed c a → (new.rows ≡ switch) × IsCounted new
-executed_in_step r a switch next es k p c new step is = (
-  ap (λ (x : Content). x.rows) is ∙ ap (λ (s : Rows). (stepped s a).rows) step.0 ∙ sym p.switch_is,
+pub executed_in_step : (r : Rows) (a : Arrival) (changes : List Change) (es : List Event) (k : Kept) (next : Rows) → Prepared r a changes es k next
+    → (c new : Content) → (c.rows ≡ r) × IsCounted c → new ≡ executed c a → (new.rows ≡ next) × IsCounted new
+executed_in_step r a changes es k next p c new step is = (
+  ap (λ (x : Content). x.rows) is ∙ ap (λ (s : Rows). (stepped s a).rows) step.0 ∙ sym p.next_is,
   subst IsCounted (sym is) (counted_executed c a step.1),
 )
 
 -- its reply is the record's
-pub executed_reply : (r : Rows) (a : Arrival) (switch next : Rows) (es : List Event) (k : Kept) → Prepared r a switch next es k
-    → (c : Content) → c.rows ≡ r → kept_of c.kept a.request.requester a.request.invoke ≡ None → after c a ≡ executed c a
+pub executed_reply : (r : Rows) (a : Arrival) (changes : List Change) (es : List Event) (k : Kept) (next : Rows) → Prepared r a changes es k next
+    → (c : Content) → c.rows ≡ r → IsNew c a.request → after c a ≡ executed c a
     → Reply k.status k.body ≡ answer_in (after c a) a.request
-executed_reply r a switch next es k p c same new does =
+executed_reply r a changes es k next p c same new does =
     ap (λ (x : Kept). Reply x.status x.body) (p.kept_is ∙ ap (λ (s : Rows). record_of s a) (sym same))
     ∙ sym (ap (λ (x : Content). answer_in x a.request) does ∙ answers_new c a new)
 
--- the record that is made by the rows after a step
-pub kept_by_rows : (s copy next rows : Rows) (a : Arrival) (outcome : Outcome) (k : Kept) → copy ≡ s → next ≡ (stepped copy a).rows → outcome ≡ (stepped copy a).outcome → rows ≡ next
-    → k ≡ kept_at rows.last_stamp rows.last_moment a.request outcome → k ≡ record_of s a
-kept_by_rows s copy next rows a outcome k e1 e2 e3 e4 e5 =
+-- the record that is made by the counters after a step
+pub kept_by_rows : (s next : Rows) (a : Arrival) (outcome : Outcome) (k : Kept) → next ≡ (stepped s a).rows → outcome ≡ (stepped s a).outcome
+    → k ≡ kept_at next.last_stamp next.last_moment a.request outcome → k ≡ record_of s a
+kept_by_rows s next a outcome k e1 e2 e3 =
     let stamp : (stepped s a).rows.last_stamp ≡ next_stamp s = step_stamp s a.moment a.request.command in
     let moment : (stepped s a).rows.last_moment ≡ executed_moment s a.moment = step_moment s a.moment a.request.command in
     cc
+
+-- what is prepared, of what a step says
+pub prepares : (s next : Rows) (a : Arrival) (changes : List Change) (es : List Event) (outcome : Outcome) (k : Kept)
+    → next ≡ (stepped s a).rows → outcome ≡ (stepped s a).outcome → es ≡ (stepped s a).events → BreaksNoRule next
+    → rows_made s changes (next_stamp s) (executed_moment s a.moment) (length es) ≡ next
+    → k ≡ kept_at next.last_stamp next.last_moment a.request outcome → Prepared s a changes es k next
+prepares s next a changes es outcome k e1 e2 e3 rules made e4 =
+    let kept : k ≡ record_of s a = kept_by_rows s next a outcome k e1 e2 e4 in
+    record {
+      next_is = e1;
+      made = ap (λ (x : Kept). rows_made s changes x.stamp x.moment (length es)) kept ∙ made;
+      events_are = e3;
+      kept_is = kept;
+      rules = rules;
+    }
+
+-- the lists behind references
+pub prepared_as : (s next : Rows) (a : Arrival) (changes changes' : List Change) (es es' : List Event) (k : Kept) → changes' ≡ changes → es' ≡ es → Prepared s a changes es k next → Prepared s a changes' es' k next
+prepared_as s next a changes changes' es es' k e f p =
+    subst (λ (x : List Change). Prepared s a x es' k next) (sym e) (subst (λ (x : List Event). Prepared s a changes x k next) (sym f) p)

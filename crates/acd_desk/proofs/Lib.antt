@@ -9,3 +9,7 @@ pub mod ContentLaws
 pub mod SameRequests
 pub mod ByPlace
 pub mod Many
+pub mod Calls
+pub mod Faulty
+pub mod NewKeys
+pub mod Opens

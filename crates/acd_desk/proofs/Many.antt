@@ -1,6 +1,8 @@
 -- Many calls of a desk, one after the other.
-use Rattle.std.proofs.Common.{◌≡◌, ℕ, ◌+◌, ◌≤◌, List, [], ◌∷◌, ◌++◌, true, false, cond, refl, sym, ap, subst, ◌∙◌, arith, inl, inr, length-append, true≢false}
-use Rattle.std.proofs.lemmas.List.Elements.{Contains-push_cases}
+use Rattle.std.proofs.Common.{◌≡◌, ℕ, ◌+◌, ◌≤◌, List, [], ◌∷◌, ◌++◌, true, false, cond, refl, sym, ap, subst, ◌∙◌, arith, inl, inr, ◌⊎◌, Bool, length-append, true≢false}
+use Rattle.std.proofs.lemmas.List.Elements.{Contains-push_cases, Contains-push, Contains-append_left, Contains-append_right}
+use Rattle.std.specs.List.{Contains}
+use Rattle.acd_terms.specs.Lists.{Every}
 use Rattle.acd_terms.specs.declared.command.Arrival.{Arrival}
 use Rattle.acd_book.specs.Content.{Content, HasRisen}
 use Rattle.acd_desk.specs.declared.taken.Taken.{Taken}
@@ -8,34 +10,41 @@ use Rattle.acd_desk.specs.declared.taken.Taken.TheVariants.{Reply, InvokeReused,
 use Rattle.acd_desk.specs.Replies.{answer_in, after}
 use Rattle.acd_desk.specs.Served.{is_fault, is_rejection, is_reply, served, unserved}
 use Rattle.acd_desk.specs.Stands.{IsSound, ran_after, replies, StopsAt}
-use Rattle.acd_desk.specs.Ran.{Standing, Starts, IsCause, Took, Ran}
+use Rattle.acd_desk.specs.Standing.{Standing, Starts}
+use Rattle.acd_desk.specs.Ran.{IsCause, IsDeceived, WasUnloaded, StaysShut, Took, Ran}
 use Rattle.acd_desk.proofs.Longer.{ran_none, one_said, one_content, one_stop, served-push, unserved-push}
 use Rattle.acd_desk.proofs.Sound.{ran_sound, stop_sound}
 use Rattle.acd_desk.proofs.ContentLaws.{sound_keeps_laws}
 
 -- what a book promises of its stops
 abbrev pub Settles : Standing → Type 0
-Settles s = (c : Content) → s.is_clean → s.is_sound → s.is_open → s.stops c → c ≡ s.content
+Settles s = (c : Content) → s.book.is_clean → s.book.is_sound → s.book.is_open → s.book.stops c → c ≡ s.book.content
 
 -- no call yet
 pub ran_nothing : (s : Standing) → Settles s → Ran s [] [] s
 ran_nothing s settles =
-    let stop : s.is_clean → Starts s → (c : Content) → s.stops c → c ≡ ran_after s.content []
-    = λ clean start c at. settles c clean start.0 start.1 at ∙ ran_none s.content start.3 in
+    let stop : s.book.is_clean → Starts s → (c : Content) → s.book.stops c → c ≡ ran_after s.book.content []
+    = λ clean start c at. settles c clean start.0 start.1 at ∙ ran_none s.book.content start.3 in
     record {
       even = refl;
       clean = λ clean. clean;
       sound = λ clean sound. sound;
       in_step = λ clean sound step. step;
       replies = λ clean start. refl;
-      content = λ clean start opened. ran_none s.content start.3;
+      content = λ clean start opened. ran_none s.book.content start.3;
       whole = λ clean start opened. start.3;
-      laws = λ clean start opened. sound_keeps_laws s.content start.3;
+      laws = λ clean start opened. sound_keeps_laws s.book.content start.3;
       stops = λ clean start c at. inl (stop clean start c at);
       sound_stops = λ clean start c at. subst IsSound (sym (settles c clean start.0 start.1 at)) start.3;
       fault = λ h. absurd (omega (arith, h.1));
-      cause = λ h. inl h;
+      cause = λ h. inl (inl h);
+      shuts = λ h. absurd (omega (arith, h.1));
+      tells = λ h. inl h;
+      later = tt;
+      shut = λ h. (h, tt);
+      quiet = λ none. refl;
       counts = omega arith;
+      unloads = λ working gone. inl gone;
     }
 
 rises : (a b c : ℕ) → a ≤ b → HasRisen b c → HasRisen a c
@@ -50,21 +59,69 @@ stays a b c less h = elim h [
   | inr top ↦ inr (omega (arith, less, top))
 ]
 
--- a cause lasts
-caused : (s m n : Standing) → (m.failed ≡ true → IsCause s m) → s.failures ≤ m.failures → m.failures ≤ n.failures → IsCause m n → IsCause s n
-caused s m n before low high h = elim h [
-  | inl failed ↦ elim (before failed) [
-    | inl first ↦ inl first
-    | inr risen ↦ inr (stays s.failures m.failures n.failures high risen)
-  ]
-  | inr risen ↦ inr (rises s.failures m.failures n.failures low risen)
+-- what a storeFault has behind it
+abbrev Caused : Standing → List Taken → Standing → Type 0
+Caused s ts n = IsCause s n ⊎ (WasUnloaded s ts × IsDeceived s n)
+
+-- the last answer is one of the answers
+at_end : (ts : List Taken) (t u : Taken) → t ≡ u → Contains (ts ++ t ∷ []) u
+at_end ts t u is = subst (λ (x : Taken). Contains (ts ++ t ∷ []) x) is (Contains-push ts t)
+
+earlier : (s : Standing) (ts : List Taken) (t : Taken) → WasUnloaded s ts → WasUnloaded s (ts ++ t ∷ [])
+earlier s ts t h = elim h [
+  | inl gone ↦ inl gone
+  | inr answered ↦ inr (Contains-append_left ts (t ∷ []) NoMemory answered)
 ]
 
-lasts : (s m n : Standing) → m.failures ≤ n.failures → IsCause s m → IsCause s n
-lasts s m n high h = elim h [
-  | inl failed ↦ inl failed
-  | inr risen ↦ inr (stays s.failures m.failures n.failures high risen)
+-- a cause lasts
+lasts : (s m n : Standing) (ts : List Taken) (a : Arrival) (t : Taken) → Took m a t n → Caused s ts m → Caused s (ts ++ t ∷ []) n
+lasts s m n ts a t took h = elim h [
+  | inl cause ↦ inl (elim cause [
+    | inl failed ↦ inl failed
+    | inr risen ↦ inr (stays s.book.failures m.book.failures n.book.failures took.counts risen)
+  ])
+  | inr told ↦ inr (earlier s ts t told.0, λ honest. told.1 (took.clean honest.0, honest.1, honest.2))
 ]
+
+-- the desk fails by the last call, or had failed before
+caused : (s m n : Standing) (l : List Arrival) (ts : List Taken) (a : Arrival) (t : Taken) → Ran s l ts m → Took m a t n → n.failed ≡ true → Caused s (ts ++ t ∷ []) n
+caused s m n l ts a t ran took failed =
+    let cases : (b : Bool) → m.failed ≡ b → Caused s (ts ++ t ∷ []) n
+    = λ b. elim b as (λ b. m.failed ≡ b → Caused s (ts ++ t ∷ []) n) [
+      | true ↦ λ before. lasts s m n ts a t took (ran.cause before)
+      | false ↦ λ working. elim (took.cause failed) [
+        | inl cause ↦ inl (elim cause [
+          | inl before ↦ absurd (true≢false (sym before ∙ working))
+          | inr risen ↦ inr (rises s.book.failures m.book.failures n.book.failures ran.counts risen)
+        ])
+        | inr told ↦ inr (
+          earlier s ts t (ran.unloads working told.0),
+          λ honest. told.1 (honest.0, ran.sound (took.clean honest.0) honest.1, ran.in_step (took.clean honest.0) honest.1 honest.2),
+        )
+      ]
+    ] in
+    cases m.failed refl
+
+every_push : (P : Taken → Type 0) (ts : List Taken) (t : Taken) → Every P ts → P t → Every P (ts ++ t ∷ [])
+every_push P [] t h last = (last, tt)
+every_push P (u ∷ ts) t h last = (h.0, every_push P ts t h.1 last)
+
+later_push : (ts : List Taken) (t : Taken) → StaysShut ts → (Contains ts StoreFault → t ≡ StoreFault) → StaysShut (ts ++ t ∷ [])
+later_push [] t h last = (λ is. tt, tt)
+later_push (u ∷ ts) t h last = (
+  λ is. every_push (λ (x : Taken). x ≡ StoreFault) ts t (h.0 is) (last (Contains-append_left (u ∷ []) ts StoreFault (at_end [] u StoreFault is))),
+  later_push ts t h.1 (λ found. last (Contains-append_right (u ∷ []) ts StoreFault found)),
+)
+
+-- a desk that works has worked before
+still : (m n : Standing) (a : Arrival) (t : Taken) → Took m a t n → n.failed ≡ false → m.failed ≡ false
+still m n a t took working =
+    let cases : (b : Bool) → m.failed ≡ b → m.failed ≡ false
+    = λ b. elim b as (λ b. m.failed ≡ b → m.failed ≡ false) [
+      | true ↦ λ before. absurd (true≢false (sym (took.shuts (took.shut before)) ∙ working))
+      | false ↦ λ before. before
+    ] in
+    cases m.failed refl
 
 fault_no_reply : (t : Taken) → is_fault t ≡ true → is_reply t ≡ false
 fault_no_reply (Reply status body) h = absurd (true≢false (sym h))
@@ -76,19 +133,19 @@ fault_no_reply StoreFault h = refl
 -- one more call
 pub ran_more : (s m n : Standing) (l : List Arrival) (ts : List Taken) (a : Arrival) (t : Taken) → Settles n → Ran s l ts m → Took m a t n → Ran s (l ++ a ∷ []) (ts ++ t ∷ []) n
 ran_more s m n l ts a t settles ran took =
-    let start : Content = s.content in
+    let start : Content = s.book.content in
     let yes : served (l ++ a ∷ []) (ts ++ t ∷ []) ≡ served l ts ++ cond (is_fault t) [] (a ∷ []) = served-push l ts a t ran.even in
     let no : unserved (l ++ a ∷ []) (ts ++ t ∷ []) ≡ unserved l ts ++ cond (is_fault t) (a ∷ []) [] = unserved-push l ts a t ran.even in
-    let content : n.is_clean → Starts s → n.is_open → n.content ≡ ran_after start (served (l ++ a ∷ []) (ts ++ t ∷ []))
+    let content : n.book.is_clean → Starts s → n.book.is_open → n.book.content ≡ ran_after start (served (l ++ a ∷ []) (ts ++ t ∷ []))
     = λ clean starts opened.
     let before = took.clean clean in
     let sound = ran.sound before starts.0 in
     let step = ran.in_step before starts.0 starts.2 in
-    one_content start (served l ts) a t n.content
+    one_content start (served l ts) a t n.book.content
     (λ (fine : is_fault t ≡ false). (took.sent fine clean sound step).1 ∙ ap (λ (x : Content). after x a) (ran.content before starts (took.up fine clean sound).0))
     (λ (bad : is_fault t ≡ true). (took.unmoved (fault_no_reply t bad) clean sound opened).1 ∙ ran.content before starts (took.unmoved (fault_no_reply t bad) clean sound opened).0)
     ∙ ap (ran_after start) (sym yes) in
-    let stops : n.is_clean → Starts s → (c : Content) → n.stops c → StopsAt start (served (l ++ a ∷ []) (ts ++ t ∷ [])) (unserved (l ++ a ∷ []) (ts ++ t ∷ [])) c
+    let stops : n.book.is_clean → Starts s → (c : Content) → n.book.stops c → StopsAt start (served (l ++ a ∷ []) (ts ++ t ∷ [])) (unserved (l ++ a ∷ []) (ts ++ t ∷ [])) c
     = λ clean starts c stop.
     let before = took.clean clean in
     let sound = ran.sound before starts.0 in
@@ -104,7 +161,7 @@ ran_more s m n l ts a t settles ran took =
     ]) in
     subst (λ (y : List Arrival). StopsAt start y (unserved (l ++ a ∷ []) (ts ++ t ∷ [])) c) (sym yes)
     (subst (λ (z : List Arrival). StopsAt start (served l ts ++ cond (is_fault t) [] (a ∷ [])) z c) (sym no) at) in
-    let whole : n.is_clean → Starts s → n.is_open → IsSound n.content
+    let whole : n.book.is_clean → Starts s → n.book.is_open → IsSound n.book.content
     = λ clean starts opened. subst IsSound (sym (content clean starts opened)) (ran_sound start (served (l ++ a ∷ []) (ts ++ t ∷ [])) starts.3) in
     record {
       even = length-append l (a ∷ []) ∙ ap (λ (k : ℕ). k + 1) ran.even ∙ sym (length-append ts (t ∷ []));
@@ -119,15 +176,27 @@ ran_more s m n l ts a t settles ran took =
           ∙ ap (replies start) (sym yes);
       content = content;
       whole = whole;
-      laws = λ clean starts opened. sound_keeps_laws n.content (whole clean starts opened);
+      laws = λ clean starts opened. sound_keeps_laws n.book.content (whole clean starts opened);
       stops = stops;
       sound_stops = λ clean starts c stop. stop_sound start (served (l ++ a ∷ []) (ts ++ t ∷ [])) (unserved (l ++ a ∷ []) (ts ++ t ∷ [])) c starts.3 (stops clean starts c stop);
       fault = λ h. elim (Contains-push_cases ts t StoreFault h) [
-        | inl old ↦ lasts s m n took.counts (ran.fault old)
-        | inr now ↦ caused s m n ran.cause ran.counts took.counts (took.cause (took.shuts now))
+        | inl old ↦ lasts s m n ts a t took (ran.fault old)
+        | inr now ↦ caused s m n l ts a t ran took (took.shuts now)
       ];
-      cause = λ h. caused s m n ran.cause ran.counts took.counts (took.cause h);
+      cause = λ h. caused s m n l ts a t ran took h;
+      shuts = λ h. elim (Contains-push_cases ts t StoreFault h) [
+        | inl old ↦ took.shuts (took.shut (ran.shuts old))
+        | inr now ↦ took.shuts now
+      ];
+      tells = λ h. inr (at_end ts t StoreFault (took.tells h));
+      later = later_push ts t ran.later (λ old. took.shut (ran.shuts old));
+      shut = λ h. let before = ran.shut h in (took.shuts (took.shut before.0), every_push (λ (x : Taken). x ≡ StoreFault) ts t before.1 (took.shut before.0));
+      quiet = λ none. took.quiet (λ now. none (at_end ts t StoreFault now)) ∙ ran.quiet (λ old. none (Contains-append_left ts (t ∷ []) StoreFault old));
       counts = omega (arith, ran.counts, took.counts);
+      unloads = λ working gone. elim (took.unloads working gone) [
+        | inl before ↦ earlier s ts t (ran.unloads (still m n a t took working) before)
+        | inr now ↦ inr (at_end ts t NoMemory now)
+      ];
     }
 
 rejection_no_reply : (t : Taken) → is_rejection t ≡ true → is_reply t ≡ false
@@ -137,7 +206,10 @@ rejection_no_reply DeskFull h = refl
 rejection_no_reply NoMemory h = refl
 rejection_no_reply StoreFault h = refl
 
-no_store : NoMemory ≡ StoreFault → ⊥
+rejection_no_store : (t : Taken) → is_rejection t ≡ true → ¬ (t ≡ StoreFault)
+rejection_no_store t rejected is = true≢false (sym rejected ∙ ap is_rejection is)
+
+pub no_store : NoMemory ≡ StoreFault → ⊥
 no_store h = cc
 
 -- the text of a rejection may not be made, and noMemory be answered
@@ -151,6 +223,10 @@ forgets m n a t rejected took = record {
   unmoved = λ none. took.unmoved (rejection_no_reply t rejected);
   stops = took.stops;
   shuts = λ h. absurd (no_store h);
+  tells = λ h. absurd (rejection_no_store t rejected (took.tells h));
+  shut = λ h. absurd (rejection_no_store t rejected (took.shut h));
   cause = took.cause;
+  quiet = λ none. took.quiet (rejection_no_store t rejected);
   counts = took.counts;
+  unloads = λ working gone. inr refl;
 }

@@ -1,7 +1,7 @@
 -- Requests that compare equal are equal.
 use Rattle.std.proofs.Common.{◌≡◌, ℕ, Bool, true, false, List, true≢false, sym, refl, ap, ap₂, ◌∙◌, ◌&&◌, ◌==◌, eqb-true}
-use Rattle.std.specs.Prelude.{nat_eq}
-use Rattle.std.specs.Cmp.Lexicographic.{same_text, pointwise}
+use Rattle.std.specs.Str.{bytes_eq}
+use Rattle.std.specs.Cmp.Lexicographic.{same_text}
 use Rattle.acd_terms.specs.declared.state.Pending.{Pending}
 use Rattle.acd_terms.specs.declared.state.Pending.TheVariants as wanted
 use Rattle.acd_terms.specs.declared.command.Requested.{Requested}
@@ -45,8 +45,8 @@ triple K c d t e f u h =
 
 same_command : (a b : Command) → (command.eq-value).it a b ≡ true → a ≡ b
 same_command (AddGroup d n r w) (AddGroup e m s x) h =
-    let first = two (d == e) (pointwise nat_eq n m && ((r == s) && (w == x))) h in
-    let next = two (pointwise nat_eq n m) ((r == s) && (w == x)) first.1 in
+    let first = two (d == e) (bytes_eq n m && ((r == s) && (w == x))) h in
+    let next = two (bytes_eq n m) ((r == s) && (w == x)) first.1 in
     let rest = two (r == s) (w == x) next.1 in
     let e1 : d ≡ e = eqb-true d e first.0 in
     let e2 : n ≡ m = same_text n m (sym next.0) in
@@ -55,7 +55,7 @@ same_command (AddGroup d n r w) (AddGroup e m s x) h =
     cc (e1, e2, e3, e4)
 same_command (AddStation d) (AddStation e) h = ap AddStation (eqb-true d e h)
 same_command (AddAgent a n) (AddAgent b m) h =
-    let both = two (a == b) (pointwise nat_eq n m) h in
+    let both = two (a == b) (bytes_eq n m) h in
     ap₂ AddAgent (eqb-true a b both.0) (same_text n m (sym both.1))
 same_command (ArriveCall c d) (ArriveCall e f) h = pair ArriveCall c d e f h
 same_command (MakeCall c d) (MakeCall e f) h = pair MakeCall c d e f h
@@ -82,6 +82,6 @@ joined a b e1 e2 e3 =
 pub same_true : (a b : Request) → same_request a b ≡ true → a ≡ b
 unfolding same_request
 same_true a b h =
-    let first = two (pointwise nat_eq a.requester b.requester) ((a.invoke == b.invoke) && (command.eq-value).it a.command b.command) h in
+    let first = two (bytes_eq a.requester b.requester) ((a.invoke == b.invoke) && (command.eq-value).it a.command b.command) h in
     let rest = two (a.invoke == b.invoke) ((command.eq-value).it a.command b.command) first.1 in
     joined a b (same_text a.requester b.requester (sym first.0)) (eqb-true a.invoke b.invoke rest.0) (same_command a.command b.command rest.1)

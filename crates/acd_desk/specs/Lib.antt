@@ -2,6 +2,10 @@ pub mod Firsts
 pub mod Replies
 pub mod Served
 pub mod Stands
+pub mod Standing
+pub mod Prepared
+pub mod Reread
+pub mod Faults
 pub mod Arrived
 pub mod Laws
 pub mod Opening

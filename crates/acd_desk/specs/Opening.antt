@@ -1,18 +1,60 @@
--- Why a book makes no desk.
-use Rattle.std.specs.Prelude.{◌≡◌, Some}
-use Rattle.acd_terms.specs.Rules.First.{first_broken}
-use Rattle.acd_terms.specs.declared.rows.Rows.{Rows}
-use Rattle.acd_desk.specs.declared.desk.OpenFault.{OpenFault}
-use Rattle.acd_desk.specs.declared.desk.OpenFault.TheVariants as fault
+-- What opening a desk over a book leaves.
+use Rattle.std.specs.Prelude.{◌≡◌, ◌≤◌, false, Some}
+use Rattle.acd_terms.specs.Rules.First.{first_broken, BreaksNoRule}
+use Rattle.acd_switch.specs.declared.row_fault.RowFault.{RowFault}
+use Rattle.acd_switch.specs.declared.row_fault.RowFault.TheVariants as row
+use Rattle.acd_book.specs.declared.fault.BookFault.{BookFault}
+use Rattle.acd_book.specs.declared.fault.BookFault.TheVariants as book
+use Rattle.acd_book.specs.Content.{Within, HasRisen}
+use Rattle.acd_book.specs.State.{BookState}
+use Rattle.acd_desk.specs.declared.open_fault.OpenFault.{OpenFault}
+use Rattle.acd_desk.specs.declared.open_fault.OpenFault.TheVariants as fault
+use Rattle.acd_desk.specs.Stands.{IsSound}
+use Rattle.acd_desk.specs.Standing.{Standing, Starts}
 
--- the rule that is named is the first that the rows break
-abbrev pub RefusesBy : OpenFault → Rows → Type 0
-RefusesBy (fault.Rows rule) s = first_broken s ≡ Some rule
-RefusesBy fault.NoMemory s = Unit {0}
-RefusesBy fault.Store s = Unit {0}
+-- a desk with the rows of its book, which break no rule
+pub record Opened (old : BookState) (new : Standing) : Type 0 where
+  pub clean : new.book.is_clean → old.is_clean
+  pub sound : new.book.is_clean → old.is_sound → new.book.is_sound
+  pub opened : new.book.is_clean → old.is_sound → old.is_open × new.book.is_open × (new.book.content ≡ old.content) × (new.switch ≡ Some old.content.rows)
+  pub working : new.failed ≡ false
+  pub stops : new.book.is_clean → old.is_sound → Within new.book.stops old.stops
+  pub accepts : new.book.is_clean → old.is_sound → BreaksNoRule old.content.rows
+  pub starts : new.book.is_clean → old.is_sound → IsSound old.content → Starts new
+  pub quiet : new.book.failures ≡ old.failures
+
+-- the book answered its rows: it is open, and they break this rule first
+abbrev pub RefusesBy : BookState → OpenFault → BookState → Type 0
+RefusesBy old (fault.Rows rule) new = old.is_open × new.is_open × (new.content ≡ old.content) × (first_broken old.content.rows ≡ Some rule)
+RefusesBy old fault.NoMemory new = Unit {0}
+RefusesBy old fault.Store new = Unit {0}
+
+-- why a book without rows makes no desk
+abbrev pub by_book : BookFault → OpenFault
+by_book book.NoMemory = fault.NoMemory
+by_book book.Store = fault.Store
+
+-- why rows make no desk
+abbrev pub by_rows : RowFault → OpenFault
+by_rows (row.Broken rule) = fault.Rows rule
+by_rows row.NoMemory = fault.NoMemory
 
 -- no rule is broken
 abbrev pub IsNoRule : OpenFault → Type 0
 IsNoRule (fault.Rows rule) = ⊥
 IsNoRule fault.NoMemory = Unit {0}
 IsNoRule fault.Store = Unit {0}
+
+-- no desk, and the book that comes back
+pub record Refused (old : BookState) (why : OpenFault) (new : BookState) : Type 0 where
+  pub clean : new.is_clean → old.is_clean
+  pub sound : new.is_clean → old.is_sound → new.is_sound
+  pub stops : new.is_clean → old.is_sound → Within new.stops old.stops
+  pub same : new.is_clean → old.is_sound → new.is_open → old.is_open × (new.content ≡ old.content)
+  pub refuses : new.is_clean → old.is_sound → RefusesBy old why new
+  -- a sound content is never refused
+  pub well : new.is_clean → old.is_sound → IsSound old.content → IsNoRule why
+  -- a failure was counted where the store has failed, and nowhere else
+  pub cause : why ≡ fault.Store → HasRisen old.failures new.failures
+  pub quiet : ¬ (why ≡ fault.Store) → new.failures ≡ old.failures
+  pub counts : old.failures ≤ new.failures

@@ -1,76 +1,80 @@
 -- What one call of a desk leaves, and what many calls leave, over any book.
-use Rattle.std.specs.Prelude.{◌≡◌, ◌⊎◌, ℕ, ◌≤◌, Bool, true, false, List, length}
+use Rattle.std.specs.Prelude.{◌≡◌, ◌⊎◌, ◌≤◌, true, false, List, [], ◌∷◌, length, None}
 use Rattle.std.specs.List.{Contains}
-use Rattle.acd_terms.specs.declared.rows.Rows.{Rows}
+use Rattle.acd_terms.specs.Lists.{Every}
 use Rattle.acd_terms.specs.declared.command.Arrival.{Arrival}
-use Rattle.acd_book.specs.declared.book.Book.{Ghosts}
 use Rattle.acd_book.specs.Content.{Content, HasRisen}
-use Rattle.acd_desk.specs.declared.desk.Desk.{Desk}
 use Rattle.acd_desk.specs.declared.taken.Taken.{Taken}
-use Rattle.acd_desk.specs.declared.taken.Taken.TheVariants.{StoreFault}
+use Rattle.acd_desk.specs.declared.taken.Taken.TheVariants.{NoMemory, StoreFault}
 use Rattle.acd_desk.specs.Replies.{answer_in, after}
 use Rattle.acd_desk.specs.Served.{is_fault, is_reply, served, unserved, sent}
-use Rattle.acd_desk.specs.Stands.{IsSound, ran_after, replies, StopsAt, InStep, StartsWell}
+use Rattle.acd_desk.specs.Stands.{IsSound, ran_after, replies, StopsAt}
+pub use Rattle.acd_desk.specs.Standing.{Standing, standing}
+use Rattle.acd_desk.specs.Standing.{InStep, Starts}
 use Rattle.acd_desk.specs.Laws.{KeepsLaws}
-
--- a desk at a moment: what its book says of itself, and what the desk has in memory
-pub record Standing : Type 1 where
-  pub is_clean : Type 0
-  pub is_sound : Type 0
-  pub is_open : Type 0
-  pub content : Content
-  -- what a reopening may find, if nothing is done from now on
-  pub stops : Content → Type 0
-  pub failures : ℕ
-  pub switch : Rows
-  pub failed : Bool
-
--- by the words of its book
-abbrev pub standing : {B : Type 0} → (book : Ghosts B) → Desk B book → Standing
-standing book d =
-    record { is_clean = book.is_clean d.book; is_sound = book.is_sound d.book; is_open = book.is_open d.book; content = book.content d.book; stops = book.stops d.book; failures = book.count d.book; switch = d.switch; failed = d.failed }
-
--- a sound book that is open, a desk in step with it, and a sound content
-abbrev pub Starts : Standing → Type 0
-Starts s = StartsWell s.is_sound s.is_open s.switch s.failed s.content
-
-abbrev pub StaysInStep : Standing → Standing → Type 0
-StaysInStep old new = InStep old.switch old.failed old.is_open old.content → InStep new.switch new.failed new.is_open new.content
 
 -- the desk had failed before, or its store has failed since
 abbrev pub IsCause : Standing → Standing → Type 0
-IsCause old new = (old.failed ≡ true) ⊎ HasRisen old.failures new.failures
+IsCause old new = (old.failed ≡ true) ⊎ HasRisen old.book.failures new.book.failures
+
+-- the book has told what an honest one in step with its desk never tells
+abbrev pub IsDeceived : Standing → Standing → Type 0
+IsDeceived old new = ¬ (new.book.is_clean × old.book.is_sound × InStep old)
 
 -- one arrival, and its answer
 pub record Took (old : Standing) (a : Arrival) (t : Taken) (new : Standing) : Type 0 where
-  pub clean : new.is_clean → old.is_clean
-  pub sound : new.is_clean → old.is_sound → new.is_sound
-  pub in_step : new.is_clean → old.is_sound → StaysInStep old new
-  pub up : is_fault t ≡ false → new.is_clean → old.is_sound → old.is_open × new.is_open
-  pub sent : is_fault t ≡ false → new.is_clean → old.is_sound → InStep old.switch old.failed old.is_open old.content
-      → (t ≡ answer_in (after old.content a) a.request) × (new.content ≡ after old.content a)
-  pub unmoved : is_reply t ≡ false → new.is_clean → old.is_sound → new.is_open → old.is_open × (new.content ≡ old.content)
-  pub stops : new.is_clean → old.is_sound → InStep old.switch old.failed old.is_open old.content → (c : Content) → new.stops c → old.stops c ⊎ (old.is_open × (c ≡ after old.content a))
+  pub clean : new.book.is_clean → old.book.is_clean
+  pub sound : new.book.is_clean → old.book.is_sound → new.book.is_sound
+  pub in_step : new.book.is_clean → old.book.is_sound → InStep old → InStep new
+  pub up : is_fault t ≡ false → new.book.is_clean → old.book.is_sound → old.book.is_open × new.book.is_open
+  pub sent : is_fault t ≡ false → new.book.is_clean → old.book.is_sound → InStep old
+      → (t ≡ answer_in (after old.book.content a) a.request) × (new.book.content ≡ after old.book.content a)
+  pub unmoved : is_reply t ≡ false → new.book.is_clean → old.book.is_sound → new.book.is_open → old.book.is_open × (new.book.content ≡ old.book.content)
+  pub stops : new.book.is_clean → old.book.is_sound → InStep old → (c : Content) → new.book.stops c → old.book.stops c ⊎ (old.book.is_open × (c ≡ after old.book.content a))
+  -- the desk has failed where it answers storeFault, and nowhere else; once failed it answers nothing else
   pub shuts : t ≡ StoreFault → new.failed ≡ true
-  pub cause : new.failed ≡ true → IsCause old new
-  pub counts : old.failures ≤ new.failures
+  pub tells : new.failed ≡ true → t ≡ StoreFault
+  pub shut : old.failed ≡ true → t ≡ StoreFault
+  -- it fails where a failure was counted, or where rows that an unloaded desk was given break a rule
+  pub cause : new.failed ≡ true → IsCause old new ⊎ ((old.switch ≡ None) × IsDeceived old new)
+  -- where it answers anything but storeFault, noMemory too, no failure was counted
+  pub quiet : ¬ (t ≡ StoreFault) → new.book.failures ≡ old.book.failures
+  pub counts : old.book.failures ≤ new.book.failures
+  -- it drops its switch where it answers noMemory, or has failed
+  pub unloads : new.failed ≡ false → new.switch ≡ None → (old.switch ≡ None) ⊎ (t ≡ NoMemory)
+
+-- behind a storeFault there is nothing else
+abbrev pub StaysShut : List Taken → Type 0
+StaysShut [] = Unit {0}
+StaysShut (t ∷ ts) = (t ≡ StoreFault → Every (λ (u : Taken). u ≡ StoreFault) ts) × StaysShut ts
+
+-- the desk had no switch in memory at some time
+abbrev pub WasUnloaded : Standing → List Taken → Type 0
+WasUnloaded old answers = (old.switch ≡ None) ⊎ Contains answers NoMemory
 
 -- some arrivals, and their answers
 pub record Ran (old : Standing) (arrivals : List Arrival) (answers : List Taken) (new : Standing) : Type 0 where
   pub even : length arrivals ≡ length answers
-  pub clean : new.is_clean → old.is_clean
-  pub sound : new.is_clean → old.is_sound → new.is_sound
-  pub in_step : new.is_clean → old.is_sound → StaysInStep old new
+  pub clean : new.book.is_clean → old.book.is_clean
+  pub sound : new.book.is_clean → old.book.is_sound → new.book.is_sound
+  pub in_step : new.book.is_clean → old.book.is_sound → InStep old → InStep new
   -- each answer but the faults is that of the abstract desk, at its place in the list of what was kept and served
-  pub replies : new.is_clean → Starts old → sent answers ≡ replies old.content (served arrivals answers)
+  pub replies : new.book.is_clean → Starts old → sent answers ≡ replies old.book.content (served arrivals answers)
   -- an open book holds the run over the first arrivals of that list
-  pub content : new.is_clean → Starts old → new.is_open → new.content ≡ ran_after old.content (served arrivals answers)
-  pub whole : new.is_clean → Starts old → new.is_open → IsSound new.content
-  pub laws : new.is_clean → Starts old → new.is_open → KeepsLaws new.content
+  pub content : new.book.is_clean → Starts old → new.book.is_open → new.book.content ≡ ran_after old.book.content (served arrivals answers)
+  pub whole : new.book.is_clean → Starts old → new.book.is_open → IsSound new.book.content
+  pub laws : new.book.is_clean → Starts old → new.book.is_open → KeepsLaws new.book.content
   -- whatever a stop leaves is that run, or that with one more arrival, which was answered by a fault
-  pub stops : new.is_clean → Starts old → (c : Content) → new.stops c → StopsAt old.content (served arrivals answers) (unserved arrivals answers) c
-  pub sound_stops : new.is_clean → Starts old → (c : Content) → new.stops c → IsSound c
-  -- a store fault has a cause
-  pub fault : Contains answers StoreFault → IsCause old new
-  pub cause : new.failed ≡ true → IsCause old new
-  pub counts : old.failures ≤ new.failures
+  pub stops : new.book.is_clean → Starts old → (c : Content) → new.book.stops c → StopsAt old.book.content (served arrivals answers) (unserved arrivals answers) c
+  pub sound_stops : new.book.is_clean → Starts old → (c : Content) → new.book.stops c → IsSound c
+  -- a store fault has a cause, and is answered to all that comes later
+  pub fault : Contains answers StoreFault → IsCause old new ⊎ (WasUnloaded old answers × IsDeceived old new)
+  pub cause : new.failed ≡ true → IsCause old new ⊎ (WasUnloaded old answers × IsDeceived old new)
+  pub shuts : Contains answers StoreFault → new.failed ≡ true
+  pub tells : new.failed ≡ true → (old.failed ≡ true) ⊎ Contains answers StoreFault
+  pub later : StaysShut answers
+  pub shut : old.failed ≡ true → (new.failed ≡ true) × Every (λ (t : Taken). t ≡ StoreFault) answers
+  -- where no storeFault was answered, no failure was counted
+  pub quiet : ¬ (Contains answers StoreFault) → new.book.failures ≡ old.book.failures
+  pub counts : old.book.failures ≤ new.book.failures
+  pub unloads : new.failed ≡ false → new.switch ≡ None → WasUnloaded old answers

@@ -1,12 +1,11 @@
 -- What a sound content is, and what a run of the desk leaves.
-use Rattle.std.specs.Prelude.{◌≡◌, ◌⊎◌, ◌≤◌, Bool, true, false, List, [], ◌∷◌, ◌++◌, map, length, None}
+use Rattle.std.specs.Prelude.{◌≡◌, ◌⊎◌, ◌≤◌, true, List, [], ◌∷◌, ◌++◌, map, length, None}
 use Rattle.std.specs.List.{Contains}
 use Rattle.acd_terms.specs.Limits.{limits_fit}
-use Rattle.acd_terms.specs.declared.rows.Rows.{Rows}
 use Rattle.acd_terms.specs.declared.command.Arrival.{Arrival}
 use Rattle.acd_book.specs.declared.kept.Kept.{Kept}
 use Rattle.acd_terms.specs.declared.command.Request.{Request}
-use Rattle.acd_book.specs.Content.{Content, IsCounted, kept_of}
+use Rattle.acd_book.specs.Content.{Content, kept_of}
 use Rattle.acd_desk.specs.declared.taken.Taken.{Taken}
 use Rattle.acd_terms.specs.Step.{executed_moment}
 use Rattle.acd_terms.specs.Run.{Asked}
@@ -35,14 +34,6 @@ replies start list = map (λ (a : Arrival). reply_to start.rows.limits (arrivals
 -- what a reopening may find: that run, or that with one more of those that were not served
 abbrev pub StopsAt : Content → List Arrival → List Arrival → Content → Type 0
 StopsAt start served others c = (c ≡ ran_after start served) ⊎ ((a : Arrival) × Contains others a × (c ≡ ran_after start (served ++ a ∷ [])))
-
--- the switch of an open desk is that of its book, and the book's counters are up to its records
-abbrev pub InStep : Rows → Bool → Type 0 → Content → Type 0
-InStep rows failed is_open c = is_open → failed ≡ false → (c.rows ≡ rows) × IsCounted c
-
--- the premises of a run: a sound book that is open, a desk in step with it, and a sound content
-abbrev pub StartsWell : Type 0 → Type 0 → Rows → Bool → Content → Type 0
-StartsWell is_sound is_open rows failed c = is_sound × is_open × InStep rows failed is_open c × IsSound c
 
 -- no record has the key of the request
 abbrev pub IsNew : Content → Request → Type 0

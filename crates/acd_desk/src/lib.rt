@@ -1,13 +1,27 @@
 //! The desk: it executes each request once, keeps its reply, and gives a repeat the kept one.
 //!
-//! [`desk::Desk`] stands over any [`acd_book::book::Book`]. What it answers and leaves is what
-//! `specs/Firsts` and `specs/Replies` say: the abstract switch run once over each request's first arrival.
+//! [`Desk`] stands over any [`acd_book::Book`]. What it answers and leaves is what `specs/Firsts` and
+//! `specs/Replies` say: the abstract switch run once over each request's first arrival. [`Taken`] is an
+//! answer, and [`OpenFault`] says why a book makes no desk.
+//!
+//! ```ignore
+//! let mut desk = Desk::open(alloc, MemoryBook::new(alloc, Limits::GREATEST))?;
+//! let answer = desk.take(moment, &request);
+//! let book = desk.close();
+//! ```
 #![tactic(auto)]
 
-pub mod desk;
+mod desk;
+mod executing;
 pub mod laws;
-mod next;
-pub mod requests;
-pub mod taken;
+mod open_fault;
+mod requests;
+mod taken;
 #[cfg(test)]
 mod tests;
+mod working;
+
+pub use desk::Desk;
+pub use open_fault::OpenFault;
+pub use requests::is_same;
+pub use taken::Taken;

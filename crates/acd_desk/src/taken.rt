@@ -1,6 +1,6 @@
 //! What a desk answers to an arrival.
 
-use acd_book::text::Text;
+use acd_book::Text;
 
 /// The answer to one arrival.
 #[derive(Drop)]

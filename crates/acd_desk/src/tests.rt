@@ -1,9 +1,9 @@
-//! Worked examples over books in memory, and over one whose store fails.
+//! Worked examples over books in memory, and over one that fails.
 
 use crate::desk::Desk;
+use crate::open_fault::OpenFault;
 use crate::taken::Taken;
-use acd_book::book::Book;
-use acd_book::memory::MemoryBook;
+use acd_book::{Book, MemoryBook};
 use acd_codec::read_request;
 use acd_terms::command::Arrival;
 use acd_terms::rows::Limits;

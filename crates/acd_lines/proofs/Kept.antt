@@ -1,82 +1,83 @@
 -- Lines that are kept up to a limit.
-use Rattle.std.proofs.Common.{◌≡◌, ℕ, zero, suc, ◌+◌, ◌-◌, ◌*◌, ◌<◌, ◌≤◌, Bool, true, false, ◌&&◌, ◌==◌, nat_lt, nat_le, List, [], ◌∷◌, ◌++◌, length, take, drop, Option, Some, None, option_map, refl, sym, ap, ◌∙◌, arith, length-append, lt-ltb, inl, inr, ◌⊎◌, ltb-true}
-use Rattle.std.proofs.lemmas.List.{take_all, take_at, take_more_set, length-take-le, take-append-drop}
+use Rattle.std.proofs.Common.{◌≡◌, ℕ, zero, suc, ◌+◌, ◌-◌, ◌<◌, ◌≤◌, true, false, List, [], ◌∷◌, ◌++◌, length, take, drop, Option, Some, None, option_map, refl, sym, ap, ◌∙◌, subst, arith, append_assoc, length-append, lt-ltb, inl, inr, ◌⊎◌}
+use Rattle.std.proofs.lemmas.List.{take_all, take_at, length-take-le, take-append-drop}
+use Rattle.std.proofs.lemmas.List.Folds.{list_all-append}
 use Rattle.std.proofs.Math.Seq.{take-add}
 use Rattle.std.proofs.lemmas.Bool.{cases_lt}
-use Rattle.std.proofs.Math.ListN.{set}
-use Rattle.std.proofs.lemmas.Bool.{and_parts}
-use Rattle.std.specs.Option.{MatchOption}
+use Rattle.std.specs.Cmp.Derive.{both_true}
 use Rattle.std.specs.Bool.{if◌then◌else◌}
-use Rattle.std.specs.Char.{is_ascii_digit}
 use Rattle.std.specs.Io.BufRead.{ends_with_byte, strip_last}
-use Rattle.acd_lines.specs.Input.{number_then, if_moment, moment_of, Line, no_moment, too_long, line_behind, line_of}
+use Rattle.acd_lines.specs.Input.{has_none, number_of, Line, no_moment, too_long, line_behind, line_of}
+use Rattle.acd_lines.proofs.Splits.{divides}
+use Rattle.acd_lines.proofs.Moments.{number_long, moment_none, moment_split}
 
-pub kept_more : (n : ℕ) (items : List ℕ) (len b : ℕ) (old : List ℕ) → length items ≡ n → len < n → take len items ≡ old → take (len + 1) (set items len b) ≡ take n (old ++ b ∷ [])
-kept_more n items len b old size room is =
-    let at : len < length items = omega arith in
-    let long : length (old ++ b ∷ []) ≤ n = omega (arith, ap length is, length-take-le len items (omega arith), length-append old (b ∷ [])) in
-    take_more_set items len b at ∙ ap (λ (l : List ℕ). l ++ b ∷ []) is ∙ sym (take_all n (old ++ b ∷ []) long)
+-- more bytes, kept up to n
+pub kept_more : (n : ℕ) (part more : List ℕ) → take n (take n part ++ more) ≡ take n (part ++ more)
+kept_more zero part more = refl
+kept_more (suc n) [] more = refl
+kept_more (suc n) (x ∷ part) more = ap (λ (l : List ℕ). x ∷ l) (kept_more n part more)
 
-pub kept_full : (n : ℕ) (items : List ℕ) (len b : ℕ) (old : List ℕ) → length items ≡ n → len ≡ n → take len items ≡ old → old ≡ take n (old ++ b ∷ [])
-kept_full n items len b old size full is =
-    sym (take_at old (b ∷ []) n (omega (arith, ap length is, length-take-le len items (omega arith))))
+-- what is put behind what is kept
+pub kept_room : (n : ℕ) (kept more : List ℕ) (count : ℕ) → length kept ≤ n → count ≡ n - length kept → kept ++ take count more ≡ take n (kept ++ more)
+kept_room n [] more count room is = ap (λ (k : ℕ). take k more) (omega arith)
+kept_room zero (x ∷ kept) more count room is = absurd (omega arith)
+kept_room (suc n) (x ∷ kept) more count room is = ap (λ (l : List ℕ). x ∷ l) (kept_room n kept more count (omega arith) (omega arith))
 
--- a byte more, kept up to n
-pub kept_push : (n b : ℕ) (part : List ℕ) → take n (take n part ++ b ∷ []) ≡ take n (part ++ b ∷ [])
-kept_push zero b part = refl
-kept_push (suc n) b [] = refl
-kept_push (suc n) b (x ∷ part) = ap (λ (l : List ℕ). x ∷ l) (kept_push n b part)
+pub take_room : (room count : ℕ) (more : List ℕ) → count ≤ room → (count < room → length more ≤ count) → take count more ≡ take room more
+take_room room count more within all = elim (cases_lt count room) [
+  | inl less ↦ take_all count more (all less) ∙ sym (take_all room more (omega (arith, all less)))
+  | inr full ↦ ap (λ (k : ℕ). take k more) (omega arith)
+]
 
 -- ---- a long line is as its beginning
 
-pub number_more : (n v : ℕ) (some : Bool) (ys zs : List ℕ) → n < length ys → number_then n v some (ys ++ zs) ≡ option_map (λ p. (p.0, p.1 ++ zs)) (number_then n v some ys)
-unfolding number_then
-number_more n v some [] zs h = absurd (omega arith)
-number_more n v some (y ∷ ys) zs h =
-    elim (nat_lt 0 n && is_ascii_digit y) as (λ b. (nat_lt 0 n && is_ascii_digit y) ≡ b
-    → (if b then number_then (n - 1) (v * 10 + (y - 48)) true (ys ++ zs) else (if some && (y == 32) then Some (v, ys ++ zs) else None))
-    ≡ option_map {T = ℕ × List ℕ} {U = ℕ × List ℕ} (λ p. (p.0, p.1 ++ zs)) (if b then number_then (n - 1) (v * 10 + (y - 48)) true ys else (if some && (y == 32) then Some (v, ys) else None))) [
-      | true ↦ λ e. let both = and_parts (nat_lt 0 n) (is_ascii_digit y) e in number_more (n - 1) (v * 10 + (y - 48)) true ys zs (let positive = ltb-true 0 n both.0 in omega arith)
-      | false ↦ λ e. elim (some && (y == 32)) as (λ c. (if c then Some (v, ys ++ zs) else None) ≡ option_map {T = ℕ × List ℕ} {U = ℕ × List ℕ} (λ p. (p.0, p.1 ++ zs)) (if c then Some (v, ys) else None)) [ true ↦ refl | false ↦ refl ]
-    ] refl
+line_split : (front behind : List ℕ) → has_none 32 front ≡ true → line_of (front ++ 32 ∷ behind) ≡ line_behind (option_map (λ n. (n, behind)) (number_of front))
+unfolding line_of
+line_split front behind h = ap line_behind (moment_split (front ++ 32 ∷ behind) front behind refl h)
 
-weaken : {T : Type 0} (o : Option T) (P Q : T → Type 0) → ((x : T) → P x → Q x) → MatchOption o (Unit {0}) P → MatchOption o (Unit {0}) Q
-weaken None P Q f h = tt
-weaken (Some x) P Q f h = f x h
+line_open : (text : List ℕ) → has_none 32 text ≡ true → line_of text ≡ no_moment
+unfolding line_of
+line_open text h = ap line_behind (moment_none text h)
 
-pub number_rest : (n v : ℕ) (some : Bool) (ys : List ℕ) → MatchOption (number_then n v some ys) (Unit {0}) (λ p. length ys ≤ length p.1 + n + 1)
-unfolding number_then
-number_rest n v some [] = tt
-number_rest n v some (y ∷ ys) =
-    elim (nat_lt 0 n && is_ascii_digit y) as (λ b. (nat_lt 0 n && is_ascii_digit y) ≡ b
-    → MatchOption {T = ℕ × List ℕ} (if b then number_then (n - 1) (v * 10 + (y - 48)) true ys else (if some && (y == 32) then Some (v, ys) else None)) (Unit {0}) (λ (p : ℕ × List ℕ). length (y ∷ ys) ≤ length p.1 + n + 1)) [
-      | true ↦ λ e. let both = and_parts (nat_lt 0 n) (is_ascii_digit y) e in
-          let positive = ltb-true 0 n both.0 in
-          weaken (number_then (n - 1) (v * 10 + (y - 48)) true ys) (λ (p : ℕ × List ℕ). length ys ≤ length p.1 + (n - 1) + 1) (λ (p : ℕ × List ℕ). length (y ∷ ys) ≤ length p.1 + n + 1) (λ (p : ℕ × List ℕ) h. omega arith) (number_rest (n - 1) (v * 10 + (y - 48)) true ys)
-      | false ↦ λ e. elim (some && (y == 32)) as (λ c. MatchOption {T = ℕ × List ℕ} (if c then Some (v, ys) else None) (Unit {0}) (λ (p : ℕ × List ℕ). length (y ∷ ys) ≤ length p.1 + n + 1)) [ true ↦ omega arith | false ↦ tt ]
-    ] refl
+-- a long text with no space in its front
+line_no_moment : (base u : List ℕ) → 10 < length base → has_none 32 base ≡ true → line_of (base ++ u) ≡ no_moment
+line_no_moment base u long none = elim (divides 32 u) [
+  | inl spaceless ↦ line_open (base ++ u) (list_all-append _ base u ∙ both_true none spaceless)
+  | inr one ↦
+      let whole : base ++ u ≡ (base ++ one.0) ++ 32 ∷ one.1 = ap (λ (l : List ℕ). base ++ l) one.2 ∙ sym (append_assoc base one.0 (32 ∷ one.1)) in
+      let size = length-append base one.0 in
+      let no = number_long (base ++ one.0) (omega arith) in
+      ap line_of whole ∙ line_split (base ++ one.0) one.1 (list_all-append _ base one.0 ∙ both_true none one.3) ∙ ap (λ o. line_behind (option_map (λ n. (n, one.1)) o)) no
+]
 
-abbrev long_line : Option (ℕ × List ℕ) → Line
+-- a text that is long behind its space, or has no moment
+long_line : Option ℕ → Line
 long_line None = no_moment
-long_line (Some p) = if nat_le p.0 4294967295 then too_long else no_moment
+long_line (Some n) = too_long
 
-behind : (o : Option (ℕ × List ℕ)) (u : List ℕ) → MatchOption o (Unit {0}) (λ p. 4096 < length p.1) → line_behind (if_moment (option_map (λ p. (p.0, p.1 ++ u)) o)) ≡ long_line o
-behind None u h = refl
-behind (Some p) u h =
-    let over : 4096 < length (p.1 ++ u) = omega (arith, length-append p.1 u) in
-    elim (nat_le p.0 4294967295) as (λ b. line_behind (if b then Some (p.0, p.1 ++ u) else None) ≡ (if b then too_long else no_moment)) [
-      | true ↦ rw (lt-ltb 4096 (length (p.1 ++ u)) over) refl
-      | false ↦ refl
-    ]
+pub short_or_none : (front : List ℕ) → (length front ≤ 10) ⊎ (number_of front ≡ None)
+short_or_none front = elim (cases_lt 10 (length front)) [ inl long ↦ inr (number_long front long) | inr short ↦ inl short ]
 
-line_long : (base u : List ℕ) → 4107 < length base → line_of (base ++ u) ≡ long_line (number_then 10 0 false base)
-unfolding line_of moment_of
-line_long base u h =
-    ap (λ o. line_behind (if_moment o)) (number_more 10 0 false base u (omega arith))
-    ∙ behind (number_then 10 0 false base) u (weaken (number_then 10 0 false base) _ _ (λ p k. omega arith) (number_rest 10 0 false base))
+behind_long : (o : Option ℕ) (behind : List ℕ) → 4096 < length behind → line_behind (option_map (λ n. (n, behind)) o) ≡ long_line o
+unfolding long_line
+behind_long None behind h = refl
+behind_long (Some n) behind h = rw (lt-ltb 4096 (length behind) h) refl
+
+line_of_front : (front b u : List ℕ) → 4107 < length (front ++ 32 ∷ b) → has_none 32 front ≡ true → line_of (front ++ 32 ∷ (b ++ u)) ≡ long_line (number_of front)
+unfolding long_line
+line_of_front front b u long none = line_split front (b ++ u) none ∙ elim (short_or_none front) [
+  | inl short ↦ behind_long (number_of front) (b ++ u) (omega (arith, length-append b u, length-append front (32 ∷ b)))
+  | inr nothing ↦ rw nothing refl
+]
 
 same_long : (base u v xs ys : List ℕ) → 4107 < length base → xs ≡ base ++ u → ys ≡ base ++ v → line_of xs ≡ line_of ys
-same_long base u v xs ys h e f = ap line_of e ∙ line_long base u h ∙ sym (line_long base v h) ∙ ap line_of (sym f)
+same_long base u v xs ys h e f = ap line_of e ∙ (elim (divides 32 base) [
+  | inl none ↦ line_no_moment base u (omega arith) none ∙ sym (line_no_moment base v (omega arith) none)
+  | inr one ↦
+      let long : 4107 < length (one.0 ++ 32 ∷ one.1) = subst (λ (l : List ℕ). 4107 < length l) one.2 h in
+      let at = λ (w : List ℕ). ap (λ (l : List ℕ). line_of (l ++ w)) one.2 ∙ ap line_of (append_assoc one.0 (32 ∷ one.1) w) ∙ line_of_front one.0 one.1 w long one.3 in
+      at u ∙ sym (at v)
+]) ∙ ap line_of (sym f)
 
 -- a line and a long line's beginning
 long_strip : (m : ℕ) (xs : List ℕ) → m < length xs → (u : List ℕ) × (strip_last 13 xs ≡ take m xs ++ u)
@@ -107,3 +108,8 @@ kept_strip m part big = elim (short_or_long m part) [
       same_long (take m part) kept.0 all.0 (strip_last 13 (take (m + 1) part)) (strip_last 13 part) (omega (arith, length-take-le m part (omega arith)))
       (kept.1 ∙ ap (λ (l : List ℕ). l ++ kept.0) (front_kept m part (omega arith))) all.1
 ]
+
+-- a line of which nothing was kept, and that is read whole
+pub whole_line : (m : ℕ) (kept end text : List ℕ) → 4107 < m → length kept ≡ 0 → text ≡ strip_last 13 end → line_of text ≡ line_of (strip_last 13 (take (m + 1) (kept ++ end)))
+whole_line m [] end text big none e = ap line_of e ∙ sym (kept_strip m end big)
+whole_line m (x ∷ kept) end text big none e = absurd (omega arith)

@@ -1,3 +1,4 @@
+pub mod Splits
 pub mod Moments
 pub mod Sends
 pub mod Kept

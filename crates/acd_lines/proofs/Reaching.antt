@@ -1,11 +1,11 @@
 -- The lines of an input that were answered so far.
-use Rattle.std.proofs.Common.{◌≡◌, ℕ, ◌<◌, not, ◌==◌, List, [], ◌∷◌, ◌++◌, length, take, refl, sym, ap, ◌∙◌, subst, arith, append_assoc, append-nil, ne_eqb}
+use Rattle.std.proofs.Common.{◌≡◌, ℕ, ◌<◌, true, not, ◌==◌, List, [], ◌∷◌, ◌++◌, length, take, refl, sym, ap, ◌∙◌, subst, arith, append_assoc, append-nil}
 use Rattle.std.proofs.lemmas.List.{take_at, take_all}
 use Rattle.std.specs.Cmp.Derive.{both_true}
 use Rattle.std.specs.List.{concat}
 use Rattle.std.proofs.lemmas.List.Folds.{concat-append, list_all-append}
 use Rattle.std.specs.Io.BufRead.{ends_with_byte}
-use Rattle.acd_lines.specs.Input.{cut, text_of, Line, line_of}
+use Rattle.acd_lines.specs.Input.{cut, text_of, has_none, Line, line_of}
 use Rattle.acd_lines.specs.Parts.{Serves, ServesAll, ServesRead, ServesSome, Reached}
 use Rattle.acd_lines.proofs.Cuts.{cut_line, cut_open, ends_in_feed, whole_of}
 
@@ -20,13 +20,13 @@ module _ {S : Type 0} (A : S → Line → List ℕ → S → Type 0) where
   serves_more s (p ∷ ps) [] mid piece out t h a = absurd h
   serves_more s (p ∷ ps) (o ∷ os) mid piece out t h a = (h.0, h.1, serves_more h.0 ps os mid piece out t h.2 a)
 
-  pub reached_byte : (s : S) (seen part written : List ℕ) (t : S) (b : ℕ) → (b ≡ 10 → ⊥) → Reached A s seen part written t → Reached A s (seen ++ b ∷ []) (part ++ b ∷ []) written t
-  reached_byte s seen part written t b other h = record {
+  pub reached_bytes : (s : S) (seen part written : List ℕ) (t : S) (bytes : List ℕ) → has_none 10 bytes ≡ true → Reached A s seen part written t → Reached A s (seen ++ bytes) (part ++ bytes) written t
+  reached_bytes s seen part written t bytes none h = record {
     pieces = h.pieces;
     outs = h.outs;
-    cuts = λ rest. ap cut (append_assoc seen (b ∷ []) rest) ∙ h.cuts (b ∷ rest) ∙ ap (λ (l : List ℕ). h.pieces ++ cut l) (sym (append_assoc part (b ∷ []) rest));
+    cuts = λ rest. ap cut (append_assoc seen bytes rest) ∙ h.cuts (bytes ++ rest) ∙ ap (λ (l : List ℕ). h.pieces ++ cut l) (sym (append_assoc part bytes rest));
     ended = h.ended;
-    no_feed = list_all-append (λ x. not (x == 10)) part (b ∷ []) ∙ both_true h.no_feed (rw (ne_eqb b 10 other) refl);
+    no_feed = list_all-append (λ x. not (x == 10)) part bytes ∙ both_true h.no_feed none;
     serves = h.serves;
     whole = h.whole;
   }
@@ -59,31 +59,18 @@ module _ {S : Type 0} (A : S → Line → List ℕ → S → Type 0) where
   some_reached s seen part written more t h = record {
     n = length h.pieces;
     outs = h.outs;
-    last = [];
-    serves = subst (λ l. Serves A s l (h.outs ++ []) t) (sym (ap (take (length h.pieces)) (h.cuts more) ∙ take_at h.pieces _ _ refl)) (subst (λ l. Serves A s h.pieces l t) (sym (append-nil h.outs)) h.serves);
-    at_most_one = omega arith;
-    front = [];
-    unwritten = [];
-    begins = refl;
-    whole = h.whole ∙ sym (append-nil (concat h.outs));
+    serves = subst (λ l. Serves A s l h.outs t) (sym (ap (take (length h.pieces)) (h.cuts more) ∙ take_at h.pieces _ _ refl)) h.serves;
+    whole = h.whole;
   }
 
-  -- the same, where a part of the last answer was written
-  pub some_line : (s : S) (seen part written : List ℕ) (mid : S) (out more : List ℕ) (t : S) (front rest : List ℕ) → Reached A s seen part written mid → A mid (line_of (text_of (part ++ 10 ∷ []))) out t → out ≡ front ++ rest
-      → ServesSome A s ((seen ++ 10 ∷ []) ++ more) (written ++ front) t
-  some_line s seen part written mid out more t front rest h a e =
-      let pieces = h.pieces ++ (part ++ 10 ∷ []) ∷ [] in
-      record {
-        n = length pieces;
-        outs = h.outs;
-        last = out ∷ [];
-        serves = subst (λ l. Serves A s l (h.outs ++ out ∷ []) t) (sym (ap (take (length pieces)) (line_cuts s seen part written mid h more) ∙ take_at pieces (cut more) _ refl)) (serves_more s h.pieces h.outs mid (part ++ 10 ∷ []) out t h.serves a);
-        at_most_one = omega arith;
-        front = front;
-        unwritten = rest;
-        begins = append-nil out ∙ e;
-        whole = ap (λ (l : List ℕ). l ++ front) h.whole;
-      }
+  -- all lines are some
+  pub some_all : (s : S) (input written : List ℕ) (t : S) → ServesAll A s input written t → ServesSome A s input written t
+  some_all s input written t h = record {
+    n = length (cut input);
+    outs = h.outs;
+    serves = subst (λ l. Serves A s l h.outs t) (sym (take_all (length (cut input)) (cut input) (omega arith))) h.serves;
+    whole = h.whole;
+  }
 
   -- the end of the input
   pub all_ended : (s : S) (seen written : List ℕ) (t : S) → Reached A s seen [] written t → ServesAll A s seen written t
@@ -105,19 +92,3 @@ module _ {S : Type 0} (A : S → Line → List ℕ → S → Type 0) where
     serves = subst (λ l. Serves A s l (h.outs ++ out ∷ []) t) (sym (open_cut s seen part written mid h some)) (serves_more s h.pieces h.outs mid part out t h.serves a);
     whole = ap (λ (l : List ℕ). l ++ out) h.whole ∙ concat_one h.outs out;
   }
-
-  -- a stop within the last answer
-  pub some_open : (s : S) (seen part written : List ℕ) (mid : S) (out : List ℕ) (t : S) (front rest : List ℕ) → Reached A s seen part written mid → 0 < length part → A mid (line_of (text_of part)) out t → out ≡ front ++ rest
-      → ServesSome A s seen (written ++ front) t
-  some_open s seen part written mid out t front rest h some a e =
-      record {
-        n = length (cut seen);
-        outs = h.outs;
-        last = out ∷ [];
-        serves = subst (λ l. Serves A s l (h.outs ++ out ∷ []) t) (sym (take_all (length (cut seen)) (cut seen) (omega arith) ∙ open_cut s seen part written mid h some)) (serves_more s h.pieces h.outs mid part out t h.serves a);
-        at_most_one = omega arith;
-        front = front;
-        unwritten = rest;
-        begins = append-nil out ∙ e;
-        whole = ap (λ (l : List ℕ). l ++ front) h.whole;
-      }

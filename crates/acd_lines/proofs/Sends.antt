@@ -1,11 +1,11 @@
 -- A write of a part of the bytes that are left.
-use Rattle.std.proofs.Common.{◌≡◌, ℕ, ◌+◌, ◌-◌, ◌≤◌, List, ◌++◌, length, take, drop, Option, sym, ap, ◌∙◌, arith, subst, length-drop, append_assoc, Result, Ok, Err, OnOk, OnErr, IfErr}
+use Rattle.std.proofs.Common.{◌≡◌, ℕ, ◌+◌, ◌-◌, ◌≤◌, List, ◌++◌, length, take, drop, Option, sym, ap, ◌∙◌, arith, subst, length-drop, append_assoc, append-nil, [], Result, Ok, Err, OnOk, OnErr, IfErr}
 use Rattle.std.proofs.lemmas.List.{take_all, take-append-drop}
 use Rattle.std.proofs.Math.Seq.{take-add}
 use Rattle.std.specs.Io.KnownBytes.{Appends}
 use Rattle.std.specs.Result.{IsErrAnd}
-use Rattle.acd_lines.specs.Parts.{Begins}
-use Rattle.std.proofs.KnownBytes.{Appends-trans}
+use Rattle.acd_lines.specs.Sent.{Passes, Begins}
+use Rattle.std.proofs.KnownBytes.{Appends-trans, Appends-nil}
 
 pub one_write : (a b c : Option (List ℕ)) (bytes : List ℕ) (done n : ℕ) → Appends a b (take done bytes) → Appends b c (take n (take (length bytes - done) (drop done bytes))) → Appends a c (take (done + n) bytes)
 one_write a b c bytes done n before wrote =
@@ -19,13 +19,79 @@ room_left bytes done n within h =
     omega (arith, h, ap length same, length-drop done bytes)
 
 pub begins_part : (a c : Option (List ℕ)) (bytes : List ℕ) (n : ℕ) → Appends a c (take n bytes) → Begins a c bytes
-begins_part a c bytes n h = (take n bytes, drop n bytes, sym (take-append-drop n bytes), h)
+begins_part a c bytes n h = record { front = take n bytes; rest = drop n bytes; whole = sym (take-append-drop n bytes); written = h }
 
-pub begins_more : (a c : Option (List ℕ)) (xs ys : List ℕ) → Begins a c xs → Begins a c (xs ++ ys)
-begins_more a c xs ys h = (h.0, h.1 ++ ys, ap (λ (l : List ℕ). l ++ ys) h.2 ∙ append_assoc h.0 h.1 ys, h.3)
+pub begins_front : (a c : Option (List ℕ)) (xs ys : List ℕ) → Begins a c xs → Begins a c (xs ++ ys)
+begins_front a c xs ys h = record { front = h.front; rest = h.rest ++ ys; whole = ap (λ (l : List ℕ). l ++ ys) h.whole ∙ append_assoc h.front h.rest ys; written = h.written }
 
-pub begins_then : (a b c : Option (List ℕ)) (xs ys : List ℕ) → Appends a b xs → Begins b c ys → Begins a c (xs ++ ys)
-begins_then a b c xs ys h k = (xs ++ k.0, k.1, ap (λ (l : List ℕ). xs ++ l) k.2 ∙ sym (append_assoc xs k.0 k.1), Appends-trans a b c xs k.0 h k.3)
+pub begins_more : (a c : Option (List ℕ)) (v xs ys : List ℕ) → Begins a c (v ++ xs) → Begins a c (v ++ (xs ++ ys))
+begins_more a c v xs ys h = subst (Begins a c) (append_assoc v xs ys) (begins_front a c (v ++ xs) ys h)
+
+-- the same text
+pub begins_same : (a c : Option (List ℕ)) (v xs ys : List ℕ) → xs ≡ ys → Begins a c (v ++ ys) → Begins a c (v ++ xs)
+begins_same a c v xs ys e h = record { front = h.front; rest = h.rest; whole = ap (λ (l : List ℕ). v ++ l) e ∙ h.whole; written = h.written }
+
+pub passes_same : (a c : Option (List ℕ)) (v w xs ys : List ℕ) → xs ≡ ys → Passes a c w (v ++ ys) → Passes a c w (v ++ xs)
+passes_same a c v w xs ys e h = record { sent = h.sent; whole = ap (λ (l : List ℕ). v ++ l) e ∙ h.whole; written = h.written }
+
+pub passes_same_front : (a c : Option (List ℕ)) (v : List ℕ) → Passes a c [] v → Passes a c [] (v ++ [])
+passes_same_front a c v h = record { sent = h.sent; whole = append-nil v ∙ h.whole; written = h.written }
+
+-- nothing was pushed
+pub passes_nothing : (a : Option (List ℕ)) (v : List ℕ) → Passes a a v (v ++ [])
+passes_nothing a v = record { sent = []; whole = append-nil v; written = Appends-nil a }
+
+-- what waits was written, and then a text
+pub passes_sent : (a b c : Option (List ℕ)) (v w text : List ℕ) → Passes a b [] v → Appends b c text → w ≡ [] → Passes a c w (v ++ text)
+passes_sent a b c v w text h sent none = record {
+  sent = v ++ text;
+  whole = sym (append-nil (v ++ text)) ∙ ap (λ (l : List ℕ). (v ++ text) ++ l) (sym none);
+  written = Appends-trans a b c v text (subst (Appends a b) (sym (h.whole ∙ append-nil h.sent)) h.written) sent;
+}
+
+pub begins_sent : (a b c : Option (List ℕ)) (v text : List ℕ) → Passes a b [] v → Begins b c text → Begins a c (v ++ text)
+begins_sent a b c v text h sent = record {
+  front = v ++ sent.front;
+  rest = sent.rest;
+  whole = ap (λ (l : List ℕ). v ++ l) sent.whole ∙ sym (append_assoc v sent.front sent.rest);
+  written = Appends-trans a b c v sent.front (subst (Appends a b) (sym (h.whole ∙ append-nil h.sent)) h.written) sent.written;
+}
+
+-- one text, and then another
+pub passes_then : (a b c : Option (List ℕ)) (v w u x y : List ℕ) → Passes a b w (v ++ x) → Passes b c u (w ++ y) → Passes a c u (v ++ (x ++ y))
+passes_then a b c v w u x y h k = record {
+  sent = h.sent ++ k.sent;
+  whole = sym (append_assoc v x y) ∙ ap (λ (l : List ℕ). l ++ y) h.whole ∙ append_assoc h.sent w y ∙ ap (λ (l : List ℕ). h.sent ++ l) k.whole ∙ sym (append_assoc h.sent k.sent u);
+  written = Appends-trans a b c h.sent k.sent h.written k.written;
+}
+
+pub begins_then : (a b c : Option (List ℕ)) (v w x y : List ℕ) → Passes a b w (v ++ x) → Begins b c (w ++ y) → Begins a c (v ++ (x ++ y))
+begins_then a b c v w x y h k = record {
+  front = h.sent ++ k.front;
+  rest = k.rest;
+  whole = sym (append_assoc v x y) ∙ ap (λ (l : List ℕ). l ++ y) h.whole ∙ append_assoc h.sent w y ∙ ap (λ (l : List ℕ). h.sent ++ l) k.whole ∙ sym (append_assoc h.sent k.front k.rest);
+  written = Appends-trans a b c h.sent k.front h.written k.written;
+}
+
+-- what waits behind a text was written too
+pub passes_out : (a b c : Option (List ℕ)) (w text : List ℕ) → Passes a b w text → Passes b c [] w → Passes a c [] text
+passes_out a b c w text h k = record {
+  sent = h.sent ++ k.sent;
+  whole = h.whole ∙ ap (λ (l : List ℕ). h.sent ++ l) k.whole ∙ sym (append_assoc h.sent k.sent []);
+  written = Appends-trans a b c h.sent k.sent h.written k.written;
+}
+
+pub begins_out : (a b c : Option (List ℕ)) (w text : List ℕ) → Passes a b w text → Begins b c w → Begins a c text
+begins_out a b c w text h k = record {
+  front = h.sent ++ k.front;
+  rest = k.rest;
+  whole = h.whole ∙ ap (λ (l : List ℕ). h.sent ++ l) k.whole ∙ sym (append_assoc h.sent k.front k.rest);
+  written = Appends-trans a b c h.sent k.front h.written k.written;
+}
+
+-- nothing waits behind a text
+pub passes_whole : (a c : Option (List ℕ)) (text : List ℕ) → Passes a c [] text → Appends a c text
+passes_whole a c text h = subst (Appends a c) (sym (h.whole ∙ append-nil h.sent)) h.written
 
 pub on_err : {T E : Type 0} (r : Result T E) (P : Type 0) → P → OnErr r P
 on_err (Ok x) P p = tt
@@ -38,6 +104,10 @@ OnErr-weaker (Err e) P Q f h = f h
 pub OnOk-weaker : {T E : Type 0} (r : Result T E) (P Q : Type 0) → (P → Q) → OnOk r P → OnOk r Q
 OnOk-weaker (Ok x) P Q f h = f h
 OnOk-weaker (Err e) P Q f h = tt
+
+pub OnOk-both : {T E : Type 0} (r : Result T E) (P Q R : Type 0) → (P → Q → R) → OnOk r P → OnOk r Q → OnOk r R
+OnOk-both (Ok x) P Q R f h k = f h k
+OnOk-both (Err e) P Q R f h k = tt
 
 pub IfErr-weaker : {T E : Type 0} (r : Result T E) (P Q : E → Type 0) → ((e : E) → P e → Q e) → IfErr r P → IfErr r Q
 IfErr-weaker (Ok x) P Q f h = tt

@@ -1,5 +1,5 @@
 -- What the lines that a desk answered one after the other say of the desk.
-use Rattle.std.proofs.Common.{◌≡◌, ℕ, List, [], ◌∷◌, ◌++◌, refl, sym, ap, subst, ◌∙◌, inl, inr, append_assoc, append-nil}
+use Rattle.std.proofs.Common.{◌≡◌, ℕ, List, [], ◌∷◌, ◌++◌, take, Option, refl, sym, ap, subst, ◌∙◌, inl, inr, append_assoc, append-nil}
 use Rattle.acd_terms.specs.declared.command.Request.{Request}
 use Rattle.acd_terms.specs.declared.command.Arrival.{Arrival}
 use Rattle.acd_desk.specs.declared.taken.Taken.{Taken}
@@ -7,10 +7,12 @@ use Rattle.acd_desk.specs.declared.taken.Taken.TheVariants as taken
 use Rattle.acd_desk.specs.Arrived.{at}
 use Rattle.acd_desk.specs.Ran.{Standing, Took, Ran}
 use Rattle.acd_desk.proofs.Many.{Settles, ran_nothing, ran_more, forgets}
-use Rattle.acd_lines.specs.Input.{Line, no_moment, too_long, faulty, arrival, line_of, text_of, lines_of, arrivals_in}
+use Rattle.std.specs.Io.KnownBytes.{Appends, Consumes}
+use Rattle.acd_lines.specs.Input.{cut, Line, no_moment, too_long, faulty, arrival, line_of, text_of, lines_of, arrivals_in}
 use Rattle.acd_lines.specs.Answers.{Answers, IsWritten}
-use Rattle.acd_lines.specs.Output.{AnswerLines}
+use Rattle.acd_lines.specs.Output.{AnswerLines, IsInput, IsOutput, IsBegun, whole_lines}
 use Rattle.acd_lines.specs.Parts.{Serves}
+use Rattle.acd_lines.proofs.Turns.{AllDone, ReadDone, SomeDone}
 
 -- the arrivals of a line, and those of the lines behind it
 arrivals_behind : (line : Line) (lines : List Line) → arrivals_in (line ∷ lines) ≡ arrivals_in (line ∷ []) ++ arrivals_in lines
@@ -63,3 +65,24 @@ module _ {D : Type 0} (stands : D → Standing) where
   pub told : ((d : D) → Settles (stands d)) → (s e : D) (pieces outs : List (List ℕ)) → Serves (Answers stands) s pieces outs e
       → (answers : List Taken) × AnswerLines (lines_of pieces) answers outs × Ran (stands s) (arrivals_in (lines_of pieces)) answers (stands e)
   told settles s e pieces outs h = serves_on settles s s e [] [] pieces outs (ran_nothing (stands s) (settles s)) h
+
+  -- ---- the clauses of `lines`
+
+  pub all_told : ((d : D) → Settles (stands d)) → (known : Option (List ℕ)) (s t : D) (a c : Option (List ℕ)) → AllDone (Answers stands) known s t a c
+      → (input written : List ℕ) × (answers : List Taken) × IsInput known input × IsOutput (lines_of (cut input)) answers written × Appends a c written × Ran (stands s) (arrivals_in (lines_of (cut input))) answers (stands t)
+  all_told settles known s t a c h =
+      let all = told settles s t (cut h.0) h.3.outs h.3.serves in
+      (h.0, h.1, all.0, h.2, record { outs = h.3.outs; answered = all.1; whole = h.3.whole }, h.4, all.2)
+
+  pub read_told : ((d : D) → Settles (stands d)) → (p q : Option (List ℕ)) (s t : D) (a c : Option (List ℕ)) → ReadDone (Answers stands) p q s t a c
+      → (bytes written : List ℕ) × (answers : List Taken) × Consumes p q bytes × IsOutput (lines_of (whole_lines bytes)) answers written × Appends a c written × Ran (stands s) (arrivals_in (lines_of (whole_lines bytes))) answers (stands t)
+  read_told settles p q s t a c h =
+      let all = told settles s t (whole_lines h.0) h.3.outs h.3.serves in
+      (h.0, h.1, all.0, h.2, record { outs = h.3.outs; answered = all.1; whole = h.3.whole }, h.4, all.2)
+
+  pub some_told : ((d : D) → Settles (stands d)) → (known : Option (List ℕ)) (s t : D) (a c : Option (List ℕ)) → SomeDone (Answers stands) known s t a c
+      → (input written : List ℕ) × (n : ℕ) × (answers : List Taken) × IsInput known input × IsBegun (lines_of (take n (cut input))) answers written × Appends a c written × Ran (stands s) (arrivals_in (lines_of (take n (cut input)))) answers (stands t)
+  some_told settles known s t a c h =
+      let some = h.3 in
+      let all = told settles s t (take some.n (cut h.0)) some.outs some.serves in
+      (h.0, h.4.front, some.n, all.0, h.2, record { outs = some.outs; unwritten = h.4.rest; answered = all.1; whole = sym some.whole ∙ h.4.whole }, h.4.written, all.2)

@@ -1,6 +1,8 @@
 -- An input is lines, and a line is a moment, a space and a request.
-use Rattle.std.specs.Prelude.{ℕ, ◌+◌, ◌-◌, ◌*◌, List, [], ◌∷◌, length, map, Bool, true, false, ◌&&◌, ◌==◌, nat_lt, nat_le, if◌then◌else◌, Option, Some, None, Result, Ok, Err}
+use Rattle.std.specs.Prelude.{ℕ, List, [], ◌∷◌, length, map, Bool, not, ◌&&◌, ◌==◌, nat_lt, nat_le, if◌then◌else◌, Option, Some, None, option_map, Result, Ok, Err}
+use Rattle.std.specs.List.{list_all, position_or_len, before_first, after_first}
 use Rattle.std.specs.Char.{is_ascii_digit}
+use Rattle.std.specs.Str.Parse.{digits_value}
 use Rattle.std.specs.Io.BufRead.{ends_with_byte, strip_last}
 use Rattle.acd_terms.specs.declared.command.Request.{Request}
 use Rattle.acd_terms.specs.declared.command.Arrival.{Arrival}
@@ -22,21 +24,28 @@ cut (x ∷ xs) = if x == 10 then (10 ∷ []) ∷ cut xs else onto x (cut xs)
 unfoldable pub text_of : List ℕ → List ℕ
 text_of piece = if ends_with_byte 10 piece then strip_last 13 (strip_last 10 piece) else piece
 
--- The number of at most n more digits behind those of value, and what follows the space after it. A digit must have come where some is false.
-unfoldable pub number_then : ℕ → ℕ → Bool → List ℕ → Option (ℕ × List ℕ)
-number_then n value some [] = None
-number_then n value some (x ∷ xs) =
-    if nat_lt 0 n && is_ascii_digit x then number_then (n - 1) (value * 10 + (x - 48)) true xs
-    else (if some && (x == 32) then Some (value, xs) else None)
+-- no such byte
+abbrev pub has_none : ℕ → List ℕ → Bool
+has_none byte text = list_all (λ x. not (x == byte)) text
 
--- a moment is at most 4294967295
-abbrev pub if_moment : Option (ℕ × List ℕ) → Option (ℕ × List ℕ)
-if_moment None = None
-if_moment (Some p) = if nat_le p.0 4294967295 then Some p else None
+-- what stands before the first such byte, and what stands behind it
+abbrev pub split_once : ℕ → List ℕ → Option (List ℕ × List ℕ)
+split_once byte text = if nat_lt (position_or_len (λ x. x == byte) text) (length text) then Some (before_first (λ x. x == byte) text, after_first (λ x. x == byte) text) else None
 
--- the moment of a line, which has 1 to 10 digits, and what stands behind its space
+-- 1 to 10 digits, and the number that they write is at most 4294967295
+abbrev pub are_digits : List ℕ → Bool
+are_digits digits = nat_lt 0 (length digits) && (nat_le (length digits) 10 && (list_all is_ascii_digit digits && nat_le (digits_value 10 digits) 4294967295))
+
+unfoldable pub number_of : List ℕ → Option ℕ
+number_of digits = if are_digits digits then Some (digits_value 10 digits) else None
+
+abbrev pub moment_before : Option (List ℕ × List ℕ) → Option (ℕ × List ℕ)
+moment_before None = None
+moment_before (Some p) = option_map (λ n. (n, p.1)) (number_of p.0)
+
+-- the moment of a line, which stands before its first space, and what stands behind that
 unfoldable pub moment_of : List ℕ → Option (ℕ × List ℕ)
-moment_of text = if_moment (number_then 10 0 false text)
+moment_of text = moment_before (split_once 32 text)
 
 -- what a line is: without a moment, with JSON longer than is read, with faulty JSON, or a request that comes in at a moment
 pub data Line : Type 0 where

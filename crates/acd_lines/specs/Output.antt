@@ -1,5 +1,5 @@
 -- The output of an input: one answer line for each line, with the answers to the arrivals in order.
-use Rattle.std.specs.Prelude.{◌≡◌, ◌⊎◌, ℕ, ◌≤◌, List, [], ◌∷◌, ◌++◌, length, filter, Option, IfSome}
+use Rattle.std.specs.Prelude.{◌≡◌, ◌⊎◌, ℕ, List, [], ◌∷◌, ◌++◌, filter, Option, IfSome}
 use Rattle.std.specs.List.{concat}
 use Rattle.std.specs.Io.BufRead.{ends_with_byte}
 use Rattle.acd_codec.specs.declared.member.Member.TheVariants as members
@@ -31,13 +31,9 @@ pub record IsOutput (lines : List Line) (answers : List Taken) (written : List �
   pub answered : AnswerLines lines answers outs
   pub whole : written ≡ concat outs
 
--- all were written, but for the last one at most, of which a beginning was
+-- a beginning of these answer lines was written
 pub record IsBegun (lines : List Line) (answers : List Taken) (written : List ℕ) : Type 0 where
   pub outs : List (List ℕ)
-  pub last : List (List ℕ)
-  pub answered : AnswerLines lines answers (outs ++ last)
-  pub at_most_one : length last ≤ 1
-  pub front : List ℕ
   pub unwritten : List ℕ
-  pub begins : concat last ≡ front ++ unwritten
-  pub whole : written ≡ concat outs ++ front
+  pub answered : AnswerLines lines answers outs
+  pub whole : concat outs ≡ written ++ unwritten

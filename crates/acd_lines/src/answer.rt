@@ -7,51 +7,43 @@ ghost use Rattle.acd_lines.specs.Input.{line_of, line_read, arrival};
 ghost use Rattle.acd_lines.specs.Answers.{malformed_line, fixed_line, rejected_line, IsWritten, Answers};
 ghost use Rattle.acd_lines.specs.Parts.{answered_text};
 
+use crate::answer_line::AnswerLine;
 use crate::moment::moment_of;
-use acd_book::book::Book;
-use acd_book::text::Text;
+use acd_book::{Book, Text};
 use acd_codec::{
     FixedAnswer, MALFORMED_STATUS, Member, ReadFault, Rejected, read_request, rejected_text,
 };
-use acd_desk::desk::Desk;
-use acd_desk::taken::Taken;
+use acd_desk::{Desk, Taken};
 use acd_terms::command::Request;
 use std::alloc::{AllocError, Global};
-
-/// The answer to a line: its status and its body.
-#[derive(Drop)]
-pub(crate) enum Answered {
-    Made { status: u16, body: Text },
-    Fixed { status: u16, body: &'static str },
-}
 
 // How many bytes of JSON are read at most.
 const LONGEST: usize = 4096;
 
-fn fixed(answer: FixedAnswer) -> Answered
+fn fixed(answer: FixedAnswer) -> AnswerLine
     ensures { answered_text result ≡ fixed_line answer }
 {
-    Answered::Fixed {
+    AnswerLine::Fixed {
         status: answer.status(),
         body: answer.text(),
     }
 }
 
-fn malformed(member: Member) -> Answered
+fn malformed(member: Member) -> AnswerLine
     ensures { answered_text result ≡ malformed_line member }
 {
-    Answered::Fixed {
+    AnswerLine::Fixed {
         status: MALFORMED_STATUS,
         body: member.malformed_text(),
     }
 }
 
 // The text takes memory, and where there is none the answer is noMemory.
-fn rejected(alloc: Global, request: &Request, why: Rejected) -> Answered
+fn rejected(alloc: Global, request: &Request, why: Rejected) -> AnswerLine
     ensures { (answered_text result ≡ rejected_line request.now why) ⊎ (answered_text result ≡ fixed_line FixedAnswer.NoMemory) }
 {
     match rejected_text(alloc, &request.requester, request.invoke, why) {
-        Ok(body) => Answered::Made {
+        Ok(body) => AnswerLine::Made {
             status: why.status(),
             body: Text::new(body),
         },
@@ -60,11 +52,11 @@ fn rejected(alloc: Global, request: &Request, why: Rejected) -> Answered
 }
 
 // What is written for the desk's answer.
-fn written(alloc: Global, request: &Request, taken: Taken) -> Answered
+fn written(alloc: Global, request: &Request, taken: Taken) -> AnswerLine
     ensures { IsWritten request.now taken (answered_text result) }
 {
     match taken {
-        Taken::Reply { status, body } => Answered::Made { status, body },
+        Taken::Reply { status, body } => AnswerLine::Made { status, body },
         Taken::InvokeReused => rejected(alloc, request, Rejected::InvokeReused),
         Taken::DeskFull => rejected(alloc, request, Rejected::DeskFull),
         Taken::NoMemory => fixed(FixedAnswer::NoMemory),
@@ -72,14 +64,14 @@ fn written(alloc: Global, request: &Request, taken: Taken) -> Answered
     }
 }
 
-fn execute<B: Book>(alloc: Global, desk: &mut Desk<B>, moment: u32, request: &Request) -> Answered
+fn execute<B: Book>(alloc: Global, desk: &mut Desk<B>, moment: u32, request: &Request) -> AnswerLine
     ensures { Answers (standing B.Book) desk.old (arrival moment request.now) (answered_text result) desk.new }
 {
     let taken = desk.take(moment, request);
     written(alloc, request, taken)
 }
 
-fn read<B: Book>(alloc: Global, desk: &mut Desk<B>, moment: u32, json: &[u8]) -> Answered
+fn read<B: Book>(alloc: Global, desk: &mut Desk<B>, moment: u32, json: &[u8]) -> AnswerLine
     ensures { Answers (standing B.Book) desk.old (line_read moment (reads_as json.now)) (answered_text result) desk.new }
 {
     match read_request(alloc, json) {
@@ -91,7 +83,7 @@ fn read<B: Book>(alloc: Global, desk: &mut Desk<B>, moment: u32, json: &[u8]) ->
 
 /// The answer to a line, whose line end is left out.
 #[tactic(auto, unfolding(crate::specs::Input::line_of))]
-pub(crate) fn answer<B: Book>(alloc: Global, desk: &mut Desk<B>, text: &[u8]) -> Answered
+pub(crate) fn answer<B: Book>(alloc: Global, desk: &mut Desk<B>, text: &[u8]) -> AnswerLine
     ensures { Answers (standing B.Book) desk.old (line_of text.now) (answered_text result) desk.new }
 {
     let Some((moment, json)) = moment_of(text) else {

@@ -2,11 +2,14 @@
 #![tactic(auto)]
 
 mod answer;
+mod answer_line;
 mod moment;
+mod outbox;
 mod partial;
 mod send;
 mod serve;
 mod session;
+mod split;
 #[cfg(test)]
 mod tests;
 

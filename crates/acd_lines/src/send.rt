@@ -2,7 +2,7 @@
 
 ghost use Rattle.std.specs.Prelude.{OnOk, OnErr};
 ghost use Rattle.std.specs.Io.KnownBytes.{Appends};
-ghost use Rattle.acd_lines.specs.Parts.{Begins};
+ghost use Rattle.acd_lines.specs.Sent.{Begins};
 
 use std::io::{ErrorKind, Write};
 

@@ -1,81 +1,54 @@
 //! Lines that are cut out of what is read, and answered.
 
-ghost use Rattle.std.specs.Prelude.{◌≡◌, decimal, OnOk, OnErr};
-ghost use Rattle.std.specs.Io.KnownBytes.{Appends};
+ghost use Rattle.std.specs.Prelude.{◌≡◌, ◌++◌, [], take, OnOk, OnErr};
 ghost use Rattle.std.specs.Io.BufRead.{strip_last};
 ghost use Rattle.acd_desk.specs.Ran.{standing};
 ghost use Rattle.acd_lines.specs.Input.{line_of};
 ghost use Rattle.acd_lines.specs.Answers.{Answers};
-ghost use Rattle.acd_lines.specs.Parts.{Begins, LineDone, LineStops, Feeds, FeedStops, Finishes, FinishStops, answered_text, status_of};
+ghost use Rattle.acd_lines.specs.Sent.{Passes, Begins};
+ghost use Rattle.acd_lines.specs.Parts.{LineDone, LineStops, Feeds, FeedStops, Finishes, FinishStops, answered_text};
 
-use crate::answer::{Answered, answer};
+use crate::answer::answer;
+use crate::answer_line::AnswerLine;
+use crate::outbox::Outbox;
 use crate::partial::Partial;
-use crate::send::{Stopped, send};
-use acd_book::book::Book;
-use acd_desk::desk::Desk;
+use crate::send::Stopped;
+use crate::split::split_once;
+use acd_book::Book;
+use acd_desk::Desk;
 use itoa::Buffer;
 use std::alloc::Global;
 use std::io::Write;
 
-impl Answered {
-    ghost use Rattle.acd_lines.specs.Parts.{body_of};
-
-    fn status(&self) -> u16
-        ensures { result ≡ status_of self.now }
-    {
-        match self {
-            Answered::Made { status, .. } => *status,
-            Answered::Fixed { status, .. } => *status,
-        }
-    }
-
-    fn body(&self) -> &[u8]
-        ensures { result.now ≡ body_of self.now }
-    {
-        match self {
-            Answered::Made { body, .. } => body.as_str().as_bytes(),
-            Answered::Fixed { body, .. } => body.as_bytes(),
-        }
-    }
-}
-
-// Writes the status in digits.
-fn send_status<W: Write>(writer: &mut W, calls: &mut u64, status: u16) -> Result<(), Stopped>
-    ensures ok { OnOk result (Appends (W.contents writer.old) (W.contents writer.new) (decimal status)) }
-    ensures err { OnErr result (Begins (W.contents writer.old) (W.contents writer.new) (decimal status)) }
+// Puts the answer line behind what waits.
+fn push_answer<W: Write>(
+    outbox: &mut Outbox,
+    writer: &mut W,
+    answered: &AnswerLine,
+) -> Result<(), Stopped>
+    ensures ok { OnOk result (Passes (W.contents writer.old) (W.contents writer.new) outbox.new.waiting.items (outbox.old.waiting.items ++ answered_text answered.now)) }
+    ensures err { OnErr result (Begins (W.contents writer.old) (W.contents writer.new) (outbox.old.waiting.items ++ answered_text answered.now)) }
 {
     let mut buffer = Buffer::new();
-    send(writer, calls, buffer.format(status).as_bytes())
-}
-
-// Writes the answer line.
-fn send_answer<W: Write>(
-    writer: &mut W,
-    calls: &mut u64,
-    answered: &Answered,
-) -> Result<(), Stopped>
-    ensures ok { OnOk result (Appends (W.contents writer.old) (W.contents writer.new) (answered_text answered.now)) }
-    ensures err { OnErr result (Begins (W.contents writer.old) (W.contents writer.new) (answered_text answered.now)) }
-{
-    send_status(writer, calls, answered.status())?;
-    send(writer, calls, b" ")?;
-    send(writer, calls, answered.body())?;
-    send(writer, calls, b"\n")
+    outbox.push(writer, buffer.format(answered.status()).as_bytes())?;
+    outbox.push(writer, b" ")?;
+    outbox.push(writer, answered.body())?;
+    outbox.push(writer, b"\n")
 }
 
 // Answers a line.
 fn serve<B: Book, W: Write>(
     alloc: Global,
     desk: &mut Desk<B>,
+    outbox: &mut Outbox,
     writer: &mut W,
-    calls: &mut u64,
     text: &[u8],
 ) -> Result<(), Stopped>
-    ensures ok { OnOk result (LineDone (Answers (standing B.Book)) desk.old (line_of text.now) desk.new (W.contents writer.old) (W.contents writer.new)) }
-    ensures err { OnErr result (LineStops (Answers (standing B.Book)) desk.old (line_of text.now) desk.new (W.contents writer.old) (W.contents writer.new)) }
+    ensures ok { OnOk result (LineDone (Answers (standing B.Book)) desk.old (line_of text.now) desk.new (W.contents writer.old) (W.contents writer.new) outbox.old.waiting.items outbox.new.waiting.items) }
+    ensures err { OnErr result (LineStops (Answers (standing B.Book)) desk.old (line_of text.now) desk.new (W.contents writer.old) (W.contents writer.new) outbox.old.waiting.items) }
 {
     let answered = answer(alloc, desk, text);
-    send_answer(writer, calls, &answered)
+    push_answer(outbox, writer, &answered)
 }
 
 fn without_return(text: &[u8]) -> &[u8]
@@ -87,28 +60,54 @@ fn without_return(text: &[u8]) -> &[u8]
     }
 }
 
-/// Takes what was read: the lines that end in it are answered.
+// Answers the line that ends in these bytes. A line that lies in them whole is not copied.
+fn end_line<B: Book, W: Write>(
+    alloc: Global,
+    desk: &mut Desk<B>,
+    partial: &mut Partial,
+    outbox: &mut Outbox,
+    writer: &mut W,
+    end: &[u8],
+) -> Result<(), Stopped>
+    ensures empty { OnOk result (partial.new ≡ []) }
+    ensures ok { OnOk result (LineDone (Answers (standing B.Book)) desk.old (line_of (strip_last 13 (take 4109 (partial.old ++ end.now)))) desk.new (W.contents writer.old) (W.contents writer.new) outbox.old.waiting.items outbox.new.waiting.items) }
+    ensures err { OnErr result (LineStops (Answers (standing B.Book)) desk.old (line_of (strip_last 13 (take 4109 (partial.old ++ end.now)))) desk.new (W.contents writer.old) (W.contents writer.new) outbox.old.waiting.items) }
+{
+    if partial.is_empty() {
+        return serve(alloc, desk, outbox, writer, without_return(end));
+    }
+    partial.extend(end);
+    serve(
+        alloc,
+        desk,
+        outbox,
+        writer,
+        without_return(partial.as_slice()),
+    )?;
+    partial.clear();
+    Ok(())
+}
+
+/// Takes what was read: the lines that end in it are answered, and their answers are written.
 pub(crate) fn feed<B: Book, W: Write>(
     alloc: Global,
     desk: &mut Desk<B>,
     partial: &mut Partial,
+    outbox: &mut Outbox,
     writer: &mut W,
-    calls: &mut u64,
     chunk: &[u8],
 ) -> Result<(), Stopped>
-    ensures ok { OnOk result (Feeds (Answers (standing B.Book)) desk.old desk.new partial.old partial.new chunk.now (W.contents writer.old) (W.contents writer.new)) }
-    ensures err { OnErr result (FeedStops (Answers (standing B.Book)) desk.old desk.new partial.old chunk.now (W.contents writer.old) (W.contents writer.new)) }
+    ensures none { OnOk result (outbox.new.waiting.items ≡ []) }
+    ensures ok { OnOk result (Feeds (Answers (standing B.Book)) desk.old desk.new partial.old partial.new chunk.now (W.contents writer.old) (W.contents writer.new) outbox.old.waiting.items outbox.new.waiting.items) }
+    ensures err { OnErr result (FeedStops (Answers (standing B.Book)) desk.old desk.new partial.old chunk.now (W.contents writer.old) (W.contents writer.new) outbox.old.waiting.items) }
 {
-    for b in chunk {
-        if *b == b'\n' {
-            let text = without_return(partial.as_slice());
-            serve(alloc, desk, writer, calls, text)?;
-            partial.clear();
-        } else {
-            partial.push(*b);
-        }
+    let mut rest = chunk;
+    while let Some((end, behind)) = split_once(rest, b'\n') {
+        end_line(alloc, desk, partial, outbox, writer, end)?;
+        rest = behind;
     }
-    Ok(())
+    partial.extend(rest);
+    outbox.flush(writer)
 }
 
 /// Answers the last line, where the input does not end in a line feed.
@@ -116,15 +115,15 @@ pub(crate) fn finish<B: Book, W: Write>(
     alloc: Global,
     desk: &mut Desk<B>,
     partial: &Partial,
+    outbox: &mut Outbox,
     writer: &mut W,
-    calls: &mut u64,
 ) -> Result<(), Stopped>
-    ensures ok { OnOk result (Finishes (Answers (standing B.Book)) desk.old desk.new partial.now (W.contents writer.old) (W.contents writer.new)) }
-    ensures err { OnErr result (FinishStops (Answers (standing B.Book)) desk.old desk.new partial.now (W.contents writer.old) (W.contents writer.new)) }
+    ensures ok { OnOk result (Finishes (Answers (standing B.Book)) desk.old desk.new partial.now (W.contents writer.old) (W.contents writer.new) outbox.old.waiting.items) }
+    ensures err { OnErr result (FinishStops (Answers (standing B.Book)) desk.old desk.new partial.now (W.contents writer.old) (W.contents writer.new) outbox.old.waiting.items) }
 {
-    let text = partial.as_slice();
-    if text.is_empty() {
-        return Ok(());
+    if partial.is_empty() {
+        return outbox.flush(writer);
     }
-    serve(alloc, desk, writer, calls, text)
+    serve(alloc, desk, outbox, writer, partial.as_slice())?;
+    outbox.flush(writer)
 }

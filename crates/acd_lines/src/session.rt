@@ -5,16 +5,15 @@ ghost use Rattle.std.specs.Io.KnownBytes.{Appends, Consumes};
 ghost use Rattle.acd_desk.specs.declared.taken.Taken.{Taken};
 ghost use Rattle.acd_desk.specs.Ran.{standing, Ran};
 ghost use Rattle.acd_lines.specs.Input.{cut, lines_of, arrivals_in};
-ghost use Rattle.acd_lines.specs.Answers.{Answers};
 ghost use Rattle.acd_lines.specs.Output.{IsInput, IsOutput, IsBegun, whole_lines};
-ghost use Rattle.acd_lines.specs.Parts.{ServesAll, ServesRead, ServesSome};
 
+use crate::outbox::Outbox;
 use crate::partial::Partial;
 use crate::send::Stopped;
 use crate::serve::{feed, finish};
-use acd_book::book::Book;
-use acd_desk::desk::Desk;
-use std::alloc::Global;
+use acd_book::Book;
+use acd_desk::Desk;
+use std::alloc::{AllocError, Global};
 use std::io::{ErrorKind, Read, Write};
 use thiserror::Error;
 
@@ -27,58 +26,43 @@ pub enum LinesFault {
     /// The writer failed, or was called as often as it may be.
     #[error("cannot write")]
     Write,
-    /// There was no memory for the beginning of a line. Nothing was read.
+    /// There was no memory for the buffers. Nothing was read.
     #[error("no memory")]
     NoMemory,
 }
 
-/// How often the reader is called at most, and how often the writer.
-const CALLS: u64 = 1000000000000;
+impl From<AllocError> for LinesFault {
+    ghost use Rattle.acd_lines.specs.declared.session.LinesFault.{LinesFault};
+    ghost use Rattle.acd_lines.specs.declared.session.LinesFault.TheVariants as faults;
 
-// Reads and answers, line by line.
-fn answer_lines<B: Book, R: Read, W: Write>(
-    alloc: Global,
-    desk: &mut Desk<B>,
-    reader: &mut R,
-    writer: &mut W,
-) -> Result<(), LinesFault>
-    ensures ok { OnOk result ((input written : List ℕ) × IsInput (R.remaining reader.old) input
-        × ServesAll (Answers (standing B.Book)) desk.old input written desk.new × Appends (W.contents writer.old) (W.contents writer.new) written) }
-    ensures read { IfErr result (λ fault. fault ≡ LinesFault.Read → (bytes written : List ℕ) × Consumes (R.remaining reader.old) (R.remaining reader.new) bytes
-        × ServesRead (Answers (standing B.Book)) desk.old bytes written desk.new × Appends (W.contents writer.old) (W.contents writer.new) written) }
-    ensures stopped { OnErr result ((input written : List ℕ) × IsInput (R.remaining reader.old) input
-        × ServesSome (Answers (standing B.Book)) desk.old input written desk.new × Appends (W.contents writer.old) (W.contents writer.new) written) }
-    ensures memory { IfErr result (λ fault. fault ≡ LinesFault.NoMemory → (reader.new ≡ reader.old) × (writer.new ≡ writer.old) × (desk.new ≡ desk.old)) }
-{
-    let mut partial = match Partial::new(alloc) {
-        Ok(partial) => partial,
-        Err(_) => return Err(LinesFault::NoMemory),
-    };
-    let mut chunk = [0u8; 4096];
-    let mut calls = CALLS;
-    for _ in 0..CALLS {
-        match reader.read(&mut chunk) {
-            Ok(0) => match finish(alloc, desk, &partial, writer, &mut calls) {
-                Ok(()) => return Ok(()),
-                Err(Stopped) => return Err(LinesFault::Write),
-            },
-            Ok(n) => match feed(alloc, desk, &mut partial, writer, &mut calls, &chunk[..n]) {
-                Ok(()) => {}
-                Err(Stopped) => return Err(LinesFault::Write),
-            },
-            Err(e) => {
-                if e.kind() != ErrorKind::Interrupted {
-                    return Err(LinesFault::Read);
-                }
-            }
-        }
+    ghost from_gives = { λ x y. y ≡ faults.NoMemory };
+
+    fn from(_: AllocError) -> LinesFault {
+        LinesFault::NoMemory
     }
-    Err(LinesFault::Read)
 }
 
-/// Writes one answer line for each line that is read. Each line that has ended is answered before
-/// more is read, and no more than 4109 bytes of a line are held. Calls that are interrupted are made
-/// again. Want of memory in a line is its answer, and so is a store that fails.
+impl From<Stopped> for LinesFault {
+    ghost use Rattle.acd_lines.specs.declared.session.LinesFault.{LinesFault};
+    ghost use Rattle.acd_lines.specs.declared.session.LinesFault.TheVariants as faults;
+
+    ghost from_gives = { λ x y. y ≡ faults.Write };
+
+    fn from(_: Stopped) -> LinesFault {
+        LinesFault::Write
+    }
+}
+
+/// How often the reader is called at most.
+const CALLS: u64 = 1_000_000_000_000;
+
+/// How many bytes are read at once.
+const CHUNK: usize = 65_536;
+
+/// Writes one answer line for each line that is read. The answers to the lines that have ended are
+/// written before more is read, those of one read together. No more than 4109 bytes of a line are held
+/// behind a read. Calls that are interrupted are made again. Want of memory in a line is its answer, and
+/// so is a store that fails.
 pub fn lines<B: Book, R: Read, W: Write>(
     alloc: Global,
     desk: &mut Desk<B>,
@@ -100,5 +84,22 @@ pub fn lines<B: Book, R: Read, W: Write>(
     // without memory nothing was read
     ensures memory { IfErr result (λ fault. fault ≡ LinesFault.NoMemory → (reader.new ≡ reader.old) × (writer.new ≡ writer.old) × (desk.new ≡ desk.old)) }
 {
-    answer_lines(alloc, desk, reader, writer)
+    let mut chunk = vec![in alloc; 0u8; CHUNK]?;
+    let mut partial = Partial::new(alloc)?;
+    let mut outbox = Outbox::new(alloc)?;
+    for _ in 0..CALLS {
+        match reader.read(chunk.as_mut_slice()) {
+            Ok(0) => {
+                finish(alloc, desk, &partial, &mut outbox, writer)?;
+                return Ok(());
+            }
+            Ok(n) => feed(alloc, desk, &mut partial, &mut outbox, writer, &chunk[..n])?,
+            Err(e) => {
+                if e.kind() != ErrorKind::Interrupted {
+                    return Err(LinesFault::Read);
+                }
+            }
+        }
+    }
+    Err(LinesFault::Read)
 }

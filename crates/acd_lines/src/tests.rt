@@ -2,9 +2,8 @@
 //! fail midway.
 
 use crate::session::{LinesFault, lines};
-use acd_book::book::Book;
-use acd_book::memory::MemoryBook;
-use acd_desk::desk::{Desk, OpenFault};
+use acd_book::{Book, MemoryBook};
+use acd_desk::{Desk, OpenFault};
 use acd_terms::rows::Limits;
 use std::alloc::Global;
 use std::io::{self, ErrorKind, Read, Write};
@@ -305,8 +304,130 @@ fn writer_that_fails_midway(rt: HostRuntime) -> Result<(), Fail> {
     wanted.extend_from_slice(GROUP_ANSWER.as_bytes())?;
     wanted.extend_from_slice(b"200 {\"invoke")?;
     assert_eq!(rt; writer.taken.as_slice(), wanted.as_slice());
-    assert_eq!(rt; executed(desk), 2);
+    // all three lines were read together, and so were answered before the writer was called
+    assert_eq!(rt; executed(desk), 3);
     Ok(())
+}
+
+/// These texts, one behind the other.
+fn joined(rt: &(impl Abort + AllocGlobal), texts: &[&str]) -> Vec<u8> {
+    let mut bytes = Vec::new(rt.alloc());
+    for text in texts {
+        bytes
+            .extend_from_slice(text.as_bytes())
+            .expect(rt, "no memory");
+    }
+    bytes
+}
+
+/// A writer with room for what is wanted takes just that, of the answers to three lines.
+fn stops_after(rt: &(impl Abort + AllocGlobal), input: &[u8], wanted: &[u8]) {
+    let mut desk = opened(rt.alloc(), Limits::GREATEST).expect(rt, "not opened");
+    let mut writer = Narrow {
+        taken: Vec::new(rt.alloc()),
+        room: wanted.len(),
+        interrupted: false,
+    };
+    let mut reader = input;
+    let ended = lines(rt.alloc(), &mut desk, &mut reader, &mut writer);
+    assert_eq!(rt; ended, Err(LinesFault::Write));
+    assert_eq!(rt; writer.taken.as_slice(), wanted);
+    assert_eq!(rt; executed(desk), 3);
+}
+
+#[test]
+fn writer_that_fails_after_each_byte(rt: HostRuntime) {
+    let input = joined(&rt, &[GROUP, STATION, CALL]);
+    let whole = joined(&rt, &[GROUP_ANSWER, STATION_ANSWER, CALL_ANSWER]);
+    for room in 0..whole.len() {
+        stops_after(&rt, input.as_slice(), &whole.as_slice()[..room]);
+    }
+}
+
+/// Takes all that is written, and counts the calls.
+#[derive(Drop)]
+struct Counting {
+    taken: Vec<u8>,
+    calls: u32,
+}
+
+impl Write for Counting {
+    fn write(&mut self, buf: &[u8]) -> io::Result<usize> {
+        self.calls = self.calls.saturating_add(1);
+        self.taken.extend_from_slice(buf)?;
+        Ok(buf.len())
+    }
+
+    fn flush(&mut self) -> io::Result<()> {
+        Ok(())
+    }
+}
+
+/// Gives two texts, one in a read.
+#[derive(Drop)]
+struct TwoReads<'a> {
+    first: &'a [u8],
+    second: &'a [u8],
+}
+
+impl Read for TwoReads<'_> {
+    fn read(&mut self, buf: &mut [u8]) -> io::Result<usize> {
+        let count = buf.len().min(self.first.len());
+        buf[..count].copy_from_slice(&self.first[..count]);
+        self.first = self.second;
+        self.second = &self.second[..0];
+        Ok(count)
+    }
+}
+
+/// The texts of two reads are answered by this output, in so many calls of the writer.
+fn writes(rt: &(impl Abort + AllocGlobal), reads: (&str, &str), output: &[&str], calls: u32) {
+    let mut desk = opened(rt.alloc(), Limits::GREATEST).expect(rt, "not opened");
+    let mut writer = Counting {
+        taken: Vec::new(rt.alloc()),
+        calls: 0,
+    };
+    let mut reader = TwoReads {
+        first: reads.0.as_bytes(),
+        second: reads.1.as_bytes(),
+    };
+    let ended = lines(rt.alloc(), &mut desk, &mut reader, &mut writer);
+    let wanted = joined(rt, output);
+    assert_eq!(rt; ended, Ok(()));
+    assert_eq!(rt; writer.taken.as_slice(), wanted.as_slice());
+    assert_eq!(rt; writer.calls, calls);
+}
+
+const THREE_LINES: &str =
+    "x {}\n0 {\"requester\":\"plan\",\"invoke\":2,\"service\":\"addStation\",\"device\":\"201\"}\n1 {\"requester\":\"Plan\",\"invoke\":0}\n";
+
+#[test]
+fn three_lines_of_one_read(rt: HostRuntime) {
+    writes(
+        &rt,
+        (THREE_LINES, ""),
+        &[MOMENT_ANSWER, STATION_ANSWER, REQUESTER_ANSWER],
+        1,
+    );
+}
+
+#[test]
+fn line_that_two_reads_cut(rt: HostRuntime) {
+    writes(
+        &rt,
+        (
+            "x {}\n0 {\"requester\":\"plan\",\"invoke\":2,\"serv",
+            "ice\":\"addStation\",\"device\":\"201\"}\n",
+        ),
+        &[MOMENT_ANSWER, STATION_ANSWER],
+        2,
+    );
+    writes(
+        &rt,
+        ("x {}\n1 {\"requester\":\"Plan\",\"invoke\":0}", "\n"),
+        &[MOMENT_ANSWER, REQUESTER_ANSWER],
+        2,
+    );
 }
 
 /// One line of so many bytes, which it makes as it is read.

@@ -3,10 +3,9 @@
 //! `stdout`.
 #![tactic(auto)]
 
-use acd_book::book::Book;
-use acd_book::memory::MemoryBook;
+use acd_book::{Book, MemoryBook};
 use acd_codec::event_text;
-use acd_desk::desk::{Desk, OpenFault};
+use acd_desk::{Desk, OpenFault};
 use acd_lines::{LinesFault, lines};
 use acd_terms::rows::Limits;
 use std::io;

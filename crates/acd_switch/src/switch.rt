@@ -125,6 +125,20 @@ impl Switch {
         execute(self.alloc, &mut self.tables, moment, command)
     }
 
+    /// The stamp of the last executed request, 0 before the first one.
+    pub fn last_stamp(&self) -> u64
+        ensures { result ≡ self.now.last_stamp }
+    {
+        self.tables.last_stamp()
+    }
+
+    /// The moment of the last executed request, in seconds.
+    pub fn last_moment(&self) -> u32
+        ensures { result ≡ self.now.last_moment }
+    {
+        self.tables.last_moment()
+    }
+
     /// As many requests were executed as the limit allows: no more may be.
     pub fn is_full(&self) -> bool
         ensures { result ≡ nat_le self.now.limits.requests self.now.last_stamp }

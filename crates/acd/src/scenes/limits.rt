@@ -1,9 +1,9 @@
 //! The last free place of each limit is taken, and what comes after it is refused; a place that is left is free again.
 
 use super::*;
-use acd_book::memory::MemoryBook;
-use acd_desk::desk::Desk;
-use acd_desk::taken::Taken;
+use acd_book::MemoryBook;
+use acd_desk::Desk;
+use acd_desk::Taken;
 use acd_terms::command::Request;
 
 // Few places, and just as many requests as the scene has.

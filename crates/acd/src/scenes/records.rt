@@ -1,7 +1,7 @@
 //! What the rows hold that no reply and no event report tells.
 
 use super::*;
-use acd_book::book::Book;
+use acd_book::Book;
 use acd_terms::id::{AgentId, DeviceId};
 use acd_terms::record::Figures;
 use acd_terms::rows::Rows;

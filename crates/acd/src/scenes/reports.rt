@@ -2,10 +2,9 @@
 //! reports alone tell the connections, the agents and the order of the queues that stand in the rows.
 
 use super::*;
-use acd_book::book::Book;
-use acd_book::memory::MemoryBook;
-use acd_desk::desk::Desk;
-use acd_desk::taken::Taken;
+use acd_book::{Book, MemoryBook};
+use acd_desk::Desk;
+use acd_desk::Taken;
 use acd_switch::row_fault::RowFault;
 use acd_terms::event::{Cause, EventKind, Report};
 use acd_terms::id::{AgentId, DeviceId};

@@ -1,45 +1,74 @@
-//! A book whose store fails once.
+//! A book that fails at some of its calls.
 
-ghost use Rattle.std.specs.Prelude.{◌≡◌, ⊤, refl};
+ghost use Rattle.std.specs.Prelude.{◌≡◌, ◌≤◌, ⊤, refl, IsErrOf};
+ghost use Rattle.acd_book.specs.Content.{HasRisen};
 
-use acd_book::book::{Book, BookFault};
-use acd_book::kept::Kept;
-use acd_book::memory::MemoryBook;
+use acd_book::{Book, BookFault, Kept, MemoryBook};
 use acd_terms::event::Event;
+use acd_terms::moves::Change;
 use acd_terms::name::Requester;
 use acd_terms::number::Invoke;
 use acd_terms::rows::{Limits, Rows};
 
-/// A book in memory that refuses one commit, after so many good ones.
+/// The number of a call, from 1, and its fault.
+pub type Failing = (u32, BookFault);
+
+/// A book in memory that does nothing at some of its calls but to fail.
 #[derive(Drop)]
 pub struct FailingBook {
     inner: MemoryBook,
-    left: u8,
+    failing: &'static [Failing],
+    calls: u32,
+    row_reads: u32,
     failures: u64,
 }
 
 impl FailingBook {
-    pub fn new(inner: MemoryBook, left: u8) -> FailingBook {
+    pub fn new(inner: MemoryBook, failing: &'static [Failing]) -> FailingBook {
         FailingBook {
             inner,
-            left,
+            failing,
+            calls: 0,
+            row_reads: 0,
             failures: 0,
+        }
+    }
+
+    /// How often its rows were asked for.
+    pub fn row_reads(&self) -> u32 {
+        self.row_reads
+    }
+
+    // Counts this call, which may be one that fails.
+    fn call(&mut self) -> Result<(), BookFault>
+        ensures inner { self.new.inner ≡ self.old.inner }
+        ensures cause { IsErrOf result BookFault.Store → HasRisen self.old.failures self.new.failures }
+        ensures quiet { ¬ (IsErrOf result BookFault.Store) → self.new.failures ≡ self.old.failures }
+        ensures counts { self.old.failures ≤ self.new.failures }
+    {
+        self.calls = self.calls.saturating_add(1);
+        match fault_at(self.failing, self.calls) {
+            None => Ok(()),
+            Some(BookFault::NoMemory) => Err(BookFault::NoMemory),
+            Some(BookFault::Store) => {
+                self.failures = self.failures.saturating_add(1);
+                Err(BookFault::Store)
+            }
         }
     }
 }
 
+fn fault_at(failing: &[Failing], call: u32) -> Option<BookFault> {
+    for (number, fault) in failing {
+        if *number == call {
+            return Some(*fault);
+        }
+    }
+    None
+}
+
 impl Book for FailingBook {
-    ghost content = { λ b. b.inner };
-
-    ghost stops = { λ b c. c ≡ b.inner };
-
-    ghost is_sound = { λ b. ⊤ };
-
-    ghost is_clean = { λ b. ⊤ };
-
-    ghost is_open = { λ b. ⊤ };
-
-    ghost count = { λ b. b.failures };
+    ghost state = { λ b. record { content = b.inner; stops = λ c. c ≡ b.inner; is_sound = ⊤; is_clean = ⊤; is_open = ⊤; failures = b.failures } };
 
     ghost settled = { λ b c clean sound up found. found };
 
@@ -50,22 +79,28 @@ impl Book for FailingBook {
     }
 
     fn limits(&mut self) -> Result<Limits, BookFault> {
+        self.call()?;
         self.inner.limits()
     }
 
     fn rows(&mut self) -> Result<Rows, BookFault> {
+        self.row_reads = self.row_reads.saturating_add(1);
+        self.call()?;
         self.inner.rows()
     }
 
     fn kept(&mut self, requester: &Requester, invoke: Invoke) -> Result<Option<Kept>, BookFault> {
+        self.call()?;
         self.inner.kept(requester, invoke)
     }
 
     fn kept_after(&mut self, stamp: u64) -> Result<Option<Kept>, BookFault> {
+        self.call()?;
         self.inner.kept_after(stamp)
     }
 
     fn events_after(&mut self, number: u64, limit: usize) -> Result<Vec<Event>, BookFault> {
+        self.call()?;
         self.inner.events_after(number, limit)
     }
 
@@ -75,16 +110,22 @@ impl Book for FailingBook {
         number: u64,
         limit: usize,
     ) -> Result<Vec<Event>, BookFault> {
+        self.call()?;
         self.inner.events_of_monitor(monitor, number, limit)
     }
 
     fn commit(&mut self, rows: &Rows, events: &[Event], kept: &Kept) -> Result<(), BookFault> {
-        if self.left > 0 {
-            self.left -= 1;
-        } else if self.failures == 0 {
-            self.failures = 1;
-            return Err(BookFault::Store);
-        }
+        self.call()?;
         self.inner.commit(rows, events, kept)
+    }
+
+    fn commit_changes(
+        &mut self,
+        changes: &[Change],
+        events: &[Event],
+        kept: &Kept,
+    ) -> Result<(), BookFault> {
+        self.call()?;
+        self.inner.commit_changes(changes, events, kept)
     }
 }

@@ -1,40 +1,40 @@
-use Rattle.std.proofs.Common.{◌+◌, ◌-◌, ◌*◌, ◌<◌, length, drop, get_or, nat_lt, arith, sym, ap, ◌∙◌, Some, length-drop}
-use Rattle.std.specs.Char.{is_ascii_digit}
+use Rattle.std.proofs.Common.{length, get_or, sym, ap, ◌∙◌, arith}
 use Rattle.std.proofs.lemmas.List.{take_all}
-use Rattle.std.proofs.lemmas.Bool.{and_parts}
-use Rattle.std.proofs.lemmas.Bool.Decides.{nat_tests}
-use Rattle.acd_lines.proofs.Moments.{one_step, end_step, digit_small, next}
+use Rattle.std.proofs.lemmas.Bool.{eqb-true}
+use Rattle.std.specs.Char.{is_ascii_digit}
+use Rattle.std.specs.List.{list_all}
+use Rattle.std.specs.Str.Parse.{digits_value}
+use Rattle.acd_lines.proofs.Moments.{positive, number_is, number_empty, number_long, number_faulty, number_great, value_more, digits_more, digit_small}
 use Rattle.acd_lines.proofs.moment.number_of.Goals as goal
+use Rattle.acd_lines.proofs.moment.number_of.Goals.{then-is_empty-via-then-is_empty, then-is_empty-via-else-is_empty+then-digits-gt-DIGITS}
 
-pub returns-then-is_end : goal.returns-then-is_end
-returns-then-is_end c =
-    let text = c.args.text.now in
-    let more = sym c.goes_on.ensures ∙ c.if-not-goes_on.true in
-    let ends = sym c.is_end.ensures ∙ c.if-is_end.true in
-    let step = rw (more, ends) at (one_step (10 - c.loop-i.i) c.loop-i.value (nat_lt 0 c.loop-i.i) text c.loop-i.i c.loop-i-test.true) in
-    let rest = drop (c.loop-i.i + 1) text in
-    ap (λ l. Some (c.loop-i.value, l)) (take_all (length text - (c.loop-i.i + 1)) rest (omega (arith, length-drop (c.loop-i.i + 1) text))) ∙ sym step ∙ c.loop-i.invariant.rest
+pub returns-then-is_empty : goal.returns-then-is_empty
+returns-then-is_empty c = elim c.then-is_empty.branch [
+  | then-is_empty-via-then-is_empty w ↦ sym (number_empty c.args.digits.now (eqb-true _ _ (sym c.is_empty.ensures ∙ w.if-is_empty.true)))
+  | then-is_empty-via-else-is_empty+then-digits-gt-DIGITS w ↦ sym (number_long c.args.digits.now (omega (arith, w.if-digits-gt-DIGITS.true)))
+]
 
-pub returns-then-not-goes_on : goal.returns-then-not-goes_on
-returns-then-not-goes_on c =
-    let text = c.args.text.now in
-    let more = sym c.goes_on.ensures ∙ c.if-not-goes_on.true in
-    let ends = sym c.is_end.ensures ∙ c.if-is_end.false in
-    let step = rw (more, ends) at (one_step (10 - c.loop-i.i) c.loop-i.value (nat_lt 0 c.loop-i.i) text c.loop-i.i c.loop-i-test.true) in
-    sym step ∙ c.loop-i.invariant.rest
+pub returns-then-not-is_ascii_digit : goal.returns-then-not-is_ascii_digit
+returns-then-not-is_ascii_digit c = sym (number_faulty c.args.digits.now c.loop-digit.digit-index c.loop-digit-test.true (sym c.is_ascii_digit.ensures.value ∙ c.if-not-is_ascii_digit.true))
 
-pub loop-i-preserved : goal.loop-i-preserved
-loop-i-preserved c =
-    let text = c.args.text.now in
-    let more = sym c.goes_on.ensures ∙ c.if-not-goes_on.false in
-    let step = rw more at (one_step (10 - c.loop-i.i) c.loop-i.value (nat_lt 0 c.loop-i.i) text c.loop-i.i c.loop-i-test.true) in
-    let both = and_parts (nat_lt 0 (10 - c.loop-i.i)) (is_ascii_digit (get_or text c.loop-i.i 0)) (sym c.goes_on.ensures ∙ c.if-not-goes_on.false) in
-    let room : 0 < 10 - c.loop-i.i = grind (arith, nat_tests, both.0) in
+pub loop-digit-preserved : goal.loop-digit-preserved
+loop-digit-preserved c =
+    let digits = c.args.digits.now in
+    let i = c.loop-digit.digit-index in
+    let digit = sym c.is_ascii_digit.ensures.value ∙ c.if-not-is_ascii_digit.false in
     record {
-      place = omega arith;
-      small = digit_small c.loop-i.i c.loop-i.value (get_or text c.loop-i.i 0) c.from.result c.loop-i.invariant.small c.from.ensures both.1;
-      rest = next (10 - (c.loop-i.i + 1)) (10 - c.loop-i.i - 1) (c.loop-i.value * 10 + c.from.result) (c.loop-i.value * 10 + (get_or text c.loop-i.i 0 - 48)) c.loop-i.i (drop (c.loop-i.i + 1) text) (omega arith) (ap (λ n. c.loop-i.value * 10 + n) c.from.ensures) ∙ sym step ∙ c.loop-i.invariant.rest;
+      value = value_more digits i c.loop-digit.value c.from.result c.loop-digit-test.true c.loop-digit.invariant.value digit c.from.ensures;
+      digits = digits_more digits i c.loop-digit-test.true c.loop-digit.invariant.digits digit;
+      small = digit_small i c.loop-digit.value (get_or digits i 0) c.from.result c.loop-digit.invariant.small c.from.ensures digit;
     }
 
+pub returns-then-value-gt4294967295 : goal.returns-then-value-gt4294967295
+returns-then-value-gt4294967295 c =
+    let digits = c.args.digits.now in
+    sym (number_great digits c.loop-digit.value (c.loop-digit.invariant.value ∙ ap (digits_value 10) (take_all c.loop-digit.digit-index digits c.loop-digit-test.false)) c.if-value-gt4294967295.true)
+
 pub returns : goal.returns
-returns c = sym (end_step (10 - c.loop-i.i) c.loop-i.value (nat_lt 0 c.loop-i.i) c.args.text.now c.loop-i.i c.loop-i-test.false) ∙ c.loop-i.invariant.rest
+returns c =
+    let digits = c.args.digits.now in
+    let whole = take_all c.loop-digit.digit-index digits c.loop-digit-test.false in
+    number_is digits c.loop-digit.value (positive (length digits) (sym c.is_empty.ensures ∙ c.if-is_empty.false)) (omega (arith, c.if-digits-gt-DIGITS.false)) (ap (list_all is_ascii_digit) (sym whole) ∙ c.loop-digit.invariant.digits) (c.loop-digit.invariant.value ∙ ap (digits_value 10) whole) c.if-value-gt4294967295.false

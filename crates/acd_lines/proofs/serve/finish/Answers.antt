@@ -1,26 +1,36 @@
-use Rattle.std.proofs.Common.{ℕ, List, [], length, sym, ap, ◌∙◌, subst, lit<, append-nil}
-use Rattle.std.proofs.KnownBytes.{Appends-nil}
+use Rattle.std.proofs.Common.{length, sym, ◌∙◌}
 use Rattle.std.proofs.lemmas.Bool.{eqb-true}
 use Rattle.acd_desk.specs.Ran.{standing}
 use Rattle.acd_lines.specs.Answers.{Answers}
-use Rattle.acd_lines.specs.Parts.{ServesAll}
-use Rattle.acd_lines.proofs.Sends.{OnOk-weaker, OnErr-weaker}
-use Rattle.acd_lines.proofs.Turns.{end_empty, end_line, end_stop, positive}
+use Rattle.acd_lines.proofs.Moments.{positive}
+use Rattle.acd_lines.proofs.Sends.{OnErr-is, OnOk-weaker, OnErr-weaker}
+use Rattle.acd_lines.proofs.Turns.{finish_empty, finish_empty_stops, finish_line, finish_line_stops, finish_stops}
 use Rattle.acd_lines.proofs.serve.finish.Goals as goal
 
 pub returns-then-is_empty-clause-ok : goal.returns-then-is_empty-clause-ok
-returns-then-is_empty-clause-ok g c = λ s seen part written kept reached.
-    let answers = Answers (standing g.B.Book) in
-    ([], subst (λ (w : List ℕ). ServesAll answers s seen w c.args.desk.now) (sym (append-nil written)) (end_empty answers 4108 s seen part written c.args.desk.now c.args.partial.now kept (ap length (sym c.as_slice-text.ensures) ∙ eqb-true _ _ (sym c.is_empty.ensures ∙ c.if-is_empty.true)) reached), Appends-nil _)
+returns-then-is_empty-clause-ok g c =
+    let none = eqb-true (length c.args.partial.now) 0 (sym c.is_empty.ensures ∙ c.if-is_empty.true) in
+    OnOk-weaker c.flush.result _ _ (λ out. finish_empty (Answers (standing g.B.Book)) c.args.desk.now c.args.partial.now (g.W.Write.contents c.args.writer.now) (g.W.Write.contents c.flush.new.writer) c.args.outbox.now.waiting.items none out) c.flush.ensures.ok
+
+pub returns-then-is_empty-clause-err : goal.returns-then-is_empty-clause-err
+returns-then-is_empty-clause-err g c =
+    let none = eqb-true (length c.args.partial.now) 0 (sym c.is_empty.ensures ∙ c.if-is_empty.true) in
+    OnErr-weaker c.flush.result _ _ (λ begun. finish_empty_stops (Answers (standing g.B.Book)) c.args.desk.now c.args.partial.now (g.W.Write.contents c.args.writer.now) (g.W.Write.contents c.flush.new.writer) c.args.outbox.now.waiting.items none begun) c.flush.ensures.err
+
+pub returns-in_err-serve-clause-err : goal.returns-in_err-serve-clause-err
+returns-in_err-serve-clause-err g c =
+    let some = positive (length c.args.partial.now) (sym c.is_empty.ensures ∙ c.if-is_empty.false) in
+    OnErr-is c.from_residual.result c.in_err-serve.field-0.0 _ c.from_residual.ensures.1 (finish_stops (Answers (standing g.B.Book)) c.args.desk.now c.serve.new.desk c.args.partial.now c.as_slice.result.now
+    (g.W.Write.contents c.args.writer.now) (g.W.Write.contents c.serve.new.writer) c.args.outbox.now.waiting.items some c.as_slice.ensures c.in_err-serve.ensures.err)
 
 pub returns-clause-ok : goal.returns-clause-ok
-returns-clause-ok g c = OnOk-weaker c.serve.result _ _ (λ h. λ s seen part written kept reached.
-    let same = c.as_slice-text.ensures in
-    let some = positive (length c.as_slice-text.result.now) (sym c.is_empty.ensures ∙ c.if-is_empty.false) in
-    (h.0, end_line (Answers (standing g.B.Book)) 4108 s seen part written c.as_slice-text.result.now c.args.desk.now h.0 c.serve.new.desk (lit< tt) (same ∙ kept) some reached h.1, h.2)) c.serve.ensures.ok
+returns-clause-ok g c =
+    let some = positive (length c.args.partial.now) (sym c.is_empty.ensures ∙ c.if-is_empty.false) in
+    OnOk-weaker c.flush-2.result _ _ (λ out. finish_line (Answers (standing g.B.Book)) c.args.desk.now c.serve.new.desk c.args.partial.now c.as_slice.result.now
+    (g.W.Write.contents c.args.writer.now) (g.W.Write.contents c.serve.new.writer) (g.W.Write.contents c.flush-2.new.writer) c.args.outbox.now.waiting.items c.serve.new.outbox.waiting.items some c.as_slice.ensures c.in_ok-serve.ensures.ok out) c.flush-2.ensures.ok
 
 pub returns-clause-err : goal.returns-clause-err
-returns-clause-err g c = OnErr-weaker c.serve.result _ _ (λ h. λ s seen part written kept reached.
-    let same = c.as_slice-text.ensures in
-    let some = positive (length c.as_slice-text.result.now) (sym c.is_empty.ensures ∙ c.if-is_empty.false) in
-    end_stop (Answers (standing g.B.Book)) 4108 s seen part written c.as_slice-text.result.now c.args.desk.now c.serve.new.desk _ _ (lit< tt) (same ∙ kept) some reached h) c.serve.ensures.err
+returns-clause-err g c =
+    let some = positive (length c.args.partial.now) (sym c.is_empty.ensures ∙ c.if-is_empty.false) in
+    OnErr-weaker c.flush-2.result _ _ (λ begun. finish_line_stops (Answers (standing g.B.Book)) c.args.desk.now c.serve.new.desk c.args.partial.now c.as_slice.result.now
+    (g.W.Write.contents c.args.writer.now) (g.W.Write.contents c.serve.new.writer) (g.W.Write.contents c.flush-2.new.writer) c.args.outbox.now.waiting.items c.serve.new.outbox.waiting.items some c.as_slice.ensures c.in_ok-serve.ensures.ok begun) c.flush-2.ensures.err

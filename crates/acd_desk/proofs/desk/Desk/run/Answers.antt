@@ -2,7 +2,8 @@ use Rattle.std.proofs.Common.{rules, ◌≡◌, ◌<◌, ◌+◌, ◌∙◌, ℕ
 use Rattle.std.proofs.lemmas.Grind.{common_steps}
 use Rattle.acd_terms.specs.declared.command.Arrival.{Arrival}
 use Rattle.acd_desk.specs.declared.taken.Taken.{Taken}
-use Rattle.acd_desk.specs.Ran.{Standing, standing, Ran}
+use Rattle.acd_desk.specs.Standing.{Standing, standing}
+use Rattle.acd_desk.specs.Ran.{Ran}
 use Rattle.acd_desk.proofs.Many.{Settles, ran_nothing, ran_more}
 use Rattle.acd_desk.proofs.desk.Desk.run.Goals as goal
 

@@ -1,5 +1,6 @@
 use Rattle.std.proofs.Common.{◌≡◌, ◌≤◌, length, take, vec_len, vec_capacity}
-use Rattle.acd_desk.specs.Ran.{standing, Ran}
+use Rattle.acd_desk.specs.Standing.{standing}
+use Rattle.acd_desk.specs.Ran.{Ran}
 use Rattle.acd_desk.proofs.desk.Desk.run.Given as goal
 
 abbrev pub invariant-loop-i : goal.invariant-loop-i

@@ -1,0 +1,80 @@
+-- Lists that are numbered on from a number: what is above one of the numbers stands behind a place.
+use Rattle.std.proofs.Common.{arith, ◌≡◌, ℕ, zero, suc, ◌+◌, ◌≤◌, Bool, true, false, cond, ◌&&◌, ◌==◌, nat_lt, List, [], ◌∷◌, ◌++◌, length, drop, slice_get, refl, ap, ap₂, ◌∙◌, sym, eqb-true, subst, find, filter}
+use Rattle.std.proofs.Common.{true≢false, Some, Option}
+use Rattle.std.proofs.lemmas.Bool.{lt-ltb, le-ltb, and_from, eq-eqb}
+use Rattle.std.proofs.Math.Bool.{and-true, and-false}
+use Rattle.acd_book.specs.Memory.{is_numbered}
+
+pub both : (a b : Bool) → (a && b) ≡ true → (a ≡ true) × (b ≡ true)
+both true true h = (refl, refl)
+both true false h = (refl, h)
+both false b h = (h, absurd (true≢false (sym h)))
+
+plus_zero : (b : ℕ) → b + 0 ≡ b
+plus_zero b = omega arith
+
+zero_plus : (n : ℕ) → 0 + n ≡ n
+zero_plus n = omega arith
+
+-- the number of the first, and the rest
+first : {T : Type 0} (f : T → ℕ) (b : ℕ) (x : T) (xs : List T) → is_numbered f b (x ∷ xs) ≡ true → (f x ≡ b + 1) × (is_numbered f (b + 1) xs ≡ true)
+first f b x xs h = let h = both (f x == b + 1) (is_numbered f (b + 1) xs) h in (eqb-true (f x) (b + 1) h.0, h.1)
+
+pub numbered-append : {T : Type 0} (f : T → ℕ) (b : ℕ) (xs ys : List T) → is_numbered f b xs ≡ true → is_numbered f (b + length xs) ys ≡ true → is_numbered f b (xs ++ ys) ≡ true
+numbered-append f b [] ys h more = subst (λ n. is_numbered f n ys ≡ true) (plus_zero b) more
+numbered-append f b (x ∷ xs) ys h more =
+    let parts = both (f x == b + 1) (is_numbered f (b + 1) xs) h in
+    let behind : b + length (x ∷ xs) ≡ (b + 1) + length xs = omega arith in
+    and_from (f x == b + 1) (is_numbered f (b + 1) (xs ++ ys)) parts.0
+    (numbered-append f (b + 1) xs ys parts.1 (subst (λ n. is_numbered f n ys ≡ true) behind more))
+
+-- one more than the last
+pub numbered-push : {T : Type 0} (f : T → ℕ) (xs : List T) (x : T) → is_numbered f 0 xs ≡ true → f x ≡ length xs + 1 → is_numbered f 0 (xs ++ x ∷ []) ≡ true
+numbered-push {T} f xs x h next =
+    numbered-append f 0 xs (x ∷ []) h (subst (λ (n : ℕ). is_numbered f n (x ∷ []) ≡ true) (sym (zero_plus (length xs))) (and_from (f x == length xs + 1) true (eq-eqb (f x) (length xs + 1) next) refl))
+
+find_numbered : {T : Type 0} (f : T → ℕ) (b n : ℕ) (xs : List T) → is_numbered f b xs ≡ true → find (λ x. nat_lt (b + n) (f x)) xs ≡ slice_get xs n
+find_numbered f b n [] h = refl
+find_numbered {T} f b zero (x ∷ xs) h =
+    let parts = first f b x xs h in
+    ap (λ (c : Bool). cond c (Some x) (find (λ x. nat_lt (b + 0) (f x)) xs)) (lt-ltb (b + 0) (f x) (omega (arith, parts.0)))
+find_numbered f b (suc n) (x ∷ xs) h =
+    let parts = first f b x xs h in
+    let behind : b + suc n ≡ (b + 1) + n = omega arith in
+    ap (λ (c : Bool). cond c (Some x) (find (λ x. nat_lt (b + suc n) (f x)) xs)) (le-ltb (b + suc n) (f x) (omega (arith, parts.0)))
+    ∙ ap (λ (m : ℕ). find (λ x. nat_lt m (f x)) xs) behind
+    ∙ find_numbered f (b + 1) n xs parts.1
+
+-- the first above a number stands at the place of that number
+pub find_above : {T : Type 0} (f : T → ℕ) (n : ℕ) (xs : List T) → is_numbered f 0 xs ≡ true → find (λ x. nat_lt n (f x)) xs ≡ slice_get xs n
+find_above {T} f n xs h = subst (λ (m : ℕ). find (λ (x : T). nat_lt m (f x)) xs ≡ slice_get xs n) (zero_plus n) (find_numbered f 0 n xs h)
+
+filter_all : {T : Type 0} (f : T → ℕ) (p : T → Bool) (b m : ℕ) (xs : List T) → is_numbered f b xs ≡ true → m ≤ b → filter (λ x. p x && nat_lt m (f x)) xs ≡ filter p xs
+filter_all f p b m [] h below = refl
+filter_all f p b m (x ∷ xs) h below =
+    let parts = first f b x xs h in
+    let rest = filter_all f p (b + 1) m xs parts.1 (omega (arith, below)) in
+    ap₂ (λ (c : Bool) (l : List _). cond c (x ∷ l) l) (ap (λ (c : Bool). p x && c) (lt-ltb m (f x) (omega (arith, parts.0, below))) ∙ and-true (p x)) rest
+
+filter_numbered : {T : Type 0} (f : T → ℕ) (p : T → Bool) (b n : ℕ) (xs : List T) → is_numbered f b xs ≡ true → filter (λ x. p x && nat_lt (b + n) (f x)) xs ≡ filter p (drop n xs)
+filter_numbered f p b zero xs h = filter_all f p b (b + 0) xs h (omega arith)
+filter_numbered f p b (suc n) [] h = refl
+filter_numbered f p b (suc n) (x ∷ xs) h =
+    let parts = first f b x xs h in
+    let behind : b + suc n ≡ (b + 1) + n = omega arith in
+    ap (λ (c : Bool). cond c (x ∷ filter (λ x. p x && nat_lt (b + suc n) (f x)) xs) (filter (λ x. p x && nat_lt (b + suc n) (f x)) xs))
+    (ap (λ (c : Bool). p x && c) (le-ltb (b + suc n) (f x) (omega (arith, parts.0))) ∙ and-false (p x))
+    ∙ ap (λ (m : ℕ). filter (λ x. p x && nat_lt m (f x)) xs) behind
+    ∙ filter_numbered f p (b + 1) n xs parts.1
+
+-- those above a number that pass, behind the place of that number
+pub filter_above : {T : Type 0} (f : T → ℕ) (p : T → Bool) (n : ℕ) (xs : List T) → is_numbered f 0 xs ≡ true → filter (λ x. p x && nat_lt n (f x)) xs ≡ filter p (drop n xs)
+filter_above {T} f p n xs h = subst (λ (m : ℕ). filter (λ (x : T). p x && nat_lt m (f x)) xs ≡ filter p (drop n xs)) (zero_plus n) (filter_numbered f p 0 n xs h)
+
+filter_true : {T : Type 0} (xs : List T) → filter (λ _. true) xs ≡ xs
+filter_true [] = refl
+filter_true (x ∷ xs) = ap (λ l. x ∷ l) (filter_true xs)
+
+-- all above a number
+pub above : {T : Type 0} (f : T → ℕ) (n : ℕ) (xs : List T) → is_numbered f 0 xs ≡ true → filter (λ x. nat_lt n (f x)) xs ≡ drop n xs
+above f n xs h = filter_above f (λ _. true) n xs h ∙ filter_true (drop n xs)

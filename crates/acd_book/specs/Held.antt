@@ -1,0 +1,7 @@
+-- What a book in memory holds.
+use Rattle.acd_book.specs.Content.{Content}
+use Rattle.acd_book.specs.Ledger.{rows_of}
+use Rattle.acd_book.specs.declared.contents.Contents.{Contents}
+
+abbrev pub content_of : Contents → Content
+content_of h = record { rows = rows_of h.ledger; events = h.log.events.items; kept = h.replies.records.items }

@@ -1,0 +1,9 @@
+-- What the tables of a book in memory hold.
+use Rattle.std.specs.Prelude.{drop}
+use Rattle.acd_terms.specs.Changes.{changed_by}
+use Rattle.acd_terms.specs.declared.rows.Rows.{Rows}
+use Rattle.acd_book.specs.declared.ledger.Ledger.{Ledger}
+
+-- the records with the changes made that wait
+abbrev pub rows_of : Ledger → Rows
+rows_of l = changed_by l.records (drop l.made l.journal.items)

@@ -1,0 +1,162 @@
+//! What a book in memory holds, and how a commit changes it: whole or not at all.
+
+ghost use Rattle.std.specs.Prelude.{◌≡◌, Some, IfOk, OnOk, OnErr, take, filter};
+ghost use Rattle.acd_terms.specs.Scans.{monitor_of};
+ghost use Rattle.acd_book.specs.Content.{empty_content, is_at, kept_of, kept_behind, events_behind, events_of_monitor, committed, committed_by};
+
+use crate::kept::Kept;
+use crate::ledger::Ledger;
+use crate::log::Log;
+use crate::replies::Replies;
+use acd_terms::event::Event;
+use acd_terms::id::DeviceId;
+use acd_terms::moves::Change;
+use acd_terms::name::Requester;
+use acd_terms::number::Invoke;
+use acd_terms::rows::{Limits, Rows};
+use std::alloc::{AllocError, Global};
+
+/// The tables, the events and the kept records.
+#[derive(Drop)]
+pub(crate) struct Contents {
+    pub(crate) alloc: Global,
+    pub(crate) ledger: Ledger,
+    pub(crate) log: Log,
+    pub(crate) replies: Replies,
+}
+
+impl Contents {
+    ghost use Rattle.acd_book.specs.Held.{content_of};
+
+    pub(crate) fn new(alloc: Global, limits: Limits) -> Contents
+        ensures { content_of result ≡ empty_content limits }
+    {
+        Contents {
+            alloc,
+            ledger: Ledger::new(alloc, limits),
+            log: Log::new(alloc),
+            replies: Replies::new(alloc),
+        }
+    }
+
+    /// What is kept under a key.
+    pub(crate) fn kept(
+        &self,
+        requester: &Requester,
+        invoke: Invoke,
+    ) -> Result<Option<Kept>, AllocError>
+        ensures { IfOk result (λ found. found ≡ kept_of (content_of self.now).kept requester.now invoke) }
+    {
+        match self.replies.under(requester, invoke) {
+            Some(kept) => Ok(Some(kept.clone()?)),
+            None => Ok(None),
+        }
+    }
+
+    /// The kept record of the least greater stamp.
+    pub(crate) fn kept_after(&self, stamp: u64) -> Result<Option<Kept>, AllocError>
+        ensures { IfOk result (λ found. found ≡ kept_behind (content_of self.now).kept stamp) }
+    {
+        match self.replies.after(stamp) {
+            Some(kept) => Ok(Some(kept.clone()?)),
+            None => Ok(None),
+        }
+    }
+
+    pub(crate) fn events_after(&self, number: u64, limit: usize) -> Result<Vec<Event>, AllocError>
+        ensures { IfOk result (λ found. found.items ≡ events_behind (content_of self.now).events number limit) }
+    {
+        first(self.alloc, self.log.behind(number), limit)
+    }
+
+    /// The first events of a running monitor above a number. What it holds stays.
+    pub(crate) fn events_of_monitor(
+        &mut self,
+        monitor: u64,
+        number: u64,
+        limit: usize,
+    ) -> Result<Vec<Event>, AllocError>
+        ensures found { IfOk result (λ found. found.items ≡ events_of_monitor (content_of self.old) monitor number limit) }
+        ensures same { content_of self.new ≡ content_of self.old }
+    {
+        let Some(watched) = self.ledger.monitor(monitor)? else {
+            return Ok(Vec::new(self.alloc));
+        };
+        let events = self.log.behind(number.max(watched.after_event));
+        first_at(self.alloc, events, watched.device, limit)
+    }
+
+    pub(crate) fn commit(
+        &mut self,
+        rows: &Rows,
+        events: &[Event],
+        kept: &Kept,
+    ) -> Result<(), AllocError>
+        ensures ok { OnOk result (content_of self.new ≡ committed rows.now events.now kept.now (content_of self.old)) }
+        ensures err { OnErr result (content_of self.new ≡ content_of self.old) }
+    {
+        if !self.log.precedes(events) {
+            return Err(AllocError);
+        }
+        let ledger = Ledger::from_rows(self.alloc, rows)?;
+        let kept = kept.clone()?;
+        self.log.reserve(events.len())?;
+        self.replies.push(kept)?;
+        self.log.append(events);
+        self.ledger = ledger;
+        Ok(())
+    }
+
+    pub(crate) fn commit_changes(
+        &mut self,
+        changes: &[Change],
+        events: &[Event],
+        kept: &Kept,
+    ) -> Result<(), AllocError>
+        ensures ok { OnOk result (content_of self.new ≡ committed_by changes.now events.now kept.now (content_of self.old)) }
+        ensures err { OnErr result (content_of self.new ≡ content_of self.old) }
+    {
+        if !self.log.precedes(events) || !self.ledger.counts(events.len() as u64) {
+            return Err(AllocError);
+        }
+        let (stamp, moment) = (kept.stamp, kept.moment);
+        let kept = kept.clone()?;
+        self.ledger.reserve(changes.len())?;
+        self.log.reserve(events.len())?;
+        self.replies.push(kept)?;
+        self.log.append(events);
+        self.ledger
+            .append(changes, stamp, moment, events.len() as u64);
+        self.ledger.settle();
+        Ok(())
+    }
+}
+
+// The first of these.
+fn first(alloc: Global, events: &[Event], limit: usize) -> Result<Vec<Event>, AllocError>
+    ensures { IfOk result (λ found. found.items ≡ take limit events.now) }
+{
+    let end = limit.min(events.len());
+    events[..end].to_vec(alloc)
+}
+
+// The first of these at a device.
+fn first_at(
+    alloc: Global,
+    events: &[Event],
+    device: DeviceId,
+    limit: usize,
+) -> Result<Vec<Event>, AllocError>
+    ensures { IfOk result (λ found. found.items ≡ take limit (filter (is_at (Some device)) events.now)) }
+{
+    let mut found = Vec::new(alloc);
+    for event in events {
+        if found.len() == limit {
+            return Ok(found);
+        }
+        if event.report.columns().device == Some(device) {
+            found.push(*event)?;
+        }
+    }
+    Ok(found)
+}

@@ -1,0 +1,119 @@
+//! The tables of a book in memory.
+
+ghost use Rattle.std.specs.Prelude.{◌≡◌, ◌+◌, ◌<◌, ◌≤◌, ◌^◌, length, vec_len, nat_lt, vec_capacity, IfOk, OnOk};
+ghost use Rattle.acd_terms.specs.Changes.{rows_made};
+ghost use Rattle.acd_terms.specs.Scans.{monitor_of};
+ghost use Rattle.acd_terms.specs.Writes.{empty_rows};
+
+use acd_tables::records::Records;
+use acd_terms::moves::Change;
+use acd_terms::record::MonitorRecord;
+use acd_terms::rows::{Limits, Rows};
+use std::alloc::{AllocError, Global};
+
+/// The tables, and a journal of changes that wait to be made in them. What it holds is the tables with
+/// those changes made. A change that finds no memory stays in the journal, and is tried again later.
+#[derive(Drop)]
+pub(crate) struct Ledger {
+    pub(crate) alloc: Global,
+    pub(crate) records: Records,
+    pub(crate) journal: Vec<Change>,
+    // How many of the journal are made.
+    pub(crate) made: usize,
+    ghost within: { made ≤ vec_len journal },
+}
+
+impl Ledger {
+    ghost use Rattle.acd_book.specs.Ledger.{rows_of};
+
+    pub(crate) fn new(alloc: Global, limits: Limits) -> Ledger
+        ensures { rows_of result ≡ empty_rows limits }
+    {
+        Ledger {
+            alloc,
+            records: Records::new(alloc, limits),
+            journal: Vec::new(alloc),
+            made: 0,
+        }
+    }
+
+    pub(crate) fn from_rows(alloc: Global, rows: &Rows) -> Result<Ledger, AllocError>
+        ensures { IfOk result (λ ledger. rows_of ledger ≡ rows.now) }
+    {
+        Ok(Ledger {
+            alloc,
+            records: Records::from_rows(alloc, rows)?,
+            journal: Vec::new(alloc),
+            made: 0,
+        })
+    }
+
+    pub(crate) fn limits(&self) -> Limits
+        ensures { result ≡ (rows_of self.now).limits }
+    {
+        self.records.limits()
+    }
+
+    /// It can count so many more events.
+    pub(crate) fn counts(&self, events: u64) -> bool
+        ensures { result ≡ nat_lt ((rows_of self.now).last_event + events) (2 ^ 64) }
+    {
+        self.records.last_event().checked_add(events).is_some()
+    }
+
+    /// All of it, once no change waits.
+    pub(crate) fn rows(&mut self) -> Result<Rows, AllocError>
+        ensures ok { IfOk result (λ rows. rows ≡ rows_of self.old) }
+        ensures same { rows_of self.new ≡ rows_of self.old }
+    {
+        self.settle();
+        if self.made < self.journal.len() {
+            return Err(AllocError);
+        }
+        self.records.rows(self.alloc)
+    }
+
+    /// The record of a running monitor, once no change waits.
+    pub(crate) fn monitor(&mut self, monitor: u64) -> Result<Option<MonitorRecord>, AllocError>
+        ensures ok { IfOk result (λ found. found ≡ monitor_of (rows_of self.old) monitor) }
+        ensures same { rows_of self.new ≡ rows_of self.old }
+    {
+        self.settle();
+        if self.made < self.journal.len() {
+            return Err(AllocError);
+        }
+        Ok(self.records.monitor(monitor))
+    }
+
+    /// Makes the changes that wait, as far as there is memory.
+    pub(crate) fn settle(&mut self)
+        ensures { rows_of self.new ≡ rows_of self.old }
+    {
+        while self.made < self.journal.len() {
+            if self.records.change(&self.journal[self.made]).is_err() {
+                return;
+            }
+            self.made += 1;
+        }
+        self.journal.clear();
+        self.made = 0;
+    }
+    /// Takes room for so many more changes.
+    pub(crate) fn reserve(&mut self, changes: usize) -> Result<(), AllocError>
+        ensures same { rows_of self.new ≡ rows_of self.old }
+        ensures room { OnOk result (vec_len self.new.journal + changes ≤ vec_capacity self.new.journal) }
+    {
+        self.journal.reserve(changes)
+    }
+
+    /// Adds changes, for which there is room, and the counters of an executed request.
+    pub(crate) fn append(&mut self, changes: &[Change], stamp: u64, moment: u32, events: u64)
+        requires room { vec_len self.old.journal + length changes.now ≤ vec_capacity self.old.journal }
+        requires countable { (rows_of self.old).last_event + events < 2 ^ 64 }
+        ensures { rows_of self.new ≡ rows_made (rows_of self.old) changes.now stamp moment events }
+    {
+        let last_event = self.records.last_event() + events;
+        self.records.set_last(stamp, moment, last_event);
+        let _ = self.journal.extend_from_slice(changes);
+    }
+}

@@ -1,0 +1,18 @@
+-- What is prepared for a commit.
+use Rattle.std.specs.Prelude.{◌≡◌, List, length}
+use Rattle.acd_terms.specs.Changes.{rows_made}
+use Rattle.acd_terms.specs.Rules.First.{BreaksNoRule}
+use Rattle.acd_terms.specs.declared.rows.Rows.{Rows}
+use Rattle.acd_terms.specs.declared.moves.Change.{Change}
+use Rattle.acd_terms.specs.declared.event.Event.{Event}
+use Rattle.acd_terms.specs.declared.command.Arrival.{Arrival}
+use Rattle.acd_book.specs.declared.kept.Kept.{Kept}
+use Rattle.acd_desk.specs.Firsts.{stepped, record_of}
+
+-- the switch went from these rows to the next by an arrival, and its changes, events and record say so
+pub record Prepared (rows : Rows) (a : Arrival) (changes : List Change) (events : List Event) (kept : Kept) (next : Rows) : Type 0 where
+  pub next_is : next ≡ (stepped rows a).rows
+  pub made : rows_made rows changes kept.stamp kept.moment (length events) ≡ next
+  pub events_are : events ≡ (stepped rows a).events
+  pub kept_is : kept ≡ record_of rows a
+  pub rules : BreaksNoRule next

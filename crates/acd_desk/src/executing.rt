@@ -1,0 +1,64 @@
+//! One request executed by the switch, before it is kept, and a switch loaded by rows.
+
+ghost use Rattle.std.specs.Prelude.{◌≡◌, ◌<◌, IfOk, IfErr};
+ghost use Rattle.acd_terms.specs.Rules.First.{BreaksNoRule};
+ghost use Rattle.acd_desk.specs.Arrived.{at};
+ghost use Rattle.acd_desk.specs.Firsts.{kept_at};
+ghost use Rattle.acd_desk.specs.Prepared.{Prepared};
+
+use crate::working::LoadedSwitch;
+use acd_book::{BookFault, Kept, Text};
+use acd_codec::{outcome_status, reply_text};
+use acd_switch::row_fault::RowFault;
+use acd_switch::switch::{Executed, Switch};
+use acd_terms::answer::Outcome;
+use acd_terms::command::Request;
+use acd_terms::rows::Rows;
+use std::alloc::{AllocError, Global};
+
+/// A switch of the rows of a book. No honest book has rows that break a rule: that is a failure of the store.
+pub(crate) fn loaded(alloc: Global, rows: &Rows) -> Result<LoadedSwitch, BookFault>
+    ensures ok { IfOk result (λ loaded. loaded.switch ≡ rows.now) }
+    ensures err { IfErr result (λ fault. fault ≡ BookFault.Store → ¬ BreaksNoRule rows.now) }
+{
+    match Switch::from_rows(alloc, rows) {
+        Ok(switch) => Ok(LoadedSwitch { switch }),
+        Err(RowFault::Broken(_)) => Err(BookFault::Store),
+        Err(RowFault::NoMemory) => Err(BookFault::NoMemory),
+    }
+}
+
+/// Steps the switch, and makes the record that is kept. After an error the switch is only to be dropped.
+pub(crate) fn executed(
+    alloc: Global,
+    switch: &mut Switch,
+    moment: u32,
+    request: &Request,
+) -> Result<(Executed, Kept), AllocError>
+    requires rules { BreaksNoRule switch.old }
+    requires room { switch.old.last_stamp < switch.old.limits.requests }
+    ensures { IfOk result (λ r. Prepared switch.old (at moment request.now) r.0.changes.items r.0.events.items r.1 switch.new) }
+{
+    let done = switch.step_with_changes(moment, &request.command)?;
+    let kept = kept_record(alloc, switch, request, done.outcome)?;
+    Ok((done, kept))
+}
+
+// What is kept of a request, by the switch after it.
+fn kept_record(
+    alloc: Global,
+    switch: &Switch,
+    request: &Request,
+    outcome: Outcome,
+) -> Result<Kept, AllocError>
+    ensures { IfOk result (λ k. k ≡ kept_at switch.now.last_stamp switch.now.last_moment request.now outcome) }
+{
+    let body = reply_text(alloc, &request.requester, request.invoke, outcome)?;
+    Ok(Kept {
+        stamp: switch.last_stamp(),
+        moment: switch.last_moment(),
+        request: *request,
+        status: outcome_status(outcome),
+        body: Text::new(body),
+    })
+}

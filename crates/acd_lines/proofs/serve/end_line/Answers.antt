@@ -1,0 +1,20 @@
+use Rattle.std.proofs.Common.{length, sym, ◌∙◌, lit<}
+use Rattle.std.proofs.lemmas.Bool.{eqb-true}
+use Rattle.acd_desk.specs.Ran.{standing}
+use Rattle.acd_lines.specs.Answers.{Answers}
+use Rattle.acd_lines.proofs.Sends.{OnOk-weaker, OnErr-weaker}
+use Rattle.acd_lines.proofs.Kept.{whole_line}
+use Rattle.acd_lines.proofs.Turns.{done_same, stops_same}
+use Rattle.acd_lines.proofs.serve.end_line.Goals as goal
+
+pub returns-then-is_empty-clause-ok : goal.returns-then-is_empty-clause-ok
+returns-then-is_empty-clause-ok g c =
+    let none = eqb-true (length c.args.partial.now) 0 (sym c.is_empty.ensures ∙ c.if-is_empty.true) in
+    let line = whole_line 4108 c.args.partial.now c.args.end.now c.without_return.result.now (lit< tt) none c.without_return.ensures in
+    OnOk-weaker c.serve.result _ _ (λ h. done_same (Answers (standing g.B.Book)) _ _ _ _ _ _ _ _ line h) c.serve.ensures.ok
+
+pub returns-then-is_empty-clause-err : goal.returns-then-is_empty-clause-err
+returns-then-is_empty-clause-err g c =
+    let none = eqb-true (length c.args.partial.now) 0 (sym c.is_empty.ensures ∙ c.if-is_empty.true) in
+    let line = whole_line 4108 c.args.partial.now c.args.end.now c.without_return.result.now (lit< tt) none c.without_return.ensures in
+    OnErr-weaker c.serve.result _ _ (λ h. stops_same (Answers (standing g.B.Book)) _ _ _ _ _ _ _ line h) c.serve.ensures.err

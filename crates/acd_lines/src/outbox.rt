@@ -1,0 +1,61 @@
+//! Answers that wait to be written together.
+
+ghost use Rattle.std.specs.Prelude.{◌≡◌, ◌++◌, [], IfOk, OnOk, OnErr};
+ghost use Rattle.acd_lines.specs.Sent.{Passes, Begins};
+
+use crate::send::{Stopped, send};
+use std::alloc::{AllocError, Global};
+use std::io::Write;
+
+/// How many bytes wait at most.
+const ROOM: usize = 65_536;
+
+/// How often the writer is called at most.
+const CALLS: u64 = 1_000_000_000_000;
+
+/// Bytes that wait to be written. Its room never grows: where a text doesn't fit, what waits goes
+/// out first.
+#[derive(Drop)]
+pub(crate) struct Outbox {
+    waiting: Vec<u8>,
+    calls: u64,
+}
+
+impl Outbox {
+    pub(crate) fn new(alloc: Global) -> Result<Outbox, AllocError>
+        ensures { IfOk result (λ o. o.waiting.items ≡ []) }
+    {
+        Ok(Outbox {
+            waiting: Vec::with_capacity(alloc, ROOM)?,
+            calls: CALLS,
+        })
+    }
+
+    /// The text goes behind what waits. A text that is longer than the room goes out at once.
+    pub(crate) fn push<W: Write>(&mut self, writer: &mut W, text: &[u8]) -> Result<(), Stopped>
+        ensures ok { OnOk result (Passes (W.contents writer.old) (W.contents writer.new) self.new.waiting.items (self.old.waiting.items ++ text.now)) }
+        ensures err { OnErr result (Begins (W.contents writer.old) (W.contents writer.new) (self.old.waiting.items ++ text.now)) }
+    {
+        if text.len() > self.waiting.capacity() - self.waiting.len() {
+            self.flush(writer)?;
+            if text.len() > self.waiting.capacity() {
+                return send(writer, &mut self.calls, text);
+            }
+        }
+        let Ok(()) = self.waiting.extend_from_slice(text) else {
+            unreachable!()
+        };
+        Ok(())
+    }
+
+    /// All that waits is written.
+    pub(crate) fn flush<W: Write>(&mut self, writer: &mut W) -> Result<(), Stopped>
+        ensures none { OnOk result (self.new.waiting.items ≡ []) }
+        ensures ok { OnOk result (Passes (W.contents writer.old) (W.contents writer.new) [] self.old.waiting.items) }
+        ensures err { OnErr result (Begins (W.contents writer.old) (W.contents writer.new) self.old.waiting.items) }
+    {
+        send(writer, &mut self.calls, self.waiting.as_slice())?;
+        self.waiting.clear();
+        Ok(())
+    }
+}
