@@ -4,8 +4,8 @@
 usage: office.py given | wanted | seen
 
 given prints the input lines, wanted the answer lines and then all event reports, seen how often each situation came up. They
-are those of bench/switch.py, which knows nothing of the verified program. 12 groups, 40 stations, 40 agents, some 60 live calls, 3000
-requests of eight requesters; then 300 repeats, other requests under keys that are used, and a last call.
+are those of bench/switch.py, which knows nothing of the verified program. 12 groups, 40 stations, 40 agents, some 60 live
+calls, 3000 requests of eight requesters; then 300 repeats, other requests under keys that are used, and a last call.
 The same lines come at each run. crates/acd_office has them as its stdin and stdout."""
 import json
 import random
@@ -17,9 +17,11 @@ from switch import REFUSALS, Desk, compact
 REQUESTS, REPEATS, LIVE_CALLS = 3000, 300, 60
 GROUPS = [("100", 20, 30), ("101", 20, 30), ("0100", 15, 20), ("110", 30, 45), ("9", 20, 0), ("120", 0, 30), ("00", 25, 40),
           ("900000000000001", 20, 30), ("900000000000002", 12, 15), ("130", 40, 60), ("140", 20, 30), ("999999999999999", 0, 0)]
+GROUP_NAMES = [group for group, _, _ in GROUPS]
 STATIONS = ([f"2{n:02}" for n in range(1, 25)] + [f"02{n:02}" for n in range(1, 9)]
             + [f"30000000000000{n}" for n in range(4)] + ["7", "07", "007", "77"])
-AGENTS = [str(n) for n in range(1, 21)] + [f"0{n}" for n in range(1, 11)] + [f"90000000{n}" for n in range(8)] + ["000000000", "999999999"]
+AGENTS = ([str(n) for n in range(1, 21)] + [f"0{n}" for n in range(1, 11)] + [f"90000000{n}" for n in range(8)]
+          + ["000000000", "999999999"])
 STATES = ["notReady", "ready", "workingAfterCall", "loggedOff"]
 PLANNER, EXCHANGE, CLOCK, WATCHER = (f"{name}-of-the-help-line-office" for name in ("planning", "exchange", "the-time", "watchers"))
 DESKS = [f"help-line-office-of-the-city-00{n}" for n in range(1, 5)]
@@ -119,6 +121,10 @@ class Office:
     def at_stations(self, *states):
         return [end for end in self.connections(*states) if end[1] in self.switch.stations]
 
+    def free_stations(self):
+        """Those with no agent, or all."""
+        return [station for station in STATIONS if self.switch.agent_at(station) is None] or STATIONS
+
     def idle_stations(self):
         return [station for station in STATIONS if self.switch.idle(station)]
 
@@ -139,37 +145,38 @@ class Office:
         for agent in AGENTS:
             self.ask(PLANNER, "addAgent", agent=agent, name=f"Agent {agent} \\ of the help line office \\"[:40])
         for place, (agent, station) in enumerate(zip(self.rng.sample(AGENTS, 40), STATIONS)):
-            self.ask(self.desk_name(), "setAgentState", agent=agent, requested="loggedOn", device=station, group=GROUPS[place % 12][0])
+            self.ask(self.desk_name(), "setAgentState", agent=agent, requested="loggedOn", device=station,
+                     group=GROUP_NAMES[place % 12])
             if place % 3 == 0:
                 self.set_state(agent, "ready")
 
     def set_state(self, agent, requested):
-        free = [station for station in STATIONS if self.switch.agent_at(station) is None]
-        groups = [group for group, _, _ in GROUPS]
-        members = {"device": self.place(free or STATIONS), "group": self.place(groups)} if requested == "loggedOn" else {}
+        members = {}
+        if requested == "loggedOn":
+            members = {"device": self.place(self.free_stations()), "group": self.place(GROUP_NAMES)}
         self.ask(self.desk_name(), "setAgentState", agent=agent, requested=requested, **members)
 
     def place(self, devices):
         """One of these devices; at times one of the other kind."""
-        return self.rng.choice(devices if self.rng.random() < 0.9 else [STATIONS[0], GROUPS[0][0]])
+        return self.rng.choice(devices if self.rng.random() < 0.9 else [STATIONS[0], GROUP_NAMES[0]])
 
     def arrive(self):
         caller = f"03{self.rng.randrange(500):07}"
-        called = self.rng.choice(GROUPS)[0] if self.rng.random() < 0.93 else self.rng.choice(STATIONS)
+        called = self.rng.choice(GROUP_NAMES) if self.rng.random() < 0.93 else self.rng.choice(STATIONS)
         self.ask(EXCHANGE, "arriveCall", caller=caller, called=called)
 
     def make_call(self):
         device = self.pick([station for station in STATIONS if not self.switch.live_at(station)], STATIONS)
-        called = self.pick(self.idle_stations(), STATIONS) if self.rng.random() < 0.5 else self.rng.choice(GROUPS)[0]
+        called = self.pick(self.idle_stations(), STATIONS) if self.rng.random() < 0.5 else self.rng.choice(GROUP_NAMES)
         self.ask(self.desk_name(), "makeCall", device=device, called=called)
 
     def destination(self, own=None):
-        """Where a call is given to: its own group, some group or some station."""
+        """Where a call is given to: back to where it came from, some group or some station."""
         chance = self.rng.random()
         if own and chance < 0.2:
             return own
         if chance < 0.6:
-            return self.rng.choice(GROUPS)[0]
+            return self.rng.choice(GROUP_NAMES)
         return self.pick(self.idle_stations(), STATIONS) if chance < 0.9 else self.rng.choice(STATIONS)
 
     def deflect(self, end):
@@ -177,15 +184,19 @@ class Office:
         self.ask(self.desk_name(), "deflectCall", call=end[0], device=end[1], to=self.destination(own))
 
     def transfer(self, end):
-        self.ask(self.desk_name(), "singleStepTransfer", call=end[0], device=end[1], to=self.destination())
+        call = self.switch.calls[end[0]]
+        back = call.caller if self.switch.planned(call.caller) else call.called
+        self.ask(self.desk_name(), "singleStepTransfer", call=end[0], device=end[1], to=self.destination(back))
 
     def beside_agents(self):
         """The ends at stations of calls whose other end was distributed and answered."""
         answered = self.connections("connected", "hold", distributed=True)
-        return [end for end in self.at_stations("connected") if any(other[0] == end[0] and other[1] != end[1] for other in answered)]
+        return [(call, device) for call, device in self.at_stations("connected")
+                if any(other == call and station != device for other, station in answered)]
 
     def transfer_to_group(self, end):
-        self.ask(self.desk_name(), "singleStepTransfer", call=end[0], device=end[1], to=self.rng.choice(GROUPS)[0])
+        to = self.pick([group for group in GROUP_NAMES if self.switch.eligible(group)], GROUP_NAMES)
+        self.ask(self.desk_name(), "singleStepTransfer", call=end[0], device=end[1], to=to)
 
     def act(self, service):
         return lambda end: self.ask(self.desk_name(), service, call=end[0], device=end[1])
@@ -197,31 +208,57 @@ class Office:
         self.now += self.rng.choice([0, 1, 5, 12, 25, 30])
         self.ask(CLOCK, "tick")
 
-    def wild(self):
-        """A request with members out of the blue, which is mostly refused."""
+    def any_device(self):
+        """A planned device, a number that nobody has, or an outside caller's."""
+        callers = [call.caller for call in self.switch.calls.values()]
+        return self.rng.choice(GROUP_NAMES + self.rng.sample(STATIONS, 12) + ["5", "031234567890123"] + callers[:3])
+
+    def any_end(self):
+        """A call and a device: mostly a live call, and mostly one of its own devices."""
         others = [self.switch.last_call + 1, 1, 1000000000]
         call = self.rng.choice(list(self.switch.calls) if self.switch.calls and self.rng.random() < 0.8 else others)
         ends = list(self.switch.calls[call].connections) if call in self.switch.calls else []
-        devices = [group for group, _, _ in GROUPS] + self.rng.sample(STATIONS, 12) + ["5", "031234567890123"]
-        callers = [record.caller for record in self.switch.calls.values()][:3]
-        near = self.rng.choice(ends if ends and self.rng.random() < 0.6 else devices + callers)
-        to = self.rng.choice(ends if ends and self.rng.random() < 0.2 else devices)
-        agent = self.rng.choice(AGENTS) if self.rng.random() < 0.8 else "5555"
+        return call, self.rng.choice(ends) if ends and self.rng.random() < 0.6 else self.any_device()
+
+    def wild_plan(self):
+        device = self.any_device()
+        if not self.switch.planned(device) and device.startswith(("5", "0312")):
+            device = GROUP_NAMES[0]  # the plan stays as it is
         ring, wrap = self.rng.choice([0, 20, 3600]), self.rng.choice([0, 30])
-        service, members = self.rng.choice([
-            ("addGroup", {"device": near, "name": " ", "ring": ring, "wrap": wrap}) if self.switch.planned(near) or near in callers else ("tick", {}),
-            ("addStation", {"device": near}) if self.switch.planned(near) or near in callers else ("tick", {}),
-            ("addAgent", {"agent": self.rng.choice(AGENTS), "name": "~"}),
-            ("arriveCall", {"caller": self.rng.choice(devices), "called": to}), ("makeCall", {"device": near, "called": to}),
-            ("setAgentState", {"agent": agent, "requested": "loggedOn", "device": near, "group": to}),
-            ("setAgentState", {"agent": self.pick(self.agents("null"), AGENTS), "requested": "loggedOn", "device": self.rng.choice(STATIONS), "group": to}),
-            ("setAgentState", {"agent": agent, "requested": self.rng.choice(STATES)}),
-            ("monitorStart", {"device": near}), ("monitorStop", {"monitor": self.rng.choice([1, 1000000000, self.switch.last_monitor + 1])}),
-            ("deflectCall", {"call": call, "device": near, "to": to}), ("singleStepTransfer", {"call": call, "device": near, "to": to}),
-            *((each, {"call": call, "device": near}) for each in
-              ("phoneOffHook", "answerCall", "holdCall", "retrieveCall")),
-            ("clearConnection", {"call": call, "device": self.rng.choice(devices)}),
+        return self.rng.choice([("addGroup", {"device": device, "name": " ", "ring": ring, "wrap": wrap}),
+                                ("addStation", {"device": device}), ("addAgent", {"agent": self.rng.choice(AGENTS), "name": "~"})])
+
+    def wild_agent(self):
+        agent = self.rng.choice(AGENTS) if self.rng.random() < 0.8 else "5555"
+        away = self.pick(self.agents("null"), AGENTS)
+        station = self.rng.choice(self.free_stations() if self.rng.random() < 0.6 else STATIONS)
+        group = self.rng.choice([self.any_device(), self.rng.choice(STATIONS)])
+        return "setAgentState", self.rng.choice([
+            {"agent": agent, "requested": self.rng.choice(STATES)},
+            {"agent": agent, "requested": "loggedOn", "device": self.any_device(), "group": self.any_device()},
+            {"agent": away, "requested": "loggedOn", "device": station, "group": group},
         ])
+
+    def wild_call(self):
+        call, device = self.any_end()
+        to = self.any_device() if self.rng.random() < 0.8 else self.any_end()[1]
+        service = self.rng.choice(["phoneOffHook", "answerCall", "holdCall", "retrieveCall", "deflectCall", "singleStepTransfer"])
+        given = {"to": to} if service in ("deflectCall", "singleStepTransfer") else {}
+        return service, {"call": call, "device": device, **given}
+
+    def wild_other(self):
+        monitor = self.rng.choice([1, 1000000000, self.switch.last_monitor + 1])
+        return self.rng.choice([
+            ("arriveCall", {"caller": self.any_device(), "called": self.any_device()}),
+            ("makeCall", {"device": self.any_device(), "called": self.any_device()}),
+            ("clearConnection", {"call": self.any_end()[0], "device": self.any_device()}),
+            ("monitorStart", {"device": self.any_device()}), ("monitorStop", {"monitor": monitor}),
+        ])
+
+    def wild(self):
+        """A request with members out of the blue, which is mostly refused."""
+        ways = [self.wild_plan, self.wild_agent, self.wild_call, self.wild_call, self.wild_other]
+        service, members = self.rng.choice(ways)()
         self.ask(self.rng.choice([PLANNER, EXCHANGE, WATCHER, *DESKS]), service, **members)
 
     def ways(self):
@@ -232,7 +269,8 @@ class Office:
             (4, self.act("answerCall"), self.connections("alerting", distributed=False)),
             (4, self.act("phoneOffHook"), self.connections("initiated")),
             (3, self.act("holdCall"), self.at_stations("connected")), (3, self.act("retrieveCall"), self.connections("hold")),
-            (2, self.clear, own_calls), (3, self.clear, self.at_stations("connected", "hold")), (2, self.clear, self.connections("fail")),
+            (2, self.clear, own_calls), (3, self.clear, self.at_stations("connected", "hold")),
+            (2, self.clear, self.connections("fail")),
             (1, self.clear, self.connections("queued")), (1, self.clear, self.connections("alerting")),
             (2, self.deflect, self.connections("queued")), (3, self.deflect, self.connections("alerting")),
             (3, self.transfer, self.at_stations("connected")), (6, self.transfer_to_group, self.beside_agents()),
@@ -242,6 +280,7 @@ class Office:
             (2, lambda agent: self.set_state(agent, self.rng.choice(STATES)), self.agents("notReady", "workingAfterCall")),
             (6, lambda agent: self.set_state(agent, "loggedOn"), self.agents("null")),
             (2, lambda _: self.make_call(), [None]), (3, lambda _: self.wild(), [None]), (2, lambda _: self.tick(), [None]),
+            (0.3, self.act("holdCall"), self.connections("queued")), (0.3, self.transfer, self.connections("queued")),
             (1, lambda device: self.ask(WATCHER, "monitorStart", device=device), STATIONS),
             (1, lambda monitor: self.ask(WATCHER, "monitorStop", monitor=monitor), list(self.switch.monitors)),
         ]

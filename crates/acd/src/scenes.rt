@@ -5,6 +5,7 @@ mod examples;
 mod handed_on;
 mod identifiers;
 mod limits;
+mod look_ups;
 mod records;
 mod refusals;
 mod releases;
@@ -123,7 +124,7 @@ const TWO_READY: &[Asked] = &[
     ),
 ];
 
-// Asks one request, and keeps its events.
+// Asks one request, and keeps its events. The look-ups of the switch are then the scans of its rows.
 fn ask(rt: &impl Abort, alloc: Global, switch: &mut Switch, asked: &Asked, events: &mut Vec<Event>)
     requires { BreaksNoRule switch.old }
     ensures { BreaksNoRule switch.new }
@@ -136,6 +137,8 @@ fn ask(rt: &impl Abort, alloc: Global, switch: &mut Switch, asked: &Asked, event
     assert_eq!(rt; reply.as_str(), body);
     assert_eq!(rt; outcome_status(outcome), status);
     events.extend_from_slice(&more).expect(rt, "memory");
+    let rows = switch.rows().expect(rt, "memory");
+    look_ups::compare(rt, switch.tables(), &rows);
 }
 
 // Asks all requests of the scenes, one scene after the other.

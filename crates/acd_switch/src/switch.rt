@@ -156,6 +156,13 @@ impl Switch {
         }
     }
 
+    /// The tables, for their look-ups.
+    pub fn tables(&self) -> &Tables
+        ensures { result.now ≡ self.now }
+    {
+        &self.tables
+    }
+
     /// The state as lists.
     pub fn rows(&self) -> Result<Rows, AllocError>
         ensures { IfOk result (λ r. r ≡ self.now) }

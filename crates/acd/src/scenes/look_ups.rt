@@ -1,0 +1,94 @@
+//! Each look-up of the switch's tables is the scan of the rows, after each request of the scenes.
+
+use super::*;
+use acd_tables::tables::Tables;
+use acd_terms::id::DeviceId;
+use acd_terms::record::{AgentRecord, CallRecord, ConnectionRecord};
+use acd_terms::rows::Rows;
+use acd_terms::scans;
+
+fn compare_device(rt: &impl Abort, tables: &Tables, rows: &Rows, device: DeviceId) {
+    assert_eq!(rt; tables.group(device), scans::group_of(rows, device));
+    assert_eq!(rt; tables.station(device), scans::station_of(rows, device));
+    assert_eq!(rt; tables.is_planned(device), scans::is_planned(rows, device));
+    assert_eq!(rt; tables.is_calling(device), scans::is_calling(rows, device));
+    assert_eq!(rt; tables.is_used(device), scans::is_used(rows, device));
+    assert_eq!(rt; tables.agent_at(device), scans::agent_at(rows, device));
+    assert_eq!(rt; tables.is_live_at(device), scans::is_live_at(rows, device));
+    assert_eq!(rt; tables.is_idle(device), scans::is_idle(rows, device));
+    assert_eq!(rt;
+        tables.first_waiting(device),
+        scans::first_waiting(rows, device)
+    );
+    assert_eq!(rt;
+        tables.first_eligible(device),
+        scans::first_eligible(rows, device)
+    );
+}
+
+fn compare_agent(rt: &impl Abort, tables: &Tables, rows: &Rows, agent: &AgentRecord) {
+    assert_eq!(rt; tables.agent(agent.agent), Some(*agent));
+    assert_eq!(rt; tables.is_occupied(agent), scans::is_occupied(rows, agent));
+    for group in &rows.groups {
+        assert_eq!(rt;
+            tables.is_eligible(group.device, agent),
+            scans::is_eligible(rows, group.device, agent)
+        );
+    }
+}
+
+fn compare_call(rt: &impl Abort, tables: &Tables, rows: &Rows, call: &CallRecord) {
+    assert_eq!(rt; tables.call(call.call), Some(*call));
+    assert_eq!(rt;
+        tables.connections_of(call.call),
+        scans::connections_of(rows, call.call)
+    );
+    compare_device(rt, tables, rows, call.caller);
+}
+
+fn compare_connection(
+    rt: &impl Abort,
+    tables: &Tables,
+    rows: &Rows,
+    connection: &ConnectionRecord,
+) {
+    assert_eq!(rt;
+        tables.connection(connection.call, connection.device),
+        Some(*connection)
+    );
+    assert_eq!(rt;
+        tables.other_of(connection),
+        scans::other_of(rows, connection)
+    );
+}
+
+// The numbers up to the last one and the one behind it, of calls and monitors that are gone too.
+fn compare_numbers(rt: &impl Abort, tables: &Tables, rows: &Rows) {
+    for call in 0..=rows.last_call {
+        assert_eq!(rt; tables.call(call), scans::call_of(rows, call));
+    }
+    for monitor in 0..=rows.last_monitor {
+        assert_eq!(rt; tables.monitor(monitor), scans::monitor_of(rows, monitor));
+    }
+    assert_eq!(rt; tables.queued_count(), scans::queued_count(rows));
+}
+
+/// Compares them all.
+pub fn compare(rt: &impl Abort, tables: &Tables, rows: &Rows) {
+    for group in &rows.groups {
+        compare_device(rt, tables, rows, group.device);
+    }
+    for station in &rows.stations {
+        compare_device(rt, tables, rows, station.device);
+    }
+    for agent in &rows.agents {
+        compare_agent(rt, tables, rows, agent);
+    }
+    for call in &rows.calls {
+        compare_call(rt, tables, rows, call);
+    }
+    for connection in &rows.connections {
+        compare_connection(rt, tables, rows, connection);
+    }
+    compare_numbers(rt, tables, rows);
+}
