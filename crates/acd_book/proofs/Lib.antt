@@ -2,3 +2,4 @@ mod Changing
 mod Numbered
 pub mod Keys
 mod Watching
+mod Places
