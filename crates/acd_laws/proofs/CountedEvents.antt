@@ -57,6 +57,9 @@ sum_nothing a b e = rw e (same_five _ _ _ _ _ _ _ _ _ _ (omega arith) (omega ari
 pub nothing_sum : (a b : Figures) → a ≡ no_figures → sum_of_figures a b ≡ b
 nothing_sum a b e = rw e (same_five _ _ _ _ _ _ _ _ _ _ (omega arith) (omega arith) (omega arith) (omega arith) (omega arith))
 
+pub sum_joined : (a b c : Figures) → sum_of_figures (sum_of_figures a b) c ≡ sum_of_figures a (sum_of_figures b c)
+sum_joined a b c = same_five _ _ _ _ _ _ _ _ _ _ (omega arith) (omega arith) (omega arith) (omega arith) (omega arith)
+
 -- the group for which a report may count
 abbrev pub group_counted : Report → Option ℕ
 group_counted (Queued call group cause) = Some group

@@ -55,3 +55,4 @@ pub mod ClearedBy
 pub mod PlacedRuns
 pub mod BoundsStep
 pub mod RulesAll
+pub mod ChangesMade

@@ -1,15 +1,15 @@
 -- Where no offer is left, a refused request makes no move.
-use Rattle.std.proofs.Common.{◌≡◌, ℕ, zero, suc, ◌+◌, [], ◌∷◌, ◌++◌, List, Option, Some, None, map, length, refl, sym, ap, ◌∙◌, subst, inl, inr, add-zero, append-nil}
+use Rattle.std.proofs.Common.{◌≡◌, ℕ, zero, suc, [], ◌∷◌, List, Option, Some, None, map, length, refl, ap, ◌∙◌, inl, inr, add-zero}
 use Rattle.acd_terms.specs.Lists.{Among}
-use Rattle.acd_terms.specs.Scans.{waiting_in, eligible_in, queued_in_all}
+use Rattle.acd_terms.specs.Scans.{waiting_in, queued_in_all}
 use Rattle.acd_terms.specs.Writes.{with_last}
-use Rattle.acd_terms.specs.Choice.{waiting_pair, ready_pair, least_from, first_waiting, first_eligible, offer_or, offer_in, offer_of}
+use Rattle.acd_terms.specs.Choice.{waiting_pair, least_from, first_waiting, first_eligible, offer_or, offer_in, offer_of}
 use Rattle.acd_terms.specs.Offers.{HasNoOffer}
 use Rattle.acd_terms.specs.Distribution.{offers, distribution}
-use Rattle.acd_terms.specs.Moves.{moved, events_of}
+use Rattle.acd_terms.specs.Moves.{events_of}
 use Rattle.acd_terms.specs.Served.{outcome_of, moves_of}
-use Rattle.acd_terms.specs.Figures.{counting, with_figures, sum_of_figures, figures_of}
-use Rattle.acd_terms.specs.Step.{Stepped, step, step_at, step_by, step_moves, counted, numbered, executed_moment, next_stamp}
+use Rattle.acd_terms.specs.Figures.{counting, with_figures, figures_of}
+use Rattle.acd_terms.specs.Step.{step, step_moves, counted, numbered, executed_moment, next_stamp}
 use Rattle.acd_terms.specs.Services.Serve.{serve}
 use Rattle.acd_terms.specs.declared.rows.Rows.{Rows}
 use Rattle.acd_terms.specs.declared.record.GroupRecord.{GroupRecord}
@@ -20,8 +20,7 @@ use Rattle.acd_terms.specs.declared.moves.Move.{Move}
 use Rattle.acd_terms.specs.declared.moves.Offer.{Offer}
 use Rattle.acd_terms.specs.declared.moves.Served.{Served}
 use Rattle.acd_terms.specs.declared.moves.Served.TheVariants.{Refused, Done}
-use Rattle.acd_laws.specs.RefusalLaws.{ChangesNothing, RefusalChangesNothing}
-use Rattle.acd_laws.specs.Bounds.{KeepsRules}
+use Rattle.acd_laws.specs.RefusalLaws.{ChangesNothing}
 use Rattle.acd_laws.proofs.CountedEvents.{no_events, sum_nothing}
 
 no_offer_here : (s : Rows) (g : ℕ) (rest : Option Offer) → HasNoOffer s g → offer_or g (first_waiting s g) (first_eligible s g) rest ≡ rest

@@ -12,6 +12,7 @@ ghost use Rattle.acd_laws.specs.BalanceLaws.{StepBalances, RunIsBalanced};
 ghost use Rattle.acd_laws.specs.OfferLaws.{StepLeavesNoOffer, RunLeavesNoOffer};
 ghost use Rattle.acd_laws.specs.PlacedLaws.{StepNamesNoLaterCall, RunNamesNoLaterCall, StepKeepsClearings, StepPlaces, RunIsPlaced, PlacesExclude};
 ghost use Rattle.acd_laws.specs.RuleLaws.{StepKeepsRules, RunKeepsRules, RulesBound, RulesLeaveRoom};
+ghost use Rattle.acd_laws.specs.ChangeLaws.{StepMakesItsChanges};
 ghost use Rattle.acd_laws.specs.PlacedLaws.{RulesGiveOneOffer, RunHasOneOffer};
 
 /// The offer that is found is the one that the relation allows, and one is found wherever there is one.
@@ -127,4 +128,9 @@ pub fn rules_bound()
 /// Where moments are of 32 bits, the figures of rows that break no rule are below 2 to the 63.
 pub fn rules_leave_room()
     ensures { RulesLeaveRoom }
+{}
+
+/// What the changes of a step make of rows that break no rule, with the counters of the request and its events, is the rows after it.
+pub fn step_makes_its_changes()
+    ensures { StepMakesItsChanges }
 {}

@@ -8,7 +8,8 @@ use acd_terms::event::Event;
 use acd_terms::moves::{Change, Move};
 use std::alloc::AllocError;
 
-fn change(tables: &mut Tables, change: Change) -> Result<(), AllocError>
+/// Makes one change. After an error the tables are only to be dropped.
+pub fn change(tables: &mut Tables, change: Change) -> Result<(), AllocError>
     ensures { OnOk result (tables.new ≡ changed tables.old change) }
 {
     match change {

@@ -1,5 +1,5 @@
 -- The empty state breaks no rule.
-use Rattle.std.proofs.Common.{◌≡◌, true, [], lit≤, arith}
+use Rattle.std.proofs.Common.{◌≡◌, true, [], arith}
 use Rattle.acd_terms.specs.Limits.{limits_fit}
 use Rattle.acd_terms.specs.Writes.{empty_rows}
 use Rattle.acd_terms.specs.Run.{run}

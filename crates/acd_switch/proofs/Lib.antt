@@ -3,3 +3,5 @@ pub mod Closing
 pub mod RoomOfRules
 pub mod Refusing
 pub mod Beginning
+pub mod Growing
+pub mod Making

@@ -1,20 +1,18 @@
 -- Rows that break no rule have room for one more request, and their counters fit their types.
-use Rattle.std.proofs.Common.{◌≡◌, ℕ, ◌+◌, ◌*◌, ◌^◌, ◌-◌, ◌<◌, ◌≤◌, ◌&&◌, Bool, true, nat_le, List, [], ◌∷◌, refl, arith, sym, ap, ◌∙◌, lit≤}
-use Rattle.std.proofs.lemmas.Bool.{and_parts}
+use Rattle.std.proofs.Common.{◌≡◌, ℕ, ◌*◌, ◌^◌, ◌<◌, ◌≤◌, true, List, [], ◌∷◌, refl, arith}
 use Rattle.std.proofs.lemmas.Bool.Decides.{nat_tests}
-use Rattle.std.proofs.Math.Nat.{mul-le-mul_left, mul-le-mul_right}
-use Rattle.acd_terms.specs.Lists.{Every, count}
+use Rattle.std.proofs.Math.Nat.{mul-le-mul_right}
+use Rattle.acd_terms.specs.Lists.{Every}
 use Rattle.acd_terms.specs.Limits.{limits_fit}
 use Rattle.acd_terms.specs.Writes.{with_last}
 use Rattle.acd_terms.specs.Step.{step, executed_moment, next_stamp}
 use Rattle.acd_terms.specs.Rules.First.{BreaksNoRule}
-use Rattle.acd_terms.specs.Rules.Occupied.{waits_in, rings_from}
 use Rattle.acd_terms.specs.declared.rows.Rows.{Rows}
 use Rattle.acd_terms.specs.declared.rows.Limits.{Limits}
 use Rattle.acd_terms.specs.declared.record.GroupRecord.{GroupRecord}
 use Rattle.acd_terms.specs.declared.command.Command.{Command}
-use Rattle.acd_tables.specs.Counting.{AreFitting, AllFit}
-use Rattle.acd_laws.specs.Bounds.{KeepsRules, IsCountedUpTo, IsBalanced}
+use Rattle.acd_switch.specs.Counting.{AreFitting, AllFit}
+use Rattle.acd_laws.specs.Bounds.{IsCountedUpTo, IsBalanced}
 use Rattle.acd_laws.proofs.BoundsRead.{keeps_read}
 use Rattle.acd_switch.specs.Room.{HasRoom, Fits}
 

@@ -1,14 +1,13 @@
 -- Rounds of offers, and the moves for each of a list in turn.
 use Rattle.std.proofs.Common.{◌≡◌, ℕ, zero, suc, [], ◌∷◌, ◌++◌, List, Some, None, refl, sym, ap, ◌∙◌, append_assoc}
 use Rattle.acd_terms.specs.declared.rows.Rows.{Rows}
-use Rattle.acd_terms.specs.declared.event.Event.{Event}
 use Rattle.acd_terms.specs.declared.moves.Move.{Move}
 use Rattle.acd_terms.specs.declared.moves.Offer.{Offer}
 use Rattle.acd_terms.specs.Choice.{offer_of}
-use Rattle.acd_terms.specs.Moves.{moved, events_of}
+use Rattle.acd_terms.specs.Moves.{moved}
 use Rattle.acd_terms.specs.Distribution.{offer_moves, offers}
 use Rattle.acd_terms.specs.Tick.{each}
-use Rattle.acd_terms.proofs.MoveLemmas.{moved_append, events_of_append}
+use Rattle.acd_terms.proofs.MoveLemmas.{moved_append}
 
 pub offers-none : (n : ℕ) (s : Rows) (m : ℕ) → offer_of s ≡ None → offers n s m ≡ []
 offers-none zero s m h = refl
@@ -22,10 +21,11 @@ pub rows_next : {T : Type 0} (f : Rows → T → List Move) (s t r : Rows) (x : 
 rows_next f s t r x xs ys e h g =
     ap (λ (u : Rows). moved u (each f u ys)) g ∙ sym (moved_append s (f s x) (each f (moved s (f s x)) ys)) ∙ ap (λ l. moved s (each f s l)) (sym e) ∙ h
 
-pub events_next : {T : Type 0} (f : Rows → T → List Move) (s t : Rows) (m : ℕ) (x : T) (xs ys : List T) (es fs r : List Event) → xs ≡ x ∷ ys → es ++ events_of m (each f s xs) ≡ r → t ≡ moved s (f s x) → fs ≡ es ++ events_of m (f s x)
-    → fs ++ events_of m (each f t ys) ≡ r
-events_next f s t m x xs ys es fs r e h g k =
-    ap (λ (l : List Event). l ++ events_of m (each f t ys)) k ∙ append_assoc es (events_of m (f s x)) (events_of m (each f t ys))
-    ∙ ap (λ (u : Rows). es ++ (events_of m (f s x) ++ events_of m (each f u ys))) g
-    ∙ ap (λ (l : List Event). es ++ l) (sym (events_of_append m (f s x) (each f (moved s (f s x)) ys)))
-    ∙ ap (λ l. es ++ events_of m (each f s l)) (sym e) ∙ h
+-- what is told of moves, as their events or their changes, goes on from one of a list to the next
+pub told_next : {T Y : Type 0} (told : List Move → List Y) (joined : (ms ns : List Move) → told (ms ++ ns) ≡ told ms ++ told ns) (f : Rows → T → List Move) (s t : Rows) (x : T) (xs ys : List T) (es fs r : List Y)
+    → xs ≡ x ∷ ys → es ++ told (each f s xs) ≡ r → t ≡ moved s (f s x) → fs ≡ es ++ told (f s x) → fs ++ told (each f t ys) ≡ r
+told_next told joined f s t x xs ys es fs r e h g k =
+    ap (λ l. l ++ told (each f t ys)) k ∙ append_assoc es (told (f s x)) (told (each f t ys))
+    ∙ ap (λ (u : Rows). es ++ (told (f s x) ++ told (each f u ys))) g
+    ∙ ap (λ l. es ++ l) (sym (joined (f s x) (each f (moved s (f s x)) ys)))
+    ∙ ap (λ l. es ++ told (each f s l)) (sym e) ∙ h

@@ -1,3 +1,4 @@
+pub mod Counting
 pub mod Room
 pub mod RowFaults
 pub mod Kept

@@ -1,6 +1,6 @@
 -- Where the counters of a state have room in their types.
 use Rattle.std.specs.Prelude.{ℕ, ◌<◌, ◌-◌, ◌+◌, ◌^◌, List, length}
-use Rattle.acd_tables.specs.Counting.{AllFit}
+use Rattle.acd_switch.specs.Counting.{AllFit}
 use Rattle.acd_terms.specs.Writes.{with_last}
 use Rattle.acd_terms.specs.Figures.{with_figures}
 use Rattle.acd_terms.specs.declared.rows.Rows.{Rows}

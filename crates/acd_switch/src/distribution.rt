@@ -3,12 +3,13 @@
 ghost use Rattle.std.specs.Prelude.{◌≡◌, ◌++◌, OnOk};
 ghost use Rattle.acd_terms.specs.Choice.{offer_of};
 ghost use Rattle.acd_terms.specs.Moves.{moved, events_of};
+ghost use Rattle.acd_terms.specs.Changes.{changes_of};
 ghost use Rattle.acd_terms.specs.Distribution.{offer_moves, distribution};
 
+use crate::journal::Journal;
 use acd_services::call_moves::{divert, offer};
-use acd_services::make::make_all;
 use acd_tables::tables::Tables;
-use acd_terms::event::{Cause, Event};
+use acd_terms::event::Cause;
 use acd_terms::moves::Offer;
 use std::alloc::AllocError;
 
@@ -41,10 +42,11 @@ fn make_offer(
     tables: &mut Tables,
     moment: u32,
     offered: Offer,
-    events: &mut Vec<Event>,
+    journal: &mut Journal,
 ) -> Result<(), AllocError>
     ensures rows { OnOk result (tables.new ≡ moved tables.old (offer_moves tables.old moment offered)) }
-    ensures events { OnOk result (events.new.items ≡ events.old.items ++ events_of moment (offer_moves tables.old moment offered)) }
+    ensures events { OnOk result (journal.new.events.items ≡ journal.old.events.items ++ events_of moment (offer_moves tables.old moment offered)) }
+    ensures changes { OnOk result (journal.new.changes.items ≡ journal.old.changes.items ++ changes_of (offer_moves tables.old moment offered)) }
 {
     let Some(connection) = tables.connection(offered.call, offered.group) else {
         return Ok(());
@@ -59,25 +61,22 @@ fn make_offer(
         divert(&connection, station, Cause::Distributed),
         offer(moment, &connection, station),
     ];
-    make_all(tables, moment, &moves, events)
+    journal.make_all(tables, moment, &moves)
 }
 
-/// Makes offers until there is none. After an error tables and events are only to be dropped.
+/// Makes offers until there is none. After an error tables and journal are only to be dropped.
 #[tactic(auto, unfolding(acd_terms::specs::Distribution::distribution))]
-pub fn distribute(
-    tables: &mut Tables,
-    moment: u32,
-    events: &mut Vec<Event>,
-) -> Result<(), AllocError>
+pub fn distribute(tables: &mut Tables, moment: u32, journal: &mut Journal) -> Result<(), AllocError>
     ensures rows { OnOk result (tables.new ≡ moved tables.old (distribution tables.old moment)) }
-    ensures events { OnOk result (events.new.items ≡ events.old.items ++ events_of moment (distribution tables.old moment)) }
+    ensures events { OnOk result (journal.new.events.items ≡ journal.old.events.items ++ events_of moment (distribution tables.old moment)) }
+    ensures changes { OnOk result (journal.new.changes.items ≡ journal.old.changes.items ++ changes_of (distribution tables.old moment)) }
 {
     let most = tables.queued_count();
     for round in 0..most {
         let Some(offer) = next_offer(tables) else {
             return Ok(());
         };
-        make_offer(tables, moment, offer, events)?;
+        make_offer(tables, moment, offer, journal)?;
     }
     Ok(())
 }

@@ -20,28 +20,28 @@ use std::test::Fail;
 
 /// The parts of the rows, which a test alters one by one.
 #[derive(Drop)]
-struct Parts {
-    limits: Limits,
-    group: GroupRecord,
-    stations: [StationRecord; 2],
-    agents: [AgentRecord; 2],
-    call: CallRecord,
+pub struct Parts {
+    pub limits: Limits,
+    pub group: GroupRecord,
+    pub stations: [StationRecord; 2],
+    pub agents: [AgentRecord; 2],
+    pub call: CallRecord,
     /// The connection at the station, then the caller's.
-    sides: [ConnectionRecord; 2],
+    pub sides: [ConnectionRecord; 2],
     /// The called side of a second call, from 0401, where there is one.
-    second: Option<ConnectionRecord>,
-    second_caller: DeviceId,
-    monitor: Option<MonitorRecord>,
-    last_stamp: u64,
-    last_call: u64,
-    last_event: u64,
+    pub second: Option<ConnectionRecord>,
+    pub second_caller: DeviceId,
+    pub monitor: Option<MonitorRecord>,
+    pub last_stamp: u64,
+    pub last_call: u64,
+    pub last_event: u64,
 }
 
-fn device(rt: &impl Abort, digits: &str) -> DeviceId {
+pub fn device(rt: &impl Abort, digits: &str) -> DeviceId {
     DeviceId::read(digits.as_bytes()).expect(rt, "a device")
 }
 
-fn plain(call: u64, device: DeviceId, state: ConnectionState) -> ConnectionRecord {
+pub fn plain(call: u64, device: DeviceId, state: ConnectionState) -> ConnectionRecord {
     ConnectionRecord {
         call,
         device,
@@ -53,7 +53,7 @@ fn plain(call: u64, device: DeviceId, state: ConnectionState) -> ConnectionRecor
     }
 }
 
-fn waiting(group: DeviceId) -> ConnectionRecord {
+pub fn waiting(group: DeviceId) -> ConnectionRecord {
     ConnectionRecord {
         group: Some(group),
         place: Some(9),
@@ -100,7 +100,7 @@ fn agent(rt: &impl Abort, digits: &str, stamp: u64) -> AgentRecord {
     }
 }
 
-fn answered_call(rt: &impl Abort) -> Parts {
+pub fn answered_call(rt: &impl Abort) -> Parts {
     let group = device(rt, "100");
     let station = device(rt, "201");
     let caller = device(rt, "0301234");
@@ -145,7 +145,7 @@ fn answered_call(rt: &impl Abort) -> Parts {
     }
 }
 
-fn rows_of(alloc: Global, parts: &Parts) -> Result<Rows, AllocError> {
+pub fn rows_of(alloc: Global, parts: &Parts) -> Result<Rows, AllocError> {
     let mut calls = vec![in alloc; parts.call]?;
     let mut connections = parts.sides.to_vec(alloc)?;
     let mut monitors = Vec::new(alloc);

@@ -6,23 +6,29 @@ ghost use Rattle.acd_terms.specs.Limits.{limits_fit};
 ghost use Rattle.acd_terms.specs.Moves.{moved, events_of};
 ghost use Rattle.acd_terms.specs.Served.{outcome_of, moves_of};
 ghost use Rattle.acd_terms.specs.Services.Serve.{serve};
-ghost use Rattle.acd_terms.specs.Step.{step, numbered};
+ghost use Rattle.acd_terms.specs.Step.{step, numbered, executed_moment, next_stamp};
+ghost use Rattle.acd_terms.specs.Changes.{changes_of, growth, step_changes, rows_made};
 ghost use Rattle.acd_terms.specs.Rules.First.{BreaksNoRule};
+ghost use Rattle.acd_terms.specs.Lists.{IsAscending};
+ghost use Rattle.acd_terms.specs.Rules.Plan.{group_order};
+ghost use Rattle.acd_services.specs.Asked.{IsNoTick};
 ghost use Rattle.acd_switch.specs.RowFaults.{IsFaultOf};
 ghost use Rattle.acd_switch.specs.Room.{HasRoom, Fits, closed};
 ghost use Rattle.acd_switch.specs.Kept.{figures_at, IsRefused};
 ghost use Rattle.acd_laws.specs.RefusalLaws.{ChangesNothing};
 
 use crate::distribution::distribute;
+use crate::journal::Journal;
 use crate::row_fault::RowFault;
 use crate::tick::tick;
 use acd_rules::first::first_broken;
-use acd_services::serve::serve;
+use acd_services::serve::decide;
 use acd_tables::tables::Tables;
 use acd_terms::answer::{Answer, Outcome};
 use acd_terms::command::Command;
 use acd_terms::event::Event;
 use acd_terms::id::DeviceId;
+use acd_terms::moves::{Change, Served};
 use acd_terms::record::Figures;
 use acd_terms::rows::{Limits, Rows};
 use std::alloc::{AllocError, Global};
@@ -33,6 +39,17 @@ use std::marker::Model;
 pub struct Switch {
     alloc: Global,
     tables: Tables,
+}
+
+/// An executed request.
+#[derive(Debug, Drop)]
+pub struct Executed {
+    pub outcome: Outcome,
+    /// What it reports, numbered on from the last event.
+    pub events: Vec<Event>,
+    /// What it changes, in order. The groups whose figures grow come last, one put for each event that
+    /// counts.
+    pub changes: Vec<Change>,
 }
 
 impl Model for Switch {
@@ -65,10 +82,8 @@ impl Switch {
         if let Some(rule) = first_broken(rows) {
             return Err(RowFault::Broken(rule));
         }
-        match Tables::from_rows(alloc, rows) {
-            Ok(tables) => Ok(Switch { alloc, tables }),
-            Err(AllocError) => Err(RowFault::NoMemory),
-        }
+        let tables = Tables::from_rows(alloc, rows)?;
+        Ok(Switch { alloc, tables })
     }
 
     /// Executes one request at a moment (in seconds): its outcome and its events. A moment before the
@@ -86,6 +101,26 @@ impl Switch {
         ensures rows { OnOk result (self.new ≡ (step self.old moment command.now).rows) }
         ensures kept { OnOk result (BreaksNoRule self.new) }
         ensures refused { IfOk result (λ r. IsRefused r.0 → ChangesNothing self.old moment command.now) }
+    {
+        let executed = self.step_with_changes(moment, command)?;
+        Ok((executed.outcome, executed.events))
+    }
+
+    /// Executes one request as [`Switch::step`] does, and tells its changes too.
+    pub fn step_with_changes(
+        &mut self,
+        moment: u32,
+        command: &Command,
+    ) -> Result<Executed, AllocError>
+        requires rules { BreaksNoRule self.old }
+        requires room { self.old.last_stamp < self.old.limits.requests }
+        ensures outcome { IfOk result (λ r. r.outcome ≡ (step self.old moment command.now).outcome) }
+        ensures events { IfOk result (λ r. r.events.items ≡ (step self.old moment command.now).events) }
+        ensures changes { IfOk result (λ r. r.changes.items ≡ step_changes self.old moment command.now) }
+        ensures rows { OnOk result (self.new ≡ (step self.old moment command.now).rows) }
+        ensures made { IfOk result (λ r. rows_made self.old r.changes.items (next_stamp self.old) (executed_moment self.old moment) (length r.events.items) ≡ self.new) }
+        ensures kept { OnOk result (BreaksNoRule self.new) }
+        ensures refused { IfOk result (λ r. IsRefused r.outcome → ChangesNothing self.old moment command.now) }
     {
         execute(self.alloc, &mut self.tables, moment, command)
     }
@@ -121,33 +156,48 @@ fn execute(
     tables: &mut Tables,
     moment: u32,
     command: &Command,
-) -> Result<(Outcome, Vec<Event>), AllocError>
+) -> Result<Executed, AllocError>
     requires rules { BreaksNoRule tables.old }
     requires room { tables.old.last_stamp < tables.old.limits.requests }
-    ensures outcome { IfOk result (λ r. r.0 ≡ (step tables.old moment command.now).outcome) }
-    ensures events { IfOk result (λ r. r.1.items ≡ (step tables.old moment command.now).events) }
+    ensures outcome { IfOk result (λ r. r.outcome ≡ (step tables.old moment command.now).outcome) }
+    ensures events { IfOk result (λ r. r.events.items ≡ (step tables.old moment command.now).events) }
+    ensures changes { IfOk result (λ r. r.changes.items ≡ step_changes tables.old moment command.now) }
     ensures rows { OnOk result (tables.new ≡ (step tables.old moment command.now).rows) }
 {
     let moment = moment.max(tables.last_moment());
     let stamp = tables.last_stamp() + 1;
     let last = tables.last_event();
-    let mut events = Vec::new(alloc);
-    let outcome = run_command(alloc, tables, moment, stamp, command, &mut events)?;
-    distribute(tables, moment, &mut events)?;
-    close(tables, moment, stamp, last, &mut events);
-    Ok((outcome, events))
+    let mut journal = Journal::new(alloc);
+    let outcome = run_command(alloc, tables, moment, stamp, command, &mut journal)?;
+    distribute(tables, moment, &mut journal)?;
+    close(tables, moment, stamp, last, &mut journal)?;
+    let Journal { events, changes } = journal;
+    Ok(Executed {
+        outcome,
+        events,
+        changes,
+    })
 }
 
-// Adds the events to the figures, numbers them on from the last one, and sets the counters.
-fn close(tables: &mut Tables, moment: u32, stamp: u64, last: u64, events: &mut Vec<Event>)
-    requires { Fits (closed tables.old moment stamp last events.old.items) }
-    ensures rows { tables.new ≡ closed tables.old moment stamp last events.old.items }
-    ensures events { events.new.items ≡ numbered last events.old.items }
+// Counts the events in the figures, numbers them on from the last one, and sets the counters.
+fn close(
+    tables: &mut Tables,
+    moment: u32,
+    stamp: u64,
+    last: u64,
+    journal: &mut Journal,
+) -> Result<(), AllocError>
+    requires order { IsAscending group_order tables.old.groups }
+    requires room { Fits (closed tables.old moment stamp last journal.old.events.items) }
+    ensures rows { OnOk result (tables.new ≡ closed tables.old moment stamp last journal.old.events.items) }
+    ensures events { OnOk result (journal.new.events.items ≡ numbered last journal.old.events.items) }
+    ensures changes { OnOk result (journal.new.changes.items ≡ journal.old.changes.items ++ growth tables.old journal.old.events.items) }
 {
-    tables.add_figures(events);
-    let count = events.len() as u64;
-    number(events, last);
+    journal.grow(tables)?;
+    let count = journal.events.len() as u64;
+    number(&mut journal.events, last);
     tables.set_last(stamp, moment, last + count);
+    Ok(())
 }
 
 // The service, or tick.
@@ -157,19 +207,43 @@ fn run_command(
     moment: u32,
     stamp: u64,
     command: &Command,
-    events: &mut Vec<Event>,
+    journal: &mut Journal,
 ) -> Result<Outcome, AllocError>
     requires { HasRoom tables.old }
     ensures outcome { IfOk result (λ o. o ≡ outcome_of (serve tables.old moment stamp command.now)) }
     ensures rows { OnOk result (tables.new ≡ moved tables.old (moves_of (serve tables.old moment stamp command.now))) }
-    ensures events { OnOk result (events.new.items ≡ events.old.items ++ events_of moment (moves_of (serve tables.old moment stamp command.now))) }
+    ensures events { OnOk result (journal.new.events.items ≡ journal.old.events.items ++ events_of moment (moves_of (serve tables.old moment stamp command.now))) }
+    ensures changes { OnOk result (journal.new.changes.items ≡ journal.old.changes.items ++ changes_of (moves_of (serve tables.old moment stamp command.now))) }
 {
     match command {
         Command::Tick => {
-            tick(alloc, tables, moment, stamp, events)?;
+            tick(alloc, tables, moment, stamp, journal)?;
             Ok(Outcome::Done(Answer::Nothing))
         }
-        _ => serve(tables, moment, stamp, command, events),
+        _ => run_service(tables, moment, stamp, command, journal),
+    }
+}
+
+fn run_service(
+    tables: &mut Tables,
+    moment: u32,
+    stamp: u64,
+    command: &Command,
+    journal: &mut Journal,
+) -> Result<Outcome, AllocError>
+    requires room { HasRoom tables.old }
+    requires no_tick { IsNoTick command.now }
+    ensures outcome { IfOk result (λ o. o ≡ outcome_of (serve tables.old moment stamp command.now)) }
+    ensures rows { OnOk result (tables.new ≡ moved tables.old (moves_of (serve tables.old moment stamp command.now))) }
+    ensures events { OnOk result (journal.new.events.items ≡ journal.old.events.items ++ events_of moment (moves_of (serve tables.old moment stamp command.now))) }
+    ensures changes { OnOk result (journal.new.changes.items ≡ journal.old.changes.items ++ changes_of (moves_of (serve tables.old moment stamp command.now))) }
+{
+    match decide(tables, moment, stamp, command) {
+        Served::Refused(refusal) => Ok(Outcome::Refused(refusal)),
+        Served::Done(answer, moves) => {
+            journal.make_all(tables, moment, moves.as_slice())?;
+            Ok(Outcome::Done(answer))
+        }
     }
 }
 

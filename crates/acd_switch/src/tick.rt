@@ -2,15 +2,16 @@
 
 ghost use Rattle.std.specs.Prelude.{◌≡◌, ◌++◌, OnOk, IfOk};
 ghost use Rattle.acd_terms.specs.Moves.{moved, events_of};
+ghost use Rattle.acd_terms.specs.Changes.{changes_of};
 ghost use Rattle.acd_terms.specs.Scans.{group_of};
 ghost use Rattle.acd_terms.specs.Tick.{is_over, ring_of, wrap_of, is_overdue, overdue_in, return_moves, is_rested, rested_in, rest_moves, returns, rests, tick};
 
+use crate::journal::Journal;
 use acd_services::agent_moves::go_from;
 use acd_services::call_moves::{divert, go_back};
-use acd_services::make::make_all;
 use acd_services::release::release;
 use acd_tables::tables::Tables;
-use acd_terms::event::{Cause, Event};
+use acd_terms::event::Cause;
 use acd_terms::id::DeviceId;
 use acd_terms::moves::Ending;
 use acd_terms::record::{AgentRecord, ConnectionRecord};
@@ -109,10 +110,11 @@ fn take_back(
     moment: u32,
     stamp: u64,
     connection: &ConnectionRecord,
-    events: &mut Vec<Event>,
+    journal: &mut Journal,
 ) -> Result<(), AllocError>
     ensures rows { OnOk result (tables.new ≡ moved tables.old (return_moves tables.old moment stamp connection.now)) }
-    ensures events { OnOk result (events.new.items ≡ events.old.items ++ events_of moment (return_moves tables.old moment stamp connection.now)) }
+    ensures events { OnOk result (journal.new.events.items ≡ journal.old.events.items ++ events_of moment (return_moves tables.old moment stamp connection.now)) }
+    ensures changes { OnOk result (journal.new.changes.items ≡ journal.old.changes.items ++ changes_of (return_moves tables.old moment stamp connection.now)) }
 {
     let Some(group) = connection.group else {
         return Ok(());
@@ -122,7 +124,7 @@ fn take_back(
         go_back(connection, group),
         release(tables, moment, stamp, connection, Ending::NoAnswer),
     ];
-    make_all(tables, moment, &moves, events)
+    journal.make_all(tables, moment, &moves)
 }
 
 // The agent's after-call work ends.
@@ -131,29 +133,31 @@ fn end_work(
     moment: u32,
     stamp: u64,
     agent: &AgentRecord,
-    events: &mut Vec<Event>,
+    journal: &mut Journal,
 ) -> Result<(), AllocError>
     ensures rows { OnOk result (tables.new ≡ moved tables.old (rest_moves moment stamp agent.now)) }
-    ensures events { OnOk result (events.new.items ≡ events.old.items ++ events_of moment (rest_moves moment stamp agent.now)) }
+    ensures events { OnOk result (journal.new.events.items ≡ journal.old.events.items ++ events_of moment (rest_moves moment stamp agent.now)) }
+    ensures changes { OnOk result (journal.new.changes.items ≡ journal.old.changes.items ++ changes_of (rest_moves moment stamp agent.now)) }
 {
     let moves = [go_from(moment, stamp, agent, AgentState::Ready)];
-    make_all(tables, moment, &moves, events)
+    journal.make_all(tables, moment, &moves)
 }
 
-#[tactic(auto, using(acd_terms::proofs::MoveLemmas::moved_append, acd_terms::proofs::MoveLemmas::events_of_append, std::proofs::lemmas::Grind::common_steps), unfolding(acd_terms::specs::Tick::returns))]
+#[tactic(auto, using(acd_terms::proofs::MoveLemmas::moved_append, acd_terms::proofs::MoveLemmas::events_of_append, acd_terms::proofs::ChangeLemmas::changes_of_append, std::proofs::lemmas::Grind::common_steps), unfolding(acd_terms::specs::Tick::returns))]
 fn return_overdue(
     alloc: Global,
     tables: &mut Tables,
     moment: u32,
     stamp: u64,
-    events: &mut Vec<Event>,
+    journal: &mut Journal,
 ) -> Result<(), AllocError>
     ensures rows { OnOk result (tables.new ≡ moved tables.old (returns tables.old moment stamp)) }
-    ensures events { OnOk result (events.new.items ≡ events.old.items ++ events_of moment (returns tables.old moment stamp)) }
+    ensures events { OnOk result (journal.new.events.items ≡ journal.old.events.items ++ events_of moment (returns tables.old moment stamp)) }
+    ensures changes { OnOk result (journal.new.changes.items ≡ journal.old.changes.items ++ changes_of (returns tables.old moment stamp)) }
 {
     let overdue = overdue_in(alloc, tables, moment)?;
     for connection in overdue.as_slice() {
-        take_back(tables, moment, stamp, connection, events)?;
+        take_back(tables, moment, stamp, connection, journal)?;
     }
     Ok(())
 }
@@ -164,31 +168,33 @@ fn end_rested(
     tables: &mut Tables,
     moment: u32,
     stamp: u64,
-    events: &mut Vec<Event>,
+    journal: &mut Journal,
 ) -> Result<(), AllocError>
     ensures rows { OnOk result (tables.new ≡ moved tables.old (rests tables.old moment stamp)) }
-    ensures events { OnOk result (events.new.items ≡ events.old.items ++ events_of moment (rests tables.old moment stamp)) }
+    ensures events { OnOk result (journal.new.events.items ≡ journal.old.events.items ++ events_of moment (rests tables.old moment stamp)) }
+    ensures changes { OnOk result (journal.new.changes.items ≡ journal.old.changes.items ++ changes_of (rests tables.old moment stamp)) }
 {
     let rested = rested_in(alloc, tables, moment)?;
     for agent in rested.as_slice() {
-        end_work(tables, moment, stamp, agent, events)?;
+        end_work(tables, moment, stamp, agent, journal)?;
     }
     Ok(())
 }
 
 /// Takes overdue offers back, one call after the other, then ends after-call work. After an error
-/// tables and events are only to be dropped.
-#[tactic(auto, using(acd_terms::proofs::MoveLemmas::moved_append, acd_terms::proofs::MoveLemmas::events_of_append, std::proofs::lemmas::Grind::common_steps), unfolding(acd_terms::specs::Tick::tick))]
+/// tables and journal are only to be dropped.
+#[tactic(auto, using(acd_terms::proofs::MoveLemmas::moved_append, acd_terms::proofs::MoveLemmas::events_of_append, acd_terms::proofs::ChangeLemmas::changes_of_append, std::proofs::lemmas::Grind::common_steps), unfolding(acd_terms::specs::Tick::tick))]
 pub fn tick(
     alloc: Global,
     tables: &mut Tables,
     moment: u32,
     stamp: u64,
-    events: &mut Vec<Event>,
+    journal: &mut Journal,
 ) -> Result<(), AllocError>
     ensures rows { OnOk result (tables.new ≡ moved tables.old (tick tables.old moment stamp)) }
-    ensures events { OnOk result (events.new.items ≡ events.old.items ++ events_of moment (tick tables.old moment stamp)) }
+    ensures events { OnOk result (journal.new.events.items ≡ journal.old.events.items ++ events_of moment (tick tables.old moment stamp)) }
+    ensures changes { OnOk result (journal.new.changes.items ≡ journal.old.changes.items ++ changes_of (tick tables.old moment stamp)) }
 {
-    return_overdue(alloc, tables, moment, stamp, events)?;
-    end_rested(alloc, tables, moment, stamp, events)
+    return_overdue(alloc, tables, moment, stamp, journal)?;
+    end_rested(alloc, tables, moment, stamp, journal)
 }

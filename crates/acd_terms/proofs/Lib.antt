@@ -3,3 +3,4 @@ pub mod Identifiers
 pub mod OnLiterals
 pub mod MoveLemmas
 pub mod ReadBack
+pub mod ChangeLemmas

@@ -3,7 +3,6 @@ use Rattle.std.specs.Prelude.{ℕ, ◌+◌, List, [], ◌∷◌, ◌++◌, Optio
 use Rattle.acd_terms.specs.Scans.{group_of}
 use Rattle.acd_terms.specs.Writes.{with_last}
 use Rattle.acd_terms.specs.Moves.{changed, moved, events_of}
-use Rattle.acd_terms.specs.Served.{moves_of}
 use Rattle.acd_terms.specs.Figures.{is_no_answer, is_deflected, counting}
 use Rattle.acd_terms.specs.Step.{step_moves, executed_moment, next_stamp}
 use Rattle.acd_terms.specs.Services.Serve.{serve}

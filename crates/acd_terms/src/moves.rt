@@ -12,7 +12,7 @@ use crate::state::AgentState;
 use std::marker::Model;
 
 /// The change of one record, or of none.
-#[derive(Clone, Copy, Debug)]
+#[derive(Clone, Copy, Debug, PartialEq, Eq)]
 pub enum Change {
     Nothing,
     PutGroup(GroupRecord),

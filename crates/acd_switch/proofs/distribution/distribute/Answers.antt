@@ -4,6 +4,7 @@ use Rattle.acd_terms.specs.Choice.{offer_of}
 use Rattle.acd_terms.specs.Distribution.{distribution}
 use Rattle.acd_switch.proofs.Rounds.{offers-none, offers-some}
 use Rattle.acd_terms.proofs.MoveLemmas.{moved_append, events_of_append}
+use Rattle.acd_terms.proofs.ChangeLemmas.{changes_of_append}
 use Rattle.acd_switch.proofs.distribution.distribute.Goals as goal
 
 pub returns-in_default-clause-rows : goal.returns-in_default-clause-rows
@@ -20,6 +21,13 @@ returns-in_default-clause-events c =
     let stays = offers-none (c.queued_count-most.result - c.loop-round.round) c.loop-round.tables c.args.moment none in
     grind (arith, common_steps, stays, c.loop-round.invariant.told)
 
+pub returns-in_default-clause-changes : goal.returns-in_default-clause-changes
+unfolding distribution
+returns-in_default-clause-changes c =
+    let none : offer_of c.loop-round.tables ≡ None = search rules in
+    let stays = offers-none (c.queued_count-most.result - c.loop-round.round) c.loop-round.tables c.args.moment none in
+    grind (arith, common_steps, stays, c.loop-round.invariant.noted)
+
 pub loop-round-preserved : goal.loop-round-preserved
 loop-round-preserved c =
     let some : offer_of c.loop-round.tables ≡ Some c.in-Some.offer = search rules in
@@ -28,5 +36,6 @@ loop-round-preserved c =
     record {
       rows = grind (arith, goes, moved_append, c.loop-round.invariant.rows, c.in_ok-make_offer.ensures.rows);
       told = grind (arith, common_steps, goes, events_of_append, c.loop-round.invariant.told, c.in_ok-make_offer.ensures.rows, c.in_ok-make_offer.ensures.events);
+      noted = grind (arith, common_steps, goes, changes_of_append, c.loop-round.invariant.noted, c.in_ok-make_offer.ensures.rows, c.in_ok-make_offer.ensures.changes);
       most_is = c.loop-round.invariant.most_is;
     }

@@ -1,0 +1,136 @@
+//! The journal of a step: what it does to the tables, with the events and the changes noted.
+
+ghost use Rattle.std.specs.Prelude.{◌≡◌, ◌++◌, ◌∷◌, [], OnOk};
+ghost use Rattle.acd_terms.specs.Moves.{changed, moved, with_event, events_of};
+ghost use Rattle.acd_terms.specs.Changes.{with_change, changes_of, changed_by, growth_by, growth};
+ghost use Rattle.acd_terms.specs.Figures.{with_figures};
+ghost use Rattle.acd_terms.specs.Lists.{IsAscending};
+ghost use Rattle.acd_terms.specs.Rules.Plan.{group_order};
+ghost use Rattle.acd_switch.specs.Counting.{FiguresFit};
+
+use crate::figures::{counted_group, counting};
+use acd_services::make::change;
+use acd_tables::tables::Tables;
+use acd_terms::event::Event;
+use acd_terms::moves::{Change, Move};
+use std::alloc::{AllocError, Global};
+
+/// The events and the changes of a step, in order. The numbers of the events are 0.
+#[derive(Debug, Drop)]
+pub struct Journal {
+    pub events: Vec<Event>,
+    pub changes: Vec<Change>,
+}
+
+impl Journal {
+    pub fn new(alloc: Global) -> Journal
+        ensures events { result.events.items ≡ [] }
+        ensures changes { result.changes.items ≡ [] }
+    {
+        Journal {
+            events: Vec::new(alloc),
+            changes: Vec::new(alloc),
+        }
+    }
+
+    /// Makes the moves in order. After an error tables and journal are only to be dropped.
+    pub fn make_all(
+        &mut self,
+        tables: &mut Tables,
+        moment: u32,
+        moves: &[Move],
+    ) -> Result<(), AllocError>
+        ensures rows { OnOk result (tables.new ≡ moved tables.old moves.now) }
+        ensures events { OnOk result (self.new.events.items ≡ self.old.events.items ++ events_of moment moves.now) }
+        ensures changes { OnOk result (self.new.changes.items ≡ self.old.changes.items ++ changes_of moves.now) }
+    {
+        for one in moves {
+            self.make(tables, moment, one)?;
+        }
+        Ok(())
+    }
+
+    // Makes one move.
+    fn make(&mut self, tables: &mut Tables, moment: u32, one: &Move) -> Result<(), AllocError>
+        ensures rows { OnOk result (tables.new ≡ changed tables.old one.now.change) }
+        ensures events { OnOk result (self.new.events.items ≡ self.old.events.items ++ with_event moment one.now.report []) }
+        ensures changes { OnOk result (self.new.changes.items ≡ self.old.changes.items ++ with_change one.now.change []) }
+    {
+        make_change(tables, &one.change, &mut self.changes)?;
+        if let Some(report) = one.report {
+            self.events.push(Event {
+                number: 0,
+                moment,
+                report,
+            })?;
+        }
+        Ok(())
+    }
+
+    /// The figures of the groups grow by the events. After an error tables and journal are only to be
+    /// dropped.
+    pub fn grow(&mut self, tables: &mut Tables) -> Result<(), AllocError>
+        requires order { IsAscending group_order tables.old.groups }
+        requires room { FiguresFit tables.old self.old.events.items }
+        ensures rows { OnOk result (tables.new ≡ with_figures tables.old self.old.events.items) }
+        ensures events { self.new.events.items ≡ self.old.events.items }
+        ensures changes { OnOk result (self.new.changes.items ≡ self.old.changes.items ++ growth tables.old self.old.events.items) }
+    {
+        grow_by_all(tables, &self.events, &mut self.changes)
+    }
+}
+
+// Makes a change, and notes it. Nothing else notes changes.
+fn make_change(
+    tables: &mut Tables,
+    one: &Change,
+    changes: &mut Vec<Change>,
+) -> Result<(), AllocError>
+    ensures rows { OnOk result (tables.new ≡ changed tables.old one.now) }
+    ensures changes { OnOk result (changes.new.items ≡ changes.old.items ++ with_change one.now []) }
+{
+    if let Change::Nothing = one {
+        return Ok(());
+    }
+    change(tables, *one)?;
+    note(one, changes)
+}
+
+// A push of its own, for any type.
+fn note<T: Copy + Drop>(one: &T, noted: &mut Vec<T>) -> Result<(), AllocError>
+    ensures { OnOk result (noted.new.items ≡ noted.old.items ++ one.now ∷ []) }
+{
+    noted.push(*one)?;
+    Ok(())
+}
+
+// The group that the event counts for grows, where there is one.
+fn grow_by(tables: &mut Tables, event: &Event, changes: &mut Vec<Change>) -> Result<(), AllocError>
+    requires { FiguresFit tables.old (event.now ∷ []) }
+    ensures rows { OnOk result (tables.new ≡ changed_by tables.old (growth_by tables.old event.now)) }
+    ensures changes { OnOk result (changes.new.items ≡ changes.old.items ++ growth_by tables.old event.now) }
+{
+    let Some(device) = counted_group(&event.report) else {
+        return Ok(());
+    };
+    let Some(group) = tables.group(device) else {
+        return Ok(());
+    };
+    make_change(tables, &Change::PutGroup(counting(group, event)), changes)
+}
+
+fn grow_by_all(
+    tables: &mut Tables,
+    events: &[Event],
+    changes: &mut Vec<Change>,
+) -> Result<(), AllocError>
+    requires order { IsAscending group_order tables.old.groups }
+    requires room { FiguresFit tables.old events.now }
+    ensures rows { OnOk result (tables.new ≡ with_figures tables.old events.now) }
+    ensures changes { OnOk result (changes.new.items ≡ changes.old.items ++ growth tables.old events.now) }
+{
+    for event in events {
+        grow_by(tables, event, changes)?;
+    }
+    Ok(())
+}
