@@ -2,15 +2,36 @@
 
 ghost use Rattle.std.specs.Prelude.{◌≡◌};
 ghost use Rattle.acd_codec.specs.ReplyTexts.{fixed_status, fixed_text};
+ghost use Rattle.acd_codec.specs.declared.fault.ReadFault.TheVariants.{Malformed, NoMemory};
 
 use crate::member::Member;
+use std::alloc::AllocError;
+use thiserror::Error;
 
 /// Why bytes are not read as a request.
-#[derive(Clone, Copy, Debug, PartialEq, Eq)]
+#[derive(Clone, Copy, Debug, PartialEq, Eq, Error)]
 pub enum ReadFault {
     /// The first faulty member.
+    #[error("malformed: {}", .0.name())]
     Malformed(Member),
+    #[error("out of memory")]
     NoMemory,
+}
+
+impl From<AllocError> for ReadFault {
+    ghost from_gives = { λ _ fault. fault ≡ NoMemory };
+
+    fn from(_error: AllocError) -> ReadFault {
+        ReadFault::NoMemory
+    }
+}
+
+impl From<Member> for ReadFault {
+    ghost from_gives = { λ member fault. fault ≡ Malformed member };
+
+    fn from(member: Member) -> ReadFault {
+        ReadFault::Malformed(member)
+    }
 }
 
 /// An answer that names no request. Its text is fixed, and takes no memory.

@@ -347,8 +347,6 @@ pub fn read_request(alloc: Global, bytes: &[u8]) -> Result<Request, ReadFault>
     ensures { Gives result (reads_as bytes.now) }
 {
     let value = value_of(alloc, bytes)?;
-    match request_of(&value) {
-        Ok(request) => Ok(request),
-        Err(member) => Err(ReadFault::Malformed(member)),
-    }
+    let request = request_of(&value)?;
+    Ok(request)
 }

@@ -2,6 +2,7 @@
 
 mod examples;
 mod faulty;
+mod messages;
 mod read;
 mod replies;
 mod reports;

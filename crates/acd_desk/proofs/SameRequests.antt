@@ -1,7 +1,7 @@
 -- Requests that compare equal are equal.
-use Rattle.std.proofs.Common.{arith, ◌≡◌, ℕ, ◌-◌, Bool, true, false, List, [], ◌∷◌, ◌++◌, length, true≢false, sym, refl, ap, ap₂, ◌∙◌, ◌&&◌, ◌==◌, eqb-true, get_or}
-use Rattle.std.specs.Prelude.{replicate, nat_eq}
-use Rattle.std.specs.Cmp.Lexicographic.{same_text, pointwise}
+use Rattle.std.proofs.Common.{◌≡◌, ℕ, Bool, true, false, List, true≢false, sym, refl, ap, ap₂, ◌∙◌, ◌&&◌, ◌==◌, eqb-true}
+use Rattle.std.specs.Str.{bytes_eq}
+use Rattle.std.specs.Cmp.Lexicographic.{same_text}
 use Rattle.acd_terms.specs.declared.state.Pending.{Pending}
 use Rattle.acd_terms.specs.declared.state.Pending.TheVariants as wanted
 use Rattle.acd_terms.specs.declared.command.Requested.{Requested}
@@ -18,26 +18,6 @@ two : (a b : Bool) → (a && b) ≡ true → (a ≡ true) × (b ≡ true)
 two true true h = (refl, refl)
 two true false h = (refl, h)
 two false b h = (h, absurd (true≢false (sym h)))
-
-abbrev tail : List ℕ → List ℕ
-tail [] = []
-tail (x ∷ xs) = xs
-
--- equal lists have equal beginnings of one length
-beginning : (a b s t : List ℕ) → length a ≡ length b → a ++ s ≡ b ++ t → a ≡ b
-beginning [] [] s t e h = refl
-beginning [] (y ∷ b) s t e h = absurd (omega (arith, e))
-beginning (x ∷ a) [] s t e h = absurd (omega (arith, e))
-beginning (x ∷ a) (y ∷ b) s t e h =
-    let less : length a ≡ length b = omega (arith, e) in
-    ap₂ (λ (n : ℕ) (l : List ℕ). n ∷ l) (ap (λ (l : List ℕ). get_or l 0 0) h) (beginning a b s t less (ap tail h))
-
--- texts that are held in place compare by their cells and lengths
-held_text : (n : ℕ) (a b : List ℕ)
-    → (pointwise nat_eq (a ++ replicate (n - length a) 0) (b ++ replicate (n - length b) 0) && (length a == length b)) ≡ true → a ≡ b
-held_text n a b h =
-    let both = two (pointwise nat_eq (a ++ replicate (n - length a) 0) (b ++ replicate (n - length b) 0)) (length a == length b) h in
-    beginning a b (replicate (n - length a) 0) (replicate (n - length b) 0) (eqb-true (length a) (length b) both.1) (same_text _ _ (sym both.0))
 
 same_pending : (p q : Pending) → (pending.eq-value).it p q ≡ true → p ≡ q
 same_pending wanted.LoggedOff wanted.LoggedOff h = refl
@@ -65,18 +45,18 @@ triple K c d t e f u h =
 
 same_command : (a b : Command) → (command.eq-value).it a b ≡ true → a ≡ b
 same_command (AddGroup d n r w) (AddGroup e m s x) h =
-    let first = two (d == e) ((pointwise nat_eq (n ++ replicate (40 - length n) 0) (m ++ replicate (40 - length m) 0) && (length n == length m)) && ((r == s) && (w == x))) h in
-    let next = two (pointwise nat_eq (n ++ replicate (40 - length n) 0) (m ++ replicate (40 - length m) 0) && (length n == length m)) ((r == s) && (w == x)) first.1 in
+    let first = two (d == e) (bytes_eq n m && ((r == s) && (w == x))) h in
+    let next = two (bytes_eq n m) ((r == s) && (w == x)) first.1 in
     let rest = two (r == s) (w == x) next.1 in
     let e1 : d ≡ e = eqb-true d e first.0 in
-    let e2 : n ≡ m = held_text 40 n m next.0 in
+    let e2 : n ≡ m = same_text n m (sym next.0) in
     let e3 : r ≡ s = eqb-true r s rest.0 in
     let e4 : w ≡ x = eqb-true w x rest.1 in
     cc (e1, e2, e3, e4)
 same_command (AddStation d) (AddStation e) h = ap AddStation (eqb-true d e h)
 same_command (AddAgent a n) (AddAgent b m) h =
-    let both = two (a == b) (pointwise nat_eq (n ++ replicate (40 - length n) 0) (m ++ replicate (40 - length m) 0) && (length n == length m)) h in
-    ap₂ AddAgent (eqb-true a b both.0) (held_text 40 n m both.1)
+    let both = two (a == b) (bytes_eq n m) h in
+    ap₂ AddAgent (eqb-true a b both.0) (same_text n m (sym both.1))
 same_command (ArriveCall c d) (ArriveCall e f) h = pair ArriveCall c d e f h
 same_command (MakeCall c d) (MakeCall e f) h = pair MakeCall c d e f h
 same_command (PhoneOffHook c d) (PhoneOffHook e f) h = pair PhoneOffHook c d e f h
@@ -102,7 +82,6 @@ joined a b e1 e2 e3 =
 pub same_true : (a b : Request) → same_request a b ≡ true → a ≡ b
 unfolding same_request
 same_true a b h =
-    let first = two (pointwise nat_eq (a.requester ++ replicate (32 - length a.requester) 0) (b.requester ++ replicate (32 - length b.requester) 0) && (length a.requester == length b.requester))
-    ((a.invoke == b.invoke) && (command.eq-value).it a.command b.command) h in
+    let first = two (bytes_eq a.requester b.requester) ((a.invoke == b.invoke) && (command.eq-value).it a.command b.command) h in
     let rest = two (a.invoke == b.invoke) ((command.eq-value).it a.command b.command) first.1 in
-    joined a b (held_text 32 a.requester b.requester first.0) (eqb-true a.invoke b.invoke rest.0) (same_command a.command b.command rest.1)
+    joined a b (same_text a.requester b.requester (sym first.0)) (eqb-true a.invoke b.invoke rest.0) (same_command a.command b.command rest.1)

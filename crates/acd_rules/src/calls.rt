@@ -2,15 +2,13 @@
 
 ghost use Rattle.std.specs.Prelude.{◌≡◌, ◌&&◌, ◌||◌, ◌==◌, nat_le, length, filter};
 ghost use Rattle.acd_terms.specs.Lists.{count};
-ghost use Rattle.acd_terms.specs.Scans.{is_group, is_station};
-ghost use Rattle.acd_terms.specs.States.{is_fail};
 ghost use Rattle.acd_terms.specs.Watched.{is_caller};
 ghost use Rattle.acd_terms.specs.Rules.Calls.{keeps_call, is_bare, is_placed, has_columns, is_group_or_none, may_stand, keeps_connection, is_open, parties_of, initiated_of, initiated_at, open_of, is_being_made, has_two_parties, keeps_parties, live_at, alerting_at, hold_at, keeps_live};
 
-use crate::scans::{call_of, is_group, is_planned, is_station};
 use acd_terms::id::DeviceId;
 use acd_terms::record::{CallRecord, ConnectionRecord};
 use acd_terms::rows::Rows;
+use acd_terms::scans::{call_of, is_group, is_planned, is_station};
 use acd_terms::state::ConnectionState;
 
 /// A call's called device is planned and not its caller, who is a station or not planned; its
@@ -19,7 +17,7 @@ use acd_terms::state::ConnectionState;
 pub fn keeps_call(rows: &Rows) -> bool
     ensures { result ≡ keeps_call rows.now }
 {
-    rows.calls.as_slice().iter().all(|c| {
+    rows.calls.iter().all(|c| {
         is_planned(rows, c.called)
             && c.called != c.caller
             && !is_group(rows, c.caller)
@@ -94,7 +92,7 @@ fn is_caller(call: Option<CallRecord>, device: DeviceId) -> bool
 pub fn keeps_connection(rows: &Rows) -> bool
     ensures { result ≡ keeps_connection rows.now }
 {
-    rows.connections.as_slice().iter().all(|x| {
+    rows.connections.iter().all(|x| {
         let call = call_of(rows, x.call);
         call.is_some()
             && (is_caller(call, x.device) || is_planned(rows, x.device))
@@ -104,34 +102,23 @@ pub fn keeps_connection(rows: &Rows) -> bool
     })
 }
 
-fn is_fail(state: ConnectionState) -> bool
-    ensures { result ≡ is_fail state }
-{
-    matches!(state, ConnectionState::Fail)
-}
-
 // Alerting, queued or fail.
 fn is_open(state: ConnectionState) -> bool
     ensures { result ≡ is_open state }
 {
-    state.is_alerting() || state.is_queued() || is_fail(state)
+    state.is_alerting() || state.is_queued() || state.is_fail()
 }
 
 fn parties_of(rows: &Rows, call: u64) -> usize
     ensures { result ≡ length (filter (parties_of call) rows.now.connections) }
 {
-    rows.connections
-        .as_slice()
-        .iter()
-        .filter(|x| x.call == call)
-        .count()
+    rows.connections.iter().filter(|x| x.call == call).count()
 }
 
 fn initiated_of(rows: &Rows, call: u64) -> usize
     ensures { result ≡ length (filter (initiated_of call) rows.now.connections) }
 {
     rows.connections
-        .as_slice()
         .iter()
         .filter(|x| x.call == call && x.state.is_initiated())
         .count()
@@ -141,7 +128,6 @@ fn initiated_at(rows: &Rows, call: u64, device: DeviceId) -> usize
     ensures { result ≡ length (filter (initiated_at call device) rows.now.connections) }
 {
     rows.connections
-        .as_slice()
         .iter()
         .filter(|x| x.call == call && x.state.is_initiated() && x.device == device)
         .count()
@@ -151,7 +137,6 @@ fn open_of(rows: &Rows, call: u64) -> usize
     ensures { result ≡ length (filter (open_of call) rows.now.connections) }
 {
     rows.connections
-        .as_slice()
         .iter()
         .filter(|x| x.call == call && is_open(x.state))
         .count()
@@ -182,7 +167,6 @@ pub fn keeps_parties(rows: &Rows) -> bool
     ensures { result ≡ keeps_parties rows.now }
 {
     rows.calls
-        .as_slice()
         .iter()
         .all(|c| is_being_made(rows, c) || has_two_parties(rows, c))
 }
@@ -191,7 +175,6 @@ fn live_at(rows: &Rows, device: DeviceId) -> usize
     ensures { result ≡ length (filter (live_at device) rows.now.connections) }
 {
     rows.connections
-        .as_slice()
         .iter()
         .filter(|x| x.device == device && x.state.is_live())
         .count()
@@ -201,7 +184,6 @@ fn alerting_at(rows: &Rows, device: DeviceId) -> usize
     ensures { result ≡ length (filter (alerting_at device) rows.now.connections) }
 {
     rows.connections
-        .as_slice()
         .iter()
         .filter(|x| x.device == device && x.state.is_alerting())
         .count()
@@ -211,7 +193,6 @@ fn hold_at(rows: &Rows, device: DeviceId) -> usize
     ensures { result ≡ length (filter (hold_at device) rows.now.connections) }
 {
     rows.connections
-        .as_slice()
         .iter()
         .filter(|x| x.device == device && x.state.is_hold())
         .count()
@@ -230,8 +211,5 @@ fn has_one_live(rows: &Rows, station: DeviceId) -> bool
 pub fn keeps_live(rows: &Rows) -> bool
     ensures { result ≡ keeps_live rows.now }
 {
-    rows.stations
-        .as_slice()
-        .iter()
-        .all(|t| has_one_live(rows, t.device))
+    rows.stations.iter().all(|t| has_one_live(rows, t.device))
 }

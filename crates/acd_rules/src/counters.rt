@@ -27,7 +27,6 @@ fn connections_with(rows: &Rows, place: u64) -> usize
     ensures { result ≡ length (filter (λ (x : ConnectionRecord). has x.place place) rows.now.connections) }
 {
     rows.connections
-        .as_slice()
         .iter()
         .filter(|x| x.place == Some(place))
         .count()
@@ -78,7 +77,6 @@ fn are_agents_timed(rows: &Rows) -> bool
     ensures { result ≡ list_all (λ (a : AgentRecord). is_stamp rows.now a.stamp && nat_le a.since rows.now.last_moment) rows.now.agents }
 {
     rows.agents
-        .as_slice()
         .iter()
         .all(|a| is_stamp(rows, a.stamp) && a.since <= rows.last_moment)
 }
@@ -86,25 +84,19 @@ fn are_agents_timed(rows: &Rows) -> bool
 fn are_calls_timed(rows: &Rows) -> bool
     ensures { result ≡ list_all (λ (c : CallRecord). nat_le c.since rows.now.last_moment) rows.now.calls }
 {
-    rows.calls
-        .as_slice()
-        .iter()
-        .all(|c| c.since <= rows.last_moment)
+    rows.calls.iter().all(|c| c.since <= rows.last_moment)
 }
 
 fn are_connections_timed(rows: &Rows) -> bool
     ensures { result ≡ list_all (is_timed rows.now) rows.now.connections }
 {
-    rows.connections
-        .as_slice()
-        .iter()
-        .all(|x| is_timed(rows, x))
+    rows.connections.iter().all(|x| is_timed(rows, x))
 }
 
 fn are_groups_countable(rows: &Rows) -> bool
     ensures { result ≡ list_all (is_countable rows.now) rows.now.groups }
 {
-    rows.groups.as_slice().iter().all(|g| is_countable(rows, g))
+    rows.groups.iter().all(|g| is_countable(rows, g))
 }
 
 /// Stamps and places are from 1 to the last stamp, moments up to the last, figures and events

@@ -9,4 +9,3 @@ pub mod counters;
 pub mod first;
 pub mod occupied;
 pub mod plan;
-pub mod scans;

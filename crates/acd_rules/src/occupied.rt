@@ -1,37 +1,22 @@
 //! The rules occupied, offer and balance.
 
 ghost use Rattle.std.specs.Prelude.{◌≡◌, ◌<◌, ◌+◌, ◌^◌, ◌||◌, length, filter};
-ghost use Rattle.std.specs.List.{list_all, list_any};
-ghost use Rattle.acd_terms.specs.Scans.{is_distributed, is_occupied, is_taken, waiting_in, is_eligible, eligible_in};
-ghost use Rattle.acd_terms.specs.States.{is_busy};
+ghost use Rattle.std.specs.List.{list_all};
+ghost use Rattle.acd_terms.specs.Scans.{waiting_in, eligible_in};
 ghost use Rattle.acd_terms.specs.OneOffer.{is_distributed_at};
 ghost use Rattle.acd_terms.specs.Rules.Occupied.{attends, is_attended, is_talking, is_busy_only_talking, keeps_occupied, is_empty, keeps_offer, waits_in, rings_from, is_balanced, keeps_balance};
 
-use crate::scans::agent_at;
 use acd_terms::id::DeviceId;
 use acd_terms::record::{AgentRecord, ConnectionRecord, Figures, GroupRecord};
 use acd_terms::rows::Rows;
-use acd_terms::state::AgentState;
-
-fn is_busy(state: AgentState) -> bool
-    ensures { result ≡ is_busy state }
-{
-    matches!(state, AgentState::Busy)
-}
-
-fn is_distributed(connection: &ConnectionRecord) -> bool
-    ensures { result ≡ is_distributed connection.now }
-{
-    connection.group.is_some() && !connection.state.is_queued()
-}
+use acd_terms::scans::{agent_at, has_eligible, has_waiting, is_occupied};
 
 fn distributed_at(rows: &Rows, device: DeviceId) -> usize
     ensures { result ≡ length (filter (is_distributed_at device) rows.now.connections) }
 {
     rows.connections
-        .as_slice()
         .iter()
-        .filter(|x| x.device == device && is_distributed(x))
+        .filter(|x| x.device == device && x.is_distributed())
         .count()
 }
 
@@ -43,7 +28,7 @@ fn attends(connection: &ConnectionRecord, agent: Option<AgentRecord>) -> bool
         None => false,
         Some(a) => {
             (connection.state.is_alerting() && a.state.is_ready())
-                || (connection.state.is_answered() && is_busy(a.state))
+                || (connection.state.is_answered() && a.state.is_busy())
         }
     }
 }
@@ -53,7 +38,7 @@ fn attends(connection: &ConnectionRecord, agent: Option<AgentRecord>) -> bool
 fn is_attended(rows: &Rows, connection: &ConnectionRecord) -> bool
     ensures { result ≡ is_attended rows.now connection.now }
 {
-    !is_distributed(connection)
+    !connection.is_distributed()
         || (distributed_at(rows, connection.device) <= 1
             && attends(connection, agent_at(rows, connection.device)))
 }
@@ -62,46 +47,29 @@ fn is_attended(rows: &Rows, connection: &ConnectionRecord) -> bool
 fn is_talking(rows: &Rows, agent: &AgentRecord) -> bool
     ensures { result ≡ is_talking rows.now agent.now }
 {
-    rows.connections.as_slice().iter().any(|x| {
-        agent.station == Some(x.device) && is_distributed(x) && x.state.is_answered()
+    rows.connections.iter().any(|x| {
+        agent.station == Some(x.device) && x.is_distributed() && x.state.is_answered()
     })
-}
-
-// A distributed connection is at the agent's station.
-#[tactic(auto, unfolding(acd_terms::specs::Scans::is_occupied))]
-fn is_occupied(rows: &Rows, agent: &AgentRecord) -> bool
-    ensures { result ≡ is_occupied rows.now agent.now }
-{
-    rows.connections
-        .as_slice()
-        .iter()
-        .any(|x| agent.station == Some(x.device) && is_distributed(x))
 }
 
 // A busy agent talks, and a state is pending only for an occupied one.
 fn is_busy_only_talking(rows: &Rows, agent: &AgentRecord) -> bool
     ensures { result ≡ is_busy_only_talking rows.now agent.now }
 {
-    (!is_busy(agent.state) || is_talking(rows, agent))
+    (!agent.state.is_busy() || is_talking(rows, agent))
         && (agent.pending.is_none() || is_occupied(rows, agent))
 }
 
 fn are_all_attended(rows: &Rows) -> bool
     ensures { result ≡ list_all (is_attended rows.now) rows.now.connections }
 {
-    rows.connections
-        .as_slice()
-        .iter()
-        .all(|x| is_attended(rows, x))
+    rows.connections.iter().all(|x| is_attended(rows, x))
 }
 
 fn are_busy_only_talking(rows: &Rows) -> bool
     ensures { result ≡ list_all (is_busy_only_talking rows.now) rows.now.agents }
 {
-    rows.agents
-        .as_slice()
-        .iter()
-        .all(|a| is_busy_only_talking(rows, a))
+    rows.agents.iter().all(|a| is_busy_only_talking(rows, a))
 }
 
 /// A station has at most one distributed connection, and with it an agent, ready or busy; no other
@@ -111,51 +79,6 @@ pub fn keeps_occupied(rows: &Rows) -> bool
     ensures { result ≡ keeps_occupied rows.now }
 {
     are_all_attended(rows) && are_busy_only_talking(rows)
-}
-
-// A call waits in the group.
-fn has_waiting(rows: &Rows, group: DeviceId) -> bool
-    ensures { result ≡ list_any (waits_in group) rows.now.connections }
-{
-    rows.connections
-        .as_slice()
-        .iter()
-        .any(|x| x.device == group && x.state.is_queued())
-}
-
-// A connection at the station is live or on hold.
-#[tactic(auto, unfolding(acd_terms::specs::Scans::is_taken))]
-fn is_taken(rows: &Rows, station: DeviceId) -> bool
-    ensures { result ≡ is_taken rows.now station }
-{
-    rows.connections
-        .as_slice()
-        .iter()
-        .any(|x| x.device == station && x.state.is_occupying())
-}
-
-// The agent is of the group, ready and unoccupied, at an idle station.
-#[tactic(auto, unfolding(acd_terms::specs::Scans::is_eligible))]
-fn is_eligible(rows: &Rows, group: DeviceId, agent: &AgentRecord) -> bool
-    ensures { result ≡ is_eligible rows.now group agent.now }
-{
-    let Some(station) = agent.station else {
-        return false;
-    };
-    agent.group == Some(group)
-        && agent.state.is_ready()
-        && !is_occupied(rows, agent)
-        && !is_taken(rows, station)
-}
-
-// An agent of the group is eligible.
-fn has_eligible(rows: &Rows, group: DeviceId) -> bool
-    ensures { result ≡ list_any (is_eligible rows.now group) rows.now.agents }
-{
-    rows.agents
-        .as_slice()
-        .iter()
-        .any(|a| is_eligible(rows, group, a))
 }
 
 // No call waits in the group, or no agent of it is eligible.
@@ -171,17 +94,13 @@ fn has_no_offer(rows: &Rows, group: DeviceId) -> bool
 pub fn keeps_offer(rows: &Rows) -> bool
     ensures { result ≡ keeps_offer rows.now }
 {
-    rows.groups
-        .as_slice()
-        .iter()
-        .all(|g| has_no_offer(rows, g.device))
+    rows.groups.iter().all(|g| has_no_offer(rows, g.device))
 }
 
 fn waiting_count(rows: &Rows, group: DeviceId) -> usize
     ensures { result ≡ length (filter (waits_in group) rows.now.connections) }
 {
     rows.connections
-        .as_slice()
         .iter()
         .filter(|x| x.device == group && x.state.is_queued())
         .count()
@@ -191,7 +110,6 @@ fn ringing_count(rows: &Rows, group: DeviceId) -> usize
     ensures { result ≡ length (filter (rings_from group) rows.now.connections) }
 {
     rows.connections
-        .as_slice()
         .iter()
         .filter(|x| x.group == Some(group) && x.state.is_alerting())
         .count()
@@ -220,5 +138,5 @@ fn is_balanced(rows: &Rows, group: &GroupRecord) -> bool
 pub fn keeps_balance(rows: &Rows) -> bool
     ensures { result ≡ keeps_balance rows.now }
 {
-    rows.groups.as_slice().iter().all(|g| is_balanced(rows, g))
+    rows.groups.iter().all(|g| is_balanced(rows, g))
 }

@@ -5,11 +5,11 @@ ghost use Rattle.acd_terms.specs.Scans.{has};
 ghost use Rattle.acd_terms.specs.declared.record.AgentRecord.{AgentRecord};
 ghost use Rattle.acd_terms.specs.Rules.Plan.{keeps_limits, keeps_order, keeps_device, keeps_agent, keeps_monitor, is_station_there, is_group_there, is_alone_at, is_seated};
 
-use crate::scans::{is_group, is_planned, is_station};
 use acd_terms::id::DeviceId;
 use acd_terms::keyed::ascends;
 use acd_terms::record::AgentRecord;
 use acd_terms::rows::Rows;
+use acd_terms::scans::{is_group, is_planned, is_station};
 
 /// No limit is above the greatest and no list above its limit; no last number is above its bound.
 #[tactic(auto, unfolding(acd_terms::specs::Rules::Plan::keeps_limits))]
@@ -18,11 +18,11 @@ pub fn keeps_limits(rows: &Rows) -> bool
 {
     let limits = rows.limits;
     limits.fits()
-        && rows.groups.as_slice().len() as u64 <= limits.groups
-        && rows.stations.as_slice().len() as u64 <= limits.stations
-        && rows.agents.as_slice().len() as u64 <= limits.agents
-        && rows.calls.as_slice().len() as u64 <= limits.calls
-        && rows.monitors.as_slice().len() as u64 <= limits.monitors
+        && rows.groups.len() as u64 <= limits.groups
+        && rows.stations.len() as u64 <= limits.stations
+        && rows.agents.len() as u64 <= limits.agents
+        && rows.calls.len() as u64 <= limits.calls
+        && rows.monitors.len() as u64 <= limits.monitors
         && rows.last_stamp <= limits.requests
         && rows.last_call <= rows.last_stamp
         && rows.last_monitor <= rows.last_stamp
@@ -46,10 +46,7 @@ pub fn keeps_order(rows: &Rows) -> bool
 pub fn keeps_device(rows: &Rows) -> bool
     ensures { result ≡ keeps_device rows.now }
 {
-    rows.groups
-        .as_slice()
-        .iter()
-        .all(|g| !is_station(rows, g.device))
+    rows.groups.iter().all(|g| !is_station(rows, g.device))
 }
 
 // The station, which has to be there, is planned.
@@ -71,7 +68,6 @@ fn agents_at(rows: &Rows, station: DeviceId) -> usize
     ensures { result ≡ length (filter (λ (b : AgentRecord). has b.station station) rows.now.agents) }
 {
     rows.agents
-        .as_slice()
         .iter()
         .filter(|b| b.station == Some(station))
         .count()
@@ -105,7 +101,7 @@ fn is_seated(rows: &Rows, agent: &AgentRecord) -> bool
 pub fn keeps_agent(rows: &Rows) -> bool
     ensures { result ≡ keeps_agent rows.now }
 {
-    rows.agents.as_slice().iter().all(|a| is_seated(rows, a))
+    rows.agents.iter().all(|a| is_seated(rows, a))
 }
 
 /// A monitor's device is planned, and its identifier and event are not above the last.
@@ -113,7 +109,7 @@ pub fn keeps_agent(rows: &Rows) -> bool
 pub fn keeps_monitor(rows: &Rows) -> bool
     ensures { result ≡ keeps_monitor rows.now }
 {
-    rows.monitors.as_slice().iter().all(|m| {
+    rows.monitors.iter().all(|m| {
         is_planned(rows, m.device)
             && m.monitor <= rows.last_monitor
             && m.after_event <= rows.last_event

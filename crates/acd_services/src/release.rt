@@ -1,7 +1,6 @@
 //! What becomes of an agent whose distributed connection ends.
 
 ghost use Rattle.std.specs.Prelude.{◌≡◌};
-ghost use Rattle.acd_terms.specs.Scans.{is_distributed};
 ghost use Rattle.acd_terms.specs.Release.{release_of, released, ending_of, release};
 
 use crate::agent_moves::{go_to, wait_for};
@@ -11,13 +10,6 @@ use acd_terms::id::DeviceId;
 use acd_terms::moves::{Ending, Move, Release};
 use acd_terms::record::{AgentRecord, ConnectionRecord};
 use acd_terms::state::{AgentState, Pending};
-
-/// A connection that distribution offered, until it ends.
-pub fn is_distributed(connection: &ConnectionRecord) -> bool
-    ensures { result ≡ is_distributed connection.now }
-{
-    connection.group.is_some() && !connection.state.is_queued()
-}
 
 // The table of release.
 fn release_of(how: Ending, pending: Option<Pending>) -> Release
@@ -68,7 +60,7 @@ pub fn release(
 ) -> Move
     ensures { result ≡ release tables.now moment stamp connection.now how }
 {
-    if !is_distributed(connection) {
+    if !connection.is_distributed() {
         return no_move();
     }
     match tables.agent_at(connection.device) {

@@ -5,7 +5,6 @@ ghost use Rattle.acd_terms.specs.Services.Talking.{occupy, answer_call, hold_cal
 
 use crate::agent_moves::become_busy;
 use crate::call_moves::{answer, hold, no_move, retrieve};
-use crate::release::is_distributed;
 use acd_tables::tables::Tables;
 use acd_terms::answer::{Answer, Refusal};
 use acd_terms::id::DeviceId;
@@ -17,7 +16,7 @@ use acd_terms::record::ConnectionRecord;
 fn occupy(tables: &Tables, moment: u32, stamp: u64, connection: &ConnectionRecord) -> Move
     ensures { result ≡ occupy tables.now moment stamp connection.now }
 {
-    if !is_distributed(connection) {
+    if !connection.is_distributed() {
         return no_move();
     }
     match tables.agent_at(connection.device) {

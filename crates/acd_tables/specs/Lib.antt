@@ -1,5 +1,4 @@
 pub mod Kinds
-pub mod Counting
 pub mod KeyedMaps
 pub mod Sets
 pub mod Indexed

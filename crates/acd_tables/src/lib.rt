@@ -5,7 +5,6 @@
 #![tactic(auto)]
 
 mod changes;
-pub mod figures;
 mod filling;
 pub mod indexes;
 pub mod records;

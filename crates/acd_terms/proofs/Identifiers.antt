@@ -1,12 +1,12 @@
 -- Digits behind a 1, and what passing each character of a text gives.
-use Rattle.std.proofs.Common.{◌≡◌, ℕ, zero, suc, ◌+◌, ◌-◌, ◌*◌, ◌^◌, ◌<◌, ◌≤◌, ◌&&◌, Bool, true, false, not, List, [], ◌∷◌, ◌++◌, length, take, drop, get_or, Option, Some, None, cond, ◌==◌, decimal, refl, sym, ap, ◌∙◌, subst, arith, le-leb, length-drop}
+use Rattle.std.proofs.Common.{◌≡◌, ℕ, zero, suc, ◌+◌, ◌-◌, ◌*◌, ◌^◌, ◌<◌, ◌≤◌, Bool, true, false, not, List, [], ◌∷◌, length, take, drop, get_or, Some, None, cond, ◌==◌, decimal, refl, sym, ap, ◌∙◌, arith, le-leb, length-drop}
 use Rattle.std.proofs.lemmas.Fmt.{decimal_is_IsNumeral, decimal-digits_value}
 use Rattle.std.proofs.lemmas.Str.Parse.{digit_from_value, digits_value_short, IsNumeralModel, numerals_by_value, tells_digits}
 use Rattle.std.proofs.lemmas.Str.{digit_value_digit}
 use Rattle.std.specs.Int.{IsInRange}
 use Rattle.std.proofs.lemmas.List.{length-take-le, take_more}
 use Rattle.std.proofs.lemmas.Int.Digits.{digits_value_push}
-use Rattle.std.proofs.lemmas.Bool.{and_parts, true≢false}
+use Rattle.std.proofs.lemmas.Bool.{and_parts}
 use Rattle.std.proofs.lemmas.Bool.Decides.{nat_tests}
 use Rattle.std.specs.Cmp.Derive.{both_true}
 use Rattle.std.specs.List.{list_all, position}
@@ -14,7 +14,7 @@ use Rattle.std.proofs.lemmas.Iterator.Adapters.{position_from-zero}
 use Rattle.std.specs.List.{position_from}
 use Rattle.std.specs.Char.{is_ascii, is_ascii_digit, digit_value}
 use Rattle.std.specs.Str.Parse.{AllDigits, digits_value}
-use Rattle.acd_terms.specs.Forms.{number_of, digits_of, is_not_digit, IsNumberOf, is_name_byte, is_requester_byte}
+use Rattle.acd_terms.specs.Forms.{number_of, digits_of, IsNumberOf, is_name_byte, is_requester_byte}
 
 -- where no character fails, each passes
 none_from : (p : ℕ → Bool) (place : ℕ) (xs : List ℕ) → position_from (λ b. not (p b)) place xs ≡ None → list_all p xs ≡ true

@@ -4,3 +4,4 @@ pub mod OnLiterals
 pub mod MoveLemmas
 pub mod ReadBack
 pub mod ChangeLemmas
+pub mod OptionLists

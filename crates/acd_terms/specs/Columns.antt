@@ -1,6 +1,5 @@
 -- A report as columns: the one place that says which member stands in which column.
 use Rattle.std.specs.Prelude.{ℕ, Option, Some, None, option_map}
-use Rattle.acd_terms.specs.declared.event.Cause.{Cause}
 use Rattle.acd_terms.specs.declared.event.Cause.TheVariants.{Busy as StationBusy}
 use Rattle.acd_terms.specs.declared.event.Report.{Report}
 use Rattle.acd_terms.specs.declared.event.Report.TheVariants as report

@@ -1,5 +1,5 @@
 -- Distribution: offers are made until there is none.
-use Rattle.std.specs.Prelude.{ℕ, zero, suc, List, [], ◌∷◌, ◌++◌, Option, Some, None, option_and_then, length}
+use Rattle.std.specs.Prelude.{ℕ, zero, suc, List, [], ◌∷◌, ◌++◌, Option, Some, None, length}
 use Rattle.acd_terms.specs.Scans.{connection_of, agent_of, queued_in_all}
 use Rattle.acd_terms.specs.Choice.{offer_of}
 use Rattle.acd_terms.specs.Moves.{moved}

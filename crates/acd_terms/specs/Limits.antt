@@ -1,5 +1,5 @@
 -- How much a desk may hold at most.
-use Rattle.std.specs.Prelude.{ℕ, Bool, ◌&&◌, nat_le}
+use Rattle.std.specs.Prelude.{Bool, ◌&&◌, nat_le}
 use Rattle.acd_terms.specs.declared.rows.Limits.{Limits}
 
 abbrev pub greatest_limits : Limits

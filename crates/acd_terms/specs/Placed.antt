@@ -1,5 +1,5 @@
 -- Where each call stands: cleared, in one queue, or at devices.
-use Rattle.std.specs.Prelude.{◌≡◌, ◌⊎◌, ℕ, ◌<◌, ◌≤◌, Bool, true, false, ◌&&◌, ◌==◌, List, Option, Some, None}
+use Rattle.std.specs.Prelude.{◌≡◌, ◌⊎◌, ℕ, ◌<◌, ◌≤◌, Bool, true, false, ◌&&◌, ◌==◌, List, Some, None}
 use Rattle.acd_terms.specs.Lists.{Among, count}
 use Rattle.acd_terms.specs.Scans.{call_of, is_group, is_station}
 use Rattle.acd_terms.specs.States.{is_queued, is_alerting}

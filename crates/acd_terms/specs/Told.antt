@@ -1,5 +1,5 @@
 -- What the events alone tell of a connection, of an agent and of an entry into a queue.
-use Rattle.std.specs.Prelude.{ℕ, Bool, ◌&&◌, ◌==◌, List, [], ◌∷◌, Option, Some, None, if◌then◌else◌}
+use Rattle.std.specs.Prelude.{ℕ, Bool, ◌&&◌, List, [], ◌∷◌, Option, Some, None, if◌then◌else◌}
 use Rattle.acd_terms.specs.Scans.{has}
 use Rattle.acd_terms.specs.Columns.{columns_of}
 use Rattle.acd_terms.specs.Figures.{is_entry}

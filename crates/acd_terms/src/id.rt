@@ -8,19 +8,23 @@ ghost use Rattle.acd_terms.specs.Forms.{read_id, number_of, digits_of, device_di
 use crate::short_text::ShortText;
 use itoa::Buffer;
 use std::marker::Model;
+use thiserror::Error;
 
 /// Why bytes are no identifier.
-#[derive(Clone, Copy, Debug, PartialEq, Eq)]
+#[derive(Clone, Copy, Debug, PartialEq, Eq, Error)]
 pub enum IdFault {
+    #[error("no digits")]
     Empty,
+    #[error("too many digits")]
     TooLong,
     /// The place of the first byte that is no digit, counted from 0.
+    #[error("no digit at byte {0}")]
     NotDigit(usize),
 }
 
 /// A device: 1 to 15 digits, held as the value of the digit 1 followed by them. A group, a station and
 /// an external caller are devices. Devices stand in the order of these numbers: `7`, `07`, `99`, `100`.
-#[derive(Clone, Copy, Debug, PartialEq, Eq, PartialOrd, Ord)]
+#[derive(Clone, Copy, Debug, PartialEq, Eq, PartialOrd, Ord, Hash)]
 pub struct DeviceId {
     value: u64,
 }
@@ -66,7 +70,7 @@ impl DeviceId {
 }
 
 /// An agent: 1 to 9 digits, held as the value of the digit 1 followed by them.
-#[derive(Clone, Copy, Debug, PartialEq, Eq, PartialOrd, Ord)]
+#[derive(Clone, Copy, Debug, PartialEq, Eq, PartialOrd, Ord, Hash)]
 pub struct AgentId {
     value: u64,
 }

@@ -1,10 +1,15 @@
 //! Lists that contracts see as their members in order.
 
-ghost use Rattle.std.specs.Prelude.{◌≡◌};
+ghost use Rattle.std.specs.Prelude.{◌≡◌, ◌↔◌, [], length, IsTrue};
+ghost use Rattle.std.specs.Slice.Iter.{iter_rest};
+ghost use Rattle.std.specs.Cmp.Lexicographic.{pointwise, lists_per, lists_equiv};
 
+use std::alloc::AllocError;
 use std::marker::Model;
+use std::slice;
 
-/// A list, seen as its members in order. It is made of a `Vec` and gives it back, and takes no memory.
+/// A list, seen as its members in order. It is made of a `Vec` and gives it back, and takes no memory
+/// but for its clone.
 #[derive(Debug, Drop)]
 pub struct Listed<T> {
     members: Vec<T>,
@@ -31,9 +36,62 @@ impl<T> Listed<T> {
         &self.members
     }
 
+    pub fn iter(&self) -> slice::Iter<'_, T>
+        ensures { iter_rest result ≡ self.now }
+    {
+        self.members.iter()
+    }
+
+    pub fn len(&self) -> usize
+        ensures { result ≡ length self.now }
+    {
+        self.members.len()
+    }
+
+    pub fn is_empty(&self) -> bool
+        ensures { IsTrue result ↔ (self.now ≡ []) }
+    {
+        self.members.is_empty()
+    }
+
     pub fn into_vec(self) -> Vec<T>
         ensures { result.items ≡ self }
     {
         self.members
+    }
+}
+
+impl<T: PartialEq> PartialEq for Listed<T> {
+    ghost eq = { pointwise T.eq };
+
+    ghost laws = { lists_per T.laws };
+
+    fn eq(&self, other: &Listed<T>) -> bool {
+        self.as_slice() == other.as_slice()
+    }
+}
+
+impl<T: Eq> Eq for Listed<T> {
+    ghost laws = { lists_equiv T.Eq.laws };
+}
+
+impl<'a, T> IntoIterator for &'a Listed<T> {
+    type Item = &'a T;
+
+    type IntoIter = slice::Iter<'a, T>;
+
+    ghost into_iter_gives = { λ list it. iter_rest it ≡ list.now };
+
+    fn into_iter(self) -> Self::IntoIter {
+        self.iter()
+    }
+}
+
+impl<T: Copy> Clone for Listed<T> {
+    ghost is_clone = { λ list clone. clone ≡ list };
+
+    fn clone(&self) -> Result<Listed<T>, AllocError> {
+        let alloc = *self.members.allocator();
+        Ok(Listed::new(self.members.iter().copied().collect(alloc)?))
     }
 }

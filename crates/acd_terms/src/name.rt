@@ -5,13 +5,17 @@ ghost use Rattle.acd_terms.specs.Forms.{read_text, is_name_byte, is_requester_by
 
 use crate::short_text::ShortText;
 use std::marker::Model;
+use thiserror::Error;
 
 /// Why bytes are no name and no requester.
-#[derive(Clone, Copy, Debug, PartialEq, Eq)]
+#[derive(Clone, Copy, Debug, PartialEq, Eq, Error)]
 pub enum NameFault {
+    #[error("no characters")]
     Empty,
+    #[error("too many characters")]
     TooLong,
     /// The place of the first byte that may not stand there, counted from 0.
+    #[error("byte {0} may not stand there")]
     BadCharacter(usize),
 }
 
@@ -54,6 +58,14 @@ impl Name {
     }
 
     /// Its characters.
+    pub fn as_bytes(&self) -> &[u8]
+        ensures value { result.now ≡ self.now }
+        ensures formed { IsName self.now }
+    {
+        self.text.as_bytes()
+    }
+
+    /// Its characters as text. It looks at each of them: [`Self::as_bytes`] does not.
     pub fn as_str(&self) -> &str
         ensures value { result.now ≡ self.now }
         ensures formed { IsName self.now }
@@ -62,8 +74,9 @@ impl Name {
     }
 }
 
-/// Who sends requests: 1 to 32 lower-case letters, digits and hyphens.
-#[derive(Clone, Copy, Debug, PartialEq, Eq)]
+/// Who sends requests: 1 to 32 lower-case letters, digits and hyphens. Requesters are equal where their
+/// characters are.
+#[derive(Clone, Copy, Debug, PartialEq, Eq, PartialOrd, Ord, Hash)]
 pub struct Requester {
     text: ShortText<32>,
 }
@@ -101,6 +114,14 @@ impl Requester {
     }
 
     /// Its characters.
+    pub fn as_bytes(&self) -> &[u8]
+        ensures value { result.now ≡ self.now }
+        ensures formed { IsRequester self.now }
+    {
+        self.text.as_bytes()
+    }
+
+    /// Its characters as text. It looks at each of them: [`Self::as_bytes`] does not.
     pub fn as_str(&self) -> &str
         ensures value { result.now ≡ self.now }
         ensures formed { IsRequester self.now }

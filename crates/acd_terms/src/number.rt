@@ -6,7 +6,7 @@ ghost use Rattle.acd_terms.specs.Forms.{number_between, IsBetween};
 use std::marker::Model;
 
 /// The number of a request among those of its requester: 1 to 999999999.
-#[derive(Clone, Copy, Debug, PartialEq, Eq)]
+#[derive(Clone, Copy, Debug, PartialEq, Eq, PartialOrd, Ord, Hash)]
 pub struct Invoke {
     number: u32,
 }

@@ -4,13 +4,16 @@
 //! said by the rules of rows, and not by these types, so that rows that break a rule can be held and
 //! refused.
 
+ghost use Rattle.std.specs.Prelude.{◌≡◌};
+ghost use Rattle.acd_terms.specs.Scans.{is_distributed};
+
 use crate::id::{AgentId, DeviceId};
 use crate::name::Name;
 use crate::number::Seconds;
 use crate::state::{AgentState, ConnectionState, Pending};
 
 /// What a group has counted since it was added.
-#[derive(Clone, Copy, Debug, PartialEq, Eq)]
+#[derive(Clone, Copy, Debug, Default, PartialEq, Eq)]
 pub struct Figures {
     /// Calls that entered the queue, but for returns after no answer.
     pub entered: u64,
@@ -84,6 +87,15 @@ pub struct ConnectionRecord {
     pub queued: Option<u32>,
     /// The moment at which the call was offered.
     pub offered: Option<u32>,
+}
+
+impl ConnectionRecord {
+    /// A connection that distribution offered, until it ends.
+    pub fn is_distributed(&self) -> bool
+        ensures { result ≡ is_distributed self.now }
+    {
+        self.group.is_some() && !self.state.is_queued()
+    }
 }
 
 /// A running monitor (Monitor Start of ECMA-269).

@@ -2,11 +2,13 @@
 
 ghost use Rattle.std.specs.Prelude.{◌≡◌};
 ghost use Rattle.acd_terms.specs.Limits.{limits_fit};
+ghost use Rattle.acd_terms.specs.Writes.{empty_rows};
 
 use crate::listed::Listed;
 use crate::record::{
     AgentRecord, CallRecord, ConnectionRecord, GroupRecord, MonitorRecord, StationRecord,
 };
+use std::alloc::Global;
 
 /// How much a desk may hold.
 #[derive(Clone, Copy, Debug, PartialEq, Eq)]
@@ -48,7 +50,7 @@ impl Limits {
 }
 
 /// The state: the limits, lists in ascending key, and the counters.
-#[derive(Debug, Drop)]
+#[derive(Clone, Debug, PartialEq, Eq, Drop)]
 pub struct Rows {
     pub limits: Limits,
     pub groups: Listed<GroupRecord>,
@@ -64,6 +66,28 @@ pub struct Rows {
     pub last_call: u64,
     pub last_monitor: u64,
     pub last_event: u64,
+}
+
+impl Rows {
+    /// No records, and counters of 0.
+    pub fn empty(alloc: Global, limits: Limits) -> Rows
+        ensures { result ≡ empty_rows limits }
+    {
+        Rows {
+            limits,
+            groups: Listed::new(Vec::new(alloc)),
+            stations: Listed::new(Vec::new(alloc)),
+            agents: Listed::new(Vec::new(alloc)),
+            calls: Listed::new(Vec::new(alloc)),
+            connections: Listed::new(Vec::new(alloc)),
+            monitors: Listed::new(Vec::new(alloc)),
+            last_stamp: 0,
+            last_moment: 0,
+            last_call: 0,
+            last_monitor: 0,
+            last_event: 0,
+        }
+    }
 }
 
 /// The rules that the rows of a switch keep, in the order in which they are tested.

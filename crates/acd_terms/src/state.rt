@@ -1,7 +1,7 @@
 //! The states of agents and connections.
 
 ghost use Rattle.std.specs.Prelude.{◌≡◌};
-ghost use Rattle.acd_terms.specs.States.{is_ready, is_null, is_working_after_call, is_initiated, is_alerting, is_connected, is_hold, is_queued, is_answered, is_live, is_occupying, state_wanted, agent_state_name, pending_name};
+ghost use Rattle.acd_terms.specs.States.{is_ready, is_null, is_busy, is_working_after_call, is_initiated, is_alerting, is_connected, is_hold, is_queued, is_fail, is_answered, is_live, is_occupying, state_wanted, agent_state_name, pending_name};
 
 /// The agent states of ECMA-269. `Null` is an agent who is not logged on.
 #[derive(Clone, Copy, Debug, PartialEq, Eq)]
@@ -24,6 +24,12 @@ impl AgentState {
         ensures { result ≡ is_ready self }
     {
         matches!(self, AgentState::Ready)
+    }
+
+    pub fn is_busy(self) -> bool
+        ensures { result ≡ is_busy self }
+    {
+        matches!(self, AgentState::Busy)
     }
 
     pub fn is_working_after_call(self) -> bool
@@ -121,6 +127,12 @@ impl ConnectionState {
         ensures { result ≡ is_queued self }
     {
         matches!(self, ConnectionState::Queued)
+    }
+
+    pub fn is_fail(self) -> bool
+        ensures { result ≡ is_fail self }
+    {
+        matches!(self, ConnectionState::Fail)
     }
 
     /// Connected or on hold.

@@ -4,6 +4,7 @@ use super::*;
 use acd_terms::id::{AgentId, DeviceId, IdFault};
 use acd_terms::name::{Name, NameFault, Requester};
 use acd_terms::number::{Invoke, Seconds, Serial};
+use std::collections::HashMap;
 
 #[test]
 fn faults_of_devices(rt: HostRuntime) {
@@ -57,6 +58,26 @@ fn faults_of_requesters(rt: HostRuntime) {
     assert_eq!(rt; Requester::read(b"a-9_"), Err(NameFault::BadCharacter(3)));
     let requester = Requester::read(b"a-9z").expect(&rt, "a requester");
     assert_eq!(rt; requester.as_str(), "a-9z");
+}
+
+// The key of a request.
+fn key(rt: &impl Abort, text: &str, number: u64) -> (Requester, Invoke) {
+    let requester = Requester::read(text.as_bytes()).expect(rt, "a requester");
+    let invoke = Invoke::new(number).expect(rt, "an invoke number");
+    (requester, invoke)
+}
+
+#[test]
+fn requesters_as_keys(rt: HostRuntime) {
+    let mut stamps = HashMap::new(rt.alloc());
+    let put: Result<_, _> = stamps.insert(key(&rt, "pbx", 1), 1);
+    assert!(rt; put.is_ok());
+    let put: Result<_, _> = stamps.insert(key(&rt, "pb", 1), 2);
+    assert!(rt; put.is_ok());
+    assert_eq!(rt; stamps.get(&key(&rt, "pbx", 1)).copied(), Some(1));
+    assert_eq!(rt; stamps.get(&key(&rt, "pb", 1)).copied(), Some(2));
+    assert!(rt; !stamps.contains_key(&key(&rt, "pbx", 2)));
+    assert!(rt; !stamps.contains_key(&key(&rt, "p", 1)));
 }
 
 #[test]

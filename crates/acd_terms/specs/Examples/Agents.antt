@@ -1,5 +1,5 @@
 -- Worked examples: what is pending for a busy agent, holding, and giving a call away.
-use Rattle.std.specs.Prelude.{◌≡◌, ℕ, List, [], ◌∷◌, ◌++◌, Option, Some, None, option_map}
+use Rattle.std.specs.Prelude.{◌≡◌, [], ◌∷◌, Some, None, option_map}
 use Rattle.acd_terms.specs.Scans.{waiting_in, agent_of}
 use Rattle.acd_terms.specs.CallMoves.{queueing}
 use Rattle.acd_terms.specs.Examples.Words.{billing, first_station, second_station, ana, caller, at, asked_after, event, figures_in, offered, answered}

@@ -1,9 +1,9 @@
 -- Worked examples: calls that wait, are offered, answered, abandoned and given back.
-use Rattle.std.specs.Prelude.{◌≡◌, ℕ, List, [], ◌∷◌, ◌++◌, Option, Some, None}
-use Rattle.acd_terms.specs.Scans.{waiting_in, connections_of, agent_of, call_of}
+use Rattle.std.specs.Prelude.{◌≡◌, List, [], ◌∷◌, ◌++◌, Some, None}
+use Rattle.acd_terms.specs.Scans.{waiting_in, connections_of, call_of}
 use Rattle.acd_terms.specs.CallMoves.{plain, queueing}
 use Rattle.acd_terms.specs.Run.{Asked}
-use Rattle.acd_terms.specs.Examples.Words.{billing, first_station, second_station, ana, ben, caller, second_caller, third_caller, at, plan, asked_after, event, figures_in, call_arrives, ana_becomes_ready, offered, answered}
+use Rattle.acd_terms.specs.Examples.Words.{billing, first_station, second_station, ana, ben, caller, second_caller, third_caller, at, plan, asked_after, event, figures_in, call_arrives, ana_becomes_ready, offered}
 use Rattle.acd_terms.specs.declared.event.Cause.TheVariants as cause
 use Rattle.acd_terms.specs.declared.event.Report.TheVariants.{Queued, Delivered, Diverted, Established, ConnectionCleared, CallCleared, AgentLoggedOn, AgentNotReady, AgentReady, AgentBusy, AgentWorkingAfterCall}
 use Rattle.acd_terms.specs.declared.command.Command.TheVariants.{AddStation, ArriveCall, AnswerCall, ClearConnection, SetAgentState, Tick}

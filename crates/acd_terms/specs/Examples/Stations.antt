@@ -1,5 +1,5 @@
 -- Worked examples: busy stations and private calls.
-use Rattle.std.specs.Prelude.{◌≡◌, ℕ, List, [], ◌∷◌, ◌++◌, Option, Some, None, option_map}
+use Rattle.std.specs.Prelude.{◌≡◌, [], ◌∷◌, Some, None, option_map}
 use Rattle.acd_terms.specs.Scans.{agent_of}
 use Rattle.acd_terms.specs.Examples.Words.{billing, first_station, second_station, ana, caller, late_caller, at, plan, asked_after, event, answered}
 use Rattle.acd_terms.specs.declared.event.Cause.TheVariants as cause

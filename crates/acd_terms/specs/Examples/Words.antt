@@ -1,5 +1,5 @@
 -- The words of the worked examples: a plan, who calls whom, and what is asked at which moment.
-use Rattle.std.specs.Prelude.{◌≡◌, ℕ, List, [], ◌∷◌, ◌++◌, codes, Option, Some, None, option_map, Ok}
+use Rattle.std.specs.Prelude.{◌≡◌, ℕ, List, [], ◌∷◌, ◌++◌, codes, Option, option_map, Ok}
 use Rattle.acd_terms.specs.Forms.{read_id}
 use Rattle.acd_terms.specs.Limits.{greatest_limits}
 use Rattle.acd_terms.specs.Writes.{empty_rows}

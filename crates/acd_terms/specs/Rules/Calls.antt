@@ -1,5 +1,5 @@
 -- The rules call, connection, parties and live.
-use Rattle.std.specs.Prelude.{ℕ, Bool, true, false, not, ◌&&◌, ◌||◌, ◌==◌, List, Option, Some, None, is_some, is_none, nat_le, if◌then◌else◌}
+use Rattle.std.specs.Prelude.{ℕ, Bool, true, not, ◌&&◌, ◌||◌, ◌==◌, Option, Some, None, is_some, is_none, nat_le, if◌then◌else◌}
 use Rattle.std.specs.List.{list_all}
 use Rattle.acd_terms.specs.Lists.{count}
 use Rattle.acd_terms.specs.Scans.{call_of, is_group, is_station, is_planned, has}

@@ -1,5 +1,5 @@
 -- The rule counters.
-use Rattle.std.specs.Prelude.{ℕ, ◌*◌, Bool, true, false, ◌&&◌, List, Option, Some, None, nat_le}
+use Rattle.std.specs.Prelude.{ℕ, ◌*◌, Bool, true, ◌&&◌, Option, Some, None, nat_le}
 use Rattle.std.specs.List.{list_all}
 use Rattle.acd_terms.specs.Lists.{count}
 use Rattle.acd_terms.specs.Scans.{has}

@@ -1,5 +1,5 @@
 -- setAgentState, for loggedOn and for the other values.
-use Rattle.std.specs.Prelude.{ℕ, not, List, [], ◌∷◌, is_some, Some, if◌then◌else◌}
+use Rattle.std.specs.Prelude.{ℕ, not, [], ◌∷◌, is_some, Some, if◌then◌else◌}
 use Rattle.acd_terms.specs.Scans.{agent_of, agent_at, is_group, is_station, is_planned, is_occupied}
 use Rattle.acd_terms.specs.States.{is_null, is_in, state_wanted}
 use Rattle.acd_terms.specs.AgentMoves.{go_from, log_on_at, wait_for}

@@ -1,5 +1,5 @@
 -- answerCall, holdCall and retrieveCall.
-use Rattle.std.specs.Prelude.{ℕ, not, List, [], ◌∷◌, Option, Some, None, if◌then◌else◌}
+use Rattle.std.specs.Prelude.{ℕ, not, [], ◌∷◌, Option, Some, None, if◌then◌else◌}
 use Rattle.acd_terms.specs.Scans.{call_of, connection_of, agent_at, is_distributed, is_station, is_live_at}
 use Rattle.acd_terms.specs.States.{is_alerting, is_connected, is_hold}
 use Rattle.acd_terms.specs.Moves.{no_move}

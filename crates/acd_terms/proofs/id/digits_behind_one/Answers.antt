@@ -1,4 +1,4 @@
-use Rattle.std.proofs.Common.{◌≡◌, ◌-◌, ◌≤◌, drop, take, length, decimal, sym, ◌∙◌, ap, true, arith, length-drop}
+use Rattle.std.proofs.Common.{◌-◌, drop, length, ◌∙◌, ap, arith, length-drop}
 use Rattle.std.specs.List.{list_all}
 use Rattle.std.specs.Char.{is_ascii}
 use Rattle.std.proofs.lemmas.List.{take_all}

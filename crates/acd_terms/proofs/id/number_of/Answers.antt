@@ -1,4 +1,4 @@
-use Rattle.std.proofs.Common.{◌≡◌, ◌+◌, ◌*◌, ◌<◌, ◌≤◌, ◌^◌, length, get_or, take, arith}
+use Rattle.std.proofs.Common.{arith}
 use Rattle.acd_terms.proofs.Identifiers.{next_value, bounded, digit_at}
 use Rattle.acd_terms.proofs.id.number_of.Goals as goal
 

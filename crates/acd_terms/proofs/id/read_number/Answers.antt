@@ -1,4 +1,4 @@
-use Rattle.std.proofs.Common.{◌≡◌, ◌<◌, length, arith, sym, ◌∙◌, subst}
+use Rattle.std.proofs.Common.{◌<◌, length, arith, sym, ◌∙◌, subst}
 use Rattle.std.specs.Char.{is_ascii_digit}
 use Rattle.acd_terms.specs.Forms.{IsNumberOf}
 use Rattle.acd_terms.proofs.Identifiers.{all_pass, formed, more_than_none}

@@ -1,6 +1,6 @@
 use Rattle.std.proofs.Common.{◌≡◌, ◌++◌}
 use Rattle.std.specs.Prelude.{filter, ◌==◌}
-use Rattle.acd_tables.proofs.OptionLists.{as_list}
+use Rattle.acd_terms.proofs.OptionLists.{as_list}
 use Rattle.acd_tables.proofs.tables.Tables.connections_of.Given as goal
 
 abbrev pub invariant-loop-c : goal.invariant-loop-c

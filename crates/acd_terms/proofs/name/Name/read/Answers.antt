@@ -1,4 +1,4 @@
-use Rattle.std.proofs.Common.{◌≡◌, ◌<◌, length, arith, lit<, sym, ◌∙◌, subst}
+use Rattle.std.proofs.Common.{◌<◌, length, arith, lit<, sym, ◌∙◌, subst}
 use Rattle.acd_terms.specs.Forms.{is_name_byte, IsName}
 use Rattle.acd_terms.proofs.Identifiers.{all_pass, ascii_name, more_than_none}
 use Rattle.acd_terms.proofs.name.Name.read.Goals as goal

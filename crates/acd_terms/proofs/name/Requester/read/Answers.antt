@@ -1,4 +1,4 @@
-use Rattle.std.proofs.Common.{◌≡◌, ◌<◌, length, arith, lit<, sym, ◌∙◌, subst}
+use Rattle.std.proofs.Common.{◌<◌, length, arith, lit<, sym, ◌∙◌, subst}
 use Rattle.acd_terms.specs.Forms.{is_requester_byte, IsRequester}
 use Rattle.acd_terms.proofs.Identifiers.{all_pass, ascii_requester, more_than_none}
 use Rattle.acd_terms.proofs.name.Requester.read.Goals as goal
