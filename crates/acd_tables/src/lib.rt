@@ -12,6 +12,8 @@ pub mod scans;
 mod sets;
 pub mod table;
 pub mod tables;
+#[cfg(test)]
+mod tests;
 mod turns;
 pub mod uses;
 pub mod writes;

@@ -1,0 +1,218 @@
+//! Each write and each look-up once, on values.
+
+use crate::table::Table;
+use crate::tables::{DeviceKind, Tables};
+use acd_terms::id::{AgentId, DeviceId};
+use acd_terms::name::Name;
+use acd_terms::number::Seconds;
+use acd_terms::record::{
+    AgentRecord, CallRecord, ConnectionRecord, Figures, GroupRecord, MonitorRecord, StationRecord,
+};
+use acd_terms::rows::Limits;
+use acd_terms::state::{AgentState, ConnectionState};
+use std::alloc::AllocError;
+use std::process::Abort;
+use std::test::Fail;
+
+fn device(rt: &impl Abort, digits: &str) -> DeviceId {
+    DeviceId::read(digits.as_bytes()).expect(rt, "a device")
+}
+
+fn agent(rt: &impl Abort, digits: &str) -> AgentId {
+    AgentId::read(digits.as_bytes()).expect(rt, "an agent")
+}
+
+fn station(rt: &impl Abort, digits: &str) -> StationRecord {
+    StationRecord {
+        device: device(rt, digits),
+    }
+}
+
+fn plan_group(rt: &impl Abort, tables: &mut Tables, digits: &str) -> Result<(), AllocError> {
+    tables.put_group(GroupRecord {
+        device: device(rt, digits),
+        name: Name::read(b"Help").expect(rt, "a name"),
+        ring: Seconds::new(20).expect(rt, "seconds"),
+        wrap: Seconds::new(0).expect(rt, "seconds"),
+        figures: Figures {
+            entered: 0,
+            answered: 0,
+            abandoned: 0,
+            moved: 0,
+            waited: 0,
+        },
+    })
+}
+
+fn plan_station(rt: &impl Abort, tables: &mut Tables, digits: &str) -> Result<(), AllocError> {
+    tables.put_station(station(rt, digits))
+}
+
+// An agent of the group 500, ready since a stamp.
+fn log_on(
+    rt: &impl Abort,
+    tables: &mut Tables,
+    digits: &str,
+    at: &str,
+    stamp: u64,
+) -> Result<(), AllocError> {
+    tables.put_agent(AgentRecord {
+        agent: agent(rt, digits),
+        name: Name::read(b"Ann").expect(rt, "a name"),
+        state: AgentState::Ready,
+        pending: None,
+        station: Some(device(rt, at)),
+        group: Some(device(rt, "500")),
+        stamp,
+        since: 0,
+    })
+}
+
+// The call waits in the group 500 at a place.
+fn queue(rt: &impl Abort, tables: &mut Tables, call: u64, place: u64) -> Result<(), AllocError> {
+    tables.put_connection(ConnectionRecord {
+        call,
+        device: device(rt, "500"),
+        state: ConnectionState::Queued,
+        group: Some(device(rt, "500")),
+        place: Some(place),
+        queued: Some(0),
+        offered: None,
+    })
+}
+
+#[test]
+fn a_table_keeps_the_order_of_its_keys(rt: HostRuntime) -> Result<(), Fail> {
+    let mut table: Table<StationRecord> = Table::new(rt.alloc());
+    table.put(station(&rt, "100"))?;
+    table.put(station(&rt, "07"))?;
+    assert_eq!(rt; table.values().next().copied(), Some(station(&rt, "07")));
+    assert_eq!(rt; table.find(device(&rt, "100")), Some(station(&rt, "100")));
+    table.remove(device(&rt, "07"));
+    assert_eq!(rt; table.len(), 1);
+    Ok(())
+}
+
+fn plan(rt: &impl Abort, tables: &mut Tables) -> Result<(), AllocError> {
+    plan_group(rt, tables, "500")?;
+    plan_station(rt, tables, "101")?;
+    log_on(rt, tables, "3", "103", 5)?;
+    log_on(rt, tables, "2", "102", 5)
+}
+
+#[test]
+fn plans_devices_and_agents(rt: HostRuntime) -> Result<(), Fail> {
+    let mut tables = Tables::new(rt.alloc(), Limits::GREATEST);
+    plan(&rt, &mut tables)?;
+    let help = device(&rt, "500");
+    assert!(rt; tables.kind_of(help) == Some(DeviceKind::Group));
+    assert!(rt; tables.kind_of(device(&rt, "101")) == Some(DeviceKind::Station));
+    let (stamp, number) = tables.first_eligible(help).ok_or("none")?;
+    assert!(rt; stamp == 5 && number == agent(&rt, "2"));
+    Ok(())
+}
+
+fn queue_two(rt: &impl Abort, tables: &mut Tables) -> Result<(), AllocError> {
+    plan_group(rt, tables, "500")?;
+    queue(rt, tables, 1, 9)?;
+    queue(rt, tables, 2, 8)?;
+    queue(rt, tables, 3, 7)?;
+    tables.remove_connection(3, device(rt, "500"))
+}
+
+#[test]
+fn chooses_the_least_place(rt: HostRuntime) -> Result<(), Fail> {
+    let mut tables = Tables::new(rt.alloc(), Limits::GREATEST);
+    queue_two(&rt, &mut tables)?;
+    assert!(rt; tables.queued_count() == 2);
+    assert!(rt; tables.first_waiting(device(&rt, "500")) == Some((8, 2)));
+    Ok(())
+}
+
+fn ring_and_end(rt: &impl Abort, tables: &mut Tables) -> Result<(), AllocError> {
+    tables.put_call(CallRecord {
+        call: 7,
+        caller: device(rt, "0201"),
+        called: device(rt, "101"),
+        since: 4,
+    })?;
+    tables.remove_call(7)
+}
+
+fn watch_and_end(rt: &impl Abort, tables: &mut Tables) -> Result<(), AllocError> {
+    tables.put_monitor(MonitorRecord {
+        monitor: 2,
+        device: device(rt, "500"),
+        after_event: 1,
+    })?;
+    tables.remove_monitor(2)
+}
+
+#[test]
+fn keeps_the_last_numbers(rt: HostRuntime) -> Result<(), Fail> {
+    let mut tables = Tables::new(rt.alloc(), Limits::GREATEST);
+    tables.set_last_ids(6, 1);
+    ring_and_end(&rt, &mut tables)?;
+    watch_and_end(&rt, &mut tables)?;
+    tables.set_last(5, 6, 9);
+    let rows = tables.rows()?;
+    assert!(rt; rows.last_stamp == 5 && rows.last_moment == 6 && rows.last_event == 9);
+    assert!(rt; rows.last_call == 7 && rows.last_monitor == 2);
+    Ok(())
+}
+
+// The call rings at a station.
+fn ring(rt: &impl Abort, tables: &mut Tables, call: u64, at: &str) -> Result<(), AllocError> {
+    tables.put_connection(ConnectionRecord {
+        call,
+        device: device(rt, at),
+        state: ConnectionState::Alerting,
+        group: None,
+        place: None,
+        queued: None,
+        offered: None,
+    })
+}
+
+fn number_of_ready(rt: &impl Abort, tables: &Tables) -> usize {
+    tables
+        .ready_of(device(rt, "500"))
+        .expect(rt, "a group")
+        .len()
+}
+
+#[test]
+fn a_busy_station_keeps_its_agent_from_offers(rt: HostRuntime) {
+    let mut tables = Tables::new(rt.alloc(), Limits::GREATEST);
+    plan(&rt, &mut tables).expect(&rt, "memory");
+    assert_eq!(rt; number_of_ready(&rt, &tables), 2);
+    ring(&rt, &mut tables, 8, "102").expect(&rt, "memory");
+    assert_eq!(rt; number_of_ready(&rt, &tables), 1);
+    assert!(rt; tables.is_live_at(device(&rt, "102")));
+    tables
+        .remove_connection(8, device(&rt, "102"))
+        .expect(&rt, "memory");
+    assert_eq!(rt; number_of_ready(&rt, &tables), 2);
+}
+
+#[test]
+fn a_second_agent_at_a_station_is_refused(rt: HostRuntime) {
+    let mut tables = Tables::new(rt.alloc(), Limits::GREATEST);
+    plan(&rt, &mut tables).expect(&rt, "memory");
+    assert!(rt; log_on(&rt, &mut tables, "4", "102", 6).is_err());
+    let there = tables.agent_at(device(&rt, "102")).expect(&rt, "an agent");
+    assert!(rt; there.agent == agent(&rt, "2"));
+    assert!(rt; tables.queue_of(device(&rt, "101")).is_none());
+}
+
+#[test]
+fn tables_are_filled_from_rows(rt: HostRuntime) {
+    let mut tables = Tables::new(rt.alloc(), Limits::GREATEST);
+    plan(&rt, &mut tables).expect(&rt, "memory");
+    queue_two(&rt, &mut tables).expect(&rt, "memory");
+    let rows = tables.rows().expect(&rt, "memory");
+    let filled = Tables::from_rows(rt.alloc(), &rows).expect(&rt, "memory");
+    assert_eq!(rt; filled.queued_count(), 2);
+    assert!(rt; filled.first_waiting(device(&rt, "500")) == Some((8, 2)));
+    assert_eq!(rt; number_of_ready(&rt, &filled), 2);
+}
