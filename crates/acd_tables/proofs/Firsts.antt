@@ -182,7 +182,7 @@ module _ (s : Rows) (queues ready : PairSets) (offering : BTreeSet ℕ) (connect
       let waits = waiting g w ∙ (waiting-among s g w connections).1 ((least_is (map waiting_pair (waiting_in s g)) w e).there) in
       let stands = able g r ∙ (eligible-among s g r agents).1 ((least_is (map ready_pair (eligible_in s g)) r f).there) in
       let noted = offers g w r waits stands in
-      cc (noted, ap (λ (ks : List ℕ). list_any (λ k. is_eq (nat_cmp g k)) ks) empty)
+      cc (noted)
 
   passed_over : (g : ℕ) (rest : Option Offer) (w r : Option (ℕ × ℕ)) → first_waiting s g ≡ w → first_eligible s g ≡ r → offer_or g w r rest ≡ rest
   passed_over g rest None r e f = refl
