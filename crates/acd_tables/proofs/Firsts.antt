@@ -3,25 +3,24 @@ use Rattle.std.proofs.Common.{◌≡◌, ℕ, inl, inr, Bool, true, false, ◌&&
 use Rattle.std.specs.Prelude.{◌==◌, ◌↔◌, nat_lt, unwrap_or, filter}
 use Rattle.std.specs.List.{list_any}
 use Rattle.std.specs.Cmp.{both_ways}
-use Rattle.std.specs.Ordering.{nat_cmp, ordering_then, is_gt, is_eq}
+use Rattle.std.specs.Ordering.{nat_cmp, ordering_then, is_gt}
 use Rattle.std.specs.Borrow.{Bor}
 use Rattle.std.specs.Option.{option_copied, IfSome}
 use Rattle.std.specs.BTreeMap.{get}
 use Rattle.std.specs.BTreeSet.{BTreeSet, contains}
-use Rattle.std.proofs.lemmas.Bool.{and_parts, and_from, or_cases, or_left, or_right, eqb-true, eq-eqb, false_from_ne_true}
+use Rattle.std.proofs.lemmas.Bool.{and_parts, and_from, eqb-true, eq-eqb}
 use Rattle.std.proofs.lemmas.Bool.Decides.{nat_tests}
 use Rattle.acd_terms.specs.Lists.{Among, IsAscending}
 use Rattle.acd_terms.specs.Rules.Plan.{agent_order, connection_order}
-use Rattle.acd_terms.specs.Scans.{agent_of, connection_of, has, is_eligible, is_occupied, is_taken, is_idle, is_idle_there, waiting_in, eligible_in, is_distributed}
+use Rattle.acd_terms.specs.Scans.{agent_of, connection_of, has, is_eligible, is_occupied, is_taken, is_idle_there, waiting_in, eligible_in, is_distributed}
 use Rattle.acd_terms.specs.States.{is_queued, is_ready, is_occupying}
-use Rattle.acd_terms.specs.Choice.{pair_lt, waiting_pair, ready_pair, least_from, first_waiting, first_eligible, offer_or, offer_in, offer_of}
-use Rattle.acd_terms.specs.Offers.{IsLeast}
+use Rattle.acd_terms.specs.Choice.{waiting_pair, ready_pair, least_from, first_waiting, first_eligible, offer_or, offer_in, offer_of}
 use Rattle.acd_terms.specs.declared.rows.Rows.{Rows}
 use Rattle.acd_terms.specs.declared.record.GroupRecord.{GroupRecord}
 use Rattle.acd_terms.specs.declared.moves.Offer.{Offer}
 use Rattle.acd_terms.specs.declared.record.AgentRecord.{AgentRecord}
 use Rattle.acd_terms.specs.declared.record.ConnectionRecord.{ConnectionRecord}
-use Rattle.acd_laws.proofs.Lists.{among-filter, filter_among, any_some}
+use Rattle.acd_laws.proofs.Lists.{among-filter, filter_among}
 use Rattle.acd_laws.proofs.Least.{least_found, least_is}
 use Rattle.acd_laws.proofs.Members.{mapped_among}
 use Rattle.acd_laws.proofs.State.{connection_among, connection_found, found_key, agent_among, agent_found, agent_key}

@@ -1,5 +1,5 @@
 -- Who waits first and who is ready longest, as relations.
-use Rattle.std.specs.Prelude.{◌≡◌, ◌↔◌, ℕ, List, [], map, Some, None}
+use Rattle.std.specs.Prelude.{◌≡◌, ◌↔◌, ℕ, [], map, Some, None}
 use Rattle.acd_terms.specs.Scans.{waiting_in, eligible_in}
 use Rattle.acd_terms.specs.Choice.{waiting_pair, ready_pair, first_waiting, first_eligible}
 use Rattle.acd_terms.specs.Offers.{IsLeast}

@@ -1,4 +1,4 @@
-use Rattle.std.proofs.Common.{◌≡◌, ℕ, [], None, Some, map, ap, ◌∙◌}
+use Rattle.std.proofs.Common.{◌≡◌, ℕ, [], None, Some, map, ap}
 use Rattle.std.specs.Prelude.{◌↔◌}
 use Rattle.acd_terms.specs.Scans.{eligible_in}
 use Rattle.acd_terms.specs.Choice.{least_from, ready_pair, first_eligible}
