@@ -19,6 +19,9 @@ use std::alloc::AllocError;
 pub fn next_offer(tables: &Tables) -> Option<Offer>
     ensures { result ≡ offer_of tables.now }
 {
+    if !tables.may_offer() {
+        return None;
+    }
     for group in tables.groups() {
         let device = group.device;
         let waiting = tables.first_waiting(device);

@@ -6,7 +6,7 @@ use Rattle.std.specs.Cmp.{both_ways}
 use Rattle.std.specs.Ordering.{is_eq, nat_cmp}
 use Rattle.std.specs.BTreeMap.{BTreeMap, get}
 use Rattle.std.specs.BTreeSet.{BTreeSet}
-use Rattle.std.proofs.lemmas.Bool.{and_parts, and_from, eqb-true, eq-eqb, false_from_ne_true}
+use Rattle.std.proofs.lemmas.Bool.{and_parts, and_from, eqb-true, eq-eqb}
 use Rattle.std.proofs.lemmas.Map.Lookups.{exact_unsigned}
 use Rattle.acd_terms.specs.Lists.{Among, IsAscending}
 use Rattle.acd_terms.specs.Rules.Plan.{agent_order, connection_order}
@@ -14,8 +14,8 @@ use Rattle.acd_terms.specs.Scans.{agent_of, agent_at, connection_of, has}
 use Rattle.acd_terms.specs.declared.rows.Rows.{Rows}
 use Rattle.acd_terms.specs.declared.record.AgentRecord.{AgentRecord}
 use Rattle.acd_terms.specs.declared.record.ConnectionRecord.{ConnectionRecord}
-use Rattle.acd_laws.proofs.Lists.{eq_is, is_eq_of, any_found, any_some, find_passes, find_among, some_from, some_found, none_from, some_is}
-use Rattle.acd_laws.proofs.State.{cmp_self, connection_among, connection_found, found_key, agent_among, agent_key}
+use Rattle.acd_laws.proofs.Lists.{eq_is, any_found, any_some, find_passes, find_among, some_from, some_found, none_from, some_is}
+use Rattle.acd_laws.proofs.State.{connection_among, connection_found, found_key, agent_among}
 use Rattle.acd_laws.proofs.Found.{agent_at_find, agent_seat, agent_there, has_is}
 use Rattle.acd_tables.specs.Indexed.{Seats, Lines}
 use Rattle.acd_tables.specs.Uses.{uses, is_used, is_in_use, if_at}

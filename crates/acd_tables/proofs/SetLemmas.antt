@@ -4,7 +4,7 @@ use Rattle.std.specs.declared.cmp.Ordering.{Ordering}
 use Rattle.std.specs.Ordering.{is_eq, nat_cmp}
 use Rattle.std.specs.Cmp.{IsTotalOrder}
 use Rattle.std.specs.BTreeMap.{BTreeMap, get, get_by}
-use Rattle.std.specs.BTreeSet.{BTreeSet, contains, contains_by}
+use Rattle.std.specs.BTreeSet.{BTreeSet, contains_by}
 use Rattle.std.proofs.lemmas.Bool.{and_parts}
 use Rattle.std.proofs.lemmas.Cmp.{nat_cmp_total}
 use Rattle.acd_laws.proofs.Lists.{eq_is}

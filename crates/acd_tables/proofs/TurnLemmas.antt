@@ -1,5 +1,5 @@
 -- What a change takes into the exact sets, and out of them.
-use Rattle.std.proofs.Common.{◌≡◌, ℕ, inl, inr, Bool, true, false, cond, ◌&&◌, ◌||◌, not, Option, Some, None, is_some, refl, ap, sym, ◌∙◌, subst}
+use Rattle.std.proofs.Common.{◌≡◌, ℕ, inl, inr, Bool, true, false, cond, ◌&&◌, ◌||◌, not, Option, Some, None, refl, ap, sym, ◌∙◌, subst}
 use Rattle.std.specs.Prelude.{◌==◌, unwrap_or}
 use Rattle.std.specs.List.{list_any}
 use Rattle.std.specs.Cmp.{both_ways}
@@ -18,8 +18,8 @@ use Rattle.acd_terms.specs.declared.record.AgentRecord.{AgentRecord}
 use Rattle.acd_terms.specs.declared.record.ConnectionRecord.{ConnectionRecord}
 use Rattle.acd_laws.proofs.Lists.{eq_is, is_eq_of, some_is, ascending-put, ascending-remove}
 use Rattle.acd_laws.proofs.State.{cmp_equal, cmp_self, connections_total, at_put, at_remove, agent_put, agent_key, found_key}
-use Rattle.acd_laws.proofs.Found.{agent_seat, agent_there, has_is}
-use Rattle.acd_tables.specs.Indexed.{pair_cmp, waits_at, is_busying, is_busy_at, is_free, is_able, is_able_since, Seats}
+use Rattle.acd_laws.proofs.Found.{agent_seat, agent_there}
+use Rattle.acd_tables.specs.Indexed.{pair_cmp, waits_at, is_busying, is_busy_at, is_free, is_able_since, Seats}
 use Rattle.acd_tables.specs.Uses.{is_used, is_in_use}
 use Rattle.acd_tables.specs.declared.uses.Use.TheVariants.{Busying}
 use Rattle.acd_tables.specs.Turns.{TurnsTo, is_entry, IsAt, queue_entry, entry_in, ready_entry, with_or_without, LeavesBut}

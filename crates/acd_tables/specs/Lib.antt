@@ -4,3 +4,4 @@ pub mod Sets
 pub mod Indexed
 pub mod Uses
 pub mod Turns
+pub mod Laws

@@ -1,5 +1,5 @@
 -- How connections use a station.
-use Rattle.std.specs.Prelude.{◌≡◌, ℕ, Bool, true, false, not, ◌&&◌, ◌==◌, Option, Some, None, if◌then◌else◌}
+use Rattle.std.specs.Prelude.{ℕ, Bool, false, not, ◌&&◌, ◌==◌, Option, Some, None, if◌then◌else◌}
 use Rattle.std.specs.List.{list_any}
 use Rattle.acd_terms.specs.Scans.{has, is_distributed}
 use Rattle.acd_terms.specs.States.{is_live, is_occupying}

@@ -38,11 +38,7 @@ pub(crate) fn put_group(
 }
 
 // No other agent has the station of this one.
-fn is_free_for(
-    records: &Records,
-    seats: &BTreeMap<DeviceId, AgentId>,
-    item: &AgentRecord,
-) -> bool
+fn is_free_for(records: &Records, seats: &BTreeMap<DeviceId, AgentId>, item: &AgentRecord) -> bool
     requires ascending { IsAscending agent_order records.now.agents }
     requires listed { Seats records.now seats.now }
     ensures { result ≡ true → IsFreeFor records.now item.now }

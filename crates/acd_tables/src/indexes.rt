@@ -94,8 +94,18 @@ impl Indexes {
         ensures { TakenOut self.old self.new turn.now.leaving }
     {
         self.take_out(&turn.leaving);
-        prune(&self.queues, &self.ready, &mut self.offering, turn.entering.queue);
-        prune(&self.queues, &self.ready, &mut self.offering, turn.entering.ready);
+        prune(
+            &self.queues,
+            &self.ready,
+            &mut self.offering,
+            turn.entering.queue,
+        );
+        prune(
+            &self.queues,
+            &self.ready,
+            &mut self.offering,
+            turn.entering.ready,
+        );
     }
 }
 
@@ -161,7 +171,13 @@ pub(crate) fn leaving_but<E: Ord + Copy>(
 {
     match before {
         None => None,
-        Some(entry) => { if is_entry(after, entry) { None } else { Some(*entry) } }
+        Some(entry) => {
+            if is_entry(after, entry) {
+                None
+            } else {
+                Some(*entry)
+            }
+        }
     }
 }
 

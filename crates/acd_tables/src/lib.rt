@@ -7,6 +7,7 @@
 mod changes;
 mod filling;
 pub mod indexes;
+pub mod laws;
 pub mod records;
 pub mod scans;
 mod sets;

@@ -1,17 +1,17 @@
 //! The look-ups that aren't of one record by its key.
 
-ghost use Rattle.std.specs.Prelude.{◌≡◌, ◌↔◌, ℕ, true, [], ◌∷◌, None, length, map, slice_get, is_some, IfSome};
+ghost use Rattle.std.specs.Prelude.{◌≡◌, ◌↔◌, ℕ, true, false, [], ◌∷◌, None, length, map, slice_get, is_some, IfSome};
 ghost use Rattle.std.specs.BTreeSet.{contains};
 ghost use Rattle.acd_terms.specs.Lists.{Among};
 ghost use Rattle.acd_terms.specs.Scans.{is_group, agent_at, connections_of, other_of, is_live_at, is_taken, is_idle, is_idle_there, is_occupied, is_eligible, is_calling, waiting_in, eligible_in, queued_in_all};
 ghost use Rattle.acd_terms.specs.Services.Plan.{is_used};
-ghost use Rattle.acd_terms.specs.Choice.{first_waiting, first_eligible, waiting_pair, ready_pair};
+ghost use Rattle.acd_terms.specs.Choice.{first_waiting, first_eligible, waiting_pair, ready_pair, offer_of};
 ghost use Rattle.acd_tables.specs.Indexed.{pair_cmp};
 ghost use Rattle.acd_tables.specs.Uses.{is_in_use};
 
 use crate::sets::first_in;
 use crate::tables::Tables;
-use crate::uses::{agent_at, is_in_use, Use};
+use crate::uses::{Use, agent_at, is_in_use};
 use acd_terms::id::{AgentId, DeviceId};
 use acd_terms::record::{AgentRecord, ConnectionRecord};
 use std::collections::BTreeSet;
@@ -166,6 +166,13 @@ impl Tables {
         ensures { result ≡ first_eligible self.now group }
     {
         first_in(&self.indexes.ready, group)
+    }
+
+    /// Whether there may be an offer. Where this is false, there is none.
+    pub fn may_offer(&self) -> bool
+        ensures { result ≡ false → offer_of self.now ≡ None }
+    {
+        !self.indexes.offering.is_empty()
     }
 
     /// How many connections are queued.

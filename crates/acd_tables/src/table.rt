@@ -3,11 +3,11 @@
 ghost use Rattle.std.specs.Prelude.{◌≡◌, ◌<◌, ◌^◌, [], length, OnOk, OnErr, IfOk};
 ghost use Rattle.acd_terms.specs.Lists.{find_by, put_by, remove_by};
 
-use acd_terms::keyed::{ascends, Keyed};
+use acd_terms::keyed::{Keyed, ascends};
 use acd_terms::listed::Listed;
 use std::alloc::{AllocError, Global};
-use std::collections::btree_map::Values;
 use std::collections::BTreeMap;
+use std::collections::btree_map::Values;
 use std::marker::Model;
 
 /// Records by key, seen as a list in ascending key.

@@ -7,9 +7,9 @@ ghost use Rattle.acd_tables.specs.Uses.{is_used, is_in_use};
 ghost use Rattle.acd_tables.specs.declared.uses.Use.TheVariants.{Busying};
 ghost use Rattle.acd_tables.specs.Turns.{TurnsTo, IsAt, queue_entry, entry_in, ready_entry, with_or_without};
 
-use crate::indexes::{leaving_but, Entries, Indexes, Turn};
+use crate::indexes::{Entries, Indexes, Turn, leaving_but};
 use crate::records::Records;
-use crate::uses::{agent_at, is_in_use, uses, Use};
+use crate::uses::{Use, agent_at, is_in_use, uses};
 use acd_terms::id::{AgentId, DeviceId};
 use acd_terms::record::{AgentRecord, ConnectionRecord};
 

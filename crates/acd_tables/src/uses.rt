@@ -39,13 +39,7 @@ pub(crate) fn uses(kind: Use, c: &ConnectionRecord) -> bool
 }
 
 // The connection of the call at the device, but for one of the call that is left out, uses it so.
-fn call_uses(
-    records: &Records,
-    call: u64,
-    device: DeviceId,
-    but: Option<u64>,
-    kind: Use,
-) -> bool
+fn call_uses(records: &Records, call: u64, device: DeviceId, but: Option<u64>, kind: Use) -> bool
     ensures { result ≡ (not (has but call) && is_used (uses kind) (connection_of records.now call device)) }
 {
     if but == Some(call) {
@@ -122,6 +116,12 @@ fn if_at(agent: Option<AgentRecord>, station: DeviceId) -> Option<AgentRecord>
 {
     match agent {
         None => None,
-        Some(agent) => { if is_at(&agent, station) { Some(agent) } else { None } }
+        Some(agent) => {
+            if is_at(&agent, station) {
+                Some(agent)
+            } else {
+                None
+            }
+        }
     }
 }

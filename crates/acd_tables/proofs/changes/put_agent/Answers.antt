@@ -1,5 +1,3 @@
-use Rattle.std.proofs.Common.{◌≡◌}
-use Rattle.acd_tables.specs.Indexed.{IsIndexed}
 use Rattle.acd_tables.proofs.IndexLemmas.{IsIndexed-seats, IsIndexed-untouched, IsIndexed-agent, Untouched-undone, Seats-taken, Seats-put}
 use Rattle.acd_tables.proofs.changes.put_agent.Goals as goal
 

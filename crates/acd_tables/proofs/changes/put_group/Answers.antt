@@ -1,6 +1,3 @@
-use Rattle.std.proofs.Common.{◌≡◌, rules, refl, sym, subst}
-use Rattle.std.specs.Prelude.{OnOk, OnErr}
-use Rattle.acd_tables.specs.Indexed.{IsIndexed}
 use Rattle.acd_tables.proofs.Results.{either}
 use Rattle.acd_tables.proofs.IndexLemmas.{IsIndexed-group, IsIndexed-sets, IsIndexed-both, IsIndexed-stays}
 use Rattle.acd_tables.proofs.changes.put_group.Goals as goal

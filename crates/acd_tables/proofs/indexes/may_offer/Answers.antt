@@ -1,4 +1,4 @@
-use Rattle.std.proofs.Common.{◌≡◌, Bool, true, false, not, refl, sym, ◌∙◌}
+use Rattle.std.proofs.Common.{◌≡◌, Bool, true, false, not, refl}
 use Rattle.acd_tables.proofs.indexes.may_offer.Goals as goal
 
 not_false : (b : Bool) → not b ≡ false → b ≡ true

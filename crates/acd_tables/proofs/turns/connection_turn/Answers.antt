@@ -1,4 +1,4 @@
-use Rattle.std.proofs.Common.{sym, ap, ◌∙◌}
+use Rattle.std.proofs.Common.{ap, ◌∙◌}
 use Rattle.acd_tables.specs.Turns.{queue_entry, ready_entry}
 use Rattle.acd_tables.proofs.TurnLemmas.{connection-turn}
 use Rattle.acd_tables.proofs.turns.connection_turn.Goals as goal

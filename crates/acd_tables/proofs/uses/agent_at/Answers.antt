@@ -1,5 +1,4 @@
 use Rattle.std.proofs.Common.{sym, ap, ◌∙◌}
-use Rattle.acd_terms.specs.Scans.{agent_of}
 use Rattle.acd_tables.specs.Uses.{if_at}
 use Rattle.acd_tables.proofs.Looking.{seat-none, seat-some}
 use Rattle.acd_tables.proofs.uses.agent_at.Goals as goal
