@@ -1,5 +1,5 @@
-mod Unfailing
 mod Changing
 mod Numbered
 pub mod Keys
 mod Watching
+mod Places

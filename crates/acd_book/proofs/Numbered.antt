@@ -1,6 +1,6 @@
 -- Lists that are numbered on from a number: what is above one of the numbers stands behind a place.
 use Rattle.std.proofs.Common.{arith, ◌≡◌, ℕ, zero, suc, ◌+◌, ◌≤◌, Bool, true, false, cond, ◌&&◌, ◌==◌, nat_lt, List, [], ◌∷◌, ◌++◌, length, drop, slice_get, refl, ap, ap₂, ◌∙◌, sym, eqb-true, subst, find, filter}
-use Rattle.std.proofs.Common.{true≢false, Some, Option}
+use Rattle.std.proofs.Common.{true≢false, Some}
 use Rattle.std.proofs.lemmas.Bool.{lt-ltb, le-ltb, and_from, eq-eqb}
 use Rattle.std.proofs.Math.Bool.{and-true, and-false}
 use Rattle.acd_book.specs.Memory.{is_numbered}

@@ -1,7 +1,8 @@
 use Rattle.std.proofs.Common.{rules, ◌≡◌, ◌++◌, ◌∷◌, [], sym, subst, true}
 use Rattle.acd_book.specs.Memory.{is_numbered, stamp_of, same_key, IsPlaced}
 use Rattle.acd_book.proofs.Numbered.{numbered-push}
-use Rattle.acd_book.proofs.Keys.{taken, placed_push}
+use Rattle.acd_book.proofs.Keys.{taken}
+use Rattle.acd_book.proofs.Places.{placed_push}
 use Rattle.acd_book.proofs.replies.Replies.push.Goals as goal
 
 pub invariant_of-self-2-clause-numbered : goal.invariant_of-self-2-clause-numbered

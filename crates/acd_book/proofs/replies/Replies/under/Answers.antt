@@ -1,7 +1,7 @@
-use Rattle.std.proofs.Common.{rules, ◌≡◌, ◌∙◌, sym, ap, slice_get}
+use Rattle.std.proofs.Common.{rules, ◌∙◌, sym, ap}
 use Rattle.std.specs.Option.{option_copied}
 use Rattle.acd_book.specs.Memory.{same_key}
-use Rattle.acd_book.proofs.Keys.{unkept, kept_at}
+use Rattle.acd_book.proofs.Places.{unkept, kept_at}
 use Rattle.acd_book.proofs.replies.Replies.under.Goals as goal
 
 pub returns-in_err-place : goal.returns-in_err-place
