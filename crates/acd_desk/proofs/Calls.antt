@@ -36,7 +36,10 @@ behind old mid new a t r took = record {
         | inr made ↦ inr (r.opened (took.clean clean) sound made.0, made.1 ∙ ap (λ (x : Content). after x a) same)
       ];
   shuts = took.shuts;
-  tells = took.tells;
+  tells = λ failed. elim (took.tells failed) [
+    | inl before ↦ inl (sym r.failed ∙ before)
+    | inr now ↦ inr now
+  ];
   shut = λ failed. took.shut (r.failed ∙ failed);
   cause = λ failed. elim (took.cause failed) [
     | inl cause ↦ inl (elim cause [

@@ -11,7 +11,7 @@ use Rattle.acd_desk.specs.Replies.{answer_in, after}
 use Rattle.acd_desk.specs.Served.{is_fault, is_rejection, is_reply, served, unserved}
 use Rattle.acd_desk.specs.Stands.{IsSound, ran_after, replies, StopsAt}
 use Rattle.acd_desk.specs.Standing.{Standing, Starts}
-use Rattle.acd_desk.specs.Ran.{IsCause, IsDeceived, WasUnloaded, StaysShut, Took, Ran}
+use Rattle.acd_desk.specs.Ran.{IsCause, IsDeceived, WasUnloaded, EndsIn, IsFault, Took, Ran}
 use Rattle.acd_desk.proofs.Longer.{ran_none, one_said, one_content, one_stop, served-push, unserved-push}
 use Rattle.acd_desk.proofs.Sound.{ran_sound, stop_sound}
 use Rattle.acd_desk.proofs.ContentLaws.{sound_keeps_laws}
@@ -102,15 +102,15 @@ caused s m n l ts a t ran took failed =
     ] in
     cases m.failed refl
 
-every_push : (P : Taken → Type 0) (ts : List Taken) (t : Taken) → Every P ts → P t → Every P (ts ++ t ∷ [])
+pub every_push : (P : Taken → Type 0) (ts : List Taken) (t : Taken) → Every P ts → P t → Every P (ts ++ t ∷ [])
 every_push P [] t h last = (last, tt)
 every_push P (u ∷ ts) t h last = (h.0, every_push P ts t h.1 last)
 
-later_push : (ts : List Taken) (t : Taken) → StaysShut ts → (Contains ts StoreFault → t ≡ StoreFault) → StaysShut (ts ++ t ∷ [])
-later_push [] t h last = (λ is. tt, tt)
-later_push (u ∷ ts) t h last = (
-  λ is. every_push (λ (x : Taken). x ≡ StoreFault) ts t (h.0 is) (last (Contains-append_left (u ∷ []) ts StoreFault (at_end [] u StoreFault is))),
-  later_push ts t h.1 (λ found. last (Contains-append_right (u ∷ []) ts StoreFault found)),
+pub later_push : (P : Taken → Type 0) (ts : List Taken) (t : Taken) → EndsIn P ts → (Contains ts StoreFault → P t) → EndsIn P (ts ++ t ∷ [])
+later_push P [] t h last = (λ is. tt, tt)
+later_push P (u ∷ ts) t h last = (
+  λ is. every_push P ts t (h.0 is) (last (Contains-append_left (u ∷ []) ts StoreFault (at_end [] u StoreFault is))),
+  later_push P ts t h.1 (λ found. last (Contains-append_right (u ∷ []) ts StoreFault found)),
 )
 
 -- a desk that works has worked before
@@ -118,7 +118,7 @@ still : (m n : Standing) (a : Arrival) (t : Taken) → Took m a t n → n.failed
 still m n a t took working =
     let cases : (b : Bool) → m.failed ≡ b → m.failed ≡ false
     = λ b. elim b as (λ b. m.failed ≡ b → m.failed ≡ false) [
-      | true ↦ λ before. absurd (true≢false (sym (took.shuts (took.shut before)) ∙ working))
+      | true ↦ λ before. absurd (true≢false (sym (took.shut before).0 ∙ working))
       | false ↦ λ before. before
     ] in
     cases m.failed refl
@@ -185,12 +185,21 @@ ran_more s m n l ts a t settles ran took =
       ];
       cause = λ h. caused s m n l ts a t ran took h;
       shuts = λ h. elim (Contains-push_cases ts t StoreFault h) [
-        | inl old ↦ took.shuts (took.shut (ran.shuts old))
+        | inl old ↦ (took.shut (ran.shuts old)).0
         | inr now ↦ took.shuts now
       ];
-      tells = λ h. inr (at_end ts t StoreFault (took.tells h));
-      later = later_push ts t ran.later (λ old. took.shut (ran.shuts old));
-      shut = λ h. let before = ran.shut h in (took.shuts (took.shut before.0), every_push (λ (x : Taken). x ≡ StoreFault) ts t before.1 (took.shut before.0));
+      tells = λ h. elim (took.tells h) [
+        | inl before ↦ elim (ran.tells before) [
+          | inl first ↦ inl first
+          | inr found ↦ inr (Contains-append_left ts (t ∷ []) StoreFault found)
+        ]
+        | inr now ↦ inr (at_end ts t StoreFault now)
+      ];
+      later = later_push IsFault ts t ran.later (λ old. (took.shut (ran.shuts old)).1);
+      shut = λ h.
+          let before = ran.shut h in
+          let now = took.shut before.0 in
+          (now.0, every_push IsFault ts t before.1 now.1);
       quiet = λ none. took.quiet (λ now. none (at_end ts t StoreFault now)) ∙ ran.quiet (λ old. none (Contains-append_left ts (t ∷ []) StoreFault old));
       counts = omega (arith, ran.counts, took.counts);
       unloads = λ working gone. elim (took.unloads working gone) [
@@ -209,6 +218,13 @@ rejection_no_reply StoreFault h = refl
 rejection_no_store : (t : Taken) → is_rejection t ≡ true → ¬ (t ≡ StoreFault)
 rejection_no_store t rejected is = true≢false (sym rejected ∙ ap is_rejection is)
 
+rejection_no_fault : (t : Taken) → is_rejection t ≡ true → ¬ (is_fault t ≡ true)
+rejection_no_fault (Reply status body) h = absurd (true≢false (sym h))
+rejection_no_fault InvokeReused h = λ is. true≢false (sym is)
+rejection_no_fault DeskFull h = λ is. true≢false (sym is)
+rejection_no_fault NoMemory h = absurd (true≢false (sym h))
+rejection_no_fault StoreFault h = absurd (true≢false (sym h))
+
 pub no_store : NoMemory ≡ StoreFault → ⊥
 no_store h = cc
 
@@ -223,8 +239,11 @@ forgets m n a t rejected took = record {
   unmoved = λ none. took.unmoved (rejection_no_reply t rejected);
   stops = took.stops;
   shuts = λ h. absurd (no_store h);
-  tells = λ h. absurd (rejection_no_store t rejected (took.tells h));
-  shut = λ h. absurd (rejection_no_store t rejected (took.shut h));
+  tells = λ h. elim (took.tells h) [
+    | inl before ↦ inl before
+    | inr now ↦ absurd (rejection_no_store t rejected now)
+  ];
+  shut = λ h. absurd (rejection_no_fault t rejected (took.shut h).1);
   cause = took.cause;
   quiet = λ none. took.quiet (rejection_no_store t rejected);
   counts = took.counts;

@@ -31,10 +31,10 @@ pub record Took (old : Standing) (a : Arrival) (t : Taken) (new : Standing) : Ty
       → (t ≡ answer_in (after old.book.content a) a.request) × (new.book.content ≡ after old.book.content a)
   pub unmoved : is_reply t ≡ false → new.book.is_clean → old.book.is_sound → new.book.is_open → old.book.is_open × (new.book.content ≡ old.book.content)
   pub stops : new.book.is_clean → old.book.is_sound → InStep old → (c : Content) → new.book.stops c → old.book.stops c ⊎ (old.book.is_open × (c ≡ after old.book.content a))
-  -- the desk has failed where it answers storeFault, and nowhere else; once failed it answers nothing else
+  -- the desk fails where it answers storeFault, and nowhere else; once failed it stays so, and answers faults alone
   pub shuts : t ≡ StoreFault → new.failed ≡ true
-  pub tells : new.failed ≡ true → t ≡ StoreFault
-  pub shut : old.failed ≡ true → t ≡ StoreFault
+  pub tells : new.failed ≡ true → (old.failed ≡ true) ⊎ (t ≡ StoreFault)
+  pub shut : old.failed ≡ true → (new.failed ≡ true) × (is_fault t ≡ true)
   -- it fails where a failure was counted, or where rows that an unloaded desk was given break a rule
   pub cause : new.failed ≡ true → IsCause old new ⊎ ((old.switch ≡ None) × IsDeceived old new)
   -- where it answers anything but storeFault, noMemory too, no failure was counted
@@ -43,10 +43,16 @@ pub record Took (old : Standing) (a : Arrival) (t : Taken) (new : Standing) : Ty
   -- it drops its switch where it answers noMemory, or has failed
   pub unloads : new.failed ≡ false → new.switch ≡ None → (old.switch ≡ None) ⊎ (t ≡ NoMemory)
 
--- behind a storeFault there is nothing else
-abbrev pub StaysShut : List Taken → Type 0
-StaysShut [] = Unit {0}
-StaysShut (t ∷ ts) = (t ≡ StoreFault → Every (λ (u : Taken). u ≡ StoreFault) ts) × StaysShut ts
+-- behind a storeFault there are such answers alone
+abbrev pub EndsIn : (Taken → Type 0) → List Taken → Type 0
+EndsIn P [] = Unit {0}
+EndsIn P (t ∷ ts) = (t ≡ StoreFault → Every P ts) × EndsIn P ts
+
+abbrev pub IsFault : Taken → Type 0
+IsFault t = is_fault t ≡ true
+
+abbrev pub IsStoreFault : Taken → Type 0
+IsStoreFault t = t ≡ StoreFault
 
 -- the desk had no switch in memory at some time
 abbrev pub WasUnloaded : Standing → List Taken → Type 0
@@ -67,13 +73,13 @@ pub record Ran (old : Standing) (arrivals : List Arrival) (answers : List Taken)
   -- whatever a stop leaves is that run, or that with one more arrival, which was answered by a fault
   pub stops : new.book.is_clean → Starts old → (c : Content) → new.book.stops c → StopsAt old.book.content (served arrivals answers) (unserved arrivals answers) c
   pub sound_stops : new.book.is_clean → Starts old → (c : Content) → new.book.stops c → IsSound c
-  -- a store fault has a cause, and is answered to all that comes later
+  -- a store fault has a cause, and behind it there are faults alone
   pub fault : Contains answers StoreFault → IsCause old new ⊎ (WasUnloaded old answers × IsDeceived old new)
   pub cause : new.failed ≡ true → IsCause old new ⊎ (WasUnloaded old answers × IsDeceived old new)
   pub shuts : Contains answers StoreFault → new.failed ≡ true
   pub tells : new.failed ≡ true → (old.failed ≡ true) ⊎ Contains answers StoreFault
-  pub later : StaysShut answers
-  pub shut : old.failed ≡ true → (new.failed ≡ true) × Every (λ (t : Taken). t ≡ StoreFault) answers
+  pub later : EndsIn IsFault answers
+  pub shut : old.failed ≡ true → (new.failed ≡ true) × Every IsFault answers
   -- where no storeFault was answered, no failure was counted
   pub quiet : ¬ (Contains answers StoreFault) → new.book.failures ≡ old.book.failures
   pub counts : old.book.failures ≤ new.book.failures

@@ -3,7 +3,8 @@
 ghost use Rattle.std.specs.Prelude.{◌≡◌, true, OnOk, OnErr, IfOk, MatchResult};
 ghost use Rattle.acd_desk.specs.Arrived.{at};
 ghost use Rattle.acd_desk.specs.Standing.{standing, book_of, holding, with_new_key};
-ghost use Rattle.acd_desk.specs.Ran.{Took, Ran};
+ghost use Rattle.acd_terms.specs.Lists.{Every};
+ghost use Rattle.acd_desk.specs.Ran.{Took, Ran, EndsIn, IsStoreFault};
 ghost use Rattle.acd_desk.specs.Reread.{Reread};
 ghost use Rattle.acd_desk.specs.Faults.{answer_to, left_by};
 ghost use Rattle.acd_desk.specs.Opening.{Opened, Refused};
@@ -125,9 +126,12 @@ impl<B: Book> Desk<B> {
         }
     }
 
-    /// Takes each arrival in turn. Where there is no room for the answers, nothing was executed.
+    /// Takes each arrival in turn. Where there is no room for the answers, nothing was executed. Behind a
+    /// storeFault nothing else is answered.
     pub fn run(&mut self, arrivals: &[Arrival]) -> Result<Vec<Taken>, AllocError>
         ensures ran { IfOk result (λ answers. Ran (standing B.Book self.old) arrivals.now answers.items (standing B.Book self.new)) }
+        ensures later { IfOk result (λ answers. EndsIn IsStoreFault answers.items) }
+        ensures shut { IfOk result (λ answers. (standing B.Book self.old).failed ≡ true → Every IsStoreFault answers.items) }
         ensures none { OnErr result (self.new ≡ self.old) }
     {
         let mut answers = Vec::with_capacity(self.alloc, arrivals.len())?;

@@ -3,8 +3,9 @@ use Rattle.std.proofs.lemmas.Grind.{common_steps}
 use Rattle.acd_terms.specs.declared.command.Arrival.{Arrival}
 use Rattle.acd_desk.specs.declared.taken.Taken.{Taken}
 use Rattle.acd_desk.specs.Standing.{Standing, standing}
-use Rattle.acd_desk.specs.Ran.{Ran}
-use Rattle.acd_desk.proofs.Many.{Settles, ran_nothing, ran_more}
+use Rattle.acd_terms.specs.Lists.{Every}
+use Rattle.acd_desk.specs.Ran.{Ran, EndsIn, IsStoreFault}
+use Rattle.acd_desk.proofs.Many.{Settles, ran_nothing, ran_more, later_push, every_push}
 use Rattle.acd_desk.proofs.desk.Desk.run.Goals as goal
 
 take-push : (i : ℕ) (l : List Arrival) (d : Arrival) → i < length l → take (i + 1) l ≡ take i l ++ get_or l i d ∷ []
@@ -29,6 +30,8 @@ loop-i-preserved g c =
     record {
       count = search rules;
       room = search rules;
+      later = subst (EndsIn IsStoreFault) (sym c.in_ok-push.ensures.items) (later_push IsStoreFault ts t inv.later (λ found. c.take-answer.ensures.shut (inv.ran.shuts found)));
+      shut = λ failed. subst (Every IsStoreFault) (sym c.in_ok-push.ensures.items) (every_push IsStoreFault ts t (inv.shut failed) (c.take-answer.ensures.shut (inv.ran.shut failed).0));
       ran = more old new (l ++ a ∷ []) (take (c.loop-i.i + 1) c.args.arrivals.now) (ts ++ t ∷ []) c.push.new.self.items longer c.in_ok-push.ensures.items
           (ran_more old mid new l ts a t settles inv.ran c.take-answer.ensures.took);
     }
@@ -39,6 +42,8 @@ loop-i-init g c =
     record {
       count = search rules;
       room = search rules;
+      later = subst (EndsIn IsStoreFault) (sym c.in_ok-answers.ensures.items) tt;
+      shut = λ failed. subst (Every IsStoreFault) (sym c.in_ok-answers.ensures.items) tt;
       ran = more old old [] [] [] c.in_ok-answers.answers.items refl c.in_ok-answers.ensures.items
           (ran_nothing old (λ x clean sound opened stop. g.met.B.Book.settled c.args.self.now.book x clean sound opened stop));
     }

@@ -1,11 +1,14 @@
-use Rattle.std.proofs.Common.{◌≡◌, ◌≤◌, length, take, vec_len, vec_capacity}
+use Rattle.std.proofs.Common.{◌≡◌, ◌≤◌, true, length, take, vec_len, vec_capacity}
+use Rattle.acd_terms.specs.Lists.{Every}
 use Rattle.acd_desk.specs.Standing.{standing}
-use Rattle.acd_desk.specs.Ran.{Ran}
+use Rattle.acd_desk.specs.Ran.{Ran, EndsIn, IsStoreFault}
 use Rattle.acd_desk.proofs.desk.Desk.run.Given as goal
 
 abbrev pub invariant-loop-i : goal.invariant-loop-i
 invariant-loop-i g l = record {
   count : vec_len l.answers ≡ l.i;
   room : length l.arrivals ≤ vec_capacity l.answers;
+  later : EndsIn IsStoreFault l.answers.items;
+  shut : (standing g.B.Book l.fn.self).failed ≡ true → Every IsStoreFault l.answers.items;
   ran : Ran (standing g.B.Book l.fn.self) (take l.i l.arrivals) l.answers.items (standing g.B.Book l.self);
 }
