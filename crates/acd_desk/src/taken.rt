@@ -3,7 +3,7 @@
 use acd_book::Text;
 
 /// The answer to one arrival.
-#[derive(Debug, Drop)]
+#[derive(Debug, Drop, PartialEq, Eq)]
 pub enum Taken {
     /// The reply, which is kept: the status, as of HTTP, and the JSON.
     Reply { status: u16, body: Text },

@@ -1,13 +1,14 @@
 -- Reading the moment, a digit at a time.
-use Rattle.std.proofs.Common.{◌≡◌, ◌==◌, ℕ, zero, suc, ◌+◌, ◌-◌, ◌*◌, ◌^◌, ◌<◌, ◌≤◌, true, false, List, ◌∷◌, ◌++◌, length, take, get_or, Some, None, option_map, refl, ap, ◌∙◌, arith, add-one, pow-suc}
+use Rattle.std.proofs.Common.{◌≡◌, ◌==◌, ℕ, zero, suc, ◌+◌, ◌-◌, ◌*◌, ◌^◌, ◌<◌, ◌≤◌, true, false, List, ◌∷◌, ◌++◌, length, take, get_or, Some, None, option_map, Result, Ok, Err, inl, inr, refl, sym, ap, ◌∙◌, arith, add-one, pow-suc}
+use Rattle.std.specs.Result.{OkIff, result_ok}
 use Rattle.std.specs.Char.{is_ascii_digit, digit_value}
 use Rattle.std.specs.List.{list_all}
 use Rattle.std.specs.Str.Parse.{digits_value}
 use Rattle.std.proofs.lemmas.List.Folds.{list_all_more, list_all_at}
 use Rattle.std.proofs.lemmas.Int.Digits.{digits_value_more}
 use Rattle.std.proofs.lemmas.Bool.Decides.{nat_tests}
-use Rattle.std.proofs.lemmas.Bool.{true≢false}
-use Rattle.acd_lines.specs.Input.{has_none, are_digits, number_of, moment_before, moment_of}
+use Rattle.std.proofs.lemmas.Bool.{true≢false, cases_lt}
+use Rattle.acd_lines.specs.Input.{has_none, is_moment, number_of, moment_before, moment_of}
 use Rattle.acd_lines.proofs.Splits.{split_none, split_first}
 
 pub positive : (n : ℕ) → (n == 0) ≡ false → 0 < n
@@ -40,10 +41,10 @@ digits_more digits i inside so_far digit = rw (list_all_more is_ascii_digit digi
 pub number_is : (digits : List ℕ) (v : ℕ) → 0 < length digits → length digits ≤ 10 → list_all is_ascii_digit digits ≡ true → v ≡ digits_value 10 digits → v ≤ 4294967295 → Some v ≡ number_of digits
 unfolding number_of
 number_is digits v some short all is small =
-    let holds : are_digits digits ≡ true = grind (arith, nat_tests) in
+    let holds : is_moment digits ≡ true = grind (arith, nat_tests) in
     rw holds (ap Some is)
 
-pub no_number : (digits : List ℕ) → are_digits digits ≡ false → number_of digits ≡ None
+pub no_number : (digits : List ℕ) → is_moment digits ≡ false → number_of digits ≡ None
 unfolding number_of
 no_number digits h = rw h refl
 
@@ -60,6 +61,11 @@ number_faulty digits i inside other =
 
 pub number_great : (digits : List ℕ) (v : ℕ) → v ≡ digits_value 10 digits → 4294967295 < v → number_of digits ≡ None
 number_great digits v is great = no_number digits (grind (arith, nat_tests))
+
+-- where the number fits
+pub number_fits : {E : Type 0} (r : Result ℕ E) (digits : List ℕ) (v : ℕ) → OkIff r (v < 4294967296) v → 0 < length digits → length digits ≤ 10 → list_all is_ascii_digit digits ≡ true → v ≡ digits_value 10 digits → result_ok r ≡ number_of digits
+number_fits (Ok x) digits v h some short all is = number_is digits x some short all (h.1 ∙ is) (omega (arith, h.0, h.1))
+number_fits (Err e) digits v h some short all is = sym (number_great digits v is (elim (cases_lt 4294967295 v) [ inl great ↦ great | inr small ↦ absurd (h (omega arith)) ]))
 
 -- ---- the moment of a text with and without a space
 

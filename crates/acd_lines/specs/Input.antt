@@ -32,12 +32,13 @@ has_none byte text = list_all (λ x. not (x == byte)) text
 abbrev pub split_once : ℕ → List ℕ → Option (List ℕ × List ℕ)
 split_once byte text = if nat_lt (position_or_len (λ x. x == byte) text) (length text) then Some (before_first (λ x. x == byte) text, after_first (λ x. x == byte) text) else None
 
--- 1 to 10 digits, and the number that they write is at most 4294967295
-abbrev pub are_digits : List ℕ → Bool
-are_digits digits = nat_lt 0 (length digits) && (nat_le (length digits) 10 && (list_all is_ascii_digit digits && nat_le (digits_value 10 digits) 4294967295))
+-- a moment has 1 to 10 digits, and the number that they write is at most 4294967295
+abbrev pub is_moment : List ℕ → Bool
+is_moment digits = nat_lt 0 (length digits) && (nat_le (length digits) 10 && (list_all is_ascii_digit digits && nat_le (digits_value 10 digits) 4294967295))
 
+-- the number of a moment
 unfoldable pub number_of : List ℕ → Option ℕ
-number_of digits = if are_digits digits then Some (digits_value 10 digits) else None
+number_of digits = if is_moment digits then Some (digits_value 10 digits) else None
 
 abbrev pub moment_before : Option (List ℕ × List ℕ) → Option (ℕ × List ℕ)
 moment_before None = None

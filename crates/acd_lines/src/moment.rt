@@ -21,10 +21,7 @@ fn number_of(digits: &[u8]) -> Option<u32>
         }
         value = value * 10 + u64::from(*digit - b'0');
     }
-    if value > 4_294_967_295 {
-        return None;
-    }
-    Some(value as u32)
+    u32::try_from(value).ok()
 }
 
 /// The moment, and what stands behind its space.

@@ -35,7 +35,7 @@ use std::alloc::{AllocError, Global};
 use std::marker::Model;
 
 /// The switch, seen as its rows.
-#[derive(Debug, Drop)]
+#[derive(Drop)]
 pub struct Switch {
     alloc: Global,
     tables: Tables,
@@ -167,7 +167,7 @@ impl Switch {
     pub fn rows(&self) -> Result<Rows, AllocError>
         ensures { IfOk result (λ r. r ≡ self.now) }
     {
-        self.tables.rows(self.alloc)
+        self.tables.rows()
     }
 }
 

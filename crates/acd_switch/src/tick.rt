@@ -72,7 +72,7 @@ fn is_rested(tables: &Tables, moment: u32, agent: &AgentRecord) -> bool
     }
 }
 
-// The offers that rang too long, in ascending call number.
+// The offers that rang too long, in ascending call number. It goes through the connections.
 #[tactic(auto, unfolding(acd_terms::specs::Tick::overdue_in))]
 fn overdue_in(
     alloc: Global,
@@ -90,7 +90,7 @@ fn overdue_in(
     Ok(overdue)
 }
 
-// The agents whose after-call work lasted long enough, in ascending number.
+// The agents whose after-call work lasted long enough, in ascending number. It goes through the agents.
 #[tactic(auto, unfolding(acd_terms::specs::Tick::rested_in))]
 fn rested_in(alloc: Global, tables: &Tables, moment: u32) -> Result<Vec<AgentRecord>, AllocError>
     ensures { IfOk result (λ v. v.items ≡ rested_in tables.now moment) }

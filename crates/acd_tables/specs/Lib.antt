@@ -1,3 +1,6 @@
 pub mod Kinds
-pub mod Counting
 pub mod KeyedMaps
+pub mod Sets
+pub mod Indexed
+pub mod Uses
+pub mod Turns

@@ -4,12 +4,16 @@
 //! and each write changes the one record that it names. Look-ups take no memory.
 #![tactic(auto)]
 
-pub mod figures;
+mod changes;
+mod filling;
+pub mod indexes;
 pub mod records;
 pub mod scans;
+mod sets;
 pub mod table;
 pub mod tables;
 #[cfg(test)]
 mod tests;
-pub mod vec_table;
+mod turns;
+pub mod uses;
 pub mod writes;

@@ -2,7 +2,7 @@
 
 pub mod writes;
 
-ghost use Rattle.std.specs.Prelude.{◌≡◌, length, not, nat_le, IfOk};
+ghost use Rattle.std.specs.Prelude.{◌≡◌, ◌<◌, ◌^◌, [], length, not, nat_le, IfOk};
 ghost use Rattle.acd_terms.specs.Scans.{group_of, station_of, agent_of, call_of, connection_of, monitor_of};
 ghost use Rattle.acd_terms.specs.Writes.{empty_rows};
 
@@ -87,6 +87,26 @@ impl Records {
             agents: Table::from_slice(alloc, rows.agents.as_slice())?,
             calls: Table::from_slice(alloc, rows.calls.as_slice())?,
             connections: Table::from_slice(alloc, rows.connections.as_slice())?,
+            monitors: Table::from_slice(alloc, rows.monitors.as_slice())?,
+            last_stamp: rows.last_stamp,
+            last_moment: rows.last_moment,
+            last_call: rows.last_call,
+            last_monitor: rows.last_monitor,
+            last_event: rows.last_event,
+        })
+    }
+
+    /// The records of these rows, but for groups, agents and connections, of which there are none.
+    pub(crate) fn without_indexed(alloc: Global, rows: &Rows) -> Result<Self, AllocError>
+        ensures { IfOk result (λ r. r ≡ record rows.now { groups = []; agents = []; connections = [] }) }
+    {
+        Ok(Records {
+            limits: rows.limits,
+            groups: Table::new(alloc),
+            stations: Table::from_slice(alloc, rows.stations.as_slice())?,
+            agents: Table::new(alloc),
+            calls: Table::from_slice(alloc, rows.calls.as_slice())?,
+            connections: Table::new(alloc),
             monitors: Table::from_slice(alloc, rows.monitors.as_slice())?,
             last_stamp: rows.last_stamp,
             last_moment: rows.last_moment,
@@ -184,6 +204,13 @@ impl Records {
         ensures { result ≡ self.now.connections }
     {
         self.connections.values()
+    }
+
+    pub fn connection_count(&self) -> usize
+        ensures value { result ≡ length self.now.connections }
+        ensures small { result < 2 ^ 63 }
+    {
+        self.connections.len()
     }
 
     pub fn has_room_for_group(&self) -> bool

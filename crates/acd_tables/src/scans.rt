@@ -1,26 +1,27 @@
-//! The scans of the tables.
+//! The look-ups that aren't of one record by its key.
 
-ghost use Rattle.std.specs.Prelude.{◌≡◌, [], ◌∷◌, length, slice_get};
-ghost use Rattle.acd_terms.specs.Scans.{agent_at, connections_of, other_of, is_live_at, is_taken, is_idle, is_idle_there, is_occupied, is_eligible, is_calling, queued_in_all};
+ghost use Rattle.std.specs.Prelude.{◌≡◌, ◌↔◌, ℕ, true, [], ◌∷◌, None, length, map, slice_get, is_some, IfSome};
+ghost use Rattle.std.specs.BTreeSet.{contains};
+ghost use Rattle.acd_terms.specs.Lists.{Among};
+ghost use Rattle.acd_terms.specs.Scans.{is_group, agent_at, connections_of, other_of, is_live_at, is_taken, is_idle, is_idle_there, is_occupied, is_eligible, is_calling, waiting_in, eligible_in, queued_in_all};
 ghost use Rattle.acd_terms.specs.Services.Plan.{is_used};
-ghost use Rattle.acd_terms.specs.Choice.{first_waiting, first_eligible, lesser};
+ghost use Rattle.acd_terms.specs.Choice.{first_waiting, first_eligible, waiting_pair, ready_pair};
+ghost use Rattle.acd_tables.specs.Indexed.{pair_cmp};
+ghost use Rattle.acd_tables.specs.Uses.{is_in_use};
 
+use crate::sets::first_in;
 use crate::tables::Tables;
+use crate::uses::{agent_at, is_in_use, Use};
 use acd_terms::id::{AgentId, DeviceId};
 use acd_terms::record::{AgentRecord, ConnectionRecord};
+use std::collections::BTreeSet;
 
 impl Tables {
     /// The agent logged on at the station.
-    #[tactic(auto, unfolding(acd_terms::specs::Scans::agent_at))]
     pub fn agent_at(&self, station: DeviceId) -> Option<AgentRecord>
         ensures { result ≡ agent_at self.now station }
     {
-        for a in self.agents.as_slice() {
-            if a.station == Some(station) {
-                return Some(*a);
-            }
-        }
-        None
+        agent_at(&self.records, &self.indexes.seats, station)
     }
 
     /// The first two connections of the call. A call has no more.
@@ -29,7 +30,7 @@ impl Tables {
         ensures { result ≡ slice_get (connections_of self.now call) 0 ∷ slice_get (connections_of self.now call) 1 ∷ [] }
     {
         let mut first = None;
-        for c in self.connections.as_slice() {
+        for c in self.records.connections() {
             if c.call == call {
                 if first.is_some() {
                     return [first, Some(*c)];
@@ -45,7 +46,7 @@ impl Tables {
     pub fn other_of(&self, connection: &ConnectionRecord) -> Option<ConnectionRecord>
         ensures { result ≡ other_of self.now connection.now }
     {
-        for y in self.connections.as_slice() {
+        for y in self.records.connections() {
             if y.call == connection.call && y.device != connection.device {
                 return Some(*y);
             }
@@ -53,15 +54,19 @@ impl Tables {
         None
     }
 
+    // A connection at the device uses it so.
+    fn is_in_use(&self, device: DeviceId, kind: Use) -> bool
+        ensures { result ≡ is_in_use self.now device None kind }
+    {
+        is_in_use(&self.records, &self.indexes.lines, device, None, kind)
+    }
+
     /// A connection at the station is initiated, alerting or connected.
     #[tactic(auto, unfolding(acd_terms::specs::Scans::is_live_at))]
     pub fn is_live_at(&self, station: DeviceId) -> bool
         ensures { result ≡ is_live_at self.now station }
     {
-        self.connections
-            .as_slice()
-            .iter()
-            .any(|c| c.device == station && c.state.is_live())
+        self.is_in_use(station, Use::Live)
     }
 
     // A connection at the station is live or on hold.
@@ -69,10 +74,7 @@ impl Tables {
     fn is_taken(&self, station: DeviceId) -> bool
         ensures { result ≡ is_taken self.now station }
     {
-        self.connections
-            .as_slice()
-            .iter()
-            .any(|c| c.device == station && c.state.is_occupying())
+        self.is_in_use(station, Use::Occupying)
     }
 
     /// No connection at the station is live or on hold.
@@ -87,17 +89,23 @@ impl Tables {
     pub fn is_occupied(&self, agent: &AgentRecord) -> bool
         ensures { result ≡ is_occupied self.now agent.now }
     {
-        self.connections.as_slice().iter().any(|c| {
-            agent.station == Some(c.device) && c.group.is_some() && !c.state.is_queued()
-        })
+        match agent.station {
+            None => false,
+            Some(station) => self.is_in_use(station, Use::Distributed),
+        }
     }
 
-    /// The caller of a live call has the number.
+    /// The caller of a live call has the number. It goes through the live calls.
     #[tactic(auto, unfolding(acd_terms::specs::Scans::is_calling))]
     pub fn is_calling(&self, device: DeviceId) -> bool
         ensures { result ≡ is_calling self.now device }
     {
-        self.calls.as_slice().iter().any(|c| c.caller == device)
+        for c in self.records.calls() {
+            if c.caller == device {
+                return true;
+            }
+        }
+        false
     }
 
     /// The number is planned, or that of an external caller of a live call.
@@ -122,61 +130,48 @@ impl Tables {
             && self.is_idle(station)
     }
 
+    /// The queue of a planned group: place and call of those who wait there.
+    pub fn queue_of(&self, group: DeviceId) -> Option<&BTreeSet<(u64, u64)>>
+        ensures planned { is_some result ≡ is_group self.now group }
+        ensures members { IfSome result (λ q. (p : ℕ × ℕ) → (contains pair_cmp q.now p ≡ true) ↔ Among p (map waiting_pair (waiting_in self.now group))) }
+    {
+        if self.is_group(group) {
+            self.indexes.queues.get(&group)
+        } else {
+            None
+        }
+    }
+
+    /// The ready set of a planned group: stamp and number of the agents that may be offered a call.
+    pub fn ready_of(&self, group: DeviceId) -> Option<&BTreeSet<(u64, AgentId)>>
+        ensures planned { is_some result ≡ is_group self.now group }
+        ensures members { IfSome result (λ r. (p : ℕ × ℕ) → (contains pair_cmp r.now p ≡ true) ↔ Among p (map ready_pair (eligible_in self.now group))) }
+    {
+        if self.is_group(group) {
+            self.indexes.ready.get(&group)
+        } else {
+            None
+        }
+    }
+
     /// The place and call of the one that waits first in the group.
-    #[tactic(auto, unfolding(acd_terms::specs::Choice::first_waiting, acd_terms::specs::Scans::waiting_in))]
     pub fn first_waiting(&self, group: DeviceId) -> Option<(u64, u64)>
         ensures { result ≡ first_waiting self.now group }
     {
-        let mut best = None;
-        for c in self.connections.as_slice() {
-            if c.device == group && c.state.is_queued() {
-                best = Some(lesser(best, (c.place.unwrap_or(0), c.call)));
-            }
-        }
-        best
+        first_in(&self.indexes.queues, group)
     }
 
     /// The stamp and number of the agent that is ready longest in the group.
-    #[tactic(auto, unfolding(acd_terms::specs::Choice::first_eligible, acd_terms::specs::Scans::eligible_in))]
     pub fn first_eligible(&self, group: DeviceId) -> Option<(u64, AgentId)>
         ensures { result ≡ first_eligible self.now group }
     {
-        let mut best = None;
-        for agent in self.agents.as_slice() {
-            if self.is_eligible(group, agent) {
-                best = Some(lesser_agent(best, (agent.stamp, agent.agent)));
-            }
-        }
-        best
+        first_in(&self.indexes.ready, group)
     }
 
     /// How many connections are queued.
-    #[tactic(auto, unfolding(acd_terms::specs::Scans::queued_in_all))]
     pub fn queued_count(&self) -> usize
         ensures { result ≡ length (queued_in_all self.now) }
     {
-        self.connections
-            .as_slice()
-            .iter()
-            .filter(|c| c.state.is_queued())
-            .count()
-    }
-}
-
-fn lesser(best: Option<(u64, u64)>, pair: (u64, u64)) -> (u64, u64)
-    ensures { result ≡ lesser best pair }
-{
-    match best {
-        None => pair,
-        Some(other) => { if pair < other { pair } else { other } }
-    }
-}
-
-fn lesser_agent(best: Option<(u64, AgentId)>, pair: (u64, AgentId)) -> (u64, AgentId)
-    ensures { result ≡ lesser best pair }
-{
-    match best {
-        None => pair,
-        Some(other) => { if pair < other { pair } else { other } }
+        self.indexes.queued
     }
 }

@@ -1,6 +1,6 @@
 //! Records in ascending key.
 
-ghost use Rattle.std.specs.Prelude.{◌≡◌, [], length, OnOk, OnErr, IfOk};
+ghost use Rattle.std.specs.Prelude.{◌≡◌, ◌<◌, ◌^◌, [], length, OnOk, OnErr, IfOk};
 ghost use Rattle.acd_terms.specs.Lists.{find_by, put_by, remove_by};
 
 use acd_terms::keyed::{ascends, Keyed};
@@ -59,7 +59,8 @@ impl<R: Keyed> Table<R> {
     }
 
     pub fn len(&self) -> usize
-        ensures { result ≡ length self.now }
+        ensures value { result ≡ length self.now }
+        ensures small { result < 2 ^ 63 }
     {
         self.map.len()
     }

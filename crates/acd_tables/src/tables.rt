@@ -5,13 +5,16 @@ ghost use Rattle.acd_terms.specs.Scans.{group_of, station_of, agent_of, call_of,
 ghost use Rattle.acd_terms.specs.Writes.{empty_rows};
 ghost use Rattle.acd_tables.specs.Kinds.{kind_of};
 
-use crate::vec_table::VecTable;
+use crate::indexes::Indexes;
+use crate::records::Records;
 use acd_terms::id::{AgentId, DeviceId};
+use acd_terms::keyed::ascends;
 use acd_terms::record::{
     AgentRecord, CallRecord, ConnectionRecord, GroupRecord, MonitorRecord, StationRecord,
 };
 use acd_terms::rows::{Limits, Rows};
 use std::alloc::{AllocError, Global};
+use std::collections::btree_map::Values;
 use std::marker::Model;
 
 /// What is planned at a device.
@@ -21,21 +24,15 @@ pub enum DeviceKind {
     Station,
 }
 
-/// The state of the switch: its records in ascending key, and its counters.
-#[derive(Debug, Drop)]
+/// The records, the limits and the counters, with the indexes that spare their look-ups the way through them.
+///
+/// A write that would give two agents one station, or let a call wait or an agent be ready in a group
+/// that isn't planned, is refused as if there were no memory.
+#[derive(Drop)]
 pub struct Tables {
-    pub(crate) limits: Limits,
-    pub(crate) groups: VecTable<GroupRecord>,
-    pub(crate) stations: VecTable<StationRecord>,
-    pub(crate) agents: VecTable<AgentRecord>,
-    pub(crate) calls: VecTable<CallRecord>,
-    pub(crate) connections: VecTable<ConnectionRecord>,
-    pub(crate) monitors: VecTable<MonitorRecord>,
-    pub(crate) last_stamp: u64,
-    pub(crate) last_moment: u32,
-    pub(crate) last_call: u64,
-    pub(crate) last_monitor: u64,
-    pub(crate) last_event: u64,
+    pub(crate) alloc: Global,
+    pub(crate) records: Records,
+    pub(crate) indexes: Indexes,
 }
 
 impl Model for Tables {
@@ -43,20 +40,11 @@ impl Model for Tables {
 
     ghost Value = { Rows };
 
-    ghost view = { λ t. record {
-      limits = t.limits;
-      groups = t.groups;
-      stations = t.stations;
-      agents = t.agents;
-      calls = t.calls;
-      connections = t.connections;
-      monitors = t.monitors;
-      last_stamp = t.last_stamp;
-      last_moment = t.last_moment;
-      last_call = t.last_call;
-      last_monitor = t.last_monitor;
-      last_event = t.last_event;
-    } };
+    ghost use Rattle.acd_tables.specs.Indexed.{IsIndexed};
+
+    ghost view = { λ t. t.records };
+
+    ghost invariant = { λ t. IsIndexed t.records t.indexes };
 }
 
 impl Tables {
@@ -65,122 +53,96 @@ impl Tables {
         ensures { result ≡ empty_rows limits }
     {
         Tables {
-            limits,
-            groups: VecTable::new(alloc),
-            stations: VecTable::new(alloc),
-            agents: VecTable::new(alloc),
-            calls: VecTable::new(alloc),
-            connections: VecTable::new(alloc),
-            monitors: VecTable::new(alloc),
-            last_stamp: 0,
-            last_moment: 0,
-            last_call: 0,
-            last_monitor: 0,
-            last_event: 0,
+            alloc,
+            records: Records::new(alloc, limits),
+            indexes: Indexes::new(alloc),
         }
     }
 
-    /// Tables of these rows, whose lists stand in ascending key.
+    /// Tables of these rows. Lists that don't stand in strictly ascending key are refused as if there
+    /// were no memory.
     pub fn from_rows(alloc: Global, rows: &Rows) -> Result<Self, AllocError>
         ensures { IfOk result (λ t. t ≡ rows.now) }
     {
-        Ok(Tables {
-            limits: rows.limits,
-            groups: VecTable::from_slice(alloc, rows.groups.as_slice())?,
-            stations: VecTable::from_slice(alloc, rows.stations.as_slice())?,
-            agents: VecTable::from_slice(alloc, rows.agents.as_slice())?,
-            calls: VecTable::from_slice(alloc, rows.calls.as_slice())?,
-            connections: VecTable::from_slice(alloc, rows.connections.as_slice())?,
-            monitors: VecTable::from_slice(alloc, rows.monitors.as_slice())?,
-            last_stamp: rows.last_stamp,
-            last_moment: rows.last_moment,
-            last_call: rows.last_call,
-            last_monitor: rows.last_monitor,
-            last_event: rows.last_event,
-        })
+        if !(ascends(rows.groups.as_slice())
+            && ascends(rows.agents.as_slice())
+            && ascends(rows.connections.as_slice()))
+        {
+            return Err(AllocError);
+        }
+        let mut tables = Tables {
+            alloc,
+            records: Records::without_indexed(alloc, rows)?,
+            indexes: Indexes::new(alloc),
+        };
+        tables.put_groups(rows.groups.as_slice())?;
+        tables.put_agents(rows.agents.as_slice())?;
+        tables.put_connections(rows.connections.as_slice())?;
+        Ok(tables)
     }
 
     /// The records and counters, copied.
-    pub fn rows(&self, alloc: Global) -> Result<Rows, AllocError>
+    pub fn rows(&self) -> Result<Rows, AllocError>
         ensures { IfOk result (λ r. r ≡ self.now) }
     {
-        Ok(Rows {
-            limits: self.limits,
-            groups: self.groups.copied(alloc)?,
-            stations: self.stations.copied(alloc)?,
-            agents: self.agents.copied(alloc)?,
-            calls: self.calls.copied(alloc)?,
-            connections: self.connections.copied(alloc)?,
-            monitors: self.monitors.copied(alloc)?,
-            last_stamp: self.last_stamp,
-            last_moment: self.last_moment,
-            last_call: self.last_call,
-            last_monitor: self.last_monitor,
-            last_event: self.last_event,
-        })
+        self.records.rows(self.alloc)
     }
 
-    #[tactic(auto, unfolding(acd_terms::specs::Scans::group_of))]
     pub fn group(&self, device: DeviceId) -> Option<GroupRecord>
         ensures { result ≡ group_of self.now device }
     {
-        self.groups.find(device)
+        self.records.group(device)
     }
 
-    #[tactic(auto, unfolding(acd_terms::specs::Scans::station_of))]
     pub fn station(&self, device: DeviceId) -> Option<StationRecord>
         ensures { result ≡ station_of self.now device }
     {
-        self.stations.find(device)
+        self.records.station(device)
     }
 
-    #[tactic(auto, unfolding(acd_terms::specs::Scans::agent_of))]
     pub fn agent(&self, agent: AgentId) -> Option<AgentRecord>
         ensures { result ≡ agent_of self.now agent }
     {
-        self.agents.find(agent)
+        self.records.agent(agent)
     }
 
-    #[tactic(auto, unfolding(acd_terms::specs::Scans::call_of))]
     pub fn call(&self, call: u64) -> Option<CallRecord>
         ensures { result ≡ call_of self.now call }
     {
-        self.calls.find(call)
+        self.records.call(call)
     }
 
-    #[tactic(auto, unfolding(acd_terms::specs::Scans::connection_of))]
     pub fn connection(&self, call: u64, device: DeviceId) -> Option<ConnectionRecord>
         ensures { result ≡ connection_of self.now call device }
     {
-        self.connections.find((call, device))
+        self.records.connection(call, device)
     }
 
-    #[tactic(auto, unfolding(acd_terms::specs::Scans::monitor_of))]
     pub fn monitor(&self, monitor: u64) -> Option<MonitorRecord>
         ensures { result ≡ monitor_of self.now monitor }
     {
-        self.monitors.find(monitor)
+        self.records.monitor(monitor)
     }
 
     /// The groups in ascending device.
-    pub fn groups(&self) -> &[GroupRecord]
-        ensures { result.now ≡ self.now.groups }
+    pub fn groups(&self) -> Values<'_, DeviceId, GroupRecord>
+        ensures { result ≡ self.now.groups }
     {
-        self.groups.as_slice()
+        self.records.groups()
     }
 
     /// The agents in ascending number.
-    pub fn agents(&self) -> &[AgentRecord]
-        ensures { result.now ≡ self.now.agents }
+    pub fn agents(&self) -> Values<'_, AgentId, AgentRecord>
+        ensures { result ≡ self.now.agents }
     {
-        self.agents.as_slice()
+        self.records.agents()
     }
 
     /// The connections in ascending call and device.
-    pub fn connections(&self) -> &[ConnectionRecord]
-        ensures { result.now ≡ self.now.connections }
+    pub fn connections(&self) -> Values<'_, (u64, DeviceId), ConnectionRecord>
+        ensures { result ≡ self.now.connections }
     {
-        self.connections.as_slice()
+        self.records.connections()
     }
 
     pub fn is_group(&self, device: DeviceId) -> bool
@@ -219,67 +181,67 @@ impl Tables {
     pub fn has_room_for_group(&self) -> bool
         ensures { result ≡ not (nat_le self.now.limits.groups (length self.now.groups)) }
     {
-        (self.groups.len() as u64) < self.limits.groups
+        self.records.has_room_for_group()
     }
 
     pub fn has_room_for_station(&self) -> bool
         ensures { result ≡ not (nat_le self.now.limits.stations (length self.now.stations)) }
     {
-        (self.stations.len() as u64) < self.limits.stations
+        self.records.has_room_for_station()
     }
 
     pub fn has_room_for_agent(&self) -> bool
         ensures { result ≡ not (nat_le self.now.limits.agents (length self.now.agents)) }
     {
-        (self.agents.len() as u64) < self.limits.agents
+        self.records.has_room_for_agent()
     }
 
     pub fn has_room_for_call(&self) -> bool
         ensures { result ≡ not (nat_le self.now.limits.calls (length self.now.calls)) }
     {
-        (self.calls.len() as u64) < self.limits.calls
+        self.records.has_room_for_call()
     }
 
     pub fn has_room_for_monitor(&self) -> bool
         ensures { result ≡ not (nat_le self.now.limits.monitors (length self.now.monitors)) }
     {
-        (self.monitors.len() as u64) < self.limits.monitors
+        self.records.has_room_for_monitor()
     }
 
     pub fn limits(&self) -> Limits
         ensures { result ≡ self.now.limits }
     {
-        self.limits
+        self.records.limits()
     }
 
     pub fn last_stamp(&self) -> u64
         ensures { result ≡ self.now.last_stamp }
     {
-        self.last_stamp
+        self.records.last_stamp()
     }
 
     /// The moment of the last executed request, in seconds.
     pub fn last_moment(&self) -> u32
         ensures { result ≡ self.now.last_moment }
     {
-        self.last_moment
+        self.records.last_moment()
     }
 
     pub fn last_call(&self) -> u64
         ensures { result ≡ self.now.last_call }
     {
-        self.last_call
+        self.records.last_call()
     }
 
     pub fn last_monitor(&self) -> u64
         ensures { result ≡ self.now.last_monitor }
     {
-        self.last_monitor
+        self.records.last_monitor()
     }
 
     pub fn last_event(&self) -> u64
         ensures { result ≡ self.now.last_event }
     {
-        self.last_event
+        self.records.last_event()
     }
 }

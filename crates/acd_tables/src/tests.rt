@@ -1,9 +1,7 @@
 //! Each write and each look-up once, on values.
 
-use crate::figures::figures_in;
-use crate::vec_table::VecTable;
+use crate::table::Table;
 use crate::tables::{DeviceKind, Tables};
-use acd_terms::event::{Cause, Report, Waited};
 use acd_terms::id::{AgentId, DeviceId};
 use acd_terms::name::Name;
 use acd_terms::number::Seconds;
@@ -85,13 +83,12 @@ fn queue(rt: &impl Abort, tables: &mut Tables, call: u64, place: u64) -> Result<
 
 #[test]
 fn a_table_keeps_the_order_of_its_keys(rt: HostRuntime) -> Result<(), Fail> {
-    let mut table: VecTable<StationRecord> = VecTable::new(rt.alloc());
+    let mut table: Table<StationRecord> = Table::new(rt.alloc());
     table.put(station(&rt, "100"))?;
     table.put(station(&rt, "07"))?;
-    let stations = table.as_slice();
-    assert_eq!(rt; stations.first().copied(), Some(station(&rt, "07")));
+    assert_eq!(rt; table.values().next().copied(), Some(station(&rt, "07")));
     assert_eq!(rt; table.find(device(&rt, "100")), Some(station(&rt, "100")));
-    table.remove(device(&rt, "07"))?;
+    table.remove(device(&rt, "07"));
     assert_eq!(rt; table.len(), 1);
     Ok(())
 }
@@ -116,6 +113,7 @@ fn plans_devices_and_agents(rt: HostRuntime) -> Result<(), Fail> {
 }
 
 fn queue_two(rt: &impl Abort, tables: &mut Tables) -> Result<(), AllocError> {
+    plan_group(rt, tables, "500")?;
     queue(rt, tables, 1, 9)?;
     queue(rt, tables, 2, 8)?;
     queue(rt, tables, 3, 7)?;
@@ -153,48 +151,68 @@ fn watch_and_end(rt: &impl Abort, tables: &mut Tables) -> Result<(), AllocError>
 #[test]
 fn keeps_the_last_numbers(rt: HostRuntime) -> Result<(), Fail> {
     let mut tables = Tables::new(rt.alloc(), Limits::GREATEST);
-    tables.add_figures(&[]);
     tables.set_last_ids(6, 1);
     ring_and_end(&rt, &mut tables)?;
     watch_and_end(&rt, &mut tables)?;
     tables.set_last(5, 6, 9);
-    let rows = tables.rows(rt.alloc())?;
+    let rows = tables.rows()?;
     assert!(rt; rows.last_stamp == 5 && rows.last_moment == 6 && rows.last_event == 9);
     assert!(rt; rows.last_call == 7 && rows.last_monitor == 2);
     Ok(())
 }
 
+// The call rings at a station.
+fn ring(rt: &impl Abort, tables: &mut Tables, call: u64, at: &str) -> Result<(), AllocError> {
+    tables.put_connection(ConnectionRecord {
+        call,
+        device: device(rt, at),
+        state: ConnectionState::Alerting,
+        group: None,
+        place: None,
+        queued: None,
+        offered: None,
+    })
+}
+
+fn number_of_ready(rt: &impl Abort, tables: &Tables) -> usize {
+    tables
+        .ready_of(device(rt, "500"))
+        .expect(rt, "a group")
+        .len()
+}
+
 #[test]
-fn counts_what_a_report_says(rt: HostRuntime) {
-    let help = device(&rt, "500");
-    let entry = figures_in(
-        help,
-        &Report::Queued {
-            call: 1,
-            group: help,
-            cause: Cause::Deflected,
-        },
-    );
-    assert_eq!(rt; (entry.entered, entry.moved), (1, 0));
-    let back = figures_in(
-        help,
-        &Report::Queued {
-            call: 1,
-            group: help,
-            cause: Cause::NoAnswer,
-        },
-    );
-    assert_eq!(rt; back.entered, 0);
-    let answer = figures_in(
-        help,
-        &Report::Established {
-            call: 1,
-            station: device(&rt, "101"),
-            waited: Some(Waited {
-                group: help,
-                seconds: 30,
-            }),
-        },
-    );
-    assert_eq!(rt; (answer.answered, answer.waited), (1, 30));
+fn a_busy_station_keeps_its_agent_from_offers(rt: HostRuntime) {
+    let mut tables = Tables::new(rt.alloc(), Limits::GREATEST);
+    plan(&rt, &mut tables).expect(&rt, "memory");
+    assert_eq!(rt; number_of_ready(&rt, &tables), 2);
+    ring(&rt, &mut tables, 8, "102").expect(&rt, "memory");
+    assert_eq!(rt; number_of_ready(&rt, &tables), 1);
+    assert!(rt; tables.is_live_at(device(&rt, "102")));
+    tables
+        .remove_connection(8, device(&rt, "102"))
+        .expect(&rt, "memory");
+    assert_eq!(rt; number_of_ready(&rt, &tables), 2);
+}
+
+#[test]
+fn a_second_agent_at_a_station_is_refused(rt: HostRuntime) {
+    let mut tables = Tables::new(rt.alloc(), Limits::GREATEST);
+    plan(&rt, &mut tables).expect(&rt, "memory");
+    assert!(rt; log_on(&rt, &mut tables, "4", "102", 6).is_err());
+    let there = tables.agent_at(device(&rt, "102")).expect(&rt, "an agent");
+    assert!(rt; there.agent == agent(&rt, "2"));
+    assert!(rt; tables.queue_of(device(&rt, "101")).is_none());
+}
+
+#[test]
+fn tables_are_filled_from_rows(rt: HostRuntime) {
+    let mut tables = Tables::new(rt.alloc(), Limits::GREATEST);
+    plan(&rt, &mut tables).expect(&rt, "memory");
+    queue_two(&rt, &mut tables).expect(&rt, "memory");
+    let rows = tables.rows().expect(&rt, "memory");
+    let filled = Tables::from_rows(rt.alloc(), &rows).expect(&rt, "memory");
+    assert_eq!(rt; filled.queued_count(), 2);
+    assert!(rt; filled.first_waiting(device(&rt, "500")) == Some((8, 2)));
+    assert_eq!(rt; number_of_ready(&rt, &filled), 2);
 }

@@ -4,7 +4,7 @@ use Rattle.std.proofs.lemmas.Bool.{eqb-true}
 use Rattle.std.specs.Char.{is_ascii_digit}
 use Rattle.std.specs.List.{list_all}
 use Rattle.std.specs.Str.Parse.{digits_value}
-use Rattle.acd_lines.proofs.Moments.{positive, number_is, number_empty, number_long, number_faulty, number_great, value_more, digits_more, digit_small}
+use Rattle.acd_lines.proofs.Moments.{positive, number_fits, number_empty, number_long, number_faulty, value_more, digits_more, digit_small}
 use Rattle.acd_lines.proofs.moment.number_of.Goals as goal
 use Rattle.acd_lines.proofs.moment.number_of.Goals.{then-is_empty-via-then-is_empty, then-is_empty-via-else-is_empty+then-digits-gt-DIGITS}
 
@@ -28,13 +28,9 @@ loop-digit-preserved c =
       small = digit_small i c.loop-digit.value (get_or digits i 0) c.from.result c.loop-digit.invariant.small c.from.ensures digit;
     }
 
-pub returns-then-value-gt4294967295 : goal.returns-then-value-gt4294967295
-returns-then-value-gt4294967295 c =
-    let digits = c.args.digits.now in
-    sym (number_great digits c.loop-digit.value (c.loop-digit.invariant.value ∙ ap (digits_value 10) (take_all c.loop-digit.digit-index digits c.loop-digit-test.false)) c.if-value-gt4294967295.true)
-
 pub returns : goal.returns
 returns c =
     let digits = c.args.digits.now in
     let whole = take_all c.loop-digit.digit-index digits c.loop-digit-test.false in
-    number_is digits c.loop-digit.value (positive (length digits) (sym c.is_empty.ensures ∙ c.if-is_empty.false)) (omega (arith, c.if-digits-gt-DIGITS.false)) (ap (list_all is_ascii_digit) (sym whole) ∙ c.loop-digit.invariant.digits) (c.loop-digit.invariant.value ∙ ap (digits_value 10) whole) c.if-value-gt4294967295.false
+    c.ok.ensures.value ∙ number_fits c.try_from.result digits c.loop-digit.value c.try_from.ensures (positive (length digits) (sym c.is_empty.ensures ∙ c.if-is_empty.false)) (omega (arith, c.if-digits-gt-DIGITS.false))
+    (ap (list_all is_ascii_digit) (sym whole) ∙ c.loop-digit.invariant.digits) (c.loop-digit.invariant.value ∙ ap (digits_value 10) whole)

@@ -1,0 +1,379 @@
+-- The indexes through a change.
+use Rattle.std.proofs.Common.{◌≡◌, ℕ, ◌+◌, ◌≤◌, Bool, true, false, cond, ◌&&◌, ◌||◌, not, Option, Some, None, is_some, refl, ap, sym, ◌∙◌, subst, length, arith, List, [], ◌∷◌}
+use Rattle.std.specs.Prelude.{◌==◌, filter}
+use Rattle.std.specs.List.{list_any}
+use Rattle.std.specs.declared.cmp.Ordering.{Ordering}
+use Rattle.std.specs.Ordering.{is_eq, nat_cmp}
+use Rattle.std.specs.BTreeMap.{BTreeMap, get, is_at}
+use Rattle.std.specs.Map.{lookup}
+use Rattle.std.specs.BTreeSet.{BTreeSet}
+use Rattle.std.proofs.lemmas.Bool.{and_from, and_left, and_right, eqb-true, eq-eqb}
+use Rattle.acd_terms.specs.Lists.{IsAscending, find_by, put_by, remove_by}
+use Rattle.acd_terms.specs.Rules.Plan.{agent_order, connection_order}
+use Rattle.acd_terms.specs.Scans.{is_group, group_of, agent_of, connection_of, at_group, at_agent, at_connection, queued_in_all, has}
+use Rattle.acd_terms.specs.States.{is_queued, is_ready}
+use Rattle.acd_terms.specs.Writes.{with_group, with_station, with_agent, with_call, with_connection, with_monitor, without_call, without_connection, without_monitor, with_last, with_last_ids, empty_rows}
+use Rattle.acd_terms.specs.declared.rows.Rows.{Rows}
+use Rattle.acd_terms.specs.declared.rows.Limits.{Limits}
+use Rattle.acd_terms.specs.declared.record.GroupRecord.{GroupRecord}
+use Rattle.acd_terms.specs.declared.record.StationRecord.{StationRecord}
+use Rattle.acd_terms.specs.declared.record.AgentRecord.{AgentRecord}
+use Rattle.acd_terms.specs.declared.record.CallRecord.{CallRecord}
+use Rattle.acd_terms.specs.declared.record.MonitorRecord.{MonitorRecord}
+use Rattle.acd_terms.specs.declared.record.ConnectionRecord.{ConnectionRecord}
+use Rattle.acd_tables.specs.Sets.{holds, holds_in, has_set, is_at_key, Stays, SetsMember, SameMembers, HasSet}
+use Rattle.acd_tables.specs.Indexed.{PairSets, pair_cmp, lists, joins, waits_at, is_busying, is_busy_at, is_free, is_able_since, Seats, Lines, IsIndexed}
+use Rattle.acd_tables.specs.Turns.{is_entry, Offers, Entered, Undone, Untouched, TakenOut, TurnsTo, IsAt, IsFreeFor, with_or_without, one_queued, IsBlank}
+use Rattle.acd_tables.specs.declared.indexes.Indexes.{Indexes}
+use Rattle.acd_tables.specs.declared.indexes.Entries.{Entries}
+use Rattle.acd_tables.specs.declared.indexes.Turn.{Turn}
+use Rattle.acd_laws.proofs.Lists.{some_is, count_length, ascending-put}
+use Rattle.acd_laws.proofs.State.{agent_put, agent_key, agents_total, group_put}
+use Rattle.acd_laws.proofs.Found.{has_is, count_new, count_old, count_less}
+use Rattle.acd_laws.proofs.Numbers.{filter_length}
+use Rattle.acd_tables.proofs.OfferLemmas.{undone, offers-same}
+use Rattle.acd_tables.proofs.TurnLemmas.{Replaces, Replaces-put, Replaces-removed, eq_key}
+use Rattle.acd_tables.proofs.Looking.{seated}
+
+-- where only the offers may have changed
+pub IsIndexed-untouched : (s : Rows) (x y : Indexes) → IsIndexed s x → Untouched x y → IsIndexed s y
+IsIndexed-untouched s x y h u = record {
+  agents = h.agents;
+  connections = h.connections;
+  queues = λ g e. u.queues.sets g ∙ h.queues g e;
+  readies = λ g e. u.ready.sets g ∙ h.readies g e;
+  waiting = λ g p. u.queues.members g p ∙ h.waiting g p;
+  able = λ g p. u.ready.members g p ∙ h.able g p;
+  offers = u.offers;
+  seats = λ n d a e f. ap (λ m. get nat_cmp m d) u.rest.seats ∙ h.seats n d a e f;
+  lines = λ c d e. ap (λ m. joins m d c) u.rest.lines ∙ h.lines c d e;
+  queued = u.rest.queued ∙ h.queued;
+}
+
+-- what entered was taken out again
+pub Untouched-undone : (x y z : Indexes) (entries undo : Entries) → Entered x y entries → Undone x y undo → TakenOut y z undo → Untouched x z
+Untouched-undone x y z entries undo e u t = record {
+  queues = record { sets = λ g. t.queues.sets g ∙ e.queues.sets g; members = undone x.queues y.queues z.queues undo.queue u.queues t.queues };
+  ready = record { sets = λ g. t.ready.sets g ∙ e.ready.sets g; members = undone x.ready y.ready z.ready undo.ready u.ready t.ready };
+  offers = t.offers;
+  rest = record { seats = t.rest.seats ∙ e.rest.seats; lines = t.rest.lines ∙ e.rest.lines; queued = t.rest.queued ∙ e.rest.queued };
+}
+
+-- what enters and leaves makes the sets of the new rows
+pub IsIndexed-turned : (s t : Rows) (x y z : Indexes) (turn : Turn) (n : ℕ) → IsIndexed s x → Entered x y turn.entering → TakenOut y z turn.leaving → TurnsTo s t turn
+    → IsAscending agent_order t.agents → IsAscending connection_order t.connections → ((g : ℕ) → is_group t g ≡ is_group s g) → Seats t x.seats → Lines t x.lines → n ≡ length (queued_in_all t)
+    → IsIndexed t (record z { queued = n })
+IsIndexed-turned s t x y z turn n h e o w agents connections groups seats lines queued = record {
+  agents = agents;
+  connections = connections;
+  queues = λ g f. o.queues.sets g ∙ e.queues.sets g ∙ h.queues g (sym (groups g) ∙ f);
+  readies = λ g f. o.ready.sets g ∙ e.ready.sets g ∙ h.readies g (sym (groups g) ∙ f);
+  waiting = λ g p. o.queues.members g p
+      ∙ ap (λ b. not (is_entry pair_cmp turn.leaving.queue g p) && b) (e.queues.members g p ∙ ap (λ b. is_entry pair_cmp turn.entering.queue g p || b) (h.waiting g p))
+      ∙ sym (w.waiting g p);
+  able = λ g p. o.ready.members g p
+      ∙ ap (λ b. not (is_entry pair_cmp turn.leaving.ready g p) && b) (e.ready.members g p ∙ ap (λ b. is_entry pair_cmp turn.entering.ready g p || b) (h.able g p))
+      ∙ sym (w.able g p);
+  offers = o.offers;
+  seats = λ n d a f k. ap (λ m. get nat_cmp m d) (o.rest.seats ∙ e.rest.seats) ∙ seats n d a f k;
+  lines = λ c d f. ap (λ m. joins m d c) (o.rest.lines ∙ e.rest.lines) ∙ lines c d f;
+  queued = queued;
+}
+
+-- a call is listed at a device, or was
+pub Lines-more : (s : Rows) (old new : BTreeMap ℕ (BTreeSet ℕ)) (device call : ℕ) → Lines s old → SetsMember nat_cmp nat_cmp old new device call true → Lines s new
+Lines-more s old new device call h w c d e = w d c ∙ by (is_at_key nat_cmp nat_cmp device call d c)
+  where
+    by : (b : Bool) → cond b true (joins old d c) ≡ true
+    by true = refl
+    by false = h c d e
+
+pub Lines-same : (s : Rows) (old new : BTreeMap ℕ (BTreeSet ℕ)) → Lines s old → SameMembers nat_cmp nat_cmp old new → Lines s new
+Lines-same s old new h w c d e = w d c ∙ h c d e
+
+is_at_numbers : (device call d c : ℕ) → is_at_key nat_cmp nat_cmp device call d c ≡ ((device == d) && (call == c))
+is_at_numbers device call d c = rw (eq_key device d, eq_key call c) refl
+
+module _ (s t : Rows) (call device : ℕ) (new : Option ConnectionRecord) (r : Replaces s t call device new) where
+  pub Lines-put : (old lines : BTreeMap ℕ (BTreeSet ℕ)) → Lines s old → SetsMember nat_cmp nat_cmp old lines device call true → Lines t lines
+  Lines-put old lines h w c d e = w d c ∙ ap (λ b. cond b true (joins old d c)) (is_at_numbers device call d c) ∙ by (call == c) refl (device == d) refl
+    where
+      by : (a : Bool) → (call == c) ≡ a → (b : Bool) → (device == d) ≡ b → cond ((device == d) && (call == c)) true (joins old d c) ≡ true
+      by true p true q = rw (p, q) refl
+      by true p false q = rw (p, q) (h c d (sym (ap is_some (r.found c d ∙ ap (λ b. cond b new (connection_of s c d)) (and_right (call == c) (device == d) q))) ∙ e))
+      by false p b q = ap (λ v. cond v true (joins old d c)) (and_right (device == d) (call == c) p) ∙ h c d (sym (ap is_some (r.found c d ∙ ap (λ b. cond b new (connection_of s c d)) (and_left (call == c) (device == d) p))) ∙ e)
+
+pub Lines-removed : (s t : Rows) (call device : ℕ) → Replaces s t call device None → (old lines : BTreeMap ℕ (BTreeSet ℕ)) → Lines s old → SetsMember nat_cmp nat_cmp old lines device call false → Lines t lines
+Lines-removed s t call device r old lines h w c d e = w d c ∙ ap (λ b. cond b false (joins old d c)) (is_at_numbers device call d c) ∙ by (call == c) refl (device == d) refl
+  where
+    by : (a : Bool) → (call == c) ≡ a → (b : Bool) → (device == d) ≡ b → cond ((device == d) && (call == c)) false (joins old d c) ≡ true
+    by true p true q =
+        let gone : is_some (connection_of t c d) ≡ false = ap is_some (r.found c d ∙ ap (λ b. cond b None (connection_of s c d)) (and_from (call == c) (device == d) p q)) in
+        absurd (cc (gone, e))
+    by true p false q = rw (p, q) (h c d (sym (ap is_some (r.found c d ∙ ap (λ b. cond b None (connection_of s c d)) (and_right (call == c) (device == d) q))) ∙ e))
+    by false p b q = ap (λ v. cond v false (joins old d c)) (and_right (device == d) (call == c) p) ∙ h c d (sym (ap is_some (r.found c d ∙ ap (λ b. cond b None (connection_of s c d)) (and_left (call == c) (device == d) p))) ∙ e)
+
+pub Lines-kept : (s t : Rows) (lines : BTreeMap ℕ (BTreeSet ℕ)) → ((c d : ℕ) → is_some (connection_of t c d) ≡ true → is_some (connection_of s c d) ≡ true) → Lines s lines → Lines t lines
+Lines-kept s t lines f h c d e = h c d (f c d e)
+
+-- the agent takes a station that no other has
+pub Seats-taken : (s : Rows) (old new : BTreeMap ℕ ℕ) (item : AgentRecord) → IsAscending agent_order s.agents → Seats s old → IsFreeFor s item
+    → ((d : ℕ) → get nat_cmp new d ≡ cond (has item.station d) (Some item.agent) (get nat_cmp old d)) → Seats s new
+Seats-taken s old new item ascending h free w n d a e f = w d ∙ by (has item.station d) refl
+  where
+    by : (b : Bool) → has item.station d ≡ b → cond b (Some item.agent) (get nat_cmp old d) ≡ Some n
+    by true p = ap Some (sym (free d a (has_is item.station d p) (seated s old ascending h n d a e f)) ∙ agent_key s n a e)
+    by false p = h n d a e f
+
+pub Seats-put : (s : Rows) (old new : BTreeMap ℕ ℕ) (item : AgentRecord) → ((d : ℕ) → get nat_cmp new d ≡ cond (has item.station d) (Some item.agent) (get nat_cmp old d)) → Seats s new → Seats (with_agent s item) new
+Seats-put s old new item w h n d a e f = by (item.agent == n) refl
+  where
+    by : (b : Bool) → (item.agent == n) ≡ b → get nat_cmp new d ≡ Some n
+    by true p =
+        let same : item ≡ a = some_is item a (sym (ap (λ b. cond b (Some item) (agent_of s n)) p) ∙ sym (agent_put s item n) ∙ e) in
+        let station : item.station ≡ Some d = ap (λ (z : AgentRecord). z.station) same ∙ f in
+        w d ∙ ap (λ b. cond b (Some item.agent) (get nat_cmp old d)) (ap (λ o. has o d) station ∙ eq-eqb d d refl) ∙ ap Some (eqb-true item.agent n p)
+    by false p = h n d a (sym (ap (λ b. cond b (Some item) (agent_of s n)) p) ∙ sym (agent_put s item n) ∙ e) f
+
+pub Seats-same : (s : Rows) (old new : BTreeMap ℕ ℕ) → ((d : ℕ) → get nat_cmp new d ≡ get nat_cmp old d) → Seats s old → Seats s new
+Seats-same s old new w h n d a e f = w d ∙ h n d a e f
+
+pub Seats-kept : (s t : Rows) (seats : BTreeMap ℕ ℕ) → ((n : ℕ) → agent_of t n ≡ agent_of s n) → Seats s seats → Seats t seats
+Seats-kept s t seats f h n d a e g = h n d a (sym (f n) ∙ e) g
+
+-- how many are queued after a change of one connection
+removed_none : {X : Type 0} (at : X → Ordering) (xs : List X) → find_by at xs ≡ None → remove_by at xs ≡ xs
+removed_none at [] e = refl
+removed_none at (x ∷ xs) e = by (is_eq (at x)) e (removed_none at xs)
+  where
+    by : (b : Bool) → cond b (Some x) (find_by at xs) ≡ None → (find_by at xs ≡ None → remove_by at xs ≡ xs) → cond b xs (x ∷ remove_by at xs) ≡ x ∷ xs
+    by true f more = absurd (cc f)
+    by false f more = ap (λ l. x ∷ l) (more f)
+
+pub queued-turned : (s : Rows) (call device : ℕ) (new : Option ConnectionRecord) → IsAscending connection_order s.connections → IsAt call device new
+    → length (queued_in_all (with_or_without s call device new)) + one_queued (connection_of s call device) ≡ one_queued new + length (queued_in_all s)
+unfolding queued_in_all with_connection without_connection connection_of
+queued-turned s call device None ascending at = by (connection_of s call device) refl
+  where
+    by : (o : Option ConnectionRecord) → connection_of s call device ≡ o → length (filter (λ (c : ConnectionRecord). is_queued c.state) (remove_by (at_connection call device) s.connections)) + one_queued o ≡ 0 + length (filter (λ (c : ConnectionRecord). is_queued c.state) s.connections)
+    by None e = ap (λ (l : List ConnectionRecord). length (filter (λ (c : ConnectionRecord). is_queued c.state) l) + 0) (removed_none (at_connection call device) s.connections e) ∙ omega arith
+    by (Some z) e =
+        let f : ConnectionRecord → Bool = λ c. is_queued c.state in
+        let less = count_less f s call device z e in
+        let a = count_length f (remove_by (at_connection call device) s.connections) in
+        let b = count_length f s.connections in
+        omega (arith, less, a, b)
+queued-turned s call device (Some c) ascending at = by (connection_of s call device) refl
+  where
+    by : (o : Option ConnectionRecord) → connection_of s call device ≡ o → length (filter (λ (c : ConnectionRecord). is_queued c.state) (put_by (connection_order c) s.connections c)) + one_queued o ≡ one_queued (Some c) + length (filter (λ (c : ConnectionRecord). is_queued c.state) s.connections)
+    by None e =
+        let f : ConnectionRecord → Bool = λ z. is_queued z.state in
+        let here : connection_of s c.call c.device ≡ None = ap (λ k. connection_of s k c.device) at.0 ∙ ap (connection_of s call) at.1 ∙ e in
+        let more = count_new f s c here in
+        let a = count_length f (put_by (connection_order c) s.connections c) in
+        let b = count_length f s.connections in
+        omega (arith, more, a, b)
+    by (Some z) e =
+        let f : ConnectionRecord → Bool = λ z. is_queued z.state in
+        let here : connection_of s c.call c.device ≡ Some z = ap (λ k. connection_of s k c.device) at.0 ∙ ap (connection_of s call) at.1 ∙ e in
+        let more = count_old f s c z ascending here in
+        let a = count_length f (put_by (connection_order c) s.connections c) in
+        let b = count_length f s.connections in
+        omega (arith, more, a, b)
+
+pub queued_most : (s : Rows) → length (queued_in_all s) ≤ length s.connections
+unfolding queued_in_all
+queued_most s = filter_length (λ (c : ConnectionRecord). is_queued c.state) s.connections
+
+pub queued_least : (s : Rows) (call device : ℕ) → IsAscending connection_order s.connections → one_queued (connection_of s call device) ≤ length (queued_in_all s)
+queued_least s call device ascending = let e = queued-turned s call device None ascending tt in omega (arith, e)
+
+-- other rows with the same agents and connections
+module _ (s t : Rows) (agents : t.agents ≡ s.agents) (connections : t.connections ≡ s.connections) where
+  found_same : (k d : ℕ) → connection_of t k d ≡ connection_of s k d
+  unfolding connection_of
+  found_same k d = ap (λ (l : List ConnectionRecord). find_by (at_connection k d) l) connections
+
+  agent_same : (n : ℕ) → agent_of t n ≡ agent_of s n
+  unfolding agent_of
+  agent_same n = ap (λ (l : List AgentRecord). find_by (at_agent n) l) agents
+
+  free_same : (o : Option ℕ) → is_free t o ≡ is_free s o
+  unfolding is_busy_at
+  free_same None = refl
+  free_same (Some d) = ap (λ (l : List ConnectionRecord). not (list_any (λ (c : ConnectionRecord). c.device == d && is_busying c) l)) connections
+
+  able_same : (g n : ℕ) (o : Option AgentRecord) → is_able_since t g n o ≡ is_able_since s g n o
+  able_same g n None = refl
+  able_same g n (Some a) = ap (λ b. (a.stamp == n) && (has a.group g && (is_ready a.state && b))) (free_same a.station)
+
+  pub IsIndexed-lists : (x : Indexes) (queues ready : PairSets) → IsIndexed s x → SameMembers nat_cmp pair_cmp x.queues queues → SameMembers nat_cmp pair_cmp x.ready ready
+      → ((g : ℕ) → is_group t g ≡ true → has_set nat_cmp pair_cmp queues g ≡ true) → ((g : ℕ) → is_group t g ≡ true → has_set nat_cmp pair_cmp ready g ≡ true) → IsIndexed t (record x { queues = queues; ready = ready })
+  unfolding queued_in_all
+  IsIndexed-lists x queues ready h mq mr q r = record {
+    agents = subst (IsAscending agent_order) (sym agents) h.agents;
+    connections = subst (IsAscending connection_order) (sym connections) h.connections;
+    queues = q;
+    readies = r;
+    waiting = λ g p. mq g p ∙ h.waiting g p ∙ ap (waits_at p.0) (sym (found_same p.1 g));
+    able = λ g p. mr g p ∙ h.able g p ∙ ap (is_able_since s g p.0) (sym (agent_same p.1)) ∙ sym (able_same g p.0 (agent_of t p.1));
+    offers = offers-same x.queues queues x.ready ready x.offering mq mr h.offers;
+    seats = Seats-kept s t x.seats agent_same h.seats;
+    lines = Lines-kept s t x.lines (λ c d e. sym (ap is_some (found_same c d)) ∙ e) h.lines;
+    queued = h.queued ∙ ap (λ (l : List ConnectionRecord). length (filter (λ (c : ConnectionRecord). is_queued c.state) l)) (sym connections);
+  }
+
+  pub IsIndexed-kept : (x : Indexes) → t.groups ≡ s.groups → IsIndexed s x → IsIndexed t x
+  unfolding group_of
+  IsIndexed-kept x groups h = IsIndexed-lists x x.queues x.ready h (λ g p. refl) (λ g p. refl)
+      (λ g e. h.queues g (ap (λ (l : List GroupRecord). is_some (find_by (at_group g) l)) (sym groups) ∙ e))
+      (λ g e. h.readies g (ap (λ (l : List GroupRecord). is_some (find_by (at_group g) l)) (sym groups) ∙ e))
+
+pub kept-station : (s : Rows) (r : StationRecord) (x : Indexes) → IsIndexed s x → IsIndexed (with_station s r) x
+unfolding with_station
+kept-station s r x h = IsIndexed-kept s (with_station s r) refl refl x refl h
+
+pub kept-call : (s : Rows) (r : CallRecord) (x : Indexes) → IsIndexed s x → IsIndexed (with_call s r) x
+unfolding with_call
+kept-call s r x h = IsIndexed-kept s (with_call s r) refl refl x refl h
+
+pub kept-monitor : (s : Rows) (r : MonitorRecord) (x : Indexes) → IsIndexed s x → IsIndexed (with_monitor s r) x
+unfolding with_monitor
+kept-monitor s r x h = IsIndexed-kept s (with_monitor s r) refl refl x refl h
+
+pub kept-no_call : (s : Rows) (c : ℕ) (x : Indexes) → IsIndexed s x → IsIndexed (without_call s c) x
+unfolding without_call
+kept-no_call s c x h = IsIndexed-kept s (without_call s c) refl refl x refl h
+
+pub kept-no_monitor : (s : Rows) (m : ℕ) (x : Indexes) → IsIndexed s x → IsIndexed (without_monitor s m) x
+unfolding without_monitor
+kept-no_monitor s m x h = IsIndexed-kept s (without_monitor s m) refl refl x refl h
+
+pub kept-last : (s : Rows) (k m e : ℕ) (x : Indexes) → IsIndexed s x → IsIndexed (with_last s k m e) x
+unfolding with_last
+kept-last s k m e x h = IsIndexed-kept s (with_last s k m e) refl refl x refl h
+
+pub kept-last_ids : (s : Rows) (c m : ℕ) (x : Indexes) → IsIndexed s x → IsIndexed (with_last_ids s c m) x
+unfolding with_last_ids
+kept-last_ids s c m x h = IsIndexed-kept s (with_last_ids s c m) refl refl x refl h
+
+-- a group with its two sets
+pub IsIndexed-group : (s : Rows) (item : GroupRecord) (x : Indexes) (queues ready : PairSets) → IsIndexed s x → HasSet nat_cmp pair_cmp x.queues queues item.device → HasSet nat_cmp pair_cmp x.ready ready item.device
+    → IsIndexed (with_group s item) (record x { queues = queues; ready = ready })
+unfolding with_group
+IsIndexed-group s item x queues ready h hq hr = IsIndexed-lists s (with_group s item) refl refl x queues ready h hq.members hr.members
+    (λ g e. hq.sets g ∙ there g (is_eq (nat_cmp item.device g)) (has_set nat_cmp pair_cmp x.queues g) (eq_key item.device g) (h.queues g) e)
+    (λ g e. hr.sets g ∙ there g (is_eq (nat_cmp item.device g)) (has_set nat_cmp pair_cmp x.ready g) (eq_key item.device g) (h.readies g) e)
+  where
+    there : (g : ℕ) (a b : Bool) → a ≡ (item.device == g) → (is_group s g ≡ true → b ≡ true) → is_group (with_group s item) g ≡ true → (a || b) ≡ true
+    there g true b k f e = refl
+    there g false b k f e = f (sym (group_put s item g ∙ ap (λ v. v || is_group s g) (sym k)) ∙ e)
+
+-- sets may come for what is no group
+pub IsIndexed-sets : (s : Rows) (x : Indexes) (queues ready : PairSets) (k : ℕ) → IsIndexed s x → HasSet nat_cmp pair_cmp x.queues queues k → Stays nat_cmp pair_cmp x.ready ready → IsIndexed s (record x { queues = queues; ready = ready })
+IsIndexed-sets s x queues ready k h hq hr = IsIndexed-lists s s refl refl x queues ready h hq.members hr.members
+    (λ g e. hq.sets g ∙ there (is_eq (nat_cmp k g)) (has_set nat_cmp pair_cmp x.queues g) (h.queues g e)) (λ g e. hr.sets g ∙ h.readies g e)
+  where
+    there : (a b : Bool) → b ≡ true → (a || b) ≡ true
+    there true b e = refl
+    there false b e = e
+
+pub IsIndexed-both : (s : Rows) (x : Indexes) (queues ready : PairSets) (k : ℕ) → IsIndexed s x → HasSet nat_cmp pair_cmp x.queues queues k → HasSet nat_cmp pair_cmp x.ready ready k → IsIndexed s (record x { queues = queues; ready = ready })
+IsIndexed-both s x queues ready k h hq hr = IsIndexed-lists s s refl refl x queues ready h hq.members hr.members
+    (λ g e. hq.sets g ∙ there (is_eq (nat_cmp k g)) (has_set nat_cmp pair_cmp x.queues g) (h.queues g e)) (λ g e. hr.sets g ∙ there (is_eq (nat_cmp k g)) (has_set nat_cmp pair_cmp x.ready g) (h.readies g e))
+  where
+    there : (a b : Bool) → b ≡ true → (a || b) ≡ true
+    there true b e = refl
+    there false b e = e
+
+pub IsIndexed-stays : (s : Rows) (x : Indexes) (queues : PairSets) → IsIndexed s x → Stays nat_cmp pair_cmp x.queues queues → IsIndexed s (record x { queues = queues })
+IsIndexed-stays s x queues h hq = IsIndexed-lists s s refl refl x queues x.ready h hq.members (λ g p. refl) (λ g e. hq.sets g ∙ h.queues g e) h.readies
+
+pub IsIndexed-seats : (s : Rows) (x : Indexes) (seats : BTreeMap ℕ ℕ) → IsIndexed s x → Seats s seats → IsIndexed s (record x { seats = seats })
+IsIndexed-seats s x seats h l = record { agents = h.agents; connections = h.connections; queues = h.queues; readies = h.readies; waiting = h.waiting; able = h.able; offers = h.offers; seats = l; lines = h.lines; queued = h.queued }
+
+pub IsIndexed-lines : (s : Rows) (x : Indexes) (lines : BTreeMap ℕ (BTreeSet ℕ)) → IsIndexed s x → Lines s lines → IsIndexed s (record x { lines = lines })
+IsIndexed-lines s x lines h l = record { agents = h.agents; connections = h.connections; queues = h.queues; readies = h.readies; waiting = h.waiting; able = h.able; offers = h.offers; seats = h.seats; lines = l; queued = h.queued }
+
+-- an agent's record is put
+pub IsIndexed-agent : (s : Rows) (item : AgentRecord) (x y z : Indexes) (turn : Turn) → IsIndexed s x → Entered x y turn.entering → TakenOut y z turn.leaving → TurnsTo s (with_agent s item) turn → Seats (with_agent s item) x.seats
+    → IsIndexed (with_agent s item) z
+unfolding with_agent group_of connection_of queued_in_all
+IsIndexed-agent s item x y z turn h e o w seats = IsIndexed-turned s (with_agent s item) x y z turn z.queued h e o w (ascending-put agent_order agents_total item s.agents h.agents) h.connections (λ g. refl) seats h.lines (o.rest.queued ∙ e.rest.queued ∙ h.queued)
+
+agents_put : (s : Rows) (c : ConnectionRecord) → IsAscending agent_order s.agents → IsAscending agent_order (with_connection s c).agents
+unfolding with_connection
+agents_put s c h = h
+
+groups_put : (s : Rows) (c : ConnectionRecord) (g : ℕ) → is_group (with_connection s c) g ≡ is_group s g
+unfolding with_connection group_of
+groups_put s c g = refl
+
+agents_less : (s : Rows) (c d : ℕ) → IsAscending agent_order s.agents → IsAscending agent_order (without_connection s c d).agents
+unfolding without_connection
+agents_less s c d h = h
+
+groups_less : (s : Rows) (c d g : ℕ) → is_group (without_connection s c d) g ≡ is_group s g
+unfolding without_connection group_of
+groups_less s c d g = refl
+
+-- a connection is put
+pub IsIndexed-put : (s : Rows) (c : ConnectionRecord) (x y z : Indexes) (turn : Turn) (n : ℕ) → IsIndexed s x → Entered x y turn.entering → TakenOut y z turn.leaving → TurnsTo s (with_connection s c) turn
+    → Lines (with_connection s c) x.lines → n ≡ length (queued_in_all (with_connection s c)) → IsIndexed (with_connection s c) (record z { queued = n })
+IsIndexed-put s c x y z turn n h e o w lines queued =
+    let r = Replaces-put s c h.connections in
+    IsIndexed-turned s (with_connection s c) x y z turn n h e o w (agents_put s c h.agents) r.ascending (groups_put s c) (Seats-kept s (with_connection s c) x.seats r.agents h.seats) lines queued
+
+-- a connection is removed
+pub IsIndexed-removed : (s : Rows) (call device : ℕ) (x y z : Indexes) (turn : Turn) (n : ℕ) (lines : BTreeMap ℕ (BTreeSet ℕ)) → IsIndexed s x → Entered x y turn.entering → TakenOut y z turn.leaving → TurnsTo s (without_connection s call device) turn
+    → SetsMember nat_cmp nat_cmp z.lines lines device call false → n ≡ length (queued_in_all (without_connection s call device)) → IsIndexed (without_connection s call device) (record z { queued = n; lines = lines })
+IsIndexed-removed s call device x y z turn n lines h e o w gone queued =
+    let t : Rows = without_connection s call device in
+    let r = Replaces-removed s call device h.connections in
+    let still : Lines t x.lines = Lines-kept s t x.lines (λ c d f. left c d ((call == c) && (device == d)) (r.found c d) f) h.lines in
+    let now = IsIndexed-turned s t x y z turn n h e o w (agents_less s call device h.agents) r.ascending (groups_less s call device) (Seats-kept s t x.seats r.agents h.seats) still queued in
+    let same : z.lines ≡ x.lines = o.rest.lines ∙ e.rest.lines in
+    IsIndexed-lines t (record z { queued = n }) lines now (Lines-removed s t call device r z.lines lines (subst (Lines s) (sym same) h.lines) gone)
+  where
+    left : (c d : ℕ) (b : Bool) → connection_of (without_connection s call device) c d ≡ cond b None (connection_of s c d) → is_some (connection_of (without_connection s call device) c d) ≡ true → is_some (connection_of s c d) ≡ true
+    left c d true e f = absurd (cc (e, f))
+    left c d false e f = sym (ap is_some e) ∙ f
+
+-- no group, agent and connection, and nothing in the indexes
+module _ (s : Rows) (x : Indexes) (no_groups : s.groups ≡ []) (no_agents : s.agents ≡ []) (no_connections : s.connections ≡ []) (blank : IsBlank x) where
+  no_group : (g : ℕ) → is_group s g ≡ false
+  unfolding group_of
+  no_group g = ap (λ (l : List GroupRecord). is_some (find_by (at_group g) l)) no_groups
+
+  no_agent : (n : ℕ) → agent_of s n ≡ None
+  unfolding agent_of
+  no_agent n = ap (λ (l : List AgentRecord). find_by (at_agent n) l) no_agents
+
+  no_connection : (c d : ℕ) → connection_of s c d ≡ None
+  unfolding connection_of
+  no_connection c d = ap (λ (l : List ConnectionRecord). find_by (at_connection c d) l) no_connections
+
+  no_member : (m : PairSets) → m.entries ≡ [] → (g : ℕ) (p : ℕ × ℕ) → lists m g p ≡ false
+  unfolding holds
+  no_member m e g p = ap (λ es. holds_in nat_cmp pair_cmp (lookup (is_at (nat_cmp g)) es) p) e
+
+  none_queued : 0 ≡ length (queued_in_all s)
+  unfolding queued_in_all
+  none_queued = ap (λ (l : List ConnectionRecord). length (filter (λ (c : ConnectionRecord). is_queued c.state) l)) (sym no_connections)
+
+  pub IsIndexed-blank : IsIndexed s x
+  IsIndexed-blank = record {
+    agents = subst (IsAscending agent_order) (sym no_agents) tt;
+    connections = subst (IsAscending connection_order) (sym no_connections) tt;
+    queues = λ g e. absurd (cc (e, no_group g));
+    readies = λ g e. absurd (cc (e, no_group g));
+    waiting = λ g p. no_member x.queues blank.queues g p ∙ sym (ap (waits_at p.0) (no_connection p.1 g));
+    able = λ g p. no_member x.ready blank.ready g p ∙ sym (ap (is_able_since s g p.0) (no_agent p.1));
+    offers = λ g p q h k. absurd (cc (h, no_member x.queues blank.queues g p));
+    seats = λ n d a e f. absurd (cc (e, no_agent n));
+    lines = λ c d e. absurd (cc (e, ap is_some (no_connection c d)));
+    queued = blank.queued ∙ none_queued;
+  }
+
+pub IsIndexed-new : (limits : Limits) (x : Indexes) → IsBlank x → IsIndexed (empty_rows limits) x
+IsIndexed-new limits x blank = IsIndexed-blank (empty_rows limits) x refl refl refl blank

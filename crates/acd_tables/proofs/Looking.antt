@@ -1,0 +1,116 @@
+-- What a scan of the connections or agents sees, by look-ups.
+use Rattle.std.proofs.Common.{◌≡◌, ℕ, Bool, true, false, cond, ◌&&◌, not, List, [], Option, Some, None, is_some, refl, ap, sym, ◌∙◌, subst}
+use Rattle.std.specs.Prelude.{◌==◌, find}
+use Rattle.std.specs.List.{list_any}
+use Rattle.std.specs.Cmp.{both_ways}
+use Rattle.std.specs.Ordering.{is_eq, nat_cmp}
+use Rattle.std.specs.BTreeMap.{BTreeMap, get}
+use Rattle.std.specs.BTreeSet.{BTreeSet}
+use Rattle.std.proofs.lemmas.Bool.{and_parts, and_from, eqb-true, eq-eqb, false_from_ne_true}
+use Rattle.std.proofs.lemmas.Map.Lookups.{exact_unsigned}
+use Rattle.acd_terms.specs.Lists.{Among, IsAscending}
+use Rattle.acd_terms.specs.Rules.Plan.{agent_order, connection_order}
+use Rattle.acd_terms.specs.Scans.{agent_of, agent_at, connection_of, has}
+use Rattle.acd_terms.specs.declared.rows.Rows.{Rows}
+use Rattle.acd_terms.specs.declared.record.AgentRecord.{AgentRecord}
+use Rattle.acd_terms.specs.declared.record.ConnectionRecord.{ConnectionRecord}
+use Rattle.acd_laws.proofs.Lists.{eq_is, is_eq_of, any_found, any_some, find_passes, find_among, some_from, some_found, none_from, some_is}
+use Rattle.acd_laws.proofs.State.{cmp_self, connection_among, connection_found, found_key, agent_among, agent_key}
+use Rattle.acd_laws.proofs.Found.{agent_at_find, agent_seat, agent_there, has_is}
+use Rattle.acd_tables.specs.Indexed.{Seats, Lines}
+use Rattle.acd_tables.specs.Uses.{uses, is_used, is_in_use, if_at}
+use Rattle.acd_tables.specs.Sets.{holds, holds_in}
+use Rattle.acd_tables.specs.declared.uses.Use.{Use}
+
+-- a connection at the device that passes
+abbrev pub Standing : Rows → (ConnectionRecord → Bool) → ℕ → Type 0
+Standing s u d = (c : ConnectionRecord) × (connection_of s c.call d ≡ Some c) × (u c ≡ true)
+
+pub there-any : (s : Rows) (u : ConnectionRecord → Bool) (k d : ℕ) (c : ConnectionRecord) → connection_of s k d ≡ Some c → u c ≡ true → list_any (λ (z : ConnectionRecord). z.device == d && u z) s.connections ≡ true
+there-any s u k d c e h = any_some (λ (z : ConnectionRecord). z.device == d && u z) s.connections c (connection_among s k d c e) (and_from (c.device == d) (u c) (eq-eqb c.device d (found_key s k d c e).1) h)
+
+pub any-there : (s : Rows) (u : ConnectionRecord → Bool) (d : ℕ) → IsAscending connection_order s.connections → list_any (λ (z : ConnectionRecord). z.device == d && u z) s.connections ≡ true → Standing s u d
+any-there s u d ascending e =
+    let p : ConnectionRecord → Bool = λ z. z.device == d && u z in
+    let f = some_from (find p s.connections) (any_found p s.connections e) in
+    let passes = and_parts (f.0.device == d) (u f.0) (find_passes p s.connections f.0 f.1) in
+    let own = connection_found s ascending f.0 (find_among p s.connections f.0 f.1) in
+    (f.0, subst (λ z. connection_of s f.0.call z ≡ Some f.0) (eqb-true f.0.device d passes.0) own, passes.1)
+
+pub used_some : (u : ConnectionRecord → Bool) (o : Option ConnectionRecord) → is_used u o ≡ true → (c : ConnectionRecord) × (o ≡ Some c) × (u c ≡ true)
+used_some u None e = absurd cc
+used_some u (Some c) e = (c, refl, e)
+
+-- among the calls that are listed at a device are all that have a connection there
+pub any-listed : (s : Rows) (u : ConnectionRecord → Bool) (d : ℕ) (but : Option ℕ) (ks : List ℕ) → IsAscending connection_order s.connections
+    → ((c : ℕ) → is_some (connection_of s c d) ≡ true → list_any (λ k. is_eq (nat_cmp c k)) ks ≡ true)
+    → list_any (λ k. not (has but k) && is_used u (connection_of s k d)) ks ≡ list_any (λ (z : ConnectionRecord). z.device == d && (not (has but z.call) && u z)) s.connections
+any-listed s u d but ks ascending listed = both_ways _ _ to from
+  where
+    to : list_any (λ k. not (has but k) && is_used u (connection_of s k d)) ks ≡ true → list_any (λ (z : ConnectionRecord). z.device == d && (not (has but z.call) && u z)) s.connections ≡ true
+    to e =
+        let p : ℕ → Bool = λ k. not (has but k) && is_used u (connection_of s k d) in
+        let w : ConnectionRecord → Bool = λ z. not (has but z.call) && u z in
+        let k = some_from (find p ks) (any_found p ks e) in
+        let parts = and_parts (not (has but k.0)) (is_used u (connection_of s k.0 d)) (find_passes p ks k.0 k.1) in
+        let c = used_some u (connection_of s k.0 d) parts.1 in
+        let call : c.0.call ≡ k.0 = (found_key s k.0 d c.0 c.1).0 in
+        there-any s w k.0 d c.0 c.1 (and_from (not (has but c.0.call)) (u c.0) (ap (λ n. not (has but n)) call ∙ parts.0) c.2)
+
+    from : list_any (λ (z : ConnectionRecord). z.device == d && (not (has but z.call) && u z)) s.connections ≡ true → list_any (λ k. not (has but k) && is_used u (connection_of s k d)) ks ≡ true
+    from e =
+        let p : ℕ → Bool = λ k. not (has but k) && is_used u (connection_of s k d) in
+        let w : ConnectionRecord → Bool = λ z. not (has but z.call) && u z in
+        let c = any-there s w d ascending e in
+        let parts = and_parts (not (has but c.0.call)) (u c.0) c.2 in
+        let q : ℕ → Bool = λ k. is_eq (nat_cmp c.0.call k) in
+        let k = some_from (find q ks) (any_found q ks (listed c.0.call (ap is_some c.1))) in
+        let same : k.0 ≡ c.0.call = sym (exact_unsigned c.0.call k.0 (eq_is _ (find_passes q ks k.0 k.1))) in
+        any_some p ks c.0.call (subst (λ n. Among n ks) same (find_among q ks k.0 k.1)) (and_from (not (has but c.0.call)) (is_used u (connection_of s c.0.call d)) parts.0 (ap (is_used u) c.1 ∙ parts.1))
+
+module _ (s : Rows) (seats : BTreeMap ℕ ℕ) (ascending : IsAscending agent_order s.agents) (listed : Seats s seats) where
+  -- an agent with the station is the one that a scan finds
+  pub seated : (n d : ℕ) (a : AgentRecord) → agent_of s n ≡ Some a → a.station ≡ Some d → agent_at s d ≡ Some a
+  seated n d a e f =
+      let p : AgentRecord → Bool = λ z. has z.station d in
+      let there = some_found p s.agents a (agent_among s n a e) (ap (λ o. has o d) f ∙ eq-eqb d d refl) in
+      let b = some_from (find p s.agents) there in
+      let found : agent_at s d ≡ Some b.0 = agent_at_find s d ∙ b.1 in
+      let other = listed b.0.agent d b.0 (agent_there s ascending d b.0 found) (agent_seat s d b.0 found).1 in
+      let number : b.0.agent ≡ n = some_is _ _ (sym other ∙ listed n d a e f) in
+      let same : b.0 ≡ a = some_is _ _ (sym (agent_there s ascending d b.0 found) ∙ ap (agent_of s) number ∙ e) in
+      found ∙ ap Some same
+
+  -- nobody has a station that stands for no agent, or for one who isn't there
+  pub unseated : (d : ℕ) → ((b : AgentRecord) → get nat_cmp seats d ≡ Some b.agent → agent_of s b.agent ≡ Some b → b.station ≡ Some d → ⊥) → agent_at s d ≡ None
+  unseated d none = none_from (agent_at s d) (λ b e.
+      let there = agent_there s ascending d b e in
+      let station = (agent_seat s d b e).1 in
+      none b (listed b.agent d b there station) there station)
+
+  pub seat-none : (d : ℕ) → get nat_cmp seats d ≡ None → agent_at s d ≡ None
+  seat-none d none = unseated d (λ b e there station. cc (e, none))
+
+  pub seat-some : (d n : ℕ) → get nat_cmp seats d ≡ Some n → agent_at s d ≡ if_at (agent_of s n) d
+  seat-some d n there = by (agent_of s n) refl
+    where
+      by : (o : Option AgentRecord) → agent_of s n ≡ o → agent_at s d ≡ if_at o d
+      by None e = unseated d (λ b at own station. cc (own, e, ap (agent_of s) (some_is b.agent n (sym at ∙ there))))
+      by (Some a) e = seat (has a.station d) refl
+        where
+          seat : (v : Bool) → has a.station d ≡ v → agent_at s d ≡ cond v (Some a) None
+          seat true h = seated n d a e (has_is a.station d h)
+          seat false h = unseated d (λ b at own station.
+              let same : b ≡ a = some_is b a (sym own ∙ ap (agent_of s) (some_is b.agent n (sym at ∙ there)) ∙ e) in
+              let here : has a.station d ≡ true = ap (λ (z : AgentRecord). has z.station d) (sym same) ∙ ap (λ o. has o d) station ∙ eq-eqb d d refl in
+              cc (h, here))
+
+-- what the calls at a device tell
+module _ (s : Rows) (lines : BTreeMap ℕ (BTreeSet ℕ)) (d : ℕ) (but : Option ℕ) (kind : Use) (ascending : IsAscending connection_order s.connections) (listed : Lines s lines) where
+  pub in_use-none : get nat_cmp lines d ≡ None → false ≡ is_in_use s d but kind
+  unfolding holds
+  in_use-none none = any-listed s (uses kind) d but [] ascending (λ c e. sym (ap (λ o. holds_in nat_cmp nat_cmp o c) none) ∙ listed c d e)
+
+  pub in_use-some : (calls : BTreeSet ℕ) → get nat_cmp lines d ≡ Some calls → list_any (λ k. not (has but k) && is_used (uses kind) (connection_of s k d)) calls.keys ≡ is_in_use s d but kind
+  unfolding holds
+  in_use-some calls there = any-listed s (uses kind) d but calls.keys ascending (λ c e. sym (ap (λ o. holds_in nat_cmp nat_cmp o c) there) ∙ listed c d e)

@@ -1,0 +1,15 @@
+use Rattle.std.proofs.Common.{refl, ap, ◌∙◌}
+use Rattle.std.specs.Prelude.{None}
+use Rattle.acd_tables.specs.Turns.{ready_entry}
+use Rattle.acd_tables.proofs.TurnLemmas.{agent-turn}
+use Rattle.acd_tables.proofs.turns.agent_turn.Goals as goal
+
+pub returns : goal.returns
+returns c =
+    agent-turn c.args.records.now c.args.item.now
+    (record {
+      entering = record { queue = None; ready = c.only-after.result };
+      leaving = record { queue = None; ready = c.leaving_but-leaving.result };
+    })
+    c.ready_entry-before.result c.able_entry-entry.result c.is_free-free.result refl refl
+    (c.ready_entry-before.ensures ∙ ap ready_entry c.agent-old.ensures) c.able_entry-entry.ensures c.is_free-free.ensures c.only-after.ensures c.leaving_but-leaving.ensures

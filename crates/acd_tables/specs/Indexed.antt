@@ -1,0 +1,88 @@
+-- What the indexes say of the rows.
+use Rattle.std.specs.Prelude.{◌≡◌, ℕ, Bool, true, false, not, ◌&&◌, ◌||◌, ◌==◌, Option, Some, None, is_some, length, unwrap_or}
+use Rattle.std.specs.List.{list_any}
+use Rattle.std.specs.declared.cmp.Ordering.{Ordering}
+use Rattle.std.specs.Ordering.{nat_cmp, ordering_then, is_gt}
+use Rattle.std.specs.BTreeMap.{BTreeMap, get}
+use Rattle.std.specs.BTreeSet.{BTreeSet, contains}
+use Rattle.acd_terms.specs.Lists.{IsAscending}
+use Rattle.acd_terms.specs.Rules.Plan.{agent_order, connection_order}
+use Rattle.acd_terms.specs.Scans.{is_group, agent_of, connection_of, queued_in_all, has, is_distributed}
+use Rattle.acd_terms.specs.States.{is_queued, is_ready, is_occupying}
+use Rattle.acd_terms.specs.declared.rows.Rows.{Rows}
+use Rattle.acd_terms.specs.declared.record.AgentRecord.{AgentRecord}
+use Rattle.acd_terms.specs.declared.record.ConnectionRecord.{ConnectionRecord}
+use Rattle.acd_tables.specs.Sets.{holds, has_set}
+use Rattle.acd_tables.specs.declared.indexes.Indexes.{Indexes}
+
+abbrev pub PairSets : Type 0
+PairSets = BTreeMap ℕ (BTreeSet (ℕ × ℕ))
+
+abbrev pub pair_cmp : ℕ × ℕ → ℕ × ℕ → Ordering
+pair_cmp p q = ordering_then (nat_cmp p.0 q.0) (nat_cmp p.1 q.1)
+
+-- the set of the group has the pair
+abbrev pub lists : PairSets → ℕ → ℕ × ℕ → Bool
+lists m g p = holds nat_cmp pair_cmp m g p
+
+-- the set at the first has the second
+abbrev pub joins : BTreeMap ℕ (BTreeSet ℕ) → ℕ → ℕ → Bool
+joins m k e = holds nat_cmp nat_cmp m k e
+
+-- the first member of the set of the group, if there is one
+abbrev pub IsFirstIn : {E : Type 0} → (E → E → Ordering) → BTreeMap ℕ (BTreeSet E) → ℕ → Option E → Type 0
+IsFirstIn {E} cmp m g None = (e : E) → holds nat_cmp cmp m g e ≡ false
+IsFirstIn {E} cmp m g (Some k) = (holds nat_cmp cmp m g k ≡ true) × ((e : E) → holds nat_cmp cmp m g e ≡ true → is_gt (cmp k e) ≡ false)
+
+-- the connection waits at the place
+abbrev pub waits_at : ℕ → Option ConnectionRecord → Bool
+waits_at place None = false
+waits_at place (Some c) = is_queued c.state && unwrap_or c.place 0 == place
+
+-- with one of these a station takes no offer
+abbrev pub is_busying : ConnectionRecord → Bool
+is_busying c = is_occupying c.state || is_distributed c
+
+unfoldable pub is_busy_at : Rows → ℕ → Bool
+is_busy_at s device = list_any (λ c. c.device == device && is_busying c) s.connections
+
+abbrev pub is_free : Rows → Option ℕ → Bool
+is_free s None = false
+is_free s (Some station) = not (is_busy_at s station)
+
+-- of the group, ready, and at a station that takes an offer
+abbrev pub is_able : Rows → ℕ → AgentRecord → Bool
+is_able s group a = has a.group group && (is_ready a.state && is_free s a.station)
+
+-- the agent is able since the stamp
+abbrev pub is_able_since : Rows → ℕ → ℕ → Option AgentRecord → Bool
+is_able_since s group stamp None = false
+is_able_since s group stamp (Some a) = a.stamp == stamp && is_able s group a
+
+-- a group with members in both has its number in the third
+abbrev pub ListsOffers : PairSets → PairSets → BTreeSet ℕ → Type 0
+ListsOffers queues ready offering = (g : ℕ) (p q : ℕ × ℕ) → lists queues g p ≡ true → lists ready g q ≡ true → contains nat_cmp offering g ≡ true
+
+-- each agent at a station has its number there
+abbrev pub Seats : Rows → BTreeMap ℕ ℕ → Type 0
+Seats s seats = (n d : ℕ) (a : AgentRecord) → agent_of s n ≡ Some a → a.station ≡ Some d → get nat_cmp seats d ≡ Some n
+
+-- each connection has its call at the device
+abbrev pub Lines : Rows → BTreeMap ℕ (BTreeSet ℕ) → Type 0
+Lines s lines = (c d : ℕ) → is_some (connection_of s c d) ≡ true → joins lines d c ≡ true
+
+-- the indexes are those of the rows
+pub record IsIndexed (s : Rows) (x : Indexes) : Type 0 where
+  pub agents : IsAscending agent_order s.agents
+  pub connections : IsAscending connection_order s.connections
+  -- each group has its two sets
+  pub queues : (g : ℕ) → is_group s g ≡ true → has_set nat_cmp pair_cmp x.queues g ≡ true
+  pub readies : (g : ℕ) → is_group s g ≡ true → has_set nat_cmp pair_cmp x.ready g ≡ true
+  -- who waits, and who is able
+  pub waiting : (g : ℕ) (p : ℕ × ℕ) → lists x.queues g p ≡ waits_at p.0 (connection_of s p.1 g)
+  pub able : (g : ℕ) (p : ℕ × ℕ) → lists x.ready g p ≡ is_able_since s g p.0 (agent_of s p.1)
+  pub offers : ListsOffers x.queues x.ready x.offering
+  -- who is at a station, and the calls at a device; more may be listed
+  pub seats : Seats s x.seats
+  pub lines : Lines s x.lines
+  pub queued : x.queued ≡ length (queued_in_all s)

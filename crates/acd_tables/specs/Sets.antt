@@ -1,0 +1,44 @@
+-- Sets by key.
+use Rattle.std.specs.Prelude.{◌≡◌, Bool, true, false, ◌&&◌, ◌||◌, Option, Some, None, is_some, if◌then◌else◌}
+use Rattle.std.specs.declared.cmp.Ordering.{Ordering}
+use Rattle.std.specs.Ordering.{is_eq}
+use Rattle.std.specs.BTreeMap.{BTreeMap, get}
+use Rattle.std.specs.BTreeSet.{BTreeSet, contains}
+
+module _ {K E : Type 0} (by : K → K → Ordering) (cmp : E → E → Ordering) where
+  abbrev pub holds_in : Option (BTreeSet E) → E → Bool
+  holds_in None e = false
+  holds_in (Some s) e = contains cmp s e
+
+  -- the set at the key has the member
+  unfoldable pub holds : BTreeMap K (BTreeSet E) → K → E → Bool
+  holds m k e = holds_in (get by m k) e
+
+  -- there is a set at the key
+  unfoldable pub has_set : BTreeMap K (BTreeSet E) → K → Bool
+  has_set m k = is_some (get by m k)
+
+  abbrev pub is_at_key : K → E → K → E → Bool
+  is_at_key k e q x = is_eq (by k q) && is_eq (cmp e x)
+
+  -- one member of one set is there or not, and all else is as before
+  pub record Sets (old new : BTreeMap K (BTreeSet E)) (k : K) (e : E) (there : Bool) : Type 0 where
+    pub sets : (q : K) → has_set new q ≡ has_set old q
+    pub members : (q : K) (x : E) → holds new q x ≡ (if is_at_key k e q x then there else holds old q x)
+
+  -- the same members; sets that are empty may have gone or come
+  abbrev pub SameMembers : BTreeMap K (BTreeSet E) → BTreeMap K (BTreeSet E) → Type 0
+  SameMembers old new = (q : K) (x : E) → holds new q x ≡ holds old q x
+
+  pub record Stays (old new : BTreeMap K (BTreeSet E)) : Type 0 where
+    pub sets : (q : K) → has_set new q ≡ has_set old q
+    pub members : SameMembers old new
+
+  -- one member of one set is there or not; the set may have come with it or gone
+  abbrev pub SetsMember : BTreeMap K (BTreeSet E) → BTreeMap K (BTreeSet E) → K → E → Bool → Type 0
+  SetsMember old new k e there = (q : K) (x : E) → holds new q x ≡ (if is_at_key k e q x then there else holds old q x)
+
+  -- a set at the key, and all members as before
+  pub record HasSet (old new : BTreeMap K (BTreeSet E)) (k : K) : Type 0 where
+    pub sets : (q : K) → has_set new q ≡ (is_eq (by k q) || has_set old q)
+    pub members : SameMembers old new

@@ -1,0 +1,31 @@
+-- How connections use a station.
+use Rattle.std.specs.Prelude.{◌≡◌, ℕ, Bool, true, false, not, ◌&&◌, ◌==◌, Option, Some, None, if◌then◌else◌}
+use Rattle.std.specs.List.{list_any}
+use Rattle.acd_terms.specs.Scans.{has, is_distributed}
+use Rattle.acd_terms.specs.States.{is_live, is_occupying}
+use Rattle.acd_terms.specs.declared.rows.Rows.{Rows}
+use Rattle.acd_terms.specs.declared.record.AgentRecord.{AgentRecord}
+use Rattle.acd_terms.specs.declared.record.ConnectionRecord.{ConnectionRecord}
+use Rattle.acd_tables.specs.Indexed.{is_busying}
+use Rattle.acd_tables.specs.declared.uses.Use.{Use}
+use Rattle.acd_tables.specs.declared.uses.Use.TheVariants.{Live, Occupying, Distributed, Busying}
+
+abbrev pub uses : Use → ConnectionRecord → Bool
+uses Live c = is_live c.state
+uses Occupying c = is_occupying c.state
+uses Distributed c = is_distributed c
+uses Busying c = is_busying c
+
+-- a connection that may be there passes
+abbrev pub is_used : (ConnectionRecord → Bool) → Option ConnectionRecord → Bool
+is_used u None = false
+is_used u (Some c) = u c
+
+-- a connection at the device, but for one of the call, uses it so
+abbrev pub is_in_use : Rows → ℕ → Option ℕ → Use → Bool
+is_in_use s device but kind = list_any (λ c. c.device == device && (not (has but c.call) && uses kind c)) s.connections
+
+-- the agent that may be there, where it is at the station
+abbrev pub if_at : Option AgentRecord → ℕ → Option AgentRecord
+if_at None station = None
+if_at (Some a) station = if has a.station station then Some a else None

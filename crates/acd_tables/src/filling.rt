@@ -1,0 +1,52 @@
+//! Tables filled from rows.
+
+ghost use Rattle.std.specs.Prelude.{◌≡◌, [], true, OnOk};
+ghost use Rattle.acd_terms.specs.Rules.Plan.{ascends, group_order, agent_order, connection_order};
+
+use crate::tables::Tables;
+use acd_terms::record::{AgentRecord, ConnectionRecord, GroupRecord};
+use std::alloc::AllocError;
+
+impl Tables {
+    /// Puts the groups into tables that have none.
+    #[tactic(auto, unfolding(acd_terms::specs::Writes::with_group))]
+    pub(crate) fn put_groups(&mut self, groups: &[GroupRecord]) -> Result<(), AllocError>
+        requires none { self.old.groups ≡ [] }
+        requires order { ascends group_order groups.now ≡ true }
+        ensures { OnOk result (self.new ≡ record self.old { groups = groups.now }) }
+    {
+        for group in groups {
+            self.put_group(*group)?;
+        }
+        Ok(())
+    }
+
+    /// Puts the agents into tables that have none.
+    #[tactic(auto, unfolding(acd_terms::specs::Writes::with_agent))]
+    pub(crate) fn put_agents(&mut self, agents: &[AgentRecord]) -> Result<(), AllocError>
+        requires none { self.old.agents ≡ [] }
+        requires order { ascends agent_order agents.now ≡ true }
+        ensures { OnOk result (self.new ≡ record self.old { agents = agents.now }) }
+    {
+        for agent in agents {
+            self.put_agent(*agent)?;
+        }
+        Ok(())
+    }
+
+    /// Puts the connections into tables that have none.
+    #[tactic(auto, unfolding(acd_terms::specs::Writes::with_connection))]
+    pub(crate) fn put_connections(
+        &mut self,
+        connections: &[ConnectionRecord],
+    ) -> Result<(), AllocError>
+        requires none { self.old.connections ≡ [] }
+        requires order { ascends connection_order connections.now ≡ true }
+        ensures { OnOk result (self.new ≡ record self.old { connections = connections.now }) }
+    {
+        for connection in connections {
+            self.put_connection(*connection)?;
+        }
+        Ok(())
+    }
+}

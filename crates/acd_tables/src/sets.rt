@@ -1,0 +1,115 @@
+//! Sets by key.
+
+ghost use Rattle.std.specs.Prelude.{◌≡◌, true, false, not, OnOk, OnErr, IfOk};
+ghost use Rattle.acd_tables.specs.Indexed.{IsFirstIn};
+ghost use Rattle.acd_tables.specs.Sets.{holds, Sets, Stays, SameMembers, SetsMember, HasSet};
+
+use acd_terms::id::DeviceId;
+use std::alloc::{AllocError, Global};
+use std::collections::{BTreeMap, BTreeSet};
+
+/// Puts the member into the set at the key, and says whether it is new there. Where the key has no set
+/// it fails as if there were no memory.
+#[tactic(auto, unfolding(crate::specs::Sets::holds, crate::specs::Sets::has_set))]
+pub(crate) fn enter<K: Ord + Copy, E: Ord + Copy>(
+    sets: &mut BTreeMap<K, BTreeSet<E>>,
+    key: K,
+    member: E,
+) -> Result<bool, AllocError>
+    ensures ok { OnOk result (Sets K.cmp E.cmp sets.old sets.new key member true) }
+    ensures added { IfOk result (λ added. added ≡ not (holds K.cmp E.cmp sets.old key member)) }
+    ensures err { OnErr result (Stays K.cmp E.cmp sets.old sets.new) }
+{
+    match sets.get_mut(&key) {
+        None => Err(AllocError),
+        Some(set) => Ok(set.insert(member)?),
+    }
+}
+
+/// Takes the member out of the set at the key.
+#[tactic(auto, unfolding(crate::specs::Sets::holds, crate::specs::Sets::has_set))]
+pub(crate) fn leave<K: Ord + Copy, E: Ord + Copy>(
+    sets: &mut BTreeMap<K, BTreeSet<E>>,
+    key: K,
+    member: E,
+)
+    ensures { Sets K.cmp E.cmp sets.old sets.new key member false }
+{
+    if let Some(set) = sets.get_mut(&key) {
+        set.remove(&member);
+    }
+}
+
+/// Makes sure that there is a set at the key.
+#[tactic(auto, unfolding(crate::specs::Sets::holds, crate::specs::Sets::has_set))]
+pub(crate) fn add_set<K: Ord + Copy, E: Ord + Copy>(
+    alloc: Global,
+    sets: &mut BTreeMap<K, BTreeSet<E>>,
+    key: K,
+) -> Result<(), AllocError>
+    ensures ok { OnOk result (HasSet K.cmp E.cmp sets.old sets.new key) }
+    ensures err { OnErr result (Stays K.cmp E.cmp sets.old sets.new) }
+{
+    if !sets.contains_key(&key) {
+        sets.insert(key, BTreeSet::new(alloc))?;
+    }
+    Ok(())
+}
+
+/// Puts the member into the set at the key, which is made where there is none.
+pub(crate) fn list<K: Ord + Copy, E: Ord + Copy>(
+    alloc: Global,
+    sets: &mut BTreeMap<K, BTreeSet<E>>,
+    key: K,
+    member: E,
+) -> Result<(), AllocError>
+    ensures ok { OnOk result (SetsMember K.cmp E.cmp sets.old sets.new key member true) }
+    ensures err { OnErr result (SameMembers K.cmp E.cmp sets.old sets.new) }
+{
+    add_set(alloc, sets, key)?;
+    enter(sets, key, member)?;
+    Ok(())
+}
+
+/// Takes the member out of the set at the key, and the set with its last member.
+pub(crate) fn unlist<K: Ord + Copy, E: Ord + Copy>(
+    sets: &mut BTreeMap<K, BTreeSet<E>>,
+    key: K,
+    member: E,
+)
+    ensures { SetsMember K.cmp E.cmp sets.old sets.new key member false }
+{
+    leave(sets, key, member);
+    drop_empty(sets, key);
+}
+
+// Removes the set at the key, where it has no member.
+#[tactic(auto, unfolding(crate::specs::Sets::holds, crate::specs::Sets::has_set))]
+fn drop_empty<K: Ord + Copy, E: Ord + Copy>(sets: &mut BTreeMap<K, BTreeSet<E>>, key: K)
+    ensures { SameMembers K.cmp E.cmp sets.old sets.new }
+{
+    let empty = match sets.get(&key) {
+        None => false,
+        Some(set) => set.is_empty(),
+    };
+    if empty {
+        sets.remove(&key);
+    }
+}
+
+/// The first member of the set of the group.
+#[tactic(auto, unfolding(crate::specs::Sets::holds))]
+pub(crate) fn first_in<E: Ord + Copy>(
+    sets: &BTreeMap<DeviceId, BTreeSet<E>>,
+    group: DeviceId,
+) -> Option<E>
+    ensures { IsFirstIn E.cmp sets.now group result }
+{
+    match sets.get(&group) {
+        None => None,
+        Some(set) => match set.first() {
+            None => None,
+            Some(first) => Some(*first),
+        },
+    }
+}

@@ -1,0 +1,160 @@
+//! What a change of one record takes into the exact sets, and out of them.
+
+ghost use Rattle.std.specs.Prelude.{◌≡◌, ◌||◌, Some, None, if◌then◌else◌};
+ghost use Rattle.acd_terms.specs.Writes.{with_agent};
+ghost use Rattle.acd_tables.specs.Indexed.{IsIndexed, is_free, is_busying};
+ghost use Rattle.acd_tables.specs.Uses.{is_used, is_in_use};
+ghost use Rattle.acd_tables.specs.declared.uses.Use.TheVariants.{Busying};
+ghost use Rattle.acd_tables.specs.Turns.{TurnsTo, IsAt, queue_entry, entry_in, ready_entry, with_or_without};
+
+use crate::indexes::{leaving_but, Entries, Indexes, Turn};
+use crate::records::Records;
+use crate::uses::{agent_at, is_in_use, uses, Use};
+use acd_terms::id::{AgentId, DeviceId};
+use acd_terms::record::{AgentRecord, ConnectionRecord};
+
+// The place of a queued connection.
+fn queue_entry(connection: &Option<ConnectionRecord>) -> Option<(DeviceId, (u64, u64))>
+    ensures { result ≡ queue_entry connection.now }
+{
+    match connection {
+        None => None,
+        Some(c) => {
+            if c.state.is_queued() {
+                Some((c.device, (c.place.unwrap_or(0), c.call)))
+            } else {
+                None
+            }
+        }
+    }
+}
+
+fn entry_in(group: Option<DeviceId>, agent: &AgentRecord) -> Option<(DeviceId, (u64, AgentId))>
+    ensures { result ≡ entry_in group agent.now }
+{
+    match group {
+        None => None,
+        Some(group) => Some((group, (agent.stamp, agent.agent))),
+    }
+}
+
+// The place of the agent in the group, if ready.
+fn able_entry(agent: &AgentRecord) -> Option<(DeviceId, (u64, AgentId))>
+    ensures { result ≡ ready_entry (Some agent.now) }
+{
+    if agent.state.is_ready() {
+        entry_in(agent.group, agent)
+    } else {
+        None
+    }
+}
+
+fn ready_entry(agent: &Option<AgentRecord>) -> Option<(DeviceId, (u64, AgentId))>
+    ensures { result ≡ ready_entry agent.now }
+{
+    match agent {
+        None => None,
+        Some(agent) => able_entry(agent),
+    }
+}
+
+fn only<E: Copy>(entry: &Option<E>, taken: bool) -> Option<E>
+    ensures { result ≡ (if taken then entry.now else None) }
+{
+    if taken { *entry } else { None }
+}
+
+fn only_not<E: Copy>(entry: &Option<E>, taken: bool) -> Option<E>
+    ensures { result ≡ (if taken then None else entry.now) }
+{
+    if taken { None } else { *entry }
+}
+
+fn is_busying(connection: &Option<ConnectionRecord>) -> bool
+    ensures { result ≡ is_used is_busying connection.now }
+{
+    match connection {
+        None => false,
+        Some(c) => uses(Use::Busying, c),
+    }
+}
+
+// The station is busy with the new connection of the call, or with another.
+fn is_busy_with(
+    records: &Records,
+    indexes: &Indexes,
+    call: u64,
+    device: DeviceId,
+    new: &Option<ConnectionRecord>,
+) -> bool
+    requires { IsIndexed records.now indexes.now }
+    ensures { result ≡ (is_in_use records.now device (Some call) Busying || is_used is_busying new.now) }
+{
+    is_in_use(records, &indexes.lines, device, Some(call), Use::Busying) || is_busying(new)
+}
+
+/// What changes where the connection of the call at the device is put, or removed.
+pub(crate) fn connection_turn(
+    records: &Records,
+    indexes: &Indexes,
+    call: u64,
+    device: DeviceId,
+    new: &Option<ConnectionRecord>,
+) -> Turn
+    requires indexed { IsIndexed records.now indexes.now }
+    requires at { IsAt call device new.now }
+    ensures { TurnsTo records.now (with_or_without records.now call device new.now) result }
+{
+    let old = records.connection(call, device);
+    let before = queue_entry(&old);
+    let after = queue_entry(new);
+    let agent = agent_at(records, &indexes.seats, device);
+    let seat = ready_entry(&agent);
+    let busy = is_busy_with(records, indexes, call, device, new);
+    let leaving = leaving_but(&before, &after);
+    Turn {
+        entering: Entries {
+            queue: after,
+            ready: only_not(&seat, busy),
+        },
+        leaving: Entries {
+            queue: leaving,
+            ready: only(&seat, busy),
+        },
+    }
+}
+
+// No connection at the station, if there is one, keeps it from an offer.
+#[tactic(auto, unfolding(crate::specs::Indexed::is_busy_at))]
+fn is_free(records: &Records, indexes: &Indexes, station: Option<DeviceId>) -> bool
+    requires { IsIndexed records.now indexes.now }
+    ensures { result ≡ is_free records.now station }
+{
+    match station {
+        None => false,
+        Some(station) => !is_in_use(records, &indexes.lines, station, None, Use::Busying),
+    }
+}
+
+/// What changes where the agent is put.
+pub(crate) fn agent_turn(records: &Records, indexes: &Indexes, item: &AgentRecord) -> Turn
+    requires { IsIndexed records.now indexes.now }
+    ensures { TurnsTo records.now (with_agent records.now item.now) result }
+{
+    let free = is_free(records, indexes, item.station);
+    let entry = able_entry(item);
+    let after = only(&entry, free);
+    let old = records.agent(item.agent);
+    let before = ready_entry(&old);
+    let leaving = leaving_but(&before, &after);
+    Turn {
+        entering: Entries {
+            queue: None,
+            ready: after,
+        },
+        leaving: Entries {
+            queue: None,
+            ready: leaving,
+        },
+    }
+}

@@ -1,0 +1,127 @@
+//! How connections use a station, found by the calls that are listed there.
+
+ghost use Rattle.std.specs.Prelude.{◌≡◌, ◌&&◌, not};
+ghost use Rattle.std.specs.List.{list_any};
+ghost use Rattle.acd_terms.specs.Lists.{IsAscending};
+ghost use Rattle.acd_terms.specs.Rules.Plan.{agent_order, connection_order};
+ghost use Rattle.acd_terms.specs.Scans.{agent_at, connection_of, has};
+ghost use Rattle.acd_tables.specs.Uses.{uses, is_used, is_in_use, if_at};
+ghost use Rattle.acd_tables.specs.Indexed.{Lines, Seats};
+
+use crate::records::Records;
+use acd_terms::id::{AgentId, DeviceId};
+use acd_terms::record::{AgentRecord, ConnectionRecord};
+use std::collections::{BTreeMap, BTreeSet};
+
+/// How a connection uses its station.
+#[derive(Clone, Copy)]
+pub enum Use {
+    Live,
+    /// Live or on hold.
+    Occupying,
+    /// Offered by distribution, until it ends.
+    Distributed,
+    /// Occupying or distributed: no call is offered there.
+    Busying,
+}
+
+/// The connection uses its station so.
+pub(crate) fn uses(kind: Use, c: &ConnectionRecord) -> bool
+    ensures { result ≡ uses kind c.now }
+{
+    let distributed = c.group.is_some() && !c.state.is_queued();
+    match kind {
+        Use::Live => c.state.is_live(),
+        Use::Occupying => c.state.is_occupying(),
+        Use::Distributed => distributed,
+        Use::Busying => c.state.is_occupying() || distributed,
+    }
+}
+
+// The connection of the call at the device, but for one of the call that is left out, uses it so.
+fn call_uses(
+    records: &Records,
+    call: u64,
+    device: DeviceId,
+    but: Option<u64>,
+    kind: Use,
+) -> bool
+    ensures { result ≡ (not (has but call) && is_used (uses kind) (connection_of records.now call device)) }
+{
+    if but == Some(call) {
+        return false;
+    }
+    match records.connection(call, device) {
+        None => false,
+        Some(c) => uses(kind, &c),
+    }
+}
+
+fn any_call_uses(
+    records: &Records,
+    calls: &BTreeSet<u64>,
+    device: DeviceId,
+    but: Option<u64>,
+    kind: Use,
+) -> bool
+    ensures { result ≡ list_any (λ k. not (has but k) && is_used (uses kind) (connection_of records.now k device)) calls.now.keys }
+{
+    for call in calls {
+        if call_uses(records, *call, device, but, kind) {
+            return true;
+        }
+    }
+    false
+}
+
+/// A connection at the device, but for one of the call that is left out, uses it so.
+#[tactic(auto, unfolding(crate::specs::Sets::holds))]
+pub(crate) fn is_in_use(
+    records: &Records,
+    lines: &BTreeMap<DeviceId, BTreeSet<u64>>,
+    device: DeviceId,
+    but: Option<u64>,
+    kind: Use,
+) -> bool
+    requires ascending { IsAscending connection_order records.now.connections }
+    requires listed { Lines records.now lines.now }
+    ensures { result ≡ is_in_use records.now device but kind }
+{
+    match lines.get(&device) {
+        None => false,
+        Some(calls) => any_call_uses(records, calls, device, but, kind),
+    }
+}
+
+// The agent is logged on at the station.
+fn is_at(agent: &AgentRecord, station: DeviceId) -> bool
+    ensures { result ≡ has agent.now.station station }
+{
+    agent.station == Some(station)
+}
+
+/// The agent logged on at the station.
+pub(crate) fn agent_at(
+    records: &Records,
+    seats: &BTreeMap<DeviceId, AgentId>,
+    station: DeviceId,
+) -> Option<AgentRecord>
+    requires ascending { IsAscending agent_order records.now.agents }
+    requires listed { Seats records.now seats.now }
+    ensures { result ≡ agent_at records.now station }
+{
+    match seats.get(&station) {
+        None => None,
+        Some(number) => if_at(records.agent(*number), station),
+    }
+}
+
+// The agent that may have been found, if it is at the station.
+fn if_at(agent: Option<AgentRecord>, station: DeviceId) -> Option<AgentRecord>
+    ensures { result ≡ if_at agent station }
+{
+    match agent {
+        None => None,
+        Some(agent) => { if is_at(&agent, station) { Some(agent) } else { None } }
+    }
+}
