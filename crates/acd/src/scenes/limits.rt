@@ -2,8 +2,7 @@
 
 use super::*;
 use acd_book::MemoryBook;
-use acd_desk::Desk;
-use acd_desk::Taken;
+use acd_desk::{Desk, Taken};
 use acd_terms::command::Request;
 
 // Few places, and just as many requests as the scene has.

@@ -62,6 +62,39 @@ fn compare_connection(
     );
 }
 
+// The calls that wait in the group.
+fn compare_queue(rt: &impl Abort, tables: &Tables, rows: &Rows, group: DeviceId) {
+    let queue = tables.queue_of(group).expect(rt, "a group");
+    for connection in &rows.connections {
+        if connection.device == group && connection.state.is_queued() {
+            let place = connection.place.expect(rt, "a place");
+            assert!(rt; queue.contains(&(place, connection.call)));
+        }
+    }
+    let waiting = rows
+        .connections
+        .iter()
+        .filter(|c| c.device == group && c.state.is_queued())
+        .count();
+    assert_eq!(rt; queue.len(), waiting);
+}
+
+// The agents to whom a call of the group may be offered.
+fn compare_ready(rt: &impl Abort, tables: &Tables, rows: &Rows, group: DeviceId) {
+    let ready = tables.ready_of(group).expect(rt, "a group");
+    for agent in &rows.agents {
+        if scans::is_eligible(rows, group, agent) {
+            assert!(rt; ready.contains(&(agent.stamp, agent.agent)));
+        }
+    }
+    let eligible = rows
+        .agents
+        .iter()
+        .filter(|a| scans::is_eligible(rows, group, a))
+        .count();
+    assert_eq!(rt; ready.len(), eligible);
+}
+
 // The numbers up to the last one and the one behind it, of calls and monitors that are gone too.
 fn compare_numbers(rt: &impl Abort, tables: &Tables, rows: &Rows) {
     for call in 0..=rows.last_call {
@@ -77,9 +110,13 @@ fn compare_numbers(rt: &impl Abort, tables: &Tables, rows: &Rows) {
 pub fn compare(rt: &impl Abort, tables: &Tables, rows: &Rows) {
     for group in &rows.groups {
         compare_device(rt, tables, rows, group.device);
+        compare_queue(rt, tables, rows, group.device);
+        compare_ready(rt, tables, rows, group.device);
     }
     for station in &rows.stations {
         compare_device(rt, tables, rows, station.device);
+        assert!(rt; tables.queue_of(station.device).is_none());
+        assert!(rt; tables.ready_of(station.device).is_none());
     }
     for agent in &rows.agents {
         compare_agent(rt, tables, rows, agent);

@@ -3,8 +3,7 @@
 
 use super::*;
 use acd_book::{Book, MemoryBook};
-use acd_desk::Desk;
-use acd_desk::Taken;
+use acd_desk::{Desk, Taken};
 use acd_switch::row_fault::RowFault;
 use acd_terms::event::{Cause, EventKind, Report};
 use acd_terms::id::{AgentId, DeviceId};
