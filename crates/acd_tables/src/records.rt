@@ -1,5 +1,6 @@
 //! The records of the switch and its counters, seen as rows.
 
+mod parties;
 pub mod writes;
 
 ghost use Rattle.std.specs.Prelude.{◌≡◌, ◌<◌, ◌^◌, [], length, not, nat_le, IfOk};

@@ -25,33 +25,17 @@ impl Tables {
     }
 
     /// The first two connections of the call. A call has no more.
-    #[tactic(auto, unfolding(acd_terms::specs::Scans::connections_of))]
     pub fn connections_of(&self, call: u64) -> [Option<ConnectionRecord>; 2]
         ensures { result ≡ slice_get (connections_of self.now call) 0 ∷ slice_get (connections_of self.now call) 1 ∷ [] }
     {
-        let mut first = None;
-        for c in self.records.connections() {
-            if c.call == call {
-                if first.is_some() {
-                    return [first, Some(*c)];
-                }
-                first = Some(*c);
-            }
-        }
-        [first, None]
+        self.records.connections_of(call)
     }
 
     /// The other party of the connection's call.
-    #[tactic(auto, unfolding(acd_terms::specs::Scans::other_of))]
     pub fn other_of(&self, connection: &ConnectionRecord) -> Option<ConnectionRecord>
         ensures { result ≡ other_of self.now connection.now }
     {
-        for y in self.records.connections() {
-            if y.call == connection.call && y.device != connection.device {
-                return Some(*y);
-            }
-        }
-        None
+        self.records.other_of(connection)
     }
 
     // A connection at the device uses it so.

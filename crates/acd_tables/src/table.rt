@@ -1,14 +1,18 @@
 //! Records in ascending key.
 
-ghost use Rattle.std.specs.Prelude.{◌≡◌, ◌<◌, ◌^◌, [], length, OnOk, OnErr, IfOk};
+ghost use Rattle.std.specs.Prelude.{◌≡◌, ◌<◌, ◌^◌, [], length, filter, OnOk, OnErr, IfOk};
+ghost use Rattle.std.specs.Map.{values_of};
+ghost use Rattle.std.specs.Range.Bound.{IsForward};
+ghost use Rattle.std.specs.BTreeMap.Range.{IsLeBy, IsLtBy, range_contains};
 ghost use Rattle.acd_terms.specs.Lists.{find_by, put_by, remove_by};
 
 use acd_terms::keyed::{Keyed, ascends};
 use acd_terms::listed::Listed;
 use std::alloc::{AllocError, Global};
 use std::collections::BTreeMap;
-use std::collections::btree_map::Values;
+use std::collections::btree_map::{Range, Values};
 use std::marker::Model;
+use std::ops::Bound;
 
 /// Records by key, seen as a list in ascending key.
 #[derive(Drop)]
@@ -56,6 +60,14 @@ impl<R: Keyed> Table<R> {
         ensures { result ≡ self.now }
     {
         self.map.values()
+    }
+
+    /// The records with a key between the two bounds.
+    pub fn range(&self, start: Bound<R::Key>, end: Bound<R::Key>) -> Range<'_, R::Key, R>
+        requires { IsForward (IsLeBy R.Key.cmp) (IsLtBy R.Key.cmp) start end }
+        ensures { values_of result ≡ filter (λ r. range_contains R.Key.cmp start end (R.key_of r)) self.now }
+    {
+        self.map.range((start, end))
     }
 
     pub fn len(&self) -> usize

@@ -216,3 +216,50 @@ fn tables_are_filled_from_rows(rt: HostRuntime) {
     assert!(rt; filled.first_waiting(device(&rt, "500")) == Some((8, 2)));
     assert_eq!(rt; number_of_ready(&rt, &filled), 2);
 }
+
+// The call is at two stations.
+fn connect(
+    rt: &impl Abort,
+    tables: &mut Tables,
+    call: u64,
+    first: &str,
+    second: &str,
+) -> Result<(), AllocError> {
+    ring(rt, tables, call, first)?;
+    ring(rt, tables, call, second)
+}
+
+fn has_parties(rt: &impl Abort, tables: &Tables, call: u64, first: &str, second: &str) -> bool {
+    let [one, other] = tables.connections_of(call);
+    let (one, other) = (one.expect(rt, "a party"), other.expect(rt, "a party"));
+    one.device == device(rt, first)
+        && other.device == device(rt, second)
+        && tables.other_of(&one) == Some(other)
+        && tables.other_of(&other) == Some(one)
+}
+
+#[test]
+fn parties_are_found_between_those_of_other_calls(rt: HostRuntime) {
+    let mut tables = Tables::new(rt.alloc(), Limits::GREATEST);
+    connect(&rt, &mut tables, 0, "105", "106").expect(&rt, "memory");
+    connect(&rt, &mut tables, 1, "101", "108").expect(&rt, "memory");
+    connect(&rt, &mut tables, 2, "103", "104").expect(&rt, "memory");
+    connect(&rt, &mut tables, u64::MAX, "102", "107").expect(&rt, "memory");
+    assert!(rt; has_parties(&rt, &tables, 0, "105", "106"));
+    assert!(rt; has_parties(&rt, &tables, 1, "101", "108"));
+    assert!(rt; has_parties(&rt, &tables, 2, "103", "104"));
+    assert!(rt; has_parties(&rt, &tables, u64::MAX, "102", "107"));
+}
+
+#[test]
+fn a_call_may_have_one_party_or_none(rt: HostRuntime) {
+    let mut tables = Tables::new(rt.alloc(), Limits::GREATEST);
+    assert!(rt; tables.connections_of(7) == [None, None]);
+    connect(&rt, &mut tables, 6, "101", "104").expect(&rt, "memory");
+    assert!(rt; tables.connections_of(7) == [None, None]);
+    ring(&rt, &mut tables, 7, "103").expect(&rt, "memory");
+    let [one, other] = tables.connections_of(7);
+    let one = one.expect(&rt, "a party");
+    assert!(rt; other.is_none() && one.device == device(&rt, "103"));
+    assert!(rt; tables.other_of(&one).is_none());
+}

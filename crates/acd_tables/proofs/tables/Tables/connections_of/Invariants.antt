@@ -1,8 +1,0 @@
-use Rattle.std.proofs.Common.{◌≡◌, ◌++◌}
-use Rattle.std.specs.Prelude.{filter, ◌==◌}
-use Rattle.acd_terms.proofs.OptionLists.{as_list}
-use Rattle.acd_tables.proofs.tables.Tables.connections_of.Given as goal
-
-abbrev pub invariant-loop-c : goal.invariant-loop-c
-invariant-loop-c l =
-    as_list l.first ++ filter (λ c. c.call == l.call) l.c-iterator ≡ filter (λ c. c.call == l.call) l.self.connections
