@@ -5,3 +5,4 @@ pub mod Indexed
 pub mod Uses
 pub mod Turns
 pub mod Laws
+pub mod FirstOffer
