@@ -1,7 +1,6 @@
 //! Offers of waiting calls to ready agents.
 
 ghost use Rattle.std.specs.Prelude.{◌≡◌, ◌++◌, OnOk};
-ghost use Rattle.acd_terms.specs.Choice.{offer_of};
 ghost use Rattle.acd_terms.specs.Moves.{moved, events_of};
 ghost use Rattle.acd_terms.specs.Changes.{changes_of};
 ghost use Rattle.acd_terms.specs.Distribution.{offer_moves, distribution};
@@ -12,32 +11,6 @@ use acd_tables::tables::Tables;
 use acd_terms::event::Cause;
 use acd_terms::moves::Offer;
 use std::alloc::AllocError;
-
-/// The offer that is to be made next: in the first group that has a waiting call and an eligible
-/// agent, the call of least place and the agent of least stamp.
-#[tactic(auto, unfolding(acd_terms::specs::Choice::offer_of))]
-pub fn next_offer(tables: &Tables) -> Option<Offer>
-    ensures { result ≡ offer_of tables.now }
-{
-    if !tables.may_offer() {
-        return None;
-    }
-    for group in tables.groups() {
-        let device = group.device;
-        let waiting = tables.first_waiting(device);
-        let ready = tables.first_eligible(device);
-        if let Some((_, call)) = waiting {
-            if let Some((_, agent)) = ready {
-                return Some(Offer {
-                    group: device,
-                    call,
-                    agent,
-                });
-            }
-        }
-    }
-    None
-}
 
 // Makes the offer.
 #[tactic(auto, unfolding(acd_terms::specs::Distribution::offer_moves))]
@@ -76,7 +49,7 @@ pub fn distribute(tables: &mut Tables, moment: u32, journal: &mut Journal) -> Re
 {
     let most = tables.queued_count();
     for round in 0..most {
-        let Some(offer) = next_offer(tables) else {
+        let Some(offer) = tables.first_offer() else {
             return Ok(());
         };
         make_offer(tables, moment, offer, journal)?;

@@ -1,5 +1,5 @@
 -- The first of a set is the least of those who wait, or of those who are eligible.
-use Rattle.std.proofs.Common.{◌≡◌, ℕ, inl, inr, Bool, true, false, ◌&&◌, ◌||◌, not, List, [], ◌∷◌, Option, Some, None, is_some, refl, ap, sym, ◌∙◌, subst, map, length, arith}
+use Rattle.std.proofs.Common.{◌≡◌, ℕ, inl, inr, Bool, true, false, ◌&&◌, ◌||◌, not, List, [], ◌∷◌, Option, Some, None, is_some, refl, ap, sym, ◌∙◌, subst, map, arith}
 use Rattle.std.specs.Prelude.{◌==◌, ◌↔◌, nat_lt, unwrap_or, filter}
 use Rattle.std.specs.List.{list_any}
 use Rattle.std.specs.Cmp.{both_ways}
@@ -14,18 +14,16 @@ use Rattle.acd_terms.specs.Lists.{Among, IsAscending}
 use Rattle.acd_terms.specs.Rules.Plan.{agent_order, connection_order}
 use Rattle.acd_terms.specs.Scans.{agent_of, connection_of, has, is_eligible, is_occupied, is_taken, is_idle_there, waiting_in, eligible_in, is_distributed}
 use Rattle.acd_terms.specs.States.{is_queued, is_ready, is_occupying}
-use Rattle.acd_terms.specs.Choice.{waiting_pair, ready_pair, least_from, first_waiting, first_eligible, offer_or, offer_in, offer_of}
+use Rattle.acd_terms.specs.Choice.{waiting_pair, ready_pair, least_from, first_waiting, first_eligible}
 use Rattle.acd_terms.specs.declared.rows.Rows.{Rows}
-use Rattle.acd_terms.specs.declared.record.GroupRecord.{GroupRecord}
-use Rattle.acd_terms.specs.declared.moves.Offer.{Offer}
 use Rattle.acd_terms.specs.declared.record.AgentRecord.{AgentRecord}
 use Rattle.acd_terms.specs.declared.record.ConnectionRecord.{ConnectionRecord}
 use Rattle.acd_laws.proofs.Lists.{among-filter, filter_among}
-use Rattle.acd_laws.proofs.Least.{least_found, least_is}
+use Rattle.acd_laws.proofs.Least.{least_found}
 use Rattle.acd_laws.proofs.Members.{mapped_among}
 use Rattle.acd_laws.proofs.State.{connection_among, connection_found, found_key, agent_among, agent_found, agent_key}
 use Rattle.acd_tables.specs.Sets.{holds, holds_in, has_set}
-use Rattle.acd_tables.specs.Indexed.{PairSets, pair_cmp, lists, waits_at, is_busying, is_busy_at, is_free, is_able, is_able_since, IsFirstIn, ListsOffers}
+use Rattle.acd_tables.specs.Indexed.{PairSets, pair_cmp, lists, waits_at, is_busying, is_busy_at, is_free, is_able, is_able_since, IsFirstIn}
 
 among-map : {X Y : Type 0} (f : X → Y) (x : X) (xs : List X) → Among x xs → Among (f x) (map f xs)
 among-map f x [] a = absurd a
@@ -170,32 +168,3 @@ lent-members (Some q) m g P e h = λ p. let same = lent m g q.now (λ z. lists m
 pub none-occupied : (s : Rows) (a : AgentRecord) → a.station ≡ None → false ≡ is_occupied s a
 unfolding is_occupied
 none-occupied s a e = sym (ap (λ o. list_any (λ (c : ConnectionRecord). has o c.device && is_distributed c) s.connections) e ∙ none_at s.connections)
-
--- where no group is noted, there is no offer
-module _ (s : Rows) (queues ready : PairSets) (offering : BTreeSet ℕ) (connections : IsAscending connection_order s.connections) (agents : IsAscending agent_order s.agents)
-    (waiting : (g : ℕ) (p : ℕ × ℕ) → lists queues g p ≡ waits_at p.0 (connection_of s p.1 g)) (able : (g : ℕ) (p : ℕ × ℕ) → lists ready g p ≡ is_able_since s g p.0 (agent_of s p.1))
-    (offers : ListsOffers queues ready offering) (empty : offering.keys ≡ []) where
-  not_both : (g : ℕ) (w r : ℕ × ℕ) → first_waiting s g ≡ Some w → first_eligible s g ≡ Some r → ⊥
-  unfolding first_waiting first_eligible
-  not_both g w r e f =
-      let waits = waiting g w ∙ (waiting-among s g w connections).1 ((least_is (map waiting_pair (waiting_in s g)) w e).there) in
-      let stands = able g r ∙ (eligible-among s g r agents).1 ((least_is (map ready_pair (eligible_in s g)) r f).there) in
-      let noted = offers g w r waits stands in
-      cc (noted)
-
-  passed_over : (g : ℕ) (rest : Option Offer) (w r : Option (ℕ × ℕ)) → first_waiting s g ≡ w → first_eligible s g ≡ r → offer_or g w r rest ≡ rest
-  passed_over g rest None r e f = refl
-  passed_over g rest (Some w) None e f = refl
-  passed_over g rest (Some w) (Some r) e f = absurd (not_both g w r e f)
-
-  none_in : (gs : List GroupRecord) → offer_in s gs ≡ None
-  none_in [] = refl
-  none_in (g ∷ gs) = passed_over g.device (offer_in s gs) (first_waiting s g.device) (first_eligible s g.device) refl refl ∙ none_in gs
-
-  pub no-offer : offer_of s ≡ None
-  unfolding offer_of
-  no-offer = none_in s.groups
-
-pub empty_keys : (ks : List ℕ) → length ks ≡ 0 → ks ≡ []
-empty_keys [] e = refl
-empty_keys (k ∷ ks) e = absurd (cc (e))

@@ -9,7 +9,7 @@ use Rattle.std.specs.Map.{lookup}
 use Rattle.std.specs.BTreeSet.{BTreeSet}
 use Rattle.std.proofs.lemmas.Bool.{and_from, and_left, and_right, eqb-true, eq-eqb}
 use Rattle.acd_terms.specs.Lists.{IsAscending, find_by, put_by, remove_by}
-use Rattle.acd_terms.specs.Rules.Plan.{agent_order, connection_order}
+use Rattle.acd_terms.specs.Rules.Plan.{group_order, agent_order, connection_order}
 use Rattle.acd_terms.specs.Scans.{is_group, group_of, agent_of, connection_of, at_group, at_agent, at_connection, queued_in_all, has}
 use Rattle.acd_terms.specs.States.{is_queued, is_ready}
 use Rattle.acd_terms.specs.Writes.{with_group, with_station, with_agent, with_call, with_connection, with_monitor, without_call, without_connection, without_monitor, with_last, with_last_ids, empty_rows}
@@ -28,7 +28,7 @@ use Rattle.acd_tables.specs.declared.indexes.Indexes.{Indexes}
 use Rattle.acd_tables.specs.declared.indexes.Entries.{Entries}
 use Rattle.acd_tables.specs.declared.indexes.Turn.{Turn}
 use Rattle.acd_laws.proofs.Lists.{some_is, count_length, ascending-put}
-use Rattle.acd_laws.proofs.State.{agent_put, agent_key, agents_total, group_put}
+use Rattle.acd_laws.proofs.State.{agent_put, agent_key, agents_total, groups_total, group_put}
 use Rattle.acd_laws.proofs.Found.{has_is, count_new, count_old, count_less}
 use Rattle.acd_laws.proofs.Numbers.{filter_length}
 use Rattle.acd_tables.proofs.OfferLemmas.{undone, offers-same}
@@ -38,6 +38,7 @@ use Rattle.acd_tables.proofs.Looking.{seated}
 -- where only the offers may have changed
 pub IsIndexed-untouched : (s : Rows) (x y : Indexes) → IsIndexed s x → Untouched x y → IsIndexed s y
 IsIndexed-untouched s x y h u = record {
+  groups = h.groups;
   agents = h.agents;
   connections = h.connections;
   queues = λ g e. u.queues.sets g ∙ h.queues g e;
@@ -59,15 +60,20 @@ Untouched-undone x y z entries undo e u t = record {
   rest = record { seats = t.rest.seats ∙ e.rest.seats; lines = t.rest.lines ∙ e.rest.lines; queued = t.rest.queued ∙ e.rest.queued };
 }
 
+groups_same : (s t : Rows) → t.groups ≡ s.groups → (g : ℕ) → is_group t g ≡ is_group s g
+unfolding group_of
+groups_same s t groups g = ap (λ (l : List GroupRecord). is_some (find_by (at_group g) l)) groups
+
 -- what enters and leaves makes the sets of the new rows
 pub IsIndexed-turned : (s t : Rows) (x y z : Indexes) (turn : Turn) (n : ℕ) → IsIndexed s x → Entered x y turn.entering → TakenOut y z turn.leaving → TurnsTo s t turn
-    → IsAscending agent_order t.agents → IsAscending connection_order t.connections → ((g : ℕ) → is_group t g ≡ is_group s g) → Seats t x.seats → Lines t x.lines → n ≡ length (queued_in_all t)
+    → t.groups ≡ s.groups → IsAscending agent_order t.agents → IsAscending connection_order t.connections → Seats t x.seats → Lines t x.lines → n ≡ length (queued_in_all t)
     → IsIndexed t (record z { queued = n })
-IsIndexed-turned s t x y z turn n h e o w agents connections groups seats lines queued = record {
+IsIndexed-turned s t x y z turn n h e o w groups agents connections seats lines queued = record {
+  groups = subst (IsAscending group_order) (sym groups) h.groups;
   agents = agents;
   connections = connections;
-  queues = λ g f. o.queues.sets g ∙ e.queues.sets g ∙ h.queues g (sym (groups g) ∙ f);
-  readies = λ g f. o.ready.sets g ∙ e.ready.sets g ∙ h.readies g (sym (groups g) ∙ f);
+  queues = λ g f. o.queues.sets g ∙ e.queues.sets g ∙ h.queues g (sym (groups_same s t groups g) ∙ f);
+  readies = λ g f. o.ready.sets g ∙ e.ready.sets g ∙ h.readies g (sym (groups_same s t groups g) ∙ f);
   waiting = λ g p. o.queues.members g p
       ∙ ap (λ b. not (is_entry pair_cmp turn.leaving.queue g p) && b) (e.queues.members g p ∙ ap (λ b. is_entry pair_cmp turn.entering.queue g p || b) (h.waiting g p))
       ∙ sym (w.waiting g p);
@@ -207,10 +213,11 @@ module _ (s t : Rows) (agents : t.agents ≡ s.agents) (connections : t.connecti
   able_same g n None = refl
   able_same g n (Some a) = ap (λ b. (a.stamp == n) && (has a.group g && (is_ready a.state && b))) (free_same a.station)
 
-  pub IsIndexed-lists : (x : Indexes) (queues ready : PairSets) → IsIndexed s x → SameMembers nat_cmp pair_cmp x.queues queues → SameMembers nat_cmp pair_cmp x.ready ready
+  pub IsIndexed-lists : (x : Indexes) (queues ready : PairSets) → IsIndexed s x → IsAscending group_order t.groups → SameMembers nat_cmp pair_cmp x.queues queues → SameMembers nat_cmp pair_cmp x.ready ready
       → ((g : ℕ) → is_group t g ≡ true → has_set nat_cmp pair_cmp queues g ≡ true) → ((g : ℕ) → is_group t g ≡ true → has_set nat_cmp pair_cmp ready g ≡ true) → IsIndexed t (record x { queues = queues; ready = ready })
   unfolding queued_in_all
-  IsIndexed-lists x queues ready h mq mr q r = record {
+  IsIndexed-lists x queues ready h groups mq mr q r = record {
+    groups = groups;
     agents = subst (IsAscending agent_order) (sym agents) h.agents;
     connections = subst (IsAscending connection_order) (sym connections) h.connections;
     queues = q;
@@ -224,10 +231,9 @@ module _ (s t : Rows) (agents : t.agents ≡ s.agents) (connections : t.connecti
   }
 
   pub IsIndexed-kept : (x : Indexes) → t.groups ≡ s.groups → IsIndexed s x → IsIndexed t x
-  unfolding group_of
-  IsIndexed-kept x groups h = IsIndexed-lists x x.queues x.ready h (λ g p. refl) (λ g p. refl)
-      (λ g e. h.queues g (ap (λ (l : List GroupRecord). is_some (find_by (at_group g) l)) (sym groups) ∙ e))
-      (λ g e. h.readies g (ap (λ (l : List GroupRecord). is_some (find_by (at_group g) l)) (sym groups) ∙ e))
+  IsIndexed-kept x groups h = IsIndexed-lists x x.queues x.ready h (subst (IsAscending group_order) (sym groups) h.groups) (λ g p. refl) (λ g p. refl)
+      (λ g e. h.queues g (sym (groups_same s t groups g) ∙ e))
+      (λ g e. h.readies g (sym (groups_same s t groups g) ∙ e))
 
 pub kept-station : (s : Rows) (r : StationRecord) (x : Indexes) → IsIndexed s x → IsIndexed (with_station s r) x
 unfolding with_station
@@ -261,7 +267,7 @@ kept-last_ids s c m x h = IsIndexed-kept s (with_last_ids s c m) refl refl x ref
 pub IsIndexed-group : (s : Rows) (item : GroupRecord) (x : Indexes) (queues ready : PairSets) → IsIndexed s x → HasSet nat_cmp pair_cmp x.queues queues item.device → HasSet nat_cmp pair_cmp x.ready ready item.device
     → IsIndexed (with_group s item) (record x { queues = queues; ready = ready })
 unfolding with_group
-IsIndexed-group s item x queues ready h hq hr = IsIndexed-lists s (with_group s item) refl refl x queues ready h hq.members hr.members
+IsIndexed-group s item x queues ready h hq hr = IsIndexed-lists s (with_group s item) refl refl x queues ready h (ascending-put group_order groups_total item s.groups h.groups) hq.members hr.members
     (λ g e. hq.sets g ∙ there g (is_eq (nat_cmp item.device g)) (has_set nat_cmp pair_cmp x.queues g) (eq_key item.device g) (h.queues g) e)
     (λ g e. hr.sets g ∙ there g (is_eq (nat_cmp item.device g)) (has_set nat_cmp pair_cmp x.ready g) (eq_key item.device g) (h.readies g) e)
   where
@@ -271,7 +277,7 @@ IsIndexed-group s item x queues ready h hq hr = IsIndexed-lists s (with_group s 
 
 -- sets may come for what is no group
 pub IsIndexed-sets : (s : Rows) (x : Indexes) (queues ready : PairSets) (k : ℕ) → IsIndexed s x → HasSet nat_cmp pair_cmp x.queues queues k → Stays nat_cmp pair_cmp x.ready ready → IsIndexed s (record x { queues = queues; ready = ready })
-IsIndexed-sets s x queues ready k h hq hr = IsIndexed-lists s s refl refl x queues ready h hq.members hr.members
+IsIndexed-sets s x queues ready k h hq hr = IsIndexed-lists s s refl refl x queues ready h h.groups hq.members hr.members
     (λ g e. hq.sets g ∙ there (is_eq (nat_cmp k g)) (has_set nat_cmp pair_cmp x.queues g) (h.queues g e)) (λ g e. hr.sets g ∙ h.readies g e)
   where
     there : (a b : Bool) → b ≡ true → (a || b) ≡ true
@@ -279,7 +285,7 @@ IsIndexed-sets s x queues ready k h hq hr = IsIndexed-lists s s refl refl x queu
     there false b e = e
 
 pub IsIndexed-both : (s : Rows) (x : Indexes) (queues ready : PairSets) (k : ℕ) → IsIndexed s x → HasSet nat_cmp pair_cmp x.queues queues k → HasSet nat_cmp pair_cmp x.ready ready k → IsIndexed s (record x { queues = queues; ready = ready })
-IsIndexed-both s x queues ready k h hq hr = IsIndexed-lists s s refl refl x queues ready h hq.members hr.members
+IsIndexed-both s x queues ready k h hq hr = IsIndexed-lists s s refl refl x queues ready h h.groups hq.members hr.members
     (λ g e. hq.sets g ∙ there (is_eq (nat_cmp k g)) (has_set nat_cmp pair_cmp x.queues g) (h.queues g e)) (λ g e. hr.sets g ∙ there (is_eq (nat_cmp k g)) (has_set nat_cmp pair_cmp x.ready g) (h.readies g e))
   where
     there : (a b : Bool) → b ≡ true → (a || b) ≡ true
@@ -287,42 +293,42 @@ IsIndexed-both s x queues ready k h hq hr = IsIndexed-lists s s refl refl x queu
     there false b e = e
 
 pub IsIndexed-stays : (s : Rows) (x : Indexes) (queues : PairSets) → IsIndexed s x → Stays nat_cmp pair_cmp x.queues queues → IsIndexed s (record x { queues = queues })
-IsIndexed-stays s x queues h hq = IsIndexed-lists s s refl refl x queues x.ready h hq.members (λ g p. refl) (λ g e. hq.sets g ∙ h.queues g e) h.readies
+IsIndexed-stays s x queues h hq = IsIndexed-lists s s refl refl x queues x.ready h h.groups hq.members (λ g p. refl) (λ g e. hq.sets g ∙ h.queues g e) h.readies
 
 pub IsIndexed-seats : (s : Rows) (x : Indexes) (seats : BTreeMap ℕ ℕ) → IsIndexed s x → Seats s seats → IsIndexed s (record x { seats = seats })
-IsIndexed-seats s x seats h l = record { agents = h.agents; connections = h.connections; queues = h.queues; readies = h.readies; waiting = h.waiting; able = h.able; offers = h.offers; seats = l; lines = h.lines; queued = h.queued }
+IsIndexed-seats s x seats h l = record { groups = h.groups; agents = h.agents; connections = h.connections; queues = h.queues; readies = h.readies; waiting = h.waiting; able = h.able; offers = h.offers; seats = l; lines = h.lines; queued = h.queued }
 
 pub IsIndexed-lines : (s : Rows) (x : Indexes) (lines : BTreeMap ℕ (BTreeSet ℕ)) → IsIndexed s x → Lines s lines → IsIndexed s (record x { lines = lines })
-IsIndexed-lines s x lines h l = record { agents = h.agents; connections = h.connections; queues = h.queues; readies = h.readies; waiting = h.waiting; able = h.able; offers = h.offers; seats = h.seats; lines = l; queued = h.queued }
+IsIndexed-lines s x lines h l = record { groups = h.groups; agents = h.agents; connections = h.connections; queues = h.queues; readies = h.readies; waiting = h.waiting; able = h.able; offers = h.offers; seats = h.seats; lines = l; queued = h.queued }
 
 -- an agent's record is put
 pub IsIndexed-agent : (s : Rows) (item : AgentRecord) (x y z : Indexes) (turn : Turn) → IsIndexed s x → Entered x y turn.entering → TakenOut y z turn.leaving → TurnsTo s (with_agent s item) turn → Seats (with_agent s item) x.seats
     → IsIndexed (with_agent s item) z
 unfolding with_agent group_of connection_of queued_in_all
-IsIndexed-agent s item x y z turn h e o w seats = IsIndexed-turned s (with_agent s item) x y z turn z.queued h e o w (ascending-put agent_order agents_total item s.agents h.agents) h.connections (λ g. refl) seats h.lines (o.rest.queued ∙ e.rest.queued ∙ h.queued)
+IsIndexed-agent s item x y z turn h e o w seats = IsIndexed-turned s (with_agent s item) x y z turn z.queued h e o w refl (ascending-put agent_order agents_total item s.agents h.agents) h.connections seats h.lines (o.rest.queued ∙ e.rest.queued ∙ h.queued)
 
 agents_put : (s : Rows) (c : ConnectionRecord) → IsAscending agent_order s.agents → IsAscending agent_order (with_connection s c).agents
 unfolding with_connection
 agents_put s c h = h
 
-groups_put : (s : Rows) (c : ConnectionRecord) (g : ℕ) → is_group (with_connection s c) g ≡ is_group s g
-unfolding with_connection group_of
-groups_put s c g = refl
+groups_put : (s : Rows) (c : ConnectionRecord) → (with_connection s c).groups ≡ s.groups
+unfolding with_connection
+groups_put s c = refl
 
 agents_less : (s : Rows) (c d : ℕ) → IsAscending agent_order s.agents → IsAscending agent_order (without_connection s c d).agents
 unfolding without_connection
 agents_less s c d h = h
 
-groups_less : (s : Rows) (c d g : ℕ) → is_group (without_connection s c d) g ≡ is_group s g
-unfolding without_connection group_of
-groups_less s c d g = refl
+groups_less : (s : Rows) (c d : ℕ) → (without_connection s c d).groups ≡ s.groups
+unfolding without_connection
+groups_less s c d = refl
 
 -- a connection is put
 pub IsIndexed-put : (s : Rows) (c : ConnectionRecord) (x y z : Indexes) (turn : Turn) (n : ℕ) → IsIndexed s x → Entered x y turn.entering → TakenOut y z turn.leaving → TurnsTo s (with_connection s c) turn
     → Lines (with_connection s c) x.lines → n ≡ length (queued_in_all (with_connection s c)) → IsIndexed (with_connection s c) (record z { queued = n })
 IsIndexed-put s c x y z turn n h e o w lines queued =
     let r = Replaces-put s c h.connections in
-    IsIndexed-turned s (with_connection s c) x y z turn n h e o w (agents_put s c h.agents) r.ascending (groups_put s c) (Seats-kept s (with_connection s c) x.seats r.agents h.seats) lines queued
+    IsIndexed-turned s (with_connection s c) x y z turn n h e o w (groups_put s c) (agents_put s c h.agents) r.ascending (Seats-kept s (with_connection s c) x.seats r.agents h.seats) lines queued
 
 -- a connection is removed
 pub IsIndexed-removed : (s : Rows) (call device : ℕ) (x y z : Indexes) (turn : Turn) (n : ℕ) (lines : BTreeMap ℕ (BTreeSet ℕ)) → IsIndexed s x → Entered x y turn.entering → TakenOut y z turn.leaving → TurnsTo s (without_connection s call device) turn
@@ -331,7 +337,7 @@ IsIndexed-removed s call device x y z turn n lines h e o w gone queued =
     let t : Rows = without_connection s call device in
     let r = Replaces-removed s call device h.connections in
     let still : Lines t x.lines = Lines-kept s t x.lines (λ c d f. left c d ((call == c) && (device == d)) (r.found c d) f) h.lines in
-    let now = IsIndexed-turned s t x y z turn n h e o w (agents_less s call device h.agents) r.ascending (groups_less s call device) (Seats-kept s t x.seats r.agents h.seats) still queued in
+    let now = IsIndexed-turned s t x y z turn n h e o w (groups_less s call device) (agents_less s call device h.agents) r.ascending (Seats-kept s t x.seats r.agents h.seats) still queued in
     let same : z.lines ≡ x.lines = o.rest.lines ∙ e.rest.lines in
     IsIndexed-lines t (record z { queued = n }) lines now (Lines-removed s t call device r z.lines lines (subst (Lines s) (sym same) h.lines) gone)
   where
@@ -363,6 +369,7 @@ module _ (s : Rows) (x : Indexes) (no_groups : s.groups ≡ []) (no_agents : s.a
 
   pub IsIndexed-blank : IsIndexed s x
   IsIndexed-blank = record {
+    groups = subst (IsAscending group_order) (sym no_groups) tt;
     agents = subst (IsAscending agent_order) (sym no_agents) tt;
     connections = subst (IsAscending connection_order) (sym no_connections) tt;
     queues = λ g e. absurd (cc (e, no_group g));

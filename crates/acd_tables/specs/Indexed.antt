@@ -6,7 +6,7 @@ use Rattle.std.specs.Ordering.{nat_cmp, ordering_then, is_gt}
 use Rattle.std.specs.BTreeMap.{BTreeMap, get}
 use Rattle.std.specs.BTreeSet.{BTreeSet, contains}
 use Rattle.acd_terms.specs.Lists.{IsAscending}
-use Rattle.acd_terms.specs.Rules.Plan.{agent_order, connection_order}
+use Rattle.acd_terms.specs.Rules.Plan.{group_order, agent_order, connection_order}
 use Rattle.acd_terms.specs.Scans.{is_group, agent_of, connection_of, queued_in_all, has, is_distributed}
 use Rattle.acd_terms.specs.States.{is_queued, is_ready, is_occupying}
 use Rattle.acd_terms.specs.declared.rows.Rows.{Rows}
@@ -73,6 +73,7 @@ Lines s lines = (c d : ℕ) → is_some (connection_of s c d) ≡ true → joins
 
 -- the indexes are those of the rows
 pub record IsIndexed (s : Rows) (x : Indexes) : Type 0 where
+  pub groups : IsAscending group_order s.groups
   pub agents : IsAscending agent_order s.agents
   pub connections : IsAscending connection_order s.connections
   -- each group has its two sets

@@ -1,6 +1,6 @@
 //! The look-ups that aren't of one record by its key.
 
-ghost use Rattle.std.specs.Prelude.{◌≡◌, ◌↔◌, ℕ, true, false, [], ◌∷◌, None, length, map, slice_get, is_some, IfSome};
+ghost use Rattle.std.specs.Prelude.{◌≡◌, ◌↔◌, ℕ, true, [], ◌∷◌, None, length, map, slice_get, is_some, IfSome};
 ghost use Rattle.std.specs.BTreeSet.{contains};
 ghost use Rattle.acd_terms.specs.Lists.{Among};
 ghost use Rattle.acd_terms.specs.Scans.{is_group, agent_at, connections_of, other_of, is_live_at, is_taken, is_idle, is_idle_there, is_occupied, is_eligible, is_calling, waiting_in, eligible_in, queued_in_all};
@@ -8,11 +8,13 @@ ghost use Rattle.acd_terms.specs.Services.Plan.{is_used};
 ghost use Rattle.acd_terms.specs.Choice.{first_waiting, first_eligible, waiting_pair, ready_pair, offer_of};
 ghost use Rattle.acd_tables.specs.Indexed.{pair_cmp};
 ghost use Rattle.acd_tables.specs.Uses.{is_in_use};
+ghost use Rattle.acd_tables.specs.FirstOffer.{offer_in_group};
 
 use crate::sets::first_in;
 use crate::tables::Tables;
 use crate::uses::{Use, agent_at, is_in_use};
 use acd_terms::id::{AgentId, DeviceId};
+use acd_terms::moves::Offer;
 use acd_terms::record::{AgentRecord, ConnectionRecord};
 use std::collections::BTreeSet;
 
@@ -152,11 +154,30 @@ impl Tables {
         first_in(&self.indexes.ready, group)
     }
 
-    /// Whether there may be an offer. Where this is false, there is none.
-    pub fn may_offer(&self) -> bool
-        ensures { result ≡ false → offer_of self.now ≡ None }
+    // The offer in the group, if it is planned and has both.
+    fn offer_in_group(&self, group: DeviceId) -> Option<Offer>
+        ensures { result ≡ offer_in_group self.now group }
     {
-        !self.indexes.offering.is_empty()
+        if !self.is_group(group) {
+            return None;
+        }
+        let (_, call) = self.first_waiting(group)?;
+        let (_, agent) = self.first_eligible(group)?;
+        Some(Offer { group, call, agent })
+    }
+
+    /// The offer that is to be made next: in the first group that has a waiting call and an eligible
+    /// agent, the call of least place and the agent of least stamp. It goes through the groups that may have one.
+    pub fn first_offer(&self) -> Option<Offer>
+        ensures { result ≡ offer_of self.now }
+    {
+        for group in &self.indexes.offering {
+            let offer = self.offer_in_group(*group);
+            if offer.is_some() {
+                return offer;
+            }
+        }
+        None
     }
 
     /// How many connections are queued.

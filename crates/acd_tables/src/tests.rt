@@ -3,6 +3,7 @@
 use crate::table::Table;
 use crate::tables::{DeviceKind, Tables};
 use acd_terms::id::{AgentId, DeviceId};
+use acd_terms::moves::Offer;
 use acd_terms::name::Name;
 use acd_terms::number::Seconds;
 use acd_terms::record::{
@@ -48,10 +49,11 @@ fn plan_station(rt: &impl Abort, tables: &mut Tables, digits: &str) -> Result<()
     tables.put_station(station(rt, digits))
 }
 
-// An agent of the group 500, ready since a stamp.
-fn log_on(
+// An agent of the group, ready since a stamp.
+fn staff(
     rt: &impl Abort,
     tables: &mut Tables,
+    group: &str,
     digits: &str,
     at: &str,
     stamp: u64,
@@ -62,23 +64,43 @@ fn log_on(
         state: AgentState::Ready,
         pending: None,
         station: Some(device(rt, at)),
-        group: Some(device(rt, "500")),
+        group: Some(device(rt, group)),
         stamp,
         since: 0,
     })
 }
 
-// The call waits in the group 500 at a place.
-fn queue(rt: &impl Abort, tables: &mut Tables, call: u64, place: u64) -> Result<(), AllocError> {
+fn log_on(
+    rt: &impl Abort,
+    tables: &mut Tables,
+    digits: &str,
+    at: &str,
+    stamp: u64,
+) -> Result<(), AllocError> {
+    staff(rt, tables, "500", digits, at, stamp)
+}
+
+// The call waits in the group at a place.
+fn wait_in(
+    rt: &impl Abort,
+    tables: &mut Tables,
+    group: &str,
+    call: u64,
+    place: u64,
+) -> Result<(), AllocError> {
     tables.put_connection(ConnectionRecord {
         call,
-        device: device(rt, "500"),
+        device: device(rt, group),
         state: ConnectionState::Queued,
-        group: Some(device(rt, "500")),
+        group: Some(device(rt, group)),
         place: Some(place),
         queued: Some(0),
         offered: None,
     })
+}
+
+fn queue(rt: &impl Abort, tables: &mut Tables, call: u64, place: u64) -> Result<(), AllocError> {
+    wait_in(rt, tables, "500", call, place)
 }
 
 #[test]
@@ -262,4 +284,57 @@ fn a_call_may_have_one_party_or_none(rt: HostRuntime) {
     let one = one.expect(&rt, "a party");
     assert!(rt; other.is_none() && one.device == device(&rt, "103"));
     assert!(rt; tables.other_of(&one).is_none());
+}
+
+// In the group 400 a call waits for which there is no agent, and the groups 500 and 600 have an offer.
+fn open_three_groups(rt: &impl Abort, tables: &mut Tables) -> Result<(), AllocError> {
+    plan_group(rt, tables, "600")?;
+    plan_group(rt, tables, "500")?;
+    plan_group(rt, tables, "400")?;
+    wait_in(rt, tables, "600", 1, 3)?;
+    staff(rt, tables, "600", "4", "104", 1)?;
+    wait_in(rt, tables, "400", 2, 1)?;
+    queue(rt, tables, 3, 8)?;
+    queue(rt, tables, 4, 9)?;
+    log_on(rt, tables, "2", "102", 5)?;
+    log_on(rt, tables, "3", "103", 4)
+}
+
+fn is_offered(rt: &impl Abort, tables: &Tables, group: &str, call: u64, to: &str) -> bool {
+    tables.first_offer()
+        == Some(Offer {
+            group: device(rt, group),
+            call,
+            agent: agent(rt, to),
+        })
+}
+
+#[test]
+fn the_first_group_with_both_has_the_offer(rt: HostRuntime) {
+    let mut tables = Tables::new(rt.alloc(), Limits::GREATEST);
+    open_three_groups(&rt, &mut tables).expect(&rt, "memory");
+    assert!(rt; is_offered(&rt, &tables, "500", 3, "3"));
+    staff(&rt, &mut tables, "400", "5", "105", 9).expect(&rt, "memory");
+    assert!(rt; is_offered(&rt, &tables, "400", 2, "5"));
+    ring(&rt, &mut tables, 8, "105").expect(&rt, "memory");
+    assert!(rt; is_offered(&rt, &tables, "500", 3, "3"));
+}
+
+fn empty_two_queues(rt: &impl Abort, tables: &mut Tables) -> Result<(), AllocError> {
+    tables.remove_connection(3, device(rt, "500"))?;
+    tables.remove_connection(4, device(rt, "500"))?;
+    tables.remove_connection(2, device(rt, "400"))
+}
+
+#[test]
+fn a_group_without_calls_has_no_offer(rt: HostRuntime) {
+    let mut tables = Tables::new(rt.alloc(), Limits::GREATEST);
+    assert!(rt; tables.first_offer().is_none());
+    open_three_groups(&rt, &mut tables).expect(&rt, "memory");
+    empty_two_queues(&rt, &mut tables).expect(&rt, "memory");
+    assert!(rt; is_offered(&rt, &tables, "600", 1, "4"));
+    tables
+        .remove_connection(1, device(&rt, "600"))
+        .expect(&rt, "memory");
+    assert!(rt; tables.first_offer().is_none());
 }
