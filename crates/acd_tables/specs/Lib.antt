@@ -4,6 +4,5 @@ pub mod Sets
 pub mod Indexed
 pub mod Uses
 pub mod Turns
-pub mod Laws
 pub mod Near
 pub mod FirstOffer

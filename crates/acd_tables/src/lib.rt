@@ -7,7 +7,6 @@
 mod changes;
 mod filling;
 pub mod indexes;
-pub mod laws;
 pub mod records;
 pub mod scans;
 mod sets;
