@@ -8,7 +8,7 @@ mod scenes;
 use acd_book::MemoryBook;
 use acd_desk::{Desk, OpenFault};
 use acd_lines::{LinesFault, lines};
-use acd_terms::rows::Limits;
+use acd_terms::Limits;
 use std::process::ExitCode;
 use std::rt::Env;
 use std::{env, io};

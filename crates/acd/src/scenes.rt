@@ -15,9 +15,8 @@ mod waiting;
 ghost use Rattle.acd_terms.specs.Rules.First.{BreaksNoRule};
 
 use acd_codec::{event_text, outcome_status, read_request, reply_text};
-use acd_switch::switch::Switch;
-use acd_terms::event::Event;
-use acd_terms::rows::Limits;
+use acd_switch::Switch;
+use acd_terms::{Event, Limits};
 use std::alloc::Global;
 use std::process::Abort;
 

@@ -6,11 +6,7 @@ ghost use Rattle.acd_book.specs.State.{BookState, Reads, Commits};
 
 use crate::fault::BookFault;
 use crate::kept::Kept;
-use acd_terms::event::Event;
-use acd_terms::moves::Change;
-use acd_terms::name::Requester;
-use acd_terms::number::Invoke;
-use acd_terms::rows::{Limits, Rows};
+use acd_terms::{Change, Event, Invoke, Limits, Requester, Rows};
 
 /// A store of the limits, the tables, the event reports and the kept replies.
 ///

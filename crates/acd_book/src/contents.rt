@@ -8,12 +8,7 @@ use crate::kept::Kept;
 use crate::ledger::Ledger;
 use crate::log::Log;
 use crate::replies::Replies;
-use acd_terms::event::Event;
-use acd_terms::id::DeviceId;
-use acd_terms::moves::Change;
-use acd_terms::name::Requester;
-use acd_terms::number::Invoke;
-use acd_terms::rows::{Limits, Rows};
+use acd_terms::{Change, DeviceId, Event, Invoke, Limits, Requester, Rows};
 use std::alloc::{AllocError, Global};
 
 /// The tables, the events and the kept records.

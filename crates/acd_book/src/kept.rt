@@ -4,7 +4,7 @@ ghost use Rattle.std.specs.Prelude.{◌≡◌};
 
 use crate::key::Key;
 use crate::text::Text;
-use acd_terms::command::Request;
+use acd_terms::Request;
 use std::alloc::AllocError;
 
 /// What is kept of an executed request.

@@ -1,7 +1,6 @@
 //! What a request is kept under.
 
-use acd_terms::name::Requester;
-use acd_terms::number::Invoke;
+use acd_terms::{Invoke, Requester};
 
 /// What a request is kept under: who sent it, and its invoke number.
 #[derive(Clone, Copy, Debug, PartialEq, Eq, Hash)]

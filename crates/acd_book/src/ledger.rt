@@ -5,10 +5,8 @@ ghost use Rattle.acd_terms.specs.Changes.{rows_made};
 ghost use Rattle.acd_terms.specs.Scans.{monitor_of};
 ghost use Rattle.acd_terms.specs.Writes.{empty_rows};
 
-use acd_tables::records::Records;
-use acd_terms::moves::Change;
-use acd_terms::record::MonitorRecord;
-use acd_terms::rows::{Limits, Rows};
+use acd_tables::Records;
+use acd_terms::{Change, Limits, MonitorRecord, Rows};
 use std::alloc::{AllocError, Global};
 
 /// The tables, and a journal of changes that wait to be made in them. What it holds is the tables with

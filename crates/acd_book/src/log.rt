@@ -3,7 +3,7 @@
 ghost use Rattle.std.specs.Prelude.{◌≡◌, ◌+◌, ◌≤◌, ◌++◌, [], true, drop, length, vec_len, vec_capacity, OnOk};
 ghost use Rattle.acd_book.specs.Memory.{is_numbered, number_of};
 
-use acd_terms::event::Event;
+use acd_terms::Event;
 use std::alloc::{AllocError, Global};
 
 /// The events, whose numbers are 1, 2, 3 and so on.

@@ -8,11 +8,7 @@ use crate::book::Book;
 use crate::contents::Contents;
 use crate::fault::BookFault;
 use crate::kept::Kept;
-use acd_terms::event::Event;
-use acd_terms::moves::Change;
-use acd_terms::name::Requester;
-use acd_terms::number::Invoke;
-use acd_terms::rows::{Limits, Rows};
+use acd_terms::{Change, Event, Invoke, Limits, Requester, Rows};
 use std::alloc::Global;
 use std::marker::Model;
 

@@ -6,8 +6,7 @@ ghost use Rattle.acd_book.specs.Memory.{is_numbered, stamp_of, IsPlaced};
 
 use crate::kept::Kept;
 use crate::key::Key;
-use acd_terms::name::Requester;
-use acd_terms::number::Invoke;
+use acd_terms::{Invoke, Requester};
 use std::alloc::{AllocError, Global};
 use std::collections::HashMap;
 

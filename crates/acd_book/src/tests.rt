@@ -9,14 +9,10 @@ use crate::book::Book;
 use crate::kept::Kept;
 use crate::memory::MemoryBook;
 use crate::text::Text;
-use acd_terms::command::{Command, Request};
-use acd_terms::event::{Event, Report};
-use acd_terms::id::DeviceId;
-use acd_terms::listed::Listed;
-use acd_terms::name::Requester;
-use acd_terms::number::Invoke;
-use acd_terms::record::{MonitorRecord, StationRecord};
-use acd_terms::rows::{Limits, Rows};
+use acd_terms::{
+    Command, DeviceId, Event, Invoke, Limits, Listed, MonitorRecord, Report, Request, Requester,
+    Rows, StationRecord,
+};
 use std::alloc::Global;
 use std::process::Abort;
 

@@ -6,7 +6,7 @@ ghost use Rattle.acd_codec.specs.Parts.{put_parts};
 ghost use Rattle.acd_codec.specs.EventTexts.{subject_parts, further_parts, event_text};
 
 use crate::parts::{put_agent, put_device, put_number, put_text, text_of};
-use acd_terms::event::{Cause, Columns, Event};
+use acd_terms::{Cause, Columns, Event};
 use serde_json::{Map, Value};
 use std::alloc::{AllocError, Global};
 

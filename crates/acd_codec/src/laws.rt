@@ -5,9 +5,7 @@ ghost use Rattle.acd_codec.specs.Formed.{IsSerial, IsDevice, IsRequested, IsComm
 ghost use Rattle.acd_codec.specs.Reading.{reads_as};
 ghost use Rattle.acd_codec.specs.RequestTexts.{request_text};
 
-use acd_terms::command::{Command, Request, Requested};
-use acd_terms::id::DeviceId;
-use acd_terms::number::Serial;
+use acd_terms::{Command, DeviceId, Request, Requested, Serial};
 
 fn connection_formed(call: &Serial, device: &DeviceId)
     ensures call { IsSerial call.now }

@@ -7,7 +7,7 @@ ghost use Rattle.serde_json.specs.Written.{compact_text, members_have_float};
 ghost use Rattle.acd_terms.specs.Forms.{digits_of};
 ghost use Rattle.acd_codec.specs.Parts.{text_part, number_part, put_part};
 
-use acd_terms::id::{AgentId, DeviceId};
+use acd_terms::{AgentId, DeviceId};
 use serde_json::{Map, Value, json};
 use std::alloc::{AllocError, Global};
 

@@ -8,10 +8,9 @@ ghost use Rattle.acd_codec.specs.Reading.{Gives, IsFault, at_connection, at_devi
 use crate::fault::ReadFault;
 use crate::member::Member;
 use crate::service::{Asked, Service};
-use acd_terms::command::{Command, Request, Requested};
-use acd_terms::id::{AgentId, DeviceId};
-use acd_terms::name::{Name, Requester};
-use acd_terms::number::{Invoke, Seconds, Serial};
+use acd_terms::{
+    AgentId, Command, DeviceId, Invoke, Name, Request, Requested, Requester, Seconds, Serial,
+};
 use serde_json::Value;
 use std::alloc::Global;
 

@@ -5,9 +5,7 @@ ghost use Rattle.serde_json.specs.View.{view};
 ghost use Rattle.serde_json.specs.Data.{object};
 ghost use Rattle.acd_codec.specs.ReplyTexts.{outcome_status, rejected_code, rejected_name, rejected_status, result_of, error_data, reply_data, reply_text, rejected_text};
 
-use acd_terms::answer::{Answer, Outcome};
-use acd_terms::name::Requester;
-use acd_terms::number::Invoke;
+use acd_terms::{Answer, Invoke, Outcome, Requester};
 use serde_json::{Value, json};
 use std::alloc::{AllocError, Global};
 

@@ -6,10 +6,7 @@ ghost use Rattle.serde_json.specs.Data.{object, no_members};
 ghost use Rattle.acd_codec.specs.RequestTexts.{add_group, add_agent, arrive_call, make_call, at_device, at_connection, to_device, set_agent_state, monitor_stop, sent, request_data, request_text};
 
 use crate::service::{Asked, Service};
-use acd_terms::command::{Command, Request, Requested};
-use acd_terms::id::{AgentId, DeviceId};
-use acd_terms::name::Name;
-use acd_terms::number::{Seconds, Serial};
+use acd_terms::{AgentId, Command, DeviceId, Name, Request, Requested, Seconds, Serial};
 use serde_json::{Value, json};
 use std::alloc::{AllocError, Global};
 

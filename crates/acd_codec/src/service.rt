@@ -3,8 +3,7 @@
 ghost use Rattle.std.specs.Prelude.{◌≡◌};
 ghost use Rattle.acd_codec.specs.Services.{service_name, service_of, service_of_command, asked_name, asked_of};
 
-use acd_terms::command::Command;
-use acd_terms::state::Pending;
+use acd_terms::{Command, Pending};
 
 /// A service, without its members.
 #[derive(Clone, Copy, Debug, PartialEq, Eq)]

@@ -14,11 +14,7 @@ use crate::member::Member;
 use crate::reading::read_request;
 use crate::replies::{outcome_status, reply_text};
 use crate::requests::request_text;
-use acd_terms::answer::Outcome;
-use acd_terms::event::{Event, Report};
-use acd_terms::id::{AgentId, DeviceId};
-use acd_terms::name::Requester;
-use acd_terms::number::Invoke;
+use acd_terms::{AgentId, DeviceId, Event, Invoke, Outcome, Report, Requester};
 use std::alloc::Global;
 use std::process::Abort;
 

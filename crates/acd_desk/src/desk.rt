@@ -16,8 +16,8 @@ use crate::requests::is_same;
 use crate::taken::Taken;
 use crate::working::{LoadedSwitch, Working};
 use acd_book::{Book, BookFault, Kept};
-use acd_switch::switch::Switch;
-use acd_terms::command::{Arrival, Request};
+use acd_switch::Switch;
+use acd_terms::{Arrival, Request};
 use std::alloc::{AllocError, Global};
 use std::mem;
 

@@ -9,11 +9,8 @@ ghost use Rattle.acd_desk.specs.Prepared.{Prepared};
 use crate::working::LoadedSwitch;
 use acd_book::{BookFault, Kept, Text};
 use acd_codec::{outcome_status, reply_text};
-use acd_switch::row_fault::RowFault;
-use acd_switch::switch::{Executed, Switch};
-use acd_terms::answer::Outcome;
-use acd_terms::command::Request;
-use acd_terms::rows::Rows;
+use acd_switch::{Executed, RowFault, Switch};
+use acd_terms::{Outcome, Request, Rows};
 use std::alloc::{AllocError, Global};
 
 /// A switch of the rows of a book. No honest book has rows that break a rule: that is a failure of the store.

@@ -1,8 +1,8 @@
 //! Why a book makes no desk.
 
 use acd_book::BookFault;
-use acd_switch::row_fault::RowFault;
-use acd_terms::rows::Rule;
+use acd_switch::RowFault;
+use acd_terms::Rule;
 use thiserror::Error;
 
 /// Why a book makes no desk.

@@ -3,7 +3,7 @@
 ghost use Rattle.std.specs.Prelude.{◌≡◌, ◌↔◌, IsTrue};
 ghost use Rattle.acd_desk.specs.Replies.{same_request};
 
-use acd_terms::command::Request;
+use acd_terms::Request;
 
 /// The same key, service and members.
 #[tactic(auto, unfolding(crate::specs::Replies::same_request))]

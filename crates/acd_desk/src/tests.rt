@@ -5,8 +5,7 @@ use crate::open_fault::OpenFault;
 use crate::taken::Taken;
 use acd_book::{Book, MemoryBook};
 use acd_codec::read_request;
-use acd_terms::command::Arrival;
-use acd_terms::rows::Limits;
+use acd_terms::{Arrival, Limits};
 use std::alloc::Global;
 use std::process::Abort;
 

@@ -2,7 +2,7 @@
 
 ghost use Rattle.acd_terms.specs.Rules.First.{BreaksNoRule};
 
-use acd_switch::switch::Switch;
+use acd_switch::Switch;
 
 /// A switch whose rows break no rule.
 #[derive(Drop)]

@@ -14,7 +14,7 @@ use acd_codec::{
     FixedAnswer, MALFORMED_STATUS, Member, ReadFault, Rejected, read_request, rejected_text,
 };
 use acd_desk::{Desk, Taken};
-use acd_terms::command::Request;
+use acd_terms::Request;
 use std::alloc::{AllocError, Global};
 
 // How many bytes of JSON are read at most.

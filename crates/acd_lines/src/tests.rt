@@ -4,7 +4,7 @@
 use crate::session::{LinesFault, lines};
 use acd_book::{Book, MemoryBook};
 use acd_desk::{Desk, OpenFault};
-use acd_terms::rows::Limits;
+use acd_terms::Limits;
 use std::alloc::Global;
 use std::io::{self, ErrorKind, Read, Write};
 use std::process::Abort;

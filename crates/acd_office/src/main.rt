@@ -7,7 +7,7 @@ use acd_book::{Book, MemoryBook};
 use acd_codec::event_text;
 use acd_desk::{Desk, OpenFault};
 use acd_lines::{LinesFault, lines};
-use acd_terms::rows::Limits;
+use acd_terms::Limits;
 use std::io;
 use std::process::ExitCode;
 

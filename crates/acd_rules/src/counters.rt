@@ -8,8 +8,7 @@ ghost use Rattle.acd_terms.specs.declared.record.AgentRecord.{AgentRecord};
 ghost use Rattle.acd_terms.specs.declared.record.CallRecord.{CallRecord};
 ghost use Rattle.acd_terms.specs.declared.record.ConnectionRecord.{ConnectionRecord};
 
-use acd_terms::record::{ConnectionRecord, GroupRecord};
-use acd_terms::rows::Rows;
+use acd_terms::{ConnectionRecord, GroupRecord, Rows};
 
 fn is_stamp(rows: &Rows, stamp: u64) -> bool
     ensures { result ≡ is_stamp rows.now stamp }

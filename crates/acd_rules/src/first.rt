@@ -7,7 +7,7 @@ use crate::calls::{keeps_call, keeps_connection, keeps_live, keeps_parties};
 use crate::counters::keeps_counters;
 use crate::occupied::{keeps_balance, keeps_occupied, keeps_offer};
 use crate::plan::{keeps_agent, keeps_device, keeps_limits, keeps_monitor, keeps_order};
-use acd_terms::rows::{Rows, Rule};
+use acd_terms::{Rows, Rule};
 
 /// The first rule that the rows break, in the order of [`Rule`].
 #[tactic(auto, unfolding(acd_terms::specs::Rules::First::first_broken))]

@@ -1,11 +1,19 @@
 //! The rules that the rows of a switch keep.
 //!
-//! [`first::first_broken`] answers the first rule that rows break. Rows of any origin may be handed in:
+//! [`first_broken`] answers the first rule that rows break. Rows of any origin may be handed in:
 //! each test goes over whole lists, in any order, and no sum or product wraps.
+//!
+//! ```ignore
+//! if let Some(rule) = first_broken(&rows) {
+//!     return Err(RowFault::Broken(rule));
+//! }
+//! ```
 #![tactic(auto)]
 
-pub mod calls;
-pub mod counters;
-pub mod first;
-pub mod occupied;
-pub mod plan;
+mod calls;
+mod counters;
+mod first;
+mod occupied;
+mod plan;
+
+pub use first::first_broken;

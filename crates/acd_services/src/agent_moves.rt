@@ -4,11 +4,7 @@ ghost use Rattle.std.specs.Prelude.{◌≡◌};
 ghost use Rattle.acd_terms.specs.AgentMoves.{kept_in, in_state, state_report, go_to, go_from, log_on_at, become_busy, wait_for};
 
 use crate::call_moves::{no_move, reported, silent};
-use acd_terms::event::Report;
-use acd_terms::id::{AgentId, DeviceId};
-use acd_terms::moves::{Change, Move};
-use acd_terms::record::AgentRecord;
-use acd_terms::state::{AgentState, Pending};
+use acd_terms::{AgentId, AgentRecord, AgentState, Change, DeviceId, Move, Pending, Report};
 
 fn kept_in(state: AgentState, place: Option<DeviceId>) -> Option<DeviceId>
     ensures { result ≡ kept_in state place }

@@ -5,13 +5,10 @@ ghost use Rattle.acd_terms.specs.States.{is_in};
 ghost use Rattle.acd_terms.specs.Services.Agents.{log_on, go_or_wait, change_state, set_agent_state};
 
 use crate::agent_moves::{go_from, log_on_at, wait_for};
-use acd_tables::tables::Tables;
-use acd_terms::answer::{Answer, Refusal};
-use acd_terms::command::Requested;
-use acd_terms::id::{AgentId, DeviceId};
-use acd_terms::moves::{Moves, Served};
-use acd_terms::record::AgentRecord;
-use acd_terms::state::{AgentState, Pending};
+use acd_tables::Tables;
+use acd_terms::{
+    AgentId, AgentRecord, AgentState, Answer, DeviceId, Moves, Pending, Refusal, Requested, Served,
+};
 
 // The agent is in the state that is asked for.
 fn is_in(state: AgentState, asked: Pending) -> bool

@@ -4,12 +4,11 @@ ghost use Rattle.std.specs.Prelude.{◌≡◌};
 ghost use Rattle.acd_terms.specs.Moves.{no_move, silent, reported};
 ghost use Rattle.acd_terms.specs.CallMoves.{plain, queueing, begin, connect_caller, initiate, originate, destination_of, arriving, arrival, arrive, waited_by, answer, hold, retrieve, offer, go_back, divert, transfer, clear, end_call};
 
-use acd_tables::tables::Tables;
-use acd_terms::event::{Cause, Report, Waited};
-use acd_terms::id::DeviceId;
-use acd_terms::moves::{Change, Destination, Move};
-use acd_terms::record::{CallRecord, ConnectionRecord};
-use acd_terms::state::ConnectionState;
+use acd_tables::Tables;
+use acd_terms::{
+    CallRecord, Cause, Change, ConnectionRecord, ConnectionState, Destination, DeviceId, Move,
+    Report, Waited,
+};
 
 /// No change and no report.
 pub fn no_move() -> Move

@@ -4,12 +4,9 @@ ghost use Rattle.std.specs.Prelude.{◌≡◌};
 ghost use Rattle.acd_terms.specs.Services.Clearing.{waiting_group, cleared_group, clear_other, release_other, clear_connection};
 
 use crate::call_moves::{clear, end_call, no_move};
-use crate::release::{ending_of, release};
-use acd_tables::tables::Tables;
-use acd_terms::answer::{Answer, Refusal};
-use acd_terms::id::DeviceId;
-use acd_terms::moves::{Move, Moves, Served};
-use acd_terms::record::ConnectionRecord;
+use crate::releasing::{ending_of, release};
+use acd_tables::Tables;
+use acd_terms::{Answer, ConnectionRecord, DeviceId, Move, Moves, Refusal, Served};
 
 fn waiting_group(connection: &ConnectionRecord) -> Option<DeviceId>
     ensures { result ≡ waiting_group connection.now }

@@ -4,13 +4,9 @@ ghost use Rattle.std.specs.Prelude.{◌≡◌};
 ghost use Rattle.acd_terms.specs.Services.GivingAway.{is_in_call, is_busy_station, is_answered_by, deflect_call, single_step_transfer};
 
 use crate::call_moves::{arrive, divert, transfer};
-use crate::release::{ending_of, release};
-use acd_tables::tables::Tables;
-use acd_terms::answer::{Answer, Refusal};
-use acd_terms::event::Cause;
-use acd_terms::id::DeviceId;
-use acd_terms::moves::{Moves, Served};
-use acd_terms::record::ConnectionRecord;
+use crate::releasing::{ending_of, release};
+use acd_tables::Tables;
+use acd_terms::{Answer, Cause, ConnectionRecord, DeviceId, Moves, Refusal, Served};
 
 fn is_in_call(tables: &Tables, call: u64, device: DeviceId) -> bool
     ensures { result ≡ is_in_call tables.now call device }

@@ -3,9 +3,8 @@
 ghost use Rattle.std.specs.Prelude.{◌≡◌, ◌++◌, [], OnOk};
 ghost use Rattle.acd_terms.specs.Moves.{changed, moved, with_event, events_of};
 
-use acd_tables::tables::Tables;
-use acd_terms::event::Event;
-use acd_terms::moves::{Change, Move};
+use acd_tables::Tables;
+use acd_terms::{Change, Event, Move};
 use std::alloc::AllocError;
 
 /// Makes one change. After an error the tables are only to be dropped.

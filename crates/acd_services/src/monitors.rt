@@ -4,11 +4,8 @@ ghost use Rattle.std.specs.Prelude.{◌≡◌, ◌<◌, ◌^◌, ◌-◌};
 ghost use Rattle.acd_terms.specs.Services.Monitors.{monitor_start, monitor_stop};
 
 use crate::call_moves::silent;
-use acd_tables::tables::Tables;
-use acd_terms::answer::{Answer, Refusal};
-use acd_terms::id::DeviceId;
-use acd_terms::moves::{Change, Moves, Served};
-use acd_terms::record::MonitorRecord;
+use acd_tables::Tables;
+use acd_terms::{Answer, Change, DeviceId, MonitorRecord, Moves, Refusal, Served};
 
 /// A monitor on a planned device begins (Monitor Start of ECMA-269).
 #[tactic(auto, unfolding(acd_terms::specs::Services::Monitors::monitor_start, acd_terms::specs::Served::refuse_if))]

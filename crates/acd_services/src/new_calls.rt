@@ -4,12 +4,8 @@ ghost use Rattle.std.specs.Prelude.{◌≡◌, ◌<◌, ◌^◌, ◌-◌};
 ghost use Rattle.acd_terms.specs.Services.NewCalls.{arrive_call, make_call, phone_off_hook};
 
 use crate::call_moves::{arrive, begin, connect_caller, initiate, originate};
-use acd_tables::tables::Tables;
-use acd_terms::answer::{Answer, Refusal};
-use acd_terms::event::Cause;
-use acd_terms::id::DeviceId;
-use acd_terms::moves::{Moves, Served};
-use acd_terms::record::CallRecord;
+use acd_tables::Tables;
+use acd_terms::{Answer, CallRecord, Cause, DeviceId, Moves, Refusal, Served};
 
 /// A call comes in from outside the plan.
 #[tactic(auto, unfolding(acd_terms::specs::Services::NewCalls::arrive_call, acd_terms::specs::Served::refuse_if))]

@@ -4,14 +4,11 @@ ghost use Rattle.std.specs.Prelude.{◌≡◌};
 ghost use Rattle.acd_terms.specs.Services.Plan.{add_group, add_station, add_agent};
 
 use crate::call_moves::silent;
-use acd_tables::tables::Tables;
-use acd_terms::answer::{Answer, Refusal};
-use acd_terms::id::{AgentId, DeviceId};
-use acd_terms::moves::{Change, Moves, Served};
-use acd_terms::name::Name;
-use acd_terms::number::Seconds;
-use acd_terms::record::{AgentRecord, Figures, GroupRecord, StationRecord};
-use acd_terms::state::AgentState;
+use acd_tables::Tables;
+use acd_terms::{
+    AgentId, AgentRecord, AgentState, Answer, Change, DeviceId, Figures, GroupRecord, Moves, Name,
+    Refusal, Seconds, Served, StationRecord,
+};
 
 /// A group is planned.
 #[tactic(auto, unfolding(acd_terms::specs::Services::Plan::add_group, acd_terms::specs::Served::refuse_if))]

@@ -5,11 +5,8 @@ ghost use Rattle.acd_terms.specs.Services.Talking.{occupy, answer_call, hold_cal
 
 use crate::agent_moves::become_busy;
 use crate::call_moves::{answer, hold, no_move, retrieve};
-use acd_tables::tables::Tables;
-use acd_terms::answer::{Answer, Refusal};
-use acd_terms::id::DeviceId;
-use acd_terms::moves::{Move, Moves, Served};
-use acd_terms::record::ConnectionRecord;
+use acd_tables::Tables;
+use acd_terms::{Answer, ConnectionRecord, DeviceId, Move, Moves, Refusal, Served};
 
 // Where the connection was distributed, the agent at its station becomes busy.
 #[tactic(auto, unfolding(acd_terms::specs::Services::Talking::occupy))]

@@ -2,11 +2,10 @@
 
 use crate::rows_tests::{Parts, answered_call, device, plain, rows_of, waiting};
 use crate::switch::{Executed, Switch};
-use acd_terms::command::Command;
-use acd_terms::id::DeviceId;
-use acd_terms::moves::Change;
-use acd_terms::record::{AgentRecord, CallRecord, ConnectionRecord, Figures, GroupRecord};
-use acd_terms::state::{AgentState, ConnectionState};
+use acd_terms::{
+    AgentRecord, AgentState, CallRecord, Change, Command, ConnectionRecord, ConnectionState,
+    DeviceId, Figures, GroupRecord,
+};
 use std::alloc::Global;
 use std::process::Abort;
 

@@ -6,10 +6,9 @@ ghost use Rattle.acd_terms.specs.Changes.{changes_of};
 ghost use Rattle.acd_terms.specs.Distribution.{offer_moves, distribution};
 
 use crate::journal::Journal;
-use acd_services::call_moves::{divert, offer};
-use acd_tables::tables::Tables;
-use acd_terms::event::Cause;
-use acd_terms::moves::Offer;
+use acd_services::{divert, offer};
+use acd_tables::Tables;
+use acd_terms::{Cause, Offer};
 use std::alloc::AllocError;
 
 // Makes the offer.

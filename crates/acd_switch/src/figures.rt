@@ -5,9 +5,7 @@ ghost use Rattle.acd_terms.specs.Figures.{sum_of_figures, counting};
 ghost use Rattle.acd_terms.specs.Changes.{counted_group};
 ghost use Rattle.acd_switch.specs.Counting.{figures_in, AreFitting};
 
-use acd_terms::event::{Cause, Event, Report};
-use acd_terms::id::DeviceId;
-use acd_terms::record::{Figures, GroupRecord};
+use acd_terms::{Cause, DeviceId, Event, Figures, GroupRecord, Report};
 
 const NO_FIGURES: Figures = Figures {
     entered: 0,

@@ -9,10 +9,9 @@ ghost use Rattle.acd_terms.specs.Rules.Plan.{group_order};
 ghost use Rattle.acd_switch.specs.Counting.{FiguresFit};
 
 use crate::figures::{counted_group, counting};
-use acd_services::make::change;
-use acd_tables::tables::Tables;
-use acd_terms::event::Event;
-use acd_terms::moves::{Change, Move};
+use acd_services::change;
+use acd_tables::Tables;
+use acd_terms::{Change, Event, Move};
 use std::alloc::{AllocError, Global};
 
 /// The events and the changes of a step, in order. The numbers of the events are 0.

@@ -1,9 +1,14 @@
 //! One executed request on the switch: the service or tick, then distribution.
 //!
-//! [`switch::Switch`] holds the state; [`switch::Switch::step`] executes a request and answers its
-//! outcome and its events, and [`switch::Switch::step_with_changes`] tells the changes of records too.
-//! [`switch::Switch::from_rows`] makes a switch of rows of any origin, and refuses those that break a
-//! rule.
+//! [`Switch`] holds the state; [`Switch::step`] executes a request and answers its
+//! outcome and its events, and [`Switch::step_with_changes`] tells the changes of records too
+//! ([`Executed`]). [`Switch::from_rows`] makes a switch of rows of any origin, and refuses those that
+//! break a rule ([`RowFault`]).
+//!
+//! ```ignore
+//! let mut switch = Switch::new(alloc, Limits::GREATEST);
+//! let (outcome, events) = switch.step(moment, &command)?;
+//! ```
 #![tactic(auto)]
 
 #[cfg(test)]
@@ -11,8 +16,11 @@ mod changes_tests;
 mod distribution;
 mod figures;
 mod journal;
-pub mod row_fault;
+mod row_fault;
 #[cfg(test)]
 mod rows_tests;
-pub mod switch;
+mod switch;
 mod tick;
+
+pub use row_fault::RowFault;
+pub use switch::{Executed, Switch};

@@ -3,7 +3,7 @@
 ghost use Rattle.std.specs.Prelude.{◌≡◌};
 ghost use Rattle.acd_switch.specs.declared.row_fault.RowFault.TheVariants.{NoMemory};
 
-use acd_terms::rows::Rule;
+use acd_terms::Rule;
 use std::alloc::AllocError;
 use thiserror::Error;
 

@@ -5,15 +5,11 @@
 
 use crate::row_fault::RowFault;
 use crate::switch::Switch;
-use acd_terms::id::{AgentId, DeviceId};
-use acd_terms::listed::Listed;
-use acd_terms::name::Name;
-use acd_terms::number::Seconds;
-use acd_terms::record::{
-    AgentRecord, CallRecord, ConnectionRecord, Figures, GroupRecord, MonitorRecord, StationRecord,
+use acd_terms::{
+    AgentId, AgentRecord, AgentState, CallRecord, ConnectionRecord, ConnectionState, DeviceId,
+    Figures, GroupRecord, Limits, Listed, MonitorRecord, Name, Pending, Rows, Rule, Seconds,
+    StationRecord,
 };
-use acd_terms::rows::{Limits, Rows, Rule};
-use acd_terms::state::{AgentState, ConnectionState, Pending};
 use std::alloc::{AllocError, Global};
 use std::process::Abort;
 use std::test::Fail;

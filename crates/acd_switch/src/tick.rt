@@ -7,15 +7,9 @@ ghost use Rattle.acd_terms.specs.Scans.{group_of};
 ghost use Rattle.acd_terms.specs.Tick.{is_over, ring_of, wrap_of, is_overdue, overdue_in, return_moves, is_rested, rested_in, rest_moves, returns, rests, tick};
 
 use crate::journal::Journal;
-use acd_services::agent_moves::go_from;
-use acd_services::call_moves::{divert, go_back};
-use acd_services::release::release;
-use acd_tables::tables::Tables;
-use acd_terms::event::Cause;
-use acd_terms::id::DeviceId;
-use acd_terms::moves::Ending;
-use acd_terms::record::{AgentRecord, ConnectionRecord};
-use acd_terms::state::AgentState;
+use acd_services::{divert, go_back, go_from, release};
+use acd_tables::Tables;
+use acd_terms::{AgentRecord, AgentState, Cause, ConnectionRecord, DeviceId, Ending};
 use std::alloc::{AllocError, Global};
 
 // So many seconds have passed since then. 0 seconds mean never.

@@ -15,8 +15,7 @@ use crate::records::Records;
 use crate::sets::{add_set, list, unlist};
 use crate::turns::{agent_turn, connection_turn};
 use crate::uses::agent_at;
-use acd_terms::id::{AgentId, DeviceId};
-use acd_terms::record::{AgentRecord, ConnectionRecord, GroupRecord};
+use acd_terms::{AgentId, AgentRecord, ConnectionRecord, DeviceId, GroupRecord};
 use std::alloc::{AllocError, Global};
 use std::collections::BTreeMap;
 

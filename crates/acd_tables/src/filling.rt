@@ -4,7 +4,7 @@ ghost use Rattle.std.specs.Prelude.{◌≡◌, [], true, OnOk};
 ghost use Rattle.acd_terms.specs.Rules.Plan.{ascends, group_order, agent_order, connection_order};
 
 use crate::tables::Tables;
-use acd_terms::record::{AgentRecord, ConnectionRecord, GroupRecord};
+use acd_terms::{AgentRecord, ConnectionRecord, GroupRecord};
 use std::alloc::AllocError;
 
 impl Tables {

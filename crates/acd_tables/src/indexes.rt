@@ -8,7 +8,7 @@ ghost use Rattle.acd_tables.specs.Indexed.{lists, ListsOffers};
 ghost use Rattle.acd_tables.specs.Turns.{Enters, Leaves, Undoes, LeavesBut, is_entry, is_of_group, Offers, Entered, Undone, Untouched, TakenOut, IsBlank};
 
 use crate::sets::{enter, leave};
-use acd_terms::id::{AgentId, DeviceId};
+use acd_terms::{AgentId, DeviceId};
 use std::alloc::{AllocError, Global};
 use std::collections::{BTreeMap, BTreeSet};
 

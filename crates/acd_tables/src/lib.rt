@@ -1,19 +1,29 @@
 //! The tables of the switch: its records by key, the look-ups that its services use, and the writes.
 //!
-//! [`tables::Tables`] is seen as [`acd_terms::rows::Rows`], so each look-up answers a scan of the state,
-//! and each write changes the one record that it names. Look-ups take no memory.
+//! [`Tables`] is seen as [`acd_terms::Rows`], so each look-up answers a scan of the state,
+//! and each write changes the one record that it names. Look-ups take no memory. [`Records`] are the
+//! tables alone, without the indexes that spare a look-up its way through them.
+//!
+//! ```ignore
+//! let mut tables = Tables::new(alloc, Limits::GREATEST);
+//! tables.put_group(group)?;
+//! let queue = tables.queue_of(group.device);
+//! ```
 #![tactic(auto)]
 
 mod changes;
 mod filling;
-pub mod indexes;
-pub mod records;
-pub mod scans;
+mod indexes;
+mod records;
+mod scans;
 mod sets;
-pub mod table;
-pub mod tables;
+mod table;
+mod tables;
 #[cfg(test)]
 mod tests;
 mod turns;
-pub mod uses;
-pub mod writes;
+mod uses;
+mod writes;
+
+pub use records::Records;
+pub use tables::{DeviceKind, Tables};

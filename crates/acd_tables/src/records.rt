@@ -8,11 +8,10 @@ ghost use Rattle.acd_terms.specs.Scans.{group_of, station_of, agent_of, call_of,
 ghost use Rattle.acd_terms.specs.Writes.{empty_rows};
 
 use crate::table::Table;
-use acd_terms::id::{AgentId, DeviceId};
-use acd_terms::record::{
-    AgentRecord, CallRecord, ConnectionRecord, GroupRecord, MonitorRecord, StationRecord,
+use acd_terms::{
+    AgentId, AgentRecord, CallRecord, ConnectionRecord, DeviceId, GroupRecord, Limits,
+    MonitorRecord, Rows, StationRecord,
 };
-use acd_terms::rows::{Limits, Rows};
 use std::alloc::{AllocError, Global};
 use std::collections::btree_map::Values;
 use std::marker::Model;

@@ -13,9 +13,7 @@ ghost use Rattle.acd_tables.specs.FirstOffer.{offer_in_group};
 use crate::sets::first_in;
 use crate::tables::Tables;
 use crate::uses::{Use, agent_at, is_in_use};
-use acd_terms::id::{AgentId, DeviceId};
-use acd_terms::moves::Offer;
-use acd_terms::record::{AgentRecord, ConnectionRecord};
+use acd_terms::{AgentId, AgentRecord, ConnectionRecord, DeviceId, Offer};
 use std::collections::BTreeSet;
 
 impl Tables {

@@ -4,7 +4,7 @@ ghost use Rattle.std.specs.Prelude.{◌≡◌, true, false, not, OnOk, OnErr, If
 ghost use Rattle.acd_tables.specs.Indexed.{IsFirstIn};
 ghost use Rattle.acd_tables.specs.Sets.{holds, Sets, Stays, SameMembers, SetsMember, HasSet};
 
-use acd_terms::id::DeviceId;
+use acd_terms::DeviceId;
 use std::alloc::{AllocError, Global};
 use std::collections::{BTreeMap, BTreeSet};
 

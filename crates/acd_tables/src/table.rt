@@ -6,8 +6,7 @@ ghost use Rattle.std.specs.Range.Bound.{IsForward};
 ghost use Rattle.std.specs.BTreeMap.Range.{IsLeBy, IsLtBy, range_contains};
 ghost use Rattle.acd_terms.specs.Lists.{find_by, put_by, remove_by};
 
-use acd_terms::keyed::{Keyed, ascends};
-use acd_terms::listed::Listed;
+use acd_terms::{Keyed, Listed, ascends};
 use std::alloc::{AllocError, Global};
 use std::collections::BTreeMap;
 use std::collections::btree_map::{Range, Values};

@@ -7,12 +7,10 @@ ghost use Rattle.acd_tables.specs.Kinds.{kind_of};
 
 use crate::indexes::Indexes;
 use crate::records::Records;
-use acd_terms::id::{AgentId, DeviceId};
-use acd_terms::keyed::ascends;
-use acd_terms::record::{
-    AgentRecord, CallRecord, ConnectionRecord, GroupRecord, MonitorRecord, StationRecord,
+use acd_terms::{
+    AgentId, AgentRecord, CallRecord, ConnectionRecord, DeviceId, GroupRecord, Limits,
+    MonitorRecord, Rows, StationRecord, ascends,
 };
-use acd_terms::rows::{Limits, Rows};
 use std::alloc::{AllocError, Global};
 use std::collections::btree_map::Values;
 use std::marker::Model;

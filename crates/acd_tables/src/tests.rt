@@ -2,15 +2,10 @@
 
 use crate::table::Table;
 use crate::tables::{DeviceKind, Tables};
-use acd_terms::id::{AgentId, DeviceId};
-use acd_terms::moves::Offer;
-use acd_terms::name::Name;
-use acd_terms::number::Seconds;
-use acd_terms::record::{
-    AgentRecord, CallRecord, ConnectionRecord, Figures, GroupRecord, MonitorRecord, StationRecord,
+use acd_terms::{
+    AgentId, AgentRecord, AgentState, CallRecord, ConnectionRecord, ConnectionState, DeviceId,
+    Figures, GroupRecord, Limits, MonitorRecord, Name, Offer, Seconds, StationRecord,
 };
-use acd_terms::rows::Limits;
-use acd_terms::state::{AgentState, ConnectionState};
 use std::alloc::AllocError;
 use std::process::Abort;
 use std::test::Fail;

@@ -10,8 +10,7 @@ ghost use Rattle.acd_tables.specs.Turns.{TurnsTo, IsAt, queue_entry, entry_in, r
 use crate::indexes::{Entries, Indexes, Turn, leaving_but};
 use crate::records::Records;
 use crate::uses::{Use, agent_at, is_in_use, uses};
-use acd_terms::id::{AgentId, DeviceId};
-use acd_terms::record::{AgentRecord, ConnectionRecord};
+use acd_terms::{AgentId, AgentRecord, ConnectionRecord, DeviceId};
 
 // The place of a queued connection.
 fn queue_entry(connection: &Option<ConnectionRecord>) -> Option<(DeviceId, (u64, u64))>

@@ -9,8 +9,7 @@ ghost use Rattle.acd_tables.specs.Uses.{uses, is_used, is_in_use, if_at};
 ghost use Rattle.acd_tables.specs.Indexed.{Lines, Seats};
 
 use crate::records::Records;
-use acd_terms::id::{AgentId, DeviceId};
-use acd_terms::record::{AgentRecord, ConnectionRecord};
+use acd_terms::{AgentId, AgentRecord, ConnectionRecord, DeviceId};
 use std::collections::{BTreeMap, BTreeSet};
 
 /// How a connection uses its station.

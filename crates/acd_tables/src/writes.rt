@@ -5,9 +5,8 @@ ghost use Rattle.acd_terms.specs.Writes.{with_group, with_station, with_agent, w
 
 use crate::changes::{put_agent, put_connection, put_group, remove_connection};
 use crate::tables::Tables;
-use acd_terms::id::DeviceId;
-use acd_terms::record::{
-    AgentRecord, CallRecord, ConnectionRecord, GroupRecord, MonitorRecord, StationRecord,
+use acd_terms::{
+    AgentRecord, CallRecord, ConnectionRecord, DeviceId, GroupRecord, MonitorRecord, StationRecord,
 };
 use std::alloc::AllocError;
 

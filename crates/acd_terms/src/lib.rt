@@ -1,23 +1,45 @@
 //! The terms of the desk: identifiers, records, commands, answers and event reports.
 //!
-//! A command names devices and agents by [`id::DeviceId`] and [`id::AgentId`], which hold only well
-//! formed numbers; [`command::Command`] has one variant a service. What a service answers is an
-//! [`answer::Outcome`], and what it reports is an [`event::Report`]. [`rows::Rows`] is the whole state
+//! A command names devices and agents by [`DeviceId`] and [`AgentId`], which hold only well
+//! formed numbers; [`Command`] has one variant a service. What a service answers is an
+//! [`Outcome`], and what it reports is a [`Report`]. [`Rows`] is the whole state
 //! of a switch as lists, and [`scans`] has its look-ups, each a scan of those lists.
+//!
+//! ```ignore
+//! let caller = DeviceId::read(b"0301234")?;
+//! let called = DeviceId::read(b"7100")?;
+//! let command = Command::ArriveCall { caller, called };
+//! ```
 #![tactic(auto)]
 
-pub mod answer;
-pub mod command;
-pub mod event;
+mod answer;
+mod command;
+mod event;
 pub mod examples;
-pub mod id;
-pub mod keyed;
-pub mod listed;
-pub mod moves;
-pub mod name;
-pub mod number;
-pub mod record;
-pub mod rows;
+mod id;
+mod keyed;
+mod listed;
+mod moves;
+mod name;
+mod number;
+mod record;
+mod rows;
 pub mod scans;
-pub mod short_text;
-pub mod state;
+mod short_text;
+mod state;
+
+pub use answer::{Answer, Outcome, Refusal};
+pub use command::{Arrival, Command, Request, Requested};
+pub use event::{Cause, Columns, Event, EventKind, Report, Waited};
+pub use id::{AgentId, DeviceId, IdFault};
+pub use keyed::{Keyed, ascends, find};
+pub use listed::Listed;
+pub use moves::{Change, Destination, Ending, Move, Moves, Offer, Release, Served};
+pub use name::{Name, NameFault, Requester};
+pub use number::{Invoke, Seconds, Serial};
+pub use record::{
+    AgentRecord, CallRecord, ConnectionRecord, Figures, GroupRecord, MonitorRecord, StationRecord,
+};
+pub use rows::{Limits, Rows, Rule};
+pub use short_text::ShortText;
+pub use state::{AgentState, ConnectionState, Pending};

@@ -2,8 +2,7 @@
 
 use super::records::{agent_in, entry_of, figures_of, rows_after, since_of};
 use super::*;
-use acd_terms::record::Figures;
-use acd_terms::state::AgentState;
+use acd_terms::{AgentState, Figures};
 
 // The waiting call is deflected to a new group.
 const TO_ANOTHER_QUEUE: &[Asked] = &[

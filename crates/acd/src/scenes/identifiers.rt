@@ -1,9 +1,7 @@
 //! The faults of identifiers and names, each at its place.
 
 use super::*;
-use acd_terms::id::{AgentId, DeviceId, IdFault};
-use acd_terms::name::{Name, NameFault, Requester};
-use acd_terms::number::{Invoke, Seconds, Serial};
+use acd_terms::{AgentId, DeviceId, IdFault, Invoke, Name, NameFault, Requester, Seconds, Serial};
 use std::collections::HashMap;
 
 #[test]

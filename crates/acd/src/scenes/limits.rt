@@ -3,7 +3,7 @@
 use super::*;
 use acd_book::MemoryBook;
 use acd_desk::{Desk, Taken};
-use acd_terms::command::Request;
+use acd_terms::Request;
 
 // Few places, and just as many requests as the scene has.
 const FEW: Limits = Limits {

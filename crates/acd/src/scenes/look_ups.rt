@@ -1,11 +1,8 @@
 //! Each look-up of the switch's tables is the scan of the rows, after each request of the scenes.
 
 use super::*;
-use acd_tables::tables::Tables;
-use acd_terms::id::DeviceId;
-use acd_terms::record::{AgentRecord, CallRecord, ConnectionRecord};
-use acd_terms::rows::Rows;
-use acd_terms::scans;
+use acd_tables::Tables;
+use acd_terms::{AgentRecord, CallRecord, ConnectionRecord, DeviceId, Rows, scans};
 
 fn compare_device(rt: &impl Abort, tables: &Tables, rows: &Rows, device: DeviceId) {
     assert_eq!(rt; tables.group(device), scans::group_of(rows, device));

@@ -2,10 +2,7 @@
 
 use super::*;
 use acd_book::Book;
-use acd_terms::id::{AgentId, DeviceId};
-use acd_terms::record::Figures;
-use acd_terms::rows::Rows;
-use acd_terms::state::{AgentState, Pending};
+use acd_terms::{AgentId, AgentState, DeviceId, Figures, Pending, Rows};
 
 // The rows of a desk after all requests of the scenes.
 pub fn rows_after(rt: &impl Abort, alloc: Global, scenes: &[&[Asked]]) -> Rows {

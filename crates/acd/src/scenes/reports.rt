@@ -4,12 +4,11 @@
 use super::*;
 use acd_book::{Book, MemoryBook};
 use acd_desk::{Desk, Taken};
-use acd_switch::row_fault::RowFault;
-use acd_terms::event::{Cause, EventKind, Report};
-use acd_terms::id::{AgentId, DeviceId};
-use acd_terms::record::ConnectionRecord;
-use acd_terms::rows::{Rows, Rule};
-use acd_terms::state::{AgentState, ConnectionState};
+use acd_switch::RowFault;
+use acd_terms::{
+    AgentId, AgentState, Cause, ConnectionRecord, ConnectionState, DeviceId, EventKind, Report,
+    Rows, Rule,
+};
 
 // More events than any scene has.
 const ALL: usize = 1000;

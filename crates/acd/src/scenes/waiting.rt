@@ -2,8 +2,7 @@
 
 use super::records::{agent_in, entry_of, figures_of, monitor_of, rows_after, since_of};
 use super::*;
-use acd_terms::record::Figures;
-use acd_terms::state::AgentState;
+use acd_terms::{AgentState, Figures};
 
 // Two calls ring in vain, one at a time and together.
 const TICKS: &[Asked] = &[

@@ -7,11 +7,7 @@ use super::{
 use crate::book::Book;
 use crate::fault::BookFault;
 use crate::memory::MemoryBook;
-use acd_terms::event::Event;
-use acd_terms::listed::Listed;
-use acd_terms::moves::Change;
-use acd_terms::record::{MonitorRecord, StationRecord};
-use acd_terms::rows::{Limits, Rows};
+use acd_terms::{Change, Event, Limits, Listed, MonitorRecord, Rows, StationRecord};
 use std::alloc::Global;
 use std::process::Abort;
 

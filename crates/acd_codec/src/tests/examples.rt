@@ -3,11 +3,7 @@
 use super::{agent, device, expect_event, expect_fault, expect_reply, expect_texts};
 use crate::member::{MALFORMED_STATUS, Member};
 use crate::replies::{Rejected, rejected_text};
-use acd_terms::answer::{Answer, Outcome};
-use acd_terms::event::{Cause, Report, Waited};
-use acd_terms::name::Requester;
-use acd_terms::number::Invoke;
-use acd_terms::state::{AgentState, Pending};
+use acd_terms::{AgentState, Answer, Cause, Invoke, Outcome, Pending, Report, Requester, Waited};
 use std::alloc::Global;
 use std::process::Abort;
 

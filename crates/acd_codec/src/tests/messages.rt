@@ -2,8 +2,7 @@
 
 use crate::fault::ReadFault;
 use crate::member::Member;
-use acd_terms::id::IdFault;
-use acd_terms::name::NameFault;
+use acd_terms::{IdFault, NameFault};
 use std::alloc::Global;
 use std::fmt::Display;
 use std::process::Abort;

@@ -3,8 +3,7 @@
 use super::expect_reply;
 use crate::fault::FixedAnswer;
 use crate::member::Member;
-use acd_terms::answer::{Answer, Outcome, Refusal};
-use acd_terms::state::{AgentState, Pending};
+use acd_terms::{AgentState, Answer, Outcome, Pending, Refusal};
 
 #[test]
 fn results(rt: HostRuntime) {

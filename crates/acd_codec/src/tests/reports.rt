@@ -1,7 +1,7 @@
 //! Event reports: each kind with its members.
 
 use super::{agent, device, expect_event};
-use acd_terms::event::{Cause, Report};
+use acd_terms::{Cause, Report};
 
 #[test]
 fn distributed_call(rt: HostRuntime) {

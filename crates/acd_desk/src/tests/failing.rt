@@ -4,11 +4,7 @@ ghost use Rattle.std.specs.Prelude.{◌≡◌, ◌≤◌, ⊤, refl, IsErrOf};
 ghost use Rattle.acd_book.specs.Content.{HasRisen};
 
 use acd_book::{Book, BookFault, Kept, MemoryBook};
-use acd_terms::event::Event;
-use acd_terms::moves::Change;
-use acd_terms::name::Requester;
-use acd_terms::number::Invoke;
-use acd_terms::rows::{Limits, Rows};
+use acd_terms::{Change, Event, Invoke, Limits, Requester, Rows};
 
 /// The number of a call, from 1, and its fault.
 pub type Failing = (u32, BookFault);

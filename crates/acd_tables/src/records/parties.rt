@@ -6,8 +6,7 @@ ghost use Rattle.acd_terms.specs.Scans.{connections_of, other_of};
 ghost use Rattle.acd_tables.specs.Near.{start, end, is_near};
 
 use super::Records;
-use acd_terms::id::DeviceId;
-use acd_terms::record::ConnectionRecord;
+use acd_terms::{ConnectionRecord, DeviceId};
 use std::collections::btree_map::Range;
 use std::ops::Bound;
 

@@ -5,10 +5,9 @@ ghost use Rattle.acd_terms.specs.Writes.{with_group, with_station, with_agent, w
 ghost use Rattle.acd_terms.specs.Moves.{changed};
 
 use super::Records;
-use acd_terms::id::DeviceId;
-use acd_terms::moves::Change;
-use acd_terms::record::{
-    AgentRecord, CallRecord, ConnectionRecord, GroupRecord, MonitorRecord, StationRecord,
+use acd_terms::{
+    AgentRecord, CallRecord, Change, ConnectionRecord, DeviceId, GroupRecord, MonitorRecord,
+    StationRecord,
 };
 use std::alloc::AllocError;
 

@@ -14,11 +14,8 @@ use crate::monitors::{monitor_start, monitor_stop};
 use crate::new_calls::{arrive_call, make_call, phone_off_hook};
 use crate::plan::{add_agent, add_group, add_station};
 use crate::talking::{answer_call, hold_call, retrieve_call};
-use acd_tables::tables::Tables;
-use acd_terms::answer::Outcome;
-use acd_terms::command::Command;
-use acd_terms::event::Event;
-use acd_terms::moves::Served;
+use acd_tables::Tables;
+use acd_terms::{Command, Event, Outcome, Served};
 use std::alloc::AllocError;
 
 /// What the service does. It changes nothing.

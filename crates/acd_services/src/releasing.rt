@@ -5,11 +5,10 @@ ghost use Rattle.acd_terms.specs.Release.{release_of, released, ending_of, relea
 
 use crate::agent_moves::{go_to, wait_for};
 use crate::call_moves::no_move;
-use acd_tables::tables::Tables;
-use acd_terms::id::DeviceId;
-use acd_terms::moves::{Ending, Move, Release};
-use acd_terms::record::{AgentRecord, ConnectionRecord};
-use acd_terms::state::{AgentState, Pending};
+use acd_tables::Tables;
+use acd_terms::{
+    AgentRecord, AgentState, ConnectionRecord, DeviceId, Ending, Move, Pending, Release,
+};
 
 // The table of release.
 fn release_of(how: Ending, pending: Option<Pending>) -> Release
