@@ -2,13 +2,26 @@
 //! answer and report, from the plan on.
 
 ghost use Rattle.acd_terms.specs.Examples.Words.{NumbersOfDigits};
-ghost use Rattle.acd_terms.specs.Examples.Queue.{CallWaits, OfferedToTheReadyAgent, AnsweredCall, LongestReadyFirst, TwoCallsAnswered, WrapUpAndTick, NoAnswerReturnsToItsPlace, MomentNeverGoesBack, CallerNumberTaken, AbandonedInQueue};
+ghost use Rattle.acd_terms.specs.Examples.Plan.{RecordsOfTheEmptyState, Monitors};
+ghost use Rattle.acd_terms.specs.Examples.Queue.{CallWaits, OfferedToTheReadyAgent, AnsweredCall, LongestReadyFirst, TwoCallsAnswered, WrapUpAndTick, NoAnswerReturnsToItsPlace, MomentNeverGoesBack, RefusalTakesAStamp, CallerNumberTaken, AbandonedInQueue};
+ghost use Rattle.acd_terms.specs.Examples.Waiting.{OffersGoBack, Ticks, Never, WhoIsReadyLongest, TwoGroupsAtOnce};
 ghost use Rattle.acd_terms.specs.Examples.Agents.{PendingLogOff, TransferToStation, DeflectedToStation, HoldAndPending, TransferToGroup, SecondCallWhileHolding};
-ghost use Rattle.acd_terms.specs.Examples.Stations.{BusyStationFails, PrivateCallThenDistribution};
+ghost use Rattle.acd_terms.specs.Examples.HandedOn.{DeflectedToAnotherQueue, DeflectedFromQueueToStationAndBack, DeflectedToItsOwnGroup, DeflectedWithAStatePending, TransferredWhileHeld, TwoAgentsReleased, TransferredBack};
+ghost use Rattle.acd_terms.specs.Examples.Stations.{BusyStationFails, PrivateCallThenDistribution, CallToABusyAgentStation, PrivateCalls};
 
 /// The numbers of identifiers are the digit 1 followed by their digits.
 pub fn numbers_of_digits()
     ensures { NumbersOfDigits }
+{}
+
+/// An agent is new since the request that added it.
+pub fn records_of_the_empty_state()
+    ensures { RecordsOfTheEmptyState }
+{}
+
+/// A monitor tells what comes after its start, and its number is not used again.
+pub fn monitors()
+    ensures { Monitors }
 {}
 
 /// A call that arrives with no agent ready waits in the queue.
@@ -56,6 +69,11 @@ pub fn moment_never_goes_back()
     ensures { MomentNeverGoesBack }
 {}
 
+/// A refused request takes a stamp and a moment, and changes nothing else.
+pub fn refusal_takes_a_stamp()
+    ensures { RefusalTakesAStamp }
+{}
+
 /// A call to a busy station fails.
 pub fn busy_station_fails()
     ensures { BusyStationFails }
@@ -99,4 +117,74 @@ pub fn transfer_to_group()
 /// With a second call begun, the held one can't be retrieved.
 pub fn second_call_while_holding()
     ensures { SecondCallWhileHolding }
+{}
+
+/// A waiting call that is deflected to another group enters its queue anew.
+pub fn deflected_to_another_queue()
+    ensures { DeflectedToAnotherQueue }
+{}
+
+/// It goes on to a station and back to its first group, where it can neither be held nor transferred.
+pub fn deflected_from_queue_to_station_and_back()
+    ensures { DeflectedFromQueueToStationAndBack }
+{}
+
+/// An offer that is deflected to its own group comes back to the same agent.
+pub fn deflected_to_its_own_group()
+    ensures { DeflectedToItsOwnGroup }
+{}
+
+/// Deflected to a station with a state pending, the agent is released last.
+pub fn deflected_with_a_state_pending()
+    ensures { DeflectedWithAStatePending }
+{}
+
+/// A held call is transferred to the group again by the station that made it.
+pub fn transferred_while_held()
+    ensures { TransferredWhileHeld }
+{}
+
+/// Of two agents in a call the one at the named station is released first.
+pub fn two_agents_released()
+    ensures { TwoAgentsReleased }
+{}
+
+/// A call that a station transferred may be transferred back to it.
+pub fn transferred_back()
+    ensures { TransferredBack }
+{}
+
+/// Offers that rang too long go back at one tick, one after the other.
+pub fn offers_go_back()
+    ensures { OffersGoBack }
+{}
+
+/// Offers and after-call work end when their time is over and not before.
+pub fn ticks()
+    ensures { Ticks }
+{}
+
+/// With no ring time and no wrap time nothing ends by itself.
+pub fn never()
+    ensures { Never }
+{}
+
+/// Asking for the present state and losing an offer keep an agent's turn.
+pub fn who_is_ready_longest()
+    ensures { WhoIsReadyLongest }
+{}
+
+/// Agents of two groups become ready at one tick, and the group of least number is served first.
+pub fn two_groups_at_once()
+    ensures { TwoGroupsAtOnce }
+{}
+
+/// A call to the station of an agent who makes a call fails.
+pub fn call_to_a_busy_agent_station()
+    ensures { CallToABusyAgentStation }
+{}
+
+/// Private calls at the station of an agent change no agent.
+pub fn private_calls()
+    ensures { PrivateCalls }
 {}

@@ -1,14 +1,15 @@
 -- Worked examples: busy stations and private calls.
-use Rattle.std.specs.Prelude.{◌≡◌, [], ◌∷◌, Some, None, option_map}
-use Rattle.acd_terms.specs.Scans.{agent_of}
-use Rattle.acd_terms.specs.Examples.Words.{billing, first_station, second_station, ana, caller, late_caller, at, plan, asked_after, event, answered}
+use Rattle.std.specs.Prelude.{◌≡◌, List, [], ◌∷◌, ◌++◌, Some, None}
+use Rattle.acd_terms.specs.Scans.{connections_of, call_of, connection_of, agent_of}
+use Rattle.acd_terms.specs.CallMoves.{plain}
+use Rattle.acd_terms.specs.Run.{Asked}
+use Rattle.acd_terms.specs.Examples.Words.{billing, first_station, second_station, third_station, ana, caller, late_caller, at, logs_on, asks_for, plan, asked_after, event, answered, figures_in, counts, ana_in, ringing_from, talking_from}
 use Rattle.acd_terms.specs.declared.event.Cause.TheVariants as cause
-use Rattle.acd_terms.specs.declared.event.Report.TheVariants.{ServiceInitiated, Originated, Queued, Delivered, Diverted, Failed, ConnectionCleared, CallCleared, AgentLoggedOn, AgentReady}
-use Rattle.acd_terms.specs.declared.command.Command.TheVariants.{ArriveCall, MakeCall, PhoneOffHook, ClearConnection, SetAgentState}
-use Rattle.acd_terms.specs.declared.command.Requested.TheVariants.{LoggedOn, State}
+use Rattle.acd_terms.specs.declared.event.Report.TheVariants.{ServiceInitiated, Originated, Queued, Delivered, Diverted, Established, Held, Transferred, Failed, ConnectionCleared, CallCleared, AgentLoggedOn, AgentReady, AgentBusy}
+use Rattle.acd_terms.specs.declared.command.Command.TheVariants.{AddStation, ArriveCall, MakeCall, PhoneOffHook, AnswerCall, HoldCall, ClearConnection, SingleStepTransfer}
 use Rattle.acd_terms.specs.declared.state.Pending.TheVariants as pending
 use Rattle.acd_terms.specs.declared.state.AgentState.TheVariants.{NotReady, Ready, Busy}
-use Rattle.acd_terms.specs.declared.record.AgentRecord.{AgentRecord}
+use Rattle.acd_terms.specs.declared.state.ConnectionState.TheVariants.{Initiated, Connected, Hold, Fail}
 use Rattle.acd_terms.specs.declared.answer.Outcome.TheVariants.{Done}
 use Rattle.acd_terms.specs.declared.answer.Answer.TheVariants as answer
 
@@ -19,12 +20,13 @@ BusyStationFails =
     (r.outcomes ≡ Done (answer.Call 2) ∷ Done answer.Nothing ∷ [])
     × (r.events ≡ event 8 26 (Failed 2 first_station)
     ∷ event 9 27 (ConnectionCleared 2 late_caller) ∷ event 10 27 (ConnectionCleared 2 first_station) ∷ event 11 27 (CallCleared 2 None) ∷ [])
-    × (option_map (λ (a : AgentRecord). a.state) (agent_of r.rows ana) ≡ Some Busy)
+    × (agent_of r.rows ana ≡ ana_in billing Busy None 9 25)
+    × (connections_of r.rows 1 ≡ talking_from billing 1 first_station ∷ plain 1 caller Connected ∷ [])
 
 -- while an agent's station has a private call no call is offered there
 abbrev pub PrivateCallThenDistribution : Type 0
 PrivateCallThenDistribution =
-    let r = asked_after plan (at 5 (SetAgentState ana (LoggedOn first_station billing)) ∷ at 6 (SetAgentState ana (State pending.Ready))
+    let r = asked_after plan (logs_on 5 ana first_station billing ∷ asks_for 6 ana pending.Ready
     ∷ at 7 (MakeCall first_station second_station) ∷ at 8 (PhoneOffHook 1 first_station) ∷ at 9 (ArriveCall caller billing) ∷ at 20 (ClearConnection 1 first_station) ∷ []) in
     (r.outcomes ≡ Done (answer.State NotReady) ∷ Done (answer.State Ready) ∷ Done (answer.Call 1) ∷ Done answer.Nothing ∷ Done (answer.Call 2) ∷ Done answer.Nothing ∷ [])
     × (r.events ≡ event 1 5 (AgentLoggedOn ana first_station billing) ∷ event 2 6 (AgentReady ana first_station)
@@ -32,3 +34,41 @@ PrivateCallThenDistribution =
     ∷ event 6 9 (Queued 2 billing cause.NewCall)
     ∷ event 7 20 (ConnectionCleared 1 first_station) ∷ event 8 20 (ConnectionCleared 1 second_station) ∷ event 9 20 (CallCleared 1 None)
     ∷ event 10 20 (Diverted 2 billing first_station cause.Distributed (Some billing)) ∷ event 11 20 (Delivered 2 first_station cause.Distributed (Some billing)) ∷ [])
+    × (connection_of r.rows 2 first_station ≡ Some (ringing_from billing 2 first_station 10 9 20))
+    × (agent_of r.rows ana ≡ ana_in billing Ready None 7 6)
+
+abbrev pub two_private_calls : List Asked
+two_private_calls =
+    at 3 (AddStation third_station) ∷ at 4 (MakeCall first_station second_station)
+    ∷ logs_on 5 ana first_station billing ∷ asks_for 6 ana pending.Ready
+    ∷ at 7 (MakeCall third_station first_station) ∷ at 8 (PhoneOffHook 2 third_station) ∷ []
+
+-- an agent may log on at a station that has a call; a second call to it fails
+abbrev pub CallToABusyAgentStation : Type 0
+CallToABusyAgentStation =
+    let r = asked_after plan two_private_calls in
+    (r.outcomes ≡ Done answer.Nothing ∷ Done (answer.Call 1) ∷ Done (answer.State NotReady) ∷ Done (answer.State Ready)
+    ∷ Done (answer.Call 2) ∷ Done answer.Nothing ∷ [])
+    × (r.events ≡ event 1 4 (ServiceInitiated 1 first_station)
+    ∷ event 2 5 (AgentLoggedOn ana first_station billing) ∷ event 3 6 (AgentReady ana first_station)
+    ∷ event 4 7 (ServiceInitiated 2 third_station) ∷ event 5 8 (Originated 2 third_station first_station) ∷ event 6 8 (Failed 2 first_station) ∷ [])
+    × (connections_of r.rows 1 ≡ plain 1 first_station Initiated ∷ [])
+    × (connections_of r.rows 2 ≡ plain 2 first_station Fail ∷ plain 2 third_station Connected ∷ [])
+    × (agent_of r.rows ana ≡ ana_in billing Ready None 9 6)
+
+-- private calls change no agent: the one whose private call is transferred stays ready and gets it from the group, and stays busy where the other one ends
+abbrev pub PrivateCalls : Type 0
+PrivateCalls =
+    let r = asked_after (plan ++ two_private_calls) (at 9 (PhoneOffHook 1 first_station) ∷ at 10 (AnswerCall 1 second_station) ∷ at 11 (HoldCall 1 second_station)
+    ∷ at 12 (SingleStepTransfer 1 first_station billing) ∷ at 13 (AnswerCall 1 first_station) ∷ at 14 (ClearConnection 2 first_station) ∷ []) in
+    (r.outcomes ≡ Done answer.Nothing ∷ Done answer.Nothing ∷ Done answer.Nothing ∷ Done answer.Nothing ∷ Done answer.Nothing ∷ Done answer.Nothing ∷ [])
+    × (r.events ≡ event 7 9 (Originated 1 first_station second_station) ∷ event 8 9 (Delivered 1 second_station cause.NewCall None)
+    ∷ event 9 10 (Established 1 second_station None) ∷ event 10 11 (Held 1 second_station)
+    ∷ event 11 12 (Transferred 1 first_station billing) ∷ event 12 12 (Queued 1 billing cause.Transferred)
+    ∷ event 13 12 (Diverted 1 billing first_station cause.Distributed (Some billing)) ∷ event 14 12 (Delivered 1 first_station cause.Distributed (Some billing))
+    ∷ event 15 13 (Established 1 first_station (Some (record { group = billing; seconds = 1 }))) ∷ event 16 13 (AgentBusy ana first_station)
+    ∷ event 17 14 (ConnectionCleared 2 first_station) ∷ event 18 14 (ConnectionCleared 2 third_station) ∷ event 19 14 (CallCleared 2 None) ∷ [])
+    × (agent_of r.rows ana ≡ ana_in billing Busy None 16 13)
+    × (connections_of r.rows 1 ≡ talking_from billing 1 first_station ∷ plain 1 second_station Hold ∷ [])
+    × (call_of r.rows 1 ≡ Some (record { call = 1; caller = first_station; called = second_station; since = 4 }))
+    × (figures_in r.rows billing ≡ counts 1 1 0 0 1)

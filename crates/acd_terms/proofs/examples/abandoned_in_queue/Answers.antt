@@ -4,4 +4,4 @@ use Rattle.acd_terms.proofs.examples.abandoned_in_queue.Goals as goal
 
 pub returns : goal.returns
 unfolding switch_on_literals
-returns c = (refl, refl, refl, refl)
+returns c = (refl, refl, refl, refl, refl)

@@ -4,4 +4,4 @@ use Rattle.acd_terms.proofs.examples.hold_and_pending.Goals as goal
 
 pub returns : goal.returns
 unfolding switch_on_literals
-returns c = (refl, refl)
+returns c = (refl, refl, refl, refl)

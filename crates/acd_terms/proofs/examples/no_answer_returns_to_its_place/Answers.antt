@@ -4,4 +4,4 @@ use Rattle.acd_terms.proofs.examples.no_answer_returns_to_its_place.Goals as goa
 
 pub returns : goal.returns
 unfolding switch_on_literals
-returns c = (refl, refl, refl)
+returns c = (refl, refl, refl, refl, refl)

@@ -4,4 +4,4 @@ use Rattle.acd_terms.proofs.examples.private_call_then_distribution.Goals as goa
 
 pub returns : goal.returns
 unfolding switch_on_literals
-returns c = (refl, refl)
+returns c = (refl, refl, refl, refl)
