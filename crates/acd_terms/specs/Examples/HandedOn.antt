@@ -5,7 +5,7 @@ use Rattle.acd_terms.specs.CallMoves.{plain, queueing}
 use Rattle.acd_terms.specs.Run.{Asked}
 use Rattle.acd_terms.specs.Examples.Words.{billing, claims, first_station, second_station, third_station, ana, ben, caller, at, logs_on, asks_for, plan, asked_after, event, figures_in, counts, ana_in, ben_in, ringing_from, talking_from}
 use Rattle.acd_terms.specs.declared.event.Cause.TheVariants as cause
-use Rattle.acd_terms.specs.declared.event.Report.TheVariants.{ServiceInitiated, Originated, Queued, Delivered, Diverted, Established, Held, Transferred, Failed, ConnectionCleared, CallCleared, AgentLoggedOn, AgentNotReady, AgentReady, AgentBusy, AgentWorkingAfterCall}
+use Rattle.acd_terms.specs.declared.event.Report.TheVariants.{ServiceInitiated, Originated, Queued, Delivered, Diverted, Established, Held, Transferred, ConnectionCleared, CallCleared, AgentLoggedOn, AgentNotReady, AgentReady, AgentBusy, AgentWorkingAfterCall}
 use Rattle.acd_terms.specs.declared.command.Command.TheVariants.{AddGroup, AddStation, ArriveCall, MakeCall, PhoneOffHook, AnswerCall, HoldCall, ClearConnection, DeflectCall, SingleStepTransfer}
 use Rattle.acd_terms.specs.declared.state.Pending.TheVariants as pending
 use Rattle.acd_terms.specs.declared.state.AgentState.TheVariants.{NotReady, Ready, Busy, WorkingAfterCall}

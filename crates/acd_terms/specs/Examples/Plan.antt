@@ -1,5 +1,5 @@
 -- Worked examples: records as they are added, and monitors.
-use Rattle.std.specs.Prelude.{◌≡◌, [], ◌∷◌, codes, Some, None}
+use Rattle.std.specs.Prelude.{◌≡◌, [], ◌∷◌, codes, None}
 use Rattle.acd_terms.specs.Examples.Words.{billing, first_station, ana, caller, at, plan, asked_after, event}
 use Rattle.acd_terms.specs.declared.event.Cause.TheVariants as cause
 use Rattle.acd_terms.specs.declared.event.Report.TheVariants.{Queued}
