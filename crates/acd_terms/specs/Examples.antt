@@ -5,3 +5,4 @@ pub mod Stations
 pub mod HandedOn
 pub mod Waiting
 pub mod Plan
+pub mod Releases

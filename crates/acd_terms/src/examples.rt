@@ -6,6 +6,7 @@ ghost use Rattle.acd_terms.specs.Examples.Plan.{RecordsOfTheEmptyState, Monitors
 ghost use Rattle.acd_terms.specs.Examples.Queue.{CallWaits, OfferedToTheReadyAgent, AnsweredCall, LongestReadyFirst, TwoCallsAnswered, WrapUpAndTick, NoAnswerReturnsToItsPlace, MomentNeverGoesBack, RefusalTakesAStamp, CallerNumberTaken, AbandonedInQueue};
 ghost use Rattle.acd_terms.specs.Examples.Waiting.{OffersGoBack, Ticks, Never, WhoIsReadyLongest, TwoGroupsAtOnce};
 ghost use Rattle.acd_terms.specs.Examples.Agents.{PendingLogOff, TransferToStation, DeflectedToStation, HoldAndPending, TransferToGroup, SecondCallWhileHolding};
+ghost use Rattle.acd_terms.specs.Examples.Releases.{ReleasedAfterAnAnswer, ReleasedUnanswered, ReleasedByNoAnswer};
 ghost use Rattle.acd_terms.specs.Examples.HandedOn.{DeflectedToAnotherQueue, DeflectedFromQueueToStationAndBack, DeflectedToItsOwnGroup, DeflectedWithAStatePending, TransferredWhileHeld, TwoAgentsReleased, TransferredBack};
 ghost use Rattle.acd_terms.specs.Examples.Stations.{BusyStationFails, PrivateCallThenDistribution, CallToABusyAgentStation, PrivateCalls};
 
@@ -187,4 +188,19 @@ pub fn call_to_a_busy_agent_station()
 /// Private calls at the station of an agent change no agent.
 pub fn private_calls()
     ensures { PrivateCalls }
+{}
+
+/// The agent of an answered call that ends goes to what is pending, or to after-call work.
+pub fn released_after_an_answer()
+    ensures { ReleasedAfterAnAnswer }
+{}
+
+/// The agent of an offer that is cleared stays ready, unless another state is pending.
+pub fn released_unanswered()
+    ensures { ReleasedUnanswered }
+{}
+
+/// The agent of an offer that rang too long is not ready, unless another state is pending.
+pub fn released_by_no_answer()
+    ensures { ReleasedByNoAnswer }
 {}

@@ -1,13 +1,13 @@
 -- Worked examples: what is pending for a busy agent, holding, and giving a call away.
-use Rattle.std.specs.Prelude.{◌≡◌, [], ◌∷◌, codes, Some, None}
+use Rattle.std.specs.Prelude.{◌≡◌, [], ◌∷◌, Some, None}
 use Rattle.acd_terms.specs.Scans.{waiting_in, connections_of, call_of, agent_of}
 use Rattle.acd_terms.specs.CallMoves.{plain, queueing}
-use Rattle.acd_terms.specs.Examples.Words.{billing, first_station, second_station, ana, caller, at, asks_for, asked_after, event, figures_in, counts, ana_in, talking_from, offered, answered}
+use Rattle.acd_terms.specs.Examples.Words.{billing, first_station, second_station, ana, caller, at, asks_for, asked_after, event, figures_in, counts, ana_in, ana_logged_off, talking_from, offered, answered}
 use Rattle.acd_terms.specs.declared.event.Cause.TheVariants as cause
 use Rattle.acd_terms.specs.declared.event.Report.TheVariants.{ServiceInitiated, Queued, Delivered, Diverted, Held, Retrieved, Transferred, ConnectionCleared, CallCleared, AgentLoggedOff, AgentNotReady, AgentWorkingAfterCall}
 use Rattle.acd_terms.specs.declared.command.Command.TheVariants.{MakeCall, HoldCall, RetrieveCall, ClearConnection, DeflectCall, SingleStepTransfer}
 use Rattle.acd_terms.specs.declared.state.Pending.TheVariants as pending
-use Rattle.acd_terms.specs.declared.state.AgentState.TheVariants.{Null, NotReady, Ready, Busy, WorkingAfterCall}
+use Rattle.acd_terms.specs.declared.state.AgentState.TheVariants.{NotReady, Ready, Busy, WorkingAfterCall}
 use Rattle.acd_terms.specs.declared.state.ConnectionState.TheVariants.{Alerting, Connected}
 use Rattle.acd_terms.specs.declared.answer.Outcome.TheVariants.{Done, Refused}
 use Rattle.acd_terms.specs.declared.answer.Refusal.TheVariants.{WrongConnectionState, StationBusy}
@@ -20,7 +20,7 @@ PendingLogOff =
     (r.outcomes ≡ Done (answer.Pending Busy pending.LoggedOff) ∷ Done answer.Nothing ∷ [])
     × (r.events ≡ event 8 40 (ConnectionCleared 1 caller) ∷ event 9 40 (ConnectionCleared 1 first_station)
     ∷ event 10 40 (CallCleared 1 None) ∷ event 11 40 (AgentLoggedOff ana first_station) ∷ [])
-    × (agent_of r.rows ana ≡ Some (record { agent = ana; name = codes "Ana"; state = Null; pending = None; station = None; group = None; stamp = 11; since = 40 }))
+    × (agent_of r.rows ana ≡ ana_logged_off 11 40)
     × (figures_in r.rows billing ≡ counts 1 1 0 0 15)
 
 -- a later pending state takes the place of an earlier one; what is held can't be held

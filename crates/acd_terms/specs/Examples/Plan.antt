@@ -1,10 +1,10 @@
 -- Worked examples: records as they are added, and monitors.
-use Rattle.std.specs.Prelude.{◌≡◌, [], ◌∷◌, codes, None}
-use Rattle.acd_terms.specs.Examples.Words.{billing, first_station, ana, caller, at, plan, asked_after, event}
+use Rattle.std.specs.Prelude.{◌≡◌, [], ◌∷◌, codes}
+use Rattle.acd_terms.specs.Scans.{agent_of}
+use Rattle.acd_terms.specs.Examples.Words.{billing, first_station, ana, ana_logged_off, caller, at, plan, asked_after, event}
 use Rattle.acd_terms.specs.declared.event.Cause.TheVariants as cause
 use Rattle.acd_terms.specs.declared.event.Report.TheVariants.{Queued}
 use Rattle.acd_terms.specs.declared.command.Command.TheVariants.{AddStation, AddAgent, ArriveCall, MonitorStart, MonitorStop}
-use Rattle.acd_terms.specs.declared.state.AgentState.TheVariants.{Null}
 use Rattle.acd_terms.specs.declared.answer.Outcome.TheVariants.{Done}
 use Rattle.acd_terms.specs.declared.answer.Answer.TheVariants as answer
 
@@ -15,7 +15,7 @@ RecordsOfTheEmptyState =
     (r.outcomes ≡ Done answer.Nothing ∷ Done answer.Nothing ∷ [])
     × (r.events ≡ [])
     × (r.rows.stations ≡ record { device = first_station } ∷ [])
-    × (r.rows.agents ≡ record { agent = ana; name = codes "Ana"; state = Null; pending = None; station = None; group = None; stamp = 2; since = 60 } ∷ [])
+    × (agent_of r.rows ana ≡ ana_logged_off 2 60)
 
 -- a monitor of a group or a station tells what comes after its start; a number of a monitor isn't used again
 abbrev pub Monitors : Type 0

@@ -16,6 +16,7 @@ use Rattle.acd_terms.specs.declared.command.Command.{Command}
 use Rattle.acd_terms.specs.declared.command.Command.TheVariants.{AddGroup, AddStation, AddAgent, ArriveCall, AnswerCall, SetAgentState}
 use Rattle.acd_terms.specs.declared.command.Requested.TheVariants.{LoggedOn, State}
 use Rattle.acd_terms.specs.declared.state.AgentState.{AgentState}
+use Rattle.acd_terms.specs.declared.state.AgentState.TheVariants.{Null}
 use Rattle.acd_terms.specs.declared.state.ConnectionState.TheVariants.{Alerting, Connected}
 use Rattle.acd_terms.specs.declared.state.Pending.{Pending}
 use Rattle.acd_terms.specs.declared.state.Pending.TheVariants as pending
@@ -100,6 +101,11 @@ ana_in group state pending stamp since =
 abbrev pub ben_in : ℕ → AgentState → Option Pending → ℕ → ℕ → Option AgentRecord
 ben_in group state pending stamp since =
     Some (record { agent = ben; name = codes "Ben"; state = state; pending = pending; station = Some second_station; group = Some group; stamp = stamp; since = since })
+
+-- Ana is logged on nowhere
+abbrev pub ana_logged_off : ℕ → ℕ → Option AgentRecord
+ana_logged_off stamp since =
+    Some (record { agent = ana; name = codes "Ana"; state = Null; pending = None; station = None; group = None; stamp = stamp; since = since })
 
 -- a call that rings at a station, offered from a group at a moment, with the place and the moment at which it entered the queue there
 abbrev pub ringing_from : ℕ → ℕ → ℕ → ℕ → ℕ → ℕ → ConnectionRecord
