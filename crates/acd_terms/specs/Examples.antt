@@ -6,3 +6,4 @@ pub mod HandedOn
 pub mod Waiting
 pub mod Plan
 pub mod Releases
+pub mod Refusals

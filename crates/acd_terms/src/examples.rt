@@ -7,6 +7,7 @@ ghost use Rattle.acd_terms.specs.Examples.Queue.{CallWaits, OfferedToTheReadyAge
 ghost use Rattle.acd_terms.specs.Examples.Waiting.{OffersGoBack, Ticks, Never, WhoIsReadyLongest, TwoGroupsAtOnce};
 ghost use Rattle.acd_terms.specs.Examples.Agents.{PendingLogOff, TransferToStation, DeflectedToStation, HoldAndPending, TransferToGroup, SecondCallWhileHolding};
 ghost use Rattle.acd_terms.specs.Examples.Releases.{ReleasedAfterAnAnswer, ReleasedUnanswered, ReleasedByNoAnswer};
+ghost use Rattle.acd_terms.specs.Examples.Refusals.{RefusalsOfPlanAndCalls, RefusalsOfAnAnsweredCall, RefusalsOfAHeldCall, RefusalsOfAnOfferedCall, RefusalsOfAnUnansweredCall, RefusalsOfAgents};
 ghost use Rattle.acd_terms.specs.Examples.HandedOn.{DeflectedToAnotherQueue, DeflectedFromQueueToStationAndBack, DeflectedToItsOwnGroup, DeflectedWithAStatePending, TransferredWhileHeld, TwoAgentsReleased, TransferredBack};
 ghost use Rattle.acd_terms.specs.Examples.Stations.{BusyStationFails, PrivateCallThenDistribution, CallToABusyAgentStation, PrivateCalls};
 
@@ -203,4 +204,34 @@ pub fn released_unanswered()
 /// The agent of an offer that rang too long is not ready, unless another state is pending.
 pub fn released_by_no_answer()
     ensures { ReleasedByNoAnswer }
+{}
+
+/// What is refused of plans, new calls and monitors, and in which order.
+pub fn refusals_of_plan_and_calls()
+    ensures { RefusalsOfPlanAndCalls }
+{}
+
+/// What is refused of a call that was answered, and in which order.
+pub fn refusals_of_an_answered_call()
+    ensures { RefusalsOfAnAnsweredCall }
+{}
+
+/// What is refused of a call on hold.
+pub fn refusals_of_a_held_call()
+    ensures { RefusalsOfAHeldCall }
+{}
+
+/// What is refused of a call that rings, and in which order.
+pub fn refusals_of_an_offered_call()
+    ensures { RefusalsOfAnOfferedCall }
+{}
+
+/// What is refused of a call whose other party rings, waits or has failed.
+pub fn refusals_of_an_unanswered_call()
+    ensures { RefusalsOfAnUnansweredCall }
+{}
+
+/// What is refused of agents, and in which order.
+pub fn refusals_of_agents()
+    ensures { RefusalsOfAgents }
 {}
