@@ -3,13 +3,13 @@
 
 ghost use Rattle.acd_terms.specs.Examples.Words.{NumbersOfDigits};
 ghost use Rattle.acd_terms.specs.Examples.Plan.{RecordsOfTheEmptyState, Monitors};
-ghost use Rattle.acd_terms.specs.Examples.Queue.{CallWaits, OfferedToTheReadyAgent, AnsweredCall, LongestReadyFirst, TwoCallsAnswered, WrapUpAndTick, NoAnswerReturnsToItsPlace, MomentNeverGoesBack, RefusalTakesAStamp, CallerNumberTaken, AbandonedInQueue};
+ghost use Rattle.acd_terms.specs.Examples.Queue.{CallWaits, OfferedToTheReadyAgent, AnsweredCall, LongestReadyFirst, TwoCallsAnswered, WrapUpAndTick, NoAnswerReturnsToItsPlace, MomentNeverGoesBack, RefusalTakesAStamp, CallerNumberTaken, CallerNumberShared, AbandonedInQueue};
 ghost use Rattle.acd_terms.specs.Examples.Waiting.{OffersGoBack, Ticks, Never, WhoIsReadyLongest, TwoGroupsAtOnce};
 ghost use Rattle.acd_terms.specs.Examples.Agents.{PendingLogOff, TransferToStation, DeflectedToStation, HoldAndPending, TransferToGroup, SecondCallWhileHolding};
 ghost use Rattle.acd_terms.specs.Examples.Releases.{ReleasedAfterAnAnswer, ReleasedUnanswered, ReleasedByNoAnswer};
 ghost use Rattle.acd_terms.specs.Examples.Refusals.{RefusalsOfPlanAndCalls, RefusalsOfAnAnsweredCall, RefusalsOfAHeldCall, RefusalsOfAnOfferedCall, RefusalsOfAnUnansweredCall, RefusalsOfAgents};
 ghost use Rattle.acd_terms.specs.Examples.HandedOn.{DeflectedToAnotherQueue, DeflectedFromQueueToStationAndBack, DeflectedToItsOwnGroup, DeflectedWithAStatePending, TransferredWhileHeld, TwoAgentsReleased, TransferredBack};
-ghost use Rattle.acd_terms.specs.Examples.Stations.{BusyStationFails, PrivateCallThenDistribution, CallToABusyAgentStation, PrivateCalls};
+ghost use Rattle.acd_terms.specs.Examples.Stations.{BusyStationFails, PrivateCallThenDistribution, HeldPrivateCall, CallToABusyAgentStation, PrivateCalls};
 
 /// The numbers of identifiers are the digit 1 followed by their digits.
 pub fn numbers_of_digits()
@@ -86,9 +86,19 @@ pub fn private_call_then_distribution()
     ensures { PrivateCallThenDistribution }
 {}
 
+/// While a station has a call on hold, another call to it fails and none is offered there.
+pub fn held_private_call()
+    ensures { HeldPrivateCall }
+{}
+
 /// The number of an external caller of a live call is taken.
 pub fn caller_number_taken()
     ensures { CallerNumberTaken }
+{}
+
+/// Two live calls may come from one number, which is taken until both are cleared.
+pub fn caller_number_shared()
+    ensures { CallerNumberShared }
 {}
 
 /// After a transfer to a station the transferring agent has after-call work.

@@ -143,6 +143,18 @@ CallerNumberTaken =
     × (connections_of r.rows 1 ≡ queueing 1 billing (Some 6) (Some 10) ∷ plain 1 caller Connected ∷ [])
     × (r.rows.last_stamp ≡ 7) × (r.rows.last_moment ≡ 11)
 
+-- two live calls may come from one number, which is taken until both are cleared
+abbrev pub CallerNumberShared : Type 0
+CallerNumberShared =
+    let r = asked_after plan (at 10 (ArriveCall caller billing) ∷ at 11 (ArriveCall caller billing) ∷ at 12 (ClearConnection 1 caller)
+    ∷ at 13 (AddStation caller) ∷ at 14 (ClearConnection 2 caller) ∷ at 15 (AddStation caller) ∷ []) in
+    (r.outcomes ≡ Done (answer.Call 1) ∷ Done (answer.Call 2) ∷ Done answer.Nothing ∷ Refused DeviceExists ∷ Done answer.Nothing ∷ Done answer.Nothing ∷ [])
+    × (r.events ≡ event 1 10 (Queued 1 billing cause.NewCall) ∷ event 2 11 (Queued 2 billing cause.NewCall)
+    ∷ event 3 12 (ConnectionCleared 1 caller) ∷ event 4 12 (ConnectionCleared 1 billing) ∷ event 5 12 (CallCleared 1 (Some billing))
+    ∷ event 6 14 (ConnectionCleared 2 caller) ∷ event 7 14 (ConnectionCleared 2 billing) ∷ event 8 14 (CallCleared 2 (Some billing)) ∷ [])
+    × (r.rows.stations ≡ record { device = first_station } ∷ record { device = second_station } ∷ record { device = caller } ∷ [])
+    × (figures_in r.rows billing ≡ counts 2 0 2 0 0)
+
 -- a call that is cleared in the queue is abandoned
 abbrev pub AbandonedInQueue : Type 0
 AbandonedInQueue =

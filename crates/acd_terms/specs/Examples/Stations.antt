@@ -37,6 +37,23 @@ PrivateCallThenDistribution =
     × (connection_of r.rows 2 first_station ≡ Some (ringing_from billing 2 first_station 10 9 20))
     × (agent_of r.rows ana ≡ ana_in billing Ready None 7 6)
 
+-- a call on hold keeps its station from being idle: another call to it fails, and none is offered there
+abbrev pub HeldPrivateCall : Type 0
+HeldPrivateCall =
+    let r = asked_after plan (logs_on 5 ana first_station billing ∷ asks_for 6 ana pending.Ready
+    ∷ at 7 (MakeCall second_station first_station) ∷ at 8 (PhoneOffHook 1 second_station) ∷ at 9 (AnswerCall 1 first_station) ∷ at 10 (HoldCall 1 first_station)
+    ∷ at 11 (ArriveCall caller billing) ∷ at 12 (ArriveCall late_caller first_station) ∷ at 13 (ClearConnection 1 second_station) ∷ []) in
+    (r.outcomes ≡ Done (answer.State NotReady) ∷ Done (answer.State Ready) ∷ Done (answer.Call 1) ∷ Done answer.Nothing ∷ Done answer.Nothing
+    ∷ Done answer.Nothing ∷ Done (answer.Call 2) ∷ Done (answer.Call 3) ∷ Done answer.Nothing ∷ [])
+    × (r.events ≡ event 1 5 (AgentLoggedOn ana first_station billing) ∷ event 2 6 (AgentReady ana first_station)
+    ∷ event 3 7 (ServiceInitiated 1 second_station) ∷ event 4 8 (Originated 1 second_station first_station) ∷ event 5 8 (Delivered 1 first_station cause.NewCall None)
+    ∷ event 6 9 (Established 1 first_station None) ∷ event 7 10 (Held 1 first_station)
+    ∷ event 8 11 (Queued 2 billing cause.NewCall) ∷ event 9 12 (Failed 3 first_station)
+    ∷ event 10 13 (ConnectionCleared 1 second_station) ∷ event 11 13 (ConnectionCleared 1 first_station) ∷ event 12 13 (CallCleared 1 None)
+    ∷ event 13 13 (Diverted 2 billing first_station cause.Distributed (Some billing)) ∷ event 14 13 (Delivered 2 first_station cause.Distributed (Some billing)) ∷ [])
+    × (connection_of r.rows 2 first_station ≡ Some (ringing_from billing 2 first_station 12 11 13))
+    × (agent_of r.rows ana ≡ ana_in billing Ready None 7 6)
+
 abbrev pub two_private_calls : List Asked
 two_private_calls =
     at 3 (AddStation third_station) ∷ at 4 (MakeCall first_station second_station)
