@@ -17,6 +17,7 @@ pub mod Releasing
 pub mod Told
 pub mod Balance
 pub mod Order
+pub mod Entries
 pub mod SoundMoves
 pub mod KeptReturn
 pub mod KeptClearing
@@ -53,6 +54,7 @@ pub mod Placed
 pub mod Cleared
 pub mod ClearedBy
 pub mod PlacedRuns
+pub mod PlacedOn
 pub mod BoundsStep
 pub mod RulesAll
 pub mod ChangesMade
