@@ -66,7 +66,7 @@ seat_ended t es k m n a = refl
 ordered_ended : (t : Rows) (es : List Event) (k m n : ℕ) (events : List Event) → Ordered k n t events → Ordered k n (ended t es k m n) events
 unfolding with_last with_figures
 ordered_ended t es k m n events o = record {
-  in_order = λ g c d p q a b l. o.in_order g c d p q (back g c p a) (back g d q b) l;
+  in_order = λ g c d p q a b. o.in_order g c d p q (back g c p a) (back g d q b);
   entered = λ g c p a. o.entered g c p (back g c p a);
   up_to = record { entries = o.up_to.entries; places = λ g c p a. o.up_to.places g c p (back g c p a) };
 }
@@ -200,7 +200,7 @@ nothing_told limits = record {
   connections = λ c d. both_none (is_planned (empty_rows limits) d);
   agents = λ a. refl;
   entries = λ g c p a. absurd a.there;
-  queues = λ g c d p q a b l. absurd a.there;
+  queues = λ g c d p q a b. absurd a.there;
   up_to = record { entries = λ g c. omega arith; places = λ g c p a. absurd a.there };
 }
 

@@ -1,5 +1,5 @@
 -- The reports alone tell a watcher the connections at planned devices, the agents and the order of each queue.
-use Rattle.std.specs.Prelude.{◌≡◌, ℕ, ◌<◌, Bool, true, false, not, ◌&&◌, ◌||◌, ◌==◌, List, Option, Some, None, option_map}
+use Rattle.std.specs.Prelude.{◌≡◌, ◌↔◌, ℕ, ◌<◌, Bool, true, false, not, ◌&&◌, ◌||◌, ◌==◌, List, Option, Some, None, option_map}
 use Rattle.acd_terms.specs.Lists.{Among}
 use Rattle.acd_terms.specs.Scans.{call_of, connection_of, agent_of, is_planned, has}
 use Rattle.acd_terms.specs.States.{is_queued, is_alerting}
@@ -39,9 +39,9 @@ pub record IsHeldAt (s : Rows) (group call place : ℕ) : Type 0 where
   pub of_call : connection.call ≡ call
   pub at_place : connection.place ≡ Some place
 
--- an earlier place is an earlier entry
+-- an earlier place is an earlier entry, and an earlier entry an earlier place
 abbrev pub InOrder : Rows → List Event → Type 0
-InOrder s events = (group c d p q : ℕ) → IsHeldAt s group c p → IsHeldAt s group d q → p < q → last_entry group c 0 events < last_entry group d 0 events
+InOrder s events = (group c d p q : ℕ) → IsHeldAt s group c p → IsHeldAt s group d q → (p < q) ↔ (last_entry group c 0 events < last_entry group d 0 events)
 
 -- an event reported that the call entered the group's queue, and it is the last that did
 pub record HasEntered (events : List Event) (group call : ℕ) : Type 0 where
