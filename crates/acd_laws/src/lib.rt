@@ -1,7 +1,8 @@
 //! Laws over the abstract switch: what holds after every step, and after every run from the empty state.
 //!
 //! Each law is the contract of a function with an empty body. The laws are stated in `specs/`, over the
-//! definitions of `acd_terms` that the switch itself is proved by.
+//! definitions of `acd_terms` that the switch itself is proved by. What a law of a step presupposes of the state
+//! before, rows that break no rule keep (`rules_are_kept`), and after the step no rule is broken (`step_keeps_rules`).
 #![tactic(auto)]
 
 ghost use Rattle.acd_terms.specs.Offers.{FindsFirstWaiting, FindsFirstEligible, FindsTheOffer};
@@ -15,12 +16,13 @@ ghost use Rattle.acd_laws.specs.RuleLaws.{RulesAreFacts, RulesAreKept, StepKeeps
 ghost use Rattle.acd_laws.specs.ChangeLaws.{StepMakesItsChanges};
 ghost use Rattle.acd_laws.specs.OneOfferLaws.{RulesGiveOneOffer, StepKeepsOneOffer, RunHasOneOffer};
 
-/// The call that is found to wait first in a group is the least one that waits there, and one is found wherever one waits.
+/// The call that is found to wait first in a group has the least place there, and one is found wherever one waits.
 pub fn finds_the_first_waiting()
     ensures { FindsFirstWaiting }
 {}
 
-/// The agent that is found to be ready longest in a group is the least eligible one, and one is found wherever there is one.
+/// The agent that is found to be ready longest in a group has the least stamp of those eligible there, and of equal stamps the least number;
+/// one is found wherever one is eligible.
 pub fn finds_the_first_eligible()
     ensures { FindsFirstEligible }
 {}
