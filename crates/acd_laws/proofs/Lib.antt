@@ -27,6 +27,7 @@ pub mod KeptOut
 pub mod KeptPlan
 pub mod KeptAgents
 pub mod Distributing
+pub mod DistributionFound
 pub mod SoundPuts
 pub mod SoundCalls
 pub mod SoundEnds

@@ -10,7 +10,7 @@ ghost use Rattle.acd_laws.specs.RefusalLaws.{RefusalChangesNothing};
 ghost use Rattle.acd_laws.specs.FigureLaws.{StepKeepsFigures, RunKeepsFigures, StepAddsFigures};
 ghost use Rattle.acd_laws.specs.WatchedLaws.{StepTells, RulesGiveWatched, RunIsWatched};
 ghost use Rattle.acd_laws.specs.BalanceLaws.{StepBalances, RunIsBalanced};
-ghost use Rattle.acd_laws.specs.OfferLaws.{StepLeavesNoOffer, RunLeavesNoOffer};
+ghost use Rattle.acd_laws.specs.OfferLaws.{FindsTheDistribution, StepLeavesNoOffer, RunLeavesNoOffer};
 ghost use Rattle.acd_laws.specs.PlacedLaws.{StepNamesNoLaterCall, RunNamesNoLaterCall, StepKeepsClearings, StepPlaces, StepKeepsPlaces, RunIsPlaced, PlacesExclude};
 ghost use Rattle.acd_laws.specs.RuleLaws.{RulesAreFacts, RulesAreKept, StepKeepsRules, RunKeepsRules, RulesBound, RulesLeaveRoom};
 ghost use Rattle.acd_laws.specs.ChangeLaws.{StepMakesItsChanges};
@@ -30,6 +30,11 @@ pub fn finds_the_first_eligible()
 /// The offer that is found is the one that the relation allows, and one is found wherever there is one.
 pub fn finds_the_offer()
     ensures { FindsTheOffer }
+{}
+
+/// The moves of a distribution are the offers that the relation allows, each in the state that the ones before it leave, until there is none.
+pub fn finds_the_distribution()
+    ensures { FindsTheDistribution }
 {}
 
 /// Where the figures of the groups are those of all events before a step, they are those of all events after it.
