@@ -159,7 +159,7 @@ taken s x a d m r there queued known ready station idle =
     let f : one (is_queued x.state) ≡ 1 = ap one queued in
     omega (arith, e1, e2, f)
 
-fewer_queued : (s : Rows) (m : ℕ) (o : Offer) → Rules s → offer_of s ≡ Some o → count in_queue (moved s (offer_moves s m o)).connections + 1 ≡ count in_queue s.connections
+pub fewer_queued : (s : Rows) (m : ℕ) (o : Offer) → Rules s → offer_of s ≡ Some o → count in_queue (moved s (offer_moves s m o)).connections + 1 ≡ count in_queue s.connections
 fewer_queued s m o r e =
     let f = offering s r o e in
     let x : ConnectionRecord = f.0 in

@@ -70,7 +70,7 @@ follows_later s b c d t es l f = record {
   connections = f.connections;
   agents = f.agents;
   balances = f.balances;
-  order = λ events n o. let w = f.order events n o in record { in_order = w.in_order; up_to = record { entries = w.up_to.entries; places = λ g x p h. let e = w.up_to.places g x p h in omega (arith, e, l) } };
+  order = λ events n o. let w = f.order events n o in record { in_order = w.in_order; entered = w.entered; up_to = record { entries = w.up_to.entries; places = λ g x p h. let e = w.up_to.places g x p h in omega (arith, e, l) } };
 }
 
 -- a service, and tick

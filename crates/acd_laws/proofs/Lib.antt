@@ -17,6 +17,7 @@ pub mod Releasing
 pub mod Told
 pub mod Balance
 pub mod Order
+pub mod Entries
 pub mod SoundMoves
 pub mod KeptReturn
 pub mod KeptClearing
@@ -26,6 +27,7 @@ pub mod KeptOut
 pub mod KeptPlan
 pub mod KeptAgents
 pub mod Distributing
+pub mod DistributionFound
 pub mod SoundPuts
 pub mod SoundCalls
 pub mod SoundEnds
@@ -53,6 +55,7 @@ pub mod Placed
 pub mod Cleared
 pub mod ClearedBy
 pub mod PlacedRuns
+pub mod PlacedOn
 pub mod BoundsStep
 pub mod RulesAll
 pub mod ChangesMade

@@ -1,9 +1,9 @@
 -- No agent has two distributed calls: from the rules of rows.
-use Rattle.std.proofs.Common.{◌≡◌, ℕ, ◌≤◌, true, ◌&&◌, Option, Some, None, refl, sym, ◌∙◌, ap, subst, arith}
+use Rattle.std.proofs.Common.{◌≡◌, ℕ, ◌≤◌, true, ◌&&◌, ◌⊎◌, inl, inr, Option, Some, None, refl, sym, ◌∙◌, ap, subst, arith}
 use Rattle.std.specs.Prelude.{◌==◌, is_some}
 use Rattle.std.proofs.lemmas.Bool.{and_parts, and_from, eqb-true}
 use Rattle.acd_terms.specs.Lists.{Among}
-use Rattle.acd_terms.specs.States.{is_busy, is_answered}
+use Rattle.acd_terms.specs.States.{is_null, is_busy, is_alerting, is_answered}
 use Rattle.acd_terms.specs.Scans.{has, is_distributed}
 use Rattle.acd_terms.specs.OneOffer.{IsAttended, IsTalking}
 use Rattle.acd_terms.specs.declared.rows.Rows.{Rows}
@@ -11,12 +11,12 @@ use Rattle.acd_terms.specs.declared.record.AgentRecord.{AgentRecord}
 use Rattle.acd_terms.specs.declared.record.ConnectionRecord.{ConnectionRecord}
 use Rattle.acd_terms.specs.declared.state.AgentState.{AgentState}
 use Rattle.acd_terms.specs.declared.state.AgentState.TheVariants as A
-use Rattle.acd_laws.specs.Counts.{Rules, IsPlannedStation, SeatedAs, AgentRule, talking_at, busy_at}
-use Rattle.acd_laws.specs.PlacedLaws.{RulesGiveOneOffer, RunHasOneOffer}
+use Rattle.acd_laws.specs.Counts.{Rules, IsPlannedStation, SeatedAs, AgentRule, ConnectionRule, talking_at, busy_at}
+use Rattle.acd_laws.specs.OneOfferLaws.{RulesGiveOneOffer, StepKeepsOneOffer, RunHasOneOffer}
 use Rattle.acd_laws.proofs.Lists.{every_among, counted, some_from}
 use Rattle.acd_laws.proofs.State.{eqb_self}
 use Rattle.acd_laws.proofs.KeptOffer.{ready_is, talking_is}
-use Rattle.acd_laws.proofs.Releasing.{serving}
+use Rattle.acd_laws.proofs.Releasing.{serving, alerting_or_answered}
 use Rattle.acd_laws.proofs.RulesRead.{one_that}
 use Rattle.acd_laws.proofs.ConnectionsRead.{distributed_counts}
 use Rattle.acd_laws.proofs.RulesStep.{rules_step}
@@ -33,11 +33,20 @@ planned_some : (s : Rows) (o : Option ℕ) → IsPlannedStation s o → is_some 
 planned_some s None h = absurd h
 planned_some s (Some d) h = refl
 
--- a distributed connection has its agent
+-- a distributed connection stands at a station and has its agent
 attended : (s : Rows) (x : ConnectionRecord) → Rules s → Among x s.connections → is_distributed x ≡ true → IsAttended s x
 attended s x r i e =
     let h = serving s x r i e in
-    record { agent = h.0; there = h.1.at_station; ready = λ w. ready_is h.0.state (h.1.ready w); busy = λ w. busy_is h.0.state (h.1.busy w) }
+    let ready : is_alerting x.state ≡ true → h.0.state ≡ A.Ready = λ w. ready_is h.0.state (h.1.ready w) in
+    let busy : is_answered x.state ≡ true → h.0.state ≡ A.Busy = λ w. busy_is h.0.state (h.1.busy w) in
+    record {
+      at_station = subst (IsPlannedStation s) h.1.station h.1.seat.0;
+      agent = h.0;
+      there = h.1.at_station;
+      logged_on = elim (alerting_or_answered s x (every_among (ConnectionRule s) s.connections x r.connections i) e) [ inl w ↦ ap is_null (ready w) | inr w ↦ ap is_null (busy w) ];
+      ready = ready;
+      busy = busy;
+    }
 
 -- a busy agent has its distributed connection
 talking : (s : Rows) (a : AgentRecord) → Rules s → Among a s.agents → a.state ≡ A.Busy → IsTalking s a
@@ -63,6 +72,9 @@ rules_give_one_offer s r = record {
   attended = λ x i e. attended s x r i e;
   no_other = λ a i e. talking s a r i e;
 }
+
+pub step_keeps_one_offer : StepKeepsOneOffer
+step_keeps_one_offer s moment command r = rules_give_one_offer _ (rules_step s moment command r)
 
 pub run_has_one_offer : RunHasOneOffer
 run_has_one_offer limits asked = rules_give_one_offer _ (kept_by_run (λ s events. Rules s) (λ s events moment command r. rules_step s moment command r) limits (rules_first limits) asked)

@@ -20,16 +20,17 @@ use Rattle.acd_terms.specs.declared.event.Event.{Event}
 use Rattle.acd_terms.specs.declared.event.Report.{Report}
 use Rattle.acd_terms.specs.declared.moves.Move.{Move}
 use Rattle.acd_laws.specs.Counts.{is_open}
-use Rattle.acd_laws.specs.WatchedLaws.{UpTo}
+use Rattle.acd_laws.specs.WatchedLaws.{HasEntries, UpTo}
 use Rattle.acd_laws.proofs.Lists.{one, some_is}
 use Rattle.acd_laws.proofs.Members.{among_put}
 use Rattle.acd_laws.proofs.Serving.{moved-append}
 use Rattle.acd_laws.proofs.MoveEvents.{events-append, numbered-append}
 use Rattle.acd_laws.proofs.Balance.{entries, entry_by}
 
--- in order, and up to a stamp and an event's number
+-- in order, each with an entry, and up to a stamp and an event's number
 pub record Ordered (b n : ℕ) (s : Rows) (events : List Event) : Type 0 where
   pub in_order : InOrder s events
+  pub entered : HasEntries s events
   pub up_to : UpTo b n s events
 
 -- moves keep it, from one stamp to another
@@ -61,8 +62,10 @@ stays m b s ms z h events n o =
     let same : (g c : ℕ) → last_entry g c 0 (events ++ numbered n (events_of m ms)) ≡ last_entry g c 0 events =
     λ g c. last-append g c 0 events (numbered n (events_of m ms)) ∙ no_entry g c (last_entry g c 0 events) n m ms (z g) in
     record {
-      in_order = λ g c d p q a b l.
-          let k = o.in_order g c d p q (h g c p a) (h g d q b) l in let e = same g c in let f = same g d in omega (arith, k, e, f);
+      in_order = λ g c d p q a b.
+          let k = o.in_order g c d p q (h g c p a) (h g d q b) in let e = same g c in let f = same g d in
+          (λ l. let w = k.0 l in omega (arith, w, e, f), λ l. k.1 (omega (arith, l, e, f)));
+      entered = λ g c p w. let e = same g c in let k = o.entered g c p (h g c p w) in omega (arith, e, k);
       up_to = record {
         entries = λ g c. let e = same g c in let u = o.up_to.entries g c in omega (arith, e, u);
         places = λ g c p w. o.up_to.places g c p (h g c p w);
@@ -72,7 +75,7 @@ stays m b s ms z h events n o =
 pub order_later : (m b c : ℕ) (s : Rows) (ms : List Move) → b ≤ c → OrderKept m b b s ms → OrderKept m b c s ms
 order_later m b c s ms l f events n o =
     let w = f events n o in
-    record { in_order = w.in_order; up_to = record { entries = w.up_to.entries; places = λ g d p h. let e = w.up_to.places g d p h in omega (arith, e, l) } }
+    record { in_order = w.in_order; entered = w.entered; up_to = record { entries = w.up_to.entries; places = λ g d p h. let e = w.up_to.places g d p h in omega (arith, e, l) } }
 
 -- events in two parts, numbered on
 pub ordered_on : (c n : ℕ) (t : Rows) (events es fs : List Event) → Ordered c (n + length es + length fs) t ((events ++ numbered n es) ++ numbered (n + length es) fs)
@@ -150,17 +153,25 @@ comes m b k t y r call lt w events n o =
     let same : (g v : ℕ) → (v ≡ call) → is_entry g r ≡ true → last_entry g v 0 (events ++ numbered n (event_at m r ∷ [])) ≡ n + 1 = λ g v e f. entry_one g v n m events r ∙
     ap (λ x. cond x (n + 1) (last_entry g v 0 events)) (and_from (is_entry g r) (has (columns_of r).call v) f (rw w.reported (eq-eqb call v (sym e)))) in
     record {
-      in_order = λ g c d p q a e l.
+      in_order = λ g c d p q a e.
           elim (held_after t y r call k w g c p a) [
             | inl x ↦ elim (held_after t y r call k w g d q e) [
-              | inl z ↦ (let xp = x.1 in let zp = z.1 in absurd (omega (arith, l, xp, zp)))
-              | inr z ↦ (let xp = x.1 in let zb = o.up_to.places g d q z.0 in absurd (omega (arith, l, xp, zb, lt)))
+              | inl z ↦ (let xp = x.1 in let zp = z.1 in let s1 = same g c x.0 x.2 in let s2 = same g d z.0 z.2 in
+                  (λ l. absurd (omega (arith, l, xp, zp)), λ l. absurd (omega (arith, l, s1, s2))))
+              | inr z ↦ (let xp = x.1 in let zb = o.up_to.places g d q z.0 in let s1 = same g c x.0 x.2 in let u = o.up_to.entries g d in let v = other g d z.1 in
+                  (λ l. absurd (omega (arith, l, xp, zb, lt)), λ l. absurd (omega (arith, l, s1, u, v))))
             ]
             | inr x ↦ elim (held_after t y r call k w g d q e) [
-              | inl z ↦ (let u = o.up_to.entries g c in let v = other g c x.1 in let s1 = same g d z.0 z.2 in omega (arith, u, v, s1))
-              | inr z ↦ (let u = o.in_order g c d p q x.0 z.0 l in let v = other g c x.1 in let s1 = other g d z.1 in omega (arith, u, v, s1))
+              | inl z ↦ (let zp = z.1 in let xb = o.up_to.places g c p x.0 in let u = o.up_to.entries g c in let v = other g c x.1 in let s1 = same g d z.0 z.2 in
+                  (λ l. omega (arith, u, v, s1), λ l. omega (arith, zp, xb, lt)))
+              | inr z ↦ (let old = o.in_order g c d p q x.0 z.0 in let v = other g c x.1 in let s1 = other g d z.1 in
+                  (λ l. let u = old.0 l in omega (arith, u, v, s1), λ l. old.1 (omega (arith, l, v, s1))))
             ]
           ];
+      entered = λ g c p h. elim (held_after t y r call k w g c p h) [
+        | inl x ↦ (let e = same g c x.0 x.2 in omega (arith, e))
+        | inr x ↦ (let e = other g c x.1 in let u = o.entered g c p x.0 in omega (arith, e, u))
+      ];
       up_to = record {
         entries = λ g c. let e = entry_one g c n m events r in let u = o.up_to.entries g c in
             let f : cond (is_entry g r && has (columns_of r).call c) (n + 1) (last_entry g c 0 events) ≤ n + 1 = upper (is_entry g r && has (columns_of r).call c) n (last_entry g c 0 events) u in omega (arith, e, f);

@@ -36,7 +36,7 @@ use Rattle.acd_terms.specs.Step.{step_moves, step, executed_moment, next_stamp}
 use Rattle.acd_terms.specs.Run.{Asked, run}
 use Rattle.acd_terms.specs.Writes.{empty_rows}
 use Rattle.acd_laws.specs.Bounds.{Sizes, IsPlace, ConnectionTimed, at_place, Timed, OnePlace, MonitorRule, Monitored, IsCountedUpTo, IsBalanced, KeepsRules}
-use Rattle.acd_laws.specs.RuleLaws.{StepKeepsRules, RunKeepsRules, RulesBound, RulesLeaveRoom}
+use Rattle.acd_laws.specs.RuleLaws.{RulesAreFacts, RulesAreKept, StepKeepsRules, RunKeepsRules, RulesBound, RulesLeaveRoom}
 use Rattle.acd_laws.proofs.Balance.{holding}
 use Rattle.acd_laws.proofs.Following.{follows_step}
 use Rattle.acd_laws.proofs.WatchedRuns.{step_leaves_no_offer}
@@ -235,6 +235,12 @@ limits_step s moment c h =
     let k : ℕ = next_stamp s in
     let before : Before s k m = record { rules = h.rules; timed = timed_more s.last_stamp k s.last_moment m s (omega arith) (omega arith) h.timed; stamp = omega arith; sizes = h.sizes; monitors = h.monitors } in
     (after_moves s k m c before).limits
+
+pub rules_are_facts : RulesAreFacts
+rules_are_facts s = (λ e. (keeps_read s e, requests_read s e), λ h. keeps_written s h.0 h.1)
+
+pub rules_are_kept : RulesAreKept
+rules_are_kept s e = (keeps_read s e).rules
 
 pub step_keeps_rules : StepKeepsRules
 step_keeps_rules s moment c e l =

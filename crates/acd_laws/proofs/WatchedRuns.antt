@@ -25,7 +25,7 @@ use Rattle.acd_terms.specs.declared.event.Event.{Event}
 use Rattle.acd_terms.specs.declared.command.Command.{Command}
 use Rattle.acd_terms.specs.declared.moves.Move.{Move}
 use Rattle.acd_laws.specs.Counts.{Rules, IsCaller, StandsAt}
-use Rattle.acd_laws.specs.WatchedLaws.{shown, seat, UpTo, Tells, StepTells, RunIsWatched}
+use Rattle.acd_laws.specs.WatchedLaws.{shown, seat, UpTo, Tells, StepTells, RulesGiveWatched, RunIsWatched}
 use Rattle.acd_laws.specs.BalanceLaws.{IsBalanced, StepBalances, RunIsBalanced}
 use Rattle.acd_laws.specs.OfferLaws.{LeavesNoOffer, StepLeavesNoOffer, RunLeavesNoOffer}
 use Rattle.acd_laws.proofs.Lists.{none_from}
@@ -37,6 +37,7 @@ use Rattle.acd_laws.proofs.CountedEvents.{figures_joined, figures_numbered}
 use Rattle.acd_laws.proofs.Told.{after-append, after-numbered}
 use Rattle.acd_laws.proofs.Balance.{holding}
 use Rattle.acd_laws.proofs.Order.{Ordered}
+use Rattle.acd_laws.proofs.Entries.{entered_by}
 use Rattle.acd_laws.proofs.Distributing.{nothing_left}
 use Rattle.acd_laws.proofs.RulesKept.{rules_serve}
 use Rattle.acd_laws.proofs.RulesStep.{is_group_counting, rules_step}
@@ -65,7 +66,8 @@ seat_ended t es k m n a = refl
 ordered_ended : (t : Rows) (es : List Event) (k m n : ℕ) (events : List Event) → Ordered k n t events → Ordered k n (ended t es k m n) events
 unfolding with_last with_figures
 ordered_ended t es k m n events o = record {
-  in_order = λ g c d p q a b l. o.in_order g c d p q (back g c p a) (back g d q b) l;
+  in_order = λ g c d p q a b. o.in_order g c d p q (back g c p a) (back g d q b);
+  entered = λ g c p a. o.entered g c p (back g c p a);
   up_to = record { entries = o.up_to.entries; places = λ g c p a. o.up_to.places g c p (back g c p a) };
 }
   where
@@ -86,7 +88,7 @@ tells_ended : (s t : Rows) (events es : List Event) (k m : ℕ) → Tells s even
 tells_ended s t events es k m told f =
     let n : ℕ = s.last_event + length es in
     let e : Rows = ended t es k m n in
-    let o : Ordered s.last_stamp s.last_event s events = record { in_order = told.queues; up_to = told.up_to } in
+    let o : Ordered s.last_stamp s.last_event s events = record { in_order = told.queues; entered = told.entries; up_to = told.up_to } in
     let w : Ordered k n e (events ++ numbered s.last_event es) = ordered_ended t es k m n (events ++ numbered s.last_event es) (f.order events s.last_event o) in
     let c = counters_ended t es k m n in
     record {
@@ -94,6 +96,7 @@ tells_ended s t events es k m told f =
           ∙ sym (after-append (connection_told call device) None events (numbered s.last_event es) ∙ after-numbered (connection_told call device) _ s.last_event es);
       agents = λ agent. seat_ended t es k m n agent ∙ f.agents agent ∙ ap (λ v. after (seat_told agent) v es) (told.agents agent)
           ∙ sym (after-append (seat_told agent) _ events (numbered s.last_event es) ∙ after-numbered (seat_told agent) _ s.last_event es);
+      entries = w.entered;
       queues = w.in_order;
       up_to = subst (λ v. UpTo v e.last_event e (events ++ numbered s.last_event es)) c.0 (subst (λ v. UpTo k v e (events ++ numbered s.last_event es)) c.1 w.up_to);
     }
@@ -127,10 +130,11 @@ none_outside s c d r p q = none_from (connection_of s c d) (λ x e.
     let k = found_key s c d x e in
     not_standing s x x.state (ap (is_planned s) k.1 ∙ p) (ap (λ v. is_caller (call_of s v) x.device) k.0 ∙ ap (is_caller (call_of s c)) k.1 ∙ q) (connection_rule s r c d x e).2)
 
-pub watched_by : (s : Rows) (events : List Event) → Rules s → Tells s events → IsWatched s events
+pub watched_by : RulesGiveWatched
 watched_by s events r told = record {
   connections = λ c d e. told_at c d e ∙ told.connections c d;
   agents = told.agents;
+  entries = λ g x a h. entered_by s events g x r told.entries a h;
   queues = told.queues;
 }
   where
@@ -195,7 +199,8 @@ unfolding connection_of agent_of
 nothing_told limits = record {
   connections = λ c d. both_none (is_planned (empty_rows limits) d);
   agents = λ a. refl;
-  queues = λ g c d p q a b l. absurd a.there;
+  entries = λ g c p a. absurd a.there;
+  queues = λ g c d p q a b. absurd a.there;
   up_to = record { entries = λ g c. omega arith; places = λ g c p a. absurd a.there };
 }
 

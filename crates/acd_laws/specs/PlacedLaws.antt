@@ -5,7 +5,6 @@ use Rattle.acd_terms.specs.Scans.{call_of}
 use Rattle.acd_terms.specs.Writes.{empty_rows}
 use Rattle.acd_terms.specs.Columns.{columns_of}
 use Rattle.acd_terms.specs.Placed.{cleared_by, IsCleared, IsWaiting, IsAtDevices, IsPlaced}
-use Rattle.acd_terms.specs.OneOffer.{HasOneOffer}
 use Rattle.acd_terms.specs.Step.{step}
 use Rattle.acd_terms.specs.Run.{Asked, run}
 use Rattle.acd_terms.specs.declared.rows.Rows.{Rows}
@@ -47,6 +46,11 @@ abbrev pub StepPlaces : Type 0
 StepPlaces = (s : Rows) (events : List Event) (moment : ℕ) (command : Command) → Rules s → KeepsClearings s events
     → IsPlaced (step s moment command).rows (events ++ (step s moment command).events)
 
+-- where each call stands in one of the three ways, and no event names a later call, each stands in one of them after a step, with its events added
+abbrev pub StepKeepsPlaces : Type 0
+StepKeepsPlaces = (s : Rows) (events : List Event) (moment : ℕ) (command : Command) → Rules s → NamesNoLaterCall s events → IsPlaced s events
+    → IsPlaced (step s moment command).rows (events ++ (step s moment command).events)
+
 abbrev pub RunIsPlaced : Type 0
 RunIsPlaced = (limits : Limits) (asked : List Asked) → IsPlaced (run (empty_rows limits) asked).rows (run (empty_rows limits) asked).events
 
@@ -54,10 +58,3 @@ RunIsPlaced = (limits : Limits) (asked : List Asked) → IsPlaced (run (empty_ro
 abbrev pub PlacesExclude : Type 0
 PlacesExclude = (s : Rows) (events : List Event) (call : ℕ) → (IsCleared s events call → IsWaiting s events call → ⊥)
     × (IsCleared s events call → IsAtDevices s events call → ⊥) × (IsWaiting s events call → IsAtDevices s events call → ⊥)
-
--- no agent has two distributed calls where the rules are kept
-abbrev pub RulesGiveOneOffer : Type 0
-RulesGiveOneOffer = (s : Rows) → Rules s → HasOneOffer s
-
-abbrev pub RunHasOneOffer : Type 0
-RunHasOneOffer = (limits : Limits) (asked : List Asked) → HasOneOffer (run (empty_rows limits) asked).rows

@@ -1,5 +1,5 @@
 -- The reports alone tell a watcher what the switch holds: as it goes from a state to the next.
-use Rattle.std.specs.Prelude.{◌≡◌, ℕ, ◌≤◌, List, ◌++◌, Option, None, if◌then◌else◌}
+use Rattle.std.specs.Prelude.{◌≡◌, ℕ, ◌<◌, ◌≤◌, List, ◌++◌, Option, None, if◌then◌else◌}
 use Rattle.acd_terms.specs.Scans.{agent_of, is_planned}
 use Rattle.acd_terms.specs.Writes.{empty_rows}
 use Rattle.acd_terms.specs.Told.{after, connection_told, Seat, no_seat, seat_told, last_entry}
@@ -21,6 +21,10 @@ shown s call device = if is_planned s device then state_at s call device else No
 abbrev pub seat : Rows → ℕ → Seat
 seat s agent = seat_of (agent_of s agent)
 
+-- each call that waits or rings at a place has an entry, whose number is above 0
+abbrev pub HasEntries : Rows → List Event → Type 0
+HasEntries s events = (group call place : ℕ) → IsHeldAt s group call place → 0 < last_entry group call 0 events
+
 -- no entry has a number above the last event's, and none that waits or rings a place above the last stamp
 pub record UpTo (stamp event : ℕ) (s : Rows) (events : List Event) : Type 0 where
   pub entries : (group call : ℕ) → last_entry group call 0 events ≤ event
@@ -30,6 +34,7 @@ pub record UpTo (stamp event : ℕ) (s : Rows) (events : List Event) : Type 0 wh
 pub record Tells (s : Rows) (events : List Event) : Type 0 where
   pub connections : (call device : ℕ) → shown s call device ≡ after (connection_told call device) None events
   pub agents : (agent : ℕ) → seat s agent ≡ after (seat_told agent) no_seat events
+  pub entries : HasEntries s events
   pub queues : InOrder s events
   pub up_to : UpTo s.last_stamp s.last_event s events
 
@@ -37,6 +42,10 @@ pub record Tells (s : Rows) (events : List Event) : Type 0 where
 abbrev pub StepTells : Type 0
 StepTells = (s : Rows) (events : List Event) (moment : ℕ) (command : Command) → Rules s → Tells s events
     → Tells (step s moment command).rows (events ++ (step s moment command).events)
+
+-- what the events tell of a state that keeps the rules is all that a watcher is to know of it
+abbrev pub RulesGiveWatched : Type 0
+RulesGiveWatched = (s : Rows) (events : List Event) → Rules s → Tells s events → IsWatched s events
 
 -- the reports of every run tell its state
 abbrev pub RunIsWatched : Type 0

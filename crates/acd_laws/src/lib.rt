@@ -1,26 +1,28 @@
 //! Laws over the abstract switch: what holds after every step, and after every run from the empty state.
 //!
 //! Each law is the contract of a function with an empty body. The laws are stated in `specs/`, over the
-//! definitions of `acd_terms` that the switch itself is proved by.
+//! definitions of `acd_terms` that the switch itself is proved by. What a law of a step presupposes of the state
+//! before, rows that break no rule keep (`rules_are_kept`), and after the step no rule is broken (`step_keeps_rules`).
 #![tactic(auto)]
 
 ghost use Rattle.acd_terms.specs.Offers.{FindsFirstWaiting, FindsFirstEligible, FindsTheOffer};
 ghost use Rattle.acd_laws.specs.RefusalLaws.{RefusalChangesNothing};
 ghost use Rattle.acd_laws.specs.FigureLaws.{StepKeepsFigures, RunKeepsFigures, StepAddsFigures};
-ghost use Rattle.acd_laws.specs.WatchedLaws.{StepTells, RunIsWatched};
+ghost use Rattle.acd_laws.specs.WatchedLaws.{StepTells, RulesGiveWatched, RunIsWatched};
 ghost use Rattle.acd_laws.specs.BalanceLaws.{StepBalances, RunIsBalanced};
-ghost use Rattle.acd_laws.specs.OfferLaws.{StepLeavesNoOffer, RunLeavesNoOffer};
-ghost use Rattle.acd_laws.specs.PlacedLaws.{StepNamesNoLaterCall, RunNamesNoLaterCall, StepKeepsClearings, StepPlaces, RunIsPlaced, PlacesExclude};
-ghost use Rattle.acd_laws.specs.RuleLaws.{StepKeepsRules, RunKeepsRules, RulesBound, RulesLeaveRoom};
+ghost use Rattle.acd_laws.specs.OfferLaws.{FindsTheDistribution, StepLeavesNoOffer, RunLeavesNoOffer};
+ghost use Rattle.acd_laws.specs.PlacedLaws.{StepNamesNoLaterCall, RunNamesNoLaterCall, StepKeepsClearings, StepPlaces, StepKeepsPlaces, RunIsPlaced, PlacesExclude};
+ghost use Rattle.acd_laws.specs.RuleLaws.{RulesAreFacts, RulesAreKept, StepKeepsRules, RunKeepsRules, RulesBound, RulesLeaveRoom};
 ghost use Rattle.acd_laws.specs.ChangeLaws.{StepMakesItsChanges};
-ghost use Rattle.acd_laws.specs.PlacedLaws.{RulesGiveOneOffer, RunHasOneOffer};
+ghost use Rattle.acd_laws.specs.OneOfferLaws.{RulesGiveOneOffer, StepKeepsOneOffer, RunHasOneOffer};
 
-/// The call that is found to wait first in a group is the least one that waits there, and one is found wherever one waits.
+/// The call that is found to wait first in a group has the least place there, and one is found wherever one waits.
 pub fn finds_the_first_waiting()
     ensures { FindsFirstWaiting }
 {}
 
-/// The agent that is found to be ready longest in a group is the least eligible one, and one is found wherever there is one.
+/// The agent that is found to be ready longest in a group has the least stamp of those eligible there, and of equal stamps the least number;
+/// one is found wherever one is eligible.
 pub fn finds_the_first_eligible()
     ensures { FindsFirstEligible }
 {}
@@ -28,6 +30,11 @@ pub fn finds_the_first_eligible()
 /// The offer that is found is the one that the relation allows, and one is found wherever there is one.
 pub fn finds_the_offer()
     ensures { FindsTheOffer }
+{}
+
+/// The moves of a distribution are the offers that the relation allows, each in the state that the ones before it leave, until there is none.
+pub fn finds_the_distribution()
+    ensures { FindsTheDistribution }
 {}
 
 /// Where the figures of the groups are those of all events before a step, they are those of all events after it.
@@ -55,6 +62,11 @@ pub fn step_tells()
     ensures { StepTells }
 {}
 
+/// What the reports tell of a state that keeps the rules is all that a watcher is to know of it.
+pub fn rules_give_watched()
+    ensures { RulesGiveWatched }
+{}
+
 /// After every run the reports alone tell the connections at planned devices, the agents' states and the order of each queue.
 pub fn run_is_watched()
     ensures { RunIsWatched }
@@ -80,12 +92,18 @@ pub fn run_leaves_no_offer()
     ensures { RunLeavesNoOffer }
 {}
 
-/// Where a state keeps the rules, a station has one distributed connection at most, its agent is ready or busy with it, and no other agent is busy.
+/// Where a state keeps the rules, a station has one distributed connection at most, with an agent logged on there who is ready or busy with it,
+/// and no other agent is busy.
 pub fn rules_give_one_offer()
     ensures { RulesGiveOneOffer }
 {}
 
-/// After every run a station has one distributed connection at most, its agent is ready or busy with it, and no other agent is busy.
+/// A state that keeps the rules goes to one in which each distributed connection is the one at its station, with its agent, and no other agent is busy.
+pub fn step_keeps_one_offer()
+    ensures { StepKeepsOneOffer }
+{}
+
+/// After every run each distributed connection is the one at its station, with its agent, and no other agent is busy.
 pub fn run_has_one_offer()
     ensures { RunHasOneOffer }
 {}
@@ -110,6 +128,11 @@ pub fn step_places()
     ensures { StepPlaces }
 {}
 
+/// Where each call up to the last is cleared, waits in one queue, or is at devices, and no event names a later call, so it is after a step.
+pub fn step_keeps_places()
+    ensures { StepKeepsPlaces }
+{}
+
 /// After every run each call up to the last is cleared, waits in one queue, or is at devices.
 pub fn run_is_placed()
     ensures { RunIsPlaced }
@@ -118,6 +141,16 @@ pub fn run_is_placed()
 /// A call stands in one way at most: cleared, waiting in a queue, or at devices.
 pub fn places_exclude()
     ensures { PlacesExclude }
+{}
+
+/// Rows pass the thirteen tests exactly where they keep the rules as facts, and the last stamp is within the limit of requests.
+pub fn rules_are_facts()
+    ensures { RulesAreFacts }
+{}
+
+/// Rows that break no rule keep the rules that the laws of a step presuppose.
+pub fn rules_are_kept()
+    ensures { RulesAreKept }
 {}
 
 /// Rows that break no rule break none after a step, while a request more is allowed.

@@ -1,9 +1,9 @@
 -- The reports alone tell a watcher the connections at planned devices, the agents and the order of each queue.
-use Rattle.std.specs.Prelude.{◌≡◌, ℕ, ◌<◌, Bool, true, false, not, ◌&&◌, ◌||◌, ◌==◌, List, Option, Some, None, option_map}
+use Rattle.std.specs.Prelude.{◌≡◌, ◌↔◌, ℕ, ◌<◌, Bool, true, false, not, ◌&&◌, ◌||◌, ◌==◌, List, Option, Some, None, option_map}
 use Rattle.acd_terms.specs.Lists.{Among}
 use Rattle.acd_terms.specs.Scans.{call_of, connection_of, agent_of, is_planned, has}
 use Rattle.acd_terms.specs.States.{is_queued, is_alerting}
-use Rattle.acd_terms.specs.Told.{after, connection_told, Seat, no_seat, seat_told, last_entry}
+use Rattle.acd_terms.specs.Told.{after, connection_told, Seat, no_seat, seat_told, enters, last_entry}
 use Rattle.acd_terms.specs.declared.rows.Rows.{Rows}
 use Rattle.acd_terms.specs.declared.record.AgentRecord.{AgentRecord}
 use Rattle.acd_terms.specs.declared.record.CallRecord.{CallRecord}
@@ -39,11 +39,24 @@ pub record IsHeldAt (s : Rows) (group call place : ℕ) : Type 0 where
   pub of_call : connection.call ≡ call
   pub at_place : connection.place ≡ Some place
 
--- an earlier place is an earlier entry
+-- an earlier place is an earlier entry, and an earlier entry an earlier place
 abbrev pub InOrder : Rows → List Event → Type 0
-InOrder s events = (group c d p q : ℕ) → IsHeldAt s group c p → IsHeldAt s group d q → p < q → last_entry group c 0 events < last_entry group d 0 events
+InOrder s events = (group c d p q : ℕ) → IsHeldAt s group c p → IsHeldAt s group d q → (p < q) ↔ (last_entry group c 0 events < last_entry group d 0 events)
+
+-- an event reported that the call entered the group's queue, and it is the last that did
+pub record HasEntered (events : List Event) (group call : ℕ) : Type 0 where
+  pub entry : Event
+  pub reported : Among entry events
+  pub is_entry : enters group call entry ≡ true
+  pub last : entry.number ≡ last_entry group call 0 events
+  pub numbered : 0 < entry.number
+
+-- each call that waits in a group or rings from it has entered there
+abbrev pub EachHasEntered : Rows → List Event → Type 0
+EachHasEntered s events = (group : ℕ) (x : ConnectionRecord) → Among x s.connections → is_held_by group x ≡ true → HasEntered events group x.call
 
 pub record IsWatched (s : Rows) (events : List Event) : Type 0 where
   pub connections : (call device : ℕ) → is_external_caller s call device ≡ false → state_at s call device ≡ after (connection_told call device) None events
   pub agents : (agent : ℕ) → seat_of (agent_of s agent) ≡ after (seat_told agent) no_seat events
+  pub entries : EachHasEntered s events
   pub queues : InOrder s events
