@@ -1,5 +1,6 @@
 -- What holds of the abstract desk.
-use Rattle.std.specs.Prelude.{◌≡◌, List, [], ◌∷◌, ◌++◌}
+use Rattle.std.specs.Prelude.{◌≡◌, true, List, [], ◌∷◌, ◌++◌}
+use Rattle.acd_terms.specs.Limits.{limits_fit}
 use Rattle.acd_terms.specs.declared.rows.Limits.{Limits}
 use Rattle.acd_terms.specs.declared.command.Request.{Request}
 use Rattle.acd_terms.specs.declared.command.Arrival.{Arrival}
@@ -20,6 +21,10 @@ AnswersByPlace = (limits : Limits) (list : List Arrival) (r : Request) → IsRep
 -- a sound content keeps the laws of runs, and breaks no rule of rows
 abbrev pub SoundKeepsLaws : Type 0
 SoundKeepsLaws = (c : Content) → IsSound c → KeepsLaws c
+
+-- a new book is sound, where its limits fit
+abbrev pub EmptyIsSound : Type 0
+EmptyIsSound = (limits : Limits) → limits_fit limits ≡ true → IsSound (empty_content limits)
 
 -- one more arrival leaves a sound content sound
 abbrev pub StaysSound : Type 0
