@@ -19,6 +19,7 @@ pub record Opened (old : BookState) (new : Standing) : Type 0 where
   pub opened : IfHonest old new.book (old.is_open × new.book.is_open × (new.book.content ≡ old.content) × (new.switch ≡ Some old.content.rows))
   pub working : new.failed ≡ false
   pub stops : IfHonest old new.book (Within new.book.stops old.stops)
+  pub keeps : IfHonest old new.book (Within old.stops new.book.stops)
   pub accepts : IfHonest old new.book (BreaksNoRule old.content.rows)
   pub starts : IfHonest old new.book (IsSound old.content → Starts new)
   pub quiet : new.book.failures ≡ old.failures
@@ -50,6 +51,7 @@ pub record Refused (old : BookState) (why : OpenFault) (new : BookState) : Type 
   pub clean : new.is_clean → old.is_clean
   pub sound : IfHonest old new new.is_sound
   pub stops : IfHonest old new (Within new.stops old.stops)
+  pub keeps : IfHonest old new (new.is_open → Within old.stops new.stops)
   pub same : IfHonest old new (new.is_open → old.is_open × (new.content ≡ old.content))
   pub refuses : IfHonest old new (RefusesBy old why new)
   -- a sound content is never refused
