@@ -1,9 +1,12 @@
 -- Lists that are numbered on from a number: what is above one of the numbers stands behind a place.
 use Rattle.std.proofs.Common.{arith, ◌≡◌, ℕ, zero, suc, ◌+◌, ◌≤◌, Bool, true, false, cond, ◌&&◌, ◌==◌, nat_lt, List, [], ◌∷◌, ◌++◌, length, drop, slice_get, refl, ap, ap₂, ◌∙◌, sym, eqb-true, subst, find, filter}
-use Rattle.std.proofs.Common.{true≢false, Some}
+use Rattle.std.proofs.Common.{true≢false, Option, Some, None, ◌<◌, inl, inr}
+use Rattle.acd_terms.specs.Lists.{Every}
+use Rattle.acd_book.specs.declared.kept.Kept.{Kept}
+use Rattle.acd_book.specs.Content.{IsKeptAfter}
 use Rattle.std.proofs.lemmas.Bool.{lt-ltb, le-ltb, and_from, eq-eqb}
 use Rattle.std.proofs.Math.Bool.{and-true, and-false}
-use Rattle.acd_book.specs.Memory.{is_numbered}
+use Rattle.acd_book.specs.Memory.{is_numbered, stamp_of}
 
 pub both : (a b : Bool) → (a && b) ≡ true → (a ≡ true) × (b ≡ true)
 both true true h = (refl, refl)
@@ -33,21 +36,31 @@ pub numbered-push : {T : Type 0} (f : T → ℕ) (xs : List T) (x : T) → is_nu
 numbered-push {T} f xs x h next =
     numbered-append f 0 xs (x ∷ []) h (subst (λ (n : ℕ). is_numbered f n (x ∷ []) ≡ true) (sym (zero_plus (length xs))) (and_from (f x == length xs + 1) true (eq-eqb (f x) (length xs + 1) next) refl))
 
-find_numbered : {T : Type 0} (f : T → ℕ) (b n : ℕ) (xs : List T) → is_numbered f b xs ≡ true → find (λ x. nat_lt (b + n) (f x)) xs ≡ slice_get xs n
-find_numbered f b n [] h = refl
-find_numbered {T} f b zero (x ∷ xs) h =
-    let parts = first f b x xs h in
-    ap (λ (c : Bool). cond c (Some x) (find (λ x. nat_lt (b + 0) (f x)) xs)) (lt-ltb (b + 0) (f x) (omega (arith, parts.0)))
-find_numbered f b (suc n) (x ∷ xs) h =
-    let parts = first f b x xs h in
-    let behind : b + suc n ≡ (b + 1) + n = omega arith in
-    ap (λ (c : Bool). cond c (Some x) (find (λ x. nat_lt (b + suc n) (f x)) xs)) (le-ltb (b + suc n) (f x) (omega (arith, parts.0)))
-    ∙ ap (λ (m : ℕ). find (λ x. nat_lt m (f x)) xs) behind
-    ∙ find_numbered f (b + 1) n xs parts.1
+-- all stand above the number from which they are numbered on
+below_all : (b m n : ℕ) (kept : List Kept) → is_numbered stamp_of b kept ≡ true → m ≤ b + 1 → Every (λ (other : Kept). n < other.stamp → m ≤ other.stamp) kept
+below_all b m n [] h least = tt
+below_all b m n (k ∷ kept) h least =
+    let parts = first stamp_of b k kept h in
+    ((λ above. omega (arith, parts.0, least)), below_all (b + 1) m n kept parts.1 (omega (arith, least)))
 
--- the first above a number stands at the place of that number
-pub find_above : {T : Type 0} (f : T → ℕ) (n : ℕ) (xs : List T) → is_numbered f 0 xs ≡ true → find (λ x. nat_lt n (f x)) xs ≡ slice_get xs n
-find_above {T} f n xs h = subst (λ (m : ℕ). find (λ (x : T). nat_lt m (f x)) xs ≡ slice_get xs n) (zero_plus n) (find_numbered f 0 n xs h)
+-- one more at the front, which isn't above the number
+kept_after_more : (k : Kept) (kept : List Kept) (n : ℕ) (found : Option Kept) → k.stamp ≤ n → IsKeptAfter kept n found → IsKeptAfter (k ∷ kept) n found
+kept_after_more k kept n None below h = (below, h)
+kept_after_more k kept n (Some x) below h = (inr h.0, h.1, ((λ above. absurd (omega (arith, below, above))), h.2))
+
+kept_after_from : (b n : ℕ) (kept : List Kept) → is_numbered stamp_of b kept ≡ true → IsKeptAfter kept (b + n) (slice_get kept n)
+kept_after_from b n [] h = tt
+kept_after_from b zero (k ∷ kept) h =
+    let parts = first stamp_of b k kept h in
+    (inl refl, omega (arith, parts.0), ((λ above. omega arith), below_all (b + 1) k.stamp (b + 0) kept parts.1 (omega (arith, parts.0))))
+kept_after_from b (suc n) (k ∷ kept) h =
+    let parts = first stamp_of b k kept h in
+    let behind : (b + 1) + n ≡ b + suc n = omega arith in
+    kept_after_more k kept (b + suc n) (slice_get kept n) (omega (arith, parts.0)) (subst (λ (m : ℕ). IsKeptAfter kept m (slice_get kept n)) behind (kept_after_from (b + 1) n kept parts.1))
+
+-- the record of the least greater stamp stands at the place of the stamp
+pub kept_after_at : (n : ℕ) (kept : List Kept) → is_numbered stamp_of 0 kept ≡ true → IsKeptAfter kept n (slice_get kept n)
+kept_after_at n kept h = subst (λ (m : ℕ). IsKeptAfter kept m (slice_get kept n)) (zero_plus n) (kept_after_from 0 n kept h)
 
 filter_all : {T : Type 0} (f : T → ℕ) (p : T → Bool) (b m : ℕ) (xs : List T) → is_numbered f b xs ≡ true → m ≤ b → filter (λ x. p x && nat_lt m (f x)) xs ≡ filter p xs
 filter_all f p b m [] h below = refl

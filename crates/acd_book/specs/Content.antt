@@ -1,7 +1,7 @@
 -- What a book holds, what it tells of it, and what a commit makes of it.
 use Rattle.std.specs.Prelude.{◌≡◌, ◌⊎◌, ℕ, ◌+◌, ◌-◌, ◌^◌, ◌<◌, ◌≤◌, Bool, true, ◌&&◌, ◌==◌, nat_lt, List, [], ◌∷◌, ◌++◌, length, take, filter, find, max, Option, Some, None}
 use Rattle.std.specs.Str.{bytes_eq}
-use Rattle.acd_terms.specs.Lists.{Every}
+use Rattle.acd_terms.specs.Lists.{Every, Among}
 use Rattle.acd_terms.specs.Columns.{columns_of}
 use Rattle.acd_terms.specs.Scans.{monitor_of, has}
 use Rattle.acd_terms.specs.Writes.{empty_rows}
@@ -33,9 +33,10 @@ is_key requester invoke r = bytes_eq r.requester requester && (r.invoke == invok
 abbrev pub kept_of : List Kept → List ℕ → ℕ → Option Kept
 kept_of kept requester invoke = find (λ (k : Kept). is_key requester invoke k.request) kept
 
--- the record of the least greater stamp: records stand in ascending stamp
-abbrev pub kept_behind : List Kept → ℕ → Option Kept
-kept_behind kept stamp = find (λ (k : Kept). nat_lt stamp k.stamp) kept
+-- the kept record of the least greater stamp, or none where no stamp is greater
+abbrev pub IsKeptAfter : List Kept → ℕ → Option Kept → Type 0
+IsKeptAfter kept stamp None = Every (λ (other : Kept). other.stamp ≤ stamp) kept
+IsKeptAfter kept stamp (Some k) = Among k kept × (stamp < k.stamp) × Every (λ (other : Kept). stamp < other.stamp → k.stamp ≤ other.stamp) kept
 
 -- the event is at the device, where one is named
 abbrev pub is_at : Option ℕ → Event → Bool

@@ -19,14 +19,20 @@ pub record BookState : Type 1 where
   -- how often its store has failed
   pub failures : ℕ
 
+-- the book is honest over a call, or over many: it was sound before, and is clean after
+abbrev pub IfHonest : BookState → BookState → Type 0 → Type 0
+IfHonest old new P = new.is_clean → old.is_sound → P
+
 -- a read, where `IsAnswer c found` says that this is found in that content
 pub record Reads {A : Type 0} (old new : BookState) (result : Result A BookFault) (IsAnswer : Content → A → Type 0) : Type 0 where
   pub clean : new.is_clean → old.is_clean
-  pub sound : new.is_clean → old.is_sound → new.is_sound
-  pub value : new.is_clean → old.is_sound → IfOk result (λ (found : A). old.is_open × IsAnswer old.content found)
-  pub same : new.is_clean → old.is_sound → new.is_open → old.is_open × (new.content ≡ old.content)
-  pub stays : OnOk result (new.is_clean → old.is_sound → new.is_open)
-  pub stops : new.is_clean → old.is_sound → Within new.stops old.stops
+  pub sound : IfHonest old new new.is_sound
+  pub value : IfHonest old new (IfOk result (λ (found : A). old.is_open × IsAnswer old.content found))
+  pub same : IfHonest old new (new.is_open → old.is_open × (new.content ≡ old.content))
+  pub stays : OnOk result (IfHonest old new new.is_open)
+  -- no stop is new, and while it is open none is gone
+  pub stops : IfHonest old new (Within new.stops old.stops)
+  pub keeps : IfHonest old new (new.is_open → Within old.stops new.stops)
   -- a failure is counted where the store has failed, and nowhere else
   pub cause : IsErrOf result Store → HasRisen old.failures new.failures
   pub quiet : ¬ (IsErrOf result Store) → new.failures ≡ old.failures
@@ -35,12 +41,11 @@ pub record Reads {A : Type 0} (old new : BookState) (result : Result A BookFault
 -- a commit, where `after c` is what it makes of a content that it follows
 pub record Commits (old new : BookState) (result : Result (Unit {0}) BookFault) (Follows : Content → Type 0) (after : Content → Content) : Type 0 where
   pub clean : new.is_clean → old.is_clean
-  pub sound : new.is_clean → old.is_sound → new.is_sound
-  pub opened : new.is_clean → old.is_sound → OnOk result (old.is_open × new.is_open)
-  pub made : new.is_clean → old.is_sound → Follows old.content → OnOk result (new.content ≡ after old.content)
-  pub undone : new.is_clean → old.is_sound → new.is_open → OnErr result (old.is_open × (new.content ≡ old.content))
-  pub stops : new.is_clean → old.is_sound → (c : Content) → new.stops c → old.stops c
-      ⊎ (old.is_open × (Follows old.content → c ≡ after old.content))
+  pub sound : IfHonest old new new.is_sound
+  pub opened : IfHonest old new (OnOk result (old.is_open × new.is_open))
+  pub made : IfHonest old new (Follows old.content → OnOk result (new.content ≡ after old.content))
+  pub undone : IfHonest old new (new.is_open → OnErr result (old.is_open × (new.content ≡ old.content)))
+  pub stops : IfHonest old new ((c : Content) → new.stops c → old.stops c ⊎ (old.is_open × (Follows old.content → c ≡ after old.content)))
   pub cause : IsErrOf result Store → HasRisen old.failures new.failures
   pub quiet : ¬ (IsErrOf result Store) → new.failures ≡ old.failures
   pub counts : old.failures ≤ new.failures

@@ -1,7 +1,7 @@
 //! What a desk asks of a store.
 
 ghost use Rattle.std.specs.Prelude.{◌≡◌};
-ghost use Rattle.acd_book.specs.Content.{Content, committed, kept_of, kept_behind, events_behind, events_of_monitor, Follows, FollowsBy, committed_by};
+ghost use Rattle.acd_book.specs.Content.{Content, committed, kept_of, IsKeptAfter, events_behind, events_of_monitor, Follows, FollowsBy, committed_by};
 ghost use Rattle.acd_book.specs.State.{BookState, Reads, Commits};
 
 use crate::fault::BookFault;
@@ -35,7 +35,7 @@ pub trait Book {
 
     /// The kept record of the least greater stamp.
     fn kept_after(&mut self, stamp: u64) -> Result<Option<Kept>, BookFault>
-        ensures { Reads (state self.old) (state self.new) result (λ c found. found ≡ kept_behind c.kept stamp) };
+        ensures { Reads (state self.old) (state self.new) result (λ c found. IsKeptAfter c.kept stamp found) };
 
     /// The first `limit` events above a number.
     fn events_after(&mut self, number: u64, limit: usize) -> Result<Vec<Event>, BookFault>
@@ -69,4 +69,7 @@ pub trait Book {
     ghost settled: { (book : Self) (c : Content) → (state book).is_clean → (state book).is_sound → (state book).is_open → (state book).stops c → c ≡ (state book).content };
 
     ghost stays: { (book : Self) → (state book).is_clean → (state book).is_sound → (state book).is_open → (state book).stops (state book).content };
+
+    // A reopening finds something, also once a failure has shut it.
+    ghost stands: { (book : Self) → (state book).is_clean → (state book).is_sound → ∥ ((c : Content) × (state book).stops c) ∥₁ };
 }

@@ -2,7 +2,7 @@
 
 ghost use Rattle.std.specs.Prelude.{◌≡◌, Some, IfOk, OnOk, OnErr, take, filter};
 ghost use Rattle.acd_terms.specs.Scans.{monitor_of};
-ghost use Rattle.acd_book.specs.Content.{empty_content, is_at, kept_of, kept_behind, events_behind, events_of_monitor, committed, committed_by};
+ghost use Rattle.acd_book.specs.Content.{empty_content, is_at, kept_of, IsKeptAfter, events_behind, events_of_monitor, committed, committed_by};
 
 use crate::kept::Kept;
 use crate::ledger::Ledger;
@@ -50,7 +50,7 @@ impl Contents {
 
     /// The kept record of the least greater stamp.
     pub(crate) fn kept_after(&self, stamp: u64) -> Result<Option<Kept>, AllocError>
-        ensures { IfOk result (λ found. found ≡ kept_behind (content_of self.now).kept stamp) }
+        ensures { IfOk result (λ found. IsKeptAfter (content_of self.now).kept stamp found) }
     {
         match self.replies.after(stamp) {
             Some(kept) => Ok(Some(kept.clone()?)),

@@ -52,6 +52,8 @@ impl Book for MemoryBook {
 
     ghost stays = { λ b clean sound up. refl };
 
+    ghost stands = { λ b clean sound. ∣ (_, refl) ∣₁ };
+
     fn failures(&self) -> u64 {
         0
     }

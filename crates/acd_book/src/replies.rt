@@ -1,7 +1,7 @@
 //! The kept records of a book in memory.
 
 ghost use Rattle.std.specs.Prelude.{◌≡◌, ◌++◌, ◌∷◌, ◌+◌, ◌&&◌, ◌==◌, [], length, true, is_none, slice_get, option_copied, OnOk, OnErr};
-ghost use Rattle.acd_book.specs.Content.{kept_of, kept_behind};
+ghost use Rattle.acd_book.specs.Content.{kept_of, IsKeptAfter};
 ghost use Rattle.acd_book.specs.Memory.{is_numbered, stamp_of, IsPlaced};
 
 use crate::kept::Kept;
@@ -43,7 +43,7 @@ impl Replies {
 
     /// The record of the least greater stamp.
     pub(crate) fn after(&self, stamp: u64) -> Option<&Kept>
-        ensures { option_copied result ≡ kept_behind self.now.records.items stamp }
+        ensures { IsKeptAfter self.now.records.items stamp (option_copied result) }
     {
         record_at(&self.records, stamp as usize)
     }

@@ -1,14 +1,20 @@
 -- The look-up by key answers what the table by place says.
-use Rattle.std.proofs.Common.{◌≡◌, ◌≢◌, ◌⊎◌, inl, inr, ℕ, Bool, true, false, cond, ◌||◌, List, [], ◌∷◌, ◌++◌, Option, Some, None, refl, sym, ap, subst, ◌∙◌, append-nil, append_assoc}
+use Rattle.std.proofs.Common.{◌≡◌, ◌≢◌, ◌⊎◌, inl, inr, ℕ, zero, suc, take, find, Bool, true, false, cond, ◌||◌, List, [], ◌∷◌, ◌++◌, Option, Some, None, refl, sym, ap, subst, ◌∙◌, append-nil, append_assoc, true≢false}
+use Rattle.std.specs.Option.{option_or}
+use Rattle.std.proofs.lemmas.List.Folds.{find-append}
+use Rattle.acd_terms.specs.Lists.{Among}
 use Rattle.acd_terms.specs.declared.rows.Limits.{Limits}
 use Rattle.acd_terms.specs.declared.command.Request.{Request}
 use Rattle.acd_terms.specs.declared.command.Arrival.{Arrival}
 use Rattle.acd_book.specs.declared.kept.Kept.{Kept}
 use Rattle.acd_book.specs.Content.{Content, empty_content, is_key, kept_of}
+use Rattle.acd_desk.specs.declared.taken.Taken.{Taken}
 use Rattle.acd_desk.specs.declared.taken.Taken.TheVariants.{Reply, InvokeReused}
-use Rattle.acd_desk.specs.Firsts.{has_key, firsts, record_of, executed, run_from, run}
-use Rattle.acd_desk.specs.Replies.{same_request, answer_of, reply_to, StandTogether, IsReplyAt}
-use Rattle.acd_desk.proofs.Keys.{same_own}
+use Rattle.acd_desk.specs.Firsts.{has_key, distinct_from, firsts, record_of, executed, run_from, run}
+use Rattle.acd_desk.specs.Replies.{same_request, answer_of, reply_to, StandTogether, StandsFirst, IsEarlier, IsReplyAt, own, repeat, reused, full}
+use Rattle.acd_desk.proofs.Keys.{key_same, key_own, same_own}
+use Rattle.acd_desk.proofs.Runs.{has-push}
+use Rattle.acd_desk.proofs.Sound.{New, distinct-new}
 use Rattle.acd_desk.proofs.SameRequests.{same_true}
 
 -- what a run keeps of each arrival in turn
@@ -57,26 +63,153 @@ found_or_not (a ∷ l) c p q =
     ] in
     cases (is_key p q a.request) refl
 
+none_some : {T : Type 0} (x : T) → None ≡ Some x → ⊥
+none_some x h = cc
+
+some_same : {T : Type 0} (x y : T) → Some x ≡ Some y → x ≡ y
+some_same x y h = cc
+
 other_false : (a b : Request) → a ≢ b → same_request a b ≡ false
 other_false a b h =
     let cases : (x : Bool) → same_request a b ≡ x → x ≡ false
     = elim [ true ↦ λ e. absurd (h (same_true a b e)) | false ↦ λ e. refl ] in
     cases (same_request a b) refl
 
-pub reply_by_place : (limits : Limits) (list : List Arrival) (r : Request) → IsReplyAt limits list r (reply_to limits list r)
-reply_by_place limits list r =
+-- ---- the first of a key ----
+
+abbrev has_its_key : List ℕ → ℕ → Arrival → Bool
+has_its_key p q x = is_key p q x.request
+
+together_among : (l : List Arrival) (ks : List Kept) (x : Arrival) (k : Kept) → StandTogether l ks x k → Among x l
+together_among [] ks x k h = absurd h
+together_among (a ∷ l) [] x k h = absurd h
+together_among (a ∷ l) (r ∷ ks) x k h = elim h [
+  | inl here ↦ inl here.0
+  | inr there ↦ inr (together_among l ks x k there)
+]
+
+among_take : (n : ℕ) (l : List Arrival) (x : Arrival) → Among x (take n l) → Among x l
+among_take zero l x h = absurd h
+among_take (suc n) [] x h = absurd h
+among_take (suc n) (a ∷ l) x h = elim h [
+  | inl here ↦ inl here
+  | inr there ↦ inr (among_take n l x there)
+]
+
+neither : (a b : Bool) → (a || b) ≡ false → (a ≡ false) × (b ≡ false)
+neither true b h = absurd (true≢false h)
+neither false b h = (refl, h)
+
+-- none of a list of new keys has a key that was seen
+unseen : (l seen : List Arrival) (x : Arrival) → New seen l → Among x l → has_key seen x.request.requester x.request.invoke ≡ false
+unseen [] seen x new h = absurd h
+unseen (a ∷ l) seen x new h = elim h [
+  | inl here ↦ subst (λ (y : Arrival). has_key seen y.request.requester y.request.invoke ≡ false) (sym here) new.0
+  | inr there ↦ (neither (has_key seen x.request.requester x.request.invoke) (is_key x.request.requester x.request.invoke a.request)
+      (sym (has-push seen a x.request.requester x.request.invoke) ∙ unseen l (seen ++ a ∷ []) x new.1 there)).0
+]
+
+-- one of those with new keys is the first of its key
+first_of_key : (l seen : List Arrival) (x : Arrival) (p : List ℕ) (q : ℕ) → is_key p q x.request ≡ true → Among x (distinct_from seen l) → find (has_its_key p q) l ≡ Some x
+first_of_key [] seen x p q key h = absurd h
+first_of_key (a ∷ l) seen x p q key h =
+    let same : (x.request.requester ≡ p) × (x.request.invoke ≡ q) = key_same p q x.request key in
+    let rest : List Arrival = distinct_from (seen ++ a ∷ []) l in
+    let behind : Among x rest → find (has_its_key p q) (a ∷ l) ≡ Some x
+    = λ there.
+    let other : is_key x.request.requester x.request.invoke a.request ≡ false
+    = (neither (has_key seen x.request.requester x.request.invoke) (is_key x.request.requester x.request.invoke a.request)
+    (sym (has-push seen a x.request.requester x.request.invoke) ∙ unseen rest (seen ++ a ∷ []) x (distinct-new l (seen ++ a ∷ []) (seen ++ a ∷ []) (λ r i. refl)) there)).1 in
+    let others : is_key p q a.request ≡ false
+    = subst (λ (r : List ℕ). is_key r q a.request ≡ false) same.0 (subst (λ (i : ℕ). is_key x.request.requester i a.request ≡ false) same.1 other) in
+    ap (λ (b : Bool). cond b (Some a) (find (has_its_key p q) l)) others ∙ first_of_key l (seen ++ a ∷ []) x p q key there in
+    let here : x ≡ a → find (has_its_key p q) (a ∷ l) ≡ Some x
+    = λ is. ap (λ (b : Bool). cond b (Some a) (find (has_its_key p q) l)) (subst (λ (y : Arrival). is_key p q y.request ≡ true) is key) ∙ ap Some (sym is) in
+    let P : Bool → Type 0 = λ b. Among x (cond b [] (a ∷ []) ++ rest) → find (has_its_key p q) (a ∷ l) ≡ Some x in
+    let cases : (b : Bool) → P b
+    = elim [
+      | true ↦ behind
+      | false ↦ λ at. elim at [ inl is ↦ here is | inr there ↦ behind there ]
+    ] in
+    cases (has_key seen a.request.requester a.request.invoke) h
+
+found_among : (l : List Arrival) (x : Arrival) (p : List ℕ) (q : ℕ) → find (has_its_key p q) l ≡ Some x → Among x l × (is_key p q x.request ≡ true)
+found_among [] x p q h = absurd (none_some x h)
+found_among (a ∷ l) x p q h =
+    let cases : (b : Bool) → is_key p q a.request ≡ b → cond b (Some a) (find (has_its_key p q) l) ≡ Some x → Among x (a ∷ l) × (is_key p q x.request ≡ true)
+    = λ b. elim b as (λ b. is_key p q a.request ≡ b → cond b (Some a) (find (has_its_key p q) l) ≡ Some x → Among x (a ∷ l) × (is_key p q x.request ≡ true)) [
+      | true ↦ λ e is. (inl (sym (some_same a x is)), subst (λ (y : Arrival). is_key p q y.request ≡ true) (some_same a x is) e)
+      | false ↦ λ e is. let rest = found_among l x p q is in (inr rest.0, rest.1)
+    ] in
+    cases (is_key p q a.request) refl h
+
+none_has : (l : List Arrival) (p : List ℕ) (q : ℕ) → find (has_its_key p q) l ≡ None → has_key l p q ≡ false
+none_has [] p q h = refl
+none_has (a ∷ l) p q h =
+    let cases : (b : Bool) → cond b (Some a) (find (has_its_key p q) l) ≡ None → (b || has_key l p q) ≡ false
+    = elim [ true ↦ λ is. absurd (none_some a (sym is)) | false ↦ λ is. none_has l p q is ] in
+    cases (is_key p q a.request) h
+
+-- ---- the table ----
+
+-- the first arrival of a key of the list, and its record
+pub record FirstOf (limits : Limits) (list : List Arrival) (r : Request) (o : Option Kept) (x : Arrival) (k : Kept) : Type 0 where
+  pub there : o ≡ Some k
+  pub stands : StandsFirst limits list x k
+  pub same : k.request ≡ x.request
+  pub first : find (has_its_key r.requester r.invoke) list ≡ Some x
+
+own_answer : (k : Kept) (r : Request) → k.request ≡ r → answer_of (Some k) r ≡ Reply k.status k.body
+own_answer k r e = ap (λ (b : Bool). cond b (Reply k.status k.body) InvokeReused) (ap (λ (s : Request). same_request s r) e ∙ same_own r)
+
+other_answer : (k : Kept) (r : Request) → k.request ≢ r → answer_of (Some k) r ≡ InvokeReused
+other_answer k r e = ap (λ (b : Bool). cond b (Reply k.status k.body) InvokeReused) (other_false k.request r e)
+
+-- where the first arrival of its key was found
+by_place : (limits : Limits) (before : List Arrival) (a : Arrival) (behind : List Arrival) (o : Option Kept) (x : Arrival) (k : Kept)
+    → FirstOf limits (before ++ a ∷ behind) a.request o x k → IsReplyAt limits before a behind (answer_of o a.request)
+by_place limits before a behind o x k f =
+    let p : List ℕ = a.request.requester in
+    let q : ℕ = a.request.invoke in
+    let R : Taken → Type 0 = IsReplyAt limits before a behind in
+    let list : List Arrival = before ++ a ∷ behind in
+    let split : option_or (find (has_its_key p q) before) (find (has_its_key p q) (a ∷ behind)) ≡ Some x = sym (find-append (has_its_key p q) before (a ∷ behind)) ∙ f.first in
+    let mine : find (has_its_key p q) (a ∷ behind) ≡ Some a = ap (λ (b : Bool). cond b (Some a) (find (has_its_key p q) behind)) (key_own a.request) in
+    let looked : (t : Taken) → answer_of (Some k) a.request ≡ t → R t → R (answer_of o a.request) = λ t e r. subst R (sym (ap (λ (o : Option Kept). answer_of o a.request) f.there ∙ e)) r in
+    let cases : (u : Option Arrival) → find (has_its_key p q) before ≡ u → R (answer_of o a.request)
+    = λ u. elim u as (λ u. find (has_its_key p q) before ≡ u → R (answer_of o a.request)) [
+      | None ↦ λ e.
+          let is : a ≡ x = some_same a x (sym mine ∙ ap (λ (u : Option Arrival). option_or u (find (has_its_key p q) (a ∷ behind))) (sym e) ∙ split) in
+          looked (Reply k.status k.body) (own_answer k a.request (f.same ∙ ap (λ (y : Arrival). y.request) (sym is)))
+          (own k (none_has before p q e) (subst (λ (y : Arrival). StandsFirst limits list y k) (sym is) f.stands))
+      | Some y ↦ λ e.
+          let is : y ≡ x = some_same y x (ap (λ (u : Option Arrival). option_or u (find (has_its_key p q) (a ∷ behind))) (sym e) ∙ split) in
+          let there = found_among before y p q e in
+          let earlier : IsEarlier before a x = subst (IsEarlier before a) is (record { stands = there.0; key = there.1 }) in
+          let same : (b : Bool) → same_request x.request a.request ≡ b → R (answer_of o a.request)
+          = λ b. elim b as (λ b. same_request x.request a.request ≡ b → R (answer_of o a.request)) [
+            | true ↦ λ h. let one : x.request ≡ a.request = same_true x.request a.request h in
+                looked (Reply k.status k.body) (own_answer k a.request (f.same ∙ one)) (repeat x k earlier f.stands one)
+            | false ↦ λ h. let two : x.request ≢ a.request = λ one. true≢false (sym (ap (λ (s : Request). same_request s a.request) one ∙ same_own a.request) ∙ h) in
+                looked InvokeReused (other_answer k a.request (λ one. two (sym f.same ∙ one))) (reused x k earlier f.stands two)
+          ] in
+          same (same_request x.request a.request) refl
+    ] in
+    cases (find (has_its_key p q) before) refl
+
+pub reply_by_place : (limits : Limits) (before : List Arrival) (a : Arrival) (behind : List Arrival) → IsReplyAt limits before a behind (reply_to limits (before ++ a ∷ behind) a.request)
+reply_by_place limits before a behind =
+    let p : List ℕ = a.request.requester in
+    let q : ℕ = a.request.invoke in
+    let list : List Arrival = before ++ a ∷ behind in
     let f : List Arrival = firsts limits.requests list in
     let kept : (run limits list).kept ≡ records (empty_content limits) f = kept_records f (empty_content limits) in
-    let looked : reply_to limits list r ≡ answer_of (kept_of (records (empty_content limits) f) r.requester r.invoke) r = ap (λ (ks : List Kept). answer_of (kept_of ks r.requester r.invoke) r) kept in
-    elim (found_or_not f (empty_content limits) r.requester r.invoke) [
-      | inl x ↦ inl (
-        x.first,
-        x.kept,
-        record { key = x.key; place = subst (λ (ks : List Kept). StandTogether f ks x.first x.kept) (sym kept) x.together },
-        (λ (e : x.first.request ≡ r). looked ∙ ap (λ (o : Option Kept). answer_of o r) x.there
-            ∙ ap (λ (b : Bool). cond b (Reply x.kept.status x.kept.body) InvokeReused) (ap (λ (s : Request). same_request s r) (x.same ∙ e) ∙ same_own r)),
-        (λ (e : x.first.request ≢ r). looked ∙ ap (λ (o : Option Kept). answer_of o r) x.there
-            ∙ ap (λ (b : Bool). cond b (Reply x.kept.status x.kept.body) InvokeReused) (other_false x.kept.request r (λ (h : x.kept.request ≡ r). e (sym x.same ∙ h)))),
-      )
-      | inr none ↦ inr (none.1, looked ∙ ap (λ (o : Option Kept). answer_of o r) none.0)
+    elim (found_or_not f (empty_content limits) p q) [
+      | inl x ↦ by_place limits before a behind (kept_of (run limits list).kept p q) x.first x.kept (record {
+        there = ap (λ (ks : List Kept). kept_of ks p q) kept ∙ x.there;
+        stands = subst (λ (ks : List Kept). StandTogether f ks x.first x.kept) (sym kept) x.together;
+        same = x.same;
+        first = first_of_key list [] x.first p q x.key (among_take limits.requests (distinct_from [] list) x.first (together_among f (records (empty_content limits) f) x.first x.kept x.together));
+      })
+      | inr none ↦ subst (IsReplyAt limits before a behind) (sym (ap (λ (ks : List Kept). answer_of (kept_of ks p q) a.request) kept ∙ ap (λ (o : Option Kept). answer_of o a.request) none.0)) (full none.1)
     ]

@@ -33,7 +33,7 @@ behind old mid new a t r took = record {
       let same = r.same (took.clean clean) sound in
       elim (took.stops clean (r.sound (took.clean clean) sound) (r.in_step (took.clean clean) sound step) c at) [
         | inl before ↦ inl (r.stops (took.clean clean) sound c before)
-        | inr made ↦ inr (r.opened (took.clean clean) sound made.0, made.1 ∙ ap (λ (x : Content). after x a) same)
+        | inr made ↦ inr (sym r.failed ∙ made.0, r.opened (took.clean clean) sound made.1, made.2 ∙ ap (λ (x : Content). after x a) same)
       ];
   shuts = took.shuts;
   tells = λ failed. elim (took.tells failed) [

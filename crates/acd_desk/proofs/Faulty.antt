@@ -22,7 +22,7 @@ pub record Undone (old : Standing) (a : Arrival) (new : BookState) : Type 0 wher
   pub clean : new.is_clean → old.book.is_clean
   pub sound : new.is_clean → old.book.is_sound → new.is_sound
   pub same : new.is_clean → old.book.is_sound → new.is_open → old.book.is_open × (new.content ≡ old.book.content)
-  pub stops : new.is_clean → old.book.is_sound → InStep old → (c : Content) → new.stops c → old.book.stops c ⊎ (old.book.is_open × (c ≡ after old.book.content a))
+  pub stops : new.is_clean → old.book.is_sound → InStep old → (c : Content) → new.stops c → old.book.stops c ⊎ ((old.failed ≡ false) × old.book.is_open × (c ≡ after old.book.content a))
 
 pub read : {A : Type 0} (s : Standing) (a : Arrival) (d : BookState) (result : Result A BookFault) (IsAnswer : Content → A → Type 0) → Reads s.book d result IsAnswer → Undone s a d
 read s a d result IsAnswer reads = record {

@@ -3,7 +3,8 @@ use Rattle.std.proofs.Common.{◌≡◌, ℕ, ◌+◌, ◌<◌, List, [], ◌∷
 use Rattle.std.specs.Option.{option_or}
 use Rattle.std.proofs.lemmas.List.{map-append}
 use Rattle.std.proofs.lemmas.List.Folds.{list_any-append, find-append}
-use Rattle.std.proofs.lemmas.List.Elements.{Contains-push, Contains-append_left}
+use Rattle.std.specs.List.{Contains}
+use Rattle.std.proofs.lemmas.List.Elements.{Contains-push, Contains-append_left, Contains-append_right, Contains-append_cases}
 use Rattle.acd_terms.specs.declared.rows.Limits.{Limits}
 use Rattle.acd_terms.specs.declared.command.Request.{Request}
 use Rattle.acd_terms.specs.declared.command.Arrival.{Arrival}
@@ -12,7 +13,8 @@ use Rattle.acd_book.specs.Content.{Content, empty_content, is_key, kept_of}
 use Rattle.acd_desk.specs.declared.taken.Taken.{Taken}
 use Rattle.acd_desk.specs.Firsts.{has_key, firsts, record_of, executed, run}
 use Rattle.acd_desk.specs.Replies.{answer_of, answer_in, reply_to, after}
-use Rattle.acd_desk.specs.Served.{is_fault, served, sent, unserved}
+use Rattle.acd_desk.specs.declared.taken.Taken.TheVariants.{Reply, InvokeReused, DeskFull, NoMemory, StoreFault}
+use Rattle.acd_desk.specs.Served.{is_fault, served, sent, maybe_last}
 use Rattle.acd_desk.specs.Stands.{arrivals_of, IsSound, ran_after, replies, StopsAt}
 use Rattle.acd_desk.proofs.Keys.{key_own}
 use Rattle.acd_desk.proofs.Runs.{run-stamp, run-limits, run-found, firsts-room, has-distinct, after_firsts}
@@ -98,13 +100,39 @@ served-push (b ∷ l) (u ∷ ts) a t same =
     let less : length l ≡ length ts = omega arith in
     ap (λ (s : List Arrival). cond (is_fault u) [] (b ∷ []) ++ s) (served-push l ts a t less) ∙ sym (append_assoc (cond (is_fault u) [] (b ∷ [])) (served l ts) (cond (is_fault t) [] (a ∷ [])))
 
-pub unserved-push : (l : List Arrival) (ts : List Taken) (a : Arrival) (t : Taken) → length l ≡ length ts → unserved (l ++ a ∷ []) (ts ++ t ∷ []) ≡ unserved l ts ++ cond (is_fault t) (a ∷ []) []
-unserved-push [] [] a t same = append-nil (cond (is_fault t) (a ∷ []) [])
-unserved-push [] (u ∷ ts) a t same = absurd (omega arith)
-unserved-push (b ∷ l) [] a t same = absurd (omega arith)
-unserved-push (b ∷ l) (u ∷ ts) a t same =
-    let less : length l ≡ length ts = omega arith in
-    ap (λ (s : List Arrival). cond (is_fault u) (b ∷ []) [] ++ s) (unserved-push l ts a t less) ∙ sym (append_assoc (cond (is_fault u) (b ∷ []) []) (unserved l ts) (cond (is_fault t) (a ∷ []) []))
+-- an arrival that may be the last stays so
+pub maybe_stays : (l : List Arrival) (ts : List Taken) (a : Arrival) (t : Taken) (x : Arrival) → Contains (maybe_last l ts) x → Contains (maybe_last (l ++ a ∷ []) (ts ++ t ∷ [])) x
+maybe_stays [] ts a t x h = absurd (omega (arith, h.1))
+maybe_stays (b ∷ l) [] a t x h = absurd (omega (arith, h.1))
+maybe_stays (b ∷ l) (Reply status body ∷ ts) a t x h = maybe_stays l ts a t x h
+maybe_stays (b ∷ l) (InvokeReused ∷ ts) a t x h = maybe_stays l ts a t x h
+maybe_stays (b ∷ l) (DeskFull ∷ ts) a t x h = maybe_stays l ts a t x h
+maybe_stays (b ∷ l) (NoMemory ∷ ts) a t x h =
+    let more : List Arrival = maybe_last (l ++ a ∷ []) (ts ++ t ∷ []) in
+    elim (Contains-append_cases (b ∷ []) (maybe_last l ts) x h) [
+      | inl one ↦ Contains-append_left (b ∷ []) more x one
+      | inr rest ↦ Contains-append_right (b ∷ []) more x (maybe_stays l ts a t x rest)
+    ]
+maybe_stays (b ∷ l) (StoreFault ∷ ts) a t x h = h
+
+one_less : (b : Arrival) (u : Taken) (l : List Arrival) (ts : List Taken) → length (b ∷ l) ≡ length (u ∷ ts) → length l ≡ length ts
+one_less b u l ts same = omega (arith, same)
+
+-- and so may be the one at the end, which was answered by a fault, where none before it was answered storeFault
+pub maybe_this : (l : List Arrival) (ts : List Taken) (a : Arrival) (t : Taken) → length l ≡ length ts → ¬ (Contains ts StoreFault) → is_fault t ≡ true
+    → Contains (maybe_last (l ++ a ∷ []) (ts ++ t ∷ [])) a
+maybe_this [] [] a (Reply status body) same none h = absurd (true≢false (sym h))
+maybe_this [] [] a InvokeReused same none h = absurd (true≢false (sym h))
+maybe_this [] [] a DeskFull same none h = absurd (true≢false (sym h))
+maybe_this [] [] a NoMemory same none h = Contains-push [] a
+maybe_this [] [] a StoreFault same none h = Contains-push [] a
+maybe_this [] (u ∷ ts) a t same none h = absurd (omega arith)
+maybe_this (b ∷ l) [] a t same none h = absurd (omega arith)
+maybe_this (b ∷ l) (Reply status body ∷ ts) a t same none h = maybe_this l ts a t (one_less b (Reply status body) l ts same) (λ found. none (Contains-append_right (Reply status body ∷ []) ts StoreFault found)) h
+maybe_this (b ∷ l) (InvokeReused ∷ ts) a t same none h = maybe_this l ts a t (one_less b InvokeReused l ts same) (λ found. none (Contains-append_right (InvokeReused ∷ []) ts StoreFault found)) h
+maybe_this (b ∷ l) (DeskFull ∷ ts) a t same none h = maybe_this l ts a t (one_less b DeskFull l ts same) (λ found. none (Contains-append_right (DeskFull ∷ []) ts StoreFault found)) h
+maybe_this (b ∷ l) (NoMemory ∷ ts) a t same none h = Contains-append_right (b ∷ []) (maybe_last (l ++ a ∷ []) (ts ++ t ∷ [])) a (maybe_this l ts a t (one_less b NoMemory l ts same) (λ found. none (Contains-append_right (NoMemory ∷ []) ts StoreFault found)) h)
+maybe_this (b ∷ l) (StoreFault ∷ ts) a t same none h = absurd (none (Contains-append_left (StoreFault ∷ []) ts StoreFault (Contains-push [] StoreFault)))
 
 cond-not : (b : Bool) (t : Taken) → cond (not b) (t ∷ []) [] ≡ cond b [] (t ∷ [])
 cond-not true t = refl
@@ -139,20 +167,20 @@ one_content start l a t new good bad =
     ] in
     cases (is_fault t) refl
 
-pub one_stop : (start : Content) (l u : List Arrival) (a : Arrival) (t : Taken) (c : Content)
-    → (is_fault t ≡ false → c ≡ after (ran_after start l) a) → (is_fault t ≡ true → StopsAt start l u c ⊎ (c ≡ after (ran_after start l) a))
-    → StopsAt start (l ++ cond (is_fault t) [] (a ∷ [])) (u ++ cond (is_fault t) (a ∷ []) []) c
-one_stop start l u a t c good bad =
-    let P : Bool → Type 0 = λ b. StopsAt start (l ++ cond b [] (a ∷ [])) (u ++ cond b (a ∷ []) []) c in
+pub one_stop : (start : Content) (l u v : List Arrival) (a : Arrival) (t : Taken) (c : Content) → ((x : Arrival) → Contains u x → Contains v x)
+    → (is_fault t ≡ false → c ≡ after (ran_after start l) a) → (is_fault t ≡ true → StopsAt start l u c ⊎ (Contains v a × (c ≡ after (ran_after start l) a)))
+    → StopsAt start (l ++ cond (is_fault t) [] (a ∷ [])) v c
+one_stop start l u v a t c stay good bad =
+    let P : Bool → Type 0 = λ b. StopsAt start (l ++ cond b [] (a ∷ [])) v c in
     let cases : (b : Bool) → is_fault t ≡ b → P b
     = λ b. elim b as (λ b. is_fault t ≡ b → P b) [
-      | true ↦ λ e. subst (λ (s : List Arrival). StopsAt start s (u ++ a ∷ []) c) (sym (append-nil l))
+      | true ↦ λ e. subst (λ (s : List Arrival). StopsAt start s v c) (sym (append-nil l))
           (elim (bad e) [
             | inl old ↦ elim old [
               | inl same ↦ inl same
-              | inr more ↦ inr (more.0, Contains-append_left u (a ∷ []) more.0 more.1, more.2)
+              | inr more ↦ inr (more.0, stay more.0 more.1, more.2)
             ]
-            | inr made ↦ inr (a, Contains-push u a, made ∙ ran_push start l a)
+            | inr made ↦ inr (a, made.0, made.1 ∙ ran_push start l a)
           ])
       | false ↦ λ e. inl (good e ∙ ran_push start l a)
     ] in

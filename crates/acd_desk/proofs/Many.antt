@@ -4,15 +4,15 @@ use Rattle.std.proofs.lemmas.List.Elements.{Contains-push_cases, Contains-push, 
 use Rattle.std.specs.List.{Contains}
 use Rattle.acd_terms.specs.Lists.{Every}
 use Rattle.acd_terms.specs.declared.command.Arrival.{Arrival}
-use Rattle.acd_book.specs.Content.{Content, HasRisen}
+use Rattle.acd_book.specs.Content.{Content, HasRisen, Within}
 use Rattle.acd_desk.specs.declared.taken.Taken.{Taken}
 use Rattle.acd_desk.specs.declared.taken.Taken.TheVariants.{Reply, InvokeReused, DeskFull, NoMemory, StoreFault}
 use Rattle.acd_desk.specs.Replies.{answer_in, after}
-use Rattle.acd_desk.specs.Served.{is_fault, is_rejection, is_reply, served, unserved}
+use Rattle.acd_desk.specs.Served.{is_fault, is_rejection, is_reply, served, maybe_last}
 use Rattle.acd_desk.specs.Stands.{IsSound, ran_after, replies, StopsAt}
-use Rattle.acd_desk.specs.Standing.{Standing, Starts}
-use Rattle.acd_desk.specs.Ran.{IsCause, IsDeceived, WasUnloaded, EndsIn, IsFault, Took, Ran}
-use Rattle.acd_desk.proofs.Longer.{ran_none, one_said, one_content, one_stop, served-push, unserved-push}
+use Rattle.acd_desk.specs.Standing.{Standing, InStep, Starts}
+use Rattle.acd_desk.specs.Ran.{IsCause, IsDeceived, WasUnloaded, EndsIn, IsFault, EndsUp, Took, Ran}
+use Rattle.acd_desk.proofs.Longer.{ran_none, one_said, one_content, one_stop, served-push, maybe_stays, maybe_this}
 use Rattle.acd_desk.proofs.Sound.{ran_sound, stop_sound}
 use Rattle.acd_desk.proofs.ContentLaws.{sound_keeps_laws}
 
@@ -34,8 +34,17 @@ ran_nothing s settles =
       content = λ clean start opened. ran_none s.book.content start.3;
       whole = λ clean start opened. start.3;
       laws = λ clean start opened. sound_keeps_laws s.book.content start.3;
+      up = λ clean sound opened. opened;
+      holds = λ clean start ended. record {
+        content = ran_none s.book.content start.3;
+        whole = start.3;
+        laws = sound_keeps_laws s.book.content start.3;
+        alone = λ c at. settles c clean start.0 start.1 at;
+      };
+      opened = λ clean sound opened. opened;
       stops = λ clean start c at. inl (stop clean start c at);
       sound_stops = λ clean start c at. subst IsSound (sym (settles c clean start.0 start.1 at)) start.3;
+      still = λ clean sound shut c at. at;
       fault = λ h. absurd (omega (arith, h.1));
       cause = λ h. inl (inl h);
       shuts = λ h. absurd (omega (arith, h.1));
@@ -130,12 +139,51 @@ fault_no_reply DeskFull h = refl
 fault_no_reply NoMemory h = refl
 fault_no_reply StoreFault h = refl
 
+reply_no_fault : (t : Taken) → is_reply t ≡ true → is_fault t ≡ false
+reply_no_fault (Reply status body) h = refl
+reply_no_fault InvokeReused h = absurd (true≢false (sym h))
+reply_no_fault DeskFull h = absurd (true≢false (sym h))
+reply_no_fault NoMemory h = absurd (true≢false (sym h))
+reply_no_fault StoreFault h = absurd (true≢false (sym h))
+
+-- a book that is open has been open before
+was_open : (m n : Standing) (a : Arrival) (t : Taken) → Took m a t n → n.book.is_clean → m.book.is_sound → n.book.is_open → m.book.is_open
+was_open m n a t took clean sound opened =
+    let cases : (b : Bool) → is_reply t ≡ b → m.book.is_open
+    = λ b. elim b as (λ b. is_reply t ≡ b → m.book.is_open) [
+      | true ↦ λ reply. (took.up (reply_no_fault t reply) clean sound).0
+      | false ↦ λ none. (took.unmoved none clean sound opened).0
+    ] in
+    cases (is_reply t) refl
+
+-- the last answer is no fault
+last_served : (s : Standing) (ts : List Taken) (t : Taken) → EndsUp s (ts ++ t ∷ []) → is_fault t ≡ false
+last_served s [] t h = h
+last_served s (u ∷ []) t h = h
+last_served s (u ∷ v ∷ ts) t h = last_served s (v ∷ ts) t h
+
+-- over a book that was shut, or by a desk that had failed, nothing is done
+idle : (s m n : Standing) (l : List Arrival) (ts : List Taken) (a : Arrival) (t : Taken) → Ran s l ts m → Took m a t n
+    → n.book.is_clean → s.book.is_sound → (¬ s.book.is_open) ⊎ (s.failed ≡ true) → Within n.book.stops s.book.stops
+idle s m n l ts a t ran took clean sound shut c at =
+    let before = took.clean clean in
+    let out_of_step : InStep s = λ opened working. elim shut [
+      | inl closed ↦ absurd (closed opened)
+      | inr failed ↦ absurd (true≢false (sym failed ∙ working))
+    ] in
+    elim (took.stops clean (ran.sound before sound) (ran.in_step before sound out_of_step) c at) [
+      | inl old ↦ ran.still before sound shut c old
+      | inr made ↦ elim shut [
+        | inl closed ↦ absurd (closed (ran.opened before sound made.1))
+        | inr failed ↦ absurd (true≢false (sym (ran.shut failed).0 ∙ made.0))
+      ]
+    ]
+
 -- one more call
 pub ran_more : (s m n : Standing) (l : List Arrival) (ts : List Taken) (a : Arrival) (t : Taken) → Settles n → Ran s l ts m → Took m a t n → Ran s (l ++ a ∷ []) (ts ++ t ∷ []) n
 ran_more s m n l ts a t settles ran took =
     let start : Content = s.book.content in
     let yes : served (l ++ a ∷ []) (ts ++ t ∷ []) ≡ served l ts ++ cond (is_fault t) [] (a ∷ []) = served-push l ts a t ran.even in
-    let no : unserved (l ++ a ∷ []) (ts ++ t ∷ []) ≡ unserved l ts ++ cond (is_fault t) (a ∷ []) [] = unserved-push l ts a t ran.even in
     let content : n.book.is_clean → Starts s → n.book.is_open → n.book.content ≡ ran_after start (served (l ++ a ∷ []) (ts ++ t ∷ []))
     = λ clean starts opened.
     let before = took.clean clean in
@@ -145,24 +193,28 @@ ran_more s m n l ts a t settles ran took =
     (λ (fine : is_fault t ≡ false). (took.sent fine clean sound step).1 ∙ ap (λ (x : Content). after x a) (ran.content before starts (took.up fine clean sound).0))
     (λ (bad : is_fault t ≡ true). (took.unmoved (fault_no_reply t bad) clean sound opened).1 ∙ ran.content before starts (took.unmoved (fault_no_reply t bad) clean sound opened).0)
     ∙ ap (ran_after start) (sym yes) in
-    let stops : n.book.is_clean → Starts s → (c : Content) → n.book.stops c → StopsAt start (served (l ++ a ∷ []) (ts ++ t ∷ [])) (unserved (l ++ a ∷ []) (ts ++ t ∷ [])) c
+    let maybe : List Arrival = maybe_last (l ++ a ∷ []) (ts ++ t ∷ []) in
+    let stops : n.book.is_clean → Starts s → (c : Content) → n.book.stops c → StopsAt start (served (l ++ a ∷ []) (ts ++ t ∷ [])) maybe c
     = λ clean starts c stop.
     let before = took.clean clean in
     let sound = ran.sound before starts.0 in
     let step = ran.in_step before starts.0 starts.2 in
-    let at : StopsAt start (served l ts ++ cond (is_fault t) [] (a ∷ [])) (unserved l ts ++ cond (is_fault t) (a ∷ []) []) c
-    = one_stop start (served l ts) (unserved l ts) a t c
+    subst (λ (y : List Arrival). StopsAt start y maybe c) (sym yes)
+    (one_stop start (served l ts) (maybe_last l ts) maybe a t c (maybe_stays l ts a t)
     (λ (fine : is_fault t ≡ false).
     settles c clean (took.sound clean sound) (took.up fine clean sound).1 stop
     ∙ (took.sent fine clean sound step).1 ∙ ap (λ (x : Content). after x a) (ran.content before starts (took.up fine clean sound).0))
     (λ (bad : is_fault t ≡ true). elim (took.stops clean sound step c stop) [
       | inl old ↦ inl (ran.stops before starts c old)
-      | inr made ↦ inr (made.1 ∙ ap (λ (x : Content). after x a) (ran.content before starts made.0))
-    ]) in
-    subst (λ (y : List Arrival). StopsAt start y (unserved (l ++ a ∷ []) (ts ++ t ∷ [])) c) (sym yes)
-    (subst (λ (z : List Arrival). StopsAt start (served l ts ++ cond (is_fault t) [] (a ∷ [])) z c) (sym no) at) in
+      | inr made ↦ inr (
+        maybe_this l ts a t ran.even (λ found. true≢false (sym (ran.shuts found) ∙ made.0)) bad,
+        made.2 ∙ ap (λ (x : Content). after x a) (ran.content before starts made.1),
+      )
+    ])) in
     let whole : n.book.is_clean → Starts s → n.book.is_open → IsSound n.book.content
     = λ clean starts opened. subst IsSound (sym (content clean starts opened)) (ran_sound start (served (l ++ a ∷ []) (ts ++ t ∷ [])) starts.3) in
+    let up : n.book.is_clean → s.book.is_sound → EndsUp s (ts ++ t ∷ []) → n.book.is_open
+    = λ clean sound ended. (took.up (last_served s ts t ended) clean (ran.sound (took.clean clean) sound)).1 in
     record {
       even = length-append l (a ∷ []) ∙ ap (λ (k : ℕ). k + 1) ran.even ∙ sym (length-append ts (t ∷ []));
       clean = λ clean. ran.clean (took.clean clean);
@@ -177,8 +229,19 @@ ran_more s m n l ts a t settles ran took =
       content = content;
       whole = whole;
       laws = λ clean starts opened. sound_keeps_laws n.book.content (whole clean starts opened);
+      up = up;
+      holds = λ clean starts ended.
+          let opened = up clean starts.0 ended in
+          record {
+            content = content clean starts opened;
+            whole = whole clean starts opened;
+            laws = sound_keeps_laws n.book.content (whole clean starts opened);
+            alone = λ c stop. settles c clean (took.sound clean (ran.sound (took.clean clean) starts.0)) opened stop;
+          };
+      opened = λ clean sound opened. ran.opened (took.clean clean) sound (was_open m n a t took clean (ran.sound (took.clean clean) sound) opened);
       stops = stops;
-      sound_stops = λ clean starts c stop. stop_sound start (served (l ++ a ∷ []) (ts ++ t ∷ [])) (unserved (l ++ a ∷ []) (ts ++ t ∷ [])) c starts.3 (stops clean starts c stop);
+      sound_stops = λ clean starts c stop. stop_sound start (served (l ++ a ∷ []) (ts ++ t ∷ [])) maybe c starts.3 (stops clean starts c stop);
+      still = idle s m n l ts a t ran took;
       fault = λ h. elim (Contains-push_cases ts t StoreFault h) [
         | inl old ↦ lasts s m n ts a t took (ran.fault old)
         | inr now ↦ caused s m n l ts a t ran took (took.shuts now)

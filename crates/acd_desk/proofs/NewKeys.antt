@@ -46,7 +46,7 @@ kept_new s rows next a changes es k d p room done =
       unmoved = λ none. absurd (true≢false none);
       stops = λ clean sound step x at. elim (done.stops clean sound.0 x at) [
         | inl before ↦ inl before
-        | inr made ↦ inr (made.0, let did = does (step sound.1 refl) sound.2 room in made.1 did.0 ∙ did.1)
+        | inr made ↦ inr (refl, made.0, let did = does (step sound.1 refl) sound.2 room in made.1 did.0 ∙ did.1)
       ];
       shuts = λ h. absurd (reply_store k.status k.body h);
       tells = λ h. absurd (true≢false (sym h));
@@ -73,7 +73,7 @@ not_kept s rows next a changes es k d f rules p room done =
       same = λ clean sound opened. done.undone clean sound.0 opened;
       stops = λ clean sound step x at. elim (done.stops clean sound.0 x at) [
         | inl before ↦ inl before
-        | inr made ↦ inr (made.0, let did = does (step sound.1 refl) sound.2 room in made.1 did.0 ∙ did.1)
+        | inr made ↦ inr (refl, made.0, let did = does (step sound.1 refl) sound.2 room in made.1 did.0 ∙ did.1)
       ];
     } in
     faulted old a d Unloaded f undone (λ none. done.quiet (λ is. none (err_is is))) (λ is. done.cause (ap Err is)) done.counts refl refl (mirrored rows rules)

@@ -15,11 +15,11 @@ use Rattle.acd_desk.proofs.Keys.{key_same}
 use Rattle.acd_desk.proofs.Runs.{has-push, run-limits}
 
 -- each has a key that none before it has
-abbrev New : List Arrival → List Arrival → Type 0
+abbrev pub New : List Arrival → List Arrival → Type 0
 New seen [] = Unit {0}
 New seen (a ∷ l) = (has_key seen a.request.requester a.request.invoke ≡ false) × New (seen ++ a ∷ []) l
 
-abbrev SameKeys : List Arrival → List Arrival → Type 0
+abbrev pub SameKeys : List Arrival → List Arrival → Type 0
 SameKeys s t = (p : List ℕ) (q : ℕ) → has_key s p q ≡ has_key t p q
 
 new-distinct : (l seen : List Arrival) → New seen l → distinct_from seen l ≡ l
@@ -43,7 +43,7 @@ same_known s t x same known p q =
     sym (ap (λ (n : List ℕ). has_key t n x.request.invoke) both.0 ∙ ap (λ (n : ℕ). has_key t p n) both.1) ∙ known)
     ∙ sym (has-push t x p q)
 
-distinct-new : (l seen mine : List Arrival) → SameKeys mine seen → New mine (distinct_from seen l)
+pub distinct-new : (l seen mine : List Arrival) → SameKeys mine seen → New mine (distinct_from seen l)
 distinct-new [] seen mine same = tt
 distinct-new (x ∷ l) seen mine same =
     let P : Bool → Type 0 = λ b. New mine (cond b [] (x ∷ []) ++ distinct_from (seen ++ x ∷ []) l) in

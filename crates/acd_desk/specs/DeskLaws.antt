@@ -1,7 +1,7 @@
 -- What holds of the abstract desk.
-use Rattle.std.specs.Prelude.{◌≡◌, List, [], ◌∷◌, ◌++◌}
+use Rattle.std.specs.Prelude.{◌≡◌, true, List, [], ◌∷◌, ◌++◌}
+use Rattle.acd_terms.specs.Limits.{limits_fit}
 use Rattle.acd_terms.specs.declared.rows.Limits.{Limits}
-use Rattle.acd_terms.specs.declared.command.Request.{Request}
 use Rattle.acd_terms.specs.declared.command.Arrival.{Arrival}
 use Rattle.acd_book.specs.Content.{Content, empty_content}
 use Rattle.acd_desk.specs.Firsts.{firsts, run}
@@ -15,11 +15,15 @@ OneMoreArrival = (limits : Limits) (list : List Arrival) (a : Arrival) → after
 
 -- the look-up by key answers what the table by place says
 abbrev pub AnswersByPlace : Type 0
-AnswersByPlace = (limits : Limits) (list : List Arrival) (r : Request) → IsReplyAt limits list r (reply_to limits list r)
+AnswersByPlace = (limits : Limits) (before : List Arrival) (a : Arrival) (behind : List Arrival) → IsReplyAt limits before a behind (reply_to limits (before ++ a ∷ behind) a.request)
 
 -- a sound content keeps the laws of runs, and breaks no rule of rows
 abbrev pub SoundKeepsLaws : Type 0
 SoundKeepsLaws = (c : Content) → IsSound c → KeepsLaws c
+
+-- a new book is sound, where its limits fit
+abbrev pub EmptyIsSound : Type 0
+EmptyIsSound = (limits : Limits) → limits_fit limits ≡ true → IsSound (empty_content limits)
 
 -- one more arrival leaves a sound content sound
 abbrev pub StaysSound : Type 0

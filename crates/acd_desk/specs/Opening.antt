@@ -6,7 +6,7 @@ use Rattle.acd_switch.specs.declared.row_fault.RowFault.TheVariants as row
 use Rattle.acd_book.specs.declared.fault.BookFault.{BookFault}
 use Rattle.acd_book.specs.declared.fault.BookFault.TheVariants as book
 use Rattle.acd_book.specs.Content.{Within, HasRisen}
-use Rattle.acd_book.specs.State.{BookState}
+use Rattle.acd_book.specs.State.{BookState, IfHonest}
 use Rattle.acd_desk.specs.declared.open_fault.OpenFault.{OpenFault}
 use Rattle.acd_desk.specs.declared.open_fault.OpenFault.TheVariants as fault
 use Rattle.acd_desk.specs.Stands.{IsSound}
@@ -15,12 +15,13 @@ use Rattle.acd_desk.specs.Standing.{Standing, Starts}
 -- a desk with the rows of its book, which break no rule
 pub record Opened (old : BookState) (new : Standing) : Type 0 where
   pub clean : new.book.is_clean → old.is_clean
-  pub sound : new.book.is_clean → old.is_sound → new.book.is_sound
-  pub opened : new.book.is_clean → old.is_sound → old.is_open × new.book.is_open × (new.book.content ≡ old.content) × (new.switch ≡ Some old.content.rows)
+  pub sound : IfHonest old new.book new.book.is_sound
+  pub opened : IfHonest old new.book (old.is_open × new.book.is_open × (new.book.content ≡ old.content) × (new.switch ≡ Some old.content.rows))
   pub working : new.failed ≡ false
-  pub stops : new.book.is_clean → old.is_sound → Within new.book.stops old.stops
-  pub accepts : new.book.is_clean → old.is_sound → BreaksNoRule old.content.rows
-  pub starts : new.book.is_clean → old.is_sound → IsSound old.content → Starts new
+  pub stops : IfHonest old new.book (Within new.book.stops old.stops)
+  pub keeps : IfHonest old new.book (Within old.stops new.book.stops)
+  pub accepts : IfHonest old new.book (BreaksNoRule old.content.rows)
+  pub starts : IfHonest old new.book (IsSound old.content → Starts new)
   pub quiet : new.book.failures ≡ old.failures
 
 -- the book answered its rows: it is open, and they break this rule first
@@ -48,12 +49,13 @@ IsNoRule fault.Store = Unit {0}
 -- no desk, and the book that comes back
 pub record Refused (old : BookState) (why : OpenFault) (new : BookState) : Type 0 where
   pub clean : new.is_clean → old.is_clean
-  pub sound : new.is_clean → old.is_sound → new.is_sound
-  pub stops : new.is_clean → old.is_sound → Within new.stops old.stops
-  pub same : new.is_clean → old.is_sound → new.is_open → old.is_open × (new.content ≡ old.content)
-  pub refuses : new.is_clean → old.is_sound → RefusesBy old why new
+  pub sound : IfHonest old new new.is_sound
+  pub stops : IfHonest old new (Within new.stops old.stops)
+  pub keeps : IfHonest old new (new.is_open → Within old.stops new.stops)
+  pub same : IfHonest old new (new.is_open → old.is_open × (new.content ≡ old.content))
+  pub refuses : IfHonest old new (RefusesBy old why new)
   -- a sound content is never refused
-  pub well : new.is_clean → old.is_sound → IsSound old.content → IsNoRule why
+  pub well : IfHonest old new (IsSound old.content → IsNoRule why)
   -- a failure was counted where the store has failed, and nowhere else
   pub cause : why ≡ fault.Store → HasRisen old.failures new.failures
   pub quiet : ¬ (why ≡ fault.Store) → new.failures ≡ old.failures

@@ -3,11 +3,12 @@ use Rattle.std.specs.Prelude.{◌≡◌, ◌⊎◌, ◌≤◌, true, false, List
 use Rattle.std.specs.List.{Contains}
 use Rattle.acd_terms.specs.Lists.{Every}
 use Rattle.acd_terms.specs.declared.command.Arrival.{Arrival}
-use Rattle.acd_book.specs.Content.{Content, HasRisen}
+use Rattle.acd_book.specs.Content.{Content, HasRisen, Within}
+use Rattle.acd_book.specs.State.{BookState, IfHonest}
 use Rattle.acd_desk.specs.declared.taken.Taken.{Taken}
 use Rattle.acd_desk.specs.declared.taken.Taken.TheVariants.{NoMemory, StoreFault}
 use Rattle.acd_desk.specs.Replies.{answer_in, after}
-use Rattle.acd_desk.specs.Served.{is_fault, is_reply, served, unserved, sent}
+use Rattle.acd_desk.specs.Served.{is_fault, is_reply, served, maybe_last, sent}
 use Rattle.acd_desk.specs.Stands.{IsSound, ran_after, replies, StopsAt}
 pub use Rattle.acd_desk.specs.Standing.{Standing, standing}
 use Rattle.acd_desk.specs.Standing.{InStep, Starts}
@@ -21,16 +22,22 @@ IsCause old new = (old.failed ≡ true) ⊎ HasRisen old.book.failures new.book.
 abbrev pub IsDeceived : Standing → Standing → Type 0
 IsDeceived old new = ¬ (new.book.is_clean × old.book.is_sound × InStep old)
 
+-- what is said where the desk started well, and its book is clean after
+abbrev pub IfStarted : Standing → Standing → Type 0 → Type 0
+IfStarted old new P = new.book.is_clean → Starts old → P
+
 -- one arrival, and its answer
 pub record Took (old : Standing) (a : Arrival) (t : Taken) (new : Standing) : Type 0 where
   pub clean : new.book.is_clean → old.book.is_clean
-  pub sound : new.book.is_clean → old.book.is_sound → new.book.is_sound
-  pub in_step : new.book.is_clean → old.book.is_sound → InStep old → InStep new
-  pub up : is_fault t ≡ false → new.book.is_clean → old.book.is_sound → old.book.is_open × new.book.is_open
-  pub sent : is_fault t ≡ false → new.book.is_clean → old.book.is_sound → InStep old
-      → (t ≡ answer_in (after old.book.content a) a.request) × (new.book.content ≡ after old.book.content a)
-  pub unmoved : is_reply t ≡ false → new.book.is_clean → old.book.is_sound → new.book.is_open → old.book.is_open × (new.book.content ≡ old.book.content)
-  pub stops : new.book.is_clean → old.book.is_sound → InStep old → (c : Content) → new.book.stops c → old.book.stops c ⊎ (old.book.is_open × (c ≡ after old.book.content a))
+  pub sound : IfHonest old.book new.book new.book.is_sound
+  pub in_step : IfHonest old.book new.book (InStep old → InStep new)
+  pub up : is_fault t ≡ false → IfHonest old.book new.book (old.book.is_open × new.book.is_open)
+  pub sent : is_fault t ≡ false → IfHonest old.book new.book (InStep old
+      → (t ≡ answer_in (after old.book.content a) a.request) × (new.book.content ≡ after old.book.content a))
+  pub unmoved : is_reply t ≡ false → IfHonest old.book new.book (new.book.is_open → old.book.is_open × (new.book.content ≡ old.book.content))
+  -- a stop was one before; or the desk worked, its book was open, and the arrival is executed
+  pub stops : IfHonest old.book new.book (InStep old → (c : Content) → new.book.stops c
+      → old.book.stops c ⊎ ((old.failed ≡ false) × old.book.is_open × (c ≡ after old.book.content a)))
   -- the desk fails where it answers storeFault, and nowhere else; once failed it stays so, and answers faults alone
   pub shuts : t ≡ StoreFault → new.failed ≡ true
   pub tells : new.failed ≡ true → (old.failed ≡ true) ⊎ (t ≡ StoreFault)
@@ -58,21 +65,41 @@ IsStoreFault t = t ≡ StoreFault
 abbrev pub WasUnloaded : Standing → List Taken → Type 0
 WasUnloaded old answers = (old.switch ≡ None) ⊎ Contains answers NoMemory
 
+-- the last arrival was served, or there was none and the book was open
+abbrev pub EndsUp : Standing → List Taken → Type 0
+EndsUp old [] = old.book.is_open
+EndsUp old (t ∷ []) = is_fault t ≡ false
+EndsUp old (_ ∷ t ∷ ts) = EndsUp old (t ∷ ts)
+
+-- the book holds the run over the first arrivals of what was kept and served, and a reopening finds nothing else
+pub record Holds (start : Content) (list : List Arrival) (new : BookState) : Type 0 where
+  pub content : new.content ≡ ran_after start list
+  pub whole : IsSound new.content
+  pub laws : KeepsLaws new.content
+  pub alone : (c : Content) → new.stops c → c ≡ new.content
+
 -- some arrivals, and their answers
 pub record Ran (old : Standing) (arrivals : List Arrival) (answers : List Taken) (new : Standing) : Type 0 where
   pub even : length arrivals ≡ length answers
   pub clean : new.book.is_clean → old.book.is_clean
-  pub sound : new.book.is_clean → old.book.is_sound → new.book.is_sound
-  pub in_step : new.book.is_clean → old.book.is_sound → InStep old → InStep new
+  pub sound : IfHonest old.book new.book new.book.is_sound
+  pub in_step : IfHonest old.book new.book (InStep old → InStep new)
   -- each answer but the faults is that of the abstract desk, at its place in the list of what was kept and served
-  pub replies : new.book.is_clean → Starts old → sent answers ≡ replies old.book.content (served arrivals answers)
+  pub replies : IfStarted old new (sent answers ≡ replies old.book.content (served arrivals answers))
   -- an open book holds the run over the first arrivals of that list
-  pub content : new.book.is_clean → Starts old → new.book.is_open → new.book.content ≡ ran_after old.book.content (served arrivals answers)
-  pub whole : new.book.is_clean → Starts old → new.book.is_open → IsSound new.book.content
-  pub laws : new.book.is_clean → Starts old → new.book.is_open → KeepsLaws new.book.content
-  -- whatever a stop leaves is that run, or that with one more arrival, which was answered by a fault
-  pub stops : new.book.is_clean → Starts old → (c : Content) → new.book.stops c → StopsAt old.book.content (served arrivals answers) (unserved arrivals answers) c
-  pub sound_stops : new.book.is_clean → Starts old → (c : Content) → new.book.stops c → IsSound c
+  pub content : IfStarted old new (new.book.is_open → new.book.content ≡ ran_after old.book.content (served arrivals answers))
+  pub whole : IfStarted old new (new.book.is_open → IsSound new.book.content)
+  pub laws : IfStarted old new (new.book.is_open → KeepsLaws new.book.content)
+  -- the book is open behind an arrival that was served, so also where all were
+  pub up : IfHonest old.book new.book (EndsUp old answers → new.book.is_open)
+  pub holds : IfStarted old new (EndsUp old answers → Holds old.book.content (served arrivals answers) new.book)
+  -- a book that was shut stays shut
+  pub opened : IfHonest old.book new.book (new.book.is_open → old.book.is_open)
+  -- whatever a stop leaves is that run, or that with one more arrival, which was answered noMemory before the first storeFault, or that storeFault
+  pub stops : IfStarted old new ((c : Content) → new.book.stops c → StopsAt old.book.content (served arrivals answers) (maybe_last arrivals answers) c)
+  pub sound_stops : IfStarted old new ((c : Content) → new.book.stops c → IsSound c)
+  -- over a book that was shut, or by a desk that had failed, no stop is added
+  pub still : IfHonest old.book new.book ((¬ old.book.is_open) ⊎ (old.failed ≡ true) → Within new.book.stops old.book.stops)
   -- a store fault has a cause, and behind it there are faults alone
   pub fault : Contains answers StoreFault → IsCause old new ⊎ (WasUnloaded old answers × IsDeceived old new)
   pub cause : new.failed ≡ true → IsCause old new ⊎ (WasUnloaded old answers × IsDeceived old new)

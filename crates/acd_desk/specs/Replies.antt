@@ -1,5 +1,6 @@
 -- What is answered to an arrival of a list, and what a desk does with one more.
-use Rattle.std.specs.Prelude.{◌≡◌, ◌≢◌, ◌⊎◌, Bool, true, false, cond, nat_lt, List, ◌∷◌, Option, Some, None, is_some}
+use Rattle.std.specs.Prelude.{◌≡◌, ◌≢◌, ◌⊎◌, Bool, true, false, cond, nat_lt, List, ◌∷◌, ◌++◌, Option, Some, None, is_some}
+use Rattle.acd_terms.specs.Lists.{Among}
 use Rattle.acd_terms.specs.declared.rows.Limits.{Limits}
 use Rattle.acd_terms.specs.declared.command.Request.{Request}
 use Rattle.acd_terms.specs.declared.command.Arrival.{Arrival}
@@ -31,17 +32,28 @@ abbrev pub StandTogether : List Arrival → List Kept → Arrival → Kept → T
 StandTogether (a ∷ list) (r ∷ kept) x k = ((x ≡ a) × (k ≡ r)) ⊎ StandTogether list kept x k
 StandTogether _ _ x k = ⊥
 
--- an arrival with the key of the request stands in the first arrivals, and the run keeps this of it
-pub record StandsFirst (limits : Limits) (list : List Arrival) (r : Request) (first : Arrival) (kept : Kept) : Type 0 where
-  pub key : is_key r.requester r.invoke first.request ≡ true
-  pub place : StandTogether (firsts limits.requests list) (run limits list).kept first kept
+-- the arrival stands in the first arrivals of the list, and the run keeps this of it
+abbrev pub StandsFirst : Limits → List Arrival → Arrival → Kept → Type 0
+StandsFirst limits list a kept = StandTogether (firsts limits.requests list) (run limits list).kept a kept
 
--- the reply of the first arrival of its key where that is the same request, and else invokeReused; deskFull where no arrival of its key stands there
-abbrev pub IsReplyAt : Limits → List Arrival → Request → Taken → Type 0
-IsReplyAt limits list r answer =
-    ((first : Arrival) × (kept : Kept) × StandsFirst limits list r first kept
-    × (first.request ≡ r → answer ≡ Reply kept.status kept.body) × (first.request ≢ r → answer ≡ InvokeReused))
-    ⊎ ((has_key (firsts limits.requests list) r.requester r.invoke ≡ false) × (answer ≡ DeskFull))
+-- an arrival before it has its key
+pub record IsEarlier (before : List Arrival) (a earlier : Arrival) : Type 0 where
+  pub stands : Among earlier before
+  pub key : is_key a.request.requester a.request.invoke earlier.request ≡ true
+
+-- the answer to an arrival of a list, by what stands before it and behind it
+pub data IsReplyAt (limits : Limits) (before : List Arrival) (a : Arrival) (behind : List Arrival) : Taken → Type 0 where
+  -- it stands in the first arrivals: its own reply
+  own : (kept : Kept) → has_key before a.request.requester a.request.invoke ≡ false
+      → StandsFirst limits (before ++ a ∷ behind) a kept → IsReplyAt limits before a behind (Reply kept.status kept.body)
+  -- an earlier arrival of its key stands there, with the same request: the reply to that
+  repeat : (earlier : Arrival) (kept : Kept) → IsEarlier before a earlier
+      → StandsFirst limits (before ++ a ∷ behind) earlier kept → earlier.request ≡ a.request → IsReplyAt limits before a behind (Reply kept.status kept.body)
+  -- or with another one
+  reused : (earlier : Arrival) (kept : Kept) → IsEarlier before a earlier
+      → StandsFirst limits (before ++ a ∷ behind) earlier kept → earlier.request ≢ a.request → IsReplyAt limits before a behind InvokeReused
+  -- no arrival of its key stands there
+  full : has_key (firsts limits.requests (before ++ a ∷ behind)) a.request.requester a.request.invoke ≡ false → IsReplyAt limits before a behind DeskFull
 
 -- the content after one more arrival: where its key is new and the desk isn't full, that with it executed
 abbrev pub after : Content → Arrival → Content

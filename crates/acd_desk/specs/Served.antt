@@ -37,7 +37,9 @@ served _ _ = []
 abbrev pub sent : List Taken → List Taken
 sent answers = filter (λ (t : Taken). not (is_fault t)) answers
 
--- those that were
-abbrev pub unserved : List Arrival → List Taken → List Arrival
-unserved (a ∷ rest) (t ∷ ts) = cond (is_fault t) (a ∷ []) [] ++ unserved rest ts
-unserved _ _ = []
+-- the arrivals that may have been executed though it wasn't answered so: those answered noMemory before the first storeFault, and that one
+abbrev pub maybe_last : List Arrival → List Taken → List Arrival
+maybe_last (a ∷ rest) (NoMemory ∷ ts) = a ∷ maybe_last rest ts
+maybe_last (a ∷ rest) (StoreFault ∷ ts) = a ∷ []
+maybe_last (a ∷ rest) (t ∷ ts) = maybe_last rest ts
+maybe_last _ _ = []

@@ -1,7 +1,7 @@
 //! What holds of the abstract desk, whichever book keeps it. Each law is the contract of a function with
 //! an empty body, and is stated in `specs/`.
 
-ghost use Rattle.acd_desk.specs.DeskLaws.{OneMoreArrival, AnswersByPlace, SoundKeepsLaws, StaysSound, KeepsFirsts};
+ghost use Rattle.acd_desk.specs.DeskLaws.{OneMoreArrival, AnswersByPlace, SoundKeepsLaws, EmptyIsSound, StaysSound, KeepsFirsts};
 
 /// One more arrival leads from the run of a list to the run of the longer list.
 pub fn one_more_arrival()
@@ -16,6 +16,11 @@ pub fn answers_by_place()
 /// A sound content keeps the laws of runs, and breaks no rule of rows.
 pub fn sound_keeps_laws()
     ensures { SoundKeepsLaws }
+{}
+
+/// A new book is sound, where its limits fit.
+pub fn new_book_is_sound()
+    ensures { EmptyIsSound }
 {}
 
 /// One more arrival leaves a sound content sound.

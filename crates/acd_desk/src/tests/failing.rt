@@ -70,6 +70,8 @@ impl Book for FailingBook {
 
     ghost stays = { λ b clean sound up. refl };
 
+    ghost stands = { λ b clean sound. ∣ (_, refl) ∣₁ };
+
     fn failures(&self) -> u64 {
         self.failures
     }
