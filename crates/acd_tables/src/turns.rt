@@ -1,6 +1,6 @@
 //! What a change of one record takes into the exact sets, and out of them.
 
-ghost use Rattle.std.specs.Prelude.{◌≡◌, ◌||◌, Some, None, if◌then◌else◌};
+ghost use Rattle.std.specs.Prelude.{◌≡◌, ◌&&◌, ◌||◌, Some, None, is_some, if◌then◌else◌};
 ghost use Rattle.acd_terms.specs.Writes.{with_agent};
 ghost use Rattle.acd_tables.specs.Indexed.{IsIndexed, is_free, is_busying};
 ghost use Rattle.acd_tables.specs.Uses.{is_used, is_in_use};
@@ -87,9 +87,25 @@ fn is_busy_with(
     new: &Option<ConnectionRecord>,
 ) -> bool
     requires { IsIndexed records.now indexes.now }
-    ensures { result ≡ (is_in_use records.now device (Some call) Busying || is_used is_busying new.now) }
+    ensures { result ≡ (is_used is_busying new.now || is_in_use records.now device (Some call) Busying) }
 {
-    is_in_use(records, &indexes.lines, device, Some(call), Use::Busying) || is_busying(new)
+    is_busying(new) || is_in_use(records, &indexes.lines, device, Some(call), Use::Busying)
+}
+
+// There is a ready agent at the device, whom the new connection of the call or another one keeps from
+// an offer. A group has no agent, so nobody goes through its calls.
+fn is_kept(
+    records: &Records,
+    indexes: &Indexes,
+    call: u64,
+    device: DeviceId,
+    new: &Option<ConnectionRecord>,
+    seat: &Option<(DeviceId, (u64, AgentId))>,
+) -> bool
+    requires { IsIndexed records.now indexes.now }
+    ensures { result ≡ (is_some seat.now && (is_used is_busying new.now || is_in_use records.now device (Some call) Busying)) }
+{
+    seat.is_some() && is_busy_with(records, indexes, call, device, new)
 }
 
 /// What changes where the connection of the call at the device is put, or removed.
@@ -109,7 +125,7 @@ pub(crate) fn connection_turn(
     let after = queue_entry(new);
     let agent = agent_at(records, &indexes.seats, device);
     let seat = ready_entry(&agent);
-    let busy = is_busy_with(records, indexes, call, device, new);
+    let busy = is_kept(records, indexes, call, device, new, &seat);
     let leaving = leaving_but(&before, &after);
     Turn {
         entering: Entries {
