@@ -34,6 +34,9 @@ eq_then Less b = refl
 eq_then Equal b = refl
 eq_then Greater b = refl
 
+pub pair_key : (call device : ℕ) (p : ℕ × ℕ) → is_eq (pair_cmp (call, device) p) ≡ (call == p.0 && device == p.1)
+pair_key call device p = rw (eq_then (nat_cmp call p.0) (nat_cmp device p.1), eq_key call p.0, eq_key device p.1) refl
+
 -- an entry's test, on numbers
 entry_test : (a b c g : ℕ) (p : ℕ × ℕ) → is_entry pair_cmp (Some (g, (a, b))) c p ≡ ((g == c) && ((a == p.0) && (b == p.1)))
 entry_test a b c g p = rw (eq_then (nat_cmp a p.0) (nat_cmp b p.1), eq_key g c, eq_key a p.0, eq_key b p.1) refl

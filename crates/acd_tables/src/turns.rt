@@ -1,6 +1,7 @@
 //! What a change of one record takes into the exact sets, and out of them.
 
 ghost use Rattle.std.specs.Prelude.{◌≡◌, ◌&&◌, ◌||◌, Some, None, is_some, if◌then◌else◌};
+ghost use Rattle.acd_terms.specs.Scans.{agent_of, connection_of};
 ghost use Rattle.acd_terms.specs.Writes.{with_agent};
 ghost use Rattle.acd_tables.specs.Indexed.{IsIndexed, is_free, is_busying};
 ghost use Rattle.acd_tables.specs.Uses.{is_used, is_in_use};
@@ -114,14 +115,15 @@ pub(crate) fn connection_turn(
     indexes: &Indexes,
     call: u64,
     device: DeviceId,
+    old: &Option<ConnectionRecord>,
     new: &Option<ConnectionRecord>,
 ) -> Turn
     requires indexed { IsIndexed records.now indexes.now }
+    requires found { old.now ≡ connection_of records.now call device }
     requires at { IsAt call device new.now }
     ensures { TurnsTo records.now (with_or_without records.now call device new.now) result }
 {
-    let old = records.connection(call, device);
-    let before = queue_entry(&old);
+    let before = queue_entry(old);
     let after = queue_entry(new);
     let agent = agent_at(records, &indexes.seats, device);
     let seat = ready_entry(&agent);
@@ -152,15 +154,20 @@ fn is_free(records: &Records, indexes: &Indexes, station: Option<DeviceId>) -> b
 }
 
 /// What changes where the agent is put.
-pub(crate) fn agent_turn(records: &Records, indexes: &Indexes, item: &AgentRecord) -> Turn
-    requires { IsIndexed records.now indexes.now }
+pub(crate) fn agent_turn(
+    records: &Records,
+    indexes: &Indexes,
+    old: &Option<AgentRecord>,
+    item: &AgentRecord,
+) -> Turn
+    requires indexed { IsIndexed records.now indexes.now }
+    requires found { old.now ≡ agent_of records.now item.now.agent }
     ensures { TurnsTo records.now (with_agent records.now item.now) result }
 {
     let free = is_free(records, indexes, item.station);
     let entry = able_entry(item);
     let after = only(&entry, free);
-    let old = records.agent(item.agent);
-    let before = ready_entry(&old);
+    let before = ready_entry(old);
     let leaving = leaving_but(&before, &after);
     Turn {
         entering: Entries {
