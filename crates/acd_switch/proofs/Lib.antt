@@ -5,3 +5,4 @@ pub mod Refusing
 pub mod Beginning
 pub mod Growing
 pub mod Making
+pub mod TickLemmas

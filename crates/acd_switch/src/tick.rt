@@ -66,7 +66,7 @@ fn is_rested(tables: &Tables, moment: u32, agent: &AgentRecord) -> bool
     }
 }
 
-// The offers that rang too long, in ascending call number. It goes through the connections.
+// The offers that rang too long, in ascending call number.
 #[tactic(auto, unfolding(acd_terms::specs::Tick::overdue_in))]
 fn overdue_in(
     alloc: Global,
@@ -76,7 +76,8 @@ fn overdue_in(
     ensures { IfOk result (λ v. v.items ≡ overdue_in tables.now moment) }
 {
     let mut overdue = Vec::new(alloc);
-    for connection in tables.connections() {
+    let ringing = tables.ringing()?;
+    for connection in ringing.as_slice() {
         if is_overdue(tables, moment, connection) {
             overdue.push(*connection)?;
         }
@@ -84,13 +85,14 @@ fn overdue_in(
     Ok(overdue)
 }
 
-// The agents whose after-call work lasted long enough, in ascending number. It goes through the agents.
+// The agents whose after-call work lasted long enough, in ascending number.
 #[tactic(auto, unfolding(acd_terms::specs::Tick::rested_in))]
 fn rested_in(alloc: Global, tables: &Tables, moment: u32) -> Result<Vec<AgentRecord>, AllocError>
     ensures { IfOk result (λ v. v.items ≡ rested_in tables.now moment) }
 {
     let mut rested = Vec::new(alloc);
-    for agent in tables.agents() {
+    let working = tables.working()?;
+    for agent in working.as_slice() {
         if is_rested(tables, moment, agent) {
             rested.push(*agent)?;
         }

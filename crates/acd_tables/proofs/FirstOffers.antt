@@ -5,11 +5,10 @@ use Rattle.std.specs.List.{AllByRecursion}
 use Rattle.std.specs.List.Sorted.{IsStrictlySortedBy}
 use Rattle.std.specs.Option.{option_or}
 use Rattle.std.specs.declared.cmp.Ordering.TheVariants.{Less}
-use Rattle.std.specs.Ordering.{is_eq, nat_cmp}
-use Rattle.std.specs.BTreeSet.{BTreeSet, contains}
+use Rattle.std.specs.Ordering.{nat_cmp}
+use Rattle.std.specs.BTreeSet.{contains}
 use Rattle.std.proofs.lemmas.Bool.{eqb-true, eq-eqb}
 use Rattle.std.proofs.lemmas.Bool.Decides.{nat_tests}
-use Rattle.std.proofs.lemmas.Map.Lookups.{exact_unsigned}
 use Rattle.acd_terms.specs.Lists.{Among, IsAscending}
 use Rattle.acd_terms.specs.Rules.Plan.{group_order}
 use Rattle.acd_terms.specs.Scans.{is_group}
@@ -18,12 +17,13 @@ use Rattle.acd_terms.specs.declared.rows.Rows.{Rows}
 use Rattle.acd_terms.specs.declared.record.GroupRecord.{GroupRecord}
 use Rattle.acd_terms.specs.declared.moves.Offer.{Offer}
 use Rattle.acd_laws.proofs.Least.{least_is}
-use Rattle.acd_laws.proofs.Lists.{eq_is, any_found, any_some, find_passes, find_among, some_from, none_from, after_among}
+use Rattle.acd_laws.proofs.Lists.{any_found, any_some, find_passes, find_among, some_from, none_from, after_among}
 use Rattle.acd_laws.proofs.State.{is_group_any}
 use Rattle.acd_tables.specs.Indexed.{IsIndexed}
 use Rattle.acd_tables.specs.FirstOffer.{offer_in_group, first_given}
 use Rattle.acd_tables.specs.declared.indexes.Indexes.{Indexes}
 use Rattle.acd_tables.proofs.Firsts.{waiting-among, eligible-among}
+use Rattle.acd_tables.proofs.Picked.{contained, exact_number}
 
 less_is : (a b : ℕ) → nat_cmp a b ≡ Less → a < b
 less_is a b e = grind (arith, nat_tests)
@@ -108,12 +108,6 @@ record_of s j e =
     let g = some_from (find p s.groups) (any_found p s.groups (sym (is_group_any s j) ∙ e)) in
     (g.0, find_among p s.groups g.0 g.1, eqb-true g.0.device j (find_passes p s.groups g.0 g.1))
 
-contained : (offering : BTreeSet ℕ) (j : ℕ) → contains nat_cmp offering j ≡ true → Among j offering.keys
-contained offering j e =
-    let p : ℕ → Bool = λ k. is_eq (nat_cmp j k) in
-    let k = some_from (find p offering.keys) (any_found p offering.keys e) in
-    subst (λ z. Among z offering.keys) (sym (exact_unsigned j k.0 (eq_is _ (find_passes p offering.keys k.0 k.1)))) (find_among p offering.keys k.0 k.1)
-
 module _ (s : Rows) (x : Indexes) (h : IsIndexed s x) where
   noted : (j : ℕ) (v u : ℕ × ℕ) → first_waiting s j ≡ Some v → first_eligible s j ≡ Some u → contains nat_cmp x.offering j ≡ true
   unfolding first_waiting first_eligible
@@ -123,5 +117,5 @@ module _ (s : Rows) (x : Indexes) (h : IsIndexed s x) where
   pub first-offer : IsStrictlySortedBy nat_cmp x.offering.keys → first_given (offer_in_group s) x.offering.keys ≡ offer_of s
   unfolding offer_of
   first-offer sorted = one_first (offer_in_group s) _ _
-      (first-sorted (offer_in_group s) x.offering.keys sorted (λ j o e. let both = given s j o e in contained x.offering j (noted j both.1 both.2 both.3 both.4)))
+      (first-sorted (offer_in_group s) x.offering.keys sorted (λ j o e. let both = given s j o e in contained nat_cmp exact_number x.offering j (noted j both.1 both.2 both.3 both.4)))
       (first-in s s.groups (is-planned s) h.groups (λ j o e. record_of s j (given s j o e).0))

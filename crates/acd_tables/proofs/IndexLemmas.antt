@@ -21,8 +21,8 @@ use Rattle.acd_terms.specs.declared.record.AgentRecord.{AgentRecord}
 use Rattle.acd_terms.specs.declared.record.CallRecord.{CallRecord}
 use Rattle.acd_terms.specs.declared.record.MonitorRecord.{MonitorRecord}
 use Rattle.acd_terms.specs.declared.record.ConnectionRecord.{ConnectionRecord}
-use Rattle.acd_tables.specs.Sets.{holds, holds_in, has_set, is_at_key, Stays, SetsMember, SameMembers, HasSet}
-use Rattle.acd_tables.specs.Indexed.{PairSets, pair_cmp, lists, joins, waits_at, is_busying, is_busy_at, is_free, is_able_since, Seats, Lines, IsIndexed}
+use Rattle.acd_tables.specs.Sets.{holds, holds_in, has_set, is_at_key, Stays, SetsMember, SameMembers, HasSet, Forgotten}
+use Rattle.acd_tables.specs.Indexed.{PairSets, pair_cmp, lists, joins, waits_at, is_busying, is_busy_at, is_free, is_able_since, rings, works, Seats, Lines, Ringing, Working, IsIndexed}
 use Rattle.acd_tables.specs.Turns.{is_entry, Entered, Undone, Untouched, TakenOut, TurnsTo, IsAt, IsFreeFor, with_or_without, one_queued, IsBlank}
 use Rattle.acd_tables.specs.declared.indexes.Indexes.{Indexes}
 use Rattle.acd_tables.specs.declared.indexes.Entries.{Entries}
@@ -33,6 +33,7 @@ use Rattle.acd_laws.proofs.Found.{has_is, count_new, count_old, count_less}
 use Rattle.acd_laws.proofs.Numbers.{filter_length}
 use Rattle.acd_tables.proofs.OfferLemmas.{undone, offers-same}
 use Rattle.acd_tables.proofs.TurnLemmas.{Replaces, Replaces-put, Replaces-removed, eq_key}
+use Rattle.acd_tables.proofs.NoteLemmas.{Ringing-put, Ringing-left, Working-kept}
 use Rattle.acd_tables.proofs.Looking.{seated}
 
 -- where only the offers may have changed
@@ -48,6 +49,8 @@ IsIndexed-untouched s x y h u = record {
   offers = u.offers;
   seats = λ n d a e f. ap (λ m. get nat_cmp m d) u.rest.seats ∙ h.seats n d a e f;
   lines = λ c d e. ap (λ m. joins m d c) u.rest.lines ∙ h.lines c d e;
+  ringing = subst (Ringing s) (sym u.rest.ringing) h.ringing;
+  working = subst (Working s) (sym u.rest.working) h.working;
   queued = u.rest.queued ∙ h.queued;
 }
 
@@ -57,7 +60,7 @@ Untouched-undone x y z entries undo e u t = record {
   queues = record { sets = λ g. t.queues.sets g ∙ e.queues.sets g; members = undone x.queues y.queues z.queues undo.queue u.queues t.queues };
   ready = record { sets = λ g. t.ready.sets g ∙ e.ready.sets g; members = undone x.ready y.ready z.ready undo.ready u.ready t.ready };
   offers = t.offers;
-  rest = record { seats = t.rest.seats ∙ e.rest.seats; lines = t.rest.lines ∙ e.rest.lines; queued = t.rest.queued ∙ e.rest.queued };
+  rest = record { seats = t.rest.seats ∙ e.rest.seats; lines = t.rest.lines ∙ e.rest.lines; ringing = t.rest.ringing ∙ e.rest.ringing; working = t.rest.working ∙ e.rest.working; queued = t.rest.queued ∙ e.rest.queued };
 }
 
 groups_same : (s t : Rows) → t.groups ≡ s.groups → (g : ℕ) → is_group t g ≡ is_group s g
@@ -66,9 +69,9 @@ groups_same s t groups g = ap (λ (l : List GroupRecord). is_some (find_by (at_g
 
 -- what enters and leaves makes the sets of the new rows
 pub IsIndexed-turned : (s t : Rows) (x y z : Indexes) (turn : Turn) (n : ℕ) → IsIndexed s x → Entered x y turn.entering → TakenOut y z turn.leaving → TurnsTo s t turn
-    → t.groups ≡ s.groups → IsAscending agent_order t.agents → IsAscending connection_order t.connections → Seats t x.seats → Lines t x.lines → n ≡ length (queued_in_all t)
+    → t.groups ≡ s.groups → IsAscending agent_order t.agents → IsAscending connection_order t.connections → Seats t x.seats → Lines t x.lines → Ringing t x.ringing → Working t x.working → n ≡ length (queued_in_all t)
     → IsIndexed t (record z { queued = n })
-IsIndexed-turned s t x y z turn n h e o w groups agents connections seats lines queued = record {
+IsIndexed-turned s t x y z turn n h e o w groups agents connections seats lines ringing working queued = record {
   groups = subst (IsAscending group_order) (sym groups) h.groups;
   agents = agents;
   connections = connections;
@@ -83,6 +86,8 @@ IsIndexed-turned s t x y z turn n h e o w groups agents connections seats lines 
   offers = o.offers;
   seats = λ n d a f k. ap (λ m. get nat_cmp m d) (o.rest.seats ∙ e.rest.seats) ∙ seats n d a f k;
   lines = λ c d f. ap (λ m. joins m d c) (o.rest.lines ∙ e.rest.lines) ∙ lines c d f;
+  ringing = subst (Ringing t) (sym (o.rest.ringing ∙ e.rest.ringing)) ringing;
+  working = subst (Working t) (sym (o.rest.working ∙ e.rest.working)) working;
   queued = queued;
 }
 
@@ -227,6 +232,8 @@ module _ (s t : Rows) (agents : t.agents ≡ s.agents) (connections : t.connecti
     offers = offers-same x.queues queues x.ready ready x.offering mq mr h.offers;
     seats = Seats-kept s t x.seats agent_same h.seats;
     lines = Lines-kept s t x.lines (λ c d e. sym (ap is_some (found_same c d)) ∙ e) h.lines;
+    ringing = λ p e. h.ringing p (sym (ap rings (found_same p.0 p.1)) ∙ e);
+    working = Working-kept s t x.working agent_same h.working;
     queued = h.queued ∙ ap (λ (l : List ConnectionRecord). length (filter (λ (c : ConnectionRecord). is_queued c.state) l)) (sym connections);
   }
 
@@ -295,17 +302,50 @@ IsIndexed-both s x queues ready k h hq hr = IsIndexed-lists s s refl refl x queu
 pub IsIndexed-stays : (s : Rows) (x : Indexes) (queues : PairSets) → IsIndexed s x → Stays nat_cmp pair_cmp x.queues queues → IsIndexed s (record x { queues = queues })
 IsIndexed-stays s x queues h hq = IsIndexed-lists s s refl refl x queues x.ready h h.groups hq.members (λ g p. refl) (λ g e. hq.sets g ∙ h.queues g e) h.readies
 
+-- what may be listed besides
+IsIndexed-besides : (s : Rows) (x : Indexes) (seats : BTreeMap ℕ ℕ) (lines : BTreeMap ℕ (BTreeSet ℕ)) (ringing : BTreeSet (ℕ × ℕ)) (working : BTreeSet ℕ) → IsIndexed s x → Seats s seats → Lines s lines → Ringing s ringing → Working s working
+    → IsIndexed s (record x { seats = seats; lines = lines; ringing = ringing; working = working })
+IsIndexed-besides s x seats lines ringing working h d l r w = record {
+  groups = h.groups;
+  agents = h.agents;
+  connections = h.connections;
+  queues = h.queues;
+  readies = h.readies;
+  waiting = h.waiting;
+  able = h.able;
+  offers = h.offers;
+  seats = d;
+  lines = l;
+  ringing = r;
+  working = w;
+  queued = h.queued;
+}
+
 pub IsIndexed-seats : (s : Rows) (x : Indexes) (seats : BTreeMap ℕ ℕ) → IsIndexed s x → Seats s seats → IsIndexed s (record x { seats = seats })
-IsIndexed-seats s x seats h l = record { groups = h.groups; agents = h.agents; connections = h.connections; queues = h.queues; readies = h.readies; waiting = h.waiting; able = h.able; offers = h.offers; seats = l; lines = h.lines; queued = h.queued }
+IsIndexed-seats s x seats h l = IsIndexed-besides s x seats x.lines x.ringing x.working h l h.lines h.ringing h.working
 
 pub IsIndexed-lines : (s : Rows) (x : Indexes) (lines : BTreeMap ℕ (BTreeSet ℕ)) → IsIndexed s x → Lines s lines → IsIndexed s (record x { lines = lines })
-IsIndexed-lines s x lines h l = record { groups = h.groups; agents = h.agents; connections = h.connections; queues = h.queues; readies = h.readies; waiting = h.waiting; able = h.able; offers = h.offers; seats = h.seats; lines = l; queued = h.queued }
+IsIndexed-lines s x lines h l = IsIndexed-besides s x x.seats lines x.ringing x.working h h.seats l h.ringing h.working
+
+pub IsIndexed-ringing : (s : Rows) (x : Indexes) (ringing : BTreeSet (ℕ × ℕ)) → IsIndexed s x → Ringing s ringing → IsIndexed s (record x { ringing = ringing })
+IsIndexed-ringing s x ringing h r = IsIndexed-besides s x x.seats x.lines ringing x.working h h.seats h.lines r h.working
+
+pub IsIndexed-working : (s : Rows) (x : Indexes) (working : BTreeSet ℕ) → IsIndexed s x → Working s working → IsIndexed s (record x { working = working })
+IsIndexed-working s x working h w = IsIndexed-besides s x x.seats x.lines x.ringing working h h.seats h.lines h.ringing w
+
+-- a connection is listed before it is put
+pub IsIndexed-noted : (s : Rows) (x : Indexes) (lines : BTreeMap ℕ (BTreeSet ℕ)) (ringing : BTreeSet (ℕ × ℕ)) → IsIndexed s x → Lines s lines → Ringing s ringing → IsIndexed s (record x { lines = lines; ringing = ringing })
+IsIndexed-noted s x lines ringing h l r = IsIndexed-besides s x x.seats lines ringing x.working h h.seats l r h.working
+
+-- an agent is listed before it is put
+pub IsIndexed-seated : (s : Rows) (x : Indexes) (seats : BTreeMap ℕ ℕ) (working : BTreeSet ℕ) → IsIndexed s x → Seats s seats → Working s working → IsIndexed s (record x { seats = seats; working = working })
+IsIndexed-seated s x seats working h d w = IsIndexed-besides s x seats x.lines x.ringing working h d h.lines h.ringing w
 
 -- an agent's record is put
 pub IsIndexed-agent : (s : Rows) (item : AgentRecord) (x y z : Indexes) (turn : Turn) → IsIndexed s x → Entered x y turn.entering → TakenOut y z turn.leaving → TurnsTo s (with_agent s item) turn → Seats (with_agent s item) x.seats
-    → IsIndexed (with_agent s item) z
+    → Working (with_agent s item) x.working → IsIndexed (with_agent s item) z
 unfolding with_agent group_of connection_of queued_in_all
-IsIndexed-agent s item x y z turn h e o w seats = IsIndexed-turned s (with_agent s item) x y z turn z.queued h e o w refl (ascending-put agent_order agents_total item s.agents h.agents) h.connections seats h.lines (o.rest.queued ∙ e.rest.queued ∙ h.queued)
+IsIndexed-agent s item x y z turn h e o w seats working = IsIndexed-turned s (with_agent s item) x y z turn z.queued h e o w refl (ascending-put agent_order agents_total item s.agents h.agents) h.connections seats h.lines h.ringing working (o.rest.queued ∙ e.rest.queued ∙ h.queued)
 
 agents_put : (s : Rows) (c : ConnectionRecord) → IsAscending agent_order s.agents → IsAscending agent_order (with_connection s c).agents
 unfolding with_connection
@@ -325,21 +365,24 @@ groups_less s c d = refl
 
 -- a connection is put
 pub IsIndexed-put : (s : Rows) (c : ConnectionRecord) (x y z : Indexes) (turn : Turn) (n : ℕ) → IsIndexed s x → Entered x y turn.entering → TakenOut y z turn.leaving → TurnsTo s (with_connection s c) turn
-    → Lines (with_connection s c) x.lines → n ≡ length (queued_in_all (with_connection s c)) → IsIndexed (with_connection s c) (record z { queued = n })
-IsIndexed-put s c x y z turn n h e o w lines queued =
+    → Lines (with_connection s c) x.lines → Ringing (with_connection s c) x.ringing → n ≡ length (queued_in_all (with_connection s c)) → IsIndexed (with_connection s c) (record z { queued = n })
+IsIndexed-put s c x y z turn n h e o w lines ringing queued =
     let r = Replaces-put s c h.connections in
-    IsIndexed-turned s (with_connection s c) x y z turn n h e o w (groups_put s c) (agents_put s c h.agents) r.ascending (Seats-kept s (with_connection s c) x.seats r.agents h.seats) lines queued
+    IsIndexed-turned s (with_connection s c) x y z turn n h e o w (groups_put s c) (agents_put s c h.agents) r.ascending (Seats-kept s (with_connection s c) x.seats r.agents h.seats) lines ringing (Working-kept s (with_connection s c) x.working r.agents h.working) queued
 
 -- a connection is removed
-pub IsIndexed-removed : (s : Rows) (call device : ℕ) (x y z : Indexes) (turn : Turn) (n : ℕ) (lines : BTreeMap ℕ (BTreeSet ℕ)) → IsIndexed s x → Entered x y turn.entering → TakenOut y z turn.leaving → TurnsTo s (without_connection s call device) turn
-    → SetsMember nat_cmp nat_cmp z.lines lines device call false → n ≡ length (queued_in_all (without_connection s call device)) → IsIndexed (without_connection s call device) (record z { queued = n; lines = lines })
-IsIndexed-removed s call device x y z turn n lines h e o w gone queued =
+pub IsIndexed-removed : (s : Rows) (call device : ℕ) (x y z : Indexes) (turn : Turn) (n : ℕ) (lines : BTreeMap ℕ (BTreeSet ℕ)) (ringing : BTreeSet (ℕ × ℕ)) (gone : Bool) → IsIndexed s x → Entered x y turn.entering → TakenOut y z turn.leaving
+    → TurnsTo s (without_connection s call device) turn → SetsMember nat_cmp nat_cmp z.lines lines device call false → Forgotten pair_cmp z.ringing ringing (call, device) gone → n ≡ length (queued_in_all (without_connection s call device))
+    → IsIndexed (without_connection s call device) (record z { queued = n; lines = lines; ringing = ringing })
+IsIndexed-removed s call device x y z turn n lines ringing gone h e o w listed noted queued =
     let t : Rows = without_connection s call device in
     let r = Replaces-removed s call device h.connections in
     let still : Lines t x.lines = Lines-kept s t x.lines (λ c d f. left c d ((call == c) && (device == d)) (r.found c d) f) h.lines in
-    let now = IsIndexed-turned s t x y z turn n h e o w (groups_less s call device) (agents_less s call device h.agents) r.ascending (Seats-kept s t x.seats r.agents h.seats) still queued in
+    let rung : Ringing t x.ringing = Ringing-put s t call device None r x.ringing x.ringing false refl h.ringing (λ p. refl) in
+    let now = IsIndexed-turned s t x y z turn n h e o w (groups_less s call device) (agents_less s call device h.agents) r.ascending (Seats-kept s t x.seats r.agents h.seats) still rung (Working-kept s t x.working r.agents h.working) queued in
     let same : z.lines ≡ x.lines = o.rest.lines ∙ e.rest.lines in
-    IsIndexed-lines t (record z { queued = n }) lines now (Lines-removed s t call device r z.lines lines (subst (Lines s) (sym same) h.lines) gone)
+    IsIndexed-besides t (record z { queued = n }) z.seats lines ringing z.working now now.seats (Lines-removed s t call device r z.lines lines (subst (Lines s) (sym same) h.lines) listed)
+    (Ringing-left s t call device None r z.ringing ringing gone (λ g. refl) now.ringing noted) now.working
   where
     left : (c d : ℕ) (b : Bool) → connection_of (without_connection s call device) c d ≡ cond b None (connection_of s c d) → is_some (connection_of (without_connection s call device) c d) ≡ true → is_some (connection_of s c d) ≡ true
     left c d true e f = absurd (cc (e, f))
@@ -379,6 +422,8 @@ module _ (s : Rows) (x : Indexes) (no_groups : s.groups ≡ []) (no_agents : s.a
     offers = λ g p q h k. absurd (cc (h, no_member x.queues blank.queues g p));
     seats = λ n d a e f. absurd (cc (e, no_agent n));
     lines = λ c d e. absurd (cc (e, ap is_some (no_connection c d)));
+    ringing = λ p e. absurd (cc (e, ap rings (no_connection p.0 p.1)));
+    working = λ n e. absurd (cc (e, ap works (no_agent n)));
     queued = blank.queued ∙ none_queued;
   }
 

@@ -1,5 +1,5 @@
 -- What a change takes into the exact sets, and out of them.
-use Rattle.std.proofs.Common.{◌≡◌, ℕ, inl, inr, Bool, true, false, cond, ◌&&◌, ◌||◌, not, Option, Some, None, refl, ap, sym, ◌∙◌, subst}
+use Rattle.std.proofs.Common.{◌≡◌, ℕ, inl, inr, Bool, true, false, cond, ◌&&◌, ◌||◌, not, Option, Some, None, is_some, refl, ap, sym, ◌∙◌, subst}
 use Rattle.std.specs.Prelude.{◌==◌, unwrap_or}
 use Rattle.std.specs.List.{list_any}
 use Rattle.std.specs.Cmp.{both_ways}
@@ -33,6 +33,9 @@ eq_then : (a b : Ordering) → is_eq (ordering_then a b) ≡ (is_eq a && is_eq b
 eq_then Less b = refl
 eq_then Equal b = refl
 eq_then Greater b = refl
+
+pub pair_key : (call device : ℕ) (p : ℕ × ℕ) → is_eq (pair_cmp (call, device) p) ≡ (call == p.0 && device == p.1)
+pair_key call device p = rw (eq_then (nat_cmp call p.0) (nat_cmp device p.1), eq_key call p.0, eq_key device p.1) refl
 
 -- an entry's test, on numbers
 entry_test : (a b c g : ℕ) (p : ℕ × ℕ) → is_entry pair_cmp (Some (g, (a, b))) c p ≡ ((g == c) && ((a == p.0) && (b == p.1)))
@@ -78,28 +81,28 @@ module _ (s t : Rows) (call device : ℕ) (new : Option ConnectionRecord) (ascen
   found_apart : (k d : ℕ) → (device == d) ≡ false → connection_of t k d ≡ connection_of s k d
   found_apart k d e = r.found k d ∙ ap (λ b. cond b new (connection_of s k d)) (and_right (call == k) (device == d) e)
 
-  -- the station is busy by another connection or by the new one
-  pub busy-here : (is_in_use s device (Some call) Busying || is_used is_busying new) ≡ is_busy_at t device
+  -- the station is busy by the new connection or by another one
+  pub busy-here : (is_used is_busying new || is_in_use s device (Some call) Busying) ≡ is_busy_at t device
   unfolding is_busy_at
   busy-here = both_ways _ _ to from
     where
-      to : (is_in_use s device (Some call) Busying || is_used is_busying new) ≡ true → list_any (λ (c : ConnectionRecord). c.device == device && is_busying c) t.connections ≡ true
-      to e = elim (or_cases (is_in_use s device (Some call) Busying) (is_used is_busying new) e) [
-        | inl h ↦ (let c = any-there s (λ z. not (call == z.call) && is_busying z) device ascending h in
+      to : (is_used is_busying new || is_in_use s device (Some call) Busying) ≡ true → list_any (λ (c : ConnectionRecord). c.device == device && is_busying c) t.connections ≡ true
+      to e = elim (or_cases (is_used is_busying new) (is_in_use s device (Some call) Busying) e) [
+        | inl h ↦ (let c = used_some is_busying new h in there-any t is_busying call device c.0 (found_here ∙ c.1) c.2)
+        | inr h ↦ (let c = any-there s (λ z. not (call == z.call) && is_busying z) device ascending h in
             let parts = and_parts (not (call == c.0.call)) (is_busying c.0) c.2 in
             there-any t is_busying c.0.call device c.0 (found_besides c.0.call device (not-true (call == c.0.call) parts.0) ∙ c.1) parts.1)
-        | inr h ↦ (let c = used_some is_busying new h in there-any t is_busying call device c.0 (found_here ∙ c.1) c.2)
       ]
 
-      from : list_any (λ (c : ConnectionRecord). c.device == device && is_busying c) t.connections ≡ true → (is_in_use s device (Some call) Busying || is_used is_busying new) ≡ true
+      from : list_any (λ (c : ConnectionRecord). c.device == device && is_busying c) t.connections ≡ true → (is_used is_busying new || is_in_use s device (Some call) Busying) ≡ true
       from e = let c = any-there t is_busying device r.ascending e in by c.0 c.1 c.2 (call == c.0.call) refl
         where
-          by : (c : ConnectionRecord) → connection_of t c.call device ≡ Some c → is_busying c ≡ true → (b : Bool) → (call == c.call) ≡ b → (is_in_use s device (Some call) Busying || is_used is_busying new) ≡ true
+          by : (c : ConnectionRecord) → connection_of t c.call device ≡ Some c → is_busying c ≡ true → (b : Bool) → (call == c.call) ≡ b → (is_used is_busying new || is_in_use s device (Some call) Busying) ≡ true
           by c e u true h =
               let same : new ≡ Some c = sym found_here ∙ ap (λ k. connection_of t k device) (eqb-true call c.call h) ∙ e in
-              or_right (is_in_use s device (Some call) Busying) (is_used is_busying new) (ap (is_used is_busying) same ∙ u)
+              or_left (is_used is_busying new) (is_in_use s device (Some call) Busying) (ap (is_used is_busying) same ∙ u)
           by c e u false h =
-              or_left (is_in_use s device (Some call) Busying) (is_used is_busying new)
+              or_right (is_used is_busying new) (is_in_use s device (Some call) Busying)
               (there-any s (λ z. not (call == z.call) && is_busying z) c.call device c (sym (found_besides c.call device h) ∙ e) (and_from (not (call == c.call)) (is_busying c) (ap not h) u))
 
   -- no other station changes
@@ -344,11 +347,22 @@ module _ (s : Rows) (item : AgentRecord) (after leaving : Option (ℕ × (ℕ ×
           put_there (is_able_since s g p.0 (agent_of s p.1)) (is_entry pair_cmp after g p) (is_entry pair_cmp (ready_entry (agent_of s item.agent)) g p)
           (enters g p ∙ ap (λ b. b && is_able_since s g p.0 (Some item)) h) (other_entry g p h (agent_of s item.agent) refl)
 
+-- where there is no entry, nothing is asked
+none_enters : (seat : Option (ℕ × (ℕ × ℕ))) (b : Bool) → cond (is_some seat && b) None seat ≡ cond b None seat
+none_enters None true = refl
+none_enters None false = refl
+none_enters (Some k) b = refl
+
+none_leaves : (seat : Option (ℕ × (ℕ × ℕ))) (b : Bool) → cond (is_some seat && b) seat None ≡ cond b seat None
+none_leaves None true = refl
+none_leaves None false = refl
+none_leaves (Some k) b = refl
+
 -- the turn of a connection, by its parts
 pub connection-turn : (s : Rows) (seats : BTreeMap ℕ ℕ) (call device : ℕ) (new : Option ConnectionRecord) (turn : Turn) (before seat : Option (ℕ × (ℕ × ℕ))) (busy : Bool)
     → IsAscending connection_order s.connections → IsAscending agent_order s.agents → Seats s seats → IsAt call device new
     → before ≡ queue_entry (connection_of s call device) → turn.entering.queue ≡ queue_entry new → LeavesBut pair_cmp before turn.entering.queue turn.leaving.queue
-    → seat ≡ ready_entry (agent_at s device) → busy ≡ (is_in_use s device (Some call) Busying || is_used is_busying new)
+    → seat ≡ ready_entry (agent_at s device) → busy ≡ (is_some seat && (is_used is_busying new || is_in_use s device (Some call) Busying))
     → turn.entering.ready ≡ cond busy None seat → turn.leaving.ready ≡ cond busy seat None → TurnsTo s (with_or_without s call device new) turn
 connection-turn s seats call device new turn before seat busy ascending agents listed at b after out f u e l =
     let t : Rows = with_or_without s call device new in
@@ -357,13 +371,16 @@ connection-turn s seats call device new turn before seat busy ascending agents l
     λ g p. out g p
     ∙ ap (λ o. is_entry pair_cmp o g p && not (is_entry pair_cmp turn.entering.queue g p)) b
     ∙ ap (λ o. is_entry pair_cmp (queue_entry (connection_of s call device)) g p && not (is_entry pair_cmp o g p)) after in
-    let is = u ∙ busy-here s t call device new ascending at r in
+    let now : Bool = is_used is_busying new || is_in_use s device (Some call) Busying in
+    let is = busy-here s t call device new ascending at r in
+    let enters : turn.entering.ready ≡ cond now None seat = e ∙ ap (λ b. cond b None seat) u ∙ none_enters seat now in
+    let leaves_ready : turn.leaving.ready ≡ cond now seat None = l ∙ ap (λ b. cond b seat None) u ∙ none_leaves seat now in
     record {
       waiting = λ g p. waiting-turned s t call device new at r turn.leaving.queue leaves g p
           ∙ ap (λ o. not (is_entry pair_cmp turn.leaving.queue g p) && (is_entry pair_cmp o g p || waits_at p.0 (connection_of s p.1 g))) (sym after);
-      able = λ g p. able-turned s t call device new seats ascending agents listed at r busy is g p
-          ∙ ap (λ o. not (is_entry pair_cmp o g p) && (is_entry pair_cmp (cond busy None (ready_entry (agent_at s device))) g p || is_able_since s g p.0 (agent_of s p.1))) (sym (l ∙ ap (λ o. cond busy o None) f))
-          ∙ ap (λ o. not (is_entry pair_cmp turn.leaving.ready g p) && (is_entry pair_cmp o g p || is_able_since s g p.0 (agent_of s p.1))) (sym (e ∙ ap (λ o. cond busy None o) f));
+      able = λ g p. able-turned s t call device new seats ascending agents listed at r now is g p
+          ∙ ap (λ o. not (is_entry pair_cmp o g p) && (is_entry pair_cmp (cond now None (ready_entry (agent_at s device))) g p || is_able_since s g p.0 (agent_of s p.1))) (sym (leaves_ready ∙ ap (λ o. cond now o None) f))
+          ∙ ap (λ o. not (is_entry pair_cmp turn.leaving.ready g p) && (is_entry pair_cmp o g p || is_able_since s g p.0 (agent_of s p.1))) (sym (enters ∙ ap (λ o. cond now None o) f));
     }
 
 -- the turn of an agent, by its parts

@@ -8,11 +8,11 @@ use Rattle.std.specs.BTreeSet.{BTreeSet, contains}
 use Rattle.acd_terms.specs.Lists.{IsAscending}
 use Rattle.acd_terms.specs.Rules.Plan.{group_order, agent_order, connection_order}
 use Rattle.acd_terms.specs.Scans.{is_group, agent_of, connection_of, queued_in_all, has, is_distributed}
-use Rattle.acd_terms.specs.States.{is_queued, is_ready, is_occupying}
+use Rattle.acd_terms.specs.States.{is_queued, is_alerting, is_ready, is_working_after_call, is_occupying}
 use Rattle.acd_terms.specs.declared.rows.Rows.{Rows}
 use Rattle.acd_terms.specs.declared.record.AgentRecord.{AgentRecord}
 use Rattle.acd_terms.specs.declared.record.ConnectionRecord.{ConnectionRecord}
-use Rattle.acd_tables.specs.Sets.{holds, has_set}
+use Rattle.acd_tables.specs.Sets.{holds, has_set, Notes}
 use Rattle.acd_tables.specs.declared.indexes.Indexes.{Indexes}
 
 abbrev pub PairSets : Type 0
@@ -71,6 +71,31 @@ Seats s seats = (n d : ℕ) (a : AgentRecord) → agent_of s n ≡ Some a → a.
 abbrev pub Lines : Rows → BTreeMap ℕ (BTreeSet ℕ) → Type 0
 Lines s lines = (c d : ℕ) → is_some (connection_of s c d) ≡ true → joins lines d c ≡ true
 
+-- offered by distribution, and not answered
+abbrev pub is_ringing : ConnectionRecord → Bool
+is_ringing c = is_alerting c.state && (is_some c.group && is_some c.offered)
+
+-- the connection that may be there rings
+abbrev pub rings : Option ConnectionRecord → Bool
+rings None = false
+rings (Some c) = is_ringing c
+
+abbrev pub is_working : AgentRecord → Bool
+is_working a = is_working_after_call a.state
+
+-- the agent that may be there is in after-call work
+abbrev pub works : Option AgentRecord → Bool
+works None = false
+works (Some a) = is_working a
+
+-- each offer that rings is noted
+abbrev pub Ringing : Rows → BTreeSet (ℕ × ℕ) → Type 0
+Ringing s = Notes pair_cmp (λ p. rings (connection_of s p.0 p.1))
+
+-- each agent in after-call work is noted
+abbrev pub Working : Rows → BTreeSet ℕ → Type 0
+Working s = Notes nat_cmp (λ n. works (agent_of s n))
+
 -- the indexes are those of the rows
 pub record IsIndexed (s : Rows) (x : Indexes) : Type 0 where
   pub groups : IsAscending group_order s.groups
@@ -86,4 +111,7 @@ pub record IsIndexed (s : Rows) (x : Indexes) : Type 0 where
   -- who is at a station, and the calls at a device; more may be listed
   pub seats : Seats s x.seats
   pub lines : Lines s x.lines
+  -- what tick may end; more may be noted
+  pub ringing : Ringing s x.ringing
+  pub working : Working s x.working
   pub queued : x.queued ≡ length (queued_in_all s)

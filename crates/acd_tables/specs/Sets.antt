@@ -1,5 +1,5 @@
 -- Sets by key.
-use Rattle.std.specs.Prelude.{◌≡◌, Bool, false, ◌&&◌, ◌||◌, Option, Some, None, is_some, if◌then◌else◌}
+use Rattle.std.specs.Prelude.{◌≡◌, Bool, true, false, not, ◌&&◌, ◌||◌, Option, Some, None, is_some, if◌then◌else◌}
 use Rattle.std.specs.declared.cmp.Ordering.{Ordering}
 use Rattle.std.specs.Ordering.{is_eq}
 use Rattle.std.specs.BTreeMap.{BTreeMap, get}
@@ -42,3 +42,16 @@ module _ {K E : Type 0} (by : K → K → Ordering) (cmp : E → E → Ordering)
   pub record HasSet (old new : BTreeMap K (BTreeSet E)) (k : K) : Type 0 where
     pub sets : (q : K) → has_set new q ≡ (is_eq (by k q) || has_set old q)
     pub members : SameMembers old new
+
+module _ {K : Type 0} (cmp : K → K → Ordering) where
+  -- each key that passes is in the set; there may be more
+  abbrev pub Notes : (K → Bool) → BTreeSet K → Type 0
+  Notes p noted = (k : K) → p k ≡ true → contains cmp noted k ≡ true
+
+  -- the key came, if it belongs there
+  abbrev pub Noted : BTreeSet K → BTreeSet K → K → Bool → Type 0
+  Noted old new key belongs = (k : K) → contains cmp new k ≡ ((belongs && is_eq (cmp key k)) || contains cmp old k)
+
+  -- the key went, if it is gone
+  abbrev pub Forgotten : BTreeSet K → BTreeSet K → K → Bool → Type 0
+  Forgotten old new key gone = (k : K) → contains cmp new k ≡ (not (gone && is_eq (cmp key k)) && contains cmp old k)

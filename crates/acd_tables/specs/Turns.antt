@@ -65,6 +65,8 @@ ready_entry (Some a) = if is_ready a.state then entry_in a.group a else None
 pub record KeepsRest (old new : Indexes) : Type 0 where
   pub seats : new.seats ≡ old.seats
   pub lines : new.lines ≡ old.lines
+  pub ringing : new.ringing ≡ old.ringing
+  pub working : new.working ≡ old.working
   pub queued : new.queued ≡ old.queued
 
 abbrev pub Offers : Indexes → Type 0

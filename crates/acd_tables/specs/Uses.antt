@@ -29,3 +29,8 @@ is_in_use s device but kind = list_any (λ c. c.device == device && (not (has bu
 abbrev pub if_at : Option AgentRecord → ℕ → Option AgentRecord
 if_at None station = None
 if_at (Some a) station = if has a.station station then Some a else None
+
+-- what may be there, if it passes
+abbrev pub kept : {T : Type 0} → (T → Bool) → Option T → Option T
+kept p None = None
+kept p (Some x) = if p x then Some x else None

@@ -1,20 +1,20 @@
 //! Changes of one record that keep the indexes.
 
-ghost use Rattle.std.specs.Prelude.{◌≡◌, ℕ, Some, true, length, OnOk, OnErr, if◌then◌else◌};
+ghost use Rattle.std.specs.Prelude.{◌≡◌, ℕ, Some, true, not, ◌&&◌, length, OnOk, OnErr, if◌then◌else◌};
 ghost use Rattle.std.specs.Ordering.{nat_cmp};
 ghost use Rattle.std.specs.BTreeMap.{get};
 ghost use Rattle.acd_terms.specs.Lists.{IsAscending};
 ghost use Rattle.acd_terms.specs.Rules.Plan.{agent_order};
-ghost use Rattle.acd_terms.specs.Scans.{agent_at, queued_in_all, has};
+ghost use Rattle.acd_terms.specs.Scans.{agent_at, connection_of, queued_in_all, has};
 ghost use Rattle.acd_terms.specs.Writes.{with_group, with_agent, with_connection, without_connection};
-ghost use Rattle.acd_tables.specs.Indexed.{IsIndexed, Seats};
+ghost use Rattle.acd_tables.specs.Indexed.{IsIndexed, Seats, rings, works};
 ghost use Rattle.acd_tables.specs.Turns.{IsAt, with_or_without, one_queued, IsFreeFor};
 
 use crate::indexes::Indexes;
 use crate::records::Records;
-use crate::sets::{add_set, list, unlist};
+use crate::sets::{add_set, forget, list, note, unlist};
 use crate::turns::{agent_turn, connection_turn};
-use crate::uses::agent_at;
+use crate::uses::{agent_at, is_ringing};
 use acd_terms::{AgentId, AgentRecord, ConnectionRecord, DeviceId, GroupRecord};
 use std::alloc::{AllocError, Global};
 use std::collections::BTreeMap;
@@ -66,6 +66,16 @@ fn take_seat(
     Ok(())
 }
 
+// The agent was in after-call work, and is so no longer.
+fn ends_work(old: &Option<AgentRecord>, still: bool) -> bool
+    ensures { result ≡ (works old.now && not still) }
+{
+    match old {
+        None => false,
+        Some(agent) => agent.state.is_working_after_call() && !still,
+    }
+}
+
 /// Puts the agent. One whose station another agent has is refused as if there were no memory.
 pub(crate) fn put_agent(
     records: &mut Records,
@@ -81,11 +91,15 @@ pub(crate) fn put_agent(
         return Err(AllocError);
     }
     take_seat(&mut indexes.seats, item.station, item.agent)?;
-    let turn = agent_turn(records, indexes, &item);
+    let works = item.state.is_working_after_call();
+    note(&mut indexes.working, item.agent, works)?;
+    let old = records.agent(item.agent);
+    let turn = agent_turn(records, indexes, &old, &item);
     let undo = indexes.enter(&turn.entering)?;
     match records.put_agent(item) {
         Ok(()) => {
             indexes.settle(&turn);
+            forget(&mut indexes.working, item.agent, ends_work(&old, works));
             Ok(())
         }
         Err(error) => {
@@ -110,17 +124,28 @@ fn queued_after(
     indexes: &Indexes,
     call: u64,
     device: DeviceId,
+    old: &Option<ConnectionRecord>,
     new: &Option<ConnectionRecord>,
 ) -> usize
     requires indexed { IsIndexed records.now indexes.now }
+    requires found { old.now ≡ connection_of records.now call device }
     requires at { IsAt call device new.now }
     ensures { result ≡ length (queued_in_all (with_or_without records.now call device new.now)) }
 {
-    let old = records.connection(call, device);
     let _ = records.connection_count();
-    let before = one_queued(&old);
+    let before = one_queued(old);
     let after = one_queued(new);
     indexes.queued - before + after
+}
+
+// The connection rang, and does so no longer.
+fn stops_ringing(old: &Option<ConnectionRecord>, still: bool) -> bool
+    ensures { result ≡ (rings old.now && not still) }
+{
+    match old {
+        None => false,
+        Some(c) => is_ringing(c) && !still,
+    }
 }
 
 /// Puts the connection.
@@ -135,15 +160,24 @@ pub(crate) fn put_connection(
     ensures ok { OnOk result (records.new ≡ with_connection records.old item.now) }
     ensures err { OnErr result (records.new ≡ records.old) }
 {
-    list(alloc, &mut indexes.lines, item.device, item.call)?;
+    let (call, device) = (item.call, item.device);
+    list(alloc, &mut indexes.lines, device, call)?;
+    let rings = is_ringing(item);
+    note(&mut indexes.ringing, (call, device), rings)?;
+    let old = records.connection(call, device);
     let new = Some(*item);
-    let turn = connection_turn(records, indexes, item.call, item.device, &new);
-    let queued = queued_after(records, indexes, item.call, item.device, &new);
+    let turn = connection_turn(records, indexes, call, device, &old, &new);
+    let queued = queued_after(records, indexes, call, device, &old, &new);
     let undo = indexes.enter(&turn.entering)?;
     match records.put_connection(*item) {
         Ok(()) => {
             indexes.settle(&turn);
             indexes.queued = queued;
+            forget(
+                &mut indexes.ringing,
+                (call, device),
+                stops_ringing(&old, rings),
+            );
             Ok(())
         }
         Err(error) => {
@@ -165,12 +199,18 @@ pub(crate) fn remove_connection(
     ensures ok { OnOk result (records.new ≡ without_connection records.old call device) }
     ensures err { OnErr result (records.new ≡ records.old) }
 {
-    let turn = connection_turn(records, indexes, call, device, &None);
-    let queued = queued_after(records, indexes, call, device, &None);
+    let old = records.connection(call, device);
+    let turn = connection_turn(records, indexes, call, device, &old, &None);
+    let queued = queued_after(records, indexes, call, device, &old, &None);
     indexes.enter(&turn.entering)?;
     records.remove_connection(call, device);
     indexes.settle(&turn);
     indexes.queued = queued;
+    forget(
+        &mut indexes.ringing,
+        (call, device),
+        stops_ringing(&old, false),
+    );
     unlist(&mut indexes.lines, device, call);
     Ok(())
 }

@@ -1,4 +1,5 @@
-//! The indexes: who waits and who is able to take a call in each group, who is at a station, and the calls at a device.
+//! The indexes: who waits and who is able to take a call in each group, who is at a station, the calls at a device,
+//! and what tick may end.
 
 ghost use Rattle.std.specs.Prelude.{◌≡◌, ℕ, ◌||◌, true, false, OnOk, OnErr, IfOk};
 ghost use Rattle.std.specs.Ordering.{nat_cmp};
@@ -25,6 +26,10 @@ pub struct Indexes {
     pub(crate) seats: BTreeMap<DeviceId, AgentId>,
     /// The calls that have a connection at a device; there may be more.
     pub(crate) lines: BTreeMap<DeviceId, BTreeSet<u64>>,
+    /// Call and device of the offers that ring; there may be more.
+    pub(crate) ringing: BTreeSet<(u64, DeviceId)>,
+    /// The agents in after-call work; there may be more.
+    pub(crate) working: BTreeSet<AgentId>,
     /// How many connections are queued.
     pub(crate) queued: usize,
 }
@@ -53,6 +58,8 @@ impl Indexes {
             offering: BTreeSet::new(alloc),
             seats: BTreeMap::new(alloc),
             lines: BTreeMap::new(alloc),
+            ringing: BTreeSet::new(alloc),
+            working: BTreeSet::new(alloc),
             queued: 0,
         }
     }

@@ -1,19 +1,21 @@
 //! The look-ups that aren't of one record by its key.
 
-ghost use Rattle.std.specs.Prelude.{◌≡◌, ◌↔◌, ℕ, true, [], ◌∷◌, None, length, map, slice_get, is_some, IfSome};
+ghost use Rattle.std.specs.Prelude.{◌≡◌, ◌↔◌, ℕ, true, [], ◌∷◌, None, length, map, filter, slice_get, is_some, IfSome, IfOk};
 ghost use Rattle.std.specs.BTreeSet.{contains};
 ghost use Rattle.acd_terms.specs.Lists.{Among};
-ghost use Rattle.acd_terms.specs.Scans.{is_group, agent_at, connections_of, other_of, is_live_at, is_taken, is_idle, is_idle_there, is_occupied, is_eligible, is_calling, waiting_in, eligible_in, queued_in_all};
+ghost use Rattle.acd_terms.specs.Scans.{is_group, agent_of, agent_at, connection_of, connections_of, other_of, is_live_at, is_taken, is_idle, is_idle_there, is_occupied, is_eligible, is_calling, waiting_in, eligible_in, queued_in_all};
 ghost use Rattle.acd_terms.specs.Services.Plan.{is_used};
 ghost use Rattle.acd_terms.specs.Choice.{first_waiting, first_eligible, waiting_pair, ready_pair, offer_of};
-ghost use Rattle.acd_tables.specs.Indexed.{pair_cmp};
+ghost use Rattle.acd_tables.specs.Indexed.{pair_cmp, is_ringing, is_working};
+ghost use Rattle.acd_tables.specs.Uses.{kept};
 ghost use Rattle.acd_tables.specs.Uses.{is_in_use};
 ghost use Rattle.acd_tables.specs.FirstOffer.{offer_in_group};
 
 use crate::sets::first_in;
 use crate::tables::Tables;
-use crate::uses::{Use, agent_at, is_in_use};
+use crate::uses::{Use, agent_at, is_in_use, is_ringing};
 use acd_terms::{AgentId, AgentRecord, ConnectionRecord, DeviceId, Offer};
+use std::alloc::AllocError;
 use std::collections::BTreeSet;
 
 impl Tables {
@@ -176,6 +178,58 @@ impl Tables {
             }
         }
         None
+    }
+
+    // The connection of the call at the device, if it is an offer that rings.
+    fn ringing_at(&self, call: u64, device: DeviceId) -> Option<ConnectionRecord>
+        ensures { result ≡ kept is_ringing (connection_of self.now call device) }
+    {
+        match self.connection(call, device) {
+            None => None,
+            Some(c) => { if is_ringing(&c) { Some(c) } else { None } }
+        }
+    }
+
+    // The agent, if in after-call work.
+    fn working_of(&self, agent: AgentId) -> Option<AgentRecord>
+        ensures { result ≡ kept is_working (agent_of self.now agent) }
+    {
+        match self.agent(agent) {
+            None => None,
+            Some(a) => {
+                if a.state.is_working_after_call() {
+                    Some(a)
+                } else {
+                    None
+                }
+            }
+        }
+    }
+
+    /// The offers that ring, in ascending call and device, copied.
+    pub fn ringing(&self) -> Result<Vec<ConnectionRecord>, AllocError>
+        ensures { IfOk result (λ v. v.items ≡ filter is_ringing self.now.connections) }
+    {
+        let mut ringing = Vec::new(self.alloc);
+        for key in &self.indexes.ringing {
+            if let Some(connection) = self.ringing_at(key.0, key.1) {
+                ringing.push(connection)?;
+            }
+        }
+        Ok(ringing)
+    }
+
+    /// The agents in after-call work, in ascending number, copied.
+    pub fn working(&self) -> Result<Vec<AgentRecord>, AllocError>
+        ensures { IfOk result (λ v. v.items ≡ filter is_working self.now.agents) }
+    {
+        let mut working = Vec::new(self.alloc);
+        for number in &self.indexes.working {
+            if let Some(agent) = self.working_of(*number) {
+                working.push(agent)?;
+            }
+        }
+        Ok(working)
     }
 
     /// How many connections are queued.

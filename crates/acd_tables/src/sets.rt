@@ -1,8 +1,9 @@
-//! Sets by key.
+//! Sets, and sets by key.
 
 ghost use Rattle.std.specs.Prelude.{◌≡◌, true, false, not, OnOk, OnErr, IfOk};
 ghost use Rattle.acd_tables.specs.Indexed.{IsFirstIn};
-ghost use Rattle.acd_tables.specs.Sets.{holds, Sets, Stays, SameMembers, SetsMember, HasSet};
+ghost use Rattle.acd_tables.specs.Sets.{holds, Sets, Stays, SameMembers, SetsMember, HasSet, Noted, Forgotten};
+ghost use Rattle.std.specs.BTreeSet.{contains};
 
 use acd_terms::DeviceId;
 use std::alloc::{AllocError, Global};
@@ -111,5 +112,29 @@ pub(crate) fn first_in<E: Ord + Copy>(
             None => None,
             Some(first) => Some(*first),
         },
+    }
+}
+
+/// Puts the key into the set, if it belongs there.
+pub(crate) fn note<K: Ord + Copy>(
+    noted: &mut BTreeSet<K>,
+    key: K,
+    belongs: bool,
+) -> Result<(), AllocError>
+    ensures ok { OnOk result (Noted K.cmp noted.old noted.new key belongs) }
+    ensures err { OnErr result ((k : K) → contains K.cmp noted.new k ≡ contains K.cmp noted.old k) }
+{
+    if belongs {
+        noted.insert(key)?;
+    }
+    Ok(())
+}
+
+/// Takes the key out of the set, if it is gone.
+pub(crate) fn forget<K: Ord + Copy>(noted: &mut BTreeSet<K>, key: K, gone: bool)
+    ensures { Forgotten K.cmp noted.old noted.new key gone }
+{
+    if gone {
+        noted.remove(&key);
     }
 }

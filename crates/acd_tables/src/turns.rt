@@ -1,6 +1,7 @@
 //! What a change of one record takes into the exact sets, and out of them.
 
-ghost use Rattle.std.specs.Prelude.{◌≡◌, ◌||◌, Some, None, if◌then◌else◌};
+ghost use Rattle.std.specs.Prelude.{◌≡◌, ◌&&◌, ◌||◌, Some, None, is_some, if◌then◌else◌};
+ghost use Rattle.acd_terms.specs.Scans.{agent_of, connection_of};
 ghost use Rattle.acd_terms.specs.Writes.{with_agent};
 ghost use Rattle.acd_tables.specs.Indexed.{IsIndexed, is_free, is_busying};
 ghost use Rattle.acd_tables.specs.Uses.{is_used, is_in_use};
@@ -87,9 +88,25 @@ fn is_busy_with(
     new: &Option<ConnectionRecord>,
 ) -> bool
     requires { IsIndexed records.now indexes.now }
-    ensures { result ≡ (is_in_use records.now device (Some call) Busying || is_used is_busying new.now) }
+    ensures { result ≡ (is_used is_busying new.now || is_in_use records.now device (Some call) Busying) }
 {
-    is_in_use(records, &indexes.lines, device, Some(call), Use::Busying) || is_busying(new)
+    is_busying(new) || is_in_use(records, &indexes.lines, device, Some(call), Use::Busying)
+}
+
+// There is a ready agent at the device, whom the new connection of the call or another one keeps from
+// an offer. A group has no agent, so nobody goes through its calls.
+fn is_kept(
+    records: &Records,
+    indexes: &Indexes,
+    call: u64,
+    device: DeviceId,
+    new: &Option<ConnectionRecord>,
+    seat: &Option<(DeviceId, (u64, AgentId))>,
+) -> bool
+    requires { IsIndexed records.now indexes.now }
+    ensures { result ≡ (is_some seat.now && (is_used is_busying new.now || is_in_use records.now device (Some call) Busying)) }
+{
+    seat.is_some() && is_busy_with(records, indexes, call, device, new)
 }
 
 /// What changes where the connection of the call at the device is put, or removed.
@@ -98,18 +115,19 @@ pub(crate) fn connection_turn(
     indexes: &Indexes,
     call: u64,
     device: DeviceId,
+    old: &Option<ConnectionRecord>,
     new: &Option<ConnectionRecord>,
 ) -> Turn
     requires indexed { IsIndexed records.now indexes.now }
+    requires found { old.now ≡ connection_of records.now call device }
     requires at { IsAt call device new.now }
     ensures { TurnsTo records.now (with_or_without records.now call device new.now) result }
 {
-    let old = records.connection(call, device);
-    let before = queue_entry(&old);
+    let before = queue_entry(old);
     let after = queue_entry(new);
     let agent = agent_at(records, &indexes.seats, device);
     let seat = ready_entry(&agent);
-    let busy = is_busy_with(records, indexes, call, device, new);
+    let busy = is_kept(records, indexes, call, device, new, &seat);
     let leaving = leaving_but(&before, &after);
     Turn {
         entering: Entries {
@@ -136,15 +154,20 @@ fn is_free(records: &Records, indexes: &Indexes, station: Option<DeviceId>) -> b
 }
 
 /// What changes where the agent is put.
-pub(crate) fn agent_turn(records: &Records, indexes: &Indexes, item: &AgentRecord) -> Turn
-    requires { IsIndexed records.now indexes.now }
+pub(crate) fn agent_turn(
+    records: &Records,
+    indexes: &Indexes,
+    old: &Option<AgentRecord>,
+    item: &AgentRecord,
+) -> Turn
+    requires indexed { IsIndexed records.now indexes.now }
+    requires found { old.now ≡ agent_of records.now item.now.agent }
     ensures { TurnsTo records.now (with_agent records.now item.now) result }
 {
     let free = is_free(records, indexes, item.station);
     let entry = able_entry(item);
     let after = only(&entry, free);
-    let old = records.agent(item.agent);
-    let before = ready_entry(&old);
+    let before = ready_entry(old);
     let leaving = leaving_but(&before, &after);
     Turn {
         entering: Entries {

@@ -6,7 +6,7 @@ ghost use Rattle.acd_terms.specs.Lists.{IsAscending};
 ghost use Rattle.acd_terms.specs.Rules.Plan.{agent_order, connection_order};
 ghost use Rattle.acd_terms.specs.Scans.{agent_at, connection_of, has};
 ghost use Rattle.acd_tables.specs.Uses.{uses, is_used, is_in_use, if_at};
-ghost use Rattle.acd_tables.specs.Indexed.{Lines, Seats};
+ghost use Rattle.acd_tables.specs.Indexed.{is_ringing, Lines, Seats};
 
 use crate::records::Records;
 use acd_terms::{AgentId, AgentRecord, ConnectionRecord, DeviceId};
@@ -35,6 +35,13 @@ pub(crate) fn uses(kind: Use, c: &ConnectionRecord) -> bool
         Use::Distributed => distributed,
         Use::Busying => c.state.is_occupying() || distributed,
     }
+}
+
+/// Distribution offered the connection, and it isn't answered.
+pub(crate) fn is_ringing(c: &ConnectionRecord) -> bool
+    ensures { result ≡ is_ringing c.now }
+{
+    c.state.is_alerting() && c.group.is_some() && c.offered.is_some()
 }
 
 // The connection of the call at the device, but for one of the call that is left out, uses it so.

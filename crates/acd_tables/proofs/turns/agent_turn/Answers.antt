@@ -12,4 +12,4 @@ returns c =
       leaving = record { queue = None; ready = c.leaving_but-leaving.result };
     })
     c.ready_entry-before.result c.able_entry-entry.result c.is_free-free.result refl refl
-    (c.ready_entry-before.ensures ∙ ap ready_entry c.agent-old.ensures) c.able_entry-entry.ensures c.is_free-free.ensures c.only-after.ensures c.leaving_but-leaving.ensures
+    (c.ready_entry-before.ensures ∙ ap ready_entry c.requires.found) c.able_entry-entry.ensures c.is_free-free.ensures c.only-after.ensures c.leaving_but-leaving.ensures

@@ -11,6 +11,6 @@ returns c =
       entering = record { queue = c.queue_entry-after.result; ready = c.only_not.result };
       leaving = record { queue = c.leaving_but-leaving.result; ready = c.only.result };
     })
-    c.queue_entry-before.result c.ready_entry-seat.result c.is_busy_with-busy.result h.connections h.agents h.seats c.requires.at
-    (c.queue_entry-before.ensures ∙ ap queue_entry c.connection-old.ensures) c.queue_entry-after.ensures c.leaving_but-leaving.ensures
-    (c.ready_entry-seat.ensures ∙ ap ready_entry c.agent_at-agent.ensures) c.is_busy_with-busy.ensures c.only_not.ensures c.only.ensures
+    c.queue_entry-before.result c.ready_entry-seat.result c.is_kept-busy.result h.connections h.agents h.seats c.requires.at
+    (c.queue_entry-before.ensures ∙ ap queue_entry c.requires.found) c.queue_entry-after.ensures c.leaving_but-leaving.ensures
+    (c.ready_entry-seat.ensures ∙ ap ready_entry c.agent_at-agent.ensures) c.is_kept-busy.ensures c.only_not.ensures c.only.ensures

@@ -13,7 +13,7 @@ returns-in_err-queue-clause-err c =
       queues = c.in_err-queue.ensures.err;
       ready = record { sets = λ g. refl; members = λ g p. refl };
       offers = same;
-      rest = record { seats = refl; lines = refl; queued = refl };
+      rest = record { seats = refl; lines = refl; ringing = refl; working = refl; queued = refl };
     } in
     search (rules, untouched)
 
@@ -25,7 +25,7 @@ returns-in-Ok-clause-ok c =
       ready = c.in-Ok.ensures.ok;
       offers = offers-entered x.queues c.enter_entry.new.sets x.ready c.enter_entry-2.new.sets c.note_group-2.new.offering c.note_group.new.offering x.offering c.args.entries.now.queue c.args.entries.now.ready
           c.requires c.in_ok-queue.ensures.ok c.in-Ok.ensures.ok c.in_ok-note_group.ensures.ok c.in_ok-note_group-2.ensures.ok;
-      rest = record { seats = refl; lines = refl; queued = refl };
+      rest = record { seats = refl; lines = refl; ringing = refl; working = refl; queued = refl };
     }
 
 pub returns-in-Err-clause-err : goal.returns-in-Err-clause-err
@@ -38,5 +38,5 @@ returns-in-Err-clause-err c =
       queues = record { sets = λ g. c.leave_entry.ensures.sets g ∙ c.in_ok-queue.ensures.ok.sets g; members = back };
       ready = c.in-Err.ensures.err;
       offers = offers-same x.queues c.leave_entry.new.sets x.ready c.enter_entry-2.new.sets c.note_group-2.new.offering back c.in-Err.ensures.err.members twice;
-      rest = record { seats = refl; lines = refl; queued = refl };
+      rest = record { seats = refl; lines = refl; ringing = refl; working = refl; queued = refl };
     }

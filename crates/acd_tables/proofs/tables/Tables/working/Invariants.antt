@@ -1,0 +1,10 @@
+use Rattle.std.proofs.Common.{◌≡◌, ◌++◌}
+use Rattle.std.specs.Prelude.{filter}
+use Rattle.std.specs.List.{filter_map}
+use Rattle.acd_terms.specs.Scans.{agent_of}
+use Rattle.acd_tables.specs.Indexed.{is_working}
+use Rattle.acd_tables.specs.Uses.{kept}
+use Rattle.acd_tables.proofs.tables.Tables.working.Given as goal
+
+abbrev pub invariant-loop-number : goal.invariant-loop-number
+invariant-loop-number l = l.working.items ++ filter_map (λ n. kept is_working (agent_of l.self n)) l.number-iterator ≡ filter is_working l.self.agents
