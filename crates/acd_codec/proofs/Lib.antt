@@ -1,4 +1,6 @@
 pub mod Readings
+pub mod Adding
+pub mod Printed
 pub mod Floatless
 pub mod Plain
 pub mod RoundTrip

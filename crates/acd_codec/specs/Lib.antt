@@ -6,4 +6,5 @@ pub mod RequestTexts
 pub mod ReplyTexts
 pub mod Formed
 pub mod Parts
+pub mod Tokens
 pub mod EventTexts
