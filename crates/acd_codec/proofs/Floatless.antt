@@ -6,12 +6,7 @@ use Rattle.acd_terms.specs.declared.command.Request.{Request}
 use Rattle.acd_terms.specs.declared.command.Requested.TheVariants as requested
 use Rattle.acd_terms.specs.declared.command.Command.{Command}
 use Rattle.acd_terms.specs.declared.command.Command.TheVariants.{AddGroup, AddStation, AddAgent, ArriveCall, MakeCall, PhoneOffHook, AnswerCall, HoldCall, RetrieveCall, ClearConnection, DeflectCall, SingleStepTransfer, SetAgentState, MonitorStart, MonitorStop, Tick}
-use Rattle.acd_terms.specs.declared.answer.Answer.TheVariants as answer
-use Rattle.acd_terms.specs.declared.answer.Outcome.{Outcome}
-use Rattle.acd_terms.specs.declared.answer.Outcome.TheVariants.{Done, Refused}
-use Rattle.acd_codec.specs.declared.replies.Rejected.{Rejected}
 use Rattle.acd_codec.specs.RequestTexts.{request_members, request_data, request_text}
-use Rattle.acd_codec.specs.ReplyTexts.{error_data, reply_data, reply_text, rejected_code, rejected_name, rejected_text}
 
 no_float : (q : List ℕ) (i : ℕ) (c : Command) → members_have_float (request_members q i c) ≡ false
 no_float q i (AddGroup device name ring wrap) = refl
@@ -35,21 +30,3 @@ no_float q i Tick = refl
 pub text_of : (r : Request) (d : Data) (text : List ℕ) → d ≡ request_data r → (has_float d ≡ false → text ≡ compact_text d) → text ≡ request_text r
 unfolding request_data request_text
 text_of r d text e h = h (ap has_float e ∙ no_float r.requester r.invoke r.command) ∙ ap compact_text e
-
-no_float_reply : (q : List ℕ) (i : ℕ) (o : Outcome) → has_float (reply_data q i o) ≡ false
-no_float_reply q i (Done answer.Nothing) = refl
-no_float_reply q i (Done (answer.Call call)) = refl
-no_float_reply q i (Done (answer.Monitor monitor)) = refl
-no_float_reply q i (Done (answer.State state)) = refl
-no_float_reply q i (Done (answer.Pending state next)) = refl
-no_float_reply q i (Refused refusal) = refl
-
-pub reply_of : (q : List ℕ) (i : ℕ) (o : Outcome) (d : Data) (text : List ℕ) → d ≡ reply_data q i o → (has_float d ≡ false → text ≡ compact_text d) → text ≡ reply_text q i o
-unfolding reply_text
-reply_of q i o d text e h = h (ap has_float e ∙ no_float_reply q i o) ∙ ap compact_text e
-
-pub rejected_of : (q : List ℕ) (i : ℕ) (r : Rejected) (code : ℕ) (name : List ℕ) → code ≡ rejected_code r → name ≡ rejected_name r
-    → (d : Data) (text : List ℕ) → d ≡ error_data code name q i → (has_float d ≡ false → text ≡ compact_text d) → text ≡ rejected_text q i r
-unfolding rejected_text
-rejected_of q i r code name code_is name_is d text e h =
-    h (ap has_float e) ∙ ap compact_text e ∙ rw (code_is, name_is) refl

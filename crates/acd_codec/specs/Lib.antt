@@ -6,4 +6,6 @@ pub mod RequestTexts
 pub mod ReplyTexts
 pub mod Formed
 pub mod Parts
+pub mod Tokens
+pub mod Borrowed
 pub mod EventTexts

@@ -83,10 +83,13 @@ result_of (answer.Pending state next) = member (codes "pending") (string (pendin
 abbrev pub to_whom : List ℕ → ℕ → Members → Members
 to_whom requester invoke more = member (codes "invoke") (number (unsigned invoke)) (member (codes "requester") (string requester) more)
 
--- a refusal: its code and name
+-- why nothing was done: its code and name
+abbrev pub error_of : ℕ → List ℕ → Members → Members
+error_of code name more = member (codes "error") (object (member (codes "code") (number (unsigned code)) (member (codes "name") (string name) no_members))) more
+
+-- a refusal, and whose request it answers
 abbrev pub error_data : ℕ → List ℕ → List ℕ → ℕ → Data
-error_data code name requester invoke =
-    object (member (codes "error") (object (member (codes "code") (number (unsigned code)) (member (codes "name") (string name) no_members))) (to_whom requester invoke no_members))
+error_data code name requester invoke = object (error_of code name (to_whom requester invoke no_members))
 
 -- a result or a refusal, and whose request it answers
 abbrev pub reply_data : List ℕ → ℕ → Outcome → Data

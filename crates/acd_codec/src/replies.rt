@@ -1,12 +1,15 @@
 //! Replies as JSON.
 
-ghost use Rattle.std.specs.Prelude.{◌≡◌, IfOk, string_bytes};
-ghost use Rattle.serde_json.specs.View.{view};
-ghost use Rattle.serde_json.specs.Data.{object};
-ghost use Rattle.acd_codec.specs.ReplyTexts.{outcome_status, rejected_code, rejected_name, rejected_status, result_of, error_data, reply_data, reply_text, rejected_text};
+ghost use Rattle.std.specs.Prelude.{◌≡◌, [], codes, IfOk, string_bytes};
+ghost use Rattle.json.specs.Print.{print};
+ghost use Rattle.json.specs.Tree.{json_tokens};
+ghost use Rattle.serde_json.specs.Data.{object, string, number, unsigned, member, no_members};
+ghost use Rattle.serde_json.specs.Written.{outline};
+ghost use Rattle.acd_codec.specs.ReplyTexts.{outcome_status, rejected_code, rejected_name, rejected_status, result_of, to_whom, error_of, error_data, reply_data, reply_text, rejected_text};
+ghost use Rattle.acd_codec.specs.Tokens.{tokens_of, Adds};
 
 use acd_terms::{Answer, Invoke, Outcome, Requester};
-use serde_json::{Value, json};
+use json::Writer;
 use std::alloc::{AllocError, Global};
 
 /// Why a well formed request is not executed.
@@ -58,60 +61,128 @@ pub fn outcome_status(outcome: Outcome) -> u16
     }
 }
 
-fn result_of(alloc: Global, answer: Answer) -> Result<Value, AllocError>
-    ensures { IfOk result (λ v. view v ≡ object (result_of answer)) }
+// Every reply fits, so it never grows.
+const ROOM: usize = 128;
+
+// Writes a member that is a text.
+fn put_text(out: &mut Writer, name: &str, text: &str) -> Result<(), AllocError>
+    ensures { Adds result out.old out.new (tokens_of (member name.now (string text.now) no_members)) }
+{
+    out.key(name)?;
+    out.string(text)
+}
+
+// Writes a member that is a number.
+fn put_number(out: &mut Writer, name: &str, value: u64) -> Result<(), AllocError>
+    ensures { Adds result out.old out.new (tokens_of (member name.now (number (unsigned value)) no_members)) }
+{
+    out.key(name)?;
+    out.u64(value)
+}
+
+// Writes whose request is answered.
+fn put_whom(out: &mut Writer, requester: &Requester, invoke: Invoke) -> Result<(), AllocError>
+    ensures { Adds result out.old out.new (tokens_of (to_whom requester.now invoke no_members)) }
+{
+    put_number(out, "invoke", u64::from(invoke.number()))?;
+    put_text(out, "requester", requester.as_str())
+}
+
+// Writes what a service answers.
+fn put_answer(out: &mut Writer, answer: Answer) -> Result<(), AllocError>
+    ensures { Adds result out.old out.new (tokens_of (result_of answer)) }
 {
     match answer {
-        Answer::Nothing => json!(in alloc; {}),
-        Answer::Call(call) => json!(in alloc; {"call": call}),
-        Answer::Monitor(monitor) => json!(in alloc; {"monitor": monitor}),
-        Answer::State(state) => json!(in alloc; {"state": state.name()}),
+        Answer::Nothing => Ok(()),
+        Answer::Call(call) => put_number(out, "call", call),
+        Answer::Monitor(monitor) => put_number(out, "monitor", monitor),
+        Answer::State(state) => put_text(out, "state", state.name()),
         Answer::Pending { state, pending } => {
-            json!(in alloc; {"pending": pending.name(), "state": state.name()})
+            put_text(out, "pending", pending.name())?;
+            put_text(out, "state", state.name())
         }
     }
 }
 
-fn error_of(
-    alloc: Global,
+fn put_result(out: &mut Writer, answer: Answer) -> Result<(), AllocError>
+    ensures { Adds result out.old out.new (tokens_of (member (codes "result") (object (result_of answer)) no_members)) }
+{
+    out.key("result")?;
+    out.begin_object()?;
+    put_answer(out, answer)?;
+    out.end_object()
+}
+
+fn put_error(out: &mut Writer, code: u8, name: &str) -> Result<(), AllocError>
+    ensures { Adds result out.old out.new (tokens_of (error_of code name.now no_members)) }
+{
+    out.key("error")?;
+    out.begin_object()?;
+    put_number(out, "code", u64::from(code))?;
+    put_text(out, "name", name)?;
+    out.end_object()
+}
+
+// Writes why nothing was done, and whose request it was.
+fn write_error(
+    out: &mut Writer,
     code: u8,
     name: &str,
     requester: &Requester,
     invoke: Invoke,
-) -> Result<Value, AllocError>
-    ensures { IfOk result (λ v. view v ≡ error_data code name.now requester.now invoke) }
+) -> Result<(), AllocError>
+    ensures { Adds result out.old out.new (json_tokens (outline (error_data code name.now requester.now invoke))) }
 {
-    json!(in alloc; {
-        "error": {"code": code, "name": name},
-        "invoke": invoke.number(),
-        "requester": requester.as_str(),
-    })
+    out.begin_object()?;
+    put_error(out, code, name)?;
+    put_whom(out, requester, invoke)?;
+    out.end_object()
 }
 
-fn reply_of(
-    alloc: Global,
+// Writes what was done.
+fn write_done(
+    out: &mut Writer,
+    requester: &Requester,
+    invoke: Invoke,
+    answer: Answer,
+) -> Result<(), AllocError>
+    ensures { Adds result out.old out.new (json_tokens (outline (reply_data requester.now invoke (Outcome.Done answer)))) }
+{
+    out.begin_object()?;
+    put_whom(out, requester, invoke)?;
+    put_result(out, answer)?;
+    out.end_object()
+}
+
+fn write_reply(
+    out: &mut Writer,
     requester: &Requester,
     invoke: Invoke,
     outcome: Outcome,
-) -> Result<Value, AllocError>
-    ensures { IfOk result (λ v. view v ≡ reply_data requester.now invoke outcome) }
+) -> Result<(), AllocError>
+    ensures { Adds result out.old out.new (json_tokens (outline (reply_data requester.now invoke outcome))) }
 {
     match outcome {
-        Outcome::Done(answer) => {
-            let result = result_of(alloc, answer)?;
-            json!(in alloc; {
-                "invoke": invoke.number(),
-                "requester": requester.as_str(),
-                "result": result,
-            })
-        }
+        Outcome::Done(answer) => write_done(out, requester, invoke, answer),
         Outcome::Refused(refusal) => {
-            error_of(alloc, refusal.code(), refusal.name(), requester, invoke)
+            write_error(out, refusal.code(), refusal.name(), requester, invoke)
         }
     }
 }
 
+// What was written into an empty buffer.
+fn text_of(out: Writer) -> Result<String, AllocError>
+    requires { out.before ≡ [] }
+    ensures { IfOk result (λ s. string_bytes s ≡ print out.tokens) }
+{
+    match String::from_utf8(out.into_inner()) {
+        Ok(text) => Ok(text),
+        Err(_) => unreachable!(),
+    }
+}
+
 /// The reply to an executed request (status [`outcome_status`]).
+#[tactic(auto, unfolding(crate::specs::ReplyTexts::reply_text))]
 pub fn reply_text(
     alloc: Global,
     requester: &Requester,
@@ -120,11 +191,13 @@ pub fn reply_text(
 ) -> Result<String, AllocError>
     ensures { IfOk result (λ s. string_bytes s ≡ reply_text requester.now invoke outcome) }
 {
-    let value = reply_of(alloc, requester, invoke, outcome)?;
-    value.to_string(alloc)
+    let mut out = Writer::new(Vec::with_capacity(alloc, ROOM)?);
+    write_reply(&mut out, requester, invoke, outcome)?;
+    text_of(out)
 }
 
 /// The reply to a request that is not executed (status [`Rejected::status`]).
+#[tactic(auto, unfolding(crate::specs::ReplyTexts::rejected_text))]
 pub fn rejected_text(
     alloc: Global,
     requester: &Requester,
@@ -133,6 +206,13 @@ pub fn rejected_text(
 ) -> Result<String, AllocError>
     ensures { IfOk result (λ s. string_bytes s ≡ rejected_text requester.now invoke rejected) }
 {
-    let value = error_of(alloc, rejected.code(), rejected.name(), requester, invoke)?;
-    value.to_string(alloc)
+    let mut out = Writer::new(Vec::with_capacity(alloc, ROOM)?);
+    write_error(
+        &mut out,
+        rejected.code(),
+        rejected.name(),
+        requester,
+        invoke,
+    )?;
+    text_of(out)
 }

@@ -1,8 +1,9 @@
-use Rattle.std.proofs.Common.{string_bytes}
+use Rattle.std.proofs.Common.{◌∙◌}
 use Rattle.std.proofs.lemmas.Result.{IfOk-weaker}
-use Rattle.serde_json.specs.View.{view}
-use Rattle.acd_codec.proofs.Floatless.{rejected_of}
+use Rattle.acd_codec.proofs.Printed.{rejected_printed}
 use Rattle.acd_codec.proofs.replies.rejected_text.Goals as goal
 
 pub returns : goal.returns
-returns c = IfOk-weaker c.to_string.result _ _ (λ s h. rejected_of c.args.requester.now c.args.invoke c.args.rejected c.code.result c.name.result.now c.code.ensures c.name.ensures (view c.in_ok-value.value) (string_bytes s) c.in_ok-value.ensures h) c.to_string.ensures.text
+returns c =
+    let printed = rejected_printed c.args.requester.now c.args.invoke c.args.rejected c.code.result c.name.result.now c.code.ensures c.name.ensures c.new-out.result c.write_error.new.out c.new-out.ensures.tokens c.in_ok-write_error.ensures in
+    IfOk-weaker c.text_of.result _ _ (λ s h. h ∙ printed) c.text_of.ensures
