@@ -5,7 +5,7 @@ use crate::open_fault::OpenFault;
 use crate::taken::Taken;
 use acd_book::{Book, MemoryBook};
 use acd_codec::read_request;
-use acd_terms::{Arrival, Limits};
+use acd_terms::{Arrival, ConnectionRecord, ConnectionState, DeviceId, Limits};
 use std::alloc::Global;
 use std::process::Abort;
 
@@ -105,6 +105,34 @@ fn moment_after(rt: &impl Abort, book: &mut MemoryBook, number: u64) -> Option<u
     let events = book.events_after(number, 1).expect(rt, "memory");
     match events.first() {
         Some(event) => Some(event.moment),
+        None => None,
+    }
+}
+
+// The call waits in group 100, with this place since this moment.
+fn expect_waiting(rt: &impl Abort, book: &mut MemoryBook, call: u64, place: u64, queued: u32) {
+    let group = DeviceId::read(b"100").expect(rt, "a device");
+    let wanted = ConnectionRecord {
+        call,
+        device: group,
+        state: ConnectionState::Queued,
+        group: Some(group),
+        place: Some(place),
+        queued: Some(queued),
+        offered: None,
+    };
+    let rows = book.rows().expect(rt, "memory");
+    assert!(rt;
+        rows.connections
+            .iter()
+            .any(|connection| *connection == wanted)
+    );
+}
+
+// The moment at which the first request after a stamp was executed.
+fn executed_after(rt: &impl Abort, book: &mut MemoryBook, stamp: u64) -> Option<u32> {
+    match book.kept_after(stamp).expect(rt, "memory") {
+        Some(kept) => Some(kept.moment),
         None => None,
     }
 }

@@ -72,29 +72,32 @@ fn refusal_is_kept(rt: HostRuntime) {
         (12, CLEAR, 409, CLEAR_REPLY),
     ];
     let mut book = book_after(&rt, rt.alloc(), &[PLAN, scene]);
-    // the call still waits: its entry is the one event
+    // its entry is the one event
+    expect_waiting(&rt, &mut book, 1, 7, 11);
     assert_eq!(rt; counters(&rt, &mut book), (7, 11, 1));
 }
+
+// Both calls wait since the first one's moment, at which the second request was executed too.
+fn expect_both_waiting(rt: &impl Abort, book: &mut MemoryBook) {
+    expect_waiting(rt, book, 1, 6, 100);
+    expect_waiting(rt, book, 2, 7, 100);
+    assert_eq!(rt; executed_after(rt, book, 6), Some(100));
+    assert_eq!(rt; moment_after(rt, book, 1), Some(100));
+    assert_eq!(rt; counters(rt, book), (7, 100, 2));
+}
+
+const FIRST_CALL: &str = r#"{"invoke":1,"requester":"pbx","result":{"call":1}}"#;
+
+const SECOND_CALL: &str = r#"{"invoke":2,"requester":"pbx","result":{"call":2}}"#;
 
 #[test]
 fn moment_never_goes_back(rt: HostRuntime) {
     let scene: &[Asked] = &[
-        (
-            100,
-            ARRIVE,
-            200,
-            r#"{"invoke":1,"requester":"pbx","result":{"call":1}}"#,
-        ),
-        (
-            50,
-            SECOND_ARRIVE,
-            200,
-            r#"{"invoke":2,"requester":"pbx","result":{"call":2}}"#,
-        ),
+        (100, ARRIVE, 200, FIRST_CALL),
+        (50, SECOND_ARRIVE, 200, SECOND_CALL),
     ];
     let mut book = book_after(&rt, rt.alloc(), &[PLAN, scene]);
-    assert_eq!(rt; moment_after(&rt, &mut book, 1), Some(100));
-    assert_eq!(rt; counters(&rt, &mut book), (7, 100, 2));
+    expect_both_waiting(&rt, &mut book);
 }
 
 // The two calls of `moment_never_goes_back`, by one call of `run`.
@@ -105,6 +108,8 @@ fn run_both(rt: &impl Abort, alloc: Global, desk: &mut Desk<MemoryBook>) {
     ];
     let answers = desk.run(&arrivals).expect(rt, "memory");
     assert_eq!(rt; answers.len(), 2);
+    assert_eq!(rt; told(&answers[0]), (200, FIRST_CALL));
+    assert_eq!(rt; told(&answers[1]), (200, SECOND_CALL));
 }
 
 #[test]
@@ -112,9 +117,7 @@ fn moment_never_goes_back_in_a_run(rt: HostRuntime) {
     let mut desk = new_desk(&rt, rt.alloc(), Limits::GREATEST);
     ask_all(&rt, rt.alloc(), &mut desk, PLAN);
     run_both(&rt, rt.alloc(), &mut desk);
-    let mut book = desk.close();
-    assert_eq!(rt; moment_after(&rt, &mut book, 1), Some(100));
-    assert_eq!(rt; counters(&rt, &mut book), (7, 100, 2));
+    expect_both_waiting(&rt, &mut desk.close());
 }
 
 #[test]
