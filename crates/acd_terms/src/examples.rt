@@ -5,7 +5,7 @@ ghost use Rattle.acd_terms.specs.Examples.Words.{NumbersOfDigits};
 ghost use Rattle.acd_terms.specs.Examples.Plan.{RecordsOfTheEmptyState, Monitors};
 ghost use Rattle.acd_terms.specs.Examples.Queue.{CallWaits, OfferedToTheReadyAgent, AnsweredCall, LongestReadyFirst, TwoCallsAnswered, WrapUpAndTick, NoAnswerReturnsToItsPlace, MomentNeverGoesBack, RefusalTakesAStamp, CallerNumberTaken, CallerNumberShared, LeastPlaceFirst, AbandonedInQueue};
 ghost use Rattle.acd_terms.specs.Examples.Waiting.{OffersGoBack, Ticks, Never, WhoIsReadyLongest, TwoGroupsAtOnce};
-ghost use Rattle.acd_terms.specs.Examples.Agents.{PendingLogOff, TransferToStation, DeflectedToStation, HoldAndPending, TransferToGroup, SecondCallWhileHolding};
+ghost use Rattle.acd_terms.specs.Examples.Agents.{PendingLogOff, PresentStatePending, TransferToStation, DeflectedToStation, HoldAndPending, TransferToGroup, SecondCallWhileHolding};
 ghost use Rattle.acd_terms.specs.Examples.Releases.{ReleasedAfterAnAnswer, ReleasedUnanswered, ReleasedByNoAnswer};
 ghost use Rattle.acd_terms.specs.Examples.Refusals.{RefusalsOfPlanAndCalls, RefusalsOfAnAnsweredCall, RefusalsOfAHeldCall, RefusalsOfAnOfferedCall, RefusalsOfAnUnansweredCall, RefusalsOfAgents};
 ghost use Rattle.acd_terms.specs.Examples.HandedOn.{DeflectedToAnotherQueue, DeflectedFromQueueToStationAndBack, DeflectedToItsOwnGroup, DeflectedWithAStatePending, TransferredWhileHeld, TwoAgentsReleased, TransferredBack};
@@ -59,6 +59,11 @@ pub fn wrap_up_and_tick()
 /// A busy agent who asks to log off is logged off when the call ends.
 pub fn pending_log_off()
     ensures { PendingLogOff }
+{}
+
+/// An occupied agent who asks for the present state waits for it.
+pub fn present_state_pending()
+    ensures { PresentStatePending }
 {}
 
 /// An offer that rings too long goes back to its old place.
