@@ -3,13 +3,13 @@
 
 ghost use Rattle.acd_terms.specs.Examples.Words.{NumbersOfDigits};
 ghost use Rattle.acd_terms.specs.Examples.Plan.{RecordsOfTheEmptyState, Monitors};
-ghost use Rattle.acd_terms.specs.Examples.Queue.{CallWaits, OfferedToTheReadyAgent, AnsweredCall, LongestReadyFirst, TwoCallsAnswered, WrapUpAndTick, NoAnswerReturnsToItsPlace, MomentNeverGoesBack, RefusalTakesAStamp, CallerNumberTaken, CallerNumberShared, AbandonedInQueue};
+ghost use Rattle.acd_terms.specs.Examples.Queue.{CallWaits, OfferedToTheReadyAgent, AnsweredCall, LongestReadyFirst, TwoCallsAnswered, WrapUpAndTick, NoAnswerReturnsToItsPlace, MomentNeverGoesBack, RefusalTakesAStamp, CallerNumberTaken, CallerNumberShared, LeastPlaceFirst, AbandonedInQueue};
 ghost use Rattle.acd_terms.specs.Examples.Waiting.{OffersGoBack, Ticks, Never, WhoIsReadyLongest, TwoGroupsAtOnce};
-ghost use Rattle.acd_terms.specs.Examples.Agents.{PendingLogOff, TransferToStation, DeflectedToStation, HoldAndPending, TransferToGroup, SecondCallWhileHolding};
+ghost use Rattle.acd_terms.specs.Examples.Agents.{PendingLogOff, PresentStatePending, TransferToStation, DeflectedToStation, HoldAndPending, TransferToGroup, SecondCallWhileHolding};
 ghost use Rattle.acd_terms.specs.Examples.Releases.{ReleasedAfterAnAnswer, ReleasedUnanswered, ReleasedByNoAnswer};
 ghost use Rattle.acd_terms.specs.Examples.Refusals.{RefusalsOfPlanAndCalls, RefusalsOfAnAnsweredCall, RefusalsOfAHeldCall, RefusalsOfAnOfferedCall, RefusalsOfAnUnansweredCall, RefusalsOfAgents};
 ghost use Rattle.acd_terms.specs.Examples.HandedOn.{DeflectedToAnotherQueue, DeflectedFromQueueToStationAndBack, DeflectedToItsOwnGroup, DeflectedWithAStatePending, TransferredWhileHeld, TwoAgentsReleased, TransferredBack};
-ghost use Rattle.acd_terms.specs.Examples.Stations.{BusyStationFails, PrivateCallThenDistribution, HeldPrivateCall, CallToABusyAgentStation, PrivateCalls};
+ghost use Rattle.acd_terms.specs.Examples.Stations.{BusyStationFails, PrivateCallThenDistribution, LoggedOffWithAPrivateCall, HeldPrivateCall, CallToABusyAgentStation, PrivateCalls};
 
 /// The numbers of identifiers are the digit 1 followed by their digits.
 pub fn numbers_of_digits()
@@ -61,6 +61,11 @@ pub fn pending_log_off()
     ensures { PendingLogOff }
 {}
 
+/// An occupied agent who asks for the present state waits for it.
+pub fn present_state_pending()
+    ensures { PresentStatePending }
+{}
+
 /// An offer that rings too long goes back to its old place.
 pub fn no_answer_returns_to_its_place()
     ensures { NoAnswerReturnsToItsPlace }
@@ -86,6 +91,11 @@ pub fn private_call_then_distribution()
     ensures { PrivateCallThenDistribution }
 {}
 
+/// An agent with a private call logs off at once.
+pub fn logged_off_with_a_private_call()
+    ensures { LoggedOffWithAPrivateCall }
+{}
+
 /// While a station has a call on hold, another call to it fails and none is offered there.
 pub fn held_private_call()
     ensures { HeldPrivateCall }
@@ -99,6 +109,11 @@ pub fn caller_number_taken()
 /// Two live calls may come from one number, which is taken until both are cleared.
 pub fn caller_number_shared()
     ensures { CallerNumberShared }
+{}
+
+/// A call that is deflected back to its group waits behind one that came in the meantime.
+pub fn least_place_first()
+    ensures { LeastPlaceFirst }
 {}
 
 /// After a transfer to a station the transferring agent has after-call work.

@@ -23,6 +23,14 @@ PendingLogOff =
     × (agent_of r.rows ana ≡ ana_logged_off 11 40)
     × (figures_in r.rows billing ≡ counts 1 1 0 0 15)
 
+-- an occupied agent waits for the present state too, and nothing else changes
+abbrev pub PresentStatePending : Type 0
+PresentStatePending =
+    let r = asked_after offered (asks_for 30 ana pending.Ready ∷ []) in
+    (r.outcomes ≡ Done (answer.Pending Ready pending.Ready) ∷ [])
+    × (r.events ≡ [])
+    × (agent_of r.rows ana ≡ ana_in billing Ready (Some pending.Ready) 8 18)
+
 -- a later pending state takes the place of an earlier one; what is held can't be held
 abbrev pub HoldAndPending : Type 0
 HoldAndPending =

@@ -6,7 +6,7 @@ use Rattle.acd_terms.specs.Run.{Asked}
 use Rattle.acd_terms.specs.Examples.Words.{billing, first_station, second_station, ana, ben, caller, second_caller, third_caller, at, logs_on, asks_for, plan, asked_after, event, figures_in, counts, ana_in, ben_in, ringing_from, talking_from, call_arrives, ana_becomes_ready, offered}
 use Rattle.acd_terms.specs.declared.event.Cause.TheVariants as cause
 use Rattle.acd_terms.specs.declared.event.Report.TheVariants.{Queued, Delivered, Diverted, Established, ConnectionCleared, CallCleared, AgentLoggedOn, AgentNotReady, AgentReady, AgentBusy, AgentWorkingAfterCall}
-use Rattle.acd_terms.specs.declared.command.Command.TheVariants.{AddStation, ArriveCall, AnswerCall, ClearConnection, Tick}
+use Rattle.acd_terms.specs.declared.command.Command.TheVariants.{AddStation, ArriveCall, AnswerCall, ClearConnection, DeflectCall, Tick}
 use Rattle.acd_terms.specs.declared.state.Pending.TheVariants as pending
 use Rattle.acd_terms.specs.declared.state.AgentState.TheVariants.{NotReady, Ready, Busy, WorkingAfterCall}
 use Rattle.acd_terms.specs.declared.state.ConnectionState.TheVariants.{Connected}
@@ -154,6 +154,23 @@ CallerNumberShared =
     ∷ event 6 14 (ConnectionCleared 2 caller) ∷ event 7 14 (ConnectionCleared 2 billing) ∷ event 8 14 (CallCleared 2 (Some billing)) ∷ [])
     × (r.rows.stations ≡ record { device = first_station } ∷ record { device = second_station } ∷ record { device = caller } ∷ [])
     × (figures_in r.rows billing ≡ counts 2 0 2 0 0)
+
+-- a call that comes back to its group by a deflection waits behind one that came in the meantime
+abbrev pub LeastPlaceFirst : Type 0
+LeastPlaceFirst =
+    let r = asked_after plan (at 10 (ArriveCall caller billing) ∷ at 11 (ArriveCall second_caller billing)
+    ∷ at 12 (DeflectCall 1 billing first_station) ∷ at 13 (DeflectCall 1 first_station billing)
+    ∷ logs_on 14 ana first_station billing ∷ asks_for 15 ana pending.Ready ∷ []) in
+    (r.outcomes ≡ Done (answer.Call 1) ∷ Done (answer.Call 2) ∷ Done answer.Nothing ∷ Done answer.Nothing
+    ∷ Done (answer.State NotReady) ∷ Done (answer.State Ready) ∷ [])
+    × (r.events ≡ event 1 10 (Queued 1 billing cause.NewCall) ∷ event 2 11 (Queued 2 billing cause.NewCall)
+    ∷ event 3 12 (Diverted 1 billing first_station cause.Deflected (Some billing)) ∷ event 4 12 (Delivered 1 first_station cause.Deflected None)
+    ∷ event 5 13 (Diverted 1 first_station billing cause.Deflected None) ∷ event 6 13 (Queued 1 billing cause.Deflected)
+    ∷ event 7 14 (AgentLoggedOn ana first_station billing) ∷ event 8 15 (AgentReady ana first_station)
+    ∷ event 9 15 (Diverted 2 billing first_station cause.Distributed (Some billing)) ∷ event 10 15 (Delivered 2 first_station cause.Distributed (Some billing)) ∷ [])
+    × (connection_of r.rows 2 first_station ≡ Some (ringing_from billing 2 first_station 7 11 15))
+    × (waiting_in r.rows billing ≡ queueing 1 billing (Some 9) (Some 13) ∷ [])
+    × (figures_in r.rows billing ≡ counts 3 0 0 1 0)
 
 -- a call that is cleared in the queue is abandoned
 abbrev pub AbandonedInQueue : Type 0

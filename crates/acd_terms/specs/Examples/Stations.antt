@@ -3,12 +3,12 @@ use Rattle.std.specs.Prelude.{◌≡◌, List, [], ◌∷◌, ◌++◌, Some, No
 use Rattle.acd_terms.specs.Scans.{connections_of, call_of, connection_of, agent_of}
 use Rattle.acd_terms.specs.CallMoves.{plain}
 use Rattle.acd_terms.specs.Run.{Asked}
-use Rattle.acd_terms.specs.Examples.Words.{billing, first_station, second_station, third_station, ana, caller, late_caller, at, logs_on, asks_for, plan, asked_after, event, answered, figures_in, counts, ana_in, ringing_from, talking_from}
+use Rattle.acd_terms.specs.Examples.Words.{billing, first_station, second_station, third_station, ana, caller, late_caller, at, logs_on, asks_for, plan, asked_after, event, answered, figures_in, counts, ana_in, ana_logged_off, ringing_from, talking_from}
 use Rattle.acd_terms.specs.declared.event.Cause.TheVariants as cause
-use Rattle.acd_terms.specs.declared.event.Report.TheVariants.{ServiceInitiated, Originated, Queued, Delivered, Diverted, Established, Held, Transferred, Failed, ConnectionCleared, CallCleared, AgentLoggedOn, AgentReady, AgentBusy}
+use Rattle.acd_terms.specs.declared.event.Report.TheVariants.{ServiceInitiated, Originated, Queued, Delivered, Diverted, Established, Held, Transferred, Failed, ConnectionCleared, CallCleared, AgentLoggedOn, AgentLoggedOff, AgentReady, AgentBusy}
 use Rattle.acd_terms.specs.declared.command.Command.TheVariants.{AddStation, ArriveCall, MakeCall, PhoneOffHook, AnswerCall, HoldCall, ClearConnection, SingleStepTransfer}
 use Rattle.acd_terms.specs.declared.state.Pending.TheVariants as pending
-use Rattle.acd_terms.specs.declared.state.AgentState.TheVariants.{NotReady, Ready, Busy}
+use Rattle.acd_terms.specs.declared.state.AgentState.TheVariants.{Null, NotReady, Ready, Busy}
 use Rattle.acd_terms.specs.declared.state.ConnectionState.TheVariants.{Initiated, Connected, Hold, Fail}
 use Rattle.acd_terms.specs.declared.answer.Outcome.TheVariants.{Done}
 use Rattle.acd_terms.specs.declared.answer.Answer.TheVariants as answer
@@ -36,6 +36,19 @@ PrivateCallThenDistribution =
     ∷ event 10 20 (Diverted 2 billing first_station cause.Distributed (Some billing)) ∷ event 11 20 (Delivered 2 first_station cause.Distributed (Some billing)) ∷ [])
     × (connection_of r.rows 2 first_station ≡ Some (ringing_from billing 2 first_station 10 9 20))
     × (agent_of r.rows ana ≡ ana_in billing Ready None 7 6)
+
+-- an agent who isn't occupied logs off at once, a private call or not, and gets no call any more
+abbrev pub LoggedOffWithAPrivateCall : Type 0
+LoggedOffWithAPrivateCall =
+    let r = asked_after plan (logs_on 5 ana first_station billing ∷ asks_for 6 ana pending.Ready
+    ∷ at 7 (MakeCall first_station second_station) ∷ asks_for 8 ana pending.LoggedOff
+    ∷ at 9 (ClearConnection 1 first_station) ∷ at 10 (ArriveCall caller billing) ∷ []) in
+    (r.outcomes ≡ Done (answer.State NotReady) ∷ Done (answer.State Ready) ∷ Done (answer.Call 1) ∷ Done (answer.State Null)
+    ∷ Done answer.Nothing ∷ Done (answer.Call 2) ∷ [])
+    × (r.events ≡ event 1 5 (AgentLoggedOn ana first_station billing) ∷ event 2 6 (AgentReady ana first_station)
+    ∷ event 3 7 (ServiceInitiated 1 first_station) ∷ event 4 8 (AgentLoggedOff ana first_station)
+    ∷ event 5 9 (ConnectionCleared 1 first_station) ∷ event 6 9 (CallCleared 1 None) ∷ event 7 10 (Queued 2 billing cause.NewCall) ∷ [])
+    × (agent_of r.rows ana ≡ ana_logged_off 9 8)
 
 -- a call on hold keeps its station from being idle: another call to it fails, and none is offered there
 abbrev pub HeldPrivateCall : Type 0

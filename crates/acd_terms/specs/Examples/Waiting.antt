@@ -80,6 +80,7 @@ Never =
     ∷ event 11 9002 (AgentWorkingAfterCall ana first_station) ∷ [])
     × (agent_of r.rows ana ≡ ana_in claims WorkingAfterCall None 12 9002)
     × (figures_in r.rows claims ≡ counts 1 1 0 0 8991)
+    × (figures_in r.rows billing ≡ counts 0 0 0 0 0)
 
 -- neither asking for the present state nor an offer that ends unanswered takes an agent's turn; what is pending waits until the call ends
 abbrev pub WhoIsReadyLongest : Type 0

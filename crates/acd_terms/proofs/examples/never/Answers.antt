@@ -4,4 +4,4 @@ use Rattle.acd_terms.proofs.examples.never.Goals as goal
 
 pub returns : goal.returns
 unfolding switch_on_literals
-returns c = (refl, refl, refl, refl)
+returns c = (refl, refl, refl, refl, refl)
