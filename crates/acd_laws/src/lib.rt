@@ -8,7 +8,7 @@
 ghost use Rattle.acd_terms.specs.Offers.{FindsFirstWaiting, FindsFirstEligible, FindsTheOffer};
 ghost use Rattle.acd_laws.specs.RefusalLaws.{RefusalChangesNothing};
 ghost use Rattle.acd_laws.specs.FigureLaws.{StepKeepsFigures, RunKeepsFigures, StepAddsFigures};
-ghost use Rattle.acd_laws.specs.WatchedLaws.{StepTells, RulesGiveWatched, RunIsWatched};
+ghost use Rattle.acd_laws.specs.WatchedLaws.{StepKeepsWatched, RunIsWatched, RunTellsNoMore};
 ghost use Rattle.acd_laws.specs.BalanceLaws.{StepBalances, RunIsBalanced};
 ghost use Rattle.acd_laws.specs.OfferLaws.{FindsTheDistribution, StepLeavesNoOffer, RunLeavesNoOffer};
 ghost use Rattle.acd_laws.specs.PlacedLaws.{StepNamesNoLaterCall, RunNamesNoLaterCall, StepKeepsClearings, StepPlaces, StepKeepsPlaces, RunIsPlaced, PlacesExclude};
@@ -57,19 +57,20 @@ pub fn refusal_changes_nothing()
     ensures { RefusalChangesNothing }
 {}
 
-/// What the reports tell of a state that keeps the rules, they tell of the next one with the reports of the step.
-pub fn step_tells()
-    ensures { StepTells }
+/// What the reports tell a watcher of a state that keeps the rules, and no more, they tell of the next one with the reports of the step.
+pub fn step_keeps_watched()
+    ensures { StepKeepsWatched }
 {}
 
-/// What the reports tell of a state that keeps the rules is all that a watcher is to know of it.
-pub fn rules_give_watched()
-    ensures { RulesGiveWatched }
-{}
-
-/// After every run the reports alone tell the connections at planned devices, the agents' states and the order of each queue.
+/// After every run the reports alone tell the connections at planned devices, the agents' states and the order of each queue, in which each
+/// call that waits or rings has its entry.
 pub fn run_is_watched()
     ensures { RunIsWatched }
+{}
+
+/// After every run the reports tell nothing of external callers, and no entry is later than the last event.
+pub fn run_tells_no_more()
+    ensures { RunTellsNoMore }
 {}
 
 /// Where a state keeps the rules, and each group's figures add up, they add up after the step.
