@@ -60,3 +60,4 @@ pub mod PlacedOn
 pub mod BoundsStep
 pub mod RulesAll
 pub mod ChangesMade
+pub mod AllLaws
