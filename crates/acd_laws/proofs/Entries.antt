@@ -1,5 +1,5 @@
 -- Each call that waits in a group or rings from it has a last entry there.
-use Rattle.std.proofs.Common.{◌≡◌, ℕ, ◌<◌, ◌⊎◌, inl, inr, Bool, true, false, ◌&&◌, ◌||◌, cond, List, [], ◌∷◌, Option, Some, None, refl, sym, arith}
+use Rattle.std.proofs.Common.{◌≡◌, ℕ, ◌<◌, ◌⊎◌, inl, inr, Bool, true, false, ◌&&◌, ◌||◌, cond, List, [], ◌∷◌, Option, Some, None, refl, sym, subst, arith}
 use Rattle.std.specs.Prelude.{◌==◌, is_some}
 use Rattle.acd_terms.specs.Lists.{Among}
 use Rattle.acd_terms.specs.Scans.{has}
@@ -12,7 +12,7 @@ use Rattle.acd_terms.specs.declared.state.ConnectionState.{ConnectionState}
 use Rattle.acd_terms.specs.declared.state.ConnectionState.TheVariants as S
 use Rattle.acd_terms.specs.declared.event.Event.{Event}
 use Rattle.acd_laws.specs.Counts.{Rules, AlertingColumns, HasColumns, ConnectionRule}
-use Rattle.acd_laws.specs.WatchedLaws.{HasEntries}
+use Rattle.acd_laws.proofs.Tells.{HasEntries}
 use Rattle.acd_laws.proofs.Lists.{every_among, some_from}
 
 -- an entry among events, whose number is the last one
@@ -54,6 +54,10 @@ place_in x g S.Initiated h e = absurd (cc (e))
 place_in x g S.Connected h e = absurd (cc (e))
 place_in x g S.Hold h e = absurd (cc (e))
 place_in x g S.Fail h e = absurd (cc (e))
+
+-- the number of its entry is above 0
+pub entry_number : (g c : ℕ) (x : ConnectionRecord) (events : List Event) → x.call ≡ c → HasEntered events g x.call → 0 < last_entry g c 0 events
+entry_number g c x events e h = subst (λ v. 0 < last_entry g v 0 events) e (let n = h.numbered in let l = h.last in omega (arith, n, l))
 
 pub entered_by : (s : Rows) (events : List Event) (g : ℕ) (x : ConnectionRecord) → Rules s → HasEntries s events → Among x s.connections → is_held_by g x ≡ true → HasEntered events g x.call
 entered_by s events g x r h a e =

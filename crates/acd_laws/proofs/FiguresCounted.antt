@@ -1,5 +1,5 @@
 -- The figures that a group keeps are those counted from all events: by tick, distribution, step and run.
-use Rattle.std.proofs.Common.{◌≡◌, ℕ, zero, suc, ◌+◌, ◌⊎◌, inl, inr, Bool, true, false, ◌||◌, cond, List, [], ◌∷◌, ◌++◌, Option, Some, None, refl, sym, ◌∙◌, ap, subst, length, map, append_assoc, append-nil}
+use Rattle.std.proofs.Common.{◌≡◌, ℕ, zero, suc, ◌+◌, ◌⊎◌, inl, inr, Bool, true, false, ◌||◌, cond, List, [], ◌∷◌, ◌++◌, Option, Some, None, refl, sym, ◌∙◌, ap, subst, length, map}
 use Rattle.std.specs.Prelude.{is_some, option_map, ◌==◌}
 use Rattle.std.proofs.lemmas.Bool.{eqb-true, false_from_ne_true}
 use Rattle.acd_terms.specs.Lists.{Among, find_by, put_by}
@@ -38,6 +38,7 @@ use Rattle.acd_laws.proofs.Serving.{by_refusal}
 use Rattle.acd_laws.proofs.CountedEvents.{group_counted, quiet, figures_joined, figures_numbered, figures_skipped, no_events, nothing_sum}
 use Rattle.acd_laws.proofs.GroupsFound.{group_found_put, group_counted_found, is_some_mapped}
 use Rattle.acd_laws.proofs.FiguresFit.{IsAmongGroups, KnowsGroups, LeavesGroups, PutsKnown, ReportsKnown, AllFit, FitsState, known_found, fits_release, fits_go_from, fits_add_station, fits_add_agent, fits_arrive_call, fits_make_call, fits_phone_off_hook, fits_answer_call, fits_hold_call, fits_retrieve_call, fits_clear_connection, fits_deflect_call, fits_single_step_transfer, fits_set_agent_state, fits_monitor_start, fits_monitor_stop}
+use Rattle.acd_laws.proofs.Runs.{kept_by_run}
 
 -- moves that fit leave the groups, and what is known of them
 
@@ -302,19 +303,14 @@ step_keeps_figures s events moment command k =
 
 -- runs
 
-keeps_run : (asked : List Asked) (s : Rows) (events : List Event) → KeepsFigures s events → KeepsFigures (run s asked).rows (events ++ (run s asked).events)
-unfolding run
-keeps_run [] s events k = subst (KeepsFigures s) (sym (append-nil events)) k
-keeps_run (q ∷ more) s events k =
-    let one = step s q.moment q.command in
-    subst (KeepsFigures (run one.rows more).rows) (append_assoc events one.events (run one.rows more).events)
-    (keeps_run more one.rows (events ++ one.events) (step_keeps_figures s events q.moment q.command k))
-
 keeps_at_first : (limits : Limits) → KeepsFigures (empty_rows limits) []
 keeps_at_first limits = record { groups = λ g a. absurd a; others = λ d e. no_events d; offered_by = λ x a. absurd a }
 
+pub figures_kept : (limits : Limits) (asked : List Asked) → KeepsFigures (run (empty_rows limits) asked).rows (run (empty_rows limits) asked).events
+figures_kept limits asked = kept_by_run KeepsFigures step_keeps_figures limits (keeps_at_first limits) asked
+
 pub run_keeps_figures : RunKeepsFigures
-run_keeps_figures limits asked g a = (keeps_run asked (empty_rows limits) [] (keeps_at_first limits)).groups g a
+run_keeps_figures limits asked g a = (figures_kept limits asked).groups g a
 
 -- of a planned group a step changes the figures alone
 

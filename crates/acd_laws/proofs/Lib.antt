@@ -14,6 +14,7 @@ pub mod Arriving
 pub mod KeptArrival
 pub mod KeptOffer
 pub mod Releasing
+pub mod Tells
 pub mod Told
 pub mod Balance
 pub mod Order
@@ -59,3 +60,4 @@ pub mod PlacedOn
 pub mod BoundsStep
 pub mod RulesAll
 pub mod ChangesMade
+pub mod AllLaws

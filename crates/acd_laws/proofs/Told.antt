@@ -25,7 +25,7 @@ use Rattle.acd_terms.specs.declared.event.Report.{Report}
 use Rattle.acd_terms.specs.declared.event.Report.TheVariants.{CallCleared}
 use Rattle.acd_terms.specs.declared.moves.Move.{Move}
 use Rattle.acd_terms.specs.declared.moves.Change.TheVariants.{PutGroup, PutStation, PutAgent, PutCall, PutConnection, PutMonitor, RemoveCall, RemoveConnection, RemoveMonitor}
-use Rattle.acd_laws.specs.WatchedLaws.{shown, seat}
+use Rattle.acd_laws.proofs.Tells.{shown, seat}
 use Rattle.acd_laws.proofs.State.{is_of, is_of_true, at_put, at_remove, agent_put, group_put, station_put}
 
 -- what is told after a report, if there is one

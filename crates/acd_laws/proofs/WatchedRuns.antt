@@ -1,7 +1,7 @@
 -- The reports of every run tell its state; every run is balanced, and leaves no offer.
 use Rattle.std.proofs.Common.{◌≡◌, ℕ, ◌+◌, inl, inr, Bool, true, false, not, ◌&&◌, ◌||◌, cond, List, [], ◌++◌, Option, Some, None, refl, sym, ◌∙◌, ap, subst, length, arith, eq-eqb}
 use Rattle.std.specs.Prelude.{option_map}
-use Rattle.std.proofs.lemmas.Bool.{or_left, or_right}
+use Rattle.std.proofs.lemmas.Bool.{and_parts, not-true, or_left, or_right}
 use Rattle.acd_terms.specs.Scans.{connection_of, agent_of, call_of, group_of, station_of, is_group, is_station, is_planned, is_occupied, is_taken, is_eligible, waiting_in, eligible_in}
 use Rattle.acd_terms.specs.Writes.{empty_rows, with_last}
 use Rattle.acd_terms.specs.Moves.{moved, events_of}
@@ -25,7 +25,7 @@ use Rattle.acd_terms.specs.declared.event.Event.{Event}
 use Rattle.acd_terms.specs.declared.command.Command.{Command}
 use Rattle.acd_terms.specs.declared.moves.Move.{Move}
 use Rattle.acd_laws.specs.Counts.{Rules, IsCaller, StandsAt}
-use Rattle.acd_laws.specs.WatchedLaws.{shown, seat, UpTo, Tells, StepTells, RulesGiveWatched, RunIsWatched}
+use Rattle.acd_laws.specs.WatchedLaws.{TellsNoMore, StepKeepsWatched, RunIsWatched, RunTellsNoMore}
 use Rattle.acd_laws.specs.BalanceLaws.{IsBalanced, StepBalances, RunIsBalanced}
 use Rattle.acd_laws.specs.OfferLaws.{LeavesNoOffer, StepLeavesNoOffer, RunLeavesNoOffer}
 use Rattle.acd_laws.proofs.Lists.{none_from}
@@ -34,10 +34,11 @@ use Rattle.acd_laws.proofs.State.{found_key}
 use Rattle.acd_laws.proofs.Serving.{moved-append}
 use Rattle.acd_laws.proofs.Found.{connection_rule}
 use Rattle.acd_laws.proofs.CountedEvents.{figures_joined, figures_numbered}
+use Rattle.acd_laws.proofs.Tells.{shown, seat, UpTo, Tells}
 use Rattle.acd_laws.proofs.Told.{after-append, after-numbered}
 use Rattle.acd_laws.proofs.Balance.{holding}
 use Rattle.acd_laws.proofs.Order.{Ordered}
-use Rattle.acd_laws.proofs.Entries.{entered_by}
+use Rattle.acd_laws.proofs.Entries.{entry_number, entered_by}
 use Rattle.acd_laws.proofs.Distributing.{nothing_left}
 use Rattle.acd_laws.proofs.RulesKept.{rules_serve}
 use Rattle.acd_laws.proofs.RulesStep.{is_group_counting, rules_step}
@@ -101,7 +102,8 @@ tells_ended s t events es k m told f =
       up_to = subst (λ v. UpTo v e.last_event e (events ++ numbered s.last_event es)) c.0 (subst (λ v. UpTo k v e (events ++ numbered s.last_event es)) c.1 w.up_to);
     }
 
-pub step_tells : StepTells
+step_tells : (s : Rows) (events : List Event) (moment : ℕ) (command : Command) → Rules s → Tells s events
+    → Tells (step s moment command).rows (events ++ (step s moment command).events)
 unfolding step
 step_tells s events moment command r told =
     let m : ℕ = executed_moment s moment in
@@ -130,20 +132,49 @@ none_outside s c d r p q = none_from (connection_of s c d) (λ x e.
     let k = found_key s c d x e in
     not_standing s x x.state (ap (is_planned s) k.1 ∙ p) (ap (λ v. is_caller (call_of s v) x.device) k.0 ∙ ap (is_caller (call_of s c)) k.1 ∙ q) (connection_rule s r c d x e).2)
 
-pub watched_by : RulesGiveWatched
+-- what is shown of a connection is its state, but of an external caller nothing
+
+shown_by : (s : Rows) (c d : ℕ) (b : Bool) → Rules s → is_planned s d ≡ b → (not b && is_caller (call_of s c) d) ≡ false → state_at s c d ≡ cond b (state_at s c d) None
+shown_by s c d true r p e = refl
+shown_by s c d false r p e = ap (option_map (λ (x : ConnectionRecord). x.state)) (none_outside s c d r p e)
+
+shown_inside : (s : Rows) (c d : ℕ) → Rules s → is_external_caller s c d ≡ false → state_at s c d ≡ shown s c d
+shown_inside s c d r e = shown_by s c d (is_planned s d) r refl e
+
+shown_outside : (s : Rows) (c d : ℕ) → is_external_caller s c d ≡ true → shown s c d ≡ None
+shown_outside s c d e = ap (λ b. cond b (state_at s c d) None) (not-true (is_planned s d) (and_parts (not (is_planned s d)) (is_caller (call_of s c) d) e).0)
+
+watched_by : (s : Rows) (events : List Event) → Rules s → Tells s events → IsWatched s events
 watched_by s events r told = record {
-  connections = λ c d e. told_at c d e ∙ told.connections c d;
+  connections = λ c d e. shown_inside s c d r e ∙ told.connections c d;
   agents = told.agents;
   entries = λ g x a h. entered_by s events g x r told.entries a h;
   queues = told.queues;
 }
-  where
-    at : (c d : ℕ) (b : Bool) → is_planned s d ≡ b → (not b && is_caller (call_of s c) d) ≡ false → state_at s c d ≡ cond b (state_at s c d) None
-    at c d true p e = refl
-    at c d false p e = ap (option_map (λ (x : ConnectionRecord). x.state)) (none_outside s c d r p e)
 
-    told_at : (c d : ℕ) → is_external_caller s c d ≡ false → state_at s c d ≡ shown s c d
-    told_at c d e = at c d (is_planned s d) refl e
+no_more_by : (s : Rows) (events : List Event) → Tells s events → TellsNoMore s events
+no_more_by s events told = record {
+  outside = λ c d e. sym (told.connections c d) ∙ shown_outside s c d e;
+  entries = told.up_to.entries;
+  places = told.up_to.places;
+}
+
+told_by : (s : Rows) (events : List Event) → Rules s → IsWatched s events → TellsNoMore s events → Tells s events
+told_by s events r w n = record {
+  connections = λ c d. (elim (is_external_caller s c d) as (λ b. is_external_caller s c d ≡ b → shown s c d ≡ after (connection_told c d) None events) [
+    | true ↦ λ e. shown_outside s c d e ∙ sym (n.outside c d e)
+    | false ↦ λ e. sym (shown_inside s c d r e) ∙ w.connections c d e
+  ]) refl;
+  agents = w.agents;
+  entries = λ g c p h. entry_number g c h.connection events h.of_call (w.entries g h.connection h.there h.held);
+  queues = w.queues;
+  up_to = record { entries = n.entries; places = n.places };
+}
+
+pub step_keeps_watched : StepKeepsWatched
+step_keeps_watched s events moment command r w n =
+    let told = step_tells s events moment command r (told_by s events r w n) in
+    (watched_by _ _ (rules_step s moment command r) told, no_more_by _ _ told)
 
 -- balance
 
@@ -221,6 +252,9 @@ holds_step s events moment command h = record {
 
 pub run_is_watched : RunIsWatched
 run_is_watched limits asked = let h = kept_by_run Holds holds_step limits (holds_first limits) asked in watched_by _ _ h.rules h.tells
+
+pub run_tells_no_more : RunTellsNoMore
+run_tells_no_more limits asked = no_more_by _ _ (kept_by_run Holds holds_step limits (holds_first limits) asked).tells
 
 pub run_is_balanced : RunIsBalanced
 run_is_balanced limits asked = (kept_by_run Holds holds_step limits (holds_first limits) asked).balanced

@@ -8,12 +8,13 @@
 ghost use Rattle.acd_terms.specs.Offers.{FindsFirstWaiting, FindsFirstEligible, FindsTheOffer};
 ghost use Rattle.acd_laws.specs.RefusalLaws.{RefusalChangesNothing};
 ghost use Rattle.acd_laws.specs.FigureLaws.{StepKeepsFigures, RunKeepsFigures, StepAddsFigures};
-ghost use Rattle.acd_laws.specs.WatchedLaws.{StepTells, RulesGiveWatched, RunIsWatched};
+ghost use Rattle.acd_laws.specs.WatchedLaws.{StepKeepsWatched, RunIsWatched, RunTellsNoMore};
 ghost use Rattle.acd_laws.specs.BalanceLaws.{StepBalances, RunIsBalanced};
 ghost use Rattle.acd_laws.specs.OfferLaws.{FindsTheDistribution, StepLeavesNoOffer, RunLeavesNoOffer};
 ghost use Rattle.acd_laws.specs.PlacedLaws.{StepNamesNoLaterCall, RunNamesNoLaterCall, StepKeepsClearings, StepPlaces, StepKeepsPlaces, RunIsPlaced, PlacesExclude};
 ghost use Rattle.acd_laws.specs.RuleLaws.{RulesAreFacts, RulesAreKept, StepKeepsRules, RunKeepsRules, RulesBound, RulesLeaveRoom};
 ghost use Rattle.acd_laws.specs.ChangeLaws.{StepMakesItsChanges};
+ghost use Rattle.acd_laws.specs.AllLaws.{StepKeepsLaws, RunKeepsLaws};
 ghost use Rattle.acd_laws.specs.OneOfferLaws.{RulesGiveOneOffer, StepKeepsOneOffer, RunHasOneOffer};
 
 /// The call that is found to wait first in a group has the least place there, and one is found wherever one waits.
@@ -21,8 +22,8 @@ pub fn finds_the_first_waiting()
     ensures { FindsFirstWaiting }
 {}
 
-/// The agent that is found to be ready longest in a group has the least stamp of those eligible there, and of equal stamps the least number;
-/// one is found wherever one is eligible.
+/// The agent that is found to be ready longest in a group has the least stamp of those eligible there, and of equal
+/// stamps the least number; one is found wherever one is eligible.
 pub fn finds_the_first_eligible()
     ensures { FindsFirstEligible }
 {}
@@ -32,7 +33,8 @@ pub fn finds_the_offer()
     ensures { FindsTheOffer }
 {}
 
-/// The moves of a distribution are the offers that the relation allows, each in the state that the ones before it leave, until there is none.
+/// The moves of a distribution are the offers that the relation allows, each in the state that the ones before it
+/// leave, until there is none.
 pub fn finds_the_distribution()
     ensures { FindsTheDistribution }
 {}
@@ -57,19 +59,20 @@ pub fn refusal_changes_nothing()
     ensures { RefusalChangesNothing }
 {}
 
-/// What the reports tell of a state that keeps the rules, they tell of the next one with the reports of the step.
-pub fn step_tells()
-    ensures { StepTells }
+/// What the reports tell a watcher of a state that keeps the rules, and no more, they tell of the next one with the reports of the step.
+pub fn step_keeps_watched()
+    ensures { StepKeepsWatched }
 {}
 
-/// What the reports tell of a state that keeps the rules is all that a watcher is to know of it.
-pub fn rules_give_watched()
-    ensures { RulesGiveWatched }
-{}
-
-/// After every run the reports alone tell the connections at planned devices, the agents' states and the order of each queue.
+/// After every run the reports alone tell the connections at planned devices, the agents' states and the order of each queue, in which each
+/// call that waits or rings has its entry.
 pub fn run_is_watched()
     ensures { RunIsWatched }
+{}
+
+/// After every run the reports tell nothing of external callers, and no entry is later than the last event.
+pub fn run_tells_no_more()
+    ensures { RunTellsNoMore }
 {}
 
 /// Where a state keeps the rules, and each group's figures add up, they add up after the step.
@@ -92,13 +95,14 @@ pub fn run_leaves_no_offer()
     ensures { RunLeavesNoOffer }
 {}
 
-/// Where a state keeps the rules, a station has one distributed connection at most, with an agent logged on there who is ready or busy with it,
-/// and no other agent is busy.
+/// Where a state keeps the rules, a station has one distributed connection at most, with an agent logged on there who
+/// is ready or busy with it, and no other agent is busy.
 pub fn rules_give_one_offer()
     ensures { RulesGiveOneOffer }
 {}
 
-/// A state that keeps the rules goes to one in which each distributed connection is the one at its station, with its agent, and no other agent is busy.
+/// A state that keeps the rules goes to one in which each distributed connection is the one at its station, with its
+/// agent, and no other agent is busy.
 pub fn step_keeps_one_offer()
     ensures { StepKeepsOneOffer }
 {}
@@ -176,4 +180,14 @@ pub fn rules_leave_room()
 /// What the changes of a step make of rows that break no rule, with the counters of the request and its events, is the rows after it.
 pub fn step_makes_its_changes()
     ensures { StepMakesItsChanges }
+{}
+
+/// All laws of a state and of the events up to it hold of the next state with the events of the step, while a request more is allowed.
+pub fn step_keeps_laws()
+    ensures { StepKeepsLaws }
+{}
+
+/// All laws hold of every run of at most as many requests as are allowed.
+pub fn run_keeps_laws()
+    ensures { RunKeepsLaws }
 {}

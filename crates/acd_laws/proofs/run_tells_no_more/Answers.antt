@@ -1,0 +1,6 @@
+-- The law of what reports don't tell, after every run.
+use Rattle.acd_laws.proofs.WatchedRuns.{run_tells_no_more}
+use Rattle.acd_laws.proofs.run_tells_no_more.Goals as goal
+
+pub returns : goal.returns
+returns c = run_tells_no_more

@@ -1,0 +1,6 @@
+-- All laws, by a step.
+use Rattle.acd_laws.proofs.AllLaws.{step_keeps_laws}
+use Rattle.acd_laws.proofs.step_keeps_laws.Goals as goal
+
+pub returns : goal.returns
+returns c = step_keeps_laws
