@@ -14,7 +14,7 @@ use Rattle.acd_desk.specs.declared.taken.Taken.{Taken}
 use Rattle.acd_desk.specs.Firsts.{has_key, firsts, record_of, executed, run}
 use Rattle.acd_desk.specs.Replies.{answer_of, answer_in, reply_to, after}
 use Rattle.acd_desk.specs.declared.taken.Taken.TheVariants.{Reply, InvokeReused, DeskFull, NoMemory, StoreFault}
-use Rattle.acd_desk.specs.Served.{is_fault, served, sent, maybe_last}
+use Rattle.acd_desk.specs.Served.{is_fault, served, sent, has_served, maybe_last}
 use Rattle.acd_desk.specs.Stands.{arrivals_of, IsSound, ran_after, replies, StopsAt}
 use Rattle.acd_desk.proofs.Keys.{key_own}
 use Rattle.acd_desk.proofs.Runs.{run-stamp, run-limits, run-found, firsts-room, has-distinct, after_firsts}
@@ -100,20 +100,35 @@ served-push (b ∷ l) (u ∷ ts) a t same =
     let less : length l ≡ length ts = omega arith in
     ap (λ (s : List Arrival). cond (is_fault u) [] (b ∷ []) ++ s) (served-push l ts a t less) ∙ sym (append_assoc (cond (is_fault u) [] (b ∷ [])) (served l ts) (cond (is_fault t) [] (a ∷ [])))
 
--- an arrival that may be the last stays so
-pub maybe_stays : (l : List Arrival) (ts : List Taken) (a : Arrival) (t : Taken) (x : Arrival) → Contains (maybe_last l ts) x → Contains (maybe_last (l ++ a ∷ []) (ts ++ t ∷ [])) x
-maybe_stays [] ts a t x h = absurd (omega (arith, h.1))
-maybe_stays (b ∷ l) [] a t x h = absurd (omega (arith, h.1))
-maybe_stays (b ∷ l) (Reply status body ∷ ts) a t x h = maybe_stays l ts a t x h
-maybe_stays (b ∷ l) (InvokeReused ∷ ts) a t x h = maybe_stays l ts a t x h
-maybe_stays (b ∷ l) (DeskFull ∷ ts) a t x h = maybe_stays l ts a t x h
-maybe_stays (b ∷ l) (NoMemory ∷ ts) a t x h =
+faulty_more : (b : Bool) → b ≡ true → (not b || false) ≡ false
+faulty_more true h = refl
+faulty_more false h = absurd (true≢false (sym h))
+
+or-false : (a b : Bool) → b ≡ false → (a || b) ≡ a
+or-false true b h = refl
+or-false false b h = h
+
+has_served-push : (ts : List Taken) (t : Taken) → is_fault t ≡ true → has_served (ts ++ t ∷ []) ≡ has_served ts
+has_served-push ts t bad =
+    list_any-append (λ (u : Taken). not (is_fault u)) ts (t ∷ []) ∙ or-false (has_served ts) (not (is_fault t) || false) (faulty_more (is_fault t) bad)
+
+-- an arrival that may be the last stays so behind a fault
+pub maybe_stays : (l : List Arrival) (ts : List Taken) (a : Arrival) (t : Taken) → is_fault t ≡ true
+    → (x : Arrival) → Contains (maybe_last l ts) x → Contains (maybe_last (l ++ a ∷ []) (ts ++ t ∷ [])) x
+maybe_stays [] ts a t bad x h = absurd (omega (arith, h.1))
+maybe_stays (b ∷ l) [] a t bad x h = absurd (omega (arith, h.1))
+maybe_stays (b ∷ l) (Reply status body ∷ ts) a t bad x h = maybe_stays l ts a t bad x h
+maybe_stays (b ∷ l) (InvokeReused ∷ ts) a t bad x h = maybe_stays l ts a t bad x h
+maybe_stays (b ∷ l) (DeskFull ∷ ts) a t bad x h = maybe_stays l ts a t bad x h
+maybe_stays (b ∷ l) (NoMemory ∷ ts) a t bad x h =
+    let one : List Arrival = cond (has_served ts) [] (b ∷ []) in
     let more : List Arrival = maybe_last (l ++ a ∷ []) (ts ++ t ∷ []) in
-    elim (Contains-append_cases (b ∷ []) (maybe_last l ts) x h) [
-      | inl one ↦ Contains-append_left (b ∷ []) more x one
-      | inr rest ↦ Contains-append_right (b ∷ []) more x (maybe_stays l ts a t x rest)
-    ]
-maybe_stays (b ∷ l) (StoreFault ∷ ts) a t x h = h
+    subst (λ (c : Bool). Contains (cond c [] (b ∷ []) ++ more) x) (sym (has_served-push ts t bad))
+    (elim (Contains-append_cases one (maybe_last l ts) x h) [
+      | inl now ↦ Contains-append_left one more x now
+      | inr rest ↦ Contains-append_right one more x (maybe_stays l ts a t bad x rest)
+    ])
+maybe_stays (b ∷ l) (StoreFault ∷ ts) a t bad x h = h
 
 one_less : (b : Arrival) (u : Taken) (l : List Arrival) (ts : List Taken) → length (b ∷ l) ≡ length (u ∷ ts) → length l ≡ length ts
 one_less b u l ts same = omega (arith, same)
@@ -131,7 +146,7 @@ maybe_this (b ∷ l) [] a t same none h = absurd (omega arith)
 maybe_this (b ∷ l) (Reply status body ∷ ts) a t same none h = maybe_this l ts a t (one_less b (Reply status body) l ts same) (λ found. none (Contains-append_right (Reply status body ∷ []) ts StoreFault found)) h
 maybe_this (b ∷ l) (InvokeReused ∷ ts) a t same none h = maybe_this l ts a t (one_less b InvokeReused l ts same) (λ found. none (Contains-append_right (InvokeReused ∷ []) ts StoreFault found)) h
 maybe_this (b ∷ l) (DeskFull ∷ ts) a t same none h = maybe_this l ts a t (one_less b DeskFull l ts same) (λ found. none (Contains-append_right (DeskFull ∷ []) ts StoreFault found)) h
-maybe_this (b ∷ l) (NoMemory ∷ ts) a t same none h = Contains-append_right (b ∷ []) (maybe_last (l ++ a ∷ []) (ts ++ t ∷ [])) a (maybe_this l ts a t (one_less b NoMemory l ts same) (λ found. none (Contains-append_right (NoMemory ∷ []) ts StoreFault found)) h)
+maybe_this (b ∷ l) (NoMemory ∷ ts) a t same none h = Contains-append_right (cond (has_served (ts ++ t ∷ [])) [] (b ∷ [])) (maybe_last (l ++ a ∷ []) (ts ++ t ∷ [])) a (maybe_this l ts a t (one_less b NoMemory l ts same) (λ found. none (Contains-append_right (NoMemory ∷ []) ts StoreFault found)) h)
 maybe_this (b ∷ l) (StoreFault ∷ ts) a t same none h = absurd (none (Contains-append_left (StoreFault ∷ []) ts StoreFault (Contains-push [] StoreFault)))
 
 cond-not : (b : Bool) (t : Taken) → cond (not b) (t ∷ []) [] ≡ cond b [] (t ∷ [])
@@ -167,7 +182,7 @@ one_content start l a t new good bad =
     ] in
     cases (is_fault t) refl
 
-pub one_stop : (start : Content) (l u v : List Arrival) (a : Arrival) (t : Taken) (c : Content) → ((x : Arrival) → Contains u x → Contains v x)
+pub one_stop : (start : Content) (l u v : List Arrival) (a : Arrival) (t : Taken) (c : Content) → (is_fault t ≡ true → (x : Arrival) → Contains u x → Contains v x)
     → (is_fault t ≡ false → c ≡ after (ran_after start l) a) → (is_fault t ≡ true → StopsAt start l u c ⊎ (Contains v a × (c ≡ after (ran_after start l) a)))
     → StopsAt start (l ++ cond (is_fault t) [] (a ∷ [])) v c
 one_stop start l u v a t c stay good bad =
@@ -178,7 +193,7 @@ one_stop start l u v a t c stay good bad =
           (elim (bad e) [
             | inl old ↦ elim old [
               | inl same ↦ inl same
-              | inr more ↦ inr (more.0, stay more.0 more.1, more.2)
+              | inr more ↦ inr (more.0, stay e more.0 more.1, more.2)
             ]
             | inr made ↦ inr (a, made.0, made.1 ∙ ran_push start l a)
           ])

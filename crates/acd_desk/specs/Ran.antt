@@ -95,7 +95,7 @@ pub record Ran (old : Standing) (arrivals : List Arrival) (answers : List Taken)
   pub holds : IfStarted old new (EndsUp old answers → Holds old.book.content (served arrivals answers) new.book)
   -- a book that was shut stays shut
   pub opened : IfHonest old.book new.book (new.book.is_open → old.book.is_open)
-  -- whatever a stop leaves is that run, or that with one more arrival, which was answered noMemory before the first storeFault, or that storeFault
+  -- whatever a stop leaves is that run, or that with one more arrival, which came behind the last that was served
   pub stops : IfStarted old new ((c : Content) → new.book.stops c → StopsAt old.book.content (served arrivals answers) (maybe_last arrivals answers) c)
   pub sound_stops : IfStarted old new ((c : Content) → new.book.stops c → IsSound c)
   -- over a book that was shut, or by a desk that had failed, no stop is added

@@ -1,5 +1,6 @@
 -- Which arrivals of a run were served, and what was answered to them.
 use Rattle.std.specs.Prelude.{Bool, true, false, not, cond, List, [], ◌∷◌, ◌++◌, filter}
+use Rattle.std.specs.List.{list_any}
 use Rattle.acd_terms.specs.declared.command.Arrival.{Arrival}
 use Rattle.acd_desk.specs.declared.taken.Taken.{Taken}
 use Rattle.acd_desk.specs.declared.taken.Taken.TheVariants.{Reply, InvokeReused, DeskFull, NoMemory, StoreFault}
@@ -37,9 +38,13 @@ served _ _ = []
 abbrev pub sent : List Taken → List Taken
 sent answers = filter (λ (t : Taken). not (is_fault t)) answers
 
--- the arrivals that may have been executed though it wasn't answered so: those answered noMemory before the first storeFault, and that one
+-- one of these is no fault
+abbrev pub has_served : List Taken → Bool
+has_served answers = list_any (λ (t : Taken). not (is_fault t)) answers
+
+-- the arrivals that may have been executed though it wasn't answered so: those answered noMemory behind the last that was served, and the first answered storeFault
 abbrev pub maybe_last : List Arrival → List Taken → List Arrival
-maybe_last (a ∷ rest) (NoMemory ∷ ts) = a ∷ maybe_last rest ts
+maybe_last (a ∷ rest) (NoMemory ∷ ts) = cond (has_served ts) [] (a ∷ []) ++ maybe_last rest ts
 maybe_last (a ∷ rest) (StoreFault ∷ ts) = a ∷ []
 maybe_last (a ∷ rest) (t ∷ ts) = maybe_last rest ts
 maybe_last _ _ = []
