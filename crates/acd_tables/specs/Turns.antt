@@ -98,6 +98,10 @@ pub record TakenOut (old new : Indexes) (entries : Entries) : Type 0 where
   pub offers : Offers new
   pub rest : KeepsRest old new
 
+-- one of the two
+abbrev pub differ : Bool → Bool → Bool
+differ a b = if a then not b else b
+
 -- what may stand at a key
 abbrev pub IsAt : ℕ → ℕ → Option ConnectionRecord → Type 0
 IsAt call device None = Unit {0}
