@@ -23,7 +23,7 @@ use Rattle.acd_terms.specs.declared.record.MonitorRecord.{MonitorRecord}
 use Rattle.acd_terms.specs.declared.record.ConnectionRecord.{ConnectionRecord}
 use Rattle.acd_tables.specs.Sets.{holds, holds_in, has_set, is_at_key, Stays, SetsMember, SameMembers, HasSet, Forgotten}
 use Rattle.acd_tables.specs.Indexed.{PairSets, pair_cmp, lists, joins, waits_at, is_busying, is_busy_at, is_free, is_able_since, rings, works, Seats, Lines, Ringing, Working, IsIndexed}
-use Rattle.acd_tables.specs.Turns.{is_entry, Entered, Undone, Untouched, TakenOut, TurnsTo, IsAt, IsFreeFor, with_or_without, one_queued, IsBlank}
+use Rattle.acd_tables.specs.Turns.{is_entry, Entered, Undone, Untouched, TakenOut, TurnsTo, IsAt, IsFreeFor, with_or_without, one_queued, stays, IsBlank}
 use Rattle.acd_tables.specs.declared.indexes.Indexes.{Indexes}
 use Rattle.acd_tables.specs.declared.indexes.Entries.{Entries}
 use Rattle.acd_tables.specs.declared.indexes.Turn.{Turn}
@@ -144,6 +144,22 @@ Seats-put s old new item w h n d a e f = by (item.agent == n) refl
         let same : item ≡ a = some_is item a (sym (ap (λ b. cond b (Some item) (agent_of s n)) p) ∙ sym (agent_put s item n) ∙ e) in
         let station : item.station ≡ Some d = ap (λ (z : AgentRecord). z.station) same ∙ f in
         w d ∙ ap (λ b. cond b (Some item.agent) (get nat_cmp old d)) (ap (λ o. has o d) station ∙ eq-eqb d d refl) ∙ ap Some (eqb-true item.agent n p)
+    by false p = h n d a (sym (ap (λ b. cond b (Some item) (agent_of s n)) p) ∙ sym (agent_put s item n) ∙ e) f
+
+stayed : (o : Option AgentRecord) (station : Option ℕ) → stays o station ≡ true → (a : AgentRecord) × (o ≡ Some a) × ((d : ℕ) → station ≡ Some d → a.station ≡ Some d)
+stayed o None e = absurd (cc (e))
+stayed None (Some d) e = absurd (cc (e))
+stayed (Some a) (Some d) e = (a, refl, λ k f. has_is a.station d e ∙ f)
+
+-- the agent is at its station already
+pub Seats-stay : (s : Rows) (seats : BTreeMap ℕ ℕ) (item : AgentRecord) (old : Option AgentRecord) → old ≡ agent_of s item.agent → stays old item.station ≡ true → Seats s seats → Seats (with_agent s item) seats
+Seats-stay s seats item old found stay h n d a e f = by (item.agent == n) refl
+  where
+    by : (b : Bool) → (item.agent == n) ≡ b → get nat_cmp seats d ≡ Some n
+    by true p =
+        let same : item ≡ a = some_is item a (sym (ap (λ b. cond b (Some item) (agent_of s n)) p) ∙ sym (agent_put s item n) ∙ e) in
+        let was = stayed old item.station stay in
+        h item.agent d was.0 (sym found ∙ was.1) (was.2 d (ap (λ (z : AgentRecord). z.station) same ∙ f)) ∙ ap Some (eqb-true item.agent n p)
     by false p = h n d a (sym (ap (λ b. cond b (Some item) (agent_of s n)) p) ∙ sym (agent_put s item n) ∙ e) f
 
 pub Seats-same : (s : Rows) (old new : BTreeMap ℕ ℕ) → ((d : ℕ) → get nat_cmp new d ≡ get nat_cmp old d) → Seats s old → Seats s new

@@ -22,7 +22,7 @@ use Rattle.acd_laws.proofs.Found.{agent_seat, agent_there}
 use Rattle.acd_tables.specs.Indexed.{pair_cmp, waits_at, is_busying, is_busy_at, is_free, is_able_since, Seats}
 use Rattle.acd_tables.specs.Uses.{is_used, is_in_use}
 use Rattle.acd_tables.specs.declared.uses.Use.TheVariants.{Busying}
-use Rattle.acd_tables.specs.Turns.{TurnsTo, is_entry, IsAt, queue_entry, entry_in, ready_entry, with_or_without, LeavesBut}
+use Rattle.acd_tables.specs.Turns.{TurnsTo, differ, is_entry, IsAt, queue_entry, entry_in, ready_entry, with_or_without, LeavesBut}
 use Rattle.acd_tables.specs.declared.indexes.Turn.{Turn}
 use Rattle.acd_tables.proofs.Looking.{there-any, any-there, used_some, seated}
 
@@ -111,6 +111,45 @@ module _ (s t : Rows) (call device : ℕ) (new : Option ConnectionRecord) (ascen
   busy-there d h = both_ways _ _
       (λ e. let c = any-there t is_busying d r.ascending e in there-any s is_busying c.0.call d c.0 (sym (found_apart c.0.call d h) ∙ c.1) c.2)
       (λ e. let c = any-there s is_busying d ascending e in there-any t is_busying c.0.call d c.0 (found_apart c.0.call d h ∙ c.1) c.2)
+
+pub Replaces-self : (s : Rows) (call device : ℕ) → IsAscending connection_order s.connections → Replaces s s call device (connection_of s call device)
+Replaces-self s call device h = record { found = λ k d. by k d (call == k && device == d) refl; agents = λ n. refl; ascending = h }
+  where
+    by : (k d : ℕ) (b : Bool) → (call == k && device == d) ≡ b → connection_of s k d ≡ cond b (connection_of s call device) (connection_of s k d)
+    by k d true e =
+        let parts = and_parts (call == k) (device == d) e in
+        sym (ap (λ c. connection_of s c device) (eqb-true call k parts.0) ∙ ap (connection_of s k) (eqb-true device d parts.1))
+    by k d false e = refl
+
+alike : (a b : Bool) → differ a b ≡ false → a ≡ b
+alike true true e = refl
+alike true false e = absurd (cc (e))
+alike false true e = absurd (cc (e))
+alike false false e = refl
+
+-- a connection that keeps the station as busy as it was changes nobody's turn
+module _ (s t : Rows) (call device : ℕ) (new : Option ConnectionRecord) (ascending : IsAscending connection_order s.connections) (at : IsAt call device new) (r : Replaces s t call device new)
+    (same : differ (is_used is_busying (connection_of s call device)) (is_used is_busying new) ≡ false) where
+  busy-still : is_busy_at t device ≡ is_busy_at s device
+  busy-still =
+      sym (busy-here s t call device new ascending at r)
+      ∙ ap (λ b. b || is_in_use s device (Some call) Busying) (sym (alike (is_used is_busying (connection_of s call device)) (is_used is_busying new) same))
+      ∙ busy-here s s call device (connection_of s call device) ascending (at_own_key s call device (connection_of s call device) refl) (Replaces-self s call device ascending)
+
+  free-still : (o : Option ℕ) → is_free t o ≡ is_free s o
+  free-still None = refl
+  free-still (Some d) = ap not (by (device == d) refl)
+    where
+      by : (b : Bool) → (device == d) ≡ b → is_busy_at t d ≡ is_busy_at s d
+      by true e = ap (is_busy_at t) (sym (eqb-true device d e)) ∙ busy-still ∙ ap (is_busy_at s) (eqb-true device d e)
+      by false e = busy-there s t call device new ascending at r d e
+
+  able-still : (g : ℕ) (p : ℕ × ℕ) → is_able_since t g p.0 (agent_of t p.1) ≡ is_able_since s g p.0 (agent_of s p.1)
+  able-still g p = ap (is_able_since t g p.0) (r.agents p.1) ∙ by (agent_of s p.1)
+    where
+      by : (o : Option AgentRecord) → is_able_since t g p.0 o ≡ is_able_since s g p.0 o
+      by None = refl
+      by (Some a) = ap (λ b. (a.stamp == p.0) && (has a.group g && (is_ready a.state && b))) (free-still a.station)
 
 entry_waits : (call device : ℕ) (o : Option ConnectionRecord) → IsAt call device o → (g : ℕ) (p : ℕ × ℕ) → is_entry pair_cmp (queue_entry o) g p ≡ (waits_at p.0 o && (call == p.1 && device == g))
 entry_waits call device None at g p = refl
@@ -359,38 +398,60 @@ none_leaves None false = refl
 none_leaves (Some k) b = refl
 
 -- the turn of a connection, by its parts
-pub connection-turn : (s : Rows) (seats : BTreeMap ℕ ℕ) (call device : ℕ) (new : Option ConnectionRecord) (turn : Turn) (before seat : Option (ℕ × (ℕ × ℕ))) (busy : Bool)
-    → IsAscending connection_order s.connections → IsAscending agent_order s.agents → Seats s seats → IsAt call device new
-    → before ≡ queue_entry (connection_of s call device) → turn.entering.queue ≡ queue_entry new → LeavesBut pair_cmp before turn.entering.queue turn.leaving.queue
-    → seat ≡ ready_entry (agent_at s device) → busy ≡ (is_some seat && (is_used is_busying new || is_in_use s device (Some call) Busying))
+pub connection-turn : (s : Rows) (seats : BTreeMap ℕ ℕ) (call device : ℕ) (old new : Option ConnectionRecord) (turn : Turn) (before seat : Option (ℕ × (ℕ × ℕ))) (busy : Bool)
+    → IsAscending connection_order s.connections → IsAscending agent_order s.agents → Seats s seats → IsAt call device new → old ≡ connection_of s call device
+    → before ≡ queue_entry old → turn.entering.queue ≡ queue_entry new → LeavesBut pair_cmp before turn.entering.queue turn.leaving.queue
+    → seat ≡ cond (differ (is_used is_busying old) (is_used is_busying new)) (ready_entry (agent_at s device)) None
+    → busy ≡ (is_some seat && (is_used is_busying new || is_in_use s device (Some call) Busying))
     → turn.entering.ready ≡ cond busy None seat → turn.leaving.ready ≡ cond busy seat None → TurnsTo s (with_or_without s call device new) turn
-connection-turn s seats call device new turn before seat busy ascending agents listed at b after out f u e l =
+connection-turn s seats call device old new turn before seat busy ascending agents listed at found b after out f u e l =
     let t : Rows = with_or_without s call device new in
     let r = Replaces-either s call device new ascending at in
     let leaves : LeavesBut pair_cmp (queue_entry (connection_of s call device)) (queue_entry new) turn.leaving.queue =
     λ g p. out g p
-    ∙ ap (λ o. is_entry pair_cmp o g p && not (is_entry pair_cmp turn.entering.queue g p)) b
+    ∙ ap (λ o. is_entry pair_cmp o g p && not (is_entry pair_cmp turn.entering.queue g p)) (b ∙ ap queue_entry found)
     ∙ ap (λ o. is_entry pair_cmp (queue_entry (connection_of s call device)) g p && not (is_entry pair_cmp o g p)) after in
     let now : Bool = is_used is_busying new || is_in_use s device (Some call) Busying in
-    let is = busy-here s t call device new ascending at r in
     let enters : turn.entering.ready ≡ cond now None seat = e ∙ ap (λ b. cond b None seat) u ∙ none_enters seat now in
-    let leaves_ready : turn.leaving.ready ≡ cond now seat None = l ∙ ap (λ b. cond b seat None) u ∙ none_leaves seat now in
+    let exits : turn.leaving.ready ≡ cond now seat None = l ∙ ap (λ b. cond b seat None) u ∙ none_leaves seat now in
     record {
       waiting = λ g p. waiting-turned s t call device new at r turn.leaving.queue leaves g p
           ∙ ap (λ o. not (is_entry pair_cmp turn.leaving.queue g p) && (is_entry pair_cmp o g p || waits_at p.0 (connection_of s p.1 g))) (sym after);
-      able = λ g p. able-turned s t call device new seats ascending agents listed at r now is g p
-          ∙ ap (λ o. not (is_entry pair_cmp o g p) && (is_entry pair_cmp (cond now None (ready_entry (agent_at s device))) g p || is_able_since s g p.0 (agent_of s p.1))) (sym (leaves_ready ∙ ap (λ o. cond now o None) f))
-          ∙ ap (λ o. not (is_entry pair_cmp turn.leaving.ready g p) && (is_entry pair_cmp o g p || is_able_since s g p.0 (agent_of s p.1))) (sym (enters ∙ ap (λ o. cond now None o) f));
+      able = λ g p. by (differ (is_used is_busying old) (is_used is_busying new)) refl f g p
+          ∙ ap (λ o. not (is_entry pair_cmp o g p) && (is_entry pair_cmp (cond now None seat) g p || is_able_since s g p.0 (agent_of s p.1))) (sym exits)
+          ∙ ap (λ o. not (is_entry pair_cmp turn.leaving.ready g p) && (is_entry pair_cmp o g p || is_able_since s g p.0 (agent_of s p.1))) (sym enters);
     }
+  where
+    t : Rows
+    t = with_or_without s call device new
+
+    now : Bool
+    now = is_used is_busying new || is_in_use s device (Some call) Busying
+
+    -- nobody enters or leaves
+    nobody : (b : Bool) (g : ℕ) (p : ℕ × ℕ) (x : Bool) → x ≡ (not (is_entry pair_cmp (cond b None None) g p) && (is_entry pair_cmp (cond b None None) g p || x))
+    nobody true g p x = refl
+    nobody false g p x = refl
+
+    by : (d : Bool) → differ (is_used is_busying old) (is_used is_busying new) ≡ d → seat ≡ cond d (ready_entry (agent_at s device)) None → (g : ℕ) (p : ℕ × ℕ) → is_able_since t g p.0 (agent_of t p.1)
+        ≡ (not (is_entry pair_cmp (cond now seat None) g p) && (is_entry pair_cmp (cond now None seat) g p || is_able_since s g p.0 (agent_of s p.1)))
+    by true d k g p =
+        let r = Replaces-either s call device new ascending at in
+        able-turned s t call device new seats ascending agents listed at r now (busy-here s t call device new ascending at r) g p
+        ∙ ap (λ o. not (is_entry pair_cmp (cond now o None) g p) && (is_entry pair_cmp (cond now None o) g p || is_able_since s g p.0 (agent_of s p.1))) (sym k)
+    by false d k g p =
+        able-still s t call device new ascending at (Replaces-either s call device new ascending at) (ap (λ o. differ (is_used is_busying o) (is_used is_busying new)) (sym found) ∙ d) g p
+        ∙ nobody now g p (is_able_since s g p.0 (agent_of s p.1))
+        ∙ ap (λ o. not (is_entry pair_cmp (cond now o None) g p) && (is_entry pair_cmp (cond now None o) g p || is_able_since s g p.0 (agent_of s p.1))) (sym k)
 
 -- the turn of an agent, by its parts
 pub agent-turn : (s : Rows) (item : AgentRecord) (turn : Turn) (before entry : Option (ℕ × (ℕ × ℕ))) (free : Bool) → turn.entering.queue ≡ None → turn.leaving.queue ≡ None
-    → before ≡ ready_entry (agent_of s item.agent) → entry ≡ ready_entry (Some item) → free ≡ is_free s item.station → turn.entering.ready ≡ cond free entry None → LeavesBut pair_cmp before turn.entering.ready turn.leaving.ready
+    → before ≡ ready_entry (agent_of s item.agent) → entry ≡ ready_entry (Some item) → free ≡ (is_some entry && is_free s item.station) → turn.entering.ready ≡ cond free entry None → LeavesBut pair_cmp before turn.entering.ready turn.leaving.ready
     → TurnsTo s (with_agent s item) turn
 unfolding with_agent connection_of
 agent-turn s item turn before entry free a b o e f h out = record {
   waiting = λ g p. ap (λ v. not v && waits_at p.0 (connection_of s p.1 g)) (sym (ap (λ u. is_entry pair_cmp u g p) b))
       ∙ ap (λ v. not (is_entry pair_cmp turn.leaving.queue g p) && (v || waits_at p.0 (connection_of s p.1 g))) (sym (ap (λ u. is_entry pair_cmp u g p) a));
-  able = agent-turned s item turn.entering.ready turn.leaving.ready (h ∙ ap (λ v. cond v entry None) f ∙ ap (λ u. cond (is_free s item.station) u None) e)
+  able = agent-turned s item turn.entering.ready turn.leaving.ready (h ∙ ap (λ v. cond v entry None) f ∙ none_leaves entry (is_free s item.station) ∙ ap (λ u. cond (is_free s item.station) u None) e)
       (λ g p. out g p ∙ ap (λ u. is_entry pair_cmp u g p && not (is_entry pair_cmp turn.entering.ready g p)) o);
 }

@@ -4,7 +4,7 @@ use Rattle.std.specs.declared.cmp.Ordering.{Ordering}
 use Rattle.std.specs.Ordering.{nat_cmp, is_eq}
 use Rattle.std.specs.BTreeMap.{BTreeMap}
 use Rattle.std.specs.BTreeSet.{BTreeSet}
-use Rattle.acd_terms.specs.Scans.{agent_of, agent_at, connection_of}
+use Rattle.acd_terms.specs.Scans.{agent_of, agent_at, connection_of, has}
 use Rattle.acd_terms.specs.Choice.{waiting_pair, ready_pair}
 use Rattle.acd_terms.specs.States.{is_queued, is_ready}
 use Rattle.acd_terms.specs.Writes.{with_connection, without_connection}
@@ -98,6 +98,10 @@ pub record TakenOut (old new : Indexes) (entries : Entries) : Type 0 where
   pub offers : Offers new
   pub rest : KeepsRest old new
 
+-- one of the two
+abbrev pub differ : Bool → Bool → Bool
+differ a b = if a then not b else b
+
 -- what may stand at a key
 abbrev pub IsAt : ℕ → ℕ → Option ConnectionRecord → Type 0
 IsAt call device None = Unit {0}
@@ -117,6 +121,12 @@ pub record TurnsTo (s t : Rows) (turn : Turn) : Type 0 where
 abbrev pub one_queued : Option ConnectionRecord → ℕ
 one_queued None = 0
 one_queued (Some c) = if is_queued c.state then 1 else 0
+
+-- the agent that may be there has the station
+abbrev pub stays : Option AgentRecord → Option ℕ → Bool
+stays o None = false
+stays None (Some d) = false
+stays (Some a) (Some d) = has a.station d
 
 -- whoever is at the agent's station is that agent
 abbrev pub IsFreeFor : Rows → AgentRecord → Type 0

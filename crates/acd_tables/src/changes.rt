@@ -5,16 +5,16 @@ ghost use Rattle.std.specs.Ordering.{nat_cmp};
 ghost use Rattle.std.specs.BTreeMap.{get};
 ghost use Rattle.acd_terms.specs.Lists.{IsAscending};
 ghost use Rattle.acd_terms.specs.Rules.Plan.{agent_order};
-ghost use Rattle.acd_terms.specs.Scans.{agent_at, connection_of, queued_in_all, has};
+ghost use Rattle.acd_terms.specs.Scans.{agent_of, agent_at, connection_of, queued_in_all, has};
 ghost use Rattle.acd_terms.specs.Writes.{with_group, with_agent, with_connection, without_connection};
 ghost use Rattle.acd_tables.specs.Indexed.{IsIndexed, Seats, rings, works};
-ghost use Rattle.acd_tables.specs.Turns.{IsAt, with_or_without, one_queued, IsFreeFor};
+ghost use Rattle.acd_tables.specs.Turns.{IsAt, with_or_without, one_queued, stays, IsFreeFor};
 
 use crate::indexes::Indexes;
 use crate::records::Records;
 use crate::sets::{add_set, forget, list, note, unlist};
 use crate::turns::{agent_turn, connection_turn};
-use crate::uses::{agent_at, is_ringing};
+use crate::uses::{agent_at, is_at, is_ringing};
 use acd_terms::{AgentId, AgentRecord, ConnectionRecord, DeviceId, GroupRecord};
 use std::alloc::{AllocError, Global};
 use std::collections::BTreeMap;
@@ -76,6 +76,48 @@ fn ends_work(old: &Option<AgentRecord>, still: bool) -> bool
     }
 }
 
+// The agent is at the station already.
+fn stays(old: &Option<AgentRecord>, station: Option<DeviceId>) -> bool
+    ensures { result ≡ stays old.now station }
+{
+    match station {
+        None => false,
+        Some(station) => was_at(old, station),
+    }
+}
+
+fn was_at(old: &Option<AgentRecord>, station: DeviceId) -> bool
+    ensures { result ≡ stays old.now (Some station) }
+{
+    match old {
+        None => false,
+        Some(old) => is_at(old, station),
+    }
+}
+
+// The agent has its station. One that another agent has is refused as if there were no memory.
+fn sit(
+    records: &Records,
+    seats: &mut BTreeMap<DeviceId, AgentId>,
+    old: &Option<AgentRecord>,
+    item: &AgentRecord,
+) -> Result<(), AllocError>
+    requires ascending { IsAscending agent_order records.now.agents }
+    requires listed { Seats records.now seats.old }
+    requires found { old.now ≡ agent_of records.now item.now.agent }
+    ensures kept { Seats records.now seats.new }
+    ensures ok { OnOk result (Seats (with_agent records.now item.now) seats.new) }
+{
+    if stays(old, item.station) {
+        return Ok(());
+    }
+    if !is_free_for(records, seats, item) {
+        return Err(AllocError);
+    }
+    take_seat(seats, item.station, item.agent)?;
+    Ok(())
+}
+
 /// Puts the agent. One whose station another agent has is refused as if there were no memory.
 pub(crate) fn put_agent(
     records: &mut Records,
@@ -87,13 +129,10 @@ pub(crate) fn put_agent(
     ensures ok { OnOk result (records.new ≡ with_agent records.old item) }
     ensures err { OnErr result (records.new ≡ records.old) }
 {
-    if !is_free_for(records, &indexes.seats, &item) {
-        return Err(AllocError);
-    }
-    take_seat(&mut indexes.seats, item.station, item.agent)?;
+    let old = records.agent(item.agent);
+    sit(records, &mut indexes.seats, &old, &item)?;
     let works = item.state.is_working_after_call();
     note(&mut indexes.working, item.agent, works)?;
-    let old = records.agent(item.agent);
     let turn = agent_turn(records, indexes, &old, &item);
     let undo = indexes.enter(&turn.entering)?;
     match records.put_agent(item) {

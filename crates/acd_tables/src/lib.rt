@@ -1,8 +1,9 @@
 //! The tables of the switch: its records by key, the look-ups that its services use, and the writes.
 //!
 //! [`Tables`] is seen as [`acd_terms::Rows`], so each look-up answers a scan of the state,
-//! and each write changes the one record that it names. Look-ups take no memory. [`Records`] are the
-//! tables alone, without the indexes that spare a look-up its way through them.
+//! and each write changes the one record that it names. Look-ups take no memory, but for the copies of
+//! what tick may end ([`Tables::ringing`] and [`Tables::working`]). [`Records`] are the tables alone,
+//! without the indexes that spare a look-up its way through them.
 //!
 //! ```ignore
 //! let mut tables = Tables::new(alloc, Limits::GREATEST);

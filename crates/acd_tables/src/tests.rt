@@ -333,3 +333,61 @@ fn a_group_without_calls_has_no_offer(rt: HostRuntime) {
         .expect(&rt, "memory");
     assert!(rt; tables.first_offer().is_none());
 }
+
+// The group offers the call at a station.
+fn offer_at(rt: &impl Abort, tables: &mut Tables, call: u64, at: &str) -> Result<(), AllocError> {
+    tables.put_connection(ConnectionRecord {
+        call,
+        device: device(rt, at),
+        state: ConnectionState::Alerting,
+        group: Some(device(rt, "500")),
+        place: Some(call),
+        queued: Some(0),
+        offered: Some(3),
+    })
+}
+
+// This call alone rings by an offer.
+fn one_rings(rt: &impl Abort, tables: &Tables, call: u64) -> bool {
+    let ringing = tables.ringing().expect(rt, "memory");
+    ringing.len() == 1 && ringing[0].call == call
+}
+
+#[test]
+fn offers_ring_in_the_order_of_calls(rt: HostRuntime) {
+    let mut tables = Tables::new(rt.alloc(), Limits::GREATEST);
+    plan(&rt, &mut tables).expect(&rt, "memory");
+    offer_at(&rt, &mut tables, 9, "102").expect(&rt, "memory");
+    ring(&rt, &mut tables, 5, "101").expect(&rt, "memory");
+    assert!(rt; one_rings(&rt, &tables, 9));
+    offer_at(&rt, &mut tables, 4, "103").expect(&rt, "memory");
+    let both = tables.ringing().expect(&rt, "memory");
+    assert!(rt; both.len() == 2 && both[0].call == 4 && both[1].call == 9);
+    tables
+        .remove_connection(9, device(&rt, "102"))
+        .expect(&rt, "memory");
+    assert!(rt; one_rings(&rt, &tables, 4));
+}
+
+// The agent is in after-call work, or ready again.
+fn work_on(rt: &impl Abort, tables: &mut Tables, digits: &str, state: AgentState) {
+    let there = tables.agent(agent(rt, digits)).expect(rt, "an agent");
+    tables
+        .put_agent(AgentRecord { state, ..there })
+        .expect(rt, "memory");
+}
+
+#[test]
+fn agents_work_on_in_the_order_of_numbers(rt: HostRuntime) {
+    let mut tables = Tables::new(rt.alloc(), Limits::GREATEST);
+    plan(&rt, &mut tables).expect(&rt, "memory");
+    work_on(&rt, &mut tables, "3", AgentState::WorkingAfterCall);
+    work_on(&rt, &mut tables, "2", AgentState::WorkingAfterCall);
+    let both = tables.working().expect(&rt, "memory");
+    assert!(rt;
+        both.len() == 2 && both[0].agent == agent(&rt, "2") && both[1].agent == agent(&rt, "3")
+    );
+    work_on(&rt, &mut tables, "2", AgentState::Ready);
+    let one = tables.working().expect(&rt, "memory");
+    assert!(rt; one.len() == 1 && one[0].agent == agent(&rt, "3"));
+}

@@ -1,12 +1,12 @@
 //! What a change of one record takes into the exact sets, and out of them.
 
 ghost use Rattle.std.specs.Prelude.{◌≡◌, ◌&&◌, ◌||◌, Some, None, is_some, if◌then◌else◌};
-ghost use Rattle.acd_terms.specs.Scans.{agent_of, connection_of};
+ghost use Rattle.acd_terms.specs.Scans.{agent_of, agent_at, connection_of};
 ghost use Rattle.acd_terms.specs.Writes.{with_agent};
 ghost use Rattle.acd_tables.specs.Indexed.{IsIndexed, is_free, is_busying};
 ghost use Rattle.acd_tables.specs.Uses.{is_used, is_in_use};
 ghost use Rattle.acd_tables.specs.declared.uses.Use.TheVariants.{Busying};
-ghost use Rattle.acd_tables.specs.Turns.{TurnsTo, IsAt, queue_entry, entry_in, ready_entry, with_or_without};
+ghost use Rattle.acd_tables.specs.Turns.{TurnsTo, differ, IsAt, queue_entry, entry_in, ready_entry, with_or_without};
 
 use crate::indexes::{Entries, Indexes, Turn, leaving_but};
 use crate::records::Records;
@@ -109,6 +109,31 @@ fn is_kept(
     seat.is_some() && is_busy_with(records, indexes, call, device, new)
 }
 
+fn is_other(a: bool, b: bool) -> bool
+    ensures { result ≡ differ a b }
+{
+    if a { !b } else { b }
+}
+
+// The place of the ready agent at the device, where the connection makes the station busy or free. One
+// that is as before, or that waits in a group, does neither.
+fn turning_seat(
+    records: &Records,
+    indexes: &Indexes,
+    device: DeviceId,
+    old: &Option<ConnectionRecord>,
+    new: &Option<ConnectionRecord>,
+) -> Option<(DeviceId, (u64, AgentId))>
+    requires { IsIndexed records.now indexes.now }
+    ensures { result ≡ (if differ (is_used is_busying old.now) (is_used is_busying new.now) then ready_entry (agent_at records.now device) else None) }
+{
+    if is_other(is_busying(old), is_busying(new)) {
+        ready_entry(&agent_at(records, &indexes.seats, device))
+    } else {
+        None
+    }
+}
+
 /// What changes where the connection of the call at the device is put, or removed.
 pub(crate) fn connection_turn(
     records: &Records,
@@ -125,8 +150,7 @@ pub(crate) fn connection_turn(
 {
     let before = queue_entry(old);
     let after = queue_entry(new);
-    let agent = agent_at(records, &indexes.seats, device);
-    let seat = ready_entry(&agent);
+    let seat = turning_seat(records, indexes, device, old, new);
     let busy = is_kept(records, indexes, call, device, new, &seat);
     let leaving = leaving_but(&before, &after);
     Turn {
@@ -153,6 +177,19 @@ fn is_free(records: &Records, indexes: &Indexes, station: Option<DeviceId>) -> b
     }
 }
 
+// There is a place, and nothing keeps the station of it from an offer.
+fn may_be_offered(
+    records: &Records,
+    indexes: &Indexes,
+    entry: &Option<(DeviceId, (u64, AgentId))>,
+    station: Option<DeviceId>,
+) -> bool
+    requires { IsIndexed records.now indexes.now }
+    ensures { result ≡ (is_some entry.now && is_free records.now station) }
+{
+    entry.is_some() && is_free(records, indexes, station)
+}
+
 /// What changes where the agent is put.
 pub(crate) fn agent_turn(
     records: &Records,
@@ -164,8 +201,8 @@ pub(crate) fn agent_turn(
     requires found { old.now ≡ agent_of records.now item.now.agent }
     ensures { TurnsTo records.now (with_agent records.now item.now) result }
 {
-    let free = is_free(records, indexes, item.station);
     let entry = able_entry(item);
+    let free = may_be_offered(records, indexes, &entry, item.station);
     let after = only(&entry, free);
     let before = ready_entry(old);
     let leaving = leaving_but(&before, &after);

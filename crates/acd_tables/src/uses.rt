@@ -93,8 +93,8 @@ pub(crate) fn is_in_use(
     }
 }
 
-// The agent is logged on at the station.
-fn is_at(agent: &AgentRecord, station: DeviceId) -> bool
+/// The agent is logged on at the station.
+pub(crate) fn is_at(agent: &AgentRecord, station: DeviceId) -> bool
     ensures { result ≡ has agent.now.station station }
 {
     agent.station == Some(station)

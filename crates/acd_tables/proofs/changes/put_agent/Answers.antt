@@ -3,43 +3,46 @@ use Rattle.std.specs.Ordering.{nat_cmp}
 use Rattle.acd_terms.specs.Scans.{agent_of}
 use Rattle.acd_tables.specs.Indexed.{works}
 use Rattle.acd_tables.proofs.NoteLemmas.{notes-more, notes-same, Working-put, Working-left, left_only}
-use Rattle.acd_tables.proofs.IndexLemmas.{IsIndexed-seated, IsIndexed-working, IsIndexed-untouched, IsIndexed-agent, Untouched-undone, Seats-taken, Seats-put}
+use Rattle.acd_tables.proofs.IndexLemmas.{IsIndexed-seats, IsIndexed-seated, IsIndexed-working, IsIndexed-untouched, IsIndexed-agent, Untouched-undone}
 use Rattle.acd_tables.proofs.changes.put_agent.Goals as goal
+
+pub returns-in_err-sit-clause-indexed : goal.returns-in_err-sit-clause-indexed
+returns-in_err-sit-clause-indexed c = IsIndexed-seats c.args.records.now c.args.indexes.now c.sit.new.seats c.requires c.sit.ensures.kept
 
 pub returns-in_err-note-clause-indexed : goal.returns-in_err-note-clause-indexed
 returns-in_err-note-clause-indexed c =
     let s = c.args.records.now in
     let x = c.args.indexes.now in
-    let seats = Seats-taken s x.seats c.take_seat.new.seats c.args.item c.requires.agents c.requires.seats (c.is_free_for.ensures c.if-not-is_free_for.false) c.in_ok-take_seat.ensures.ok in
-    IsIndexed-seated s x c.take_seat.new.seats c.note.new.noted c.requires seats (notes-same nat_cmp (λ n. works (agent_of s n)) x.working c.note.new.noted c.requires.working c.in_err-note.ensures.err)
+    let seats = c.sit.ensures.kept in
+    IsIndexed-seated s x c.sit.new.seats c.note.new.noted c.requires seats (notes-same nat_cmp (λ n. works (agent_of s n)) x.working c.note.new.noted c.requires.working c.in_err-note.ensures.err)
 
 pub agent_turn-turn-requires-clause-indexed : goal.agent_turn-turn-requires-clause-indexed
 agent_turn-turn-requires-clause-indexed c =
     let s = c.args.records.now in
     let x = c.args.indexes.now in
-    let seats = Seats-taken s x.seats c.take_seat.new.seats c.args.item c.requires.agents c.requires.seats (c.is_free_for.ensures c.if-not-is_free_for.false) c.in_ok-take_seat.ensures.ok in
+    let seats = c.sit.ensures.kept in
     let working = notes-more nat_cmp (λ n. works (agent_of s n)) x.working c.note.new.noted c.args.item.agent c.is_working_after_call-works.result c.requires.working c.in_ok-note.ensures.ok in
-    let before = IsIndexed-seated s x c.take_seat.new.seats c.note.new.noted c.requires seats working in
+    let before = IsIndexed-seated s x c.sit.new.seats c.note.new.noted c.requires seats working in
     before
 
 pub returns-in_err-undo-clause-indexed : goal.returns-in_err-undo-clause-indexed
 returns-in_err-undo-clause-indexed c =
     let s = c.args.records.now in
     let x = c.args.indexes.now in
-    let seats = Seats-taken s x.seats c.take_seat.new.seats c.args.item c.requires.agents c.requires.seats (c.is_free_for.ensures c.if-not-is_free_for.false) c.in_ok-take_seat.ensures.ok in
+    let seats = c.sit.ensures.kept in
     let working = notes-more nat_cmp (λ n. works (agent_of s n)) x.working c.note.new.noted c.args.item.agent c.is_working_after_call-works.result c.requires.working c.in_ok-note.ensures.ok in
-    let before = IsIndexed-seated s x c.take_seat.new.seats c.note.new.noted c.requires seats working in
-    IsIndexed-untouched s (record x { seats = c.take_seat.new.seats; working = c.note.new.noted }) c.enter.new.self before c.in_err-undo.ensures.err
+    let before = IsIndexed-seated s x c.sit.new.seats c.note.new.noted c.requires seats working in
+    IsIndexed-untouched s (record x { seats = c.sit.new.seats; working = c.note.new.noted }) c.enter.new.self before c.in_err-undo.ensures.err
 
 pub returns-in-Ok-clause-indexed : goal.returns-in-Ok-clause-indexed
 returns-in-Ok-clause-indexed c =
     let s = c.args.records.now in
     let x = c.args.indexes.now in
-    let seats = Seats-taken s x.seats c.take_seat.new.seats c.args.item c.requires.agents c.requires.seats (c.is_free_for.ensures c.if-not-is_free_for.false) c.in_ok-take_seat.ensures.ok in
+    let seats = c.sit.ensures.kept in
     let working = notes-more nat_cmp (λ n. works (agent_of s n)) x.working c.note.new.noted c.args.item.agent c.is_working_after_call-works.result c.requires.working c.in_ok-note.ensures.ok in
-    let before = IsIndexed-seated s x c.take_seat.new.seats c.note.new.noted c.requires seats working in
-    let now = IsIndexed-agent s c.args.item (record x { seats = c.take_seat.new.seats; working = c.note.new.noted }) c.enter.new.self c.settle.new.self c.agent_turn-turn.result before c.in_ok-undo.ensures.ok c.settle.ensures c.agent_turn-turn.ensures
-    (Seats-put s x.seats c.take_seat.new.seats c.args.item c.in_ok-take_seat.ensures.ok seats) (Working-put s c.args.item x.working c.note.new.noted c.is_working_after_call-works.result c.is_working_after_call-works.ensures c.requires.working c.in_ok-note.ensures.ok) in
+    let before = IsIndexed-seated s x c.sit.new.seats c.note.new.noted c.requires seats working in
+    let now = IsIndexed-agent s c.args.item (record x { seats = c.sit.new.seats; working = c.note.new.noted }) c.enter.new.self c.settle.new.self c.agent_turn-turn.result before c.in_ok-undo.ensures.ok c.settle.ensures c.agent_turn-turn.ensures
+    c.in_ok-sit.ensures.ok (Working-put s c.args.item x.working c.note.new.noted c.is_working_after_call-works.result c.is_working_after_call-works.ensures c.requires.working c.in_ok-note.ensures.ok) in
     let left = Working-left s c.args.item _ c.forget.new.noted c.ends_work.result (λ g. sym c.is_working_after_call-works.ensures ∙ left_only _ _ (sym c.ends_work.ensures ∙ g)) now.working c.forget.ensures in
     rw c.in-Ok.ensures.ok (IsIndexed-working _ _ c.forget.new.noted now left)
 
@@ -47,8 +50,8 @@ pub returns-in-Err-clause-indexed : goal.returns-in-Err-clause-indexed
 returns-in-Err-clause-indexed c =
     let s = c.args.records.now in
     let x = c.args.indexes.now in
-    let seats = Seats-taken s x.seats c.take_seat.new.seats c.args.item c.requires.agents c.requires.seats (c.is_free_for.ensures c.if-not-is_free_for.false) c.in_ok-take_seat.ensures.ok in
+    let seats = c.sit.ensures.kept in
     let working = notes-more nat_cmp (λ n. works (agent_of s n)) x.working c.note.new.noted c.args.item.agent c.is_working_after_call-works.result c.requires.working c.in_ok-note.ensures.ok in
-    let before = IsIndexed-seated s x c.take_seat.new.seats c.note.new.noted c.requires seats working in
-    let back = Untouched-undone (record x { seats = c.take_seat.new.seats; working = c.note.new.noted }) c.enter.new.self c.take_out.new.self c.agent_turn-turn.result.entering c.in_ok-undo.undo c.in_ok-undo.ensures.ok c.in_ok-undo.ensures.undo c.take_out.ensures in
-    rw c.in-Err.ensures.err (IsIndexed-untouched s (record x { seats = c.take_seat.new.seats; working = c.note.new.noted }) c.take_out.new.self before back)
+    let before = IsIndexed-seated s x c.sit.new.seats c.note.new.noted c.requires seats working in
+    let back = Untouched-undone (record x { seats = c.sit.new.seats; working = c.note.new.noted }) c.enter.new.self c.take_out.new.self c.agent_turn-turn.result.entering c.in_ok-undo.undo c.in_ok-undo.ensures.ok c.in_ok-undo.ensures.undo c.take_out.ensures in
+    rw c.in-Err.ensures.err (IsIndexed-untouched s (record x { seats = c.sit.new.seats; working = c.note.new.noted }) c.take_out.new.self before back)

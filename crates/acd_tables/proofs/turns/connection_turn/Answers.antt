@@ -1,16 +1,13 @@
-use Rattle.std.proofs.Common.{ap, ◌∙◌}
-use Rattle.acd_tables.specs.Turns.{queue_entry, ready_entry}
 use Rattle.acd_tables.proofs.TurnLemmas.{connection-turn}
 use Rattle.acd_tables.proofs.turns.connection_turn.Goals as goal
 
 pub returns : goal.returns
 returns c =
     let h = c.requires.indexed in
-    connection-turn c.args.records.now c.args.indexes.now.seats c.args.call c.args.device c.args.new.now
+    connection-turn c.args.records.now c.args.indexes.now.seats c.args.call c.args.device c.args.old.now c.args.new.now
     (record {
       entering = record { queue = c.queue_entry-after.result; ready = c.only_not.result };
       leaving = record { queue = c.leaving_but-leaving.result; ready = c.only.result };
     })
-    c.queue_entry-before.result c.ready_entry-seat.result c.is_kept-busy.result h.connections h.agents h.seats c.requires.at
-    (c.queue_entry-before.ensures ∙ ap queue_entry c.requires.found) c.queue_entry-after.ensures c.leaving_but-leaving.ensures
-    (c.ready_entry-seat.ensures ∙ ap ready_entry c.agent_at-agent.ensures) c.is_kept-busy.ensures c.only_not.ensures c.only.ensures
+    c.queue_entry-before.result c.turning_seat-seat.result c.is_kept-busy.result h.connections h.agents h.seats c.requires.at c.requires.found
+    c.queue_entry-before.ensures c.queue_entry-after.ensures c.leaving_but-leaving.ensures c.turning_seat-seat.ensures c.is_kept-busy.ensures c.only_not.ensures c.only.ensures
