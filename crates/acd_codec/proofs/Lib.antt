@@ -2,6 +2,7 @@ pub mod Readings
 pub mod Adding
 pub mod Printed
 pub mod Lookups
+pub mod Objects
 pub mod Floatless
 pub mod Plain
 pub mod RoundTrip

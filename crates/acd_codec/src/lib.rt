@@ -18,7 +18,7 @@ pub use events::event_text;
 pub use fault::{FixedAnswer, ReadFault};
 pub use laws::{reads_back, request_formed, same_text};
 pub use member::{MALFORMED_STATUS, Member};
-pub use reading::read_request;
+pub use reading::{RequestReader, read_request};
 pub use replies::{Rejected, outcome_status, rejected_text, reply_text};
 pub use requests::request_text;
 
