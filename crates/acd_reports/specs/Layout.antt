@@ -1,5 +1,5 @@
 -- Lines of columns.
-use Rattle.std.specs.Prelude.{ℕ, ◌-◌, List, [], ◌∷◌, ◌++◌, length, map, replicate, codes, decimal, Option, Some, None}
+use Rattle.std.specs.Prelude.{ℕ, ◌-◌, List, ◌∷◌, ◌++◌, length, map, replicate, codes, decimal, Option, Some, None}
 use Rattle.std.specs.List.{concat}
 
 -- a text at the left of a column, or at its right; a text that is longer than its column stands as it is

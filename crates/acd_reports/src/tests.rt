@@ -1,5 +1,7 @@
 //! What no clause says: that the definitions are the formats, and that calls succeed.
 
+mod exports;
+mod plans;
 mod queues;
 
 use acd_terms::{DeviceId, Name, Seconds};
