@@ -142,7 +142,7 @@ fn write_events(
     Ok(())
 }
 
-// The fields are characters of ASCII, so that the text is always one.
+// What was written is characters of ASCII, so it is text; no clause says so.
 fn text_of(writer: Writer<Vec<u8>>) -> Result<String, AllocError>
     ensures { IfOk result (λ s. string_bytes s ≡ all_written writer) }
 {

@@ -27,7 +27,7 @@ fn without_mark(bytes: &[u8]) -> &[u8]
     }
 }
 
-// A row of another length is its own fault and not the reader's.
+// A reader of all records. A record of another length than the header is a faulty row, and no fault of the reader.
 fn reader_of(alloc: Global, text: &[u8]) -> Reader<&[u8]>
     ensures plain { IsPlain result }
     ensures rows { rows_left result ≡ records_of text.now }
@@ -131,7 +131,8 @@ fn requests_of(
     requests_in(alloc, reader, most)
 }
 
-/// The requests of a plan.
+/// The requests of a plan: a header record, and a row for each group, station and agent. They come from the
+/// requester `plan`, and a row's number, from 1, is the request's invoke number.
 #[tactic(auto, unfolding(crate::specs::Plan::plan_requests))]
 pub fn plan_requests(alloc: Global, bytes: &[u8]) -> Result<Vec<Request>, PlanFault>
     ensures { Gives result (plan_requests bytes.now) }

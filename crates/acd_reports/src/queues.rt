@@ -87,7 +87,8 @@ fn push_group(
     report.push('\n')
 }
 
-/// The queue report.
+/// The queue report at a moment: a header line, and a line for each group in the order of the rows. It takes any
+/// rows; calls that entered their queue after the moment have waited for 0 seconds.
 #[tactic(auto, unfolding(crate::specs::QueueReport::queue_report, crate::specs::QueueReport::header_line))]
 pub fn queue_report(alloc: Global, rows: &Rows, moment: u32) -> Result<String, AllocError>
     ensures { IfOk result (λ s. string_bytes s ≡ queue_report rows.now moment) }

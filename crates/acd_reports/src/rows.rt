@@ -14,7 +14,7 @@ use acd_terms::{AgentId, Command, DeviceId, Name, Seconds};
 use csv::ByteRecord;
 use std::str;
 
-/// The fields of a row.
+// The fields of a row.
 #[derive(Clone, Copy)]
 struct Fields<'a> {
     kind: &'a [u8],

@@ -105,9 +105,10 @@ fn pages(rt: HostRuntime) {
     let alloc = rt.alloc();
     let events = answered_call(&rt);
     let mut text = String::from_str(alloc, export_header()).expect(&rt, "memory");
-    let page = events_page(alloc, &events[..3]).expect(&rt, "memory");
+    let (first, more) = events.as_slice().split_at(3);
+    let page = events_page(alloc, first).expect(&rt, "memory");
     text.push_str(page.as_str()).expect(&rt, "memory");
-    let page = events_page(alloc, &events[3..]).expect(&rt, "memory");
+    let page = events_page(alloc, more).expect(&rt, "memory");
     text.push_str(page.as_str()).expect(&rt, "memory");
     let whole = events_csv(alloc, &events).expect(&rt, "memory");
     assert_eq!(rt; text.as_str(), whole.as_str());

@@ -329,14 +329,16 @@ fn longest_plan(rt: HostRuntime) {
 #[test]
 fn printed_faults(rt: HostRuntime) {
     let alloc = rt.alloc();
+    let number = 12u64;
     let row = PlanFault::Row {
-        row: 12,
+        row: number,
         member: PlanMember::Wrap,
     };
+    let row_text = format!(in alloc; "plan row {number}: wrap").expect(&rt, "memory");
     let table = [
         (PlanFault::TooLong, "plan too long"),
         (PlanFault::Header, "plan header"),
-        (row, "plan row 12: wrap"),
+        (row, row_text.as_str()),
         (PlanFault::NoMemory, "no memory"),
     ];
     for (fault, wanted) in table {
