@@ -1,0 +1,4 @@
+pub mod RowLemmas
+pub mod ReadLemmas
+pub mod PlanLemmas
+pub mod ExportLemmas

@@ -1,0 +1,46 @@
+-- The export of events in CSV: a header record, and a record for each event.
+use Rattle.std.specs.Prelude.{◌≡◌, ℕ, List, [], ◌∷◌, ◌++◌, map, codes, decimal, Option, Some, None}
+use Rattle.std.specs.List.{concat}
+use Rattle.csv.specs.Writing.{default_writer, row_text}
+use Rattle.acd_terms.specs.Forms.{digits_of}
+use Rattle.acd_terms.specs.Columns.{columns_of}
+use Rattle.acd_terms.specs.EventNames.{kind_name, cause_name}
+use Rattle.acd_terms.specs.declared.event.Columns.{Columns}
+use Rattle.acd_terms.specs.declared.event.Event.{Event}
+
+-- the text of a member, and nothing where it is absent
+abbrev pub written : {A : Type 0} → (A → List ℕ) → Option A → List ℕ
+written text (Some x) = text x
+written text None = []
+
+-- the fields of a record
+abbrev pub event_fields : ℕ → ℕ → Columns → List (List ℕ)
+event_fields number moment c =
+    decimal number ∷ decimal moment ∷ kind_name c.kind
+    ∷ written decimal c.call ∷ written digits_of c.device ∷ written digits_of c.agent
+    ∷ written digits_of c.group ∷ written digits_of c.to ∷ written cause_name c.cause ∷ written decimal c.waited ∷ []
+
+abbrev pub names : List (List ℕ)
+names =
+    codes "number" ∷ codes "moment" ∷ codes "event"
+    ∷ codes "call" ∷ codes "device" ∷ codes "agent"
+    ∷ codes "group" ∷ codes "to" ∷ codes "cause" ∷ codes "waited" ∷ []
+
+-- a record as the default writer of CSV writes it
+abbrev pub event_record : Event → List ℕ
+event_record e = row_text default_writer (event_fields e.number e.moment (columns_of e.report))
+
+unfoldable pub header_record : List ℕ
+header_record = row_text default_writer names
+
+-- the records of some events
+unfoldable pub records_text : List Event → List ℕ
+records_text events = concat (map event_record events)
+
+-- the export of all events
+unfoldable pub events_csv : List Event → List ℕ
+events_csv events = header_record ++ records_text events
+
+-- the records of all events are those of some, and then those of the others
+abbrev pub PagesJoin : Type 0
+PagesJoin = (events more : List Event) → records_text (events ++ more) ≡ records_text events ++ records_text more

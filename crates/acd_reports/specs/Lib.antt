@@ -1,0 +1,8 @@
+pub mod Layout
+pub mod QueueReport
+pub mod Reading
+pub mod PlanRows
+pub mod Plan
+pub mod PlanReading
+pub mod Export
+pub mod ExportWriting

@@ -1,0 +1,59 @@
+//! Columns of text.
+
+ghost use Rattle.std.specs.Prelude.{◌≡◌, ℕ, ◌-◌, ◌++◌, ◌∷◌, length, map, replicate, Option, OnOk, string_bytes};
+ghost use Rattle.acd_reports.specs.Layout.{left, right, number_or_hyphen, columns_text};
+
+use itoa::Buffer;
+use std::alloc::AllocError;
+
+// Spaces to the end of a column behind a text.
+fn push_spaces(line: &mut String, width: usize, text: &str) -> Result<(), AllocError>
+    ensures { OnOk result (string_bytes line.new ≡ string_bytes line.old ++ replicate (width - length text.now) 32) }
+{
+    for _ in 0..width.saturating_sub(text.len()) {
+        line.push(' ')?;
+    }
+    Ok(())
+}
+
+/// Text at the left of a column.
+pub(crate) fn push_left(line: &mut String, width: usize, text: &str) -> Result<(), AllocError>
+    ensures { OnOk result (string_bytes line.new ≡ string_bytes line.old ++ left width text.now) }
+{
+    line.push_str(text)?;
+    push_spaces(line, width, text)
+}
+
+// Text at the right of a column.
+fn push_right(line: &mut String, width: usize, text: &str) -> Result<(), AllocError>
+    ensures { OnOk result (string_bytes line.new ≡ string_bytes line.old ++ right width text.now) }
+{
+    push_spaces(line, width, text)?;
+    line.push_str(text)
+}
+
+// A number at the right of a column, or a hyphen where there is none.
+fn push_number(line: &mut String, width: usize, number: Option<u64>) -> Result<(), AllocError>
+    ensures { OnOk result (string_bytes line.new ≡ string_bytes line.old ++ right width (number_or_hyphen number)) }
+{
+    let mut buffer = Buffer::new();
+    match number {
+        Some(number) => push_right(line, width, buffer.format(number)),
+        None => push_right(line, width, "-"),
+    }
+}
+
+/// Numbers at the right of their columns, a hyphen where there is none, and a space before each column.
+pub(crate) fn push_numbers(
+    line: &mut String,
+    numbers: &[(usize, Option<u64>)],
+) -> Result<(), AllocError>
+    ensures { OnOk result (string_bytes line.new
+        ≡ string_bytes line.old ++ columns_text (map (λ (n : ℕ × Option ℕ). (n.0, number_or_hyphen n.1)) numbers.now)) }
+{
+    for &(width, number) in numbers {
+        line.push(' ')?;
+        push_number(line, width, number)?;
+    }
+    Ok(())
+}

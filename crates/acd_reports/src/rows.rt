@@ -1,0 +1,206 @@
+//! Rows of a plan, and the commands that they stand for.
+
+ghost use Rattle.std.specs.Prelude.{◌≡◌, ◌<◌, ◌≤◌, length, true, option_map};
+ghost use Rattle.std.specs.List.{list_all};
+ghost use Rattle.std.specs.Char.{is_ascii_digit};
+ghost use Rattle.std.specs.Str.{is_utf8};
+ghost use Rattle.std.specs.Str.Parse.{digits_value};
+ghost use Rattle.csv.specs.Records.{field_at, fields_of};
+ghost use Rattle.acd_reports.specs.Plan.{names_columns};
+ghost use Rattle.acd_reports.specs.PlanRows.{seen, texts_of, row_of, device_in, agent_in, name_in, seconds_of, seconds_in, nothing_in, group_in, station_in, agent_row_in, command_of, command_in};
+
+use crate::fault::PlanMember;
+use acd_terms::{AgentId, Command, DeviceId, Name, Seconds};
+use csv::ByteRecord;
+use std::str;
+
+// The fields of a row.
+#[derive(Clone, Copy)]
+struct Fields<'a> {
+    kind: &'a [u8],
+    number: &'a [u8],
+    name: &'a [u8],
+    ring: &'a [u8],
+    wrap: &'a [u8],
+}
+
+fn is_text(field: &[u8]) -> bool
+    ensures { result ≡ is_utf8 field.now }
+{
+    str::from_utf8(field).is_ok()
+}
+
+fn device_in(text: &[u8]) -> Result<DeviceId, PlanMember>
+    ensures { result ≡ device_in text.now }
+{
+    DeviceId::read(text).ok().ok_or(PlanMember::Number)
+}
+
+fn agent_in(text: &[u8]) -> Result<AgentId, PlanMember>
+    ensures { result ≡ agent_in text.now }
+{
+    AgentId::read(text).ok().ok_or(PlanMember::Number)
+}
+
+fn name_in(text: &[u8]) -> Result<Name, PlanMember>
+    ensures { result ≡ name_in text.now }
+{
+    Name::read(text).ok().ok_or(PlanMember::Name)
+}
+
+fn are_digits(text: &[u8]) -> bool
+    ensures { result ≡ list_all is_ascii_digit text.now }
+{
+    text.iter().all(|b| b.is_ascii_digit())
+}
+
+fn number_of(digits: &[u8]) -> u64
+    requires short { length digits.now ≤ 4 }
+    requires all { list_all is_ascii_digit digits.now ≡ true }
+    ensures { result ≡ digits_value 10 digits.now }
+{
+    let mut number = 0u64;
+    for digit in digits {
+        number = number * 10 + u64::from(*digit - b'0');
+    }
+    number
+}
+
+#[tactic(auto, unfolding(crate::specs::PlanRows::seconds_of))]
+fn seconds_of(text: &[u8]) -> Option<Seconds>
+    ensures { result ≡ seconds_of text.now }
+{
+    if text.is_empty() || text.len() > 4 || !are_digits(text) {
+        return None;
+    }
+    Seconds::new(number_of(text))
+}
+
+fn seconds_in(member: PlanMember, text: &[u8]) -> Result<Seconds, PlanMember>
+    ensures { result ≡ seconds_in member text.now }
+{
+    seconds_of(text).ok_or(member)
+}
+
+fn nothing_in(member: PlanMember, text: &[u8]) -> Result<(), PlanMember>
+    ensures { result ≡ nothing_in member text.now }
+{
+    if text.is_empty() { Ok(()) } else { Err(member) }
+}
+
+fn field(row: &ByteRecord, place: usize) -> &[u8]
+    requires { place < length (fields_of row.now) }
+    ensures { field_at (fields_of row.now) place ≡ Some result.now }
+{
+    row.get(place).unwrap()
+}
+
+fn are_texts(fields: Fields<'_>) -> bool
+    ensures { result ≡ list_all is_utf8 (texts_of (seen fields.entry)) }
+{
+    is_text(fields.kind)
+        && is_text(fields.number)
+        && is_text(fields.name)
+        && is_text(fields.ring)
+        && is_text(fields.wrap)
+}
+
+fn fields_in(row: &ByteRecord) -> Option<Fields<'_>>
+    ensures { option_map seen result ≡ row_of (fields_of row.now) }
+{
+    if row.len() != 5 {
+        return None;
+    }
+    let fields = Fields {
+        kind: field(row, 0),
+        number: field(row, 1),
+        name: field(row, 2),
+        ring: field(row, 3),
+        wrap: field(row, 4),
+    };
+    if !are_texts(fields) {
+        return None;
+    }
+    Some(fields)
+}
+
+#[tactic(auto, unfolding(crate::specs::PlanRows::group_in))]
+fn group_in(fields: Fields<'_>) -> Result<Command, PlanMember>
+    ensures { result ≡ group_in (seen fields.entry) }
+{
+    let device = device_in(fields.number)?;
+    let name = name_in(fields.name)?;
+    let ring = seconds_in(PlanMember::Ring, fields.ring)?;
+    let wrap = seconds_in(PlanMember::Wrap, fields.wrap)?;
+    Ok(Command::AddGroup {
+        device,
+        name,
+        ring,
+        wrap,
+    })
+}
+
+#[tactic(auto, unfolding(crate::specs::PlanRows::station_in))]
+fn station_in(fields: Fields<'_>) -> Result<Command, PlanMember>
+    ensures { result ≡ station_in (seen fields.entry) }
+{
+    let device = device_in(fields.number)?;
+    nothing_in(PlanMember::Name, fields.name)?;
+    nothing_in(PlanMember::Ring, fields.ring)?;
+    nothing_in(PlanMember::Wrap, fields.wrap)?;
+    Ok(Command::AddStation { device })
+}
+
+#[tactic(auto, unfolding(crate::specs::PlanRows::agent_row_in))]
+fn agent_row_in(fields: Fields<'_>) -> Result<Command, PlanMember>
+    ensures { result ≡ agent_row_in (seen fields.entry) }
+{
+    let agent = agent_in(fields.number)?;
+    let name = name_in(fields.name)?;
+    nothing_in(PlanMember::Ring, fields.ring)?;
+    nothing_in(PlanMember::Wrap, fields.wrap)?;
+    Ok(Command::AddAgent { agent, name })
+}
+
+#[tactic(auto, unfolding(crate::specs::PlanRows::command_of))]
+fn command_of(fields: Fields<'_>) -> Result<Command, PlanMember>
+    ensures { result ≡ command_of (seen fields.entry) }
+{
+    if fields.kind == b"group".as_slice() {
+        return group_in(fields);
+    }
+    if fields.kind == b"station".as_slice() {
+        return station_in(fields);
+    }
+    if fields.kind == b"agent".as_slice() {
+        return agent_row_in(fields);
+    }
+    Err(PlanMember::Kind)
+}
+
+/// The five fields name the columns.
+pub(crate) fn names_columns(row: &ByteRecord) -> bool
+    ensures { result ≡ names_columns (row_of (fields_of row.now)) }
+{
+    match fields_in(row) {
+        None => false,
+        Some(fields) => {
+            fields.kind == b"kind".as_slice()
+                && fields.number == b"number".as_slice()
+                && fields.name == b"name".as_slice()
+                && fields.ring == b"ring".as_slice()
+                && fields.wrap == b"wrap".as_slice()
+        }
+    }
+}
+
+/// The command of a row, or its first faulty member.
+#[tactic(auto, unfolding(crate::specs::PlanRows::command_in))]
+pub(crate) fn command_in(row: &ByteRecord) -> Result<Command, PlanMember>
+    ensures { result ≡ command_in (fields_of row.now) }
+{
+    match fields_in(row) {
+        None => Err(PlanMember::Fields),
+        Some(fields) => command_of(fields),
+    }
+}
