@@ -5,5 +5,3 @@ pub mod Lookups
 pub mod Floatless
 pub mod Plain
 pub mod RoundTrip
-pub mod Ordered
-pub mod EventParts
