@@ -6,5 +6,3 @@ pub mod Objects
 pub mod Floatless
 pub mod Plain
 pub mod RoundTrip
-pub mod Ordered
-pub mod EventParts

@@ -9,3 +9,4 @@ pub mod Parts
 pub mod Tokens
 pub mod Borrowed
 pub mod EventTexts
+pub mod ReadTexts

@@ -1,15 +1,34 @@
--- Members that are written as tokens.
-use Rattle.std.specs.Prelude.{◌≡◌, List, [], ◌∷◌, ◌++◌, Result, OnOk}
-use Rattle.json.specs.Token.{Token, key}
+-- Members and items that are written as tokens.
+use Rattle.std.specs.Prelude.{◌≡◌, List, [], ◌∷◌, ◌++◌, Some, None, Result, OnOk}
+use Rattle.json.specs.Token.{Token, key, begin_object}
 use Rattle.json.specs.Tree.{json_tokens}
 use Rattle.json.specs.Written.{Written}
-use Rattle.serde_json.specs.Data.{Members, no_members, member}
+use Rattle.serde_json.specs.Data.{Data, Members, no_members, member}
 use Rattle.serde_json.specs.Written.{outline}
+use Rattle.acd_codec.specs.Parts.{Part, part}
+
+-- the tokens of a value
+abbrev pub data_tokens : Data → List Token
+data_tokens d = json_tokens (outline d)
 
 -- the tokens of members, without the closing bracket
 abbrev pub tokens_of : Members → List Token
 tokens_of no_members = []
-tokens_of (member name d more) = key name ∷ (json_tokens (outline d) ++ tokens_of more)
+tokens_of (member name d more) = key name ∷ (data_tokens d ++ tokens_of more)
+
+-- those of a member that may be missing
+abbrev pub part_tokens : Part → List Token
+part_tokens (part k None) = []
+part_tokens (part k (Some d)) = key k ∷ data_tokens d
+
+abbrev pub parts_tokens : List Part → List Token
+parts_tokens [] = []
+parts_tokens (p ∷ ps) = part_tokens p ++ parts_tokens ps
+
+-- the tokens of items, without the closing bracket
+abbrev pub each_tokens : {T : Type 0} → (T → Data) → List T → List Token
+each_tokens f [] = []
+each_tokens f (x ∷ xs) = data_tokens (f x) ++ each_tokens f xs
 
 -- these tokens are written behind the others, and what the buffer held before them stays
 abbrev pub Added : Written → Written → List Token → Type 0
@@ -18,3 +37,7 @@ Added old new ts = (new.before ≡ old.before) × (new.tokens ≡ old.tokens ++ 
 -- the same, unless memory ran out
 abbrev pub Adds : {E : Type 0} → Result (Unit {0}) E → Written → Written → List Token → Type 0
 Adds r old new ts = OnOk r (Added old new ts)
+
+-- an object begins in an empty buffer
+abbrev pub Begun : Written → Type 0
+Begun w = (w.before ≡ []) × (w.tokens ≡ begin_object ∷ [])

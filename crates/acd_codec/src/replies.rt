@@ -1,13 +1,13 @@
 //! Replies as JSON.
 
-ghost use Rattle.std.specs.Prelude.{◌≡◌, [], codes, IfOk, string_bytes};
-ghost use Rattle.json.specs.Print.{print};
+ghost use Rattle.std.specs.Prelude.{◌≡◌, codes, IfOk, string_bytes};
 ghost use Rattle.json.specs.Tree.{json_tokens};
-ghost use Rattle.serde_json.specs.Data.{object, string, number, unsigned, member, no_members};
+ghost use Rattle.serde_json.specs.Data.{object, member, no_members};
 ghost use Rattle.serde_json.specs.Written.{outline};
 ghost use Rattle.acd_codec.specs.ReplyTexts.{outcome_status, rejected_code, rejected_name, rejected_status, result_of, to_whom, error_of, error_data, reply_data, reply_text, rejected_text};
 ghost use Rattle.acd_codec.specs.Tokens.{tokens_of, Adds};
 
+use crate::writing::{put_number, put_text, text_of};
 use acd_terms::{Answer, Invoke, Outcome, Requester};
 use json::Writer;
 use std::alloc::{AllocError, Global};
@@ -63,22 +63,6 @@ pub fn outcome_status(outcome: Outcome) -> u16
 
 // Every reply fits, so it never grows.
 const ROOM: usize = 128;
-
-// Writes a member that is a text.
-fn put_text(out: &mut Writer, name: &str, text: &str) -> Result<(), AllocError>
-    ensures { Adds result out.old out.new (tokens_of (member name.now (string text.now) no_members)) }
-{
-    out.key(name)?;
-    out.string(text)
-}
-
-// Writes a member that is a number.
-fn put_number(out: &mut Writer, name: &str, value: u64) -> Result<(), AllocError>
-    ensures { Adds result out.old out.new (tokens_of (member name.now (number (unsigned value)) no_members)) }
-{
-    out.key(name)?;
-    out.u64(value)
-}
 
 // Writes whose request is answered.
 fn put_whom(out: &mut Writer, requester: &Requester, invoke: Invoke) -> Result<(), AllocError>
@@ -167,17 +151,6 @@ fn write_reply(
         Outcome::Refused(refusal) => {
             write_error(out, refusal.code(), refusal.name(), requester, invoke)
         }
-    }
-}
-
-// What was written into an empty buffer.
-fn text_of(out: Writer) -> Result<String, AllocError>
-    requires { out.before ≡ [] }
-    ensures { IfOk result (λ s. string_bytes s ≡ print out.tokens) }
-{
-    match String::from_utf8(out.into_inner()) {
-        Ok(text) => Ok(text),
-        Err(_) => unreachable!(),
     }
 }
 

@@ -4,6 +4,7 @@ mod examples;
 mod faulty;
 mod messages;
 mod read;
+mod read_texts;
 mod replies;
 mod reports;
 mod worked;

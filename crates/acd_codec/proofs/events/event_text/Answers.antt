@@ -1,10 +1,11 @@
-use Rattle.std.proofs.Common.{ap, ◌∙◌}
+use Rattle.std.proofs.Common.{◌∙◌}
 use Rattle.std.proofs.lemmas.Result.{IfOk-weaker}
-use Rattle.serde_json.specs.View.{members_view}
-use Rattle.acd_codec.proofs.EventParts.{event_built}
+use Rattle.acd_codec.specs.EventTexts.{event_parts, event_text}
+use Rattle.acd_codec.proofs.Adding.{printed_object}
 use Rattle.acd_codec.proofs.events.event_text.Goals as goal
 
 pub returns : goal.returns
+unfolding event_text
 returns c =
-    let built = event_built c.args.event.now c.columns-columns.result _ _ _ c.columns-columns.ensures (ap members_view c.new-map.ensures.empty) c.in_ok-put_subject.ensures c.in_ok-put_further.ensures in
-    IfOk-weaker c.text_of.result _ _ (λ s h. h ∙ built) c.text_of.ensures
+    let printed = printed_object c.in_ok-out.out c.put_event.new.out (event_parts c.args.event.now) c.in_ok-out.ensures c.in_ok-put_event.ensures in
+    IfOk-weaker c.ended.result _ _ (λ s h. h ∙ printed) c.ended.ensures

@@ -1,0 +1,116 @@
+-- The texts of agents, calls, devices and queues. The members of each object stand in the order of their names.
+use Rattle.std.specs.Prelude.{ℕ, List, [], ◌∷◌, codes, Option, Some, None, option_map, if◌then◌else◌}
+use Rattle.serde_json.specs.Data.{Data, string}
+use Rattle.serde_json.specs.Written.{compact_text}
+use Rattle.acd_terms.specs.Forms.{digits_of}
+use Rattle.acd_terms.specs.Scans.{is_distributed}
+use Rattle.acd_terms.specs.States.{agent_state_name, pending_name}
+use Rattle.acd_terms.specs.declared.record.AgentRecord.{AgentRecord}
+use Rattle.acd_terms.specs.declared.record.CallRecord.{CallRecord}
+use Rattle.acd_terms.specs.declared.record.ConnectionRecord.{ConnectionRecord}
+use Rattle.acd_terms.specs.declared.record.GroupRecord.{GroupRecord}
+use Rattle.acd_terms.specs.declared.state.ConnectionState.{ConnectionState}
+use Rattle.acd_terms.specs.declared.state.ConnectionState.TheVariants.{Initiated, Alerting, Connected, Hold, Queued, Fail}
+use Rattle.acd_codec.specs.Parts.{Part, text_part, number_part, list_part, object_of, items_of}
+
+abbrev pub connection_state_name : ConnectionState → List ℕ
+connection_state_name Initiated = codes "initiated"
+connection_state_name Alerting = codes "alerting"
+connection_state_name Connected = codes "connected"
+connection_state_name Hold = codes "hold"
+connection_state_name Queued = codes "queued"
+connection_state_name Fail = codes "fail"
+
+-- a member that is the digits of a device or an agent
+abbrev pub digits_part : List ℕ → Option ℕ → Part
+digits_part k d = text_part k (option_map digits_of d)
+
+abbrev pub agent_parts : AgentRecord → List Part
+agent_parts a =
+    digits_part (codes "agent") (Some a.agent)
+    ∷ digits_part (codes "device") a.station
+    ∷ digits_part (codes "group") a.group
+    ∷ text_part (codes "name") (Some a.name)
+    ∷ text_part (codes "pending") (option_map pending_name a.pending)
+    ∷ number_part (codes "since") (Some a.since)
+    ∷ text_part (codes "state") (Some (agent_state_name a.state)) ∷ []
+
+-- an agent, with the station and the group where it is logged on
+unfoldable pub agent_text : AgentRecord → List ℕ
+agent_text a = compact_text (object_of (agent_parts a))
+
+-- the group from which the connection was distributed
+unfoldable pub distributed_from : ConnectionRecord → Option ℕ
+distributed_from c = if is_distributed c then c.group else None
+
+-- a connection, within its call
+abbrev pub party_parts : ConnectionRecord → List Part
+party_parts c =
+    digits_part (codes "device") (Some c.device)
+    ∷ digits_part (codes "group") (distributed_from c)
+    ∷ text_part (codes "state") (Some (connection_state_name c.state)) ∷ []
+
+abbrev pub party_data : ConnectionRecord → Data
+party_data c = object_of (party_parts c)
+
+abbrev pub call_parts : CallRecord → List ConnectionRecord → List Part
+call_parts r cs =
+    number_part (codes "call") (Some r.call)
+    ∷ digits_part (codes "called") (Some r.called)
+    ∷ digits_part (codes "caller") (Some r.caller)
+    ∷ list_part (codes "connections") (items_of party_data cs)
+    ∷ number_part (codes "since") (Some r.since) ∷ []
+
+-- a call and its connections
+unfoldable pub call_text : CallRecord → List ConnectionRecord → List ℕ
+call_text r cs = compact_text (object_of (call_parts r cs))
+
+abbrev pub group_parts : GroupRecord → List Part
+group_parts g =
+    digits_part (codes "device") (Some g.device)
+    ∷ text_part (codes "kind") (Some (codes "group"))
+    ∷ text_part (codes "name") (Some g.name)
+    ∷ number_part (codes "ring") (Some g.ring)
+    ∷ number_part (codes "wrap") (Some g.wrap) ∷ []
+
+-- a device that is a group
+unfoldable pub group_text : GroupRecord → List ℕ
+group_text g = compact_text (object_of (group_parts g))
+
+-- a connection, at its device
+abbrev pub line_parts : ConnectionRecord → List Part
+line_parts c = number_part (codes "call") (Some c.call) ∷ text_part (codes "state") (Some (connection_state_name c.state)) ∷ []
+
+abbrev pub line_data : ConnectionRecord → Data
+line_data c = object_of (line_parts c)
+
+abbrev pub station_parts : ℕ → Option ℕ → List ConnectionRecord → List Part
+station_parts station agent cs =
+    digits_part (codes "agent") agent
+    ∷ list_part (codes "connections") (items_of line_data cs)
+    ∷ digits_part (codes "device") (Some station)
+    ∷ text_part (codes "kind") (Some (codes "station")) ∷ []
+
+-- a device that is a station, the agent who is logged on there, and the connections there
+unfoldable pub station_text : ℕ → Option ℕ → List ConnectionRecord → List ℕ
+station_text station agent cs = compact_text (object_of (station_parts station agent cs))
+
+-- a connection that waits: its place in the queue, and since when it stands there
+abbrev pub waiting_parts : ConnectionRecord → List Part
+waiting_parts c = number_part (codes "call") (Some c.call) ∷ number_part (codes "place") c.place ∷ number_part (codes "since") c.queued ∷ []
+
+abbrev pub waiting_data : ConnectionRecord → Data
+waiting_data c = object_of (waiting_parts c)
+
+abbrev pub digits_data : ℕ → Data
+digits_data n = string (digits_of n)
+
+abbrev pub queue_parts : ℕ → List ConnectionRecord → List ℕ → List Part
+queue_parts group waiting ready =
+    list_part (codes "calls") (items_of waiting_data waiting)
+    ∷ digits_part (codes "group") (Some group)
+    ∷ list_part (codes "ready") (items_of digits_data ready) ∷ []
+
+-- a group, the connections that wait there and the agents who may be offered a call, as they are given
+unfoldable pub queue_text : ℕ → List ConnectionRecord → List ℕ → List ℕ
+queue_text group waiting ready = compact_text (object_of (queue_parts group waiting ready))

@@ -1,0 +1,257 @@
+//! Agents, calls, devices and queues as JSON.
+
+ghost use Rattle.std.specs.Prelude.{◌≡◌, IfOk, string_bytes};
+ghost use Rattle.acd_codec.specs.Tokens.{parts_tokens, Adds};
+ghost use Rattle.acd_codec.specs.ReadTexts.{connection_state_name, distributed_from, agent_parts, agent_text, party_parts, call_parts, call_text, group_parts, group_text, line_parts, station_parts, station_text, waiting_parts, queue_parts, queue_text};
+
+use crate::writing::{
+    Form, begun, ended, put_agent, put_device, put_list, put_number, put_number_if, put_seconds,
+    put_text, put_text_if,
+};
+use acd_terms::{
+    AgentId, AgentRecord, CallRecord, ConnectionRecord, ConnectionState, DeviceId, GroupRecord,
+    Pending,
+};
+use json::Writer;
+use std::alloc::{AllocError, Global};
+
+// An agent, a group or a call with its connections fits, and so do most stations and queues.
+const ROOM: usize = 256;
+
+fn state_name(state: ConnectionState) -> &'static str
+    ensures { result.now ≡ connection_state_name state }
+{
+    match state {
+        ConnectionState::Initiated => "initiated",
+        ConnectionState::Alerting => "alerting",
+        ConnectionState::Connected => "connected",
+        ConnectionState::Hold => "hold",
+        ConnectionState::Queued => "queued",
+        ConnectionState::Fail => "fail",
+    }
+}
+
+fn put_agent_members(out: &mut Writer, agent: &AgentRecord) -> Result<(), AllocError>
+    ensures { Adds result out.old out.new (parts_tokens (agent_parts agent.now)) }
+{
+    put_agent(out, "agent", Some(agent.agent))?;
+    put_device(out, "device", agent.station)?;
+    put_device(out, "group", agent.group)?;
+    put_text(out, "name", agent.name.as_str())?;
+    put_text_if(out, "pending", agent.pending.map(Pending::name))?;
+    put_number(out, "since", u64::from(agent.since))?;
+    put_text(out, "state", agent.state.name())
+}
+
+/// The text of an agent.
+pub fn agent_text(alloc: Global, agent: &AgentRecord) -> Result<String, AllocError>
+    ensures { IfOk result (λ s. string_bytes s ≡ agent_text agent.now) }
+{
+    let mut out = begun(alloc, ROOM)?;
+    put_agent_members(&mut out, agent)?;
+    ended(out)
+}
+
+// The group of a distributed connection.
+#[tactic(auto, unfolding(crate::specs::ReadTexts::distributed_from))]
+fn distributed_from(connection: &ConnectionRecord) -> Option<DeviceId>
+    ensures { result ≡ distributed_from connection.now }
+{
+    if connection.is_distributed() {
+        connection.group
+    } else {
+        None
+    }
+}
+
+fn put_party(out: &mut Writer, connection: &ConnectionRecord) -> Result<(), AllocError>
+    ensures { Adds result out.old out.new (parts_tokens (party_parts connection.now)) }
+{
+    put_device(out, "device", Some(connection.device))?;
+    put_device(out, "group", distributed_from(connection))?;
+    put_text(out, "state", state_name(connection.state))
+}
+
+// Connections in the list of their call.
+struct Parties;
+
+impl Form for Parties {
+    type Item = ConnectionRecord;
+
+    ghost use Rattle.acd_codec.specs.ReadTexts.{party_data};
+
+    ghost data_of = { party_data };
+
+    fn write(out: &mut Writer, connection: &ConnectionRecord) -> Result<(), AllocError> {
+        out.begin_object()?;
+        put_party(out, connection)?;
+        out.end_object()
+    }
+}
+
+fn put_call_members(
+    out: &mut Writer,
+    call: &CallRecord,
+    connections: &[ConnectionRecord],
+) -> Result<(), AllocError>
+    ensures { Adds result out.old out.new (parts_tokens (call_parts call.now connections.now)) }
+{
+    put_number(out, "call", call.call)?;
+    put_device(out, "called", Some(call.called))?;
+    put_device(out, "caller", Some(call.caller))?;
+    put_list::<Parties>(out, "connections", connections)?;
+    put_number(out, "since", u64::from(call.since))
+}
+
+/// The text of a call with its connections, which stand as they are given.
+pub fn call_text(
+    alloc: Global,
+    call: &CallRecord,
+    connections: &[ConnectionRecord],
+) -> Result<String, AllocError>
+    ensures { IfOk result (λ s. string_bytes s ≡ call_text call.now connections.now) }
+{
+    let mut out = begun(alloc, ROOM)?;
+    put_call_members(&mut out, call, connections)?;
+    ended(out)
+}
+
+fn put_group_members(out: &mut Writer, group: &GroupRecord) -> Result<(), AllocError>
+    ensures { Adds result out.old out.new (parts_tokens (group_parts group.now)) }
+{
+    put_device(out, "device", Some(group.device))?;
+    put_text(out, "kind", "group")?;
+    put_text(out, "name", group.name.as_str())?;
+    put_seconds(out, "ring", group.ring)?;
+    put_seconds(out, "wrap", group.wrap)
+}
+
+/// The text of a device that is a group.
+pub fn group_text(alloc: Global, group: &GroupRecord) -> Result<String, AllocError>
+    ensures { IfOk result (λ s. string_bytes s ≡ group_text group.now) }
+{
+    let mut out = begun(alloc, ROOM)?;
+    put_group_members(&mut out, group)?;
+    ended(out)
+}
+
+fn put_line(out: &mut Writer, connection: &ConnectionRecord) -> Result<(), AllocError>
+    ensures { Adds result out.old out.new (parts_tokens (line_parts connection.now)) }
+{
+    put_number(out, "call", connection.call)?;
+    put_text(out, "state", state_name(connection.state))
+}
+
+// Connections in the list of their station.
+struct Lines;
+
+impl Form for Lines {
+    type Item = ConnectionRecord;
+
+    ghost use Rattle.acd_codec.specs.ReadTexts.{line_data};
+
+    ghost data_of = { line_data };
+
+    fn write(out: &mut Writer, connection: &ConnectionRecord) -> Result<(), AllocError> {
+        out.begin_object()?;
+        put_line(out, connection)?;
+        out.end_object()
+    }
+}
+
+fn put_station_members(
+    out: &mut Writer,
+    station: DeviceId,
+    agent: Option<AgentId>,
+    connections: &[ConnectionRecord],
+) -> Result<(), AllocError>
+    ensures { Adds result out.old out.new (parts_tokens (station_parts station agent connections.now)) }
+{
+    put_agent(out, "agent", agent)?;
+    put_list::<Lines>(out, "connections", connections)?;
+    put_device(out, "device", Some(station))?;
+    put_text(out, "kind", "station")
+}
+
+/// The text of a device that is a station: the agent who is logged on there, and the connections there,
+/// which stand as they are given.
+pub fn station_text(
+    alloc: Global,
+    station: DeviceId,
+    agent: Option<AgentId>,
+    connections: &[ConnectionRecord],
+) -> Result<String, AllocError>
+    ensures { IfOk result (λ s. string_bytes s ≡ station_text station agent connections.now) }
+{
+    let mut out = begun(alloc, ROOM)?;
+    put_station_members(&mut out, station, agent, connections)?;
+    ended(out)
+}
+
+fn put_waiting(out: &mut Writer, connection: &ConnectionRecord) -> Result<(), AllocError>
+    ensures { Adds result out.old out.new (parts_tokens (waiting_parts connection.now)) }
+{
+    put_number(out, "call", connection.call)?;
+    put_number_if(out, "place", connection.place)?;
+    put_number_if(out, "since", connection.queued.map(u64::from))
+}
+
+// Connections in the list of those that wait.
+struct Waiting;
+
+impl Form for Waiting {
+    type Item = ConnectionRecord;
+
+    ghost use Rattle.acd_codec.specs.ReadTexts.{waiting_data};
+
+    ghost data_of = { waiting_data };
+
+    fn write(out: &mut Writer, connection: &ConnectionRecord) -> Result<(), AllocError> {
+        out.begin_object()?;
+        put_waiting(out, connection)?;
+        out.end_object()
+    }
+}
+
+// Agents by their digits.
+struct Digits;
+
+impl Form for Digits {
+    type Item = AgentId;
+
+    ghost use Rattle.acd_codec.specs.ReadTexts.{digits_data};
+
+    ghost data_of = { digits_data };
+
+    fn write(out: &mut Writer, agent: &AgentId) -> Result<(), AllocError> {
+        out.string(agent.text().as_str())
+    }
+}
+
+fn put_queue_members(
+    out: &mut Writer,
+    group: DeviceId,
+    waiting: &[ConnectionRecord],
+    ready: &[AgentId],
+) -> Result<(), AllocError>
+    ensures { Adds result out.old out.new (parts_tokens (queue_parts group waiting.now ready.now)) }
+{
+    put_list::<Waiting>(out, "calls", waiting)?;
+    put_device(out, "group", Some(group))?;
+    put_list::<Digits>(out, "ready", ready)
+}
+
+/// The text of a group's queue: the connections that wait there, and the agents who may be offered a call. Both
+/// stand as they are given.
+pub fn queue_text(
+    alloc: Global,
+    group: DeviceId,
+    waiting: &[ConnectionRecord],
+    ready: &[AgentId],
+) -> Result<String, AllocError>
+    ensures { IfOk result (λ s. string_bytes s ≡ queue_text group waiting.now ready.now) }
+{
+    let mut out = begun(alloc, ROOM)?;
+    put_queue_members(&mut out, group, waiting, ready)?;
+    ended(out)
+}

@@ -1,0 +1,157 @@
+//! Values that are written token by token.
+
+ghost use Rattle.std.specs.Prelude.{◌≡◌, [], ◌∷◌, ◌++◌, IfOk, option_map, string_bytes};
+ghost use Rattle.json.specs.Print.{print};
+ghost use Rattle.json.specs.Token.{end_object};
+ghost use Rattle.serde_json.specs.Data.{Data, string, number, unsigned, member, no_members};
+ghost use Rattle.acd_terms.specs.Forms.{digits_of};
+ghost use Rattle.acd_codec.specs.Parts.{text_part, number_part, list_part, items_of};
+ghost use Rattle.acd_codec.specs.Tokens.{Begun, data_tokens, tokens_of, part_tokens, each_tokens, Adds};
+
+use acd_terms::{AgentId, DeviceId, Seconds};
+use json::Writer;
+use std::alloc::{AllocError, Global};
+
+/// How things of one type stand in a list.
+pub(crate) trait Form {
+    type Item: Copy;
+
+    ghost data_of: { Self.Item → Data };
+
+    /// Writes one of them.
+    fn write(out: &mut Writer, item: &Self::Item) -> Result<(), AllocError>
+        ensures { Adds result out.old out.new (data_tokens (data_of item.now)) };
+}
+
+/// Writes a member that is a text.
+pub(crate) fn put_text(out: &mut Writer, name: &str, text: &str) -> Result<(), AllocError>
+    ensures { Adds result out.old out.new (tokens_of (member name.now (string text.now) no_members)) }
+{
+    out.key(name)?;
+    out.string(text)
+}
+
+/// Writes a member that is a number.
+pub(crate) fn put_number(out: &mut Writer, name: &str, value: u64) -> Result<(), AllocError>
+    ensures { Adds result out.old out.new (tokens_of (member name.now (number (unsigned value)) no_members)) }
+{
+    out.key(name)?;
+    out.u64(value)
+}
+
+/// Writes a time of a group.
+pub(crate) fn put_seconds(out: &mut Writer, name: &str, value: Seconds) -> Result<(), AllocError>
+    ensures { Adds result out.old out.new (tokens_of (member name.now (number (unsigned value)) no_members)) }
+{
+    put_number(out, name, u64::from(value.number()))
+}
+
+/// Writes a text, where there is one.
+pub(crate) fn put_text_if(
+    out: &mut Writer,
+    name: &str,
+    text: Option<&str>,
+) -> Result<(), AllocError>
+    ensures { Adds result out.old out.new (part_tokens (text_part name.now (option_map (λ t. t.now) text.entry))) }
+{
+    match text {
+        None => Ok(()),
+        Some(text) => put_text(out, name, text),
+    }
+}
+
+/// Writes a number, where there is one.
+pub(crate) fn put_number_if(
+    out: &mut Writer,
+    name: &str,
+    value: Option<u64>,
+) -> Result<(), AllocError>
+    ensures { Adds result out.old out.new (part_tokens (number_part name.now value)) }
+{
+    match value {
+        None => Ok(()),
+        Some(value) => put_number(out, name, value),
+    }
+}
+
+/// Writes the digits of a device, where there is one.
+pub(crate) fn put_device(
+    out: &mut Writer,
+    name: &str,
+    device: Option<DeviceId>,
+) -> Result<(), AllocError>
+    ensures { Adds result out.old out.new (part_tokens (text_part name.now (option_map digits_of device))) }
+{
+    match device {
+        None => Ok(()),
+        Some(device) => put_text(out, name, device.text().as_str()),
+    }
+}
+
+/// Writes the digits of an agent, where there is one.
+pub(crate) fn put_agent(
+    out: &mut Writer,
+    name: &str,
+    agent: Option<AgentId>,
+) -> Result<(), AllocError>
+    ensures { Adds result out.old out.new (part_tokens (text_part name.now (option_map digits_of agent))) }
+{
+    match agent {
+        None => Ok(()),
+        Some(agent) => put_text(out, name, agent.text().as_str()),
+    }
+}
+
+// Writes one item after the other.
+fn put_each<F: Form>(out: &mut Writer, items: &[F::Item]) -> Result<(), AllocError>
+    ensures { Adds result out.old out.new (each_tokens F.data_of items.now) }
+{
+    for item in items {
+        F::write(out, item)?;
+    }
+    Ok(())
+}
+
+/// Writes a member that is a list.
+pub(crate) fn put_list<F: Form>(
+    out: &mut Writer,
+    name: &str,
+    items: &[F::Item],
+) -> Result<(), AllocError>
+    ensures { Adds result out.old out.new (part_tokens (list_part name.now (items_of F.data_of items.now))) }
+{
+    out.key(name)?;
+    out.begin_array()?;
+    put_each::<F>(out, items)?;
+    out.end_array()
+}
+
+/// What was written into an empty buffer.
+pub(crate) fn text_of(out: Writer) -> Result<String, AllocError>
+    requires { out.before ≡ [] }
+    ensures { IfOk result (λ s. string_bytes s ≡ print out.tokens) }
+{
+    match String::from_utf8(out.into_inner()) {
+        Ok(text) => Ok(text),
+        Err(_) => unreachable!(),
+    }
+}
+
+/// A buffer with room for this many bytes, in which an object begins.
+pub(crate) fn begun(alloc: Global, room: usize) -> Result<Writer, AllocError>
+    ensures { IfOk result Begun }
+{
+    let mut out = Writer::new(Vec::with_capacity(alloc, room)?);
+    out.begin_object()?;
+    Ok(out)
+}
+
+/// The text, once the object ends.
+pub(crate) fn ended(out: Writer) -> Result<String, AllocError>
+    requires { out.before ≡ [] }
+    ensures { IfOk result (λ s. string_bytes s ≡ print (out.tokens ++ end_object ∷ [])) }
+{
+    let mut out = out;
+    out.end_object()?;
+    text_of(out)
+}
