@@ -2,7 +2,6 @@ pub mod Readings
 pub mod Adding
 pub mod Printed
 pub mod Lookups
-pub mod Objects
 pub mod Floatless
 pub mod Plain
 pub mod RoundTrip

@@ -35,10 +35,5 @@ reads_document bytes j text e fits = reads_value bytes (data_from j) text (ap (o
 pub reads_beyond : (bytes : List ℕ) (j : Json) → document_of bytes ≡ Some j → is_within j ≡ false → reads_as bytes ≡ Err member.Json
 reads_beyond bytes j e large = reads_none bytes (λ text. ap (option_and_then of_json) e ∙ beyond j large)
 
-refused_or_no_text : (bytes : List ℕ) (b : Bool) → is_utf8 bytes ≡ b → request_from (read bytes) ≡ Err member.Json → reads_as bytes ≡ Err member.Json
-unfolding reads_as
-refused_or_no_text bytes true text e = rw text e
-refused_or_no_text bytes false no_text e = rw no_text refl
-
-pub reads_refused : (bytes : List ℕ) → request_from (read bytes) ≡ Err member.Json → reads_as bytes ≡ Err member.Json
-reads_refused bytes e = refused_or_no_text bytes (is_utf8 bytes) refl e
+pub reads_no_document : (bytes : List ℕ) → document_of bytes ≡ None → reads_as bytes ≡ Err member.Json
+reads_no_document bytes e = reads_none bytes (λ text. ap (option_and_then of_json) e)

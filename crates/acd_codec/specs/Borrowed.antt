@@ -1,7 +1,6 @@
 -- The data of JSON whose text is borrowed.
-use Rattle.std.specs.Prelude.{ℕ, List, [], ◌∷◌, length, Bool, true, false, ◌&&◌, Option, option_map, option_and_then}
+use Rattle.std.specs.Prelude.{ℕ, List, Bool, true, ◌&&◌, Option, option_map, option_and_then}
 use Rattle.std.specs.Option.{is_some, unwrap_or}
-use Rattle.json.specs.Token.{Token}
 use Rattle.json.specs.Lex.{tokens}
 use Rattle.json.specs.Json as json
 use Rattle.json.specs.Value.{value_view}
@@ -48,24 +47,6 @@ abbrev mutual
 -- the value that a text is, as deep as is read
 abbrev pub document_of : List ℕ → Option json.Json
 document_of text = option_and_then (λ p. json.if_last p.0 p.1) (json.value max_depth (tokens text))
-
--- the first token opens an object
-abbrev pub begins_object : List Token → Bool
-begins_object [] = false
-begins_object (Token.begin_object ∷ ts) = true
-begins_object (Token.end_object ∷ ts) = false
-begins_object (Token.begin_array ∷ ts) = false
-begins_object (Token.end_array ∷ ts) = false
-begins_object (Token.key s ∷ ts) = false
-begins_object (Token.string s ∷ ts) = false
-begins_object (Token.number s ∷ ts) = false
-begins_object (Token.boolean b ∷ ts) = false
-begins_object (Token.null ∷ ts) = false
-begins_object (Token.bad ∷ ts) = false
-
--- the members of an object, behind the token that opens it
-abbrev pub members_at : List Token → Option (json.Members × List Token)
-members_at ts = json.members (json.value 126) (length ts) ts
 
 -- what a value stands for
 abbrev pub data_of : {A : Type 0} → Value A → Data

@@ -1,26 +1,21 @@
 //! JSON whose text is borrowed, read once.
 
-ghost use Rattle.std.specs.Prelude.{◌≡◌, ◌==◌, ◌∷◌, true, false, Some, None, Err, IfOk, IfErr, IsTrue, ◌<◌, length, slice_index, is_some, option_and_then};
-ghost use Rattle.std.specs.Bool.{MatchBool};
-ghost use Rattle.json.specs.Token.{begin_object};
+ghost use Rattle.std.specs.Prelude.{◌≡◌, ◌==◌, true, false, Some, None, IfOk, IfErr, IsTrue, ◌<◌, length, slice_index, is_some, option_and_then};
 ghost use Rattle.json.specs.Value.{value_view, items_view, members_view};
 ghost use Rattle.serde_json.specs.Find.{as_u64};
-ghost use Rattle.serde_json.specs.Read.{read, number_of, number_from, float_of};
-ghost use Rattle.acd_codec.specs.Borrowed.{document_of, members_at, begins_object, data_of, is_within, items_within, members_within};
+ghost use Rattle.serde_json.specs.Read.{number_of, number_from, float_of};
+ghost use Rattle.acd_codec.specs.Borrowed.{document_of, data_of, is_within, items_within, members_within};
 ghost use Rattle.acd_codec.specs.Reading.{IsFault, request_from, reads_as};
 
 use crate::fault::ReadFault;
 use crate::member::Member;
 use fast_float::Numeral;
-use json::{Error, Reader, Scratch, Token, Value};
+use json::{Error, Reader, Scratch, Value};
 use simdutf8::basic::from_utf8;
-use std::alloc::{AllocError, Global};
+use std::alloc::Global;
 
-// How deep arrays and objects nest at most in a member.
-const DEPTH: usize = 126;
-
-// How many members find room at once. No request needs more.
-const ROOM: usize = 8;
+// How deep arrays and objects nest at most.
+const MAX_DEPTH: usize = 127;
 
 fn begins_with_minus(text: &[u8]) -> bool
     ensures value { result ≡ (slice_index text.now 0 == 45) }
@@ -116,42 +111,17 @@ fn are_members_within(members: &Vec<(&str, Value<'_>)>) -> bool
     true
 }
 
-// Takes the token that opens an object, if it is next.
-fn take_object(reader: &mut Reader<'_>) -> bool
-    ensures { MatchBool result (reader.old ≡ begin_object ∷ reader.new) (begins_object reader.old ≡ false) }
-{
-    matches!(reader.next(), Some(Token::BeginObject))
-}
-
-// The members of an object, behind its opening brace.
-fn members<'a>(alloc: Global, reader: &mut Reader<'a>) -> Result<Vec<(&'a str, Value<'a>)>, Error>
-    ensures ok { IfOk result (λ ms. members_at reader.old ≡ Some (members_view ms.items, reader.new)) }
-    ensures err { result ≡ Err Error.Invalid → members_at reader.old ≡ None }
-{
-    let mut found = Vec::with_capacity(alloc, ROOM)?;
-    while let Some(name) = reader.next_key()? {
-        let member = Value::read(alloc, reader, DEPTH)?;
-        if let Err(e) = found.push((name, member)) {
-            return Err(AllocError::from(e).into());
-        }
-    }
-    Ok(found)
-}
-
-// The object that the text is.
-fn object<'a>(alloc: Global, text: &'a str, scratch: &'a mut Scratch) -> Result<Value<'a>, Error>
+// The one value of the text.
+fn parsed<'a>(alloc: Global, text: &'a str, scratch: &'a mut Scratch) -> Result<Value<'a>, Error>
     ensures ok { IfOk result (λ v. document_of text.now ≡ Some (value_view v)) }
-    ensures err { result ≡ Err Error.Invalid → request_from (read text.now) ≡ Err Member.Json }
+    ensures err { IfErr result (λ e. e ≡ Error.Invalid → document_of text.now ≡ None) }
 {
     let mut reader = Reader::new(text, scratch)?;
-    if !take_object(&mut reader) {
-        return Err(Error::Invalid);
-    }
-    let found = members(alloc, &mut reader)?;
+    let value = Value::read(alloc, &mut reader, MAX_DEPTH)?;
     if reader.next().is_some() {
         return Err(Error::Invalid);
     }
-    Ok(Value::Object(found))
+    Ok(value)
 }
 
 /// The value that the bytes are.
@@ -167,7 +137,7 @@ pub(crate) fn value_of<'a>(
         Ok(text) => text,
         Err(_) => return Err(ReadFault::Malformed(Member::Json)),
     };
-    let value = match object(alloc, text, scratch) {
+    let value = match parsed(alloc, text, scratch) {
         Ok(value) => value,
         Err(Error::Invalid) => return Err(ReadFault::Malformed(Member::Json)),
         Err(_) => return Err(ReadFault::NoMemory),
