@@ -337,35 +337,12 @@ fn request_of(value: &Value<'_>) -> Result<Request, Member>
     request_in(value)
 }
 
-/// A reader of requests. The memory that one reading took is there for the next.
-#[derive(Drop)]
-pub struct RequestReader {
-    alloc: Global,
-    scratch: Scratch,
-}
-
-impl RequestReader {
-    /// It takes no memory yet.
-    pub fn new(alloc: Global) -> RequestReader {
-        RequestReader {
-            alloc,
-            scratch: Scratch::new(alloc),
-        }
-    }
-
-    /// The request that the bytes stand for, or the first faulty member.
-    pub fn read(&mut self, bytes: &[u8]) -> Result<Request, ReadFault>
-        ensures { Gives result (reads_as bytes.now) }
-    {
-        let value = value_of(self.alloc, bytes, &mut self.scratch)?;
-        let request = request_of(&value)?;
-        Ok(request)
-    }
-}
-
 /// The request that the bytes stand for, or the first faulty member.
 pub fn read_request(alloc: Global, bytes: &[u8]) -> Result<Request, ReadFault>
     ensures { Gives result (reads_as bytes.now) }
 {
-    RequestReader::new(alloc).read(bytes)
+    let mut scratch = Scratch::new(alloc);
+    let value = value_of(alloc, bytes, &mut scratch)?;
+    let request = request_of(&value)?;
+    Ok(request)
 }

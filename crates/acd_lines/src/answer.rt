@@ -11,7 +11,7 @@ use crate::answer_line::AnswerLine;
 use crate::moment::moment_of;
 use acd_book::{Book, Text};
 use acd_codec::{
-    FixedAnswer, MALFORMED_STATUS, Member, ReadFault, Rejected, RequestReader, rejected_text,
+    FixedAnswer, MALFORMED_STATUS, Member, ReadFault, Rejected, read_request, rejected_text,
 };
 use acd_desk::{Desk, Taken};
 use acd_terms::Request;
@@ -71,16 +71,10 @@ fn execute<B: Book>(alloc: Global, desk: &mut Desk<B>, moment: u32, request: &Re
     written(alloc, request, taken)
 }
 
-fn read<B: Book>(
-    alloc: Global,
-    requests: &mut RequestReader,
-    desk: &mut Desk<B>,
-    moment: u32,
-    json: &[u8],
-) -> AnswerLine
+fn read<B: Book>(alloc: Global, desk: &mut Desk<B>, moment: u32, json: &[u8]) -> AnswerLine
     ensures { Answers (standing B.Book) desk.old (line_read moment (reads_as json.now)) (answered_text result) desk.new }
 {
-    match requests.read(json) {
+    match read_request(alloc, json) {
         Ok(request) => execute(alloc, desk, moment, &request),
         Err(ReadFault::Malformed(member)) => malformed(member),
         Err(ReadFault::NoMemory) => fixed(FixedAnswer::NoMemory),
@@ -89,12 +83,7 @@ fn read<B: Book>(
 
 /// The answer to a line, whose line end is left out.
 #[tactic(auto, unfolding(crate::specs::Input::line_of))]
-pub(crate) fn answer<B: Book>(
-    alloc: Global,
-    requests: &mut RequestReader,
-    desk: &mut Desk<B>,
-    text: &[u8],
-) -> AnswerLine
+pub(crate) fn answer<B: Book>(alloc: Global, desk: &mut Desk<B>, text: &[u8]) -> AnswerLine
     ensures { Answers (standing B.Book) desk.old (line_of text.now) (answered_text result) desk.new }
 {
     let Some((moment, json)) = moment_of(text) else {
@@ -103,5 +92,5 @@ pub(crate) fn answer<B: Book>(
     if json.len() > LONGEST {
         return fixed(FixedAnswer::BodyTooLarge);
     }
-    read(alloc, requests, desk, moment, json)
+    read(alloc, desk, moment, json)
 }

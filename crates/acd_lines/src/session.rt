@@ -12,7 +12,6 @@ use crate::partial::Partial;
 use crate::send::Stopped;
 use crate::serve::{feed, finish};
 use acd_book::Book;
-use acd_codec::RequestReader;
 use acd_desk::Desk;
 use std::alloc::{AllocError, Global};
 use std::io::{ErrorKind, Read, Write};
@@ -88,22 +87,13 @@ pub fn lines<B: Book, R: Read, W: Write>(
     let mut chunk = vec![in alloc; 0u8; CHUNK]?;
     let mut partial = Partial::new(alloc)?;
     let mut outbox = Outbox::new(alloc)?;
-    let mut requests = RequestReader::new(alloc);
     for _ in 0..CALLS {
         match reader.read(chunk.as_mut_slice()) {
             Ok(0) => {
-                finish(alloc, &mut requests, desk, &partial, &mut outbox, writer)?;
+                finish(alloc, desk, &partial, &mut outbox, writer)?;
                 return Ok(());
             }
-            Ok(n) => feed(
-                alloc,
-                &mut requests,
-                desk,
-                &mut partial,
-                &mut outbox,
-                writer,
-                &chunk[..n],
-            )?,
+            Ok(n) => feed(alloc, desk, &mut partial, &mut outbox, writer, &chunk[..n])?,
             Err(e) => {
                 if e.kind() != ErrorKind::Interrupted {
                     return Err(LinesFault::Read);
