@@ -1,16 +1,13 @@
 -- The request of a text, from what its reading gave.
-use Rattle.std.proofs.Common.{◌≡◌, ℕ, List, Bool, true, false, Some, None, Err, option_and_then, refl, ap, ◌∙◌}
+use Rattle.std.proofs.Common.{◌≡◌, ℕ, List, Bool, true, false, Some, None, Err, refl, ◌∙◌}
 use Rattle.std.specs.Option.{is_some}
 use Rattle.std.specs.Str.{is_utf8, IsUtf8}
 use Rattle.std.proofs.lemmas.Str.{IsUtf8-from_is_utf8, is_utf8-from_IsUtf8}
-use Rattle.json.specs.Json.{Json}
 use Rattle.serde_json.specs.Data.{Data}
+use Rattle.serde_json.specs.Read.{read}
 use Rattle.serde_json.specs.Find.{as_object}
-use Rattle.serde_json.specs.Read.{read, of_json}
 use Rattle.acd_codec.specs.declared.member.Member.TheVariants as member
 use Rattle.acd_codec.specs.Reading.{reads_as, request_in, request_from}
-use Rattle.acd_codec.specs.Borrowed.{document_of, data_from, is_within}
-use Rattle.acd_codec.proofs.Lookups.{within, beyond}
 
 pub reads_value : (bytes : List ℕ) (d : Data) → IsUtf8 bytes → read bytes ≡ Some d → reads_as bytes ≡ request_from (Some d)
 unfolding reads_as
@@ -19,6 +16,9 @@ reads_value bytes d text e = rw (is_utf8-from_IsUtf8 bytes text, e) refl
 pub reads_object : (bytes : List ℕ) (d : Data) → IsUtf8 bytes → read bytes ≡ Some d → is_some (as_object d) ≡ true → reads_as bytes ≡ request_in d
 reads_object bytes d text e object = reads_value bytes d text e ∙ rw object refl
 
+pub reads_other : (bytes : List ℕ) (d : Data) → IsUtf8 bytes → read bytes ≡ Some d → is_some (as_object d) ≡ false → reads_as bytes ≡ Err member.Json
+reads_other bytes d text e other = reads_value bytes d text e ∙ rw other refl
+
 if_text : (bytes : List ℕ) (b : Bool) → is_utf8 bytes ≡ b → (IsUtf8 bytes → read bytes ≡ None) → reads_as bytes ≡ Err member.Json
 unfolding reads_as
 if_text bytes true text refused = rw (text, refused (IsUtf8-from_is_utf8 bytes text)) refl
@@ -26,14 +26,3 @@ if_text bytes false no_text refused = rw no_text refl
 
 pub reads_none : (bytes : List ℕ) → (IsUtf8 bytes → read bytes ≡ None) → reads_as bytes ≡ Err member.Json
 reads_none bytes refused = if_text bytes (is_utf8 bytes) refl refused
-
--- ---- what is read of a value whose text is borrowed
-
-pub reads_document : (bytes : List ℕ) (j : Json) → IsUtf8 bytes → document_of bytes ≡ Some j → is_within j ≡ true → reads_as bytes ≡ request_from (Some (data_from j))
-reads_document bytes j text e fits = reads_value bytes (data_from j) text (ap (option_and_then of_json) e ∙ within j fits)
-
-pub reads_beyond : (bytes : List ℕ) (j : Json) → document_of bytes ≡ Some j → is_within j ≡ false → reads_as bytes ≡ Err member.Json
-reads_beyond bytes j e large = reads_none bytes (λ text. ap (option_and_then of_json) e ∙ beyond j large)
-
-pub reads_no_document : (bytes : List ℕ) → document_of bytes ≡ None → reads_as bytes ≡ Err member.Json
-reads_no_document bytes e = reads_none bytes (λ text. ap (option_and_then of_json) e)

@@ -7,6 +7,5 @@ pub mod ReplyTexts
 pub mod Formed
 pub mod Parts
 pub mod Tokens
-pub mod Borrowed
 pub mod EventTexts
 pub mod ReadTexts

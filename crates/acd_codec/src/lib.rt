@@ -3,7 +3,6 @@
 //! All that is written is compact JSON, the members of each object in the order of their names.
 #![tactic(auto)]
 
-mod borrowed;
 mod events;
 mod fault;
 mod laws;

@@ -1,39 +1,34 @@
 //! Requests out of JSON.
 
-ghost use Rattle.std.specs.Prelude.{◌≡◌, Some, option_map, is_some};
-ghost use Rattle.serde_json.specs.Find.{as_object};
-ghost use Rattle.acd_codec.specs.Borrowed.{data_of};
+ghost use Rattle.std.specs.Prelude.{◌≡◌, Some, option_map, IfOk, IfErr};
+ghost use Rattle.serde_json.specs.View.{view};
 ghost use Rattle.acd_codec.specs.MemberReading.{text_in, number_in, device_in, agent_in, name_in, requester_in, invoke_in, seconds_in, serial_in, service_in, asked_in};
 ghost use Rattle.acd_codec.specs.Reading.{Gives, IsFault, at_connection, at_device, at_devices, to_device, add_group_in, add_agent_in, monitor_stop_in, two_devices_in, connection_in, requested_in, set_agent_state_in, command_in, request_in, request_from, reads_as};
 
-use crate::borrowed::{value_of, whole_number};
 use crate::fault::ReadFault;
 use crate::member::Member;
 use crate::service::{Asked, Service};
 use acd_terms::{
     AgentId, Command, DeviceId, Invoke, Name, Request, Requested, Requester, Seconds, Serial,
 };
-use json::{Scratch, Value};
+use serde_json::Value;
 use std::alloc::Global;
 
-#[tactic(auto, using(crate::proofs::Lookups::text_found))]
-fn text_in<'a>(value: &Value<'a>, member: Member) -> Option<&'a str>
-    ensures { option_map (λ t. t.now) result ≡ text_in member (data_of value.now) }
+fn text_in<'a>(value: &'a Value, member: Member) -> Option<&'a str>
+    ensures { option_map (λ t. t.now) result ≡ text_in member (view value.now) }
 {
-    value.get(member.name())?.as_str()
+    value.get(member.name()).and_then(Value::as_str)
 }
 
-#[tactic(auto, using(crate::proofs::Lookups::number_found))]
-fn number_in(value: &Value<'_>, member: Member) -> Option<u64>
-    ensures { result ≡ number_in member (data_of value.now) }
+fn number_in(value: &Value, member: Member) -> Option<u64>
+    ensures { result ≡ number_in member (view value.now) }
 {
-    let text = value.get(member.name())?.as_number()?;
-    whole_number(text)
+    value.get(member.name()).and_then(Value::as_u64)
 }
 
 #[tactic(auto, unfolding(crate::specs::MemberReading::device_in))]
-fn device_in(value: &Value<'_>, member: Member) -> Result<DeviceId, Member>
-    ensures { result ≡ device_in member (data_of value.now) }
+fn device_in(value: &Value, member: Member) -> Result<DeviceId, Member>
+    ensures { result ≡ device_in member (view value.now) }
 {
     match text_in(value, member) {
         None => Err(member),
@@ -42,8 +37,8 @@ fn device_in(value: &Value<'_>, member: Member) -> Result<DeviceId, Member>
 }
 
 #[tactic(auto, unfolding(crate::specs::MemberReading::agent_in))]
-fn agent_in(value: &Value<'_>) -> Result<AgentId, Member>
-    ensures { result ≡ agent_in (data_of value.now) }
+fn agent_in(value: &Value) -> Result<AgentId, Member>
+    ensures { result ≡ agent_in (view value.now) }
 {
     match text_in(value, Member::Agent) {
         None => Err(Member::Agent),
@@ -52,8 +47,8 @@ fn agent_in(value: &Value<'_>) -> Result<AgentId, Member>
 }
 
 #[tactic(auto, unfolding(crate::specs::MemberReading::name_in))]
-fn name_in(value: &Value<'_>) -> Result<Name, Member>
-    ensures { result ≡ name_in (data_of value.now) }
+fn name_in(value: &Value) -> Result<Name, Member>
+    ensures { result ≡ name_in (view value.now) }
 {
     match text_in(value, Member::Name) {
         None => Err(Member::Name),
@@ -62,8 +57,8 @@ fn name_in(value: &Value<'_>) -> Result<Name, Member>
 }
 
 #[tactic(auto, unfolding(crate::specs::MemberReading::requester_in))]
-fn requester_in(value: &Value<'_>) -> Result<Requester, Member>
-    ensures { result ≡ requester_in (data_of value.now) }
+fn requester_in(value: &Value) -> Result<Requester, Member>
+    ensures { result ≡ requester_in (view value.now) }
 {
     match text_in(value, Member::Requester) {
         None => Err(Member::Requester),
@@ -74,8 +69,8 @@ fn requester_in(value: &Value<'_>) -> Result<Requester, Member>
 }
 
 #[tactic(auto, unfolding(crate::specs::MemberReading::invoke_in))]
-fn invoke_in(value: &Value<'_>) -> Result<Invoke, Member>
-    ensures { result ≡ invoke_in (data_of value.now) }
+fn invoke_in(value: &Value) -> Result<Invoke, Member>
+    ensures { result ≡ invoke_in (view value.now) }
 {
     match number_in(value, Member::Invoke) {
         None => Err(Member::Invoke),
@@ -84,8 +79,8 @@ fn invoke_in(value: &Value<'_>) -> Result<Invoke, Member>
 }
 
 #[tactic(auto, unfolding(crate::specs::MemberReading::seconds_in))]
-fn seconds_in(value: &Value<'_>, member: Member) -> Result<Seconds, Member>
-    ensures { result ≡ seconds_in member (data_of value.now) }
+fn seconds_in(value: &Value, member: Member) -> Result<Seconds, Member>
+    ensures { result ≡ seconds_in member (view value.now) }
 {
     match number_in(value, member) {
         None => Err(member),
@@ -94,8 +89,8 @@ fn seconds_in(value: &Value<'_>, member: Member) -> Result<Seconds, Member>
 }
 
 #[tactic(auto, unfolding(crate::specs::MemberReading::serial_in))]
-fn serial_in(value: &Value<'_>, member: Member) -> Result<Serial, Member>
-    ensures { result ≡ serial_in member (data_of value.now) }
+fn serial_in(value: &Value, member: Member) -> Result<Serial, Member>
+    ensures { result ≡ serial_in member (view value.now) }
 {
     match number_in(value, member) {
         None => Err(member),
@@ -104,8 +99,8 @@ fn serial_in(value: &Value<'_>, member: Member) -> Result<Serial, Member>
 }
 
 #[tactic(auto, unfolding(crate::specs::MemberReading::service_in))]
-fn service_in(value: &Value<'_>) -> Result<Service, Member>
-    ensures { result ≡ service_in (data_of value.now) }
+fn service_in(value: &Value) -> Result<Service, Member>
+    ensures { result ≡ service_in (view value.now) }
 {
     match text_in(value, Member::Service) {
         None => Err(Member::Service),
@@ -114,8 +109,8 @@ fn service_in(value: &Value<'_>) -> Result<Service, Member>
 }
 
 #[tactic(auto, unfolding(crate::specs::MemberReading::asked_in))]
-fn asked_in(value: &Value<'_>) -> Result<Asked, Member>
-    ensures { result ≡ asked_in (data_of value.now) }
+fn asked_in(value: &Value) -> Result<Asked, Member>
+    ensures { result ≡ asked_in (view value.now) }
 {
     match text_in(value, Member::Requested) {
         None => Err(Member::Requested),
@@ -124,8 +119,8 @@ fn asked_in(value: &Value<'_>) -> Result<Asked, Member>
 }
 
 #[tactic(auto, unfolding(crate::specs::Reading::add_group_in))]
-fn add_group_in(value: &Value<'_>) -> Result<Command, Member>
-    ensures { result ≡ add_group_in (data_of value.now) }
+fn add_group_in(value: &Value) -> Result<Command, Member>
+    ensures { result ≡ add_group_in (view value.now) }
 {
     let device = device_in(value, Member::Device)?;
     let name = name_in(value)?;
@@ -140,8 +135,8 @@ fn add_group_in(value: &Value<'_>) -> Result<Command, Member>
 }
 
 #[tactic(auto, unfolding(crate::specs::Reading::add_agent_in))]
-fn add_agent_in(value: &Value<'_>) -> Result<Command, Member>
-    ensures { result ≡ add_agent_in (data_of value.now) }
+fn add_agent_in(value: &Value) -> Result<Command, Member>
+    ensures { result ≡ add_agent_in (view value.now) }
 {
     let agent = agent_in(value)?;
     let name = name_in(value)?;
@@ -151,11 +146,11 @@ fn add_agent_in(value: &Value<'_>) -> Result<Command, Member>
 // Two devices that are named one after the other.
 #[tactic(auto, unfolding(crate::specs::Reading::two_devices_in))]
 fn two_devices_in(
-    value: &Value<'_>,
+    value: &Value,
     first: Member,
     second: Member,
 ) -> Result<(DeviceId, DeviceId), Member>
-    ensures { result ≡ two_devices_in first second (data_of value.now) }
+    ensures { result ≡ two_devices_in first second (view value.now) }
 {
     let first = device_in(value, first)?;
     let second = device_in(value, second)?;
@@ -164,8 +159,8 @@ fn two_devices_in(
 
 // A call and a device.
 #[tactic(auto, unfolding(crate::specs::Reading::connection_in))]
-fn connection_in(value: &Value<'_>) -> Result<(Serial, DeviceId), Member>
-    ensures { result ≡ connection_in (data_of value.now) }
+fn connection_in(value: &Value) -> Result<(Serial, DeviceId), Member>
+    ensures { result ≡ connection_in (view value.now) }
 {
     let call = serial_in(value, Member::Call)?;
     let device = device_in(value, Member::Device)?;
@@ -173,8 +168,8 @@ fn connection_in(value: &Value<'_>) -> Result<(Serial, DeviceId), Member>
 }
 
 #[tactic(auto, unfolding(crate::specs::Reading::requested_in))]
-fn requested_in(value: &Value<'_>, asked: Asked) -> Result<Requested, Member>
-    ensures { result ≡ requested_in (data_of value.now) asked }
+fn requested_in(value: &Value, asked: Asked) -> Result<Requested, Member>
+    ensures { result ≡ requested_in (view value.now) asked }
 {
     match asked {
         Asked::LoggedOn => {
@@ -186,8 +181,8 @@ fn requested_in(value: &Value<'_>, asked: Asked) -> Result<Requested, Member>
 }
 
 #[tactic(auto, unfolding(crate::specs::Reading::set_agent_state_in))]
-fn set_agent_state_in(value: &Value<'_>) -> Result<Command, Member>
-    ensures { result ≡ set_agent_state_in (data_of value.now) }
+fn set_agent_state_in(value: &Value) -> Result<Command, Member>
+    ensures { result ≡ set_agent_state_in (view value.now) }
 {
     let agent = agent_in(value)?;
     let asked = asked_in(value)?;
@@ -195,87 +190,87 @@ fn set_agent_state_in(value: &Value<'_>) -> Result<Command, Member>
     Ok(Command::SetAgentState { agent, requested })
 }
 
-fn add_station_in(value: &Value<'_>) -> Result<Command, Member>
-    ensures { result ≡ at_device Command.AddStation (data_of value.now) }
+fn add_station_in(value: &Value) -> Result<Command, Member>
+    ensures { result ≡ at_device Command.AddStation (view value.now) }
 {
     let device = device_in(value, Member::Device)?;
     Ok(Command::AddStation { device })
 }
 
-fn arrive_call_in(value: &Value<'_>) -> Result<Command, Member>
-    ensures { result ≡ at_devices Command.ArriveCall Member.Caller Member.Called (data_of value.now) }
+fn arrive_call_in(value: &Value) -> Result<Command, Member>
+    ensures { result ≡ at_devices Command.ArriveCall Member.Caller Member.Called (view value.now) }
 {
     let (caller, called) = two_devices_in(value, Member::Caller, Member::Called)?;
     Ok(Command::ArriveCall { caller, called })
 }
 
-fn make_call_in(value: &Value<'_>) -> Result<Command, Member>
-    ensures { result ≡ at_devices Command.MakeCall Member.Device Member.Called (data_of value.now) }
+fn make_call_in(value: &Value) -> Result<Command, Member>
+    ensures { result ≡ at_devices Command.MakeCall Member.Device Member.Called (view value.now) }
 {
     let (device, called) = two_devices_in(value, Member::Device, Member::Called)?;
     Ok(Command::MakeCall { device, called })
 }
 
-fn phone_off_hook_in(value: &Value<'_>) -> Result<Command, Member>
-    ensures { result ≡ at_connection Command.PhoneOffHook (data_of value.now) }
+fn phone_off_hook_in(value: &Value) -> Result<Command, Member>
+    ensures { result ≡ at_connection Command.PhoneOffHook (view value.now) }
 {
     let (call, device) = connection_in(value)?;
     Ok(Command::PhoneOffHook { call, device })
 }
 
-fn answer_call_in(value: &Value<'_>) -> Result<Command, Member>
-    ensures { result ≡ at_connection Command.AnswerCall (data_of value.now) }
+fn answer_call_in(value: &Value) -> Result<Command, Member>
+    ensures { result ≡ at_connection Command.AnswerCall (view value.now) }
 {
     let (call, device) = connection_in(value)?;
     Ok(Command::AnswerCall { call, device })
 }
 
-fn hold_call_in(value: &Value<'_>) -> Result<Command, Member>
-    ensures { result ≡ at_connection Command.HoldCall (data_of value.now) }
+fn hold_call_in(value: &Value) -> Result<Command, Member>
+    ensures { result ≡ at_connection Command.HoldCall (view value.now) }
 {
     let (call, device) = connection_in(value)?;
     Ok(Command::HoldCall { call, device })
 }
 
-fn retrieve_call_in(value: &Value<'_>) -> Result<Command, Member>
-    ensures { result ≡ at_connection Command.RetrieveCall (data_of value.now) }
+fn retrieve_call_in(value: &Value) -> Result<Command, Member>
+    ensures { result ≡ at_connection Command.RetrieveCall (view value.now) }
 {
     let (call, device) = connection_in(value)?;
     Ok(Command::RetrieveCall { call, device })
 }
 
-fn clear_connection_in(value: &Value<'_>) -> Result<Command, Member>
-    ensures { result ≡ at_connection Command.ClearConnection (data_of value.now) }
+fn clear_connection_in(value: &Value) -> Result<Command, Member>
+    ensures { result ≡ at_connection Command.ClearConnection (view value.now) }
 {
     let (call, device) = connection_in(value)?;
     Ok(Command::ClearConnection { call, device })
 }
 
-fn deflect_call_in(value: &Value<'_>) -> Result<Command, Member>
-    ensures { result ≡ to_device Command.DeflectCall (data_of value.now) }
+fn deflect_call_in(value: &Value) -> Result<Command, Member>
+    ensures { result ≡ to_device Command.DeflectCall (view value.now) }
 {
     let (call, device) = connection_in(value)?;
     let to = device_in(value, Member::To)?;
     Ok(Command::DeflectCall { call, device, to })
 }
 
-fn single_step_transfer_in(value: &Value<'_>) -> Result<Command, Member>
-    ensures { result ≡ to_device Command.SingleStepTransfer (data_of value.now) }
+fn single_step_transfer_in(value: &Value) -> Result<Command, Member>
+    ensures { result ≡ to_device Command.SingleStepTransfer (view value.now) }
 {
     let (call, device) = connection_in(value)?;
     let to = device_in(value, Member::To)?;
     Ok(Command::SingleStepTransfer { call, device, to })
 }
 
-fn monitor_start_in(value: &Value<'_>) -> Result<Command, Member>
-    ensures { result ≡ at_device Command.MonitorStart (data_of value.now) }
+fn monitor_start_in(value: &Value) -> Result<Command, Member>
+    ensures { result ≡ at_device Command.MonitorStart (view value.now) }
 {
     let device = device_in(value, Member::Device)?;
     Ok(Command::MonitorStart { device })
 }
 
-fn monitor_stop_in(value: &Value<'_>) -> Result<Command, Member>
-    ensures { result ≡ monitor_stop_in (data_of value.now) }
+fn monitor_stop_in(value: &Value) -> Result<Command, Member>
+    ensures { result ≡ monitor_stop_in (view value.now) }
 {
     let monitor = serial_in(value, Member::Monitor)?;
     Ok(Command::MonitorStop { monitor })
@@ -283,8 +278,8 @@ fn monitor_stop_in(value: &Value<'_>) -> Result<Command, Member>
 
 // The members of a service, in their order.
 #[tactic(auto, unfolding(crate::specs::Reading::command_in))]
-fn command_in(service: Service, value: &Value<'_>) -> Result<Command, Member>
-    ensures { result ≡ command_in service (data_of value.now) }
+fn command_in(service: Service, value: &Value) -> Result<Command, Member>
+    ensures { result ≡ command_in service (view value.now) }
 {
     match service {
         Service::AddGroup => add_group_in(value),
@@ -307,8 +302,8 @@ fn command_in(service: Service, value: &Value<'_>) -> Result<Command, Member>
 }
 
 #[tactic(auto, unfolding(crate::specs::Reading::request_in))]
-fn request_in(value: &Value<'_>) -> Result<Request, Member>
-    ensures { result ≡ request_in (data_of value.now) }
+fn request_in(value: &Value) -> Result<Request, Member>
+    ensures { result ≡ request_in (view value.now) }
 {
     let requester = requester_in(value)?;
     let invoke = invoke_in(value)?;
@@ -321,28 +316,36 @@ fn request_in(value: &Value<'_>) -> Result<Request, Member>
     })
 }
 
-fn is_object(value: &Value<'_>) -> bool
-    ensures { result ≡ is_some (as_object (data_of value.now)) }
-{
-    matches!(value, Value::Object(_))
-}
-
 // The request that a value stands for.
-fn request_of(value: &Value<'_>) -> Result<Request, Member>
-    ensures { result ≡ request_from (Some (data_of value.now)) }
+fn request_of(value: &Value) -> Result<Request, Member>
+    ensures { result ≡ request_from (Some (view value.now)) }
 {
-    if !is_object(value) {
+    if !value.is_object() {
         return Err(Member::Json);
     }
     request_in(value)
+}
+
+fn value_of(alloc: Global, bytes: &[u8]) -> Result<Value, ReadFault>
+    ensures ok { IfOk result (λ v. reads_as bytes.now ≡ request_from (Some (view v))) }
+    ensures err { IfErr result (λ e. IsFault e (reads_as bytes.now)) }
+{
+    match Value::from_slice(alloc, bytes) {
+        Ok(value) => Ok(value),
+        Err(e) => {
+            if e.is_memory() {
+                return Err(ReadFault::NoMemory);
+            }
+            Err(ReadFault::Malformed(Member::Json))
+        }
+    }
 }
 
 /// The request that the bytes stand for, or the first faulty member.
 pub fn read_request(alloc: Global, bytes: &[u8]) -> Result<Request, ReadFault>
     ensures { Gives result (reads_as bytes.now) }
 {
-    let mut scratch = Scratch::new(alloc);
-    let value = value_of(alloc, bytes, &mut scratch)?;
+    let value = value_of(alloc, bytes)?;
     let request = request_of(&value)?;
     Ok(request)
 }
