@@ -9,6 +9,8 @@ use acd_book::MemoryBook;
 use acd_desk::{Desk, OpenFault};
 use acd_lines::{LinesFault, lines};
 use acd_terms::Limits;
+use std::alloc::Global;
+use std::io::{Read, Write};
 use std::process::ExitCode;
 use std::rt::Env;
 use std::{env, io};
@@ -25,12 +27,16 @@ fn asks_for_lines(rt: &(impl Env + Alloc)) -> io::Result<bool> {
     Ok(word.as_str() == "lines" && words.next().is_none())
 }
 
-// Answers standard input on standard output, over a new book in memory with the greatest limits.
+// Answers lines over a new book in memory with the greatest limits.
 #[tactic(auto, using(acd_desk::proofs::ContentLaws::empty_sound), unfolding(acd_terms::specs::Limits::limits_fit))]
-fn run_lines(rt: &HostRuntime) -> Result<(), LinesFault> {
-    let book = MemoryBook::new(rt.alloc(), Limits::GREATEST);
-    match Desk::open(rt.alloc(), book) {
-        Ok(mut desk) => lines(rt.alloc(), &mut desk, &mut rt.reader(), &mut io::writer(rt)),
+fn run_lines<R: Read, W: Write>(
+    alloc: Global,
+    reader: &mut R,
+    writer: &mut W,
+) -> Result<(), LinesFault> {
+    let book = MemoryBook::new(alloc, Limits::GREATEST);
+    match Desk::open(alloc, book) {
+        Ok(mut desk) => lines(alloc, &mut desk, reader, writer),
         Err((OpenFault::NoMemory, _)) => Err(LinesFault::NoMemory),
         // its rows break no rule, and it has no store
         Err((OpenFault::Rows(_) | OpenFault::Store, _)) => unreachable!(),
@@ -49,7 +55,7 @@ fn main(rt: HostRuntime) -> ExitCode {
             return ExitCode::from(2);
         }
     }
-    match run_lines(&rt) {
+    match run_lines(rt.alloc(), &mut rt.reader(), &mut io::writer(&rt)) {
         Ok(()) => ExitCode::SUCCESS,
         Err(fault) => {
             let _ = eprintln!(rt; "acd: {fault}");

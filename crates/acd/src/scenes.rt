@@ -6,17 +6,23 @@ mod handed_on;
 mod identifiers;
 mod limits;
 mod look_ups;
+mod program;
 mod records;
 mod refusals;
 mod releases;
 mod reports;
+mod stopping;
+mod store;
 mod waiting;
+mod working_size;
 
 ghost use Rattle.acd_terms.specs.Rules.First.{BreaksNoRule};
 
+use acd_book::{Book, MemoryBook};
 use acd_codec::{event_text, outcome_status, read_request, reply_text};
 use acd_switch::Switch;
-use acd_terms::{Event, Limits};
+use acd_terms::{Event, Limits, Rows};
+use records::Played;
 use std::alloc::Global;
 use std::process::Abort;
 
@@ -123,6 +129,33 @@ const TWO_READY: &[Asked] = &[
     ),
 ];
 
+// The reports of the scenes above.
+const CALL_IS_QUEUED: &[&str] = &[
+    r#"{"call":1,"cause":"newCall","device":"100","event":"queued","moment":10,"number":1}"#,
+];
+
+const ANA_IS_OFFERED_THE_CALL: &[&str] = &[
+    r#"{"agent":"7","device":"201","event":"agentLoggedOn","group":"100","moment":15,"number":2}"#,
+    r#"{"agent":"7","device":"201","event":"agentReady","moment":18,"number":3}"#,
+    r#"{"call":1,"cause":"distributed","device":"100","event":"diverted","group":"100","moment":18,"number":4,"to":"201"}"#,
+    r#"{"call":1,"cause":"distributed","device":"201","event":"delivered","group":"100","moment":18,"number":5}"#,
+];
+
+const ANA_IS_BUSY: &[&str] = &[
+    r#"{"call":1,"device":"201","event":"established","group":"100","moment":25,"number":6,"waited":15}"#,
+    r#"{"agent":"7","device":"201","event":"agentBusy","moment":25,"number":7}"#,
+];
+
+const BEN_IS_OFFERED_THE_CALL: &[&str] = &[
+    r#"{"agent":"7","device":"201","event":"agentLoggedOn","group":"100","moment":5,"number":1}"#,
+    r#"{"agent":"8","device":"202","event":"agentLoggedOn","group":"100","moment":5,"number":2}"#,
+    r#"{"agent":"8","device":"202","event":"agentReady","moment":6,"number":3}"#,
+    r#"{"agent":"7","device":"201","event":"agentReady","moment":7,"number":4}"#,
+    r#"{"call":1,"cause":"newCall","device":"100","event":"queued","moment":10,"number":5}"#,
+    r#"{"call":1,"cause":"distributed","device":"100","event":"diverted","group":"100","moment":10,"number":6,"to":"202"}"#,
+    r#"{"call":1,"cause":"distributed","device":"202","event":"delivered","group":"100","moment":10,"number":7}"#,
+];
+
 // Asks one request, and keeps its events. The look-ups of the switch are then the scans of its rows.
 fn ask(rt: &impl Abort, alloc: Global, switch: &mut Switch, asked: &Asked, events: &mut Vec<Event>)
     requires { BreaksNoRule switch.old }
@@ -136,8 +169,7 @@ fn ask(rt: &impl Abort, alloc: Global, switch: &mut Switch, asked: &Asked, event
     assert_eq!(rt; reply.as_str(), body);
     assert_eq!(rt; outcome_status(outcome), status);
     events.extend_from_slice(&more).expect(rt, "memory");
-    let rows = switch.rows().expect(rt, "memory");
-    look_ups::compare(rt, switch.tables(), &rows);
+    look_ups::compare(rt, switch);
 }
 
 // Asks all requests of the scenes, one scene after the other.
@@ -158,22 +190,76 @@ fn ask_all(
     }
 }
 
-// The answers of the scenes under these limits.
+// The answers of the scenes under these limits; and a desk gives the same.
 fn answers(rt: &impl Abort, alloc: Global, limits: Limits, scenes: &[&[Asked]]) {
     assert!(rt; limits.fits());
     let mut switch = Switch::new(alloc, limits);
-    ask_all(rt, alloc, &mut switch, scenes, &mut Vec::new(alloc));
+    let mut events = Vec::new(alloc);
+    ask_all(rt, alloc, &mut switch, scenes, &mut events);
+    let rows = switch.rows().expect(rt, "memory");
+    expect_same(rt, alloc, scenes, &rows, &events);
 }
 
-// The answers of the scenes, and all their events; and the same answers of a desk.
-fn play(rt: &impl Abort, alloc: Global, scenes: &[&[Asked]], wanted: &[&str]) {
-    let _ = reports::watched(rt, alloc, scenes);
+// The next event is told by the text.
+fn expect_text(rt: &impl Abort, alloc: Global, event: Option<&Event>, wanted: &str) {
+    let event = event.expect(rt, "an event");
+    let text = event_text(alloc, event).expect(rt, "memory");
+    assert_eq!(rt; text.as_str(), wanted);
+}
+
+// The events are told by just these texts: those that other scenes tell too, and then the others.
+fn expect_texts(
+    rt: &impl Abort,
+    alloc: Global,
+    events: &[Event],
+    before: &[&[&str]],
+    told: &[&str],
+) {
+    let mut rest = events.iter();
+    for texts in before {
+        for wanted in *texts {
+            expect_text(rt, alloc, rest.next(), wanted);
+        }
+    }
+    for wanted in told {
+        expect_text(rt, alloc, rest.next(), wanted);
+    }
+    assert!(rt; rest.next().is_none());
+}
+
+// A desk that was asked the same holds the same rows and events, also when all is sent again.
+fn expect_same(rt: &impl Abort, alloc: Global, scenes: &[&[Asked]], rows: &Rows, events: &[Event]) {
+    let mut book = reports::watched(rt, alloc, rows.limits, scenes);
+    expect_held(rt, &mut book, rows, events);
+    let mut again = reports::repeated(rt, alloc, book, scenes);
+    expect_held(rt, &mut again, rows, events);
+}
+
+fn expect_held(rt: &impl Abort, book: &mut MemoryBook, rows: &Rows, events: &[Event]) {
+    let held = book.rows().expect(rt, "memory");
+    assert!(rt; held == *rows);
+    let told = book.events_after(0, reports::ALL).expect(rt, "memory");
+    assert!(rt; told.as_slice() == events);
+}
+
+// The answers of the scenes, all their events, and what they leave; and the same of a desk.
+fn play_on(
+    rt: &impl Abort,
+    alloc: Global,
+    scenes: &[&[Asked]],
+    before: &[&[&str]],
+    told: &[&str],
+) -> Played {
     let mut switch = Switch::new(alloc, Limits::GREATEST);
     let mut events = Vec::new(alloc);
     ask_all(rt, alloc, &mut switch, scenes, &mut events);
-    assert_eq!(rt; events.len(), wanted.len());
-    for (event, wanted) in events.iter().zip(wanted) {
-        let text = event_text(alloc, event).expect(rt, "memory");
-        assert_eq!(rt; text.as_str(), *wanted);
-    }
+    expect_texts(rt, alloc, &events, before, told);
+    let rows = switch.rows().expect(rt, "memory");
+    expect_same(rt, alloc, scenes, &rows, &events);
+    Played { switch, rows }
+}
+
+// The same, where one list tells all events.
+fn play(rt: &impl Abort, alloc: Global, scenes: &[&[Asked]], told: &[&str]) -> Played {
+    play_on(rt, alloc, scenes, &[], told)
 }

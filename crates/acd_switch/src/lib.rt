@@ -19,6 +19,8 @@ mod journal;
 mod row_fault;
 #[cfg(test)]
 mod rows_tests;
+#[cfg(test)]
+mod services_tests;
 mod switch;
 mod tick;
 

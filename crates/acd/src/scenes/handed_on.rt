@@ -1,6 +1,6 @@
 //! Calls that are handed on: deflected out of a queue and from an agent, and transferred.
 
-use super::records::{agent_in, entry_of, figures_of, rows_after, since_of};
+use super::records::NO_FIGURES;
 use super::*;
 use acd_terms::{AgentState, Figures};
 
@@ -30,7 +30,7 @@ const TO_ANOTHER_QUEUE: &[Asked] = &[
 #[test]
 fn deflected_to_another_queue(rt: HostRuntime) {
     let scenes: &[&[Asked]] = &[PLAN, TO_ANOTHER_QUEUE];
-    play(
+    let end = play(
         &rt,
         rt.alloc(),
         scenes,
@@ -40,27 +40,23 @@ fn deflected_to_another_queue(rt: HostRuntime) {
             r#"{"call":1,"cause":"deflected","device":"110","event":"queued","moment":20,"number":3}"#,
         ],
     );
-    let rows = rows_after(&rt, rt.alloc(), scenes);
-    assert_eq!(rt; entry_of(&rt, &rows, 1, b"110"), Some((Some(8), Some(20))));
-    assert_eq!(rt;
-        figures_of(&rt, &rows, b"100"),
-        Some(Figures {
+    end.expect_entry(&rt, 1, b"110", 8, 20);
+    end.expect_figures(
+        &rt,
+        b"100",
+        Figures {
             entered: 1,
-            answered: 0,
-            abandoned: 0,
             moved: 1,
-            waited: 0
-        })
+            ..NO_FIGURES
+        },
     );
-    assert_eq!(rt;
-        figures_of(&rt, &rows, b"110"),
-        Some(Figures {
+    end.expect_figures(
+        &rt,
+        b"110",
+        Figures {
             entered: 1,
-            answered: 0,
-            abandoned: 0,
-            moved: 0,
-            waited: 0
-        })
+            ..NO_FIGURES
+        },
     );
 }
 
@@ -96,7 +92,7 @@ const TO_STATION_AND_BACK: &[Asked] = &[
 #[test]
 fn deflected_from_queue_to_station_and_back(rt: HostRuntime) {
     let scenes: &[&[Asked]] = &[PLAN, TO_ANOTHER_QUEUE, TO_STATION_AND_BACK];
-    play(
+    let end = play(
         &rt,
         rt.alloc(),
         scenes,
@@ -110,29 +106,26 @@ fn deflected_from_queue_to_station_and_back(rt: HostRuntime) {
             r#"{"call":1,"cause":"deflected","device":"100","event":"queued","moment":22,"number":7}"#,
         ],
     );
-    let rows = rows_after(&rt, rt.alloc(), scenes);
-    assert_eq!(rt; entry_of(&rt, &rows, 1, b"100"), Some((Some(10), Some(22))));
-    assert_eq!(rt;
-        figures_of(&rt, &rows, b"100"),
-        Some(Figures {
+    end.expect_entry(&rt, 1, b"100", 10, 22);
+    end.expect_figures(
+        &rt,
+        b"100",
+        Figures {
             entered: 2,
-            answered: 0,
-            abandoned: 0,
             moved: 1,
-            waited: 0
-        })
+            ..NO_FIGURES
+        },
     );
-    assert_eq!(rt;
-        figures_of(&rt, &rows, b"110"),
-        Some(Figures {
+    end.expect_figures(
+        &rt,
+        b"110",
+        Figures {
             entered: 1,
-            answered: 0,
-            abandoned: 0,
             moved: 1,
-            waited: 0
-        })
+            ..NO_FIGURES
+        },
     );
-    assert_eq!(rt; since_of(&rows, 1), Some(10));
+    end.expect_since(&rt, 1, 10);
 }
 
 // The offered call is deflected to the group that it came from, and then away.
@@ -179,7 +172,7 @@ const TO_ITS_OWN_GROUP: &[Asked] = &[
 #[test]
 fn deflected_with_a_state_pending(rt: HostRuntime) {
     let scenes: &[&[Asked]] = &[PLAN, TO_ITS_OWN_GROUP];
-    play(
+    let end = play(
         &rt,
         rt.alloc(),
         scenes,
@@ -198,11 +191,7 @@ fn deflected_with_a_state_pending(rt: HostRuntime) {
             r#"{"agent":"7","device":"201","event":"agentNotReady","moment":13,"number":12}"#,
         ],
     );
-    let rows = rows_after(&rt, rt.alloc(), scenes);
-    assert_eq!(rt;
-        agent_in(&rt, &rows, b"7"),
-        Some((AgentState::NotReady, None, 11, 13))
-    );
+    end.expect_agent(&rt, b"7", (AgentState::NotReady, None, 11, 13));
 }
 
 // A station calls the group twice, and leaves the two agents with each other.
@@ -285,7 +274,7 @@ const BETWEEN_TWO_AGENTS: &[Asked] = &[
 #[test]
 fn two_agents_released(rt: HostRuntime) {
     let scenes: &[&[Asked]] = &[PLAN, BETWEEN_TWO_AGENTS];
-    play(
+    let end = play(
         &rt,
         rt.alloc(),
         scenes,
@@ -315,24 +304,17 @@ fn two_agents_released(rt: HostRuntime) {
             r#"{"agent":"7","device":"201","event":"agentWorkingAfterCall","moment":30,"number":23}"#,
         ],
     );
-    let rows = rows_after(&rt, rt.alloc(), scenes);
-    assert_eq!(rt;
-        agent_in(&rt, &rows, b"8"),
-        Some((AgentState::WorkingAfterCall, None, 17, 30))
-    );
-    assert_eq!(rt;
-        agent_in(&rt, &rows, b"7"),
-        Some((AgentState::WorkingAfterCall, None, 17, 30))
-    );
-    assert_eq!(rt;
-        figures_of(&rt, &rows, b"100"),
-        Some(Figures {
+    end.expect_agent(&rt, b"8", (AgentState::WorkingAfterCall, None, 17, 30));
+    end.expect_agent(&rt, b"7", (AgentState::WorkingAfterCall, None, 17, 30));
+    end.expect_figures(
+        &rt,
+        b"100",
+        Figures {
             entered: 2,
             answered: 2,
-            abandoned: 0,
-            moved: 0,
-            waited: 9
-        })
+            waited: 9,
+            ..NO_FIGURES
+        },
     );
 }
 
@@ -416,7 +398,7 @@ const PRIVATE_CALLS: &[Asked] = &[
 #[test]
 fn private_calls(rt: HostRuntime) {
     let scenes: &[&[Asked]] = &[PLAN, PRIVATE_CALLS];
-    play(
+    let end = play(
         &rt,
         rt.alloc(),
         scenes,
@@ -442,16 +424,12 @@ fn private_calls(rt: HostRuntime) {
             r#"{"call":2,"event":"callCleared","moment":14,"number":19}"#,
         ],
     );
-    let rows = rows_after(&rt, rt.alloc(), scenes);
-    assert_eq!(rt;
-        agent_in(&rt, &rows, b"7"),
-        Some((AgentState::Busy, None, 16, 13))
-    );
-    assert_eq!(rt; since_of(&rows, 1), Some(4));
+    end.expect_agent(&rt, b"7", (AgentState::Busy, None, 16, 13));
+    end.expect_since(&rt, 1, 4);
 }
 
-// A call is transferred, and transferred back to the station that made it.
-const TRANSFERRED_BACK: &[Asked] = &[
+// A station calls another, and transfers the call to a third.
+const TO_A_THIRD_STATION: &[Asked] = &[
     (
         3,
         r#"{"device":"203","invoke":6,"requester":"plan","service":"addStation"}"#,
@@ -482,6 +460,10 @@ const TRANSFERRED_BACK: &[Asked] = &[
         200,
         r#"{"invoke":4,"requester":"desk","result":{}}"#,
     ),
+];
+
+// Which answers, and transfers it back to the station that made it.
+const TRANSFERRED_BACK: &[Asked] = &[
     (
         8,
         r#"{"call":1,"device":"203","invoke":5,"requester":"desk","service":"answerCall"}"#,
@@ -496,24 +478,50 @@ const TRANSFERRED_BACK: &[Asked] = &[
     ),
 ];
 
+const THIRD_STATION_RINGS: &[&str] = &[
+    r#"{"call":1,"device":"201","event":"serviceInitiated","moment":4,"number":1}"#,
+    r#"{"call":1,"device":"201","event":"originated","moment":5,"number":2,"to":"202"}"#,
+    r#"{"call":1,"cause":"newCall","device":"202","event":"delivered","moment":5,"number":3}"#,
+    r#"{"call":1,"device":"202","event":"established","moment":6,"number":4}"#,
+    r#"{"call":1,"device":"201","event":"transferred","moment":7,"number":5,"to":"203"}"#,
+    r#"{"call":1,"cause":"transferred","device":"203","event":"delivered","moment":7,"number":6}"#,
+];
+
 // A call that a station gave away may be given back to it.
 #[test]
 fn transferred_back(rt: HostRuntime) {
-    let scenes: &[&[Asked]] = &[PLAN, TRANSFERRED_BACK];
-    play(
+    play_on(
         &rt,
         rt.alloc(),
-        scenes,
+        &[PLAN, TO_A_THIRD_STATION, TRANSFERRED_BACK],
+        &[THIRD_STATION_RINGS],
         &[
-            r#"{"call":1,"device":"201","event":"serviceInitiated","moment":4,"number":1}"#,
-            r#"{"call":1,"device":"201","event":"originated","moment":5,"number":2,"to":"202"}"#,
-            r#"{"call":1,"cause":"newCall","device":"202","event":"delivered","moment":5,"number":3}"#,
-            r#"{"call":1,"device":"202","event":"established","moment":6,"number":4}"#,
-            r#"{"call":1,"device":"201","event":"transferred","moment":7,"number":5,"to":"203"}"#,
-            r#"{"call":1,"cause":"transferred","device":"203","event":"delivered","moment":7,"number":6}"#,
             r#"{"call":1,"device":"203","event":"established","moment":8,"number":7}"#,
             r#"{"call":1,"device":"203","event":"transferred","moment":9,"number":8,"to":"201"}"#,
             r#"{"call":1,"cause":"transferred","device":"201","event":"delivered","moment":9,"number":9}"#,
+        ],
+    );
+}
+
+// Which deflects it, unanswered, to the station that made it.
+const DEFLECTED_BACK: &[Asked] = &[(
+    8,
+    r#"{"call":1,"device":"203","invoke":5,"requester":"desk","service":"deflectCall","to":"201"}"#,
+    200,
+    r#"{"invoke":5,"requester":"desk","result":{}}"#,
+)];
+
+// A call may be deflected to the station that made it, once that has given it away.
+#[test]
+fn deflected_back(rt: HostRuntime) {
+    play_on(
+        &rt,
+        rt.alloc(),
+        &[PLAN, TO_A_THIRD_STATION, DEFLECTED_BACK],
+        &[THIRD_STATION_RINGS],
+        &[
+            r#"{"call":1,"cause":"deflected","device":"203","event":"diverted","moment":8,"number":7,"to":"201"}"#,
+            r#"{"call":1,"cause":"deflected","device":"201","event":"delivered","moment":8,"number":8}"#,
         ],
     );
 }

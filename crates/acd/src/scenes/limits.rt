@@ -1,7 +1,7 @@
 //! The last free place of each limit is taken, and what comes after it is refused; a place that is left is free again.
 
+use super::store::opened;
 use super::*;
-use acd_book::MemoryBook;
 use acd_desk::{Desk, Taken};
 use acd_terms::Request;
 
@@ -204,13 +204,6 @@ fn last_places(rt: HostRuntime) {
     answers(&rt, rt.alloc(), FEW, &[ALL_PLACES]);
 }
 
-fn opened(rt: &impl Abort, alloc: Global) -> Desk<MemoryBook> {
-    match Desk::open(alloc, MemoryBook::new(alloc, FEW)) {
-        Ok(desk) => desk,
-        Err((fault, _)) => panic!(rt; "{fault:?}"),
-    }
-}
-
 fn is_reply(taken: &Taken, wanted: u16, text: &str) -> bool {
     match taken {
         Taken::Reply { status, body } => *status == wanted && body.as_str() == text,
@@ -234,7 +227,7 @@ fn answered(rt: &impl Abort, alloc: Global, desk: &mut Desk<MemoryBook>) {
 // The desk executes as many requests as its limit, refusals among them. Then it is full, and repeats have their replies.
 #[test]
 fn last_request(rt: HostRuntime) {
-    let mut desk = opened(&rt, rt.alloc());
+    let mut desk = opened(&rt, rt.alloc(), MemoryBook::new(rt.alloc(), FEW));
     answered(&rt, rt.alloc(), &mut desk);
     for text in [
         r#"{"invoke":1,"requester":"clock","service":"tick"}"#,

@@ -103,8 +103,24 @@ fn compare_numbers(rt: &impl Abort, tables: &Tables, rows: &Rows) {
     assert_eq!(rt; tables.queued_count(), scans::queued_count(rows));
 }
 
-/// Compares them all.
-pub fn compare(rt: &impl Abort, tables: &Tables, rows: &Rows) {
+// The figures of each group; a station has none.
+fn compare_figures(rt: &impl Abort, switch: &Switch, rows: &Rows) {
+    for group in &rows.groups {
+        assert_eq!(rt; switch.figures(group.device), Some(group.figures));
+    }
+    for station in &rows.stations {
+        assert!(rt; switch.figures(station.device).is_none());
+    }
+}
+
+/// Compares them all with the rows of the switch.
+pub fn compare(rt: &impl Abort, switch: &Switch) {
+    let rows = switch.rows().expect(rt, "memory");
+    compare_tables(rt, switch.tables(), &rows);
+    compare_figures(rt, switch, &rows);
+}
+
+fn compare_tables(rt: &impl Abort, tables: &Tables, rows: &Rows) {
     for group in &rows.groups {
         compare_device(rt, tables, rows, group.device);
         compare_queue(rt, tables, rows, group.device);

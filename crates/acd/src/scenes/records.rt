@@ -1,74 +1,93 @@
-//! What the rows hold that no reply and no event report tells.
+//! What a scene leaves, beside its replies and event reports.
 
 use super::*;
-use acd_book::Book;
-use acd_terms::{AgentId, AgentState, DeviceId, Figures, Pending, Rows};
+use acd_terms::{AgentId, AgentState, ConnectionState, DeviceId, Figures, Pending, Rows};
 
-// The rows of a desk after all requests of the scenes.
-pub fn rows_after(rt: &impl Abort, alloc: Global, scenes: &[&[Asked]]) -> Rows {
-    let mut book = reports::watched(rt, alloc, scenes);
-    book.rows().expect(rt, "memory")
+/// Nothing counted.
+pub const NO_FIGURES: Figures = Figures {
+    entered: 0,
+    answered: 0,
+    abandoned: 0,
+    moved: 0,
+    waited: 0,
+};
+
+fn device(rt: &impl Abort, digits: &[u8]) -> DeviceId {
+    DeviceId::read(digits).expect(rt, "a device")
 }
 
-// The agent's state, what is pending, and the stamp and moment of the request that gave the state.
-pub fn agent_in(
-    rt: &impl Abort,
-    rows: &Rows,
-    digits: &[u8],
-) -> Option<(AgentState, Option<Pending>, u64, u32)> {
-    let agent = AgentId::read(digits).expect(rt, "an agent");
-    for record in rows.agents.as_slice() {
-        if record.agent == agent {
-            return Some((record.state, record.pending, record.stamp, record.since));
-        }
-    }
-    None
+/// What a scene leaves: the switch, and its rows.
+#[derive(Drop)]
+pub struct Played {
+    pub switch: Switch,
+    pub rows: Rows,
 }
 
-// Place and moment with which the call entered the queue where it waits, or from which it rings.
-pub fn entry_of(
-    rt: &impl Abort,
-    rows: &Rows,
-    call: u64,
-    digits: &[u8],
-) -> Option<(Option<u64>, Option<u32>)> {
-    let device = DeviceId::read(digits).expect(rt, "a device");
-    for record in rows.connections.as_slice() {
-        if record.call == call && record.device == device {
-            return Some((record.place, record.queued));
-        }
+impl Played {
+    /// The agent's state, what is pending, and the stamp and moment of the request that gave the state.
+    pub fn expect_agent(
+        &self,
+        rt: &impl Abort,
+        digits: &[u8],
+        wanted: (AgentState, Option<Pending>, u64, u32),
+    ) {
+        let agent = AgentId::read(digits).expect(rt, "an agent");
+        let found = self.switch.tables().agent(agent).expect(rt, "planned");
+        assert!(rt; (found.state, found.pending) == (wanted.0, wanted.1));
+        assert_eq!(rt; (found.stamp, found.since), (wanted.2, wanted.3));
     }
-    None
-}
 
-// When the call was made.
-pub fn since_of(rows: &Rows, call: u64) -> Option<u32> {
-    for record in rows.calls.as_slice() {
-        if record.call == call {
-            return Some(record.since);
+    /// The call's connection at the device: its state, and its group where it has one.
+    pub fn expect_connection(
+        &self,
+        rt: &impl Abort,
+        call: u64,
+        digits: &[u8],
+        state: ConnectionState,
+        group: Option<&[u8]>,
+    ) {
+        let at = device(rt, digits);
+        let found = self.switch.tables().connection(call, at);
+        let found = found.expect(rt, "a connection");
+        assert!(rt; found.state == state);
+        match group {
+            Some(group) => assert!(rt; found.group == Some(device(rt, group))),
+            None => assert!(rt; found.group.is_none()),
         }
     }
-    None
-}
 
-// What the group has counted.
-pub fn figures_of(rt: &impl Abort, rows: &Rows, digits: &[u8]) -> Option<Figures> {
-    let device = DeviceId::read(digits).expect(rt, "a device");
-    for record in rows.groups.as_slice() {
-        if record.device == device {
-            return Some(record.figures);
-        }
+    /// Place and moment with which the call entered the queue where it waits, or from which it rings.
+    pub fn expect_entry(&self, rt: &impl Abort, call: u64, digits: &[u8], place: u64, queued: u32) {
+        let at = device(rt, digits);
+        let found = self.switch.tables().connection(call, at);
+        let found = found.expect(rt, "a connection");
+        assert_eq!(rt; (found.place, found.queued), (Some(place), Some(queued)));
     }
-    None
-}
 
-// A monitor of the device, and the last event before its start.
-pub fn monitor_of(rt: &impl Abort, rows: &Rows, digits: &[u8]) -> Option<(u64, u64)> {
-    let device = DeviceId::read(digits).expect(rt, "a device");
-    for record in rows.monitors.as_slice() {
-        if record.device == device {
-            return Some((record.monitor, record.after_event));
-        }
+    /// When the call was made.
+    pub fn expect_since(&self, rt: &impl Abort, call: u64, since: u32) {
+        let found = self.switch.tables().call(call).expect(rt, "a live call");
+        assert_eq!(rt; found.since, since);
     }
-    None
+
+    /// What the group has counted.
+    pub fn expect_figures(&self, rt: &impl Abort, digits: &[u8], figures: Figures) {
+        assert_eq!(rt; self.switch.figures(device(rt, digits)), Some(figures));
+    }
+
+    /// A running monitor: its device, and the last event before its start.
+    pub fn expect_monitor(&self, rt: &impl Abort, monitor: u64, digits: &[u8], after_event: u64) {
+        let found = self.switch.tables().monitor(monitor).expect(rt, "running");
+        assert!(rt; found.device == device(rt, digits));
+        assert_eq!(rt; found.after_event, after_event);
+    }
+
+    /// The last stamp, moment and event number.
+    pub fn expect_counters(&self, rt: &impl Abort, wanted: (u64, u32, u64)) {
+        let rows = &self.rows;
+        assert_eq!(rt;
+            (rows.last_stamp, rows.last_moment, rows.last_event),
+            wanted
+        );
+    }
 }

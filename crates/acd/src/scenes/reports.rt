@@ -1,8 +1,12 @@
 //! The requests of the examples over a desk: no memory is wanting, and after each request the event
 //! reports alone tell the connections, the agents and the order of the queues that stand in the rows.
 
+use super::examples::{
+    CALLER_HANGS_UP, DEFLECTION_TO_STATION, NEXT_CALL, NO_ANSWER, PENDING_LOG_OFF,
+    TICK_AFTER_THE_WRAP, TRANSFER_TO_STATION, WRAP_UP,
+};
+use super::store::opened;
 use super::*;
-use acd_book::{Book, MemoryBook};
 use acd_desk::{Desk, Taken};
 use acd_switch::RowFault;
 use acd_terms::{
@@ -11,7 +15,7 @@ use acd_terms::{
 };
 
 // More events than any scene has.
-const ALL: usize = 1000;
+pub const ALL: usize = 1000;
 
 // What an event tells of its call at its device.
 fn state_told(kind: EventKind) -> Option<ConnectionState> {
@@ -174,13 +178,6 @@ fn compare(rt: &impl Abort, book: &mut MemoryBook) {
     }
 }
 
-fn opened(rt: &impl Abort, alloc: Global, book: MemoryBook) -> Desk<MemoryBook> {
-    match Desk::open(alloc, book) {
-        Ok(desk) => desk,
-        Err((fault, _)) => panic!(rt; "{fault:?}"),
-    }
-}
-
 // A desk over the book takes one request, and gives the book back.
 fn taken(rt: &impl Abort, alloc: Global, book: MemoryBook, asked: &Asked) -> MemoryBook {
     let (moment, text, wanted, reply) = *asked;
@@ -196,9 +193,9 @@ fn taken(rt: &impl Abort, alloc: Global, book: MemoryBook, asked: &Asked) -> Mem
     desk.close()
 }
 
-// The book after all requests of the scenes, compared after each.
-pub fn watched(rt: &impl Abort, alloc: Global, scenes: &[&[Asked]]) -> MemoryBook {
-    let mut book = MemoryBook::new(alloc, Limits::GREATEST);
+/// The book after all requests of the scenes, compared after each.
+pub fn watched(rt: &impl Abort, alloc: Global, limits: Limits, scenes: &[&[Asked]]) -> MemoryBook {
+    let mut book = MemoryBook::new(alloc, limits);
     for scene in scenes {
         for asked in *scene {
             book = taken(rt, alloc, book, asked);
@@ -208,124 +205,26 @@ pub fn watched(rt: &impl Abort, alloc: Global, scenes: &[&[Asked]]) -> MemoryBoo
     book
 }
 
-const WRAP_UP_AND_TICK: &[Asked] = &[
-    (
-        11,
-        r#"{"called":"100","caller":"0309999","invoke":2,"requester":"pbx","service":"arriveCall"}"#,
-        200,
-        r#"{"invoke":2,"requester":"pbx","result":{"call":2}}"#,
-    ),
-    (
-        12,
-        r#"{"call":1,"device":"202","invoke":5,"requester":"desk","service":"answerCall"}"#,
-        200,
-        r#"{"invoke":5,"requester":"desk","result":{}}"#,
-    ),
-    (
-        13,
-        r#"{"call":2,"device":"201","invoke":6,"requester":"desk","service":"answerCall"}"#,
-        200,
-        r#"{"invoke":6,"requester":"desk","result":{}}"#,
-    ),
-    (
-        50,
-        r#"{"call":1,"device":"0301234","invoke":3,"requester":"pbx","service":"clearConnection"}"#,
-        200,
-        r#"{"invoke":3,"requester":"pbx","result":{}}"#,
-    ),
-    (
-        52,
-        r#"{"call":2,"device":"0309999","invoke":4,"requester":"pbx","service":"clearConnection"}"#,
-        200,
-        r#"{"invoke":4,"requester":"pbx","result":{}}"#,
-    ),
-    (
-        82,
-        r#"{"invoke":1,"requester":"clock","service":"tick"}"#,
-        200,
-        r#"{"invoke":1,"requester":"clock","result":{}}"#,
-    ),
-    (
-        83,
-        r#"{"called":"100","caller":"0305555","invoke":5,"requester":"pbx","service":"arriveCall"}"#,
-        200,
-        r#"{"invoke":5,"requester":"pbx","result":{"call":3}}"#,
-    ),
-];
-
-const PENDING_LOG_OFF: &[Asked] = &[
-    (
-        30,
-        r#"{"agent":"7","invoke":4,"requested":"loggedOff","requester":"desk","service":"setAgentState"}"#,
-        200,
-        r#"{"invoke":4,"requester":"desk","result":{"pending":"loggedOff","state":"busy"}}"#,
-    ),
-    (
-        40,
-        r#"{"call":1,"device":"0301234","invoke":2,"requester":"pbx","service":"clearConnection"}"#,
-        200,
-        r#"{"invoke":2,"requester":"pbx","result":{}}"#,
-    ),
-];
-
-const NO_ANSWER: &[Asked] = &[
-    (
-        90,
-        r#"{"agent":"7","device":"201","group":"100","invoke":1,"requested":"loggedOn","requester":"desk","service":"setAgentState"}"#,
-        200,
-        r#"{"invoke":1,"requester":"desk","result":{"state":"notReady"}}"#,
-    ),
-    (
-        91,
-        r#"{"agent":"7","invoke":2,"requested":"ready","requester":"desk","service":"setAgentState"}"#,
-        200,
-        r#"{"invoke":2,"requester":"desk","result":{"state":"ready"}}"#,
-    ),
-    (
-        100,
-        r#"{"called":"100","caller":"0301234","invoke":1,"requester":"pbx","service":"arriveCall"}"#,
-        200,
-        r#"{"invoke":1,"requester":"pbx","result":{"call":1}}"#,
-    ),
-    (
-        119,
-        r#"{"invoke":1,"requester":"clock","service":"tick"}"#,
-        200,
-        r#"{"invoke":1,"requester":"clock","result":{}}"#,
-    ),
-    (
-        120,
-        r#"{"invoke":2,"requester":"clock","service":"tick"}"#,
-        200,
-        r#"{"invoke":2,"requester":"clock","result":{}}"#,
-    ),
-];
-
-const TRANSFER_TO_STATION: &[Asked] = &[(
-    33,
-    r#"{"call":1,"device":"201","invoke":4,"requester":"desk","service":"singleStepTransfer","to":"202"}"#,
-    200,
-    r#"{"invoke":4,"requester":"desk","result":{}}"#,
-)];
-
-const ABANDONED_IN_QUEUE: &[Asked] = &[(
-    12,
-    r#"{"call":1,"device":"0301234","invoke":2,"requester":"pbx","service":"clearConnection"}"#,
-    200,
-    r#"{"invoke":2,"requester":"pbx","result":{}}"#,
-)];
-
-const DEFLECTED_TO_STATION: &[Asked] = &[(
-    20,
-    r#"{"call":1,"device":"201","invoke":3,"requester":"desk","service":"deflectCall","to":"202"}"#,
-    200,
-    r#"{"invoke":3,"requester":"desk","result":{}}"#,
-)];
+/// The book after all requests were sent again, at the greatest moment: each gets its reply.
+pub fn repeated(
+    rt: &impl Abort,
+    alloc: Global,
+    book: MemoryBook,
+    scenes: &[&[Asked]],
+) -> MemoryBook {
+    let mut book = book;
+    for scene in scenes {
+        for (_, text, status, body) in *scene {
+            book = taken(rt, alloc, book, &(u32::MAX, *text, *status, *body));
+        }
+    }
+    book
+}
 
 #[test]
 fn reports_tell_the_rows(rt: HostRuntime) {
     let scenes: [&[&[Asked]]; 6] = [
-        &[PLAN, TWO_READY, WRAP_UP_AND_TICK],
+        &[PLAN, TWO_READY, WRAP_UP, TICK_AFTER_THE_WRAP, NEXT_CALL],
         &[
             PLAN,
             CALL_ARRIVES,
@@ -341,11 +240,11 @@ fn reports_tell_the_rows(rt: HostRuntime) {
             ANA_ANSWERS,
             TRANSFER_TO_STATION,
         ],
-        &[PLAN, CALL_ARRIVES, ABANDONED_IN_QUEUE],
-        &[PLAN, CALL_ARRIVES, ANA_BECOMES_READY, DEFLECTED_TO_STATION],
+        &[PLAN, CALL_ARRIVES, CALLER_HANGS_UP],
+        &[PLAN, CALL_ARRIVES, ANA_BECOMES_READY, DEFLECTION_TO_STATION],
     ];
     for scene in scenes {
-        let _ = watched(&rt, rt.alloc(), scene);
+        let _ = watched(&rt, rt.alloc(), Limits::GREATEST, scene);
     }
 }
 
@@ -361,7 +260,7 @@ fn broken(rt: &impl Abort, alloc: Global, rows: &Rows) -> Option<Rule> {
 #[test]
 fn event_number_out_of_bounds(rt: HostRuntime) {
     let answered = [PLAN, CALL_ARRIVES, ANA_BECOMES_READY, ANA_ANSWERS];
-    let mut book = watched(&rt, rt.alloc(), &answered);
+    let mut book = watched(&rt, rt.alloc(), Limits::GREATEST, &answered);
     let mut rows = book.rows().expect(&rt, "memory");
     assert_eq!(rt; broken(&rt, rt.alloc(), &rows), None);
     rows.last_event = 1000000;

@@ -1,6 +1,6 @@
 //! What waits for time: offers that ring, after-call work, agents who are ready longest; and monitors.
 
-use super::records::{agent_in, entry_of, figures_of, monitor_of, rows_after, since_of};
+use super::records::NO_FIGURES;
 use super::*;
 use acd_terms::{AgentState, Figures};
 
@@ -108,7 +108,7 @@ const TICKS: &[Asked] = &[
 #[test]
 fn ticks(rt: HostRuntime) {
     let scenes: &[&[Asked]] = &[PLAN, TICKS];
-    play(
+    let end = play(
         &rt,
         rt.alloc(),
         scenes,
@@ -155,25 +155,18 @@ fn ticks(rt: HostRuntime) {
             r#"{"call":2,"cause":"distributed","device":"201","event":"delivered","group":"100","moment":126,"number":40}"#,
         ],
     );
-    let rows = rows_after(&rt, rt.alloc(), scenes);
-    assert_eq!(rt; entry_of(&rt, &rows, 2, b"201"), Some((Some(9), Some(11))));
-    assert_eq!(rt;
-        agent_in(&rt, &rows, b"7"),
-        Some((AgentState::Ready, None, 21, 126))
-    );
-    assert_eq!(rt;
-        agent_in(&rt, &rows, b"8"),
-        Some((AgentState::NotReady, None, 21, 126))
-    );
-    assert_eq!(rt;
-        figures_of(&rt, &rows, b"100"),
-        Some(Figures {
+    end.expect_entry(&rt, 2, b"201", 9, 11);
+    end.expect_agent(&rt, b"7", (AgentState::Ready, None, 21, 126));
+    end.expect_agent(&rt, b"8", (AgentState::NotReady, None, 21, 126));
+    end.expect_figures(
+        &rt,
+        b"100",
+        Figures {
             entered: 2,
             answered: 1,
-            abandoned: 0,
-            moved: 0,
-            waited: 65
-        })
+            waited: 65,
+            ..NO_FIGURES
+        },
     );
 }
 
@@ -233,7 +226,7 @@ const NEVER: &[Asked] = &[
 #[test]
 fn never(rt: HostRuntime) {
     let scenes: &[&[Asked]] = &[PLAN, NEVER];
-    play(
+    let end = play(
         &rt,
         rt.alloc(),
         scenes,
@@ -251,11 +244,7 @@ fn never(rt: HostRuntime) {
             r#"{"agent":"7","device":"201","event":"agentWorkingAfterCall","moment":9002,"number":11}"#,
         ],
     );
-    let rows = rows_after(&rt, rt.alloc(), scenes);
-    assert_eq!(rt;
-        agent_in(&rt, &rows, b"7"),
-        Some((AgentState::WorkingAfterCall, None, 12, 9002))
-    );
+    end.expect_agent(&rt, b"7", (AgentState::WorkingAfterCall, None, 12, 9002));
 }
 
 // Agent 7 asks to be ready twice, loses an offer, gets the next, and asks for a state that waits until the call ends.
@@ -332,7 +321,7 @@ const READY_AGAIN: &[Asked] = &[
 #[test]
 fn who_is_ready_longest(rt: HostRuntime) {
     let scenes: &[&[Asked]] = &[PLAN, READY_AGAIN];
-    play(
+    let end = play(
         &rt,
         rt.alloc(),
         scenes,
@@ -358,24 +347,18 @@ fn who_is_ready_longest(rt: HostRuntime) {
             r#"{"agent":"7","device":"201","event":"agentNotReady","moment":15,"number":19}"#,
         ],
     );
-    let rows = rows_after(&rt, rt.alloc(), scenes);
-    assert_eq!(rt;
-        agent_in(&rt, &rows, b"7"),
-        Some((AgentState::NotReady, None, 16, 15))
-    );
-    assert_eq!(rt;
-        agent_in(&rt, &rows, b"8"),
-        Some((AgentState::Ready, None, 9, 7))
-    );
-    assert_eq!(rt;
-        figures_of(&rt, &rows, b"100"),
-        Some(Figures {
+    end.expect_agent(&rt, b"7", (AgentState::NotReady, None, 16, 15));
+    end.expect_agent(&rt, b"8", (AgentState::Ready, None, 9, 7));
+    end.expect_figures(
+        &rt,
+        b"100",
+        Figures {
             entered: 2,
             answered: 1,
             abandoned: 1,
-            moved: 0,
-            waited: 2
-        })
+            waited: 2,
+            ..NO_FIGURES
+        },
     );
 }
 
@@ -411,15 +394,14 @@ const MONITORS: &[Asked] = &[
 #[test]
 fn monitors(rt: HostRuntime) {
     let scenes: &[&[Asked]] = &[PLAN, MONITORS];
-    play(
+    let end = play(
         &rt,
         rt.alloc(),
         scenes,
         &[r#"{"call":1,"cause":"newCall","device":"100","event":"queued","moment":7,"number":1}"#],
     );
-    let rows = rows_after(&rt, rt.alloc(), scenes);
-    assert_eq!(rt; monitor_of(&rt, &rows, b"201"), Some((2, 1)));
-    assert_eq!(rt; monitor_of(&rt, &rows, b"100"), None);
+    end.expect_monitor(&rt, 2, b"201", 1);
+    assert!(rt; end.switch.tables().monitor(1).is_none());
 }
 
 // A call waits in each of two groups, whose agents have after-call work.
@@ -478,7 +460,7 @@ const TWO_GROUPS: &[Asked] = &[
 #[test]
 fn two_groups_at_once(rt: HostRuntime) {
     let scenes: &[&[Asked]] = &[PLAN, TWO_GROUPS];
-    play(
+    let end = play(
         &rt,
         rt.alloc(),
         scenes,
@@ -497,9 +479,8 @@ fn two_groups_at_once(rt: HostRuntime) {
             r#"{"call":1,"cause":"distributed","device":"201","event":"delivered","group":"110","moment":36,"number":12}"#,
         ],
     );
-    let rows = rows_after(&rt, rt.alloc(), scenes);
-    assert_eq!(rt; entry_of(&rt, &rows, 1, b"201"), Some((Some(11), Some(10))));
-    assert_eq!(rt; entry_of(&rt, &rows, 2, b"202"), Some((Some(12), Some(11))));
+    end.expect_entry(&rt, 1, b"201", 11, 10);
+    end.expect_entry(&rt, 2, b"202", 12, 11);
 }
 
 // A station, and later an agent.
@@ -522,12 +503,8 @@ const NEW_AGENT: &[Asked] = &[
 #[test]
 fn records_of_the_empty_state(rt: HostRuntime) {
     let scenes: &[&[Asked]] = &[NEW_AGENT];
-    play(&rt, rt.alloc(), scenes, &[]);
-    let rows = rows_after(&rt, rt.alloc(), scenes);
-    assert_eq!(rt;
-        agent_in(&rt, &rows, b"7"),
-        Some((AgentState::Null, None, 2, 60))
-    );
+    let end = play(&rt, rt.alloc(), scenes, &[]);
+    end.expect_agent(&rt, b"7", (AgentState::Null, None, 2, 60));
 }
 
 // Agent 7 logs on.
@@ -574,23 +551,32 @@ const IS_NOT_READY: &[Asked] = &[
     ),
 ];
 
+const ANA_IS_LOGGED_ON: &[&str] = &[
+    r#"{"agent":"7","device":"201","event":"agentLoggedOn","group":"100","moment":5,"number":1}"#,
+];
+
+const ANA_IS_READY: &[&str] = &[
+    r#"{"agent":"7","device":"201","event":"agentReady","moment":9,"number":2}"#,
+];
+
+const ANA_CALLS: &[&str] = &[
+    r#"{"agent":"7","device":"201","event":"agentNotReady","moment":12,"number":3}"#,
+    r#"{"call":1,"device":"201","event":"serviceInitiated","moment":15,"number":4}"#,
+    r#"{"call":1,"device":"201","event":"originated","moment":20,"number":5,"to":"202"}"#,
+    r#"{"call":1,"cause":"newCall","device":"202","event":"delivered","moment":20,"number":6}"#,
+];
+
 // A state is as old as the request that gave it, and a call as the request that made it.
 #[test]
 fn moments_of_states_and_calls(rt: HostRuntime) {
-    let rows = rows_after(&rt, rt.alloc(), &[PLAN, LOGGED_ON]);
-    assert_eq!(rt;
-        agent_in(&rt, &rows, b"7"),
-        Some((AgentState::NotReady, None, 6, 5))
-    );
-    let rows = rows_after(&rt, rt.alloc(), &[PLAN, LOGGED_ON, IS_READY]);
-    assert_eq!(rt;
-        agent_in(&rt, &rows, b"7"),
-        Some((AgentState::Ready, None, 7, 9))
-    );
-    let rows = rows_after(&rt, rt.alloc(), &[PLAN, LOGGED_ON, IS_READY, IS_NOT_READY]);
-    assert_eq!(rt;
-        agent_in(&rt, &rows, b"7"),
-        Some((AgentState::NotReady, None, 8, 12))
-    );
-    assert_eq!(rt; since_of(&rows, 1), Some(15));
+    let end = play(&rt, rt.alloc(), &[PLAN, LOGGED_ON], ANA_IS_LOGGED_ON);
+    end.expect_agent(&rt, b"7", (AgentState::NotReady, None, 6, 5));
+    let scenes: &[&[Asked]] = &[PLAN, LOGGED_ON, IS_READY];
+    let end = play_on(&rt, rt.alloc(), scenes, &[ANA_IS_LOGGED_ON], ANA_IS_READY);
+    end.expect_agent(&rt, b"7", (AgentState::Ready, None, 7, 9));
+    let scenes: &[&[Asked]] = &[PLAN, LOGGED_ON, IS_READY, IS_NOT_READY];
+    let before: &[&[&str]] = &[ANA_IS_LOGGED_ON, ANA_IS_READY];
+    let end = play_on(&rt, rt.alloc(), scenes, before, ANA_CALLS);
+    end.expect_agent(&rt, b"7", (AgentState::NotReady, None, 8, 12));
+    end.expect_since(&rt, 1, 15);
 }

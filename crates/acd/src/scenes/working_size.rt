@@ -1,0 +1,326 @@
+//! An office of working size: with ample memory each call that may find none answers.
+//!
+//! Twelve groups, forty stations with an agent at each, of whom twenty are ready, a monitor of each
+//! group, and sixty calls, five in each group: twenty are offered, and forty wait.
+
+ghost use Rattle.acd_terms.specs.Rules.First.{BreaksNoRule};
+
+use super::store::opened;
+use super::*;
+use acd_book::{BookFault, Kept, Text};
+use acd_desk::{Desk, Taken};
+use acd_tables::{Records, Tables};
+use acd_terms::{
+    AgentId, Arrival, Command, DeviceId, Figures, Invoke, Name, Pending, Request, Requested,
+    Requester, Seconds,
+};
+use records::NO_FIGURES;
+
+// How many requests make the office, and how many events they report: 40 log on, 20 become ready, 60
+// calls are queued, and 20 of them leave their queue and ring.
+const REQUESTS: u64 = 224;
+
+const EVENTS: u64 = 160;
+
+fn device(rt: &impl Abort, alloc: Global, number: u64) -> DeviceId {
+    let digits = format!(in alloc; "{number}").expect(rt, "memory");
+    DeviceId::read(digits.as_bytes()).expect(rt, "a device")
+}
+
+fn agent(rt: &impl Abort, alloc: Global, number: u64) -> AgentId {
+    let digits = format!(in alloc; "{number}").expect(rt, "memory");
+    AgentId::read(digits.as_bytes()).expect(rt, "an agent")
+}
+
+fn request(rt: &impl Abort, invoke: u64, command: Command) -> Request {
+    Request {
+        requester: Requester::read(b"office").expect(rt, "a requester"),
+        invoke: Invoke::new(invoke).expect(rt, "an invoke number"),
+        command,
+    }
+}
+
+// Arrivals at one moment, whose invoke numbers go on from another's.
+#[derive(Drop)]
+struct Asking {
+    alloc: Global,
+    moment: u32,
+    behind: u64,
+    arrivals: Vec<Arrival>,
+}
+
+impl Asking {
+    fn new(alloc: Global, moment: u32, behind: u64) -> Asking {
+        Asking {
+            alloc,
+            moment,
+            behind,
+            arrivals: Vec::new(alloc),
+        }
+    }
+
+    fn ask(&mut self, rt: &impl Abort, command: Command) {
+        let count = self.arrivals.len() as u64;
+        let invoke = self.behind.saturating_add(count).saturating_add(1);
+        let request = request(rt, invoke, command);
+        let moment = self.moment;
+        let arrival = Arrival { moment, request };
+        self.arrivals.push(arrival).expect(rt, "memory");
+    }
+
+    // The group of a call or an agent with this number.
+    fn group_of(&self, rt: &impl Abort, number: u64) -> DeviceId {
+        device(rt, self.alloc, 100 + number % 12)
+    }
+
+    fn plan(&mut self, rt: &impl Abort) {
+        let name = Name::read(b"Office").expect(rt, "a name");
+        for number in 0..12 {
+            let device = self.group_of(rt, number);
+            let ring = Seconds::new(20).expect(rt, "seconds");
+            let wrap = Seconds::new(30).expect(rt, "seconds");
+            self.ask(
+                rt,
+                Command::AddGroup {
+                    device,
+                    name,
+                    ring,
+                    wrap,
+                },
+            );
+        }
+        for number in 201..241 {
+            let device = device(rt, self.alloc, number);
+            self.ask(rt, Command::AddStation { device });
+        }
+        for number in 1..41 {
+            let agent = agent(rt, self.alloc, number);
+            self.ask(rt, Command::AddAgent { agent, name });
+        }
+    }
+
+    fn log_on(&mut self, rt: &impl Abort) {
+        for number in 1..41 {
+            let agent = agent(rt, self.alloc, number);
+            let device = device(rt, self.alloc, 200 + number);
+            let group = self.group_of(rt, number);
+            let requested = Requested::LoggedOn { device, group };
+            self.ask(rt, Command::SetAgentState { agent, requested });
+        }
+    }
+
+    // The first twenty agents ask for the state.
+    fn ask_for(&mut self, rt: &impl Abort, state: Pending) {
+        for number in 1..21 {
+            let agent = agent(rt, self.alloc, number);
+            let requested = Requested::State(state);
+            self.ask(rt, Command::SetAgentState { agent, requested });
+        }
+    }
+
+    fn watch_and_call(&mut self, rt: &impl Abort) {
+        for number in 0..12 {
+            let device = self.group_of(rt, number);
+            self.ask(rt, Command::MonitorStart { device });
+        }
+        for number in 1..61 {
+            let caller = device(rt, self.alloc, 301000 + number);
+            let called = self.group_of(rt, number);
+            self.ask(rt, Command::ArriveCall { caller, called });
+        }
+    }
+}
+
+// All requests are executed, and none is refused.
+fn run_all(rt: &impl Abort, desk: &mut Desk<MemoryBook>, asking: &Asking) {
+    let answers = desk.run(&asking.arrivals).expect(rt, "memory");
+    assert_eq!(rt; answers.len(), asking.arrivals.len());
+    for answer in &answers {
+        assert!(rt; matches!(answer, Taken::Reply { status: 200, .. }));
+    }
+}
+
+// The book of the office.
+fn office(rt: &impl Abort, alloc: Global) -> MemoryBook {
+    let mut asking = Asking::new(alloc, 0, 0);
+    asking.plan(rt);
+    asking.log_on(rt);
+    asking.ask_for(rt, Pending::Ready);
+    asking.watch_and_call(rt);
+    let mut desk = opened(rt, alloc, MemoryBook::new(alloc, Limits::GREATEST));
+    run_all(rt, &mut desk, &asking);
+    desk.close()
+}
+
+fn rows_of(rt: &impl Abort, book: &mut MemoryBook) -> Rows {
+    book.rows().expect(rt, "memory")
+}
+
+fn events_of(rt: &impl Abort, book: &mut MemoryBook) -> Vec<Event> {
+    book.events_after(0, reports::ALL).expect(rt, "memory")
+}
+
+// Twelve groups and their monitors, forty stations and agents, and sixty calls of two connections.
+fn expect_all(rt: &impl Abort, rows: &Rows) {
+    assert_eq!(rt; (rows.groups.len(), rows.monitors.len()), (12, 12));
+    assert_eq!(rt; (rows.stations.len(), rows.agents.len()), (40, 40));
+    assert_eq!(rt; (rows.calls.len(), rows.connections.len()), (60, 120));
+    assert_eq!(rt; (rows.last_stamp, rows.last_event), (REQUESTS, EVENTS));
+    for group in &rows.groups {
+        let figures = Figures {
+            entered: 5,
+            ..NO_FIGURES
+        };
+        assert!(rt; group.figures == figures);
+    }
+}
+
+#[test]
+fn rows_of_an_office(rt: HostRuntime) {
+    let mut book = office(&rt, rt.alloc());
+    let rows = rows_of(&rt, &mut book);
+    expect_all(&rt, &rows);
+    let copy = rows.clone().expect(&rt, "memory");
+    assert!(rt; copy == rows);
+    let records = Records::from_rows(rt.alloc(), &rows).expect(&rt, "memory");
+    assert!(rt; records.rows(rt.alloc()).expect(&rt, "memory") == rows);
+    let tables = Tables::from_rows(rt.alloc(), &rows).expect(&rt, "memory");
+    assert!(rt; tables.rows().expect(&rt, "memory") == rows);
+}
+
+fn switch_of(rt: &impl Abort, alloc: Global, rows: &Rows) -> Switch
+    ensures { BreaksNoRule result }
+{
+    Switch::from_rows(alloc, rows).expect(rt, "rows that break no rule")
+}
+
+#[test]
+fn switch_of_an_office(rt: HostRuntime) {
+    let mut book = office(&rt, rt.alloc());
+    let rows = rows_of(&rt, &mut book);
+    let switch = switch_of(&rt, rt.alloc(), &rows);
+    look_ups::compare(&rt, &switch);
+    assert!(rt; switch.tables().queued_count() == 40);
+    assert!(rt; switch.rows().expect(&rt, "memory") == rows);
+}
+
+// All offers are taken back at one tick, each with three events.
+#[test]
+fn tick_of_an_office(rt: HostRuntime) {
+    let mut book = office(&rt, rt.alloc());
+    let mut switch = switch_of(&rt, rt.alloc(), &rows_of(&rt, &mut book));
+    assert!(rt; !switch.is_full());
+    let (_, events) = switch.step(20, &Command::Tick).expect(&rt, "memory");
+    assert_eq!(rt; events.len(), 60);
+    assert_eq!(rt; switch.tables().queued_count(), 60);
+    look_ups::compare(&rt, &switch);
+}
+
+// The desk takes twenty offers back at one tick, and twenty agents end their after-call work at another:
+// each reports it, and a call leaves its queue and rings.
+#[test]
+fn desk_of_an_office(rt: HostRuntime) {
+    let mut desk = opened(&rt, rt.alloc(), office(&rt, rt.alloc()));
+    let mut asking = Asking::new(rt.alloc(), 20, REQUESTS);
+    asking.ask(&rt, Command::Tick);
+    asking.ask_for(&rt, Pending::WorkingAfterCall);
+    asking.moment = 50;
+    asking.ask(&rt, Command::Tick);
+    run_all(&rt, &mut desk, &asking);
+    let mut book = desk.close();
+    let rows = rows_of(&rt, &mut book);
+    assert_eq!(rt; rows.last_event, EVENTS + 60 + 20 + 60);
+    look_ups::compare(&rt, &switch_of(&rt, rt.alloc(), &rows));
+}
+
+// The numbers of the events go on by one from the first.
+fn expect_numbers(rt: &impl Abort, events: &[Event], first: u64) {
+    let mut number = first;
+    for event in events {
+        assert_eq!(rt; event.number, number);
+        number = number.saturating_add(1);
+    }
+}
+
+#[test]
+fn events_of_an_office(rt: HostRuntime) {
+    let mut book = office(&rt, rt.alloc());
+    let events = events_of(&rt, &mut book);
+    assert_eq!(rt; events.len() as u64, EVENTS);
+    expect_numbers(&rt, &events, 1);
+    let some = book.events_after(101, 25).expect(&rt, "memory");
+    assert_eq!(rt; some.len(), 25);
+    expect_numbers(&rt, &some, 102);
+}
+
+// How many events of a group's monitor, at most.
+fn count_of_monitor(rt: &impl Abort, book: &mut MemoryBook, monitor: u64, limit: usize) -> usize {
+    let events = book.events_of_monitor(monitor, 0, limit);
+    events.expect(rt, "memory").len()
+}
+
+// Five calls enter each queue; in the first group one of them leaves it, and in the second two.
+#[test]
+fn monitors_of_an_office(rt: HostRuntime) {
+    let mut book = office(&rt, rt.alloc());
+    assert_eq!(rt; count_of_monitor(&rt, &mut book, 1, reports::ALL), 6);
+    assert_eq!(rt; count_of_monitor(&rt, &mut book, 2, reports::ALL), 7);
+    assert_eq!(rt; count_of_monitor(&rt, &mut book, 2, 4), 4);
+    assert_eq!(rt; count_of_monitor(&rt, &mut book, 12, reports::ALL), 6);
+    assert_eq!(rt; count_of_monitor(&rt, &mut book, 13, reports::ALL), 0);
+}
+
+fn stamp_after(rt: &impl Abort, book: &mut MemoryBook, stamp: u64) -> Option<u64> {
+    match book.kept_after(stamp).expect(rt, "memory") {
+        Some(kept) => Some(kept.stamp),
+        None => None,
+    }
+}
+
+fn stamp_of(rt: &impl Abort, book: &mut MemoryBook, invoke: u64) -> Option<u64> {
+    let key = request(rt, invoke, Command::Tick);
+    match book.kept(&key.requester, key.invoke).expect(rt, "memory") {
+        Some(kept) => Some(kept.stamp),
+        None => None,
+    }
+}
+
+#[test]
+fn kept_replies_of_an_office(rt: HostRuntime) {
+    let mut book = office(&rt, rt.alloc());
+    for stamp in [1, 12, 111, REQUESTS] {
+        assert_eq!(rt;
+            stamp_after(&rt, &mut book, stamp.saturating_sub(1)),
+            Some(stamp)
+        );
+        assert_eq!(rt; stamp_of(&rt, &mut book, stamp), Some(stamp));
+    }
+    assert_eq!(rt; stamp_after(&rt, &mut book, REQUESTS), None);
+    assert_eq!(rt; stamp_of(&rt, &mut book, REQUESTS + 1), None);
+}
+
+fn first_record(rt: &impl Abort, alloc: Global) -> Kept {
+    Kept {
+        stamp: 1,
+        moment: 0,
+        request: request(rt, 1, Command::Tick),
+        status: 200,
+        body: Text::new(String::from_str(alloc, "{}").expect(rt, "memory")),
+    }
+}
+
+// A book takes all tables and all events by one commit.
+#[test]
+fn commit_of_an_office(rt: HostRuntime) {
+    let mut book = office(&rt, rt.alloc());
+    let rows = rows_of(&rt, &mut book);
+    let events = events_of(&rt, &mut book);
+    let mut copy = MemoryBook::new(rt.alloc(), Limits::GREATEST);
+    let record = first_record(&rt, rt.alloc());
+    copy.commit(&rows, &events, &record).expect(&rt, "memory");
+    assert!(rt; rows_of(&rt, &mut copy) == rows);
+    assert!(rt; events_of(&rt, &mut copy).as_slice() == events.as_slice());
+    // its record goes on from the first
+    let again = copy.commit(&rows, &[], &record);
+    assert!(rt; matches!(again, Err(BookFault::NoMemory)));
+}
