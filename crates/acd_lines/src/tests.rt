@@ -16,6 +16,9 @@ const GROUP: &str =
 const STATION: &str =
     "0 {\"requester\":\"plan\",\"invoke\":2,\"service\":\"addStation\",\"device\":\"201\"}\n";
 
+const SECOND_STATION: &str =
+    "0 {\"requester\":\"plan\",\"invoke\":3,\"service\":\"addStation\",\"device\":\"202\"}\n";
+
 const CALL: &str =
     "10 {\"requester\":\"pbx\",\"invoke\":1,\"service\":\"arriveCall\",\"caller\":\"0301234\",\"called\":\"100\"}\n";
 
@@ -176,13 +179,13 @@ fn full_desk(rt: HostRuntime) -> Result<(), Fail> {
     };
     let mut desk = opened(rt.alloc(), limits)?;
     let mut input = Vec::new(rt.alloc());
-    for text in [GROUP, STATION, CALL, STATION] {
+    for text in [GROUP, STATION, SECOND_STATION, STATION] {
         input.extend_from_slice(text.as_bytes())?;
     }
     let mut written = Vec::new(rt.alloc());
     let mut wanted = Vec::new(rt.alloc());
     let full =
-        "507 {\"error\":{\"code\":32,\"name\":\"deskFull\"},\"invoke\":1,\"requester\":\"pbx\"}\n";
+        "507 {\"error\":{\"code\":32,\"name\":\"deskFull\"},\"invoke\":3,\"requester\":\"plan\"}\n";
     for text in [GROUP_ANSWER, STATION_ANSWER, full, STATION_ANSWER] {
         wanted.extend_from_slice(text.as_bytes())?;
     }
