@@ -1,0 +1,6 @@
+mod Making
+mod KeyedRows
+mod Scans
+mod Statements
+mod Upserts
+mod Puts

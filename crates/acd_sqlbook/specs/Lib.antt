@@ -1,0 +1,4 @@
+pub mod Schema
+pub mod Texts
+pub mod Making
+pub mod Rows

@@ -1,0 +1,1 @@
+//! Makes a book.
