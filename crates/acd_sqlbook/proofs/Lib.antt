@@ -4,3 +4,6 @@ mod Scans
 mod Statements
 mod Upserts
 mod Puts
+mod Frames
+mod Texts
+mod Writes

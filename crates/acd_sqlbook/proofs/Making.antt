@@ -7,7 +7,7 @@ use Rattle.sqlite.specs.Change.{created}
 use Rattle.sqlite.specs.Listing.{understood}
 use Rattle.sqlite_tied.specs.Compute.{everything}
 use Rattle.acd_sqlbook.specs.Schema.{Layout, table_of, no_schema, book_schema, meta, groups, stations, agents, calls, connections, monitors, events, kept}
-use Rattle.acd_sqlbook.specs.Texts.{make_meta, make_groups, make_stations, make_agents, make_calls, make_connections, make_monitors, make_events, make_kept}
+use Rattle.acd_sqlbook.proofs.Texts.{make_meta, make_groups, make_stations, make_agents, make_calls, make_connections, make_monitors, make_events, make_kept}
 use Rattle.acd_sqlbook.specs.Making.{Makes}
 
 -- the table, before its tree is chosen

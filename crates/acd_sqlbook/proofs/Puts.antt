@@ -26,9 +26,11 @@ use Rattle.sqlite.specs.Effect.{value_rows}
 use Rattle.sqlite.specs.Rows.{shown}
 use Rattle.sqlite.specs.State.{State, Executes}
 use Rattle.acd_terms.specs.Lists.{Among, IsAscending, put_by}
+use Rattle.acd_laws.proofs.Lists.{ascending-put}
 use Rattle.acd_sqlbook.specs.Rows.{id_value}
+use Rattle.acd_sqlbook.specs.Content.{AreRows}
 use Rattle.acd_sqlbook.specs.Schema.{Layout, table_of}
-use Rattle.acd_sqlbook.proofs.KeyedRows.{by_key, id_tied, put_left, only_one, puts, row_of, same_number}
+use Rattle.acd_sqlbook.proofs.KeyedRows.{by_key, by_key_total, id_tied, put_left, only_one, puts, row_of, same_number}
 use Rattle.acd_sqlbook.proofs.Scans.{showing, passing, taken_out, found_rows}
 use Rattle.acd_sqlbook.proofs.Statements.{Insertion, insertion_edit, inserted, Replaces, replaces}
 use Rattle.acd_sqlbook.proofs.Upserts.{Upsertion, Way, put, changed, new_row, upserted}
@@ -131,7 +133,7 @@ module _ {R : Type 0} (schema : Schema) (text : List ℕ) (key : R → ℕ) (row
       news ∙ cast ∙ ap (put_row (row r)) out ∙ puts key row keyed r (filter (λ y. not (key y == key r)) rs) ∙ ap (map row) (put_left key r rs up)
 
   ways : (r : R) (rs : List R) (limit : Option ℕ) (db : Trees) (edit : Edit) → db u.it.layout.tree ≡ map row rs → IsAscending (by_key key) rs
-      → Way schema u.it.layout limit (params r) (0 ∷ []) u.it.tests u.it.project u.it.low db (row r) edit → edited db edit ≡ map row (put_by (by_key key r) rs r)
+      → Way schema u.it.layout limit (params r) (0 ∷ []) u.it.tests u.it.project db (row r) edit → edited db edit ≡ map row (put_by (by_key key r) rs r)
   ways r rs limit db edit is up (put none e) =
       ap (edited db) e ∙ ap (λ k. put_row k (db u.it.layout.tree)) (u.files.casts r) ∙ ap (put_row (row r)) is ∙ puts key row keyed r rs
   ways r rs limit db edit is up (changed there more rows are found e) =
@@ -148,6 +150,25 @@ module _ {R : Type 0} (schema : Schema) (text : List ℕ) (key : R → ℕ) (row
       let db = old.now.trees in
       let done = upserted schema text u.it (params r) (row r) old new count has (u.source r) ran in
       let own = ap (with_rowid Chosen (db u.it.layout.tree)) (u.files.casts r) ∙ number_kept (db u.it.layout.tree) (row r) (key r) (u.files.headed r) in
-      let way = subst₂ (λ k t. Way schema u.it.layout old.step_limit (params r) t u.it.tests u.it.project u.it.low db k done.0) own u.by_number done.1 in
+      let way = subst₂ (λ k t. Way schema u.it.layout old.step_limit (params r) t u.it.tests u.it.project db k done.0) own u.by_number done.1 in
       subst (λ (t : ℕ). Replaces schema t (map row (put_by (by_key key r) rs r)) old new) (ap (λ (t : Table). t.tree) done.2)
       (replaces schema old new done.0 _ done.3 (ways r rs old.step_limit db done.0 is up way))
+
+-- ---- records in ascending key
+
+pub record Put {R : Type 0} (schema : Schema) (tree : ℕ) (key : R → ℕ) (row : R → Row) (r : R) (rs : List R) (old new : State) : Type 0 where
+  pub replaces : Replaces schema tree (map row (put_by (by_key key r) rs r)) old new
+  pub are_rows : AreRows key row (map row (put_by (by_key key r) rs r)) (put_by (by_key key r) rs r)
+
+are_put : {R : Type 0} (key : R → ℕ) (row : R → Row) (r : R) (rs : List R) → IsAscending (by_key key) rs → AreRows key row (map row (put_by (by_key key r) rs r)) (put_by (by_key key r) rs r)
+are_put key row r rs up = record { rows_are = refl; ascending = ascending-put (by_key key) (by_key_total key) r rs up }
+
+pub inserted_row : {R : Type 0} (schema : Schema) (text : List ℕ) (key : R → ℕ) (row params : R → Row) (i : Inserts schema text key row params) (r : R) (rs : List R) (old new : State) (count : ℕ)
+    → old.now.schema ≡ schema → AreRows key row (old.now.trees i.it.layout.tree) rs → Executes text (params r) old new (Ok count) → Put schema i.it.layout.tree key row r rs old new
+inserted_row schema text key row params i r rs old new count has are ran =
+    record { replaces = inserts schema text key row params i r rs old new count has are.rows_are ran; are_rows = are_put key row r rs are.ascending }
+
+pub upserted_row : {R : Type 0} (schema : Schema) (text : List ℕ) (key : R → ℕ) (row params : R → Row) (u : Upserts schema text key row params) (r : R) (rs : List R) (old new : State) (count : ℕ)
+    → old.now.schema ≡ schema → AreRows key row (old.now.trees u.it.layout.tree) rs → Executes text (params r) old new (Ok count) → Put schema u.it.layout.tree key row r rs old new
+upserted_row schema text key row params u r rs old new count has are ran =
+    record { replaces = upserts schema text key row params u r rs old new count has are.rows_are are.ascending ran; are_rows = are_put key row r rs are.ascending }

@@ -1,6 +1,6 @@
 -- A query over one table, and the rows that a DELETE takes out by it.
 use Rattle.std.proofs.Common.{◌≡◌, ◌⊎◌, inl, inr, ℕ, ℤ, pos, negsuc, List, [], ◌∷◌, ◌++◌, map, filter, Bool, true, false, not, ◌==◌, ◌&&◌, ◌||◌, cond, None, Some, refl, sym, ap, subst, ◌∙◌}
-use Rattle.std.proofs.Common.{append_assoc}
+use Rattle.std.proofs.Common.{append_assoc, unwrap_or, Option}
 use Rattle.acd_sqlbook.specs.Rows.{id_value}
 use Rattle.acd_sqlbook.proofs.KeyedRows.{id_tied, same_number, own_number}
 use Rattle.std.specs.List.{list_any, list_all, flat_map, AllByRecursion}
@@ -41,13 +41,21 @@ shown_is : (q : Query) (params : Row) (rows : List Row) → map (λ (o : Output)
 shown_is q params [] = refl
 shown_is q params (r ∷ rs) = ap (λ t. showing params q.project r ∷ t) (shown_is q params rs)
 
+-- where a query has no table of its own
+no_table : (b : Bool) (rows : List Row) → unwrap_or (cond {A = Option (List Row)} b None None) rows ≡ rows
+no_table true rows = refl
+no_table false rows = refl
+
+nothing_over : (db : Trees) (t : ℕ) → overlay db [] t ≡ db t
+nothing_over db t = no_table _ (db t)
+
 -- the rows that pass, shown, in some order
-pub scanned : (t : ℕ) (terms project : List Term) (order : List (Term × Key)) (db : Trees) (params : Row) (rows : List Row) → overlay db [] t ≡ db t
+pub scanned : (t : ℕ) (terms project : List Term) (order : List (Term × Key)) (db : Trees) (params : Row) (rows : List Row)
     → IsProgramAnswer [] (scan t terms project order) db params rows → IsPermutation (map (showing params project) (passing params terms (db t))) rows
-scanned t terms project order db params rows low h =
+scanned t terms project order db params rows h =
     let q = scan t terms project order in
     let a : IsAnswer q (overlay db []) params rows = h Null in
-    let staged = a.grouped ∙ staged_is params terms (overlay db [] t) ∙ ap (λ (l : List Row). map (λ r. params ∷ r ∷ []) (passing params terms l)) low in
+    let staged = a.grouped ∙ staged_is params terms (overlay db [] t) ∙ ap (λ (l : List Row). map (λ r. params ∷ r ∷ []) (passing params terms l)) (nothing_over db t) in
     let kept = a.distinct ∙ ap (map (output q)) staged in
     let same = IsPermutation-map (λ (o : Output). o.1) _ a.ordered (subst (λ k. IsPermutation k a.ordered) kept a.same) in
     subst (λ l. IsPermutation l rows) (shown_is q params (passing params terms (db t))) (subst (IsPermutation (map (λ (o : Output). o.1) (map (output q) (map (λ r. params ∷ r ∷ []) (passing params terms (db t)))))) (sym a.shown) same)

@@ -148,7 +148,6 @@ pub record Deletion (schema : Schema) (text : List ℕ) : Type 0 where
   pub command : command_of (understood schema text) ≡ Delete at (record { lets = []; body = scan layout.tree terms (col 1 0 ∷ []) [] })
   pub plain : IsPlain (understood schema text)
   pub inert : (olds news : List Row) → action.works schema Enforced 0 layout.tree olds news ≡ []
-  pub low : (db : Trees) → overlay db [] layout.tree ≡ db layout.tree
 
 abbrev pub deletion_edit : {schema : Schema} {text : List ℕ} → Deletion schema text → List Row → Trees → Edit
 deletion_edit it rows db = edit_of db (table_of it.layout) (ids_of rows) Given 0 []
@@ -175,7 +174,7 @@ deleted schema text it params old new count has h =
     let trees : done.0.trees ≡ next.0 = ap (λ (it : Written). it.trees) (same_value next.2) in
     record {
       rows = read.0;
-      found = scanned it.layout.tree it.terms (col 1 0 ∷ []) [] db params read.0 (it.low db) read.1.answer;
+      found = scanned it.layout.tree it.terms (col 1 0 ∷ []) [] db params read.0 read.1.answer;
       changed = record {
         shown = w.shown;
         marks = w.marks;

@@ -45,9 +45,8 @@ pub record Upsertion (schema : Schema) (text : List ℕ) : Type 0 where
   pub command : command_of (understood schema text) ≡ InsertOr at Abort (Values terms width) (clause_of target layout.tree tests project ∷ [])
   pub plain : IsPlain (understood schema text)
   pub inert : (olds news : List Row) → action.works schema Enforced 0 layout.tree olds news ≡ []
-  pub low : (db : Trees) → overlay db [] layout.tree ≡ db layout.tree
 
-module _ (schema : Schema) (layout : Layout) (limit : Option ℕ) (params : Row) (target : List ℕ) (tests project : List Term) (low : (db : Trees) → overlay db [] layout.tree ≡ db layout.tree) (db : Trees) where
+module _ (schema : Schema) (layout : Layout) (limit : Option ℕ) (params : Row) (target : List ℕ) (tests project : List Term) (db : Trees) where
   abbrev task : Task
   task = record { limit = limit; keys = Enforced; schema = schema; table = table_of layout; params = params }
 
@@ -86,7 +85,7 @@ module _ (schema : Schema) (layout : Layout) (limit : Option ℕ) (params : Row)
       let next = went read.2 in
       let edit = edit_of db (table_of layout) (ids_of read.0) Given 1 read.0 in
       let trees : one.trees ≡ next.0 = ap (λ (it : Written). it.trees) (same_value next.2) in
-      (edit, changed there more read.0 are (scanned layout.tree tests project [] db (given_with new there) read.0 (low db) read.1.answer) refl, refl, subst (λ t. action.Writes schema Enforced db edit (Ok t)) (sym trees) next.1)
+      (edit, changed there more read.0 are (scanned layout.tree tests project [] db (given_with new there) read.0 read.1.answer) refl, refl, subst (λ t. action.Writes schema Enforced db edit (Ok t)) (sym trees) next.1)
 
   judged : (new : Row) (one : Written) (verdict : Option Refusal) → Judged task Abort (clause_of target layout.tree tests project ∷ []) new db verdict (Ok one) → Edits new one
   judged new one None h = meets new one h.0 h.1 h.2
@@ -113,7 +112,7 @@ module _ (schema : Schema) (layout : Layout) (limit : Option ℕ) (params : Row)
 
 pub upserted : (schema : Schema) (text : List ℕ) (it : Upsertion schema text) (params source : Row) (old new : State) (count : ℕ) → old.now.schema ≡ schema
     → value_rows params it.width (length it.terms / it.width) it.terms ≡ source ∷ [] → Executes text params old new (Ok count)
-    → (edit : Edit) × Way schema it.layout old.step_limit params it.target it.tests it.project it.low old.now.trees (new_row schema it.layout old.step_limit params it.target it.tests it.project it.low old.now.trees source) edit × (edit.table ≡ table_of it.layout) × Changed schema old new edit
+    → (edit : Edit) × Way schema it.layout old.step_limit params it.target it.tests it.project old.now.trees (new_row schema it.layout old.step_limit params it.target it.tests it.project old.now.trees source) edit × (edit.table ≡ table_of it.layout) × Changed schema old new edit
 upserted schema text it params source old new count has single h =
     let db = old.now.trees in
     let command = InsertOr it.at Abort (Values it.terms it.width) (clause_of it.target it.layout.tree it.tests it.project ∷ []) in
@@ -122,7 +121,7 @@ upserted schema text it params source old new count has single h =
     let does = subst (λ s. Does old.step_limit (mode_of old) params (record old.now { schema = s }) words None command (Ok (w.tally, new.now))) has w.changed in
     let done = went (at_place (λ (t : Table). OnRows (record { limit = old.step_limit; keys = Enforced; schema = schema; table = t; params = params }) (mode_of old) None command db) (slice_get schema.tables it.at) (table_of it.layout) (w.tally, new.now) it.place does) in
     let now : new.now ≡ record { schema = schema; trees = done.0.trees } = ap (λ (p : Tally × Database). p.1) (same_value (went (went done.2).2).2) in
-    let e = upserts_row schema it.layout old.step_limit params it.target it.tests it.project it.low db source it.terms it.width done.0 single done.1 in
+    let e = upserts_row schema it.layout old.step_limit params it.target it.tests it.project db source it.terms it.width done.0 single done.1 in
     let edit = e.0 in
     let inert : action.works schema Enforced 0 edit.table.tree (taken_by db edit) edit.news ≡ [] = subst (λ (t : Table). action.works schema Enforced 0 t.tree (taken_by db edit) edit.news ≡ []) (sym e.2) (it.inert (taken_by db edit) edit.news) in
     (edit, e.1, e.2, record {

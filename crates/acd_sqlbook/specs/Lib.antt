@@ -1,4 +1,5 @@
 pub mod Schema
-pub mod Texts
 pub mod Making
 pub mod Rows
+pub mod Content
+pub mod Draft

@@ -1,5 +1,5 @@
 -- The rows that stand for records. A row has its number first, and then its columns; the column that is the number is NULL there.
-use Rattle.std.specs.Prelude.{ℕ, pos, List, [], ◌∷◌, Option}
+use Rattle.std.specs.Prelude.{ℕ, ℤ, pos, List, [], ◌∷◌, Option}
 use Rattle.sqlite_value.specs.declared.value.Value.{Value}
 use Rattle.sqlite_value.specs.declared.value.Value.TheVariants.{Null, Int, Text}
 use Rattle.sqlite_value.specs.Order.{Row}
@@ -130,7 +130,7 @@ kept_values k =
     id_value k.stamp ∷ Text k.request.requester ∷ id_value k.request.invoke ∷ id_value k.moment ∷ Text (request_text k.request)
     ∷ id_value k.status ∷ Text k.body ∷ []
 
--- ---- the rows of the tables whose first column is their key
+-- ---- the rows: the column that is the number of the row is NULL
 
 abbrev pub keyed_row : Row → Row
 keyed_row [] = []
@@ -150,6 +150,10 @@ agent_row a = keyed_row (agent_values a)
 
 abbrev pub call_row : CallRecord → Row
 call_row c = keyed_row (call_values c)
+
+-- a connection's row has a number of its own
+abbrev pub connection_row : ℤ × ConnectionRecord → Row
+connection_row p = Int p.0 ∷ connection_values p.1
 
 abbrev pub monitor_row : MonitorRecord → Row
 monitor_row w = keyed_row (monitor_values w)

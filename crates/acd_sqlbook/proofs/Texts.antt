@@ -1,4 +1,4 @@
--- The texts that make the tables.
+-- The texts of the statements.
 use Rattle.std.specs.Prelude.{codes, List, ℕ}
 
 abbrev pub make_meta : List ℕ
@@ -27,3 +27,6 @@ make_events = codes "CREATE TABLE events (number INTEGER NOT NULL PRIMARY KEY, m
 
 abbrev pub make_kept : List ℕ
 make_kept = codes "CREATE TABLE kept (stamp INTEGER NOT NULL PRIMARY KEY, requester TEXT NOT NULL, invoke INTEGER NOT NULL, moment INTEGER NOT NULL, request TEXT NOT NULL, status INTEGER NOT NULL, body TEXT NOT NULL, UNIQUE (requester, invoke)) STRICT"
+
+abbrev pub put_group : List ℕ
+put_group = codes "INSERT INTO acd_groups (device, name, ring, wrap, entered, answered, abandoned, moved, waited) VALUES (?1, ?2, ?3, ?4, ?5, ?6, ?7, ?8, ?9) ON CONFLICT (device) DO UPDATE SET name = excluded.name, ring = excluded.ring, wrap = excluded.wrap, entered = excluded.entered, answered = excluded.answered, abandoned = excluded.abandoned, moved = excluded.moved, waited = excluded.waited"
