@@ -1,5 +1,5 @@
 -- A table whose rows are those of records with a key that is the row's number.
-use Rattle.std.proofs.Common.{◌≡◌, ℕ, pos, inl, inr, List, [], ◌∷◌, map, filter, not, ◌==◌, Bool, true, false, refl, sym, ap, subst, ◌∙◌, cond, arith, int_cmp}
+use Rattle.std.proofs.Common.{◌≡◌, ℕ, pos, inl, inr, List, [], ◌∷◌, map, filter, not, ◌==◌, Bool, true, false, refl, sym, ap, ◌∙◌, cond, arith}
 use Rattle.std.proofs.lemmas.Int.{ints}
 use Rattle.std.proofs.lemmas.Bool.Decides.{nat_tests}
 use Rattle.std.proofs.lemmas.Cmp.{nat_cmp_total}

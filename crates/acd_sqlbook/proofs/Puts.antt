@@ -1,9 +1,8 @@
 -- A record put into the table of its kind, by an INSERT or by an upsert on its key.
-use Rattle.std.proofs.Common.{◌≡◌, ◌⊎◌, inl, inr, ℕ, ◌/◌, pos, List, [], ◌∷◌, ◌++◌, drop, filter, length, map, not, Bool, true, false, ◌==◌, ◌&&◌, ◌||◌, Option, Some, None, Ok, refl, sym, ap, subst, subst₂, ◌∙◌}
+use Rattle.std.proofs.Common.{◌≡◌, inl, ℕ, ◌/◌, List, [], ◌∷◌, ◌++◌, drop, filter, length, map, not, Bool, true, false, ◌==◌, ◌&&◌, ◌||◌, Option, Some, Ok, refl, sym, ap, subst, subst₂, ◌∙◌}
 use Rattle.std.specs.Prelude.{bytes_eq}
 use Rattle.std.specs.List.{AllByRecursion, list_any, list_all}
 use Rattle.std.specs.List.Sorted.{IsPermutation}
-use Rattle.sqlite_value.specs.declared.value.Value.TheVariants.{Null, Int}
 use Rattle.sqlite_value.specs.Order.{Row, value_cmp}
 use Rattle.std.specs.Ordering.{is_eq}
 use Rattle.sqlite_value.specs.Keys.{plain, first_key}
@@ -14,12 +13,11 @@ use Rattle.sqlite_sql.specs.Ops.{binary, is_true, from_truth}
 use Rattle.sqlite_sql.specs.Term.{holds}
 use Rattle.sqlite_schema.specs.declared.schema.Index.{Index}
 use Rattle.sqlite_schema.specs.declared.schema.Schema.{Schema}
-use Rattle.sqlite_schema.specs.declared.schema.Keys.TheVariants.{Enforced}
 use Rattle.sqlite_rules.specs.declared.error.Rowids.TheVariants.{Chosen, Given}
 use Rattle.sqlite_rules.specs.Calls.{ids_of}
 use Rattle.sqlite_rules.specs.Cast.{cast_row}
 use Rattle.sqlite_rules.specs.Edit.{Edit, edit_of, edited, without_all, with_rowid, put_all, numbered as numbered_by}
-use Rattle.sqlite_rules.specs.Keys.{AreConflicts, conflicts, shares}
+use Rattle.sqlite_rules.specs.Keys.{conflicts, shares}
 use Rattle.sqlite_rules.specs.Lists.{Has}
 use Rattle.sqlite.proofs.Callers.{one_permutation}
 use Rattle.sqlite.specs.Effect.{value_rows}
@@ -33,7 +31,7 @@ use Rattle.acd_sqlbook.specs.Schema.{Layout, table_of}
 use Rattle.acd_sqlbook.proofs.KeyedRows.{by_key, by_key_total, id_tied, put_left, only_one, puts, row_of, same_number}
 use Rattle.acd_sqlbook.proofs.Scans.{showing, passing, taken_out, found_rows}
 use Rattle.acd_sqlbook.proofs.Statements.{Insertion, insertion_edit, inserted, Replaces, replaces}
-use Rattle.acd_sqlbook.proofs.Upserts.{Upsertion, Way, put, changed, new_row, upserted}
+use Rattle.acd_sqlbook.proofs.Upserts.{Upsertion, Way, put, changed, upserted}
 
 -- the records of a table, whose key is the number of their row
 pub record Files {R : Type 0} (layout : Layout) (key : R → ℕ) (row : R → Row) : Type 0 where

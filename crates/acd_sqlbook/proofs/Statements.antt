@@ -1,9 +1,8 @@
 -- What a statement does to the state of a connection, of any schema.
-use Rattle.std.proofs.Common.{◌≡◌, ◌≢◌, ◌⊎◌, inl, inr, ℕ, ◌/◌, pos, List, [], ◌∷◌, ◌++◌, length, map, slice_get, Bool, true, false, Some, None, Option, Ok, Err, Result, IsTrue, refl, sym, ap, subst, subst₂, ◌∙◌, append-nil, MatchBool, if◌then◌else◌, not, ◌==◌, IfOk}
+use Rattle.std.proofs.Common.{◌≡◌, ◌≢◌, ◌⊎◌, inl, inr, ℕ, ◌/◌, List, [], ◌∷◌, length, map, slice_get, Bool, true, false, Some, None, Option, Ok, Err, Result, IsTrue, refl, sym, ap, subst, subst₂, ◌∙◌, append-nil, if◌then◌else◌, ◌==◌}
 use Rattle.sqlite_value.specs.Order.{Row}
 use Rattle.sqlite_trees.specs.Tree.{Trees}
 use Rattle.sqlite_sql.specs.Term.{Term, col}
-use Rattle.sqlite_sql.specs.Program.{overlay}
 use Rattle.sqlite_schema.specs.declared.program.Program.{Program}
 use Rattle.std.specs.List.Sorted.{IsPermutation}
 use Rattle.sqlite_rules.specs.Calls.{ids_of}
@@ -15,21 +14,20 @@ use Rattle.sqlite_schema.specs.declared.schema.Reference.{Reference}
 use Rattle.sqlite_schema.specs.declared.schema.Action.TheVariants.{NoAction}
 use Rattle.sqlite_schema.specs.declared.schema.Keys.TheVariants.{Enforced}
 use Rattle.sqlite_schema.specs.declared.command.Source.TheVariants.{Values}
-use Rattle.sqlite_schema.specs.declared.command.Command.{Command}
 use Rattle.sqlite_schema.specs.declared.command.Command.TheVariants.{Insert, Delete}
 use Rattle.sqlite_rules.specs.declared.error.Rowids.TheVariants.{Chosen, Given}
 use Rattle.sqlite_rules.specs.Edit.{Edit, edit_of, edited, taken_by, Applies}
 use Rattle.sqlite_rules.specs.Action as action
-use Rattle.sqlite.specs.declared.run.Mode.{Mode}
 use Rattle.sqlite.specs.Does.{Tally, Does, AtPlace, OnRows}
-use Rattle.sqlite.specs.Rows.{Part, Task, Written, stamped, Inserts}
+use Rattle.sqlite.specs.Rows.{Part, Written, Inserts}
 use Rattle.sqlite.specs.Effect.{Database, value_rows}
 use Rattle.sqlite.specs.Listing.{understood}
-use Rattle.sqlite.specs.State.{State, mode_of, Writes, Shows, Executes, ExecutesIn, ExecutesInside}
+use Rattle.sqlite.specs.State.{State, mode_of, Shows, Executes, ExecutesInside, HasCleanDisk, KeepsCommit, Survives}
 use Rattle.sqlite.specs.declared.error.Error.{Error}
 use Rattle.std.proofs.lemmas.Bool.{cases_Bool}
 use Rattle.sqlite.proofs.Callers.{IsPlain, command_of, statement_of, runs_as, one_step}
 use Rattle.acd_sqlbook.specs.Schema.{Layout, table_of}
+use Rattle.acd_sqlbook.specs.Draft.{Works, Ran}
 
 -- a part that gave a value did not stop on the way
 pub went : {B E R : Type 0} {b : B} {Stops : E → Type 0} → ((stop : E) × Stops stop × (Ok b ≡ Err stop)) ⊎ R → R
@@ -129,13 +127,30 @@ inert_works schema h tree olds news = no_works schema tree olds news schema.tabl
 
 -- ---- inside a transaction
 
-pub ran_inside : (text : List ℕ) (params : Row) (old new : State) (e : Error) (r : Result ℕ Error) → (old.in_transaction ≡ false → r ≡ Err e) → (IsTrue old.in_transaction → ExecutesInside 0 text params old new r)
-    → IfOk r (λ count. Executes text params old new (Ok count))
-ran_inside text params old new e (Err x) ended runs = tt
-ran_inside text params old new e (Ok count) ended runs = elim (cases_Bool old.in_transaction) [
-  | inl inside ↦ (runs inside).0
+pub ran_inside : (text : List ℕ) (params : Row) (old new : State) (e : Error) (count : ℕ) → (old.in_transaction ≡ false → Ok count ≡ Err e) → (IsTrue old.in_transaction → ExecutesInside 0 text params old new (Ok count))
+    → Ran text params old new
+ran_inside text params old new e count ended runs = elim (cases_Bool old.in_transaction) [
+  | inl inside ↦ (count, (runs inside).0)
   | inr outside ↦ absurd (let k = ended outside in cc)
 ]
+
+kept_inside : (text : List ℕ) (params : Row) (old new : State) (r : Result ℕ Error) → ExecutesInside 0 text params old new r → KeepsCommit old new
+kept_inside text params old new (Ok count) h = record { was_open = λ up. h.1.was_open; committed = λ up. h.1.committed_is }
+kept_inside text params old new (Err e) (inl h) = elim h.1 [
+  | inl same ↦ record { was_open = λ up. same.0.was_open; committed = λ up. same.0.committed_is }
+  | inr back ↦ record { was_open = back.was_open; committed = λ up. (back.undone up).1 }
+]
+kept_inside text params old new (Err e) (inr h) = record { was_open = λ up. h.2.0.was_open; committed = λ up. h.2.0.committed_is }
+
+pub works_inside : (text : List ℕ) (params : Row) (old new : State) (r : Result ℕ Error) → Survives old new (λ _. ⊥) → (HasCleanDisk new → IsTrue old.in_transaction → ExecutesInside 0 text params old new r)
+    → (old.in_transaction ≡ false → new ≡ old) → Works old new
+works_inside text params old new r survives runs ended = record {
+  survives = survives;
+  kept = λ clean. elim (cases_Bool old.in_transaction) [
+    | inl inside ↦ kept_inside text params old new r (runs clean inside)
+    | inr outside ↦ subst (λ (s : State). KeepsCommit old s) (sym (ended outside)) (record { was_open = λ up. up; committed = λ up. refl })
+  ];
+}
 
 -- ---- DELETE
 

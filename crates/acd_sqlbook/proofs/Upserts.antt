@@ -1,14 +1,12 @@
 -- INSERT .. ON CONFLICT (some columns) DO UPDATE, of one row of values.
-use Rattle.std.proofs.Common.{◌≡◌, ◌⊎◌, inl, inr, ℕ, ℤ, ◌/◌, pos, List, [], ◌∷◌, ◌++◌, length, map, slice_get, Bool, true, false, Some, None, Option, Ok, Err, Result, IsTrue, refl, sym, ap, subst, subst₂, ◌∙◌, append-nil, if◌then◌else◌, not, ◌==◌}
+use Rattle.std.proofs.Common.{◌≡◌, inl, inr, ℕ, ℤ, ◌/◌, List, [], ◌∷◌, ◌++◌, length, map, slice_get, Some, None, Option, Ok, refl, sym, ap, subst, ◌∙◌, append-nil}
 use Rattle.std.specs.List.Sorted.{IsPermutation}
 use Rattle.sqlite_value.specs.Order.{Row}
 use Rattle.sqlite_trees.specs.Tree.{Trees, rowid}
 use Rattle.sqlite_sql.specs.Term.{Term}
-use Rattle.sqlite_sql.specs.Program.{overlay}
 use Rattle.sqlite_schema.specs.declared.schema.Table.{Table}
 use Rattle.sqlite_schema.specs.declared.schema.Schema.{Schema}
 use Rattle.sqlite_schema.specs.declared.schema.Keys.TheVariants.{Enforced}
-use Rattle.sqlite_schema.specs.declared.program.Program.{Program}
 use Rattle.sqlite_schema.specs.declared.command.Upsert.{Upsert}
 use Rattle.sqlite_schema.specs.declared.command.Conflict.TheVariants.{Abort}
 use Rattle.sqlite_schema.specs.declared.command.Source.TheVariants.{Values}
@@ -21,7 +19,7 @@ use Rattle.sqlite_rules.specs.Keys.{AreConflicts}
 use Rattle.sqlite_rules.specs.Edit.{Edit, edit_of, with_rowid, taken_by, Applies}
 use Rattle.sqlite_rules.specs.Action as action
 use Rattle.sqlite.specs.Does.{Tally, Does, OnRows}
-use Rattle.sqlite.specs.Rows.{Task, Written, nothing, shown, count_of, Puts, Clears, Updates, Meets, Upserts, Judged, Tries, TriesEach, InsertsOr}
+use Rattle.sqlite.specs.Rows.{Task, Written, nothing, shown, count_of, Puts, Clears, Meets, Upserts, Judged, Tries, TriesEach, InsertsOr}
 use Rattle.sqlite.specs.Effect.{Database, value_rows}
 use Rattle.sqlite.specs.Listing.{understood}
 use Rattle.sqlite.specs.State.{State, mode_of, Executes}
@@ -123,10 +121,14 @@ upserted schema text it params source old new count has single h =
     let now : new.now ≡ record { schema = schema; trees = done.0.trees } = ap (λ (p : Tally × Database). p.1) (same_value (went (went done.2).2).2) in
     let e = upserts_row schema it.layout old.step_limit params it.target it.tests it.project db source it.terms it.width done.0 single done.1 in
     let edit = e.0 in
-    let inert : action.works schema Enforced 0 edit.table.tree (taken_by db edit) edit.news ≡ [] = subst (λ (t : Table). action.works schema Enforced 0 t.tree (taken_by db edit) edit.news ≡ []) (sym e.2) (it.inert (taken_by db edit) edit.news) in
-    (edit, e.1, e.2, record {
-      shown = w.shown;
-      marks = w.marks;
-      schema_is = ap (λ (d : Database). d.schema) now;
-      applies = subst (Applies schema Enforced db edit) (sym (ap (λ (d : Database). d.trees) now)) (one_step schema Enforced db done.0.trees edit inert e.3);
-    })
+    let inert : action.works schema Enforced 0 edit.table.tree (taken_by db edit) edit.news ≡ [] = subst (λ (t : Table). action.works schema Enforced 0 t.tree (taken_by db edit) edit.news ≡ []) (sym e.2) (it.inert (taken_by db edit) edit.news) in (
+      edit,
+      e.1,
+      e.2,
+      record {
+        shown = w.shown;
+        marks = w.marks;
+        schema_is = ap (λ (d : Database). d.schema) now;
+        applies = subst (Applies schema Enforced db edit) (sym (ap (λ (d : Database). d.trees) now)) (one_step schema Enforced db done.0.trees edit inert e.3);
+      },
+    )

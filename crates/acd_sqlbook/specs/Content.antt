@@ -1,10 +1,10 @@
 -- What the trees of a database hold of a content.
 use Rattle.std.specs.Prelude.{◌≡◌, ℕ, ℤ, List, [], ◌∷◌, map, Ok}
-use Rattle.std.specs.List.Sorted.{IsPermutation}
 use Rattle.std.specs.Ordering.{nat_cmp}
-use Rattle.sqlite_value.specs.Order.{Row}
+use Rattle.sqlite_value.specs.Order.{Row, column}
 use Rattle.sqlite_trees.specs.Tree.{Trees, IsTable}
-use Rattle.acd_terms.specs.Lists.{Every, IsAscending}
+use Rattle.sqlite_rules.specs.Lists.{Has}
+use Rattle.acd_terms.specs.Lists.{Among, Every, IsAscending}
 use Rattle.acd_terms.specs.Rules.Plan.{connection_order}
 use Rattle.acd_terms.specs.declared.rows.Rows.{Rows}
 use Rattle.acd_terms.specs.declared.event.Event.{Event}
@@ -38,7 +38,12 @@ tree_of table.Kept = schema.kept.tree
 
 abbrev pub meta_of : Rows → Meta
 meta_of s = record {
-  limits = s.limits; last_stamp = s.last_stamp; last_moment = s.last_moment; last_call = s.last_call; last_monitor = s.last_monitor; last_event = s.last_event;
+  limits = s.limits;
+  last_stamp = s.last_stamp;
+  last_moment = s.last_moment;
+  last_call = s.last_call;
+  last_monitor = s.last_monitor;
+  last_event = s.last_event;
 }
 
 -- what a table holds
@@ -68,7 +73,12 @@ part table.Kept c = c.kept
 abbrev pub with_part : (t : Table) → Part t → Content → Content
 with_part table.Meta m c = record c {
   rows = record c.rows {
-    limits = m.limits; last_stamp = m.last_stamp; last_moment = m.last_moment; last_call = m.last_call; last_monitor = m.last_monitor; last_event = m.last_event;
+    limits = m.limits;
+    last_stamp = m.last_stamp;
+    last_moment = m.last_moment;
+    last_call = m.last_call;
+    last_monitor = m.last_monitor;
+    last_event = m.last_event;
   };
 }
 with_part table.Groups groups c = record c { rows = record c.rows { groups = groups } }
@@ -87,10 +97,12 @@ pub record AreRows {R : Type 0} (key : R → ℕ) (row : R → Row) (rows : List
 
 -- the rows of connections have numbers of their own, and stand in any order of keys
 pub record AreConnections (rows : List Row) (records : List ConnectionRecord) : Type 0 where
-  pub numbered : List (ℤ × ConnectionRecord)
-  pub rows_are : rows ≡ map connection_row numbered
   pub rising : IsTable rows
-  pub same : IsPermutation (map (λ (p : ℤ × ConnectionRecord). p.1) numbered) records
+  -- each row is that of a record, and each record has a row
+  pub known : (row : Row) → Has rows row → (id : ℤ) × (x : ConnectionRecord) × (row ≡ connection_row id x) × Among x records
+  pub stored : (x : ConnectionRecord) → Among x records → (id : ℤ) × Has rows (connection_row id x)
+  -- no two rows have one key
+  pub apart : (a b : Row) → Has rows a → Has rows b → column a 1 ≡ column b 1 → column a 2 ≡ column b 2 → a ≡ b
   pub ascending : IsAscending connection_order records
 
 -- what a request is kept as reads as the request

@@ -3,3 +3,5 @@ pub mod Making
 pub mod Rows
 pub mod Content
 pub mod Draft
+pub mod Commit
+pub mod Reading

@@ -1,5 +1,5 @@
 -- The rows that stand for records. A row has its number first, and then its columns; the column that is the number is NULL there.
-use Rattle.std.specs.Prelude.{ℕ, ℤ, pos, List, [], ◌∷◌, Option}
+use Rattle.std.specs.Prelude.{ℕ, ℤ, pos, [], ◌∷◌}
 use Rattle.sqlite_value.specs.declared.value.Value.{Value}
 use Rattle.sqlite_value.specs.declared.value.Value.TheVariants.{Null, Int, Text}
 use Rattle.sqlite_value.specs.Order.{Row}
@@ -152,8 +152,8 @@ abbrev pub call_row : CallRecord → Row
 call_row c = keyed_row (call_values c)
 
 -- a connection's row has a number of its own
-abbrev pub connection_row : ℤ × ConnectionRecord → Row
-connection_row p = Int p.0 ∷ connection_values p.1
+abbrev pub connection_row : ℤ → ConnectionRecord → Row
+connection_row id x = Int id ∷ connection_values x
 
 abbrev pub monitor_row : MonitorRecord → Row
 monitor_row w = keyed_row (monitor_values w)

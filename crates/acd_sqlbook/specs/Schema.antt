@@ -15,7 +15,6 @@ use Rattle.sqlite_schema.specs.declared.schema.Reference.{Reference}
 use Rattle.sqlite_schema.specs.declared.schema.Action.TheVariants.{NoAction}
 use Rattle.sqlite_schema.specs.declared.schema.Kind.{Kind}
 use Rattle.sqlite_schema.specs.declared.schema.Kind.TheVariants.{Integer, Text}
-use Rattle.sqlite_schema.specs.declared.schema.Stamps.{Stamps}
 
 -- ---- columns
 
@@ -50,14 +49,32 @@ pub record Layout : Type 0 where
 
 abbrev pub table_of : Layout → Table
 table_of l = record {
-  name = l.name; tree = l.tree; columns = l.columns; key = l.key; primary = l.primary; uniques = l.uniques; orders = l.orders; checks = l.checks;
-  references = l.references; computed = []; stamps = record { places = []; terms = []; formats = [] }; is_counted = false;
+  name = l.name;
+  tree = l.tree;
+  columns = l.columns;
+  key = l.key;
+  primary = l.primary;
+  uniques = l.uniques;
+  orders = l.orders;
+  checks = l.checks;
+  references = l.references;
+  computed = [];
+  stamps = record { places = []; terms = []; formats = [] };
+  is_counted = false;
 }
 
 -- a table whose first column is its key, with no more to say
 abbrev pub keyed : List ℕ → ℕ → List Column → Layout
 keyed name tree columns = record {
-  name = name; tree = tree; columns = columns; key = Some 0; primary = 0 ∷ []; uniques = []; orders = []; checks = []; references = [];
+  name = name;
+  tree = tree;
+  columns = columns;
+  key = Some 0;
+  primary = 0 ∷ [];
+  uniques = [];
+  orders = [];
+  checks = [];
+  references = [];
 }
 
 -- the value in a column, counted from 1, is one of these
@@ -74,28 +91,30 @@ unique name tree table columns = record { name = name; tree = tree; table = tabl
 
 abbrev pub meta : Layout
 meta = record (keyed (codes "meta") 0 (
-  number (codes "id") ∷ number (codes "version")
-  ∷ number (codes "max_requests") ∷ number (codes "max_calls") ∷ number (codes "max_groups") ∷ number (codes "max_stations") ∷ number (codes "max_agents") ∷ number (codes "max_monitors")
-  ∷ number (codes "last_stamp") ∷ number (codes "last_moment") ∷ number (codes "last_call") ∷ number (codes "last_monitor") ∷ number (codes "last_event") ∷ []
-)) { checks = op2 (Compare Eq Binary) (col 1 0) (lit (Int (pos 1))) ∷ [] }
+    number (codes "id") ∷ number (codes "version")
+    ∷ number (codes "max_requests") ∷ number (codes "max_calls") ∷ number (codes "max_groups") ∷ number (codes "max_stations") ∷ number (codes "max_agents") ∷ number (codes "max_monitors")
+    ∷ number (codes "last_stamp") ∷ number (codes "last_moment") ∷ number (codes "last_call") ∷ number (codes "last_monitor") ∷ number (codes "last_event") ∷ []
+    )) { checks = op2 (Compare Eq Binary) (col 1 0) (lit (Int (pos 1))) ∷ [] }
 
 abbrev pub groups : Layout
 groups = keyed (codes "acd_groups") 1 (
-  number (codes "device") ∷ text (codes "name") ∷ number (codes "ring") ∷ number (codes "wrap")
-  ∷ number (codes "entered") ∷ number (codes "answered") ∷ number (codes "abandoned") ∷ number (codes "moved") ∷ number (codes "waited") ∷ []
-)
+    number (codes "device") ∷ text (codes "name") ∷ number (codes "ring") ∷ number (codes "wrap")
+    ∷ number (codes "entered") ∷ number (codes "answered") ∷ number (codes "abandoned") ∷ number (codes "moved") ∷ number (codes "waited") ∷ []
+    )
 
 abbrev pub stations : Layout
 stations = keyed (codes "stations") 2 (number (codes "device") ∷ [])
 
 abbrev pub agents : Layout
 agents = record (keyed (codes "agents") 3 (
-  number (codes "agent") ∷ text (codes "name") ∷ number (codes "state") ∷ number_or_null (codes "pending") ∷ number_or_null (codes "station")
-  ∷ number_or_null (codes "grp") ∷ number (codes "stamp") ∷ number (codes "since") ∷ []
-)) {
-  uniques = (5 ∷ []) ∷ []; orders = plain ∷ []; checks = is_between 3 0 4 ∷ [];
-  references = refers 5 (codes "stations") ∷ refers 6 (codes "acd_groups") ∷ [];
-}
+    number (codes "agent") ∷ text (codes "name") ∷ number (codes "state") ∷ number_or_null (codes "pending") ∷ number_or_null (codes "station")
+    ∷ number_or_null (codes "grp") ∷ number (codes "stamp") ∷ number (codes "since") ∷ []
+    )) {
+      uniques = (5 ∷ []) ∷ [];
+      orders = plain ∷ [];
+      checks = is_between 3 0 4 ∷ [];
+      references = refers 5 (codes "stations") ∷ refers 6 (codes "acd_groups") ∷ [];
+    }
 
 abbrev pub agents_station : Index
 agents_station = unique (codes "sqlite_autoindex_agents_1") 4 3 (5 ∷ [])
@@ -109,7 +128,7 @@ connections = record {
   name = codes "connections";
   tree = 6;
   columns = number (codes "call") ∷ number (codes "device") ∷ number (codes "state") ∷ number_or_null (codes "grp") ∷ number_or_null (codes "place")
-    ∷ number_or_null (codes "queued") ∷ number_or_null (codes "offered") ∷ [];
+      ∷ number_or_null (codes "queued") ∷ number_or_null (codes "offered") ∷ [];
   key = None;
   primary = 1 ∷ 2 ∷ [];
   uniques = (1 ∷ 2 ∷ []) ∷ [];
@@ -126,14 +145,14 @@ monitors = keyed (codes "monitors") 8 (number (codes "monitor") ∷ number (code
 
 abbrev pub events : Layout
 events = record (keyed (codes "events") 9 (
-  number (codes "number") ∷ number (codes "moment") ∷ number (codes "kind") ∷ number_or_null (codes "device") ∷ number_or_null (codes "call")
-  ∷ number_or_null (codes "agent") ∷ number_or_null (codes "grp") ∷ number_or_null (codes "target") ∷ number_or_null (codes "cause") ∷ number_or_null (codes "waited") ∷ []
-)) { checks = is_between 3 1 18 ∷ [] }
+    number (codes "number") ∷ number (codes "moment") ∷ number (codes "kind") ∷ number_or_null (codes "device") ∷ number_or_null (codes "call")
+    ∷ number_or_null (codes "agent") ∷ number_or_null (codes "grp") ∷ number_or_null (codes "target") ∷ number_or_null (codes "cause") ∷ number_or_null (codes "waited") ∷ []
+    )) { checks = is_between 3 1 18 ∷ [] }
 
 abbrev pub kept : Layout
 kept = record (keyed (codes "kept") 10 (
-  number (codes "stamp") ∷ text (codes "requester") ∷ number (codes "invoke") ∷ number (codes "moment") ∷ text (codes "request") ∷ number (codes "status") ∷ text (codes "body") ∷ []
-)) { uniques = (2 ∷ 3 ∷ []) ∷ []; orders = plain ∷ [] }
+    number (codes "stamp") ∷ text (codes "requester") ∷ number (codes "invoke") ∷ number (codes "moment") ∷ text (codes "request") ∷ number (codes "status") ∷ text (codes "body") ∷ []
+    )) { uniques = (2 ∷ 3 ∷ []) ∷ []; orders = plain ∷ [] }
 
 abbrev pub kept_key : Index
 kept_key = unique (codes "sqlite_autoindex_kept_1") 11 10 (2 ∷ 3 ∷ [])
