@@ -19,6 +19,8 @@ mod create;
 mod fault;
 mod meta;
 mod read;
+#[cfg(test)]
+mod tests;
 mod write;
 
 pub use book::SqlBook;
