@@ -1,0 +1,68 @@
+-- The texts of the statements.
+use Rattle.std.specs.Prelude.{codes, List, ℕ}
+
+abbrev pub make_meta : List ℕ
+make_meta = codes "CREATE TABLE meta (id INTEGER NOT NULL PRIMARY KEY CHECK (id = 1), version INTEGER NOT NULL, max_requests INTEGER NOT NULL, max_calls INTEGER NOT NULL, max_groups INTEGER NOT NULL, max_stations INTEGER NOT NULL, max_agents INTEGER NOT NULL, max_monitors INTEGER NOT NULL, last_stamp INTEGER NOT NULL, last_moment INTEGER NOT NULL, last_call INTEGER NOT NULL, last_monitor INTEGER NOT NULL, last_event INTEGER NOT NULL) STRICT"
+
+abbrev pub make_groups : List ℕ
+make_groups = codes "CREATE TABLE acd_groups (device INTEGER NOT NULL PRIMARY KEY, name TEXT NOT NULL, ring INTEGER NOT NULL, wrap INTEGER NOT NULL, entered INTEGER NOT NULL, answered INTEGER NOT NULL, abandoned INTEGER NOT NULL, moved INTEGER NOT NULL, waited INTEGER NOT NULL) STRICT"
+
+abbrev pub make_stations : List ℕ
+make_stations = codes "CREATE TABLE stations (device INTEGER NOT NULL PRIMARY KEY) STRICT"
+
+abbrev pub make_agents : List ℕ
+make_agents = codes "CREATE TABLE agents (agent INTEGER NOT NULL PRIMARY KEY, name TEXT NOT NULL, state INTEGER NOT NULL CHECK (state BETWEEN 0 AND 4), pending INTEGER, station INTEGER UNIQUE REFERENCES stations, grp INTEGER REFERENCES acd_groups, stamp INTEGER NOT NULL, since INTEGER NOT NULL) STRICT"
+
+abbrev pub make_calls : List ℕ
+make_calls = codes "CREATE TABLE calls (call INTEGER NOT NULL PRIMARY KEY, caller INTEGER NOT NULL, called INTEGER NOT NULL, since INTEGER NOT NULL) STRICT"
+
+abbrev pub make_connections : List ℕ
+make_connections = codes "CREATE TABLE connections (call INTEGER NOT NULL REFERENCES calls, device INTEGER NOT NULL, state INTEGER NOT NULL CHECK (state BETWEEN 1 AND 6), grp INTEGER REFERENCES acd_groups, place INTEGER, queued INTEGER, offered INTEGER, PRIMARY KEY (call, device)) STRICT"
+
+abbrev pub make_monitors : List ℕ
+make_monitors = codes "CREATE TABLE monitors (monitor INTEGER NOT NULL PRIMARY KEY, device INTEGER NOT NULL, after_event INTEGER NOT NULL) STRICT"
+
+abbrev pub make_events : List ℕ
+make_events = codes "CREATE TABLE events (number INTEGER NOT NULL PRIMARY KEY, moment INTEGER NOT NULL, kind INTEGER NOT NULL CHECK (kind BETWEEN 1 AND 18), device INTEGER, call INTEGER, agent INTEGER, grp INTEGER, target INTEGER, cause INTEGER, waited INTEGER) STRICT"
+
+abbrev pub make_kept : List ℕ
+make_kept = codes "CREATE TABLE kept (stamp INTEGER NOT NULL PRIMARY KEY, requester TEXT NOT NULL, invoke INTEGER NOT NULL, moment INTEGER NOT NULL, request TEXT NOT NULL, status INTEGER NOT NULL, body TEXT NOT NULL, UNIQUE (requester, invoke)) STRICT"
+
+abbrev pub put_group : List ℕ
+put_group = codes "INSERT INTO acd_groups (device, name, ring, wrap, entered, answered, abandoned, moved, waited) VALUES (?1, ?2, ?3, ?4, ?5, ?6, ?7, ?8, ?9) ON CONFLICT (device) DO UPDATE SET name = excluded.name, ring = excluded.ring, wrap = excluded.wrap, entered = excluded.entered, answered = excluded.answered, abandoned = excluded.abandoned, moved = excluded.moved, waited = excluded.waited"
+
+abbrev pub put_station : List ℕ
+put_station = codes "INSERT INTO stations (device) VALUES (?1)"
+
+abbrev pub put_agent : List ℕ
+put_agent = codes "INSERT INTO agents (agent, name, state, pending, station, grp, stamp, since) VALUES (?1, ?2, ?3, ?4, ?5, ?6, ?7, ?8) ON CONFLICT (agent) DO UPDATE SET name = excluded.name, state = excluded.state, pending = excluded.pending, station = excluded.station, grp = excluded.grp, stamp = excluded.stamp, since = excluded.since"
+
+abbrev pub put_call : List ℕ
+put_call = codes "INSERT INTO calls (call, caller, called, since) VALUES (?1, ?2, ?3, ?4) ON CONFLICT (call) DO UPDATE SET caller = excluded.caller, called = excluded.called, since = excluded.since"
+
+abbrev pub put_monitor : List ℕ
+put_monitor = codes "INSERT INTO monitors (monitor, device, after_event) VALUES (?1, ?2, ?3) ON CONFLICT (monitor) DO UPDATE SET device = excluded.device, after_event = excluded.after_event"
+
+abbrev pub put_event : List ℕ
+put_event = codes "INSERT INTO events (number, moment, kind, device, call, agent, grp, target, cause, waited) VALUES (?1, ?2, ?3, ?4, ?5, ?6, ?7, ?8, ?9, ?10)"
+
+abbrev pub put_kept : List ℕ
+put_kept = codes "INSERT INTO kept (stamp, requester, invoke, moment, request, status, body) VALUES (?1, ?2, ?3, ?4, ?5, ?6, ?7)"
+
+abbrev pub put_meta : List ℕ
+put_meta = codes "INSERT INTO meta (id, version, max_requests, max_calls, max_groups, max_stations, max_agents, max_monitors, last_stamp, last_moment, last_call, last_monitor, last_event) VALUES (?1, ?2, ?3, ?4, ?5, ?6, ?7, ?8, ?9, ?10, ?11, ?12, ?13) ON CONFLICT (id) DO UPDATE SET version = excluded.version, max_requests = excluded.max_requests, max_calls = excluded.max_calls, max_groups = excluded.max_groups, max_stations = excluded.max_stations, max_agents = excluded.max_agents, max_monitors = excluded.max_monitors, last_stamp = excluded.last_stamp, last_moment = excluded.last_moment, last_call = excluded.last_call, last_monitor = excluded.last_monitor, last_event = excluded.last_event"
+
+abbrev pub drop_call : List ℕ
+drop_call = codes "DELETE FROM calls WHERE call = ?1"
+
+abbrev pub drop_monitor : List ℕ
+drop_monitor = codes "DELETE FROM monitors WHERE monitor = ?1"
+
+abbrev pub put_connection : List ℕ
+put_connection = codes "INSERT INTO connections (call, device, state, grp, place, queued, offered) VALUES (?1, ?2, ?3, ?4, ?5, ?6, ?7) ON CONFLICT (call, device) DO UPDATE SET state = excluded.state, grp = excluded.grp, place = excluded.place, queued = excluded.queued, offered = excluded.offered"
+
+abbrev pub drop_connection : List ℕ
+drop_connection = codes "DELETE FROM connections WHERE call = ?1 AND device = ?2"
+
+abbrev pub read_meta : List ℕ
+read_meta = codes "SELECT max_requests, max_calls, max_groups, max_stations, max_agents, max_monitors, last_stamp, last_moment, last_call, last_monitor, last_event FROM meta"

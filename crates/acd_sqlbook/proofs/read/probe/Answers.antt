@@ -1,0 +1,28 @@
+use Rattle.std.proofs.Common.{[]}
+use Rattle.sqlite.specs.Held.{state}
+use Rattle.sqlite.proofs.Callers.{never_commits}
+use Rattle.acd_sqlbook.proofs.Queries.{probe_text, probe_plain}
+use Rattle.acd_sqlbook.proofs.Queries.{quiet_unchanged, quiet_failed, quiet_stops, row_same, row_fails}
+use Rattle.acd_sqlbook.proofs.read.probe.Goals as goal
+
+pub returns-in_err-query_row-clause-quiet : goal.returns-in_err-query_row-clause-quiet
+returns-in_err-query_row-clause-quiet g c =
+    quiet_failed (state g.S.Store c.args.conn.now) (state g.S.Store c.query_row.new.self) c.query_row.ensures.survives
+    (λ clean. row_fails probe_text [] (state g.S.Store c.args.conn.now) (state g.S.Store c.query_row.new.self) c.in_err-query_row.field-0.0 (probe_plain _) (c.in_err-query_row.ensures.row clean))
+
+pub returns-in_err-query_row-clause-stops : goal.returns-in_err-query_row-clause-stops
+returns-in_err-query_row-clause-stops g c clean =
+    quiet_stops (state g.S.Store c.args.conn.now) (state g.S.Store c.query_row.new.self) c.query_row.ensures.survives clean (λ db. never_commits probe_text [] (state g.S.Store c.args.conn.now) db (probe_plain _))
+
+pub returns-clause-up : goal.returns-clause-up
+returns-clause-up g c clean =
+    (row_same probe_text [] (state g.S.Store c.args.conn.now) (state g.S.Store c.query_row.new.self) c.in_ok-query_row.field-0 (probe_plain _) (c.in_ok-query_row.ensures.row clean)).0.is_open
+
+pub returns-clause-quiet : goal.returns-clause-quiet
+returns-clause-quiet g c =
+    quiet_unchanged (state g.S.Store c.args.conn.now) (state g.S.Store c.query_row.new.self) c.query_row.ensures.survives
+    (λ clean. row_same probe_text [] (state g.S.Store c.args.conn.now) (state g.S.Store c.query_row.new.self) c.in_ok-query_row.field-0 (probe_plain _) (c.in_ok-query_row.ensures.row clean))
+
+pub returns-clause-stops : goal.returns-clause-stops
+returns-clause-stops g c clean =
+    quiet_stops (state g.S.Store c.args.conn.now) (state g.S.Store c.query_row.new.self) c.query_row.ensures.survives clean (λ db. never_commits probe_text [] (state g.S.Store c.args.conn.now) db (probe_plain _))

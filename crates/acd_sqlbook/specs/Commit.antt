@@ -1,0 +1,82 @@
+-- What a commit makes of a content, write by write.
+use Rattle.std.specs.Prelude.{ℕ, ◌+◌, List, [], ◌∷◌, ⊤, IfSome, max}
+use Rattle.std.specs.Ordering.{nat_cmp}
+use Rattle.acd_terms.specs.Columns.{columns_of}
+use Rattle.acd_terms.specs.Lists.{put_by}
+use Rattle.acd_terms.specs.Moves.{changed}
+use Rattle.acd_terms.specs.declared.event.Event.{Event}
+use Rattle.acd_terms.specs.declared.moves.Change.{Change}
+use Rattle.acd_terms.specs.declared.moves.Change.TheVariants.{Nothing, PutGroup, PutStation, PutAgent, PutCall, PutConnection, PutMonitor, RemoveCall, RemoveConnection, RemoveMonitor}
+use Rattle.acd_book.specs.Content.{Content}
+use Rattle.acd_book.specs.declared.kept.Kept.{Kept}
+use Rattle.acd_sqlbook.specs.declared.fault.Table.TheVariants as table
+use Rattle.acd_sqlbook.specs.declared.meta.Meta.{Meta}
+use Rattle.acd_sqlbook.specs.Content.{with_part}
+use Rattle.acd_sqlbook.specs.Draft.{Fits, FiguresFit}
+
+-- its numbers fit
+abbrev pub ChangeFits : Change → Type 0
+ChangeFits Nothing = ⊤
+ChangeFits (PutGroup g) = FiguresFit g.figures
+ChangeFits (PutStation s) = ⊤
+ChangeFits (PutAgent a) = Fits a.stamp
+ChangeFits (PutCall k) = Fits k.call
+ChangeFits (PutConnection x) = Fits x.call × IfSome x.place Fits
+ChangeFits (PutMonitor w) = Fits w.monitor × Fits w.after_event
+ChangeFits (RemoveCall call) = Fits call
+ChangeFits (RemoveConnection call device) = Fits call
+ChangeFits (RemoveMonitor monitor) = Fits monitor
+
+abbrev pub EventFits : Event → Type 0
+EventFits e = Fits e.number × IfSome (columns_of e.report).call Fits
+
+-- a change made in its table, with the counters as they were
+abbrev pub filed : Content → Change → Content
+filed c change = record c { rows = record (changed c.rows change) { last_call = c.rows.last_call; last_monitor = c.rows.last_monitor } }
+
+abbrev pub all_filed : Content → List Change → Content
+all_filed c [] = c
+all_filed c (change ∷ changes) = all_filed (filed c change) changes
+
+abbrev pub with_event : Content → Event → Content
+with_event c e = with_part table.Events (put_by (λ (x : Event). nat_cmp e.number x.number) c.events e) c
+
+abbrev pub with_events : Content → List Event → Content
+with_events c [] = c
+with_events c (e ∷ es) = with_events (with_event c e) es
+
+abbrev pub with_kept : Content → Kept → Content
+with_kept c k = with_part table.Kept (put_by (λ (x : Kept). nat_cmp k.stamp x.stamp) c.kept k) c
+
+-- the changes, the events, the kept record, and last the counters
+abbrev pub made_by : List Change → List Event → Kept → Meta → Content → Content
+made_by changes events kept meta c = with_part table.Meta meta (with_kept (with_events (all_filed c changes) events) kept)
+
+-- ---- the counters of a commit
+
+abbrev pub top_call : ℕ → Change → ℕ
+top_call last (PutCall k) = max last k.call
+top_call last _ = last
+
+abbrev pub top_monitor : ℕ → Change → ℕ
+top_monitor last (PutMonitor w) = max last w.monitor
+top_monitor last _ = last
+
+abbrev pub last_call : ℕ → List Change → ℕ
+last_call last [] = last
+last_call last (change ∷ changes) = last_call (top_call last change) changes
+
+abbrev pub last_monitor : ℕ → List Change → ℕ
+last_monitor last [] = last
+last_monitor last (change ∷ changes) = last_monitor (top_monitor last change) changes
+
+-- those after a commit of so many events
+abbrev pub counted : Meta → List Change → ℕ → Kept → Meta
+counted m changes events k = record {
+  limits = m.limits;
+  last_stamp = k.stamp;
+  last_moment = k.moment;
+  last_call = last_call m.last_call changes;
+  last_monitor = last_monitor m.last_monitor changes;
+  last_event = m.last_event + events;
+}

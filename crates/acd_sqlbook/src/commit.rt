@@ -1,0 +1,259 @@
+//! All writes of a commit, in one transaction.
+
+ghost use Rattle.std.specs.Prelude.{◌≡◌, false, IfSome, OnOk, OnErr, IsTrue, take};
+ghost use Rattle.sqlite.specs.State.{HasCleanDisk};
+ghost use Rattle.sqlite.specs.Held.{state};
+ghost use Rattle.acd_codec.specs.RequestTexts.{request_text};
+ghost use Rattle.acd_book.specs.Content.{Content};
+ghost use Rattle.acd_sqlbook.specs.Commit.{ChangeFits, EventFits, filed, all_filed, with_event, with_events, made_by, top_call, top_monitor, last_call, last_monitor, counted};
+ghost use Rattle.acd_sqlbook.specs.Draft.{Drafts, Works, Holds, AddsStop, Fits, FiguresFit, MetaFits};
+
+use crate::meta::Meta;
+use crate::write::{
+    drop_call, drop_connection, drop_monitor, put_agent, put_call, put_connection, put_event,
+    put_group, put_kept, put_meta, put_monitor, put_station,
+};
+use acd_book::Kept;
+use acd_terms::{Change, Event, Figures};
+use sqlite::{Alter, Connection, Error, ErrorCode, Transaction};
+
+// Whether an INTEGER column can hold the number.
+fn fits(number: u64) -> bool
+    ensures { IsTrue result → Fits number }
+{
+    number <= i64::MAX as u64
+}
+
+fn figures_fit(figures: &Figures) -> bool
+    ensures { IsTrue result → FiguresFit figures.now }
+{
+    fits(figures.entered)
+        && fits(figures.answered)
+        && fits(figures.abandoned)
+        && fits(figures.moved)
+        && fits(figures.waited)
+}
+
+fn place_fits(place: Option<u64>) -> bool
+    ensures { IsTrue result → IfSome place Fits }
+{
+    match place {
+        Some(place) => fits(place),
+        None => true,
+    }
+}
+
+fn change_fits(change: &Change) -> bool
+    ensures { IsTrue result → ChangeFits change.now }
+{
+    match change {
+        Change::Nothing | Change::PutStation(_) => true,
+        Change::PutGroup(group) => figures_fit(&group.figures),
+        Change::PutAgent(agent) => fits(agent.stamp),
+        Change::PutCall(call) => fits(call.call),
+        Change::PutConnection(connection) => {
+            fits(connection.call) && place_fits(connection.place)
+        }
+        Change::PutMonitor(monitor) => fits(monitor.monitor) && fits(monitor.after_event),
+        Change::RemoveCall(call) | Change::RemoveConnection(call, _) => fits(*call),
+        Change::RemoveMonitor(monitor) => fits(*monitor),
+    }
+}
+
+fn event_fits(event: &Event) -> bool
+    ensures { IsTrue result → EventFits event.now }
+{
+    fits(event.number) && place_fits(event.report.columns().call)
+}
+
+// A number is too large for its column.
+fn too_large() -> Error {
+    Error::SqliteFailure(ErrorCode::TooBig)
+}
+
+// Makes a change in its table.
+fn make_change<S: Alter>(tx: &mut Transaction<'_, S>, change: &Change) -> Result<(), Error>
+    requires { ChangeFits change.now }
+    ensures same { tx.new.conn.ghost_name ≡ tx.old.conn.ghost_name }
+    ensures works { Works (state S.Store tx.old.conn.now) (state S.Store tx.new.conn.now) }
+    ensures put { HasCleanDisk (state S.Store tx.new.conn.now) → OnOk result ((c : Content) → Drafts (state S.Store tx.old.conn.now) c → Drafts (state S.Store tx.new.conn.now) (filed c change.now)) }
+{
+    match change {
+        Change::Nothing => Ok(()),
+        Change::PutGroup(group) => put_group(tx, group),
+        Change::PutStation(station) => put_station(tx, station),
+        Change::PutAgent(agent) => put_agent(tx, agent),
+        Change::PutCall(call) => put_call(tx, call),
+        Change::PutConnection(connection) => put_connection(tx, connection),
+        Change::PutMonitor(monitor) => put_monitor(tx, monitor),
+        Change::RemoveCall(call) => drop_call(tx, *call),
+        Change::RemoveConnection(call, device) => drop_connection(tx, *call, *device),
+        Change::RemoveMonitor(monitor) => drop_monitor(tx, *monitor),
+    }
+}
+
+fn write_change<S: Alter>(tx: &mut Transaction<'_, S>, change: &Change) -> Result<(), Error>
+    ensures same { tx.new.conn.ghost_name ≡ tx.old.conn.ghost_name }
+    ensures works { Works (state S.Store tx.old.conn.now) (state S.Store tx.new.conn.now) }
+    ensures put { HasCleanDisk (state S.Store tx.new.conn.now) → OnOk result ((c : Content) → Drafts (state S.Store tx.old.conn.now) c → Drafts (state S.Store tx.new.conn.now) (filed c change.now)) }
+{
+    if !change_fits(change) {
+        return Err(too_large());
+    }
+    make_change(tx, change)
+}
+
+fn write_changes<S: Alter>(tx: &mut Transaction<'_, S>, changes: &[Change]) -> Result<(), Error>
+    ensures same { tx.new.conn.ghost_name ≡ tx.old.conn.ghost_name }
+    ensures works { Works (state S.Store tx.old.conn.now) (state S.Store tx.new.conn.now) }
+    ensures put { HasCleanDisk (state S.Store tx.new.conn.now) → OnOk result ((c : Content) → Drafts (state S.Store tx.old.conn.now) c → Drafts (state S.Store tx.new.conn.now) (all_filed c changes.now)) }
+{
+    for change in changes {
+        write_change(tx, change)?;
+    }
+    Ok(())
+}
+
+fn write_event<S: Alter>(tx: &mut Transaction<'_, S>, event: &Event) -> Result<(), Error>
+    ensures same { tx.new.conn.ghost_name ≡ tx.old.conn.ghost_name }
+    ensures works { Works (state S.Store tx.old.conn.now) (state S.Store tx.new.conn.now) }
+    ensures put { HasCleanDisk (state S.Store tx.new.conn.now) → OnOk result ((c : Content) → Drafts (state S.Store tx.old.conn.now) c → Drafts (state S.Store tx.new.conn.now) (with_event c event.now)) }
+{
+    if !event_fits(event) {
+        return Err(too_large());
+    }
+    put_event(tx, event)
+}
+
+fn write_events<S: Alter>(tx: &mut Transaction<'_, S>, events: &[Event]) -> Result<(), Error>
+    ensures same { tx.new.conn.ghost_name ≡ tx.old.conn.ghost_name }
+    ensures works { Works (state S.Store tx.old.conn.now) (state S.Store tx.new.conn.now) }
+    ensures put { HasCleanDisk (state S.Store tx.new.conn.now) → OnOk result ((c : Content) → Drafts (state S.Store tx.old.conn.now) c → Drafts (state S.Store tx.new.conn.now) (with_events c events.now)) }
+{
+    for event in events {
+        write_event(tx, event)?;
+    }
+    Ok(())
+}
+
+fn top_call(last: u64, change: &Change) -> u64
+    ensures { result ≡ top_call last change.now }
+{
+    match change {
+        Change::PutCall(call) => last.max(call.call),
+        Change::Nothing
+        | Change::PutGroup(_)
+        | Change::PutStation(_)
+        | Change::PutAgent(_)
+        | Change::PutConnection(_)
+        | Change::PutMonitor(_)
+        | Change::RemoveCall(_)
+        | Change::RemoveConnection(_, _)
+        | Change::RemoveMonitor(_) => last,
+    }
+}
+
+// The greatest call number of these, or the last one.
+fn last_call(last: u64, changes: &[Change]) -> u64
+    ensures { result ≡ last_call last changes.now }
+{
+    let mut top = last;
+    for change in changes {
+        top = top_call(top, change);
+    }
+    top
+}
+
+fn top_monitor(last: u64, change: &Change) -> u64
+    ensures { result ≡ top_monitor last change.now }
+{
+    match change {
+        Change::PutMonitor(monitor) => last.max(monitor.monitor),
+        Change::Nothing
+        | Change::PutGroup(_)
+        | Change::PutStation(_)
+        | Change::PutAgent(_)
+        | Change::PutCall(_)
+        | Change::PutConnection(_)
+        | Change::RemoveCall(_)
+        | Change::RemoveConnection(_, _)
+        | Change::RemoveMonitor(_) => last,
+    }
+}
+
+// The greatest monitor number of these, or the last one.
+fn last_monitor(last: u64, changes: &[Change]) -> u64
+    ensures { result ≡ last_monitor last changes.now }
+{
+    let mut top = last;
+    for change in changes {
+        top = top_monitor(top, change);
+    }
+    top
+}
+
+/// The counters after a commit, where there are numbers for its events.
+pub(crate) fn counted(meta: &Meta, changes: &[Change], events: u64, kept: &Kept) -> Option<Meta>
+    ensures { IfSome result (λ m. m ≡ counted meta.now changes.now events kept.now) }
+{
+    let last_event = meta.last_event.checked_add(events)?;
+    Some(Meta {
+        limits: meta.limits,
+        last_stamp: kept.stamp,
+        last_moment: kept.moment,
+        last_call: last_call(meta.last_call, changes),
+        last_monitor: last_monitor(meta.last_monitor, changes),
+        last_event,
+    })
+}
+
+fn write_all<S: Alter>(
+    tx: &mut Transaction<'_, S>,
+    changes: &[Change],
+    events: &[Event],
+    kept: &Kept,
+    request: &str,
+    meta: &Meta,
+) -> Result<(), Error>
+    requires stamp { Fits kept.now.stamp }
+    requires request { request.now ≡ request_text kept.now.request }
+    requires meta { MetaFits meta.now }
+    ensures same { tx.new.conn.ghost_name ≡ tx.old.conn.ghost_name }
+    ensures works { Works (state S.Store tx.old.conn.now) (state S.Store tx.new.conn.now) }
+    ensures put { HasCleanDisk (state S.Store tx.new.conn.now) → OnOk result ((c : Content) → Drafts (state S.Store tx.old.conn.now) c
+        → Drafts (state S.Store tx.new.conn.now) (made_by changes.now events.now kept.now meta.now c)) }
+{
+    write_changes(tx, changes)?;
+    write_events(tx, events)?;
+    put_kept(tx, kept, request)?;
+    put_meta(tx, meta)?;
+    Ok(())
+}
+
+/// Writes all of it in one transaction, whose end alone adds to the stops.
+pub(crate) fn commit_all<S: Alter>(
+    conn: &mut Connection<S>,
+    changes: &[Change],
+    events: &[Event],
+    kept: &Kept,
+    request: &str,
+    meta: &Meta,
+) -> Result<(), Error>
+    requires stamp { Fits kept.now.stamp }
+    requires request { request.now ≡ request_text kept.now.request }
+    requires meta { MetaFits meta.now }
+    requires idle { conn.old.in_transaction ≡ false }
+    ensures idle { conn.new.in_transaction ≡ false }
+    ensures done { HasCleanDisk (state S.Store conn.new) → OnOk result ((c : Content) → Holds (state S.Store conn.old) c
+        → Holds (state S.Store conn.new) (made_by changes.now events.now kept.now meta.now c)) }
+    ensures clean { HasCleanDisk (state S.Store conn.new) → HasCleanDisk (state S.Store conn.old) }
+    ensures up { HasCleanDisk (state S.Store conn.new) → OnOk result (IsTrue (state S.Store conn.old).is_open × IsTrue (state S.Store conn.new).is_open) }
+    ensures was { HasCleanDisk (state S.Store conn.new) → IsTrue (state S.Store conn.new).is_open → IsTrue (state S.Store conn.old).is_open }
+    ensures undone { HasCleanDisk (state S.Store conn.new) → OnErr result ((c : Content) → Holds (state S.Store conn.old) c
+        → IsTrue (state S.Store conn.new).is_open → Holds (state S.Store conn.new) c) }
+    ensures stops { HasCleanDisk (state S.Store conn.new) → AddsStop (state S.Store conn.old) (state S.Store conn.new) (made_by changes.now events.now kept.now meta.now) }
+{
+    let mut tx = conn.transaction();
+    write_all(&mut tx, changes, events, kept, request, meta)?;
+    tx.commit()
+}

@@ -1,0 +1,32 @@
+//! The tables of the book, and why a connection was not adopted.
+
+use thiserror::Error;
+
+/// A table of the book.
+#[derive(Clone, Copy, Debug, PartialEq, Eq)]
+pub enum Table {
+    Meta,
+    Groups,
+    Stations,
+    Agents,
+    Calls,
+    Connections,
+    Monitors,
+    Events,
+    Kept,
+}
+
+/// Why a connection was not adopted.
+#[derive(Clone, Copy, Debug, PartialEq, Eq, Error)]
+pub enum AdoptFault {
+    /// The version of its tables, or 0 where it has none.
+    #[error("wrong version {0}")]
+    WrongVersion(u64),
+    /// A table with a value that is out of its range.
+    #[error("bad row")]
+    BadRow(Table),
+    #[error("out of memory")]
+    NoMemory,
+    #[error("the store has failed")]
+    Store,
+}

@@ -1,0 +1,27 @@
+//! The book in SQLite: the limits, the tables, the event reports and the kept replies of a desk in nine
+//! tables of a database.
+//!
+//! [`SqlBook::create`] makes the tables of a new book, in one transaction. Each statement has a function
+//! of its own, which works inside a transaction and adds no stop; the end of the transaction alone adds
+//! the commit.
+//!
+//! ```ignore
+//! let book = SqlBook::create(conn, Limits::GREATEST)?;
+//! let conn = book.into_connection();
+//! ```
+#![tactic(auto)]
+
+mod bind;
+mod book;
+mod codes;
+mod commit;
+mod create;
+mod fault;
+mod meta;
+mod read;
+#[cfg(test)]
+mod tests;
+mod write;
+
+pub use book::SqlBook;
+pub use fault::{AdoptFault, Table};
