@@ -5,8 +5,8 @@ ghost use Rattle.acd_terms.specs.Lists.{count};
 ghost use Rattle.acd_terms.specs.Watched.{is_caller};
 ghost use Rattle.acd_terms.specs.Rules.Calls.{keeps_call, is_bare, is_placed, has_columns, is_group_or_none, may_stand, keeps_connection, is_open, parties_of, initiated_of, initiated_at, open_of, is_being_made, has_two_parties, keeps_parties, live_at, alerting_at, hold_at, keeps_live};
 
-use acd_terms::{CallRecord, ConnectionRecord, ConnectionState, DeviceId, Rows};
 use acd_terms::scans::{call_of, is_group, is_planned, is_station};
+use acd_terms::{CallRecord, ConnectionRecord, ConnectionState, DeviceId, Rows};
 
 /// A call's called device is planned and not its caller, who is a station or not planned; its
 /// identifier is not above the last.

@@ -6,8 +6,8 @@ ghost use Rattle.acd_terms.specs.Scans.{waiting_in, eligible_in};
 ghost use Rattle.acd_terms.specs.OneOffer.{is_distributed_at};
 ghost use Rattle.acd_terms.specs.Rules.Occupied.{attends, is_attended, is_talking, is_busy_only_talking, keeps_occupied, is_empty, keeps_offer, waits_in, rings_from, is_balanced, keeps_balance};
 
-use acd_terms::{AgentRecord, ConnectionRecord, DeviceId, Figures, GroupRecord, Rows};
 use acd_terms::scans::{agent_at, has_eligible, has_waiting, is_occupied};
+use acd_terms::{AgentRecord, ConnectionRecord, DeviceId, Figures, GroupRecord, Rows};
 
 fn distributed_at(rows: &Rows, device: DeviceId) -> usize
     ensures { result ≡ length (filter (is_distributed_at device) rows.now.connections) }

@@ -5,8 +5,8 @@ ghost use Rattle.acd_terms.specs.Scans.{has};
 ghost use Rattle.acd_terms.specs.declared.record.AgentRecord.{AgentRecord};
 ghost use Rattle.acd_terms.specs.Rules.Plan.{keeps_limits, keeps_order, keeps_device, keeps_agent, keeps_monitor, is_station_there, is_group_there, is_alone_at, is_seated};
 
-use acd_terms::{AgentRecord, DeviceId, Rows, ascends};
 use acd_terms::scans::{is_group, is_planned, is_station};
+use acd_terms::{AgentRecord, DeviceId, Rows, ascends};
 
 /// No limit is above the greatest and no list above its limit; no last number is above its bound.
 #[tactic(auto, unfolding(acd_terms::specs::Rules::Plan::keeps_limits))]
