@@ -11,6 +11,8 @@ use Rattle.acd_terms.specs.declared.record.ConnectionRecord.{ConnectionRecord}
 use Rattle.acd_terms.specs.declared.record.GroupRecord.{GroupRecord}
 use Rattle.acd_terms.specs.declared.state.ConnectionState.{ConnectionState}
 use Rattle.acd_terms.specs.declared.state.ConnectionState.TheVariants.{Initiated, Alerting, Connected, Hold, Queued, Fail}
+use Rattle.acd_codec.specs.declared.read_texts.PlannedDevice.{PlannedDevice}
+use Rattle.acd_codec.specs.declared.read_texts.PlannedDevice.TheVariants.{Group, Station}
 use Rattle.acd_codec.specs.Parts.{Part, text_part, number_part, list_part, object_of, items_of}
 
 abbrev pub connection_state_name : ConnectionState → List ℕ
@@ -94,6 +96,11 @@ station_parts station agent cs =
 -- a device that is a station, the agent who is logged on there, and the connections there
 unfoldable pub station_text : ℕ → Option ℕ → List ConnectionRecord → List ℕ
 station_text station agent cs = compact_text (object_of (station_parts station agent cs))
+
+-- a planned device
+unfoldable pub device_text : PlannedDevice → List ℕ
+device_text (Group g) = group_text g
+device_text (Station device agent cs) = station_text device agent cs
 
 -- a connection that waits: its place in the queue, and since when it stands there
 abbrev pub waiting_parts : ConnectionRecord → List Part

@@ -2,7 +2,7 @@
 
 ghost use Rattle.std.specs.Prelude.{◌≡◌, IfOk, string_bytes};
 ghost use Rattle.acd_codec.specs.Tokens.{parts_tokens, Adds};
-ghost use Rattle.acd_codec.specs.ReadTexts.{connection_state_name, distributed_from, agent_parts, agent_text, party_parts, call_parts, call_text, group_parts, group_text, line_parts, station_parts, station_text, waiting_parts, queue_parts, queue_text};
+ghost use Rattle.acd_codec.specs.ReadTexts.{connection_state_name, distributed_from, agent_parts, agent_text, party_parts, call_parts, call_text, group_parts, group_text, line_parts, station_parts, station_text, device_text, waiting_parts, queue_parts, queue_text};
 
 use crate::writing::{
     Form, begun, ended, put_agent, put_device, put_list, put_number, put_number_if, put_seconds,
@@ -10,13 +10,26 @@ use crate::writing::{
 };
 use acd_terms::{
     AgentId, AgentRecord, CallRecord, ConnectionRecord, ConnectionState, DeviceId, GroupRecord,
-    Pending,
+    Listed, Pending,
 };
 use json::Writer;
 use std::alloc::{AllocError, Global};
 
 // An agent, a group or a call with its connections fits, and so do most stations and queues.
 const ROOM: usize = 256;
+
+/// A planned device, with all that its text tells.
+#[derive(Debug, Drop, PartialEq, Eq)]
+pub enum PlannedDevice {
+    Group(GroupRecord),
+    Station {
+        device: DeviceId,
+        /// Who is logged on there.
+        agent: Option<AgentId>,
+        /// The connections there, in the order in which they are to be told.
+        connections: Listed<ConnectionRecord>,
+    },
+}
 
 fn state_name(state: ConnectionState) -> &'static str
     ensures { result.now ≡ connection_state_name state }
@@ -126,8 +139,8 @@ fn put_group_members(out: &mut Writer, group: &GroupRecord) -> Result<(), AllocE
     put_seconds(out, "wrap", group.wrap)
 }
 
-/// The text of a device that is a group.
-pub fn group_text(alloc: Global, group: &GroupRecord) -> Result<String, AllocError>
+// A device that is a group.
+fn group_text(alloc: Global, group: &GroupRecord) -> Result<String, AllocError>
     ensures { IfOk result (λ s. string_bytes s ≡ group_text group.now) }
 {
     let mut out = begun(alloc, ROOM)?;
@@ -173,9 +186,8 @@ fn put_station_members(
     put_text(out, "kind", "station")
 }
 
-/// The text of a device that is a station: the agent who is logged on there, and the connections there,
-/// which stand as they are given.
-pub fn station_text(
+// A device that is a station.
+fn station_text(
     alloc: Global,
     station: DeviceId,
     agent: Option<AgentId>,
@@ -186,6 +198,21 @@ pub fn station_text(
     let mut out = begun(alloc, ROOM)?;
     put_station_members(&mut out, station, agent, connections)?;
     ended(out)
+}
+
+/// The text of a device.
+#[tactic(auto, unfolding(crate::specs::ReadTexts::device_text))]
+pub fn device_text(alloc: Global, device: &PlannedDevice) -> Result<String, AllocError>
+    ensures { IfOk result (λ s. string_bytes s ≡ device_text device.now) }
+{
+    match device {
+        PlannedDevice::Group(group) => group_text(alloc, group),
+        PlannedDevice::Station {
+            device,
+            agent,
+            connections,
+        } => station_text(alloc, *device, *agent, connections.as_slice()),
+    }
 }
 
 fn put_waiting(out: &mut Writer, connection: &ConnectionRecord) -> Result<(), AllocError>

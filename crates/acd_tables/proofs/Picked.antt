@@ -1,14 +1,16 @@
 -- The records at keys that are noted are those that a scan picks.
 use Rattle.std.proofs.Common.{◌≡◌, ℕ, inl, inr, Bool, true, false, cond, List, [], ◌∷◌, ◌++◌, Option, Some, None, refl, ap, sym, ◌∙◌, subst}
-use Rattle.std.specs.Prelude.{◌==◌, filter, find}
+use Rattle.std.specs.Prelude.{◌==◌, filter, find, is_some}
 use Rattle.std.specs.List.{AllByRecursion, filter_map, cons_option}
 use Rattle.std.specs.List.Sorted.{IsStrictlySortedBy}
 use Rattle.std.specs.declared.cmp.Ordering.{Ordering}
-use Rattle.std.specs.declared.cmp.Ordering.TheVariants.{Less}
-use Rattle.std.specs.Ordering.{is_eq, nat_cmp, ordering_reverse}
+use Rattle.std.specs.declared.cmp.Ordering.TheVariants.{Less, Equal, Greater}
+use Rattle.std.specs.Ordering.{is_eq, nat_cmp, ordering_reverse, ordering_then}
+use Rattle.std.specs.BTreeMap.{BTreeMap, get}
 use Rattle.std.specs.Cmp.{IsTotalOrder}
 use Rattle.std.specs.BTreeSet.{BTreeSet, contains}
-use Rattle.std.proofs.lemmas.Bool.{and_parts, eqb-true}
+use Rattle.std.proofs.lemmas.Bool.{and_parts, eqb-true, eq-eqb}
+use Rattle.std.proofs.lemmas.Cmp.{nat_cmp_total, on_total}
 use Rattle.std.proofs.lemmas.Map.Lookups.{exact_unsigned}
 use Rattle.acd_terms.specs.Lists.{Among, AllAfter, IsAscending}
 use Rattle.acd_terms.specs.Rules.Plan.{agent_order, connection_order}
@@ -17,8 +19,10 @@ use Rattle.acd_terms.specs.declared.rows.Rows.{Rows}
 use Rattle.acd_terms.specs.declared.record.AgentRecord.{AgentRecord}
 use Rattle.acd_terms.specs.declared.record.ConnectionRecord.{ConnectionRecord}
 use Rattle.acd_laws.proofs.Lists.{eq_is, after_among, any_found, find_passes, find_among, some_from, filter_among, among-filter, ascending-filter}
-use Rattle.acd_laws.proofs.State.{connections_total, agents_total, connection_among, connection_found, found_key, agent_among, agent_found, agent_key}
-use Rattle.acd_tables.specs.Indexed.{pair_cmp, is_ringing, is_working, rings, works, Ringing, Working}
+use Rattle.acd_laws.proofs.State.{cmp_self, connections_total, agents_total, connection_among, connection_found, found_key, agent_among, agent_found, agent_key}
+use Rattle.acd_tables.specs.AtDevice.{is_at_device, connections_at}
+use Rattle.acd_tables.specs.Sets.{holds, holds_in}
+use Rattle.acd_tables.specs.Indexed.{pair_cmp, is_ringing, is_working, rings, works, Ringing, Working, Lines}
 use Rattle.acd_tables.specs.Uses.{kept}
 use Rattle.acd_tables.proofs.TurnLemmas.{pair_key}
 
@@ -119,7 +123,7 @@ contained {K} cmp exact set j e =
 pub exact_number : (j k : ℕ) → is_eq (nat_cmp j k) ≡ true → j ≡ k
 exact_number j k e = exact_unsigned j k (eq_is _ e)
 
-exact_pair : (p q : ℕ × ℕ) → is_eq (pair_cmp p q) ≡ true → p ≡ q
+pub exact_pair : (p q : ℕ × ℕ) → is_eq (pair_cmp p q) ≡ true → p ≡ q
 exact_pair p q e =
     let parts = and_parts (p.0 == q.0) (p.1 == q.1) (sym (pair_key p.0 p.1 q) ∙ e) in
     ap (λ a. (a, p.1)) (eqb-true p.0 q.0 parts.0) ∙ ap (λ b. (q.0, b)) (eqb-true p.1 q.1 parts.1)
@@ -158,3 +162,52 @@ module _ (s : Rows) where
           let there = filter_among is_working s.agents r a in
           let found = agent_found s ascending r there.0 in
           (contained nat_cmp exact_number noted r.agent (h r.agent (ap works found ∙ there.1)), ap (kept is_working) found ∙ kept-passes is_working r there.1)
+
+-- connections by their calls
+abbrev by_call : ConnectionRecord → ConnectionRecord → Ordering
+by_call x y = nat_cmp x.call y.call
+
+less_call : (x y : ConnectionRecord) → x.device ≡ y.device → connection_order x y ≡ Less → by_call x y ≡ Less
+less_call x y same less = by (nat_cmp x.call y.call) refl
+  where
+    by : (o : Ordering) → nat_cmp x.call y.call ≡ o → o ≡ Less
+    by Less e = refl
+    by Equal e = absurd (let both : ordering_then (nat_cmp x.call y.call) (nat_cmp x.device y.device) ≡ Less = less in let at = cmp_self x.device y.device same in cc (both, e, at))
+    by Greater e = absurd (let both : ordering_then (nat_cmp x.call y.call) (nat_cmp x.device y.device) ≡ Less = less in cc (both, e))
+
+after_call : (d : ℕ) (x : ConnectionRecord) → x.device ≡ d → (xs : List ConnectionRecord) → AllAfter connection_order x xs → ((z : ConnectionRecord) → Among z xs → z.device ≡ d) → AllAfter by_call x xs
+after_call d x at [] h there = tt
+after_call d x at (y ∷ ys) h there = (less_call x y (at ∙ sym (there y (inl refl))) h.0, after_call d x at ys h.1 (λ z a. there z (inr a)))
+
+ascending_calls : (d : ℕ) (xs : List ConnectionRecord) → IsAscending connection_order xs → ((z : ConnectionRecord) → Among z xs → z.device ≡ d) → IsAscending by_call xs
+ascending_calls d [] h there = tt
+ascending_calls d (x ∷ xs) h there = (after_call d x (there x (inl refl)) xs h.0 (λ z a. there z (inr a)), ascending_calls d xs h.1 (λ z a. there z (inr a)))
+
+module _ (s : Rows) (d : ℕ) (ascending : IsAscending connection_order s.connections) where
+  -- among the calls that are listed are all that have a connection there
+  picks-at : (calls : List ℕ) → ((c : ℕ) → is_some (connection_of s c d) ≡ true → Among c calls) → IsStrictlySortedBy nat_cmp calls
+      → filter_map (λ k. connection_of s k d) calls ≡ filter (is_at_device d) s.connections
+  picks-at calls listed sorted = picked nat_cmp by_call (λ c. c.call) (λ x y. refl) (λ k. connection_of s k d) own (on_total (λ (c : ConnectionRecord). c.call) nat_cmp_total) calls (filter (is_at_device d) s.connections) sorted
+      (ascending_calls d (filter (is_at_device d) s.connections) (ascending-filter connection_order (is_at_device d) s.connections ascending)
+      (λ z a. eqb-true z.device d (filter_among (is_at_device d) s.connections z a).1)) to back
+    where
+      own : (k : ℕ) (r : ConnectionRecord) → connection_of s k d ≡ Some r → r.call ≡ k
+      own k r e = (found_key s k d r e).0
+
+      to : (k : ℕ) (r : ConnectionRecord) → connection_of s k d ≡ Some r → Among r (filter (is_at_device d) s.connections)
+      to k r e = among-filter (is_at_device d) s.connections r (connection_among s k d r e) (eq-eqb r.device d (found_key s k d r e).1)
+
+      back : (r : ConnectionRecord) → Among r (filter (is_at_device d) s.connections) → Among r.call calls × (connection_of s r.call d ≡ Some r)
+      back r a =
+          let there = filter_among (is_at_device d) s.connections r a in
+          let found : connection_of s r.call d ≡ Some r = subst (λ z. connection_of s r.call z ≡ Some r) (eqb-true r.device d there.1) (connection_found s ascending r there.0) in
+          (listed r.call (ap is_some found), found)
+
+  pub at-none : (lines : BTreeMap ℕ (BTreeSet ℕ)) → Lines s lines → get nat_cmp lines d ≡ None → [] ≡ connections_at s d
+  unfolding holds connections_at IsStrictlySortedBy
+  at-none lines listed none = picks-at [] (λ c e. absurd (let there = sym (ap (λ o. holds_in nat_cmp nat_cmp o c) none) ∙ listed c d e in cc there)) tt
+
+  pub at-some : (lines : BTreeMap ℕ (BTreeSet ℕ)) (calls : BTreeSet ℕ) → Lines s lines → get nat_cmp lines d ≡ Some calls → IsStrictlySortedBy nat_cmp calls.keys
+      → filter_map (λ k. connection_of s k d) calls.keys ≡ connections_at s d
+  unfolding holds connections_at IsStrictlySortedBy
+  at-some lines calls listed there sorted = picks-at calls.keys (λ c e. contained nat_cmp exact_number calls c (sym (ap (λ o. holds_in nat_cmp nat_cmp o c) there) ∙ listed c d e)) sorted

@@ -6,3 +6,4 @@ pub mod Uses
 pub mod Turns
 pub mod Near
 pub mod FirstOffer
+pub mod AtDevice

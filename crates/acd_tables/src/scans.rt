@@ -10,6 +10,10 @@ ghost use Rattle.acd_tables.specs.Indexed.{pair_cmp, is_ringing, is_working};
 ghost use Rattle.acd_tables.specs.Uses.{kept};
 ghost use Rattle.acd_tables.specs.Uses.{is_in_use};
 ghost use Rattle.acd_tables.specs.FirstOffer.{offer_in_group};
+ghost use Rattle.acd_tables.specs.AtDevice.{connections_at};
+ghost use Rattle.std.specs.List.{filter_map};
+ghost use Rattle.std.specs.List.Sorted.{IsStrictlySortedBy};
+ghost use Rattle.std.specs.Ordering.{nat_cmp};
 
 use crate::sets::first_in;
 use crate::tables::Tables;
@@ -38,6 +42,34 @@ impl Tables {
         ensures { result ≡ other_of self.now connection.now }
     {
         self.records.other_of(connection)
+    }
+
+    // The connections of the calls at the device, where they have one there.
+    fn connections_among(
+        &self,
+        calls: &BTreeSet<u64>,
+        device: DeviceId,
+    ) -> Result<Vec<ConnectionRecord>, AllocError>
+        ensures found { IfOk result (λ v. v.items ≡ filter_map (λ call. connection_of self.now call device) calls.now.keys) }
+        ensures sorted { IsStrictlySortedBy nat_cmp calls.now.keys }
+    {
+        let mut found = Vec::new(self.alloc);
+        for call in calls {
+            if let Some(connection) = self.connection(*call, device) {
+                found.push(connection)?;
+            }
+        }
+        Ok(found)
+    }
+
+    /// The connections at the device, in ascending call, copied.
+    pub fn connections_at(&self, device: DeviceId) -> Result<Vec<ConnectionRecord>, AllocError>
+        ensures { IfOk result (λ v. v.items ≡ connections_at self.now device) }
+    {
+        match self.indexes.lines.get(&device) {
+            None => Ok(Vec::new(self.alloc)),
+            Some(calls) => self.connections_among(calls, device),
+        }
     }
 
     // A connection at the device uses it so.

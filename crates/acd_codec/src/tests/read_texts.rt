@@ -2,11 +2,12 @@
 
 use super::{agent, device};
 use crate::events::page_text;
-use crate::read_texts::{agent_text, call_text, group_text, queue_text, station_text};
+use crate::read_texts::{PlannedDevice, agent_text, call_text, device_text, queue_text};
 use acd_terms::{
-    AgentRecord, AgentState, CallRecord, ConnectionRecord, ConnectionState, Event, Figures,
-    GroupRecord, Name, Pending, Report, Seconds,
+    AgentId, AgentRecord, AgentState, CallRecord, ConnectionRecord, ConnectionState, Event, Figures,
+    GroupRecord, Listed, Name, Pending, Report, Seconds,
 };
+use std::alloc::Global;
 use std::process::Abort;
 
 fn connection(
@@ -119,19 +120,32 @@ fn group(rt: HostRuntime) {
         wrap: Seconds::new(30).expect(&rt, "seconds"),
         figures: Figures::default(),
     };
-    let text = group_text(rt.alloc(), &record).expect(&rt, "memory");
+    let text = device_text(rt.alloc(), &PlannedDevice::Group(record)).expect(&rt, "memory");
     assert_eq!(rt;
         text.as_str(),
         "{\"device\":\"100\",\"kind\":\"group\",\"name\":\"Billing\",\"ring\":20,\"wrap\":30}"
     );
 }
 
+fn station(
+    rt: &impl Abort,
+    alloc: Global,
+    agent: Option<AgentId>,
+    connections: &[ConnectionRecord],
+) -> PlannedDevice {
+    let connections = connections.iter().copied().collect(alloc).expect(rt, "memory");
+    PlannedDevice::Station {
+        device: device(rt, "201"),
+        agent,
+        connections: Listed::new(connections),
+    }
+}
+
 #[test]
 fn station_and_its_agent(rt: HostRuntime) {
     let at = connection(&rt, 1, "201", ConnectionState::Connected);
-    let text = station_text(rt.alloc(), device(&rt, "201"), Some(agent(&rt, "7")), &[at]).expect(
-        &rt, "memory",
-    );
+    let there = station(&rt, rt.alloc(), Some(agent(&rt, "7")), &[at]);
+    let text = device_text(rt.alloc(), &there).expect(&rt, "memory");
     assert_eq!(rt;
         text.as_str(),
         "{\"agent\":\"7\",\"connections\":[{\"call\":1,\"state\":\"connected\"}],\"device\":\"201\",\"kind\":\"station\"}"
@@ -145,9 +159,8 @@ fn station_without_agent(rt: HostRuntime) {
         connection(&rt, 2, "201", ConnectionState::Initiated),
         connection(&rt, 3, "201", ConnectionState::Fail),
     ];
-    let text = station_text(rt.alloc(), device(&rt, "201"), None, &connections).expect(
-        &rt, "memory",
-    );
+    let there = station(&rt, rt.alloc(), None, &connections);
+    let text = device_text(rt.alloc(), &there).expect(&rt, "memory");
     assert_eq!(rt;
         text.as_str(),
         "{\"connections\":[{\"call\":1,\"state\":\"hold\"},{\"call\":2,\"state\":\"initiated\"},{\"call\":3,\"state\":\"fail\"}],\"device\":\"201\",\"kind\":\"station\"}"

@@ -1,4 +1,3 @@
-use Rattle.std.proofs.Common.{[], ◌∷◌}
 use Rattle.json.specs.Token.{begin_object, end_object}
 use Rattle.acd_codec.proofs.Adding.{wrote, wrote_ok, and_then, adds_then}
 use Rattle.acd_codec.proofs.replies.write_error.Goals as goal
