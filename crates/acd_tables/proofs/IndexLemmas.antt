@@ -6,8 +6,8 @@ use Rattle.std.specs.declared.cmp.Ordering.{Ordering}
 use Rattle.std.specs.Ordering.{is_eq, nat_cmp}
 use Rattle.std.specs.BTreeMap.{BTreeMap, get, is_at}
 use Rattle.std.specs.Map.{lookup}
-use Rattle.std.specs.BTreeSet.{BTreeSet}
-use Rattle.std.proofs.lemmas.Bool.{and_from, and_left, and_right, eqb-true, eq-eqb}
+use Rattle.std.specs.BTreeSet.{BTreeSet, contains}
+use Rattle.std.proofs.lemmas.Bool.{and_from, and_left, and_right, or_left, or_right, eqb-true, eq-eqb}
 use Rattle.acd_terms.specs.Lists.{IsAscending, find_by, put_by, remove_by}
 use Rattle.acd_terms.specs.Rules.Plan.{group_order, agent_order, connection_order}
 use Rattle.acd_terms.specs.Scans.{is_group, group_of, agent_of, connection_of, at_group, at_agent, at_connection, queued_in_all, has}
@@ -21,7 +21,7 @@ use Rattle.acd_terms.specs.declared.record.AgentRecord.{AgentRecord}
 use Rattle.acd_terms.specs.declared.record.CallRecord.{CallRecord}
 use Rattle.acd_terms.specs.declared.record.MonitorRecord.{MonitorRecord}
 use Rattle.acd_terms.specs.declared.record.ConnectionRecord.{ConnectionRecord}
-use Rattle.acd_tables.specs.Sets.{holds, holds_in, has_set, is_at_key, Stays, SetsMember, SameMembers, HasSet, Forgotten}
+use Rattle.acd_tables.specs.Sets.{holds, holds_in, has_set, is_at_key, Stays, SameMembers, HasSet, Noted, Forgotten}
 use Rattle.acd_tables.specs.Indexed.{PairSets, pair_cmp, lists, joins, waits_at, is_busying, is_busy_at, is_free, is_able_since, rings, works, Seats, Lines, Ringing, Working, IsIndexed}
 use Rattle.acd_tables.specs.Turns.{is_entry, Entered, Undone, Untouched, TakenOut, TurnsTo, IsAt, IsFreeFor, with_or_without, one_queued, stays, IsBlank}
 use Rattle.acd_tables.specs.declared.indexes.Indexes.{Indexes}
@@ -32,7 +32,7 @@ use Rattle.acd_laws.proofs.State.{agent_put, agent_key, agents_total, groups_tot
 use Rattle.acd_laws.proofs.Found.{has_is, count_new, count_old, count_less}
 use Rattle.acd_laws.proofs.Numbers.{filter_length}
 use Rattle.acd_tables.proofs.OfferLemmas.{undone, offers-same}
-use Rattle.acd_tables.proofs.TurnLemmas.{Replaces, Replaces-put, Replaces-removed, eq_key}
+use Rattle.acd_tables.proofs.TurnLemmas.{Replaces, Replaces-put, Replaces-removed, eq_key, pair_key}
 use Rattle.acd_tables.proofs.NoteLemmas.{Ringing-put, Ringing-left, Working-kept}
 use Rattle.acd_tables.proofs.Looking.{seated}
 
@@ -92,39 +92,50 @@ IsIndexed-turned s t x y z turn n h e o w groups agents connections seats lines 
 }
 
 -- a call is listed at a device, or was
-pub Lines-more : (s : Rows) (old new : BTreeMap ℕ (BTreeSet ℕ)) (device call : ℕ) → Lines s old → SetsMember nat_cmp nat_cmp old new device call true → Lines s new
-Lines-more s old new device call h w c d e = w d c ∙ by (is_at_key nat_cmp nat_cmp device call d c)
-  where
-    by : (b : Bool) → cond b true (joins old d c) ≡ true
-    by true = refl
-    by false = h c d e
+pub Lines-more : (s : Rows) (old new : BTreeSet (ℕ × ℕ)) (device call : ℕ) (belongs : Bool) → Lines s old → Noted pair_cmp old new (device, call) belongs → Lines s new
+Lines-more s old new device call belongs h w c d e = w (d, c) ∙ or_right (belongs && is_eq (pair_cmp (device, call) (d, c))) (contains pair_cmp old (d, c)) (h c d e)
 
-pub Lines-same : (s : Rows) (old new : BTreeMap ℕ (BTreeSet ℕ)) → Lines s old → SameMembers nat_cmp nat_cmp old new → Lines s new
-Lines-same s old new h w c d e = w d c ∙ h c d e
-
-is_at_numbers : (device call d c : ℕ) → is_at_key nat_cmp nat_cmp device call d c ≡ ((device == d) && (call == c))
-is_at_numbers device call d c = rw (eq_key device d, eq_key call c) refl
+pub Lines-same : (s : Rows) (old new : BTreeSet (ℕ × ℕ)) → Lines s old → ((k : ℕ × ℕ) → contains pair_cmp new k ≡ contains pair_cmp old k) → Lines s new
+Lines-same s old new h w c d e = w (d, c) ∙ h c d e
 
 module _ (s t : Rows) (call device : ℕ) (new : Option ConnectionRecord) (r : Replaces s t call device new) where
-  pub Lines-put : (old lines : BTreeMap ℕ (BTreeSet ℕ)) → Lines s old → SetsMember nat_cmp nat_cmp old lines device call true → Lines t lines
-  Lines-put old lines h w c d e = w d c ∙ ap (λ b. cond b true (joins old d c)) (is_at_numbers device call d c) ∙ by (call == c) refl (device == d) refl
-    where
-      by : (a : Bool) → (call == c) ≡ a → (b : Bool) → (device == d) ≡ b → cond ((device == d) && (call == c)) true (joins old d c) ≡ true
-      by true p true q = rw (p, q) refl
-      by true p false q = rw (p, q) (h c d (sym (ap is_some (r.found c d ∙ ap (λ b. cond b new (connection_of s c d)) (and_right (call == c) (device == d) q))) ∙ e))
-      by false p b q = ap (λ v. cond v true (joins old d c)) (and_right (device == d) (call == c) p) ∙ h c d (sym (ap is_some (r.found c d ∙ ap (λ b. cond b new (connection_of s c d)) (and_left (call == c) (device == d) p))) ∙ e)
+  -- what is found at another key
+  elsewhere : (c d : ℕ) → (call == c && device == d) ≡ false → is_some (connection_of t c d) ≡ true → is_some (connection_of s c d) ≡ true
+  elsewhere c d f e = sym (ap is_some (r.found c d ∙ ap (λ b. cond b new (connection_of s c d)) f)) ∙ e
 
-pub Lines-removed : (s t : Rows) (call device : ℕ) → Replaces s t call device None → (old lines : BTreeMap ℕ (BTreeSet ℕ)) → Lines s old → SetsMember nat_cmp nat_cmp old lines device call false → Lines t lines
-Lines-removed s t call device r old lines h w c d e = w d c ∙ ap (λ b. cond b false (joins old d c)) (is_at_numbers device call d c) ∙ by (call == c) refl (device == d) refl
+  pub Lines-put : (old lines : BTreeSet (ℕ × ℕ)) (belongs : Bool) → belongs ≡ not (is_some (connection_of s call device)) → Lines s old → Noted pair_cmp old lines (device, call) belongs → Lines t lines
+  Lines-put old lines belongs b h w c d e = w (d, c) ∙ by (call == c) refl (device == d) refl
+    where
+      goal : Type 0
+      goal = ((belongs && is_eq (pair_cmp (device, call) (d, c))) || contains pair_cmp old (d, c)) ≡ true
+
+      was : is_some (connection_of s c d) ≡ true → goal
+      was f = or_right (belongs && is_eq (pair_cmp (device, call) (d, c))) (contains pair_cmp old (d, c)) (h c d f)
+
+      here : (call == c) ≡ true → (device == d) ≡ true → goal
+      here p q = found (is_some (connection_of s call device)) refl
+        where
+          found : (v : Bool) → is_some (connection_of s call device) ≡ v → goal
+          found true f = was (sym (ap is_some (ap (λ k. connection_of s k device) (eqb-true call c p) ∙ ap (connection_of s c) (eqb-true device d q))) ∙ f)
+          found false f = or_left (belongs && is_eq (pair_cmp (device, call) (d, c))) (contains pair_cmp old (d, c))
+              (and_from belongs (is_eq (pair_cmp (device, call) (d, c))) (b ∙ ap not f) (pair_key device call (d, c) ∙ and_from (device == d) (call == c) q p))
+
+      by : (x : Bool) → (call == c) ≡ x → (y : Bool) → (device == d) ≡ y → goal
+      by true p true q = here p q
+      by true p false q = was (elsewhere c d (and_right (call == c) (device == d) q) e)
+      by false p y q = was (elsewhere c d (and_left (call == c) (device == d) p) e)
+
+pub Lines-removed : (s t : Rows) (call device : ℕ) → Replaces s t call device None → (old lines : BTreeSet (ℕ × ℕ)) → Lines s old → Forgotten pair_cmp old lines (device, call) true → Lines t lines
+Lines-removed s t call device r old lines h w c d e = w (d, c) ∙ ap (λ b. not b && contains pair_cmp old (d, c)) (pair_key device call (d, c)) ∙ by (call == c) refl (device == d) refl
   where
-    by : (a : Bool) → (call == c) ≡ a → (b : Bool) → (device == d) ≡ b → cond ((device == d) && (call == c)) false (joins old d c) ≡ true
+    by : (x : Bool) → (call == c) ≡ x → (y : Bool) → (device == d) ≡ y → (not (device == d && call == c) && contains pair_cmp old (d, c)) ≡ true
     by true p true q =
         let gone : is_some (connection_of t c d) ≡ false = ap is_some (r.found c d ∙ ap (λ b. cond b None (connection_of s c d)) (and_from (call == c) (device == d) p q)) in
         absurd (cc (gone, e))
-    by true p false q = rw (p, q) (h c d (sym (ap is_some (r.found c d ∙ ap (λ b. cond b None (connection_of s c d)) (and_right (call == c) (device == d) q))) ∙ e))
-    by false p b q = ap (λ v. cond v false (joins old d c)) (and_right (device == d) (call == c) p) ∙ h c d (sym (ap is_some (r.found c d ∙ ap (λ b. cond b None (connection_of s c d)) (and_left (call == c) (device == d) p))) ∙ e)
+    by true p false q = ap (λ b. not b && contains pair_cmp old (d, c)) (and_left (device == d) (call == c) q) ∙ h c d (elsewhere s t call device None r c d (and_right (call == c) (device == d) q) e)
+    by false p y q = ap (λ b. not b && contains pair_cmp old (d, c)) (and_right (device == d) (call == c) p) ∙ h c d (elsewhere s t call device None r c d (and_left (call == c) (device == d) p) e)
 
-pub Lines-kept : (s t : Rows) (lines : BTreeMap ℕ (BTreeSet ℕ)) → ((c d : ℕ) → is_some (connection_of t c d) ≡ true → is_some (connection_of s c d) ≡ true) → Lines s lines → Lines t lines
+pub Lines-kept : (s t : Rows) (lines : BTreeSet (ℕ × ℕ)) → ((c d : ℕ) → is_some (connection_of t c d) ≡ true → is_some (connection_of s c d) ≡ true) → Lines s lines → Lines t lines
 Lines-kept s t lines f h c d e = h c d (f c d e)
 
 -- the agent takes a station that no other has
@@ -319,7 +330,7 @@ pub IsIndexed-stays : (s : Rows) (x : Indexes) (queues : PairSets) → IsIndexed
 IsIndexed-stays s x queues h hq = IsIndexed-lists s s refl refl x queues x.ready h h.groups hq.members (λ g p. refl) (λ g e. hq.sets g ∙ h.queues g e) h.readies
 
 -- what may be listed besides
-IsIndexed-besides : (s : Rows) (x : Indexes) (seats : BTreeMap ℕ ℕ) (lines : BTreeMap ℕ (BTreeSet ℕ)) (ringing : BTreeSet (ℕ × ℕ)) (working : BTreeSet ℕ) → IsIndexed s x → Seats s seats → Lines s lines → Ringing s ringing → Working s working
+IsIndexed-besides : (s : Rows) (x : Indexes) (seats : BTreeMap ℕ ℕ) (lines : BTreeSet (ℕ × ℕ)) (ringing : BTreeSet (ℕ × ℕ)) (working : BTreeSet ℕ) → IsIndexed s x → Seats s seats → Lines s lines → Ringing s ringing → Working s working
     → IsIndexed s (record x { seats = seats; lines = lines; ringing = ringing; working = working })
 IsIndexed-besides s x seats lines ringing working h d l r w = record {
   groups = h.groups;
@@ -340,7 +351,7 @@ IsIndexed-besides s x seats lines ringing working h d l r w = record {
 pub IsIndexed-seats : (s : Rows) (x : Indexes) (seats : BTreeMap ℕ ℕ) → IsIndexed s x → Seats s seats → IsIndexed s (record x { seats = seats })
 IsIndexed-seats s x seats h l = IsIndexed-besides s x seats x.lines x.ringing x.working h l h.lines h.ringing h.working
 
-pub IsIndexed-lines : (s : Rows) (x : Indexes) (lines : BTreeMap ℕ (BTreeSet ℕ)) → IsIndexed s x → Lines s lines → IsIndexed s (record x { lines = lines })
+pub IsIndexed-lines : (s : Rows) (x : Indexes) (lines : BTreeSet (ℕ × ℕ)) → IsIndexed s x → Lines s lines → IsIndexed s (record x { lines = lines })
 IsIndexed-lines s x lines h l = IsIndexed-besides s x x.seats lines x.ringing x.working h h.seats l h.ringing h.working
 
 pub IsIndexed-ringing : (s : Rows) (x : Indexes) (ringing : BTreeSet (ℕ × ℕ)) → IsIndexed s x → Ringing s ringing → IsIndexed s (record x { ringing = ringing })
@@ -350,7 +361,7 @@ pub IsIndexed-working : (s : Rows) (x : Indexes) (working : BTreeSet ℕ) → Is
 IsIndexed-working s x working h w = IsIndexed-besides s x x.seats x.lines x.ringing working h h.seats h.lines h.ringing w
 
 -- a connection is listed before it is put
-pub IsIndexed-noted : (s : Rows) (x : Indexes) (lines : BTreeMap ℕ (BTreeSet ℕ)) (ringing : BTreeSet (ℕ × ℕ)) → IsIndexed s x → Lines s lines → Ringing s ringing → IsIndexed s (record x { lines = lines; ringing = ringing })
+pub IsIndexed-noted : (s : Rows) (x : Indexes) (lines : BTreeSet (ℕ × ℕ)) (ringing : BTreeSet (ℕ × ℕ)) → IsIndexed s x → Lines s lines → Ringing s ringing → IsIndexed s (record x { lines = lines; ringing = ringing })
 IsIndexed-noted s x lines ringing h l r = IsIndexed-besides s x x.seats lines ringing x.working h h.seats l r h.working
 
 -- an agent is listed before it is put
@@ -387,8 +398,8 @@ IsIndexed-put s c x y z turn n h e o w lines ringing queued =
     IsIndexed-turned s (with_connection s c) x y z turn n h e o w (groups_put s c) (agents_put s c h.agents) r.ascending (Seats-kept s (with_connection s c) x.seats r.agents h.seats) lines ringing (Working-kept s (with_connection s c) x.working r.agents h.working) queued
 
 -- a connection is removed
-pub IsIndexed-removed : (s : Rows) (call device : ℕ) (x y z : Indexes) (turn : Turn) (n : ℕ) (lines : BTreeMap ℕ (BTreeSet ℕ)) (ringing : BTreeSet (ℕ × ℕ)) (gone : Bool) → IsIndexed s x → Entered x y turn.entering → TakenOut y z turn.leaving
-    → TurnsTo s (without_connection s call device) turn → SetsMember nat_cmp nat_cmp z.lines lines device call false → Forgotten pair_cmp z.ringing ringing (call, device) gone → n ≡ length (queued_in_all (without_connection s call device))
+pub IsIndexed-removed : (s : Rows) (call device : ℕ) (x y z : Indexes) (turn : Turn) (n : ℕ) (lines : BTreeSet (ℕ × ℕ)) (ringing : BTreeSet (ℕ × ℕ)) (gone : Bool) → IsIndexed s x → Entered x y turn.entering → TakenOut y z turn.leaving
+    → TurnsTo s (without_connection s call device) turn → Forgotten pair_cmp z.lines lines (device, call) true → Forgotten pair_cmp z.ringing ringing (call, device) gone → n ≡ length (queued_in_all (without_connection s call device))
     → IsIndexed (without_connection s call device) (record z { queued = n; lines = lines; ringing = ringing })
 IsIndexed-removed s call device x y z turn n lines ringing gone h e o w listed noted queued =
     let t : Rows = without_connection s call device in

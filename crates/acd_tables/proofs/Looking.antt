@@ -3,24 +3,20 @@ use Rattle.std.proofs.Common.{◌≡◌, ℕ, Bool, true, false, cond, ◌&&◌,
 use Rattle.std.specs.Prelude.{◌==◌, find}
 use Rattle.std.specs.List.{list_any}
 use Rattle.std.specs.Cmp.{both_ways}
-use Rattle.std.specs.Ordering.{is_eq, nat_cmp}
+use Rattle.std.specs.Ordering.{nat_cmp}
 use Rattle.std.specs.BTreeMap.{BTreeMap, get}
-use Rattle.std.specs.BTreeSet.{BTreeSet}
 use Rattle.std.proofs.lemmas.Bool.{and_parts, and_from, eqb-true, eq-eqb}
-use Rattle.std.proofs.lemmas.Map.Lookups.{exact_unsigned}
 use Rattle.acd_terms.specs.Lists.{Among, IsAscending}
 use Rattle.acd_terms.specs.Rules.Plan.{agent_order, connection_order}
 use Rattle.acd_terms.specs.Scans.{agent_of, agent_at, connection_of, has}
 use Rattle.acd_terms.specs.declared.rows.Rows.{Rows}
 use Rattle.acd_terms.specs.declared.record.AgentRecord.{AgentRecord}
 use Rattle.acd_terms.specs.declared.record.ConnectionRecord.{ConnectionRecord}
-use Rattle.acd_laws.proofs.Lists.{eq_is, any_found, any_some, find_passes, find_among, some_from, some_found, none_from, some_is}
+use Rattle.acd_laws.proofs.Lists.{any_found, any_some, find_passes, find_among, some_from, some_found, none_from, some_is}
 use Rattle.acd_laws.proofs.State.{connection_among, connection_found, found_key, agent_among}
 use Rattle.acd_laws.proofs.Found.{agent_at_find, agent_seat, agent_there, has_is}
-use Rattle.acd_tables.specs.Indexed.{Seats, Lines}
-use Rattle.acd_tables.specs.Uses.{uses, is_used, is_in_use, if_at}
-use Rattle.acd_tables.specs.Sets.{holds, holds_in}
-use Rattle.acd_tables.specs.declared.uses.Use.{Use}
+use Rattle.acd_tables.specs.Indexed.{Seats}
+use Rattle.acd_tables.specs.Uses.{is_used, if_at}
 
 -- a connection at the device that passes
 abbrev pub Standing : Rows → (ConnectionRecord → Bool) → ℕ → Type 0
@@ -41,32 +37,29 @@ pub used_some : (u : ConnectionRecord → Bool) (o : Option ConnectionRecord) �
 used_some u None e = absurd cc
 used_some u (Some c) e = (c, refl, e)
 
--- among the calls that are listed at a device are all that have a connection there
-pub any-listed : (s : Rows) (u : ConnectionRecord → Bool) (d : ℕ) (but : Option ℕ) (ks : List ℕ) → IsAscending connection_order s.connections
-    → ((c : ℕ) → is_some (connection_of s c d) ≡ true → list_any (λ k. is_eq (nat_cmp c k)) ks ≡ true)
-    → list_any (λ k. not (has but k) && is_used u (connection_of s k d)) ks ≡ list_any (λ (z : ConnectionRecord). z.device == d && (not (has but z.call) && u z)) s.connections
+-- among the keys that are listed are all calls that have a connection at the device
+pub any-listed : (s : Rows) (u : ConnectionRecord → Bool) (d : ℕ) (but : Option ℕ) (ks : List (ℕ × ℕ)) → IsAscending connection_order s.connections
+    → ((c : ℕ) → is_some (connection_of s c d) ≡ true → Among (d, c) ks)
+    → list_any (λ k. not (has but k.1) && is_used u (connection_of s k.1 d)) ks ≡ list_any (λ (z : ConnectionRecord). z.device == d && (not (has but z.call) && u z)) s.connections
 any-listed s u d but ks ascending listed = both_ways _ _ to from
   where
-    to : list_any (λ k. not (has but k) && is_used u (connection_of s k d)) ks ≡ true → list_any (λ (z : ConnectionRecord). z.device == d && (not (has but z.call) && u z)) s.connections ≡ true
+    to : list_any (λ k. not (has but k.1) && is_used u (connection_of s k.1 d)) ks ≡ true → list_any (λ (z : ConnectionRecord). z.device == d && (not (has but z.call) && u z)) s.connections ≡ true
     to e =
-        let p : ℕ → Bool = λ k. not (has but k) && is_used u (connection_of s k d) in
+        let p : ℕ × ℕ → Bool = λ k. not (has but k.1) && is_used u (connection_of s k.1 d) in
         let w : ConnectionRecord → Bool = λ z. not (has but z.call) && u z in
         let k = some_from (find p ks) (any_found p ks e) in
-        let parts = and_parts (not (has but k.0)) (is_used u (connection_of s k.0 d)) (find_passes p ks k.0 k.1) in
-        let c = used_some u (connection_of s k.0 d) parts.1 in
-        let call : c.0.call ≡ k.0 = (found_key s k.0 d c.0 c.1).0 in
-        there-any s w k.0 d c.0 c.1 (and_from (not (has but c.0.call)) (u c.0) (ap (λ n. not (has but n)) call ∙ parts.0) c.2)
+        let parts = and_parts (not (has but k.0.1)) (is_used u (connection_of s k.0.1 d)) (find_passes p ks k.0 k.1) in
+        let c = used_some u (connection_of s k.0.1 d) parts.1 in
+        let call : c.0.call ≡ k.0.1 = (found_key s k.0.1 d c.0 c.1).0 in
+        there-any s w k.0.1 d c.0 c.1 (and_from (not (has but c.0.call)) (u c.0) (ap (λ n. not (has but n)) call ∙ parts.0) c.2)
 
-    from : list_any (λ (z : ConnectionRecord). z.device == d && (not (has but z.call) && u z)) s.connections ≡ true → list_any (λ k. not (has but k) && is_used u (connection_of s k d)) ks ≡ true
+    from : list_any (λ (z : ConnectionRecord). z.device == d && (not (has but z.call) && u z)) s.connections ≡ true → list_any (λ k. not (has but k.1) && is_used u (connection_of s k.1 d)) ks ≡ true
     from e =
-        let p : ℕ → Bool = λ k. not (has but k) && is_used u (connection_of s k d) in
+        let p : ℕ × ℕ → Bool = λ k. not (has but k.1) && is_used u (connection_of s k.1 d) in
         let w : ConnectionRecord → Bool = λ z. not (has but z.call) && u z in
         let c = any-there s w d ascending e in
         let parts = and_parts (not (has but c.0.call)) (u c.0) c.2 in
-        let q : ℕ → Bool = λ k. is_eq (nat_cmp c.0.call k) in
-        let k = some_from (find q ks) (any_found q ks (listed c.0.call (ap is_some c.1))) in
-        let same : k.0 ≡ c.0.call = sym (exact_unsigned c.0.call k.0 (eq_is _ (find_passes q ks k.0 k.1))) in
-        any_some p ks c.0.call (subst (λ n. Among n ks) same (find_among q ks k.0 k.1)) (and_from (not (has but c.0.call)) (is_used u (connection_of s c.0.call d)) parts.0 (ap (is_used u) c.1 ∙ parts.1))
+        any_some p ks (d, c.0.call) (listed c.0.call (ap is_some c.1)) (and_from (not (has but c.0.call)) (is_used u (connection_of s c.0.call d)) parts.0 (ap (is_used u) c.1 ∙ parts.1))
 
 module _ (s : Rows) (seats : BTreeMap ℕ ℕ) (ascending : IsAscending agent_order s.agents) (listed : Seats s seats) where
   -- an agent with the station is the one that a scan finds
@@ -104,13 +97,3 @@ module _ (s : Rows) (seats : BTreeMap ℕ ℕ) (ascending : IsAscending agent_or
               let same : b ≡ a = some_is b a (sym own ∙ ap (agent_of s) (some_is b.agent n (sym at ∙ there)) ∙ e) in
               let here : has a.station d ≡ true = ap (λ (z : AgentRecord). has z.station d) (sym same) ∙ ap (λ o. has o d) station ∙ eq-eqb d d refl in
               cc (h, here))
-
--- what the calls at a device tell
-module _ (s : Rows) (lines : BTreeMap ℕ (BTreeSet ℕ)) (d : ℕ) (but : Option ℕ) (kind : Use) (ascending : IsAscending connection_order s.connections) (listed : Lines s lines) where
-  pub in_use-none : get nat_cmp lines d ≡ None → false ≡ is_in_use s d but kind
-  unfolding holds
-  in_use-none none = any-listed s (uses kind) d but [] ascending (λ c e. sym (ap (λ o. holds_in nat_cmp nat_cmp o c) none) ∙ listed c d e)
-
-  pub in_use-some : (calls : BTreeSet ℕ) → get nat_cmp lines d ≡ Some calls → list_any (λ k. not (has but k) && is_used (uses kind) (connection_of s k d)) calls.keys ≡ is_in_use s d but kind
-  unfolding holds
-  in_use-some calls there = any-listed s (uses kind) d but calls.keys ascending (λ c e. sym (ap (λ o. holds_in nat_cmp nat_cmp o c) there) ∙ listed c d e)

@@ -40,10 +40,10 @@ module _ {K R : Type 0} (cmp : K → K → Ordering) (key : R → K) where
   pub values-between : (from to : Bound K) (es part : List (K × R)) (rs : List R) → es ≡ keyed key rs → part ≡ entries_between cmp from to es → values_of part ≡ filter (λ r. range_contains cmp from to (key r)) rs
   values-between from to es part rs h is = rw (is, h) (values-filter (λ k. range_contains cmp from to k) rs)
 
-less : (a b : ℕ) → a < b → nat_cmp a b ≡ Less
+pub less : (a b : ℕ) → a < b → nat_cmp a b ≡ Less
 less a b lt = grind (arith, lt)
 
-greater : (a b : ℕ) → b < a → nat_cmp a b ≡ Greater
+pub greater : (a b : ℕ) → b < a → nat_cmp a b ≡ Greater
 greater a b lt = grind (arith, lt)
 
 -- the bounds stand in their order

@@ -25,9 +25,9 @@ pair_cmp p q = ordering_then (nat_cmp p.0 q.0) (nat_cmp p.1 q.1)
 abbrev pub lists : PairSets → ℕ → ℕ × ℕ → Bool
 lists m g p = holds nat_cmp pair_cmp m g p
 
--- the set at the first has the second
-abbrev pub joins : BTreeMap ℕ (BTreeSet ℕ) → ℕ → ℕ → Bool
-joins m k e = holds nat_cmp nat_cmp m k e
+-- the call is listed at the device
+abbrev pub joins : BTreeSet (ℕ × ℕ) → ℕ → ℕ → Bool
+joins lines device call = contains pair_cmp lines (device, call)
 
 -- the first member of the set of the group, if there is one
 abbrev pub IsFirstIn : {E : Type 0} → (E → E → Ordering) → BTreeMap ℕ (BTreeSet E) → ℕ → Option E → Type 0
@@ -68,7 +68,7 @@ abbrev pub Seats : Rows → BTreeMap ℕ ℕ → Type 0
 Seats s seats = (n d : ℕ) (a : AgentRecord) → agent_of s n ≡ Some a → a.station ≡ Some d → get nat_cmp seats d ≡ Some n
 
 -- each connection has its call at the device
-abbrev pub Lines : Rows → BTreeMap ℕ (BTreeSet ℕ) → Type 0
+abbrev pub Lines : Rows → BTreeSet (ℕ × ℕ) → Type 0
 Lines s lines = (c d : ℕ) → is_some (connection_of s c d) ≡ true → joins lines d c ≡ true
 
 -- offered by distribution, and not answered

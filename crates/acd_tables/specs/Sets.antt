@@ -34,10 +34,6 @@ module _ {K E : Type 0} (by : K → K → Ordering) (cmp : E → E → Ordering)
     pub sets : (q : K) → has_set new q ≡ has_set old q
     pub members : SameMembers old new
 
-  -- one member of one set is there or not; the set may have come with it or gone
-  abbrev pub SetsMember : BTreeMap K (BTreeSet E) → BTreeMap K (BTreeSet E) → K → E → Bool → Type 0
-  SetsMember old new k e there = (q : K) (x : E) → holds new q x ≡ (if is_at_key k e q x then there else holds old q x)
-
   -- a set at the key, and all members as before
   pub record HasSet (old new : BTreeMap K (BTreeSet E)) (k : K) : Type 0 where
     pub sets : (q : K) → has_set new q ≡ (is_eq (by k q) || has_set old q)

@@ -1,6 +1,8 @@
 -- How connections use a station.
-use Rattle.std.specs.Prelude.{ℕ, Bool, false, not, ◌&&◌, ◌==◌, Option, Some, None, if◌then◌else◌}
+use Rattle.std.specs.Prelude.{ℕ, ◌+◌, ◌-◌, ◌^◌, Bool, false, not, ◌&&◌, ◌==◌, Option, Some, None, if◌then◌else◌}
 use Rattle.std.specs.List.{list_any}
+use Rattle.std.specs.declared.ops.Bound.{Bound}
+use Rattle.std.specs.declared.ops.Bound.TheVariants.{Included, Excluded, Unbounded}
 use Rattle.acd_terms.specs.Scans.{has, is_distributed}
 use Rattle.acd_terms.specs.States.{is_live, is_occupying}
 use Rattle.acd_terms.specs.declared.rows.Rows.{Rows}
@@ -24,6 +26,14 @@ is_used u (Some c) = u c
 -- a connection at the device, but for one of the call, uses it so
 abbrev pub is_in_use : Rows → ℕ → Option ℕ → Use → Bool
 is_in_use s device but kind = list_any (λ c. c.device == device && (not (has but c.call) && uses kind c)) s.connections
+
+-- at the calls of the device
+unfoldable pub first_line : ℕ → Bound (ℕ × ℕ)
+first_line device = Included (device, 0)
+
+-- behind the calls of the device, where a number follows
+unfoldable pub past_lines : ℕ → Bound (ℕ × ℕ)
+past_lines device = if device == 2 ^ 64 - 1 then Unbounded else Excluded (device + 1, 0)
 
 -- the agent that may be there, where it is at the station
 abbrev pub if_at : Option AgentRecord → ℕ → Option AgentRecord

@@ -11,8 +11,9 @@ ghost use Rattle.acd_tables.specs.Indexed.{IsIndexed, Seats, rings, works};
 ghost use Rattle.acd_tables.specs.Turns.{IsAt, with_or_without, one_queued, stays, IsFreeFor};
 
 use crate::indexes::Indexes;
+use crate::lines::{list, unlist};
 use crate::records::Records;
-use crate::sets::{add_set, forget, list, note, unlist};
+use crate::sets::{add_set, forget, note};
 use crate::turns::{agent_turn, connection_turn};
 use crate::uses::{agent_at, is_at, is_ringing};
 use acd_terms::{AgentId, AgentRecord, ConnectionRecord, DeviceId, GroupRecord};
@@ -189,7 +190,6 @@ fn stops_ringing(old: &Option<ConnectionRecord>, still: bool) -> bool
 
 /// Puts the connection.
 pub(crate) fn put_connection(
-    alloc: Global,
     records: &mut Records,
     indexes: &mut Indexes,
     item: &ConnectionRecord,
@@ -200,10 +200,10 @@ pub(crate) fn put_connection(
     ensures err { OnErr result (records.new ≡ records.old) }
 {
     let (call, device) = (item.call, item.device);
-    list(alloc, &mut indexes.lines, device, call)?;
+    let old = records.connection(call, device);
+    list(&mut indexes.lines, device, call, &old)?;
     let rings = is_ringing(item);
     note(&mut indexes.ringing, (call, device), rings)?;
-    let old = records.connection(call, device);
     let new = Some(*item);
     let turn = connection_turn(records, indexes, call, device, &old, &new);
     let queued = queued_after(records, indexes, call, device, &old, &new);

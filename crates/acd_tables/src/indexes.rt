@@ -24,8 +24,8 @@ pub struct Indexes {
     pub(crate) offering: BTreeSet<DeviceId>,
     /// The agent at a station. One that has left may still stand there.
     pub(crate) seats: BTreeMap<DeviceId, AgentId>,
-    /// The calls that have a connection at a device; there may be more.
-    pub(crate) lines: BTreeMap<DeviceId, BTreeSet<u64>>,
+    /// Number of the device, and call, of the connections; there may be more.
+    pub(crate) lines: BTreeSet<(u64, u64)>,
     /// Call and device of the offers that ring; there may be more.
     pub(crate) ringing: BTreeSet<(u64, DeviceId)>,
     /// The agents in after-call work; there may be more.
@@ -57,7 +57,7 @@ impl Indexes {
             ready: BTreeMap::new(alloc),
             offering: BTreeSet::new(alloc),
             seats: BTreeMap::new(alloc),
-            lines: BTreeMap::new(alloc),
+            lines: BTreeSet::new(alloc),
             ringing: BTreeSet::new(alloc),
             working: BTreeSet::new(alloc),
             queued: 0,

@@ -15,6 +15,7 @@
 mod changes;
 mod filling;
 mod indexes;
+mod lines;
 mod records;
 mod scans;
 mod sets;

@@ -2,7 +2,7 @@
 
 ghost use Rattle.std.specs.Prelude.{◌≡◌, true, false, not, OnOk, OnErr, IfOk};
 ghost use Rattle.acd_tables.specs.Indexed.{IsFirstIn};
-ghost use Rattle.acd_tables.specs.Sets.{holds, Sets, Stays, SameMembers, SetsMember, HasSet, Noted, Forgotten};
+ghost use Rattle.acd_tables.specs.Sets.{holds, Sets, Stays, HasSet, Noted, Forgotten};
 ghost use Rattle.std.specs.BTreeSet.{contains};
 
 use acd_terms::DeviceId;
@@ -55,47 +55,6 @@ pub(crate) fn add_set<K: Ord + Copy, E: Ord + Copy>(
         sets.insert(key, BTreeSet::new(alloc))?;
     }
     Ok(())
-}
-
-/// Puts the member into the set at the key, which is made where there is none.
-pub(crate) fn list<K: Ord + Copy, E: Ord + Copy>(
-    alloc: Global,
-    sets: &mut BTreeMap<K, BTreeSet<E>>,
-    key: K,
-    member: E,
-) -> Result<(), AllocError>
-    ensures ok { OnOk result (SetsMember K.cmp E.cmp sets.old sets.new key member true) }
-    ensures err { OnErr result (SameMembers K.cmp E.cmp sets.old sets.new) }
-{
-    add_set(alloc, sets, key)?;
-    enter(sets, key, member)?;
-    Ok(())
-}
-
-/// Takes the member out of the set at the key, and the set with its last member.
-pub(crate) fn unlist<K: Ord + Copy, E: Ord + Copy>(
-    sets: &mut BTreeMap<K, BTreeSet<E>>,
-    key: K,
-    member: E,
-)
-    ensures { SetsMember K.cmp E.cmp sets.old sets.new key member false }
-{
-    leave(sets, key, member);
-    drop_empty(sets, key);
-}
-
-// Removes the set at the key, where it has no member.
-#[tactic(auto, unfolding(crate::specs::Sets::holds, crate::specs::Sets::has_set))]
-fn drop_empty<K: Ord + Copy, E: Ord + Copy>(sets: &mut BTreeMap<K, BTreeSet<E>>, key: K)
-    ensures { SameMembers K.cmp E.cmp sets.old sets.new }
-{
-    let empty = match sets.get(&key) {
-        None => false,
-        Some(set) => set.is_empty(),
-    };
-    if empty {
-        sets.remove(&key);
-    }
 }
 
 /// The first member of the set of the group.

@@ -8,8 +8,10 @@ ghost use Rattle.acd_terms.specs.Scans.{agent_at, connection_of, has};
 ghost use Rattle.acd_tables.specs.Uses.{uses, is_used, is_in_use, if_at};
 ghost use Rattle.acd_tables.specs.Indexed.{is_ringing, Lines, Seats};
 
+use crate::lines::lines_at;
 use crate::records::Records;
 use acd_terms::{AgentId, AgentRecord, ConnectionRecord, DeviceId};
+use std::collections::btree_set::Range;
 use std::collections::{BTreeMap, BTreeSet};
 
 /// How a connection uses its station.
@@ -59,15 +61,15 @@ fn call_uses(records: &Records, call: u64, device: DeviceId, but: Option<u64>, k
 
 fn any_call_uses(
     records: &Records,
-    calls: &BTreeSet<u64>,
+    lines: Range<'_, (u64, u64)>,
     device: DeviceId,
     but: Option<u64>,
     kind: Use,
 ) -> bool
-    ensures { result ≡ list_any (λ k. not (has but k) && is_used (uses kind) (connection_of records.now k device)) calls.now.keys }
+    ensures { result ≡ list_any (λ k. not (has but k.1) && is_used (uses kind) (connection_of records.now k.1 device)) lines.entry }
 {
-    for call in calls {
-        if call_uses(records, *call, device, but, kind) {
+    for key in lines {
+        if call_uses(records, key.1, device, but, kind) {
             return true;
         }
     }
@@ -75,10 +77,9 @@ fn any_call_uses(
 }
 
 /// A connection at the device, but for one of the call that is left out, uses it so.
-#[tactic(auto, unfolding(crate::specs::Sets::holds))]
 pub(crate) fn is_in_use(
     records: &Records,
-    lines: &BTreeMap<DeviceId, BTreeSet<u64>>,
+    lines: &BTreeSet<(u64, u64)>,
     device: DeviceId,
     but: Option<u64>,
     kind: Use,
@@ -87,10 +88,7 @@ pub(crate) fn is_in_use(
     requires listed { Lines records.now lines.now }
     ensures { result ≡ is_in_use records.now device but kind }
 {
-    match lines.get(&device) {
-        None => false,
-        Some(calls) => any_call_uses(records, calls, device, but, kind),
-    }
+    any_call_uses(records, lines_at(lines, device), device, but, kind)
 }
 
 /// The agent is logged on at the station.

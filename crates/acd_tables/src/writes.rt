@@ -44,7 +44,7 @@ impl Tables {
         ensures ok { OnOk result (self.new ≡ with_connection self.old item) }
         ensures err { OnErr result (self.new ≡ self.old) }
     {
-        put_connection(self.alloc, &mut self.records, &mut self.indexes, &item)
+        put_connection(&mut self.records, &mut self.indexes, &item)
     }
 
     /// Puts the monitor, and raises the last monitor to a greater one.

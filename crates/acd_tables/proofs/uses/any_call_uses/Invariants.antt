@@ -5,7 +5,7 @@ use Rattle.acd_terms.specs.Scans.{connection_of, has}
 use Rattle.acd_tables.specs.Uses.{uses, is_used}
 use Rattle.acd_tables.proofs.uses.any_call_uses.Given as goal
 
-abbrev pub invariant-loop-call : goal.invariant-loop-call
-invariant-loop-call l =
-    list_any (λ k. not (has l.but k) && is_used (uses l.kind) (connection_of l.records k l.device)) l.call-iterator
-    ≡ list_any (λ k. not (has l.but k) && is_used (uses l.kind) (connection_of l.records k l.device)) l.calls.keys
+abbrev pub invariant-loop-key : goal.invariant-loop-key
+invariant-loop-key l =
+    list_any (λ k. not (has l.but k.1) && is_used (uses l.kind) (connection_of l.records k.1 l.device)) l.key-iterator
+    ≡ list_any (λ k. not (has l.but k.1) && is_used (uses l.kind) (connection_of l.records k.1 l.device)) l.fn.lines

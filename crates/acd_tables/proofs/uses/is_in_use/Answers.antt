@@ -1,10 +1,9 @@
-use Rattle.std.proofs.Common.{sym, ◌∙◌}
-use Rattle.acd_tables.proofs.Looking.{in_use-none, in_use-some}
+use Rattle.std.proofs.Common.{◌∙◌}
+use Rattle.acd_tables.specs.Uses.{uses}
+use Rattle.acd_tables.proofs.Looking.{any-listed}
 use Rattle.acd_tables.proofs.uses.is_in_use.Goals as goal
 
-pub returns-in-None : goal.returns-in-None
-returns-in-None c = in_use-none c.args.records.now c.args.lines.now c.args.device c.args.but c.args.kind c.requires.ascending c.requires.listed (sym c.in-None.ensures.value)
-
-pub returns-in-Some : goal.returns-in-Some
-returns-in-Some c =
-    c.any_call_uses.ensures ∙ in_use-some c.args.records.now c.args.lines.now c.args.device c.args.but c.args.kind c.requires.ascending c.requires.listed c.in-Some.calls.now (sym c.in-Some.ensures.value)
+pub returns : goal.returns
+returns c =
+    c.any_call_uses.ensures
+    ∙ any-listed c.args.records.now (uses c.args.kind) c.args.device c.args.but c.lines_at.result c.requires.ascending (λ k e. c.lines_at.ensures k (c.requires.listed k c.args.device e))

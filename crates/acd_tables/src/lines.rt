@@ -1,0 +1,63 @@
+//! The calls that are listed at a device.
+
+ghost use Rattle.std.specs.Prelude.{◌≡◌, ℕ, true, not, is_some, OnOk, OnErr};
+ghost use Rattle.std.specs.BTreeSet.{contains};
+ghost use Rattle.acd_terms.specs.Lists.{Among};
+ghost use Rattle.acd_tables.specs.Sets.{Noted, Forgotten};
+ghost use Rattle.acd_tables.specs.Indexed.{pair_cmp, joins};
+ghost use Rattle.acd_tables.specs.Uses.{first_line, past_lines};
+
+use crate::sets::{forget, note};
+use acd_terms::{ConnectionRecord, DeviceId};
+use std::alloc::AllocError;
+use std::collections::BTreeSet;
+use std::collections::btree_set::Range;
+use std::ops::Bound;
+
+// At the calls of the device.
+#[tactic(auto, unfolding(crate::specs::Uses::first_line))]
+fn first_line(device: DeviceId) -> Bound<(u64, u64)>
+    ensures { result ≡ first_line device }
+{
+    Bound::Included((device.number(), 0))
+}
+
+// Behind the calls of the device.
+#[tactic(auto, unfolding(crate::specs::Uses::past_lines))]
+fn past_lines(device: DeviceId) -> Bound<(u64, u64)>
+    ensures { result ≡ past_lines device }
+{
+    let number = device.number();
+    if number == u64::MAX {
+        Bound::Unbounded
+    } else {
+        Bound::Excluded((number + 1, 0))
+    }
+}
+
+/// The keys of the calls that are listed at the device.
+pub(crate) fn lines_at(lines: &BTreeSet<(u64, u64)>, device: DeviceId) -> Range<'_, (u64, u64)>
+    ensures { (c : ℕ) → joins lines.now device c ≡ true → Among (device, c) result }
+{
+    lines.range((first_line(device), past_lines(device)))
+}
+
+/// Lists the call at the device, where it had no connection there.
+pub(crate) fn list(
+    lines: &mut BTreeSet<(u64, u64)>,
+    device: DeviceId,
+    call: u64,
+    old: &Option<ConnectionRecord>,
+) -> Result<(), AllocError>
+    ensures ok { OnOk result (Noted pair_cmp lines.old lines.new (device, call) (not (is_some old.now))) }
+    ensures err { OnErr result ((k : ℕ × ℕ) → contains pair_cmp lines.new k ≡ contains pair_cmp lines.old k) }
+{
+    note(lines, (device.number(), call), old.is_none())
+}
+
+/// Lists the call at the device no more.
+pub(crate) fn unlist(lines: &mut BTreeSet<(u64, u64)>, device: DeviceId, call: u64)
+    ensures { Forgotten pair_cmp lines.old lines.new (device, call) true }
+{
+    forget(lines, (device.number(), call), true);
+}
