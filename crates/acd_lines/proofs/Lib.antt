@@ -7,3 +7,4 @@ pub mod AnswerTexts
 pub mod Reaching
 pub mod Turns
 pub mod Telling
+pub mod Plans

@@ -1,7 +1,8 @@
 -- The output of an input: one answer line for each line, with the answers to the arrivals in order.
-use Rattle.std.specs.Prelude.{◌≡◌, ◌⊎◌, ℕ, List, [], ◌∷◌, ◌++◌, filter, Option, IfSome}
+use Rattle.std.specs.Prelude.{◌≡◌, ◌⊎◌, ℕ, List, [], ◌∷◌, ◌++◌, filter, map, Option, IfSome}
 use Rattle.std.specs.List.{concat}
 use Rattle.std.specs.Io.BufRead.{ends_with_byte}
+use Rattle.acd_terms.specs.declared.command.Request.{Request}
 use Rattle.acd_codec.specs.declared.member.Member.TheVariants as members
 use Rattle.acd_codec.specs.declared.fault.FixedAnswer.TheVariants as fixed
 use Rattle.acd_desk.specs.declared.taken.Taken.{Taken}
@@ -37,3 +38,7 @@ pub record IsBegun (lines : List Line) (answers : List Taken) (written : List �
   pub unwritten : List ℕ
   pub answered : AnswerLines lines answers outs
   pub whole : concat outs ≡ written ++ unwritten
+
+-- the requests of a plan, which come in at moment 0
+abbrev pub imported : List Request → List Line
+imported requests = map (arrival 0) requests

@@ -1,10 +1,15 @@
 -- For private clauses: the lines that were answered so far, by a relation of the desk, a line, what is written for it, and the desk after it.
-use Rattle.std.specs.Prelude.{◌≡◌, ℕ, List, [], ◌∷◌, ◌++◌, take, true, Option}
+use Rattle.std.specs.Prelude.{◌≡◌, ℕ, List, [], ◌∷◌, ◌++◌, map, take, true, Option}
 use Rattle.std.specs.List.{concat, list_all}
 use Rattle.std.specs.Io.BufRead.{ends_with_byte}
+use Rattle.std.specs.Io.KnownBytes.{Appends}
+use Rattle.acd_terms.specs.declared.command.Request.{Request}
+use Rattle.acd_desk.specs.declared.taken.Taken.{Taken}
+use Rattle.acd_desk.specs.Arrived.{at}
+use Rattle.acd_desk.specs.Ran.{Standing, Ran}
 use Rattle.acd_lines.specs.Input.{Line, has_none, line_of, text_of, cut}
 use Rattle.acd_lines.specs.Answers.{line_text}
-use Rattle.acd_lines.specs.Output.{whole_lines}
+use Rattle.acd_lines.specs.Output.{whole_lines, AnswerLines, IsBegun, imported}
 use Rattle.acd_lines.specs.Sent.{Passes, Begins}
 use Rattle.acd_lines.specs.declared.answer_line.AnswerLine.{AnswerLine}
 use Rattle.acd_lines.specs.declared.answer_line.AnswerLine.TheVariants.{Made, Fixed}
@@ -82,6 +87,20 @@ module _ {S : Type 0} (Answers : S → Line → List ℕ → S → Type 0) where
   abbrev pub FinishStops : S → S → List ℕ → Option (List ℕ) → Option (List ℕ) → List ℕ → Type 0
   FinishStops mid t kept old new before = (s : S) (seen part answers : List ℕ) → kept ≡ take 4109 part → Reached s seen part answers mid
       → (out : List ℕ) × ServesAll s seen (answers ++ out) t × Begins old new (before ++ out)
+
+module _ {D : Type 0} (stands : D → Standing) where
+  -- the requests of a plan were taken, and their answers were written but for what waits
+  pub record Imports (d : D) (requests : List Request) (e : D) (old new : Option (List ℕ)) (waiting : List ℕ) : Type 0 where
+    pub answers : List Taken
+    pub outs : List (List ℕ)
+    pub answered : AnswerLines (imported requests) answers outs
+    pub passes : Passes old new waiting (concat outs)
+    pub ran : Ran (stands d) (map (at 0) requests) answers (stands e)
+
+  -- the writer stopped, and some of them were taken
+  abbrev pub ImportStops : D → List Request → D → Option (List ℕ) → Option (List ℕ) → Type 0
+  ImportStops d requests e old new = (written : List ℕ) × (n : ℕ) × (answers : List Taken) × IsBegun (imported (take n requests)) answers written × Appends old new written
+      × Ran (stands d) (map (at 0) (take n requests)) answers (stands e)
 
 -- the text of an answer
 abbrev pub answered_text : AnswerLine → List ℕ

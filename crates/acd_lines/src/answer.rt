@@ -64,7 +64,13 @@ fn written(alloc: Global, request: &Request, taken: Taken) -> AnswerLine
     }
 }
 
-fn execute<B: Book>(alloc: Global, desk: &mut Desk<B>, moment: u32, request: &Request) -> AnswerLine
+/// The answer to a request that comes in at a moment.
+pub(crate) fn execute<B: Book>(
+    alloc: Global,
+    desk: &mut Desk<B>,
+    moment: u32,
+    request: &Request,
+) -> AnswerLine
     ensures { Answers (standing B.Book) desk.old (arrival moment request.now) (answered_text result) desk.new }
 {
     let taken = desk.take(moment, request);

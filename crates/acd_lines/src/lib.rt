@@ -1,8 +1,10 @@
-//! Requests in lines, replies in lines: [`lines`] answers each line that it reads over a desk.
+//! Requests in lines, replies in lines: [`lines`] answers each line that it reads over a desk, and
+//! [`import`] takes the requests of a plan.
 #![tactic(auto)]
 
 mod answer;
 mod answer_line;
+mod importing;
 mod moment;
 mod outbox;
 mod partial;
@@ -13,4 +15,5 @@ mod split;
 #[cfg(test)]
 mod tests;
 
+pub use importing::import;
 pub use session::{LinesFault, lines};

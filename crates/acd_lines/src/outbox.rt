@@ -31,6 +31,16 @@ impl Outbox {
         })
     }
 
+    /// One in which nothing waits: each text goes out at once. It takes no memory.
+    pub(crate) fn unbuffered(alloc: Global) -> Outbox
+        ensures { result.waiting.items ≡ [] }
+    {
+        Outbox {
+            waiting: Vec::new(alloc),
+            calls: CALLS,
+        }
+    }
+
     /// The text goes behind what waits. A text that is longer than the room goes out at once.
     pub(crate) fn push<W: Write>(&mut self, writer: &mut W, text: &[u8]) -> Result<(), Stopped>
         ensures ok { OnOk result (Passes (W.contents writer.old) (W.contents writer.new) self.new.waiting.items (self.old.waiting.items ++ text.now)) }

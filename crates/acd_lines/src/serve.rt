@@ -21,7 +21,7 @@ use std::alloc::Global;
 use std::io::Write;
 
 // Puts the answer line behind what waits.
-fn push_answer<W: Write>(
+pub(crate) fn push_answer<W: Write>(
     outbox: &mut Outbox,
     writer: &mut W,
     answered: &AnswerLine,

@@ -1,0 +1,80 @@
+//! The requests of a plan, and their answer lines.
+
+ghost use Rattle.std.specs.Prelude.{◌≡◌, ℕ, List, [], map, take, OnOk, OnErr, IfErr};
+ghost use Rattle.std.specs.Io.KnownBytes.{Appends};
+ghost use Rattle.acd_desk.specs.declared.taken.Taken.{Taken};
+ghost use Rattle.acd_desk.specs.Arrived.{at};
+ghost use Rattle.acd_desk.specs.Ran.{standing, Ran};
+ghost use Rattle.acd_lines.specs.Input.{arrival};
+ghost use Rattle.acd_lines.specs.Answers.{Answers};
+ghost use Rattle.acd_lines.specs.Output.{IsOutput, IsBegun, imported};
+ghost use Rattle.acd_lines.specs.Parts.{LineDone, LineStops, Imports, ImportStops};
+
+use crate::answer::execute;
+use crate::outbox::Outbox;
+use crate::send::Stopped;
+use crate::serve::push_answer;
+use crate::session::LinesFault;
+use acd_book::Book;
+use acd_desk::Desk;
+use acd_terms::Request;
+use std::alloc::{AllocError, Global};
+use std::io::Write;
+
+// Answers a request of the plan.
+fn serve_request<B: Book, W: Write>(
+    alloc: Global,
+    desk: &mut Desk<B>,
+    outbox: &mut Outbox,
+    writer: &mut W,
+    request: &Request,
+) -> Result<(), Stopped>
+    ensures ok { OnOk result (LineDone (Answers (standing B.Book)) desk.old (arrival 0 request.now) desk.new (W.contents writer.old) (W.contents writer.new) outbox.old.waiting.items outbox.new.waiting.items) }
+    ensures err { OnErr result (LineStops (Answers (standing B.Book)) desk.old (arrival 0 request.now) desk.new (W.contents writer.old) (W.contents writer.new) outbox.old.waiting.items) }
+{
+    let answered = execute(alloc, desk, 0, request);
+    push_answer(outbox, writer, &answered)
+}
+
+// Answers all of them.
+fn serve_requests<B: Book, W: Write>(
+    alloc: Global,
+    desk: &mut Desk<B>,
+    outbox: &mut Outbox,
+    writer: &mut W,
+    requests: &[Request],
+) -> Result<(), Stopped>
+    requires { outbox.old.waiting.items ≡ [] }
+    ensures ok { OnOk result (Imports (standing B.Book) desk.old requests.now desk.new (W.contents writer.old) (W.contents writer.new) []) }
+    ensures err { OnErr result (ImportStops (standing B.Book) desk.old requests.now desk.new (W.contents writer.old) (W.contents writer.new)) }
+{
+    for request in requests {
+        serve_request(alloc, desk, outbox, writer, request)?;
+    }
+    outbox.flush(writer)
+}
+
+/// Takes each request at moment 0, and writes one answer line for each. Want of memory in a request is
+/// its answer, and so is a store that fails: the writer alone ends it early. Calls that are interrupted
+/// are made again.
+pub fn import<B: Book, W: Write>(
+    alloc: Global,
+    desk: &mut Desk<B>,
+    requests: &[Request],
+    writer: &mut W,
+) -> Result<(), LinesFault>
+    // one answer line for each request, and the desk has run over them
+    ensures ok { OnOk result ((written : List ℕ) × (answers : List Taken) × IsOutput (imported requests.now) answers written × Appends (W.contents writer.old) (W.contents writer.new) written
+        × Ran (standing B.Book desk.old) (map (at 0) requests.now) answers (standing B.Book desk.new)) }
+    // else the writer has failed, behind a beginning of them
+    ensures stopped { OnErr result ((written : List ℕ) × (n : ℕ) × (answers : List Taken) × IsBegun (imported (take n requests.now)) answers written × Appends (W.contents writer.old) (W.contents writer.new) written
+        × Ran (standing B.Book desk.old) (map (at 0) (take n requests.now)) answers (standing B.Book desk.new)) }
+    ensures fault { IfErr result (λ fault. fault ≡ LinesFault.Write) }
+{
+    let mut outbox = match Outbox::new(alloc) {
+        Ok(outbox) => outbox,
+        Err(AllocError) => Outbox::unbuffered(alloc),
+    };
+    serve_requests(alloc, desk, &mut outbox, writer, requests)?;
+    Ok(())
+}
