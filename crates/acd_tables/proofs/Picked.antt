@@ -10,7 +10,7 @@ use Rattle.std.specs.BTreeMap.{BTreeMap, get}
 use Rattle.std.specs.Cmp.{IsTotalOrder}
 use Rattle.std.specs.BTreeSet.{BTreeSet, contains}
 use Rattle.std.proofs.lemmas.Bool.{and_parts, eqb-true, eq-eqb}
-use Rattle.std.proofs.lemmas.Cmp.{nat_cmp_total, on_total}
+use Rattle.std.proofs.lemmas.Cmp.{nat_cmp_total, on_total, then_total}
 use Rattle.std.proofs.lemmas.Map.Lookups.{exact_unsigned}
 use Rattle.acd_terms.specs.Lists.{Among, AllAfter, IsAscending}
 use Rattle.acd_terms.specs.Rules.Plan.{agent_order, connection_order}
@@ -20,7 +20,7 @@ use Rattle.acd_terms.specs.declared.record.AgentRecord.{AgentRecord}
 use Rattle.acd_terms.specs.declared.record.ConnectionRecord.{ConnectionRecord}
 use Rattle.acd_laws.proofs.Lists.{eq_is, after_among, any_found, find_passes, find_among, some_from, filter_among, among-filter, ascending-filter}
 use Rattle.acd_laws.proofs.State.{cmp_self, connections_total, agents_total, connection_among, connection_found, found_key, agent_among, agent_found, agent_key}
-use Rattle.acd_tables.specs.AtDevice.{is_at_device, connections_at}
+use Rattle.acd_tables.specs.AtDevice.{is_at_device, connections_at, line_at}
 use Rattle.acd_tables.specs.Sets.{holds, holds_in}
 use Rattle.acd_tables.specs.Indexed.{pair_cmp, is_ringing, is_working, rings, works, Ringing, Working, Lines}
 use Rattle.acd_tables.specs.Uses.{kept}
@@ -163,51 +163,58 @@ module _ (s : Rows) where
           let found = agent_found s ascending r there.0 in
           (contained nat_cmp exact_number noted r.agent (h r.agent (ap works found ∙ there.1)), ap (kept is_working) found ∙ kept-passes is_working r there.1)
 
--- connections by their calls
-abbrev by_call : ConnectionRecord → ConnectionRecord → Ordering
-by_call x y = nat_cmp x.call y.call
+-- connections by their devices and calls
+abbrev by_line : ConnectionRecord → ConnectionRecord → Ordering
+by_line x y = pair_cmp (x.device, x.call) (y.device, y.call)
 
-less_call : (x y : ConnectionRecord) → x.device ≡ y.device → connection_order x y ≡ Less → by_call x y ≡ Less
-less_call x y same less = by (nat_cmp x.call y.call) refl
+by_line_total : IsTotalOrder by_line
+by_line_total = then_total (on_total (λ (c : ConnectionRecord). c.device) nat_cmp_total) (on_total (λ (c : ConnectionRecord). c.call) nat_cmp_total)
+
+less_line : (x y : ConnectionRecord) → x.device ≡ y.device → connection_order x y ≡ Less → by_line x y ≡ Less
+less_line x y same less = rw (cmp_self x.device y.device same) (by (nat_cmp x.call y.call) refl)
   where
     by : (o : Ordering) → nat_cmp x.call y.call ≡ o → o ≡ Less
     by Less e = refl
     by Equal e = absurd (let both : ordering_then (nat_cmp x.call y.call) (nat_cmp x.device y.device) ≡ Less = less in let at = cmp_self x.device y.device same in cc (both, e, at))
     by Greater e = absurd (let both : ordering_then (nat_cmp x.call y.call) (nat_cmp x.device y.device) ≡ Less = less in cc (both, e))
 
-after_call : (d : ℕ) (x : ConnectionRecord) → x.device ≡ d → (xs : List ConnectionRecord) → AllAfter connection_order x xs → ((z : ConnectionRecord) → Among z xs → z.device ≡ d) → AllAfter by_call x xs
-after_call d x at [] h there = tt
-after_call d x at (y ∷ ys) h there = (less_call x y (at ∙ sym (there y (inl refl))) h.0, after_call d x at ys h.1 (λ z a. there z (inr a)))
+after_line : (d : ℕ) (x : ConnectionRecord) → x.device ≡ d → (xs : List ConnectionRecord) → AllAfter connection_order x xs → ((z : ConnectionRecord) → Among z xs → z.device ≡ d) → AllAfter by_line x xs
+after_line d x at [] h there = tt
+after_line d x at (y ∷ ys) h there = (less_line x y (at ∙ sym (there y (inl refl))) h.0, after_line d x at ys h.1 (λ z a. there z (inr a)))
 
-ascending_calls : (d : ℕ) (xs : List ConnectionRecord) → IsAscending connection_order xs → ((z : ConnectionRecord) → Among z xs → z.device ≡ d) → IsAscending by_call xs
-ascending_calls d [] h there = tt
-ascending_calls d (x ∷ xs) h there = (after_call d x (there x (inl refl)) xs h.0 (λ z a. there z (inr a)), ascending_calls d xs h.1 (λ z a. there z (inr a)))
+ascending_lines : (d : ℕ) (xs : List ConnectionRecord) → IsAscending connection_order xs → ((z : ConnectionRecord) → Among z xs → z.device ≡ d) → IsAscending by_line xs
+ascending_lines d [] h there = tt
+ascending_lines d (x ∷ xs) h there = (after_line d x (there x (inl refl)) xs h.0 (λ z a. there z (inr a)), ascending_lines d xs h.1 (λ z a. there z (inr a)))
 
 module _ (s : Rows) (d : ℕ) (ascending : IsAscending connection_order s.connections) where
+  at-own : (p : ℕ × ℕ) (r : ConnectionRecord) → line_at s d p ≡ Some r → (p.0 ≡ d) × (connection_of s p.1 d ≡ Some r)
+  at-own p r e = by (p.0 == d) refl e
+    where
+      by : (b : Bool) → (p.0 == d) ≡ b → cond b (connection_of s p.1 d) None ≡ Some r → (p.0 ≡ d) × (connection_of s p.1 d ≡ Some r)
+      by true at h = (eqb-true p.0 d at, h)
+      by false at h = absurd (cc (h))
+
   -- among the calls that are listed are all that have a connection there
-  picks-at : (calls : List ℕ) → ((c : ℕ) → is_some (connection_of s c d) ≡ true → Among c calls) → IsStrictlySortedBy nat_cmp calls
-      → filter_map (λ k. connection_of s k d) calls ≡ filter (is_at_device d) s.connections
-  picks-at calls listed sorted = picked nat_cmp by_call (λ c. c.call) (λ x y. refl) (λ k. connection_of s k d) own (on_total (λ (c : ConnectionRecord). c.call) nat_cmp_total) calls (filter (is_at_device d) s.connections) sorted
-      (ascending_calls d (filter (is_at_device d) s.connections) (ascending-filter connection_order (is_at_device d) s.connections ascending)
+  pub picks-at : (keys : List (ℕ × ℕ)) → ((c : ℕ) → is_some (connection_of s c d) ≡ true → Among (d, c) keys) → IsStrictlySortedBy pair_cmp keys
+      → filter_map (line_at s d) keys ≡ connections_at s d
+  unfolding connections_at
+  picks-at keys listed sorted = picked pair_cmp by_line (λ c. (c.device, c.call)) (λ x y. refl) (line_at s d) own by_line_total keys (filter (is_at_device d) s.connections) sorted
+      (ascending_lines d (filter (is_at_device d) s.connections) (ascending-filter connection_order (is_at_device d) s.connections ascending)
       (λ z a. eqb-true z.device d (filter_among (is_at_device d) s.connections z a).1)) to back
     where
-      own : (k : ℕ) (r : ConnectionRecord) → connection_of s k d ≡ Some r → r.call ≡ k
-      own k r e = (found_key s k d r e).0
+      own : (p : ℕ × ℕ) (r : ConnectionRecord) → line_at s d p ≡ Some r → (r.device, r.call) ≡ p
+      own p r e =
+          let there = at-own p r e in
+          let k = found_key s p.1 d r there.1 in ap (λ a. (a, r.call)) (k.1 ∙ sym there.0) ∙ ap (λ b. (p.0, b)) k.0
 
-      to : (k : ℕ) (r : ConnectionRecord) → connection_of s k d ≡ Some r → Among r (filter (is_at_device d) s.connections)
-      to k r e = among-filter (is_at_device d) s.connections r (connection_among s k d r e) (eq-eqb r.device d (found_key s k d r e).1)
+      to : (p : ℕ × ℕ) (r : ConnectionRecord) → line_at s d p ≡ Some r → Among r (filter (is_at_device d) s.connections)
+      to p r e =
+          let there = at-own p r e in
+          among-filter (is_at_device d) s.connections r (connection_among s p.1 d r there.1) (eq-eqb r.device d (found_key s p.1 d r there.1).1)
 
-      back : (r : ConnectionRecord) → Among r (filter (is_at_device d) s.connections) → Among r.call calls × (connection_of s r.call d ≡ Some r)
+      back : (r : ConnectionRecord) → Among r (filter (is_at_device d) s.connections) → Among (r.device, r.call) keys × (line_at s d (r.device, r.call) ≡ Some r)
       back r a =
           let there = filter_among (is_at_device d) s.connections r a in
-          let found : connection_of s r.call d ≡ Some r = subst (λ z. connection_of s r.call z ≡ Some r) (eqb-true r.device d there.1) (connection_found s ascending r there.0) in
-          (listed r.call (ap is_some found), found)
-
-  pub at-none : (lines : BTreeMap ℕ (BTreeSet ℕ)) → Lines s lines → get nat_cmp lines d ≡ None → [] ≡ connections_at s d
-  unfolding holds connections_at IsStrictlySortedBy
-  at-none lines listed none = picks-at [] (λ c e. absurd (let there = sym (ap (λ o. holds_in nat_cmp nat_cmp o c) none) ∙ listed c d e in cc there)) tt
-
-  pub at-some : (lines : BTreeMap ℕ (BTreeSet ℕ)) (calls : BTreeSet ℕ) → Lines s lines → get nat_cmp lines d ≡ Some calls → IsStrictlySortedBy nat_cmp calls.keys
-      → filter_map (λ k. connection_of s k d) calls.keys ≡ connections_at s d
-  unfolding holds connections_at IsStrictlySortedBy
-  at-some lines calls listed there sorted = picks-at calls.keys (λ c e. contained nat_cmp exact_number calls c (sym (ap (λ o. holds_in nat_cmp nat_cmp o c) there) ∙ listed c d e)) sorted
+          let at = eqb-true r.device d there.1 in
+          let found : connection_of s r.call d ≡ Some r = subst (λ z. connection_of s r.call z ≡ Some r) at (connection_found s ascending r there.0) in
+          (subst (λ z. Among (z, r.call) keys) (sym at) (listed r.call (ap is_some found)), rw there.1 found)

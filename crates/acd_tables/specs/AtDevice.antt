@@ -1,5 +1,6 @@
 -- The connections at a device.
-use Rattle.std.specs.Prelude.{ℕ, Bool, ◌==◌, List, filter}
+use Rattle.std.specs.Prelude.{ℕ, Bool, ◌==◌, List, filter, Option, None, if◌then◌else◌}
+use Rattle.acd_terms.specs.Scans.{connection_of}
 use Rattle.acd_terms.specs.declared.rows.Rows.{Rows}
 use Rattle.acd_terms.specs.declared.record.ConnectionRecord.{ConnectionRecord}
 
@@ -8,3 +9,7 @@ is_at_device device c = c.device == device
 
 unfoldable pub connections_at : Rows → ℕ → List ConnectionRecord
 connections_at s device = filter (is_at_device device) s.connections
+
+-- the connection there of a call that may be listed there
+abbrev pub line_at : Rows → ℕ → ℕ × ℕ → Option ConnectionRecord
+line_at s device p = if p.0 == device then connection_of s p.1 device else None

@@ -2,6 +2,7 @@
 
 ghost use Rattle.std.specs.Prelude.{◌≡◌, ℕ, true, not, is_some, OnOk, OnErr};
 ghost use Rattle.std.specs.BTreeSet.{contains};
+ghost use Rattle.std.specs.List.Sorted.{IsStrictlySortedBy};
 ghost use Rattle.acd_terms.specs.Lists.{Among};
 ghost use Rattle.acd_tables.specs.Sets.{Noted, Forgotten};
 ghost use Rattle.acd_tables.specs.Indexed.{pair_cmp, joins};
@@ -37,7 +38,8 @@ fn past_lines(device: DeviceId) -> Bound<(u64, u64)>
 
 /// The keys of the calls that are listed at the device.
 pub(crate) fn lines_at(lines: &BTreeSet<(u64, u64)>, device: DeviceId) -> Range<'_, (u64, u64)>
-    ensures { (c : ℕ) → joins lines.now device c ≡ true → Among (device, c) result }
+    ensures listed { (c : ℕ) → joins lines.now device c ≡ true → Among (device, c) result }
+    ensures sorted { IsStrictlySortedBy pair_cmp result }
 {
     lines.range((first_line(device), past_lines(device)))
 }

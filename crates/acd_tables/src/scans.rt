@@ -10,17 +10,17 @@ ghost use Rattle.acd_tables.specs.Indexed.{pair_cmp, is_ringing, is_working};
 ghost use Rattle.acd_tables.specs.Uses.{kept};
 ghost use Rattle.acd_tables.specs.Uses.{is_in_use};
 ghost use Rattle.acd_tables.specs.FirstOffer.{offer_in_group};
-ghost use Rattle.acd_tables.specs.AtDevice.{connections_at};
+ghost use Rattle.acd_tables.specs.AtDevice.{line_at, connections_at};
 ghost use Rattle.std.specs.List.{filter_map};
-ghost use Rattle.std.specs.List.Sorted.{IsStrictlySortedBy};
-ghost use Rattle.std.specs.Ordering.{nat_cmp};
 
+use crate::lines::lines_at;
 use crate::sets::first_in;
 use crate::tables::Tables;
 use crate::uses::{Use, agent_at, is_in_use, is_ringing};
 use acd_terms::{AgentId, AgentRecord, ConnectionRecord, DeviceId, Offer};
 use std::alloc::AllocError;
 use std::collections::BTreeSet;
+use std::collections::btree_set::Range;
 
 impl Tables {
     /// The agent logged on at the station.
@@ -44,18 +44,29 @@ impl Tables {
         self.records.other_of(connection)
     }
 
-    // The connections of the calls at the device, where they have one there.
+    // The connection at the device of a call that is listed there. A range that has no end goes on to
+    // other devices.
+    fn line_at(&self, key: &(u64, u64), device: DeviceId) -> Option<ConnectionRecord>
+        ensures { result ≡ line_at self.now device key.now }
+    {
+        if key.0 == device.number() {
+            self.connection(key.1, device)
+        } else {
+            None
+        }
+    }
+
+    // The connections at the device of the calls that are listed there.
     fn connections_among(
         &self,
-        calls: &BTreeSet<u64>,
+        lines: Range<'_, (u64, u64)>,
         device: DeviceId,
     ) -> Result<Vec<ConnectionRecord>, AllocError>
-        ensures found { IfOk result (λ v. v.items ≡ filter_map (λ call. connection_of self.now call device) calls.now.keys) }
-        ensures sorted { IsStrictlySortedBy nat_cmp calls.now.keys }
+        ensures { IfOk result (λ v. v.items ≡ filter_map (line_at self.now device) lines.entry) }
     {
         let mut found = Vec::new(self.alloc);
-        for call in calls {
-            if let Some(connection) = self.connection(*call, device) {
+        for key in lines {
+            if let Some(connection) = self.line_at(key, device) {
                 found.push(connection)?;
             }
         }
@@ -66,10 +77,7 @@ impl Tables {
     pub fn connections_at(&self, device: DeviceId) -> Result<Vec<ConnectionRecord>, AllocError>
         ensures { IfOk result (λ v. v.items ≡ connections_at self.now device) }
     {
-        match self.indexes.lines.get(&device) {
-            None => Ok(Vec::new(self.alloc)),
-            Some(calls) => self.connections_among(calls, device),
-        }
+        self.connections_among(lines_at(&self.indexes.lines, device), device)
     }
 
     // A connection at the device uses it so.
