@@ -13,15 +13,20 @@
 
 mod desk;
 mod executing;
+mod export;
+mod fault;
 pub mod laws;
 mod open_fault;
+mod reads;
 mod requests;
+mod table_reads;
 mod taken;
 #[cfg(test)]
 mod tests;
 mod working;
 
 pub use desk::Desk;
+pub use fault::DeskFault;
 pub use open_fault::OpenFault;
 pub use requests::is_same;
 pub use taken::Taken;
