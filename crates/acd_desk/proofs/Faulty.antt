@@ -88,30 +88,3 @@ faulted old a d w faults.NoMemory undone quiet cause counts working works mirror
     subst (λ (b : Bool). Took old a NoMemory (record { book = d; switch = switch_of w; failed = b })) (sym works)
     (no_memory old a d (switch_of w) undone (quiet (λ is. no_fault is)) working mirrors)
 faulted old a d w faults.Store undone quiet cause counts working works mirrors = store_fault old a d undone counts (inl (inr (cause refl)))
-
-err_is : {A : Type 0} {e f : BookFault} → ◌≡◌ {A = Result A BookFault} (Err e) (Err f) → e ≡ f
-err_is h = cc
-
--- a read that gave none
-pub unread : {A : Type 0} (b d : BookState) (w : Working) (a : Arrival) (f : BookFault) (IsAnswer : Content → A → Type 0) → Reads b d (Err f) IsAnswer → is_failed w ≡ false
-    → Took (record { book = b; switch = switch_of w; failed = is_failed w }) a (answer_to f) (record { book = d; switch = switch_of (left_by f w); failed = is_failed (left_by f w) })
-unread b d w a f IsAnswer reads works =
-    let old : Standing = record { book = b; switch = switch_of w; failed = is_failed w } in
-    faulted old a d w f (read old a d (Err f) IsAnswer reads)
-    (λ none. reads.quiet (λ is. none (err_is is))) (λ is. reads.cause (ap Err is)) reads.counts works works (λ s same. same)
-
--- the rows were read, and make no switch
-pub unloaded : (b d : BookState) (a : Arrival) (rows : Rows) (f : BookFault) → Reads b d (Ok rows) (λ (c : Content) (found : Rows). found ≡ c.rows) → (f ≡ faults.Store → ¬ (BreaksNoRule rows))
-    → Took (record { book = b; switch = None; failed = false }) a (answer_to f) (record { book = d; switch = switch_of (left_by f Unloaded); failed = is_failed (left_by f Unloaded) })
-unloaded b d a rows faults.NoMemory reads broken =
-    let old : Standing = record { book = b; switch = None; failed = false } in
-    no_memory old a d None (read old a d (Ok rows) _ reads) (reads.quiet (λ is. ok_err is)) refl (λ s same. same)
-unloaded b d a rows faults.Store reads broken =
-    let old : Standing = record { book = b; switch = None; failed = false } in
-    store_fault old a d (read old a d (Ok rows) _ reads) reads.counts
-    (inr (
-      refl,
-      λ honest.
-          let told = reads.value honest.0 honest.1 in
-          broken refl (subst BreaksNoRule (sym told.1) (honest.2 told.0 refl).0),
-    ))

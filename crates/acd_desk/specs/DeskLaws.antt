@@ -8,6 +8,7 @@ use Rattle.acd_desk.specs.Firsts.{firsts, run}
 use Rattle.acd_desk.specs.Replies.{reply_to, IsReplyAt, after}
 use Rattle.acd_desk.specs.Stands.{arrivals_of, IsSound, ran_after, raised_from}
 use Rattle.acd_desk.specs.Laws.{KeepsLaws}
+use Rattle.acd_desk.specs.Tells.{Rise}
 
 -- one more arrival leads from the run of a list to the run of the longer list
 abbrev pub OneMoreArrival : Type 0
@@ -34,3 +35,7 @@ abbrev pub KeepsFirsts : Type 0
 KeepsFirsts = (start : Content) (list : List Arrival)
     → arrivals_of (ran_after start list).kept
     ≡ raised_from (empty_content start.rows.limits) (firsts start.rows.limits.requests (arrivals_of start.kept ++ list))
+
+-- the events of a sound content stand in ascending number
+abbrev pub EventsInOrder : Type 0
+EventsInOrder = (c : Content) → IsSound c → Rise 0 c.events

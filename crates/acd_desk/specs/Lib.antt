@@ -11,3 +11,5 @@ pub mod Laws
 pub mod Opening
 pub mod DeskLaws
 pub mod Ran
+pub mod Tells
+pub mod Told

@@ -6,11 +6,13 @@ ghost use Rattle.acd_desk.specs.Standing.{standing, book_of, holding, with_new_k
 ghost use Rattle.acd_terms.specs.Lists.{Every};
 ghost use Rattle.acd_desk.specs.Ran.{Took, Ran, EndsIn, IsStoreFault};
 ghost use Rattle.acd_desk.specs.Reread.{Reread};
-ghost use Rattle.acd_desk.specs.Faults.{answer_to, left_by};
+ghost use Rattle.acd_desk.specs.Told.{TellsNothing};
+ghost use Rattle.acd_desk.specs.Faults.{answer_to, fault_of, left_by};
 ghost use Rattle.acd_desk.specs.Opening.{Opened, Refused};
 ghost use Rattle.acd_desk.specs.Replies.{answer_of};
 
 use crate::executing::{executed, loaded};
+use crate::fault::DeskFault;
 use crate::open_fault::OpenFault;
 use crate::requests::is_same;
 use crate::taken::Taken;
@@ -24,55 +26,63 @@ use std::mem;
 /// A desk: the book that keeps all, and what is in memory of it.
 #[derive(Drop)]
 pub struct Desk<B: Book> {
-    alloc: Global,
-    book: B,
-    working: Working,
+    pub(crate) alloc: Global,
+    pub(crate) book: B,
+    pub(crate) working: Working,
 }
 
 impl<B: Book> Desk<B> {
-    // The answer to a fault of the book: where the store has failed, the desk has.
-    fn fault(&mut self, fault: BookFault) -> Taken
-        ensures answer { result ≡ answer_to fault }
+    // What a fault of the book is to the desk: where the store has failed, the desk has.
+    pub(crate) fn failed(&mut self, fault: BookFault) -> DeskFault
+        ensures fault { result ≡ fault_of fault }
         ensures left { self.new ≡ record self.old { working = left_by fault self.old.working } }
     {
         match fault {
-            BookFault::NoMemory => Taken::NoMemory,
+            BookFault::NoMemory => DeskFault::NoMemory,
             BookFault::Store => {
                 self.working = Working::Failed;
-                Taken::StoreFault
+                DeskFault::StoreFault
             }
         }
     }
 
+    // The answer to a fault of the book.
+    fn fault(&mut self, fault: BookFault) -> Taken
+        ensures answer { result ≡ answer_to fault }
+        ensures left { self.new ≡ record self.old { working = left_by fault self.old.working } }
+    {
+        Taken::from(self.failed(fault))
+    }
+
     // Loads the switch by the rows of the book.
-    fn load(&mut self) -> Result<LoadedSwitch, Taken>
+    fn load(&mut self) -> Result<LoadedSwitch, DeskFault>
         requires { self.old.working ≡ Working.Unloaded }
         ensures out { OnOk result (self.new.working ≡ Working.Unloaded) }
         ensures loaded { MatchResult result
             (λ taken. Reread (standing B.Book self.old) (holding (standing B.Book self.new) taken.switch))
-            (λ answer. (a : Arrival) → Took (standing B.Book self.old) a answer (standing B.Book self.new)) }
+            (λ fault. TellsNothing (standing B.Book self.old) fault (standing B.Book self.new)) }
     {
         let rows = match self.book.rows() {
             Ok(rows) => rows,
-            Err(fault) => return Err(self.fault(fault)),
+            Err(fault) => return Err(self.failed(fault)),
         };
         match loaded(self.alloc, &rows) {
             Ok(loaded) => Ok(loaded),
-            Err(fault) => Err(self.fault(fault)),
+            Err(fault) => Err(self.failed(fault)),
         }
     }
 
     // Takes the switch out of memory, or loads it. Where it isn't put back, the desk is unloaded.
-    fn switch_out(&mut self) -> Result<LoadedSwitch, Taken>
+    pub(crate) fn switch_out(&mut self) -> Result<LoadedSwitch, DeskFault>
         ensures out { OnOk result (self.new.working ≡ Working.Unloaded) }
         ensures loaded { MatchResult result
             (λ taken. Reread (standing B.Book self.old) (holding (standing B.Book self.new) taken.switch))
-            (λ answer. (a : Arrival) → Took (standing B.Book self.old) a answer (standing B.Book self.new)) }
+            (λ fault. TellsNothing (standing B.Book self.old) fault (standing B.Book self.new)) }
     {
         match mem::replace(&mut self.working, Working::Unloaded) {
             Working::Loaded(loaded) => Ok(loaded),
             Working::Unloaded => self.load(),
-            Working::Failed => Err(self.fault(BookFault::Store)),
+            Working::Failed => Err(self.failed(BookFault::Store)),
         }
     }
 
@@ -104,7 +114,7 @@ impl<B: Book> Desk<B> {
     {
         match self.switch_out() {
             Ok(loaded) => self.execute_on(loaded, moment, request),
-            Err(answer) => answer,
+            Err(fault) => Taken::from(fault),
         }
     }
 

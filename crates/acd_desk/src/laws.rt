@@ -1,7 +1,7 @@
 //! What holds of the abstract desk, whichever book keeps it. Each law is the contract of a function with
 //! an empty body, and is stated in `specs/`.
 
-ghost use Rattle.acd_desk.specs.DeskLaws.{OneMoreArrival, AnswersByPlace, SoundKeepsLaws, EmptyIsSound, StaysSound, KeepsFirsts};
+ghost use Rattle.acd_desk.specs.DeskLaws.{OneMoreArrival, AnswersByPlace, SoundKeepsLaws, EmptyIsSound, StaysSound, KeepsFirsts, EventsInOrder};
 
 /// One more arrival leads from the run of a list to the run of the longer list.
 pub fn one_more_arrival()
@@ -31,4 +31,9 @@ pub fn stays_sound()
 /// What is kept after a run is the first arrivals of the list, each at its executed moment.
 pub fn keeps_firsts()
     ensures { KeepsFirsts }
+{}
+
+/// The events of a sound content stand in ascending number, each above 0.
+pub fn events_in_order()
+    ensures { EventsInOrder }
 {}

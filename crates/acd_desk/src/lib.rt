@@ -2,26 +2,33 @@
 //!
 //! [`Desk`] stands over any [`acd_book::Book`]. What it answers and leaves is what `specs/Firsts` and
 //! `specs/Replies` say: the abstract switch run once over each request's first arrival. [`Taken`] is an
-//! answer, and [`OpenFault`] says why a book makes no desk.
+//! answer, and [`OpenFault`] says why a book makes no desk. What it tells of an agent, a call, a device, a queue or
+//! its events is what `specs/Tells` says, or a [`DeskFault`].
 //!
 //! ```ignore
 //! let mut desk = Desk::open(alloc, MemoryBook::new(alloc, Limits::GREATEST))?;
 //! let answer = desk.take(moment, &request);
+//! let queue = desk.queue(group)?;
 //! let book = desk.close();
 //! ```
 #![tactic(auto)]
 
 mod desk;
 mod executing;
+mod export;
+mod fault;
 pub mod laws;
 mod open_fault;
+mod reads;
 mod requests;
+mod table_reads;
 mod taken;
 #[cfg(test)]
 mod tests;
 mod working;
 
 pub use desk::Desk;
+pub use fault::DeskFault;
 pub use open_fault::OpenFault;
 pub use requests::is_same;
 pub use taken::Taken;

@@ -1,5 +1,6 @@
 //! What a desk answers to an arrival.
 
+use crate::fault::DeskFault;
 use acd_book::Text;
 
 /// The answer to one arrival.
@@ -15,4 +16,18 @@ pub enum Taken {
     NoMemory,
     /// The store has failed: the request was executed or not, and the desk answers nothing else.
     StoreFault,
+}
+
+impl From<DeskFault> for Taken {
+    ghost use Rattle.std.specs.Prelude.{◌≡◌};
+    ghost use Rattle.acd_desk.specs.Faults.{taken_by};
+
+    ghost from_gives = { λ fault taken. taken ≡ taken_by fault };
+
+    fn from(fault: DeskFault) -> Taken {
+        match fault {
+            DeskFault::NoMemory => Taken::NoMemory,
+            DeskFault::StoreFault => Taken::StoreFault,
+        }
+    }
 }

@@ -4,8 +4,8 @@ use super::{agent, device};
 use crate::events::page_text;
 use crate::read_texts::{PlannedDevice, agent_text, call_text, device_text, queue_text};
 use acd_terms::{
-    AgentId, AgentRecord, AgentState, CallRecord, ConnectionRecord, ConnectionState, Event, Figures,
-    GroupRecord, Listed, Name, Pending, Report, Seconds,
+    AgentId, AgentRecord, AgentState, CallRecord, ConnectionRecord, ConnectionState, Event,
+    Figures, GroupRecord, Listed, Name, Pending, Report, Seconds,
 };
 use std::alloc::Global;
 use std::process::Abort;
@@ -133,7 +133,11 @@ fn station(
     agent: Option<AgentId>,
     connections: &[ConnectionRecord],
 ) -> PlannedDevice {
-    let connections = connections.iter().copied().collect(alloc).expect(rt, "memory");
+    let connections = connections
+        .iter()
+        .copied()
+        .collect(alloc)
+        .expect(rt, "memory");
     PlannedDevice::Station {
         device: device(rt, "201"),
         agent,

@@ -1,17 +1,17 @@
 use Rattle.std.proofs.Common.{sym, subst, ap}
 use Rattle.acd_desk.specs.declared.working.Working.{Working}
-use Rattle.acd_desk.specs.Faults.{answer_to, left_by}
+use Rattle.acd_desk.specs.Faults.{fault_of, left_by}
 use Rattle.acd_desk.specs.Standing.{standing, holding, switch_of, is_failed}
-use Rattle.acd_desk.specs.Ran.{Took}
 use Rattle.acd_desk.specs.Reread.{Reread}
-use Rattle.acd_desk.proofs.Calls.{leaves, loaded_rows}
-use Rattle.acd_desk.proofs.Faulty.{unread, unloaded}
+use Rattle.acd_desk.specs.Told.{TellsNothing}
+use Rattle.acd_desk.proofs.Calls.{loaded_rows}
+use Rattle.acd_desk.proofs.Telling.{leaves_told, untold_by_book, untold_by_rows}
 use Rattle.acd_desk.proofs.desk.Desk.load.Goals as goal
 
 pub returns-in-Err-clause-loaded : goal.returns-in-Err-clause-loaded
-returns-in-Err-clause-loaded g c = λ a.
-    leaves (standing g.B.Book) (standing g.B.Book c.args.self.now) a _ _ _ _ c.fault.ensures.answer c.fault.ensures.left
-    (unread (g.B.Book.state c.args.self.now.book) (g.B.Book.state c.rows.new.self) c.args.self.now.working a c.in-Err.fault _ c.in-Err.ensures (ap is_failed c.requires))
+returns-in-Err-clause-loaded g c =
+    leaves_told (standing g.B.Book) (standing g.B.Book c.args.self.now) _ _ _ _ c.failed.ensures.fault c.failed.ensures.left
+    (untold_by_book (g.B.Book.state c.args.self.now.book) (g.B.Book.state c.rows.new.self) c.args.self.now.working c.in-Err.fault _ _ c.in-Err.ensures (ap is_failed c.requires))
 
 pub returns-in-Ok-loaded-clause-loaded : goal.returns-in-Ok-loaded-clause-loaded
 returns-in-Ok-loaded-clause-loaded g c =
@@ -20,9 +20,9 @@ returns-in-Ok-loaded-clause-loaded g c =
     (loaded_rows (g.B.Book.state c.args.self.now.book) (g.B.Book.state c.rows.new.self) c.in-Ok.rows c.in-Ok-loaded.loaded.switch c.in-Ok.ensures c.in-Ok-loaded.ensures.ok)
 
 pub returns-clause-loaded : goal.returns-clause-loaded
-returns-clause-loaded g c = λ a.
-    leaves (standing g.B.Book) (standing g.B.Book c.args.self.now) a _ _ _ _ c.fault-in-Err-loaded.ensures.answer c.fault-in-Err-loaded.ensures.left
-    (subst (λ (w : Working). Took (record { book = g.B.Book.state c.args.self.now.book; switch = switch_of w; failed = is_failed w }) a (answer_to c.in-Err-loaded.fault)
+returns-clause-loaded g c =
+    leaves_told (standing g.B.Book) (standing g.B.Book c.args.self.now) _ _ _ _ c.failed-in-Err-loaded.ensures.fault c.failed-in-Err-loaded.ensures.left
+    (subst (λ (w : Working). TellsNothing (record { book = g.B.Book.state c.args.self.now.book; switch = switch_of w; failed = is_failed w }) (fault_of c.in-Err-loaded.fault)
     (record { book = g.B.Book.state c.rows.new.self; switch = switch_of (left_by c.in-Err-loaded.fault w); failed = is_failed (left_by c.in-Err-loaded.fault w) }))
     (sym c.requires)
-    (unloaded (g.B.Book.state c.args.self.now.book) (g.B.Book.state c.rows.new.self) a c.in-Ok.rows c.in-Err-loaded.fault c.in-Ok.ensures c.in-Err-loaded.ensures.err))
+    (untold_by_rows (g.B.Book.state c.args.self.now.book) (g.B.Book.state c.rows.new.self) c.in-Ok.rows c.in-Err-loaded.fault _ c.in-Ok.ensures c.in-Err-loaded.ensures.err))

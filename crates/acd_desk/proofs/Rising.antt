@@ -1,0 +1,32 @@
+-- The events of a sound content stand in ascending number.
+use Rattle.std.proofs.Common.{◌≡◌, ℕ, ◌+◌, ◌≤◌, List, [], ◌∷◌, ◌++◌, arith, sym, subst}
+use Rattle.acd_terms.specs.Lists.{Every}
+use Rattle.acd_terms.specs.declared.event.Event.{Event}
+use Rattle.acd_terms.specs.declared.command.Arrival.{Arrival}
+use Rattle.acd_book.specs.Content.{Content, empty_content, GoOn, IsCounted}
+use Rattle.acd_desk.specs.Firsts.{stepped, executed, run_from, firsts}
+use Rattle.acd_desk.specs.Stands.{IsSound, arrivals_of}
+use Rattle.acd_desk.specs.Tells.{Rise}
+use Rattle.acd_desk.proofs.Steps.{step_numbers}
+use Rattle.acd_desk.proofs.Counting.{counted_executed}
+use Rattle.acd_desk.proofs.PageLemmas.{rise_lower}
+
+rise-append : (n m : ℕ) (xs ys : List Event) → n ≤ m → Rise n xs → Every (λ (e : Event). e.number ≤ m) xs → Rise m ys → Rise n (xs ++ ys)
+rise-append n m [] ys le h most k = rise_lower n m ys le k
+rise-append n m (x ∷ xs) ys le h most k = (h.0, rise-append x.number m xs ys most.0 h.1 most.1 k)
+
+going-rises : (n : ℕ) (es : List Event) → GoOn n es → Rise n es
+going-rises n [] h = tt
+going-rises n (e ∷ es) h = let here = h.0 in (omega (arith, here), subst (λ k. Rise k es) (sym here) (going-rises (n + 1) es h.1))
+
+run-rises : (l : List Arrival) (c : Content) → IsCounted c → Rise 0 c.events → Rise 0 (run_from c l).events
+run-rises [] c counted h = h
+run-rises (a ∷ l) c counted h =
+    run-rises l (executed c a) (counted_executed c a counted)
+    (rise-append 0 c.rows.last_event c.events (stepped c.rows a).events (omega arith) h counted.events
+    (going-rises c.rows.last_event (stepped c.rows a).events (step_numbers c.rows a.moment a.request.command)))
+
+pub sound_rises : (c : Content) → IsSound c → Rise 0 c.events
+sound_rises c sound =
+    subst (λ (d : Content). Rise 0 d.events) (sym sound.replays)
+    (run-rises (firsts c.rows.limits.requests (arrivals_of c.kept)) (empty_content c.rows.limits) (record { events = tt; kept = tt }) tt)

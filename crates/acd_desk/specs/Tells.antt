@@ -1,0 +1,116 @@
+-- What the reads of a desk tell of a content: a text, or none where there is no such thing.
+use Rattle.std.specs.Prelude.{ℕ, ◌<◌, List, [], ◌∷◌, map, filter, max, nat_lt, Option, Some, None, is_some, option_map, String, string_bytes, if◌then◌else◌}
+use Rattle.std.specs.declared.cmp.Ordering.{Ordering}
+use Rattle.acd_terms.specs.Lists.{put_by}
+use Rattle.acd_terms.specs.Scans.{group_of, agent_of, call_of, monitor_of, is_group, is_station, agent_at, connections_of, waiting_in, eligible_in}
+use Rattle.acd_terms.specs.Choice.{waiting_pair, ready_pair}
+use Rattle.acd_terms.specs.declared.rows.Rows.{Rows}
+use Rattle.acd_terms.specs.declared.record.GroupRecord.{GroupRecord}
+use Rattle.acd_terms.specs.declared.record.AgentRecord.{AgentRecord}
+use Rattle.acd_terms.specs.declared.record.CallRecord.{CallRecord}
+use Rattle.acd_terms.specs.declared.record.ConnectionRecord.{ConnectionRecord}
+use Rattle.acd_terms.specs.declared.event.Event.{Event}
+use Rattle.acd_tables.specs.Indexed.{pair_cmp}
+use Rattle.acd_tables.specs.AtDevice.{connections_at}
+use Rattle.acd_codec.specs.ReadTexts.{agent_text, call_text, device_text, queue_text}
+use Rattle.acd_codec.specs.EventTexts.{page_text}
+use Rattle.acd_codec.specs.declared.read_texts.PlannedDevice.{PlannedDevice}
+use Rattle.acd_codec.specs.declared.read_texts.PlannedDevice.TheVariants as planned
+use Rattle.acd_reports.specs.QueueReport.{queue_report}
+use Rattle.acd_reports.specs.Export.{events_csv, records_text}
+use Rattle.acd_book.specs.Content.{Content, events_behind, events_of_monitor}
+use Rattle.acd_desk.specs.declared.table_reads.Question.{Question}
+use Rattle.acd_desk.specs.declared.table_reads.Question.TheVariants as ask
+
+-- the characters of a text that is told, if one is
+abbrev pub told : {Z : Type 0} → Option (String Z) → Option (List ℕ)
+told text = option_map string_bytes text
+
+-- the records in ascending key; no two of them have the same
+abbrev pub in_order : {T : Type 0} → (T → T → Ordering) → List T → List T
+in_order cmp [] = []
+in_order cmp (x ∷ xs) = put_by (cmp x) (in_order cmp xs) x
+
+-- an agent
+abbrev pub agent_read : Rows → ℕ → Option (List ℕ)
+agent_read s agent = option_map agent_text (agent_of s agent)
+
+-- a live call, its connections in ascending device
+abbrev pub call_read : Rows → ℕ → Option (List ℕ)
+call_read s call = option_map (λ (r : CallRecord). call_text r (connections_of s call)) (call_of s call)
+
+-- a station with the agent who is logged on there, and its connections in ascending call
+abbrev pub station_in : Rows → ℕ → PlannedDevice
+station_in s station = planned.Station station (option_map (λ (a : AgentRecord). a.agent) (agent_at s station)) (connections_at s station)
+
+abbrev pub or_group : Option GroupRecord → Option PlannedDevice → Option PlannedDevice
+or_group (Some g) station = Some (planned.Group g)
+or_group None station = station
+
+-- a planned device
+abbrev pub device_in : Rows → ℕ → Option PlannedDevice
+device_in s device = or_group (group_of s device) (if is_station s device then Some (station_in s device) else None)
+
+abbrev pub device_read : Rows → ℕ → Option (List ℕ)
+device_read s device = option_map device_text (device_in s device)
+
+-- those who wait in a group, by their places
+abbrev pub by_place : ConnectionRecord → ConnectionRecord → Ordering
+by_place x y = pair_cmp (waiting_pair x) (waiting_pair y)
+
+unfoldable pub queue_in : Rows → ℕ → List ConnectionRecord
+queue_in s group = in_order by_place (waiting_in s group)
+
+-- its eligible agents, by stamp and then by number
+abbrev pub by_stamp : AgentRecord → AgentRecord → Ordering
+by_stamp x y = pair_cmp (ready_pair x) (ready_pair y)
+
+unfoldable pub ready_in : Rows → ℕ → List ℕ
+ready_in s group = map (λ (a : AgentRecord). a.agent) (in_order by_stamp (eligible_in s group))
+
+-- the queue of a planned group
+abbrev pub queue_read : Rows → ℕ → Option (List ℕ)
+queue_read s group = if is_group s group then Some (queue_text group (queue_in s group) (ready_in s group)) else None
+
+-- the queue report at the moment, or at the last executed one where that is later
+abbrev pub report_read : Rows → ℕ → Option (List ℕ)
+report_read s moment = Some (queue_report s (max moment s.last_moment))
+
+-- what the tables tell to a question
+abbrev pub table_read : Rows → Question → Option (List ℕ)
+table_read s (ask.Agent agent) = agent_read s agent
+table_read s (ask.Call call) = call_read s call
+table_read s (ask.Device device) = device_read s device
+table_read s (ask.Queue group) = queue_read s group
+table_read s (ask.Report moment) = report_read s moment
+
+-- a page of events has at most so many
+abbrev pub page_size : ℕ
+page_size = 100
+
+-- the first events above a number, beside the number of the last one
+abbrev pub events_read : Content → ℕ → Option (List ℕ)
+events_read c after = Some (page_text (events_behind c.events after page_size) c.rows.last_event)
+
+-- the same of a running monitor: the events at its device since it was started
+abbrev pub monitor_read : Content → ℕ → ℕ → Option (List ℕ)
+monitor_read c monitor after =
+    if is_some (monitor_of c.rows monitor) then Some (page_text (events_of_monitor c monitor after page_size) c.rows.last_event) else None
+
+-- all events in CSV
+abbrev pub export_read : Content → Option (List ℕ)
+export_read c = Some (events_csv c.events)
+
+-- the events stand in ascending number, each above the last number
+abbrev pub Rise : ℕ → List Event → Type 0
+Rise last [] = Unit {0}
+Rise last (e ∷ es) = (last < e.number) × Rise e.number es
+
+-- those above a number
+abbrev pub above : List Event → ℕ → List Event
+above events number = filter (λ (e : Event). nat_lt number e.number) events
+
+-- the records of those that an export still has to tell, above the last one that it told
+abbrev pub records_left : List Event → Option ℕ → List ℕ
+records_left events None = []
+records_left events (Some last) = records_text (above events last)

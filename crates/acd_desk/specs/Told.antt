@@ -1,0 +1,35 @@
+-- What a read of a desk leaves.
+use Rattle.std.specs.Prelude.{◌≡◌, ◌⊎◌, ◌≤◌, true, false, None, Result, Err, IfOk, OnOk, IsErrOf}
+use Rattle.acd_book.specs.Content.{Content, Within}
+use Rattle.acd_book.specs.State.{IfHonest}
+use Rattle.acd_desk.specs.declared.fault.DeskFault.{DeskFault}
+use Rattle.acd_desk.specs.declared.fault.DeskFault.TheVariants.{StoreFault}
+use Rattle.acd_desk.specs.Standing.{Standing, InStep}
+use Rattle.acd_desk.specs.Ran.{IsCause, IsDeceived}
+
+-- a read, where `IsAnswer c found` says that this is told of that content
+pub record Told {A : Type 0} (old new : Standing) (result : Result A DeskFault) (IsAnswer : Content → A → Type 0) : Type 0 where
+  pub clean : new.book.is_clean → old.book.is_clean
+  pub sound : IfHonest old.book new.book new.book.is_sound
+  pub in_step : IfHonest old.book new.book (InStep old → InStep new)
+  -- where the book is open, what is told is told of its content
+  pub value : IfHonest old.book new.book (InStep old → old.book.is_open → IfOk result (IsAnswer old.book.content))
+  -- it stays open, and its content is as before
+  pub stays : OnOk result (IfHonest old.book new.book (old.book.is_open → new.book.is_open))
+  pub same : IfHonest old.book new.book (new.book.is_open → old.book.is_open × (new.book.content ≡ old.book.content))
+  pub stops : IfHonest old.book new.book (Within new.book.stops old.book.stops)
+  -- the desk has failed where storeFault is answered, and nowhere else; once failed it answers nothing else
+  pub shuts : IsErrOf result StoreFault → new.failed ≡ true
+  pub tells : new.failed ≡ true → IsErrOf result StoreFault
+  pub shut : old.failed ≡ true → IsErrOf result StoreFault
+  -- it fails where a failure was counted, or where rows that an unloaded desk was given break a rule
+  pub cause : IsErrOf result StoreFault → IsCause old new ⊎ ((old.switch ≡ None) × IsDeceived old new)
+  -- where it answers anything but storeFault, no failure was counted
+  pub quiet : ¬ (IsErrOf result StoreFault) → new.book.failures ≡ old.book.failures
+  pub counts : old.book.failures ≤ new.book.failures
+  -- it drops no switch, unless it has failed
+  pub loads : new.failed ≡ false → new.switch ≡ None → old.switch ≡ None
+
+-- a read that answers this fault
+abbrev pub TellsNothing : Standing → DeskFault → Standing → Type 0
+TellsNothing old fault new = Told {A = Unit {0}} old new (Err fault) (λ c found. ⊥)

@@ -1,0 +1,146 @@
+//! What a desk tells: its reads.
+
+ghost use Rattle.std.specs.Prelude.{◌≡◌, Some, None, is_some, IfOk, OnOk, if◌then◌else◌};
+ghost use Rattle.acd_terms.specs.Scans.{monitor_of};
+ghost use Rattle.acd_book.specs.Content.{events_behind, events_of_monitor};
+ghost use Rattle.acd_desk.specs.Standing.{standing};
+ghost use Rattle.acd_desk.specs.Told.{Told};
+ghost use Rattle.acd_desk.specs.Tells.{told, agent_read, call_read, device_read, queue_read, report_read, table_read, events_read, monitor_read, page_size};
+
+use crate::desk::Desk;
+use crate::fault::DeskFault;
+use crate::table_reads::{Question, table_read};
+use crate::working::{LoadedSwitch, Working};
+use acd_book::Book;
+use acd_codec::page_text;
+use acd_terms::{AgentId, DeviceId, Event};
+
+// Events in a page.
+const PAGE: usize = 100;
+
+impl<B: Book> Desk<B> {
+    // What the tables tell.
+    fn tell(&mut self, question: Question) -> Result<Option<String>, DeskFault>
+        ensures { Told (standing B.Book self.old) (standing B.Book self.new) result (λ c text. told text ≡ table_read c.rows question) }
+    {
+        let loaded = match self.switch_out() {
+            Ok(loaded) => loaded,
+            Err(fault) => return Err(fault),
+        };
+        let text = table_read(self.alloc, loaded.switch.tables(), question);
+        self.working = Working::Loaded(loaded);
+        match text {
+            Ok(text) => Ok(text),
+            Err(_) => Err(DeskFault::NoMemory),
+        }
+    }
+
+    /// An agent in JSON: who it is, its state, and where it is logged on. None where no such agent is planned.
+    pub fn agent(&mut self, agent: AgentId) -> Result<Option<String>, DeskFault>
+        ensures { Told (standing B.Book self.old) (standing B.Book self.new) result (λ c text. told text ≡ agent_read c.rows agent) }
+    {
+        self.tell(Question::Agent(agent))
+    }
+
+    /// A live call in JSON, with its connections. None where no live call has the number.
+    pub fn call(&mut self, call: u64) -> Result<Option<String>, DeskFault>
+        ensures { Told (standing B.Book self.old) (standing B.Book self.new) result (λ c text. told text ≡ call_read c.rows call) }
+    {
+        self.tell(Question::Call(call))
+    }
+
+    /// A planned device in JSON: a group, or a station with its agent and connections. None where it isn't planned.
+    pub fn device(&mut self, device: DeviceId) -> Result<Option<String>, DeskFault>
+        ensures { Told (standing B.Book self.old) (standing B.Book self.new) result (λ c text. told text ≡ device_read c.rows device) }
+    {
+        self.tell(Question::Device(device))
+    }
+
+    /// The queue of a group in JSON: the calls that wait by their places, and the eligible agents, longest ready
+    /// first. None where the group isn't planned.
+    pub fn queue(&mut self, group: DeviceId) -> Result<Option<String>, DeskFault>
+        ensures { Told (standing B.Book self.old) (standing B.Book self.new) result (λ c text. told text ≡ queue_read c.rows group) }
+    {
+        self.tell(Question::Queue(group))
+    }
+
+    /// The queue report at a moment (in seconds), or at the last executed one where that is later. It moves no
+    /// moment. There always is one.
+    pub fn report(&mut self, moment: u32) -> Result<Option<String>, DeskFault>
+        ensures { Told (standing B.Book self.old) (standing B.Book self.new) result (λ c text. told text ≡ report_read c.rows moment) }
+    {
+        self.tell(Question::Report(moment))
+    }
+
+    // The number of the last event.
+    fn last_event(&mut self) -> Result<u64, DeskFault>
+        ensures { Told (standing B.Book self.old) (standing B.Book self.new) result (λ c last. last ≡ c.rows.last_event) }
+    {
+        let loaded = self.switch_out()?;
+        let last = loaded.switch.tables().last_event();
+        self.working = Working::Loaded(loaded);
+        Ok(last)
+    }
+
+    // The number of the last event, where the monitor is running.
+    fn last_event_for(&mut self, monitor: u64) -> Result<Option<u64>, DeskFault>
+        ensures { Told (standing B.Book self.old) (standing B.Book self.new) result (λ c last. last ≡ (if is_some (monitor_of c.rows monitor) then Some c.rows.last_event else None)) }
+    {
+        let loaded = self.switch_out()?;
+        let tables = loaded.switch.tables();
+        let last = if tables.monitor(monitor).is_some() {
+            Some(tables.last_event())
+        } else {
+            None
+        };
+        self.working = Working::Loaded(loaded);
+        Ok(last)
+    }
+
+    // The first events above a number.
+    pub(crate) fn first_events(&mut self, after: u64, limit: usize) -> Result<Vec<Event>, DeskFault>
+        ensures { Told (standing B.Book self.old) (standing B.Book self.new) result (λ c found. found.items ≡ events_behind c.events after limit) }
+    {
+        if let Working::Failed = self.working {
+            return Err(DeskFault::StoreFault);
+        }
+        match self.book.events_after(after, limit) {
+            Ok(events) => Ok(events),
+            Err(fault) => Err(self.failed(fault)),
+        }
+    }
+
+    // The first events of a running monitor above a number.
+    fn first_watched(&mut self, monitor: u64, after: u64) -> Result<Vec<Event>, DeskFault>
+        ensures { Told (standing B.Book self.old) (standing B.Book self.new) result (λ c found. found.items ≡ events_of_monitor c monitor after page_size) }
+    {
+        if let Working::Failed = self.working {
+            return Err(DeskFault::StoreFault);
+        }
+        match self.book.events_of_monitor(monitor, after, PAGE) {
+            Ok(events) => Ok(events),
+            Err(fault) => Err(self.failed(fault)),
+        }
+    }
+
+    /// A page of events in JSON: the first ones above a number, at most 100, beside the number of the last one.
+    /// There always is one.
+    pub fn events(&mut self, after: u64) -> Result<Option<String>, DeskFault>
+        ensures { Told (standing B.Book self.old) (standing B.Book self.new) result (λ c text. told text ≡ events_read c after) }
+    {
+        let last = self.last_event()?;
+        let events = self.first_events(after, PAGE)?;
+        Ok(Some(page_text(self.alloc, &events, last)?))
+    }
+
+    /// A page of the events at a monitor's device since it was started. None where no such monitor is running.
+    pub fn monitor_events(&mut self, monitor: u64, after: u64) -> Result<Option<String>, DeskFault>
+        ensures { Told (standing B.Book self.old) (standing B.Book self.new) result (λ c text. told text ≡ monitor_read c monitor after) }
+    {
+        let Some(last) = self.last_event_for(monitor)? else {
+            return Ok(None);
+        };
+        let events = self.first_watched(monitor, after)?;
+        Ok(Some(page_text(self.alloc, &events, last)?))
+    }
+}

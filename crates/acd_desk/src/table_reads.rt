@@ -1,0 +1,184 @@
+//! What is told of the tables of a desk.
+
+ghost use Rattle.std.specs.Prelude.{◌≡◌, ◌++◌, [], ◌∷◌, map, IfOk, OnOk};
+ghost use Rattle.std.specs.List.{cons_option, filter_map};
+ghost use Rattle.std.specs.List.Sorted.{IsStrictlySortedBy};
+ghost use Rattle.acd_terms.specs.Scans.{connection_of, connections_of};
+ghost use Rattle.acd_terms.specs.Rules.First.{BreaksNoRule};
+ghost use Rattle.acd_tables.specs.Indexed.{pair_cmp};
+ghost use Rattle.acd_desk.specs.Tells.{told, agent_read, call_read, device_in, device_read, queue_in, ready_in, queue_read, report_read, table_read};
+
+use acd_codec::{PlannedDevice, agent_text, call_text, device_text, queue_text};
+use acd_reports::queue_report;
+use acd_tables::Tables;
+use acd_terms::{AgentId, ConnectionRecord, DeviceId, Listed};
+use std::alloc::{AllocError, Global};
+use std::collections::BTreeSet;
+
+/// What may be asked of the tables.
+#[derive(Clone, Copy)]
+pub(crate) enum Question {
+    Agent(AgentId),
+    /// By its number.
+    Call(u64),
+    Device(DeviceId),
+    /// Of a group.
+    Queue(DeviceId),
+    /// At a moment, in seconds.
+    Report(u32),
+}
+
+/// The text of what is asked, or none where there is no such thing.
+pub(crate) fn table_read(
+    alloc: Global,
+    tables: &Tables,
+    question: Question,
+) -> Result<Option<String>, AllocError>
+    requires { BreaksNoRule tables.now }
+    ensures { IfOk result (λ text. told text ≡ table_read tables.now question) }
+{
+    match question {
+        Question::Agent(agent) => agent_read(alloc, tables, agent),
+        Question::Call(call) => call_read(alloc, tables, call),
+        Question::Device(device) => device_read(alloc, tables, device),
+        Question::Queue(group) => queue_read(alloc, tables, group),
+        Question::Report(moment) => report_read(alloc, tables, moment),
+    }
+}
+
+fn agent_read(alloc: Global, tables: &Tables, agent: AgentId) -> Result<Option<String>, AllocError>
+    ensures { IfOk result (λ text. told text ≡ agent_read tables.now agent) }
+{
+    match tables.agent(agent) {
+        None => Ok(None),
+        Some(agent) => Ok(Some(agent_text(alloc, &agent)?)),
+    }
+}
+
+// A push of its own, for any type.
+fn note<T: Copy + Drop>(list: &mut Vec<T>, item: &T) -> Result<(), AllocError>
+    ensures { OnOk result (list.new.items ≡ list.old.items ++ item.now ∷ []) }
+{
+    list.push(*item)?;
+    Ok(())
+}
+
+// Puts it at the end, if there is one.
+fn push_if<T: Copy + Drop>(list: &mut Vec<T>, item: &Option<T>) -> Result<(), AllocError>
+    ensures { OnOk result (list.new.items ≡ list.old.items ++ cons_option item.now []) }
+{
+    match item {
+        None => Ok(()),
+        Some(item) => note(list, item),
+    }
+}
+
+// The connections of the call.
+fn parties(alloc: Global, tables: &Tables, call: u64) -> Result<Vec<ConnectionRecord>, AllocError>
+    requires { BreaksNoRule tables.now }
+    ensures { IfOk result (λ v. v.items ≡ connections_of tables.now call) }
+{
+    let [first, second] = tables.connections_of(call);
+    let mut parties = Vec::with_capacity(alloc, 2)?;
+    push_if(&mut parties, &first)?;
+    push_if(&mut parties, &second)?;
+    Ok(parties)
+}
+
+fn call_read(alloc: Global, tables: &Tables, call: u64) -> Result<Option<String>, AllocError>
+    requires { BreaksNoRule tables.now }
+    ensures { IfOk result (λ text. told text ≡ call_read tables.now call) }
+{
+    match tables.call(call) {
+        None => Ok(None),
+        Some(record) => {
+            let parties = parties(alloc, tables, call)?;
+            Ok(Some(call_text(alloc, &record, &parties)?))
+        }
+    }
+}
+
+// What is planned at the device.
+fn device_in(tables: &Tables, device: DeviceId) -> Result<Option<PlannedDevice>, AllocError>
+    ensures { IfOk result (λ found. found ≡ device_in tables.now device) }
+{
+    if let Some(group) = tables.group(device) {
+        return Ok(Some(PlannedDevice::Group(group)));
+    }
+    if !tables.is_station(device) {
+        return Ok(None);
+    }
+    let connections = tables.connections_at(device)?;
+    Ok(Some(PlannedDevice::Station {
+        device,
+        agent: tables.agent_at(device).map(|agent| agent.agent),
+        connections: Listed::new(connections),
+    }))
+}
+
+fn device_read(
+    alloc: Global,
+    tables: &Tables,
+    device: DeviceId,
+) -> Result<Option<String>, AllocError>
+    ensures { IfOk result (λ text. told text ≡ device_read tables.now device) }
+{
+    match device_in(tables, device)? {
+        None => Ok(None),
+        Some(device) => Ok(Some(device_text(alloc, &device)?)),
+    }
+}
+
+// The connections of the calls in a queue, in its order.
+fn waiting_in(
+    alloc: Global,
+    tables: &Tables,
+    group: DeviceId,
+    queue: &BTreeSet<(u64, u64)>,
+) -> Result<Vec<ConnectionRecord>, AllocError>
+    ensures waiting { IfOk result (λ v. v.items ≡ filter_map (λ p. connection_of tables.now p.1 group) queue.now.keys) }
+    ensures sorted { IsStrictlySortedBy pair_cmp queue.now.keys }
+{
+    let mut waiting = Vec::new(alloc);
+    for (_, call) in queue {
+        if let Some(connection) = tables.connection(*call, group) {
+            note(&mut waiting, &connection)?;
+        }
+    }
+    Ok(waiting)
+}
+
+// The agents of a ready set, in its order.
+fn agents_in(alloc: Global, ready: &BTreeSet<(u64, AgentId)>) -> Result<Vec<AgentId>, AllocError>
+    ensures agents { IfOk result (λ v. v.items ≡ map (λ p. p.1) ready.now.keys) }
+    ensures sorted { IsStrictlySortedBy pair_cmp ready.now.keys }
+{
+    let mut agents = Vec::new(alloc);
+    for (_, agent) in ready {
+        agents.push(*agent)?;
+    }
+    Ok(agents)
+}
+
+fn queue_read(alloc: Global, tables: &Tables, group: DeviceId) -> Result<Option<String>, AllocError>
+    requires { BreaksNoRule tables.now }
+    ensures { IfOk result (λ text. told text ≡ queue_read tables.now group) }
+{
+    let Some(queue) = tables.queue_of(group) else {
+        return Ok(None);
+    };
+    let Some(ready) = tables.ready_of(group) else {
+        return Ok(None);
+    };
+    let waiting = waiting_in(alloc, tables, group, queue)?;
+    let agents = agents_in(alloc, ready)?;
+    Ok(Some(queue_text(alloc, group, &waiting, &agents)?))
+}
+
+fn report_read(alloc: Global, tables: &Tables, moment: u32) -> Result<Option<String>, AllocError>
+    ensures { IfOk result (λ text. told text ≡ report_read tables.now moment) }
+{
+    let rows = tables.rows()?;
+    let report = queue_report(alloc, &rows, moment.max(tables.last_moment()))?;
+    Ok(Some(report))
+}
