@@ -19,6 +19,7 @@ mod create;
 mod fault;
 mod meta;
 mod read;
+mod ready;
 #[cfg(test)]
 mod tests;
 mod write;
