@@ -17,3 +17,4 @@ mod Writes
 mod Bounds
 mod Filing
 mod Committing
+pub mod Decoded

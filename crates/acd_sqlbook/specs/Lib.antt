@@ -5,3 +5,5 @@ pub mod Content
 pub mod Draft
 pub mod Commit
 pub mod Reading
+pub mod Codes
+pub mod Decoding
