@@ -81,8 +81,8 @@ fn read_meta<S: Alter>(conn: &mut Connection<S>) -> Result<Meta, Error>
     only_meta(&rows)
 }
 
-/// The limits and the counters.
-pub(crate) fn meta_ready<S: Alter>(conn: &mut Connection<S>, fresh: bool) -> Result<Meta, Error>
+// The limits and the counters.
+fn meta_ready<S: Alter>(conn: &mut Connection<S>, fresh: bool) -> Result<Meta, Error>
     requires idle { conn.old.in_transaction ≡ false }
     requires fresh { IsTrue fresh → HasCleanDisk (state S.Store conn.old) → IsTrue (state S.Store conn.old).is_open }
     ensures idle { conn.new.in_transaction ≡ false }
@@ -90,6 +90,19 @@ pub(crate) fn meta_ready<S: Alter>(conn: &mut Connection<S>, fresh: bool) -> Res
 {
     serve(conn, fresh)?;
     read_meta(conn)
+}
+
+/// The limits.
+pub(crate) fn limits_ready<S: Alter>(conn: &mut Connection<S>, fresh: bool) -> Result<Limits, Error>
+    requires idle { conn.old.in_transaction ≡ false }
+    requires fresh { IsTrue fresh → HasCleanDisk (state S.Store conn.old) → IsTrue (state S.Store conn.old).is_open }
+    ensures idle { conn.new.in_transaction ≡ false }
+    ensures read { HasRead (state S.Store conn.old) (state S.Store conn.new) result (λ c limits. limits ≡ c.rows.limits) }
+{
+    match meta_ready(conn, fresh) {
+        Ok(meta) => Ok(meta.limits),
+        Err(error) => Err(error),
+    }
 }
 
 // The counters after a commit of so many events, where their columns can hold them.
