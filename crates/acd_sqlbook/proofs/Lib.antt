@@ -6,6 +6,10 @@ mod Heaps
 mod Connections
 mod KeyedRows
 mod Scans
+mod Ordered
+mod Listings
+mod QueryTexts
+mod Asked
 mod Selections
 mod Statements
 mod Upserts

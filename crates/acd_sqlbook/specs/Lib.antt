@@ -5,3 +5,4 @@ pub mod Content
 pub mod Draft
 pub mod Commit
 pub mod Reading
+pub mod Finding
