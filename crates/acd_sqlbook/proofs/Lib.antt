@@ -10,6 +10,8 @@ mod Ordered
 mod Listings
 mod QueryTexts
 mod Asked
+mod Members
+mod ConnectionRows
 mod Selections
 mod Statements
 mod Upserts
