@@ -110,7 +110,7 @@ module _ {A : Type 0} (old new : State) (failures : ℕ) (r : Result A Error) (I
       on_up k (Ok a) up = λ (sound : IsSound old). up
       on_up k (Err e) up = tt
 
-module _ (old new : State) (failures : ℕ) (r : Result (Unit {0}) Error) (written after : Content → Content) (Follows : Content → Type 0) (is : (c : Content) → Follows c → written c ≡ after c) where
+module _ (old new : State) (failures : ℕ) (r : Result (Unit {0}) Error) (written after : Content → Content) (Follows : Content → Type 0) (is : (db : Trees) (c : Content) → Encodes db c → Follows c → written c ≡ after c) where
   was_open : HasCommitted old new r written → HasCleanDisk new → IsSound old → IsTrue new.is_open → (c : Content) × Holds old c
   was_open h k sound up = sound.stands (h.was_open k up)
 
@@ -129,7 +129,7 @@ module _ (old new : State) (failures : ℕ) (r : Result (Unit {0}) Error) (writt
   }
 
   followed : (c : Content) → Holds old c → Follows (content_of old.committed.trees) → written c ≡ after (content_of old.committed.trees)
-  followed c held follows = let known = held_is old c held in is c (subst Follows known follows) ∙ ap after (sym known)
+  followed c held follows = let known = held_is old c held in is old.committed.trees c held.encodes (subst Follows known follows) ∙ ap after (sym known)
 
   made_after : (r : Result (Unit {0}) Error) → IsSound old → Follows (content_of old.committed.trees) → OnOk r (IsTrue old.is_open × IsTrue new.is_open)
       → OnOk r ((c : Content) → Holds old c → Holds new (written c)) → OnOk (answered r) (content_of new.committed.trees ≡ after (content_of old.committed.trees))
@@ -178,7 +178,7 @@ commits_noted old new failures next r answer changes events kept is count low h 
     let counted = count ∙ ap (λ a. failures_after a failures) is in
     subst₂ (λ n a. Commits (book_state old failures) (book_state new n) a (FollowsBy changes events kept) (committed_by changes events kept)) (sym counted) (sym is)
     (commits old new failures r (written changes events kept) (committed_by changes events kept) (FollowsBy changes events kept)
-    (λ c follows. commit_is changes events kept (meta_of c.rows) c refl follows) (subst (λ n. failures ≤ n) counted low) h)
+    (λ db c encodes follows. commit_is changes events kept (meta_of c.rows) c refl follows) (subst (λ n. failures ≤ n) counted low) h)
 
 -- ---- a new book
 

@@ -6,6 +6,12 @@ mod Heaps
 mod Connections
 mod KeyedRows
 mod Scans
+mod Ordered
+mod Listings
+mod QueryTexts
+mod Asked
+mod Members
+mod ConnectionRows
 mod Selections
 mod Statements
 mod Upserts

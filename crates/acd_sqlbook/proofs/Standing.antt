@@ -14,6 +14,7 @@ use Rattle.acd_sqlbook.specs.Content.{Encodes, meta_of}
 use Rattle.acd_sqlbook.specs.Reading.{meta_shown}
 use Rattle.acd_sqlbook.specs.Calls.{Stands, HasRead, HasCommitted}
 use Rattle.acd_sqlbook.specs.Draft.{Holds, Quiet, NoStop, AddsStop}
+use Rattle.acd_sqlbook.specs.Finding.{Finds}
 
 pub quiet_still : (s : State) → Quiet s s
 quiet_still s = record { clean = λ k. k; was_open = λ k up. up; same = λ k c h up. h }
@@ -31,19 +32,17 @@ ok_map P Q (Err e) f h = tt
 
 module _ {A : Type 0} (old mid new : State) (r : Result A Error) (IsAnswer : Content → A → Type 0) where
   -- a read behind a call that left the connection open
-  pub reads_behind : Quiet old mid → (HasCleanDisk mid → IsTrue mid.is_open) → (HasCleanDisk mid → NoStop old mid)
-      → Quiet mid new → (HasCleanDisk new → OnOk r (IsTrue new.is_open)) → (HasCleanDisk new → (c : Content) → Holds mid c → NoStop mid new)
-      → (HasCleanDisk new → IfOk r (λ (a : A). (c : Content) → Holds mid c → IsAnswer c a)) → HasRead old new r IsAnswer
-  reads_behind quiet live still again up stops value = record {
-    quiet = quiet_on old mid new quiet again;
-    up = up;
+  pub reads_behind : Quiet old mid → (HasCleanDisk mid → IsTrue mid.is_open) → (HasCleanDisk mid → NoStop old mid) → Finds mid new r IsAnswer → HasRead old new r IsAnswer
+  reads_behind quiet live still found = record {
+    quiet = quiet_on old mid new quiet found.quiet;
+    up = found.up;
     stops = λ k stands db left.
-        let m = again.clean k in
+        let m = found.quiet.clean k in
         let held = stands (quiet.was_open m (live m)) in
-        still m db (stops k held.0 (quiet.same m held.0 held.1 (live m)) db left);
+        still m db (found.stops k held.0 (quiet.same m held.0 held.1 (live m)) db left);
     value = λ k.
-        let m = again.clean k in
-        ok_map (λ a. (c : Content) → Holds mid c → IsAnswer c a) (λ a. (c : Content) → Holds old c → IsAnswer c a) r (λ a h c held. h c (quiet.same m c held (live m))) (value k);
+        let m = found.quiet.clean k in
+        ok_map (λ a. (c : Content) → Holds mid c → IsAnswer c a) (λ a. (c : Content) → Holds old c → IsAnswer c a) r (λ a h c held. h c (quiet.same m c held (live m))) (found.answer k);
   }
 
 -- no read, where the connection doesn't serve
@@ -60,9 +59,14 @@ pub reads_fail : {A B : Type 0} (old new : State) (e : Error) (P : Content → A
 reads_fail old new e P Q h = record { quiet = h.quiet; up = λ k. tt; stops = h.stops; value = λ k. tt }
 
 -- the one row that is read is that of the content
-pub only_row : (old : State) (rows : List Row) (r : Result Meta Error) → IfOk r (λ meta. (m : Meta) → rows ≡ meta_shown m ∷ [] → meta ≡ m)
-    → ((c : Content) → Holds old c → rows ≡ meta_shown (meta_of c.rows) ∷ []) → IfOk r (λ meta. (c : Content) → Holds old c → meta ≡ meta_of c.rows)
-only_row old rows r read are = ok_map (λ meta. (m : Meta) → rows ≡ meta_shown m ∷ [] → meta ≡ m) (λ meta. (c : Content) → Holds old c → meta ≡ meta_of c.rows) r (λ meta h c held. h (meta_of c.rows) (are c held)) read
+pub finds_meta : (old new : State) (rows : List Row) (r : Result Meta Error) → IfOk r (λ meta. (m : Meta) → rows ≡ meta_shown m ∷ [] → meta ≡ m)
+    → (HasCleanDisk new → IsTrue new.is_open) → Quiet old new → (HasCleanDisk new → (c : Content) → Holds old c → NoStop old new)
+    → (HasCleanDisk new → (c : Content) → Holds old c → rows ≡ meta_shown (meta_of c.rows) ∷ []) → Finds old new r (λ c meta. meta ≡ meta_of c.rows)
+finds_meta old new rows (Ok meta) read up quiet stops are = record { up = up; quiet = quiet; stops = stops; answer = λ k c held. read (meta_of c.rows) (are k c held) }
+finds_meta old new rows (Err e) read up quiet stops are = record { up = λ k. tt; quiet = quiet; stops = stops; answer = λ k. tt }
+
+pub finds_none : {A : Type 0} (old new : State) (e : Error) (IsAnswer : Content → A → Type 0) → Quiet old new → (HasCleanDisk new → (c : Content) → Holds old c → NoStop old new) → Finds old new (Err e) IsAnswer
+finds_none old new e IsAnswer quiet stops = record { up = λ k. tt; quiet = quiet; stops = stops; answer = λ k. tt }
 
 pub reads_counters : (old new : State) (meta : Meta) (r : Result Meta Error) (changes : List Change) (events : ℕ) (kept : Kept) → HasRead old new (Ok meta) (λ c found. found ≡ meta_of c.rows)
     → IfOk r (λ next. next ≡ counted meta changes events kept) → HasRead old new r (λ c next. next ≡ counted (meta_of c.rows) changes events kept)

@@ -5,6 +5,7 @@ pub mod Content
 pub mod Draft
 pub mod Commit
 pub mod Reading
+pub mod Finding
 pub mod Codes
 pub mod Decoding
 pub mod Calls

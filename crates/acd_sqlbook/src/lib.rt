@@ -18,6 +18,7 @@ mod commit;
 mod create;
 mod fault;
 mod meta;
+mod query;
 mod read;
 mod ready;
 #[cfg(test)]

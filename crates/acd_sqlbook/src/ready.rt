@@ -4,11 +4,11 @@
 ghost use Rattle.std.specs.Prelude.{◌≡◌, ◌↔◌, ◌∷◌, [], false, IsTrue, IfOk, OnOk};
 ghost use Rattle.sqlite.specs.State.{HasCleanDisk};
 ghost use Rattle.sqlite.specs.Held.{state};
-ghost use Rattle.acd_book.specs.Content.{Content};
 ghost use Rattle.acd_sqlbook.specs.Calls.{HasRead, HasCommitted};
 ghost use Rattle.acd_sqlbook.specs.Commit.{counted, written};
 ghost use Rattle.acd_sqlbook.specs.Content.{meta_of};
-ghost use Rattle.acd_sqlbook.specs.Draft.{Holds, Quiet, NoStop, Fits, LimitsFit, MetaFits};
+ghost use Rattle.acd_sqlbook.specs.Draft.{Quiet, NoStop, Fits, LimitsFit, MetaFits};
+ghost use Rattle.acd_sqlbook.specs.Finding.{Finds};
 ghost use Rattle.acd_sqlbook.specs.Reading.{meta_shown};
 ghost use Rattle.acd_sqlbook.specs.declared.meta.Meta.{Meta as MetaRow};
 
@@ -72,13 +72,12 @@ fn only_meta(rows: &[Row]) -> Result<Meta, Error>
 fn read_meta<S: Alter>(conn: &mut Connection<S>) -> Result<Meta, Error>
     requires { conn.old.in_transaction ≡ false }
     ensures idle { conn.new.in_transaction ≡ false }
-    ensures up { HasCleanDisk (state S.Store conn.new) → OnOk result (IsTrue (state S.Store conn.new).is_open) }
-    ensures quiet { Quiet (state S.Store conn.old) (state S.Store conn.new) }
-    ensures stops { HasCleanDisk (state S.Store conn.new) → (c : Content) → Holds (state S.Store conn.old) c → NoStop (state S.Store conn.old) (state S.Store conn.new) }
-    ensures value { HasCleanDisk (state S.Store conn.new) → IfOk result (λ meta. (c : Content) → Holds (state S.Store conn.old) c → meta ≡ meta_of c.rows) }
+    ensures found { Finds (state S.Store conn.old) (state S.Store conn.new) result (λ c meta. meta ≡ meta_of c.rows) }
 {
-    let rows = meta_rows(conn)?;
-    only_meta(&rows)
+    match meta_rows(conn) {
+        Ok(rows) => only_meta(&rows),
+        Err(error) => Err(error),
+    }
 }
 
 // The limits and the counters.
