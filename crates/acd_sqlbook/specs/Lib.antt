@@ -7,3 +7,4 @@ pub mod Commit
 pub mod Reading
 pub mod Codes
 pub mod Decoding
+pub mod Ranges

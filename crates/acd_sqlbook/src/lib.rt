@@ -16,11 +16,13 @@ mod book;
 mod codes;
 mod commit;
 mod create;
+mod decode;
 mod fault;
 mod meta;
 mod read;
 #[cfg(test)]
 mod tests;
+mod values;
 mod write;
 
 pub use book::SqlBook;
