@@ -8,5 +8,6 @@ pub mod Reading
 pub mod Finding
 pub mod Codes
 pub mod Decoding
+pub mod Ranges
 pub mod Calls
 pub mod State

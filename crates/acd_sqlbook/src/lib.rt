@@ -16,6 +16,7 @@ mod book;
 mod codes;
 mod commit;
 mod create;
+mod decode;
 mod fault;
 mod meta;
 mod query;
@@ -23,6 +24,7 @@ mod read;
 mod ready;
 #[cfg(test)]
 mod tests;
+mod values;
 mod write;
 
 pub use book::SqlBook;
