@@ -6,3 +6,4 @@ pub mod Draft
 pub mod Commit
 pub mod Reading
 pub mod Finding
+pub mod Differing

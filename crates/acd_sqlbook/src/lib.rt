@@ -16,6 +16,7 @@ mod book;
 mod codes;
 mod commit;
 mod create;
+mod difference;
 mod fault;
 mod meta;
 mod query;
@@ -25,4 +26,5 @@ mod tests;
 mod write;
 
 pub use book::SqlBook;
+pub use difference::{Filed, row_changes};
 pub use fault::{AdoptFault, Table};
