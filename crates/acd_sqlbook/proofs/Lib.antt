@@ -24,3 +24,6 @@ mod Writes
 mod Bounds
 mod Filing
 mod Committing
+pub mod Decoded
+mod Standing
+mod BookStates

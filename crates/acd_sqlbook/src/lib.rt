@@ -6,7 +6,7 @@
 //! the commit.
 //!
 //! ```ignore
-//! let book = SqlBook::create(conn, Limits::GREATEST)?;
+//! let book = SqlBook::create(alloc, conn, Limits::GREATEST)?;
 //! let conn = book.into_connection();
 //! ```
 #![tactic(auto)]
@@ -21,6 +21,7 @@ mod fault;
 mod meta;
 mod query;
 mod read;
+mod ready;
 #[cfg(test)]
 mod tests;
 mod write;
