@@ -7,4 +7,5 @@ pub mod Commit
 pub mod Reading
 pub mod Codes
 pub mod Decoding
+pub mod Reports
 pub mod Ranges

@@ -20,6 +20,7 @@ mod decode;
 mod fault;
 mod meta;
 mod read;
+mod shape;
 #[cfg(test)]
 mod tests;
 mod values;
