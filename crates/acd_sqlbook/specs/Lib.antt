@@ -11,3 +11,5 @@ pub mod Codes
 pub mod Decoding
 pub mod Calls
 pub mod State
+pub mod Reports
+pub mod Ranges

@@ -17,13 +17,16 @@ mod codes;
 mod commit;
 mod create;
 mod difference;
+mod decode;
 mod fault;
 mod meta;
 mod query;
 mod read;
 mod ready;
+mod shape;
 #[cfg(test)]
 mod tests;
+mod values;
 mod write;
 
 pub use book::SqlBook;
