@@ -12,6 +12,7 @@ mod QueryTexts
 mod Asked
 mod Members
 mod ConnectionRows
+mod Differences
 mod Selections
 mod Statements
 mod Upserts

@@ -6,8 +6,10 @@ pub mod Draft
 pub mod Commit
 pub mod Reading
 pub mod Finding
+pub mod Differing
 pub mod Codes
 pub mod Decoding
-pub mod Ranges
 pub mod Calls
 pub mod State
+pub mod Reports
+pub mod Ranges

@@ -16,16 +16,19 @@ mod book;
 mod codes;
 mod commit;
 mod create;
+mod difference;
 mod decode;
 mod fault;
 mod meta;
 mod query;
 mod read;
 mod ready;
+mod shape;
 #[cfg(test)]
 mod tests;
 mod values;
 mod write;
 
 pub use book::SqlBook;
+pub use difference::{Filed, row_changes};
 pub use fault::{AdoptFault, Table};
