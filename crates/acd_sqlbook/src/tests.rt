@@ -2,6 +2,8 @@
 
 ghost use Rattle.std.specs.Prelude.{◌≡◌, false};
 
+mod commits;
+
 use crate::book::SqlBook;
 use acd_book::BookFault;
 use acd_terms::Limits;
