@@ -13,7 +13,7 @@ use Rattle.acd_book.specs.Content.{Content, HasRisen, empty_content, FollowsBy, 
 use Rattle.acd_book.specs.State.{Reads, Commits}
 use Rattle.acd_book.specs.declared.fault.BookFault.{BookFault}
 use Rattle.acd_book.specs.declared.fault.BookFault.TheVariants.{NoMemory, Store}
-use Rattle.acd_sqlbook.specs.Commit.{written}
+use Rattle.acd_sqlbook.specs.Commit.{written_by}
 use Rattle.acd_sqlbook.specs.Content.{Encodes, meta_of}
 use Rattle.acd_sqlbook.specs.Decoding.{content_of}
 use Rattle.acd_sqlbook.specs.Calls.{HasRead, HasCommitted}
@@ -171,14 +171,19 @@ reads_noted old new failures next r answer IsAnswer settles stays is count low h
     subst₂ (λ n a. Reads (book_state old failures) (book_state new n) a IsAnswer) (sym counted) (sym is)
     (reads old new failures r IsAnswer (subst (λ n. failures ≤ n) counted low) settles stays h)
 
-pub commits_noted : (old new : State) (failures next : ℕ) (r : Result (Unit {0}) Error) (answer : Result (Unit {0}) BookFault) (changes : List Change) (events : List Event) (kept : Kept)
-    → answer ≡ answered r → next ≡ failures_after answer failures → failures ≤ next → HasCommitted old new r (written changes events kept)
-    → Commits (book_state old failures) (book_state new next) answer (FollowsBy changes events kept) (committed_by changes events kept)
-commits_noted old new failures next r answer changes events kept is count low h =
+pub commits_noted : (old new : State) (failures next : ℕ) (r : Result (Unit {0}) Error) (answer : Result (Unit {0}) BookFault) (written after : Content → Content) (Follows : Content → Type 0)
+    → ((db : Trees) (c : Content) → Encodes db c → Follows c → written c ≡ after c) → answer ≡ answered r → next ≡ failures_after answer failures → failures ≤ next → HasCommitted old new r written
+    → Commits (book_state old failures) (book_state new next) answer Follows after
+commits_noted old new failures next r answer written after Follows makes is count low h =
     let counted = count ∙ ap (λ a. failures_after a failures) is in
-    subst₂ (λ n a. Commits (book_state old failures) (book_state new n) a (FollowsBy changes events kept) (committed_by changes events kept)) (sym counted) (sym is)
-    (commits old new failures r (written changes events kept) (committed_by changes events kept) (FollowsBy changes events kept)
-    (λ db c encodes follows. commit_is changes events kept (meta_of c.rows) c refl follows) (subst (λ n. failures ≤ n) counted low) h)
+    subst₂ (λ n a. Commits (book_state old failures) (book_state new n) a Follows after) (sym counted) (sym is)
+    (commits old new failures r written after Follows makes (subst (λ n. failures ≤ n) counted low) h)
+
+pub changes_noted : (old new : State) (failures next : ℕ) (r : Result (Unit {0}) Error) (answer : Result (Unit {0}) BookFault) (changes : List Change) (events : List Event) (kept : Kept)
+    → answer ≡ answered r → next ≡ failures_after answer failures → failures ≤ next → HasCommitted old new r (written_by changes events kept)
+    → Commits (book_state old failures) (book_state new next) answer (FollowsBy changes events kept) (committed_by changes events kept)
+changes_noted old new failures next r answer changes events kept =
+    commits_noted old new failures next r answer (written_by changes events kept) (committed_by changes events kept) (FollowsBy changes events kept) (λ db c encodes follows. commit_is changes events kept (meta_of c.rows) c refl follows)
 
 -- ---- a new book
 

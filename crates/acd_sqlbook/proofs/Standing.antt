@@ -9,7 +9,7 @@ use Rattle.acd_terms.specs.declared.moves.Change.{Change}
 use Rattle.acd_book.specs.Content.{Content}
 use Rattle.acd_book.specs.declared.kept.Kept.{Kept}
 use Rattle.acd_sqlbook.specs.declared.meta.Meta.{Meta}
-use Rattle.acd_sqlbook.specs.Commit.{counted, made_by, written}
+use Rattle.acd_sqlbook.specs.Commit.{counted, made_by, written_by}
 use Rattle.acd_sqlbook.specs.Content.{Encodes, meta_of}
 use Rattle.acd_sqlbook.specs.Reading.{meta_shown}
 use Rattle.acd_sqlbook.specs.Calls.{Stands, HasRead, HasCommitted}
@@ -138,7 +138,7 @@ pub commits_counted : (old mid new : State) (r : Result (Unit {0}) Error) (next 
     → (HasCleanDisk new → HasCleanDisk mid) → (HasCleanDisk new → OnOk r (IsTrue mid.is_open × IsTrue new.is_open)) → (HasCleanDisk new → IsTrue new.is_open → IsTrue mid.is_open)
     → (HasCleanDisk new → OnOk r ((c : Content) → Holds mid c → Holds new (made_by changes events kept next c)))
     → (HasCleanDisk new → OnErr r ((c : Content) → Holds mid c → IsTrue new.is_open → Holds new c))
-    → (HasCleanDisk new → AddsStop mid new (made_by changes events kept next)) → HasCommitted old new r (written changes events kept)
+    → (HasCleanDisk new → AddsStop mid new (made_by changes events kept next)) → HasCommitted old new r (written_by changes events kept)
 commits_counted old mid new r next changes events kept read =
-    commits_behind old mid new r (made_by changes events kept next) (written changes events kept) next (λ c found. found ≡ counted (meta_of c.rows) changes (length events) kept) read
+    commits_behind old mid new r (made_by changes events kept next) (written_by changes events kept) next (λ c found. found ≡ counted (meta_of c.rows) changes (length events) kept) read
     (λ c is. ap (λ m. made_by changes events kept m c) is)

@@ -82,5 +82,5 @@ counted m changes events k = record {
 }
 
 -- what a commit writes, with the counters that go on from the content's
-abbrev pub written : List Change → List Event → Kept → Content → Content
-written changes events kept c = made_by changes events kept (counted (meta_of c.rows) changes (length events) kept) c
+abbrev pub written_by : List Change → List Event → Kept → Content → Content
+written_by changes events kept c = made_by changes events kept (counted (meta_of c.rows) changes (length events) kept) c

@@ -5,7 +5,7 @@ ghost use Rattle.std.specs.Prelude.{◌≡◌, ◌↔◌, ◌∷◌, [], false, 
 ghost use Rattle.sqlite.specs.State.{HasCleanDisk};
 ghost use Rattle.sqlite.specs.Held.{state};
 ghost use Rattle.acd_sqlbook.specs.Calls.{HasRead, HasCommitted};
-ghost use Rattle.acd_sqlbook.specs.Commit.{counted, written};
+ghost use Rattle.acd_sqlbook.specs.Commit.{counted, written_by};
 ghost use Rattle.acd_sqlbook.specs.Content.{meta_of};
 ghost use Rattle.acd_sqlbook.specs.Draft.{Quiet, NoStop, Fits, LimitsFit, MetaFits};
 ghost use Rattle.acd_sqlbook.specs.Finding.{Finds};
@@ -146,7 +146,7 @@ pub(crate) fn commit_ready<S: Alter>(
     requires idle { conn.old.in_transaction ≡ false }
     requires fresh { IsTrue fresh → HasCleanDisk (state S.Store conn.old) → IsTrue (state S.Store conn.old).is_open }
     ensures idle { conn.new.in_transaction ≡ false }
-    ensures commits { HasCommitted (state S.Store conn.old) (state S.Store conn.new) result (written changes.now events.now kept.now) }
+    ensures commits { HasCommitted (state S.Store conn.old) (state S.Store conn.new) result (written_by changes.now events.now kept.now) }
 {
     let request = request_text(alloc, &kept.request)?;
     match counters(conn, fresh, changes, events.len() as u64, kept) {
