@@ -11,7 +11,7 @@ use Rattle.acd_terms.specs.declared.event.Event.{Event}
 use Rattle.acd_terms.specs.declared.moves.Change.{Change}
 use Rattle.acd_terms.specs.declared.moves.Change.TheVariants.{Nothing, PutGroup, PutStation, PutAgent, PutCall, PutConnection, PutMonitor, RemoveCall, RemoveConnection, RemoveMonitor}
 use Rattle.acd_terms.specs.declared.rows.Rows.{Rows}
-use Rattle.acd_book.specs.Content.{Content, GoOn, FollowsBy, committed_by, rows_by}
+use Rattle.acd_book.specs.Content.{Content, GoOn, Follows, committed, FollowsBy, committed_by, rows_by}
 use Rattle.acd_book.specs.declared.kept.Kept.{Kept}
 use Rattle.acd_sqlbook.specs.declared.meta.Meta.{Meta}
 use Rattle.acd_sqlbook.specs.Content.{meta_of, with_part}
@@ -84,12 +84,11 @@ events_are last c (e ∷ es) go low =
 kept_is : (c : Content) (k : Kept) (last : ℕ) → last < k.stamp → Every (λ (x : Kept). x.stamp ≤ last) c.kept → with_kept c k ≡ record c { kept = c.kept ++ k ∷ [] }
 kept_is c k last low h = ap (λ l. record c { kept = l }) (put_last (λ (x : Kept). x.stamp) k c.kept (every_less (λ (x : Kept). x.stamp) last k.stamp c.kept low h))
 
--- with the counters of what is to be made, the writes make it
-pub made_is : (changes : List Change) (events : List Event) (kept : Kept) (c : Content) → FollowsBy changes events kept c
-    → made_by changes events kept (meta_of (rows_by changes events kept c)) c ≡ committed_by changes events kept c
-unfolding with_last
-made_is changes events kept c follows =
-    let m = meta_of (rows_by changes events kept c) in
+-- the writes add the events and the kept record behind the others, and make the changes
+written_are : (changes : List Change) (events : List Event) (kept : Kept) (m : Meta) (rows : Rows) (c : Content) → Follows rows events kept c
+    → made_by changes events kept m c
+    ≡ with_part table.Meta m (record { rows = at (changed_by c.rows changes) c.rows.last_call c.rows.last_monitor; events = c.events ++ events; kept = c.kept ++ kept ∷ [] })
+written_are changes events kept m rows c follows =
     let tables = at (changed_by c.rows changes) c.rows.last_call c.rows.last_monitor in
     let d : Content = record c { rows = tables } in
     let e : Content = record d { events = c.events ++ events } in
@@ -97,6 +96,20 @@ made_is changes events kept c follows =
     ap (λ (x : Content). with_part table.Meta m (with_kept (with_events x events) kept)) (filed_is c changes)
     ∙ ap (λ (x : Content). with_part table.Meta m (with_kept x kept)) (events_are c.rows.last_event d events follows.numbers follows.counted.events)
     ∙ ap (λ (x : Content). with_part table.Meta m x) (kept_is e kept c.rows.last_stamp (omega arith) follows.counted.kept)
+
+-- with the counters of what is to be made, the writes make it
+made_is : (changes : List Change) (events : List Event) (kept : Kept) (c : Content) → FollowsBy changes events kept c
+    → made_by changes events kept (meta_of (rows_by changes events kept c)) c ≡ committed_by changes events kept c
+unfolding with_last
+made_is changes events kept c follows = written_are changes events kept (meta_of (rows_by changes events kept c)) (rows_by changes events kept c) c follows
+
+-- changes that lead to the tables of rows make the rows, with their counters
+pub rows_made : (changes : List Change) (events : List Event) (kept : Kept) (rows : Rows) (c : Content) → Follows rows events kept c
+    → (changed_by c.rows changes).groups ≡ rows.groups → (changed_by c.rows changes).stations ≡ rows.stations → (changed_by c.rows changes).agents ≡ rows.agents
+    → (changed_by c.rows changes).calls ≡ rows.calls → (changed_by c.rows changes).connections ≡ rows.connections → (changed_by c.rows changes).monitors ≡ rows.monitors
+    → made_by changes events kept (meta_of rows) c ≡ committed rows events kept c
+rows_made changes events kept rows c follows groups stations agents calls connections monitors =
+    written_are changes events kept (meta_of rows) rows c follows ∙ rw (groups, stations, agents, calls, connections, monitors) refl
 
 -- ---- the counters of what is to be made
 

@@ -6,6 +6,13 @@ mod Heaps
 mod Connections
 mod KeyedRows
 mod Scans
+mod Ordered
+mod Listings
+mod QueryTexts
+mod Asked
+mod Members
+mod ConnectionRows
+mod Differences
 mod Selections
 mod Statements
 mod Upserts
@@ -17,3 +24,6 @@ mod Writes
 mod Bounds
 mod Filing
 mod Committing
+pub mod Decoded
+mod Standing
+mod BookStates

@@ -1,7 +1,8 @@
-//! The numbers that stand for states, kinds and causes.
+//! The numbers that stand for states, kinds and causes, and what stands under a number.
 
 ghost use Rattle.std.specs.Prelude.{◌≡◌};
 ghost use Rattle.acd_sqlbook.specs.Rows.{agent_code, pending_code, connection_code, kind_code, cause_code};
+ghost use Rattle.acd_sqlbook.specs.Codes.{agent_state_of, pending_of, connection_state_of};
 
 use acd_terms::{AgentState, Cause, ConnectionState, EventKind, Pending};
 
@@ -76,5 +77,47 @@ pub(crate) fn kind_code(kind: EventKind) -> u32
         EventKind::AgentReady => 16,
         EventKind::AgentBusy => 17,
         EventKind::AgentWorkingAfterCall => 18,
+    }
+}
+
+#[tactic(auto, unfolding(crate::specs::Codes::agent_state_of))]
+pub(crate) fn agent_state_of(code: u64) -> Option<AgentState>
+    ensures { result ≡ agent_state_of code }
+{
+    match code {
+        0 => Some(AgentState::Null),
+        1 => Some(AgentState::NotReady),
+        2 => Some(AgentState::Ready),
+        3 => Some(AgentState::Busy),
+        4 => Some(AgentState::WorkingAfterCall),
+        _ => None,
+    }
+}
+
+#[tactic(auto, unfolding(crate::specs::Codes::pending_of))]
+pub(crate) fn pending_of(code: u64) -> Option<Pending>
+    ensures { result ≡ pending_of code }
+{
+    match code {
+        0 => Some(Pending::LoggedOff),
+        1 => Some(Pending::NotReady),
+        2 => Some(Pending::Ready),
+        4 => Some(Pending::WorkingAfterCall),
+        _ => None,
+    }
+}
+
+#[tactic(auto, unfolding(crate::specs::Codes::connection_state_of))]
+pub(crate) fn connection_state_of(code: u64) -> Option<ConnectionState>
+    ensures { result ≡ connection_state_of code }
+{
+    match code {
+        1 => Some(ConnectionState::Initiated),
+        2 => Some(ConnectionState::Alerting),
+        3 => Some(ConnectionState::Connected),
+        4 => Some(ConnectionState::Hold),
+        5 => Some(ConnectionState::Queued),
+        6 => Some(ConnectionState::Fail),
+        _ => None,
     }
 }

@@ -44,6 +44,14 @@ pub record IsNumberOf (longest number : ℕ) : Type 0 where
   pub some : 1 < length (decimal number)
   pub short : length (decimal number) ≤ longest + 1
 
+-- the test of it
+abbrev pub is_number_of : ℕ → ℕ → Bool
+is_number_of longest number = nat_lt 1 (length (decimal number)) && nat_le (length (decimal number)) (longest + 1) && slice_index (decimal number) 0 == 49
+
+-- the number, where it is the digit 1 and one to `longest` digits
+unfoldable pub id_with : ℕ → ℕ → Option ℕ
+id_with longest number = if is_number_of longest number then Some number else None
+
 -- a printable character of ASCII
 abbrev pub is_name_byte : ℕ → Bool
 is_name_byte b = nat_le 32 b && nat_le b 126

@@ -3,7 +3,7 @@
 ghost use Rattle.std.specs.Prelude.{◌≡◌, ◌≤◌, length, position, true, IfOk};
 ghost use Rattle.std.specs.List.{list_all};
 ghost use Rattle.std.specs.Char.{is_ascii, is_ascii_digit};
-ghost use Rattle.acd_terms.specs.Forms.{read_id, number_of, digits_of, device_digits, agent_digits, is_not_digit, IsNumberOf};
+ghost use Rattle.acd_terms.specs.Forms.{read_id, id_with, is_number_of, number_of, digits_of, device_digits, agent_digits, is_not_digit, IsNumberOf};
 
 use crate::short_text::ShortText;
 use itoa::Buffer;
@@ -49,6 +49,18 @@ impl DeviceId {
     {
         let value = read_number(bytes, 15)?;
         Ok(DeviceId { value })
+    }
+
+    /// The device of a number, as [`Self::number`] gives it.
+    #[tactic(auto, unfolding(crate::specs::Forms::id_with))]
+    pub fn from_number(number: u64) -> Option<DeviceId>
+        ensures { result ≡ id_with device_digits number }
+    {
+        if is_number_of(number, 15) {
+            Some(DeviceId { value: number })
+        } else {
+            None
+        }
     }
 
     /// The number that gives the order.
@@ -97,6 +109,18 @@ impl AgentId {
         Ok(AgentId { value })
     }
 
+    /// The agent of a number, as [`Self::number`] gives it.
+    #[tactic(auto, unfolding(crate::specs::Forms::id_with))]
+    pub fn from_number(number: u64) -> Option<AgentId>
+        ensures { result ≡ id_with agent_digits number }
+    {
+        if is_number_of(number, 9) {
+            Some(AgentId { value: number })
+        } else {
+            None
+        }
+    }
+
     /// The number that gives the order.
     pub fn number(self) -> u64
         ensures value { result ≡ self }
@@ -132,6 +156,16 @@ fn read_number(bytes: &[u8], longest: usize) -> Result<u64, IdFault>
         Some(place) => Err(IdFault::NotDigit(place)),
         None => Ok(number_of(bytes)),
     }
+}
+
+// Whether the number is the digit 1 and one to `longest` digits.
+fn is_number_of(number: u64, longest: usize) -> bool
+    requires { longest ≤ 15 }
+    ensures { result ≡ is_number_of longest number }
+{
+    let mut buffer = Buffer::new();
+    let digits = buffer.format(number).as_bytes();
+    digits.len() > 1 && digits.len() <= longest + 1 && digits[0] == b'1'
 }
 
 // The place of the first byte that is no digit.
