@@ -13,3 +13,4 @@ pub mod Calls
 pub mod Faulty
 pub mod NewKeys
 pub mod Opens
+pub mod Sessions

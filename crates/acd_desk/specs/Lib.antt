@@ -11,3 +11,4 @@ pub mod Laws
 pub mod Opening
 pub mod DeskLaws
 pub mod Ran
+pub mod Session

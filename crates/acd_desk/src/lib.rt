@@ -16,6 +16,7 @@ mod executing;
 pub mod laws;
 mod open_fault;
 mod requests;
+mod session;
 mod taken;
 #[cfg(test)]
 mod tests;
@@ -24,4 +25,5 @@ mod working;
 pub use desk::Desk;
 pub use open_fault::OpenFault;
 pub use requests::is_same;
+pub use session::SessionFault;
 pub use taken::Taken;
