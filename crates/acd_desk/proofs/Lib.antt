@@ -14,3 +14,5 @@ pub mod Faulty
 pub mod NewKeys
 pub mod Opens
 pub mod Sessions
+pub mod Audits
+pub mod AuditLaws

@@ -12,3 +12,6 @@ pub mod Opening
 pub mod DeskLaws
 pub mod Ran
 pub mod Session
+pub mod Audit
+pub mod Replay
+pub mod AuditLaws

@@ -2,6 +2,7 @@
 //! an empty body, and is stated in `specs/`.
 
 ghost use Rattle.acd_desk.specs.DeskLaws.{OneMoreArrival, AnswersByPlace, SoundKeepsLaws, EmptyIsSound, StaysSound, KeepsFirsts};
+ghost use Rattle.acd_desk.specs.AuditLaws.{HasOneAudit, SoundIsOrdered, SoundAgrees};
 
 /// One more arrival leads from the run of a list to the run of the longer list.
 pub fn one_more_arrival()
@@ -31,4 +32,11 @@ pub fn stays_sound()
 /// What is kept after a run is the first arrivals of the list, each at its executed moment.
 pub fn keeps_firsts()
     ensures { KeepsFirsts }
+{}
+
+/// A content has one audit, and a sound one is in order, so that its audit is Sound.
+pub fn one_audit()
+    ensures one { HasOneAudit }
+    ensures ordered { SoundIsOrdered }
+    ensures agrees { SoundAgrees }
 {}

@@ -11,6 +11,7 @@
 //! ```
 #![tactic(auto)]
 
+mod audit;
 mod desk;
 mod executing;
 pub mod laws;
@@ -22,6 +23,7 @@ mod taken;
 mod tests;
 mod working;
 
+pub use audit::Audit;
 pub use desk::Desk;
 pub use open_fault::OpenFault;
 pub use requests::is_same;
