@@ -90,7 +90,7 @@ pub after_sound : (c : Content) (a : Arrival) → IsSound c → IsSound (after c
 after_sound c a sound =
     subst IsSound (sym (ap (λ (x : Content). after x a) (ran_none c sound) ∙ ran_push c [] a)) (ran_sound c (a ∷ []) sound)
 
-nothing_taken : (k : ℕ) → ◌≡◌ {A = List Arrival} [] (take k [])
+pub nothing_taken : (k : ℕ) → ◌≡◌ {A = List Arrival} [] (take k [])
 nothing_taken zero = refl
 nothing_taken (suc k) = refl
 

@@ -17,3 +17,6 @@ pub mod Telling
 pub mod OrderLemmas
 pub mod PageLemmas
 pub mod Rising
+pub mod Sessions
+pub mod Audits
+pub mod AuditLaws

@@ -22,7 +22,7 @@ New seen (a ∷ l) = (has_key seen a.request.requester a.request.invoke ≡ fals
 abbrev pub SameKeys : List Arrival → List Arrival → Type 0
 SameKeys s t = (p : List ℕ) (q : ℕ) → has_key s p q ≡ has_key t p q
 
-new-distinct : (l seen : List Arrival) → New seen l → distinct_from seen l ≡ l
+pub new-distinct : (l seen : List Arrival) → New seen l → distinct_from seen l ≡ l
 new-distinct [] seen h = refl
 new-distinct (x ∷ l) seen h =
     ap (λ (b : Bool). cond b [] (x ∷ []) ++ distinct_from (seen ++ x ∷ []) l) h.0 ∙ ap (λ (s : List Arrival). x ∷ s) (new-distinct l (seen ++ x ∷ []) h.1)
@@ -54,7 +54,7 @@ distinct-new (x ∷ l) seen mine same =
     ] in
     cases (has_key seen x.request.requester x.request.invoke) refl
 
-new-take : (n : ℕ) (l seen : List Arrival) → New seen l → New seen (take n l)
+pub new-take : (n : ℕ) (l seen : List Arrival) → New seen l → New seen (take n l)
 new-take zero l seen h = tt
 new-take (suc n) [] seen h = tt
 new-take (suc n) (x ∷ l) seen h = (h.0, new-take n l (seen ++ x ∷ []) h.1)
@@ -64,7 +64,7 @@ new-raised [] seen mine c same h = tt
 new-raised (x ∷ l) seen mine c same h =
     (same x.request.requester x.request.invoke ∙ h.0, new-raised l (seen ++ x ∷ []) (mine ++ record { moment = executed_moment c.rows x.moment; request = x.request } ∷ []) (executed c x) (same-push mine seen (record { moment = executed_moment c.rows x.moment; request = x.request }) x same refl) h.1)
 
-length-raised : (l : List Arrival) (c : Content) → length (raised_from c l) ≡ length l
+pub length-raised : (l : List Arrival) (c : Content) → length (raised_from c l) ≡ length l
 length-raised [] c = refl
 length-raised (x ∷ l) c = let e = length-raised l (executed c x) in omega (arith, e)
 
@@ -80,14 +80,14 @@ run-raised (x ∷ l) c =
     ap (λ (d : Content). run_from d (raised_from (executed c x) l)) (executed-raised c x) ∙ run-raised l (executed c x)
 
 -- the kept list of a run is its list, at executed moments
-kept-raised : (l : List Arrival) (c : Content) → arrivals_of (run_from c l).kept ≡ arrivals_of c.kept ++ raised_from c l
+pub kept-raised : (l : List Arrival) (c : Content) → arrivals_of (run_from c l).kept ≡ arrivals_of c.kept ++ raised_from c l
 kept-raised [] c = sym (append-nil (arrivals_of c.kept))
 kept-raised (x ∷ l) c =
     kept-raised l (executed c x)
     ∙ ap (λ (s : List Arrival). s ++ raised_from (executed c x) l) (map-append (λ (k : Kept). record { moment = k.moment; request = k.request }) c.kept (record_of c.rows x ∷ []))
     ∙ append_assoc (arrivals_of c.kept) (record { moment = executed_moment c.rows x.moment; request = x.request } ∷ []) (raised_from (executed c x) l)
 
-length-arrivals : (ks : List Kept) → length (arrivals_of ks) ≡ length ks
+pub length-arrivals : (ks : List Kept) → length (arrivals_of ks) ≡ length ks
 length-arrivals [] = refl
 length-arrivals (k ∷ ks) = let e = length-arrivals ks in omega (arith, e)
 

@@ -13,3 +13,7 @@ pub mod DeskLaws
 pub mod Ran
 pub mod Tells
 pub mod Told
+pub mod Session
+pub mod Audit
+pub mod Replay
+pub mod AuditLaws

@@ -2,6 +2,7 @@
 //! an empty body, and is stated in `specs/`.
 
 ghost use Rattle.acd_desk.specs.DeskLaws.{OneMoreArrival, AnswersByPlace, SoundKeepsLaws, EmptyIsSound, StaysSound, KeepsFirsts, EventsInOrder};
+ghost use Rattle.acd_desk.specs.AuditLaws.{HasOneAudit, SoundIsOrdered, SoundAgrees};
 
 /// One more arrival leads from the run of a list to the run of the longer list.
 pub fn one_more_arrival()
@@ -36,4 +37,11 @@ pub fn keeps_firsts()
 /// The events of a sound content stand in ascending number, each above 0.
 pub fn events_in_order()
     ensures { EventsInOrder }
+{}
+
+/// A content has one audit, and a sound one is in order, so that its audit is Sound.
+pub fn one_audit()
+    ensures one { HasOneAudit }
+    ensures ordered { SoundIsOrdered }
+    ensures agrees { SoundAgrees }
 {}

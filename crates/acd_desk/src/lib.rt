@@ -13,6 +13,7 @@
 //! ```
 #![tactic(auto)]
 
+mod audit;
 mod desk;
 mod executing;
 mod export;
@@ -22,13 +23,16 @@ mod open_fault;
 mod reads;
 mod requests;
 mod table_reads;
+mod session;
 mod taken;
 #[cfg(test)]
 mod tests;
 mod working;
 
+pub use audit::Audit;
 pub use desk::Desk;
 pub use fault::DeskFault;
 pub use open_fault::OpenFault;
 pub use requests::is_same;
+pub use session::SessionFault;
 pub use taken::Taken;

@@ -1,0 +1,32 @@
+-- What the audit of a content answers.
+use Rattle.std.specs.Prelude.{◌≡◌, ◌⊎◌, ℕ, ◌+◌, ◌<◌, ◌≤◌, true, length, take}
+use Rattle.acd_terms.specs.Limits.{limits_fit}
+use Rattle.acd_book.specs.Content.{Content}
+use Rattle.acd_desk.specs.declared.audit.Audit.{Audit}
+use Rattle.acd_desk.specs.declared.audit.Audit.TheVariants.{Sound, Differs}
+use Rattle.acd_desk.specs.Firsts.{run}
+use Rattle.acd_desk.specs.Stands.{arrivals_of, IsSound}
+
+-- the first n kept requests run again, each at the moment that its record holds
+abbrev pub replayed : Content → ℕ → Content
+replayed c n = run c.rows.limits (arrivals_of (take n c.kept))
+
+-- the limits fit, and that run keeps the first n records, and reports a beginning of the events
+pub record Agrees (c : Content) (n : ℕ) : Type 0 where
+  pub fits : limits_fit c.rows.limits ≡ true
+  pub kept : (replayed c n).kept ≡ take n c.kept
+  pub events : (replayed c n).events ≡ take (length (replayed c n).events) c.events
+
+-- each place before this one agrees
+abbrev pub AgreesBefore : Content → ℕ → Type 0
+AgreesBefore c n = (m : ℕ) → 1 ≤ m → m < n → Agrees c m
+
+-- the first place of the kept list that differs, or the one behind the list where only what is left does
+pub record IsFirstDifference (c : Content) (n : ℕ) : Type 0 where
+  pub place : 1 ≤ n
+  pub before : AgreesBefore c n
+  pub differs : ((n ≤ length c.kept) × (¬ Agrees c n)) ⊎ ((n ≡ length c.kept + 1) × (¬ IsSound c))
+
+abbrev pub IsAudit : Content → Audit → Type 0
+IsAudit c Sound = IsSound c
+IsAudit c (Differs n) = IsFirstDifference c n

@@ -1,0 +1,62 @@
+-- What a session over a book leaves: a desk is opened, runs and is closed.
+use Rattle.std.specs.Prelude.{◌≡◌, ◌≤◌, true, false, List, [], ◌∷◌, length}
+use Rattle.std.specs.List.{Contains}
+use Rattle.acd_terms.specs.Rules.First.{BreaksNoRule}
+use Rattle.acd_terms.specs.declared.command.Arrival.{Arrival}
+use Rattle.acd_book.specs.Content.{Content, HasRisen}
+use Rattle.acd_book.specs.State.{BookState, IfHonest}
+use Rattle.acd_desk.specs.declared.taken.Taken.{Taken}
+use Rattle.acd_desk.specs.declared.taken.Taken.TheVariants.{StoreFault}
+use Rattle.acd_desk.specs.declared.open_fault.OpenFault.{OpenFault}
+use Rattle.acd_desk.specs.declared.open_fault.OpenFault.TheVariants as fault
+use Rattle.acd_desk.specs.declared.session.SessionFault.{SessionFault}
+use Rattle.acd_desk.specs.declared.session.SessionFault.TheVariants as session
+use Rattle.acd_desk.specs.Served.{is_fault, served, maybe_last, sent}
+use Rattle.acd_desk.specs.Stands.{IsSound, ran_after, replies, StopsAt}
+use Rattle.acd_desk.specs.Laws.{KeepsLaws}
+use Rattle.acd_desk.specs.Ran.{EndsIn, IsStoreFault, Holds}
+
+-- what is said where the book was honest and its content sound
+abbrev pub IfWhole : BookState → BookState → Type 0 → Type 0
+IfWhole old new P = new.is_clean → old.is_sound → IsSound old.content → P
+
+-- the last arrival was served, or there was none
+abbrev pub IsLastServed : List Taken → Type 0
+IsLastServed [] = Unit {0}
+IsLastServed (t ∷ []) = is_fault t ≡ false
+IsLastServed (_ ∷ t ∷ ts) = IsLastServed (t ∷ ts)
+
+-- the arrivals were taken in turn, and the book came back
+pub record Session (old : BookState) (arrivals : List Arrival) (answers : List Taken) (new : BookState) : Type 0 where
+  pub even : length arrivals ≡ length answers
+  pub clean : new.is_clean → old.is_clean
+  pub sound : IfHonest old new new.is_sound
+  -- the book was open, with rows that break no rule
+  pub opened : IfHonest old new old.is_open
+  pub accepts : IfHonest old new (BreaksNoRule old.content.rows)
+  -- each answer but the faults is that of the abstract desk, at its place in the list of what was kept and served
+  pub replies : IfWhole old new (sent answers ≡ replies old.content (served arrivals answers))
+  -- an open book holds the run over the first arrivals of that list
+  pub content : IfWhole old new (new.is_open → new.content ≡ ran_after old.content (served arrivals answers))
+  pub whole : IfWhole old new (new.is_open → IsSound new.content)
+  pub laws : IfWhole old new (new.is_open → KeepsLaws new.content)
+  -- the book is open behind an arrival that was served, so also where all were, and is then that run with no other stop
+  pub up : IfHonest old new (IsLastServed answers → new.is_open)
+  pub holds : IfWhole old new (IsLastServed answers → Holds old.content (served arrivals answers) new)
+  -- whatever a stop leaves is that run, or that with one more arrival, which came behind the last that was served
+  pub stops : IfWhole old new ((c : Content) → new.stops c → StopsAt old.content (served arrivals answers) (maybe_last arrivals answers) c)
+  pub sound_stops : IfWhole old new ((c : Content) → new.stops c → IsSound c)
+  -- behind a storeFault there are such answers alone, and it comes only where a failure was counted
+  pub later : EndsIn IsStoreFault answers
+  pub cause : IfWhole old new (Contains answers StoreFault → HasRisen old.failures new.failures)
+  pub quiet : ¬ (Contains answers StoreFault) → new.failures ≡ old.failures
+  pub counts : old.failures ≤ new.failures
+
+-- want of room for the answers is want of memory
+abbrev pub refusal : SessionFault → OpenFault
+refusal (session.Open why) = why
+refusal session.NoRoom = fault.NoMemory
+
+-- a reopening finds what an open book held, and nothing else
+abbrev pub LeavesContent : BookState → BookState → Type 0
+LeavesContent old new = IfHonest old new (old.is_open → (c : Content) → new.stops c → c ≡ old.content)
