@@ -1,6 +1,5 @@
 -- What a call of a desk leaves that is answered by a fault.
-use Rattle.std.proofs.Common.{◌≡◌, ◌≤◌, ℕ, Bool, true, false, Option, None, Result, Ok, Err, refl, sym, ap, subst, ◌∙◌, arith, inl, inr, ◌⊎◌, true≢false}
-use Rattle.acd_terms.specs.Rules.First.{BreaksNoRule}
+use Rattle.std.proofs.Common.{◌≡◌, ◌≤◌, ℕ, Bool, true, false, Option, None, Result, refl, sym, subst, ◌∙◌, arith, inl, inr, ◌⊎◌, true≢false}
 use Rattle.acd_terms.specs.declared.rows.Rows.{Rows}
 use Rattle.acd_terms.specs.declared.command.Arrival.{Arrival}
 use Rattle.acd_book.specs.Content.{Content, IsCounted, HasRisen}
@@ -9,13 +8,11 @@ use Rattle.acd_book.specs.declared.fault.BookFault.{BookFault}
 use Rattle.acd_book.specs.declared.fault.BookFault.TheVariants as faults
 use Rattle.acd_desk.specs.declared.taken.Taken.TheVariants.{NoMemory, StoreFault}
 use Rattle.acd_desk.specs.declared.working.Working.{Working}
-use Rattle.acd_desk.specs.declared.working.Working.TheVariants.{Unloaded}
 use Rattle.acd_desk.specs.Faults.{answer_to, left_by}
 use Rattle.acd_desk.specs.Replies.{after}
 use Rattle.acd_desk.specs.Standing.{Standing, switch_of, is_failed, Mirrors, InStep}
 use Rattle.acd_desk.specs.Ran.{IsCause, IsDeceived, Took}
 use Rattle.acd_desk.proofs.Many.{no_store}
-use Rattle.acd_desk.proofs.Calls.{ok_err}
 
 -- what a call of the book leaves that did nothing, or nothing that is known
 pub record Undone (old : Standing) (a : Arrival) (new : BookState) : Type 0 where

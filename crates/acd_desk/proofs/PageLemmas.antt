@@ -1,6 +1,6 @@
 -- Pages of events, one after the other, are all events.
-use Rattle.std.proofs.Common.{◌≡◌, ℕ, ◌+◌, ◌-◌, ◌<◌, ◌≤◌, zero, suc, Bool, true, false, cond, List, [], ◌∷◌, ◌++◌, Option, Some, None, Ok, refl, ap, sym, ◌∙◌, subst, take, drop, length, arith, append_assoc}
-use Rattle.std.specs.Prelude.{nat_lt, filter, slice_get}
+use Rattle.std.proofs.Common.{◌≡◌, ℕ, ◌-◌, ◌<◌, ◌≤◌, zero, suc, Bool, true, false, cond, List, [], ◌∷◌, ◌++◌, Option, Some, None, Ok, refl, ap, sym, ◌∙◌, subst, take, drop, length, arith, append_assoc}
+use Rattle.std.specs.Prelude.{nat_lt, slice_get}
 use Rattle.std.proofs.lemmas.Bool.Decides.{nat_tests}
 use Rattle.acd_terms.specs.declared.event.Event.{Event}
 use Rattle.acd_book.specs.Content.{Content, events_behind}

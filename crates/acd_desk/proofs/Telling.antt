@@ -12,7 +12,7 @@ use Rattle.acd_desk.specs.declared.fault.DeskFault.TheVariants.{NoMemory, StoreF
 use Rattle.acd_desk.specs.declared.working.Working.{Working}
 use Rattle.acd_desk.specs.declared.working.Working.TheVariants.{Unloaded}
 use Rattle.acd_desk.specs.Faults.{fault_of, taken_by, left_by}
-use Rattle.acd_desk.specs.Standing.{Standing, switch_of, is_failed, Mirrors, InStep}
+use Rattle.acd_desk.specs.Standing.{Standing, switch_of, is_failed, Mirrors}
 use Rattle.acd_desk.specs.Ran.{IsCause, IsDeceived, Took}
 use Rattle.acd_desk.specs.Reread.{Reread}
 use Rattle.acd_desk.specs.Told.{Told, TellsNothing}

@@ -1,6 +1,6 @@
 //! What a desk tells: its reads.
 
-ghost use Rattle.std.specs.Prelude.{◌≡◌, Some, None, is_some, IfOk, OnOk, if◌then◌else◌};
+ghost use Rattle.std.specs.Prelude.{◌≡◌, Some, None, is_some, if◌then◌else◌};
 ghost use Rattle.acd_terms.specs.Scans.{monitor_of};
 ghost use Rattle.acd_book.specs.Content.{events_behind, events_of_monitor};
 ghost use Rattle.acd_desk.specs.Standing.{standing};
@@ -23,10 +23,7 @@ impl<B: Book> Desk<B> {
     fn tell(&mut self, question: Question) -> Result<Option<String>, DeskFault>
         ensures { Told (standing B.Book self.old) (standing B.Book self.new) result (λ c text. told text ≡ table_read c.rows question) }
     {
-        let loaded = match self.switch_out() {
-            Ok(loaded) => loaded,
-            Err(fault) => return Err(fault),
-        };
+        let loaded = self.switch_out()?;
         let text = table_read(self.alloc, loaded.switch.tables(), question);
         self.working = Working::Loaded(loaded);
         match text {

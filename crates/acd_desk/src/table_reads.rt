@@ -6,7 +6,7 @@ ghost use Rattle.std.specs.List.Sorted.{IsStrictlySortedBy};
 ghost use Rattle.acd_terms.specs.Scans.{connection_of, connections_of};
 ghost use Rattle.acd_terms.specs.Rules.First.{BreaksNoRule};
 ghost use Rattle.acd_tables.specs.Indexed.{pair_cmp};
-ghost use Rattle.acd_desk.specs.Tells.{told, agent_read, call_read, device_in, device_read, queue_in, ready_in, queue_read, report_read, table_read};
+ghost use Rattle.acd_desk.specs.Tells.{told, agent_read, call_read, device_in, device_read, queue_read, report_read, table_read};
 
 use acd_codec::{PlannedDevice, agent_text, call_text, device_text, queue_text};
 use acd_reports::queue_report;

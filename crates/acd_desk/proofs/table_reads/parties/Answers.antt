@@ -1,5 +1,4 @@
-use Rattle.std.proofs.Common.{[], ◌≡◌, ◌++◌, ap, ◌∙◌, get_or}
-use Rattle.std.specs.Prelude.{slice_get}
+use Rattle.std.proofs.Common.{[], ◌++◌, ap, ◌∙◌, get_or}
 use Rattle.std.specs.List.{cons_option}
 use Rattle.acd_terms.specs.Scans.{connections_of}
 use Rattle.acd_desk.proofs.OrderLemmas.{both_parties, two_parties}
