@@ -1,10 +1,12 @@
 //! Whole sessions over memory, with the bytes that the formats prescribe, and readers and writers that
 //! fail midway.
 
+use crate::importing::import;
 use crate::session::{LinesFault, lines};
 use acd_book::{Book, MemoryBook};
+use acd_codec::read_request;
 use acd_desk::{Desk, OpenFault};
-use acd_terms::Limits;
+use acd_terms::{Limits, Request};
 use std::alloc::Global;
 use std::io::{self, ErrorKind, Read, Write};
 use std::process::Abort;
@@ -71,6 +73,33 @@ fn gives(rt: &(impl Abort + AllocGlobal), input: &[&str], output: &[&str]) -> Re
     }
     let written = answered(rt.alloc(), bytes.as_slice())?;
     assert_eq!(rt; written.as_slice(), wanted.as_slice());
+    Ok(())
+}
+
+fn add_request(rt: &impl Abort, alloc: Global, requests: &mut Vec<Request>, json: &str) {
+    let request = read_request(alloc, json.as_bytes()).expect(rt, "a request");
+    requests.push(request).expect(rt, "memory");
+}
+
+// The answers to a group and a station that are imported.
+fn expect_imported(rt: &impl Abort, alloc: Global, desk: &mut Desk<MemoryBook>, requests: &[Request]) {
+    let mut written = Vec::new(alloc);
+    import(alloc, desk, requests, &mut written).expect(rt, "written");
+    let (group, station) = written.as_slice().split_at(GROUP_ANSWER.len());
+    assert_eq!(rt; group, GROUP_ANSWER.as_bytes());
+    assert_eq!(rt; station, STATION_ANSWER.as_bytes());
+}
+
+#[test]
+fn import_twice(rt: HostRuntime) -> Result<(), Fail> {
+    let mut requests = Vec::new(rt.alloc());
+    // what stands behind the moment and the space
+    add_request(&rt, rt.alloc(), &mut requests, &GROUP[2..]);
+    add_request(&rt, rt.alloc(), &mut requests, &STATION[2..]);
+    let mut desk = opened(rt.alloc(), Limits::GREATEST)?;
+    expect_imported(&rt, rt.alloc(), &mut desk, &requests);
+    expect_imported(&rt, rt.alloc(), &mut desk, &requests);
+    assert_eq!(rt; executed(desk), 2);
     Ok(())
 }
 

@@ -120,6 +120,28 @@ fn moment_never_goes_back_in_a_run(rt: HostRuntime) {
     expect_both_waiting(&rt, &mut desk.close());
 }
 
+// The same by a session over a book.
+fn session_of_both(rt: &impl Abort, alloc: Global, book: MemoryBook) -> MemoryBook {
+    let arrivals = [
+        arrival(rt, alloc, 100, ARRIVE),
+        arrival(rt, alloc, 50, SECOND_ARRIVE),
+    ];
+    let Ok((answers, book)) = Desk::session(alloc, book, &arrivals) else {
+        panic!(rt; "a session");
+    };
+    assert_eq!(rt; answers.len(), 2);
+    assert_eq!(rt; told(&answers[0]), (200, FIRST_CALL));
+    assert_eq!(rt; told(&answers[1]), (200, SECOND_CALL));
+    book
+}
+
+#[test]
+fn moment_never_goes_back_in_a_session(rt: HostRuntime) {
+    let book = book_after(&rt, rt.alloc(), &[PLAN]);
+    let mut book = session_of_both(&rt, rt.alloc(), book);
+    expect_both_waiting(&rt, &mut book);
+}
+
 #[test]
 fn full_desk(rt: HostRuntime) {
     let limits = Limits {
