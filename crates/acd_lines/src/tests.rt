@@ -76,7 +76,9 @@ fn gives(rt: &(impl Abort + AllocGlobal), input: &[&str], output: &[&str]) -> Re
     Ok(())
 }
 
-fn add_request(rt: &impl Abort, alloc: Global, requests: &mut Vec<Request>, json: &str) {
+// The request of a line whose moment is 0.
+fn add_request(rt: &impl Abort, alloc: Global, requests: &mut Vec<Request>, line: &str) {
+    let json = line.strip_prefix("0 ").expect(rt, "a moment");
     let request = read_request(alloc, json.as_bytes()).expect(rt, "a request");
     requests.push(request).expect(rt, "memory");
 }
@@ -85,17 +87,17 @@ fn add_request(rt: &impl Abort, alloc: Global, requests: &mut Vec<Request>, json
 fn expect_imported(rt: &impl Abort, alloc: Global, desk: &mut Desk<MemoryBook>, requests: &[Request]) {
     let mut written = Vec::new(alloc);
     import(alloc, desk, requests, &mut written).expect(rt, "written");
-    let (group, station) = written.as_slice().split_at(GROUP_ANSWER.len());
-    assert_eq!(rt; group, GROUP_ANSWER.as_bytes());
-    assert_eq!(rt; station, STATION_ANSWER.as_bytes());
+    let mut wanted = Vec::new(alloc);
+    wanted.extend_from_slice(GROUP_ANSWER.as_bytes()).expect(rt, "memory");
+    wanted.extend_from_slice(STATION_ANSWER.as_bytes()).expect(rt, "memory");
+    assert_eq!(rt; written.as_slice(), wanted.as_slice());
 }
 
 #[test]
 fn import_twice(rt: HostRuntime) -> Result<(), Fail> {
     let mut requests = Vec::new(rt.alloc());
-    // what stands behind the moment and the space
-    add_request(&rt, rt.alloc(), &mut requests, &GROUP[2..]);
-    add_request(&rt, rt.alloc(), &mut requests, &STATION[2..]);
+    add_request(&rt, rt.alloc(), &mut requests, GROUP);
+    add_request(&rt, rt.alloc(), &mut requests, STATION);
     let mut desk = opened(rt.alloc(), Limits::GREATEST)?;
     expect_imported(&rt, rt.alloc(), &mut desk, &requests);
     expect_imported(&rt, rt.alloc(), &mut desk, &requests);
