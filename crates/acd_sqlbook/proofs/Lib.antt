@@ -13,6 +13,9 @@ mod Asked
 mod Members
 mod ConnectionRows
 mod Differences
+mod Recorded
+mod SameRecords
+mod Transitions
 mod Selections
 mod Statements
 mod Upserts

@@ -1,0 +1,264 @@
+-- Changes of one table after the other lead from the tables of one state to those of another.
+use Rattle.std.proofs.Common.{◌≡◌, ◌+◌, ℕ, List, [], ◌∷◌, ◌++◌, map, Bool, true, false, ◌&&◌, ◌==◌, refl, sym, ap, subst, ◌∙◌}
+use Rattle.std.specs.declared.cmp.Ordering.{Ordering}
+use Rattle.std.proofs.lemmas.Bool.{and_parts}
+use Rattle.acd_terms.specs.Lists.{Every, IsAscending, put_by, remove_by}
+use Rattle.acd_terms.specs.Moves.{changed}
+use Rattle.acd_terms.specs.Changes.{changed_by}
+use Rattle.acd_terms.specs.Writes.{with_group, with_station, with_agent, with_call, with_connection, with_monitor, without_call, without_connection, without_monitor}
+use Rattle.acd_terms.specs.Rules.Plan.{keeps_order, group_order, station_order, agent_order, call_order, connection_order, monitor_order}
+use Rattle.acd_terms.specs.declared.rows.Rows.{Rows}
+use Rattle.acd_terms.specs.declared.moves.Change.{Change}
+use Rattle.acd_terms.specs.declared.moves.Change.TheVariants.{Nothing, PutGroup, PutStation, PutAgent, PutCall, PutConnection, PutMonitor, RemoveCall, RemoveConnection, RemoveMonitor}
+use Rattle.acd_terms.specs.declared.record.GroupRecord.{GroupRecord}
+use Rattle.acd_terms.specs.declared.record.StationRecord.{StationRecord}
+use Rattle.acd_terms.specs.declared.record.AgentRecord.{AgentRecord}
+use Rattle.acd_terms.specs.declared.record.CallRecord.{CallRecord}
+use Rattle.acd_terms.specs.declared.record.ConnectionRecord.{ConnectionRecord}
+use Rattle.acd_terms.specs.declared.record.MonitorRecord.{MonitorRecord}
+use Rattle.acd_terms.proofs.ChangeLemmas.{changed_by_append}
+use Rattle.acd_laws.proofs.RulesRead.{ascending_from}
+use Rattle.acd_laws.proofs.State.{groups_total, stations_total, agents_total, calls_total, connections_total, monitors_total}
+use Rattle.acd_terms.specs.contracts.record.GroupRecordPartialEq.TheImpl as groups_eq
+use Rattle.acd_terms.specs.contracts.record.StationRecordPartialEq.TheImpl as stations_eq
+use Rattle.acd_terms.specs.contracts.record.AgentRecordPartialEq.TheImpl as agents_eq
+use Rattle.acd_terms.specs.contracts.record.CallRecordPartialEq.TheImpl as calls_eq
+use Rattle.acd_terms.specs.contracts.record.ConnectionRecordPartialEq.TheImpl as connections_eq
+use Rattle.acd_terms.specs.contracts.record.MonitorRecordPartialEq.TheImpl as monitors_eq
+use Rattle.acd_sqlbook.proofs.SameRecords.{same_group, same_station, same_agent, same_call, same_connection, same_monitor}
+use Rattle.acd_sqlbook.specs.Differing.{Step, gone, put, change_by, stepped, LeadTo}
+use Rattle.acd_sqlbook.specs.Transition.{HasTables, AreWhole, AddsSteps}
+
+pub tables_same : (s : Rows) → HasTables s s
+tables_same s = record { groups = refl; stations = refl; agents = refl; calls = refl; connections = refl; monitors = refl }
+
+pub tables_on : (a b c : Rows) → HasTables a b → HasTables b c → HasTables a c
+tables_on a b c p q = record {
+  groups = p.groups ∙ q.groups;
+  stations = p.stations ∙ q.stations;
+  agents = p.agents ∙ q.agents;
+  calls = p.calls ∙ q.calls;
+  connections = p.connections ∙ q.connections;
+  monitors = p.monitors ∙ q.monitors;
+}
+
+-- a table of the state, and the changes of its records
+pub record Kind {T : Type 0} (cmp : T → T → Ordering) (off on : T → Change) : Type 0 where
+  pub get : Rows → List T
+  pub set : Rows → List T → Rows
+  pub get_set : (s : Rows) (xs : List T) → get (set s xs) ≡ xs
+  pub get_same : (s t : Rows) → HasTables s t → get s ≡ get t
+  pub set_own : (s : Rows) → HasTables s (set s (get s))
+  pub set_same : (s t : Rows) (xs : List T) → HasTables s t → HasTables (set s xs) (set t xs)
+  pub set_twice : (s : Rows) (xs ys : List T) → HasTables (set (set s xs) ys) (set s ys)
+  pub puts : (s : Rows) (y : T) → HasTables (changed s (on y)) (set s (put_by (cmp y) (get s) y))
+  pub outs : (s : Rows) (x : T) → (off x ≡ Nothing → ⊥) → HasTables (changed s (off x)) (set s (remove_by (cmp x) (get s)))
+
+module _ {T : Type 0} (cmp : T → T → Ordering) (off on : T → Change) (k : Kind cmp off on) where
+  onward : (s next : Rows) (xs : List T) (steps : List (Step T)) → HasTables next (k.set s xs) → HasTables (k.set next (stepped cmp (k.get next) steps)) (k.set s (stepped cmp xs steps))
+  onward s next xs steps h =
+      let there : k.get next ≡ xs = k.get_same next (k.set s xs) h ∙ k.get_set s xs in
+      subst (λ l. HasTables (k.set next (stepped cmp l steps)) (k.set s (stepped cmp xs steps))) (sym there)
+      (tables_on _ _ _ (k.set_same next (k.set s xs) (stepped cmp xs steps) h) (k.set_twice s xs (stepped cmp xs steps)))
+
+  steps_made : (s : Rows) (steps : List (Step T)) → AreWhole (map (change_by off on) steps) → HasTables (changed_by s (map (change_by off on) steps)) (k.set s (stepped cmp (k.get s) steps))
+  steps_made s [] whole = k.set_own s
+  steps_made s (gone x ∷ steps) whole =
+      tables_on _ _ _ (steps_made (changed s (off x)) steps whole.1) (onward s (changed s (off x)) (remove_by (cmp x) (k.get s)) steps (k.outs s x whole.0))
+  steps_made s (put y ∷ steps) whole =
+      tables_on _ _ _ (steps_made (changed s (on y)) steps whole.1) (onward s (changed s (on y)) (put_by (cmp y) (k.get s) y) steps (k.puts s y))
+
+  pub leads : (same : T → T → Bool) → ((x y : T) → same x y ≡ true → x ≡ y) → (s t : Rows) (new : List T) (more : List Change) → HasTables s t → IsAscending cmp (k.get t) → IsAscending cmp new
+      → LeadTo cmp same off on (k.get t) new more → AreWhole more → HasTables (changed_by s more) (k.set t new)
+  leads same exact s t new more h up next lead whole =
+      let found = lead up next in
+      let made = steps_made s found.0 (subst AreWhole found.2 whole) in
+      let list : stepped cmp (k.get s) found.0 ≡ new = ap (λ l. stepped cmp l found.0) (k.get_same s t h) ∙ found.1.made exact in
+      subst (λ c. HasTables (changed_by s c) (k.set t new)) (sym found.2)
+      (tables_on _ _ _ (subst (λ l. HasTables (changed_by s (map (change_by off on) found.0)) (k.set s l)) list made) (k.set_same s t new h))
+
+-- ---- the tables
+
+pub groups_kind : Kind group_order (λ (x : GroupRecord). Nothing) PutGroup
+unfolding with_group
+groups_kind = record {
+  get = λ s. s.groups;
+  set = λ s xs. record s { groups = xs };
+  get_set = λ s xs. refl;
+  get_same = λ s t h. h.groups;
+  set_own = λ s. record { groups = refl; stations = refl; agents = refl; calls = refl; connections = refl; monitors = refl };
+  set_same = λ s t xs h. record { groups = refl; stations = h.stations; agents = h.agents; calls = h.calls; connections = h.connections; monitors = h.monitors };
+  set_twice = λ s xs ys. record { groups = refl; stations = refl; agents = refl; calls = refl; connections = refl; monitors = refl };
+  puts = λ s y. record { groups = refl; stations = refl; agents = refl; calls = refl; connections = refl; monitors = refl };
+  outs = λ s x whole. absurd (whole refl);
+}
+
+pub stations_kind : Kind station_order (λ (x : StationRecord). Nothing) PutStation
+unfolding with_station
+stations_kind = record {
+  get = λ s. s.stations;
+  set = λ s xs. record s { stations = xs };
+  get_set = λ s xs. refl;
+  get_same = λ s t h. h.stations;
+  set_own = λ s. record { groups = refl; stations = refl; agents = refl; calls = refl; connections = refl; monitors = refl };
+  set_same = λ s t xs h. record { groups = h.groups; stations = refl; agents = h.agents; calls = h.calls; connections = h.connections; monitors = h.monitors };
+  set_twice = λ s xs ys. record { groups = refl; stations = refl; agents = refl; calls = refl; connections = refl; monitors = refl };
+  puts = λ s y. record { groups = refl; stations = refl; agents = refl; calls = refl; connections = refl; monitors = refl };
+  outs = λ s x whole. absurd (whole refl);
+}
+
+pub agents_kind : Kind agent_order (λ (x : AgentRecord). Nothing) PutAgent
+unfolding with_agent
+agents_kind = record {
+  get = λ s. s.agents;
+  set = λ s xs. record s { agents = xs };
+  get_set = λ s xs. refl;
+  get_same = λ s t h. h.agents;
+  set_own = λ s. record { groups = refl; stations = refl; agents = refl; calls = refl; connections = refl; monitors = refl };
+  set_same = λ s t xs h. record { groups = h.groups; stations = h.stations; agents = refl; calls = h.calls; connections = h.connections; monitors = h.monitors };
+  set_twice = λ s xs ys. record { groups = refl; stations = refl; agents = refl; calls = refl; connections = refl; monitors = refl };
+  puts = λ s y. record { groups = refl; stations = refl; agents = refl; calls = refl; connections = refl; monitors = refl };
+  outs = λ s x whole. absurd (whole refl);
+}
+
+pub calls_kind : Kind call_order (λ (x : CallRecord). RemoveCall x.call) PutCall
+unfolding with_call without_call
+calls_kind = record {
+  get = λ s. s.calls;
+  set = λ s xs. record s { calls = xs };
+  get_set = λ s xs. refl;
+  get_same = λ s t h. h.calls;
+  set_own = λ s. record { groups = refl; stations = refl; agents = refl; calls = refl; connections = refl; monitors = refl };
+  set_same = λ s t xs h. record { groups = h.groups; stations = h.stations; agents = h.agents; calls = refl; connections = h.connections; monitors = h.monitors };
+  set_twice = λ s xs ys. record { groups = refl; stations = refl; agents = refl; calls = refl; connections = refl; monitors = refl };
+  puts = λ s y. record { groups = refl; stations = refl; agents = refl; calls = refl; connections = refl; monitors = refl };
+  outs = λ s x whole. record { groups = refl; stations = refl; agents = refl; calls = refl; connections = refl; monitors = refl };
+}
+
+pub connections_kind : Kind connection_order (λ (x : ConnectionRecord). RemoveConnection x.call x.device) PutConnection
+unfolding with_connection without_connection
+connections_kind = record {
+  get = λ s. s.connections;
+  set = λ s xs. record s { connections = xs };
+  get_set = λ s xs. refl;
+  get_same = λ s t h. h.connections;
+  set_own = λ s. record { groups = refl; stations = refl; agents = refl; calls = refl; connections = refl; monitors = refl };
+  set_same = λ s t xs h. record { groups = h.groups; stations = h.stations; agents = h.agents; calls = h.calls; connections = refl; monitors = h.monitors };
+  set_twice = λ s xs ys. record { groups = refl; stations = refl; agents = refl; calls = refl; connections = refl; monitors = refl };
+  puts = λ s y. record { groups = refl; stations = refl; agents = refl; calls = refl; connections = refl; monitors = refl };
+  outs = λ s x whole. record { groups = refl; stations = refl; agents = refl; calls = refl; connections = refl; monitors = refl };
+}
+
+pub monitors_kind : Kind monitor_order (λ (x : MonitorRecord). RemoveMonitor x.monitor) PutMonitor
+unfolding with_monitor without_monitor
+monitors_kind = record {
+  get = λ s. s.monitors;
+  set = λ s xs. record s { monitors = xs };
+  get_set = λ s xs. refl;
+  get_same = λ s t h. h.monitors;
+  set_own = λ s. record { groups = refl; stations = refl; agents = refl; calls = refl; connections = refl; monitors = refl };
+  set_same = λ s t xs h. record { groups = h.groups; stations = h.stations; agents = h.agents; calls = h.calls; connections = h.connections; monitors = refl };
+  set_twice = λ s xs ys. record { groups = refl; stations = refl; agents = refl; calls = refl; connections = refl; monitors = refl };
+  puts = λ s y. record { groups = refl; stations = refl; agents = refl; calls = refl; connections = refl; monitors = refl };
+  outs = λ s x whole. record { groups = refl; stations = refl; agents = refl; calls = refl; connections = refl; monitors = refl };
+}
+
+-- ---- all of them, one after the other
+
+abbrev group_eq : GroupRecord → GroupRecord → Bool
+group_eq = (groups_eq.eq-value).it
+
+abbrev station_eq : StationRecord → StationRecord → Bool
+station_eq = (stations_eq.eq-value).it
+
+abbrev agent_eq : AgentRecord → AgentRecord → Bool
+agent_eq = (agents_eq.eq-value).it
+
+abbrev call_eq : CallRecord → CallRecord → Bool
+call_eq = (calls_eq.eq-value).it
+
+abbrev connection_eq : ConnectionRecord → ConnectionRecord → Bool
+connection_eq = (connections_eq.eq-value).it
+
+abbrev monitor_eq : MonitorRecord → MonitorRecord → Bool
+monitor_eq = (monitors_eq.eq-value).it
+
+whole_front : (front back : List Change) → AreWhole (front ++ back) → AreWhole front
+whole_front [] back h = tt
+whole_front (c ∷ front) back h = (h.0, whole_front front back h.1)
+
+whole_back : (front back : List Change) → AreWhole (front ++ back) → AreWhole back
+whole_back [] back h = h
+whole_back (c ∷ front) back h = whole_back front back h.1
+
+-- more changes of one table
+next : {T : Type 0} (cmp : T → T → Ordering) (off on : T → Change) (k : Kind cmp off on) (same : T → T → Bool) → ((x y : T) → same x y ≡ true → x ≡ y) → (s t : Rows) (new : List T) (old now : List Change)
+    → AddsSteps cmp same off on (k.get t) new old now → IsAscending cmp (k.get t) → IsAscending cmp new → AreWhole now → (AreWhole old → HasTables (changed_by s old) t) → HasTables (changed_by s now) (k.set t new)
+next cmp off on k same exact s t new old now adds up later whole so_far =
+    let parts = subst AreWhole adds.1 whole in
+    let here = so_far (whole_front old adds.0 parts) in
+    subst (λ l. HasTables (changed_by s l) (k.set t new)) (sym adds.1)
+    (subst (λ r. HasTables r (k.set t new)) (sym (changed_by_append s old adds.0))
+    (leads cmp off on k same exact (changed_by s old) t new adds.0 here up later adds.2 (whole_back old adds.0 parts)))
+
+pub record AreInOrder (s : Rows) : Type 0 where
+  pub groups : IsAscending group_order s.groups
+  pub stations : IsAscending station_order s.stations
+  pub agents : IsAscending agent_order s.agents
+  pub calls : IsAscending call_order s.calls
+  pub connections : IsAscending connection_order s.connections
+  pub monitors : IsAscending monitor_order s.monitors
+
+pub in_order : (s : Rows) → keeps_order s ≡ true → AreInOrder s
+unfolding keeps_order
+in_order s h =
+    let a = and_parts _ _ h in
+    let b = and_parts _ _ a.1 in
+    let c = and_parts _ _ b.1 in
+    let d = and_parts _ _ c.1 in
+    let e = and_parts _ _ d.1 in
+    record {
+      groups = ascending_from group_order groups_total s.groups a.0;
+      stations = ascending_from station_order stations_total s.stations b.0;
+      agents = ascending_from agent_order agents_total s.agents c.0;
+      calls = ascending_from call_order calls_total s.calls d.0;
+      connections = ascending_from connection_order connections_total s.connections e.0;
+      monitors = ascending_from monitor_order monitors_total s.monitors e.1;
+    }
+
+abbrev none_gone : {T : Type 0} → T → Change
+none_gone x = Nothing
+
+pub transition : (held new : Rows) (agents : List AgentRecord) (connections : List ConnectionRecord) (c0 c1 c2 c3 c4 c5 c6 c7 c8 : List Change) → c0 ≡ []
+    → AddsSteps group_order group_eq none_gone PutGroup held.groups new.groups c0 c1 → AddsSteps station_order station_eq none_gone PutStation held.stations new.stations c1 c2
+    → AddsSteps agent_order agent_eq none_gone PutAgent held.agents agents c2 c3 → AddsSteps agent_order agent_eq none_gone PutAgent agents new.agents c3 c4
+    → AddsSteps connection_order connection_eq (λ x. RemoveConnection x.call x.device) PutConnection held.connections connections c4 c5
+    → AddsSteps call_order call_eq (λ x. RemoveCall x.call) PutCall held.calls new.calls c5 c6
+    → AddsSteps connection_order connection_eq (λ x. RemoveConnection x.call x.device) PutConnection connections new.connections c6 c7
+    → AddsSteps monitor_order monitor_eq (λ x. RemoveMonitor x.monitor) PutMonitor held.monitors new.monitors c7 c8
+    → (IsAscending agent_order held.agents → IsAscending agent_order agents) → (IsAscending connection_order held.connections → IsAscending connection_order connections)
+    → keeps_order held ≡ true → keeps_order new ≡ true → AreWhole c8 → HasTables (changed_by held c8) new
+unfolding groups_kind stations_kind agents_kind calls_kind connections_kind monitors_kind
+transition held new agents connections c0 c1 c2 c3 c4 c5 c6 c7 c8 none a1 a2 a3 a4 a5 a6 a7 a8 agents_up connections_up old_order new_order whole =
+    let o = in_order held old_order in
+    let n = in_order new new_order in
+    let up = agents_up o.agents in
+    let rising = connections_up o.connections in
+    let t1 = record held { groups = new.groups } in
+    let t2 = record t1 { stations = new.stations } in
+    let t3 = record t2 { agents = agents } in
+    let t4 = record t2 { agents = new.agents } in
+    let t5 = record t4 { connections = connections } in
+    let t6 = record t5 { calls = new.calls } in
+    let t7 = record t6 { connections = new.connections } in
+    let at0 : AreWhole c0 → HasTables (changed_by held c0) held = λ w. subst (λ l. HasTables (changed_by held l) held) (sym none) (tables_same held) in
+    let at1 : AreWhole c1 → HasTables (changed_by held c1) t1 = λ w. next group_order none_gone PutGroup groups_kind group_eq same_group held held new.groups c0 c1 a1 o.groups n.groups w at0 in
+    let at2 : AreWhole c2 → HasTables (changed_by held c2) t2 = λ w. next station_order none_gone PutStation stations_kind station_eq same_station held t1 new.stations c1 c2 a2 o.stations n.stations w at1 in
+    let at3 : AreWhole c3 → HasTables (changed_by held c3) t3 = λ w. next agent_order none_gone PutAgent agents_kind agent_eq same_agent held t2 agents c2 c3 a3 o.agents up w at2 in
+    let at4 : AreWhole c4 → HasTables (changed_by held c4) t4 = λ w. next agent_order none_gone PutAgent agents_kind agent_eq same_agent held t3 new.agents c3 c4 a4 up n.agents w at3 in
+    let at5 : AreWhole c5 → HasTables (changed_by held c5) t5 =
+    λ w. next connection_order (λ x. RemoveConnection x.call x.device) PutConnection connections_kind connection_eq same_connection held t4 connections c4 c5 a5 o.connections rising w at4 in
+    let at6 : AreWhole c6 → HasTables (changed_by held c6) t6 = λ w. next call_order (λ x. RemoveCall x.call) PutCall calls_kind call_eq same_call held t5 new.calls c5 c6 a6 o.calls n.calls w at5 in
+    let at7 : AreWhole c7 → HasTables (changed_by held c7) t7 =
+    λ w. next connection_order (λ x. RemoveConnection x.call x.device) PutConnection connections_kind connection_eq same_connection held t6 new.connections c6 c7 a7 rising n.connections w at6 in
+    tables_on _ _ _ (next monitor_order (λ x. RemoveMonitor x.monitor) PutMonitor monitors_kind monitor_eq same_monitor held t7 new.monitors c7 c8 a8 o.monitors n.monitors whole at7) (tables_same new)
