@@ -18,3 +18,4 @@ mod Bounds
 mod Filing
 mod Committing
 pub mod Decoded
+pub mod Ranged

@@ -94,9 +94,12 @@ kind_at r at = whole_at r at >>= kind_of
 unfoldable pub status_at : Row → ℕ → Option ℕ
 status_at r at = whole_at r at >>= (λ n. if n == 200 || n == 409 then Some n else None)
 
+abbrev pub utf8_of : List ℕ → Option (List ℕ)
+utf8_of t = if is_utf8 t then Some t else None
+
 -- a text in UTF-8
 unfoldable pub body_at : Row → ℕ → Option (List ℕ)
-body_at r at = text_at r at >>= (λ t. if is_utf8 t then Some t else None)
+body_at r at = text_at r at >>= utf8_of
 
 unfoldable pub connection_state_at : Row → ℕ → Option ConnectionState
 connection_state_at r at = whole_at r at >>= connection_state_of

@@ -3,7 +3,7 @@
 ghost use Rattle.std.specs.Prelude.{◌≡◌, option_map};
 ghost use Rattle.sqlite_value.specs.Value.{owned};
 ghost use Rattle.sqlite_value.specs.Order.{column};
-ghost use Rattle.acd_sqlbook.specs.Ranges.{is_null, text_at, whole_at, stamp_at, serial_at, moment_at, seconds_at, device_at, agent_at, name_at, agent_state_at, pending_at, connection_state_at, kind_at, cause_at, status_at, body_at, or_none};
+ghost use Rattle.acd_sqlbook.specs.Ranges.{is_null, text_at, whole_at, stamp_at, serial_at, moment_at, seconds_at, device_at, agent_at, name_at, agent_state_at, pending_at, connection_state_at, kind_at, cause_at, status_at, utf8_of, body_at, or_none};
 
 use crate::codes::{agent_state_of, cause_of, connection_state_of, kind_of, pending_of};
 use acd_terms::{
@@ -215,13 +215,19 @@ pub(crate) fn status(row: &Row, at: usize) -> Option<u16>
     }
 }
 
+fn utf8(text: &[u8]) -> Option<&str>
+    ensures { option_map (λ t. t.now) result ≡ utf8_of text.now }
+{
+    match str::from_utf8(text) {
+        Ok(text) => Some(text),
+        Err(_) => None,
+    }
+}
+
 /// A text in UTF-8.
 #[tactic(auto, unfolding(crate::specs::Ranges::body_at))]
 pub(crate) fn body(row: &Row, at: usize) -> Option<&str>
     ensures { option_map (λ t. t.now) result ≡ body_at row.now at }
 {
-    match text(row, at) {
-        Some(text) => str::from_utf8(text).ok(),
-        None => None,
-    }
+    utf8(text(row, at)?)
 }
