@@ -30,3 +30,4 @@ mod Committing
 pub mod Decoded
 mod Standing
 mod BookStates
+pub mod Ranged
