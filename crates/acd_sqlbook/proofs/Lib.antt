@@ -14,6 +14,7 @@ mod Members
 mod ConnectionRows
 mod Differences
 mod Recorded
+mod Chained
 mod SameRecords
 mod Transitions
 mod Selections

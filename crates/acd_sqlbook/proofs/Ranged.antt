@@ -213,10 +213,13 @@ figures_stored r a b c d e f h =
     let abandoned = bound _ _ f answered.2 in
     let moved = bound _ _ f abandoned.2 in
     let waited = bound _ _ f moved.2 in
-    let same = some_same _ f waited.2 in
-    (whole_stored r a _ entered.1 ∙ ap (λ (x : Figures). id_value x.entered) same, whole_stored r b _ answered.1 ∙ ap (λ (x : Figures). id_value x.answered) same,
-    whole_stored r c _ abandoned.1 ∙ ap (λ (x : Figures). id_value x.abandoned) same, whole_stored r d _ moved.1 ∙ ap (λ (x : Figures). id_value x.moved) same,
-    whole_stored r e _ waited.1 ∙ ap (λ (x : Figures). id_value x.waited) same)
+    let same = some_same _ f waited.2 in (
+      whole_stored r a _ entered.1 ∙ ap (λ (x : Figures). id_value x.entered) same,
+      whole_stored r b _ answered.1 ∙ ap (λ (x : Figures). id_value x.answered) same,
+      whole_stored r c _ abandoned.1 ∙ ap (λ (x : Figures). id_value x.abandoned) same,
+      whole_stored r d _ moved.1 ∙ ap (λ (x : Figures). id_value x.moved) same,
+      whole_stored r e _ waited.1 ∙ ap (λ (x : Figures). id_value x.waited) same,
+    )
 
 pub group_stored : (r : Row) (g : GroupRecord) → group_in r ≡ Some g → r ≡ group_values g
 unfolding group_in

@@ -56,7 +56,7 @@ module _ {R : Type 0} (in_row : Row → Option R) (values : R → Row) (exact : 
       let first = exact (values y) x y (sym (first_of (Some x) (in_row (values y)) (map Some found) (map in_row (map values records)) each)) refl in
       ap₂ (λ z l. z ∷ l) first (same_records found records (map values records) refl (rest_of (Some x) (in_row (values y)) (map Some found) (map in_row (map values records)) each))
 
-  pub recorded : (old new : State) (rows : Vec Row Global) (r : Result (Vec R Global) Error) (part : Content → List R) → Finds old new (Ok {E = Error} rows) (λ c rows. rows.items ≡ map values (part c))
+  pub recorded : (old new : State) (rows : Vec Row Global) (r : Result (Vec R Global) Error) (part : Content → List R) → Finds {E = Error} old new (Ok rows) (λ c rows. rows.items ≡ map values (part c))
       → IfOk r (λ found. map Some found.items ≡ map in_row rows.items) → Finds old new r (λ c found. found.items ≡ part c)
   recorded old new rows (Err e) part h read = record { up = λ k. tt; quiet = h.quiet; stops = h.stops; answer = λ k. tt }
   recorded old new rows (Ok found) part h read = record { up = h.up; quiet = h.quiet; stops = h.stops; answer = λ k c held. same_records found.items (part c) rows.items (h.answer k c held) read }
@@ -66,8 +66,8 @@ found_none old new e P Q h = record { up = λ k. tt; quiet = h.quiet; stops = h.
 
 -- ---- each record
 
-same_values : {R : Type 0} (as : Row → R) (values : R → Row) → ((x : R) → as (values x) ≡ x) → (row : Row) (x y : R) → row ≡ values x → row ≡ values y → x ≡ y
-same_values as values back row x y p q = sym (back x) ∙ ap as (sym p ∙ q) ∙ back y
+same_values : {R : Type 0} (read : Row → R) (values : R → Row) → ((x : R) → read (values x) ≡ x) → (row : Row) (x y : R) → row ≡ values x → row ≡ values y → x ≡ y
+same_values read values back row x y p q = sym (back x) ∙ ap read (sym p ∙ q) ∙ back y
 
 pub group_exact : (row : Row) (x y : GroupRecord) → group_in row ≡ Some x → row ≡ group_values y → x ≡ y
 group_exact row x y is stored = same_values as_group group_values (λ z. refl) row x y (group_stored row x is) stored

@@ -1,8 +1,9 @@
 -- Changes of one table after the other lead from the tables of one state to those of another.
-use Rattle.std.proofs.Common.{◌≡◌, ◌+◌, ℕ, List, [], ◌∷◌, ◌++◌, map, Bool, true, false, ◌&&◌, ◌==◌, refl, sym, ap, subst, ◌∙◌}
+use Rattle.std.proofs.Common.{◌≡◌, ◌+◌, ◌<◌, ℕ, length, drop, get_or, append_assoc, arith, List, [], ◌∷◌, ◌++◌, map, Bool, true, false, ◌&&◌, ◌==◌, refl, sym, ap, subst, ◌∙◌}
 use Rattle.std.specs.declared.cmp.Ordering.{Ordering}
 use Rattle.std.proofs.lemmas.Bool.{and_parts}
-use Rattle.acd_terms.specs.Lists.{Every, IsAscending, put_by, remove_by}
+use Rattle.std.proofs.lemmas.Grind.{common_steps}
+use Rattle.acd_terms.specs.Lists.{Every, AllAfter, IsAscending, put_by, remove_by}
 use Rattle.acd_terms.specs.Moves.{changed}
 use Rattle.acd_terms.specs.Changes.{changed_by}
 use Rattle.acd_terms.specs.Writes.{with_group, with_station, with_agent, with_call, with_connection, with_monitor, without_call, without_connection, without_monitor}
@@ -229,36 +230,59 @@ in_order s h =
 abbrev none_gone : {T : Type 0} → T → Change
 none_gone x = Nothing
 
-pub transition : (held new : Rows) (agents : List AgentRecord) (connections : List ConnectionRecord) (c0 c1 c2 c3 c4 c5 c6 c7 c8 : List Change) → c0 ≡ []
+pub transition : (held new : Rows) (connections : List ConnectionRecord) (c0 c1 c2 c3 c4 c5 c6 c7 : List Change) → c0 ≡ []
     → AddsSteps group_order group_eq none_gone PutGroup held.groups new.groups c0 c1 → AddsSteps station_order station_eq none_gone PutStation held.stations new.stations c1 c2
-    → AddsSteps agent_order agent_eq none_gone PutAgent held.agents agents c2 c3 → AddsSteps agent_order agent_eq none_gone PutAgent agents new.agents c3 c4
-    → AddsSteps connection_order connection_eq (λ x. RemoveConnection x.call x.device) PutConnection held.connections connections c4 c5
-    → AddsSteps call_order call_eq (λ x. RemoveCall x.call) PutCall held.calls new.calls c5 c6
-    → AddsSteps connection_order connection_eq (λ x. RemoveConnection x.call x.device) PutConnection connections new.connections c6 c7
-    → AddsSteps monitor_order monitor_eq (λ x. RemoveMonitor x.monitor) PutMonitor held.monitors new.monitors c7 c8
-    → (IsAscending agent_order held.agents → IsAscending agent_order agents) → (IsAscending connection_order held.connections → IsAscending connection_order connections)
-    → keeps_order held ≡ true → keeps_order new ≡ true → AreWhole c8 → HasTables (changed_by held c8) new
+    → AddsSteps agent_order agent_eq none_gone PutAgent held.agents new.agents c2 c3
+    → AddsSteps connection_order connection_eq (λ x. RemoveConnection x.call x.device) PutConnection held.connections connections c3 c4
+    → AddsSteps call_order call_eq (λ x. RemoveCall x.call) PutCall held.calls new.calls c4 c5
+    → AddsSteps connection_order connection_eq (λ x. RemoveConnection x.call x.device) PutConnection connections new.connections c5 c6
+    → AddsSteps monitor_order monitor_eq (λ x. RemoveMonitor x.monitor) PutMonitor held.monitors new.monitors c6 c7
+    → (IsAscending connection_order held.connections → IsAscending connection_order connections)
+    → keeps_order held ≡ true → keeps_order new ≡ true → AreWhole c7 → HasTables (changed_by held c7) new
 unfolding groups_kind stations_kind agents_kind calls_kind connections_kind monitors_kind
-transition held new agents connections c0 c1 c2 c3 c4 c5 c6 c7 c8 none a1 a2 a3 a4 a5 a6 a7 a8 agents_up connections_up old_order new_order whole =
+transition held new connections c0 c1 c2 c3 c4 c5 c6 c7 none a1 a2 a3 a4 a5 a6 a7 connections_up old_order new_order whole =
     let o = in_order held old_order in
     let n = in_order new new_order in
-    let up = agents_up o.agents in
     let rising = connections_up o.connections in
-    let t1 = record held { groups = new.groups } in
-    let t2 = record t1 { stations = new.stations } in
-    let t3 = record t2 { agents = agents } in
-    let t4 = record t2 { agents = new.agents } in
-    let t5 = record t4 { connections = connections } in
-    let t6 = record t5 { calls = new.calls } in
-    let t7 = record t6 { connections = new.connections } in
+    let t1 : Rows = record held { groups = new.groups } in
+    let t2 : Rows = record t1 { stations = new.stations } in
+    let t3 : Rows = record t2 { agents = new.agents } in
+    let t4 : Rows = record t3 { connections = connections } in
+    let t5 : Rows = record t4 { calls = new.calls } in
+    let t6 : Rows = record t5 { connections = new.connections } in
     let at0 : AreWhole c0 → HasTables (changed_by held c0) held = λ w. subst (λ l. HasTables (changed_by held l) held) (sym none) (tables_same held) in
     let at1 : AreWhole c1 → HasTables (changed_by held c1) t1 = λ w. next group_order none_gone PutGroup groups_kind group_eq same_group held held new.groups c0 c1 a1 o.groups n.groups w at0 in
     let at2 : AreWhole c2 → HasTables (changed_by held c2) t2 = λ w. next station_order none_gone PutStation stations_kind station_eq same_station held t1 new.stations c1 c2 a2 o.stations n.stations w at1 in
-    let at3 : AreWhole c3 → HasTables (changed_by held c3) t3 = λ w. next agent_order none_gone PutAgent agents_kind agent_eq same_agent held t2 agents c2 c3 a3 o.agents up w at2 in
-    let at4 : AreWhole c4 → HasTables (changed_by held c4) t4 = λ w. next agent_order none_gone PutAgent agents_kind agent_eq same_agent held t3 new.agents c3 c4 a4 up n.agents w at3 in
-    let at5 : AreWhole c5 → HasTables (changed_by held c5) t5 =
-    λ w. next connection_order (λ x. RemoveConnection x.call x.device) PutConnection connections_kind connection_eq same_connection held t4 connections c4 c5 a5 o.connections rising w at4 in
-    let at6 : AreWhole c6 → HasTables (changed_by held c6) t6 = λ w. next call_order (λ x. RemoveCall x.call) PutCall calls_kind call_eq same_call held t5 new.calls c5 c6 a6 o.calls n.calls w at5 in
-    let at7 : AreWhole c7 → HasTables (changed_by held c7) t7 =
-    λ w. next connection_order (λ x. RemoveConnection x.call x.device) PutConnection connections_kind connection_eq same_connection held t6 new.connections c6 c7 a7 rising n.connections w at6 in
-    tables_on _ _ _ (next monitor_order (λ x. RemoveMonitor x.monitor) PutMonitor monitors_kind monitor_eq same_monitor held t7 new.monitors c7 c8 a8 o.monitors n.monitors whole at7) (tables_same new)
+    let at3 : AreWhole c3 → HasTables (changed_by held c3) t3 = λ w. next agent_order none_gone PutAgent agents_kind agent_eq same_agent held t2 new.agents c2 c3 a3 o.agents n.agents w at2 in
+    let at4 : AreWhole c4 → HasTables (changed_by held c4) t4 =
+    λ w. next connection_order (λ x. RemoveConnection x.call x.device) PutConnection connections_kind connection_eq same_connection held t3 connections c3 c4 a4 o.connections rising w at3 in
+    let at5 : AreWhole c5 → HasTables (changed_by held c5) t5 = λ w. next call_order (λ x. RemoveCall x.call) PutCall calls_kind call_eq same_call held t4 new.calls c4 c5 a5 o.calls n.calls w at4 in
+    let at6 : AreWhole c6 → HasTables (changed_by held c6) t6 =
+    λ w. next connection_order (λ x. RemoveConnection x.call x.device) PutConnection connections_kind connection_eq same_connection held t5 new.connections c5 c6 a6 rising n.connections w at5 in
+    let last = next monitor_order (λ x. RemoveMonitor x.monitor) PutMonitor monitors_kind monitor_eq same_monitor held t6 new.monitors c6 c7 a7 o.monitors n.monitors whole at6 in
+    record { groups = last.groups; stations = last.stations; agents = last.agents; calls = last.calls; connections = last.connections; monitors = last.monitors }
+
+-- ---- a list that loses some of its members
+
+module _ {T : Type 0} (cmp : T → T → Ordering) (x : T) (ys : List T) where
+  after_less : (z : T) (xs : List T) → AllAfter cmp z (xs ++ x ∷ ys) → AllAfter cmp z (xs ++ ys)
+  after_less z [] h = h.1
+  after_less z (y ∷ xs) h = (h.0, after_less z xs h.1)
+
+  pub ascending_less : (xs : List T) → IsAscending cmp (xs ++ x ∷ ys) → IsAscending cmp (xs ++ ys)
+  ascending_less [] up = up.1
+  ascending_less (y ∷ xs) up = (after_less y xs up.0, ascending_less xs up.1)
+
+next_dropped : {T : Type 0} (i : ℕ) (xs : List T) (d : T) → i < length xs → drop i xs ≡ get_or xs i d ∷ drop (i + 1) xs
+next_dropped i xs d h = grind (arith, common_steps)
+
+-- the next one is left out, or is kept
+pub left_out : {T : Type 0} (cmp : T → T → Ordering) (kept held : List T) (i : ℕ) (d : T) → i < length held → (IsAscending cmp held → IsAscending cmp (kept ++ drop i held))
+    → IsAscending cmp held → IsAscending cmp (kept ++ drop (i + 1) held)
+left_out cmp kept held i d low h up = ascending_less cmp (get_or held i d) (drop (i + 1) held) kept (subst (λ l. IsAscending cmp (kept ++ l)) (next_dropped i held d low) (h up))
+
+pub kept_on : {T : Type 0} (cmp : T → T → Ordering) (kept held : List T) (i : ℕ) (x d : T) → i < length held → x ≡ get_or held i d → (IsAscending cmp held → IsAscending cmp (kept ++ drop i held))
+    → IsAscending cmp held → IsAscending cmp ((kept ++ x ∷ []) ++ drop (i + 1) held)
+kept_on cmp kept held i x d low is h up =
+    subst (IsAscending cmp) (sym (append_assoc kept (x ∷ []) (drop (i + 1) held)))
+    (subst (λ v. IsAscending cmp (kept ++ v ∷ drop (i + 1) held)) (sym is) (subst (λ l. IsAscending cmp (kept ++ l)) (next_dropped i held d low) (h up)))

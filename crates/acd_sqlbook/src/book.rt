@@ -42,11 +42,7 @@ fn fault_of(error: Error) -> BookFault
 }
 
 // The answer of a call, whose failure is counted, and whether the store still serves.
-fn noted<T>(
-    found: Result<T, Error>,
-    fresh: &mut bool,
-    failures: &mut u64,
-) -> Result<T, BookFault>
+fn noted<T>(found: Result<T, Error>, fresh: &mut bool, failures: &mut u64) -> Result<T, BookFault>
     ensures answer { result ≡ answered found }
     ensures fresh { fresh.new ≡ is_ok found }
     ensures failures { failures.new ≡ failures_after result failures.old }
@@ -163,7 +159,14 @@ impl<S: Alter> SqlBook<S> {
     ) -> Result<(), BookFault>
         ensures { Commits (book_state (state S.Store self.old.conn) self.old.failures) (book_state (state S.Store self.new.conn) self.new.failures) result (FollowsBy changes.now events.now kept.now) (committed_by changes.now events.now kept.now) }
     {
-        let done = commit_ready(self.alloc, &mut self.conn, self.fresh, changes, events, kept);
+        let done = commit_ready(
+            self.alloc,
+            &mut self.conn,
+            self.fresh,
+            changes,
+            events,
+            kept,
+        );
         noted(done, &mut self.fresh, &mut self.failures)
     }
 }

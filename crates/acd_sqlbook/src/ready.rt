@@ -69,7 +69,7 @@ fn only_meta(rows: &[Row]) -> Result<Meta, Error>
 }
 
 // The limits and the counters.
-fn read_meta<S: Alter>(conn: &mut Connection<S>) -> Result<Meta, Error>
+pub(crate) fn read_meta<S: Alter>(conn: &mut Connection<S>) -> Result<Meta, Error>
     requires { conn.old.in_transaction ≡ false }
     ensures idle { conn.new.in_transaction ≡ false }
     ensures found { Finds (state S.Store conn.old) (state S.Store conn.new) result (λ c meta. meta ≡ meta_of c.rows) }

@@ -1,15 +1,15 @@
 //! What leads from the tables of one state to those of another, in an order in which each statement leaves
-//! all references and all stations of agents as the schema wants them.
+//! all references as the schema wants them.
 
-ghost use Rattle.std.specs.Prelude.{◌≡◌, true, IfOk, OnOk};
+ghost use Rattle.std.specs.Prelude.{◌≡◌, ◌++◌, true, IfOk, OnOk};
 ghost use Rattle.acd_terms.specs.Changes.{changed_by};
 ghost use Rattle.acd_terms.specs.Rules.Plan.{keeps_order};
 ghost use Rattle.acd_terms.specs.Lists.{IsAscending};
-ghost use Rattle.acd_terms.specs.Rules.Plan.{agent_order, connection_order};
+ghost use Rattle.acd_terms.specs.Rules.Plan.{connection_order};
 ghost use Rattle.acd_sqlbook.specs.Transition.{HasTables, AreWhole, AddsSteps};
 
 use crate::difference::{Filed, row_changes};
-use acd_terms::{AgentRecord, Change, ConnectionRecord, DeviceId, Rows, find};
+use acd_terms::{Change, ConnectionRecord, Rows, find};
 use std::alloc::{AllocError, Global};
 
 // A push of its own, for any type.
@@ -32,33 +32,6 @@ fn add_changes<R: Filed>(
     extend(changes, &more)
 }
 
-// Where the agent is logged on in the new tables, if the agent is there.
-fn station_of(agents: &[AgentRecord], agent: &AgentRecord) -> Option<DeviceId> {
-    match find(agents, agent.agent) {
-        Some(next) => next.station,
-        None => None,
-    }
-}
-
-// The agents, of whom those who leave a station have none.
-fn vacated(
-    alloc: Global,
-    held: &[AgentRecord],
-    new: &[AgentRecord],
-) -> Result<Vec<AgentRecord>, AllocError>
-    ensures { IfOk result (λ agents. IsAscending agent_order held.now → IsAscending agent_order agents.items) }
-{
-    let mut agents = Vec::new(alloc);
-    for agent in held {
-        let mut agent = *agent;
-        if station_of(new, &agent) != agent.station {
-            agent.station = None;
-        }
-        extend(&mut agents, &[agent])?;
-    }
-    Ok(agents)
-}
-
 // The connections whose keys stay.
 fn staying(
     alloc: Global,
@@ -78,21 +51,59 @@ fn staying(
 
 /// The changes from the tables that are held to new ones.
 ///
-/// Groups and stations are put before agents, an agent leaves a station before another takes it, connections
-/// go before their calls, and calls are put before their connections.
+/// Groups and stations are put before agents, connections go before their calls, and calls are put before
+/// their connections. Agents are put in ascending number, also where one takes a station that a later one
+/// gives up.
 pub fn rows_changes(alloc: Global, held: &Rows, new: &Rows) -> Result<Vec<Change>, AllocError>
     ensures { IfOk result (λ changes. keeps_order held.now ≡ true → keeps_order new.now ≡ true → AreWhole changes.items → HasTables (changed_by held.now changes.items) new.now) }
 {
-    let agents = vacated(alloc, held.agents.as_slice(), new.agents.as_slice())?;
-    let connections = staying(alloc, held.connections.as_slice(), new.connections.as_slice())?;
+    let connections = staying(
+        alloc,
+        held.connections.as_slice(),
+        new.connections.as_slice(),
+    )?;
     let mut changes = Vec::new(alloc);
-    add_changes(alloc, &mut changes, held.groups.as_slice(), new.groups.as_slice())?;
-    add_changes(alloc, &mut changes, held.stations.as_slice(), new.stations.as_slice())?;
-    add_changes(alloc, &mut changes, held.agents.as_slice(), &agents)?;
-    add_changes(alloc, &mut changes, &agents, new.agents.as_slice())?;
-    add_changes(alloc, &mut changes, held.connections.as_slice(), &connections)?;
-    add_changes(alloc, &mut changes, held.calls.as_slice(), new.calls.as_slice())?;
-    add_changes(alloc, &mut changes, &connections, new.connections.as_slice())?;
-    add_changes(alloc, &mut changes, held.monitors.as_slice(), new.monitors.as_slice())?;
+    add_changes(
+        alloc,
+        &mut changes,
+        held.groups.as_slice(),
+        new.groups.as_slice(),
+    )?;
+    add_changes(
+        alloc,
+        &mut changes,
+        held.stations.as_slice(),
+        new.stations.as_slice(),
+    )?;
+    add_changes(
+        alloc,
+        &mut changes,
+        held.agents.as_slice(),
+        new.agents.as_slice(),
+    )?;
+    add_changes(
+        alloc,
+        &mut changes,
+        held.connections.as_slice(),
+        &connections,
+    )?;
+    add_changes(
+        alloc,
+        &mut changes,
+        held.calls.as_slice(),
+        new.calls.as_slice(),
+    )?;
+    add_changes(
+        alloc,
+        &mut changes,
+        &connections,
+        new.connections.as_slice(),
+    )?;
+    add_changes(
+        alloc,
+        &mut changes,
+        held.monitors.as_slice(),
+        new.monitors.as_slice(),
+    )?;
     Ok(changes)
 }
