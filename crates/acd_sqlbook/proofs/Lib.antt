@@ -15,8 +15,6 @@ mod ConnectionRows
 mod Differences
 mod Recorded
 mod Chained
-mod SameRecords
-mod Transitions
 mod Selections
 mod Statements
 mod Upserts

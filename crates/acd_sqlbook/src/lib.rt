@@ -27,11 +27,9 @@ mod ready;
 mod shape;
 #[cfg(test)]
 mod tests;
-mod transition;
 mod values;
 mod write;
 
 pub use book::SqlBook;
 pub use difference::{Filed, row_changes};
 pub use fault::{AdoptFault, Table};
-pub use transition::rows_changes;
