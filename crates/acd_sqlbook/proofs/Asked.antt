@@ -1,5 +1,5 @@
 -- What each query shows.
-use Rattle.std.proofs.Common.{◌≡◌, ℕ, ◌+◌, zero, suc, List, [], ◌∷◌, map, filter, take, find, nat_lt, ◌==◌, ◌&&◌, cond, Bool, true, false, Some, refl, sym, ap, ap₂, ◌∙◌, arith}
+use Rattle.std.proofs.Common.{◌≡◌, ℕ, ◌+◌, zero, suc, List, [], ◌∷◌, map, filter, take, find, nat_lt, ◌==◌, ◌&&◌, cond, Bool, true, false, Option, Some, None, refl, sym, ap, ap₂, ◌∙◌, arith}
 use Rattle.std.specs.Prelude.{negsuc, pos, bytes_eq, option_to_list}
 use Rattle.std.specs.Ordering.{is_eq, is_gt}
 use Rattle.std.proofs.lemmas.Int.{ints}
@@ -26,9 +26,11 @@ use Rattle.acd_terms.specs.declared.record.StationRecord.{StationRecord}
 use Rattle.acd_terms.specs.declared.record.AgentRecord.{AgentRecord}
 use Rattle.acd_terms.specs.declared.record.CallRecord.{CallRecord}
 use Rattle.acd_terms.specs.declared.record.MonitorRecord.{MonitorRecord}
-use Rattle.acd_terms.specs.Scans.{monitor_of}
+use Rattle.acd_terms.specs.Columns.{columns_of}
+use Rattle.acd_terms.specs.Scans.{monitor_of, has}
+use Rattle.sqlite.specs.Values.{or_null}
 use Rattle.acd_laws.proofs.State.{monitor_find}
-use Rattle.acd_book.specs.Content.{Content, kept_of, is_key, events_behind}
+use Rattle.acd_book.specs.Content.{Content, kept_of, is_key, is_told, events_behind}
 use Rattle.acd_book.specs.declared.kept.Kept.{Kept}
 use Rattle.acd_sqlbook.specs.declared.fault.Table.TheVariants as table
 use Rattle.acd_sqlbook.specs.Schema.{book_schema}
@@ -149,6 +151,19 @@ shows_monitors old new rows c held h =
     listed text.read_monitors monitors_listing _ monitor_row monitor_values [] (λ _. true) monitors_lists old new rows c.rows.monitors (schema_is old c held) (stored table.Monitors old c held) h
     ∙ ap (map monitor_values) (filter_all c.rows.monitors)
 
+-- ---- tests
+
+truth : (b : Bool) → is_true (from_truth (Some b)) ≡ b
+truth true = refl
+truth false = refl
+
+-- two tests, of which the second is asked for first
+both_tests : {a b : Bool} (p q : Bool) → p ≡ a → q ≡ b → (p && (q && true)) ≡ (b && a)
+both_tests true true e f = ap₂ ◌&&◌ f e
+both_tests true false e f = ap₂ ◌&&◌ f e
+both_tests false true e f = ap₂ ◌&&◌ f e
+both_tests false false e f = ap₂ ◌&&◌ f e
+
 -- ---- those above a number
 
 above : (n k : ℕ) → is_gt (value_cmp (id_value k) (id_value n)) ≡ nat_lt n k
@@ -177,6 +192,46 @@ unfolding events_listing
 shows_events_after number limit old new rows c held h =
     listed text.read_events_after events_listing _ event_row event_values (id_value number ∷ id_value limit ∷ []) (λ e. nat_lt number e.number) (events_lists number limit) old new rows c.events (schema_is old c held) (stored table.Events old c held) h
     ∙ take-map event_values limit (filter (λ (e : Event). nat_lt number e.number) c.events)
+
+at_device : (o : Option ℕ) (device : ℕ) → is_true (binary (Compare Eq Binary) (or_null id_value o) (id_value device)) ≡ has o device
+unfolding binary
+at_device None device = refl
+at_device (Some d) device = truth (is_eq (value_cmp (id_value d) (id_value device))) ∙ id_tied d device
+
+events_at_listing : Listing text.read_events_at
+unfolding understood everything
+events_at_listing = record {
+  tree = schema.events.tree;
+  terms = op2 (Compare Gt Binary) (col 1 0) (col 0 0) ∷ op2 (Compare Eq Binary) (col 1 4) (col 0 1) ∷ [];
+  project = col 1 0 ∷ columns 2 9;
+  order = by_number;
+  limit = col 0 2;
+  names = _;
+  command = refl;
+  plain = (refl, refl);
+  unlisted = refl;
+}
+
+events_at_lists : (device number limit : ℕ)
+    → Lists text.read_events_at events_at_listing (λ (e : Event). e.number) event_row event_values (id_value number ∷ id_value device ∷ id_value limit ∷ []) (is_told (Some device) number)
+unfolding events_at_listing binary
+events_at_lists device number limit = record {
+  keyed = λ e. refl;
+  ranks = λ x y. refl;
+  tests = λ e. both_tests _ _ (truth _ ∙ above number e.number) (at_device (columns_of e.report).device device);
+  shows = λ e. refl;
+}
+
+pub events_at_plain : IsPlain (understood book_schema text.read_events_at)
+events_at_plain = events_at_listing.plain
+
+pub shows_events_at : (device number limit : ℕ) (old new : State) (rows : List Row) (c : Content) → Holds old c
+    → Shown text.read_events_at (id_value number ∷ id_value device ∷ id_value limit ∷ []) old new rows → rows ≡ map event_values (take limit (filter (is_told (Some device) number) c.events))
+unfolding events_at_listing
+shows_events_at device number limit old new rows c held h =
+    listed text.read_events_at events_at_listing _ event_row event_values (id_value number ∷ id_value device ∷ id_value limit ∷ []) (is_told (Some device) number) (events_at_lists device number limit) old new rows c.events (schema_is old c held)
+    (stored table.Events old c held) h
+    ∙ take-map event_values limit (filter (is_told (Some device) number) c.events)
 
 kept_listing : Listing text.read_kept_after
 unfolding understood everything

@@ -13,6 +13,8 @@ mod Asked
 mod Members
 mod ConnectionRows
 mod Differences
+mod Recorded
+mod Chained
 mod Selections
 mod Statements
 mod Upserts
@@ -27,3 +29,4 @@ mod Committing
 pub mod Decoded
 mod Standing
 mod BookStates
+pub mod Ranged

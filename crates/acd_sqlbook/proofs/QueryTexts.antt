@@ -30,3 +30,6 @@ read_kept_after = codes "SELECT stamp, requester, invoke, moment, request, statu
 
 abbrev pub read_kept_under : List ℕ
 read_kept_under = codes "SELECT stamp, requester, invoke, moment, request, status, body FROM kept WHERE requester = ?1 AND invoke = ?2 ORDER BY stamp LIMIT 1"
+
+abbrev pub read_events_at : List ℕ
+read_events_at = codes "SELECT number, moment, kind, device, call, agent, grp, target, cause, waited FROM events WHERE number > ?1 AND device = ?2 ORDER BY number LIMIT ?3"

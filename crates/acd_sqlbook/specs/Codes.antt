@@ -16,23 +16,35 @@ use Rattle.acd_sqlbook.specs.Rows.{agent_code, pending_code, connection_code, ki
 abbrev pub with_code : {A : Type 0} → (A → ℕ) → List A → ℕ → Option A
 with_code code all n = find (λ a. code a == n) all
 
-unfoldable pub agent_state_of : ℕ → Option AgentState
-agent_state_of n = with_code agent_code (agent.Null ∷ agent.NotReady ∷ agent.Ready ∷ agent.Busy ∷ agent.WorkingAfterCall ∷ []) n
+abbrev pub agent_states : List AgentState
+agent_states = agent.Null ∷ agent.NotReady ∷ agent.Ready ∷ agent.Busy ∷ agent.WorkingAfterCall ∷ []
 
-unfoldable pub pending_of : ℕ → Option Pending
-pending_of n = with_code pending_code (pending.LoggedOff ∷ pending.NotReady ∷ pending.Ready ∷ pending.WorkingAfterCall ∷ []) n
+abbrev pub pending_states : List Pending
+pending_states = pending.LoggedOff ∷ pending.NotReady ∷ pending.Ready ∷ pending.WorkingAfterCall ∷ []
 
-unfoldable pub connection_state_of : ℕ → Option ConnectionState
-connection_state_of n =
-    with_code connection_code (connection.Initiated ∷ connection.Alerting ∷ connection.Connected ∷ connection.Hold ∷ connection.Queued ∷ connection.Fail ∷ []) n
+abbrev pub connection_states : List ConnectionState
+connection_states = connection.Initiated ∷ connection.Alerting ∷ connection.Connected ∷ connection.Hold ∷ connection.Queued ∷ connection.Fail ∷ []
 
-unfoldable pub cause_of : ℕ → Option Cause
-cause_of n = with_code cause_code (cause.NewCall ∷ cause.Distributed ∷ cause.Deflected ∷ cause.Transferred ∷ cause.NoAnswer ∷ cause.Busy ∷ []) n
+abbrev pub causes : List Cause
+causes = cause.NewCall ∷ cause.Distributed ∷ cause.Deflected ∷ cause.Transferred ∷ cause.NoAnswer ∷ cause.Busy ∷ []
 
-unfoldable pub kind_of : ℕ → Option EventKind
-kind_of n =
-    with_code kind_code (
+abbrev pub kinds : List EventKind
+kinds =
     kind.ServiceInitiated ∷ kind.Originated ∷ kind.Queued ∷ kind.Delivered ∷ kind.Diverted ∷ kind.Established ∷ kind.Held ∷ kind.Retrieved ∷ kind.Transferred
     ∷ kind.Failed ∷ kind.ConnectionCleared ∷ kind.CallCleared ∷ kind.AgentLoggedOn ∷ kind.AgentLoggedOff ∷ kind.AgentNotReady ∷ kind.AgentReady ∷ kind.AgentBusy
     ∷ kind.AgentWorkingAfterCall ∷ []
-    ) n
+
+unfoldable pub agent_state_of : ℕ → Option AgentState
+agent_state_of n = with_code agent_code agent_states n
+
+unfoldable pub pending_of : ℕ → Option Pending
+pending_of n = with_code pending_code pending_states n
+
+unfoldable pub connection_state_of : ℕ → Option ConnectionState
+connection_state_of n = with_code connection_code connection_states n
+
+unfoldable pub cause_of : ℕ → Option Cause
+cause_of n = with_code cause_code causes n
+
+unfoldable pub kind_of : ℕ → Option EventKind
+kind_of n = with_code kind_code kinds n

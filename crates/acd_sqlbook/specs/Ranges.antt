@@ -1,10 +1,16 @@
 -- The records of rows whose values are all in their ranges, column by column. A row of another width stands for none.
-use Rattle.std.specs.Prelude.{ℕ, ◌==◌, List, [], ◌∷◌, length, nat_le, Bool, true, false, if◌then◌else◌, Option, None, Some, option_map}
+use Rattle.std.specs.Prelude.{ℕ, ◌==◌, List, [], ◌∷◌, length, nat_le, Bool, true, false, ◌&&◌, ◌||◌, if◌then◌else◌, Option, None, Some, option_map}
 use Rattle.std.specs.Result.{result_ok}
+use Rattle.std.specs.Str.{bytes_eq, is_utf8}
 use Rattle.sqlite_value.specs.declared.value.Value.{Value}
 use Rattle.sqlite_value.specs.declared.value.Value.TheVariants.{Null, Text}
 use Rattle.sqlite_value.specs.Order.{Row, column}
 use Rattle.acd_terms.specs.Forms.{device_digits, agent_digits, id_with, read_text, is_name_byte, number_between}
+use Rattle.acd_terms.specs.declared.command.Request.{Request}
+use Rattle.acd_terms.specs.declared.event.Cause.{Cause}
+use Rattle.acd_terms.specs.declared.event.EventKind.{EventKind}
+use Rattle.acd_terms.specs.declared.event.Columns.{Columns}
+use Rattle.acd_terms.specs.declared.event.Event.{Event}
 use Rattle.acd_terms.specs.declared.rows.Limits.{Limits}
 use Rattle.acd_terms.specs.declared.state.AgentState.{AgentState}
 use Rattle.acd_terms.specs.declared.state.Pending.{Pending}
@@ -16,8 +22,12 @@ use Rattle.acd_terms.specs.declared.record.AgentRecord.{AgentRecord}
 use Rattle.acd_terms.specs.declared.record.CallRecord.{CallRecord}
 use Rattle.acd_terms.specs.declared.record.ConnectionRecord.{ConnectionRecord}
 use Rattle.acd_terms.specs.declared.record.MonitorRecord.{MonitorRecord}
+use Rattle.acd_codec.specs.Reading.{reads_as}
+use Rattle.acd_codec.specs.RequestTexts.{request_text}
+use Rattle.acd_book.specs.declared.kept.Kept.{Kept}
 use Rattle.acd_sqlbook.specs.declared.meta.Meta.{Meta}
-use Rattle.acd_sqlbook.specs.Codes.{agent_state_of, pending_of, connection_state_of}
+use Rattle.acd_sqlbook.specs.Codes.{agent_state_of, pending_of, connection_state_of, kind_of, cause_of}
+use Rattle.acd_sqlbook.specs.Reports.{report_in}
 use Rattle.acd_sqlbook.specs.Decoding.{option_in}
 
 -- a value that is out of its range ends the reading
@@ -74,6 +84,22 @@ agent_state_at r at = whole_at r at >>= agent_state_of
 
 unfoldable pub pending_at : Row → ℕ → Option Pending
 pending_at r at = whole_at r at >>= pending_of
+
+unfoldable pub cause_at : Row → ℕ → Option Cause
+cause_at r at = whole_at r at >>= cause_of
+
+unfoldable pub kind_at : Row → ℕ → Option EventKind
+kind_at r at = whole_at r at >>= kind_of
+
+unfoldable pub status_at : Row → ℕ → Option ℕ
+status_at r at = whole_at r at >>= (λ n. if n == 200 || n == 409 then Some n else None)
+
+abbrev pub utf8_of : List ℕ → Option (List ℕ)
+utf8_of t = if is_utf8 t then Some t else None
+
+-- a text in UTF-8
+unfoldable pub body_at : Row → ℕ → Option (List ℕ)
+body_at r at = text_at r at >>= utf8_of
 
 unfoldable pub connection_state_at : Row → ℕ → Option ConnectionState
 connection_state_at r at = whole_at r at >>= connection_state_of
@@ -165,3 +191,42 @@ counters_in r = if length r == 11 then (do
   last_monitor ← whole_at r 9
   last_event ← whole_at r 10
   Some (record { limits = limits; last_stamp = last_stamp; last_moment = last_moment; last_call = last_call; last_monitor = last_monitor; last_event = last_event })) else None
+
+-- the columns of a report, which stand behind the number and the moment
+unfoldable pub columns_at : Row → Option Columns
+columns_at r = do
+  kind ← kind_at r 2
+  device ← or_none device_at r 3
+  call ← or_none serial_at r 4
+  agent ← or_none agent_at r 5
+  group ← or_none device_at r 6
+  to ← or_none device_at r 7
+  cause ← or_none cause_at r 8
+  waited ← or_none moment_at r 9
+  Some (record { kind = kind; device = device; call = call; agent = agent; group = group; to = to; cause = cause; waited = waited })
+
+unfoldable pub event_in : Row → Option Event
+event_in r = if length r == 10 then (do
+  number ← stamp_at r 0
+  moment ← moment_at r 1
+  columns ← columns_at r
+  report ← report_in columns
+  Some (record { number = number; moment = moment; report = report })) else None
+
+-- the request that the text stands for, where the text is its own, and the key that of its columns
+unfoldable pub request_at : Row → Option Request
+request_at r = do
+  requester ← text_at r 1
+  invoke ← whole_at r 2
+  text ← text_at r 4
+  request ← result_ok (reads_as text)
+  if bytes_eq requester request.requester && invoke == request.invoke && bytes_eq text (request_text request) then Some request else None
+
+unfoldable pub kept_in : Row → Option Kept
+kept_in r = if length r == 7 then (do
+  stamp ← stamp_at r 0
+  moment ← moment_at r 3
+  request ← request_at r
+  status ← status_at r 5
+  body ← body_at r 6
+  Some (record { stamp = stamp; moment = moment; request = request; status = status; body = body })) else None

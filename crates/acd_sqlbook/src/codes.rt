@@ -2,7 +2,7 @@
 
 ghost use Rattle.std.specs.Prelude.{◌≡◌};
 ghost use Rattle.acd_sqlbook.specs.Rows.{agent_code, pending_code, connection_code, kind_code, cause_code};
-ghost use Rattle.acd_sqlbook.specs.Codes.{agent_state_of, pending_of, connection_state_of};
+ghost use Rattle.acd_sqlbook.specs.Codes.{agent_state_of, pending_of, connection_state_of, kind_of, cause_of};
 
 use acd_terms::{AgentState, Cause, ConnectionState, EventKind, Pending};
 
@@ -118,6 +118,48 @@ pub(crate) fn connection_state_of(code: u64) -> Option<ConnectionState>
         4 => Some(ConnectionState::Hold),
         5 => Some(ConnectionState::Queued),
         6 => Some(ConnectionState::Fail),
+        _ => None,
+    }
+}
+
+#[tactic(auto, unfolding(crate::specs::Codes::cause_of))]
+pub(crate) fn cause_of(code: u64) -> Option<Cause>
+    ensures { result ≡ cause_of code }
+{
+    match code {
+        1 => Some(Cause::NewCall),
+        2 => Some(Cause::Distributed),
+        3 => Some(Cause::Deflected),
+        4 => Some(Cause::Transferred),
+        5 => Some(Cause::NoAnswer),
+        6 => Some(Cause::Busy),
+        _ => None,
+    }
+}
+
+#[tactic(auto, unfolding(crate::specs::Codes::kind_of))]
+pub(crate) fn kind_of(code: u64) -> Option<EventKind>
+    ensures { result ≡ kind_of code }
+{
+    match code {
+        1 => Some(EventKind::ServiceInitiated),
+        2 => Some(EventKind::Originated),
+        3 => Some(EventKind::Queued),
+        4 => Some(EventKind::Delivered),
+        5 => Some(EventKind::Diverted),
+        6 => Some(EventKind::Established),
+        7 => Some(EventKind::Held),
+        8 => Some(EventKind::Retrieved),
+        9 => Some(EventKind::Transferred),
+        10 => Some(EventKind::Failed),
+        11 => Some(EventKind::ConnectionCleared),
+        12 => Some(EventKind::CallCleared),
+        13 => Some(EventKind::AgentLoggedOn),
+        14 => Some(EventKind::AgentLoggedOff),
+        15 => Some(EventKind::AgentNotReady),
+        16 => Some(EventKind::AgentReady),
+        17 => Some(EventKind::AgentBusy),
+        18 => Some(EventKind::AgentWorkingAfterCall),
         _ => None,
     }
 }

@@ -1,15 +1,23 @@
 //! The records of rows, where each value is in its range.
 
-ghost use Rattle.std.specs.Prelude.{◌≡◌};
-ghost use Rattle.acd_sqlbook.specs.Ranges.{figures_at, group_in, station_in, agent_in, call_in, connection_in, monitor_in, limits_at, counters_in};
+ghost use Rattle.std.specs.Prelude.{◌≡◌, IfOk};
+ghost use Rattle.std.specs.Str.{bytes_eq};
+ghost use Rattle.std.specs.Result.{result_ok};
+ghost use Rattle.acd_codec.specs.Reading.{reads_as};
+ghost use Rattle.acd_codec.specs.RequestTexts.{request_text};
+ghost use Rattle.acd_sqlbook.specs.Ranges.{figures_at, group_in, station_in, agent_in, call_in, connection_in, monitor_in, limits_at, counters_in, columns_at, event_in, request_at, kept_in};
 
 use crate::meta::Meta;
+use crate::shape::report_in;
 use crate::values;
+use acd_book::{Kept, Text};
+use acd_codec::{ReadFault, read_request, request_text};
 use acd_terms::{
-    AgentRecord, CallRecord, ConnectionRecord, Figures, GroupRecord, Limits, MonitorRecord,
-    StationRecord,
+    AgentRecord, CallRecord, Columns, ConnectionRecord, Event, Figures, GroupRecord, Limits,
+    MonitorRecord, Request, StationRecord,
 };
 use sqlite::Row;
+use std::alloc::{AllocError, Global};
 
 #[tactic(auto, unfolding(crate::specs::Ranges::figures_at))]
 fn figures_in(row: &Row) -> Option<Figures>
@@ -191,4 +199,124 @@ pub(crate) fn counters_in(row: &Row) -> Option<Meta>
         last_monitor,
         last_event,
     })
+}
+
+#[tactic(auto, unfolding(crate::specs::Ranges::columns_at))]
+fn columns_in(row: &Row) -> Option<Columns>
+    ensures { result ≡ columns_at row.now }
+{
+    let kind = values::kind(row, 2)?;
+    let device = values::device_or_none(row, 3)?;
+    let call = values::serial_or_none(row, 4)?;
+    let agent = values::agent_or_none(row, 5)?;
+    let group = values::device_or_none(row, 6)?;
+    let to = values::device_or_none(row, 7)?;
+    let cause = values::cause_or_none(row, 8)?;
+    let waited = values::moment_or_none(row, 9)?;
+    Some(Columns {
+        kind,
+        device,
+        call,
+        agent,
+        group,
+        to,
+        cause,
+        waited,
+    })
+}
+
+#[tactic(auto, unfolding(crate::specs::Ranges::event_in))]
+pub(crate) fn event_in(row: &Row) -> Option<Event>
+    ensures { result ≡ event_in row.now }
+{
+    if row.column_count() != 10 {
+        return None;
+    }
+    let number = values::stamp(row, 0)?;
+    let moment = values::moment(row, 1)?;
+    let columns = columns_in(row)?;
+    let report = report_in(&columns)?;
+    Some(Event {
+        number,
+        moment,
+        report,
+    })
+}
+
+// Whether the bytes are the request's own text.
+fn is_own_text(alloc: Global, request: &Request, bytes: &[u8]) -> Result<bool, AllocError>
+    ensures { IfOk result (λ own. own ≡ bytes_eq bytes.now (request_text request.now)) }
+{
+    let text = request_text(alloc, request)?;
+    Ok(bytes == text.as_bytes())
+}
+
+// The request that bytes stand for, if they do.
+fn request_of(alloc: Global, bytes: &[u8]) -> Result<Option<Request>, AllocError>
+    ensures { IfOk result (λ request. request ≡ result_ok (reads_as bytes.now)) }
+{
+    match read_request(alloc, bytes) {
+        Ok(request) => Ok(Some(request)),
+        Err(ReadFault::Malformed(_)) => Ok(None),
+        Err(ReadFault::NoMemory) => Err(AllocError),
+    }
+}
+
+#[tactic(auto, unfolding(crate::specs::Ranges::request_at))]
+fn request_in(alloc: Global, row: &Row) -> Result<Option<Request>, AllocError>
+    ensures { IfOk result (λ request. request ≡ request_at row.now) }
+{
+    let Some(requester) = values::text(row, 1) else {
+        return Ok(None);
+    };
+    let Some(invoke) = values::whole(row, 2) else {
+        return Ok(None);
+    };
+    let Some(text) = values::text(row, 4) else {
+        return Ok(None);
+    };
+    let Some(request) = request_of(alloc, text)? else {
+        return Ok(None);
+    };
+    let is_key = requester == request.requester.as_bytes()
+        && invoke == u64::from(request.invoke.number());
+    if is_key && is_own_text(alloc, &request, text)? {
+        Ok(Some(request))
+    } else {
+        Ok(None)
+    }
+}
+
+/// None where a value is out of its range, the text isn't its request's own, or the key isn't that of the
+/// columns.
+#[tactic(auto, unfolding(crate::specs::Ranges::kept_in))]
+pub(crate) fn kept_in(alloc: Global, row: &Row) -> Result<Option<Kept>, AllocError>
+    ensures { IfOk result (λ kept. kept ≡ kept_in row.now) }
+{
+    if row.column_count() != 7 {
+        return Ok(None);
+    }
+    let Some(stamp) = values::stamp(row, 0) else {
+        return Ok(None);
+    };
+    let Some(moment) = values::moment(row, 3) else {
+        return Ok(None);
+    };
+    let Some(request) = request_in(alloc, row)? else {
+        return Ok(None);
+    };
+    let Some(status) = values::status(row, 5) else {
+        return Ok(None);
+    };
+    let Some(body) = values::body(row, 6) else {
+        return Ok(None);
+    };
+    let body = Text::new(String::from_str(alloc, body)?);
+    Ok(Some(Kept {
+        stamp,
+        moment,
+        request,
+        status,
+        body,
+    }))
 }

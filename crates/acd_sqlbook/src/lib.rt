@@ -22,6 +22,7 @@ mod fault;
 mod meta;
 mod query;
 mod read;
+mod reads;
 mod ready;
 mod shape;
 #[cfg(test)]

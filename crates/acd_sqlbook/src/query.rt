@@ -1,16 +1,16 @@
 //! The queries between transactions, one a function: rows of one table, in the order of its key.
 
-ghost use Rattle.std.specs.Prelude.{◌≡◌, false, map, option_to_list};
+ghost use Rattle.std.specs.Prelude.{◌≡◌, Some, false, map, take, filter, option_to_list};
 ghost use Rattle.sqlite.specs.Held.{state};
 ghost use Rattle.acd_terms.specs.Scans.{monitor_of};
-ghost use Rattle.acd_book.specs.Content.{events_behind, kept_of};
+ghost use Rattle.acd_book.specs.Content.{events_behind, is_told, kept_of};
 ghost use Rattle.acd_sqlbook.specs.Rows.{group_values, station_values, agent_values, call_values, connection_values, monitor_values, event_values, kept_values};
 ghost use Rattle.acd_sqlbook.specs.Draft.{Fits};
 ghost use Rattle.acd_sqlbook.specs.Finding.{Finds, kept_behind};
 
 use crate::bind;
 use crate::read::read;
-use acd_terms::{Invoke, Requester};
+use acd_terms::{DeviceId, Invoke, Requester};
 use sqlite::{Alter, Connection, Error, Row};
 
 pub(crate) fn group_rows<S: Alter>(conn: &mut Connection<S>) -> Result<Vec<Row>, Error>
@@ -153,5 +153,29 @@ pub(crate) fn connection_rows<S: Alter>(conn: &mut Connection<S>) -> Result<Vec<
         conn,
         "SELECT call, device, state, grp, place, queued, offered FROM connections ORDER BY call, device",
         &[],
+    )
+}
+
+/// The first rows of events at a device above a number.
+pub(crate) fn event_rows_at<S: Alter>(
+    conn: &mut Connection<S>,
+    device: DeviceId,
+    number: u64,
+    limit: u64,
+) -> Result<Vec<Row>, Error>
+    requires idle { conn.old.in_transaction ≡ false }
+    requires number { Fits number }
+    requires limit { Fits limit }
+    ensures idle { conn.new.in_transaction ≡ false }
+    ensures found { Finds (state S.Store conn.old) (state S.Store conn.new) result (λ c rows. rows.items ≡ map event_values (take limit (filter (is_told (Some device) number) c.events))) }
+{
+    read(
+        conn,
+        "SELECT number, moment, kind, device, call, agent, grp, target, cause, waited FROM events WHERE number > ?1 AND device = ?2 ORDER BY number LIMIT ?3",
+        &[
+            bind::integer(number),
+            bind::device(device),
+            bind::integer(limit),
+        ],
     )
 }

@@ -3,12 +3,16 @@
 ghost use Rattle.std.specs.Prelude.{◌≡◌, option_map};
 ghost use Rattle.sqlite_value.specs.Value.{owned};
 ghost use Rattle.sqlite_value.specs.Order.{column};
-ghost use Rattle.acd_sqlbook.specs.Ranges.{is_null, text_at, whole_at, stamp_at, serial_at, moment_at, seconds_at, device_at, agent_at, name_at, agent_state_at, pending_at, connection_state_at, or_none};
+ghost use Rattle.acd_sqlbook.specs.Ranges.{is_null, text_at, whole_at, stamp_at, serial_at, moment_at, seconds_at, device_at, agent_at, name_at, agent_state_at, pending_at, connection_state_at, kind_at, cause_at, status_at, utf8_of, body_at, or_none};
 
-use crate::codes::{agent_state_of, connection_state_of, pending_of};
-use acd_terms::{AgentId, AgentState, ConnectionState, DeviceId, Name, Pending, Seconds, Serial};
+use crate::codes::{agent_state_of, cause_of, connection_state_of, kind_of, pending_of};
+use acd_terms::{
+    AgentId, AgentState, Cause, ConnectionState, DeviceId, EventKind, Name, Pending, Seconds,
+    Serial,
+};
 use sqlite::Row;
 use sqlite::types::ValueRef;
+use std::str;
 
 // The value in a column, and NULL past the row's end.
 fn value(row: &Row, at: usize) -> ValueRef<'_>
@@ -160,4 +164,71 @@ pub(crate) fn moment_or_none(row: &Row, at: usize) -> Option<Option<u32>>
     }
     let moment = moment(row, at)?;
     Some(Some(moment))
+}
+
+#[tactic(auto, unfolding(crate::specs::Ranges::kind_at))]
+pub(crate) fn kind(row: &Row, at: usize) -> Option<EventKind>
+    ensures { result ≡ kind_at row.now at }
+{
+    kind_of(whole(row, at)?)
+}
+
+#[tactic(auto, unfolding(crate::specs::Ranges::cause_at))]
+pub(crate) fn cause_or_none(row: &Row, at: usize) -> Option<Option<Cause>>
+    ensures { result ≡ or_none cause_at row.now at }
+{
+    if is_null(row, at) {
+        return Some(None);
+    }
+    let cause = cause_of(whole(row, at)?)?;
+    Some(Some(cause))
+}
+
+pub(crate) fn serial_or_none(row: &Row, at: usize) -> Option<Option<u64>>
+    ensures { result ≡ or_none serial_at row.now at }
+{
+    if is_null(row, at) {
+        return Some(None);
+    }
+    let serial = serial(row, at)?;
+    Some(Some(serial))
+}
+
+pub(crate) fn agent_or_none(row: &Row, at: usize) -> Option<Option<AgentId>>
+    ensures { result ≡ or_none agent_at row.now at }
+{
+    if is_null(row, at) {
+        return Some(None);
+    }
+    let agent = agent(row, at)?;
+    Some(Some(agent))
+}
+
+/// The status of a reply that is kept.
+#[tactic(auto, unfolding(crate::specs::Ranges::status_at))]
+pub(crate) fn status(row: &Row, at: usize) -> Option<u16>
+    ensures { result ≡ status_at row.now at }
+{
+    match whole(row, at)? {
+        200 => Some(200),
+        409 => Some(409),
+        _ => None,
+    }
+}
+
+fn utf8(text: &[u8]) -> Option<&str>
+    ensures { option_map (λ t. t.now) result ≡ utf8_of text.now }
+{
+    match str::from_utf8(text) {
+        Ok(text) => Some(text),
+        Err(_) => None,
+    }
+}
+
+/// A text in UTF-8.
+#[tactic(auto, unfolding(crate::specs::Ranges::body_at))]
+pub(crate) fn body(row: &Row, at: usize) -> Option<&str>
+    ensures { option_map (λ t. t.now) result ≡ body_at row.now at }
+{
+    utf8(text(row, at)?)
 }

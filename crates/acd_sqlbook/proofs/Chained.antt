@@ -1,0 +1,47 @@
+-- Reads, one after the other.
+use Rattle.std.proofs.Common.{◌≡◌, List, Result, Ok, Err, IsTrue, IfOk}
+use Rattle.sqlite.specs.declared.error.Error.{Error}
+use Rattle.sqlite.specs.State.{State, HasCleanDisk}
+use Rattle.acd_terms.specs.declared.rows.Rows.{Rows}
+use Rattle.acd_terms.specs.declared.record.GroupRecord.{GroupRecord}
+use Rattle.acd_terms.specs.declared.record.StationRecord.{StationRecord}
+use Rattle.acd_terms.specs.declared.record.AgentRecord.{AgentRecord}
+use Rattle.acd_terms.specs.declared.record.CallRecord.{CallRecord}
+use Rattle.acd_terms.specs.declared.record.ConnectionRecord.{ConnectionRecord}
+use Rattle.acd_terms.specs.declared.record.MonitorRecord.{MonitorRecord}
+use Rattle.acd_book.specs.Content.{Content}
+use Rattle.acd_sqlbook.specs.Content.{meta_of}
+use Rattle.acd_sqlbook.specs.declared.meta.Meta.{Meta}
+use Rattle.acd_sqlbook.specs.Draft.{Holds}
+use Rattle.acd_sqlbook.specs.Finding.{Finds, joined_rows}
+use Rattle.acd_sqlbook.proofs.Standing.{quiet_on}
+
+module _ {A B : Type 0} (old mid new : State) (a : A) (P : Content → A → Type 0) (Q : Content → B → Type 0) (first : Finds {E = Error} old mid (Ok a) P) where
+  -- both, where the second succeeded
+  pub chained : {C : Type 0} (b : B) (whole : C) (W : Content → C → Type 0) → ((c : Content) → P c a → Q c b → W c whole) → Finds {E = Error} mid new (Ok b) Q → Finds {E = Error} old new (Ok whole) W
+  chained b whole W both second = record {
+    up = second.up;
+    quiet = quiet_on old mid new first.quiet second.quiet;
+    stops = λ k c held db left.
+        let m = second.quiet.clean k in
+        first.stops m c held db (second.stops k c (first.quiet.same m c held (first.up m)) db left);
+    answer = λ k c held.
+        let m = second.quiet.clean k in
+        both c (first.answer m c held) (second.answer k c (first.quiet.same m c held (first.up m)));
+  }
+
+  -- the second failed
+  pub broken : {C : Type 0} (e : Error) (W : Content → C → Type 0) → Finds mid new (Err e) Q → Finds old new (Err e) W
+  broken e W second = record {
+    up = λ k. tt;
+    quiet = quiet_on old mid new first.quiet second.quiet;
+    stops = λ k c held db left.
+        let m = second.quiet.clean k in
+        first.stops m c held db (second.stops k c (first.quiet.same m c held (first.up m)) db left);
+    answer = λ k. tt;
+  }
+
+pub joined_is : (s : Rows) (m : Meta) (groups : List GroupRecord) (stations : List StationRecord) (agents : List AgentRecord) (calls : List CallRecord) (connections : List ConnectionRecord) (monitors : List MonitorRecord)
+    → m ≡ meta_of s → groups ≡ s.groups → stations ≡ s.stations → agents ≡ s.agents → calls ≡ s.calls → connections ≡ s.connections → monitors ≡ s.monitors
+    → joined_rows m groups stations agents calls connections monitors ≡ s
+joined_is s m groups stations agents calls connections monitors e a b c d f h = λ i. joined_rows (e i) (a i) (b i) (c i) (d i) (f i) (h i)
