@@ -6,11 +6,12 @@ mod answer_line;
 mod moment;
 mod outbox;
 mod partial;
-mod send;
+mod sending;
 mod serve;
 mod session;
 mod split;
 #[cfg(test)]
 mod tests;
 
+pub use sending::{Stopped, send};
 pub use session::{LinesFault, lines};
