@@ -1,5 +1,5 @@
 -- What an input asks, by what was read of it.
-use Rattle.std.proofs.Common.{◌≡◌, ◌≢◌, ◌⊎◌, ℕ, ◌+◌, ◌-◌, ◌<◌, ◌≤◌, Bool, true, false, nat_le, nat_lt, List, [], ◌++◌, length, take, drop, Option, Some, None, Result, Ok, Err, MatchResult, inl, inr, refl, sym, ap, ◌∙◌, subst, arith, append-nil, length-append, length-drop}
+use Rattle.std.proofs.Common.{◌≡◌, ℕ, ◌+◌, ◌-◌, ◌<◌, ◌≤◌, Bool, true, false, nat_le, List, ◌++◌, length, take, drop, Option, Some, None, Result, Ok, Err, MatchResult, refl, sym, ap, ◌∙◌, subst, arith, length-append, length-drop}
 use Rattle.std.specs.Io.KnownBytes.{Consumes, IsAtEnd}
 use Rattle.std.proofs.KnownBytes.{Consumes-trans, Consumes-whole}
 use Rattle.std.proofs.lemmas.List.{take-append-le, drop-append-le}
@@ -11,7 +11,7 @@ use Rattle.acd_http.specs.declared.receive.HeadFound.{HeadFound}
 use Rattle.acd_http.specs.declared.receive.HeadFound.TheVariants as found
 use Rattle.acd_http.specs.Received.{Found, BodyFound, IsRead}
 use Rattle.acd_http.specs.declared.asked.Asked.{Asked}
-use Rattle.acd_http.specs.declared.asked.Asked.TheVariants.{Truncated, Refused, Look, Arrival}
+use Rattle.acd_http.specs.declared.asked.Asked.TheVariants.{Truncated, Refused}
 use Rattle.acd_http.specs.declared.refused.Refused.TheVariants as refused
 use Rattle.acd_http.specs.Asking.{HeadAsks, AsksBy, Asks, IsAsked, IsHeadOf, IsHeadAsked, IsUnknown, is_bodiless, body_in, body_asks}
 use Rattle.acd_http.specs.declared.asked.Unknown.{Unknown}

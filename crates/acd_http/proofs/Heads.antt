@@ -1,8 +1,8 @@
 -- The end of a head, a byte at a time.
-use Rattle.std.proofs.Common.{◌≡◌, ℕ, suc, ◌+◌, ◌<◌, ◌≤◌, ◌==◌, Bool, true, false, List, [], ◌∷◌, ◌++◌, length, drop, take, get_or, Option, Some, None, option_map, refl, sym, ap, ◌∙◌, arith, add-one, drop-cons, ne_eqb, subst}
+use Rattle.std.proofs.Common.{◌≡◌, ℕ, suc, ◌+◌, ◌<◌, ◌≤◌, Bool, true, false, List, ◌∷◌, length, drop, get_or, Option, Some, None, option_map, refl, sym, ap, ◌∙◌, arith, add-one, drop-cons, ne_eqb}
 use Rattle.std.proofs.lemmas.List.{drop_all}
 use Rattle.acd_http.specs.declared.head.Place.{Place}
-use Rattle.acd_http.specs.declared.head.Place.TheVariants.{Start, Return, Other}
+use Rattle.acd_http.specs.declared.head.Place.TheVariants.{Start}
 use Rattle.acd_http.specs.Head.{head_from, head_len, is_empty_at, place_after}
 
 pub step_other : (some : Bool) (place : Place) (bytes : List ℕ) (i : ℕ) → i < length bytes → (get_or bytes i 0 ≡ 10 → ⊥) → head_from some place (drop i bytes) ≡ option_map suc (head_from some (place_after place (get_or bytes i 0)) (drop (i + 1) bytes))

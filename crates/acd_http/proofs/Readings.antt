@@ -1,12 +1,12 @@
 -- What was read of the input, and the head in it.
-use Rattle.std.proofs.Common.{◌≡◌, ℕ, zero, suc, ◌+◌, ◌-◌, ◌<◌, ◌≤◌, ◌==◌, Bool, true, false, List, [], ◌∷◌, ◌++◌, length, drop, take, Option, Some, None, option_map, refl, sym, ap, ◌∙◌, arith, subst, append_assoc, append-nil, length-append}
+use Rattle.std.proofs.Common.{◌≡◌, ℕ, zero, suc, ◌+◌, ◌≤◌, ◌==◌, Bool, true, false, List, [], ◌∷◌, ◌++◌, length, take, Option, Some, None, option_map, refl, sym, ap, ◌∙◌, arith, subst, append-nil, length-append}
 use Rattle.std.specs.Option.{MatchOption}
-use Rattle.std.proofs.lemmas.List.{take_all, length-take, take-append-le}
+use Rattle.std.proofs.lemmas.List.{length-take, take-append-le}
 use Rattle.std.specs.Bool.{if◌then◌else◌}
 use Rattle.std.specs.Io.KnownBytes.{Consumes, Keeps, IsAtEnd}
 use Rattle.std.proofs.KnownBytes.{Consumes-trans, Consumes-whole}
 use Rattle.acd_http.specs.declared.head.Place.{Place}
-use Rattle.acd_http.specs.declared.head.Place.TheVariants.{Start, Return, Other}
+use Rattle.acd_http.specs.declared.head.Place.TheVariants.{Start}
 use Rattle.acd_lines.specs.Output.{IsInput}
 use Rattle.acd_http.specs.Head.{head_from, head_len, is_empty_at, place_after}
 

@@ -1,5 +1,5 @@
 -- One byte further in a loop over bytes.
-use Rattle.std.proofs.Common.{◌≡◌, ◌==◌, ℕ, suc, ◌+◌, ◌-◌, ◌*◌, ◌<◌, ◌≤◌, ◌++◌, true, false, List, [], ◌∷◌, length, drop, take, get_or, min, Option, Some, None, inl, inr, refl, sym, ap, ◌∙◌, arith, add-one, drop-cons, ne_eqb, append_assoc, append-nil, length-drop}
+use Rattle.std.proofs.Common.{◌≡◌, ◌==◌, ℕ, ◌+◌, ◌-◌, ◌*◌, ◌<◌, ◌≤◌, ◌++◌, true, false, List, [], ◌∷◌, length, drop, take, get_or, min, Some, None, inl, inr, refl, sym, ap, ◌∙◌, arith, add-one, drop-cons, ne_eqb, append_assoc, append-nil, length-drop}
 use Rattle.std.proofs.lemmas.List.{drop_all, take_all, take_more}
 use Rattle.std.proofs.lemmas.Bool.{cases_lt}
 use Rattle.std.proofs.lemmas.Bool.Decides.{nat_tests}

@@ -1,6 +1,4 @@
-use Rattle.std.proofs.Common.{subst, ◌≡◌}
-use Rattle.acd_http.specs.Received.{Found}
-use Rattle.acd_http.proofs.Asks.{too_large, too_short, found_large, found_short}
+use Rattle.acd_http.proofs.Asks.{found_large, found_short}
 use Rattle.acd_http.proofs.asked.asked_by.Goals as goal
 
 pub returns-in-Ok-TooLarge : goal.returns-in-Ok-TooLarge

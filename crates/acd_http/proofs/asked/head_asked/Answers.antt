@@ -1,6 +1,3 @@
-use Rattle.std.proofs.Common.{arith, false, nat_lt, ◌≡◌}
-use Rattle.std.proofs.lemmas.Bool.Decides.{nat_tests}
-use Rattle.acd_http.specs.Head.{lines_in}
 use Rattle.acd_http.proofs.SmallBodies.{head_unseen, head_body, few_lines}
 use Rattle.acd_http.proofs.asked.head_asked.Goals as goal
 

@@ -1,5 +1,5 @@
-use Rattle.std.proofs.Common.{◌≡◌, ◌+◌, ℕ, drop, option_map, get_or, length, true, false, sym, ap, ◌∙◌, refl, Some, suc, Option}
-use Rattle.acd_http.specs.Head.{head_from, head_len, place_after}
+use Rattle.std.proofs.Common.{◌+◌, ℕ, drop, option_map, get_or, true, false, sym, ap, ◌∙◌}
+use Rattle.acd_http.specs.Head.{head_from, place_after}
 use Rattle.acd_http.specs.declared.head.Place.TheVariants.{Start}
 use Rattle.acd_http.proofs.Heads.{step_other, step_end, step_bare, step_line, turn, no_head}
 use Rattle.acd_http.proofs.head.head_len.Goals as goal

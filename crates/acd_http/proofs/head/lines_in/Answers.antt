@@ -1,5 +1,4 @@
-use Rattle.std.proofs.Common.{sym, ap, ◌∙◌, arith, ◌+◌, ℕ}
-use Rattle.acd_http.specs.Head.{lines_from}
+use Rattle.std.proofs.Common.{sym, ◌∙◌, arith}
 use Rattle.acd_http.proofs.Steps.{no_line}
 use Rattle.acd_http.proofs.Counting.{lines_on, lines_more, lines_same}
 use Rattle.acd_http.proofs.head.lines_in.Goals as goal

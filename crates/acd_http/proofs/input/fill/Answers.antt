@@ -1,4 +1,4 @@
-use Rattle.std.proofs.Common.{◌≡◌, ℕ, [], List, ◌++◌, length, take, ap, sym, ◌∙◌, arith, false, true, append-nil}
+use Rattle.std.proofs.Common.{ℕ, List, ◌++◌, take, ap, sym, ◌∙◌, arith, append-nil}
 use Rattle.std.proofs.lemmas.Bool.{true≢false}
 use Rattle.acd_http.proofs.Readings.{kept_then, no_bytes, short}
 use Rattle.acd_http.proofs.input.fill.Goals as goal

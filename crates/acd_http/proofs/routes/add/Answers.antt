@@ -1,4 +1,4 @@
-use Rattle.std.proofs.Common.{◌≡◌, List, Result, Ok, Err, OnOk}
+use Rattle.std.proofs.Common.{◌≡◌, Result, Ok, Err, OnOk}
 use Rattle.matchit.specs.Rows.{RowsOf}
 use Rattle.matchit.specs.Route.{Scan, parse_route}
 use Rattle.matchit.specs.Router.{RouteOf, InsertsRead}

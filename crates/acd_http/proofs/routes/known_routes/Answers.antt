@@ -1,4 +1,4 @@
-use Rattle.std.proofs.Common.{◌≡◌, [], List, codes, ap, ◌∙◌}
+use Rattle.std.proofs.Common.{codes, ap, ◌∙◌}
 use Rattle.acd_http.specs.declared.routes.Route.TheVariants.{Services, Read}
 use Rattle.acd_http.specs.declared.routes.Resource.TheVariants as resource
 use Rattle.acd_http.specs.Routing.{table, add}

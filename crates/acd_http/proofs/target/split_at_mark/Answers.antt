@@ -1,4 +1,4 @@
-use Rattle.std.proofs.Common.{◌≡◌, ◌+◌, ◌++◌, List, ℕ, take, sym, ap, ◌∙◌, arith, append-nil}
+use Rattle.std.proofs.Common.{◌+◌, ◌++◌, List, ℕ, take, sym, ap, ◌∙◌, arith, append-nil}
 use Rattle.acd_http.proofs.Steps.{before_here, behind_here, before_later, behind_later, before_end, behind_end, to_end}
 use Rattle.acd_http.proofs.target.split_at_mark.Goals as goal
 
