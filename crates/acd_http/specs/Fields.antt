@@ -1,5 +1,5 @@
 -- The fields of a head, and the tests that every request passes first.
-use Rattle.std.specs.Prelude.{ℕ, ◌^◌, List, length, map, min, Bool, true, false, not, ◌&&◌, ◌||◌, ◌==◌, nat_lt, if◌then◌else◌, codes, find, Option, Some, None, option_map}
+use Rattle.std.specs.Prelude.{ℕ, List, length, map, min, Bool, true, false, not, ◌&&◌, ◌||◌, ◌==◌, nat_lt, if◌then◌else◌, codes, find, Option, Some, None, option_map}
 use Rattle.std.specs.List.{count_by, list_all}
 use Rattle.std.specs.Char.{to_ascii_lowercase, is_ascii_digit}
 use Rattle.std.specs.Str.{bytes_eq}

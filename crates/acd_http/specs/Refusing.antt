@@ -1,6 +1,5 @@
 -- What is answered to a request that the desk doesn't see.
 use Rattle.std.specs.Prelude.{ℕ, List, ◌++◌, codes, Option, Some, None}
-use Rattle.acd_codec.specs.declared.fault.FixedAnswer.{FixedAnswer}
 use Rattle.acd_codec.specs.declared.fault.FixedAnswer.TheVariants as fixed
 use Rattle.acd_codec.specs.ReplyTexts.{malformed_text, fixed_status, fixed_text}
 use Rattle.acd_http.specs.declared.refused.Part.{Part}
