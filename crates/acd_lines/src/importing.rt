@@ -12,7 +12,7 @@ ghost use Rattle.acd_lines.specs.Parts.{LineDone, LineStops, Imports, ImportStop
 
 use crate::answer::execute;
 use crate::outbox::Outbox;
-use crate::send::Stopped;
+use crate::sending::Stopped;
 use crate::serve::push_answer;
 use crate::session::LinesFault;
 use acd_book::Book;

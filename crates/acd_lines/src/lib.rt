@@ -8,7 +8,7 @@ mod importing;
 mod moment;
 mod outbox;
 mod partial;
-mod send;
+mod sending;
 mod serve;
 mod session;
 mod split;
@@ -16,4 +16,5 @@ mod split;
 mod tests;
 
 pub use importing::import;
+pub use sending::{Stopped, send};
 pub use session::{LinesFault, lines};

@@ -3,7 +3,7 @@
 ghost use Rattle.std.specs.Prelude.{◌≡◌, ◌++◌, [], IfOk, OnOk, OnErr};
 ghost use Rattle.acd_lines.specs.Sent.{Passes, Begins};
 
-use crate::send::{Stopped, send};
+use crate::sending::{Stopped, send};
 use std::alloc::{AllocError, Global};
 use std::io::Write;
 

@@ -12,7 +12,7 @@ use crate::answer::answer;
 use crate::answer_line::AnswerLine;
 use crate::outbox::Outbox;
 use crate::partial::Partial;
-use crate::send::Stopped;
+use crate::sending::Stopped;
 use crate::split::split_once;
 use acd_book::Book;
 use acd_desk::Desk;

@@ -9,7 +9,7 @@ ghost use Rattle.acd_lines.specs.Output.{IsInput, IsOutput, IsBegun, whole_lines
 
 use crate::outbox::Outbox;
 use crate::partial::Partial;
-use crate::send::Stopped;
+use crate::sending::Stopped;
 use crate::serve::{feed, finish};
 use acd_book::Book;
 use acd_desk::Desk;

@@ -1,7 +1,7 @@
 use Rattle.std.proofs.Common.{◌+◌}
 use Rattle.std.proofs.KnownBytes.{Appends-kept}
 use Rattle.acd_lines.proofs.Sends.{one_write, room_left, begins_part}
-use Rattle.acd_lines.proofs.send.send.Goals as goal
+use Rattle.acd_lines.proofs.sending.send.Goals as goal
 
 pub loop-done-preserved-in-Ok : goal.loop-done-preserved-in-Ok
 loop-done-preserved-in-Ok g c = record {

@@ -8,10 +8,11 @@ use std::io::{ErrorKind, Write};
 
 /// The writer failed, or was called as often as it may be.
 #[derive(Clone, Copy, Debug)]
-pub(crate) struct Stopped;
+pub struct Stopped;
 
-/// Writes all of the bytes.
-pub(crate) fn send<W: Write>(writer: &mut W, calls: &mut u64, bytes: &[u8]) -> Result<(), Stopped>
+/// Writes all of the bytes. Each call of the writer takes one off `calls`; a call that is interrupted is made
+/// again.
+pub fn send<W: Write>(writer: &mut W, calls: &mut u64, bytes: &[u8]) -> Result<(), Stopped>
     ensures ok { OnOk result (Appends (W.contents writer.old) (W.contents writer.new) bytes.now) }
     ensures err { OnErr result (Begins (W.contents writer.old) (W.contents writer.new) bytes.now) }
 {

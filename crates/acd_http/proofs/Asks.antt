@@ -1,0 +1,144 @@
+-- What an input asks, by what was read of it.
+use Rattle.std.proofs.Common.{◌≡◌, ℕ, ◌+◌, ◌-◌, ◌<◌, ◌≤◌, Bool, true, false, nat_le, List, ◌++◌, length, take, drop, Option, Some, None, Result, Ok, Err, MatchResult, refl, sym, ap, ◌∙◌, subst, arith, length-append, length-drop}
+use Rattle.std.specs.Io.KnownBytes.{Consumes, IsAtEnd}
+use Rattle.std.proofs.KnownBytes.{Consumes-trans, Consumes-whole}
+use Rattle.std.proofs.lemmas.List.{take-append-le, drop-append-le}
+use Rattle.std.proofs.lemmas.Bool.Decides.{nat_tests}
+use Rattle.acd_codec.specs.Reading.{reads_as}
+use Rattle.acd_lines.specs.Output.{IsInput}
+use Rattle.acd_http.specs.Head.{head_len}
+use Rattle.acd_http.specs.declared.receive.HeadFound.{HeadFound}
+use Rattle.acd_http.specs.declared.receive.HeadFound.TheVariants as found
+use Rattle.acd_http.specs.Received.{Found, BodyFound, IsRead}
+use Rattle.acd_http.specs.declared.asked.Asked.{Asked}
+use Rattle.acd_http.specs.declared.asked.Asked.TheVariants.{Truncated, Refused}
+use Rattle.acd_http.specs.declared.refused.Refused.TheVariants as refused
+use Rattle.acd_http.specs.Asking.{HeadAsks, AsksBy, Asks, IsAsked, IsHeadOf, IsHeadAsked, IsUnknown, is_bodiless, body_in, body_asks}
+use Rattle.acd_http.specs.declared.asked.Unknown.{Unknown}
+use Rattle.acd_http.specs.declared.asked.Unknown.TheVariants as unknown
+use Rattle.acd_http.specs.declared.asked.HeadAsked.TheVariants as head
+use Rattle.acd_terms.specs.declared.command.Request.{Request}
+use Rattle.acd_codec.specs.declared.member.Member.{Member}
+use Rattle.acd_http.proofs.Readings.{head_is, no_head_is, input_begun}
+
+pub by_head : (input : List ℕ) (o : Option ℕ) (asked : Asked) → head_len (take 8192 input) ≡ o → AsksBy o input asked → Asks input asked
+unfolding Asks
+by_head input o asked e h = subst (λ (p : Option ℕ). AsksBy p input asked) (sym e) h
+
+-- what a head asks, whatever follows it
+pub head_tells : (first left : Option (List ℕ)) (seen : List ℕ) (n : ℕ) (asked : Asked) → Consumes first left seen → head_len (take 8192 seen) ≡ Some n → ((behind : List ℕ) → HeadAsks (take n seen) behind asked) → IsAsked first asked
+head_tells first left seen n asked read e h =
+    let more = input_begun first left seen read in
+    let is = head_is 8192 n seen more.0 e in
+    (seen ++ more.0, more.1, by_head (seen ++ more.0) (Some n) asked is.0 (subst (λ (l : List ℕ). HeadAsks l (drop n (seen ++ more.0)) asked) is.1 (h (drop n (seen ++ more.0)))))
+
+consumed_all : (known left : Option (List ℕ)) (seen : List ℕ) → Consumes known left seen → IsAtEnd left → IsInput known seen
+consumed_all known left seen read last = Consumes-whole known left seen (λ (xs : List ℕ). xs ≡ seen) read last refl
+
+-- the input ends within its head, or the head is too large
+pub too_short : (first left : Option (List ℕ)) (seen : List ℕ) → Consumes first left seen → head_len (take 8192 seen) ≡ None → length seen < 8192 → IsAtEnd left → IsAsked first Truncated
+too_short first left seen read none short last =
+    let less : nat_le 8192 (length seen) ≡ false = grind (arith, nat_tests) in
+    (seen, consumed_all first left seen read last, by_head seen None Truncated none (rw less refl))
+
+pub too_large : (first left : Option (List ℕ)) (seen : List ℕ) → Consumes first left seen → head_len (take 8192 seen) ≡ None → 8192 ≤ length seen → IsAsked first (Refused refused.HeadTooLarge false)
+too_large first left seen read none full =
+    let more = input_begun first left seen read in
+    let is = no_head_is 8192 seen more.0 full none in
+    let enough : nat_le 8192 (length (seen ++ more.0)) ≡ true = let size = is.1 in grind (arith, nat_tests) in
+    (seen ++ more.0, more.1, by_head (seen ++ more.0) None (Refused refused.HeadTooLarge false) is.0 (rw enough refl))
+
+body_of : (now rest : List ℕ) (n len : ℕ) → n + len ≤ length now → body_in len (drop n (now ++ rest)) ≡ body_asks (reads_as (take len (drop n now)))
+body_of now rest n len whole =
+    let behind = drop-append-le n now rest (omega arith) in
+    let front : take len (drop n (now ++ rest)) ≡ take len (drop n now) = ap (take len) behind ∙ take-append-le len (drop n now) rest (omega (arith, length-drop n now)) in
+    let size : len ≤ length (drop n (now ++ rest)) = omega (arith, length-drop n (now ++ rest), length-append now rest) in
+    let enough : nat_le len (length (drop n (now ++ rest))) ≡ true = grind (arith, nat_tests) in
+    rw enough (ap (λ (l : List ℕ). body_asks (reads_as l)) front)
+
+-- a body that has come whole
+pub body_tells : (first left : Option (List ℕ)) (seen : List ℕ) (n len : ℕ) (body : List ℕ) (asked : Asked) → Consumes first left seen → head_len (take 8192 seen) ≡ Some n → n + len ≤ length seen
+    → ((behind : List ℕ) → HeadAsks (take n seen) behind (body_in len behind)) → body ≡ take len (drop n seen) → asked ≡ body_asks (reads_as body) → IsAsked first asked
+body_tells first left seen n len body asked read e whole h is asks =
+    let more = input_begun first left seen read in
+    let front = head_is 8192 n seen more.0 e in
+    let all = seen ++ more.0 in
+    let told : HeadAsks (take n all) (drop n all) (body_in len (drop n all)) = subst (λ (l : List ℕ). HeadAsks l (drop n all) (body_in len (drop n all))) front.1 (h (drop n all)) in
+    let same : body_in len (drop n all) ≡ asked = body_of seen more.0 n len whole ∙ sym (asks ∙ ap (λ (l : List ℕ). body_asks (reads_as l)) is) in
+    (all, more.1, by_head all (Some n) asked front.0 (subst (λ (a : Asked). HeadAsks (take n all) (drop n all) a) same told))
+
+-- a body that is too short
+pub body_short : (first left : Option (List ℕ)) (seen : List ℕ) (n len : ℕ) → Consumes first left seen → head_len (take 8192 seen) ≡ Some n → n ≤ length seen → length seen < n + len → IsAtEnd left
+    → ((behind : List ℕ) → HeadAsks (take n seen) behind (body_in len behind)) → IsAsked first Truncated
+body_short first left seen n len read e fits short last h =
+    let size : length (drop n seen) < len = omega (arith, length-drop n seen) in
+    let less : nat_le len (length (drop n seen)) ≡ false = grind (arith, nat_tests) in
+    let same : body_in len (drop n seen) ≡ Truncated = rw less refl in
+    (seen, consumed_all first left seen read last, by_head seen (Some n) Truncated e (subst (λ (a : Asked). HeadAsks (take n seen) (drop n seen) a) same (h (drop n seen))))
+
+-- the head stays that of what was read, with more behind it
+pub head_stays : (was more now : List ℕ) (n : ℕ) → now ≡ was ++ more → IsHeadOf n was → (head_len (take 8192 now) ≡ Some n) × (take n was ≡ take n now) × (n ≤ length now)
+head_stays was more now n e h =
+    let is = head_is 8192 n was more h.0 in
+    (ap (λ (l : List ℕ). head_len (take 8192 l)) e ∙ is.0, is.1 ∙ ap (take n) (sym e), omega (arith, h.2, ap length e, length-append was more))
+
+pub found_large : (first left : Option (List ℕ)) (seen : List ℕ) (f : HeadFound) → f ≡ found.TooLarge → Found f seen first left → IsAsked first (Refused refused.HeadTooLarge false)
+found_large first left seen f e h =
+    let is : Found found.TooLarge seen first left = subst (λ (x : HeadFound). Found x seen first left) e h in
+    too_large first left seen is.read is.head.0 is.head.1
+
+pub found_short : (first left : Option (List ℕ)) (seen : List ℕ) (f : HeadFound) → f ≡ found.Truncated → Found f seen first left → IsAsked first Truncated
+found_short first left seen f e h =
+    let is : Found found.Truncated seen first left = subst (λ (x : HeadFound). Found x seen first left) e h in
+    too_short first left seen is.read is.head.0 is.head.1 is.head.2
+
+-- ---- what is known behind a head; s is the slice that was looked at
+
+pub known_tells : (first left : Option (List ℕ)) (seen s : List ℕ) (n : ℕ) (a : Asked) → s ≡ seen → IsHeadOf n seen → IsHeadAsked (take n s) (head.Known a) → Consumes first left seen → IsAsked first a
+known_tells first left seen s n a same h is read =
+    head_tells first left seen n a read h.0 (λ behind. subst (λ (l : List ℕ). HeadAsks (take n l) behind a) same (is.1 behind))
+
+pub unknown_tells : (first left : Option (List ℕ)) (seen s : List ℕ) (n : ℕ) (bodiless : Bool) → s ≡ seen → IsHeadOf n seen → IsHeadAsked (take n s) (head.NoMemory bodiless) → Consumes first left seen → IsUnknown first (unknown.NoMemory bodiless)
+unknown_tells first left seen s n bodiless same h is read =
+    (is.0, is.1, is.2, head_tells first left seen n is.0 read h.0 (λ behind. subst (λ (l : List ℕ). HeadAsks (take n l) behind is.0) same (is.3 behind)))
+
+body_whole : (r : Result Request Member) → (body_asks r ≡ Truncated → ⊥)
+body_whole (Ok request) h = cc
+body_whole (Err member) h = cc
+
+not_bodiless : (r : Result Request Member) → false ≡ is_bodiless (body_asks r)
+not_bodiless (Ok request) = refl
+not_bodiless (Err member) = refl
+
+-- a body that has come whole, and what its reading gave
+no_memory : (first left : Option (List ℕ)) (seen : List ℕ) (n len : ℕ) (body : List ℕ) → Consumes first left seen → head_len (take 8192 seen) ≡ Some n → n + len ≤ length seen
+    → ((behind : List ℕ) → HeadAsks (take n seen) behind (body_in len behind)) → body ≡ take len (drop n seen) → IsUnknown first (unknown.NoMemory false)
+no_memory first left seen n len body read e whole h is =
+    let a = body_asks (reads_as body) in
+    (a, body_whole (reads_as body), not_bodiless (reads_as body), body_tells first left seen n len body a read e whole h is refl)
+
+pub read_tells : (first left : Option (List ℕ)) (seen : List ℕ) (n len : ℕ) (body : List ℕ) (r : Result Asked Unknown) → Consumes first left seen → head_len (take 8192 seen) ≡ Some n → n + len ≤ length seen
+    → ((behind : List ℕ) → HeadAsks (take n seen) behind (body_in len behind)) → body ≡ take len (drop n seen)
+    → MatchResult r (λ (a : Asked). a ≡ body_asks (reads_as body)) (λ (u : Unknown). u ≡ unknown.NoMemory false) → MatchResult r (IsAsked first) (IsUnknown first)
+read_tells first left seen n len body (Ok a) read e whole h is told = body_tells first left seen n len body a read e whole h is told
+read_tells first left seen n len body (Err u) read e whole h is told = subst (λ (v : Unknown). IsUnknown first v) (sym told) (no_memory first left seen n len body read e whole h is)
+
+pub whole_tells : (first left later : Option (List ℕ)) (was s now s' : List ℕ) (n len : ℕ) (whole : Bool) (r : Result Asked Unknown) → s ≡ was → IsHeadOf n was → IsHeadAsked (take n s) (head.Body len) → Consumes first left was
+    → whole ≡ true → BodyFound whole (n + len) was now left later → s' ≡ now
+    → MatchResult r (λ (a : Asked). a ≡ body_asks (reads_as (take (n + len - n) (drop n s')))) (λ (u : Unknown). u ≡ unknown.NoMemory false) → MatchResult r (IsAsked first) (IsUnknown first)
+whole_tells first left later was s now s' n len whole r same h is read here found same' told =
+    let stays = head_stays was found.more now n found.grown h in
+    let ends : IsRead true (n + len) now later = subst (λ (b : Bool). IsRead b (n + len) now later) here found.end in
+    let all = subst (λ (l : List ℕ). Consumes first later l) (sym found.grown) (Consumes-trans first left later was found.more read found.read) in
+    let slice : take (n + len - n) (drop n s') ≡ take len (drop n now) = ap (λ (k : ℕ). take k (drop n s')) (omega arith) ∙ ap (λ (l : List ℕ). take len (drop n l)) same' in
+    read_tells first later now n len (take (n + len - n) (drop n s')) r all stays.0 ends
+    (λ behind. subst (λ (l : List ℕ). HeadAsks l behind (body_in len behind)) (ap (take n) same ∙ stays.1) (is.1 behind)) slice told
+
+pub part_tells : (first left later : Option (List ℕ)) (was s now : List ℕ) (n len : ℕ) (whole : Bool) → s ≡ was → IsHeadOf n was → IsHeadAsked (take n s) (head.Body len) → Consumes first left was
+    → whole ≡ false → BodyFound whole (n + len) was now left later → IsAsked first Truncated
+part_tells first left later was s now n len whole same h is read here found =
+    let stays = head_stays was found.more now n found.grown h in
+    let ends : IsRead false (n + len) now later = subst (λ (b : Bool). IsRead b (n + len) now later) here found.end in
+    let all = subst (λ (l : List ℕ). Consumes first later l) (sym found.grown) (Consumes-trans first left later was found.more read found.read) in
+    body_short first later now n len all stays.0 stays.2 ends.0 ends.1
+    (λ behind. subst (λ (l : List ℕ). HeadAsks l behind (body_in len behind)) (ap (take n) same ∙ stays.1) (is.1 behind))

@@ -1,0 +1,9 @@
+pub mod Heads
+pub mod Readings
+pub mod Steps
+pub mod Counting
+pub mod RouteLemmas
+pub mod Asks
+pub mod SmallBodies
+pub mod AskLaws
+pub mod Exchanges

@@ -1,0 +1,99 @@
+-- What was read of the input, and the head in it.
+use Rattle.std.proofs.Common.{◌≡◌, ℕ, zero, suc, ◌+◌, ◌≤◌, ◌==◌, Bool, true, false, List, [], ◌∷◌, ◌++◌, length, take, Option, Some, None, option_map, refl, sym, ap, ◌∙◌, arith, subst, append-nil, length-append}
+use Rattle.std.specs.Option.{MatchOption}
+use Rattle.std.proofs.lemmas.List.{length-take, take-append-le}
+use Rattle.std.specs.Bool.{if◌then◌else◌}
+use Rattle.std.specs.Io.KnownBytes.{Consumes, Keeps, IsAtEnd}
+use Rattle.std.proofs.KnownBytes.{Consumes-trans, Consumes-whole}
+use Rattle.acd_http.specs.declared.head.Place.{Place}
+use Rattle.acd_http.specs.declared.head.Place.TheVariants.{Start}
+use Rattle.acd_lines.specs.Output.{IsInput}
+use Rattle.acd_http.specs.Head.{head_from, head_len, is_empty_at, place_after}
+
+pub kept_then : (a b c : Option (List ℕ)) (bs : List ℕ) → Keeps a b → Consumes b c bs → Consumes a c bs
+kept_then None b c bs h k = tt
+kept_then (Some xs) None c bs h k = absurd h
+kept_then (Some xs) (Some ys) None bs h k = k
+kept_then (Some xs) (Some ys) (Some zs) bs h k = sym h ∙ k
+
+pub no_bytes : (n : ℕ) (xs : List ℕ) → n ≡ 0 → take n xs ≡ []
+no_bytes n xs e = ap (λ (k : ℕ). take k xs) e
+
+pub short : (now old buf : List ℕ) (n : ℕ) → now ≡ old → length old ≤ 12288 → length buf ≤ 4096 → length now + length (take n buf) ≤ 16384
+short now old buf n e h k = omega (arith, ap length e, length-take n buf)
+
+-- a head stays the head, whatever follows
+mapped : (o p : Option ℕ) → MatchOption o (Unit {0}) (λ n. p ≡ Some n) → MatchOption (option_map suc o) (Unit {0}) (λ n. option_map suc p ≡ Some n)
+mapped None p h = tt
+mapped (Some n) p h = ap (option_map suc) h
+
+pub head_kept : (some : Bool) (place : Place) (xs ys : List ℕ) → MatchOption (head_from some place xs) (Unit {0}) (λ n. head_from some place (xs ++ ys) ≡ Some n)
+unfolding head_from
+head_kept some place [] ys = tt
+head_kept some place (x ∷ xs) ys =
+    elim (x == 10) as (λ b. MatchOption {T = ℕ} (if b then (if is_empty_at place then (if some then Some 1 else option_map suc (head_from false Start xs)) else option_map suc (head_from true Start xs)) else option_map suc (head_from some (place_after place x) xs)) (Unit {0})
+    (λ (n : ℕ). (if b then (if is_empty_at place then (if some then Some 1 else option_map suc (head_from false Start (xs ++ ys))) else option_map suc (head_from true Start (xs ++ ys))) else option_map suc (head_from some (place_after place x) (xs ++ ys))) ≡ Some n)) [
+      | false ↦ mapped (head_from some (place_after place x) xs) (head_from some (place_after place x) (xs ++ ys)) (head_kept some (place_after place x) xs ys)
+      | true ↦ elim (is_empty_at place) as (λ b. MatchOption {T = ℕ} (if b then (if some then Some 1 else option_map suc (head_from false Start xs)) else option_map suc (head_from true Start xs)) (Unit {0})
+          (λ (n : ℕ). (if b then (if some then Some 1 else option_map suc (head_from false Start (xs ++ ys))) else option_map suc (head_from true Start (xs ++ ys))) ≡ Some n)) [
+            | false ↦ mapped (head_from true Start xs) (head_from true Start (xs ++ ys)) (head_kept true Start xs ys)
+            | true ↦ elim some as (λ b. MatchOption {T = ℕ} (if b then Some 1 else option_map suc (head_from false Start xs)) (Unit {0}) (λ (n : ℕ). (if b then Some 1 else option_map suc (head_from false Start (xs ++ ys))) ≡ Some n)) [
+              | true ↦ refl
+              | false ↦ mapped (head_from false Start xs) (head_from false Start (xs ++ ys)) (head_kept false Start xs ys)
+            ]
+          ]
+    ]
+
+-- the head is no longer than what it is in
+longer : (o : Option ℕ) (xs : List ℕ) (x : ℕ) → MatchOption o (Unit {0}) (λ n. n ≤ length xs) → MatchOption (option_map suc o) (Unit {0}) (λ n. n ≤ length (x ∷ xs))
+longer None xs x h = tt
+longer (Some n) xs x h = omega arith
+
+pub head_fits : (some : Bool) (place : Place) (xs : List ℕ) → MatchOption (head_from some place xs) (Unit {0}) (λ n. n ≤ length xs)
+unfolding head_from
+head_fits some place [] = tt
+head_fits some place (x ∷ xs) =
+    elim (x == 10) as (λ b. MatchOption {T = ℕ} (if b then (if is_empty_at place then (if some then Some 1 else option_map suc (head_from false Start xs)) else option_map suc (head_from true Start xs)) else option_map suc (head_from some (place_after place x) xs)) (Unit {0}) (λ (n : ℕ). n ≤ length (x ∷ xs))) [
+      | false ↦ longer (head_from some (place_after place x) xs) xs x (head_fits some (place_after place x) xs)
+      | true ↦ elim (is_empty_at place) as (λ b. MatchOption {T = ℕ} (if b then (if some then Some 1 else option_map suc (head_from false Start xs)) else option_map suc (head_from true Start xs)) (Unit {0}) (λ (n : ℕ). n ≤ length (x ∷ xs))) [
+        | false ↦ longer (head_from true Start xs) xs x (head_fits true Start xs)
+        | true ↦ elim some as (λ b. MatchOption {T = ℕ} (if b then Some 1 else option_map suc (head_from false Start xs)) (Unit {0}) (λ (n : ℕ). n ≤ length (x ∷ xs))) [
+          | true ↦ omega arith
+          | false ↦ longer (head_from false Start xs) xs x (head_fits false Start xs)
+        ]
+      ]
+    ]
+
+at_some : (o : Option ℕ) (P : ℕ → Type 0) (n : ℕ) → o ≡ Some n → MatchOption o (Unit {0}) P → P n
+at_some o P n e h = let F : Option ℕ → Type 0 = λ p. MatchOption p (Unit {0}) P in subst F e h
+
+front_of : (room : ℕ) (now more : List ℕ) → (rest : List ℕ) × (take room (now ++ more) ≡ take room now ++ rest)
+front_of zero now more = ([], refl)
+front_of (suc room) [] more = (take (suc room) more, refl)
+front_of (suc room) (x ∷ now) more = let r = front_of room now more in (r.0, ap (λ (l : List ℕ). x ∷ l) r.1)
+
+-- a head in what was read is the head of the input
+pub head_is : (room n : ℕ) (now more : List ℕ) → head_len (take room now) ≡ Some n → (head_len (take room (now ++ more)) ≡ Some n) × (take n now ≡ take n (now ++ more)) × (n ≤ length now)
+head_is room n now more e =
+    let front = front_of room now more in
+    let kept = at_some (head_len (take room now)) (λ m. head_len (take room now ++ front.0) ≡ Some m) n e (head_kept false Start (take room now) front.0) in
+    let fits = at_some (head_len (take room now)) (λ m. m ≤ length (take room now)) n e (head_fits false Start (take room now)) in
+    let within : n ≤ length now = omega (arith, length-take room now) in
+    (ap head_len front.1 ∙ kept, sym (take-append-le n now more within), within)
+
+pub no_head_is : (room : ℕ) (now more : List ℕ) → room ≤ length now → head_len (take room now) ≡ None → (head_len (take room (now ++ more)) ≡ None) × (room ≤ length (now ++ more))
+no_head_is room now more full e = (ap head_len (take-append-le room now more full) ∙ e, omega (arith, length-append now more))
+
+pub input_begun : (a b : Option (List ℕ)) (seen : List ℕ) → Consumes a b seen → (more : List ℕ) × IsInput a (seen ++ more)
+input_begun None b seen h = ([], tt)
+input_begun (Some xs) None seen h = absurd h
+input_begun (Some xs) (Some ys) seen h = (ys, h)
+
+pub ended : (a b c : Option (List ℕ)) (seen bytes : List ℕ) → Consumes a b seen → Consumes b c bytes → bytes ≡ [] → IsAtEnd c → IsInput a seen
+ended a b c seen bytes h k none last =
+    Consumes-whole a c seen (λ (xs : List ℕ). xs ≡ seen) (subst (λ (l : List ℕ). Consumes a c l) (ap (λ (l : List ℕ). seen ++ l) none ∙ append-nil seen) (Consumes-trans a b c seen bytes h k)) last refl
+
+pub head_bounds : (n : ℕ) (now : List ℕ) → head_len (take 8192 now) ≡ Some n → (n ≤ 8192) × (n ≤ length now)
+head_bounds n now e =
+    let fits = at_some (head_len (take 8192 now)) (λ m. m ≤ length (take 8192 now)) n e (head_fits false Start (take 8192 now)) in
+    (omega (arith, fits, length-take 8192 now), omega (arith, fits, length-take 8192 now))

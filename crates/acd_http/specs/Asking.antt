@@ -1,0 +1,79 @@
+-- What the bytes of a connection ask.
+use Rattle.std.specs.Prelude.{◌≡◌, ◌≢◌, ◌⊎◌, ℕ, ◌≤◌, List, length, take, drop, Bool, true, false, nat_lt, nat_le, if◌then◌else◌, Option, Some, None, Result, Ok, Err}
+use Rattle.httparse.specs.Grammar.{RequestHead}
+use Rattle.acd_terms.specs.declared.command.Request.{Request}
+use Rattle.acd_codec.specs.declared.member.Member.{Member}
+use Rattle.acd_codec.specs.Reading.{reads_as}
+use Rattle.acd_lines.specs.Output.{IsInput}
+use Rattle.acd_http.specs.declared.refused.Refused.TheVariants as refused
+use Rattle.acd_http.specs.declared.refused.Part.TheVariants as part
+use Rattle.acd_http.specs.declared.wanted.Wanted.{Wanted}
+use Rattle.acd_http.specs.declared.wanted.Wanted.TheVariants as want
+use Rattle.acd_http.specs.declared.asked.Asked.{Asked}
+use Rattle.acd_http.specs.declared.asked.Asked.TheVariants.{Truncated, Refused, Look, Arrival}
+use Rattle.acd_http.specs.declared.asked.Unknown.{Unknown}
+use Rattle.acd_http.specs.declared.asked.Unknown.TheVariants as unknown
+use Rattle.acd_http.specs.declared.asked.HeadAsked.{HeadAsked}
+use Rattle.acd_http.specs.declared.asked.HeadAsked.TheVariants.{Known, Body, NoMemory}
+use Rattle.acd_http.specs.Head.{head_len, lines_in}
+use Rattle.acd_http.specs.Wanting.{IsWhole, IsUnread, wanted_of, has_no_body}
+
+-- a body that has come whole asks what it reads as
+abbrev pub body_asks : Result Request Member → Asked
+body_asks (Ok request) = Arrival request
+body_asks (Err member) = Refused (refused.Body member) false
+
+-- so many bytes of what follows the head are the body
+abbrev pub body_in : ℕ → List ℕ → Asked
+body_in len behind = if nat_le len (length behind) then body_asks (reads_as (take len behind)) else Truncated
+
+-- what a head wants, with the bytes behind it
+abbrev pub asked_by : Wanted → Bool → List ℕ → Asked
+asked_by (want.Refused why) bodiless behind = Refused why bodiless
+asked_by (want.Look lookup) bodiless behind = Look lookup bodiless
+asked_by (want.Body len) bodiless behind = body_in len behind
+
+-- a head that can't be read is refused, and one that can asks what it wants
+abbrev pub ReadAsks : List ℕ → List ℕ → Asked → Type 0
+ReadAsks head behind asked = (IsUnread head × (asked ≡ Refused (refused.Malformed part.Head) false))
+    ⊎ ((h : RequestHead) × IsWhole head h × (asked ≡ asked_by (wanted_of h) (has_no_body h) behind))
+
+-- a head of more than 33 lines is too large
+abbrev pub AsksUnless : Bool → List ℕ → List ℕ → Asked → Type 0
+AsksUnless true head behind asked = asked ≡ Refused refused.HeadTooLarge false
+AsksUnless false head behind asked = ReadAsks head behind asked
+
+abbrev pub HeadAsks : List ℕ → List ℕ → Asked → Type 0
+HeadAsks head behind asked = AsksUnless (nat_lt 33 (lines_in head)) head behind asked
+
+-- a head that hasn't ended within 8192 bytes is too large, if so many came
+abbrev pub AsksBy : Option ℕ → List ℕ → Asked → Type 0
+AsksBy None input asked = asked ≡ (if nat_le 8192 (length input) then Refused refused.HeadTooLarge false else Truncated)
+AsksBy (Some n) input asked = HeadAsks (take n input) (drop n input) asked
+
+-- what these bytes ask
+unfoldable pub Asks : List ℕ → Asked → Type 0
+Asks input asked = AsksBy (head_len (take 8192 input)) input asked
+
+abbrev pub is_bodiless : Asked → Bool
+is_bodiless Truncated = false
+is_bodiless (Refused why bodiless) = bodiless
+is_bodiless (Look lookup bodiless) = bodiless
+is_bodiless (Arrival request) = false
+
+-- for private clauses: what a head asks
+abbrev pub IsHeadAsked : List ℕ → HeadAsked → Type 0
+IsHeadAsked head (Known asked) = (asked ≢ Truncated) × ((behind : List ℕ) → HeadAsks head behind asked)
+IsHeadAsked head (Body len) = (len ≤ 4096) × ((behind : List ℕ) → HeadAsks head behind (body_in len behind))
+IsHeadAsked head (NoMemory bodiless) = (asked : Asked) × (asked ≢ Truncated) × (bodiless ≡ is_bodiless asked) × ((behind : List ℕ) → HeadAsks head behind asked)
+
+abbrev pub IsHeadOf : ℕ → List ℕ → Type 0
+IsHeadOf len input = (head_len (take 8192 input) ≡ Some len) × (len ≤ 8192) × (len ≤ length input)
+
+-- the reader's bytes ask this
+abbrev pub IsAsked : Option (List ℕ) → Asked → Type 0
+IsAsked known asked = (input : List ℕ) × IsInput known input × Asks input asked
+
+abbrev pub IsUnknown : Option (List ℕ) → Unknown → Type 0
+IsUnknown known unknown.Stopped = Unit {0}
+IsUnknown known (unknown.NoMemory bodiless) = (asked : Asked) × (asked ≢ Truncated) × (bodiless ≡ is_bodiless asked) × IsAsked known asked

@@ -1,0 +1,13 @@
+pub mod Head
+pub mod Received
+pub mod Fields
+pub mod Refusing
+pub mod Target
+pub mod Query
+pub mod Routing
+pub mod Lookups
+pub mod Wanting
+pub mod Asking
+pub mod Replying
+pub mod Exchanging
+pub mod Laws

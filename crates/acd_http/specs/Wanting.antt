@@ -1,0 +1,99 @@
+-- What a head that has come whole asks for.
+use Rattle.std.specs.Prelude.{◌≡◌, ℕ, ◌≤◌, List, [], length, map, Bool, true, false, if◌then◌else◌, codes, Option, Some, None, Result, Ok, Err}
+use Rattle.std.specs.Str.{bytes_eq}
+use Rattle.httparse.specs.Grammar.{RequestHead, ReadsRequest}
+use Rattle.httparse.specs.Spans.{name_and_value}
+use Rattle.acd_http.specs.declared.method.Method.{Method}
+use Rattle.acd_http.specs.declared.method.Method.TheVariants.{Get, Head, Post}
+use Rattle.acd_http.specs.declared.routes.Route.{Route}
+use Rattle.acd_http.specs.declared.routes.Route.TheVariants as route
+use Rattle.acd_http.specs.declared.fields.Length.{Length}
+use Rattle.acd_http.specs.declared.fields.Length.TheVariants as len
+use Rattle.acd_http.specs.declared.refused.Refused.{Refused}
+use Rattle.acd_http.specs.declared.refused.Refused.TheVariants as refused
+use Rattle.acd_http.specs.declared.refused.Allow.TheVariants as allow
+use Rattle.acd_http.specs.declared.lookup.Lookup.{Lookup}
+use Rattle.acd_http.specs.declared.wanted.Wanted.{Wanted}
+use Rattle.acd_http.specs.declared.wanted.Wanted.TheVariants as want
+use Rattle.acd_http.specs.declared.wanted.HeadRead.{HeadRead}
+use Rattle.acd_http.specs.declared.wanted.HeadRead.TheVariants.{Unread, Wants, NoMemory}
+use Rattle.acd_http.specs.Fields.{fields_refused, length_in}
+use Rattle.acd_http.specs.Target.{path_of, query_of}
+use Rattle.acd_http.specs.Routing.{route_of}
+use Rattle.acd_http.specs.Lookups.{lookup_in}
+
+-- the method, in its case
+abbrev pub method_of : List ℕ → Option Method
+method_of bytes =
+    if bytes_eq bytes (codes "GET") then Some Get
+    else (if bytes_eq bytes (codes "HEAD") then Some Head
+    else (if bytes_eq bytes (codes "POST") then Some Post else None))
+
+-- the reply has no body
+abbrev pub is_head : Option Method → Bool
+is_head None = false
+is_head (Some Get) = false
+is_head (Some Head) = true
+is_head (Some Post) = false
+
+abbrev pub looked : Result Lookup Refused → Wanted
+looked (Ok lookup) = want.Look lookup
+looked (Err why) = want.Refused why
+
+-- a POST has a length, of at most 4096
+abbrev pub by_length : Length → Wanted
+by_length (len.Given n) = want.Body n
+by_length len.TooLarge = want.Refused refused.BodyTooLarge
+by_length len.Absent = want.Refused refused.LengthRequired
+by_length len.Faulty = want.Refused refused.LengthRequired
+
+-- services are asked for by POST, and reads by GET and HEAD
+abbrev pub by_route : Method → Option Route → List ℕ → List ℕ → Length → Wanted
+by_route method None path query length = want.Refused refused.NotFound
+by_route Post (Some route.Services) path query length = by_length length
+by_route Get (Some route.Services) path query length = want.Refused (refused.MethodNotAllowed allow.Posts)
+by_route Head (Some route.Services) path query length = want.Refused (refused.MethodNotAllowed allow.Posts)
+by_route Post (Some (route.Read resource)) path query length = want.Refused (refused.MethodNotAllowed allow.Reads)
+by_route Get (Some (route.Read resource)) path query length = looked (lookup_in resource path query)
+by_route Head (Some (route.Read resource)) path query length = looked (lookup_in resource path query)
+
+abbrev pub by_method : Option Method → List ℕ → Length → Wanted
+by_method None target length = want.Refused refused.NotImplemented
+by_method (Some method) target length = by_route method (route_of (path_of target)) (path_of target) (query_of target) length
+
+abbrev pub or_refused : Option Refused → Wanted → Wanted
+or_refused (Some why) wanted = want.Refused why
+or_refused None wanted = wanted
+
+-- what a request asks for: the tests of its fields come first, then its method, its route and its length
+unfoldable pub wants : ℕ → Option Method → List ℕ → List (List ℕ × List ℕ) → Wanted
+wants minor method target fields = or_refused (fields_refused minor fields) (by_method method target (length_in fields))
+
+-- the names and values of a head's fields
+abbrev pub fields_of : RequestHead → List (List ℕ × List ℕ)
+fields_of h = map name_and_value h.fields
+
+abbrev pub wanted_of : RequestHead → Wanted
+wanted_of h = wants h.minor (method_of h.method) h.target (fields_of h)
+
+abbrev pub has_no_body : RequestHead → Bool
+has_no_body h = is_head (method_of h.method)
+
+-- the bytes are this head (RFC 9112, section 2.1), and nothing else
+abbrev pub IsWhole : List ℕ → RequestHead → Type 0
+IsWhole head h = ReadsRequest head h [] × (length h.fields ≤ 32)
+
+-- the bytes are no head
+abbrev pub IsUnread : List ℕ → Type 0
+IsUnread head = (h : RequestHead) → IsWhole head h → ⊥
+
+abbrev pub is_body : Wanted → Bool
+is_body (want.Refused why) = false
+is_body (want.Look lookup) = false
+is_body (want.Body n) = true
+
+-- for private clauses: what was read of a head
+abbrev pub IsHeadRead : List ℕ → HeadRead → Type 0
+IsHeadRead head Unread = IsUnread head
+IsHeadRead head (Wants bodiless w) = (h : RequestHead) × IsWhole head h × (bodiless ≡ has_no_body h) × (w ≡ wanted_of h)
+IsHeadRead head (NoMemory bodiless) = (h : RequestHead) × IsWhole head h × (bodiless ≡ has_no_body h) × (is_body (wanted_of h) ≡ false)

@@ -1,0 +1,36 @@
+//! One HTTP exchange over a desk: one request is read from a connection, and one reply is written.
+//!
+//! What bytes ask is `specs/Asking`, and what is written for it `specs/Exchanging`; [`laws`] say that bytes
+//! ask one thing, and by a beginning of theirs alone. Services are asked for by POST to `/csta`. Reads aren't
+//! told yet: a read that is asked for as it should be is answered notFound.
+//!
+//! ```ignore
+//! let routes = Routes::new(alloc)?;
+//! exchange(alloc, &routes, &mut desk, moment, &mut reader, &mut writer)?;
+//! ```
+#![tactic(auto)]
+
+mod answer;
+mod asked;
+mod fields;
+mod head;
+mod input;
+pub mod laws;
+mod lookup;
+mod method;
+mod query;
+mod receive;
+mod refused;
+mod reply;
+mod routes;
+mod serving;
+mod target;
+#[cfg(test)]
+mod tests;
+mod wanted;
+
+pub use asked::Asked;
+pub use lookup::Lookup;
+pub use refused::{Allow, Part, Refused};
+pub use routes::Routes;
+pub use serving::{ExchangeFault, exchange};

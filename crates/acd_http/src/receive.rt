@@ -1,0 +1,82 @@
+//! A head and a body that are read as they come.
+
+ghost use Rattle.std.specs.Prelude.{◌≡◌, ℕ, ◌≤◌, ◌+◌, [], List, take, drop, length, IfOk};
+ghost use Rattle.acd_http.specs.Head.{head_len};
+ghost use Rattle.acd_http.specs.Received.{Found, BodyFound};
+ghost use Rattle.std.specs.Io.KnownBytes.{Consumes};
+
+use crate::head::head_len;
+use crate::input::{Input, ReadStopped, fill};
+use std::io::Read;
+
+/// How a head was found.
+#[derive(Clone, Copy, Debug)]
+pub(crate) enum HeadFound {
+    /// It has this length.
+    Whole(usize),
+    /// It hasn't ended within the greatest length.
+    TooLarge,
+    /// The input ended before it.
+    Truncated,
+}
+
+/// How often the reader is called at most.
+pub(crate) const CALLS: u64 = 1_000_000_000_000;
+
+/// How many bytes a head has at most.
+const LONGEST_HEAD: usize = 8192;
+
+// The length of the head in the first bytes.
+fn front_len(bytes: &[u8]) -> Option<usize>
+    ensures { result ≡ head_len (take 8192 bytes.now) }
+{
+    if bytes.len() > LONGEST_HEAD {
+        return head_len(&bytes[..LONGEST_HEAD]);
+    }
+    head_len(bytes)
+}
+
+/// Reads until the head has come whole.
+pub(crate) fn read_head<R: Read>(
+    reader: &mut R,
+    calls: &mut u64,
+    input: &mut Input,
+) -> Result<HeadFound, ReadStopped>
+    requires { input.old ≡ [] }
+    ensures { IfOk result (λ found. Found found input.new (R.remaining reader.old) (R.remaining reader.new)) }
+{
+    for _ in 0..CALLS {
+        match front_len(input.as_slice()) {
+            Some(n) => return Ok(HeadFound::Whole(n)),
+            None => {}
+        }
+        if input.as_slice().len() >= LONGEST_HEAD {
+            return Ok(HeadFound::TooLarge);
+        }
+        if !fill(reader, calls, input)? {
+            return Ok(HeadFound::Truncated);
+        }
+    }
+    Err(ReadStopped)
+}
+
+/// Reads until so many bytes have come, and answers whether they have.
+pub(crate) fn read_up_to<R: Read>(
+    reader: &mut R,
+    calls: &mut u64,
+    input: &mut Input,
+    len: usize,
+) -> Result<bool, ReadStopped>
+    requires { len ≤ 12288 }
+    ensures { IfOk result (λ whole. BodyFound whole len input.old input.new (R.remaining reader.old) (R.remaining reader.new)) }
+{
+    for _ in 0..CALLS {
+        if input.as_slice().len() >= len {
+            return Ok(true);
+        }
+        if !fill(reader, calls, input)? {
+            return Ok(false);
+        }
+    }
+    Err(ReadStopped)
+}

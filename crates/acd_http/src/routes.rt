@@ -1,0 +1,93 @@
+//! The routes.
+
+ghost use Rattle.std.specs.Prelude.{◌≡◌, IfOk, OnOk, option_map, []};
+ghost use Rattle.acd_http.specs.Routing.{add, table, matched, route_of};
+
+use matchit::{InsertError, Router};
+use std::alloc::Global;
+
+/// What a route reads.
+#[derive(Clone, Copy, Debug, PartialEq, Eq)]
+pub(crate) enum Resource {
+    Agent,
+    Call,
+    Device,
+    Queue,
+    Events,
+    MonitorEvents,
+    Report,
+}
+
+/// Where a path leads.
+#[derive(Clone, Copy, Debug, PartialEq, Eq)]
+pub(crate) enum Route {
+    /// To the services.
+    Services,
+    /// To a read.
+    Read(Resource),
+}
+
+/// The routes of a desk: `/csta`, `/agents/{id}`, `/calls/{id}`, `/devices/{id}`, `/queues/{id}`, `/events`,
+/// `/monitors/{id}/events` and `/reports/queues`.
+#[derive(Drop)]
+pub struct Routes {
+    router: Router<Route>,
+    ghost known: { router ≡ table },
+}
+
+fn add(router: &mut Router<Route>, text: &str, route: Route) -> Result<(), InsertError>
+    ensures { OnOk result (router.new ≡ add text.now route router.old) }
+{
+    router.insert(text, route)
+}
+
+#[tactic(auto, unfolding(crate::specs::Routing::table))]
+fn known_routes(alloc: Global) -> Result<Router<Route>, InsertError>
+    ensures { IfOk result (λ r. r ≡ table) }
+{
+    let mut router = Router::new(alloc);
+    add(&mut router, "/csta", Route::Services)?;
+    add(&mut router, "/agents/{id}", Route::Read(Resource::Agent))?;
+    add(&mut router, "/calls/{id}", Route::Read(Resource::Call))?;
+    add(&mut router, "/devices/{id}", Route::Read(Resource::Device))?;
+    add(&mut router, "/queues/{id}", Route::Read(Resource::Queue))?;
+    add(&mut router, "/events", Route::Read(Resource::Events))?;
+    add(
+        &mut router,
+        "/monitors/{id}/events",
+        Route::Read(Resource::MonitorEvents),
+    )?;
+    add(
+        &mut router,
+        "/reports/queues",
+        Route::Read(Resource::Report),
+    )?;
+    Ok(router)
+}
+
+impl Routes {
+    /// The routes. They take memory, and that it is refused is the one error.
+    pub fn new(alloc: Global) -> Result<Routes, InsertError> {
+        let router = known_routes(alloc)?;
+        Ok(Routes { router })
+    }
+
+    /// Where a path leads. Its bytes are compared as they are.
+    pub(crate) fn route_of(&self, path: &[u8]) -> Option<Route>
+        ensures { result ≡ route_of path.now }
+    {
+        match str::from_utf8(path) {
+            Ok(path) => self.matched(path),
+            Err(_) => None,
+        }
+    }
+
+    fn matched(&self, path: &str) -> Option<Route>
+        ensures { result ≡ matched path.now }
+    {
+        match self.router.at(path) {
+            Ok(found) => Some(*found.value),
+            Err(_) => None,
+        }
+    }
+}
