@@ -31,7 +31,7 @@ pub record HasKey (call device : ℕ) (r : Row) : Type 0 where
   pub call_is : column r 1 ≡ id_value call
   pub device_is : column r 2 ≡ id_value device
 
-same_id : (m n : ℕ) → id_value m ≡ id_value n → m ≡ n
+pub same_id : (m n : ℕ) → id_value m ≡ id_value n → m ≡ n
 same_id m n e = let k : pos m ≡ pos n = cc in pos_same m n k
   where
     pos_same : (m n : ℕ) → pos m ≡ pos n → m ≡ n
@@ -43,7 +43,7 @@ key_same call device x e = is_of_true call device x (sym (connection_key call de
 same_key : (call device : ℕ) (x : ConnectionRecord) → x.call ≡ call → x.device ≡ device → is_eq (at_connection call device x) ≡ true
 same_key call device x e f = connection_key call device x ∙ is_of_self call device x e f
 
-apart_of : (x y : ConnectionRecord) → connection_order x y ≡ Less → x.call ≡ y.call → x.device ≡ y.device → ⊥
+pub apart_of : (x y : ConnectionRecord) → connection_order x y ≡ Less → x.call ≡ y.call → x.device ≡ y.device → ⊥
 apart_of x y h e f = let same = same_key x.call x.device y (sym e) (sym f) in cc (h, same)
 
 -- of an ascending list, two records of one key are one

@@ -6,6 +6,13 @@ mod Heaps
 mod Connections
 mod KeyedRows
 mod Scans
+mod Ordered
+mod Listings
+mod QueryTexts
+mod Asked
+mod Members
+mod ConnectionRows
+mod Differences
 mod Selections
 mod Statements
 mod Upserts
@@ -19,3 +26,5 @@ mod Filing
 mod Committing
 pub mod Decoded
 pub mod Ranged
+mod Standing
+mod BookStates

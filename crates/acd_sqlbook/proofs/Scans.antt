@@ -26,7 +26,7 @@ passing params terms rows = filter (λ r. list_all (holds (params ∷ r ∷ []))
 abbrev pub showing : Row → List Term → Row → Row
 showing params project r = eval_all project (params ∷ r ∷ [])
 
-staged_is : (params : Row) (terms : List Term) (rows : List Row)
+pub staged_is : (params : Row) (terms : List Term) (rows : List Row)
     → flat_map (λ r. cond (list_all (holds (params ∷ r ∷ [])) terms) ((params ∷ r ∷ []) ∷ []) []) rows ≡ map (λ r. params ∷ r ∷ []) (passing params terms rows)
 staged_is params terms [] = refl
 staged_is params terms (r ∷ rs) = go (list_all (holds (params ∷ r ∷ [])) terms) (staged_is params terms rs)
@@ -46,7 +46,7 @@ no_table : (b : Bool) (rows : List Row) → unwrap_or (cond {A = Option (List Ro
 no_table true rows = refl
 no_table false rows = refl
 
-nothing_over : (db : Trees) (t : ℕ) → overlay db [] t ≡ db t
+pub nothing_over : (db : Trees) (t : ℕ) → overlay db [] t ≡ db t
 nothing_over db t = no_table _ (db t)
 
 -- the rows that pass, shown, in some order
@@ -79,7 +79,7 @@ pub filter_like : {X : Type 0} (p q : X → Bool) (xs : List X) → AllByRecursi
 filter_like p q [] h = refl
 filter_like p q (x ∷ xs) h = rw (h.0, filter_like p q xs h.1)
 
-each : {X : Type 0} (P : X → Type 0) (xs : List X) → ((x : X) → P x) → AllByRecursion P xs
+pub each : {X : Type 0} (P : X → Type 0) (xs : List X) → ((x : X) → P x) → AllByRecursion P xs
 each P [] h = tt
 each P (x ∷ xs) h = (h x, each P xs h)
 
@@ -93,7 +93,7 @@ all_out (id ∷ ids) rows =
     all_out ids (without_rowid id rows) ∙ without_step (has_rowid id) (λ r. not (list_any (λ id. has_rowid id r) ids)) rows
     ∙ filter_like _ (λ r. not (has_rowid id r || list_any (λ id. has_rowid id r) ids)) rows (each _ rows (λ r. neither (has_rowid id r) (list_any (λ id. has_rowid id r) ids)))
 
-filter_mapped : {X Y : Type 0} (p : Y → Bool) (f : X → Y) (xs : List X) → filter p (map f xs) ≡ map f (filter (λ x. p (f x)) xs)
+pub filter_mapped : {X Y : Type 0} (p : Y → Bool) (f : X → Y) (xs : List X) → filter p (map f xs) ≡ map f (filter (λ x. p (f x)) xs)
 filter_mapped p f [] = refl
 filter_mapped p f (x ∷ xs) = go (p (f x)) (filter_mapped p f xs)
   where

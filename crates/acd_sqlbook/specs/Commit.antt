@@ -1,5 +1,5 @@
 -- What a commit makes of a content, write by write.
-use Rattle.std.specs.Prelude.{ℕ, ◌+◌, List, [], ◌∷◌, ⊤, IfSome, max}
+use Rattle.std.specs.Prelude.{ℕ, ◌+◌, List, [], ◌∷◌, ⊤, IfSome, length, max}
 use Rattle.std.specs.Ordering.{nat_cmp}
 use Rattle.acd_terms.specs.Columns.{columns_of}
 use Rattle.acd_terms.specs.Lists.{put_by}
@@ -11,7 +11,7 @@ use Rattle.acd_book.specs.Content.{Content}
 use Rattle.acd_book.specs.declared.kept.Kept.{Kept}
 use Rattle.acd_sqlbook.specs.declared.fault.Table.TheVariants as table
 use Rattle.acd_sqlbook.specs.declared.meta.Meta.{Meta}
-use Rattle.acd_sqlbook.specs.Content.{with_part}
+use Rattle.acd_sqlbook.specs.Content.{meta_of, with_part}
 use Rattle.acd_sqlbook.specs.Draft.{Fits, FiguresFit}
 
 -- its numbers fit
@@ -80,3 +80,7 @@ counted m changes events k = record {
   last_monitor = last_monitor m.last_monitor changes;
   last_event = m.last_event + events;
 }
+
+-- what a commit writes, with the counters that go on from the content's
+abbrev pub written : List Change → List Event → Kept → Content → Content
+written changes events kept c = made_by changes events kept (counted (meta_of c.rows) changes (length events) kept) c

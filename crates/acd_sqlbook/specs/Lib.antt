@@ -5,7 +5,11 @@ pub mod Content
 pub mod Draft
 pub mod Commit
 pub mod Reading
+pub mod Finding
+pub mod Differing
 pub mod Codes
 pub mod Decoding
+pub mod Calls
+pub mod State
 pub mod Reports
 pub mod Ranges

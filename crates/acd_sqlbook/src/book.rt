@@ -1,45 +1,70 @@
 //! A book over a connection.
 
-ghost use Rattle.std.specs.Prelude.{◌≡◌, false, IsTrue, IfOk, IfErr, OnOk};
+ghost use Rattle.std.specs.Prelude.{◌≡◌, ◌≤◌, false, Err, is_ok, IsTrue, IfOk, IfErr, OnOk};
 ghost use Rattle.sqlite.specs.State.{HasCleanDisk};
 ghost use Rattle.sqlite.specs.Held.{state};
-ghost use Rattle.acd_book.specs.Content.{empty_content};
+ghost use Rattle.acd_book.specs.Content.{empty_content, FollowsBy, committed_by};
+ghost use Rattle.acd_book.specs.State.{Reads, Commits};
+ghost use Rattle.acd_sqlbook.specs.Calls.{HasRead};
 ghost use Rattle.acd_sqlbook.specs.Schema.{no_schema};
 ghost use Rattle.acd_sqlbook.specs.Draft.{Holds, LimitsFit};
+ghost use Rattle.acd_sqlbook.specs.State.{book_state, IsNew, MayMake, fault_of, answered, failures_after};
 
 use crate::create::make_tables;
 use crate::meta::Meta;
+use crate::ready::{commit_ready, limits_fit, limits_ready};
 use crate::write::put_meta;
-use acd_book::BookFault;
-use acd_terms::Limits;
+use acd_book::{BookFault, Kept};
+use acd_terms::{Change, Event, Limits};
 use sqlite::{Alter, Connection, Error, ErrorCode};
+use std::alloc::Global;
 
 /// A book in a database. Its tables are those of version 1.
 #[derive(Drop)]
 pub struct SqlBook<S: Alter> {
+    alloc: Global,
     conn: Connection<S>,
+    // Whether the last call succeeded, so that the store still serves.
+    fresh: bool,
     failures: u64,
     ghost idle: { conn.in_transaction ≡ false },
-}
-
-// Whether a column can hold the limits.
-fn limits_fit(limits: &Limits) -> bool
-    ensures { IsTrue result → LimitsFit limits.now }
-{
-    let most = i64::MAX as u64;
-    limits.requests <= most
-        && limits.calls <= most
-        && limits.groups <= most
-        && limits.stations <= most
-        && limits.agents <= most
-        && limits.monitors <= most
+    ghost serves: { IsTrue fresh → HasCleanDisk (state S.Store conn) → IsTrue (state S.Store conn).is_open },
 }
 
 // Want of memory is no failure of the store.
-fn fault_of(error: Error) -> BookFault {
+fn fault_of(error: Error) -> BookFault
+    ensures { result ≡ fault_of error }
+{
     match error {
         Error::SqliteFailure(ErrorCode::OutOfMemory) => BookFault::NoMemory,
         _ => BookFault::Store,
+    }
+}
+
+// The answer of a call, whose failure is counted, and whether the store still serves.
+fn noted<T>(
+    found: Result<T, Error>,
+    fresh: &mut bool,
+    failures: &mut u64,
+) -> Result<T, BookFault>
+    ensures answer { result ≡ answered found }
+    ensures fresh { fresh.new ≡ is_ok found }
+    ensures failures { failures.new ≡ failures_after result failures.old }
+    ensures counts { failures.old ≤ failures.new }
+{
+    match found {
+        Ok(found) => {
+            *fresh = true;
+            Ok(found)
+        }
+        Err(error) => {
+            *fresh = false;
+            let fault = fault_of(error);
+            if fault == BookFault::Store {
+                *failures = failures.saturating_add(1);
+            }
+            Err(fault)
+        }
     }
 }
 
@@ -48,7 +73,10 @@ fn set_up<S: Alter>(conn: &mut Connection<S>, limits: Limits) -> Result<(), Erro
     requires idle { conn.old.in_transaction ≡ false }
     requires fit { LimitsFit limits }
     ensures idle { conn.new.in_transaction ≡ false }
+    ensures clean { HasCleanDisk (state S.Store conn.new) → HasCleanDisk (state S.Store conn.old) }
     ensures made { HasCleanDisk (state S.Store conn.new) → OnOk result ((state S.Store conn.old).now.schema ≡ no_schema → Holds (state S.Store conn.new) (empty_content limits)) }
+    ensures up { HasCleanDisk (state S.Store conn.new) → OnOk result (IsTrue (state S.Store conn.new).is_open) }
+    ensures stops { HasCleanDisk (state S.Store conn.new) → MayMake (state S.Store conn.old) (state S.Store conn.new) limits }
 {
     let meta = Meta {
         limits,
@@ -66,19 +94,33 @@ fn set_up<S: Alter>(conn: &mut Connection<S>, limits: Limits) -> Result<(), Erro
 
 impl<S: Alter> SqlBook<S> {
     /// Makes the tables of a new book, in one transaction.
+    ///
+    /// Limits that no INTEGER column can hold, and a database that has such tables already, are
+    /// [`BookFault::Store`]. The connection is handed back beside a fault.
     pub fn create(
+        alloc: Global,
         mut conn: Connection<S>,
         limits: Limits,
     ) -> Result<SqlBook<S>, (BookFault, Connection<S>)>
         requires { conn.in_transaction ≡ false }
-        ensures made { IfOk result (λ b. HasCleanDisk (state S.Store b.conn) → (state S.Store conn).now.schema ≡ no_schema → Holds (state S.Store b.conn) (empty_content limits)) }
+        ensures made { IfOk result (λ b. HasCleanDisk (state S.Store b.conn) → (state S.Store conn).now.schema ≡ no_schema → IsNew (book_state (state S.Store b.conn) b.failures) limits) }
+        ensures counted { IfOk result (λ b. b.failures ≡ 0) }
+        ensures clean { IfOk result (λ b. HasCleanDisk (state S.Store b.conn) → HasCleanDisk (state S.Store conn)) }
+        ensures refused { ¬ (LimitsFit limits) → result ≡ Err (BookFault.Store, conn) }
         ensures handed_back { IfErr result (λ e. e.1.in_transaction ≡ false) }
+        ensures doubted { IfErr result (λ e. HasCleanDisk (state S.Store e.1) → HasCleanDisk (state S.Store conn)) }
+        ensures stops { IfErr result (λ e. HasCleanDisk (state S.Store e.1) → MayMake (state S.Store conn) (state S.Store e.1) limits) }
     {
         if !limits_fit(&limits) {
             return Err((BookFault::Store, conn));
         }
         match set_up(&mut conn, limits) {
-            Ok(()) => Ok(SqlBook { conn, failures: 0 }),
+            Ok(()) => Ok(SqlBook {
+                alloc,
+                conn,
+                fresh: true,
+                failures: 0,
+            }),
             Err(error) => Err((fault_of(error), conn)),
         }
     }
@@ -88,7 +130,40 @@ impl<S: Alter> SqlBook<S> {
         ensures idle { result.in_transaction ≡ false }
         ensures same { result ≡ self.conn }
     {
-        let SqlBook { conn, failures: _ } = self;
+        let SqlBook {
+            alloc: _,
+            conn,
+            fresh: _,
+            failures: _,
+        } = self;
         conn
+    }
+
+    /// How often its store has failed.
+    pub fn failures(&self) -> u64
+        ensures { result ≡ self.now.failures }
+    {
+        self.failures
+    }
+
+    /// The limits under which the book was made.
+    pub fn limits(&mut self) -> Result<Limits, BookFault>
+        ensures { Reads (book_state (state S.Store self.old.conn) self.old.failures) (book_state (state S.Store self.new.conn) self.new.failures) result (λ c found. found ≡ c.rows.limits) }
+    {
+        let found = limits_ready(&mut self.conn, self.fresh);
+        noted(found, &mut self.fresh, &mut self.failures)
+    }
+
+    /// Makes the changes, and adds the events and the kept record, all or none.
+    pub fn commit_changes(
+        &mut self,
+        changes: &[Change],
+        events: &[Event],
+        kept: &Kept,
+    ) -> Result<(), BookFault>
+        ensures { Commits (book_state (state S.Store self.old.conn) self.old.failures) (book_state (state S.Store self.new.conn) self.new.failures) result (FollowsBy changes.now events.now kept.now) (committed_by changes.now events.now kept.now) }
+    {
+        let done = commit_ready(self.alloc, &mut self.conn, self.fresh, changes, events, kept);
+        noted(done, &mut self.fresh, &mut self.failures)
     }
 }

@@ -1,6 +1,6 @@
 //! All writes of a commit, in one transaction.
 
-ghost use Rattle.std.specs.Prelude.{◌≡◌, false, IfSome, OnOk, OnErr, IsTrue, take};
+ghost use Rattle.std.specs.Prelude.{◌≡◌, ◌↔◌, false, IfSome, OnOk, OnErr, IsTrue, take};
 ghost use Rattle.sqlite.specs.State.{HasCleanDisk};
 ghost use Rattle.sqlite.specs.Held.{state};
 ghost use Rattle.acd_codec.specs.RequestTexts.{request_text};
@@ -18,8 +18,8 @@ use acd_terms::{Change, Event, Figures};
 use sqlite::{Alter, Connection, Error, ErrorCode, Transaction};
 
 // Whether an INTEGER column can hold the number.
-fn fits(number: u64) -> bool
-    ensures { IsTrue result → Fits number }
+pub(crate) fn fits(number: u64) -> bool
+    ensures { IsTrue result ↔ Fits number }
 {
     number <= i64::MAX as u64
 }
@@ -67,7 +67,7 @@ fn event_fits(event: &Event) -> bool
 }
 
 // A number is too large for its column.
-fn too_large() -> Error {
+pub(crate) fn too_large() -> Error {
     Error::SqliteFailure(ErrorCode::TooBig)
 }
 

@@ -6,7 +6,7 @@
 //! the commit.
 //!
 //! ```ignore
-//! let book = SqlBook::create(conn, Limits::GREATEST)?;
+//! let book = SqlBook::create(alloc, conn, Limits::GREATEST)?;
 //! let conn = book.into_connection();
 //! ```
 #![tactic(auto)]
@@ -16,10 +16,13 @@ mod book;
 mod codes;
 mod commit;
 mod create;
+mod difference;
 mod decode;
 mod fault;
 mod meta;
+mod query;
 mod read;
+mod ready;
 mod shape;
 #[cfg(test)]
 mod tests;
@@ -27,4 +30,5 @@ mod values;
 mod write;
 
 pub use book::SqlBook;
+pub use difference::{Filed, row_changes};
 pub use fault::{AdoptFault, Table};

@@ -6,6 +6,7 @@ use crate::book::SqlBook;
 use acd_book::BookFault;
 use acd_terms::Limits;
 use sqlite::{Connection, MemStore};
+use std::alloc::Global;
 use std::process::Abort;
 
 // The number in the first row's first column.
@@ -15,20 +16,20 @@ fn number(rt: &impl Abort, conn: &mut Connection<MemStore>, sql: &str) -> u64 {
 }
 
 // A new book's connection.
-fn made(rt: &impl Abort, conn: Connection<MemStore>) -> Connection<MemStore>
+fn made(rt: &impl Abort, alloc: Global, conn: Connection<MemStore>) -> Connection<MemStore>
     requires { conn.in_transaction ≡ false }
     ensures { result.in_transaction ≡ false }
 {
-    match SqlBook::create(conn, Limits::GREATEST) {
+    match SqlBook::create(alloc, conn, Limits::GREATEST) {
         Ok(book) => book.into_connection(),
         Err(_) => panic!(rt; "no book"),
     }
 }
 
-fn fault_of_another(rt: &impl Abort, conn: Connection<MemStore>) -> BookFault
+fn fault_of_another(rt: &impl Abort, alloc: Global, conn: Connection<MemStore>) -> BookFault
     requires { conn.in_transaction ≡ false }
 {
-    match SqlBook::create(conn, Limits::GREATEST) {
+    match SqlBook::create(alloc, conn, Limits::GREATEST) {
         Ok(_) => panic!(rt; "a second book"),
         Err((fault, _)) => fault,
     }
@@ -38,7 +39,7 @@ fn fault_of_another(rt: &impl Abort, conn: Connection<MemStore>) -> BookFault
 fn a_new_book(rt: HostRuntime) {
     match Connection::open_in_memory(rt.alloc()) {
         Ok(conn) => {
-            let mut conn = made(&rt, conn);
+            let mut conn = made(&rt, rt.alloc(), conn);
             assert_eq!(rt; number(&rt, &mut conn, "SELECT version FROM meta"), 1);
             assert_eq!(rt;
                 number(&rt, &mut conn, "SELECT max_requests FROM meta"),
@@ -58,8 +59,8 @@ fn a_new_book(rt: HostRuntime) {
 fn a_book_is_not_made_twice(rt: HostRuntime) {
     match Connection::open_in_memory(rt.alloc()) {
         Ok(conn) => {
-            let conn = made(&rt, conn);
-            assert_eq!(rt; fault_of_another(&rt, conn), BookFault::Store);
+            let conn = made(&rt, rt.alloc(), conn);
+            assert_eq!(rt; fault_of_another(&rt, rt.alloc(), conn), BookFault::Store);
         }
         Err(_) => panic!(rt; "no memory"),
     }

@@ -1,0 +1,144 @@
+-- Calls over a connection that was tried first.
+use Rattle.std.proofs.Common.{◌≡◌, ◌⊎◌, inl, inr, ℕ, List, [], ◌∷◌, length, Result, Ok, Err, IsTrue, IfOk, OnOk, OnErr, refl, sym, ap, subst, ◌∙◌}
+use Rattle.sqlite_trees.specs.Tree.{Trees}
+use Rattle.sqlite_value.specs.Order.{Row}
+use Rattle.sqlite.specs.declared.error.Error.{Error}
+use Rattle.sqlite.specs.State.{State, HasCleanDisk}
+use Rattle.acd_terms.specs.declared.event.Event.{Event}
+use Rattle.acd_terms.specs.declared.moves.Change.{Change}
+use Rattle.acd_book.specs.Content.{Content}
+use Rattle.acd_book.specs.declared.kept.Kept.{Kept}
+use Rattle.acd_sqlbook.specs.declared.meta.Meta.{Meta}
+use Rattle.acd_sqlbook.specs.Commit.{counted, made_by, written}
+use Rattle.acd_sqlbook.specs.Content.{Encodes, meta_of}
+use Rattle.acd_sqlbook.specs.Reading.{meta_shown}
+use Rattle.acd_sqlbook.specs.Calls.{Stands, HasRead, HasCommitted}
+use Rattle.acd_sqlbook.specs.Draft.{Holds, Quiet, NoStop, AddsStop}
+use Rattle.acd_sqlbook.specs.Finding.{Finds}
+
+pub quiet_still : (s : State) → Quiet s s
+quiet_still s = record { clean = λ k. k; was_open = λ k up. up; same = λ k c h up. h }
+
+pub quiet_on : (a b c : State) → Quiet a b → Quiet b c → Quiet a c
+quiet_on a b c p q = record {
+  clean = λ k. p.clean (q.clean k);
+  was_open = λ k up. p.was_open (q.clean k) (q.was_open k up);
+  same = λ k x h up. q.same k x (p.same (q.clean k) x h (q.was_open k up)) up;
+}
+
+ok_map : {A : Type 0} (P Q : A → Type 0) (r : Result A Error) → ((a : A) → P a → Q a) → IfOk r P → IfOk r Q
+ok_map P Q (Ok a) f h = f a h
+ok_map P Q (Err e) f h = tt
+
+module _ {A : Type 0} (old mid new : State) (r : Result A Error) (IsAnswer : Content → A → Type 0) where
+  -- a read behind a call that left the connection open
+  pub reads_behind : Quiet old mid → (HasCleanDisk mid → IsTrue mid.is_open) → (HasCleanDisk mid → NoStop old mid) → Finds mid new r IsAnswer → HasRead old new r IsAnswer
+  reads_behind quiet live still found = record {
+    quiet = quiet_on old mid new quiet found.quiet;
+    up = found.up;
+    stops = λ k stands db left.
+        let m = found.quiet.clean k in
+        let held = stands (quiet.was_open m (live m)) in
+        still m db (found.stops k held.0 (quiet.same m held.0 held.1 (live m)) db left);
+    value = λ k.
+        let m = found.quiet.clean k in
+        ok_map (λ a. (c : Content) → Holds mid c → IsAnswer c a) (λ a. (c : Content) → Holds old c → IsAnswer c a) r (λ a h c held. h c (quiet.same m c held (live m))) (found.answer k);
+  }
+
+-- no read, where the connection doesn't serve
+pub reads_not : {A : Type 0} (old new : State) (e : Error) (IsAnswer : Content → A → Type 0) → Quiet old new → (HasCleanDisk new → NoStop old new) → HasRead old new (Err e) IsAnswer
+reads_not old new e IsAnswer quiet still = record { quiet = quiet; up = λ k. tt; stops = λ k stands. still k; value = λ k. tt }
+
+-- what was read goes on to what is made of it
+pub reads_on : {A B : Type 0} (old new : State) (a : A) (r : Result B Error) (P : Content → A → Type 0) (Q : Content → B → Type 0) → HasRead old new (Ok a) P
+    → IfOk r (λ (b : B). (c : Content) → P c a → Q c b) → HasRead old new r Q
+reads_on old new a (Ok b) P Q h on = record { quiet = h.quiet; up = h.up; stops = h.stops; value = λ k c held. on c (h.value k c held) }
+reads_on old new a (Err e) P Q h on = record { quiet = h.quiet; up = λ k. tt; stops = h.stops; value = λ k. tt }
+
+pub reads_fail : {A B : Type 0} (old new : State) (e : Error) (P : Content → A → Type 0) (Q : Content → B → Type 0) → HasRead old new (Err e) P → HasRead old new (Err e) Q
+reads_fail old new e P Q h = record { quiet = h.quiet; up = λ k. tt; stops = h.stops; value = λ k. tt }
+
+-- the one row that is read is that of the content
+pub finds_meta : (old new : State) (rows : List Row) (r : Result Meta Error) → IfOk r (λ meta. (m : Meta) → rows ≡ meta_shown m ∷ [] → meta ≡ m)
+    → (HasCleanDisk new → IsTrue new.is_open) → Quiet old new → (HasCleanDisk new → (c : Content) → Holds old c → NoStop old new)
+    → (HasCleanDisk new → (c : Content) → Holds old c → rows ≡ meta_shown (meta_of c.rows) ∷ []) → Finds old new r (λ c meta. meta ≡ meta_of c.rows)
+finds_meta old new rows (Ok meta) read up quiet stops are = record { up = up; quiet = quiet; stops = stops; answer = λ k c held. read (meta_of c.rows) (are k c held) }
+finds_meta old new rows (Err e) read up quiet stops are = record { up = λ k. tt; quiet = quiet; stops = stops; answer = λ k. tt }
+
+pub finds_none : {A : Type 0} (old new : State) (e : Error) (IsAnswer : Content → A → Type 0) → Quiet old new → (HasCleanDisk new → (c : Content) → Holds old c → NoStop old new) → Finds old new (Err e) IsAnswer
+finds_none old new e IsAnswer quiet stops = record { up = λ k. tt; quiet = quiet; stops = stops; answer = λ k. tt }
+
+pub reads_counters : (old new : State) (meta : Meta) (r : Result Meta Error) (changes : List Change) (events : ℕ) (kept : Kept) → HasRead old new (Ok meta) (λ c found. found ≡ meta_of c.rows)
+    → IfOk r (λ next. next ≡ counted meta changes events kept) → HasRead old new r (λ c next. next ≡ counted (meta_of c.rows) changes events kept)
+reads_counters old new meta r changes events kept h is =
+    reads_on old new meta r (λ c found. found ≡ meta_of c.rows) (λ c next. next ≡ counted (meta_of c.rows) changes events kept) h
+    (ok_map (λ next. next ≡ counted meta changes events kept) (λ next. (c : Content) → meta ≡ meta_of c.rows → next ≡ counted (meta_of c.rows) changes events kept) r
+    (λ next e c same. e ∙ ap (λ m. counted m changes events kept) same) is)
+
+-- ---- commits
+
+-- nothing was written
+pub commits_not : {A : Type 0} (old new : State) (e : Error) (P : Content → A → Type 0) (after : Content → Content) → HasRead old new (Err e) P → HasCommitted old new (Err e) after
+commits_not old new e P after h = record {
+  clean = h.quiet.clean;
+  up = λ k. tt;
+  was_open = h.quiet.was_open;
+  made = λ k. tt;
+  undone = h.quiet.same;
+  stops = λ k stands db left. inl (h.stops k stands db left);
+}
+
+module _ (old mid new : State) (r : Result (Unit {0}) Error) (made after : Content → Content) where
+  same_made : (IsTrue mid.is_open) → Quiet old mid → HasCleanDisk mid → ((c : Content) → Holds old c → made c ≡ after c)
+      → OnOk r ((c : Content) → Holds mid c → Holds new (made c)) → OnOk r ((c : Content) → Holds old c → Holds new (after c))
+  same_made live quiet m same done = go r done
+    where
+      go : (r : Result (Unit {0}) Error) → OnOk r ((c : Content) → Holds mid c → Holds new (made c)) → OnOk r ((c : Content) → Holds old c → Holds new (after c))
+      go (Ok x) h = λ (c : Content) (held : Holds old c). subst (Holds new) (same c held) (h c (quiet.same m c held live))
+      go (Err e) h = tt
+
+  same_undone : (IsTrue mid.is_open) → Quiet old mid → HasCleanDisk mid
+      → OnErr r ((c : Content) → Holds mid c → IsTrue new.is_open → Holds new c) → OnErr r ((c : Content) → Holds old c → IsTrue new.is_open → Holds new c)
+  same_undone live quiet m undone = go r undone
+    where
+      go : (r : Result (Unit {0}) Error) → OnErr r ((c : Content) → Holds mid c → IsTrue new.is_open → Holds new c) → OnErr r ((c : Content) → Holds old c → IsTrue new.is_open → Holds new c)
+      go (Ok x) h = tt
+      go (Err e) h = λ (c : Content) (held : Holds old c) (up : IsTrue new.is_open). h c (quiet.same m c held live) up
+
+  both_open : IsTrue old.is_open → OnOk r (IsTrue mid.is_open × IsTrue new.is_open) → OnOk r (IsTrue old.is_open × IsTrue new.is_open)
+  both_open was up = go r up
+    where
+      go : (r : Result (Unit {0}) Error) → OnOk r (IsTrue mid.is_open × IsTrue new.is_open) → OnOk r (IsTrue old.is_open × IsTrue new.is_open)
+      go (Ok x) h = (was, h.1)
+      go (Err e) h = tt
+
+  -- a commit behind a read that succeeded
+  pub commits_behind : {A : Type 0} (a : A) (P : Content → A → Type 0) → HasRead old mid (Ok a) P → ((c : Content) → P c a → made c ≡ after c)
+      → (HasCleanDisk new → HasCleanDisk mid) → (HasCleanDisk new → OnOk r (IsTrue mid.is_open × IsTrue new.is_open)) → (HasCleanDisk new → IsTrue new.is_open → IsTrue mid.is_open)
+      → (HasCleanDisk new → OnOk r ((c : Content) → Holds mid c → Holds new (made c)))
+      → (HasCleanDisk new → OnErr r ((c : Content) → Holds mid c → IsTrue new.is_open → Holds new c))
+      → (HasCleanDisk new → AddsStop mid new made) → HasCommitted old new r after
+  commits_behind a P read same clean up was done undone stops = record {
+    clean = λ k. read.quiet.clean (clean k);
+    up = λ k. both_open (read.quiet.was_open (clean k) (read.up (clean k))) (up k);
+    was_open = λ k live. read.quiet.was_open (clean k) (was k live);
+    made = λ k. same_made (read.up (clean k)) read.quiet (clean k) (λ c held. same c (read.value (clean k) c held)) (done k);
+    undone = λ k. same_undone (read.up (clean k)) read.quiet (clean k) (undone k);
+    stops = λ k stands db left.
+        let m = clean k in
+        let live = read.up m in
+        elim (stops k db left) [
+          | inl was ↦ inl (read.stops m stands db was)
+          | inr new ↦ inr (read.quiet.was_open m live, λ c held. subst (Encodes db) (same c (read.value m c held)) (new c (read.quiet.same m c held live)))
+        ];
+  }
+
+pub commits_counted : (old mid new : State) (r : Result (Unit {0}) Error) (next : Meta) (changes : List Change) (events : List Event) (kept : Kept)
+    → HasRead old mid (Ok next) (λ c found. found ≡ counted (meta_of c.rows) changes (length events) kept)
+    → (HasCleanDisk new → HasCleanDisk mid) → (HasCleanDisk new → OnOk r (IsTrue mid.is_open × IsTrue new.is_open)) → (HasCleanDisk new → IsTrue new.is_open → IsTrue mid.is_open)
+    → (HasCleanDisk new → OnOk r ((c : Content) → Holds mid c → Holds new (made_by changes events kept next c)))
+    → (HasCleanDisk new → OnErr r ((c : Content) → Holds mid c → IsTrue new.is_open → Holds new c))
+    → (HasCleanDisk new → AddsStop mid new (made_by changes events kept next)) → HasCommitted old new r (written changes events kept)
+commits_counted old mid new r next changes events kept read =
+    commits_behind old mid new r (made_by changes events kept next) (written changes events kept) next (λ c found. found ≡ counted (meta_of c.rows) changes (length events) kept) read
+    (λ c is. ap (λ m. made_by changes events kept m c) is)

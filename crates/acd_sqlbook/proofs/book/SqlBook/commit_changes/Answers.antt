@@ -1,0 +1,9 @@
+use Rattle.sqlite.specs.Held.{state}
+use Rattle.acd_book.specs.Content.{FollowsBy, committed_by}
+use Rattle.acd_sqlbook.proofs.BookStates.{commits_noted}
+use Rattle.acd_sqlbook.proofs.book.SqlBook.commit_changes.Goals as goal
+
+pub returns : goal.returns
+returns g c =
+    commits_noted (state g.S.Store c.args.self.now.conn) (state g.S.Store c.commit_ready-done.new.conn) c.args.self.now.failures c.noted.new.failures c.commit_ready-done.result c.noted.result
+    c.args.changes.now c.args.events.now c.args.kept.now c.noted.ensures.answer c.noted.ensures.failures c.noted.ensures.counts c.commit_ready-done.ensures.commits

@@ -1,0 +1,13 @@
+use Rattle.std.proofs.Common.{[], ◌∷◌}
+use Rattle.sqlite.specs.Held.{state}
+use Rattle.acd_sqlbook.specs.Rows.{id_value}
+use Rattle.acd_sqlbook.proofs.Listings.{finds}
+use Rattle.acd_sqlbook.proofs.Asked.{kept_plain, shows_kept_after}
+use Rattle.acd_sqlbook.proofs.QueryTexts.{read_kept_after}
+use Rattle.acd_sqlbook.proofs.query.kept_rows.Goals as goal
+
+pub returns-clause-found : goal.returns-clause-found
+returns-clause-found g c =
+    let e = c.read.ensures in
+    finds read_kept_after (id_value c.args.stamp ∷ id_value c.args.limit ∷ []) (state g.S.Store c.args.conn.now) (state g.S.Store c.read.new.conn) c.read.result kept_plain _ e.up e.quiet e.stops (λ clean. rw (c.integer.ensures, c.integer-2.ensures) at (e.shown clean))
+    (shows_kept_after c.args.stamp c.args.limit _ _)

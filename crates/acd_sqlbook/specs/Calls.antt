@@ -1,0 +1,26 @@
+-- What a call over a connection between transactions leaves, where the connection may have failed before.
+use Rattle.std.specs.Prelude.{Result, IsTrue, IfOk, OnOk, OnErr}
+use Rattle.sqlite.specs.State.{State, HasCleanDisk}
+use Rattle.sqlite.specs.declared.error.Error.{Error}
+use Rattle.acd_book.specs.Content.{Content}
+use Rattle.acd_sqlbook.specs.Draft.{Holds, Quiet, NoStop, MayAdd}
+
+-- while it is open it has a content
+abbrev pub Stands : State → Type 0
+Stands s = IsTrue s.is_open → (c : Content) × Holds s c
+
+-- a read, where `IsAnswer c found` says that this is found in that content
+pub record HasRead {A : Type 0} (old new : State) (result : Result A Error) (IsAnswer : Content → A → Type 0) : Type 0 where
+  pub quiet : Quiet old new
+  pub up : HasCleanDisk new → OnOk result (IsTrue new.is_open)
+  pub stops : HasCleanDisk new → Stands old → NoStop old new
+  pub value : HasCleanDisk new → IfOk result (λ (found : A). (c : Content) → Holds old c → IsAnswer c found)
+
+-- a commit, all or none, where `after c` is what it makes of a content
+pub record HasCommitted (old new : State) (result : Result (Unit {0}) Error) (after : Content → Content) : Type 0 where
+  pub clean : HasCleanDisk new → HasCleanDisk old
+  pub up : HasCleanDisk new → OnOk result (IsTrue old.is_open × IsTrue new.is_open)
+  pub was_open : HasCleanDisk new → IsTrue new.is_open → IsTrue old.is_open
+  pub made : HasCleanDisk new → OnOk result ((c : Content) → Holds old c → Holds new (after c))
+  pub undone : HasCleanDisk new → OnErr result ((c : Content) → Holds old c → IsTrue new.is_open → Holds new c)
+  pub stops : HasCleanDisk new → Stands old → MayAdd old new after

@@ -1,0 +1,63 @@
+-- What leads from one list of records to another, both in ascending key.
+use Rattle.std.specs.Prelude.{◌≡◌, ◌↔◌, ◌⊎◌, Bool, true, false, List, [], ◌∷◌, map, if◌then◌else◌}
+use Rattle.std.specs.declared.cmp.Ordering.{Ordering}
+use Rattle.std.specs.declared.cmp.Ordering.TheVariants.{Equal}
+use Rattle.std.specs.Ordering.{match_ordering}
+use Rattle.acd_terms.specs.Lists.{Among, Every, IsAscending, put_by, remove_by}
+use Rattle.acd_terms.specs.declared.moves.Change.{Change}
+
+-- a record is gone, or is put
+pub data Step (T : Type 0) : Type 0 where
+  gone : T → Step T
+  put : T → Step T
+
+abbrev pub record_of : {T : Type 0} → Step T → T
+record_of (gone x) = x
+record_of (put y) = y
+
+abbrev pub change_by : {T : Type 0} → (T → Change) → (T → Change) → Step T → Change
+change_by off on (gone x) = off x
+change_by off on (put y) = on y
+
+-- the list with the steps made, one after the other
+abbrev pub stepped : {T : Type 0} → (T → T → Ordering) → List T → List (Step T) → List T
+stepped cmp xs [] = xs
+stepped cmp xs (gone x ∷ steps) = stepped cmp (remove_by (cmp x) xs) steps
+stepped cmp xs (put y ∷ steps) = stepped cmp (put_by (cmp y) xs y) steps
+
+-- no record has its key
+abbrev pub IsNoKey : {T : Type 0} → (T → T → Ordering) → T → List T → Type 0
+IsNoKey cmp x = Every (λ y. cmp x y ≡ Equal → ⊥)
+
+-- no record of its key is equal to it
+abbrev pub IsOther : {T : Type 0} → (T → T → Ordering) → (T → T → Bool) → T → List T → Type 0
+IsOther cmp same y = Every (λ x. cmp x y ≡ Equal → same y x ≡ false)
+
+-- each record that is gone and each record that isn't equally held is named, in ascending key, and nothing else
+pub record AreSteps {T : Type 0} (cmp : T → T → Ordering) (same : T → T → Bool) (held new : List T) (steps : List (Step T)) : Type 0 where
+  pub ascending : IsAscending (λ a b. cmp (record_of a) (record_of b)) steps
+  pub gone_are : (x : T) → Among (gone x) steps ↔ (Among x held × IsNoKey cmp x new)
+  pub put_are : (y : T) → Among (put y) steps ↔ (Among y new × IsOther cmp same y held)
+  -- made one after the other, they lead to the new list, where records that compare equal are equal
+  pub made : ((x y : T) → same x y ≡ true → x ≡ y) → stepped cmp held steps ≡ new
+
+-- the changes of such steps, over lists in ascending key
+abbrev pub LeadTo : {T : Type 0} → (T → T → Ordering) → (T → T → Bool) → (T → Change) → (T → Change) → List T → List T → List Change → Type 0
+LeadTo {T} cmp same off on held new changes =
+    IsAscending cmp held → IsAscending cmp new → (steps : List (Step T)) × AreSteps cmp same held new steps × (changes ≡ map (change_by off on) steps)
+
+-- ---- the same as both lists are gone through
+
+abbrev pub replaced : {T : Type 0} → (T → T → Bool) → T → T → List (Step T) → List (Step T)
+replaced same x y rest = if same y x then rest else put y ∷ rest
+
+abbrev pub behind : {T : Type 0} → (T → T → Ordering) → (T → T → Bool) → T → (List T → List (Step T)) → List T → List (Step T)
+behind cmp same x rest [] = gone x ∷ rest []
+behind cmp same x rest (y ∷ ys) = match_ordering (cmp x y) (gone x ∷ rest (y ∷ ys)) (replaced same x y (rest ys)) (put y ∷ behind cmp same x rest ys)
+
+abbrev pub merged : {T : Type 0} → (T → T → Ordering) → (T → T → Bool) → List T → List T → List (Step T)
+merged cmp same [] new = map put new
+merged cmp same (x ∷ held) new = behind cmp same x (merged cmp same held) new
+
+abbrev pub differences : {T : Type 0} → (T → T → Ordering) → (T → T → Bool) → (T → Change) → (T → Change) → List T → List T → List Change
+differences cmp same off on held new = map (change_by off on) (merged cmp same held new)

@@ -1,0 +1,59 @@
+-- A book over a connection, as it stands.
+use Rattle.std.specs.Prelude.{◌≡◌, ◌⊎◌, ℕ, ◌+◌, ◌-◌, ◌^◌, min, Result, Ok, Err, IsTrue}
+use Rattle.sqlite_trees.specs.Tree.{Trees}
+use Rattle.sqlite.specs.declared.error.Error.{Error}
+use Rattle.sqlite.specs.declared.error.Error.TheVariants.{SqliteFailure}
+use Rattle.sqlite.specs.declared.error.ErrorCode.TheVariants.{OutOfMemory}
+use Rattle.sqlite.specs.State.{State, HasCleanDisk}
+use Rattle.acd_terms.specs.declared.rows.Limits.{Limits}
+use Rattle.acd_book.specs.Content.{Content, empty_content}
+use Rattle.acd_book.specs.State.{BookState}
+use Rattle.acd_book.specs.declared.fault.BookFault.{BookFault}
+use Rattle.acd_book.specs.declared.fault.BookFault.TheVariants.{NoMemory, Store}
+use Rattle.acd_sqlbook.specs.Content.{Encodes}
+use Rattle.acd_sqlbook.specs.Decoding.{content_of}
+use Rattle.acd_sqlbook.specs.Schema.{no_schema}
+use Rattle.acd_sqlbook.specs.Calls.{Stands}
+
+-- whatever a crash may leave is the tables of a content, and so is what the connection sees while it is open
+pub record IsSound (s : State) : Type 0 where
+  pub stands : Stands s
+  pub left : (db : Trees) → s.may_leave db → (c : Content) × Encodes db c
+
+abbrev pub book_state : State → ℕ → BookState
+book_state s failures = record {
+  content = content_of s.committed.trees;
+  stops = λ c. (db : Trees) × s.may_leave db × (c ≡ content_of db);
+  is_sound = IsSound s;
+  is_clean = HasCleanDisk s;
+  is_open = IsTrue s.is_open;
+  failures = failures;
+}
+
+-- a book that holds the limits and nothing else
+pub record IsNew (b : BookState) (limits : Limits) : Type 0 where
+  pub sound : b.is_sound
+  pub live : b.is_open
+  pub content : b.content ≡ empty_content limits
+  pub stop : b.stops (empty_content limits)
+  pub only : (c : Content) → b.stops c → c ≡ empty_content limits
+
+-- a crash leaves what it left before or, over a database with no tables, a book with the limits and nothing else
+abbrev pub MayMake : State → State → Limits → Type 0
+MayMake old new limits = (db : Trees) → new.may_leave db → old.may_leave db ⊎ (old.now.schema ≡ no_schema → Encodes db (empty_content limits))
+
+-- ---- faults
+
+-- want of memory is no failure of the store
+abbrev pub fault_of : Error → BookFault
+fault_of (SqliteFailure OutOfMemory) = NoMemory
+fault_of _ = Store
+
+abbrev pub answered : {A : Type 0} → Result A Error → Result A BookFault
+answered (Ok found) = Ok found
+answered (Err error) = Err (fault_of error)
+
+-- the count of failures behind an answer; it stays at its greatest value
+abbrev pub failures_after : {A : Type 0} → Result A BookFault → ℕ → ℕ
+failures_after (Err Store) failures = min (failures + 1) (2 ^ 64 - 1)
+failures_after _ failures = failures

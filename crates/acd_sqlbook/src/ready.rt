@@ -1,0 +1,156 @@
+//! Calls over a connection that may have failed before. It is tried first where it isn't known to serve,
+//! since a failure may have shut it.
+
+ghost use Rattle.std.specs.Prelude.{◌≡◌, ◌↔◌, ◌∷◌, [], false, IsTrue, IfOk, OnOk};
+ghost use Rattle.sqlite.specs.State.{HasCleanDisk};
+ghost use Rattle.sqlite.specs.Held.{state};
+ghost use Rattle.acd_sqlbook.specs.Calls.{HasRead, HasCommitted};
+ghost use Rattle.acd_sqlbook.specs.Commit.{counted, written};
+ghost use Rattle.acd_sqlbook.specs.Content.{meta_of};
+ghost use Rattle.acd_sqlbook.specs.Draft.{Quiet, NoStop, Fits, LimitsFit, MetaFits};
+ghost use Rattle.acd_sqlbook.specs.Finding.{Finds};
+ghost use Rattle.acd_sqlbook.specs.Reading.{meta_shown};
+ghost use Rattle.acd_sqlbook.specs.declared.meta.Meta.{Meta as MetaRow};
+
+use crate::commit::{commit_all, counted, fits, too_large};
+use crate::meta::Meta;
+use crate::read::{meta_in, meta_rows, probe};
+use acd_book::Kept;
+use acd_codec::request_text;
+use acd_terms::{Change, Event, Limits};
+use sqlite::{Alter, Connection, Error, Row};
+use std::alloc::Global;
+
+/// Tries the store where it isn't known to serve.
+pub(crate) fn serve<S: Alter>(conn: &mut Connection<S>, fresh: bool) -> Result<(), Error>
+    requires idle { conn.old.in_transaction ≡ false }
+    requires fresh { IsTrue fresh → HasCleanDisk (state S.Store conn.old) → IsTrue (state S.Store conn.old).is_open }
+    ensures idle { conn.new.in_transaction ≡ false }
+    ensures up { HasCleanDisk (state S.Store conn.new) → OnOk result (IsTrue (state S.Store conn.new).is_open) }
+    ensures quiet { Quiet (state S.Store conn.old) (state S.Store conn.new) }
+    ensures stops { HasCleanDisk (state S.Store conn.new) → NoStop (state S.Store conn.old) (state S.Store conn.new) }
+{
+    if fresh {
+        return Ok(());
+    }
+    probe(conn)
+}
+
+/// Whether each limit fits its column.
+pub(crate) fn limits_fit(limits: &Limits) -> bool
+    ensures { IsTrue result ↔ LimitsFit limits.now }
+{
+    fits(limits.requests)
+        && fits(limits.calls)
+        && fits(limits.groups)
+        && fits(limits.stations)
+        && fits(limits.agents)
+        && fits(limits.monitors)
+}
+
+fn meta_fits(meta: &Meta) -> bool
+    ensures { IsTrue result → MetaFits meta.now }
+{
+    limits_fit(&meta.limits)
+        && fits(meta.last_stamp)
+        && fits(meta.last_call)
+        && fits(meta.last_monitor)
+        && fits(meta.last_event)
+}
+
+// What the one row of the table holds. A table of another number of rows is not the book's.
+fn only_meta(rows: &[Row]) -> Result<Meta, Error>
+    ensures { IfOk result (λ meta. (m : MetaRow) → rows.now ≡ meta_shown m ∷ [] → meta ≡ m) }
+{
+    if rows.len() != 1 {
+        return Err(Error::QueryReturnedNoRows);
+    }
+    meta_in(&rows[0])
+}
+
+// The limits and the counters.
+pub(crate) fn read_meta<S: Alter>(conn: &mut Connection<S>) -> Result<Meta, Error>
+    requires { conn.old.in_transaction ≡ false }
+    ensures idle { conn.new.in_transaction ≡ false }
+    ensures found { Finds (state S.Store conn.old) (state S.Store conn.new) result (λ c meta. meta ≡ meta_of c.rows) }
+{
+    match meta_rows(conn) {
+        Ok(rows) => only_meta(&rows),
+        Err(error) => Err(error),
+    }
+}
+
+// The limits and the counters.
+fn meta_ready<S: Alter>(conn: &mut Connection<S>, fresh: bool) -> Result<Meta, Error>
+    requires idle { conn.old.in_transaction ≡ false }
+    requires fresh { IsTrue fresh → HasCleanDisk (state S.Store conn.old) → IsTrue (state S.Store conn.old).is_open }
+    ensures idle { conn.new.in_transaction ≡ false }
+    ensures read { HasRead (state S.Store conn.old) (state S.Store conn.new) result (λ c meta. meta ≡ meta_of c.rows) }
+{
+    serve(conn, fresh)?;
+    read_meta(conn)
+}
+
+/// The limits.
+pub(crate) fn limits_ready<S: Alter>(conn: &mut Connection<S>, fresh: bool) -> Result<Limits, Error>
+    requires idle { conn.old.in_transaction ≡ false }
+    requires fresh { IsTrue fresh → HasCleanDisk (state S.Store conn.old) → IsTrue (state S.Store conn.old).is_open }
+    ensures idle { conn.new.in_transaction ≡ false }
+    ensures read { HasRead (state S.Store conn.old) (state S.Store conn.new) result (λ c limits. limits ≡ c.rows.limits) }
+{
+    match meta_ready(conn, fresh) {
+        Ok(meta) => Ok(meta.limits),
+        Err(error) => Err(error),
+    }
+}
+
+// The counters after a commit of so many events, where their columns can hold them.
+fn next_meta(meta: &Meta, changes: &[Change], events: u64, kept: &Kept) -> Result<Meta, Error>
+    ensures is { IfOk result (λ next. next ≡ counted meta.now changes.now events kept.now) }
+    ensures fits { IfOk result (λ next. MetaFits next) }
+{
+    match counted(meta, changes, events, kept) {
+        Some(next) if meta_fits(&next) => Ok(next),
+        _ => Err(too_large()),
+    }
+}
+
+// The counters that a commit writes.
+fn counters<S: Alter>(
+    conn: &mut Connection<S>,
+    fresh: bool,
+    changes: &[Change],
+    events: u64,
+    kept: &Kept,
+) -> Result<Meta, Error>
+    requires idle { conn.old.in_transaction ≡ false }
+    requires fresh { IsTrue fresh → HasCleanDisk (state S.Store conn.old) → IsTrue (state S.Store conn.old).is_open }
+    ensures idle { conn.new.in_transaction ≡ false }
+    ensures read { HasRead (state S.Store conn.old) (state S.Store conn.new) result (λ c next. next ≡ counted (meta_of c.rows) changes.now events kept.now) }
+    ensures fits { IfOk result (λ next. MetaFits next) }
+    ensures stamp { OnOk result (Fits kept.now.stamp) }
+{
+    let meta = meta_ready(conn, fresh)?;
+    next_meta(&meta, changes, events, kept)
+}
+
+/// Commits the changes, the events and the kept record, all or none.
+pub(crate) fn commit_ready<S: Alter>(
+    alloc: Global,
+    conn: &mut Connection<S>,
+    fresh: bool,
+    changes: &[Change],
+    events: &[Event],
+    kept: &Kept,
+) -> Result<(), Error>
+    requires idle { conn.old.in_transaction ≡ false }
+    requires fresh { IsTrue fresh → HasCleanDisk (state S.Store conn.old) → IsTrue (state S.Store conn.old).is_open }
+    ensures idle { conn.new.in_transaction ≡ false }
+    ensures commits { HasCommitted (state S.Store conn.old) (state S.Store conn.new) result (written changes.now events.now kept.now) }
+{
+    let request = request_text(alloc, &kept.request)?;
+    match counters(conn, fresh, changes, events.len() as u64, kept) {
+        Ok(meta) => commit_all(conn, changes, events, kept, request.as_str(), &meta),
+        Err(error) => Err(error),
+    }
+}
