@@ -51,7 +51,7 @@ pub guarded : {B : Type 0} (b : Bool) (o : Option B) (y : B) → cond b o None �
 guarded false o y h = absurd (cc h)
 guarded true o y h = (refl, h)
 
-some_same : {A : Type 0} (x y : A) → Some x ≡ Some y → x ≡ y
+pub some_same : {A : Type 0} (x y : A) → Some x ≡ Some y → x ≡ y
 some_same x y e = cc e
 
 -- ---- values
@@ -201,7 +201,7 @@ row_is n r h = subst (λ k. r ≡ cells 0 k r) (sym (code_same (length r) n h)) 
 
 -- ---- records
 
-beside : (u v : Value) (r s : Row) → u ≡ v → r ≡ s → u ∷ r ≡ v ∷ s
+pub beside : (u v : Value) (r s : Row) → u ≡ v → r ≡ s → u ∷ r ≡ v ∷ s
 beside u v r s e f = ap (λ x. x ∷ r) e ∙ ap (λ l. v ∷ l) f
 
 pub figures_stored : (r : Row) (a b c d e : ℕ) (f : Figures) → figures_at r a b c d e ≡ Some f
@@ -213,10 +213,13 @@ figures_stored r a b c d e f h =
     let abandoned = bound _ _ f answered.2 in
     let moved = bound _ _ f abandoned.2 in
     let waited = bound _ _ f moved.2 in
-    let same = some_same _ f waited.2 in
-    (whole_stored r a _ entered.1 ∙ ap (λ (x : Figures). id_value x.entered) same, whole_stored r b _ answered.1 ∙ ap (λ (x : Figures). id_value x.answered) same,
-    whole_stored r c _ abandoned.1 ∙ ap (λ (x : Figures). id_value x.abandoned) same, whole_stored r d _ moved.1 ∙ ap (λ (x : Figures). id_value x.moved) same,
-    whole_stored r e _ waited.1 ∙ ap (λ (x : Figures). id_value x.waited) same)
+    let same = some_same _ f waited.2 in (
+      whole_stored r a _ entered.1 ∙ ap (λ (x : Figures). id_value x.entered) same,
+      whole_stored r b _ answered.1 ∙ ap (λ (x : Figures). id_value x.answered) same,
+      whole_stored r c _ abandoned.1 ∙ ap (λ (x : Figures). id_value x.abandoned) same,
+      whole_stored r d _ moved.1 ∙ ap (λ (x : Figures). id_value x.moved) same,
+      whole_stored r e _ waited.1 ∙ ap (λ (x : Figures). id_value x.waited) same,
+    )
 
 pub group_stored : (r : Row) (g : GroupRecord) → group_in r ≡ Some g → r ≡ group_values g
 unfolding group_in

@@ -7,7 +7,8 @@ ghost use Rattle.acd_sqlbook.specs.Ranges.{is_null, text_at, whole_at, stamp_at,
 
 use crate::codes::{agent_state_of, cause_of, connection_state_of, kind_of, pending_of};
 use acd_terms::{
-    AgentId, AgentState, Cause, ConnectionState, DeviceId, EventKind, Name, Pending, Seconds, Serial,
+    AgentId, AgentState, Cause, ConnectionState, DeviceId, EventKind, Name, Pending, Seconds,
+    Serial,
 };
 use sqlite::Row;
 use sqlite::types::ValueRef;
