@@ -1,8 +1,16 @@
 -- A row that is read as an event or as a kept record is that of the record.
-use Rattle.std.proofs.Common.{◌≡◌, ℕ, ◌==◌, length, List, [], ◌∷◌, Bool, true, false, not, cond, ◌&&◌, Option, Some, None, Result, Ok, Err, refl, sym, ap, ◌∙◌}
+use Rattle.std.proofs.Common.{◌≡◌, ℕ, ◌==◌, length, List, [], ◌∷◌, Bool, true, false, not, cond, ◌&&◌, Option, Some, None, Result, Ok, Err, refl, sym, ap, subst, ◌∙◌}
 use Rattle.std.specs.Option.{is_some, unwrap_or}
 use Rattle.sqlite_value.specs.Order.{Row, column}
 use Rattle.sqlite.specs.Values.{or_null}
+use Rattle.std.specs.Str.{bytes_eq}
+use Rattle.std.specs.Result.{result_ok}
+use Rattle.std.specs.Cmp.{unsigned_Decides}
+use Rattle.std.proofs.lemmas.Slice.Eq.{bytes_eq-Decides}
+use Rattle.sqlite_value.specs.declared.value.Value.TheVariants.{Text}
+use Rattle.acd_codec.specs.Reading.{reads_as}
+use Rattle.acd_codec.specs.RequestTexts.{request_text}
+use Rattle.acd_terms.specs.declared.command.Request.{Request}
 use Rattle.acd_terms.specs.Columns.{columns_of, group_waited, seconds_waited}
 use Rattle.acd_terms.specs.declared.event.EventKind.{EventKind}
 use Rattle.acd_terms.specs.declared.event.EventKind.TheVariants as kind
@@ -14,8 +22,8 @@ use Rattle.acd_terms.specs.declared.event.Event.{Event}
 use Rattle.acd_sqlbook.specs.Decoding.{report_of, waited_of}
 use Rattle.acd_sqlbook.specs.Reports.{admits_cause, is_formed, report_in}
 use Rattle.acd_sqlbook.specs.Rows.{id_value, kind_code, cause_code, report_values, event_values}
-use Rattle.acd_sqlbook.specs.Ranges.{or_none, device_at, serial_at, agent_at, moment_at, cause_at, columns_at, event_in}
-use Rattle.acd_sqlbook.proofs.Ranged.{bound, guarded, some_same, row_is, beside, or_none_stored, stamp_stored, serial_stored, moment_stored, device_stored, agent_id_stored, kind_stored, cause_stored}
+use Rattle.acd_sqlbook.specs.Ranges.{or_none, device_at, serial_at, agent_at, moment_at, cause_at, columns_at, event_in, request_at}
+use Rattle.acd_sqlbook.proofs.Ranged.{text_stored, whole_stored, bound, guarded, some_same, row_is, beside, or_none_stored, stamp_stored, serial_stored, moment_stored, device_stored, agent_id_stored, kind_stored, cause_stored}
 
 -- ---- columns that are there, and columns that aren't
 
@@ -129,3 +137,45 @@ event_stored r e h =
     row_is 10 r w.0
     ∙ beside _ _ _ _ (stamp_stored r 0 _ number.1) (beside _ _ _ _ (moment_stored r 1 _ moment.1) (columns_stored r columns.0 columns.1 ∙ ap report_values (sym (report_formed columns.0 report.0 report.1))))
     ∙ ap event_values (some_same _ e report.2)
+
+-- ---- kept records
+
+all_three : (a b c : Bool) → (a && b && c) ≡ true → (a ≡ true) × (b ≡ true) × (c ≡ true)
+all_three true true true e = (refl, refl, refl)
+all_three true true false e = absurd (cc e)
+all_three true false c e = absurd (cc e)
+all_three false b c e = absurd (cc e)
+
+ok_same : {E : Type 0} (r : Result Request E) (q : Request) → result_ok r ≡ Some q → r ≡ Ok q
+ok_same (Ok x) q h = ap Ok (some_same x q h)
+ok_same (Err e) q h = absurd (cc h)
+
+-- the columns of the key and the text are those of the request, which is read from its text
+pub record IsOwn (r : Row) (q : Request) : Type 0 where
+  pub requester : column r 1 ≡ Text q.requester
+  pub invoke : column r 2 ≡ id_value q.invoke
+  pub text : column r 4 ≡ Text (request_text q)
+  pub reads : reads_as (request_text q) ≡ Ok q
+
+own : (r : Row) (q : Request) (name : List ℕ) (n : ℕ) (t : List ℕ) → column r 1 ≡ Text name → column r 2 ≡ id_value n → column r 4 ≡ Text t → reads_as t ≡ Ok q
+    → (bytes_eq name q.requester && (n == q.invoke) && bytes_eq t (request_text q)) ≡ true → IsOwn r q
+own r q name n t e f g h test =
+    let all = all_three (bytes_eq name q.requester) (n == q.invoke) (bytes_eq t (request_text q)) test in
+    let same : t ≡ request_text q = (bytes_eq-Decides t (request_text q)).0 all.2 in
+    record {
+      requester = e ∙ ap Text ((bytes_eq-Decides name q.requester).0 all.0);
+      invoke = f ∙ ap id_value ((unsigned_Decides n q.invoke).0 all.1);
+      text = g ∙ ap Text same;
+      reads = ap reads_as (sym same) ∙ h;
+    }
+
+pub request_stored : (r : Row) (q : Request) → request_at r ≡ Some q → IsOwn r q
+unfolding request_at
+request_stored r q h =
+    let requester = bound _ _ q h in
+    let invoke = bound _ _ q requester.2 in
+    let text = bound _ _ q invoke.2 in
+    let request = bound _ _ q text.2 in
+    let test = guarded _ (Some request.0) q request.2 in
+    subst (IsOwn r) (some_same request.0 q test.1)
+    (own r request.0 requester.0 invoke.0 text.0 (text_stored r 1 _ requester.1) (whole_stored r 2 _ invoke.1) (text_stored r 4 _ text.1) (ok_same (reads_as text.0) request.0 request.1) test.0)
