@@ -3,7 +3,7 @@ use Rattle.std.proofs.Common.{◌≡◌, ℕ, ◌==◌, length, List, [], ◌∷
 use Rattle.std.specs.Option.{is_some, unwrap_or}
 use Rattle.sqlite_value.specs.Order.{Row, column}
 use Rattle.sqlite.specs.Values.{or_null}
-use Rattle.std.specs.Str.{bytes_eq}
+use Rattle.std.specs.Str.{bytes_eq, is_utf8}
 use Rattle.std.specs.Result.{result_ok}
 use Rattle.std.specs.Cmp.{unsigned_Decides}
 use Rattle.std.proofs.lemmas.Slice.Eq.{bytes_eq-Decides}
@@ -19,10 +19,12 @@ use Rattle.acd_terms.specs.declared.event.Cause.TheVariants as cause
 use Rattle.acd_terms.specs.declared.event.Columns.{Columns}
 use Rattle.acd_terms.specs.declared.event.Report.{Report}
 use Rattle.acd_terms.specs.declared.event.Event.{Event}
+use Rattle.acd_book.specs.declared.kept.Kept.{Kept}
+use Rattle.acd_sqlbook.specs.Content.{IsReadable}
 use Rattle.acd_sqlbook.specs.Decoding.{report_of, waited_of}
 use Rattle.acd_sqlbook.specs.Reports.{admits_cause, is_formed, report_in}
-use Rattle.acd_sqlbook.specs.Rows.{id_value, kind_code, cause_code, report_values, event_values}
-use Rattle.acd_sqlbook.specs.Ranges.{or_none, device_at, serial_at, agent_at, moment_at, cause_at, columns_at, event_in, request_at}
+use Rattle.acd_sqlbook.specs.Rows.{id_value, kind_code, cause_code, report_values, event_values, kept_values}
+use Rattle.acd_sqlbook.specs.Ranges.{or_none, device_at, serial_at, agent_at, moment_at, cause_at, columns_at, event_in, request_at, whole_at, text_at, status_at, utf8_of, body_at, kept_in}
 use Rattle.acd_sqlbook.proofs.Ranged.{text_stored, whole_stored, bound, guarded, some_same, row_is, beside, or_none_stored, stamp_stored, serial_stored, moment_stored, device_stored, agent_id_stored, kind_stored, cause_stored}
 
 -- ---- columns that are there, and columns that aren't
@@ -179,3 +181,31 @@ request_stored r q h =
     let test = guarded _ (Some request.0) q request.2 in
     subst (IsOwn r) (some_same request.0 q test.1)
     (own r request.0 requester.0 invoke.0 text.0 (text_stored r 1 _ requester.1) (whole_stored r 2 _ invoke.1) (text_stored r 4 _ text.1) (ok_same (reads_as text.0) request.0 request.1) test.0)
+
+status_stored : (r : Row) (at n : ℕ) → status_at r at ≡ Some n → column r at ≡ id_value n
+unfolding status_at
+status_stored r at n h =
+    let b = bound (whole_at r at) _ n h in
+    whole_stored r at b.0 b.1 ∙ ap id_value (some_same b.0 n (guarded _ (Some b.0) n b.2).1)
+
+body_stored : (r : Row) (at : ℕ) (t : List ℕ) → body_at r at ≡ Some t → column r at ≡ Text t
+unfolding body_at
+body_stored r at t h =
+    let b = bound (text_at r at) utf8_of t h in
+    text_stored r at b.0 b.1 ∙ ap Text (some_same b.0 t (guarded (is_utf8 b.0) (Some b.0) t b.2).1)
+
+pub kept_stored : (r : Row) (k : Kept) → kept_in r ≡ Some k → (r ≡ kept_values k) × IsReadable k
+unfolding kept_in
+kept_stored r k h =
+    let w = guarded (length r == 7) _ k h in
+    let stamp = bound _ _ k w.1 in
+    let moment = bound _ _ k stamp.2 in
+    let request = bound _ _ k moment.2 in
+    let status = bound _ _ k request.2 in
+    let body = bound _ _ k status.2 in
+    let o = request_stored r request.0 request.1 in
+    let same = some_same _ k body.2 in
+    (row_is 7 r w.0
+    ∙ beside _ _ _ _ (stamp_stored r 0 _ stamp.1) (beside _ _ _ _ o.requester (beside _ _ _ _ o.invoke (beside _ _ _ _ (moment_stored r 3 _ moment.1)
+      (beside _ _ _ _ o.text (beside _ _ _ _ (status_stored r 5 _ status.1) (beside _ _ _ _ (body_stored r 6 _ body.1) refl))))))
+    ∙ ap kept_values same, subst IsReadable same o.reads)
