@@ -2,7 +2,6 @@
 use Rattle.std.proofs.Common.{◌≡◌, ℕ, ◌==◌, length, List, [], ◌∷◌, Bool, true, false, not, cond, ◌&&◌, Option, Some, None, Result, Ok, Err, refl, sym, ap, subst, ◌∙◌}
 use Rattle.std.specs.Option.{is_some, unwrap_or}
 use Rattle.sqlite_value.specs.Order.{Row, column}
-use Rattle.sqlite.specs.Values.{or_null}
 use Rattle.std.specs.Str.{bytes_eq, is_utf8}
 use Rattle.std.specs.Result.{result_ok}
 use Rattle.std.specs.Cmp.{unsigned_Decides}
@@ -23,8 +22,8 @@ use Rattle.acd_book.specs.declared.kept.Kept.{Kept}
 use Rattle.acd_sqlbook.specs.Content.{IsReadable}
 use Rattle.acd_sqlbook.specs.Decoding.{report_of, waited_of}
 use Rattle.acd_sqlbook.specs.Reports.{admits_cause, is_formed, report_in}
-use Rattle.acd_sqlbook.specs.Rows.{id_value, kind_code, cause_code, report_values, event_values, kept_values}
-use Rattle.acd_sqlbook.specs.Ranges.{or_none, device_at, serial_at, agent_at, moment_at, cause_at, columns_at, event_in, request_at, whole_at, text_at, status_at, utf8_of, body_at, kept_in}
+use Rattle.acd_sqlbook.specs.Rows.{id_value, cause_code, report_values, event_values, kept_values}
+use Rattle.acd_sqlbook.specs.Ranges.{device_at, serial_at, agent_at, moment_at, cause_at, columns_at, event_in, request_at, whole_at, text_at, status_at, utf8_of, body_at, kept_in}
 use Rattle.acd_sqlbook.proofs.Ranged.{text_stored, whole_stored, bound, guarded, some_same, row_is, beside, or_none_stored, stamp_stored, serial_stored, moment_stored, device_stored, agent_id_stored, kind_stored, cause_stored}
 
 -- ---- columns that are there, and columns that aren't
@@ -204,8 +203,10 @@ kept_stored r k h =
     let status = bound _ _ k request.2 in
     let body = bound _ _ k status.2 in
     let o = request_stored r request.0 request.1 in
-    let same = some_same _ k body.2 in
-    (row_is 7 r w.0
-    ∙ beside _ _ _ _ (stamp_stored r 0 _ stamp.1) (beside _ _ _ _ o.requester (beside _ _ _ _ o.invoke (beside _ _ _ _ (moment_stored r 3 _ moment.1)
-      (beside _ _ _ _ o.text (beside _ _ _ _ (status_stored r 5 _ status.1) (beside _ _ _ _ (body_stored r 6 _ body.1) refl))))))
-    ∙ ap kept_values same, subst IsReadable same o.reads)
+    let same = some_same _ k body.2 in (
+      row_is 7 r w.0
+          ∙ beside _ _ _ _ (stamp_stored r 0 _ stamp.1) (beside _ _ _ _ o.requester (beside _ _ _ _ o.invoke (beside _ _ _ _ (moment_stored r 3 _ moment.1)
+          (beside _ _ _ _ o.text (beside _ _ _ _ (status_stored r 5 _ status.1) (beside _ _ _ _ (body_stored r 6 _ body.1) refl))))))
+          ∙ ap kept_values same,
+      subst IsReadable same o.reads,
+    )
