@@ -30,3 +30,4 @@ pub mod Decoded
 mod Standing
 mod BookStates
 pub mod Ranged
+pub mod Reported

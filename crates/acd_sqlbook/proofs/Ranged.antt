@@ -1,10 +1,10 @@
 -- A row that is read as a record is that of the record.
-use Rattle.std.proofs.Common.{◌≡◌, ℕ, zero, suc, pos, negsuc, ◌==◌, nat_lt, length, List, [], ◌∷◌, map, Bool, true, false, not, cond, ◌&&◌, ◌||◌, Option, Some, None, Result, Ok, Err, refl, sym, ap, subst, ◌∙◌, arith}
-use Rattle.std.specs.Prelude.{option_map, position, find}
-use Rattle.std.specs.Str.{is_utf8, IsUtf8, bytes_eq}
+use Rattle.std.proofs.Common.{◌≡◌, ℕ, zero, suc, pos, negsuc, ◌==◌, nat_lt, length, List, [], ◌∷◌, Bool, true, false, not, cond, Option, Some, None, Result, Err, refl, sym, ap, subst, ◌∙◌, arith}
+use Rattle.std.specs.Prelude.{option_map, position}
+use Rattle.std.specs.Str.{is_utf8, IsUtf8}
 use Rattle.std.specs.Result.{result_ok}
 use Rattle.std.proofs.lemmas.Str.{is_utf8-from_IsUtf8, IsUtf8-from_is_utf8}
-use Rattle.std.proofs.lemmas.Bool.{and_parts, false_from_ne_true}
+use Rattle.std.proofs.lemmas.Bool.{false_from_ne_true}
 use Rattle.std.proofs.lemmas.Bool.Decides.{nat_tests}
 use Rattle.sqlite_value.specs.declared.value.Value.{Value}
 use Rattle.sqlite_value.specs.declared.value.Value.TheVariants.{Null, Int, Real, Text, Blob}
@@ -24,14 +24,11 @@ use Rattle.acd_terms.specs.declared.record.AgentRecord.{AgentRecord}
 use Rattle.acd_terms.specs.declared.record.CallRecord.{CallRecord}
 use Rattle.acd_terms.specs.declared.record.ConnectionRecord.{ConnectionRecord}
 use Rattle.acd_terms.specs.declared.record.MonitorRecord.{MonitorRecord}
-use Rattle.acd_terms.specs.declared.rows.Limits.{Limits}
 use Rattle.acd_laws.proofs.Lists.{find_passes}
-use Rattle.acd_sqlbook.specs.declared.meta.Meta.{Meta}
 use Rattle.acd_sqlbook.specs.Codes.{with_code, agent_states, pending_states, connection_states, causes, kinds, agent_state_of, pending_of, connection_state_of, kind_of, cause_of}
 use Rattle.acd_sqlbook.specs.Decoding.{option_in}
-use Rattle.acd_sqlbook.specs.Reading.{meta_shown}
 use Rattle.acd_sqlbook.specs.Rows.{id_value, agent_code, pending_code, connection_code, kind_code, cause_code, group_values, station_values, agent_values, call_values, connection_values, monitor_values}
-use Rattle.acd_sqlbook.specs.Ranges.{◌>>=◌, text_of, is_null, text_at, whole_at, at_least, stamp_at, serial_at, moment_at, seconds_at, device_at, agent_at, name_at, agent_state_at, pending_at, connection_state_at, kind_at, cause_at, status_at, utf8_of, body_at, or_none, figures_at, group_in, station_in, agent_in, call_in, connection_in, monitor_in, limits_at, counters_in}
+use Rattle.acd_sqlbook.specs.Ranges.{◌>>=◌, text_of, is_null, text_at, whole_at, at_least, stamp_at, serial_at, moment_at, seconds_at, device_at, agent_at, name_at, agent_state_at, pending_at, connection_state_at, kind_at, cause_at, utf8_of, or_none, figures_at, group_in, station_in, agent_in, call_in, connection_in, monitor_in}
 
 -- ---- UTF-8
 
@@ -51,7 +48,7 @@ pub guarded : {B : Type 0} (b : Bool) (o : Option B) (y : B) → cond b o None �
 guarded false o y h = absurd (cc h)
 guarded true o y h = (refl, h)
 
-some_same : {A : Type 0} (x y : A) → Some x ≡ Some y → x ≡ y
+pub some_same : {A : Type 0} (x y : A) → Some x ≡ Some y → x ≡ y
 some_same x y e = cc e
 
 -- ---- values
@@ -201,7 +198,7 @@ row_is n r h = subst (λ k. r ≡ cells 0 k r) (sym (code_same (length r) n h)) 
 
 -- ---- records
 
-beside : (u v : Value) (r s : Row) → u ≡ v → r ≡ s → u ∷ r ≡ v ∷ s
+pub beside : (u v : Value) (r s : Row) → u ≡ v → r ≡ s → u ∷ r ≡ v ∷ s
 beside u v r s e f = ap (λ x. x ∷ r) e ∙ ap (λ l. v ∷ l) f
 
 pub figures_stored : (r : Row) (a b c d e : ℕ) (f : Figures) → figures_at r a b c d e ≡ Some f
