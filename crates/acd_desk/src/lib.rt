@@ -22,8 +22,8 @@ pub mod laws;
 mod open_fault;
 mod reads;
 mod requests;
-mod table_reads;
 mod session;
+mod table_reads;
 mod taken;
 #[cfg(test)]
 mod tests;

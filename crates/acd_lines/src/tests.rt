@@ -84,12 +84,21 @@ fn add_request(rt: &impl Abort, alloc: Global, requests: &mut Vec<Request>, line
 }
 
 // The answers to a group and a station that are imported.
-fn expect_imported(rt: &impl Abort, alloc: Global, desk: &mut Desk<MemoryBook>, requests: &[Request]) {
+fn expect_imported(
+    rt: &impl Abort,
+    alloc: Global,
+    desk: &mut Desk<MemoryBook>,
+    requests: &[Request],
+) {
     let mut written = Vec::new(alloc);
     import(alloc, desk, requests, &mut written).expect(rt, "written");
     let mut wanted = Vec::new(alloc);
-    wanted.extend_from_slice(GROUP_ANSWER.as_bytes()).expect(rt, "memory");
-    wanted.extend_from_slice(STATION_ANSWER.as_bytes()).expect(rt, "memory");
+    wanted
+        .extend_from_slice(GROUP_ANSWER.as_bytes())
+        .expect(rt, "memory");
+    wanted
+        .extend_from_slice(STATION_ANSWER.as_bytes())
+        .expect(rt, "memory");
     assert_eq!(rt; written.as_slice(), wanted.as_slice());
 }
 

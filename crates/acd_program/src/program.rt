@@ -10,7 +10,9 @@ use std::io::{Read, Write};
 
 // Exit statuses.
 const SUCCESS: u8 = 0;
+
 const FAULT: u8 = 1;
+
 const REFUSED: u8 = 2;
 
 // A fault is one line.

@@ -14,7 +14,9 @@ pub(crate) enum Task {
 fn lines<'a>(alloc: Global) -> Command<'a> {
     Command::new(alloc, "lines")
         .about("Answer requests in lines: a moment, a space and the request as JSON")
-        .after_help("Example:\n  acd lines < requests\n\nThe desk is in memory, and ends with the input.")
+        .after_help(
+            "Example:\n  acd lines < requests\n\nThe desk is in memory, and ends with the input.",
+        )
 }
 
 // All commands.

@@ -3,7 +3,8 @@
 use crate::program::program;
 use std::process::Abort;
 
-const FIRST_RUN: &str = r#"0 {"requester":"plan","invoke":1,"service":"addGroup","device":"100","name":"Billing","ring":20,"wrap":30}
+const FIRST_RUN: &str =
+    r#"0 {"requester":"plan","invoke":1,"service":"addGroup","device":"100","name":"Billing","ring":20,"wrap":30}
 0 {"requester":"plan","invoke":2,"service":"addStation","device":"201"}
 10 {"requester":"pbx","invoke":1,"service":"arriveCall","caller":"0301234","called":"100"}
 "#;
