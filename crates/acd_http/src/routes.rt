@@ -66,7 +66,7 @@ fn known_routes(alloc: Global) -> Result<Router<Route>, InsertError>
 }
 
 impl Routes {
-    /// The routes. They take memory, and that it is refused is the one error.
+    /// The routes. They take memory.
     pub fn new(alloc: Global) -> Result<Routes, InsertError> {
         let router = known_routes(alloc)?;
         Ok(Routes { router })
