@@ -3,7 +3,8 @@
 use crate::memory::lines_over_memory;
 use crate::task::{Task, task};
 use acd_lines::LinesFault;
-use clap::{Error, ErrorKind};
+use clap::Error;
+use clap::error::ErrorKind;
 use std::alloc::Global;
 use std::convert::AsStr;
 use std::io::{Read, Write};
