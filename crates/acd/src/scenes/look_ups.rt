@@ -1,8 +1,9 @@
 //! Each look-up of the switch's tables is the scan of the rows, after each request of the scenes.
 
-use super::*;
+use acd_switch::Switch;
 use acd_tables::Tables;
 use acd_terms::{AgentRecord, CallRecord, ConnectionRecord, DeviceId, Rows, scans};
+use std::process::Abort;
 
 fn compare_device(rt: &impl Abort, tables: &Tables, rows: &Rows, device: DeviceId) {
     assert_eq!(rt; tables.group(device), scans::group_of(rows, device));
@@ -113,11 +114,10 @@ fn compare_figures(rt: &impl Abort, switch: &Switch, rows: &Rows) {
     }
 }
 
-/// Compares them all with the rows of the switch.
-pub fn compare(rt: &impl Abort, switch: &Switch) {
-    let rows = switch.rows().expect(rt, "memory");
-    compare_tables(rt, switch.tables(), &rows);
-    compare_figures(rt, switch, &rows);
+/// Compares them all with the rows, which are the switch's own.
+pub fn compare(rt: &impl Abort, switch: &Switch, rows: &Rows) {
+    compare_tables(rt, switch.tables(), rows);
+    compare_figures(rt, switch, rows);
 }
 
 fn compare_tables(rt: &impl Abort, tables: &Tables, rows: &Rows) {

@@ -1,8 +1,11 @@
 //! A store that stops at each of its commits, before the commit is made and behind it; and the desk
 //! that is opened again.
 
+use super::player::opened;
 use super::stopping::{Stop, StoppingBook};
 use super::*;
+use acd_book::Book;
+use acd_codec::read_request;
 use acd_desk::{Desk, Taken};
 use acd_lines::lines;
 use acd_terms::Arrival;
@@ -27,13 +30,6 @@ const STORE_FAULT: &str = r#"{"error":{"code":34,"name":"storeFault"}}"#;
 // The commit at which the store stops, and how many requests are answered before: a repeat commits
 // nothing. With the last one it doesn't stop.
 const STOPS: [(u32, usize); 4] = [(1, 0), (2, 2), (3, 3), (4, 4)];
-
-pub fn opened<B: Book + Drop>(rt: &impl Abort, alloc: Global, book: B) -> Desk<B> {
-    match Desk::open(alloc, book) {
-        Ok(desk) => desk,
-        Err((fault, _)) => panic!(rt; "{fault:?}"),
-    }
-}
 
 fn new_book(alloc: Global, stop: Stop) -> StoppingBook {
     StoppingBook::new(MemoryBook::new(alloc, Limits::GREATEST), stop)

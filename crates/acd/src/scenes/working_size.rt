@@ -5,16 +5,16 @@
 
 ghost use Rattle.acd_terms.specs.Rules.First.{BreaksNoRule};
 
-use super::store::opened;
+use super::player::opened;
 use super::*;
-use acd_book::{BookFault, Kept, Text};
+use acd_book::{Book, BookFault, Kept, Text};
 use acd_desk::{Desk, Taken};
+use acd_switch::Switch;
 use acd_tables::{Records, Tables};
 use acd_terms::{
-    AgentId, Arrival, Command, DeviceId, Figures, Invoke, Name, Pending, Request, Requested,
-    Requester, Seconds,
+    AgentId, Arrival, Command, DeviceId, Event, Figures, Invoke, Name, Pending, Request, Requested,
+    Requester, Rows, Seconds,
 };
-use records::NO_FIGURES;
 
 // How many requests make the office, and how many events they report: 40 log on, 20 become ready, 60
 // calls are queued, and 20 of them leave their queue and ring.
@@ -169,7 +169,7 @@ fn expect_all(rt: &impl Abort, rows: &Rows) {
     for group in &rows.groups {
         let figures = Figures {
             entered: 5,
-            ..NO_FIGURES
+            ..Figures::default()
         };
         assert!(rt; group.figures == figures);
     }
@@ -199,7 +199,7 @@ fn switch_of_an_office(rt: HostRuntime) {
     let mut book = office(&rt, rt.alloc());
     let rows = rows_of(&rt, &mut book);
     let switch = switch_of(&rt, rt.alloc(), &rows);
-    look_ups::compare(&rt, &switch);
+    look_ups::compare(&rt, &switch, &rows);
     assert!(rt; switch.tables().queued_count() == 40);
     assert!(rt; switch.rows().expect(&rt, "memory") == rows);
 }
@@ -213,7 +213,8 @@ fn tick_of_an_office(rt: HostRuntime) {
     let (_, events) = switch.step(20, &Command::Tick).expect(&rt, "memory");
     assert_eq!(rt; events.len(), 60);
     assert_eq!(rt; switch.tables().queued_count(), 60);
-    look_ups::compare(&rt, &switch);
+    let rows = switch.rows().expect(&rt, "memory");
+    look_ups::compare(&rt, &switch, &rows);
 }
 
 // The desk takes twenty offers back at one tick, and twenty agents end their after-call work at another:
@@ -230,7 +231,7 @@ fn desk_of_an_office(rt: HostRuntime) {
     let mut book = desk.close();
     let rows = rows_of(&rt, &mut book);
     assert_eq!(rt; rows.last_event, EVENTS + 60 + 20 + 60);
-    look_ups::compare(&rt, &switch_of(&rt, rt.alloc(), &rows));
+    look_ups::compare(&rt, &switch_of(&rt, rt.alloc(), &rows), &rows);
 }
 
 // The numbers of the events go on by one from the first.
