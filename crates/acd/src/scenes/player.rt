@@ -10,6 +10,7 @@
 //! | `= TEXT` | what the rows then hold, a line of [`held::lines`] |
 //! | `# TEXT` | a comment |
 
+use super::look_ups::same;
 use super::reference::Reference;
 use super::reports::ALL;
 use super::{held, reports};
@@ -224,9 +225,9 @@ fn send_again<B: Book + Drop>(rt: &impl Abort, alloc: Global, book: B, texts: &[
         assert_eq!(rt; answers.as_str(), output.as_str());
     }
     let mut book = desk.close();
-    assert!(rt; book.rows().expect(rt, "memory") == rows);
+    same(rt, &book.rows().expect(rt, "memory"), &rows);
     let left = book.events_after(0, ALL).expect(rt, "memory");
-    assert!(rt; left.as_slice() == events.as_slice());
+    same(rt, &left, &events);
     book
 }
 

@@ -1,6 +1,7 @@
 //! The event reports alone tell the connections, the agents and the order of the queues that stand in the
 //! rows.
 
+use super::look_ups::same;
 use super::*;
 use acd_book::Book;
 use acd_switch::{RowFault, Switch};
@@ -109,9 +110,10 @@ fn state_kept(rows: &Rows, call: u64, device: DeviceId) -> Option<ConnectionStat
 
 fn compare_connection(rt: &impl Abort, events: &[Event], rows: &Rows, call: u64, device: DeviceId) {
     if !is_external_caller(rows, call, device) {
-        assert_eq!(rt;
-            connection_told(events, call, device),
-            state_kept(rows, call, device)
+        same(
+            rt,
+            &connection_told(events, call, device),
+            &state_kept(rows, call, device),
         );
     }
 }
@@ -131,9 +133,10 @@ fn compare_connections(rt: &impl Abort, events: &[Event], rows: &Rows) {
 
 fn compare_agents(rt: &impl Abort, events: &[Event], rows: &Rows) {
     for agent in rows.agents.as_slice() {
-        assert_eq!(rt;
-            seat_told(events, agent.agent),
-            (agent.state, agent.station)
+        same(
+            rt,
+            &seat_told(events, agent.agent),
+            &(agent.state, agent.station),
         );
     }
     for event in events {
@@ -157,7 +160,7 @@ fn compare_queue(rt: &impl Abort, events: &[Event], rows: &Rows, group: DeviceId
                 let entry = last_entry(events, group, first.call);
                 let other = last_entry(events, group, second.call);
                 assert!(rt; entry > 0);
-                assert_eq!(rt; first.place.cmp(&second.place), entry.cmp(&other));
+                same(rt, &first.place.cmp(&second.place), &entry.cmp(&other));
             }
         }
     }
@@ -187,7 +190,7 @@ fn event_number_out_of_bounds(rt: HostRuntime) {
     let texts = [plan(), call_arrives(), ana_becomes_ready(), ana_answers()];
     let mut book = play(&rt, rt.alloc(), new_book, "answered_call", &texts);
     let mut rows = book.rows().expect(&rt, "memory");
-    assert_eq!(rt; broken(&rt, rt.alloc(), &rows), None);
+    same(&rt, &broken(&rt, rt.alloc(), &rows), &None);
     rows.last_event = 1000000;
-    assert_eq!(rt; broken(&rt, rt.alloc(), &rows), Some(Rule::Counters));
+    same(&rt, &broken(&rt, rt.alloc(), &rows), &Some(Rule::Counters));
 }

@@ -1,6 +1,7 @@
 //! A store that stops at each of its commits, before the commit is made and behind it; and the desk
 //! that is opened again.
 
+use super::look_ups::same;
 use super::player::opened;
 use super::stopping::{Stop, StoppingBook};
 use super::*;
@@ -49,7 +50,7 @@ fn arrivals(rt: &impl Abort, alloc: Global) -> Vec<Arrival> {
 // The first requests get their replies, and all behind them a storeFault.
 fn run_session<B: Book>(rt: &impl Abort, alloc: Global, desk: &mut Desk<B>, served: usize) {
     let answers = desk.run(&arrivals(rt, alloc)).expect(rt, "memory");
-    assert_eq!(rt; answers.len(), REPLIES.len());
+    same(rt, &answers.len(), &REPLIES.len());
     for (i, answer) in answers.iter().enumerate() {
         match answer {
             Taken::Reply { status, body } => {
@@ -92,11 +93,11 @@ fn push_line(rt: &impl Abort, text: &mut String, first: &str, rest: &str) {
 // The first requests are executed, and no other: the first makes a group, and the others stations.
 fn expect_executed(rt: &impl Abort, book: &mut MemoryBook, requests: u64) {
     let rows = book.rows().expect(rt, "memory");
-    assert_eq!(rt; rows.last_stamp, requests);
-    assert_eq!(rt; rows.groups.len() as u64, requests.min(1));
-    assert_eq!(rt; rows.stations.len() as u64, requests.saturating_sub(1));
+    same(rt, &rows.last_stamp, &requests);
+    same(rt, &(rows.groups.len() as u64), &requests.min(1));
+    same(rt, &(rows.stations.len() as u64), &requests.saturating_sub(1));
     let last = book.kept_after(requests.saturating_sub(1));
-    assert_eq!(rt; last.expect(rt, "memory").is_some(), requests > 0);
+    same(rt, &last.expect(rt, "memory").is_some(), &(requests > 0));
     let behind = book.kept_after(requests).expect(rt, "memory");
     assert!(rt; behind.is_none());
 }
@@ -104,7 +105,7 @@ fn expect_executed(rt: &impl Abort, book: &mut MemoryBook, requests: u64) {
 // What a reopening finds: what was answered, and the request at which the store stopped, where it was made.
 fn left_by(rt: &impl Abort, book: StoppingBook, stop: Stop) -> MemoryBook {
     let stopped = stop.commit <= 3;
-    assert_eq!(rt; book.failures(), u64::from(stopped));
+    same(rt, &book.failures(), &u64::from(stopped));
     let mut left = book.into_inner();
     let before = u64::from(stop.commit.saturating_sub(1));
     let made = before + u64::from(stopped && stop.is_made);
