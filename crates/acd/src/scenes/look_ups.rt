@@ -146,11 +146,13 @@ fn compare_figures(rt: &impl Abort, switch: &Switch, rows: &Rows) {
 
 /// Compares them all with the rows, which are the switch's own.
 pub fn compare(rt: &impl Abort, switch: &Switch, rows: &Rows) {
-    compare_tables(rt, switch.tables(), rows);
+    compare_devices(rt, switch.tables(), rows);
+    compare_records(rt, switch.tables(), rows);
+    compare_numbers(rt, switch.tables(), rows);
     compare_figures(rt, switch, rows);
 }
 
-fn compare_tables(rt: &impl Abort, tables: &Tables, rows: &Rows) {
+fn compare_devices(rt: &impl Abort, tables: &Tables, rows: &Rows) {
     for group in &rows.groups {
         compare_device(rt, tables, rows, group.device);
         compare_queue(rt, tables, rows, group.device);
@@ -161,6 +163,9 @@ fn compare_tables(rt: &impl Abort, tables: &Tables, rows: &Rows) {
         assert!(rt; tables.queue_of(station.device).is_none());
         assert!(rt; tables.ready_of(station.device).is_none());
     }
+}
+
+fn compare_records(rt: &impl Abort, tables: &Tables, rows: &Rows) {
     for agent in &rows.agents {
         compare_agent(rt, tables, rows, agent);
     }
@@ -170,5 +175,4 @@ fn compare_tables(rt: &impl Abort, tables: &Tables, rows: &Rows) {
     for connection in &rows.connections {
         compare_connection(rt, tables, rows, connection);
     }
-    compare_numbers(rt, tables, rows);
 }

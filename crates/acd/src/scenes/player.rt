@@ -18,7 +18,7 @@ use acd_book::Book;
 use acd_codec::{event_text, read_request};
 use acd_desk::Desk;
 use acd_lines::lines;
-use acd_terms::{Arrival, Event};
+use acd_terms::{Arrival, Event, Rows};
 use std::alloc::Global;
 use std::process::Abort;
 
@@ -55,7 +55,7 @@ fn line_of(rt: &impl Abort, alloc: Global, parts: &[&str]) -> String {
 }
 
 // What the program writes to this input.
-fn written<B: Book>(rt: &impl Abort, alloc: Global, desk: &mut Desk<B>, input: &str) -> String {
+pub fn written<B: Book>(rt: &impl Abort, alloc: Global, desk: &mut Desk<B>, input: &str) -> String {
     let mut reader = input.as_bytes();
     let mut writer = Vec::new(alloc);
     let ended = lines(alloc, desk, &mut reader, &mut writer);
@@ -212,22 +212,35 @@ fn session(
     (input, output)
 }
 
+// The requests of the transcripts as one input get the answers of the transcripts.
+fn send<B: Book>(
+    rt: &impl Abort,
+    alloc: Global,
+    desk: &mut Desk<B>,
+    texts: &[&str],
+    moment: Option<&str>,
+) {
+    let (input, output) = session(rt, alloc, texts, moment);
+    let answers = written(rt, alloc, desk, &input);
+    assert_eq!(rt; answers.as_str(), output.as_str());
+}
+
+fn held_by<B: Book>(rt: &impl Abort, book: &mut B) -> (Rows, Vec<Event>) {
+    let rows = book.rows().expect(rt, "memory");
+    let events = book.events_after(0, ALL).expect(rt, "memory");
+    (rows, events)
+}
+
 // One desk is sent all requests again, at the moments and at the greatest one: each gets its answer, and
 // nothing changes.
 fn send_again<B: Book + Drop>(rt: &impl Abort, alloc: Global, book: B, texts: &[&str]) -> B {
     let mut book = book;
-    let rows = book.rows().expect(rt, "memory");
-    let events = book.events_after(0, ALL).expect(rt, "memory");
+    let before = held_by(rt, &mut book);
     let mut desk = opened(rt, alloc, book);
-    for moment in [None, Some(AT_LAST)] {
-        let (input, output) = session(rt, alloc, texts, moment);
-        let answers = written(rt, alloc, &mut desk, &input);
-        assert_eq!(rt; answers.as_str(), output.as_str());
-    }
+    send(rt, alloc, &mut desk, texts, None);
+    send(rt, alloc, &mut desk, texts, Some(AT_LAST));
     let mut book = desk.close();
-    same(rt, &book.rows().expect(rt, "memory"), &rows);
-    let left = book.events_after(0, ALL).expect(rt, "memory");
-    same(rt, &left, &events);
+    same(rt, &held_by(rt, &mut book), &before);
     book
 }
 

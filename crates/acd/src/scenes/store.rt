@@ -2,13 +2,12 @@
 //! that is opened again.
 
 use super::look_ups::same;
-use super::player::opened;
+use super::player::{opened, written};
 use super::stopping::{Stop, StoppingBook};
 use super::*;
 use acd_book::Book;
 use acd_codec::read_request;
 use acd_desk::{Desk, Taken};
-use acd_lines::lines;
 use acd_terms::Arrival;
 
 // A new group, the same request again, and two new stations.
@@ -65,23 +64,26 @@ fn run_session<B: Book>(rt: &impl Abort, alloc: Global, desk: &mut Desk<B>, serv
     }
 }
 
-// The same in lines.
-fn write_session<B: Book>(rt: &impl Abort, alloc: Global, desk: &mut Desk<B>, served: usize) {
+// The session in lines, and what is written: the replies to the first requests, and then a storeFault.
+fn session(rt: &impl Abort, alloc: Global, served: usize) -> (String, String) {
     let mut input = String::new(alloc);
-    let mut wanted = String::new(alloc);
+    let mut output = String::new(alloc);
     for (i, (request, reply)) in SESSION.iter().zip(REPLIES).enumerate() {
         push_line(rt, &mut input, "0", request);
         if i < served {
-            push_line(rt, &mut wanted, "200", reply);
+            push_line(rt, &mut output, "200", reply);
         } else {
-            push_line(rt, &mut wanted, "503", STORE_FAULT);
+            push_line(rt, &mut output, "503", STORE_FAULT);
         }
     }
-    let mut reader = input.as_bytes();
-    let mut written = Vec::new(alloc);
-    let ended = lines(alloc, desk, &mut reader, &mut written);
-    assert!(rt; ended.is_ok());
-    assert_eq!(rt; written.as_slice(), wanted.as_bytes());
+    (input, output)
+}
+
+// The same in lines.
+fn write_session<B: Book>(rt: &impl Abort, alloc: Global, desk: &mut Desk<B>, served: usize) {
+    let (input, output) = session(rt, alloc, served);
+    let answers = written(rt, alloc, desk, &input);
+    assert_eq!(rt; answers.as_str(), output.as_str());
 }
 
 fn push_line(rt: &impl Abort, text: &mut String, first: &str, rest: &str) {
@@ -95,7 +97,11 @@ fn expect_executed(rt: &impl Abort, book: &mut MemoryBook, requests: u64) {
     let rows = book.rows().expect(rt, "memory");
     same(rt, &rows.last_stamp, &requests);
     same(rt, &(rows.groups.len() as u64), &requests.min(1));
-    same(rt, &(rows.stations.len() as u64), &requests.saturating_sub(1));
+    same(
+        rt,
+        &(rows.stations.len() as u64),
+        &requests.saturating_sub(1),
+    );
     let last = book.kept_after(requests.saturating_sub(1));
     same(rt, &last.expect(rt, "memory").is_some(), &(requests > 0));
     let behind = book.kept_after(requests).expect(rt, "memory");

@@ -6,6 +6,7 @@
 use super::look_ups::same;
 use super::player::opened;
 use super::reference::Reference;
+use super::reports::ALL;
 use super::*;
 use acd_book::{Book, BookFault, Kept, Text};
 use acd_desk::{Desk, Taken};
@@ -156,7 +157,7 @@ fn rows_of(rt: &impl Abort, book: &mut MemoryBook) -> Rows {
 }
 
 fn events_of(rt: &impl Abort, book: &mut MemoryBook) -> Vec<Event> {
-    book.events_after(0, reports::ALL).expect(rt, "memory")
+    book.events_after(0, ALL).expect(rt, "memory")
 }
 
 // Twelve groups and their monitors, forty stations and agents, and sixty calls of two connections.
@@ -259,11 +260,19 @@ fn count_of_monitor(rt: &impl Abort, book: &mut MemoryBook, monitor: u64, limit:
 #[test]
 fn monitors_of_an_office(rt: HostRuntime) {
     let mut book = office(&rt, rt.alloc());
-    same(&rt, &count_of_monitor(&rt, &mut book, 1, reports::ALL), &6);
-    same(&rt, &count_of_monitor(&rt, &mut book, 2, reports::ALL), &7);
-    same(&rt, &count_of_monitor(&rt, &mut book, 2, 4), &4);
-    same(&rt, &count_of_monitor(&rt, &mut book, 12, reports::ALL), &6);
-    same(&rt, &count_of_monitor(&rt, &mut book, 13, reports::ALL), &0);
+    for (monitor, limit, count) in [
+        (1, ALL, 6),
+        (2, ALL, 7),
+        (2, 4, 4),
+        (12, ALL, 6),
+        (13, ALL, 0),
+    ] {
+        same(
+            &rt,
+            &count_of_monitor(&rt, &mut book, monitor, limit),
+            &count,
+        );
+    }
 }
 
 fn stamp_after(rt: &impl Abort, book: &mut MemoryBook, stamp: u64) -> Option<u64> {
@@ -312,12 +321,22 @@ fn commit_of_an_office(rt: HostRuntime) {
     let mut book = office(&rt, rt.alloc());
     let rows = rows_of(&rt, &mut book);
     let events = events_of(&rt, &mut book);
-    let mut copy = MemoryBook::new(rt.alloc(), Limits::GREATEST);
     let record = first_record(&rt, rt.alloc());
-    copy.commit(&rows, &events, &record).expect(&rt, "memory");
+    let mut copy = MemoryBook::new(rt.alloc(), Limits::GREATEST);
+    committed(&mut copy, &rows, &events, &record).expect(&rt, "memory");
     same(&rt, &rows_of(&rt, &mut copy), &rows);
     same(&rt, &events_of(&rt, &mut copy), &events);
     // its record goes on from the first
-    let again = copy.commit(&rows, &[], &record);
+    let again = committed(&mut copy, &rows, &[], &record);
     assert!(rt; matches!(again, Err(BookFault::NoMemory)));
+}
+
+// The commit, without its clauses.
+fn committed(
+    book: &mut MemoryBook,
+    rows: &Rows,
+    events: &[Event],
+    record: &Kept,
+) -> Result<(), BookFault> {
+    book.commit(rows, events, record)
 }
