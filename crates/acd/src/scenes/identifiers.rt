@@ -1,61 +1,104 @@
 //! The faults of identifiers and names, each at its place.
 
+use super::look_ups::same;
 use super::*;
 use acd_terms::{AgentId, DeviceId, IdFault, Invoke, Name, NameFault, Requester, Seconds, Serial};
 use std::collections::HashMap;
 
+// The faults, without the clauses of reading.
+fn device_fault(text: &[u8]) -> Option<IdFault> {
+    DeviceId::read(text).err()
+}
+
+fn agent_fault(text: &[u8]) -> Option<IdFault> {
+    AgentId::read(text).err()
+}
+
+fn name_fault(text: &[u8]) -> Option<NameFault> {
+    Name::read(text).err()
+}
+
+fn requester_fault(text: &[u8]) -> Option<NameFault> {
+    Requester::read(text).err()
+}
+
 #[test]
 fn faults_of_devices(rt: HostRuntime) {
-    assert_eq!(rt; DeviceId::read(b""), Err(IdFault::Empty));
-    assert_eq!(rt; DeviceId::read(b"1234567890123456"), Err(IdFault::TooLong));
-    assert_eq!(rt; DeviceId::read(b"x123456789012345"), Err(IdFault::TooLong));
-    assert_eq!(rt; DeviceId::read(b"x01"), Err(IdFault::NotDigit(0)));
-    assert_eq!(rt; DeviceId::read(b"12+4x"), Err(IdFault::NotDigit(2)));
-    assert_eq!(rt;
-        DeviceId::read(b"12345678901234 "),
-        Err(IdFault::NotDigit(14))
-    );
-    let device = DeviceId::read(b"0301234").expect(&rt, "a device");
-    assert_eq!(rt; device.number(), 10301234);
-    assert_eq!(rt; device.text().as_str(), "0301234");
-    let longest = DeviceId::read(b"000000000000000").expect(&rt, "a device");
-    assert_eq!(rt; longest.number(), 1000000000000000);
+    for (text, fault) in [
+        ("", IdFault::Empty),
+        ("1234567890123456", IdFault::TooLong),
+        ("x123456789012345", IdFault::TooLong),
+        ("x01", IdFault::NotDigit(0)),
+        ("12+4x", IdFault::NotDigit(2)),
+        ("12345678901234 ", IdFault::NotDigit(14)),
+    ] {
+        same(&rt, &device_fault(text.as_bytes()), &Some(fault));
+    }
+    for (text, number) in [("0301234", 10301234), ("000000000000000", 1000000000000000)] {
+        let device = DeviceId::read(text.as_bytes()).expect(&rt, "a device");
+        same(&rt, &device.number(), &number);
+        same(&rt, &device.text().as_str(), &text);
+    }
 }
 
 #[test]
 fn faults_of_agents(rt: HostRuntime) {
-    assert_eq!(rt; AgentId::read(b""), Err(IdFault::Empty));
-    assert_eq!(rt; AgentId::read(b"1234567890"), Err(IdFault::TooLong));
-    assert_eq!(rt; AgentId::read(b"123456789x"), Err(IdFault::TooLong));
-    assert_eq!(rt; AgentId::read(b"-7"), Err(IdFault::NotDigit(0)));
-    assert_eq!(rt; AgentId::read(b"7 "), Err(IdFault::NotDigit(1)));
-    assert_eq!(rt; AgentId::read(b"12345678\xff"), Err(IdFault::NotDigit(8)));
+    for (text, fault) in [
+        ("", IdFault::Empty),
+        ("1234567890", IdFault::TooLong),
+        ("123456789x", IdFault::TooLong),
+        ("-7", IdFault::NotDigit(0)),
+        ("7 ", IdFault::NotDigit(1)),
+    ] {
+        same(&rt, &agent_fault(text.as_bytes()), &Some(fault));
+    }
+    same(
+        &rt,
+        &agent_fault(b"12345678\xff"),
+        &Some(IdFault::NotDigit(8)),
+    );
     let agent = AgentId::read(b"123456789").expect(&rt, "an agent");
-    assert_eq!(rt; agent.number(), 1123456789);
+    same(&rt, &agent.number(), &1123456789);
 }
 
 #[test]
 fn faults_of_names(rt: HostRuntime) {
-    assert_eq!(rt; Name::read(b""), Err(NameFault::Empty));
-    assert_eq!(rt; Name::read(&[b'n'; 41]), Err(NameFault::TooLong));
-    assert_eq!(rt; Name::read(&[0; 41]), Err(NameFault::TooLong));
-    assert_eq!(rt; Name::read(b"\x1fAna"), Err(NameFault::BadCharacter(0)));
-    assert_eq!(rt; Name::read(b"An\x7fa"), Err(NameFault::BadCharacter(2)));
-    assert_eq!(rt; Name::read(b"Caf\xc3\xa9"), Err(NameFault::BadCharacter(3)));
+    for (text, fault) in [
+        ("", NameFault::Empty),
+        ("\x1fAna", NameFault::BadCharacter(0)),
+        ("An\x7fa", NameFault::BadCharacter(2)),
+        ("Caf\u{e9}", NameFault::BadCharacter(3)),
+    ] {
+        same(&rt, &name_fault(text.as_bytes()), &Some(fault));
+    }
+    same(&rt, &name_fault(&[b'n'; 41]), &Some(NameFault::TooLong));
+    same(&rt, &name_fault(&[0; 41]), &Some(NameFault::TooLong));
     let name = Name::read(b" ~").expect(&rt, "a name");
-    assert_eq!(rt; name.as_str(), " ~");
+    same(&rt, &name.as_str(), &" ~");
 }
 
 #[test]
 fn faults_of_requesters(rt: HostRuntime) {
-    assert_eq!(rt; Requester::read(b""), Err(NameFault::Empty));
-    assert_eq!(rt; Requester::read(&[b'a'; 33]), Err(NameFault::TooLong));
-    assert_eq!(rt; Requester::read(&[b'A'; 33]), Err(NameFault::TooLong));
-    assert_eq!(rt; Requester::read(b"Plan"), Err(NameFault::BadCharacter(0)));
-    assert_eq!(rt; Requester::read(b"pBx"), Err(NameFault::BadCharacter(1)));
-    assert_eq!(rt; Requester::read(b"a-9_"), Err(NameFault::BadCharacter(3)));
+    for (text, fault) in [
+        ("", NameFault::Empty),
+        ("Plan", NameFault::BadCharacter(0)),
+        ("pBx", NameFault::BadCharacter(1)),
+        ("a-9_", NameFault::BadCharacter(3)),
+    ] {
+        same(&rt, &requester_fault(text.as_bytes()), &Some(fault));
+    }
+    same(
+        &rt,
+        &requester_fault(&[b'a'; 33]),
+        &Some(NameFault::TooLong),
+    );
+    same(
+        &rt,
+        &requester_fault(&[b'A'; 33]),
+        &Some(NameFault::TooLong),
+    );
     let requester = Requester::read(b"a-9z").expect(&rt, "a requester");
-    assert_eq!(rt; requester.as_str(), "a-9z");
+    same(&rt, &requester.as_str(), &"a-9z");
 }
 
 // The key of a request.
@@ -80,15 +123,23 @@ fn requesters_as_keys(rt: HostRuntime) {
 
 #[test]
 fn bounds_of_numbers(rt: HostRuntime) {
-    assert!(rt; Invoke::new(0).is_none());
-    assert!(rt; Invoke::new(1).is_some());
-    assert!(rt; Invoke::new(999999999).is_some());
-    assert!(rt; Invoke::new(1000000000).is_none());
-    assert!(rt; Seconds::new(0).is_some());
-    assert!(rt; Seconds::new(3600).is_some());
-    assert!(rt; Seconds::new(3601).is_none());
-    assert!(rt; Serial::new(0).is_none());
-    assert!(rt; Serial::new(1).is_some());
-    assert!(rt; Serial::new(1000000000).is_some());
-    assert!(rt; Serial::new(1000000001).is_none());
+    for (number, is_one) in [
+        (0, false),
+        (1, true),
+        (999999999, true),
+        (1000000000, false),
+    ] {
+        assert!(rt; Invoke::new(number).is_some() == is_one);
+    }
+    for (number, is_one) in [(0, true), (3600, true), (3601, false)] {
+        assert!(rt; Seconds::new(number).is_some() == is_one);
+    }
+    for (number, is_one) in [
+        (0, false),
+        (1, true),
+        (1000000000, true),
+        (1000000001, false),
+    ] {
+        assert!(rt; Serial::new(number).is_some() == is_one);
+    }
 }

@@ -3,6 +3,7 @@
 
 use super::*;
 
+// One call, one group, two stations, two agents and one monitor.
 const SMALL: Limits = Limits {
     requests: 100,
     calls: 1,
@@ -12,459 +13,207 @@ const SMALL: Limits = Limits {
     monitors: 1,
 };
 
+fn refusals_of_plan_and_calls() -> &'static str {
+    r#"
+> 50 {"device":"100","invoke":101,"name":"Again","requester":"sup","ring":0,"service":"addGroup","wrap":0}
+< 409 {"error":{"code":7,"name":"deviceExists"},"invoke":101,"requester":"sup"}
+> 50 {"device":"0301234","invoke":102,"name":"Caller","requester":"sup","ring":0,"service":"addGroup","wrap":0}
+< 409 {"error":{"code":7,"name":"deviceExists"},"invoke":102,"requester":"sup"}
+> 50 {"device":"110","invoke":103,"name":"Claims","requester":"sup","ring":0,"service":"addGroup","wrap":0}
+< 409 {"error":{"code":16,"name":"planFull"},"invoke":103,"requester":"sup"}
+> 50 {"device":"100","invoke":104,"requester":"sup","service":"addStation"}
+< 409 {"error":{"code":7,"name":"deviceExists"},"invoke":104,"requester":"sup"}
+> 50 {"device":"0301234","invoke":105,"requester":"sup","service":"addStation"}
+< 409 {"error":{"code":7,"name":"deviceExists"},"invoke":105,"requester":"sup"}
+> 50 {"device":"203","invoke":106,"requester":"sup","service":"addStation"}
+< 409 {"error":{"code":16,"name":"planFull"},"invoke":106,"requester":"sup"}
+> 50 {"agent":"7","invoke":107,"name":"Ana","requester":"sup","service":"addAgent"}
+< 409 {"error":{"code":8,"name":"agentExists"},"invoke":107,"requester":"sup"}
+> 50 {"agent":"9","invoke":108,"name":"Cid","requester":"sup","service":"addAgent"}
+< 409 {"error":{"code":16,"name":"planFull"},"invoke":108,"requester":"sup"}
+> 50 {"called":"999","caller":"201","invoke":109,"requester":"sup","service":"arriveCall"}
+< 409 {"error":{"code":18,"name":"callerPlanned"},"invoke":109,"requester":"sup"}
+> 50 {"called":"999","caller":"0309999","invoke":110,"requester":"sup","service":"arriveCall"}
+< 409 {"error":{"code":1,"name":"unknownDevice"},"invoke":110,"requester":"sup"}
+> 50 {"called":"100","caller":"0309999","invoke":111,"requester":"sup","service":"arriveCall"}
+< 409 {"error":{"code":15,"name":"tooManyCalls"},"invoke":111,"requester":"sup"}
+> 50 {"called":"999","device":"999","invoke":112,"requester":"sup","service":"makeCall"}
+< 409 {"error":{"code":1,"name":"unknownDevice"},"invoke":112,"requester":"sup"}
+> 50 {"called":"999","device":"100","invoke":113,"requester":"sup","service":"makeCall"}
+< 409 {"error":{"code":9,"name":"notStation"},"invoke":113,"requester":"sup"}
+> 50 {"called":"999","device":"201","invoke":114,"requester":"sup","service":"makeCall"}
+< 409 {"error":{"code":1,"name":"unknownDevice"},"invoke":114,"requester":"sup"}
+> 50 {"called":"201","device":"201","invoke":115,"requester":"sup","service":"makeCall"}
+< 409 {"error":{"code":12,"name":"sameDevice"},"invoke":115,"requester":"sup"}
+> 50 {"called":"202","device":"201","invoke":116,"requester":"sup","service":"makeCall"}
+< 409 {"error":{"code":14,"name":"stationBusy"},"invoke":116,"requester":"sup"}
+> 50 {"called":"201","device":"202","invoke":117,"requester":"sup","service":"makeCall"}
+< 409 {"error":{"code":15,"name":"tooManyCalls"},"invoke":117,"requester":"sup"}
+> 50 {"device":"999","invoke":118,"requester":"sup","service":"monitorStart"}
+< 409 {"error":{"code":1,"name":"unknownDevice"},"invoke":118,"requester":"sup"}
+> 50 {"device":"201","invoke":119,"requester":"sup","service":"monitorStart"}
+< 200 {"invoke":119,"requester":"sup","result":{"monitor":1}}
+> 50 {"device":"0301234","invoke":120,"requester":"sup","service":"monitorStart"}
+< 409 {"error":{"code":1,"name":"unknownDevice"},"invoke":120,"requester":"sup"}
+> 50 {"device":"202","invoke":121,"requester":"sup","service":"monitorStart"}
+< 409 {"error":{"code":16,"name":"planFull"},"invoke":121,"requester":"sup"}
+> 50 {"invoke":122,"monitor":2,"requester":"sup","service":"monitorStop"}
+< 409 {"error":{"code":17,"name":"unknownMonitor"},"invoke":122,"requester":"sup"}
+> 50 {"invoke":123,"monitor":1,"requester":"sup","service":"monitorStop"}
+< 200 {"invoke":123,"requester":"sup","result":{}}
+> 50 {"invoke":124,"monitor":1,"requester":"sup","service":"monitorStop"}
+< 409 {"error":{"code":17,"name":"unknownMonitor"},"invoke":124,"requester":"sup"}
+"#
+}
+
+fn refusals_of_an_answered_call() -> &'static str {
+    r#"
+> 50 {"call":9,"device":"999","invoke":125,"requester":"sup","service":"phoneOffHook"}
+< 409 {"error":{"code":3,"name":"unknownCall"},"invoke":125,"requester":"sup"}
+> 50 {"call":1,"device":"202","invoke":126,"requester":"sup","service":"phoneOffHook"}
+< 409 {"error":{"code":4,"name":"unknownConnection"},"invoke":126,"requester":"sup"}
+> 50 {"call":1,"device":"201","invoke":127,"requester":"sup","service":"phoneOffHook"}
+< 409 {"error":{"code":5,"name":"wrongConnectionState"},"invoke":127,"requester":"sup"}
+> 50 {"call":9,"device":"999","invoke":128,"requester":"sup","service":"answerCall"}
+< 409 {"error":{"code":3,"name":"unknownCall"},"invoke":128,"requester":"sup"}
+> 50 {"call":1,"device":"202","invoke":129,"requester":"sup","service":"answerCall"}
+< 409 {"error":{"code":4,"name":"unknownConnection"},"invoke":129,"requester":"sup"}
+> 50 {"call":1,"device":"201","invoke":130,"requester":"sup","service":"answerCall"}
+< 409 {"error":{"code":5,"name":"wrongConnectionState"},"invoke":130,"requester":"sup"}
+> 50 {"call":9,"device":"999","invoke":131,"requester":"sup","service":"holdCall"}
+< 409 {"error":{"code":3,"name":"unknownCall"},"invoke":131,"requester":"sup"}
+> 50 {"call":1,"device":"100","invoke":132,"requester":"sup","service":"holdCall"}
+< 409 {"error":{"code":4,"name":"unknownConnection"},"invoke":132,"requester":"sup"}
+> 50 {"call":1,"device":"0301234","invoke":133,"requester":"sup","service":"holdCall"}
+< 409 {"error":{"code":9,"name":"notStation"},"invoke":133,"requester":"sup"}
+> 50 {"call":9,"device":"999","invoke":134,"requester":"sup","service":"retrieveCall"}
+< 409 {"error":{"code":3,"name":"unknownCall"},"invoke":134,"requester":"sup"}
+> 50 {"call":1,"device":"202","invoke":135,"requester":"sup","service":"retrieveCall"}
+< 409 {"error":{"code":4,"name":"unknownConnection"},"invoke":135,"requester":"sup"}
+> 50 {"call":1,"device":"201","invoke":136,"requester":"sup","service":"retrieveCall"}
+< 409 {"error":{"code":5,"name":"wrongConnectionState"},"invoke":136,"requester":"sup"}
+> 50 {"call":9,"device":"999","invoke":137,"requester":"sup","service":"clearConnection"}
+< 409 {"error":{"code":3,"name":"unknownCall"},"invoke":137,"requester":"sup"}
+> 50 {"call":1,"device":"202","invoke":138,"requester":"sup","service":"clearConnection"}
+< 409 {"error":{"code":4,"name":"unknownConnection"},"invoke":138,"requester":"sup"}
+> 50 {"call":9,"device":"999","invoke":139,"requester":"sup","service":"deflectCall","to":"999"}
+< 409 {"error":{"code":3,"name":"unknownCall"},"invoke":139,"requester":"sup"}
+> 50 {"call":1,"device":"202","invoke":140,"requester":"sup","service":"deflectCall","to":"999"}
+< 409 {"error":{"code":4,"name":"unknownConnection"},"invoke":140,"requester":"sup"}
+> 50 {"call":1,"device":"201","invoke":141,"requester":"sup","service":"deflectCall","to":"999"}
+< 409 {"error":{"code":5,"name":"wrongConnectionState"},"invoke":141,"requester":"sup"}
+> 50 {"call":9,"device":"999","invoke":142,"requester":"sup","service":"singleStepTransfer","to":"999"}
+< 409 {"error":{"code":3,"name":"unknownCall"},"invoke":142,"requester":"sup"}
+> 50 {"call":1,"device":"202","invoke":143,"requester":"sup","service":"singleStepTransfer","to":"999"}
+< 409 {"error":{"code":4,"name":"unknownConnection"},"invoke":143,"requester":"sup"}
+> 50 {"call":1,"device":"0301234","invoke":144,"requester":"sup","service":"singleStepTransfer","to":"999"}
+< 409 {"error":{"code":9,"name":"notStation"},"invoke":144,"requester":"sup"}
+> 50 {"call":1,"device":"201","invoke":145,"requester":"sup","service":"singleStepTransfer","to":"999"}
+< 409 {"error":{"code":1,"name":"unknownDevice"},"invoke":145,"requester":"sup"}
+> 50 {"call":1,"device":"201","invoke":146,"requester":"sup","service":"singleStepTransfer","to":"201"}
+< 409 {"error":{"code":12,"name":"sameDevice"},"invoke":146,"requester":"sup"}
+> 50 {"called":"100","device":"202","invoke":147,"requester":"sup","service":"makeCall"}
+< 200 {"invoke":147,"requester":"sup","result":{"call":2}}
+! {"call":2,"device":"202","event":"serviceInitiated","moment":50,"number":8}
+> 50 {"call":1,"device":"201","invoke":148,"requester":"sup","service":"singleStepTransfer","to":"202"}
+< 409 {"error":{"code":11,"name":"destinationBusy"},"invoke":148,"requester":"sup"}
+> 50 {"call":1,"device":"201","invoke":149,"requester":"sup","service":"holdCall"}
+< 200 {"invoke":149,"requester":"sup","result":{}}
+! {"call":1,"device":"201","event":"held","moment":50,"number":9}
+> 50 {"call":1,"device":"201","invoke":150,"requester":"sup","service":"holdCall"}
+< 409 {"error":{"code":5,"name":"wrongConnectionState"},"invoke":150,"requester":"sup"}
+> 50 {"call":1,"device":"201","invoke":151,"requester":"sup","service":"singleStepTransfer","to":"999"}
+< 409 {"error":{"code":5,"name":"wrongConnectionState"},"invoke":151,"requester":"sup"}
+"#
+}
+
+fn refusals_of_an_offered_call() -> &'static str {
+    r#"
+> 50 {"call":1,"device":"201","invoke":152,"requester":"sup","service":"singleStepTransfer","to":"999"}
+< 409 {"error":{"code":5,"name":"wrongConnectionState"},"invoke":152,"requester":"sup"}
+> 50 {"call":1,"device":"201","invoke":153,"requester":"sup","service":"deflectCall","to":"0301234"}
+< 409 {"error":{"code":1,"name":"unknownDevice"},"invoke":153,"requester":"sup"}
+> 50 {"call":1,"device":"201","invoke":154,"requester":"sup","service":"deflectCall","to":"201"}
+< 409 {"error":{"code":12,"name":"sameDevice"},"invoke":154,"requester":"sup"}
+> 50 {"called":"201","device":"202","invoke":155,"requester":"sup","service":"makeCall"}
+< 200 {"invoke":155,"requester":"sup","result":{"call":2}}
+! {"call":2,"device":"202","event":"serviceInitiated","moment":50,"number":6}
+> 50 {"call":1,"device":"201","invoke":156,"requester":"sup","service":"deflectCall","to":"202"}
+< 409 {"error":{"code":11,"name":"destinationBusy"},"invoke":156,"requester":"sup"}
+"#
+}
+
+fn refusals_of_agents() -> &'static str {
+    r#"
+> 50 {"agent":"9","invoke":157,"requested":"ready","requester":"sup","service":"setAgentState"}
+< 409 {"error":{"code":2,"name":"unknownAgent"},"invoke":157,"requester":"sup"}
+> 50 {"agent":"9","device":"999","group":"999","invoke":158,"requested":"loggedOn","requester":"sup","service":"setAgentState"}
+< 409 {"error":{"code":2,"name":"unknownAgent"},"invoke":158,"requester":"sup"}
+> 50 {"agent":"8","invoke":159,"requested":"ready","requester":"sup","service":"setAgentState"}
+< 409 {"error":{"code":6,"name":"wrongAgentState"},"invoke":159,"requester":"sup"}
+> 50 {"agent":"7","device":"999","group":"999","invoke":160,"requested":"loggedOn","requester":"sup","service":"setAgentState"}
+< 409 {"error":{"code":6,"name":"wrongAgentState"},"invoke":160,"requester":"sup"}
+> 50 {"agent":"8","device":"999","group":"999","invoke":161,"requested":"loggedOn","requester":"sup","service":"setAgentState"}
+< 409 {"error":{"code":1,"name":"unknownDevice"},"invoke":161,"requester":"sup"}
+> 50 {"agent":"8","device":"100","group":"999","invoke":162,"requested":"loggedOn","requester":"sup","service":"setAgentState"}
+< 409 {"error":{"code":9,"name":"notStation"},"invoke":162,"requester":"sup"}
+> 50 {"agent":"8","device":"201","group":"999","invoke":163,"requested":"loggedOn","requester":"sup","service":"setAgentState"}
+< 409 {"error":{"code":13,"name":"stationTaken"},"invoke":163,"requester":"sup"}
+> 50 {"agent":"8","device":"202","group":"999","invoke":164,"requested":"loggedOn","requester":"sup","service":"setAgentState"}
+< 409 {"error":{"code":1,"name":"unknownDevice"},"invoke":164,"requester":"sup"}
+> 50 {"agent":"8","device":"202","group":"201","invoke":165,"requested":"loggedOn","requester":"sup","service":"setAgentState"}
+< 409 {"error":{"code":10,"name":"notGroup"},"invoke":165,"requester":"sup"}
+"#
+}
+
 #[test]
-fn refusals_of_plan_and_calls(rt: HostRuntime) {
-    answers(
+fn play_scenes(rt: HostRuntime) {
+    scene_within(
         &rt,
         rt.alloc(),
         SMALL,
+        "refusals_of_plan_and_calls",
         &[
-            PLAN,
-            CALL_ARRIVES,
-            ANA_BECOMES_READY,
-            ANA_ANSWERS,
-            &[
-                (
-                    50,
-                    r#"{"device":"100","invoke":101,"name":"Again","requester":"sup","ring":0,"service":"addGroup","wrap":0}"#,
-                    409,
-                    r#"{"error":{"code":7,"name":"deviceExists"},"invoke":101,"requester":"sup"}"#,
-                ),
-                (
-                    50,
-                    r#"{"device":"0301234","invoke":102,"name":"Caller","requester":"sup","ring":0,"service":"addGroup","wrap":0}"#,
-                    409,
-                    r#"{"error":{"code":7,"name":"deviceExists"},"invoke":102,"requester":"sup"}"#,
-                ),
-                (
-                    50,
-                    r#"{"device":"110","invoke":103,"name":"Claims","requester":"sup","ring":0,"service":"addGroup","wrap":0}"#,
-                    409,
-                    r#"{"error":{"code":16,"name":"planFull"},"invoke":103,"requester":"sup"}"#,
-                ),
-                (
-                    50,
-                    r#"{"device":"100","invoke":104,"requester":"sup","service":"addStation"}"#,
-                    409,
-                    r#"{"error":{"code":7,"name":"deviceExists"},"invoke":104,"requester":"sup"}"#,
-                ),
-                (
-                    50,
-                    r#"{"device":"0301234","invoke":105,"requester":"sup","service":"addStation"}"#,
-                    409,
-                    r#"{"error":{"code":7,"name":"deviceExists"},"invoke":105,"requester":"sup"}"#,
-                ),
-                (
-                    50,
-                    r#"{"device":"203","invoke":106,"requester":"sup","service":"addStation"}"#,
-                    409,
-                    r#"{"error":{"code":16,"name":"planFull"},"invoke":106,"requester":"sup"}"#,
-                ),
-                (
-                    50,
-                    r#"{"agent":"7","invoke":107,"name":"Ana","requester":"sup","service":"addAgent"}"#,
-                    409,
-                    r#"{"error":{"code":8,"name":"agentExists"},"invoke":107,"requester":"sup"}"#,
-                ),
-                (
-                    50,
-                    r#"{"agent":"9","invoke":108,"name":"Cid","requester":"sup","service":"addAgent"}"#,
-                    409,
-                    r#"{"error":{"code":16,"name":"planFull"},"invoke":108,"requester":"sup"}"#,
-                ),
-                (
-                    50,
-                    r#"{"called":"999","caller":"201","invoke":109,"requester":"sup","service":"arriveCall"}"#,
-                    409,
-                    r#"{"error":{"code":18,"name":"callerPlanned"},"invoke":109,"requester":"sup"}"#,
-                ),
-                (
-                    50,
-                    r#"{"called":"999","caller":"0309999","invoke":110,"requester":"sup","service":"arriveCall"}"#,
-                    409,
-                    r#"{"error":{"code":1,"name":"unknownDevice"},"invoke":110,"requester":"sup"}"#,
-                ),
-                (
-                    50,
-                    r#"{"called":"100","caller":"0309999","invoke":111,"requester":"sup","service":"arriveCall"}"#,
-                    409,
-                    r#"{"error":{"code":15,"name":"tooManyCalls"},"invoke":111,"requester":"sup"}"#,
-                ),
-                (
-                    50,
-                    r#"{"called":"999","device":"999","invoke":112,"requester":"sup","service":"makeCall"}"#,
-                    409,
-                    r#"{"error":{"code":1,"name":"unknownDevice"},"invoke":112,"requester":"sup"}"#,
-                ),
-                (
-                    50,
-                    r#"{"called":"999","device":"100","invoke":113,"requester":"sup","service":"makeCall"}"#,
-                    409,
-                    r#"{"error":{"code":9,"name":"notStation"},"invoke":113,"requester":"sup"}"#,
-                ),
-                (
-                    50,
-                    r#"{"called":"999","device":"201","invoke":114,"requester":"sup","service":"makeCall"}"#,
-                    409,
-                    r#"{"error":{"code":1,"name":"unknownDevice"},"invoke":114,"requester":"sup"}"#,
-                ),
-                (
-                    50,
-                    r#"{"called":"201","device":"201","invoke":115,"requester":"sup","service":"makeCall"}"#,
-                    409,
-                    r#"{"error":{"code":12,"name":"sameDevice"},"invoke":115,"requester":"sup"}"#,
-                ),
-                (
-                    50,
-                    r#"{"called":"202","device":"201","invoke":116,"requester":"sup","service":"makeCall"}"#,
-                    409,
-                    r#"{"error":{"code":14,"name":"stationBusy"},"invoke":116,"requester":"sup"}"#,
-                ),
-                (
-                    50,
-                    r#"{"called":"201","device":"202","invoke":117,"requester":"sup","service":"makeCall"}"#,
-                    409,
-                    r#"{"error":{"code":15,"name":"tooManyCalls"},"invoke":117,"requester":"sup"}"#,
-                ),
-                (
-                    50,
-                    r#"{"device":"999","invoke":118,"requester":"sup","service":"monitorStart"}"#,
-                    409,
-                    r#"{"error":{"code":1,"name":"unknownDevice"},"invoke":118,"requester":"sup"}"#,
-                ),
-                (
-                    50,
-                    r#"{"device":"201","invoke":119,"requester":"sup","service":"monitorStart"}"#,
-                    200,
-                    r#"{"invoke":119,"requester":"sup","result":{"monitor":1}}"#,
-                ),
-                (
-                    50,
-                    r#"{"device":"0301234","invoke":120,"requester":"sup","service":"monitorStart"}"#,
-                    409,
-                    r#"{"error":{"code":1,"name":"unknownDevice"},"invoke":120,"requester":"sup"}"#,
-                ),
-                (
-                    50,
-                    r#"{"device":"202","invoke":121,"requester":"sup","service":"monitorStart"}"#,
-                    409,
-                    r#"{"error":{"code":16,"name":"planFull"},"invoke":121,"requester":"sup"}"#,
-                ),
-                (
-                    50,
-                    r#"{"invoke":122,"monitor":2,"requester":"sup","service":"monitorStop"}"#,
-                    409,
-                    r#"{"error":{"code":17,"name":"unknownMonitor"},"invoke":122,"requester":"sup"}"#,
-                ),
-                (
-                    50,
-                    r#"{"invoke":123,"monitor":1,"requester":"sup","service":"monitorStop"}"#,
-                    200,
-                    r#"{"invoke":123,"requester":"sup","result":{}}"#,
-                ),
-                (
-                    50,
-                    r#"{"invoke":124,"monitor":1,"requester":"sup","service":"monitorStop"}"#,
-                    409,
-                    r#"{"error":{"code":17,"name":"unknownMonitor"},"invoke":124,"requester":"sup"}"#,
-                ),
-            ],
+            plan(),
+            call_arrives(),
+            ana_becomes_ready(),
+            ana_answers(),
+            refusals_of_plan_and_calls(),
         ],
     );
-}
-
-#[test]
-fn refusals_of_an_answered_call(rt: HostRuntime) {
-    answers(
+    scene(
         &rt,
         rt.alloc(),
-        Limits::GREATEST,
+        "refusals_of_an_answered_call",
         &[
-            PLAN,
-            CALL_ARRIVES,
-            ANA_BECOMES_READY,
-            ANA_ANSWERS,
-            &[
-                (
-                    50,
-                    r#"{"call":9,"device":"999","invoke":125,"requester":"sup","service":"phoneOffHook"}"#,
-                    409,
-                    r#"{"error":{"code":3,"name":"unknownCall"},"invoke":125,"requester":"sup"}"#,
-                ),
-                (
-                    50,
-                    r#"{"call":1,"device":"202","invoke":126,"requester":"sup","service":"phoneOffHook"}"#,
-                    409,
-                    r#"{"error":{"code":4,"name":"unknownConnection"},"invoke":126,"requester":"sup"}"#,
-                ),
-                (
-                    50,
-                    r#"{"call":1,"device":"201","invoke":127,"requester":"sup","service":"phoneOffHook"}"#,
-                    409,
-                    r#"{"error":{"code":5,"name":"wrongConnectionState"},"invoke":127,"requester":"sup"}"#,
-                ),
-                (
-                    50,
-                    r#"{"call":9,"device":"999","invoke":128,"requester":"sup","service":"answerCall"}"#,
-                    409,
-                    r#"{"error":{"code":3,"name":"unknownCall"},"invoke":128,"requester":"sup"}"#,
-                ),
-                (
-                    50,
-                    r#"{"call":1,"device":"202","invoke":129,"requester":"sup","service":"answerCall"}"#,
-                    409,
-                    r#"{"error":{"code":4,"name":"unknownConnection"},"invoke":129,"requester":"sup"}"#,
-                ),
-                (
-                    50,
-                    r#"{"call":1,"device":"201","invoke":130,"requester":"sup","service":"answerCall"}"#,
-                    409,
-                    r#"{"error":{"code":5,"name":"wrongConnectionState"},"invoke":130,"requester":"sup"}"#,
-                ),
-                (
-                    50,
-                    r#"{"call":9,"device":"999","invoke":131,"requester":"sup","service":"holdCall"}"#,
-                    409,
-                    r#"{"error":{"code":3,"name":"unknownCall"},"invoke":131,"requester":"sup"}"#,
-                ),
-                (
-                    50,
-                    r#"{"call":1,"device":"100","invoke":132,"requester":"sup","service":"holdCall"}"#,
-                    409,
-                    r#"{"error":{"code":4,"name":"unknownConnection"},"invoke":132,"requester":"sup"}"#,
-                ),
-                (
-                    50,
-                    r#"{"call":1,"device":"0301234","invoke":133,"requester":"sup","service":"holdCall"}"#,
-                    409,
-                    r#"{"error":{"code":9,"name":"notStation"},"invoke":133,"requester":"sup"}"#,
-                ),
-                (
-                    50,
-                    r#"{"call":9,"device":"999","invoke":134,"requester":"sup","service":"retrieveCall"}"#,
-                    409,
-                    r#"{"error":{"code":3,"name":"unknownCall"},"invoke":134,"requester":"sup"}"#,
-                ),
-                (
-                    50,
-                    r#"{"call":1,"device":"202","invoke":135,"requester":"sup","service":"retrieveCall"}"#,
-                    409,
-                    r#"{"error":{"code":4,"name":"unknownConnection"},"invoke":135,"requester":"sup"}"#,
-                ),
-                (
-                    50,
-                    r#"{"call":1,"device":"201","invoke":136,"requester":"sup","service":"retrieveCall"}"#,
-                    409,
-                    r#"{"error":{"code":5,"name":"wrongConnectionState"},"invoke":136,"requester":"sup"}"#,
-                ),
-                (
-                    50,
-                    r#"{"call":9,"device":"999","invoke":137,"requester":"sup","service":"clearConnection"}"#,
-                    409,
-                    r#"{"error":{"code":3,"name":"unknownCall"},"invoke":137,"requester":"sup"}"#,
-                ),
-                (
-                    50,
-                    r#"{"call":1,"device":"202","invoke":138,"requester":"sup","service":"clearConnection"}"#,
-                    409,
-                    r#"{"error":{"code":4,"name":"unknownConnection"},"invoke":138,"requester":"sup"}"#,
-                ),
-                (
-                    50,
-                    r#"{"call":9,"device":"999","invoke":139,"requester":"sup","service":"deflectCall","to":"999"}"#,
-                    409,
-                    r#"{"error":{"code":3,"name":"unknownCall"},"invoke":139,"requester":"sup"}"#,
-                ),
-                (
-                    50,
-                    r#"{"call":1,"device":"202","invoke":140,"requester":"sup","service":"deflectCall","to":"999"}"#,
-                    409,
-                    r#"{"error":{"code":4,"name":"unknownConnection"},"invoke":140,"requester":"sup"}"#,
-                ),
-                (
-                    50,
-                    r#"{"call":1,"device":"201","invoke":141,"requester":"sup","service":"deflectCall","to":"999"}"#,
-                    409,
-                    r#"{"error":{"code":5,"name":"wrongConnectionState"},"invoke":141,"requester":"sup"}"#,
-                ),
-                (
-                    50,
-                    r#"{"call":9,"device":"999","invoke":142,"requester":"sup","service":"singleStepTransfer","to":"999"}"#,
-                    409,
-                    r#"{"error":{"code":3,"name":"unknownCall"},"invoke":142,"requester":"sup"}"#,
-                ),
-                (
-                    50,
-                    r#"{"call":1,"device":"202","invoke":143,"requester":"sup","service":"singleStepTransfer","to":"999"}"#,
-                    409,
-                    r#"{"error":{"code":4,"name":"unknownConnection"},"invoke":143,"requester":"sup"}"#,
-                ),
-                (
-                    50,
-                    r#"{"call":1,"device":"0301234","invoke":144,"requester":"sup","service":"singleStepTransfer","to":"999"}"#,
-                    409,
-                    r#"{"error":{"code":9,"name":"notStation"},"invoke":144,"requester":"sup"}"#,
-                ),
-                (
-                    50,
-                    r#"{"call":1,"device":"201","invoke":145,"requester":"sup","service":"singleStepTransfer","to":"999"}"#,
-                    409,
-                    r#"{"error":{"code":1,"name":"unknownDevice"},"invoke":145,"requester":"sup"}"#,
-                ),
-                (
-                    50,
-                    r#"{"call":1,"device":"201","invoke":146,"requester":"sup","service":"singleStepTransfer","to":"201"}"#,
-                    409,
-                    r#"{"error":{"code":12,"name":"sameDevice"},"invoke":146,"requester":"sup"}"#,
-                ),
-                (
-                    50,
-                    r#"{"called":"100","device":"202","invoke":147,"requester":"sup","service":"makeCall"}"#,
-                    200,
-                    r#"{"invoke":147,"requester":"sup","result":{"call":2}}"#,
-                ),
-                (
-                    50,
-                    r#"{"call":1,"device":"201","invoke":148,"requester":"sup","service":"singleStepTransfer","to":"202"}"#,
-                    409,
-                    r#"{"error":{"code":11,"name":"destinationBusy"},"invoke":148,"requester":"sup"}"#,
-                ),
-                (
-                    50,
-                    r#"{"call":1,"device":"201","invoke":149,"requester":"sup","service":"holdCall"}"#,
-                    200,
-                    r#"{"invoke":149,"requester":"sup","result":{}}"#,
-                ),
-                (
-                    50,
-                    r#"{"call":1,"device":"201","invoke":150,"requester":"sup","service":"holdCall"}"#,
-                    409,
-                    r#"{"error":{"code":5,"name":"wrongConnectionState"},"invoke":150,"requester":"sup"}"#,
-                ),
-                (
-                    50,
-                    r#"{"call":1,"device":"201","invoke":151,"requester":"sup","service":"singleStepTransfer","to":"999"}"#,
-                    409,
-                    r#"{"error":{"code":5,"name":"wrongConnectionState"},"invoke":151,"requester":"sup"}"#,
-                ),
-            ],
+            plan(),
+            call_arrives(),
+            ana_becomes_ready(),
+            ana_answers(),
+            refusals_of_an_answered_call(),
         ],
     );
-}
-
-#[test]
-fn refusals_of_an_offered_call(rt: HostRuntime) {
-    answers(
+    scene(
         &rt,
         rt.alloc(),
-        Limits::GREATEST,
+        "refusals_of_an_offered_call",
         &[
-            PLAN,
-            CALL_ARRIVES,
-            ANA_BECOMES_READY,
-            &[
-                (
-                    50,
-                    r#"{"call":1,"device":"201","invoke":152,"requester":"sup","service":"singleStepTransfer","to":"999"}"#,
-                    409,
-                    r#"{"error":{"code":5,"name":"wrongConnectionState"},"invoke":152,"requester":"sup"}"#,
-                ),
-                (
-                    50,
-                    r#"{"call":1,"device":"201","invoke":153,"requester":"sup","service":"deflectCall","to":"0301234"}"#,
-                    409,
-                    r#"{"error":{"code":1,"name":"unknownDevice"},"invoke":153,"requester":"sup"}"#,
-                ),
-                (
-                    50,
-                    r#"{"call":1,"device":"201","invoke":154,"requester":"sup","service":"deflectCall","to":"201"}"#,
-                    409,
-                    r#"{"error":{"code":12,"name":"sameDevice"},"invoke":154,"requester":"sup"}"#,
-                ),
-                (
-                    50,
-                    r#"{"called":"201","device":"202","invoke":155,"requester":"sup","service":"makeCall"}"#,
-                    200,
-                    r#"{"invoke":155,"requester":"sup","result":{"call":2}}"#,
-                ),
-                (
-                    50,
-                    r#"{"call":1,"device":"201","invoke":156,"requester":"sup","service":"deflectCall","to":"202"}"#,
-                    409,
-                    r#"{"error":{"code":11,"name":"destinationBusy"},"invoke":156,"requester":"sup"}"#,
-                ),
-            ],
+            plan(),
+            call_arrives(),
+            ana_becomes_ready(),
+            refusals_of_an_offered_call(),
         ],
     );
-}
-
-#[test]
-fn refusals_of_agents(rt: HostRuntime) {
-    answers(
+    scene(
         &rt,
         rt.alloc(),
-        Limits::GREATEST,
+        "refusals_of_agents",
         &[
-            PLAN,
-            CALL_ARRIVES,
-            ANA_BECOMES_READY,
-            ANA_ANSWERS,
-            &[
-                (
-                    50,
-                    r#"{"agent":"9","invoke":157,"requested":"ready","requester":"sup","service":"setAgentState"}"#,
-                    409,
-                    r#"{"error":{"code":2,"name":"unknownAgent"},"invoke":157,"requester":"sup"}"#,
-                ),
-                (
-                    50,
-                    r#"{"agent":"9","device":"999","group":"999","invoke":158,"requested":"loggedOn","requester":"sup","service":"setAgentState"}"#,
-                    409,
-                    r#"{"error":{"code":2,"name":"unknownAgent"},"invoke":158,"requester":"sup"}"#,
-                ),
-                (
-                    50,
-                    r#"{"agent":"8","invoke":159,"requested":"ready","requester":"sup","service":"setAgentState"}"#,
-                    409,
-                    r#"{"error":{"code":6,"name":"wrongAgentState"},"invoke":159,"requester":"sup"}"#,
-                ),
-                (
-                    50,
-                    r#"{"agent":"7","device":"999","group":"999","invoke":160,"requested":"loggedOn","requester":"sup","service":"setAgentState"}"#,
-                    409,
-                    r#"{"error":{"code":6,"name":"wrongAgentState"},"invoke":160,"requester":"sup"}"#,
-                ),
-                (
-                    50,
-                    r#"{"agent":"8","device":"999","group":"999","invoke":161,"requested":"loggedOn","requester":"sup","service":"setAgentState"}"#,
-                    409,
-                    r#"{"error":{"code":1,"name":"unknownDevice"},"invoke":161,"requester":"sup"}"#,
-                ),
-                (
-                    50,
-                    r#"{"agent":"8","device":"100","group":"999","invoke":162,"requested":"loggedOn","requester":"sup","service":"setAgentState"}"#,
-                    409,
-                    r#"{"error":{"code":9,"name":"notStation"},"invoke":162,"requester":"sup"}"#,
-                ),
-                (
-                    50,
-                    r#"{"agent":"8","device":"201","group":"999","invoke":163,"requested":"loggedOn","requester":"sup","service":"setAgentState"}"#,
-                    409,
-                    r#"{"error":{"code":13,"name":"stationTaken"},"invoke":163,"requester":"sup"}"#,
-                ),
-                (
-                    50,
-                    r#"{"agent":"8","device":"202","group":"999","invoke":164,"requested":"loggedOn","requester":"sup","service":"setAgentState"}"#,
-                    409,
-                    r#"{"error":{"code":1,"name":"unknownDevice"},"invoke":164,"requester":"sup"}"#,
-                ),
-                (
-                    50,
-                    r#"{"agent":"8","device":"202","group":"201","invoke":165,"requested":"loggedOn","requester":"sup","service":"setAgentState"}"#,
-                    409,
-                    r#"{"error":{"code":10,"name":"notGroup"},"invoke":165,"requester":"sup"}"#,
-                ),
-            ],
+            plan(),
+            call_arrives(),
+            ana_becomes_ready(),
+            ana_answers(),
+            refusals_of_agents(),
         ],
     );
 }

@@ -1,341 +1,374 @@
 //! Each way in which an occupied agent is released, with each state that may be pending.
 
 use super::*;
-use acd_terms::AgentState;
 
-// What is asked for while the agent is occupied.
-const READY_IS_ASKED_OF_A_BUSY_AGENT: &[Asked] = &[(
-    30,
-    r#"{"agent":"7","invoke":4,"requested":"ready","requester":"desk","service":"setAgentState"}"#,
-    200,
-    r#"{"invoke":4,"requester":"desk","result":{"pending":"ready","state":"busy"}}"#,
-)];
+fn after_an_answer_with_nothing_pending() -> &'static str {
+    r#"
+> 40 {"call":1,"device":"0301234","invoke":2,"requester":"pbx","service":"clearConnection"}
+< 200 {"invoke":2,"requester":"pbx","result":{}}
+! {"call":1,"device":"0301234","event":"connectionCleared","moment":40,"number":8}
+! {"call":1,"device":"201","event":"connectionCleared","moment":40,"number":9}
+! {"call":1,"event":"callCleared","moment":40,"number":10}
+! {"agent":"7","device":"201","event":"agentWorkingAfterCall","moment":40,"number":11}
+= agent 7 workingAfterCall, stamp 10, since 40
+"#
+}
 
-const NOT_READY_IS_ASKED_OF_A_BUSY_AGENT: &[Asked] = &[(
-    30,
-    r#"{"agent":"7","invoke":4,"requested":"notReady","requester":"desk","service":"setAgentState"}"#,
-    200,
-    r#"{"invoke":4,"requester":"desk","result":{"pending":"notReady","state":"busy"}}"#,
-)];
+fn after_an_answer_with_ready_pending() -> &'static str {
+    r#"
+> 30 {"agent":"7","invoke":4,"requested":"ready","requester":"desk","service":"setAgentState"}
+< 200 {"invoke":4,"requester":"desk","result":{"pending":"ready","state":"busy"}}
+> 40 {"call":1,"device":"0301234","invoke":2,"requester":"pbx","service":"clearConnection"}
+< 200 {"invoke":2,"requester":"pbx","result":{}}
+! {"call":1,"device":"0301234","event":"connectionCleared","moment":40,"number":8}
+! {"call":1,"device":"201","event":"connectionCleared","moment":40,"number":9}
+! {"call":1,"event":"callCleared","moment":40,"number":10}
+! {"agent":"7","device":"201","event":"agentReady","moment":40,"number":11}
+= agent 7 ready, stamp 11, since 40
+"#
+}
 
-const WORKING_AFTER_CALL_IS_ASKED_OF_A_BUSY_AGENT: &[Asked] = &[(
-    30,
-    r#"{"agent":"7","invoke":4,"requested":"workingAfterCall","requester":"desk","service":"setAgentState"}"#,
-    200,
-    r#"{"invoke":4,"requester":"desk","result":{"pending":"workingAfterCall","state":"busy"}}"#,
-)];
+fn after_an_answer_with_not_ready_pending() -> &'static str {
+    r#"
+> 30 {"agent":"7","invoke":4,"requested":"notReady","requester":"desk","service":"setAgentState"}
+< 200 {"invoke":4,"requester":"desk","result":{"pending":"notReady","state":"busy"}}
+> 40 {"call":1,"device":"0301234","invoke":2,"requester":"pbx","service":"clearConnection"}
+< 200 {"invoke":2,"requester":"pbx","result":{}}
+! {"call":1,"device":"0301234","event":"connectionCleared","moment":40,"number":8}
+! {"call":1,"device":"201","event":"connectionCleared","moment":40,"number":9}
+! {"call":1,"event":"callCleared","moment":40,"number":10}
+! {"agent":"7","device":"201","event":"agentNotReady","moment":40,"number":11}
+= agent 7 notReady, stamp 11, since 40
+"#
+}
 
-const LOGGED_OFF_IS_ASKED_OF_A_BUSY_AGENT: &[Asked] = &[(
-    30,
-    r#"{"agent":"7","invoke":4,"requested":"loggedOff","requester":"desk","service":"setAgentState"}"#,
-    200,
-    r#"{"invoke":4,"requester":"desk","result":{"pending":"loggedOff","state":"busy"}}"#,
-)];
+fn after_an_answer_with_working_after_call_pending() -> &'static str {
+    r#"
+> 30 {"agent":"7","invoke":4,"requested":"workingAfterCall","requester":"desk","service":"setAgentState"}
+< 200 {"invoke":4,"requester":"desk","result":{"pending":"workingAfterCall","state":"busy"}}
+> 40 {"call":1,"device":"0301234","invoke":2,"requester":"pbx","service":"clearConnection"}
+< 200 {"invoke":2,"requester":"pbx","result":{}}
+! {"call":1,"device":"0301234","event":"connectionCleared","moment":40,"number":8}
+! {"call":1,"device":"201","event":"connectionCleared","moment":40,"number":9}
+! {"call":1,"event":"callCleared","moment":40,"number":10}
+! {"agent":"7","device":"201","event":"agentWorkingAfterCall","moment":40,"number":11}
+= agent 7 workingAfterCall, stamp 11, since 40
+"#
+}
 
-const READY_IS_ASKED_OF_A_READY_AGENT: &[Asked] = &[(
-    30,
-    r#"{"agent":"7","invoke":4,"requested":"ready","requester":"desk","service":"setAgentState"}"#,
-    200,
-    r#"{"invoke":4,"requester":"desk","result":{"pending":"ready","state":"ready"}}"#,
-)];
+fn after_an_answer_with_logged_off_pending() -> &'static str {
+    r#"
+> 30 {"agent":"7","invoke":4,"requested":"loggedOff","requester":"desk","service":"setAgentState"}
+< 200 {"invoke":4,"requester":"desk","result":{"pending":"loggedOff","state":"busy"}}
+> 40 {"call":1,"device":"0301234","invoke":2,"requester":"pbx","service":"clearConnection"}
+< 200 {"invoke":2,"requester":"pbx","result":{}}
+! {"call":1,"device":"0301234","event":"connectionCleared","moment":40,"number":8}
+! {"call":1,"device":"201","event":"connectionCleared","moment":40,"number":9}
+! {"call":1,"event":"callCleared","moment":40,"number":10}
+! {"agent":"7","device":"201","event":"agentLoggedOff","moment":40,"number":11}
+= agent 7 null, stamp 11, since 40
+"#
+}
 
-const NOT_READY_IS_ASKED_OF_A_READY_AGENT: &[Asked] = &[(
-    30,
-    r#"{"agent":"7","invoke":4,"requested":"notReady","requester":"desk","service":"setAgentState"}"#,
-    200,
-    r#"{"invoke":4,"requester":"desk","result":{"pending":"notReady","state":"ready"}}"#,
-)];
+fn unanswered_with_nothing_pending() -> &'static str {
+    r#"
+> 40 {"call":1,"device":"0301234","invoke":2,"requester":"pbx","service":"clearConnection"}
+< 200 {"invoke":2,"requester":"pbx","result":{}}
+! {"call":1,"device":"0301234","event":"connectionCleared","moment":40,"number":6}
+! {"call":1,"device":"201","event":"connectionCleared","moment":40,"number":7}
+! {"call":1,"event":"callCleared","group":"100","moment":40,"number":8}
+= agent 7 ready, stamp 8, since 18
+"#
+}
 
-const WORKING_AFTER_CALL_IS_ASKED_OF_A_READY_AGENT: &[Asked] = &[(
-    30,
-    r#"{"agent":"7","invoke":4,"requested":"workingAfterCall","requester":"desk","service":"setAgentState"}"#,
-    200,
-    r#"{"invoke":4,"requester":"desk","result":{"pending":"workingAfterCall","state":"ready"}}"#,
-)];
+fn unanswered_with_ready_pending() -> &'static str {
+    r#"
+> 30 {"agent":"7","invoke":4,"requested":"ready","requester":"desk","service":"setAgentState"}
+< 200 {"invoke":4,"requester":"desk","result":{"pending":"ready","state":"ready"}}
+> 40 {"call":1,"device":"0301234","invoke":2,"requester":"pbx","service":"clearConnection"}
+< 200 {"invoke":2,"requester":"pbx","result":{}}
+! {"call":1,"device":"0301234","event":"connectionCleared","moment":40,"number":6}
+! {"call":1,"device":"201","event":"connectionCleared","moment":40,"number":7}
+! {"call":1,"event":"callCleared","group":"100","moment":40,"number":8}
+= agent 7 ready, stamp 8, since 18
+"#
+}
 
-const LOGGED_OFF_IS_ASKED_OF_A_READY_AGENT: &[Asked] = &[(
-    30,
-    r#"{"agent":"7","invoke":4,"requested":"loggedOff","requester":"desk","service":"setAgentState"}"#,
-    200,
-    r#"{"invoke":4,"requester":"desk","result":{"pending":"loggedOff","state":"ready"}}"#,
-)];
+fn unanswered_with_not_ready_pending() -> &'static str {
+    r#"
+> 30 {"agent":"7","invoke":4,"requested":"notReady","requester":"desk","service":"setAgentState"}
+< 200 {"invoke":4,"requester":"desk","result":{"pending":"notReady","state":"ready"}}
+> 40 {"call":1,"device":"0301234","invoke":2,"requester":"pbx","service":"clearConnection"}
+< 200 {"invoke":2,"requester":"pbx","result":{}}
+! {"call":1,"device":"0301234","event":"connectionCleared","moment":40,"number":6}
+! {"call":1,"device":"201","event":"connectionCleared","moment":40,"number":7}
+! {"call":1,"event":"callCleared","group":"100","moment":40,"number":8}
+! {"agent":"7","device":"201","event":"agentNotReady","moment":40,"number":9}
+= agent 7 notReady, stamp 10, since 40
+"#
+}
 
-// How the call leaves the agent.
-const THE_CALLER_HANGS_UP: &[Asked] = &[(
-    40,
-    r#"{"call":1,"device":"0301234","invoke":2,"requester":"pbx","service":"clearConnection"}"#,
-    200,
-    r#"{"invoke":2,"requester":"pbx","result":{}}"#,
-)];
+fn unanswered_with_working_after_call_pending() -> &'static str {
+    r#"
+> 30 {"agent":"7","invoke":4,"requested":"workingAfterCall","requester":"desk","service":"setAgentState"}
+< 200 {"invoke":4,"requester":"desk","result":{"pending":"workingAfterCall","state":"ready"}}
+> 40 {"call":1,"device":"0301234","invoke":2,"requester":"pbx","service":"clearConnection"}
+< 200 {"invoke":2,"requester":"pbx","result":{}}
+! {"call":1,"device":"0301234","event":"connectionCleared","moment":40,"number":6}
+! {"call":1,"device":"201","event":"connectionCleared","moment":40,"number":7}
+! {"call":1,"event":"callCleared","group":"100","moment":40,"number":8}
+! {"agent":"7","device":"201","event":"agentWorkingAfterCall","moment":40,"number":9}
+= agent 7 workingAfterCall, stamp 10, since 40
+"#
+}
 
-const THE_CALL_RINGS_IN_VAIN: &[Asked] = &[(
-    40,
-    r#"{"invoke":1,"requester":"clock","service":"tick"}"#,
-    200,
-    r#"{"invoke":1,"requester":"clock","result":{}}"#,
-)];
+fn unanswered_with_logged_off_pending() -> &'static str {
+    r#"
+> 30 {"agent":"7","invoke":4,"requested":"loggedOff","requester":"desk","service":"setAgentState"}
+< 200 {"invoke":4,"requester":"desk","result":{"pending":"loggedOff","state":"ready"}}
+> 40 {"call":1,"device":"0301234","invoke":2,"requester":"pbx","service":"clearConnection"}
+< 200 {"invoke":2,"requester":"pbx","result":{}}
+! {"call":1,"device":"0301234","event":"connectionCleared","moment":40,"number":6}
+! {"call":1,"device":"201","event":"connectionCleared","moment":40,"number":7}
+! {"call":1,"event":"callCleared","group":"100","moment":40,"number":8}
+! {"agent":"7","device":"201","event":"agentLoggedOff","moment":40,"number":9}
+= agent 7 null, stamp 10, since 40
+"#
+}
 
-const THE_CALL_ENDS: &[&str] = &[
-    r#"{"call":1,"device":"0301234","event":"connectionCleared","moment":40,"number":8}"#,
-    r#"{"call":1,"device":"201","event":"connectionCleared","moment":40,"number":9}"#,
-    r#"{"call":1,"event":"callCleared","moment":40,"number":10}"#,
-];
+fn no_answer_with_nothing_pending() -> &'static str {
+    r#"
+> 40 {"invoke":1,"requester":"clock","service":"tick"}
+< 200 {"invoke":1,"requester":"clock","result":{}}
+! {"call":1,"cause":"noAnswer","device":"201","event":"diverted","group":"100","moment":40,"number":6,"to":"100"}
+! {"call":1,"cause":"noAnswer","device":"100","event":"queued","moment":40,"number":7}
+! {"agent":"7","device":"201","event":"agentNotReady","moment":40,"number":8}
+= agent 7 notReady, stamp 9, since 40
+"#
+}
 
-const THE_CALL_IS_ABANDONED: &[&str] = &[
-    r#"{"call":1,"device":"0301234","event":"connectionCleared","moment":40,"number":6}"#,
-    r#"{"call":1,"device":"201","event":"connectionCleared","moment":40,"number":7}"#,
-    r#"{"call":1,"event":"callCleared","group":"100","moment":40,"number":8}"#,
-];
+fn no_answer_with_ready_pending() -> &'static str {
+    r#"
+> 30 {"agent":"7","invoke":4,"requested":"ready","requester":"desk","service":"setAgentState"}
+< 200 {"invoke":4,"requester":"desk","result":{"pending":"ready","state":"ready"}}
+> 40 {"invoke":1,"requester":"clock","service":"tick"}
+< 200 {"invoke":1,"requester":"clock","result":{}}
+! {"call":1,"cause":"noAnswer","device":"201","event":"diverted","group":"100","moment":40,"number":6,"to":"100"}
+! {"call":1,"cause":"noAnswer","device":"100","event":"queued","moment":40,"number":7}
+! {"agent":"7","device":"201","event":"agentNotReady","moment":40,"number":8}
+= agent 7 notReady, stamp 10, since 40
+"#
+}
 
-const THE_CALL_RETURNS: &[&str] = &[
-    r#"{"call":1,"cause":"noAnswer","device":"201","event":"diverted","group":"100","moment":40,"number":6,"to":"100"}"#,
-    r#"{"call":1,"cause":"noAnswer","device":"100","event":"queued","moment":40,"number":7}"#,
-];
+fn no_answer_with_not_ready_pending() -> &'static str {
+    r#"
+> 30 {"agent":"7","invoke":4,"requested":"notReady","requester":"desk","service":"setAgentState"}
+< 200 {"invoke":4,"requester":"desk","result":{"pending":"notReady","state":"ready"}}
+> 40 {"invoke":1,"requester":"clock","service":"tick"}
+< 200 {"invoke":1,"requester":"clock","result":{}}
+! {"call":1,"cause":"noAnswer","device":"201","event":"diverted","group":"100","moment":40,"number":6,"to":"100"}
+! {"call":1,"cause":"noAnswer","device":"100","event":"queued","moment":40,"number":7}
+! {"agent":"7","device":"201","event":"agentNotReady","moment":40,"number":8}
+= agent 7 notReady, stamp 10, since 40
+"#
+}
 
-const TOLD_OF_AN_ANSWERED_CALL: &[&[&str]] = &[
-    CALL_IS_QUEUED,
-    ANA_IS_OFFERED_THE_CALL,
-    ANA_IS_BUSY,
-    THE_CALL_ENDS,
-];
+fn no_answer_with_working_after_call_pending() -> &'static str {
+    r#"
+> 30 {"agent":"7","invoke":4,"requested":"workingAfterCall","requester":"desk","service":"setAgentState"}
+< 200 {"invoke":4,"requester":"desk","result":{"pending":"workingAfterCall","state":"ready"}}
+> 40 {"invoke":1,"requester":"clock","service":"tick"}
+< 200 {"invoke":1,"requester":"clock","result":{}}
+! {"call":1,"cause":"noAnswer","device":"201","event":"diverted","group":"100","moment":40,"number":6,"to":"100"}
+! {"call":1,"cause":"noAnswer","device":"100","event":"queued","moment":40,"number":7}
+! {"agent":"7","device":"201","event":"agentWorkingAfterCall","moment":40,"number":8}
+= agent 7 workingAfterCall, stamp 10, since 40
+"#
+}
 
-const TOLD_OF_AN_ABANDONED_CALL: &[&[&str]] = &[
-    CALL_IS_QUEUED,
-    ANA_IS_OFFERED_THE_CALL,
-    THE_CALL_IS_ABANDONED,
-];
-
-const TOLD_OF_A_RETURN: &[&[&str]] = &[CALL_IS_QUEUED, ANA_IS_OFFERED_THE_CALL, THE_CALL_RETURNS];
-
-#[test]
-fn after_an_answer_with_nothing_pending(rt: HostRuntime) {
-    let scenes: &[&[Asked]] = &[
-        PLAN,
-        CALL_ARRIVES,
-        ANA_BECOMES_READY,
-        ANA_ANSWERS,
-        THE_CALLER_HANGS_UP,
-    ];
-    let told: &[&str] = &[
-        r#"{"agent":"7","device":"201","event":"agentWorkingAfterCall","moment":40,"number":11}"#,
-    ];
-    let end = play_on(&rt, rt.alloc(), scenes, TOLD_OF_AN_ANSWERED_CALL, told);
-    end.expect_agent(&rt, b"7", (AgentState::WorkingAfterCall, None, 10, 40));
+fn no_answer_with_logged_off_pending() -> &'static str {
+    r#"
+> 30 {"agent":"7","invoke":4,"requested":"loggedOff","requester":"desk","service":"setAgentState"}
+< 200 {"invoke":4,"requester":"desk","result":{"pending":"loggedOff","state":"ready"}}
+> 40 {"invoke":1,"requester":"clock","service":"tick"}
+< 200 {"invoke":1,"requester":"clock","result":{}}
+! {"call":1,"cause":"noAnswer","device":"201","event":"diverted","group":"100","moment":40,"number":6,"to":"100"}
+! {"call":1,"cause":"noAnswer","device":"100","event":"queued","moment":40,"number":7}
+! {"agent":"7","device":"201","event":"agentLoggedOff","moment":40,"number":8}
+= agent 7 null, stamp 10, since 40
+"#
 }
 
 #[test]
-fn after_an_answer_with_ready_pending(rt: HostRuntime) {
-    let scenes: &[&[Asked]] = &[
-        PLAN,
-        CALL_ARRIVES,
-        ANA_BECOMES_READY,
-        ANA_ANSWERS,
-        READY_IS_ASKED_OF_A_BUSY_AGENT,
-        THE_CALLER_HANGS_UP,
-    ];
-    let told: &[&str] = &[
-        r#"{"agent":"7","device":"201","event":"agentReady","moment":40,"number":11}"#,
-    ];
-    let end = play_on(&rt, rt.alloc(), scenes, TOLD_OF_AN_ANSWERED_CALL, told);
-    end.expect_agent(&rt, b"7", (AgentState::Ready, None, 11, 40));
-}
-
-#[test]
-fn after_an_answer_with_not_ready_pending(rt: HostRuntime) {
-    let scenes: &[&[Asked]] = &[
-        PLAN,
-        CALL_ARRIVES,
-        ANA_BECOMES_READY,
-        ANA_ANSWERS,
-        NOT_READY_IS_ASKED_OF_A_BUSY_AGENT,
-        THE_CALLER_HANGS_UP,
-    ];
-    let told: &[&str] = &[
-        r#"{"agent":"7","device":"201","event":"agentNotReady","moment":40,"number":11}"#,
-    ];
-    let end = play_on(&rt, rt.alloc(), scenes, TOLD_OF_AN_ANSWERED_CALL, told);
-    end.expect_agent(&rt, b"7", (AgentState::NotReady, None, 11, 40));
-}
-
-#[test]
-fn after_an_answer_with_working_after_call_pending(rt: HostRuntime) {
-    let scenes: &[&[Asked]] = &[
-        PLAN,
-        CALL_ARRIVES,
-        ANA_BECOMES_READY,
-        ANA_ANSWERS,
-        WORKING_AFTER_CALL_IS_ASKED_OF_A_BUSY_AGENT,
-        THE_CALLER_HANGS_UP,
-    ];
-    let told: &[&str] = &[
-        r#"{"agent":"7","device":"201","event":"agentWorkingAfterCall","moment":40,"number":11}"#,
-    ];
-    let end = play_on(&rt, rt.alloc(), scenes, TOLD_OF_AN_ANSWERED_CALL, told);
-    end.expect_agent(&rt, b"7", (AgentState::WorkingAfterCall, None, 11, 40));
-}
-
-#[test]
-fn after_an_answer_with_logged_off_pending(rt: HostRuntime) {
-    let scenes: &[&[Asked]] = &[
-        PLAN,
-        CALL_ARRIVES,
-        ANA_BECOMES_READY,
-        ANA_ANSWERS,
-        LOGGED_OFF_IS_ASKED_OF_A_BUSY_AGENT,
-        THE_CALLER_HANGS_UP,
-    ];
-    let told: &[&str] = &[
-        r#"{"agent":"7","device":"201","event":"agentLoggedOff","moment":40,"number":11}"#,
-    ];
-    let end = play_on(&rt, rt.alloc(), scenes, TOLD_OF_AN_ANSWERED_CALL, told);
-    end.expect_agent(&rt, b"7", (AgentState::Null, None, 11, 40));
-}
-
-#[test]
-fn unanswered_with_nothing_pending(rt: HostRuntime) {
-    let scenes: &[&[Asked]] = &[PLAN, CALL_ARRIVES, ANA_BECOMES_READY, THE_CALLER_HANGS_UP];
-    let told: &[&str] = &[];
-    let end = play_on(&rt, rt.alloc(), scenes, TOLD_OF_AN_ABANDONED_CALL, told);
-    end.expect_agent(&rt, b"7", (AgentState::Ready, None, 8, 18));
-}
-
-#[test]
-fn unanswered_with_ready_pending(rt: HostRuntime) {
-    let scenes: &[&[Asked]] = &[
-        PLAN,
-        CALL_ARRIVES,
-        ANA_BECOMES_READY,
-        READY_IS_ASKED_OF_A_READY_AGENT,
-        THE_CALLER_HANGS_UP,
-    ];
-    let told: &[&str] = &[];
-    let end = play_on(&rt, rt.alloc(), scenes, TOLD_OF_AN_ABANDONED_CALL, told);
-    end.expect_agent(&rt, b"7", (AgentState::Ready, None, 8, 18));
-}
-
-#[test]
-fn unanswered_with_not_ready_pending(rt: HostRuntime) {
-    let scenes: &[&[Asked]] = &[
-        PLAN,
-        CALL_ARRIVES,
-        ANA_BECOMES_READY,
-        NOT_READY_IS_ASKED_OF_A_READY_AGENT,
-        THE_CALLER_HANGS_UP,
-    ];
-    let told: &[&str] = &[
-        r#"{"agent":"7","device":"201","event":"agentNotReady","moment":40,"number":9}"#,
-    ];
-    let end = play_on(&rt, rt.alloc(), scenes, TOLD_OF_AN_ABANDONED_CALL, told);
-    end.expect_agent(&rt, b"7", (AgentState::NotReady, None, 10, 40));
-}
-
-#[test]
-fn unanswered_with_working_after_call_pending(rt: HostRuntime) {
-    let scenes: &[&[Asked]] = &[
-        PLAN,
-        CALL_ARRIVES,
-        ANA_BECOMES_READY,
-        WORKING_AFTER_CALL_IS_ASKED_OF_A_READY_AGENT,
-        THE_CALLER_HANGS_UP,
-    ];
-    let told: &[&str] = &[
-        r#"{"agent":"7","device":"201","event":"agentWorkingAfterCall","moment":40,"number":9}"#,
-    ];
-    let end = play_on(&rt, rt.alloc(), scenes, TOLD_OF_AN_ABANDONED_CALL, told);
-    end.expect_agent(&rt, b"7", (AgentState::WorkingAfterCall, None, 10, 40));
-}
-
-#[test]
-fn unanswered_with_logged_off_pending(rt: HostRuntime) {
-    let scenes: &[&[Asked]] = &[
-        PLAN,
-        CALL_ARRIVES,
-        ANA_BECOMES_READY,
-        LOGGED_OFF_IS_ASKED_OF_A_READY_AGENT,
-        THE_CALLER_HANGS_UP,
-    ];
-    let told: &[&str] = &[
-        r#"{"agent":"7","device":"201","event":"agentLoggedOff","moment":40,"number":9}"#,
-    ];
-    let end = play_on(&rt, rt.alloc(), scenes, TOLD_OF_AN_ABANDONED_CALL, told);
-    end.expect_agent(&rt, b"7", (AgentState::Null, None, 10, 40));
-}
-
-#[test]
-fn no_answer_with_nothing_pending(rt: HostRuntime) {
-    let scenes: &[&[Asked]] = &[
-        PLAN,
-        CALL_ARRIVES,
-        ANA_BECOMES_READY,
-        THE_CALL_RINGS_IN_VAIN,
-    ];
-    let told: &[&str] = &[
-        r#"{"agent":"7","device":"201","event":"agentNotReady","moment":40,"number":8}"#,
-    ];
-    let end = play_on(&rt, rt.alloc(), scenes, TOLD_OF_A_RETURN, told);
-    end.expect_agent(&rt, b"7", (AgentState::NotReady, None, 9, 40));
-}
-
-#[test]
-fn no_answer_with_ready_pending(rt: HostRuntime) {
-    let scenes: &[&[Asked]] = &[
-        PLAN,
-        CALL_ARRIVES,
-        ANA_BECOMES_READY,
-        READY_IS_ASKED_OF_A_READY_AGENT,
-        THE_CALL_RINGS_IN_VAIN,
-    ];
-    let told: &[&str] = &[
-        r#"{"agent":"7","device":"201","event":"agentNotReady","moment":40,"number":8}"#,
-    ];
-    let end = play_on(&rt, rt.alloc(), scenes, TOLD_OF_A_RETURN, told);
-    end.expect_agent(&rt, b"7", (AgentState::NotReady, None, 10, 40));
-}
-
-#[test]
-fn no_answer_with_not_ready_pending(rt: HostRuntime) {
-    let scenes: &[&[Asked]] = &[
-        PLAN,
-        CALL_ARRIVES,
-        ANA_BECOMES_READY,
-        NOT_READY_IS_ASKED_OF_A_READY_AGENT,
-        THE_CALL_RINGS_IN_VAIN,
-    ];
-    let told: &[&str] = &[
-        r#"{"agent":"7","device":"201","event":"agentNotReady","moment":40,"number":8}"#,
-    ];
-    let end = play_on(&rt, rt.alloc(), scenes, TOLD_OF_A_RETURN, told);
-    end.expect_agent(&rt, b"7", (AgentState::NotReady, None, 10, 40));
-}
-
-#[test]
-fn no_answer_with_working_after_call_pending(rt: HostRuntime) {
-    let scenes: &[&[Asked]] = &[
-        PLAN,
-        CALL_ARRIVES,
-        ANA_BECOMES_READY,
-        WORKING_AFTER_CALL_IS_ASKED_OF_A_READY_AGENT,
-        THE_CALL_RINGS_IN_VAIN,
-    ];
-    let told: &[&str] = &[
-        r#"{"agent":"7","device":"201","event":"agentWorkingAfterCall","moment":40,"number":8}"#,
-    ];
-    let end = play_on(&rt, rt.alloc(), scenes, TOLD_OF_A_RETURN, told);
-    end.expect_agent(&rt, b"7", (AgentState::WorkingAfterCall, None, 10, 40));
-}
-
-#[test]
-fn no_answer_with_logged_off_pending(rt: HostRuntime) {
-    let scenes: &[&[Asked]] = &[
-        PLAN,
-        CALL_ARRIVES,
-        ANA_BECOMES_READY,
-        LOGGED_OFF_IS_ASKED_OF_A_READY_AGENT,
-        THE_CALL_RINGS_IN_VAIN,
-    ];
-    let told: &[&str] = &[
-        r#"{"agent":"7","device":"201","event":"agentLoggedOff","moment":40,"number":8}"#,
-    ];
-    let end = play_on(&rt, rt.alloc(), scenes, TOLD_OF_A_RETURN, told);
-    end.expect_agent(&rt, b"7", (AgentState::Null, None, 10, 40));
+fn play_scenes(rt: HostRuntime) {
+    scene(
+        &rt,
+        rt.alloc(),
+        "after_an_answer_with_nothing_pending",
+        &[
+            plan(),
+            call_arrives(),
+            ana_becomes_ready(),
+            ana_answers(),
+            after_an_answer_with_nothing_pending(),
+        ],
+    );
+    scene(
+        &rt,
+        rt.alloc(),
+        "after_an_answer_with_ready_pending",
+        &[
+            plan(),
+            call_arrives(),
+            ana_becomes_ready(),
+            ana_answers(),
+            after_an_answer_with_ready_pending(),
+        ],
+    );
+    scene(
+        &rt,
+        rt.alloc(),
+        "after_an_answer_with_not_ready_pending",
+        &[
+            plan(),
+            call_arrives(),
+            ana_becomes_ready(),
+            ana_answers(),
+            after_an_answer_with_not_ready_pending(),
+        ],
+    );
+    scene(
+        &rt,
+        rt.alloc(),
+        "after_an_answer_with_working_after_call_pending",
+        &[
+            plan(),
+            call_arrives(),
+            ana_becomes_ready(),
+            ana_answers(),
+            after_an_answer_with_working_after_call_pending(),
+        ],
+    );
+    scene(
+        &rt,
+        rt.alloc(),
+        "after_an_answer_with_logged_off_pending",
+        &[
+            plan(),
+            call_arrives(),
+            ana_becomes_ready(),
+            ana_answers(),
+            after_an_answer_with_logged_off_pending(),
+        ],
+    );
+    scene(
+        &rt,
+        rt.alloc(),
+        "unanswered_with_nothing_pending",
+        &[
+            plan(),
+            call_arrives(),
+            ana_becomes_ready(),
+            unanswered_with_nothing_pending(),
+        ],
+    );
+    scene(
+        &rt,
+        rt.alloc(),
+        "unanswered_with_ready_pending",
+        &[
+            plan(),
+            call_arrives(),
+            ana_becomes_ready(),
+            unanswered_with_ready_pending(),
+        ],
+    );
+    scene(
+        &rt,
+        rt.alloc(),
+        "unanswered_with_not_ready_pending",
+        &[
+            plan(),
+            call_arrives(),
+            ana_becomes_ready(),
+            unanswered_with_not_ready_pending(),
+        ],
+    );
+    scene(
+        &rt,
+        rt.alloc(),
+        "unanswered_with_working_after_call_pending",
+        &[
+            plan(),
+            call_arrives(),
+            ana_becomes_ready(),
+            unanswered_with_working_after_call_pending(),
+        ],
+    );
+    scene(
+        &rt,
+        rt.alloc(),
+        "unanswered_with_logged_off_pending",
+        &[
+            plan(),
+            call_arrives(),
+            ana_becomes_ready(),
+            unanswered_with_logged_off_pending(),
+        ],
+    );
+    scene(
+        &rt,
+        rt.alloc(),
+        "no_answer_with_nothing_pending",
+        &[
+            plan(),
+            call_arrives(),
+            ana_becomes_ready(),
+            no_answer_with_nothing_pending(),
+        ],
+    );
+    scene(
+        &rt,
+        rt.alloc(),
+        "no_answer_with_ready_pending",
+        &[
+            plan(),
+            call_arrives(),
+            ana_becomes_ready(),
+            no_answer_with_ready_pending(),
+        ],
+    );
+    scene(
+        &rt,
+        rt.alloc(),
+        "no_answer_with_not_ready_pending",
+        &[
+            plan(),
+            call_arrives(),
+            ana_becomes_ready(),
+            no_answer_with_not_ready_pending(),
+        ],
+    );
+    scene(
+        &rt,
+        rt.alloc(),
+        "no_answer_with_working_after_call_pending",
+        &[
+            plan(),
+            call_arrives(),
+            ana_becomes_ready(),
+            no_answer_with_working_after_call_pending(),
+        ],
+    );
+    scene(
+        &rt,
+        rt.alloc(),
+        "no_answer_with_logged_off_pending",
+        &[
+            plan(),
+            call_arrives(),
+            ana_becomes_ready(),
+            no_answer_with_logged_off_pending(),
+        ],
+    );
 }

@@ -1,17 +1,13 @@
-//! The requests of the examples over a desk: no memory is wanting, and after each request the event
-//! reports alone tell the connections, the agents and the order of the queues that stand in the rows.
+//! The event reports alone tell the connections, the agents and the order of the queues that stand in the
+//! rows.
 
-use super::examples::{
-    CALLER_HANGS_UP, DEFLECTION_TO_STATION, NEXT_CALL, NO_ANSWER, PENDING_LOG_OFF,
-    TICK_AFTER_THE_WRAP, TRANSFER_TO_STATION, WRAP_UP,
-};
-use super::store::opened;
+use super::look_ups::same;
 use super::*;
-use acd_desk::{Desk, Taken};
-use acd_switch::RowFault;
+use acd_book::Book;
+use acd_switch::{RowFault, Switch};
 use acd_terms::{
-    AgentId, AgentState, Cause, ConnectionRecord, ConnectionState, DeviceId, EventKind, Report,
-    Rows, Rule,
+    AgentId, AgentState, Cause, ConnectionRecord, ConnectionState, DeviceId, Event, EventKind,
+    Report, Rows, Rule,
 };
 
 // More events than any scene has.
@@ -114,9 +110,10 @@ fn state_kept(rows: &Rows, call: u64, device: DeviceId) -> Option<ConnectionStat
 
 fn compare_connection(rt: &impl Abort, events: &[Event], rows: &Rows, call: u64, device: DeviceId) {
     if !is_external_caller(rows, call, device) {
-        assert_eq!(rt;
-            connection_told(events, call, device),
-            state_kept(rows, call, device)
+        same(
+            rt,
+            &connection_told(events, call, device),
+            &state_kept(rows, call, device),
         );
     }
 }
@@ -136,9 +133,10 @@ fn compare_connections(rt: &impl Abort, events: &[Event], rows: &Rows) {
 
 fn compare_agents(rt: &impl Abort, events: &[Event], rows: &Rows) {
     for agent in rows.agents.as_slice() {
-        assert_eq!(rt;
-            seat_told(events, agent.agent),
-            (agent.state, agent.station)
+        same(
+            rt,
+            &seat_told(events, agent.agent),
+            &(agent.state, agent.station),
         );
     }
     for event in events {
@@ -162,89 +160,18 @@ fn compare_queue(rt: &impl Abort, events: &[Event], rows: &Rows, group: DeviceId
                 let entry = last_entry(events, group, first.call);
                 let other = last_entry(events, group, second.call);
                 assert!(rt; entry > 0);
-                assert_eq!(rt; first.place.cmp(&second.place), entry.cmp(&other));
+                same(rt, &first.place.cmp(&second.place), &entry.cmp(&other));
             }
         }
     }
 }
 
-fn compare(rt: &impl Abort, book: &mut MemoryBook) {
-    let events = book.events_after(0, ALL).expect(rt, "memory");
-    let rows = book.rows().expect(rt, "memory");
-    compare_connections(rt, &events, &rows);
-    compare_agents(rt, &events, &rows);
+/// Compares what all events tell with the rows.
+pub fn compare(rt: &impl Abort, events: &[Event], rows: &Rows) {
+    compare_connections(rt, events, rows);
+    compare_agents(rt, events, rows);
     for group in rows.groups.as_slice() {
-        compare_queue(rt, &events, &rows, group.device);
-    }
-}
-
-// A desk over the book takes one request, and gives the book back.
-fn taken(rt: &impl Abort, alloc: Global, book: MemoryBook, asked: &Asked) -> MemoryBook {
-    let (moment, text, wanted, reply) = *asked;
-    let request = read_request(alloc, text.as_bytes()).expect(rt, "a request");
-    let mut desk = opened(rt, alloc, book);
-    match desk.take(moment, &request) {
-        Taken::Reply { status, body } => {
-            assert_eq!(rt; body.as_str(), reply);
-            assert_eq!(rt; status, wanted);
-        }
-        _ => panic!(rt; "no reply"),
-    }
-    desk.close()
-}
-
-/// The book after all requests of the scenes, compared after each.
-pub fn watched(rt: &impl Abort, alloc: Global, limits: Limits, scenes: &[&[Asked]]) -> MemoryBook {
-    let mut book = MemoryBook::new(alloc, limits);
-    for scene in scenes {
-        for asked in *scene {
-            book = taken(rt, alloc, book, asked);
-            compare(rt, &mut book);
-        }
-    }
-    book
-}
-
-/// The book after all requests were sent again, at the greatest moment: each gets its reply.
-pub fn repeated(
-    rt: &impl Abort,
-    alloc: Global,
-    book: MemoryBook,
-    scenes: &[&[Asked]],
-) -> MemoryBook {
-    let mut book = book;
-    for scene in scenes {
-        for (_, text, status, body) in *scene {
-            book = taken(rt, alloc, book, &(u32::MAX, *text, *status, *body));
-        }
-    }
-    book
-}
-
-#[test]
-fn reports_tell_the_rows(rt: HostRuntime) {
-    let scenes: [&[&[Asked]]; 6] = [
-        &[PLAN, TWO_READY, WRAP_UP, TICK_AFTER_THE_WRAP, NEXT_CALL],
-        &[
-            PLAN,
-            CALL_ARRIVES,
-            ANA_BECOMES_READY,
-            ANA_ANSWERS,
-            PENDING_LOG_OFF,
-        ],
-        &[PLAN, NO_ANSWER],
-        &[
-            PLAN,
-            CALL_ARRIVES,
-            ANA_BECOMES_READY,
-            ANA_ANSWERS,
-            TRANSFER_TO_STATION,
-        ],
-        &[PLAN, CALL_ARRIVES, CALLER_HANGS_UP],
-        &[PLAN, CALL_ARRIVES, ANA_BECOMES_READY, DEFLECTION_TO_STATION],
-    ];
-    for scene in scenes {
-        let _ = watched(&rt, rt.alloc(), Limits::GREATEST, scene);
+        compare_queue(rt, events, rows, group.device);
     }
 }
 
@@ -259,10 +186,11 @@ fn broken(rt: &impl Abort, alloc: Global, rows: &Rows) -> Option<Rule> {
 
 #[test]
 fn event_number_out_of_bounds(rt: HostRuntime) {
-    let answered = [PLAN, CALL_ARRIVES, ANA_BECOMES_READY, ANA_ANSWERS];
-    let mut book = watched(&rt, rt.alloc(), Limits::GREATEST, &answered);
+    let new_book = MemoryBook::new(rt.alloc(), Limits::GREATEST);
+    let texts = [plan(), call_arrives(), ana_becomes_ready(), ana_answers()];
+    let mut book = play(&rt, rt.alloc(), new_book, "answered_call", &texts);
     let mut rows = book.rows().expect(&rt, "memory");
-    assert_eq!(rt; broken(&rt, rt.alloc(), &rows), None);
+    same(&rt, &broken(&rt, rt.alloc(), &rows), &None);
     rows.last_event = 1000000;
-    assert_eq!(rt; broken(&rt, rt.alloc(), &rows), Some(Rule::Counters));
+    same(&rt, &broken(&rt, rt.alloc(), &rows), &Some(Rule::Counters));
 }

@@ -1,10 +1,13 @@
 //! A store that stops at each of its commits, before the commit is made and behind it; and the desk
 //! that is opened again.
 
+use super::look_ups::same;
+use super::player::{opened, written};
 use super::stopping::{Stop, StoppingBook};
 use super::*;
+use acd_book::Book;
+use acd_codec::read_request;
 use acd_desk::{Desk, Taken};
-use acd_lines::lines;
 use acd_terms::Arrival;
 
 // A new group, the same request again, and two new stations.
@@ -28,13 +31,6 @@ const STORE_FAULT: &str = r#"{"error":{"code":34,"name":"storeFault"}}"#;
 // nothing. With the last one it doesn't stop.
 const STOPS: [(u32, usize); 4] = [(1, 0), (2, 2), (3, 3), (4, 4)];
 
-pub fn opened<B: Book + Drop>(rt: &impl Abort, alloc: Global, book: B) -> Desk<B> {
-    match Desk::open(alloc, book) {
-        Ok(desk) => desk,
-        Err((fault, _)) => panic!(rt; "{fault:?}"),
-    }
-}
-
 fn new_book(alloc: Global, stop: Stop) -> StoppingBook {
     StoppingBook::new(MemoryBook::new(alloc, Limits::GREATEST), stop)
 }
@@ -53,7 +49,7 @@ fn arrivals(rt: &impl Abort, alloc: Global) -> Vec<Arrival> {
 // The first requests get their replies, and all behind them a storeFault.
 fn run_session<B: Book>(rt: &impl Abort, alloc: Global, desk: &mut Desk<B>, served: usize) {
     let answers = desk.run(&arrivals(rt, alloc)).expect(rt, "memory");
-    assert_eq!(rt; answers.len(), REPLIES.len());
+    same(rt, &answers.len(), &REPLIES.len());
     for (i, answer) in answers.iter().enumerate() {
         match answer {
             Taken::Reply { status, body } => {
@@ -68,23 +64,26 @@ fn run_session<B: Book>(rt: &impl Abort, alloc: Global, desk: &mut Desk<B>, serv
     }
 }
 
-// The same in lines.
-fn write_session<B: Book>(rt: &impl Abort, alloc: Global, desk: &mut Desk<B>, served: usize) {
+// The session in lines, and what is written: the replies to the first requests, and then a storeFault.
+fn session(rt: &impl Abort, alloc: Global, served: usize) -> (String, String) {
     let mut input = String::new(alloc);
-    let mut wanted = String::new(alloc);
+    let mut output = String::new(alloc);
     for (i, (request, reply)) in SESSION.iter().zip(REPLIES).enumerate() {
         push_line(rt, &mut input, "0", request);
         if i < served {
-            push_line(rt, &mut wanted, "200", reply);
+            push_line(rt, &mut output, "200", reply);
         } else {
-            push_line(rt, &mut wanted, "503", STORE_FAULT);
+            push_line(rt, &mut output, "503", STORE_FAULT);
         }
     }
-    let mut reader = input.as_bytes();
-    let mut written = Vec::new(alloc);
-    let ended = lines(alloc, desk, &mut reader, &mut written);
-    assert!(rt; ended.is_ok());
-    assert_eq!(rt; written.as_slice(), wanted.as_bytes());
+    (input, output)
+}
+
+// The same in lines.
+fn write_session<B: Book>(rt: &impl Abort, alloc: Global, desk: &mut Desk<B>, served: usize) {
+    let (input, output) = session(rt, alloc, served);
+    let answers = written(rt, alloc, desk, &input);
+    assert_eq!(rt; answers.as_str(), output.as_str());
 }
 
 fn push_line(rt: &impl Abort, text: &mut String, first: &str, rest: &str) {
@@ -96,11 +95,15 @@ fn push_line(rt: &impl Abort, text: &mut String, first: &str, rest: &str) {
 // The first requests are executed, and no other: the first makes a group, and the others stations.
 fn expect_executed(rt: &impl Abort, book: &mut MemoryBook, requests: u64) {
     let rows = book.rows().expect(rt, "memory");
-    assert_eq!(rt; rows.last_stamp, requests);
-    assert_eq!(rt; rows.groups.len() as u64, requests.min(1));
-    assert_eq!(rt; rows.stations.len() as u64, requests.saturating_sub(1));
+    same(rt, &rows.last_stamp, &requests);
+    same(rt, &(rows.groups.len() as u64), &requests.min(1));
+    same(
+        rt,
+        &(rows.stations.len() as u64),
+        &requests.saturating_sub(1),
+    );
     let last = book.kept_after(requests.saturating_sub(1));
-    assert_eq!(rt; last.expect(rt, "memory").is_some(), requests > 0);
+    same(rt, &last.expect(rt, "memory").is_some(), &(requests > 0));
     let behind = book.kept_after(requests).expect(rt, "memory");
     assert!(rt; behind.is_none());
 }
@@ -108,7 +111,7 @@ fn expect_executed(rt: &impl Abort, book: &mut MemoryBook, requests: u64) {
 // What a reopening finds: what was answered, and the request at which the store stopped, where it was made.
 fn left_by(rt: &impl Abort, book: StoppingBook, stop: Stop) -> MemoryBook {
     let stopped = stop.commit <= 3;
-    assert_eq!(rt; book.failures(), u64::from(stopped));
+    same(rt, &book.failures(), &u64::from(stopped));
     let mut left = book.into_inner();
     let before = u64::from(stop.commit.saturating_sub(1));
     let made = before + u64::from(stopped && stop.is_made);

@@ -3,18 +3,18 @@
 //! Twelve groups, forty stations with an agent at each, of whom twenty are ready, a monitor of each
 //! group, and sixty calls, five in each group: twenty are offered, and forty wait.
 
-ghost use Rattle.acd_terms.specs.Rules.First.{BreaksNoRule};
-
-use super::store::opened;
+use super::look_ups::same;
+use super::player::opened;
+use super::reference::Reference;
+use super::reports::ALL;
 use super::*;
-use acd_book::{BookFault, Kept, Text};
+use acd_book::{Book, BookFault, Kept, Text};
 use acd_desk::{Desk, Taken};
 use acd_tables::{Records, Tables};
 use acd_terms::{
-    AgentId, Arrival, Command, DeviceId, Figures, Invoke, Name, Pending, Request, Requested,
-    Requester, Seconds,
+    AgentId, Arrival, Command, DeviceId, Event, Figures, Invoke, Name, Pending, Request, Requested,
+    Requester, Rows, Seconds, scans,
 };
-use records::NO_FIGURES;
 
 // How many requests make the office, and how many events they report: 40 log on, 20 become ready, 60
 // calls are queued, and 20 of them leave their queue and ring.
@@ -134,7 +134,7 @@ impl Asking {
 // All requests are executed, and none is refused.
 fn run_all(rt: &impl Abort, desk: &mut Desk<MemoryBook>, asking: &Asking) {
     let answers = desk.run(&asking.arrivals).expect(rt, "memory");
-    assert_eq!(rt; answers.len(), asking.arrivals.len());
+    same(rt, &answers.len(), &asking.arrivals.len());
     for answer in &answers {
         assert!(rt; matches!(answer, Taken::Reply { status: 200, .. }));
     }
@@ -157,21 +157,21 @@ fn rows_of(rt: &impl Abort, book: &mut MemoryBook) -> Rows {
 }
 
 fn events_of(rt: &impl Abort, book: &mut MemoryBook) -> Vec<Event> {
-    book.events_after(0, reports::ALL).expect(rt, "memory")
+    book.events_after(0, ALL).expect(rt, "memory")
 }
 
 // Twelve groups and their monitors, forty stations and agents, and sixty calls of two connections.
 fn expect_all(rt: &impl Abort, rows: &Rows) {
-    assert_eq!(rt; (rows.groups.len(), rows.monitors.len()), (12, 12));
-    assert_eq!(rt; (rows.stations.len(), rows.agents.len()), (40, 40));
-    assert_eq!(rt; (rows.calls.len(), rows.connections.len()), (60, 120));
-    assert_eq!(rt; (rows.last_stamp, rows.last_event), (REQUESTS, EVENTS));
+    same(rt, &(rows.groups.len(), rows.monitors.len()), &(12, 12));
+    same(rt, &(rows.stations.len(), rows.agents.len()), &(40, 40));
+    same(rt, &(rows.calls.len(), rows.connections.len()), &(60, 120));
+    same(rt, &(rows.last_stamp, rows.last_event), &(REQUESTS, EVENTS));
     for group in &rows.groups {
         let figures = Figures {
             entered: 5,
-            ..NO_FIGURES
+            ..Figures::default()
         };
-        assert!(rt; group.figures == figures);
+        same(rt, &group.figures, &figures);
     }
 }
 
@@ -181,39 +181,36 @@ fn rows_of_an_office(rt: HostRuntime) {
     let rows = rows_of(&rt, &mut book);
     expect_all(&rt, &rows);
     let copy = rows.clone().expect(&rt, "memory");
-    assert!(rt; copy == rows);
-    let records = Records::from_rows(rt.alloc(), &rows).expect(&rt, "memory");
-    assert!(rt; records.rows(rt.alloc()).expect(&rt, "memory") == rows);
-    let tables = Tables::from_rows(rt.alloc(), &rows).expect(&rt, "memory");
-    assert!(rt; tables.rows().expect(&rt, "memory") == rows);
+    same(&rt, &copy, &rows);
+    expect_loaded(&rt, rt.alloc(), &rows);
 }
 
-fn switch_of(rt: &impl Abort, alloc: Global, rows: &Rows) -> Switch
-    ensures { BreaksNoRule result }
-{
-    Switch::from_rows(alloc, rows).expect(rt, "rows that break no rule")
+// Records and tables are made of the rows, and give them back.
+fn expect_loaded(rt: &impl Abort, alloc: Global, rows: &Rows) {
+    let records = Records::from_rows(alloc, rows).expect(rt, "memory");
+    same(rt, &records.rows(alloc).expect(rt, "memory"), rows);
+    let tables = Tables::from_rows(alloc, rows).expect(rt, "memory");
+    same(rt, &tables.rows().expect(rt, "memory"), rows);
 }
 
 #[test]
 fn switch_of_an_office(rt: HostRuntime) {
     let mut book = office(&rt, rt.alloc());
     let rows = rows_of(&rt, &mut book);
-    let switch = switch_of(&rt, rt.alloc(), &rows);
-    look_ups::compare(&rt, &switch);
-    assert!(rt; switch.tables().queued_count() == 40);
-    assert!(rt; switch.rows().expect(&rt, "memory") == rows);
+    same(&rt, &scans::queued_count(&rows), &40);
+    Reference::of_rows(&rt, rt.alloc(), &rows).compare(&rt, &rows);
 }
 
 // All offers are taken back at one tick, each with three events.
 #[test]
 fn tick_of_an_office(rt: HostRuntime) {
     let mut book = office(&rt, rt.alloc());
-    let mut switch = switch_of(&rt, rt.alloc(), &rows_of(&rt, &mut book));
-    assert!(rt; !switch.is_full());
-    let (_, events) = switch.step(20, &Command::Tick).expect(&rt, "memory");
-    assert_eq!(rt; events.len(), 60);
-    assert_eq!(rt; switch.tables().queued_count(), 60);
-    look_ups::compare(&rt, &switch);
+    let mut switch = Reference::of_rows(&rt, rt.alloc(), &rows_of(&rt, &mut book));
+    let (_, events) = switch.step(&rt, 20, &Command::Tick);
+    same(&rt, &events.len(), &60);
+    let rows = switch.rows(&rt);
+    same(&rt, &scans::queued_count(&rows), &60);
+    switch.compare(&rt, &rows);
 }
 
 // The desk takes twenty offers back at one tick, and twenty agents end their after-call work at another:
@@ -229,15 +226,15 @@ fn desk_of_an_office(rt: HostRuntime) {
     run_all(&rt, &mut desk, &asking);
     let mut book = desk.close();
     let rows = rows_of(&rt, &mut book);
-    assert_eq!(rt; rows.last_event, EVENTS + 60 + 20 + 60);
-    look_ups::compare(&rt, &switch_of(&rt, rt.alloc(), &rows));
+    same(&rt, &rows.last_event, &(EVENTS + 60 + 20 + 60));
+    Reference::of_rows(&rt, rt.alloc(), &rows).compare(&rt, &rows);
 }
 
 // The numbers of the events go on by one from the first.
 fn expect_numbers(rt: &impl Abort, events: &[Event], first: u64) {
     let mut number = first;
     for event in events {
-        assert_eq!(rt; event.number, number);
+        same(rt, &event.number, &number);
         number = number.saturating_add(1);
     }
 }
@@ -246,10 +243,10 @@ fn expect_numbers(rt: &impl Abort, events: &[Event], first: u64) {
 fn events_of_an_office(rt: HostRuntime) {
     let mut book = office(&rt, rt.alloc());
     let events = events_of(&rt, &mut book);
-    assert_eq!(rt; events.len() as u64, EVENTS);
+    same(&rt, &(events.len() as u64), &EVENTS);
     expect_numbers(&rt, &events, 1);
     let some = book.events_after(101, 25).expect(&rt, "memory");
-    assert_eq!(rt; some.len(), 25);
+    same(&rt, &some.len(), &25);
     expect_numbers(&rt, &some, 102);
 }
 
@@ -263,11 +260,19 @@ fn count_of_monitor(rt: &impl Abort, book: &mut MemoryBook, monitor: u64, limit:
 #[test]
 fn monitors_of_an_office(rt: HostRuntime) {
     let mut book = office(&rt, rt.alloc());
-    assert_eq!(rt; count_of_monitor(&rt, &mut book, 1, reports::ALL), 6);
-    assert_eq!(rt; count_of_monitor(&rt, &mut book, 2, reports::ALL), 7);
-    assert_eq!(rt; count_of_monitor(&rt, &mut book, 2, 4), 4);
-    assert_eq!(rt; count_of_monitor(&rt, &mut book, 12, reports::ALL), 6);
-    assert_eq!(rt; count_of_monitor(&rt, &mut book, 13, reports::ALL), 0);
+    for (monitor, limit, count) in [
+        (1, ALL, 6),
+        (2, ALL, 7),
+        (2, 4, 4),
+        (12, ALL, 6),
+        (13, ALL, 0),
+    ] {
+        same(
+            &rt,
+            &count_of_monitor(&rt, &mut book, monitor, limit),
+            &count,
+        );
+    }
 }
 
 fn stamp_after(rt: &impl Abort, book: &mut MemoryBook, stamp: u64) -> Option<u64> {
@@ -289,14 +294,15 @@ fn stamp_of(rt: &impl Abort, book: &mut MemoryBook, invoke: u64) -> Option<u64> 
 fn kept_replies_of_an_office(rt: HostRuntime) {
     let mut book = office(&rt, rt.alloc());
     for stamp in [1, 12, 111, REQUESTS] {
-        assert_eq!(rt;
-            stamp_after(&rt, &mut book, stamp.saturating_sub(1)),
-            Some(stamp)
+        same(
+            &rt,
+            &stamp_after(&rt, &mut book, stamp.saturating_sub(1)),
+            &Some(stamp),
         );
-        assert_eq!(rt; stamp_of(&rt, &mut book, stamp), Some(stamp));
+        same(&rt, &stamp_of(&rt, &mut book, stamp), &Some(stamp));
     }
-    assert_eq!(rt; stamp_after(&rt, &mut book, REQUESTS), None);
-    assert_eq!(rt; stamp_of(&rt, &mut book, REQUESTS + 1), None);
+    same(&rt, &stamp_after(&rt, &mut book, REQUESTS), &None);
+    same(&rt, &stamp_of(&rt, &mut book, REQUESTS + 1), &None);
 }
 
 fn first_record(rt: &impl Abort, alloc: Global) -> Kept {
@@ -315,12 +321,22 @@ fn commit_of_an_office(rt: HostRuntime) {
     let mut book = office(&rt, rt.alloc());
     let rows = rows_of(&rt, &mut book);
     let events = events_of(&rt, &mut book);
-    let mut copy = MemoryBook::new(rt.alloc(), Limits::GREATEST);
     let record = first_record(&rt, rt.alloc());
-    copy.commit(&rows, &events, &record).expect(&rt, "memory");
-    assert!(rt; rows_of(&rt, &mut copy) == rows);
-    assert!(rt; events_of(&rt, &mut copy).as_slice() == events.as_slice());
+    let mut copy = MemoryBook::new(rt.alloc(), Limits::GREATEST);
+    committed(&mut copy, &rows, &events, &record).expect(&rt, "memory");
+    same(&rt, &rows_of(&rt, &mut copy), &rows);
+    same(&rt, &events_of(&rt, &mut copy), &events);
     // its record goes on from the first
-    let again = copy.commit(&rows, &[], &record);
+    let again = committed(&mut copy, &rows, &[], &record);
     assert!(rt; matches!(again, Err(BookFault::NoMemory)));
+}
+
+// The commit, without its clauses.
+fn committed(
+    book: &mut MemoryBook,
+    rows: &Rows,
+    events: &[Event],
+    record: &Kept,
+) -> Result<(), BookFault> {
+    book.commit(rows, events, record)
 }
