@@ -16,6 +16,20 @@ pub struct Reference {
     ghost rules: { BreaksNoRule switch },
 }
 
+// Executes a request.
+fn stepped(
+    rt: &impl Abort,
+    switch: &mut Switch,
+    moment: u32,
+    command: &Command,
+) -> (Outcome, Vec<Event>)
+    requires { BreaksNoRule switch.old }
+    ensures { BreaksNoRule switch.new }
+{
+    assert!(rt; !switch.is_full());
+    switch.step(moment, command).expect(rt, "memory")
+}
+
 impl Reference {
     pub fn new(rt: &impl Abort, alloc: Global, limits: Limits) -> Reference {
         assert!(rt; limits.fits());
@@ -39,8 +53,7 @@ impl Reference {
         moment: u32,
         command: &Command,
     ) -> (Outcome, Vec<Event>) {
-        assert!(rt; !self.switch.is_full());
-        self.switch.step(moment, command).expect(rt, "memory")
+        stepped(rt, &mut self.switch, moment, command)
     }
 
     pub fn rows(&self, rt: &impl Abort) -> Rows {

@@ -54,7 +54,8 @@ fn run_session<B: Book>(rt: &impl Abort, alloc: Global, desk: &mut Desk<B>, serv
         match answer {
             Taken::Reply { status, body } => {
                 assert!(rt; i < served);
-                assert_eq!(rt; (*status, body.as_str()), (200, REPLIES[i]));
+                let reply = REPLIES.get(i).expect(rt, "a reply");
+                assert_eq!(rt; (*status, body.as_str()), (200, *reply));
             }
             other => {
                 assert!(rt; i >= served);
