@@ -13,7 +13,7 @@ loop-request-init g c =
 pub loop-request-preserved : goal.loop-request-preserved
 loop-request-preserved g c =
     let i = c.loop-request.request-index in
-    let more = take_more i c.args.requests.now c.request-item.value.now _ c.request-item.is c.loop-request-test.true in
+    let more = take_more i c.args.requests.now _ _ c.request-item.is c.loop-request-test.true in
     subst (λ (l : List Request). Imports (standing g.B.Book) c.args.desk.now l c.serve_request.new.desk (g.W.Write.contents c.args.writer.now) (g.W.Write.contents c.serve_request.new.writer) c.serve_request.new.outbox.waiting.items) (sym more)
     (imports_more (standing g.B.Book) (λ d x clean sound opened stop. g.met.B.Book.settled d.book x clean sound opened stop) c.args.desk.now c.loop-request.desk c.serve_request.new.desk (take i c.args.requests.now) _
     (g.W.Write.contents c.args.writer.now) (g.W.Write.contents c.loop-request.writer) (g.W.Write.contents c.serve_request.new.writer) c.loop-request.outbox.waiting.items c.serve_request.new.outbox.waiting.items
