@@ -9,6 +9,7 @@ mod limits;
 mod look_ups;
 mod player;
 mod player_tests;
+mod program;
 mod reference;
 mod refusals;
 mod releases;
