@@ -11,7 +11,6 @@ use std::process::Abort;
 
 mod failing;
 mod kept;
-mod reads;
 mod store;
 
 // A moment, a request, and what is told of its answer.
