@@ -14,5 +14,9 @@ pub mod Faulty
 pub mod NewKeys
 pub mod Opens
 pub mod Sessions
+pub mod SameRecords
 pub mod Audits
+pub mod Reading
+pub mod AuditedDesks
 pub mod AuditLaws
+pub mod AuditSteps

@@ -14,4 +14,5 @@ pub mod Ran
 pub mod Session
 pub mod Audit
 pub mod Replay
+pub mod Audited
 pub mod AuditLaws

@@ -24,9 +24,9 @@ use std::mem;
 /// A desk: the book that keeps all, and what is in memory of it.
 #[derive(Drop)]
 pub struct Desk<B: Book> {
-    alloc: Global,
-    book: B,
-    working: Working,
+    pub(crate) alloc: Global,
+    pub(crate) book: B,
+    pub(crate) working: Working,
 }
 
 impl<B: Book> Desk<B> {

@@ -14,9 +14,12 @@
 mod audit;
 mod desk;
 mod executing;
+mod fault;
 pub mod laws;
 mod open_fault;
+mod replay;
 mod requests;
+mod same;
 mod session;
 mod taken;
 #[cfg(test)]
@@ -25,6 +28,7 @@ mod working;
 
 pub use audit::Audit;
 pub use desk::Desk;
+pub use fault::DeskFault;
 pub use open_fault::OpenFault;
 pub use requests::is_same;
 pub use session::SessionFault;
