@@ -1,6 +1,6 @@
 //! The kept requests of a book run again, and compared with what it holds.
 
-ghost use Rattle.std.specs.Prelude.{◌≡◌, ◌<◌, ◌&&◌, cond, [], Some, length, option_map, MatchOption, IfOk, IfSome};
+ghost use Rattle.std.specs.Prelude.{◌≡◌, ◌<◌, ◌&&◌, cond, true, [], Some, length, option_map, MatchOption, IfOk, IfSome};
 ghost use Rattle.std.specs.Bool.{Decides};
 ghost use Rattle.acd_book.specs.Content.{events_behind, IsKeptAfter};
 ghost use Rattle.acd_book.specs.Memory.{stamp_of};
