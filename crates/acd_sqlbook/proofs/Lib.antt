@@ -26,5 +26,7 @@ mod Filing
 mod Committing
 pub mod Decoded
 pub mod Ranged
+pub mod Reported
 mod Standing
 mod BookStates
+mod Adopted

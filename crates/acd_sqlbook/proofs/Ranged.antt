@@ -51,7 +51,7 @@ pub guarded : {B : Type 0} (b : Bool) (o : Option B) (y : B) → cond b o None �
 guarded false o y h = absurd (cc h)
 guarded true o y h = (refl, h)
 
-some_same : {A : Type 0} (x y : A) → Some x ≡ Some y → x ≡ y
+pub some_same : {A : Type 0} (x y : A) → Some x ≡ Some y → x ≡ y
 some_same x y e = cc e
 
 -- ---- values
@@ -201,7 +201,7 @@ row_is n r h = subst (λ k. r ≡ cells 0 k r) (sym (code_same (length r) n h)) 
 
 -- ---- records
 
-beside : (u v : Value) (r s : Row) → u ≡ v → r ≡ s → u ∷ r ≡ v ∷ s
+pub beside : (u v : Value) (r s : Row) → u ≡ v → r ≡ s → u ∷ r ≡ v ∷ s
 beside u v r s e f = ap (λ x. x ∷ r) e ∙ ap (λ l. v ∷ l) f
 
 pub figures_stored : (r : Row) (a b c d e : ℕ) (f : Figures) → figures_at r a b c d e ≡ Some f

@@ -11,6 +11,7 @@
 //! ```
 #![tactic(auto)]
 
+mod adopt;
 mod bind;
 mod book;
 mod codes;
