@@ -1,0 +1,206 @@
+//! A book over a connection.
+
+ghost use Rattle.std.specs.Prelude.{◌≡◌, ◌≤◌, false, Err, is_ok, IsTrue, IfOk, IfErr, OnOk};
+ghost use Rattle.sqlite.specs.State.{HasCleanDisk};
+ghost use Rattle.sqlite.specs.Held.{state};
+ghost use Rattle.acd_book.specs.Content.{empty_content, FollowsBy, committed_by};
+ghost use Rattle.acd_book.specs.State.{Reads, Commits};
+ghost use Rattle.acd_sqlbook.specs.Calls.{HasRead};
+ghost use Rattle.acd_sqlbook.specs.Schema.{no_schema};
+ghost use Rattle.acd_sqlbook.specs.Draft.{Holds, LimitsFit};
+ghost use Rattle.acd_sqlbook.specs.State.{book_state, IsNew, MayMake, fault_of, answered, failures_after};
+
+use crate::create::make_tables;
+use crate::meta::Meta;
+use crate::ready::{commit_ready, limits_fit, limits_ready};
+use crate::write::put_meta;
+use acd_book::{Book, BookFault, Kept};
+use acd_terms::{Change, Event, Invoke, Limits, Requester, Rows};
+use sqlite::{Alter, Connection, Error, ErrorCode};
+use std::alloc::Global;
+
+/// A book in a database. Its tables are those of version 1.
+#[derive(Drop)]
+pub struct SqlBook<S: Alter> {
+    alloc: Global,
+    conn: Connection<S>,
+    // Whether the last call succeeded, so that the store still serves.
+    fresh: bool,
+    failures: u64,
+    ghost idle: { conn.in_transaction ≡ false },
+    ghost serves: { IsTrue fresh → HasCleanDisk (state S.Store conn) → IsTrue (state S.Store conn).is_open },
+}
+
+// Want of memory is no failure of the store.
+fn fault_of(error: Error) -> BookFault
+    ensures { result ≡ fault_of error }
+{
+    match error {
+        Error::SqliteFailure(ErrorCode::OutOfMemory) => BookFault::NoMemory,
+        _ => BookFault::Store,
+    }
+}
+
+// The answer of a call, whose failure is counted, and whether the store still serves.
+fn noted<T>(
+    found: Result<T, Error>,
+    fresh: &mut bool,
+    failures: &mut u64,
+) -> Result<T, BookFault>
+    ensures answer { result ≡ answered found }
+    ensures fresh { fresh.new ≡ is_ok found }
+    ensures failures { failures.new ≡ failures_after result failures.old }
+    ensures counts { failures.old ≤ failures.new }
+{
+    match found {
+        Ok(found) => {
+            *fresh = true;
+            Ok(found)
+        }
+        Err(error) => {
+            *fresh = false;
+            let fault = fault_of(error);
+            if fault == BookFault::Store {
+                *failures = failures.saturating_add(1);
+            }
+            Err(fault)
+        }
+    }
+}
+
+// Makes the tables, and the row of the limits.
+fn set_up<S: Alter>(conn: &mut Connection<S>, limits: Limits) -> Result<(), Error>
+    requires idle { conn.old.in_transaction ≡ false }
+    requires fit { LimitsFit limits }
+    ensures idle { conn.new.in_transaction ≡ false }
+    ensures clean { HasCleanDisk (state S.Store conn.new) → HasCleanDisk (state S.Store conn.old) }
+    ensures made { HasCleanDisk (state S.Store conn.new) → OnOk result ((state S.Store conn.old).now.schema ≡ no_schema → Holds (state S.Store conn.new) (empty_content limits)) }
+    ensures up { HasCleanDisk (state S.Store conn.new) → OnOk result (IsTrue (state S.Store conn.new).is_open) }
+    ensures stops { HasCleanDisk (state S.Store conn.new) → MayMake (state S.Store conn.old) (state S.Store conn.new) limits }
+{
+    let meta = Meta {
+        limits,
+        last_stamp: 0,
+        last_moment: 0,
+        last_call: 0,
+        last_monitor: 0,
+        last_event: 0,
+    };
+    let mut tx = conn.transaction();
+    make_tables(&mut tx)?;
+    put_meta(&mut tx, &meta)?;
+    tx.commit()
+}
+
+impl<S: Alter> SqlBook<S> {
+    /// Makes the tables of a new book, in one transaction.
+    ///
+    /// Limits that no INTEGER column can hold, and a database that has such tables already, are
+    /// [`BookFault::Store`]. The connection is handed back beside a fault.
+    pub fn create(
+        alloc: Global,
+        mut conn: Connection<S>,
+        limits: Limits,
+    ) -> Result<SqlBook<S>, (BookFault, Connection<S>)>
+        requires { conn.in_transaction ≡ false }
+        ensures made { IfOk result (λ b. HasCleanDisk (state S.Store b.conn) → (state S.Store conn).now.schema ≡ no_schema → IsNew (book_state (state S.Store b.conn) b.failures) limits) }
+        ensures counted { IfOk result (λ b. b.failures ≡ 0) }
+        ensures clean { IfOk result (λ b. HasCleanDisk (state S.Store b.conn) → HasCleanDisk (state S.Store conn)) }
+        ensures refused { ¬ (LimitsFit limits) → result ≡ Err (BookFault.Store, conn) }
+        ensures handed_back { IfErr result (λ e. e.1.in_transaction ≡ false) }
+        ensures doubted { IfErr result (λ e. HasCleanDisk (state S.Store e.1) → HasCleanDisk (state S.Store conn)) }
+        ensures stops { IfErr result (λ e. HasCleanDisk (state S.Store e.1) → MayMake (state S.Store conn) (state S.Store e.1) limits) }
+    {
+        if !limits_fit(&limits) {
+            return Err((BookFault::Store, conn));
+        }
+        match set_up(&mut conn, limits) {
+            Ok(()) => Ok(SqlBook {
+                alloc,
+                conn,
+                fresh: true,
+                failures: 0,
+            }),
+            Err(error) => Err((fault_of(error), conn)),
+        }
+    }
+
+    /// Gives the connection up. It takes no memory.
+    pub fn into_connection(self) -> Connection<S>
+        ensures idle { result.in_transaction ≡ false }
+        ensures same { result ≡ self.conn }
+    {
+        let SqlBook {
+            alloc: _,
+            conn,
+            fresh: _,
+            failures: _,
+        } = self;
+        conn
+    }
+}
+
+impl<S: Alter> Book for SqlBook<S> {
+    ghost use Rattle.std.specs.Prelude.{◌≡◌, IsTrue};
+    ghost use Rattle.std.proofs.Common.{ap, ◌∙◌, refl};
+    ghost use Rattle.std.proofs.Math.Logic.{∥∥₁_map};
+    ghost use Rattle.sqlite.specs.Held.{state};
+    ghost use Rattle.acd_sqlbook.specs.Decoding.{content_of};
+    ghost use Rattle.acd_sqlbook.specs.State.{book_state};
+
+    ghost state = { λ b. book_state (state S.Store b.conn) b.failures };
+
+    ghost settled = { λ b c clean sound up stop. stop.2 ∙ ap content_of (S.settled b.conn.store stop.0 up stop.1) };
+
+    ghost stays = { λ b clean sound up. ((S.view b.conn.store).committed, S.stays b.conn.store up, refl) };
+
+    ghost stands = { λ b clean sound. ∥∥₁_map (S.survives b.conn.store clean) (λ found. (content_of found.0, (found.0, found.1, refl))) };
+
+    fn failures(&self) -> u64 {
+        self.failures
+    }
+
+    fn limits(&mut self) -> Result<Limits, BookFault> {
+        let found = limits_ready(&mut self.conn, self.fresh);
+        noted(found, &mut self.fresh, &mut self.failures)
+    }
+
+    fn rows(&mut self) -> Result<Rows, BookFault> {
+        Err(BookFault::NoMemory)
+    }
+
+    fn kept(&mut self, requester: &Requester, invoke: Invoke) -> Result<Option<Kept>, BookFault> {
+        Err(BookFault::NoMemory)
+    }
+
+    fn kept_after(&mut self, stamp: u64) -> Result<Option<Kept>, BookFault> {
+        Err(BookFault::NoMemory)
+    }
+
+    fn events_after(&mut self, number: u64, limit: usize) -> Result<Vec<Event>, BookFault> {
+        Err(BookFault::NoMemory)
+    }
+
+    fn events_of_monitor(
+        &mut self,
+        monitor: u64,
+        number: u64,
+        limit: usize,
+    ) -> Result<Vec<Event>, BookFault> {
+        Err(BookFault::NoMemory)
+    }
+
+    fn commit(&mut self, rows: &Rows, events: &[Event], kept: &Kept) -> Result<(), BookFault> {
+        Err(BookFault::NoMemory)
+    }
+
+    fn commit_changes(
+        &mut self,
+        changes: &[Change],
+        events: &[Event],
+        kept: &Kept,
+    ) -> Result<(), BookFault> {
+        let done = commit_ready(self.alloc, &mut self.conn, self.fresh, changes, events, kept);
+        noted(done, &mut self.fresh, &mut self.failures)
+    }
+}

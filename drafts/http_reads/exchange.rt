@@ -1,0 +1,96 @@
+//! One request, and its reply.
+
+ghost use Rattle.std.specs.Prelude.{◌≡◌, OnOk, OnErr, IfErr, Bool, cond, []};
+ghost use Rattle.std.specs.Io.KnownBytes.{Appends};
+ghost use Rattle.acd_lines.specs.Sent.{Begins};
+ghost use Rattle.acd_desk.specs.Ran.{standing};
+ghost use Rattle.acd_http.specs.declared.asked.Asked.{Asked};
+ghost use Rattle.acd_http.specs.Asking.{IsAsked};
+ghost use Rattle.acd_http.specs.Exchanging.{reply_out, Exchanged};
+
+use crate::answer::{Reply, answered, fixed};
+use crate::asked::{Unknown, asked_by};
+use crate::input::Input;
+use crate::receive::CALLS;
+use crate::reply::reply_head;
+use crate::routes::Routes;
+use acd_book::Book;
+use acd_codec::FixedAnswer;
+use acd_desk::Desk;
+use acd_lines::{Stopped, send};
+use std::alloc::{AllocError, Global};
+use std::io::{Read, Write};
+use thiserror::Error;
+
+/// Why a request got no reply, or a part of it.
+#[derive(Clone, Copy, Debug, PartialEq, Eq, Error)]
+pub enum ExchangeFault {
+    /// The input ended before the request did. Nothing was written, and nothing has changed.
+    #[error("truncated")]
+    Truncated,
+    /// The reader failed, or was called as often as it may be. Nothing was written, and nothing has changed.
+    #[error("read")]
+    Read,
+    /// The writer failed, or was called as often as it may be. The request stands as it was answered.
+    #[error("write")]
+    Write,
+    /// There was no memory for the buffer. Nothing was read.
+    #[error("no memory")]
+    NoMemory,
+}
+
+fn body_sent(bodiless: bool, body: &[u8]) -> &[u8]
+    ensures { result.now ≡ cond bodiless [] body.now }
+{
+    if bodiless { b"" } else { body }
+}
+
+// Writes a reply.
+fn respond<W: Write>(writer: &mut W, bodiless: bool, reply: &Reply) -> Result<(), ExchangeFault>
+    ensures ok { OnOk result (Appends (W.contents writer.old) (W.contents writer.new) (reply_out bodiless reply.now)) }
+    ensures err { IfErr result (λ fault. (fault ≡ ExchangeFault.Write) × Begins (W.contents writer.old) (W.contents writer.new) (reply_out bodiless reply.now)) }
+{
+    let mut calls = CALLS;
+    let body = reply.body();
+    let head = reply_head(reply.status(), reply.kind(), body.len(), reply.allow());
+    match send(writer, &mut calls, head.as_slice()) {
+        Ok(()) => match send(writer, &mut calls, body_sent(bodiless, body)) {
+            Ok(()) => Ok(()),
+            Err(Stopped) => Err(ExchangeFault::Write),
+        },
+        Err(Stopped) => Err(ExchangeFault::Write),
+    }
+}
+
+/// Reads one request, and writes its reply. `moment` is in seconds.
+///
+/// The reader is read until the request has come whole, and maybe further. The reply's body is made before
+/// anything is kept, so want of memory can't change it afterwards.
+pub fn exchange<B: Book, R: Read, W: Write>(
+    alloc: Global,
+    routes: &Routes,
+    desk: &mut Desk<B>,
+    moment: u32,
+    reader: &mut R,
+    writer: &mut W,
+) -> Result<(), ExchangeFault>
+    ensures ok { OnOk result (Exchanged (standing B.Book) moment (R.remaining reader.old) desk.old desk.new (Appends (W.contents writer.old) (W.contents writer.new))) }
+    // a beginning of the reply was written
+    ensures write { result ≡ Err ExchangeFault.Write → Exchanged (standing B.Book) moment (R.remaining reader.old) desk.old desk.new (Begins (W.contents writer.old) (W.contents writer.new)) }
+    ensures truncated { result ≡ Err ExchangeFault.Truncated → IsAsked (R.remaining reader.old) Asked.Truncated }
+    ensures quiet { IfErr result (λ fault. fault ≢ ExchangeFault.Write → (desk.new ≡ desk.old) × (writer.new ≡ writer.old)) }
+    ensures memory { result ≡ Err ExchangeFault.NoMemory → reader.new ≡ reader.old }
+{
+    let mut input = match Input::new(alloc) {
+        Ok(input) => input,
+        Err(AllocError) => return Err(ExchangeFault::NoMemory),
+    };
+    match asked_by(alloc, routes, reader, &mut input) {
+        Ok(asked) => match answered(alloc, desk, moment, asked) {
+            Some(reply) => respond(writer, asked.is_bodiless(), &reply),
+            None => Err(ExchangeFault::Truncated),
+        },
+        Err(Unknown::NoMemory(bodiless)) => respond(writer, bodiless, &fixed(FixedAnswer::NoMemory)),
+        Err(Unknown::Stopped) => Err(ExchangeFault::Read),
+    }
+}

@@ -1,0 +1,26 @@
+-- What a desk in memory answers.
+use Rattle.std.specs.Prelude.{◌≡◌, ¬, List, length}
+use Rattle.std.specs.List.{Contains}
+use Rattle.acd_terms.specs.Limits.{greatest_limits}
+use Rattle.acd_terms.specs.declared.command.Arrival.{Arrival}
+use Rattle.acd_book.specs.Content.{Content, empty_content}
+use Rattle.acd_desk.specs.declared.taken.Taken.{Taken}
+use Rattle.acd_desk.specs.declared.taken.Taken.TheVariants.{StoreFault}
+use Rattle.acd_desk.specs.Served.{served, sent}
+use Rattle.acd_desk.specs.Stands.{replies}
+use Rattle.acd_desk.specs.Standing.{Standing, Starts}
+
+-- nothing was executed, under the greatest limits
+abbrev pub nothing : Content
+nothing = empty_content greatest_limits
+
+-- a desk that was just opened over a new book
+pub record IsNewDesk (s : Standing) : Type 0 where
+  pub starts : Starts s
+  pub empty : s.book.content ≡ nothing
+
+-- each answer is noMemory, or that of the abstract desk at its place among the arrivals that were not answered so
+pub record AnsweredFromNothing (arrivals : List Arrival) (answers : List Taken) : Type 0 where
+  pub even : length arrivals ≡ length answers
+  pub replies : sent answers ≡ replies nothing (served arrivals answers)
+  pub no_fault : ¬ (Contains answers StoreFault)
