@@ -1,12 +1,10 @@
 //! Whole sessions over memory, with the bytes that the formats prescribe, and readers and writers that
 //! fail midway.
 
-use crate::importing::import;
 use crate::session::{LinesFault, lines};
 use acd_book::{Book, MemoryBook};
-use acd_codec::read_request;
 use acd_desk::{Desk, OpenFault};
-use acd_terms::{Limits, Request};
+use acd_terms::Limits;
 use std::alloc::Global;
 use std::io::{self, ErrorKind, Read, Write};
 use std::process::Abort;
@@ -73,44 +71,6 @@ fn gives(rt: &(impl Abort + AllocGlobal), input: &[&str], output: &[&str]) -> Re
     }
     let written = answered(rt.alloc(), bytes.as_slice())?;
     assert_eq!(rt; written.as_slice(), wanted.as_slice());
-    Ok(())
-}
-
-// The request of a line whose moment is 0.
-fn add_request(rt: &impl Abort, alloc: Global, requests: &mut Vec<Request>, line: &str) {
-    let json = line.strip_prefix("0 ").expect(rt, "a moment");
-    let request = read_request(alloc, json.as_bytes()).expect(rt, "a request");
-    requests.push(request).expect(rt, "memory");
-}
-
-// The answers to a group and a station that are imported.
-fn expect_imported(
-    rt: &impl Abort,
-    alloc: Global,
-    desk: &mut Desk<MemoryBook>,
-    requests: &[Request],
-) {
-    let mut written = Vec::new(alloc);
-    import(alloc, desk, requests, &mut written).expect(rt, "written");
-    let mut wanted = Vec::new(alloc);
-    wanted
-        .extend_from_slice(GROUP_ANSWER.as_bytes())
-        .expect(rt, "memory");
-    wanted
-        .extend_from_slice(STATION_ANSWER.as_bytes())
-        .expect(rt, "memory");
-    assert_eq!(rt; written.as_slice(), wanted.as_slice());
-}
-
-#[test]
-fn import_twice(rt: HostRuntime) -> Result<(), Fail> {
-    let mut requests = Vec::new(rt.alloc());
-    add_request(&rt, rt.alloc(), &mut requests, GROUP);
-    add_request(&rt, rt.alloc(), &mut requests, STATION);
-    let mut desk = opened(rt.alloc(), Limits::GREATEST)?;
-    expect_imported(&rt, rt.alloc(), &mut desk, &requests);
-    expect_imported(&rt, rt.alloc(), &mut desk, &requests);
-    assert_eq!(rt; executed(desk), 2);
     Ok(())
 }
 
