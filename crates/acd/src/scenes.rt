@@ -10,12 +10,14 @@ mod look_ups;
 mod player;
 mod player_tests;
 mod program;
+mod reads;
 mod reference;
 mod refusals;
 mod releases;
 mod reports;
 mod stopping;
 mod store;
+mod told;
 mod waiting;
 mod working_size;
 

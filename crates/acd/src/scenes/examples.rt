@@ -94,7 +94,7 @@ fn pending_log_off() -> &'static str {
 "#
 }
 
-fn no_answer() -> &'static str {
+pub fn no_answer() -> &'static str {
     r#"
 > 90 {"agent":"7","device":"201","group":"100","invoke":1,"requested":"loggedOn","requester":"desk","service":"setAgentState"}
 < 200 {"invoke":1,"requester":"desk","result":{"state":"notReady"}}

@@ -8,12 +8,14 @@
 //! | `< STATUS JSON` | its answer, as the program writes it; each request has one |
 //! | `! JSON` | an event report that the request makes, in order; none is left out |
 //! | `= TEXT` | what the rows then hold, a line of [`held::lines`] |
+//! | `? READ` | a read of the desk, as [`reads::told`] has them |
+//! | `. TEXT` | a line of what it tells; where there is no such thing there is none |
 //! | `# TEXT` | a comment |
 
 use super::look_ups::same;
 use super::reference::Reference;
 use super::reports::ALL;
-use super::{held, reports};
+use super::{held, reads, reports};
 use acd_book::Book;
 use acd_codec::{event_text, read_request};
 use acd_desk::Desk;
@@ -31,7 +33,7 @@ struct Player {
     alloc: Global,
     name: &'static str,
     reference: Reference,
-    // what the last request made, in lines of a transcript, and how many of them were read
+    // what the last request made or the last read told, in lines of a transcript, and how many of them were read
     made: Vec<String>,
     read: usize,
     // how many events were told
@@ -141,6 +143,27 @@ impl Player {
         book
     }
 
+    // Keeps what a read told.
+    fn keep_told(&mut self, rt: &impl Abort, text: &str) {
+        let mut told = Vec::new(self.alloc);
+        for line in text.lines() {
+            let line = line_of(rt, self.alloc, &[". ", line]);
+            told.push(line).expect(rt, "memory");
+        }
+        self.made = told;
+        self.read = 0;
+    }
+
+    // A desk over the book is asked for a read.
+    fn look<B: Book + Drop>(&mut self, rt: &impl Abort, book: B, asked: &str) -> B {
+        let mut desk = opened(rt, self.alloc, book);
+        match reads::told(rt, &mut desk, asked) {
+            Some(text) => self.keep_told(rt, text.as_str()),
+            None => self.keep_told(rt, ""),
+        }
+        desk.close()
+    }
+
     // One line of a transcript.
     fn play_line<B: Book + Drop>(
         &mut self,
@@ -149,13 +172,16 @@ impl Player {
         number: usize,
         line: &str,
     ) -> B {
-        if line.starts_with("< ") || line.starts_with("! ") {
+        if line.starts_with("< ") || line.starts_with("! ") || line.starts_with(". ") {
             self.expect_made(rt, number, line);
             return book;
         }
         self.expect_all_read(rt, number);
         if let Some(asked) = line.strip_prefix("> ") {
             return self.ask(rt, book, asked);
+        }
+        if let Some(asked) = line.strip_prefix("? ") {
+            return self.look(rt, book, asked);
         }
         let mut book = book;
         if line.starts_with("= ") {
@@ -175,7 +201,7 @@ impl Player {
         let mut book = book;
         let mut asked = false;
         for (number, line) in text.lines().enumerate() {
-            asked = asked || line.starts_with("> ");
+            asked = asked || line.starts_with("> ") || line.starts_with("? ");
             book = self.play_line(rt, book, number, line);
         }
         self.expect_all_read(rt, text.lines().count());

@@ -48,6 +48,15 @@ fn other_rows_text() -> &'static str {
 "#
 }
 
+fn another_read_text() -> &'static str {
+    r#"
+> 11 {"invoke":1,"requester":"clock","service":"tick"}
+< 200 {"invoke":1,"requester":"clock","result":{}}
+? events 0
+. {"events":[],"last":1}
+"#
+}
+
 #[test]
 #[should_panic(expected = "refused: no request")]
 fn no_request(rt: HostRuntime) {
@@ -82,4 +91,10 @@ fn surplus_report(rt: HostRuntime) {
 #[should_panic(expected = "refused, line 3: = figures of 100")]
 fn other_rows(rt: HostRuntime) {
     scene(&rt, rt.alloc(), "refused", &[other_rows_text()]);
+}
+
+#[test]
+#[should_panic(expected = "refused, line 4")]
+fn another_read(rt: HostRuntime) {
+    scene(&rt, rt.alloc(), "refused", &[another_read_text()]);
 }
