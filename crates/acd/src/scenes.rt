@@ -22,12 +22,26 @@ mod waiting;
 mod working_size;
 
 use acd_book::MemoryBook;
+use acd_sqlbook::SqlBook;
 use acd_terms::Limits;
 use player::play;
+use sqlite::{Connection, MemStore};
 use std::alloc::Global;
 use std::process::Abort;
 
-// Plays the transcripts, one after the other, over a new book in memory with these limits.
+// A new book in a database in memory.
+fn database(rt: &impl Abort, alloc: Global, limits: Limits) -> SqlBook<MemStore> {
+    match Connection::open_in_memory(alloc) {
+        Ok(conn) => match SqlBook::create(alloc, conn, limits) {
+            Ok(book) => book,
+            Err((fault, _)) => panic!(rt; "{fault:?}"),
+        },
+        Err(_) => panic!(rt; "memory"),
+    }
+}
+
+// Plays the transcripts, one after the other, over a new book in memory with these limits, and over one in a
+// database.
 fn scene_within(
     rt: &impl Abort,
     alloc: Global,
@@ -35,8 +49,8 @@ fn scene_within(
     name: &'static str,
     texts: &[&str],
 ) {
-    let book = MemoryBook::new(alloc, limits);
-    let _ = play(rt, alloc, book, name, texts);
+    let _ = play(rt, alloc, MemoryBook::new(alloc, limits), name, texts);
+    let _ = play(rt, alloc, database(rt, alloc, limits), name, texts);
 }
 
 // The same with the greatest limits.

@@ -79,7 +79,7 @@ fn tick_between_the_wraps() -> &'static str {
 "#
 }
 
-fn pending_log_off() -> &'static str {
+pub fn pending_log_off() -> &'static str {
     r#"
 > 30 {"agent":"7","invoke":4,"requested":"loggedOff","requester":"desk","service":"setAgentState"}
 < 200 {"invoke":4,"requester":"desk","result":{"pending":"loggedOff","state":"busy"}}

@@ -213,7 +213,7 @@ impl Player {
 
 // The requests of the transcripts as one input, at their own moments or all at this one, and the answers
 // as one output.
-fn session(
+pub fn session(
     rt: &impl Abort,
     alloc: Global,
     texts: &[&str],

@@ -132,7 +132,7 @@ impl Asking {
 }
 
 // All requests are executed, and none is refused.
-fn run_all(rt: &impl Abort, desk: &mut Desk<MemoryBook>, asking: &Asking) {
+fn run_all<B: Book>(rt: &impl Abort, desk: &mut Desk<B>, asking: &Asking) {
     let answers = desk.run(&asking.arrivals).expect(rt, "memory");
     same(rt, &answers.len(), &asking.arrivals.len());
     for answer in &answers {
@@ -140,23 +140,31 @@ fn run_all(rt: &impl Abort, desk: &mut Desk<MemoryBook>, asking: &Asking) {
     }
 }
 
-// The book of the office.
-fn office(rt: &impl Abort, alloc: Global) -> MemoryBook {
+// The book after all that made the office.
+fn office<B: Book + Drop>(rt: &impl Abort, alloc: Global, book: B) -> B {
     let mut asking = Asking::new(alloc, 0, 0);
     asking.plan(rt);
     asking.log_on(rt);
     asking.ask_for(rt, Pending::Ready);
     asking.watch_and_call(rt);
-    let mut desk = opened(rt, alloc, MemoryBook::new(alloc, Limits::GREATEST));
+    let mut desk = opened(rt, alloc, book);
     run_all(rt, &mut desk, &asking);
     desk.close()
 }
 
-fn rows_of(rt: &impl Abort, book: &mut MemoryBook) -> Rows {
+fn office_in_memory(rt: &impl Abort, alloc: Global) -> MemoryBook {
+    office(rt, alloc, MemoryBook::new(alloc, Limits::GREATEST))
+}
+
+fn office_in_database(rt: &impl Abort, alloc: Global) -> SqlBook<MemStore> {
+    office(rt, alloc, database(rt, alloc, Limits::GREATEST))
+}
+
+fn rows_of<B: Book>(rt: &impl Abort, book: &mut B) -> Rows {
     book.rows().expect(rt, "memory")
 }
 
-fn events_of(rt: &impl Abort, book: &mut MemoryBook) -> Vec<Event> {
+fn events_of<B: Book>(rt: &impl Abort, book: &mut B) -> Vec<Event> {
     book.events_after(0, ALL).expect(rt, "memory")
 }
 
@@ -177,12 +185,14 @@ fn expect_all(rt: &impl Abort, rows: &Rows) {
 
 #[test]
 fn rows_of_an_office(rt: HostRuntime) {
-    let mut book = office(&rt, rt.alloc());
+    let mut book = office_in_memory(&rt, rt.alloc());
     let rows = rows_of(&rt, &mut book);
     expect_all(&rt, &rows);
     let copy = rows.clone().expect(&rt, "memory");
     same(&rt, &copy, &rows);
     expect_loaded(&rt, rt.alloc(), &rows);
+    let mut book = office_in_database(&rt, rt.alloc());
+    same(&rt, &rows_of(&rt, &mut book), &rows);
 }
 
 // Records and tables are made of the rows, and give them back.
@@ -195,7 +205,7 @@ fn expect_loaded(rt: &impl Abort, alloc: Global, rows: &Rows) {
 
 #[test]
 fn switch_of_an_office(rt: HostRuntime) {
-    let mut book = office(&rt, rt.alloc());
+    let mut book = office_in_memory(&rt, rt.alloc());
     let rows = rows_of(&rt, &mut book);
     same(&rt, &scans::queued_count(&rows), &40);
     Reference::of_rows(&rt, rt.alloc(), &rows).compare(&rt, &rows);
@@ -204,7 +214,7 @@ fn switch_of_an_office(rt: HostRuntime) {
 // All offers are taken back at one tick, each with three events.
 #[test]
 fn tick_of_an_office(rt: HostRuntime) {
-    let mut book = office(&rt, rt.alloc());
+    let mut book = office_in_memory(&rt, rt.alloc());
     let mut switch = Reference::of_rows(&rt, rt.alloc(), &rows_of(&rt, &mut book));
     let (_, events) = switch.step(&rt, 20, &Command::Tick);
     same(&rt, &events.len(), &60);
@@ -215,19 +225,24 @@ fn tick_of_an_office(rt: HostRuntime) {
 
 // The desk takes twenty offers back at one tick, and twenty agents end their after-call work at another:
 // each reports it, and a call leaves its queue and rings.
+fn two_ticks<B: Book + Drop>(rt: &impl Abort, alloc: Global, book: B) {
+    let mut desk = opened(rt, alloc, book);
+    let mut asking = Asking::new(alloc, 20, REQUESTS);
+    asking.ask(rt, Command::Tick);
+    asking.ask_for(rt, Pending::WorkingAfterCall);
+    asking.moment = 50;
+    asking.ask(rt, Command::Tick);
+    run_all(rt, &mut desk, &asking);
+    let mut book = desk.close();
+    let rows = rows_of(rt, &mut book);
+    same(rt, &rows.last_event, &(EVENTS + 60 + 20 + 60));
+    Reference::of_rows(rt, alloc, &rows).compare(rt, &rows);
+}
+
 #[test]
 fn desk_of_an_office(rt: HostRuntime) {
-    let mut desk = opened(&rt, rt.alloc(), office(&rt, rt.alloc()));
-    let mut asking = Asking::new(rt.alloc(), 20, REQUESTS);
-    asking.ask(&rt, Command::Tick);
-    asking.ask_for(&rt, Pending::WorkingAfterCall);
-    asking.moment = 50;
-    asking.ask(&rt, Command::Tick);
-    run_all(&rt, &mut desk, &asking);
-    let mut book = desk.close();
-    let rows = rows_of(&rt, &mut book);
-    same(&rt, &rows.last_event, &(EVENTS + 60 + 20 + 60));
-    Reference::of_rows(&rt, rt.alloc(), &rows).compare(&rt, &rows);
+    two_ticks(&rt, rt.alloc(), office_in_memory(&rt, rt.alloc()));
+    two_ticks(&rt, rt.alloc(), office_in_database(&rt, rt.alloc()));
 }
 
 // The numbers of the events go on by one from the first.
@@ -239,27 +254,29 @@ fn expect_numbers(rt: &impl Abort, events: &[Event], first: u64) {
     }
 }
 
+fn expect_events<B: Book>(rt: &impl Abort, book: &mut B) {
+    let events = events_of(rt, book);
+    same(rt, &(events.len() as u64), &EVENTS);
+    expect_numbers(rt, &events, 1);
+    let some = book.events_after(101, 25).expect(rt, "memory");
+    same(rt, &some.len(), &25);
+    expect_numbers(rt, &some, 102);
+}
+
 #[test]
 fn events_of_an_office(rt: HostRuntime) {
-    let mut book = office(&rt, rt.alloc());
-    let events = events_of(&rt, &mut book);
-    same(&rt, &(events.len() as u64), &EVENTS);
-    expect_numbers(&rt, &events, 1);
-    let some = book.events_after(101, 25).expect(&rt, "memory");
-    same(&rt, &some.len(), &25);
-    expect_numbers(&rt, &some, 102);
+    expect_events(&rt, &mut office_in_memory(&rt, rt.alloc()));
+    expect_events(&rt, &mut office_in_database(&rt, rt.alloc()));
 }
 
 // How many events of a group's monitor, at most.
-fn count_of_monitor(rt: &impl Abort, book: &mut MemoryBook, monitor: u64, limit: usize) -> usize {
+fn count_of_monitor<B: Book>(rt: &impl Abort, book: &mut B, monitor: u64, limit: usize) -> usize {
     let events = book.events_of_monitor(monitor, 0, limit);
     events.expect(rt, "memory").len()
 }
 
 // Five calls enter each queue; in the first group one of them leaves it, and in the second two.
-#[test]
-fn monitors_of_an_office(rt: HostRuntime) {
-    let mut book = office(&rt, rt.alloc());
+fn expect_watched<B: Book>(rt: &impl Abort, book: &mut B) {
     for (monitor, limit, count) in [
         (1, ALL, 6),
         (2, ALL, 7),
@@ -267,22 +284,24 @@ fn monitors_of_an_office(rt: HostRuntime) {
         (12, ALL, 6),
         (13, ALL, 0),
     ] {
-        same(
-            &rt,
-            &count_of_monitor(&rt, &mut book, monitor, limit),
-            &count,
-        );
+        same(rt, &count_of_monitor(rt, book, monitor, limit), &count);
     }
 }
 
-fn stamp_after(rt: &impl Abort, book: &mut MemoryBook, stamp: u64) -> Option<u64> {
+#[test]
+fn monitors_of_an_office(rt: HostRuntime) {
+    expect_watched(&rt, &mut office_in_memory(&rt, rt.alloc()));
+    expect_watched(&rt, &mut office_in_database(&rt, rt.alloc()));
+}
+
+fn stamp_after<B: Book>(rt: &impl Abort, book: &mut B, stamp: u64) -> Option<u64> {
     match book.kept_after(stamp).expect(rt, "memory") {
         Some(kept) => Some(kept.stamp),
         None => None,
     }
 }
 
-fn stamp_of(rt: &impl Abort, book: &mut MemoryBook, invoke: u64) -> Option<u64> {
+fn stamp_of<B: Book>(rt: &impl Abort, book: &mut B, invoke: u64) -> Option<u64> {
     let key = request(rt, invoke, Command::Tick);
     match book.kept(&key.requester, key.invoke).expect(rt, "memory") {
         Some(kept) => Some(kept.stamp),
@@ -290,19 +309,20 @@ fn stamp_of(rt: &impl Abort, book: &mut MemoryBook, invoke: u64) -> Option<u64> 
     }
 }
 
+fn expect_kept<B: Book>(rt: &impl Abort, book: &mut B) {
+    for stamp in [1, 12, 111, REQUESTS] {
+        let before = stamp.saturating_sub(1);
+        same(rt, &stamp_after(rt, book, before), &Some(stamp));
+        same(rt, &stamp_of(rt, book, stamp), &Some(stamp));
+    }
+    same(rt, &stamp_after(rt, book, REQUESTS), &None);
+    same(rt, &stamp_of(rt, book, REQUESTS + 1), &None);
+}
+
 #[test]
 fn kept_replies_of_an_office(rt: HostRuntime) {
-    let mut book = office(&rt, rt.alloc());
-    for stamp in [1, 12, 111, REQUESTS] {
-        same(
-            &rt,
-            &stamp_after(&rt, &mut book, stamp.saturating_sub(1)),
-            &Some(stamp),
-        );
-        same(&rt, &stamp_of(&rt, &mut book, stamp), &Some(stamp));
-    }
-    same(&rt, &stamp_after(&rt, &mut book, REQUESTS), &None);
-    same(&rt, &stamp_of(&rt, &mut book, REQUESTS + 1), &None);
+    expect_kept(&rt, &mut office_in_memory(&rt, rt.alloc()));
+    expect_kept(&rt, &mut office_in_database(&rt, rt.alloc()));
 }
 
 fn first_record(rt: &impl Abort, alloc: Global) -> Kept {
@@ -315,25 +335,36 @@ fn first_record(rt: &impl Abort, alloc: Global) -> Kept {
     }
 }
 
-// A book takes all tables and all events by one commit.
+// A new book takes all tables and all events by one commit, and not the same record twice.
+fn expect_committed<B: Book>(
+    rt: &impl Abort,
+    alloc: Global,
+    copy: &mut B,
+    office: &(Rows, Vec<Event>),
+    refused: BookFault,
+) {
+    let (rows, events) = office;
+    let record = first_record(rt, alloc);
+    same(rt, &committed(copy, rows, events, &record), &Ok(()));
+    same(rt, &rows_of(rt, copy), rows);
+    same(rt, &events_of(rt, copy), events);
+    same(rt, &committed(copy, rows, &[], &record), &Err(refused));
+}
+
 #[test]
 fn commit_of_an_office(rt: HostRuntime) {
-    let mut book = office(&rt, rt.alloc());
+    let mut book = office_in_memory(&rt, rt.alloc());
     let rows = rows_of(&rt, &mut book);
-    let events = events_of(&rt, &mut book);
-    let record = first_record(&rt, rt.alloc());
+    let office = (rows, events_of(&rt, &mut book));
     let mut copy = MemoryBook::new(rt.alloc(), Limits::GREATEST);
-    committed(&mut copy, &rows, &events, &record).expect(&rt, "memory");
-    same(&rt, &rows_of(&rt, &mut copy), &rows);
-    same(&rt, &events_of(&rt, &mut copy), &events);
-    // its record goes on from the first
-    let again = committed(&mut copy, &rows, &[], &record);
-    assert!(rt; matches!(again, Err(BookFault::NoMemory)));
+    expect_committed(&rt, rt.alloc(), &mut copy, &office, BookFault::NoMemory);
+    let mut copy = database(&rt, rt.alloc(), Limits::GREATEST);
+    expect_committed(&rt, rt.alloc(), &mut copy, &office, BookFault::Store);
 }
 
 // The commit, without its clauses.
-fn committed(
-    book: &mut MemoryBook,
+fn committed<B: Book>(
+    book: &mut B,
     rows: &Rows,
     events: &[Event],
     record: &Kept,
