@@ -1,5 +1,5 @@
 -- A content has one audit, which is Sound exactly where the content is sound.
-use Rattle.std.proofs.Common.{◌≡◌, ℕ, ◌+◌, ◌<◌, ◌≤◌, List, [], ◌∷◌, ◌++◌, length, take, drop, refl, sym, ap, subst, ◌∙◌, arith, append_assoc, append-nil, Bool, true, false, nat_lt, inl, inr, ◌⊎◌, ltb-true, ltb-false}
+use Rattle.std.proofs.Common.{◌≡◌, ℕ, ◌+◌, ◌<◌, ◌≤◌, List, [], ◌∷◌, ◌++◌, length, take, drop, refl, sym, ap, subst, ◌∙◌, arith, append_assoc, append-nil, Bool, true, false, nat_lt, inl, inr, ltb-true, ltb-false, Ok}
 use Rattle.std.proofs.lemmas.List.{take-append-drop, take-map, length-take-le}
 use Rattle.acd_terms.specs.Lists.{Every}
 use Rattle.acd_terms.specs.declared.event.Event.{Event}
@@ -8,12 +8,13 @@ use Rattle.acd_book.specs.declared.kept.Kept.{Kept}
 use Rattle.acd_book.specs.Content.{Content, empty_content, IsCounted, GoOn}
 use Rattle.acd_book.specs.Memory.{stamp_of, number_of}
 use Rattle.acd_book.specs.Order.{Rises, IsOrdered}
+use Rattle.acd_book.specs.State.{BookState, Reads}
 use Rattle.acd_desk.specs.declared.audit.Audit.{Audit}
 use Rattle.acd_desk.specs.declared.audit.Audit.TheVariants.{Sound, Differs}
-use Rattle.acd_desk.specs.Firsts.{stepped, record_of, executed, distinct_from, firsts, run_from, run}
+use Rattle.acd_desk.specs.Firsts.{stepped, record_of, executed, firsts, run_from, run}
 use Rattle.acd_desk.specs.Stands.{arrivals_of, IsSound, raised_from}
 use Rattle.acd_desk.specs.Audit.{replayed, Agrees, IsFirstDifference, IsAudit}
-use Rattle.acd_desk.proofs.Steps.{step_stamp, step_event, step_numbers}
+use Rattle.acd_desk.proofs.Steps.{step_numbers}
 use Rattle.acd_desk.proofs.Counting.{counted_executed}
 use Rattle.acd_desk.proofs.Sound.{New, new-distinct, distinct-new, new-take, kept-raised, length-raised, length-arrivals, firsts_own, sound_list}
 use Rattle.acd_desk.proofs.Audits.{begins}
@@ -149,3 +150,7 @@ pub sound_ordered : (c : Content) → IsSound c → IsOrdered c
 sound_ordered c sound =
     subst IsOrdered (sym (sound_list c sound))
     (run_ordered (arrivals_of c.kept) (empty_content c.rows.limits) (record { events = tt; kept = tt }) (record { kept = tt; events = tt }))
+
+-- so an audit of it answers Sound
+pub told_sound : (b d : BookState) (found : Audit) → Reads b d (Ok found) (λ (c : Content) (x : Audit). IsOrdered c → IsAudit c x) → d.is_clean → b.is_sound → IsSound b.content → found ≡ Sound
+told_sound b d found r clean sound whole = one_audit b.content found Sound ((r.value clean sound).1 (sound_ordered b.content whole)) whole

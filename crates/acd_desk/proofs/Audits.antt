@@ -1,7 +1,7 @@
 -- A replay goes on record by record, and ends where the content is sound or differs.
-use Rattle.std.proofs.Common.{◌≡◌, ℕ, ◌+◌, ◌<◌, ◌≤◌, List, [], ◌∷◌, ◌++◌, length, take, drop, refl, sym, ap, ap₂, subst, ◌∙◌, arith, append_assoc, append-nil, Bool, true, false, cond, ◌&&◌, nat_lt, filter, find, Option, Some, None, is_some, option_map, inl, inr, ◌⊎◌, true≢false, lt-ltb, ltb-true, ltb-false}
+use Rattle.std.proofs.Common.{◌≡◌, ℕ, ◌+◌, ◌<◌, ◌≤◌, List, [], ◌∷◌, ◌++◌, length, take, drop, refl, sym, ap, ap₂, subst, ◌∙◌, arith, append_assoc, append-nil, Bool, true, false, cond, nat_lt, filter, find, Option, Some, None, is_some, option_map, inl, inr, ◌⊎◌, true≢false, lt-ltb, ltb-true, ltb-false}
 use Rattle.std.specs.Option.{option_or}
-use Rattle.std.proofs.Math.Seq.{take-append_seam, take-append-add, take-length}
+use Rattle.std.proofs.Math.Seq.{take-append_seam, take-append-add}
 use Rattle.std.proofs.lemmas.Bool.{le-ltb}
 use Rattle.std.proofs.lemmas.List.{map-append, length-append, append_cancel_left, take-append-drop}
 use Rattle.std.proofs.lemmas.List.Elements.{filter-append}
@@ -21,10 +21,7 @@ use Rattle.acd_desk.specs.Firsts.{stepped, record_of, executed, run_from, run, f
 use Rattle.acd_desk.specs.Replies.{after}
 use Rattle.acd_desk.specs.Stands.{arrivals_of, IsSound}
 use Rattle.acd_desk.specs.Audit.{replayed, Agrees, AgreesBefore, IsFirstDifference}
-use Rattle.acd_desk.specs.Replay.{again, Splits, Replays, IsFirstOfKey, HasNext, Matches, IsEnd, IsRest}
-use Rattle.acd_desk.specs.declared.audit.Audit.{Audit}
-use Rattle.acd_desk.specs.declared.audit.Audit.TheVariants.{Sound, Differs}
-use Rattle.std.specs.Bool.{Decides}
+use Rattle.acd_desk.specs.Replay.{again, Splits, Replays, Matches, IsEnd}
 use Rattle.acd_desk.proofs.Steps.{step_stamp, step_event, step_numbers}
 use Rattle.acd_desk.proofs.Keys.{key_own}
 use Rattle.acd_desk.proofs.Runs.{run-limits, after_firsts, executes}
@@ -297,8 +294,9 @@ agrees_on c n before here m low high =
 no_place : (m : ℕ) → 1 ≤ m → m < 1 → ⊥
 no_place m low high = omega (arith, low, high)
 
-pub starts_replay : (c : Content) → IsOrdered c → Replays c (empty_rows c.rows.limits)
-starts_replay c ordered = record {
+pub starts_replay : (c : Content) → limits_fit c.rows.limits ≡ true → IsOrdered c → Replays c (empty_rows c.rows.limits)
+starts_replay c fits ordered = record {
+  fits = fits;
   ran = empty_content c.rows.limits;
   kept_left = c.kept;
   events_left = c.events;
@@ -339,6 +337,7 @@ goes_on c r k tail el fits s before m room =
     let stamp = step_stamp r.rows k.moment k.request.command in
     let size = next.size in
     record {
+      fits = fits;
       ran = executed r (again k);
       kept_left = tail;
       events_left = rest;
@@ -347,15 +346,20 @@ goes_on c r k tail el fits s before m room =
       agrees = subst (λ (n : ℕ). AgreesBefore c (n + 1)) (sym stamp) (agrees_on c (r.rows.last_stamp + 1) before (agrees_to c (executed r (again k)) tail rest (r.rows.last_stamp + 1) fits next (size ∙ stamp)));
     }
 
+-- a request is left of the limit of the replay, which is that of the content
+room_left : (c : Content) (s : Rows) → Replays c s → s.last_stamp < s.limits.requests → s.last_stamp < c.rows.limits.requests
+room_left c s p room =
+    subst (λ (n : Limits). s.last_stamp < n.requests) (ap (λ (x : Rows). x.limits) p.rows ∙ split_limits c p.ran p.kept_left p.events_left p.splits) room
+
 -- the next record matches
-pub replay_goes_on : (c : Content) (s : Rows) (k : Kept) → limits_fit c.rows.limits ≡ true → Replays c s → IsKeptAfter c.kept s.last_stamp (Some k)
-    → Matches c s k → s.last_stamp < c.rows.limits.requests → Replays c (stepped s (again k)).rows
-replay_goes_on c s k fits p found m room =
+pub replay_goes_on : (c : Content) (s : Rows) (k : Kept) → Replays c s → IsKeptAfter c.kept s.last_stamp (Some k)
+    → Matches c s k → s.last_stamp < s.limits.requests → Replays c (stepped s (again k)).rows
+replay_goes_on c s k p found m room =
     let left = left_is c s k p found in
     let splits : Splits c p.ran (k ∷ left.0) p.events_left = subst (λ (l : List Kept). Splits c p.ran l p.events_left) left.1 p.splits in
     subst (λ (x : Rows). Replays c (stepped x (again k)).rows) (sym p.rows)
-    (goes_on c p.ran k left.0 p.events_left fits splits (before_is c s p) (subst (λ (x : Rows). Matches c x k) p.rows m)
-    (subst (λ (x : Rows). x.last_stamp < c.rows.limits.requests) p.rows room))
+    (goes_on c p.ran k left.0 p.events_left p.fits splits (before_is c s p) (subst (λ (x : Rows). Matches c x k) p.rows m)
+    (subst (λ (x : Rows). x.last_stamp < c.rows.limits.requests) p.rows (room_left c s p room)))
 
 -- there is a next place
 a_place : (c r : Content) (k : Kept) (tail : List Kept) (el : List Event) → Splits c r (k ∷ tail) el → r.rows.last_stamp + 1 ≤ length c.kept
@@ -369,7 +373,7 @@ at_least_one : (n : ℕ) → 1 ≤ n + 1
 at_least_one n = omega arith
 
 -- it doesn't match, or no request is left for it
-pub replay_differs : (c : Content) (s : Rows) (k : Kept) → Replays c s → IsKeptAfter c.kept s.last_stamp (Some k)
+replay_differs : (c : Content) (s : Rows) (k : Kept) → Replays c s → IsKeptAfter c.kept s.last_stamp (Some k)
     → (Matches c s k → s.last_stamp < c.rows.limits.requests → ⊥) → IsFirstDifference c (s.last_stamp + 1)
 replay_differs c s k p found unmet =
     let left = left_is c s k p found in
@@ -385,6 +389,14 @@ replay_differs c s k p found unmet =
             unmet (subst (λ (x : Rows). Matches c x k) (sym p.rows) both.0) (subst (λ (x : Rows). x.last_stamp < c.rows.limits.requests) (sym p.rows) both.1),
       );
     })
+
+pub replay_unlike : (c : Content) (s : Rows) (k : Kept) → Replays c s → IsKeptAfter c.kept s.last_stamp (Some k) → ¬ Matches c s k → IsFirstDifference c (s.last_stamp + 1)
+replay_unlike c s k p found none = replay_differs c s k p found (λ m room. none m)
+
+pub replay_full : (c : Content) (s : Rows) (k : Kept) → Replays c s → IsKeptAfter c.kept s.last_stamp (Some k) → s.limits.requests ≤ s.last_stamp → IsFirstDifference c (s.last_stamp + 1)
+replay_full c s k p found full =
+    replay_differs c s k p found (λ m room. not_both s.last_stamp c.rows.limits.requests room
+    (subst (λ (n : Limits). n.requests ≤ s.last_stamp) (ap (λ (x : Rows). x.limits) p.rows ∙ split_limits c p.ran p.kept_left p.events_left p.splits) full))
 
 nothing_more : (el : List Event) → take 1 el ≡ [] → el ≡ []
 nothing_more [] h = refl
@@ -413,11 +425,10 @@ sound_ends c r el s sound =
     )
 
 -- all records are replayed: nothing else is left, and the tables are those of the replay
-pub replay_sound : (c : Content) (s : Rows) → limits_fit c.rows.limits ≡ true → Replays c s → IsKeptAfter c.kept s.last_stamp None
-    → events_behind c.events s.last_event 1 ≡ [] → c.rows ≡ s → IsSound c
-replay_sound c s fits p found none rows =
-    ends_sound c p.ran p.events_left fits (subst (λ (l : List Kept). Splits c p.ran l p.events_left) (nothing_left c s p found) p.splits)
-    (subst (λ (x : Rows). events_behind c.events x.last_event 1 ≡ []) p.rows none) (rows ∙ p.rows)
+pub replay_sound : (c : Content) (s : Rows) → Replays c s → IsKeptAfter c.kept s.last_stamp None → IsEnd c s → IsSound c
+replay_sound c s p found ended =
+    ends_sound c p.ran p.events_left p.fits (subst (λ (l : List Kept). Splits c p.ran l p.events_left) (nothing_left c s p found) p.splits)
+    (subst (λ (x : Rows). events_behind c.events x.last_event 1 ≡ []) p.rows ended.0) (ended.1 ∙ p.rows)
 
 all_places : (c r : Content) (el : List Event) → Splits c r [] el → r.rows.last_stamp + 1 ≡ length c.kept + 1
 all_places c r el s =
@@ -426,8 +437,7 @@ all_places c r el s =
     omega (arith, whole, size)
 
 -- or not
-pub replay_rest : (c : Content) (s : Rows) → Replays c s → IsKeptAfter c.kept s.last_stamp None
-    → (events_behind c.events s.last_event 1 ≡ [] → c.rows ≡ s → ⊥) → IsFirstDifference c (s.last_stamp + 1)
+pub replay_rest : (c : Content) (s : Rows) → Replays c s → IsKeptAfter c.kept s.last_stamp None → ¬ IsEnd c s → IsFirstDifference c (s.last_stamp + 1)
 replay_rest c s p found unmet =
     let splits : Splits c p.ran [] p.events_left = subst (λ (l : List Kept). Splits c p.ran l p.events_left) (nothing_left c s p found) p.splits in
     subst (λ (x : Rows). IsFirstDifference c (x.last_stamp + 1)) (sym p.rows)
@@ -438,25 +448,6 @@ replay_rest c s p found unmet =
         all_places c p.ran p.events_left splits,
         λ sound.
             let both = sound_ends c p.ran p.events_left splits sound in
-            unmet (subst (λ (x : Rows). events_behind c.events x.last_event 1 ≡ []) (sym p.rows) both.0) (both.1 ∙ sym p.rows),
+            unmet (subst (λ (x : Rows). events_behind c.events x.last_event 1 ≡ []) (sym p.rows) both.0, both.1 ∙ sym p.rows),
       );
     })
-
--- limits that don't fit
-pub limits_differ : (c : Content) → limits_fit c.rows.limits ≡ false → IsFirstDifference c 1
-limits_differ c bad = record {
-  place = omega arith;
-  before = λ m low high. absurd (no_place m low high);
-  differs = none_or_some c.kept refl;
-}
-  where
-    none_or_some : (l : List Kept) → c.kept ≡ l → ((1 ≤ length c.kept) × (¬ Agrees c 1)) ⊎ ((1 ≡ length c.kept + 1) × (¬ IsSound c))
-    none_or_some [] is = inr (sym (ap (λ (l : List Kept). length l + 1) is), λ sound. true≢false (sym sound.fits ∙ bad))
-    none_or_some (k ∷ ks) is = inl (subst (λ (l : List Kept). 1 ≤ length l) (sym is) (omega arith), λ agrees. true≢false (sym agrees.fits ∙ bad))
-
--- what is answered behind the last record
-pub rest_told : (c : Content) (s : Rows) (place : ℕ) (e t : Bool) (a : Audit) → Decides e (events_behind c.events s.last_event 1 ≡ []) → Decides t (c.rows ≡ s)
-    → a ≡ cond (e && t) Sound (Differs place) → IsRest c s place a
-rest_told c s place true true a ended same is = subst (IsRest c s place) (sym is) (ended.0 refl, same.0 refl)
-rest_told c s place true false a ended same is = subst (IsRest c s place) (sym is) (refl, λ both. true≢false (sym (same.1 both.1)))
-rest_told c s place false t a ended same is = subst (IsRest c s place) (sym is) (refl, λ both. true≢false (sym (ended.1 both.0)))

@@ -18,5 +18,8 @@ pub mod OrderLemmas
 pub mod PageLemmas
 pub mod Rising
 pub mod Sessions
+pub mod SameRecords
 pub mod Audits
 pub mod AuditLaws
+pub mod Reading
+pub mod AuditSteps

@@ -14,12 +14,12 @@ use Rattle.acd_terms.specs.contracts.command.RequestedPartialEq.TheImpl as reque
 use Rattle.acd_terms.specs.contracts.command.CommandPartialEq.TheImpl as command
 use Rattle.acd_desk.specs.Replies.{same_request}
 
-two : (a b : Bool) → (a && b) ≡ true → (a ≡ true) × (b ≡ true)
+pub two : (a b : Bool) → (a && b) ≡ true → (a ≡ true) × (b ≡ true)
 two true true h = (refl, refl)
 two true false h = (refl, h)
 two false b h = (h, absurd (true≢false (sym h)))
 
-same_pending : (p q : Pending) → (pending.eq-value).it p q ≡ true → p ≡ q
+pub same_pending : (p q : Pending) → (pending.eq-value).it p q ≡ true → p ≡ q
 same_pending wanted.LoggedOff wanted.LoggedOff h = refl
 same_pending wanted.NotReady wanted.NotReady h = refl
 same_pending wanted.Ready wanted.Ready h = refl

@@ -1,9 +1,12 @@
 -- What the audit of a content answers.
-use Rattle.std.specs.Prelude.{◌≡◌, ◌⊎◌, ℕ, ◌+◌, ◌<◌, ◌≤◌, true, length, take}
+use Rattle.std.specs.Prelude.{◌≡◌, ◌⊎◌, ℕ, ◌+◌, ◌<◌, ◌≤◌, true, length, take, Result, IfOk}
 use Rattle.acd_terms.specs.Limits.{limits_fit}
 use Rattle.acd_book.specs.Content.{Content}
+use Rattle.acd_book.specs.Order.{IsOrdered}
+use Rattle.acd_book.specs.State.{BookState, IfHonest}
 use Rattle.acd_desk.specs.declared.audit.Audit.{Audit}
 use Rattle.acd_desk.specs.declared.audit.Audit.TheVariants.{Sound, Differs}
+use Rattle.acd_desk.specs.declared.fault.DeskFault.{DeskFault}
 use Rattle.acd_desk.specs.Firsts.{run}
 use Rattle.acd_desk.specs.Stands.{arrivals_of, IsSound}
 
@@ -30,3 +33,11 @@ pub record IsFirstDifference (c : Content) (n : ℕ) : Type 0 where
 abbrev pub IsAudit : Content → Audit → Type 0
 IsAudit c Sound = IsSound c
 IsAudit c (Differs n) = IsFirstDifference c n
+
+-- an answer is the audit of what an open book holds, where its records stand in order
+abbrev pub IsAudited : BookState → BookState → Result Audit DeskFault → Type 0
+IsAudited old new result = IfHonest old new (IfOk result (λ (found : Audit). old.is_open × (IsOrdered old.content → IsAudit old.content found)))
+
+-- a sound content is told to be sound
+abbrev pub TellsSound : BookState → BookState → Result Audit DeskFault → Type 0
+TellsSound old new result = IfHonest old new (IsSound old.content → IfOk result (λ (found : Audit). found ≡ Sound))

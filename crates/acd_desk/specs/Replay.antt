@@ -1,17 +1,19 @@
 -- How far the replay of a content has come.
-use Rattle.std.specs.Prelude.{◌≡◌, ℕ, ◌+◌, List, [], ◌∷◌, ◌++◌, length, Option, Some, None, option_map}
+use Rattle.std.specs.Prelude.{◌≡◌, ◌+◌, Bool, true, false, List, [], ◌++◌, length, Option, Some, None, option_map}
+use Rattle.acd_terms.specs.Limits.{limits_fit}
 use Rattle.acd_terms.specs.declared.rows.Rows.{Rows}
 use Rattle.acd_terms.specs.declared.event.Event.{Event}
 use Rattle.acd_terms.specs.declared.command.Arrival.{Arrival}
 use Rattle.acd_book.specs.declared.kept.Kept.{Kept}
 use Rattle.acd_book.specs.Content.{Content, kept_of, events_behind}
 use Rattle.acd_book.specs.Memory.{stamp_of, number_of}
-use Rattle.acd_book.specs.Order.{Rises}
+use Rattle.acd_book.specs.Order.{Rises, IsOrdered}
 use Rattle.acd_desk.specs.Firsts.{stepped, record_of, run}
-use Rattle.acd_desk.specs.Stands.{arrivals_of}
-use Rattle.acd_desk.specs.declared.audit.Audit.{Audit}
-use Rattle.acd_desk.specs.declared.audit.Audit.TheVariants.{Sound, Differs}
-use Rattle.acd_desk.specs.Audit.{AgreesBefore}
+use Rattle.acd_desk.specs.Stands.{arrivals_of, IsSound}
+use Rattle.acd_desk.specs.declared.replay.Step.{Step}
+use Rattle.acd_desk.specs.declared.replay.Step.TheVariants.{Replayed, Differs, Ended}
+use Rattle.acd_desk.specs.declared.working.LoadedSwitch.{LoadedSwitch}
+use Rattle.acd_desk.specs.Audit.{AgreesBefore, IsFirstDifference}
 
 -- a kept request, at the moment that its record holds
 abbrev pub again : Kept → Arrival
@@ -28,6 +30,7 @@ pub record Splits (c r : Content) (kept_left : List Kept) (events_left : List Ev
 
 -- such a run leaves these rows, and each of its places agrees
 pub record Replays (c : Content) (s : Rows) : Type 0 where
+  pub fits : limits_fit c.rows.limits ≡ true
   pub ran : Content
   pub kept_left : List Kept
   pub events_left : List Event
@@ -53,7 +56,29 @@ pub record Matches (c : Content) (s : Rows) (k : Kept) : Type 0 where
 abbrev pub IsEnd : Content → Rows → Type 0
 IsEnd c s = (events_behind c.events s.last_event 1 ≡ []) × (c.rows ≡ s)
 
--- what is answered behind the last record
-abbrev pub IsRest : Content → Rows → ℕ → Audit → Type 0
-IsRest c s place Sound = IsEnd c s
-IsRest c s place (Differs n) = (n ≡ place) × (¬ IsEnd c s)
+-- a replay begins with no record, or at limits that don't fit
+abbrev pub Begins : Content → Option LoadedSwitch → Type 0
+Begins c None = IsFirstDifference c 1
+Begins c (Some first) = IsOrdered c → Replays c first.switch
+
+-- a record is replayed, or it isn't what its request gives
+abbrev pub IsReplayed : Content → Rows → Kept → Option LoadedSwitch → Type 0
+IsReplayed c s k None = ¬ Matches c s k
+IsReplayed c s k (Some next) = Matches c s k
+
+-- what a step of the replay from these rows comes to
+abbrev pub IsStep : Content → Rows → Step → Type 0
+IsStep c s (Replayed next) = Replays c s → Replays c next.switch
+IsStep c s Differs = Replays c s → IsFirstDifference c (s.last_stamp + 1)
+IsStep c s Ended = Replays c s → IsSound c
+
+-- it replays one record
+abbrev pub CountsOne : Rows → Step → Type 0
+CountsOne s (Replayed next) = (next.switch.limits ≡ s.limits) × (next.switch.last_stamp ≡ s.last_stamp + 1)
+CountsOne s Differs = Unit {0}
+CountsOne s Ended = Unit {0}
+
+-- whether a replay that can't go on has replayed all that is kept
+abbrev pub Ends : Content → Rows → Bool → Type 0
+Ends c s true = Replays c s → IsSound c
+Ends c s false = Replays c s → IsFirstDifference c (s.last_stamp + 1)

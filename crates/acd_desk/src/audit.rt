@@ -1,4 +1,14 @@
-//! What an audit of a book answers.
+//! The audit of a desk: what its book holds, against the replay of its kept requests.
+
+ghost use Rattle.acd_desk.specs.Standing.{standing};
+ghost use Rattle.acd_desk.specs.Told.{Told};
+ghost use Rattle.acd_desk.specs.Audit.{IsAudited, TellsSound};
+
+use crate::desk::Desk;
+use crate::fault::DeskFault;
+use crate::replay::audited;
+use crate::working::Working;
+use acd_book::Book;
 
 /// What an audit answers.
 #[derive(Clone, Copy, Debug, PartialEq, Eq)]
@@ -8,4 +18,22 @@ pub enum Audit {
     /// The first place in the kept list, from 1, whose record or events are not what the kept requests give;
     /// or the place behind the list, where only the tables or events that belong to none are not.
     Differs(u64),
+}
+
+impl<B: Book> Desk<B> {
+    /// Runs the kept requests again, each at the moment that its record holds, and compares what they give
+    /// with what the book holds. It changes nothing, and its memory doesn't grow with the number of requests.
+    pub fn audit(&mut self) -> Result<Audit, DeskFault>
+        ensures told { Told (standing B.Book self.old) (standing B.Book self.new) result (λ c found. Unit {0}) }
+        ensures audited { IsAudited (standing B.Book self.old).book (standing B.Book self.new).book result }
+        ensures sound { TellsSound (standing B.Book self.old).book (standing B.Book self.new).book result }
+    {
+        if let Working::Failed = self.working {
+            return Err(DeskFault::StoreFault);
+        }
+        match audited(self.alloc, &mut self.book) {
+            Ok(audit) => Ok(audit),
+            Err(fault) => Err(self.failed(fault)),
+        }
+    }
 }

@@ -9,6 +9,7 @@ use acd_terms::{Arrival, ConnectionRecord, ConnectionState, DeviceId, Limits};
 use std::alloc::Global;
 use std::process::Abort;
 
+mod audits;
 mod failing;
 mod kept;
 mod store;

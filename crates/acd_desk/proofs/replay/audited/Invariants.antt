@@ -1,0 +1,11 @@
+use Rattle.std.proofs.Common.{◌≡◌, Ok}
+use Rattle.acd_book.specs.State.{Reads}
+use Rattle.acd_desk.proofs.AuditSteps.{Seen}
+use Rattle.acd_desk.proofs.replay.audited.Given as goal
+
+abbrev pub invariant-loop-count : goal.invariant-loop-count
+invariant-loop-count g l = record {
+  stamp : l.replay.switch.last_stamp ≡ l.count;
+  limit : l.replay.switch.limits.requests ≡ l.most;
+  seen : Reads (g.B.Book.state l.fn.book) (g.B.Book.state l.book) (Ok tt) (Seen l.replay.switch);
+}

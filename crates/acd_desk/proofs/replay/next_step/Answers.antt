@@ -1,0 +1,20 @@
+use Rattle.acd_desk.proofs.AuditSteps.{step_last, step_replayed, step_differs, counts_one}
+use Rattle.acd_desk.proofs.replay.next_step.Goals as goal
+
+pub returns-in_default-clause-told : goal.returns-in_default-clause-told
+returns-in_default-clause-told g c =
+    step_last (g.B.Book.state c.args.book.now) (g.B.Book.state c.kept_after.new.self) (g.B.Book.state c.is_whole.new.book) c.args.replay.switch c.last_stamp.result c.in_ok-kept.field-0 c.in_ok-is_whole.field-0 c.last_step.result
+    c.last_stamp.ensures c.in_default.is c.in_ok-kept.ensures c.in_ok-is_whole.ensures c.last_step.ensures
+
+pub returns-in-Some-2-clause-told : goal.returns-in-Some-2-clause-told
+returns-in-Some-2-clause-told g c =
+    step_replayed (g.B.Book.state c.args.book.now) (g.B.Book.state c.kept_after.new.self) (g.B.Book.state c.replayed.new.book) c.args.replay.switch c.last_stamp.result c.in_ok-kept.field-0 c.in-Some.kept c.in_ok-next.field-0 c.in-Some-2.next
+    c.last_stamp.ensures c.in-Some.is c.in-Some-2.is c.in_ok-kept.ensures c.in_ok-next.ensures.told c.in_ok-next.ensures.stepped c.requires
+
+pub returns-in-Some-2-clause-counts : goal.returns-in-Some-2-clause-counts
+returns-in-Some-2-clause-counts g c = counts_one c.args.replay.switch c.in-Some.kept c.in_ok-next.field-0 c.in-Some-2.next c.in-Some-2.is c.in_ok-next.ensures.stepped
+
+pub returns-clause-told : goal.returns-clause-told
+returns-clause-told g c =
+    step_differs (g.B.Book.state c.args.book.now) (g.B.Book.state c.kept_after.new.self) (g.B.Book.state c.replayed.new.book) c.args.replay.switch c.last_stamp.result c.in_ok-kept.field-0 c.in-Some.kept c.in_ok-next.field-0
+    c.last_stamp.ensures c.in-Some.is c.in-None.is c.in_ok-kept.ensures c.in_ok-next.ensures.told
