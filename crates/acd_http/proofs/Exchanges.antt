@@ -1,18 +1,24 @@
 -- The reply for the desk's answer, and what goes out of it.
-use Rattle.std.proofs.Common.{◌≡◌, ℕ, List, [], ◌++◌, Bool, cond, length, Option, Result, Ok, Err, OnOk, inl, inr, refl, sym, ap, ◌∙◌, subst, append_assoc}
+use Rattle.std.proofs.Common.{◌≡◌, ℕ, List, [], ◌++◌, Bool, cond, length, Option, Result, Ok, Err, String, OnOk, inl, inr, refl, sym, ap, ◌∙◌, subst, append_assoc}
 use Rattle.std.specs.Io.KnownBytes.{Appends}
 use Rattle.std.proofs.KnownBytes.{Appends-trans}
 use Rattle.acd_terms.specs.declared.command.Request.{Request}
+use Rattle.acd_book.specs.Content.{Content}
 use Rattle.acd_desk.specs.declared.taken.Taken.{Taken}
 use Rattle.acd_desk.specs.declared.taken.Taken.TheVariants as taken
 use Rattle.acd_desk.specs.Arrived.{at}
 use Rattle.acd_desk.specs.Ran.{Standing, Took}
+use Rattle.acd_desk.specs.Told.{Told}
+use Rattle.acd_desk.specs.Tells.{told}
+use Rattle.acd_desk.specs.declared.fault.DeskFault.{DeskFault}
 use Rattle.acd_desk.proofs.Many.{forgets}
+use Rattle.acd_desk.proofs.Telling.{told_so, told_nothing}
 use Rattle.acd_lines.specs.Sent.{Begins}
 use Rattle.acd_lines.proofs.Sends.{begins_front}
 use Rattle.acd_http.specs.declared.answer.Reply.{Reply}
 use Rattle.acd_http.specs.declared.answer.Reply.TheVariants.{Made, Fixed}
 use Rattle.acd_http.specs.declared.asked.Asked.TheVariants as ask
+use Rattle.acd_http.specs.declared.lookup.Lookup.{Lookup}
 use Rattle.acd_http.specs.declared.refused.Allow.{Allow}
 use Rattle.acd_http.specs.declared.reply.Kind.{Kind}
 use Rattle.acd_http.specs.Replying.{head_text, reply_bytes}
@@ -21,7 +27,7 @@ use Rattle.acd_http.specs.declared.asked.Unknown.TheVariants as unknown
 use Rattle.acd_http.specs.declared.serving.ExchangeFault.{ExchangeFault}
 use Rattle.acd_codec.specs.declared.fault.FixedAnswer.TheVariants as fixed
 use Rattle.acd_http.specs.Asking.{IsUnknown}
-use Rattle.acd_http.specs.Exchanging.{IsWritten, Replies, Exchanged, fixed_reply, reply_out, status_of, kind_of, allow_of, body_of}
+use Rattle.acd_http.specs.Exchanging.{IsWritten, Replies, Exchanged, seen, told_of, kind_told, told_reply, fixed_reply, reply_out, status_of, kind_of, allow_of, body_of}
 
 module _ {D : Type 0} (stands : D → Standing) (moment : ℕ) where
   pub replies_arrival : (d e : D) (r : Request) (t : Taken) (out : List ℕ) → Took (stands d) (at moment r) t (stands e) → IsWritten r t out → Replies stands moment d (ask.Arrival r) out e
@@ -29,6 +35,14 @@ module _ {D : Type 0} (stands : D → Standing) (moment : ℕ) where
     | inl whole ↦ (t, whole, took)
     | inr lost ↦ (taken.NoMemory, lost.1, forgets (stands d) (stands e) (at moment r) t lost.0 took)
   ]
+
+  -- what the desk told to a read
+  pub replies_look : {Z : Type 0} (d e : D) (wanted : Lookup) (bodiless : Bool) (found : Result (Option (String Z)) DeskFault) (out : List ℕ) → out ≡ told_reply bodiless (kind_told wanted) (seen found)
+      → Told (stands d) (stands e) found (λ (c : Content) (text : Option (String Z)). told text ≡ told_of c moment wanted) → Replies stands moment d (ask.Look wanted bodiless) out e
+  replies_look {Z} d e wanted bodiless (Ok text) out is h = (Ok (told text), is,
+      told_so (stands d) (stands e) text (told text) (λ (c : Content) (x : Option (String Z)). told x ≡ told_of c moment wanted) (λ (c : Content) (x : Option (List ℕ)). x ≡ told_of c moment wanted) (λ c same. same) h)
+  replies_look {Z} d e wanted bodiless (Err why) out is h = (Err why, is,
+      told_nothing (stands d) (stands e) why (λ (c : Content) (x : Option (String Z)). told x ≡ told_of c moment wanted) (λ (c : Content) (x : Option (List ℕ)). x ≡ told_of c moment wanted) h)
 
 -- the bytes of a reply are its head and its body
 out_is : (bodiless : Bool) (r : Reply) → reply_out bodiless r ≡ head_text (status_of r) (kind_of r) (length (body_of r)) (allow_of r) ++ cond bodiless [] (body_of r)

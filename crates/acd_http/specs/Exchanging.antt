@@ -1,22 +1,29 @@
 -- What is written for what was asked, and what the desk is after it.
-use Rattle.std.specs.Prelude.{◌≡◌, ◌≢◌, ◌⊎◌, ℕ, List, Bool, true, false, Option, Some, None}
+use Rattle.std.specs.Prelude.{◌≡◌, ◌≢◌, ◌⊎◌, ℕ, List, Bool, true, false, Option, Some, None, Result, Ok, Err, String}
 use Rattle.acd_terms.specs.declared.command.Request.{Request}
 use Rattle.acd_codec.specs.declared.replies.Rejected.{Rejected}
 use Rattle.acd_codec.specs.declared.replies.Rejected.TheVariants as rejections
 use Rattle.acd_codec.specs.declared.fault.FixedAnswer.{FixedAnswer}
 use Rattle.acd_codec.specs.declared.fault.FixedAnswer.TheVariants as fixed
 use Rattle.acd_codec.specs.ReplyTexts.{fixed_status, fixed_text, rejected_status, rejected_text}
+use Rattle.acd_book.specs.Content.{Content}
+use Rattle.acd_desk.specs.declared.fault.DeskFault.{DeskFault}
+use Rattle.acd_desk.specs.declared.fault.DeskFault.TheVariants as fault
 use Rattle.acd_desk.specs.declared.taken.Taken.{Taken}
 use Rattle.acd_desk.specs.declared.taken.Taken.TheVariants as taken
 use Rattle.acd_desk.specs.Arrived.{at}
 use Rattle.acd_desk.specs.Served.{is_rejection}
 use Rattle.acd_desk.specs.Ran.{Standing, Took}
+use Rattle.acd_desk.specs.Told.{Told}
+use Rattle.acd_desk.specs.Tells.{told, agent_read, call_read, device_read, queue_read, events_read, monitor_read, report_read}
 use Rattle.acd_lines.specs.Output.{IsInput}
 use Rattle.acd_http.specs.declared.refused.Allow.{Allow}
 use Rattle.acd_http.specs.declared.refused.Refused.{Refused}
 use Rattle.acd_http.specs.declared.refused.Refused.TheVariants as refused
 use Rattle.acd_http.specs.declared.reply.Kind.{Kind}
-use Rattle.acd_http.specs.declared.reply.Kind.TheVariants.{Json}
+use Rattle.acd_http.specs.declared.reply.Kind.TheVariants.{Json, Plain}
+use Rattle.acd_http.specs.declared.lookup.Lookup.{Lookup}
+use Rattle.acd_http.specs.declared.lookup.Lookup.TheVariants as lookup
 use Rattle.acd_http.specs.declared.asked.Asked.{Asked}
 use Rattle.acd_http.specs.declared.asked.Asked.TheVariants as ask
 use Rattle.acd_http.specs.declared.answer.Reply.{Reply}
@@ -48,6 +55,38 @@ taken_reply r taken.StoreFault = fixed_reply false fixed.StoreFault
 abbrev pub IsWritten : Request → Taken → List ℕ → Type 0
 IsWritten r t out = (out ≡ taken_reply r t) ⊎ ((is_rejection t ≡ true) × (out ≡ fixed_reply false fixed.NoMemory))
 
+-- what is told of a content to a read, if there is such a thing
+abbrev pub told_of : Content → ℕ → Lookup → Option (List ℕ)
+told_of c moment (lookup.Agent agent) = agent_read c.rows agent
+told_of c moment (lookup.Call call) = call_read c.rows call
+told_of c moment (lookup.Device device) = device_read c.rows device
+told_of c moment (lookup.Queue group) = queue_read c.rows group
+told_of c moment (lookup.Events after) = events_read c after
+told_of c moment (lookup.MonitorEvents monitor after) = monitor_read c monitor after
+told_of c moment lookup.Report = report_read c.rows moment
+
+-- the report alone is plain text
+abbrev pub kind_told : Lookup → Kind
+kind_told (lookup.Agent agent) = Json
+kind_told (lookup.Call call) = Json
+kind_told (lookup.Device device) = Json
+kind_told (lookup.Queue group) = Json
+kind_told (lookup.Events after) = Json
+kind_told (lookup.MonitorEvents monitor after) = Json
+kind_told lookup.Report = Plain
+
+-- what the desk told, seen as its characters
+abbrev pub seen : {Z : Type 0} → Result (Option (String Z)) DeskFault → Result (Option (List ℕ)) DeskFault
+seen (Ok text) = Ok (told text)
+seen (Err why) = Err why
+
+-- the reply to a read
+abbrev pub told_reply : Bool → Kind → Result (Option (List ℕ)) DeskFault → List ℕ
+told_reply bodiless kind (Ok (Some text)) = reply_bytes bodiless 200 kind None text
+told_reply bodiless kind (Ok None) = refused_reply bodiless refused.NotFound
+told_reply bodiless kind (Err fault.NoMemory) = fixed_reply bodiless fixed.NoMemory
+told_reply bodiless kind (Err fault.StoreFault) = fixed_reply bodiless fixed.StoreFault
+
 abbrev pub status_of : Reply → ℕ
 status_of (Made status kind body) = status
 status_of (Fixed status allow body) = status
@@ -74,7 +113,8 @@ module _ {D : Type 0} (stands : D → Standing) (moment : ℕ) where
   abbrev pub Replies : D → Asked → List ℕ → D → Type 0
   Replies d ask.Truncated out e = ⊥
   Replies d (ask.Refused why bodiless) out e = (out ≡ refused_reply bodiless why) × (e ≡ d)
-  Replies d (ask.Look lookup bodiless) out e = (out ≡ refused_reply bodiless refused.NotFound) × (e ≡ d)
+  Replies d (ask.Look wanted bodiless) out e =
+      (found : Result (Option (List ℕ)) DeskFault) × (out ≡ told_reply bodiless (kind_told wanted) found) × Told (stands d) (stands e) found (λ (c : Content) (text : Option (List ℕ)). text ≡ told_of c moment wanted)
   Replies d (ask.Arrival r) out e = (t : Taken) × (out ≡ taken_reply r t) × Took (stands d) (at moment r) t (stands e)
 
   -- Before the desk is asked there may be no memory: then it is left as it was.

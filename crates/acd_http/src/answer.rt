@@ -6,9 +6,9 @@ ghost use Rattle.acd_http.specs.declared.asked.Asked.{Asked};
 ghost use Rattle.acd_http.specs.Exchanging.{reply_out, fixed_reply, refused_reply, rejected_reply, IsWritten, Replies, Answered};
 
 use crate::asked::Asked;
-use crate::lookup::Lookup;
 use crate::refused::{Allow, Refused};
 use crate::reply::Kind;
+use crate::telling::told_reply;
 use acd_book::{Book, Text};
 use acd_codec::{FixedAnswer, Rejected, rejected_text};
 use acd_desk::{Desk, Taken};
@@ -70,7 +70,8 @@ pub(crate) fn fixed(answer: FixedAnswer) -> Reply
     Reply::Fixed(answer.status(), None, answer.text())
 }
 
-fn refused(why: Refused) -> Reply
+/// It takes no memory.
+pub(crate) fn refused(why: Refused) -> Reply
     ensures { (bodiless : Bool) → reply_out bodiless result ≡ refused_reply bodiless why }
 {
     Reply::Fixed(why.status(), why.allow(), why.text())
@@ -118,7 +119,7 @@ pub(crate) fn answered<B: Book>(
     match asked {
         Asked::Truncated => None,
         Asked::Refused(why, _) => Some(refused(why)),
-        Asked::Look(_, _) => Some(refused(Refused::NotFound)),
+        Asked::Look(lookup, _) => Some(told_reply(desk, moment, lookup)),
         Asked::Arrival(request) => Some(arrival(alloc, desk, moment, &request)),
     }
 }

@@ -1,8 +1,8 @@
 //! One HTTP exchange over a desk: one request is read from a connection, and one reply is written.
 //!
 //! What bytes ask is `specs/Asking`, and what is written for it `specs/Exchanging`; [`laws`] say that bytes
-//! ask one thing, and by a beginning of theirs alone. Services are asked for by POST to `/csta`. Reads aren't
-//! told yet: a read that is asked for as it should be is answered notFound.
+//! ask one thing, and by a beginning of theirs alone. Services are asked for by POST to `/csta`; what the desk
+//! tells is read by GET and HEAD.
 //!
 //! ```ignore
 //! let routes = Routes::new(alloc)?;
@@ -24,7 +24,9 @@ mod refused;
 mod reply;
 mod routes;
 mod serving;
+mod short_text;
 mod target;
+mod telling;
 #[cfg(test)]
 mod tests;
 mod wanted;

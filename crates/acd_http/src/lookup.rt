@@ -6,6 +6,7 @@ ghost use Rattle.acd_http.specs.Lookups.{behind, before, is_serial, serial_of, a
 use crate::fields::number_up_to;
 use crate::query::after_of;
 use crate::refused::{Part, Refused};
+use crate::reply::Kind;
 use crate::routes::Resource;
 use acd_terms::{AgentId, DeviceId, Serial};
 use std::alloc::{AllocError, Global};
@@ -27,6 +28,26 @@ pub enum Lookup {
     MonitorEvents(Serial, u64),
     /// The queue report.
     Report,
+}
+
+impl Lookup {
+    ghost use Rattle.std.specs.Prelude.{◌≡◌};
+    ghost use Rattle.acd_http.specs.Exchanging.{kind_told};
+
+    /// What is told of it.
+    pub(crate) fn kind(&self) -> Kind
+        ensures { result ≡ kind_told self.now }
+    {
+        match self {
+            Lookup::Agent(_)
+            | Lookup::Call(_)
+            | Lookup::Device(_)
+            | Lookup::Queue(_)
+            | Lookup::Events(_)
+            | Lookup::MonitorEvents(_, _) => Kind::Json,
+            Lookup::Report => Kind::Plain,
+        }
+    }
 }
 
 /// How many digits a call or a monitor has at most.

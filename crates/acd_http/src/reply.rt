@@ -1,62 +1,17 @@
 //! The bytes of a reply.
 
-ghost use Rattle.std.specs.Prelude.{◌≡◌, ◌≤◌, ◌+◌, ◌++◌, [], length};
+ghost use Rattle.std.specs.Prelude.{◌≡◌, ◌≤◌, ◌+◌, ◌++◌, length};
 ghost use Rattle.acd_http.specs.Replying.{phrase_of, kind_text, allow_text, status_line, kind_field, size_field, head_text};
 
 use crate::refused::Allow;
+use crate::short_text::ShortText;
 use itoa::Buffer;
-use std::marker::Model;
 
 /// What a body is.
 #[derive(Clone, Copy, Debug, PartialEq, Eq)]
 pub(crate) enum Kind {
     Json,
     Plain,
-}
-
-/// The head of a reply, in place.
-#[derive(Drop)]
-pub(crate) struct ReplyHead {
-    bytes: [u8; 256],
-    len: usize,
-}
-
-impl Model for ReplyHead {
-    ghost use Rattle.std.specs.Prelude.{ℕ, List, ◌≤◌, take};
-
-    ghost Value = { List ℕ };
-
-    ghost view = { λ h. take h.len h.bytes };
-
-    ghost invariant = { λ h. h.len ≤ 256 };
-}
-
-impl ReplyHead {
-    fn new() -> ReplyHead
-        ensures { result ≡ [] }
-    {
-        ReplyHead {
-            bytes: [0; 256],
-            len: 0,
-        }
-    }
-
-    // Adds the bytes at the end.
-    fn push(&mut self, text: &[u8])
-        requires { length self.old + length text.now ≤ 256 }
-        ensures { self.new ≡ self.old ++ text.now }
-    {
-        for i in 0..text.len() {
-            self.bytes[self.len + i] = text[i];
-        }
-        self.len += text.len();
-    }
-
-    pub(crate) fn as_slice(&self) -> &[u8]
-        ensures { result.now ≡ self.now }
-    {
-        &self.bytes[..self.len]
-    }
 }
 
 // The canonical phrase of a status that the desk answers.
@@ -103,7 +58,7 @@ fn allow_text(allow: Option<Allow>) -> &'static [u8]
     }
 }
 
-fn push_status(head: &mut ReplyHead, status: u16)
+fn push_status(head: &mut ShortText, status: u16)
     requires { length head.old ≤ 100 }
     ensures value { head.new ≡ head.old ++ status_line status }
     ensures short { length head.new ≤ length head.old + 83 }
@@ -116,7 +71,7 @@ fn push_status(head: &mut ReplyHead, status: u16)
     head.push(b"\r\n");
 }
 
-fn push_kind(head: &mut ReplyHead, kind: Kind)
+fn push_kind(head: &mut ShortText, kind: Kind)
     requires { length head.old ≤ 100 }
     ensures value { head.new ≡ head.old ++ kind_field kind }
     ensures short { length head.new ≤ length head.old + 32 }
@@ -126,7 +81,7 @@ fn push_kind(head: &mut ReplyHead, kind: Kind)
     head.push(b"\r\n");
 }
 
-fn push_size(head: &mut ReplyHead, size: usize)
+fn push_size(head: &mut ShortText, size: usize)
     requires { length head.old ≤ 150 }
     ensures value { head.new ≡ head.old ++ size_field size }
     ensures short { length head.new ≤ length head.old + 58 }
@@ -139,10 +94,10 @@ fn push_size(head: &mut ReplyHead, size: usize)
 
 /// Makes the head of a reply. It takes no memory.
 #[tactic(auto, unfolding(crate::specs::Replying::head_text))]
-pub(crate) fn reply_head(status: u16, kind: Kind, size: usize, allow: Option<Allow>) -> ReplyHead
+pub(crate) fn reply_head(status: u16, kind: Kind, size: usize, allow: Option<Allow>) -> ShortText
     ensures { result ≡ head_text status kind size allow }
 {
-    let mut head = ReplyHead::new();
+    let mut head = ShortText::new();
     push_status(&mut head, status);
     push_kind(&mut head, kind);
     push_size(&mut head, size);

@@ -1,0 +1,50 @@
+//! A short text that takes no memory.
+
+ghost use Rattle.std.specs.Prelude.{◌≡◌, ◌≤◌, ◌+◌, ◌++◌, [], length};
+
+use std::marker::Model;
+
+/// A text of at most 256 bytes, in place.
+#[derive(Drop)]
+pub(crate) struct ShortText {
+    bytes: [u8; 256],
+    len: usize,
+}
+
+impl Model for ShortText {
+    ghost use Rattle.std.specs.Prelude.{ℕ, List, ◌≤◌, take};
+
+    ghost Value = { List ℕ };
+
+    ghost view = { λ h. take h.len h.bytes };
+
+    ghost invariant = { λ h. h.len ≤ 256 };
+}
+
+impl ShortText {
+    pub(crate) fn new() -> ShortText
+        ensures { result ≡ [] }
+    {
+        ShortText {
+            bytes: [0; 256],
+            len: 0,
+        }
+    }
+
+    /// Adds the bytes at the end.
+    pub(crate) fn push(&mut self, text: &[u8])
+        requires { length self.old + length text.now ≤ 256 }
+        ensures { self.new ≡ self.old ++ text.now }
+    {
+        for i in 0..text.len() {
+            self.bytes[self.len + i] = text[i];
+        }
+        self.len += text.len();
+    }
+
+    pub(crate) fn as_slice(&self) -> &[u8]
+        ensures { result.now ≡ self.now }
+    {
+        &self.bytes[..self.len]
+    }
+}
