@@ -15,6 +15,8 @@ mod ConnectionRows
 mod Differences
 mod Recorded
 mod Chained
+mod Pages
+mod FirstFound
 mod Selections
 mod Statements
 mod Upserts
