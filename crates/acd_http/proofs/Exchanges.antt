@@ -39,10 +39,16 @@ module _ {D : Type 0} (stands : D → Standing) (moment : ℕ) where
   -- what the desk told to a read
   pub replies_look : {Z : Type 0} (d e : D) (wanted : Lookup) (bodiless : Bool) (found : Result (Option (String Z)) DeskFault) (out : List ℕ) → out ≡ told_reply bodiless (kind_told wanted) (seen found)
       → Told (stands d) (stands e) found (λ (c : Content) (text : Option (String Z)). told text ≡ told_of c moment wanted) → Replies stands moment d (ask.Look wanted bodiless) out e
-  replies_look {Z} d e wanted bodiless (Ok text) out is h = (Ok (told text), is,
-      told_so (stands d) (stands e) text (told text) (λ (c : Content) (x : Option (String Z)). told x ≡ told_of c moment wanted) (λ (c : Content) (x : Option (List ℕ)). x ≡ told_of c moment wanted) (λ c same. same) h)
-  replies_look {Z} d e wanted bodiless (Err why) out is h = (Err why, is,
-      told_nothing (stands d) (stands e) why (λ (c : Content) (x : Option (String Z)). told x ≡ told_of c moment wanted) (λ (c : Content) (x : Option (List ℕ)). x ≡ told_of c moment wanted) h)
+  replies_look {Z} d e wanted bodiless (Ok text) out is h = (
+    Ok (told text),
+    is,
+    told_so (stands d) (stands e) text (told text) (λ (c : Content) (x : Option (String Z)). told x ≡ told_of c moment wanted) (λ (c : Content) (x : Option (List ℕ)). x ≡ told_of c moment wanted) (λ c same. same) h,
+  )
+  replies_look {Z} d e wanted bodiless (Err why) out is h = (
+    Err why,
+    is,
+    told_nothing (stands d) (stands e) why (λ (c : Content) (x : Option (String Z)). told x ≡ told_of c moment wanted) (λ (c : Content) (x : Option (List ℕ)). x ≡ told_of c moment wanted) h,
+  )
 
 -- the bytes of a reply are its head and its body
 out_is : (bodiless : Bool) (r : Reply) → reply_out bodiless r ≡ head_text (status_of r) (kind_of r) (length (body_of r)) (allow_of r) ++ cond bodiless [] (body_of r)

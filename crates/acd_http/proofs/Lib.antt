@@ -7,3 +7,4 @@ pub mod Asks
 pub mod SmallBodies
 pub mod AskLaws
 pub mod Exchanges
+pub mod Visits

@@ -11,3 +11,4 @@ pub mod Asking
 pub mod Replying
 pub mod Exchanging
 pub mod Laws
+pub mod Listening

@@ -16,6 +16,7 @@ mod fields;
 mod head;
 mod input;
 pub mod laws;
+mod listening;
 mod lookup;
 mod method;
 mod query;
@@ -32,6 +33,7 @@ mod tests;
 mod wanted;
 
 pub use asked::Asked;
+pub use listening::{ServeFault, serve_on};
 pub use lookup::Lookup;
 pub use refused::{Allow, Part, Refused};
 pub use routes::Routes;

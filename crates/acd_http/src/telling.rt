@@ -16,7 +16,11 @@ use acd_codec::FixedAnswer;
 use acd_desk::{Desk, DeskFault};
 
 // What the desk tells.
-fn tell<B: Book>(desk: &mut Desk<B>, moment: u32, wanted: Lookup) -> Result<Option<String>, DeskFault>
+fn tell<B: Book>(
+    desk: &mut Desk<B>,
+    moment: u32,
+    wanted: Lookup,
+) -> Result<Option<String>, DeskFault>
     ensures { Told (standing B.Book desk.old) (standing B.Book desk.new) result (λ c text. told text ≡ told_of c moment wanted) }
 {
     match wanted {

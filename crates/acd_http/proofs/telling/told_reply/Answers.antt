@@ -1,4 +1,4 @@
-use Rattle.std.proofs.Common.{Bool, ap, ◌∙◌}
+use Rattle.std.proofs.Common.{ap, ◌∙◌}
 use Rattle.acd_desk.specs.Ran.{standing}
 use Rattle.acd_http.specs.declared.reply.Kind.{Kind}
 use Rattle.acd_http.specs.Exchanging.{seen, told_reply}

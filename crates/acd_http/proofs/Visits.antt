@@ -1,0 +1,44 @@
+-- One connection after another.
+use Rattle.std.proofs.Common.{◌≡◌, ℕ, ◌+◌, suc, List, [], ◌∷◌, ◌++◌, length, Option, Result, Ok, Err, OnOk, OnErr, refl, sym, ap, ◌∙◌, subst, arith, append_assoc, append-nil, length-append}
+use Rattle.std.specs.Io.KnownBytes.{Appends}
+use Rattle.std.proofs.KnownBytes.{Appends-nil}
+use Rattle.acd_desk.specs.Ran.{Standing}
+use Rattle.acd_lines.specs.declared.sending.Stopped.{Stopped}
+use Rattle.acd_lines.specs.Sent.{Begins}
+use Rattle.acd_http.specs.Listening.{Outcome, Served, Serves, ServedAll, Noted, outcome_line, outcome_lines}
+
+pub noted_by : (r : Result (Unit {0}) Stopped) (a b : Option (List ℕ)) (slice text : List ℕ) → slice ≡ text → OnOk r (Appends a b slice) → OnErr r (Begins a b slice) → Noted r a b text
+noted_by (Ok u) a b slice text same ok err = subst (Appends a b) same ok
+noted_by (Err s) a b slice text same ok err = subst (Begins a b) same err
+
+zero_more : (n : ℕ) → n ≡ n + 0
+zero_more n = omega arith
+
+lines_more : (n : ℕ) (xs : List Outcome) (x : Outcome) → outcome_lines n (xs ++ x ∷ []) ≡ outcome_lines n xs ++ outcome_line (n + length xs) x
+unfolding outcome_lines
+lines_more n [] x = append-nil (outcome_line n x) ∙ ap (λ (k : ℕ). outcome_line k x) (zero_more n)
+lines_more n (y ∷ ys) x =
+    let e : suc n + length ys ≡ n + length (y ∷ ys) = omega arith in
+    ap (λ (l : List ℕ). outcome_line n y ++ l) (lines_more (suc n) ys x ∙ ap (λ (k : ℕ). outcome_lines (suc n) ys ++ outcome_line k x) e) ∙ sym (append_assoc (outcome_line n y) (outcome_lines (suc n) ys) (outcome_line (n + length (y ∷ ys)) x))
+
+module _ {D : Type 0} (stands : D → Standing) where
+  serves_more : (d e f : D) (xs : List Outcome) (x : Outcome) → Serves stands d xs e → Served stands e x f → Serves stands d (xs ++ x ∷ []) f
+  serves_more d e f [] x h k = (f, subst (λ (a : D). Served stands a x f) h k, refl)
+  serves_more d e f (y ∷ ys) x h k = (h.0, h.1, serves_more h.0 e f ys x h.2 k)
+
+  pub served_none : (d : D) (a : Option (List ℕ)) → ServedAll stands 0 d d (Noted (Ok tt) a a)
+  unfolding outcome_lines
+  served_none d a = record { outcomes = []; count = refl; serves = refl; out = Appends-nil a }
+
+  pub served_more : (many : ℕ) (d e f : D) (noted result : Result (Unit {0}) Stopped) (a b c : Option (List ℕ)) (x : Outcome) → ServedAll stands many d e (Noted noted a b) → Served stands e x f
+      → ((first : Option (List ℕ)) (text : List ℕ) → Noted noted first b text → Noted result first c (text ++ outcome_line (many + 1) x)) → ServedAll stands (many + 1) d f (Noted result a c)
+  served_more many d e f noted result a b c x h one wrote =
+      let number : 1 + length h.outcomes ≡ many + 1 = let is = h.count in omega arith in
+      let lines : outcome_lines 1 (h.outcomes ++ x ∷ []) ≡ outcome_lines 1 h.outcomes ++ outcome_line (many + 1) x
+      = lines_more 1 h.outcomes x ∙ ap (λ (k : ℕ). outcome_lines 1 h.outcomes ++ outcome_line k x) number in
+      record {
+        outcomes = h.outcomes ++ x ∷ [];
+        count = length-append h.outcomes (x ∷ []) ∙ ap (λ (k : ℕ). k + 1) h.count;
+        serves = serves_more d e f h.outcomes x h.serves one;
+        out = subst (Noted result a c) (sym lines) (wrote a (outcome_lines 1 h.outcomes) h.out);
+      }

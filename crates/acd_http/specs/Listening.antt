@@ -1,0 +1,66 @@
+-- What serving connections, one after another, leaves.
+use Rattle.std.specs.Prelude.{◌≡◌, ℕ, suc, length, List, [], ◌∷◌, ◌++◌, Option, Result, Ok, Err, codes, decimal}
+use Rattle.std.specs.Io.KnownBytes.{Appends}
+use Rattle.acd_desk.specs.Ran.{Standing}
+use Rattle.acd_lines.specs.declared.sending.Stopped.{Stopped}
+use Rattle.acd_lines.specs.Sent.{Begins}
+use Rattle.acd_http.specs.declared.asked.Asked.{Asked}
+use Rattle.acd_http.specs.declared.serving.ExchangeFault.{ExchangeFault}
+use Rattle.acd_http.specs.declared.serving.ExchangeFault.TheVariants.{Truncated, Read, Write, NoMemory}
+use Rattle.acd_http.specs.Asking.{Asks}
+use Rattle.acd_http.specs.Exchanging.{Answers}
+
+-- how a connection ended
+abbrev pub Outcome : Type 0
+Outcome = Result (Unit {0}) ExchangeFault
+
+abbrev pub fault_text : ExchangeFault → List ℕ
+fault_text Truncated = codes "truncated"
+fault_text Read = codes "read"
+fault_text Write = codes "write"
+fault_text NoMemory = codes "no memory"
+
+-- the line that tells the fault of a connection, where it had one
+unfoldable pub outcome_line : ℕ → Outcome → List ℕ
+outcome_line number (Ok u) = []
+outcome_line number (Err fault) = codes "acd: connection " ++ decimal number ++ codes ": " ++ fault_text fault ++ codes "\n"
+
+-- the lines of connections, the first of which has this number
+unfoldable pub outcome_lines : ℕ → List Outcome → List ℕ
+outcome_lines number [] = []
+outcome_lines number (x ∷ xs) = outcome_line number x ++ outcome_lines (suc number) xs
+
+module _ {D : Type 0} (stands : D → Standing) where
+  -- something was asked at some moment, and answered
+  pub record Visited (d e : D) : Type 0 where
+    pub moment : ℕ
+    pub input : List ℕ
+    pub asked : Asked
+    pub reply : List ℕ
+    pub asks : Asks input asked
+    pub answers : Answers stands moment d asked reply e
+
+  -- one connection: it was answered, or the desk is as it was
+  abbrev pub Served : D → Outcome → D → Type 0
+  Served d (Ok u) e = Visited d e
+  Served d (Err Write) e = Visited d e
+  Served d (Err Truncated) e = e ≡ d
+  Served d (Err Read) e = e ≡ d
+  Served d (Err NoMemory) e = e ≡ d
+
+  -- one connection after another
+  abbrev pub Serves : D → List Outcome → D → Type 0
+  Serves d [] e = e ≡ d
+  Serves d (x ∷ xs) e = (f : D) × Served d x f × Serves f xs e
+
+  -- so many connections were served, and their lines went out as is said
+  pub record ServedAll (many : ℕ) (d e : D) (WentOut : List ℕ → Type 0) : Type 0 where
+    pub outcomes : List Outcome
+    pub count : length outcomes ≡ many
+    pub serves : Serves d outcomes e
+    pub out : WentOut (outcome_lines 1 outcomes)
+
+-- for private clauses: a text was written, or a beginning of it
+abbrev pub Noted : Result (Unit {0}) Stopped → Option (List ℕ) → Option (List ℕ) → List ℕ → Type 0
+Noted (Ok u) old new text = Appends old new text
+Noted (Err stopped) old new text = Begins old new text

@@ -1,0 +1,156 @@
+//! Connections of a listener, served one after the other.
+
+ghost use Rattle.std.specs.Prelude.{◌≡◌, ◌≤◌, ℕ, List, ◌++◌, min, length, Option, Err, OnOk};
+ghost use Rattle.std.specs.Io.KnownBytes.{Appends};
+ghost use Rattle.acd_lines.specs.Sent.{Begins};
+ghost use Rattle.acd_desk.specs.Ran.{standing};
+ghost use Rattle.acd_http.specs.Listening.{Served, ServedAll, Noted, fault_text, outcome_line};
+
+use crate::receive::CALLS;
+use crate::routes::Routes;
+use crate::serving::{ExchangeFault, exchange};
+use crate::short_text::ShortText;
+use acd_book::Book;
+use acd_desk::Desk;
+use acd_lines::{Stopped, send};
+use itoa::Buffer;
+use std::alloc::Global;
+use std::io::Write;
+use std::net::TcpListener;
+use std::time::{Clock, SystemTime, UNIX_EPOCH};
+use thiserror::Error;
+
+/// Why serving did less than it was to do.
+#[derive(Clone, Copy, Debug, PartialEq, Eq, Error)]
+pub enum ServeFault {
+    /// There was no memory for the routes. No connection was accepted.
+    #[error("no memory")]
+    NoMemory,
+    /// A line could not be written, and none behind it was. All connections were served.
+    #[error("write")]
+    Write,
+}
+
+fn moment_of(seconds: u64) -> u32
+    ensures { result ≡ min seconds 4294967295 }
+{
+    u32::try_from(seconds).unwrap_or(u32::MAX)
+}
+
+// The seconds since 1970, cut to the range of a moment; 0 where there is no clock.
+fn moment_now(clock: &impl Clock) -> u32 {
+    let Ok(now) = SystemTime::now(clock) else {
+        return 0;
+    };
+    match now.duration_since(UNIX_EPOCH) {
+        Ok(since) => moment_of(since.as_secs()),
+        Err(_) => 0,
+    }
+}
+
+// Waits for a connection and serves it. It is closed behind it.
+fn serve_next<B: Book, C: Clock>(
+    clock: &C,
+    alloc: Global,
+    routes: &Routes,
+    listener: &TcpListener,
+    desk: &mut Desk<B>,
+) -> Result<(), ExchangeFault>
+    ensures { Served (standing B.Book) desk.old result desk.new }
+{
+    let Ok((stream, _)) = listener.accept() else {
+        return Err(ExchangeFault::Read);
+    };
+    let moment = moment_now(clock);
+    exchange(alloc, routes, desk, moment, &mut &stream, &mut &stream)
+}
+
+fn fault_text(fault: ExchangeFault) -> &'static [u8]
+    ensures value { result.now ≡ fault_text fault }
+    ensures short { length result.now ≤ 9 }
+{
+    match fault {
+        ExchangeFault::Truncated => b"truncated",
+        ExchangeFault::Read => b"read",
+        ExchangeFault::Write => b"write",
+        ExchangeFault::NoMemory => b"no memory",
+    }
+}
+
+#[tactic(auto, unfolding(crate::specs::Listening::outcome_line))]
+fn fault_line(number: u64, fault: ExchangeFault) -> ShortText
+    ensures { result ≡ outcome_line number (Err fault) }
+{
+    let mut digits = Buffer::new();
+    let mut line = ShortText::new();
+    line.push(b"acd: connection ");
+    line.push(digits.format(number).as_bytes());
+    line.push(b": ");
+    line.push(fault_text(fault));
+    line.push(b"\n");
+    line
+}
+
+// Writes the line of a connection, where there is one.
+#[tactic(auto, unfolding(crate::specs::Listening::outcome_line))]
+fn note<E: Write>(
+    errors: &mut E,
+    number: u64,
+    outcome: Result<(), ExchangeFault>,
+) -> Result<(), Stopped>
+    ensures { Noted result (E.contents errors.old) (E.contents errors.new) (outcome_line number outcome) }
+{
+    match outcome {
+        Ok(()) => Ok(()),
+        Err(fault) => {
+            let mut calls = CALLS;
+            let line = fault_line(number, fault);
+            send(errors, &mut calls, line.as_slice())
+        }
+    }
+}
+
+// Where a line before it could not be written, it isn't.
+fn note_behind<E: Write>(
+    noted: Result<(), Stopped>,
+    errors: &mut E,
+    number: u64,
+    outcome: Result<(), ExchangeFault>,
+) -> Result<(), Stopped>
+    ensures { (first : Option (List ℕ)) (text : List ℕ) → Noted noted first (E.contents errors.old) text → Noted result first (E.contents errors.new) (text ++ outcome_line number outcome) }
+{
+    match noted {
+        Ok(()) => note(errors, number, outcome),
+        Err(Stopped) => Err(Stopped),
+    }
+}
+
+/// Serves so many connections, one after the other, each by an [`exchange`] at the clock's moment, and closes them.
+/// The fault of a connection is a line, `acd: connection N: truncated`, where N counts them from 1; where none could be
+/// accepted the word is `read`. After a fault the next one is served.
+pub fn serve_on<B: Book, C: Clock, E: Write>(
+    clock: &C,
+    alloc: Global,
+    listener: &TcpListener,
+    desk: &mut Desk<B>,
+    connections: u64,
+    errors: &mut E,
+) -> Result<(), ServeFault>
+    ensures ok { OnOk result (ServedAll (standing B.Book) connections desk.old desk.new (Appends (E.contents errors.old) (E.contents errors.new))) }
+    // a beginning of the lines was written
+    ensures write { result ≡ Err ServeFault.Write → ServedAll (standing B.Book) connections desk.old desk.new (Begins (E.contents errors.old) (E.contents errors.new)) }
+    ensures memory { result ≡ Err ServeFault.NoMemory → (desk.new ≡ desk.old) × (errors.new ≡ errors.old) }
+{
+    let Ok(routes) = Routes::new(alloc) else {
+        return Err(ServeFault::NoMemory);
+    };
+    let mut noted = Ok(());
+    for before in 0..connections {
+        let outcome = serve_next(clock, alloc, &routes, listener, desk);
+        noted = note_behind(noted, errors, before + 1, outcome);
+    }
+    match noted {
+        Ok(()) => Ok(()),
+        Err(Stopped) => Err(ServeFault::Write),
+    }
+}
