@@ -1,0 +1,10 @@
+-- What is known of the store of a book.
+use Rattle.std.specs.Prelude.{ℕ}
+use Rattle.sqlite_trees.specs.declared.memory.MemStore.{MemStore}
+use Rattle.sqlite.specs.Held.{Held, state}
+use Rattle.sqlite.specs.Steps.{over_memory}
+use Rattle.acd_sqlbook.specs.State.{book_state}
+
+-- over a store in memory a book is clean, whatever was done to it
+abbrev pub MemoryIsClean : Type 0
+MemoryIsClean = (h : Held MemStore) (failures : ℕ) → (book_state (state over_memory h) failures).is_clean

@@ -1,0 +1,12 @@
+//! What holds of a book by its store. Each law is the contract of a function with an empty body, and is stated in
+//! `specs/`.
+//!
+//! A book is clean where its store is: where the disk has so far returned what was written to it, and nobody else has
+//! written there.
+
+ghost use Rattle.acd_sqlbook.specs.StoreLaws.{MemoryIsClean};
+
+/// A book in memory is always clean.
+pub fn memory_is_clean()
+    ensures { MemoryIsClean }
+{}
