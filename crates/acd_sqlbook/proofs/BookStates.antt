@@ -6,17 +6,18 @@ use Rattle.sqlite_trees.specs.Tree.{Trees}
 use Rattle.sqlite.specs.declared.error.Error.{Error}
 use Rattle.sqlite.specs.State.{State, HasCleanDisk}
 use Rattle.acd_terms.specs.declared.rows.Limits.{Limits}
+use Rattle.acd_terms.specs.declared.rows.Rows.{Rows}
 use Rattle.acd_terms.specs.declared.event.Event.{Event}
 use Rattle.acd_terms.specs.declared.moves.Change.{Change}
 use Rattle.acd_book.specs.declared.kept.Kept.{Kept}
-use Rattle.acd_book.specs.Content.{Content, HasRisen, empty_content, FollowsBy, committed_by}
+use Rattle.acd_book.specs.Content.{Content, HasRisen, empty_content, Follows, committed, FollowsBy, committed_by}
 use Rattle.acd_book.specs.State.{Reads, Commits}
 use Rattle.acd_book.specs.declared.fault.BookFault.{BookFault}
 use Rattle.acd_book.specs.declared.fault.BookFault.TheVariants.{NoMemory, Store}
 use Rattle.acd_sqlbook.specs.Commit.{written_by}
 use Rattle.acd_sqlbook.specs.Content.{Encodes, meta_of}
 use Rattle.acd_sqlbook.specs.Decoding.{content_of}
-use Rattle.acd_sqlbook.specs.Calls.{HasRead, HasCommitted}
+use Rattle.acd_sqlbook.specs.Calls.{HasRead, HasCommitted, HasReplaced}
 use Rattle.acd_sqlbook.specs.Draft.{Holds}
 use Rattle.acd_sqlbook.specs.State.{IsSound, IsNew, book_state, answered, failures_after}
 use Rattle.acd_sqlbook.proofs.Committing.{commit_is}
@@ -110,7 +111,7 @@ module _ {A : Type 0} (old new : State) (failures : ℕ) (r : Result A Error) (I
       on_up k (Ok a) up = λ (sound : IsSound old). up
       on_up k (Err e) up = tt
 
-module _ (old new : State) (failures : ℕ) (r : Result (Unit {0}) Error) (written after : Content → Content) (Follows : Content → Type 0) (is : (db : Trees) (c : Content) → Encodes db c → Follows c → written c ≡ after c) where
+module _ (old new : State) (failures : ℕ) (r : Result (Unit {0}) Error) (written after : Content → Content) (Follows : Content → Type 0) (is : HasCleanDisk new → (c : Content) → Holds old c → Follows c → written c ≡ after c) where
   was_open : HasCommitted old new r written → HasCleanDisk new → IsSound old → IsTrue new.is_open → (c : Content) × Holds old c
   was_open h k sound up = sound.stands (h.was_open k up)
 
@@ -128,13 +129,13 @@ module _ (old new : State) (failures : ℕ) (r : Result (Unit {0}) Error) (writt
     left = λ db left. elim (added h k sound db left) [ inl was ↦ sound.left db was | inr new ↦ let held = sound.stands new.0 in (written held.0, new.1 held.0 held.1) ];
   }
 
-  followed : (c : Content) → Holds old c → Follows (content_of old.committed.trees) → written c ≡ after (content_of old.committed.trees)
-  followed c held follows = let known = held_is old c held in is old.committed.trees c held.encodes (subst Follows known follows) ∙ ap after (sym known)
+  followed : HasCleanDisk new → (c : Content) → Holds old c → Follows (content_of old.committed.trees) → written c ≡ after (content_of old.committed.trees)
+  followed k c held follows = let known = held_is old c held in is k c held (subst Follows known follows) ∙ ap after (sym known)
 
-  made_after : (r : Result (Unit {0}) Error) → IsSound old → Follows (content_of old.committed.trees) → OnOk r (IsTrue old.is_open × IsTrue new.is_open)
+  made_after : HasCleanDisk new → (r : Result (Unit {0}) Error) → IsSound old → Follows (content_of old.committed.trees) → OnOk r (IsTrue old.is_open × IsTrue new.is_open)
       → OnOk r ((c : Content) → Holds old c → Holds new (written c)) → OnOk (answered r) (content_of new.committed.trees ≡ after (content_of old.committed.trees))
-  made_after (Ok a) sound follows up made = let held = sound.stands up.0 in held_is new (written held.0) (made held.0 held.1) ∙ followed held.0 held.1 follows
-  made_after (Err e) sound follows up made = tt
+  made_after k (Ok a) sound follows up made = let held = sound.stands up.0 in held_is new (written held.0) (made held.0 held.1) ∙ followed k held.0 held.1 follows
+  made_after k (Err e) sound follows up made = tt
 
   undone_after : (r : Result (Unit {0}) Error) → (c : Content) → Holds old c → IsTrue new.is_open → OnErr r ((c : Content) → Holds old c → IsTrue new.is_open → Holds new c)
       → OnErr (answered r) (IsTrue old.is_open × (content_of new.committed.trees ≡ content_of old.committed.trees))
@@ -150,12 +151,12 @@ module _ (old new : State) (failures : ℕ) (r : Result (Unit {0}) Error) (writt
     clean = h.clean;
     sound = sound_after h;
     opened = λ k sound. opened_after r (h.up k);
-    made = λ k sound follows. made_after r sound follows (h.up k) (h.made k);
+    made = λ k sound follows. made_after k r sound follows (h.up k) (h.made k);
     undone = λ k sound up. let held = was_open h k sound up in undone_after r held.0 held.1 up (h.undone k);
     stops = λ k sound c stop.
         elim (added h k sound stop.0 stop.1) [
           | inl was ↦ inl (stop.0, was, stop.2)
-          | inr new ↦ let held = sound.stands new.0 in inr (new.0, λ follows. stop.2 ∙ decoded stop.0 (written held.0) (new.1 held.0 held.1) ∙ followed held.0 held.1 follows)
+          | inr new ↦ let held = sound.stands new.0 in inr (new.0, λ follows. stop.2 ∙ decoded stop.0 (written held.0) (new.1 held.0 held.1) ∙ followed k held.0 held.1 follows)
         ];
     cause = risen (answered r) failures;
     quiet = quiet_count (answered r) failures;
@@ -172,7 +173,7 @@ reads_noted old new failures next r answer IsAnswer settles stays is count low h
     (reads old new failures r IsAnswer (subst (λ n. failures ≤ n) counted low) settles stays h)
 
 pub commits_noted : (old new : State) (failures next : ℕ) (r : Result (Unit {0}) Error) (answer : Result (Unit {0}) BookFault) (written after : Content → Content) (Follows : Content → Type 0)
-    → ((db : Trees) (c : Content) → Encodes db c → Follows c → written c ≡ after c) → answer ≡ answered r → next ≡ failures_after answer failures → failures ≤ next → HasCommitted old new r written
+    → (HasCleanDisk new → (c : Content) → Holds old c → Follows c → written c ≡ after c) → answer ≡ answered r → next ≡ failures_after answer failures → failures ≤ next → HasCommitted old new r written
     → Commits (book_state old failures) (book_state new next) answer Follows after
 commits_noted old new failures next r answer written after Follows makes is count low h =
     let counted = count ∙ ap (λ a. failures_after a failures) is in
@@ -183,7 +184,13 @@ pub changes_noted : (old new : State) (failures next : ℕ) (r : Result (Unit {0
     → answer ≡ answered r → next ≡ failures_after answer failures → failures ≤ next → HasCommitted old new r (written_by changes events kept)
     → Commits (book_state old failures) (book_state new next) answer (FollowsBy changes events kept) (committed_by changes events kept)
 changes_noted old new failures next r answer changes events kept =
-    commits_noted old new failures next r answer (written_by changes events kept) (committed_by changes events kept) (FollowsBy changes events kept) (λ db c encodes follows. commit_is changes events kept (meta_of c.rows) c refl follows)
+    commits_noted old new failures next r answer (written_by changes events kept) (committed_by changes events kept) (FollowsBy changes events kept) (λ k c held follows. commit_is changes events kept (meta_of c.rows) c refl follows)
+
+pub rows_noted : (old new : State) (failures next : ℕ) (r : Result (Unit {0}) Error) (answer : Result (Unit {0}) BookFault) (rows : Rows) (events : List Event) (kept : Kept)
+    → answer ≡ answered r → next ≡ failures_after answer failures → failures ≤ next → HasReplaced old new r (Follows rows events kept) (committed rows events kept)
+    → Commits (book_state old failures) (book_state new next) answer (Follows rows events kept) (committed rows events kept)
+rows_noted old new failures next r answer rows events kept is count low h =
+    commits_noted old new failures next r answer h.written (committed rows events kept) (Follows rows events kept) h.same is count low h.commits
 
 -- ---- a new book
 

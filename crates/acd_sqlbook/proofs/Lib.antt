@@ -13,6 +13,8 @@ mod Asked
 mod Members
 mod ConnectionRows
 mod Differences
+mod SameRecords
+mod Transitions
 mod Recorded
 mod Chained
 mod Pages
@@ -30,6 +32,7 @@ mod Filing
 mod Committing
 pub mod Decoded
 mod Standing
+mod Replacing
 mod BookStates
 pub mod Ranged
 pub mod Reported

@@ -1,5 +1,5 @@
 -- What a call over a connection between transactions leaves, where the connection may have failed before.
-use Rattle.std.specs.Prelude.{Result, IsTrue, IfOk, OnOk, OnErr}
+use Rattle.std.specs.Prelude.{◌≡◌, Result, IsTrue, IfOk, OnOk, OnErr}
 use Rattle.sqlite.specs.State.{State, HasCleanDisk}
 use Rattle.sqlite.specs.declared.error.Error.{Error}
 use Rattle.acd_book.specs.Content.{Content}
@@ -24,3 +24,10 @@ pub record HasCommitted (old new : State) (result : Result (Unit {0}) Error) (af
   pub made : HasCleanDisk new → OnOk result ((c : Content) → Holds old c → Holds new (after c))
   pub undone : HasCleanDisk new → OnErr result ((c : Content) → Holds old c → IsTrue new.is_open → Holds new c)
   pub stops : HasCleanDisk new → Stands old → MayAdd old new after
+
+-- a commit, all or none, where `after c` is what it makes of a content that it follows
+pub record HasReplaced (old new : State) (result : Result (Unit {0}) Error) (Follows : Content → Type 0) (after : Content → Content) : Type 0 where
+  -- what it makes of any
+  pub written : Content → Content
+  pub commits : HasCommitted old new result written
+  pub same : HasCleanDisk new → (c : Content) → Holds old c → Follows c → written c ≡ after c

@@ -7,6 +7,7 @@ pub mod Commit
 pub mod Reading
 pub mod Finding
 pub mod Differing
+pub mod Transition
 pub mod Codes
 pub mod Decoding
 pub mod Calls

@@ -28,6 +28,7 @@ mod ready;
 mod shape;
 #[cfg(test)]
 mod tests;
+mod transition;
 mod values;
 mod write;
 

@@ -51,7 +51,7 @@ pub(crate) fn limits_fit(limits: &Limits) -> bool
         && fits(limits.monitors)
 }
 
-fn meta_fits(meta: &Meta) -> bool
+pub(crate) fn meta_fits(meta: &Meta) -> bool
     ensures { IsTrue result → MetaFits meta.now }
 {
     limits_fit(&meta.limits)

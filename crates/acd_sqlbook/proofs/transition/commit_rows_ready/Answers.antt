@@ -1,0 +1,32 @@
+use Rattle.std.proofs.Common.{◌≡◌, Err, rules, subst, sym}
+use Rattle.sqlite.specs.declared.error.Error.TheVariants.{SqliteFailure}
+use Rattle.sqlite.specs.declared.error.ErrorCode.TheVariants.{OutOfMemory}
+use Rattle.sqlite.specs.Held.{state}
+use Rattle.acd_book.specs.Content.{Follows, committed}
+use Rattle.acd_sqlbook.specs.Calls.{HasReplaced}
+use Rattle.acd_sqlbook.proofs.Replacing.{LeadsTo, replaces_not, replaces_still, replaces}
+use Rattle.acd_sqlbook.proofs.transition.commit_rows_ready.Goals as goal
+
+pub returns-in_err-request-clause-commits : goal.returns-in_err-request-clause-commits
+returns-in_err-request-clause-commits g c =
+    let s = state g.S.Store c.args.conn.now in
+    let is : c.from_residual.result ≡ Err (SqliteFailure OutOfMemory) = search rules in
+    subst (λ r. HasReplaced s s r (Follows c.args.rows.now c.args.events.now c.args.kept.now) (committed c.args.rows.now c.args.events.now c.args.kept.now)) (sym is)
+    (replaces_still s (SqliteFailure OutOfMemory) c.args.rows.now c.args.events.now c.args.kept.now)
+
+pub returns-in_err-meta-clause-commits : goal.returns-in_err-meta-clause-commits
+returns-in_err-meta-clause-commits g c =
+    let s = state g.S.Store c.args.conn.now in
+    let is : c.from_residual-in_err-meta.result ≡ Err c.in_err-meta.field-0.0 = search rules in
+    subst (λ r. HasReplaced s s r (Follows c.args.rows.now c.args.events.now c.args.kept.now) (committed c.args.rows.now c.args.events.now c.args.kept.now)) (sym is)
+    (replaces_still s c.in_err-meta.field-0.0 c.args.rows.now c.args.events.now c.args.kept.now)
+
+pub returns-clause-commits : goal.returns-clause-commits
+returns-clause-commits g c =
+    replaces_not (state g.S.Store c.args.conn.now) (state g.S.Store c.changes_to.new.conn) c.in-Err.error (LeadsTo c.args.rows.now) c.args.rows.now c.args.events.now c.args.kept.now c.in-Err.ensures.read
+
+pub returns-in-Ok-clause-commits : goal.returns-in-Ok-clause-commits
+returns-in-Ok-clause-commits g c =
+    let e = c.commit_all.ensures in
+    replaces (state g.S.Store c.args.conn.now) (state g.S.Store c.changes_to.new.conn) (state g.S.Store c.commit_all.new.conn) c.commit_all.result c.in-Ok.changes
+    c.deref.result.now c.in_ok-meta.meta c.args.rows.now c.args.events.now c.args.kept.now c.deref.ensures.value c.in_ok-meta.ensures.is c.in-Ok.ensures.read e.clean e.up e.was e.done e.undone e.stops
