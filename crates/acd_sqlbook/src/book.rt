@@ -3,8 +3,7 @@
 ghost use Rattle.std.specs.Prelude.{◌≡◌, ◌≤◌, false, Err, is_ok, IsTrue, IfOk, IfErr, OnOk};
 ghost use Rattle.sqlite.specs.State.{HasCleanDisk};
 ghost use Rattle.sqlite.specs.Held.{state};
-ghost use Rattle.acd_book.specs.Content.{empty_content, FollowsBy, committed_by};
-ghost use Rattle.acd_book.specs.State.{Reads, Commits};
+ghost use Rattle.acd_book.specs.Content.{empty_content};
 ghost use Rattle.acd_sqlbook.specs.Calls.{HasRead};
 ghost use Rattle.acd_sqlbook.specs.Schema.{no_schema};
 ghost use Rattle.acd_sqlbook.specs.Draft.{Holds, LimitsFit};
@@ -12,10 +11,14 @@ ghost use Rattle.acd_sqlbook.specs.State.{book_state, IsNew, MayMake, fault_of, 
 
 use crate::create::make_tables;
 use crate::meta::Meta;
-use crate::ready::{commit_ready, limits_fit, limits_ready};
+use crate::ready::{
+    commit_ready, events_ready, kept_after_ready, kept_ready, limits_fit, limits_ready, rows_ready,
+    watched_ready,
+};
+use crate::transition::commit_rows_ready;
 use crate::write::put_meta;
-use acd_book::{BookFault, Kept};
-use acd_terms::{Change, Event, Limits};
+use acd_book::{Book, BookFault, Kept};
+use acd_terms::{Change, Event, Invoke, Limits, Requester, Rows};
 use sqlite::{Alter, Connection, Error, ErrorCode};
 use std::alloc::Global;
 
@@ -134,31 +137,79 @@ impl<S: Alter> SqlBook<S> {
         } = self;
         conn
     }
+}
 
-    /// How often its store has failed.
-    pub fn failures(&self) -> u64
-        ensures { result ≡ self.now.failures }
-    {
+impl<S: Alter> Book for SqlBook<S> {
+    ghost use Rattle.std.specs.Prelude.{refl};
+    ghost use Rattle.std.proofs.Common.{ap, ◌∙◌};
+    ghost use Rattle.std.proofs.Math.Logic.{∥∥₁_map};
+    ghost use Rattle.acd_sqlbook.specs.Decoding.{content_of};
+
+    ghost state = { λ b. book_state (state S.Store b.conn) b.failures };
+
+    ghost settled = { λ b c clean sound up stop. stop.2 ∙ ap content_of (S.settled b.conn.store stop.0 up stop.1) };
+
+    ghost stays = { λ b clean sound up. ((S.view b.conn.store).committed, S.stays b.conn.store up, refl) };
+
+    ghost stands = { λ b clean sound. ∥∥₁_map (S.survives b.conn.store clean) (λ found. (content_of found.0, (found.0, found.1, refl))) };
+
+    fn failures(&self) -> u64 {
         self.failures
     }
 
-    /// The limits under which the book was made.
-    pub fn limits(&mut self) -> Result<Limits, BookFault>
-        ensures { Reads (book_state (state S.Store self.old.conn) self.old.failures) (book_state (state S.Store self.new.conn) self.new.failures) result (λ c found. found ≡ c.rows.limits) }
-    {
+    fn limits(&mut self) -> Result<Limits, BookFault> {
         let found = limits_ready(&mut self.conn, self.fresh);
         noted(found, &mut self.fresh, &mut self.failures)
     }
 
-    /// Makes the changes, and adds the events and the kept record, all or none.
-    pub fn commit_changes(
+    fn rows(&mut self) -> Result<Rows, BookFault> {
+        let found = rows_ready(self.alloc, &mut self.conn, self.fresh);
+        noted(found, &mut self.fresh, &mut self.failures)
+    }
+
+    fn kept(&mut self, requester: &Requester, invoke: Invoke) -> Result<Option<Kept>, BookFault> {
+        let found = kept_ready(self.alloc, &mut self.conn, self.fresh, requester, invoke);
+        noted(found, &mut self.fresh, &mut self.failures)
+    }
+
+    fn kept_after(&mut self, stamp: u64) -> Result<Option<Kept>, BookFault> {
+        let found = kept_after_ready(self.alloc, &mut self.conn, self.fresh, stamp);
+        noted(found, &mut self.fresh, &mut self.failures)
+    }
+
+    fn events_after(&mut self, number: u64, limit: usize) -> Result<Vec<Event>, BookFault> {
+        let found = events_ready(self.alloc, &mut self.conn, self.fresh, number, limit);
+        noted(found, &mut self.fresh, &mut self.failures)
+    }
+
+    fn events_of_monitor(
+        &mut self,
+        monitor: u64,
+        number: u64,
+        limit: usize,
+    ) -> Result<Vec<Event>, BookFault> {
+        let found = watched_ready(
+            self.alloc,
+            &mut self.conn,
+            self.fresh,
+            monitor,
+            number,
+            limit,
+        );
+        noted(found, &mut self.fresh, &mut self.failures)
+    }
+
+    fn commit(&mut self, rows: &Rows, events: &[Event], kept: &Kept) -> Result<(), BookFault> {
+        let done = commit_rows_ready(self.alloc, &mut self.conn, self.fresh, rows, events, kept);
+        noted(done, &mut self.fresh, &mut self.failures)
+    }
+
+    fn commit_changes(
         &mut self,
         changes: &[Change],
         events: &[Event],
         kept: &Kept,
-    ) -> Result<(), BookFault>
-        ensures { Commits (book_state (state S.Store self.old.conn) self.old.failures) (book_state (state S.Store self.new.conn) self.new.failures) result (FollowsBy changes.now events.now kept.now) (committed_by changes.now events.now kept.now) }
-    {
+    ) -> Result<(), BookFault> {
         let done = commit_ready(
             self.alloc,
             &mut self.conn,

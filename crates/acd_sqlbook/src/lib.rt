@@ -1,12 +1,16 @@
 //! The book in SQLite: the limits, the tables, the event reports and the kept replies of a desk in nine
 //! tables of a database.
 //!
-//! [`SqlBook::create`] makes the tables of a new book, in one transaction. Each statement has a function
-//! of its own, which works inside a transaction and adds no stop; the end of the transaction alone adds
-//! the commit.
+//! [`SqlBook::create`] makes the tables of a new book, in one transaction. A [`SqlBook`] is a
+//! [`Book`](acd_book::Book) that keeps nothing but its connection, whether its last call succeeded and how
+//! often its store has failed: each read asks the database.
+//!
+//! Each statement has a function of its own, which works inside a transaction and adds no stop; the end of
+//! the transaction alone adds the commit.
 //!
 //! ```ignore
-//! let book = SqlBook::create(alloc, conn, Limits::GREATEST)?;
+//! let mut book = SqlBook::create(alloc, conn, Limits::GREATEST)?;
+//! let events = book.events_after(0, 100)?;
 //! let conn = book.into_connection();
 //! ```
 #![tactic(auto)]

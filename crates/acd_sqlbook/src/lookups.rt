@@ -1,7 +1,7 @@
 //! Reads between transactions by key and in pages, as records.
 //!
 //! A number or a limit that no INTEGER column can hold is asked for as the greatest that one can. Nothing
-//! stands above that, and no answer is so long; both are seen to, and are no part of what a book holds.
+//! stands above that, and no answer is so long, which is seen to before the rows are handed on.
 
 ghost use Rattle.std.specs.Prelude.{◌≡◌, ◌-◌, ◌^◌, ◌<◌, [], false, length, map, take, filter, Some, IfOk, OnOk};
 ghost use Rattle.sqlite.specs.Held.{state};
@@ -21,8 +21,8 @@ use std::alloc::Global;
 
 const GREATEST: u64 = i64::MAX as u64;
 
-// The rows that were asked for by the least of each number and the greatest one, where they are those that
-// were meant.
+// The rows of a query that was asked for the least of each number and the greatest, where they are those of
+// the numbers themselves.
 fn meant(rows: Vec<Row>, number: u64, limit: u64) -> Result<Vec<Row>, Error>
     ensures same { IfOk result (λ page. page ≡ rows) }
     ensures none { OnOk result (¬ (Fits number) → rows.items ≡ []) }
@@ -46,10 +46,8 @@ fn event_page<S: Alter>(
     ensures idle { conn.new.in_transaction ≡ false }
     ensures found { Finds (state S.Store conn.old) (state S.Store conn.new) result (λ c rows. rows.items ≡ map event_values (events_behind c.events number limit)) }
 {
-    match event_rows(conn, number.min(GREATEST), limit.min(GREATEST)) {
-        Ok(rows) => meant(rows, number, limit),
-        Err(error) => Err(error),
-    }
+    let rows = event_rows(conn, number.min(GREATEST), limit.min(GREATEST))?;
+    meant(rows, number, limit)
 }
 
 fn event_page_at<S: Alter>(
@@ -62,10 +60,8 @@ fn event_page_at<S: Alter>(
     ensures idle { conn.new.in_transaction ≡ false }
     ensures found { Finds (state S.Store conn.old) (state S.Store conn.new) result (λ c rows. rows.items ≡ map event_values (take limit (filter (is_told (Some device) number) c.events))) }
 {
-    match event_rows_at(conn, device, number.min(GREATEST), limit.min(GREATEST)) {
-        Ok(rows) => meant(rows, number, limit),
-        Err(error) => Err(error),
-    }
+    let rows = event_rows_at(conn, device, number.min(GREATEST), limit.min(GREATEST))?;
+    meant(rows, number, limit)
 }
 
 // The first row of a kept record above a stamp.
@@ -74,10 +70,8 @@ fn kept_page<S: Alter>(conn: &mut Connection<S>, stamp: u64) -> Result<Vec<Row>,
     ensures idle { conn.new.in_transaction ≡ false }
     ensures found { Finds (state S.Store conn.old) (state S.Store conn.new) result (λ c rows. rows.items ≡ map kept_values (kept_behind c.kept stamp 1)) }
 {
-    match kept_rows(conn, stamp.min(GREATEST), 1) {
-        Ok(rows) => meant(rows, stamp, 1),
-        Err(error) => Err(error),
-    }
+    let rows = kept_rows(conn, stamp.min(GREATEST), 1)?;
+    meant(rows, stamp, 1)
 }
 
 /// What is kept under a key.
@@ -91,10 +85,8 @@ pub(crate) fn kept_under<S: Alter>(
     ensures idle { conn.new.in_transaction ≡ false }
     ensures found { Finds (state S.Store conn.old) (state S.Store conn.new) result (λ c found. found ≡ kept_of c.kept requester.now invoke) }
 {
-    match kept_row(conn, requester, invoke) {
-        Ok(rows) => first(alloc, &rows),
-        Err(error) => Err(error),
-    }
+    let rows = kept_row(conn, requester, invoke)?;
+    first(alloc, &rows)
 }
 
 /// The kept record of the least greater stamp.
@@ -107,10 +99,8 @@ pub(crate) fn kept_behind<S: Alter>(
     ensures idle { conn.new.in_transaction ≡ false }
     ensures found { Finds (state S.Store conn.old) (state S.Store conn.new) result (λ c found. IsKeptAfter c.kept stamp found) }
 {
-    match kept_page(conn, stamp) {
-        Ok(rows) => first(alloc, &rows),
-        Err(error) => Err(error),
-    }
+    let rows = kept_page(conn, stamp)?;
+    first(alloc, &rows)
 }
 
 /// The first events above a number.
@@ -124,10 +114,8 @@ pub(crate) fn events_behind<S: Alter>(
     ensures idle { conn.new.in_transaction ≡ false }
     ensures found { Finds (state S.Store conn.old) (state S.Store conn.new) result (λ c events. events.items ≡ events_behind c.events number limit) }
 {
-    match event_page(conn, number, limit as u64) {
-        Ok(rows) => records(alloc, &rows),
-        Err(error) => Err(error),
-    }
+    let rows = event_page(conn, number, limit as u64)?;
+    records(alloc, &rows)
 }
 
 // The first events at a device above a number.
@@ -142,10 +130,8 @@ fn events_at<S: Alter>(
     ensures idle { conn.new.in_transaction ≡ false }
     ensures found { Finds (state S.Store conn.old) (state S.Store conn.new) result (λ c events. events.items ≡ take limit (filter (is_told (Some device) number) c.events)) }
 {
-    match event_page_at(conn, device, number, limit as u64) {
-        Ok(rows) => records(alloc, &rows),
-        Err(error) => Err(error),
-    }
+    let rows = event_page_at(conn, device, number, limit as u64)?;
+    records(alloc, &rows)
 }
 
 // A running monitor.
@@ -159,15 +145,11 @@ fn monitor_at<S: Alter>(
     ensures found { Finds (state S.Store conn.old) (state S.Store conn.new) result (λ c found. found ≡ monitor_of c.rows number) }
 {
     if !fits(number) {
-        return match monitors(alloc, conn) {
-            Ok(monitors) => Ok(find(&monitors, number)),
-            Err(error) => Err(error),
-        };
+        let monitors = monitors(alloc, conn)?;
+        return Ok(find(&monitors, number));
     }
-    match monitor_row(conn, number) {
-        Ok(rows) => first(alloc, &rows),
-        Err(error) => Err(error),
-    }
+    let rows = monitor_row(conn, number)?;
+    first(alloc, &rows)
 }
 
 /// The first events of a running monitor above a number.

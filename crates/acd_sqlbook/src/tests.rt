@@ -2,6 +2,7 @@
 
 ghost use Rattle.std.specs.Prelude.{◌≡◌, false};
 
+mod answers;
 mod commits;
 
 use crate::book::SqlBook;

@@ -2,7 +2,7 @@
 
 use super::number;
 use crate::book::SqlBook;
-use acd_book::{BookFault, Kept, Text};
+use acd_book::{Book, BookFault, Kept, Text};
 use acd_terms::{
     Change, Command, DeviceId, Event, Invoke, Limits, MonitorRecord, Report, Request, Requester,
     StationRecord,
@@ -11,7 +11,7 @@ use sqlite::{Connection, MemStore};
 use std::alloc::Global;
 use std::process::Abort;
 
-fn new_book(rt: &impl Abort, alloc: Global) -> SqlBook<MemStore> {
+pub(super) fn new_book(rt: &impl Abort, alloc: Global) -> SqlBook<MemStore> {
     match Connection::open_in_memory(alloc) {
         Ok(conn) => match SqlBook::create(alloc, conn, Limits::GREATEST) {
             Ok(book) => book,
@@ -44,7 +44,7 @@ fn record(rt: &impl Abort, alloc: Global, stamp: u64, invoke: u64) -> Kept {
 }
 
 // A station, a monitor of it and an event there.
-fn commit_first(rt: &impl Abort, alloc: Global, book: &mut SqlBook<MemStore>) {
+pub(super) fn commit_first(rt: &impl Abort, alloc: Global, book: &mut SqlBook<MemStore>) {
     let device = station(rt);
     let monitor = MonitorRecord {
         monitor: 3,

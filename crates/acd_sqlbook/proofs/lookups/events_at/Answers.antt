@@ -9,8 +9,8 @@ use Rattle.acd_sqlbook.specs.Rows.{event_values}
 use Rattle.acd_sqlbook.proofs.Recorded.{recorded, event_exact}
 use Rattle.acd_sqlbook.proofs.lookups.events_at.Goals as goal
 
-pub returns-in-Ok-clause-found : goal.returns-in-Ok-clause-found
-returns-in-Ok-clause-found g c =
-    recorded event_in event_values event_exact (state g.S.Store c.args.conn.now) (state g.S.Store c.event_page_at.new.conn) c.in-Ok.rows c.records.result
-    (λ (x : Content). take c.args.limit (filter (is_told (Some c.args.device) c.args.number) x.events)) c.in-Ok.ensures.found
+pub returns-clause-found : goal.returns-clause-found
+returns-clause-found g c =
+    recorded event_in event_values event_exact (state g.S.Store c.args.conn.now) (state g.S.Store c.event_page_at.new.conn) c.in_ok-rows.rows c.records.result
+    (λ (x : Content). take c.args.limit (filter (is_told (Some c.args.device) c.args.number) x.events)) c.in_ok-rows.ensures.found
     (rw c.deref.ensures.value at c.records.ensures)

@@ -9,7 +9,7 @@ use Rattle.acd_sqlbook.proofs.FirstFound.{first_recorded, found_readable}
 use Rattle.acd_sqlbook.proofs.Recorded.{kept_exact}
 use Rattle.acd_sqlbook.proofs.lookups.kept_under.Goals as goal
 
-pub returns-in-Ok-clause-found : goal.returns-in-Ok-clause-found
-returns-in-Ok-clause-found g c =
-    first_recorded kept_in kept_values IsReadable kept_exact (state g.S.Store c.args.conn.now) (state g.S.Store c.kept_row.new.conn) c.in-Ok.rows c.first.result (λ (x : Content). kept_of x.kept c.args.requester.now c.args.invoke)
-    (found_readable (state g.S.Store c.args.conn.now) (λ (k : Kept). is_key c.args.requester.now c.args.invoke k.request)) c.in-Ok.ensures.found (rw c.deref.ensures.value at c.first.ensures)
+pub returns-clause-found : goal.returns-clause-found
+returns-clause-found g c =
+    first_recorded kept_in kept_values IsReadable kept_exact (state g.S.Store c.args.conn.now) (state g.S.Store c.kept_row.new.conn) c.in_ok-rows.rows c.first.result (λ (x : Content). kept_of x.kept c.args.requester.now c.args.invoke)
+    (found_readable (state g.S.Store c.args.conn.now) (λ (k : Kept). is_key c.args.requester.now c.args.invoke k.request)) c.in_ok-rows.ensures.found (rw c.deref.ensures.value at c.first.ensures)

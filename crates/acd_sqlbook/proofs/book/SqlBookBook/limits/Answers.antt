@@ -1,10 +1,10 @@
 use Rattle.std.proofs.Common.{◌≡◌}
 use Rattle.sqlite.specs.Held.{state}
 use Rattle.acd_sqlbook.proofs.BookStates.{reads_noted}
-use Rattle.acd_sqlbook.proofs.book.SqlBook.limits.Goals as goal
+use Rattle.acd_sqlbook.proofs.book.SqlBookBook.limits.Goals as goal
 
 pub returns : goal.returns
 returns g c =
     reads_noted (state g.S.Store c.args.self.now.conn) (state g.S.Store c.limits_ready-found.new.conn) c.args.self.now.failures c.noted.new.failures c.limits_ready-found.result c.noted.result
-    (λ c' found. found ≡ c'.rows.limits) (g.met.S.Store.settled c.args.self.now.conn.store) (g.met.S.Store.stays c.limits_ready-found.new.conn.store)
+    (λ x found. found ≡ x.rows.limits) (g.met.S.Store.settled c.args.self.now.conn.store) (g.met.S.Store.stays c.limits_ready-found.new.conn.store)
     c.noted.ensures.answer c.noted.ensures.failures c.noted.ensures.counts c.limits_ready-found.ensures.read

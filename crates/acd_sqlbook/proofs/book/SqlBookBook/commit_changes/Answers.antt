@@ -1,6 +1,6 @@
 use Rattle.sqlite.specs.Held.{state}
 use Rattle.acd_sqlbook.proofs.BookStates.{changes_noted}
-use Rattle.acd_sqlbook.proofs.book.SqlBook.commit_changes.Goals as goal
+use Rattle.acd_sqlbook.proofs.book.SqlBookBook.commit_changes.Goals as goal
 
 pub returns : goal.returns
 returns g c =
