@@ -1,0 +1,14 @@
+//! The program of the desk, over three streams: what a command line asks for is done, over a desk in memory or in
+//! a file.
+//!
+//! ```ignore
+//! let status = program(&rt, &["acd", "report", "--file", "desk.db"], &mut reader, &mut writer, &mut errors);
+//! ```
+#![tactic(auto)]
+
+mod memory;
+mod task;
+#[cfg(test)]
+mod tests;
+
+pub use memory::{lines_over_memory, new_desk};

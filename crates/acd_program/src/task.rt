@@ -1,0 +1,112 @@
+//! What a command line asks for.
+
+use clap::error::ErrorKind;
+use clap::{Arg, ArgAction, ArgMatches, Command, Error};
+use std::alloc::{AllocError, Global};
+use std::convert::AsStr;
+
+/// What a command line asks for, with the paths that it names.
+#[derive(Clone, Copy, Debug, PartialEq, Eq)]
+pub(crate) enum Task<'a> {
+    /// Answer the lines of standard input, over a desk in memory or in a file.
+    Lines { file: Option<&'a str> },
+    /// Take the requests of a plan.
+    Import { file: &'a str, plan: &'a str },
+    /// Print the queue report.
+    Report { file: &'a str },
+    /// Print all event reports.
+    Export { file: &'a str },
+}
+
+const FILE: &str = "file";
+
+const PLAN: &str = "plan";
+
+fn file_option<'a>(alloc: Global) -> Arg<'a> {
+    Arg::new(alloc, FILE)
+        .long(FILE)
+        .value_name("F")
+        .help("The file of the desk")
+        .action(ArgAction::Set)
+}
+
+fn plan_option<'a>(alloc: Global) -> Arg<'a> {
+    Arg::new(alloc, PLAN)
+        .long(PLAN)
+        .value_name("C")
+        .help("The plan, as CSV")
+        .action(ArgAction::Set)
+}
+
+fn lines_command<'a>(alloc: Global) -> Result<Command<'a>, AllocError> {
+    Command::new(alloc, "lines")
+        .about("Answer requests in lines: a moment, a space and the request as JSON")
+        .after_help(
+            "Example:\n  acd lines --file desk.db < requests\n\nWithout --file the desk is in memory, and ends with the input. A file that isn't\nthere, or has no bytes, is made.",
+        )
+        .arg(file_option(alloc))
+}
+
+fn import_command<'a>(alloc: Global) -> Result<Command<'a>, AllocError> {
+    Command::new(alloc, "import")
+        .about("Add the groups, stations and agents of a plan")
+        .after_help(
+            "Example:\n  acd import --file desk.db --plan plan.csv\n\nEach row gets an answer line. A file that isn't there, or has no bytes, is made.",
+        )
+        .arg(file_option(alloc).required(true))?
+        .arg(plan_option(alloc).required(true))
+}
+
+fn report_command<'a>(alloc: Global) -> Result<Command<'a>, AllocError> {
+    Command::new(alloc, "report")
+        .about("Print the queue report at the last executed moment")
+        .after_help("Example:\n  acd report --file desk.db")
+        .arg(file_option(alloc).required(true))
+}
+
+fn export_command<'a>(alloc: Global) -> Result<Command<'a>, AllocError> {
+    Command::new(alloc, "export")
+        .about("Print all event reports as CSV")
+        .after_help("Example:\n  acd export --file desk.db > events.csv")
+        .arg(file_option(alloc).required(true))
+}
+
+fn all_commands<'a>(alloc: Global) -> Result<Command<'a>, AllocError> {
+    Command::new(alloc, "acd")
+        .about("The desk of a help line: an automatic call distributor")
+        .subcommand_required(true)
+        .subcommand(lines_command(alloc)?)?
+        .subcommand(import_command(alloc)?)?
+        .subcommand(report_command(alloc)?)?
+        .subcommand(export_command(alloc)?)
+}
+
+// The task of a command with these options, or None where one is missing.
+fn task_of<'a>(command: &str, file: Option<&'a str>, plan: Option<&'a str>) -> Option<Task<'a>> {
+    match command {
+        "lines" => Some(Task::Lines { file }),
+        "import" => Some(Task::Import {
+            file: file?,
+            plan: plan?,
+        }),
+        "report" => Some(Task::Report { file: file? }),
+        "export" => Some(Task::Export { file: file? }),
+        _ => None,
+    }
+}
+
+fn task_in<'a>(matches: &ArgMatches<'a>) -> Option<Task<'a>> {
+    let (command, options) = matches.subcommand()?;
+    task_of(command, options.get_str(FILE), options.get_str(PLAN))
+}
+
+/// What the words ask for; the first is the program's name. The other outcome is a text to print, which may be
+/// the help that was asked for.
+pub(crate) fn parse<'a, S: AsStr>(alloc: Global, words: &'a [S]) -> Result<Task<'a>, Error> {
+    let mut commands = all_commands(alloc)?;
+    let matches = commands.try_get_matches_from_mut(words)?;
+    match task_in(&matches) {
+        Some(task) => Ok(task),
+        None => Err(commands.error(ErrorKind::MissingSubcommand, "no command")?),
+    }
+}

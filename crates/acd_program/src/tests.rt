@@ -1,0 +1,3 @@
+//! What command lines ask for.
+
+mod tasks;

@@ -1,0 +1,67 @@
+//! What command lines ask for.
+
+use crate::task::{Task, parse};
+use std::alloc::Global;
+use std::process::Abort;
+
+// These words ask for this task.
+fn asks(rt: &impl Abort, alloc: Global, words: &[&str], task: Task<'_>) {
+    assert!(rt; parse(alloc, words).ok() == Some(task));
+}
+
+// These words ask for none, and what is told goes to standard error or to standard output.
+fn tells(rt: &impl Abort, alloc: Global, words: &[&str], is_mistake: bool) {
+    match parse(alloc, words) {
+        Ok(_) => assert!(rt; false),
+        Err(error) => assert!(rt; error.use_stderr() == is_mistake),
+    }
+}
+
+#[test]
+fn tasks_with_their_paths(rt: HostRuntime) {
+    let alloc = rt.alloc();
+    asks(&rt, alloc, &["acd", "lines"], Task::Lines { file: None });
+    asks(
+        &rt,
+        alloc,
+        &["acd", "lines", "--file", "a.db"],
+        Task::Lines { file: Some("a.db") },
+    );
+    asks(
+        &rt,
+        alloc,
+        &["acd", "import", "--plan=p.csv", "--file=a.db"],
+        Task::Import {
+            file: "a.db",
+            plan: "p.csv",
+        },
+    );
+    asks(
+        &rt,
+        alloc,
+        &["acd", "report", "--file", "a.db"],
+        Task::Report { file: "a.db" },
+    );
+    asks(
+        &rt,
+        alloc,
+        &["acd", "export", "--file", "a.db"],
+        Task::Export { file: "a.db" },
+    );
+}
+
+#[test]
+fn mistakes_and_help(rt: HostRuntime) {
+    let alloc = rt.alloc();
+    tells(&rt, alloc, &["acd"], true);
+    tells(&rt, alloc, &["acd", "rows"], true);
+    tells(&rt, alloc, &["acd", "lines", "again"], true);
+    tells(&rt, alloc, &["acd", "lines", "--fast"], true);
+    tells(&rt, alloc, &["acd", "import", "--file", "a.db"], true);
+    tells(&rt, alloc, &["acd", "import", "--plan", "p.csv"], true);
+    tells(&rt, alloc, &["acd", "report"], true);
+    tells(&rt, alloc, &["acd", "export", "--file"], true);
+    tells(&rt, alloc, &["acd", "audit", "--file", "a.db"], true);
+    tells(&rt, alloc, &["acd", "--help"], false);
+    tells(&rt, alloc, &["acd", "import", "--help"], false);
+}
