@@ -31,3 +31,6 @@ mod Standing
 mod BookStates
 pub mod Ranged
 pub mod Reported
+mod Looked
+mod Paged
+mod Adopted

@@ -13,3 +13,4 @@ pub mod Calls
 pub mod State
 pub mod Reports
 pub mod Ranges
+pub mod Adopting

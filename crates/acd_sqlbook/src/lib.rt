@@ -11,6 +11,7 @@
 //! ```
 #![tactic(auto)]
 
+mod adopt;
 mod bind;
 mod book;
 mod codes;
@@ -19,6 +20,7 @@ mod create;
 mod decode;
 mod difference;
 mod fault;
+mod look;
 mod meta;
 mod query;
 mod read;
