@@ -36,3 +36,6 @@ mod Replacing
 mod BookStates
 pub mod Ranged
 pub mod Reported
+mod Looked
+mod Paged
+mod Adopted

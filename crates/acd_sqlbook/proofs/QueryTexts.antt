@@ -33,3 +33,12 @@ read_kept_under = codes "SELECT stamp, requester, invoke, moment, request, statu
 
 abbrev pub read_events_at : List ℕ
 read_events_at = codes "SELECT number, moment, kind, device, call, agent, grp, target, cause, waited FROM events WHERE number > ?1 AND device = ?2 ORDER BY number LIMIT ?3"
+
+abbrev pub read_version : List ℕ
+read_version = codes "SELECT version FROM meta"
+
+abbrev pub read_low_events : List ℕ
+read_low_events = codes "SELECT number FROM events WHERE number < 1 ORDER BY number LIMIT 1"
+
+abbrev pub read_low_kept : List ℕ
+read_low_kept = codes "SELECT stamp FROM kept WHERE stamp < 1 ORDER BY stamp LIMIT 1"

@@ -15,3 +15,4 @@ pub mod State
 pub mod Reports
 pub mod Ranges
 pub mod StoreLaws
+pub mod Adopting

@@ -25,11 +25,11 @@ use std::alloc::Global;
 /// A book in a database. Its tables are those of version 1.
 #[derive(Drop)]
 pub struct SqlBook<S: Alter> {
-    alloc: Global,
-    conn: Connection<S>,
+    pub(crate) alloc: Global,
+    pub(crate) conn: Connection<S>,
     // Whether the last call succeeded, so that the store still serves.
-    fresh: bool,
-    failures: u64,
+    pub(crate) fresh: bool,
+    pub(crate) failures: u64,
     ghost idle: { conn.in_transaction ≡ false },
     ghost serves: { IsTrue fresh → HasCleanDisk (state S.Store conn) → IsTrue (state S.Store conn).is_open },
 }

@@ -15,6 +15,7 @@
 //! ```
 #![tactic(auto)]
 
+mod adopt;
 mod bind;
 mod book;
 mod codes;
@@ -25,6 +26,7 @@ mod difference;
 mod fault;
 pub mod laws;
 mod lookups;
+mod look;
 mod meta;
 mod query;
 mod read;

@@ -1,0 +1,6 @@
+use Rattle.std.proofs.Common.{◌≡◌, drop}
+use Rattle.acd_sqlbook.specs.Adopting.{are_good}
+use Rattle.acd_sqlbook.proofs.adopt.are_good.Given as goal
+
+abbrev pub invariant-loop-row : goal.invariant-loop-row
+invariant-loop-row l = are_good l.table (drop l.row-index l.rows) ≡ are_good l.table l.rows

@@ -1,0 +1,430 @@
+//! Takes a connection over a book of version 1, where each value is in its range.
+
+ghost use Rattle.std.specs.Prelude.{◌≡◌, false, None, IsTrue, IfOk, IfErr};
+ghost use Rattle.sqlite.specs.State.{HasCleanDisk};
+ghost use Rattle.sqlite.specs.Held.{state};
+ghost use Rattle.acd_sqlbook.specs.Adopting.{table_of, table_of_log, values_of, low_values, page_values, is_good, are_good, is_good_table, is_good_behind, number_if_good, last_good, IsBadOf, IsPage, IsPageOf, PageFits, IsFound, IsStoreFault, IsAdopted, IsHandedBack, version_fault, adopt_fault_of};
+ghost use Rattle.acd_sqlbook.specs.Calls.{HasRead};
+ghost use Rattle.acd_sqlbook.specs.Draft.{Fits};
+ghost use Rattle.acd_sqlbook.specs.Finding.{Finds};
+ghost use Rattle.acd_sqlbook.specs.State.{book_state, IsSound};
+
+use crate::book::SqlBook;
+use crate::commit::{fits, too_large};
+use crate::decode::{
+    agent_in, call_in, connection_in, counters_in, event_in, group_in, kept_in, monitor_in,
+    station_in,
+};
+use crate::fault::{AdoptFault, Table};
+use crate::look::{counter_rows, has_meta, low_event_rows, low_kept_rows, version_rows};
+use crate::query::{
+    agent_rows, call_rows, connection_rows, event_rows, group_rows, kept_rows, monitor_rows,
+    station_rows,
+};
+use crate::read::probe;
+use crate::values;
+use sqlite::{Alter, Connection, Error, ErrorCode, Row};
+use std::alloc::Global;
+
+// A table that is read whole.
+#[derive(Clone, Copy)]
+pub(crate) enum Whole {
+    Meta,
+    Groups,
+    Stations,
+    Agents,
+    Calls,
+    Connections,
+    Monitors,
+}
+
+// A table that grows with the history, and is read in pages.
+#[derive(Clone, Copy)]
+pub(crate) enum Log {
+    Events,
+    Kept,
+}
+
+// What a page of a log tells.
+#[derive(Clone, Copy)]
+pub(crate) enum Page {
+    /// A value is out of its range.
+    Bad,
+    /// No row is left.
+    Last,
+    /// The rows up to this number are good.
+    More(u64),
+}
+
+fn is_good(alloc: Global, table: Table, row: &Row) -> Result<bool, Error>
+    ensures { IfOk result (λ good. good ≡ is_good table row.now) }
+{
+    match table {
+        Table::Meta => Ok(counters_in(row).is_some()),
+        Table::Groups => Ok(group_in(row).is_some()),
+        Table::Stations => Ok(station_in(row).is_some()),
+        Table::Agents => Ok(agent_in(row).is_some()),
+        Table::Calls => Ok(call_in(row).is_some()),
+        Table::Connections => Ok(connection_in(row).is_some()),
+        Table::Monitors => Ok(monitor_in(row).is_some()),
+        Table::Events => Ok(event_in(row).is_some()),
+        Table::Kept => match kept_in(alloc, row) {
+            Ok(kept) => Ok(kept.is_some()),
+            Err(_) => Err(Error::SqliteFailure(ErrorCode::OutOfMemory)),
+        },
+    }
+}
+
+fn are_good(alloc: Global, table: Table, rows: &[Row]) -> Result<bool, Error>
+    ensures { IfOk result (λ good. good ≡ are_good table rows.now) }
+{
+    for row in rows {
+        let good = is_good(alloc, table, row)?;
+        if !good {
+            return Ok(false);
+        }
+    }
+    Ok(true)
+}
+
+impl Whole {
+    fn table(self) -> Table
+        ensures { result ≡ table_of self }
+    {
+        match self {
+            Whole::Meta => Table::Meta,
+            Whole::Groups => Table::Groups,
+            Whole::Stations => Table::Stations,
+            Whole::Agents => Table::Agents,
+            Whole::Calls => Table::Calls,
+            Whole::Connections => Table::Connections,
+            Whole::Monitors => Table::Monitors,
+        }
+    }
+
+    fn rows<S: Alter>(self, conn: &mut Connection<S>) -> Result<Vec<Row>, Error>
+        requires { conn.old.in_transaction ≡ false }
+        ensures idle { conn.new.in_transaction ≡ false }
+        ensures found { Finds (state S.Store conn.old) (state S.Store conn.new) result (λ c rows. rows.items ≡ values_of (table_of self) c) }
+    {
+        match self {
+            Whole::Meta => counter_rows(conn),
+            Whole::Groups => group_rows(conn),
+            Whole::Stations => station_rows(conn),
+            Whole::Agents => agent_rows(conn),
+            Whole::Calls => call_rows(conn),
+            Whole::Connections => connection_rows(conn),
+            Whole::Monitors => monitor_rows(conn),
+        }
+    }
+}
+
+// Whether each value of a table that is read whole is in its range.
+#[tactic(auto, unfolding(crate::specs::Adopting::is_good_table))]
+fn is_good_whole<S: Alter>(
+    alloc: Global,
+    conn: &mut Connection<S>,
+    table: Whole,
+) -> Result<bool, Error>
+    requires { conn.old.in_transaction ≡ false }
+    ensures idle { conn.new.in_transaction ≡ false }
+    ensures found { Finds (state S.Store conn.old) (state S.Store conn.new) result (λ c good. good ≡ is_good_table (table_of table) c) }
+{
+    match table.rows(conn) {
+        Ok(rows) => are_good(alloc, table.table(), &rows),
+        Err(error) => Err(error),
+    }
+}
+
+impl Log {
+    fn table(self) -> Table
+        ensures { result ≡ table_of_log self }
+    {
+        match self {
+            Log::Events => Table::Events,
+            Log::Kept => Table::Kept,
+        }
+    }
+
+    fn low_rows<S: Alter>(self, conn: &mut Connection<S>) -> Result<Vec<Row>, Error>
+        requires { conn.old.in_transaction ≡ false }
+        ensures idle { conn.new.in_transaction ≡ false }
+        ensures found { Finds (state S.Store conn.old) (state S.Store conn.new) result (λ c rows. rows.items ≡ low_values self c) }
+    {
+        match self {
+            Log::Events => low_event_rows(conn),
+            Log::Kept => low_kept_rows(conn),
+        }
+    }
+
+    // The first thousand rows above a number.
+    fn rows<S: Alter>(self, conn: &mut Connection<S>, number: u64) -> Result<Vec<Row>, Error>
+        requires idle { conn.old.in_transaction ≡ false }
+        requires number { Fits number }
+        ensures idle { conn.new.in_transaction ≡ false }
+        ensures found { Finds (state S.Store conn.old) (state S.Store conn.new) result (λ c rows. rows.items ≡ page_values self number c) }
+    {
+        match self {
+            Log::Events => event_rows(conn, number, 1000),
+            Log::Kept => kept_rows(conn, number, 1000),
+        }
+    }
+}
+
+// The number of a row where each of its values is in its range.
+fn number_if_good(alloc: Global, log: Log, row: &Row) -> Result<Option<u64>, Error>
+    ensures { IfOk result (λ number. number ≡ number_if_good log row.now) }
+{
+    if is_good(alloc, log.table(), row)? {
+        Ok(values::whole(row, 0))
+    } else {
+        Ok(None)
+    }
+}
+
+// The number of the last row where all are good.
+fn last_good(alloc: Global, log: Log, number: u64, rows: &[Row]) -> Result<Option<u64>, Error>
+    ensures { IfOk result (λ last. last ≡ last_good log number rows.now) }
+{
+    let mut last = number;
+    for row in rows {
+        let next = number_if_good(alloc, log, row)?;
+        match next {
+            Some(next) => last = next,
+            None => return Ok(None),
+        }
+    }
+    Ok(Some(last))
+}
+
+// What the rows above a number tell.
+fn page_of(alloc: Global, log: Log, number: u64, rows: &[Row]) -> Result<Page, Error>
+    ensures tells { IfOk result (λ page. IsPageOf log number rows.now page) }
+    ensures fits { IfOk result (λ page. PageFits page) }
+{
+    if rows.is_empty() {
+        return Ok(Page::Last);
+    }
+    let last = last_good(alloc, log, number, rows)?;
+    match last {
+        Some(last) if fits(last) => Ok(Page::More(last)),
+        Some(_) => Err(too_large()),
+        None => Ok(Page::Bad),
+    }
+}
+
+// The page of a log above a number.
+fn page_behind<S: Alter>(
+    alloc: Global,
+    conn: &mut Connection<S>,
+    log: Log,
+    number: u64,
+) -> Result<Page, Error>
+    requires idle { conn.old.in_transaction ≡ false }
+    requires number { Fits number }
+    ensures idle { conn.new.in_transaction ≡ false }
+    ensures found { Finds (state S.Store conn.old) (state S.Store conn.new) result (λ c page. IsPage log number c page) }
+    ensures fits { IfOk result (λ page. PageFits page) }
+{
+    match log.rows(conn, number) {
+        Ok(rows) => page_of(alloc, log, number, &rows),
+        Err(error) => Err(error),
+    }
+}
+
+// Whether each value of a row from 1 on is in its range.
+fn are_pages_good<S: Alter>(
+    alloc: Global,
+    conn: &mut Connection<S>,
+    log: Log,
+) -> Result<bool, Error>
+    requires idle { conn.old.in_transaction ≡ false }
+    requires live { HasCleanDisk (state S.Store conn.old) → IsTrue (state S.Store conn.old).is_open }
+    ensures idle { conn.new.in_transaction ≡ false }
+    ensures found { Finds (state S.Store conn.old) (state S.Store conn.new) result (λ c good. good ≡ is_good_behind log 0 c) }
+{
+    let mut number = 0;
+    for _ in 0..u64::MAX {
+        let page = page_behind(alloc, conn, log, number)?;
+        match page {
+            Page::Bad => return Ok(false),
+            Page::Last => return Ok(true),
+            Page::More(last) => number = last,
+        }
+    }
+    Err(too_large())
+}
+
+// Whether each value of the log is in its range.
+fn is_good_log<S: Alter>(alloc: Global, conn: &mut Connection<S>, log: Log) -> Result<bool, Error>
+    requires { conn.old.in_transaction ≡ false }
+    ensures idle { conn.new.in_transaction ≡ false }
+    ensures found { Finds (state S.Store conn.old) (state S.Store conn.new) result (λ c good. good ≡ is_good_table (table_of_log log) c) }
+{
+    let low = log.low_rows(conn)?;
+    if low.is_empty() {
+        are_pages_good(alloc, conn, log)
+    } else {
+        Ok(false)
+    }
+}
+
+// Whether each value of the table is in its range.
+fn is_good_table<S: Alter>(
+    alloc: Global,
+    conn: &mut Connection<S>,
+    table: Table,
+) -> Result<bool, Error>
+    requires { conn.old.in_transaction ≡ false }
+    ensures idle { conn.new.in_transaction ≡ false }
+    ensures found { Finds (state S.Store conn.old) (state S.Store conn.new) result (λ c good. good ≡ is_good_table table c) }
+{
+    match table {
+        Table::Meta => is_good_whole(alloc, conn, Whole::Meta),
+        Table::Groups => is_good_whole(alloc, conn, Whole::Groups),
+        Table::Stations => is_good_whole(alloc, conn, Whole::Stations),
+        Table::Agents => is_good_whole(alloc, conn, Whole::Agents),
+        Table::Calls => is_good_whole(alloc, conn, Whole::Calls),
+        Table::Connections => is_good_whole(alloc, conn, Whole::Connections),
+        Table::Monitors => is_good_whole(alloc, conn, Whole::Monitors),
+        Table::Events => is_good_log(alloc, conn, Log::Events),
+        Table::Kept => is_good_log(alloc, conn, Log::Kept),
+    }
+}
+
+// The first of the tables that has a value out of its range.
+fn bad_table<S: Alter>(
+    alloc: Global,
+    conn: &mut Connection<S>,
+    tables: &[Table],
+) -> Result<Option<Table>, Error>
+    requires idle { conn.old.in_transaction ≡ false }
+    requires live { HasCleanDisk (state S.Store conn.old) → IsTrue (state S.Store conn.old).is_open }
+    ensures idle { conn.new.in_transaction ≡ false }
+    ensures found { Finds (state S.Store conn.old) (state S.Store conn.new) result (λ c bad. IsBadOf tables.now c bad) }
+{
+    for table in tables {
+        let good = is_good_table(alloc, conn, *table)?;
+        if !good {
+            return Ok(Some(*table));
+        }
+    }
+    Ok(None)
+}
+
+// What the tables tell against a book.
+fn bad_row<S: Alter>(alloc: Global, conn: &mut Connection<S>) -> Result<Option<AdoptFault>, Error>
+    requires idle { conn.old.in_transaction ≡ false }
+    requires live { HasCleanDisk (state S.Store conn.old) → IsTrue (state S.Store conn.old).is_open }
+    ensures idle { conn.new.in_transaction ≡ false }
+    ensures found { Finds (state S.Store conn.old) (state S.Store conn.new) result (λ c fault. IsFound c fault) }
+{
+    let tables = [
+        Table::Meta,
+        Table::Groups,
+        Table::Stations,
+        Table::Agents,
+        Table::Calls,
+        Table::Connections,
+        Table::Monitors,
+        Table::Events,
+        Table::Kept,
+    ];
+    let bad = bad_table(alloc, conn, &tables)?;
+    match bad {
+        Some(table) => Ok(Some(AdoptFault::BadRow(table))),
+        None => Ok(None),
+    }
+}
+
+// What the versions tell against a book of version 1.
+fn version_fault(rows: &[Row]) -> Option<AdoptFault>
+    ensures { result ≡ version_fault rows.now }
+{
+    if rows.is_empty() {
+        return Some(AdoptFault::WrongVersion(0));
+    }
+    match values::whole(&rows[0], 0) {
+        Some(1) => None,
+        Some(version) => Some(AdoptFault::WrongVersion(version)),
+        None => Some(AdoptFault::BadRow(Table::Meta)),
+    }
+}
+
+fn wrong_version<S: Alter>(conn: &mut Connection<S>) -> Result<Option<AdoptFault>, Error>
+    requires { conn.old.in_transaction ≡ false }
+    ensures idle { conn.new.in_transaction ≡ false }
+    ensures found { Finds (state S.Store conn.old) (state S.Store conn.new) result (λ c fault. fault ≡ None) }
+{
+    match version_rows(conn) {
+        Ok(rows) => Ok(version_fault(&rows)),
+        Err(error) => Err(error),
+    }
+}
+
+// Why the connection isn't taken, where its store serves.
+fn fault_in<S: Alter>(alloc: Global, conn: &mut Connection<S>) -> Result<Option<AdoptFault>, Error>
+    requires idle { conn.old.in_transaction ≡ false }
+    requires live { HasCleanDisk (state S.Store conn.old) → IsTrue (state S.Store conn.old).is_open }
+    ensures idle { conn.new.in_transaction ≡ false }
+    ensures found { Finds (state S.Store conn.old) (state S.Store conn.new) result (λ c fault. IsFound c fault) }
+{
+    if !has_meta(conn.schema()) {
+        return Ok(Some(AdoptFault::WrongVersion(0)));
+    }
+    let wrong = wrong_version(conn)?;
+    match wrong {
+        Some(fault) => Ok(Some(fault)),
+        None => bad_row(alloc, conn),
+    }
+}
+
+// Why the connection isn't taken.
+fn look_over<S: Alter>(alloc: Global, conn: &mut Connection<S>) -> Result<Option<AdoptFault>, Error>
+    requires { conn.old.in_transaction ≡ false }
+    ensures idle { conn.new.in_transaction ≡ false }
+    ensures read { HasRead (state S.Store conn.old) (state S.Store conn.new) result (λ c fault. IsFound c fault) }
+{
+    probe(conn)?;
+    fault_in(alloc, conn)
+}
+
+// Want of memory is no failure of the store.
+fn fault_of(error: Error) -> AdoptFault
+    ensures cause { result ≡ adopt_fault_of error }
+    ensures store { IsStoreFault result }
+{
+    match error {
+        Error::SqliteFailure(ErrorCode::OutOfMemory) => AdoptFault::NoMemory,
+        _ => AdoptFault::Store,
+    }
+}
+
+impl<S: Alter> SqlBook<S> {
+    /// Takes a connection over a book of version 1, whose values it looks at.
+    ///
+    /// It changes nothing. The connection is handed back beside a fault.
+    pub fn adopt(
+        alloc: Global,
+        mut conn: Connection<S>,
+    ) -> Result<SqlBook<S>, (AdoptFault, Connection<S>)>
+        requires { conn.in_transaction ≡ false }
+        ensures adopted { IfOk result (λ b. HasCleanDisk (state S.Store b.conn) → IsSound (state S.Store conn) → IsAdopted (book_state (state S.Store conn) 0) (book_state (state S.Store b.conn) b.failures)) }
+        ensures counted { IfOk result (λ b. b.failures ≡ 0) }
+        ensures clean { IfOk result (λ b. HasCleanDisk (state S.Store b.conn) → HasCleanDisk (state S.Store conn)) }
+        ensures idle { IfErr result (λ e. e.1.in_transaction ≡ false) }
+        ensures doubted { IfErr result (λ e. HasCleanDisk (state S.Store e.1) → HasCleanDisk (state S.Store conn)) }
+        ensures handed_back { IfErr result (λ e. HasCleanDisk (state S.Store e.1) → IsSound (state S.Store conn) → IsHandedBack (book_state (state S.Store conn) 0) (book_state (state S.Store e.1) 0) e.0) }
+    {
+        match look_over(alloc, &mut conn) {
+            Ok(None) => Ok(SqlBook {
+                alloc,
+                conn,
+                fresh: true,
+                failures: 0,
+            }),
+            Ok(Some(fault)) => Err((fault, conn)),
+            Err(error) => Err((fault_of(error), conn)),
+        }
+    }
+}
