@@ -253,7 +253,7 @@ shows_kept_after stamp limit old new rows c held h =
 
 -- ---- the one at a key
 
-first_found : {X : Type 0} (p : X → Bool) (xs : List X) → take 1 (filter p xs) ≡ option_to_list (find p xs)
+pub first_found : {X : Type 0} (p : X → Bool) (xs : List X) → take 1 (filter p xs) ≡ option_to_list (find p xs)
 first_found p [] = refl
 first_found p (x ∷ xs) = elim (p x) as (λ b. take 1 (cond b (x ∷ filter p xs) (filter p xs)) ≡ option_to_list (cond b (Some x) (find p xs))) [ true ↦ refl | false ↦ first_found p xs ]
 

@@ -17,6 +17,8 @@ mod SameRecords
 mod Transitions
 mod Recorded
 mod Chained
+mod Pages
+mod FirstFound
 mod Selections
 mod Statements
 mod Upserts

@@ -12,13 +12,17 @@ use Rattle.acd_terms.specs.declared.record.AgentRecord.{AgentRecord}
 use Rattle.acd_terms.specs.declared.record.CallRecord.{CallRecord}
 use Rattle.acd_terms.specs.declared.record.ConnectionRecord.{ConnectionRecord}
 use Rattle.acd_terms.specs.declared.record.MonitorRecord.{MonitorRecord}
+use Rattle.acd_terms.specs.declared.event.Event.{Event}
 use Rattle.acd_book.specs.Content.{Content}
-use Rattle.acd_sqlbook.specs.Decoding.{as_group, as_station, as_agent, as_call, as_connection, as_monitor}
+use Rattle.acd_book.specs.declared.kept.Kept.{Kept}
+use Rattle.acd_sqlbook.specs.Content.{IsReadable}
+use Rattle.acd_sqlbook.specs.Decoding.{as_group, as_station, as_agent, as_call, as_connection, as_monitor, as_event, as_kept}
 use Rattle.acd_sqlbook.specs.Finding.{Finds}
-use Rattle.acd_sqlbook.specs.Ranges.{group_in, station_in, agent_in, call_in, connection_in, monitor_in}
-use Rattle.acd_sqlbook.specs.Rows.{group_values, station_values, agent_values, call_values, connection_values, monitor_values}
-use Rattle.acd_sqlbook.proofs.Decoded.{agent_back, connection_back}
+use Rattle.acd_sqlbook.specs.Ranges.{group_in, station_in, agent_in, call_in, connection_in, monitor_in, event_in, kept_in}
+use Rattle.acd_sqlbook.specs.Rows.{group_values, station_values, agent_values, call_values, connection_values, monitor_values, event_values, kept_values}
+use Rattle.acd_sqlbook.proofs.Decoded.{agent_back, connection_back, event_back, kept_back}
 use Rattle.acd_sqlbook.proofs.Ranged.{group_stored, station_stored, agent_stored, call_stored, connection_stored, monitor_stored}
+use Rattle.acd_sqlbook.proofs.Reported.{event_stored, kept_stored}
 
 -- ---- rows, one after the other
 
@@ -40,7 +44,7 @@ one_more in_row i rows row d found next x so_far at low is pushed =
 some_same : {A : Type 0} (x y : A) → Some x ≡ Some y → x ≡ y
 some_same x y e = cc
 
-first_of : {A : Type 0} (x y : A) (xs ys : List A) → x ∷ xs ≡ y ∷ ys → x ≡ y
+pub first_of : {A : Type 0} (x y : A) (xs ys : List A) → x ∷ xs ≡ y ∷ ys → x ≡ y
 first_of x y xs ys e = cc
 
 rest_of : {A : Type 0} (x y : A) (xs ys : List A) → x ∷ xs ≡ y ∷ ys → xs ≡ ys
@@ -86,3 +90,11 @@ connection_exact row x y is stored = same_values as_connection connection_values
 
 pub monitor_exact : (row : Row) (x y : MonitorRecord) → monitor_in row ≡ Some x → row ≡ monitor_values y → x ≡ y
 monitor_exact row x y is stored = same_values as_monitor monitor_values (λ z. refl) row x y (monitor_stored row x is) stored
+
+pub event_exact : (row : Row) (x y : Event) → event_in row ≡ Some x → row ≡ event_values y → x ≡ y
+event_exact row x y is stored = same_values as_event event_values event_back row x y (event_stored row x is) stored
+
+pub kept_exact : (row : Row) (x y : Kept) → IsReadable y → kept_in row ≡ Some x → row ≡ kept_values y → x ≡ y
+kept_exact row x y good is stored =
+    let own = kept_stored row x is in
+    sym (kept_back x own.1) ∙ ap as_kept (sym own.0 ∙ stored) ∙ kept_back y good

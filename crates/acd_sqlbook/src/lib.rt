@@ -19,6 +19,7 @@ mod create;
 mod decode;
 mod difference;
 mod fault;
+mod lookups;
 mod meta;
 mod query;
 mod read;

@@ -1,11 +1,10 @@
 //! Reads between transactions, as records. A row with a value out of its range is a failure of the store.
 
-ghost use Rattle.std.specs.Prelude.{◌≡◌, ◌++◌, ◌∷◌, [], List, Option, Some, false, map, take, filter, option_to_list, IsTrue, IfOk, OnOk};
-ghost use Rattle.sqlite.specs.State.{HasCleanDisk};
+ghost use Rattle.std.specs.Prelude.{◌≡◌, ◌++◌, ◌∷◌, [], List, Option, Some, false, map, take, option_to_list, IfOk, OnOk};
 ghost use Rattle.sqlite.specs.Held.{state};
 ghost use Rattle.sqlite_value.specs.Order.{Row as Values};
 ghost use Rattle.acd_sqlbook.specs.Finding.{Finds, joined_rows};
-ghost use Rattle.acd_sqlbook.specs.Ranges.{group_in, station_in, agent_in, call_in, connection_in, monitor_in};
+ghost use Rattle.acd_sqlbook.specs.Ranges.{group_in, station_in, agent_in, call_in, connection_in, monitor_in, event_in, kept_in};
 
 use crate::decode;
 use crate::meta::Meta;
@@ -13,8 +12,9 @@ use crate::query::{
     agent_rows, call_rows, connection_rows, group_rows, monitor_rows, station_rows,
 };
 use crate::ready::read_meta;
+use acd_book::Kept;
 use acd_terms::{
-    AgentRecord, CallRecord, ConnectionRecord, GroupRecord, Listed, MonitorRecord, Rows,
+    AgentRecord, CallRecord, ConnectionRecord, Event, GroupRecord, Listed, MonitorRecord, Rows,
     StationRecord,
 };
 use sqlite::{Alter, Connection, Error, ErrorCode, Row};
@@ -25,7 +25,7 @@ type Plan = (Vec<GroupRecord>, Vec<StationRecord>, Vec<AgentRecord>);
 type Traffic = (Vec<CallRecord>, Vec<ConnectionRecord>, Vec<MonitorRecord>);
 
 /// A record that a row stands for, where each value is in its range.
-trait Decoded: Drop {
+pub(crate) trait Decoded: Drop {
     ghost in_row: { Values → Option Self };
 
     fn decode(alloc: Global, row: &Row) -> Result<Option<Self>, AllocError>
@@ -80,6 +80,22 @@ impl Decoded for MonitorRecord {
     }
 }
 
+impl Decoded for Event {
+    ghost in_row = { event_in };
+
+    fn decode(_alloc: Global, row: &Row) -> Result<Option<Event>, AllocError> {
+        Ok(decode::event_in(row))
+    }
+}
+
+impl Decoded for Kept {
+    ghost in_row = { kept_in };
+
+    fn decode(alloc: Global, row: &Row) -> Result<Option<Kept>, AllocError> {
+        decode::kept_in(alloc, row)
+    }
+}
+
 fn read_one<R: Decoded>(alloc: Global, row: &Row) -> Result<R, Error>
     ensures { IfOk result (λ one. Some one ≡ R.in_row row.now) }
 {
@@ -99,8 +115,8 @@ fn add<R: Drop>(records: &mut Vec<R>, one: R) -> Result<(), Error>
     }
 }
 
-// The records of rows, in their order.
-fn records<R: Decoded>(alloc: Global, rows: &[Row]) -> Result<Vec<R>, Error>
+/// The records of rows, in their order.
+pub(crate) fn records<R: Decoded>(alloc: Global, rows: &[Row]) -> Result<Vec<R>, Error>
     ensures { IfOk result (λ records. map Some records.items ≡ map R.in_row rows.now) }
 {
     let mut records = Vec::new(alloc);
@@ -109,6 +125,16 @@ fn records<R: Decoded>(alloc: Global, rows: &[Row]) -> Result<Vec<R>, Error>
         add(&mut records, one)?;
     }
     Ok(records)
+}
+
+/// The record of the first row, if there is one.
+pub(crate) fn first<R: Decoded>(alloc: Global, rows: &[Row]) -> Result<Option<R>, Error>
+    ensures { IfOk result (λ found. map Some (option_to_list found) ≡ map R.in_row (take 1 rows.now)) }
+{
+    match rows.first() {
+        Some(row) => Ok(Some(read_one(alloc, row)?)),
+        None => Ok(None),
+    }
 }
 
 fn groups<S: Alter>(alloc: Global, conn: &mut Connection<S>) -> Result<Vec<GroupRecord>, Error>
@@ -159,7 +185,10 @@ fn connections<S: Alter>(
     records(alloc, &rows)
 }
 
-fn monitors<S: Alter>(alloc: Global, conn: &mut Connection<S>) -> Result<Vec<MonitorRecord>, Error>
+pub(crate) fn monitors<S: Alter>(
+    alloc: Global,
+    conn: &mut Connection<S>,
+) -> Result<Vec<MonitorRecord>, Error>
     requires { conn.old.in_transaction ≡ false }
     ensures idle { conn.new.in_transaction ≡ false }
     ensures found { Finds (state S.Store conn.old) (state S.Store conn.new) result (λ c monitors. monitors.items ≡ c.rows.monitors) }

@@ -4,6 +4,7 @@
 ghost use Rattle.std.specs.Prelude.{◌≡◌, ◌↔◌, ◌∷◌, [], false, IsTrue, IfOk, OnOk};
 ghost use Rattle.sqlite.specs.State.{HasCleanDisk};
 ghost use Rattle.sqlite.specs.Held.{state};
+ghost use Rattle.acd_book.specs.Content.{IsKeptAfter, events_behind, events_of_monitor, kept_of};
 ghost use Rattle.acd_sqlbook.specs.Calls.{HasRead, HasCommitted};
 ghost use Rattle.acd_sqlbook.specs.Commit.{counted, written_by};
 ghost use Rattle.acd_sqlbook.specs.Content.{meta_of};
@@ -13,11 +14,13 @@ ghost use Rattle.acd_sqlbook.specs.Reading.{meta_shown};
 ghost use Rattle.acd_sqlbook.specs.declared.meta.Meta.{Meta as MetaRow};
 
 use crate::commit::{commit_all, counted, fits, too_large};
+use crate::lookups::{events_behind, events_watched, kept_behind, kept_under};
 use crate::meta::Meta;
 use crate::read::{meta_in, meta_rows, probe};
+use crate::reads::rows;
 use acd_book::Kept;
 use acd_codec::request_text;
-use acd_terms::{Change, Event, Limits};
+use acd_terms::{Change, Event, Invoke, Limits, Requester, Rows};
 use sqlite::{Alter, Connection, Error, Row};
 use std::alloc::Global;
 
@@ -102,6 +105,89 @@ pub(crate) fn limits_ready<S: Alter>(conn: &mut Connection<S>, fresh: bool) -> R
         Ok(meta) => Ok(meta.limits),
         Err(error) => Err(error),
     }
+}
+
+/// The limits, the tables and the counters.
+pub(crate) fn rows_ready<S: Alter>(
+    alloc: Global,
+    conn: &mut Connection<S>,
+    fresh: bool,
+) -> Result<Rows, Error>
+    requires idle { conn.old.in_transaction ≡ false }
+    requires fresh { IsTrue fresh → HasCleanDisk (state S.Store conn.old) → IsTrue (state S.Store conn.old).is_open }
+    ensures idle { conn.new.in_transaction ≡ false }
+    ensures read { HasRead (state S.Store conn.old) (state S.Store conn.new) result (λ c found. found ≡ c.rows) }
+{
+    serve(conn, fresh)?;
+    rows(alloc, conn)
+}
+
+/// What is kept under a key.
+pub(crate) fn kept_ready<S: Alter>(
+    alloc: Global,
+    conn: &mut Connection<S>,
+    fresh: bool,
+    requester: &Requester,
+    invoke: Invoke,
+) -> Result<Option<Kept>, Error>
+    requires idle { conn.old.in_transaction ≡ false }
+    requires fresh { IsTrue fresh → HasCleanDisk (state S.Store conn.old) → IsTrue (state S.Store conn.old).is_open }
+    ensures idle { conn.new.in_transaction ≡ false }
+    ensures read { HasRead (state S.Store conn.old) (state S.Store conn.new) result (λ c found. found ≡ kept_of c.kept requester.now invoke) }
+{
+    serve(conn, fresh)?;
+    kept_under(alloc, conn, requester, invoke)
+}
+
+/// The kept record of the least greater stamp.
+pub(crate) fn kept_after_ready<S: Alter>(
+    alloc: Global,
+    conn: &mut Connection<S>,
+    fresh: bool,
+    stamp: u64,
+) -> Result<Option<Kept>, Error>
+    requires idle { conn.old.in_transaction ≡ false }
+    requires fresh { IsTrue fresh → HasCleanDisk (state S.Store conn.old) → IsTrue (state S.Store conn.old).is_open }
+    ensures idle { conn.new.in_transaction ≡ false }
+    ensures read { HasRead (state S.Store conn.old) (state S.Store conn.new) result (λ c found. IsKeptAfter c.kept stamp found) }
+{
+    serve(conn, fresh)?;
+    kept_behind(alloc, conn, stamp)
+}
+
+/// The first events above a number.
+pub(crate) fn events_ready<S: Alter>(
+    alloc: Global,
+    conn: &mut Connection<S>,
+    fresh: bool,
+    number: u64,
+    limit: usize,
+) -> Result<Vec<Event>, Error>
+    requires idle { conn.old.in_transaction ≡ false }
+    requires fresh { IsTrue fresh → HasCleanDisk (state S.Store conn.old) → IsTrue (state S.Store conn.old).is_open }
+    ensures idle { conn.new.in_transaction ≡ false }
+    ensures read { HasRead (state S.Store conn.old) (state S.Store conn.new) result (λ c found. found.items ≡ events_behind c.events number limit) }
+{
+    serve(conn, fresh)?;
+    events_behind(alloc, conn, number, limit)
+}
+
+/// The first events of a running monitor above a number.
+pub(crate) fn watched_ready<S: Alter>(
+    alloc: Global,
+    conn: &mut Connection<S>,
+    fresh: bool,
+    monitor: u64,
+    number: u64,
+    limit: usize,
+) -> Result<Vec<Event>, Error>
+    requires idle { conn.old.in_transaction ≡ false }
+    requires fresh { IsTrue fresh → HasCleanDisk (state S.Store conn.old) → IsTrue (state S.Store conn.old).is_open }
+    ensures idle { conn.new.in_transaction ≡ false }
+    ensures read { HasRead (state S.Store conn.old) (state S.Store conn.new) result (λ c found. found.items ≡ events_of_monitor c monitor number limit) }
+{
+    serve(conn, fresh)?;
+    events_watched(alloc, conn, monitor, number, limit)
 }
 
 // The counters after a commit of so many events, where their columns can hold them.

@@ -1,0 +1,15 @@
+use Rattle.std.proofs.Common.{◌≡◌, ℕ, List, map, nat_lt}
+use Rattle.std.specs.Prelude.{Vec}
+use Rattle.std.specs.declared.alloc.Global.{Global}
+use Rattle.sqlite.specs.Held.{state}
+use Rattle.sqlite_value.specs.Order.{Row}
+use Rattle.acd_terms.specs.declared.event.Event.{Event}
+use Rattle.acd_book.specs.Content.{Content, events_behind}
+use Rattle.acd_sqlbook.specs.Rows.{event_values}
+use Rattle.acd_sqlbook.proofs.Pages.{paged, falls_number}
+use Rattle.acd_sqlbook.proofs.lookups.event_page.Goals as goal
+
+pub returns-in-Ok-clause-found : goal.returns-in-Ok-clause-found
+returns-in-Ok-clause-found g c =
+    paged (λ (n : ℕ) (e : Event). nat_lt n e.number) (λ a b e low h. falls_number a b e.number low h) event_values c.args.number c.args.limit (λ (x : Content). x.events)
+    (state g.S.Store c.args.conn.now) (state g.S.Store c.event_rows.new.conn) c.in-Ok.rows c.meant.result c.min.result c.min-2.result c.min.ensures c.min-2.ensures c.in-Ok.ensures.found c.meant.ensures.same c.meant.ensures.none c.meant.ensures.fewer

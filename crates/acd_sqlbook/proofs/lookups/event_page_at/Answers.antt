@@ -1,0 +1,15 @@
+use Rattle.std.proofs.Common.{◌≡◌, ℕ, List, map, filter, take, Some}
+use Rattle.std.specs.Prelude.{Vec}
+use Rattle.std.specs.declared.alloc.Global.{Global}
+use Rattle.sqlite.specs.Held.{state}
+use Rattle.sqlite_value.specs.Order.{Row}
+use Rattle.acd_terms.specs.declared.event.Event.{Event}
+use Rattle.acd_book.specs.Content.{Content, is_told}
+use Rattle.acd_sqlbook.specs.Rows.{event_values}
+use Rattle.acd_sqlbook.proofs.Pages.{paged, falls_told}
+use Rattle.acd_sqlbook.proofs.lookups.event_page_at.Goals as goal
+
+pub returns-in-Ok-clause-found : goal.returns-in-Ok-clause-found
+returns-in-Ok-clause-found g c =
+    paged (is_told (Some c.args.device)) (falls_told (Some c.args.device)) event_values c.args.number c.args.limit (λ (x : Content). x.events)
+    (state g.S.Store c.args.conn.now) (state g.S.Store c.event_rows_at.new.conn) c.in-Ok.rows c.meant.result c.min.result c.min-2.result c.min.ensures c.min-2.ensures c.in-Ok.ensures.found c.meant.ensures.same c.meant.ensures.none c.meant.ensures.fewer

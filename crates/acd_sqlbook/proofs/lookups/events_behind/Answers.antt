@@ -1,0 +1,15 @@
+use Rattle.std.proofs.Common.{◌≡◌}
+use Rattle.std.specs.Prelude.{Vec}
+use Rattle.std.specs.declared.alloc.Global.{Global}
+use Rattle.sqlite.specs.Held.{state}
+use Rattle.acd_terms.specs.declared.event.Event.{Event}
+use Rattle.acd_book.specs.Content.{Content, events_behind}
+use Rattle.acd_sqlbook.specs.Ranges.{event_in}
+use Rattle.acd_sqlbook.specs.Rows.{event_values}
+use Rattle.acd_sqlbook.proofs.Recorded.{recorded, event_exact}
+use Rattle.acd_sqlbook.proofs.lookups.events_behind.Goals as goal
+
+pub returns-in-Ok-clause-found : goal.returns-in-Ok-clause-found
+returns-in-Ok-clause-found g c =
+    recorded event_in event_values event_exact (state g.S.Store c.args.conn.now) (state g.S.Store c.event_page.new.conn) c.in-Ok.rows c.records.result (λ (x : Content). events_behind x.events c.args.number c.args.limit) c.in-Ok.ensures.found
+    (rw c.deref.ensures.value at c.records.ensures)

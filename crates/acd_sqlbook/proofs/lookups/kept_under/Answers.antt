@@ -1,0 +1,15 @@
+use Rattle.std.proofs.Common.{◌≡◌, Option}
+use Rattle.sqlite.specs.Held.{state}
+use Rattle.acd_book.specs.Content.{Content, kept_of, is_key}
+use Rattle.acd_book.specs.declared.kept.Kept.{Kept}
+use Rattle.acd_sqlbook.specs.Content.{IsReadable}
+use Rattle.acd_sqlbook.specs.Ranges.{kept_in}
+use Rattle.acd_sqlbook.specs.Rows.{kept_values}
+use Rattle.acd_sqlbook.proofs.FirstFound.{first_recorded, found_readable}
+use Rattle.acd_sqlbook.proofs.Recorded.{kept_exact}
+use Rattle.acd_sqlbook.proofs.lookups.kept_under.Goals as goal
+
+pub returns-in-Ok-clause-found : goal.returns-in-Ok-clause-found
+returns-in-Ok-clause-found g c =
+    first_recorded kept_in kept_values IsReadable kept_exact (state g.S.Store c.args.conn.now) (state g.S.Store c.kept_row.new.conn) c.in-Ok.rows c.first.result (λ (x : Content). kept_of x.kept c.args.requester.now c.args.invoke)
+    (found_readable (state g.S.Store c.args.conn.now) (λ (k : Kept). is_key c.args.requester.now c.args.invoke k.request)) c.in-Ok.ensures.found (rw c.deref.ensures.value at c.first.ensures)

@@ -1,0 +1,10 @@
+use Rattle.std.proofs.Common.{◌≡◌}
+use Rattle.sqlite.specs.Held.{state}
+use Rattle.acd_book.specs.Content.{events_of_monitor}
+use Rattle.acd_sqlbook.proofs.Standing.{reads_behind}
+use Rattle.acd_sqlbook.proofs.ready.watched_ready.Goals as goal
+
+pub returns-clause-read : goal.returns-clause-read
+returns-clause-read g c =
+    reads_behind (state g.S.Store c.args.conn.now) (state g.S.Store c.serve.new.conn) (state g.S.Store c.events_watched.new.conn) c.events_watched.result (λ x found. found.items ≡ events_of_monitor x c.args.monitor c.args.number c.args.limit)
+    c.serve.ensures.quiet c.in_ok-serve.ensures.up c.serve.ensures.stops c.events_watched.ensures.found
