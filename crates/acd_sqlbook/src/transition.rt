@@ -18,8 +18,7 @@ ghost use Rattle.acd_sqlbook.specs.Transition.{HasTables, AreWhole, Lead, AddsSt
 use crate::commit::{commit_all, fits, too_large};
 use crate::difference::{Filed, row_changes};
 use crate::meta::Meta;
-use crate::reads;
-use crate::ready::{meta_fits, serve};
+use crate::ready::{meta_fits, rows_ready};
 use acd_book::Kept;
 use acd_codec::request_text;
 use acd_terms::{AgentRecord, Change, ConnectionRecord, Event, Rows, find};
@@ -199,17 +198,6 @@ fn whole_changes(alloc: Global, held: &Rows, new: &Rows) -> Result<Vec<Change>, 
     Ok(changes)
 }
 
-// The tables that are held.
-fn held_rows<S: Alter>(alloc: Global, conn: &mut Connection<S>, fresh: bool) -> Result<Rows, Error>
-    requires idle { conn.old.in_transaction ≡ false }
-    requires fresh { IsTrue fresh → HasCleanDisk (state S.Store conn.old) → IsTrue (state S.Store conn.old).is_open }
-    ensures idle { conn.new.in_transaction ≡ false }
-    ensures read { HasRead (state S.Store conn.old) (state S.Store conn.new) result (λ c found. found ≡ c.rows) }
-{
-    serve(conn, fresh)?;
-    reads::rows(alloc, conn)
-}
-
 // The changes that lead from the tables that are held to those of the rows.
 fn changes_to<S: Alter>(
     alloc: Global,
@@ -222,7 +210,7 @@ fn changes_to<S: Alter>(
     ensures idle { conn.new.in_transaction ≡ false }
     ensures read { HasRead (state S.Store conn.old) (state S.Store conn.new) result (λ c changes. Orders rows.now → HasTables (changed_by c.rows changes.items) rows.now) }
 {
-    match held_rows(alloc, conn, fresh) {
+    match rows_ready(alloc, conn, fresh) {
         Ok(held) => whole_changes(alloc, &held, rows),
         Err(error) => Err(error),
     }
