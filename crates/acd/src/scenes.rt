@@ -2,6 +2,7 @@
 //! ample memory.
 
 mod examples;
+mod files;
 mod handed_on;
 mod held;
 mod identifiers;
