@@ -18,6 +18,8 @@ mod commit;
 mod create;
 mod decode;
 mod difference;
+#[cfg(test)]
+mod difference_tests;
 mod fault;
 mod lookups;
 mod meta;
