@@ -23,6 +23,8 @@ mod commit;
 mod create;
 mod decode;
 mod difference;
+#[cfg(test)]
+mod difference_tests;
 mod fault;
 pub mod laws;
 mod look;
