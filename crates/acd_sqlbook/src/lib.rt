@@ -16,6 +16,8 @@
 #![tactic(auto)]
 
 mod adopt;
+#[cfg(test)]
+mod adopt_tests;
 mod bind;
 mod book;
 mod codes;

@@ -1,0 +1,121 @@
+//! Connections that are taken for a book, and those that aren't.
+
+ghost use Rattle.std.specs.Prelude.{◌≡◌, false};
+
+use crate::book::SqlBook;
+use crate::fault::{AdoptFault, Table};
+use acd_terms::Limits;
+use sqlite::{Connection, MemStore};
+use std::alloc::Global;
+use std::process::Abort;
+
+fn empty(rt: &impl Abort, alloc: Global) -> Connection<MemStore>
+    ensures { result.in_transaction ≡ false }
+{
+    match Connection::open_in_memory(alloc) {
+        Ok(conn) => conn,
+        Err(_) => panic!(rt; "no memory"),
+    }
+}
+
+// The connection of a new book.
+fn new_book(rt: &impl Abort, alloc: Global) -> Connection<MemStore>
+    ensures { result.in_transaction ≡ false }
+{
+    match SqlBook::create(alloc, empty(rt, alloc), Limits::GREATEST) {
+        Ok(book) => book.into_connection(),
+        Err(_) => panic!(rt; "no book"),
+    }
+}
+
+// The same, after a change that no book makes.
+fn altered(rt: &impl Abort, alloc: Global, sql: &str) -> Connection<MemStore>
+    ensures { result.in_transaction ≡ false }
+{
+    let mut conn = new_book(rt, alloc);
+    conn.execute_batch(sql).expect(rt, "a change");
+    if !conn.is_autocommit() {
+        panic!(rt; "a transaction");
+    }
+    conn
+}
+
+fn fault(alloc: Global, conn: Connection<MemStore>) -> Option<AdoptFault>
+    requires { conn.in_transaction ≡ false }
+{
+    match SqlBook::adopt(alloc, conn) {
+        Ok(_) => None,
+        Err((fault, _)) => Some(fault),
+    }
+}
+
+#[test]
+fn a_database_of_no_tables(rt: HostRuntime) {
+    let conn = empty(&rt, rt.alloc());
+    assert_eq!(rt; fault(rt.alloc(), conn), Some(AdoptFault::WrongVersion(0)));
+}
+
+#[test]
+fn other_versions(rt: HostRuntime) {
+    let alloc = rt.alloc();
+    let versions = [
+        ("DELETE FROM meta", AdoptFault::WrongVersion(0)),
+        ("UPDATE meta SET version = 9", AdoptFault::WrongVersion(9)),
+        (
+            "UPDATE meta SET version = -1",
+            AdoptFault::BadRow(Table::Meta),
+        ),
+    ];
+    for (sql, told) in versions {
+        let conn = altered(&rt, alloc, sql);
+        assert_eq!(rt; fault(alloc, conn), Some(told));
+    }
+}
+
+#[test]
+fn a_value_out_of_its_range(rt: HostRuntime) {
+    let alloc = rt.alloc();
+    let values = [
+        ("UPDATE meta SET last_moment = 4294967296", Table::Meta),
+        (
+            "INSERT INTO acd_groups VALUES (1501, 'abcdefghijabcdefghijabcdefghijabcdefghijx', 20, 10, 0, 0, 0, 0, 0)",
+            Table::Groups,
+        ),
+        ("INSERT INTO stations VALUES (7)", Table::Stations),
+        (
+            "INSERT INTO agents VALUES (1007, '', 0, NULL, NULL, NULL, 1, 0)",
+            Table::Agents,
+        ),
+        ("INSERT INTO calls VALUES (0, 1201, 1202, 0)", Table::Calls),
+        (
+            "INSERT INTO calls VALUES (1, 1201, 1202, 0); INSERT INTO connections VALUES (1, 1201, 3, NULL, 0, NULL, NULL)",
+            Table::Connections,
+        ),
+        ("INSERT INTO monitors VALUES (1, 1201, -1)", Table::Monitors),
+        (
+            "INSERT INTO events VALUES (-5, 10, 7, 1201, 1, NULL, NULL, NULL, NULL, NULL)",
+            Table::Events,
+        ),
+        (
+            "INSERT INTO kept VALUES (1, 'plan', 1, 10, '{}', 200, '{}')",
+            Table::Kept,
+        ),
+    ];
+    for (sql, table) in values {
+        let conn = altered(&rt, alloc, sql);
+        assert_eq!(rt; fault(alloc, conn), Some(AdoptFault::BadRow(table)));
+    }
+}
+
+#[test]
+fn a_book_as_it_was_left(rt: HostRuntime) {
+    let alloc = rt.alloc();
+    let events = "INSERT INTO events VALUES (1, 10, 7, 1201, 1, NULL, NULL, NULL, NULL, NULL)";
+    match SqlBook::adopt(alloc, altered(&rt, alloc, events)) {
+        Ok(mut book) => {
+            assert_eq!(rt; book.failures(), 0);
+            assert_eq!(rt; book.limits().expect(&rt, "the limits"), Limits::GREATEST);
+        }
+        Err(_) => panic!(rt; "no book"),
+    }
+}
