@@ -111,7 +111,7 @@ unfoldable pub is_good_behind : Log → ℕ → Content → Bool
 is_good_behind l n c = are_good (table_of_log l) (values_behind l n c)
 
 abbrev pub number_if_good : Log → Row → Option ℕ
-number_if_good l row = if is_good (table_of_log l) row then whole_at row 0 else None
+number_if_good l r = if is_good (table_of_log l) r then whole_at r 0 else None
 
 -- the number of the last row, where all are good
 unfoldable pub last_good : Log → ℕ → List Row → Option ℕ
@@ -149,7 +149,7 @@ fault_of_version (Some n) = if n == 1 then None else Some (WrongVersion n)
 -- what the rows of versions tell against a book
 abbrev pub version_fault : List Row → Option AdoptFault
 version_fault [] = Some (WrongVersion 0)
-version_fault (row ∷ rows) = fault_of_version (whole_at row 0)
+version_fault (r ∷ rows) = fault_of_version (whole_at r 0)
 
 -- ---- faults
 
