@@ -10,11 +10,16 @@ use acd_terms::Limits;
 use std::io::{self, Write};
 use std::process::Abort;
 
-const GROUP: &[u8] =
-    b"POST /csta HTTP/1.1\r\nHost: desk\r\nContent-Length: 104\r\n\r\n{\"requester\":\"plan\",\"invoke\":1,\"service\":\"addGroup\",\"device\":\"100\",\"name\":\"Billing\",\"ring\":20,\"wrap\":30}";
+mod listening;
+mod reads;
 
-const GROUP_REPLY: &[u8] =
-    b"HTTP/1.1 200 OK\r\nContent-Type: application/json\r\nContent-Length: 43\r\nConnection: close\r\n\r\n{\"invoke\":1,\"requester\":\"plan\",\"result\":{}}";
+fn group() -> &'static [u8] {
+    b"POST /csta HTTP/1.1\r\nHost: desk\r\nContent-Length: 104\r\n\r\n{\"requester\":\"plan\",\"invoke\":1,\"service\":\"addGroup\",\"device\":\"100\",\"name\":\"Billing\",\"ring\":20,\"wrap\":30}"
+}
+
+fn group_reply() -> &'static [u8] {
+    b"HTTP/1.1 200 OK\r\nContent-Type: application/json\r\nContent-Length: 43\r\nConnection: close\r\n\r\n{\"invoke\":1,\"requester\":\"plan\",\"result\":{}}"
+}
 
 fn opened(rt: &(impl Abort + AllocGlobal)) -> Desk<MemoryBook> {
     match Desk::open(rt.alloc(), MemoryBook::new(rt.alloc(), Limits::GREATEST)) {
@@ -52,7 +57,7 @@ fn gives(rt: &(impl Abort + AllocGlobal), request: &[u8], reply: &[u8]) {
 
 #[test]
 fn http_first_group(rt: HostRuntime) {
-    gives(&rt, GROUP, GROUP_REPLY);
+    gives(&rt, group(), group_reply());
 }
 
 #[test]
@@ -92,11 +97,12 @@ fn endless_head(rt: HostRuntime) {
 
 #[test]
 fn cut_at_each_length(rt: HostRuntime) {
-    assert_eq!(rt; GROUP.len(), 160);
+    let group = group();
+    assert_eq!(rt; group.len(), 160);
     let mut desk = opened(&rt);
     let mut output = Vec::new(rt.alloc());
     for n in 0..160 {
-        let result = asked(&rt, &mut desk, &GROUP[..n.min(GROUP.len())], &mut output);
+        let result = asked(&rt, &mut desk, &group[..n.min(group.len())], &mut output);
         assert!(rt; matches!(result, Err(ExchangeFault::Truncated)), "{n}");
     }
     assert!(rt; output.is_empty());
@@ -131,7 +137,7 @@ impl Write for Short {
 fn stops_at(rt: &(impl Abort + AllocGlobal), n: usize) {
     let routes = Routes::new(rt.alloc()).expect(rt, "routes");
     let mut desk = opened(rt);
-    let mut reader = GROUP;
+    let mut reader = group();
     let mut writer = Short {
         left: n,
         held: Vec::new(rt.alloc()),
@@ -139,7 +145,7 @@ fn stops_at(rt: &(impl Abort + AllocGlobal), n: usize) {
     let result = exchange(rt.alloc(), &routes, &mut desk, 0, &mut reader, &mut writer);
     assert!(rt; matches!(result, Err(ExchangeFault::Write)), "{n}");
     assert_eq!(rt; writer.held.len(), n);
-    assert!(rt; GROUP_REPLY.starts_with(writer.held.as_slice()), "{n}");
+    assert!(rt; group_reply().starts_with(writer.held.as_slice()), "{n}");
     assert_eq!(rt; executed(rt, desk), 1);
 }
 

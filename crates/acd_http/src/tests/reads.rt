@@ -1,0 +1,95 @@
+//! Reads over HTTP, with the bytes that the formats prescribe.
+
+use super::{asked, opened};
+use acd_book::MemoryBook;
+use acd_desk::Desk;
+use acd_lines::lines;
+use std::process::Abort;
+
+// Agent 7 logs on at station 201 in group 100, and doesn't answer a call for 20 seconds.
+fn nobody_answers() -> &'static [u8] {
+    br#"0 {"requester":"plan","invoke":1,"service":"addGroup","device":"100","name":"Billing","ring":20,"wrap":30}
+0 {"requester":"plan","invoke":2,"service":"addStation","device":"201"}
+0 {"requester":"plan","invoke":3,"service":"addStation","device":"202"}
+0 {"requester":"plan","invoke":4,"service":"addAgent","agent":"7","name":"Ana"}
+0 {"requester":"plan","invoke":5,"service":"addAgent","agent":"8","name":"Ben"}
+90 {"requester":"desk","invoke":1,"service":"setAgentState","agent":"7","requested":"loggedOn","device":"201","group":"100"}
+91 {"requester":"desk","invoke":2,"service":"setAgentState","agent":"7","requested":"ready"}
+100 {"requester":"pbx","invoke":1,"service":"arriveCall","caller":"0301234","called":"100"}
+119 {"requester":"clock","invoke":1,"service":"tick"}
+120 {"requester":"clock","invoke":2,"service":"tick"}
+"#
+}
+
+// A desk behind these lines.
+fn desk_after(rt: &(impl Abort + AllocGlobal), scene: &[u8]) -> Desk<MemoryBook> {
+    let mut desk = opened(rt);
+    let mut reader = scene;
+    let mut answers = Vec::new(rt.alloc());
+    let result = lines(rt.alloc(), &mut desk, &mut reader, &mut answers);
+    assert!(rt; result.is_ok());
+    desk
+}
+
+// The desk writes this reply to the request.
+fn replies(
+    rt: &(impl Abort + AllocGlobal),
+    desk: &mut Desk<MemoryBook>,
+    request: &[u8],
+    reply: &[u8],
+) {
+    let mut output = Vec::new(rt.alloc());
+    let result = asked(rt, desk, request, &mut output);
+    assert!(rt; result.is_ok());
+    assert_eq!(rt; output.as_slice(), reply);
+}
+
+fn get_queue() -> &'static [u8] {
+    b"GET /queues/100 HTTP/1.1\r\nHost: desk\r\n\r\n"
+}
+
+fn queue() -> &'static [u8] {
+    b"HTTP/1.1 200 OK\r\nContent-Type: application/json\r\nContent-Length: 69\r\nConnection: close\r\n\r\n{\"calls\":[{\"call\":1,\"place\":8,\"since\":100}],\"group\":\"100\",\"ready\":[]}"
+}
+
+fn head_queue() -> &'static [u8] {
+    b"HEAD /queues/100 HTTP/1.1\r\nHost: desk\r\n\r\n"
+}
+
+fn queue_without_body() -> &'static [u8] {
+    b"HTTP/1.1 200 OK\r\nContent-Type: application/json\r\nContent-Length: 69\r\nConnection: close\r\n\r\n"
+}
+
+fn get_agent() -> &'static [u8] {
+    b"GET /agents/7 HTTP/1.1\r\nHost: desk\r\n\r\n"
+}
+
+fn agent() -> &'static [u8] {
+    b"HTTP/1.1 200 OK\r\nContent-Type: application/json\r\nContent-Length: 86\r\nConnection: close\r\n\r\n{\"agent\":\"7\",\"device\":\"201\",\"group\":\"100\",\"name\":\"Ana\",\"since\":120,\"state\":\"notReady\"}"
+}
+
+fn get_report() -> &'static [u8] {
+    b"GET /reports/queues HTTP/1.1\r\nHost: desk\r\n\r\n"
+}
+
+fn report() -> &'static [u8] {
+    b"HTTP/1.1 200 OK\r\nContent-Type: text/plain\r\nContent-Length: 209\r\nConnection: close\r\n\r\ngroup           waiting ringing    entered   answered  abandoned      moved    average    longest name\n100                   1       0          1          0          0          0          -         20 Billing\n"
+}
+
+fn get_other_call() -> &'static [u8] {
+    b"GET /calls/2 HTTP/1.1\r\nHost: desk\r\n\r\n"
+}
+
+fn not_found() -> &'static [u8] {
+    b"HTTP/1.1 404 Not Found\r\nContent-Type: application/json\r\nContent-Length: 39\r\nConnection: close\r\n\r\n{\"error\":{\"code\":35,\"name\":\"notFound\"}}"
+}
+
+#[test]
+fn reads_behind_a_call_that_nobody_answered(rt: HostRuntime) {
+    let mut desk = desk_after(&rt, nobody_answers());
+    replies(&rt, &mut desk, get_queue(), queue());
+    replies(&rt, &mut desk, head_queue(), queue_without_body());
+    replies(&rt, &mut desk, get_agent(), agent());
+    replies(&rt, &mut desk, get_report(), report());
+    replies(&rt, &mut desk, get_other_call(), not_found());
+}
