@@ -6,9 +6,14 @@
 //! ```
 #![tactic(auto)]
 
+mod fault;
+mod file;
 mod memory;
+mod plan;
+mod running;
 mod task;
 #[cfg(test)]
 mod tests;
 
 pub use memory::{lines_over_memory, new_desk};
+pub use running::program;

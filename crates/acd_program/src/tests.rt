@@ -1,3 +1,7 @@
-//! What command lines ask for.
+//! What command lines ask for, and the program over three streams, with the bytes that the formats prescribe.
 
+mod faults;
+mod files;
+mod scripts;
+mod streams;
 mod tasks;

@@ -3,8 +3,8 @@
 ghost use Rattle.std.specs.Prelude.{◌≡◌, false};
 
 use crate::book::SqlBook;
-use acd_book::Book;
 use crate::fault::{AdoptFault, Table};
+use acd_book::Book;
 use acd_terms::Limits;
 use sqlite::{Connection, MemStore};
 use std::alloc::Global;

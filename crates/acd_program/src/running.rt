@@ -1,0 +1,163 @@
+//! The program over three streams.
+
+ghost use Rattle.std.specs.Prelude.{◌≡◌};
+
+use crate::fault::Fault;
+use crate::file::{FileDesk, close, open, open_or_create};
+use crate::memory::lines_over_memory;
+use crate::plan::read_plan;
+use crate::task::{Task, parse};
+use acd_desk::DeskFault;
+use acd_lines::{LinesFault, import, lines};
+use clap::Error;
+use clap::error::ErrorKind;
+use std::alloc::Global;
+use std::convert::AsStr;
+use std::io::{Read, Write};
+
+// Exit statuses.
+const SUCCESS: u8 = 0;
+
+const FAULT: u8 = 1;
+
+const REFUSED: u8 = 2;
+
+// What ended the lines goes before what closing the file found.
+fn ended<'a>(done: Result<(), LinesFault>, closed: Result<(), Fault<'a>>) -> Result<(), Fault<'a>> {
+    match done {
+        Ok(()) => closed,
+        Err(fault) => Err(Fault::from(fault)),
+    }
+}
+
+fn lines_over_file<'a, R: Read, W: Write>(
+    rt: &HostRuntime,
+    file: &'a str,
+    reader: &mut R,
+    writer: &mut W,
+) -> Result<(), Fault<'a>> {
+    let mut desk = open_or_create(rt, file)?;
+    let done = lines(rt.alloc(), &mut desk, reader, writer);
+    ended(done, close(desk))
+}
+
+fn import_plan<'a, W: Write>(
+    rt: &HostRuntime,
+    file: &'a str,
+    plan: &'a str,
+    writer: &mut W,
+) -> Result<(), Fault<'a>> {
+    let requests = read_plan(rt, plan)?;
+    let mut desk = open_or_create(rt, file)?;
+    let done = import(rt.alloc(), &mut desk, &requests, writer);
+    ended(done, close(desk))
+}
+
+// Closes the file, and then prints what was read of its desk.
+fn print_read<'a, W: Write>(
+    found: Result<Option<String>, DeskFault>,
+    desk: FileDesk,
+    writer: &mut W,
+) -> Result<(), Fault<'a>> {
+    let closed = close(desk);
+    match found {
+        Ok(Some(text)) => match writer.write_all(text.as_bytes()) {
+            Ok(()) => closed,
+            Err(_) => Err(Fault::Write),
+        },
+        Ok(None) => closed,
+        Err(fault) => Err(Fault::from(fault)),
+    }
+}
+
+// No moment is before 0, so the report is that of the last executed one.
+fn print_report<'a, W: Write>(
+    rt: &HostRuntime,
+    file: &'a str,
+    writer: &mut W,
+) -> Result<(), Fault<'a>> {
+    let mut desk = open(rt, file)?;
+    let found = desk.report(0);
+    print_read(found, desk, writer)
+}
+
+fn print_export<'a, W: Write>(
+    rt: &HostRuntime,
+    file: &'a str,
+    writer: &mut W,
+) -> Result<(), Fault<'a>> {
+    let mut desk = open(rt, file)?;
+    let found = desk.export();
+    print_read(found, desk, writer)
+}
+
+fn execute<'a, R: Read, W: Write>(
+    rt: &HostRuntime,
+    task: Task<'a>,
+    reader: &mut R,
+    writer: &mut W,
+) -> Result<(), Fault<'a>> {
+    match task {
+        Task::Lines { file: None } => {
+            let done = lines_over_memory(rt.alloc(), reader, writer);
+            ended(done, Ok(()))
+        }
+        Task::Lines { file: Some(file) } => lines_over_file(rt, file, reader, writer),
+        Task::Import { file, plan } => import_plan(rt, file, plan, writer),
+        Task::Report { file } => print_report(rt, file, writer),
+        Task::Export { file } => print_export(rt, file, writer),
+    }
+}
+
+// A fault is one line.
+fn fail<E: Write>(fault: Fault<'_>, errors: &mut E) -> u8
+    ensures { result ≡ 1 }
+{
+    let _ = writeln!(errors, "acd: {fault}");
+    FAULT
+}
+
+// Tells the text of a command line that asks for no task, which may be the help that was asked for.
+fn tell<W: Write, E: Write>(alloc: Global, error: &Error, writer: &mut W, errors: &mut E) -> u8
+    ensures success { result ≡ 0 → errors.new ≡ errors.old }
+    ensures refused { result ≡ 2 → writer.new ≡ writer.old }
+{
+    if error.kind() == ErrorKind::OutOfMemory {
+        return fail(Fault::NoMemory, errors);
+    }
+    let Ok(text) = error.to_string(alloc) else {
+        return fail(Fault::NoMemory, errors);
+    };
+    if error.use_stderr() {
+        let _ = errors.write_all(text.as_bytes());
+        return REFUSED;
+    }
+    match writer.write_all(text.as_bytes()) {
+        Ok(()) => SUCCESS,
+        Err(_) => fail(Fault::Write, errors),
+    }
+}
+
+/// Does what the words ask for; the first is the program's name. It answers the exit status: 0 for success, 1 for
+/// a fault, which is one line on `errors`, and 2 for a command line that it refuses.
+pub fn program<S: AsStr, R: Read, W: Write, E: Write>(
+    rt: &HostRuntime,
+    words: &[S],
+    reader: &mut R,
+    writer: &mut W,
+    errors: &mut E,
+) -> u8
+    // success says nothing on the stream of errors
+    ensures success { result ≡ 0 → errors.new ≡ errors.old }
+    // for a command line that is refused nothing is read, and nothing is written but why
+    ensures refused { result ≡ 2 → (reader.new ≡ reader.old) × (writer.new ≡ writer.old) }
+{
+    let task = match parse(rt.alloc(), words) {
+        Ok(task) => task,
+        Err(error) => return tell(rt.alloc(), &error, writer, errors),
+    };
+    match execute(rt, task, reader, writer) {
+        Ok(()) => SUCCESS,
+        Err(fault) => fail(fault, errors),
+    }
+}

@@ -1,0 +1,17 @@
+//! Files in the folder for temporary files.
+
+use std::{env, fs, io, process};
+
+/// A path at which nothing stands.
+pub(crate) fn free_path(rt: &HostRuntime, name: &str) -> io::Result<String> {
+    let folder = env::temp_dir(rt)?;
+    let id = process::id(rt.process());
+    let path = format!(in rt.alloc(); "{}/acd-{id}-{name}", folder.as_str())?;
+    let _ = fs::remove_file(rt, path.as_str());
+    Ok(path)
+}
+
+/// The fault line of a path.
+pub(crate) fn cannot_open(rt: &HostRuntime, path: &str) -> io::Result<String> {
+    Ok(format!(in rt.alloc(); "acd: cannot open {path}\n")?)
+}
