@@ -1,13 +1,14 @@
 //! The program over three streams.
 
-ghost use Rattle.std.specs.Prelude.{◌≡◌};
+ghost use Rattle.std.specs.Prelude.{◌≡◌, IfOk};
+ghost use Rattle.acd_program.specs.Statuses.{IsDone};
 
 use crate::fault::Fault;
 use crate::file::{FileDesk, close, open, open_or_create};
 use crate::memory::lines_over_memory;
 use crate::plan::read_plan;
 use crate::task::{Task, parse};
-use acd_desk::DeskFault;
+use acd_desk::{Audit, DeskFault};
 use acd_lines::{LinesFault, import, lines};
 use clap::Error;
 use clap::error::ErrorKind;
@@ -21,6 +22,8 @@ const SUCCESS: u8 = 0;
 const FAULT: u8 = 1;
 
 const REFUSED: u8 = 2;
+
+const DIFFERS: u8 = 3;
 
 // What ended the lines goes before what closing the file found.
 fn ended<'a>(done: Result<(), LinesFault>, closed: Result<(), Fault<'a>>) -> Result<(), Fault<'a>> {
@@ -91,21 +94,82 @@ fn print_export<'a, W: Write>(
     print_read(found, desk, writer)
 }
 
+// Prints what an audit told. Where something differs that is no fault.
+fn print_audit<'a, W: Write>(told: Audit, writer: &mut W) -> Result<u8, Fault<'a>>
+    ensures { IfOk result IsDone }
+{
+    match told {
+        Audit::Sound => match writeln!(writer, "sound") {
+            Ok(()) => Ok(SUCCESS),
+            Err(_) => Err(Fault::Write),
+        },
+        Audit::Differs(place) => match writeln!(writer, "differs at request {place}") {
+            Ok(()) => Ok(DIFFERS),
+            Err(_) => Err(Fault::Write),
+        },
+    }
+}
+
+fn print_audited<'a, W: Write>(
+    found: Result<Audit, DeskFault>,
+    desk: FileDesk,
+    writer: &mut W,
+) -> Result<u8, Fault<'a>>
+    ensures { IfOk result IsDone }
+{
+    let closed = close(desk);
+    match found {
+        Ok(told) => match print_audit(told, writer) {
+            Ok(status) => after(status, closed),
+            Err(fault) => Err(fault),
+        },
+        Err(fault) => Err(Fault::from(fault)),
+    }
+}
+
+fn audit_file<'a, W: Write>(
+    rt: &HostRuntime,
+    file: &'a str,
+    writer: &mut W,
+) -> Result<u8, Fault<'a>>
+    ensures { IfOk result IsDone }
+{
+    let mut desk = open(rt, file)?;
+    let found = desk.audit();
+    print_audited(found, desk, writer)
+}
+
+// The status, where no fault ended the work.
+fn after<'a>(status: u8, done: Result<(), Fault<'a>>) -> Result<u8, Fault<'a>>
+    ensures { IfOk result (λ given. given ≡ status) }
+{
+    match done {
+        Ok(()) => Ok(status),
+        Err(fault) => Err(fault),
+    }
+}
+
+// Does it, and gives the exit status where no fault ended it.
 fn execute<'a, R: Read, W: Write>(
     rt: &HostRuntime,
     task: Task<'a>,
     reader: &mut R,
     writer: &mut W,
-) -> Result<(), Fault<'a>> {
+) -> Result<u8, Fault<'a>>
+    ensures { IfOk result IsDone }
+{
     match task {
         Task::Lines { file: None } => {
             let done = lines_over_memory(rt.alloc(), reader, writer);
-            ended(done, Ok(()))
+            after(SUCCESS, ended(done, Ok(())))
         }
-        Task::Lines { file: Some(file) } => lines_over_file(rt, file, reader, writer),
-        Task::Import { file, plan } => import_plan(rt, file, plan, writer),
-        Task::Report { file } => print_report(rt, file, writer),
-        Task::Export { file } => print_export(rt, file, writer),
+        Task::Lines { file: Some(file) } => {
+            after(SUCCESS, lines_over_file(rt, file, reader, writer))
+        }
+        Task::Import { file, plan } => after(SUCCESS, import_plan(rt, file, plan, writer)),
+        Task::Report { file } => after(SUCCESS, print_report(rt, file, writer)),
+        Task::Export { file } => after(SUCCESS, print_export(rt, file, writer)),
+        Task::Audit { file } => audit_file(rt, file, writer),
     }
 }
 
@@ -139,7 +203,8 @@ fn tell<W: Write, E: Write>(alloc: Global, error: &Error, writer: &mut W, errors
 }
 
 /// Does what the words ask for; the first is the program's name. It answers the exit status: 0 for success, 1 for
-/// a fault, which is one line on `errors`, and 2 for a command line that it refuses.
+/// a fault, which is one line on `errors`, 2 for a command line that it refuses, and 3 for an audit that tells a
+/// difference.
 pub fn program<S: AsStr, R: Read, W: Write, E: Write>(
     rt: &HostRuntime,
     words: &[S],
@@ -157,7 +222,7 @@ pub fn program<S: AsStr, R: Read, W: Write, E: Write>(
         Err(error) => return tell(rt.alloc(), &error, writer, errors),
     };
     match execute(rt, task, reader, writer) {
-        Ok(()) => SUCCESS,
+        Ok(status) => status,
         Err(fault) => fail(fault, errors),
     }
 }

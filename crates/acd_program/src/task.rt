@@ -16,6 +16,8 @@ pub(crate) enum Task<'a> {
     Report { file: &'a str },
     /// Print all event reports.
     Export { file: &'a str },
+    /// Run the kept requests again, and compare what they give with the file.
+    Audit { file: &'a str },
 }
 
 const FILE: &str = "file";
@@ -71,6 +73,15 @@ fn export_command<'a>(alloc: Global) -> Result<Command<'a>, AllocError> {
         .arg(file_option(alloc).required(true))
 }
 
+fn audit_command<'a>(alloc: Global) -> Result<Command<'a>, AllocError> {
+    Command::new(alloc, "audit")
+        .about("Run the kept requests again, and compare what they give with the file")
+        .after_help(
+            "Example:\n  acd audit --file desk.db\n\nIt prints sound or, with status 3, the first request whose record or events differ.",
+        )
+        .arg(file_option(alloc).required(true))
+}
+
 fn all_commands<'a>(alloc: Global) -> Result<Command<'a>, AllocError> {
     Command::new(alloc, "acd")
         .about("The desk of a help line: an automatic call distributor")
@@ -78,7 +89,8 @@ fn all_commands<'a>(alloc: Global) -> Result<Command<'a>, AllocError> {
         .subcommand(lines_command(alloc)?)?
         .subcommand(import_command(alloc)?)?
         .subcommand(report_command(alloc)?)?
-        .subcommand(export_command(alloc)?)
+        .subcommand(export_command(alloc)?)?
+        .subcommand(audit_command(alloc)?)
 }
 
 // The task of a command with these options, or None where one is missing.
@@ -91,6 +103,7 @@ fn task_of<'a>(command: &str, file: Option<&'a str>, plan: Option<&'a str>) -> O
         }),
         "report" => Some(Task::Report { file: file? }),
         "export" => Some(Task::Export { file: file? }),
+        "audit" => Some(Task::Audit { file: file? }),
         _ => None,
     }
 }

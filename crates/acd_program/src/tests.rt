@@ -3,5 +3,6 @@
 mod faults;
 mod files;
 mod scripts;
+mod sessions;
 mod streams;
 mod tasks;

@@ -1,13 +1,13 @@
 //! What the program does with its input.
 
 use super::*;
-use crate::run_lines;
+use acd_program::lines_over_memory;
 
 #[test]
 fn empty_input(rt: HostRuntime) {
     let mut reader: &[u8] = b"";
     let mut written = Vec::new(rt.alloc());
-    let ended = run_lines(rt.alloc(), &mut reader, &mut written);
+    let ended = lines_over_memory(rt.alloc(), &mut reader, &mut written);
     assert!(rt; ended.is_ok());
     assert!(rt; written.is_empty());
 }

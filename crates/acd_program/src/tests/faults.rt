@@ -1,6 +1,6 @@
 //! Each fault's line, its status, and the file that it leaves.
 
-use super::files::{cannot_open, free_path};
+use super::files::{cannot_open, free_path, remove};
 use super::scripts::{PLAN, gives};
 use std::process::Abort;
 use std::{fs, io};
@@ -50,7 +50,7 @@ fn file_of_no_bytes(rt: HostRuntime) {
     assert!(rt; reads_end_with(&rt, file.as_str(), "acd: wrong version 0\n"));
     let left = fs::read(&rt, file.as_str()).expect(&rt, "the file");
     assert!(rt; left.is_empty());
-    let _ = fs::remove_file(&rt, file.as_str());
+    let _ = remove(&rt, file.as_str());
 }
 
 // A folder, and a text.
@@ -61,7 +61,7 @@ fn no_databases(rt: HostRuntime) {
     fs::write(&rt, file.as_str(), PLAN).expect(&rt, "written");
     let fault = cannot_open(&rt, file.as_str()).expect(&rt, "memory");
     assert!(rt; all_end_with(&rt, file.as_str(), fault.as_str()));
-    let _ = fs::remove_file(&rt, file.as_str());
+    let _ = remove(&rt, file.as_str());
 }
 
 #[test]

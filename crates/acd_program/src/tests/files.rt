@@ -2,12 +2,20 @@
 
 use std::{env, fs, io, process};
 
+/// Removes a file, and the log that the store leaves beside it.
+pub(crate) fn remove(rt: &HostRuntime, path: &str) -> io::Result<()> {
+    let log = format!(in rt.alloc(); "{path}-wal")?;
+    let _ = fs::remove_file(rt, path);
+    let _ = fs::remove_file(rt, log.as_str());
+    Ok(())
+}
+
 /// A path at which nothing stands.
 pub(crate) fn free_path(rt: &HostRuntime, name: &str) -> io::Result<String> {
     let folder = env::temp_dir(rt)?;
     let id = process::id(rt.process());
     let path = format!(in rt.alloc(); "{}/acd-{id}-{name}", folder.as_str())?;
-    let _ = fs::remove_file(rt, path.as_str());
+    remove(rt, path.as_str())?;
     Ok(path)
 }
 

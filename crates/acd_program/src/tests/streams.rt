@@ -30,6 +30,6 @@ fn help(rt: HostRuntime) {
 fn refused_command_lines(rt: HostRuntime) {
     assert!(rt; refuses(&rt, &["acd"]));
     assert!(rt; refuses(&rt, &["acd", "rows"]));
-    assert!(rt; refuses(&rt, &["acd", "audit", "--file", "desk.db"]));
+    assert!(rt; refuses(&rt, &["acd", "audit"]));
     assert!(rt; refuses(&rt, &["acd", "import", "--file", "desk.db"]));
 }

@@ -48,6 +48,12 @@ fn tasks_with_their_paths(rt: HostRuntime) {
         &["acd", "export", "--file", "a.db"],
         Task::Export { file: "a.db" },
     );
+    asks(
+        &rt,
+        alloc,
+        &["acd", "audit", "--file", "a.db"],
+        Task::Audit { file: "a.db" },
+    );
 }
 
 #[test]
@@ -61,7 +67,7 @@ fn mistakes_and_help(rt: HostRuntime) {
     tells(&rt, alloc, &["acd", "import", "--plan", "p.csv"], true);
     tells(&rt, alloc, &["acd", "report"], true);
     tells(&rt, alloc, &["acd", "export", "--file"], true);
-    tells(&rt, alloc, &["acd", "audit", "--file", "a.db"], true);
+    tells(&rt, alloc, &["acd", "audit"], true);
     tells(&rt, alloc, &["acd", "--help"], false);
     tells(&rt, alloc, &["acd", "import", "--help"], false);
 }
