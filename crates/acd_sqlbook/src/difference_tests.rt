@@ -88,12 +88,14 @@ fn nothing_changed(rt: HostRuntime) {
     same(&rt, &changes, &[]);
 }
 
-// Two agents, each at a station.
-fn seated(rt: &impl Abort, alloc: Global, first: &str, second: &str) -> Rows {
+// Two stations, and two agents at these.
+pub(crate) fn seated(rt: &impl Abort, alloc: Global, first: &str, second: &str) -> Rows {
+    let stations = vec![in alloc; station(rt, "201"), station(rt, "202")].expect(rt, "memory");
     let first = agent(rt, "1", Some(device(rt, first)));
     let second = agent(rt, "2", Some(device(rt, second)));
     let agents = vec![in alloc; first, second].expect(rt, "memory");
     let mut rows = Rows::empty(alloc, Limits::GREATEST);
+    rows.stations = Listed::new(stations);
     rows.agents = Listed::new(agents);
     rows
 }
@@ -113,7 +115,7 @@ fn agents_give_their_stations_up_first(rt: HostRuntime) {
 }
 
 // A call with a connection.
-fn busy(rt: &impl Abort, alloc: Global, number: u64) -> Rows {
+pub(crate) fn busy(rt: &impl Abort, alloc: Global, number: u64) -> Rows {
     let calls = vec![in alloc; call(rt, number, 10)].expect(rt, "memory");
     let connections = vec![in alloc; connection(rt, number)].expect(rt, "memory");
     let mut rows = Rows::empty(alloc, Limits::GREATEST);

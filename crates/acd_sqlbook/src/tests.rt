@@ -4,6 +4,7 @@ ghost use Rattle.std.specs.Prelude.{◌≡◌, false};
 
 mod answers;
 mod commits;
+mod replaced;
 
 use crate::book::SqlBook;
 use acd_book::BookFault;

@@ -26,7 +26,7 @@ fn station(rt: &impl Abort) -> DeviceId {
 }
 
 // The record of a stamp, kept under an invoke number.
-fn record(rt: &impl Abort, alloc: Global, stamp: u64, invoke: u64) -> Kept {
+pub(super) fn record(rt: &impl Abort, alloc: Global, stamp: u64, invoke: u64) -> Kept {
     let body = String::from_str(alloc, "{}").expect(rt, "memory");
     Kept {
         stamp,
@@ -67,7 +67,7 @@ pub(super) fn commit_first(rt: &impl Abort, alloc: Global, book: &mut SqlBook<Me
         .expect(rt, "the first commit");
 }
 
-fn fault_of(done: Result<(), BookFault>) -> Option<BookFault> {
+pub(super) fn fault_of(done: Result<(), BookFault>) -> Option<BookFault> {
     match done {
         Ok(()) => None,
         Err(fault) => Some(fault),
