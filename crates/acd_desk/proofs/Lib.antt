@@ -23,3 +23,4 @@ pub mod Audits
 pub mod AuditLaws
 pub mod Reading
 pub mod AuditSteps
+pub mod Feeding

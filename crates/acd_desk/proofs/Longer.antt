@@ -47,7 +47,7 @@ known_in_run n l p q there room =
     let short : length f < n.requests = omega (arith, room, stamp, limit) in
     run-found n f p q ∙ ap (λ (s : List Arrival). has_key s p q) (firsts-room n.requests l short) ∙ has-distinct l [] p q ∙ there
 
-reply_stays : (n : Limits) (l : List Arrival) (a : Arrival) (r : Request) → has_key l r.requester r.invoke ≡ true → reply_to n (l ++ a ∷ []) r ≡ reply_to n l r
+pub reply_stays : (n : Limits) (l : List Arrival) (a : Arrival) (r : Request) → has_key l r.requester r.invoke ≡ true → reply_to n (l ++ a ∷ []) r ≡ reply_to n l r
 reply_stays n l a r there =
     ap (λ (x : Content). answer_in x r) (sym (after_firsts n l a))
     ∙ ap (λ (o : Option Kept). answer_of o r) (find_stays (run n l) a r.requester r.invoke (known_in_run n l r.requester r.invoke there))
@@ -56,7 +56,7 @@ or-true : (b : Bool) → (b || true) ≡ true
 or-true true = refl
 or-true false = refl
 
-has_within : (pre post : List Arrival) (a : Arrival) → has_key (pre ++ a ∷ post) a.request.requester a.request.invoke ≡ true
+pub has_within : (pre post : List Arrival) (a : Arrival) → has_key (pre ++ a ∷ post) a.request.requester a.request.invoke ≡ true
 has_within pre post a =
     list_any-append (λ (x : Arrival). is_key a.request.requester a.request.invoke x.request) pre (a ∷ post)
     ∙ ap (λ (b : Bool). has_key pre a.request.requester a.request.invoke || (b || has_key post a.request.requester a.request.invoke)) (key_own a.request)

@@ -8,7 +8,7 @@ use Rattle.acd_desk.specs.Served.{served, maybe_last, sent}
 use Rattle.acd_desk.specs.Stands.{IsSound, ran_after, replies, StopsAt}
 use Rattle.acd_desk.specs.Standing.{Standing, Starts}
 use Rattle.acd_desk.specs.Opening.{Opened}
-use Rattle.acd_desk.specs.Ran.{Ran, EndsIn, EndsUp, IsStoreFault, Holds}
+use Rattle.acd_desk.specs.Ran.{Ran, EndsIn, EndsUp, Holds}
 use Rattle.acd_desk.specs.Session.{Session, IsLastServed}
 
 ends_up : (s : Standing) (ts : List Taken) → s.book.is_open → IsLastServed ts → EndsUp s ts
@@ -16,8 +16,8 @@ ends_up s [] opened last = opened
 ends_up s (t ∷ []) opened last = last
 ends_up s (_ ∷ t ∷ ts) opened last = ends_up s (t ∷ ts) opened last
 
-pub session_ran : (old : BookState) (d e : Standing) (l : List Arrival) (ts : List Taken) → Opened old d → Ran d l ts e → EndsIn IsStoreFault ts → Session old l ts e.book
-session_ran old d e l ts o ran later =
+pub session_ran : (Behind : Taken → Type 0) (old : BookState) (d e : Standing) (l : List Arrival) (ts : List Taken) → Opened old d → Ran d l ts e → EndsIn Behind ts → Session Behind old l ts e.book
+session_ran Behind old d e l ts o ran later =
     let starts : e.book.is_clean → old.is_sound → IsSound old.content → Starts d = λ clean sound whole. o.starts (ran.clean clean) sound whole in
     let same : e.book.is_clean → old.is_sound → d.book.content ≡ old.content = λ clean sound. (o.opened (ran.clean clean) sound).2 in
     let up : e.book.is_clean → old.is_sound → IsLastServed ts → EndsUp d ts

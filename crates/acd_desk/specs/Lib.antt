@@ -17,3 +17,4 @@ pub mod Session
 pub mod Audit
 pub mod Replay
 pub mod AuditLaws
+pub mod Feeding

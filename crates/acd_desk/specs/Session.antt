@@ -14,7 +14,7 @@ use Rattle.acd_desk.specs.declared.session.SessionFault.TheVariants as session
 use Rattle.acd_desk.specs.Served.{is_fault, served, maybe_last, sent}
 use Rattle.acd_desk.specs.Stands.{IsSound, ran_after, replies, StopsAt}
 use Rattle.acd_desk.specs.Laws.{KeepsLaws}
-use Rattle.acd_desk.specs.Ran.{EndsIn, IsStoreFault, Holds}
+use Rattle.acd_desk.specs.Ran.{EndsIn, Holds}
 
 -- what is said where the book was honest and its content sound
 abbrev pub IfWhole : BookState → BookState → Type 0 → Type 0
@@ -26,8 +26,8 @@ IsLastServed [] = Unit {0}
 IsLastServed (t ∷ []) = is_fault t ≡ false
 IsLastServed (_ ∷ t ∷ ts) = IsLastServed (t ∷ ts)
 
--- the arrivals were taken in turn, and the book came back
-pub record Session (old : BookState) (arrivals : List Arrival) (answers : List Taken) (new : BookState) : Type 0 where
+-- the arrivals were taken in turn, and the book came back; of the answers behind a storeFault this is said
+pub record Session (Behind : Taken → Type 0) (old : BookState) (arrivals : List Arrival) (answers : List Taken) (new : BookState) : Type 0 where
   pub even : length arrivals ≡ length answers
   pub clean : new.is_clean → old.is_clean
   pub sound : IfHonest old new new.is_sound
@@ -46,8 +46,8 @@ pub record Session (old : BookState) (arrivals : List Arrival) (answers : List T
   -- whatever a stop leaves is that run, or that with one more arrival, which came behind the last that was served
   pub stops : IfWhole old new ((c : Content) → new.stops c → StopsAt old.content (served arrivals answers) (maybe_last arrivals answers) c)
   pub sound_stops : IfWhole old new ((c : Content) → new.stops c → IsSound c)
-  -- behind a storeFault there are such answers alone, and it comes only where a failure was counted
-  pub later : EndsIn IsStoreFault answers
+  -- a storeFault comes only where a failure was counted
+  pub later : EndsIn Behind answers
   pub cause : IfWhole old new (Contains answers StoreFault → HasRisen old.failures new.failures)
   pub quiet : ¬ (Contains answers StoreFault) → new.failures ≡ old.failures
   pub counts : old.failures ≤ new.failures

@@ -2,6 +2,7 @@
 //! an empty body, and is stated in `specs/`.
 
 ghost use Rattle.acd_desk.specs.DeskLaws.{OneMoreArrival, AnswersByPlace, SoundKeepsLaws, EmptyIsSound, StaysSound, KeepsFirsts, EventsInOrder};
+ghost use Rattle.acd_desk.specs.Feeding.{AgainAddsNothing, FedHoldsTheLog, DesksAgree};
 ghost use Rattle.acd_desk.specs.AuditLaws.{HasOneAudit, SoundIsOrdered, SoundAgrees};
 
 /// One more arrival leads from the run of a list to the run of the longer list.
@@ -44,4 +45,12 @@ pub fn one_audit()
     ensures one { HasOneAudit }
     ensures ordered { SoundIsOrdered }
     ensures agrees { SoundAgrees }
+{}
+
+/// A log may be fed in parts, some of them again: that adds nothing, and all desks that were fed it hold the same
+/// and answer the same.
+pub fn one_log_many_desks()
+    ensures again { AgainAddsNothing }
+    ensures holds { FedHoldsTheLog }
+    ensures agree { DesksAgree }
 {}

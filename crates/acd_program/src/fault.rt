@@ -1,5 +1,6 @@
 //! Why a command did not do what it was asked.
 
+use crate::session::SessionFault;
 use acd_book::BookFault;
 use acd_desk::{DeskFault, OpenFault};
 use acd_lines::{LinesFault, Stopped};
@@ -126,6 +127,15 @@ impl<'a> From<LinesFault> for Fault<'a> {
             LinesFault::Read => Fault::Read,
             LinesFault::Write => Fault::Write,
             LinesFault::NoMemory => Fault::NoMemory,
+        }
+    }
+}
+
+impl<'a> From<SessionFault> for Fault<'a> {
+    fn from(fault: SessionFault) -> Fault<'a> {
+        match fault {
+            SessionFault::Open(fault) => Fault::from(fault),
+            SessionFault::Lines(fault) => Fault::from(fault),
         }
     }
 }

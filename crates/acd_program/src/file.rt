@@ -9,8 +9,11 @@ use acd_terms::Limits;
 use sqlite::{Connection, Error, ErrorCode, File, FileStore};
 use std::{fs, io};
 
+/// A book in a file.
+pub(crate) type FileBook = SqlBook<FileStore<File>>;
+
 /// A desk over a file.
-pub(crate) type FileDesk = Desk<SqlBook<FileStore<File>>>;
+pub(crate) type FileDesk = Desk<FileBook>;
 
 // What there is at a path.
 #[derive(Clone, Copy)]
@@ -50,19 +53,19 @@ fn give_up<'a>(conn: Connection<FileStore<File>>, fault: Fault<'a>) -> Fault<'a>
     fault
 }
 
-fn desk_over<'a>(rt: &HostRuntime, book: SqlBook<FileStore<File>>) -> Result<FileDesk, Fault<'a>> {
+fn desk_over<'a>(rt: &HostRuntime, book: FileBook) -> Result<FileDesk, Fault<'a>> {
     match Desk::open(rt.alloc(), book) {
         Ok(desk) => Ok(desk),
         Err((fault, book)) => Err(give_up(book.into_connection(), Fault::from(fault))),
     }
 }
 
-// Makes the tables of a new desk, with the greatest limits.
-fn create<'a>(rt: &HostRuntime, conn: Connection<FileStore<File>>) -> Result<FileDesk, Fault<'a>>
+// Makes the tables of a new book, with the greatest limits.
+fn create<'a>(rt: &HostRuntime, conn: Connection<FileStore<File>>) -> Result<FileBook, Fault<'a>>
     requires { conn.in_transaction ≡ false }
 {
     match SqlBook::create(rt.alloc(), conn, Limits::GREATEST) {
-        Ok(book) => desk_over(rt, book),
+        Ok(book) => Ok(book),
         Err((fault, conn)) => Err(give_up(conn, Fault::from(fault))),
     }
 }
@@ -80,21 +83,31 @@ pub(crate) fn open<'a>(rt: &HostRuntime, path: &'a str) -> Result<FileDesk, Faul
     }
 }
 
-/// Opens the desk of a file, or makes one where there is no file or it has no bytes.
-pub(crate) fn open_or_create<'a>(rt: &HostRuntime, path: &'a str) -> Result<FileDesk, Fault<'a>> {
+/// Opens the book of a file, or makes one where there is no file or it has no bytes.
+pub(crate) fn book_of<'a>(rt: &HostRuntime, path: &'a str) -> Result<FileBook, Fault<'a>> {
     let is_made = matches!(look(rt, path)?, Found::Bytes);
     match SqlBook::adopt(rt.alloc(), connect(rt, path)?) {
-        Ok(book) => desk_over(rt, book),
+        Ok(book) => Ok(book),
         Err((AdoptFault::WrongVersion(0), conn)) if !is_made => create(rt, conn),
         Err((fault, conn)) => Err(give_up(conn, Fault::from(fault))),
     }
 }
 
-/// Closes the desk, so that the file alone holds it.
-pub(crate) fn close<'a>(desk: FileDesk) -> Result<(), Fault<'a>> {
-    match desk.close().into_connection().close() {
+/// Opens the desk of a file, or makes one where there is no file or it has no bytes.
+pub(crate) fn open_or_create<'a>(rt: &HostRuntime, path: &'a str) -> Result<FileDesk, Fault<'a>> {
+    desk_over(rt, book_of(rt, path)?)
+}
+
+/// Closes the book, so that the file alone holds it.
+pub(crate) fn close_book<'a>(book: FileBook) -> Result<(), Fault<'a>> {
+    match book.into_connection().close() {
         Ok(()) => Ok(()),
         Err(Error::SqliteFailure(ErrorCode::OutOfMemory)) => Err(Fault::NoMemory),
         Err(_) => Err(Fault::Store),
     }
+}
+
+/// Closes the desk and its book.
+pub(crate) fn close<'a>(desk: FileDesk) -> Result<(), Fault<'a>> {
+    close_book(desk.close())
 }

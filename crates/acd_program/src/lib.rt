@@ -11,9 +11,11 @@ mod file;
 mod memory;
 mod plan;
 mod running;
+mod session;
 mod task;
 #[cfg(test)]
 mod tests;
 
 pub use memory::{lines_over_memory, new_desk};
 pub use running::program;
+pub use session::{SessionFault, lines_over_book};

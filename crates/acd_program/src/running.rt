@@ -4,12 +4,13 @@ ghost use Rattle.std.specs.Prelude.{◌≡◌, IfOk};
 ghost use Rattle.acd_program.specs.Statuses.{IsDone};
 
 use crate::fault::Fault;
-use crate::file::{FileDesk, close, open, open_or_create};
+use crate::file::{FileDesk, book_of, close, close_book, open, open_or_create};
 use crate::memory::lines_over_memory;
 use crate::plan::read_plan;
+use crate::session::lines_over_book;
 use crate::task::{Task, parse};
 use acd_desk::{Audit, DeskFault};
-use acd_lines::{LinesFault, import, lines};
+use acd_lines::import;
 use clap::Error;
 use clap::error::ErrorKind;
 use std::alloc::Global;
@@ -26,22 +27,17 @@ const REFUSED: u8 = 2;
 const DIFFERS: u8 = 3;
 
 // What ended the lines goes before what closing the file found.
-fn ended<'a>(done: Result<(), LinesFault>, closed: Result<(), Fault<'a>>) -> Result<(), Fault<'a>> {
-    match done {
-        Ok(()) => closed,
-        Err(fault) => Err(Fault::from(fault)),
-    }
-}
-
 fn lines_over_file<'a, R: Read, W: Write>(
     rt: &HostRuntime,
     file: &'a str,
     reader: &mut R,
     writer: &mut W,
 ) -> Result<(), Fault<'a>> {
-    let mut desk = open_or_create(rt, file)?;
-    let done = lines(rt.alloc(), &mut desk, reader, writer);
-    ended(done, close(desk))
+    let book = book_of(rt, file)?;
+    let (done, book) = lines_over_book(rt.alloc(), book, reader, writer);
+    let closed = close_book(book);
+    done?;
+    closed
 }
 
 fn import_plan<'a, W: Write>(
@@ -53,7 +49,9 @@ fn import_plan<'a, W: Write>(
     let requests = read_plan(rt, plan)?;
     let mut desk = open_or_create(rt, file)?;
     let done = import(rt.alloc(), &mut desk, &requests, writer);
-    ended(done, close(desk))
+    let closed = close(desk);
+    done?;
+    closed
 }
 
 // Closes the file, and then prints what was read of its desk.
@@ -160,8 +158,8 @@ fn execute<'a, R: Read, W: Write>(
 {
     match task {
         Task::Lines { file: None } => {
-            let done = lines_over_memory(rt.alloc(), reader, writer);
-            after(SUCCESS, ended(done, Ok(())))
+            lines_over_memory(rt.alloc(), reader, writer)?;
+            Ok(SUCCESS)
         }
         Task::Lines { file: Some(file) } => {
             after(SUCCESS, lines_over_file(rt, file, reader, writer))
