@@ -7,6 +7,8 @@ use Rattle.acd_codec.specs.declared.replies.Rejected.{Rejected}
 use Rattle.acd_codec.specs.declared.replies.Rejected.TheVariants as rejections
 use Rattle.acd_codec.specs.declared.fault.FixedAnswer.{FixedAnswer}
 use Rattle.acd_codec.specs.declared.fault.FixedAnswer.TheVariants as fixed
+use Rattle.acd_codec.specs.declared.fault.ReadFault.{ReadFault}
+use Rattle.acd_codec.specs.declared.fault.ReadFault.TheVariants as read
 use Rattle.acd_codec.specs.ReplyTexts.{malformed_text, fixed_status, fixed_text, rejected_status, rejected_text}
 use Rattle.acd_desk.specs.declared.taken.Taken.{Taken}
 use Rattle.acd_desk.specs.declared.taken.Taken.TheVariants as taken
@@ -25,6 +27,11 @@ malformed_line member = line_text 400 (malformed_text member)
 -- an answer that is the same for all requests
 abbrev pub fixed_line : FixedAnswer → List ℕ
 fixed_line answer = line_text (fixed_status answer) (fixed_text answer)
+
+-- the line for JSON that isn't read as a request
+abbrev pub unread_line : ReadFault → List ℕ
+unread_line (read.Malformed member) = malformed_line member
+unread_line read.NoMemory = fixed_line fixed.NoMemory
 
 abbrev pub rejected_line : Request → Rejected → List ℕ
 rejected_line r why = line_text (rejected_status why) (rejected_text r.requester r.invoke why)

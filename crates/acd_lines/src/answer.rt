@@ -4,7 +4,7 @@ ghost use Rattle.std.specs.Prelude.{◌≡◌, ◌⊎◌};
 ghost use Rattle.acd_codec.specs.Reading.{reads_as};
 ghost use Rattle.acd_desk.specs.Ran.{standing};
 ghost use Rattle.acd_lines.specs.Input.{line_of, line_read, arrival};
-ghost use Rattle.acd_lines.specs.Answers.{malformed_line, fixed_line, rejected_line, IsWritten, Answers};
+ghost use Rattle.acd_lines.specs.Answers.{malformed_line, fixed_line, unread_line, rejected_line, IsWritten, Answers};
 ghost use Rattle.acd_lines.specs.Parts.{answered_text};
 
 use crate::answer_line::AnswerLine;
@@ -35,6 +35,16 @@ fn malformed(member: Member) -> AnswerLine
     AnswerLine::Fixed {
         status: MALFORMED_STATUS,
         body: member.malformed_text(),
+    }
+}
+
+// What is written for JSON that isn't read as a request.
+fn unread(fault: ReadFault) -> AnswerLine
+    ensures { answered_text result ≡ unread_line fault }
+{
+    match fault {
+        ReadFault::Malformed(member) => malformed(member),
+        ReadFault::NoMemory => fixed(FixedAnswer::NoMemory),
     }
 }
 
@@ -82,8 +92,7 @@ fn read<B: Book>(alloc: Global, desk: &mut Desk<B>, moment: u32, json: &[u8]) ->
 {
     match read_request(alloc, json) {
         Ok(request) => execute(alloc, desk, moment, &request),
-        Err(ReadFault::Malformed(member)) => malformed(member),
-        Err(ReadFault::NoMemory) => fixed(FixedAnswer::NoMemory),
+        Err(fault) => unread(fault),
     }
 }
 

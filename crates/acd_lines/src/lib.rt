@@ -8,6 +8,7 @@ mod importing;
 mod moment;
 mod outbox;
 mod partial;
+mod retry;
 mod sending;
 mod serve;
 mod session;

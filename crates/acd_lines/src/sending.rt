@@ -4,7 +4,8 @@ ghost use Rattle.std.specs.Prelude.{OnOk, OnErr};
 ghost use Rattle.std.specs.Io.KnownBytes.{Appends};
 ghost use Rattle.acd_lines.specs.Sent.{Begins};
 
-use std::io::{ErrorKind, Write};
+use crate::retry::retried;
+use std::io::Write;
 
 /// The writer failed, or was called as often as it may be.
 #[derive(Clone, Copy, Debug)]
@@ -25,11 +26,7 @@ pub fn send<W: Write>(writer: &mut W, calls: &mut u64, bytes: &[u8]) -> Result<(
         match writer.write(&bytes[done..]) {
             Ok(0) => return Err(Stopped),
             Ok(n) => done += n,
-            Err(e) => {
-                if e.kind() != ErrorKind::Interrupted {
-                    return Err(Stopped);
-                }
-            }
+            Err(e) => retried(e, Stopped)?,
         }
     }
     Ok(())

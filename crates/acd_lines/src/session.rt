@@ -9,12 +9,13 @@ ghost use Rattle.acd_lines.specs.Output.{IsInput, IsOutput, IsBegun, whole_lines
 
 use crate::outbox::Outbox;
 use crate::partial::Partial;
+use crate::retry::retried;
 use crate::sending::Stopped;
 use crate::serve::{feed, finish};
 use acd_book::Book;
 use acd_desk::Desk;
 use std::alloc::{AllocError, Global};
-use std::io::{ErrorKind, Read, Write};
+use std::io::{Read, Write};
 use thiserror::Error;
 
 /// Why not all lines were answered.
@@ -94,11 +95,7 @@ pub fn lines<B: Book, R: Read, W: Write>(
                 return Ok(());
             }
             Ok(n) => feed(alloc, desk, &mut partial, &mut outbox, writer, &chunk[..n])?,
-            Err(e) => {
-                if e.kind() != ErrorKind::Interrupted {
-                    return Err(LinesFault::Read);
-                }
-            }
+            Err(e) => retried(e, LinesFault::Read)?,
         }
     }
     Err(LinesFault::Read)

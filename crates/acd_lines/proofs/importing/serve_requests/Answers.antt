@@ -1,4 +1,4 @@
-use Rattle.std.proofs.Common.{[], ◌++◌, ◌∷◌, ◌≡◌, List, sym, ap, subst, ◌∙◌, arith, take, ◌+◌}
+use Rattle.std.proofs.Common.{List, sym, subst, take, ◌+◌}
 use Rattle.acd_terms.specs.declared.command.Request.{Request}
 use Rattle.acd_desk.specs.Ran.{standing}
 use Rattle.acd_lines.specs.Parts.{Imports}

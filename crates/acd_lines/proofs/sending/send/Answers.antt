@@ -1,6 +1,6 @@
 use Rattle.std.proofs.Common.{◌+◌}
 use Rattle.std.proofs.KnownBytes.{Appends-kept}
-use Rattle.acd_lines.proofs.Sends.{one_write, room_left, begins_part}
+use Rattle.acd_lines.proofs.Sends.{on_err, one_write, room_left, begins_part}
 use Rattle.acd_lines.proofs.sending.send.Goals as goal
 
 pub loop-done-preserved-in-Ok : goal.loop-done-preserved-in-Ok
@@ -15,5 +15,5 @@ returns-then-calls-eq0-clause-err g c = begins_part _ _ c.args.bytes.now c.loop-
 pub returns-in-Ok-eq0-clause-err : goal.returns-in-Ok-eq0-clause-err
 returns-in-Ok-eq0-clause-err g c = begins_part _ _ c.args.bytes.now (c.loop-done.done + c.in-Ok-eq0.field-0) (one_write _ _ _ c.args.bytes.now c.loop-done.done c.in-Ok-eq0.field-0 c.loop-done.invariant.sent c.in-Ok-eq0.ensures.bytes)
 
-pub returns-then-ne-clause-err : goal.returns-then-ne-clause-err
-returns-then-ne-clause-err g c = begins_part _ _ c.args.bytes.now c.loop-done.done (Appends-kept _ _ _ _ c.loop-done.invariant.sent c.in-Err.ensures.bytes)
+pub returns-in_err-retried-in-Err-clause-err : goal.returns-in_err-retried-in-Err-clause-err
+returns-in_err-retried-in-Err-clause-err g c = on_err _ _ (begins_part _ _ c.args.bytes.now c.loop-done.done (Appends-kept _ _ _ _ c.loop-done.invariant.sent c.in-Err.ensures.bytes))

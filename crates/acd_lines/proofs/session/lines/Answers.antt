@@ -3,11 +3,11 @@ use Rattle.std.specs.Io.KnownBytes.{Consumes}
 use Rattle.std.proofs.KnownBytes.{Consumes-nil, Consumes-kept, Consumes-trans}
 use Rattle.acd_desk.specs.Ran.{standing}
 use Rattle.acd_lines.specs.Answers.{Answers}
-use Rattle.acd_lines.proofs.Sends.{on_err}
+use Rattle.acd_lines.proofs.Sends.{on_err, if_fault}
 use Rattle.acd_lines.proofs.Turns.{chunk_read, starts, stands_same, input_ended, fed, all_done, end_stopped, feed_stopped, read_done, read_stopped, nothing_read}
 use Rattle.acd_lines.proofs.Telling.{all_told, read_told, some_told}
 use Rattle.acd_lines.proofs.session.lines.Goals as goal
-use Rattle.acd_lines.proofs.session.lines.Goals.{in-Ok+in_ok-feed-in-Ok, in-Err+else-ne}
+use Rattle.acd_lines.proofs.session.lines.Goals.{in-Ok+in_ok-feed-in-Ok, in-Err+in_ok-retried-in-Err}
 
 pub loop-init : goal.loop-init
 loop-init g c = (
@@ -41,7 +41,7 @@ loop-preserved g c =
             stands_same (Answers (standing g.B.Book)) 4109 c.args.desk.now (seen ++ take n w.deref.result.now) w.feed.new.partial c.match-read.partial [] [] w.feed.new.outbox.waiting.items c.match-read.outbox.waiting.items w.feed.new.desk c.match-read.desk
                 (g.W.Write.contents c.args.writer.now) (g.W.Write.contents w.feed.new.writer) (g.W.Write.contents c.match-read.writer) w.partial-is (ap (λ o. o.waiting.items) w.outbox-is) w.desk-is (ap g.W.Write.contents w.writer-is) after,
           )
-      | in-Err+else-ne w ↦ (
+      | in-Err+in_ok-retried-in-Err w ↦ (
         room,
         seen,
         Consumes-kept _ _ _ seen loop.2 w.in-Err.ensures.bytes,
@@ -97,11 +97,11 @@ returns-in_err-feed-in-Ok-clause-stopped g c =
     on_err _ _ (some_told (standing g.B.Book) (λ d x clean sound opened stop. g.met.B.Book.settled d.book x clean sound opened stop) (g.R.Read.remaining c.args.reader.now) c.args.desk.now c.feed.new.desk (g.W.Write.contents c.args.writer.now) (g.W.Write.contents c.feed.new.writer)
     (feed_stopped (Answers (standing g.B.Book)) 4109 c.args.desk.now seen (take n c.deref.result.now) c.loop.partial c.loop.outbox.waiting.items c.loop.desk c.feed.new.desk (g.W.Write.contents c.args.writer.now) (g.W.Write.contents c.loop.writer) (g.W.Write.contents c.feed.new.writer) (g.R.Read.remaining c.args.reader.now) (g.R.Read.remaining c.read.new.self) stands taken stopped))
 
-pub returns-then-ne-clause-stopped : goal.returns-then-ne-clause-stopped
-returns-then-ne-clause-stopped g c =
+pub returns-in_err-retried-in-Err-clause-stopped : goal.returns-in_err-retried-in-Err-clause-stopped
+returns-in_err-retried-in-Err-clause-stopped g c =
     let loop = c.loop.invariant in
-    some_told (standing g.B.Book) (λ d x clean sound opened stop. g.met.B.Book.settled d.book x clean sound opened stop) (g.R.Read.remaining c.args.reader.now) c.args.desk.now c.loop.desk (g.W.Write.contents c.args.writer.now) (g.W.Write.contents c.loop.writer)
-    (read_stopped (Answers (standing g.B.Book)) 4109 c.args.desk.now loop.1 c.loop.partial c.loop.outbox.waiting.items c.loop.desk (g.W.Write.contents c.args.writer.now) (g.W.Write.contents c.loop.writer) (g.R.Read.remaining c.args.reader.now) (g.R.Read.remaining c.loop.reader) loop.4 loop.2)
+    on_err _ _ (some_told (standing g.B.Book) (λ d x clean sound opened stop. g.met.B.Book.settled d.book x clean sound opened stop) (g.R.Read.remaining c.args.reader.now) c.args.desk.now c.loop.desk (g.W.Write.contents c.args.writer.now) (g.W.Write.contents c.loop.writer)
+    (read_stopped (Answers (standing g.B.Book)) 4109 c.args.desk.now loop.1 c.loop.partial c.loop.outbox.waiting.items c.loop.desk (g.W.Write.contents c.args.writer.now) (g.W.Write.contents c.loop.writer) (g.R.Read.remaining c.args.reader.now) (g.R.Read.remaining c.loop.reader) loop.4 loop.2))
 
 pub returns-clause-stopped : goal.returns-clause-stopped
 returns-clause-stopped g c =
@@ -109,11 +109,11 @@ returns-clause-stopped g c =
     some_told (standing g.B.Book) (λ d x clean sound opened stop. g.met.B.Book.settled d.book x clean sound opened stop) (g.R.Read.remaining c.args.reader.now) c.args.desk.now c.loop.desk (g.W.Write.contents c.args.writer.now) (g.W.Write.contents c.loop.writer)
     (read_stopped (Answers (standing g.B.Book)) 4109 c.args.desk.now loop.1 c.loop.partial c.loop.outbox.waiting.items c.loop.desk (g.W.Write.contents c.args.writer.now) (g.W.Write.contents c.loop.writer) (g.R.Read.remaining c.args.reader.now) (g.R.Read.remaining c.loop.reader) loop.4 loop.2)
 
-pub returns-then-ne-clause-read : goal.returns-then-ne-clause-read
-returns-then-ne-clause-read g c = λ _.
+pub returns-in_err-retried-in-Err-clause-read : goal.returns-in_err-retried-in-Err-clause-read
+returns-in_err-retried-in-Err-clause-read g c =
     let loop = c.loop.invariant in
-    read_told (standing g.B.Book) (λ d x clean sound opened stop. g.met.B.Book.settled d.book x clean sound opened stop) (g.R.Read.remaining c.args.reader.now) (g.R.Read.remaining c.read.new.self) c.args.desk.now c.loop.desk (g.W.Write.contents c.args.writer.now) (g.W.Write.contents c.loop.writer)
-    (read_done (Answers (standing g.B.Book)) 4109 c.args.desk.now loop.1 c.loop.partial c.loop.outbox.waiting.items c.loop.desk (g.W.Write.contents c.args.writer.now) (g.W.Write.contents c.loop.writer) (g.R.Read.remaining c.args.reader.now) (g.R.Read.remaining c.read.new.self) loop.4 loop.3 (Consumes-kept _ _ _ loop.1 loop.2 c.in-Err.ensures.bytes))
+    if_fault _ _ _ (read_told (standing g.B.Book) (λ d x clean sound opened stop. g.met.B.Book.settled d.book x clean sound opened stop) (g.R.Read.remaining c.args.reader.now) (g.R.Read.remaining c.read.new.self) c.args.desk.now c.loop.desk (g.W.Write.contents c.args.writer.now) (g.W.Write.contents c.loop.writer)
+    (read_done (Answers (standing g.B.Book)) 4109 c.args.desk.now loop.1 c.loop.partial c.loop.outbox.waiting.items c.loop.desk (g.W.Write.contents c.args.writer.now) (g.W.Write.contents c.loop.writer) (g.R.Read.remaining c.args.reader.now) (g.R.Read.remaining c.read.new.self) loop.4 loop.3 (Consumes-kept _ _ _ loop.1 loop.2 c.in-Err.ensures.bytes)))
 
 pub returns-clause-read : goal.returns-clause-read
 returns-clause-read g c = λ _.

@@ -1,0 +1,18 @@
+//! A call of a stream that failed.
+
+ghost use Rattle.std.specs.Prelude.{◌≡◌, ◌≢◌, Ok, Err};
+ghost use Rattle.std.specs.IoError.{error_kind};
+
+use std::io::{Error, ErrorKind};
+
+/// A call that was interrupted is made again; any other failure is the fault that is told.
+pub(crate) fn retried<F: Copy>(error: Error, fault: F) -> Result<(), F>
+    ensures again { error_kind error ≡ ErrorKind.Interrupted → result ≡ Ok tt }
+    ensures fault { error_kind error ≢ ErrorKind.Interrupted → result ≡ Err fault }
+{
+    if error.kind() == ErrorKind::Interrupted {
+        Ok(())
+    } else {
+        Err(fault)
+    }
+}
