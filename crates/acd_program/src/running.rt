@@ -1,12 +1,13 @@
 //! The program over three streams.
 
-ghost use Rattle.std.specs.Prelude.{◌≡◌, IfOk};
-ghost use Rattle.acd_program.specs.Statuses.{IsDone};
+ghost use Rattle.std.specs.Prelude.{◌≡◌, ◌⊎◌, IfOk};
+ghost use Rattle.acd_program.specs.Statuses.{IsDone, TellsConnections};
 
 use crate::fault::Fault;
 use crate::file::{FileDesk, close, open, open_or_create};
 use crate::memory::lines_over_memory;
 use crate::plan::read_plan;
+use crate::serving::serve;
 use crate::task::{Task, parse};
 use acd_desk::{Audit, DeskFault};
 use acd_lines::{LinesFault, import, lines};
@@ -150,13 +151,15 @@ fn after<'a>(status: u8, done: Result<(), Fault<'a>>) -> Result<u8, Fault<'a>>
 }
 
 // Does it, and gives the exit status where no fault ended it.
-fn execute<'a, R: Read, W: Write>(
+fn execute<'a, R: Read, W: Write, E: Write>(
     rt: &HostRuntime,
     task: Task<'a>,
     reader: &mut R,
     writer: &mut W,
+    errors: &mut E,
 ) -> Result<u8, Fault<'a>>
-    ensures { IfOk result IsDone }
+    ensures status { IfOk result IsDone }
+    ensures told { IfOk result (λ status. (errors.new ≡ errors.old) ⊎ ((status ≡ 0) × TellsConnections (E.contents errors.old) (E.contents errors.new))) }
 {
     match task {
         Task::Lines { file: None } => {
@@ -166,6 +169,14 @@ fn execute<'a, R: Read, W: Write>(
         Task::Lines { file: Some(file) } => {
             after(SUCCESS, lines_over_file(rt, file, reader, writer))
         }
+        Task::Serve {
+            file,
+            port,
+            connections,
+        } => after(
+            SUCCESS,
+            serve(rt, file, port, connections, writer, errors),
+        ),
         Task::Import { file, plan } => after(SUCCESS, import_plan(rt, file, plan, writer)),
         Task::Report { file } => after(SUCCESS, print_report(rt, file, writer)),
         Task::Export { file } => after(SUCCESS, print_export(rt, file, writer)),
@@ -212,8 +223,10 @@ pub fn program<S: AsStr, R: Read, W: Write, E: Write>(
     writer: &mut W,
     errors: &mut E,
 ) -> u8
-    // success says nothing on the stream of errors
-    ensures success { result ≡ 0 → errors.new ≡ errors.old }
+    // success says nothing on the stream of errors but the lines of connections' faults, or a beginning of them
+    ensures success { result ≡ 0 → (errors.new ≡ errors.old) ⊎ TellsConnections (E.contents errors.old) (E.contents errors.new) }
+    // a difference that an audit tells says nothing there
+    ensures differs { result ≡ 3 → errors.new ≡ errors.old }
     // for a command line that is refused nothing is read, and nothing is written but why
     ensures refused { result ≡ 2 → (reader.new ≡ reader.old) × (writer.new ≡ writer.old) }
 {
@@ -221,7 +234,7 @@ pub fn program<S: AsStr, R: Read, W: Write, E: Write>(
         Ok(task) => task,
         Err(error) => return tell(rt.alloc(), &error, writer, errors),
     };
-    match execute(rt, task, reader, writer) {
+    match execute(rt, task, reader, writer, errors) {
         Ok(status) => status,
         Err(fault) => fail(fault, errors),
     }
