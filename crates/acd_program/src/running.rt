@@ -173,10 +173,7 @@ fn execute<'a, R: Read, W: Write, E: Write>(
             file,
             port,
             connections,
-        } => after(
-            SUCCESS,
-            serve(rt, file, port, connections, writer, errors),
-        ),
+        } => after(SUCCESS, serve(rt, file, port, connections, writer, errors)),
         Task::Import { file, plan } => after(SUCCESS, import_plan(rt, file, plan, writer)),
         Task::Report { file } => after(SUCCESS, print_report(rt, file, writer)),
         Task::Export { file } => after(SUCCESS, print_export(rt, file, writer)),

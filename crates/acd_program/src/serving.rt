@@ -35,7 +35,14 @@ fn answer<'a, E: Write>(
 ) -> Result<(), Fault<'a>>
     ensures { OnOk result (TellsConnections (E.contents errors.old) (E.contents errors.new)) }
 {
-    match serve_on(rt, rt.alloc(), listener, desk, u64::from(connections), errors) {
+    match serve_on(
+        rt,
+        rt.alloc(),
+        listener,
+        desk,
+        u64::from(connections),
+        errors,
+    ) {
         Ok(()) | Err(ServeFault::Write) => Ok(()),
         Err(ServeFault::NoMemory) => Err(Fault::NoMemory),
     }

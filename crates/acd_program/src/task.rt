@@ -10,7 +10,9 @@ use std::convert::AsStr;
 #[derive(Clone, Copy, Debug, PartialEq, Eq)]
 pub(crate) enum Task<'a> {
     /// Answer the lines of standard input, over a desk in memory or in a file.
-    Lines { file: Option<&'a str> },
+    Lines {
+        file: Option<&'a str>,
+    },
     /// Answer so many connections over HTTP.
     Serve {
         file: &'a str,
@@ -18,13 +20,22 @@ pub(crate) enum Task<'a> {
         connections: u32,
     },
     /// Take the requests of a plan.
-    Import { file: &'a str, plan: &'a str },
+    Import {
+        file: &'a str,
+        plan: &'a str,
+    },
     /// Print the queue report.
-    Report { file: &'a str },
+    Report {
+        file: &'a str,
+    },
     /// Print all event reports.
-    Export { file: &'a str },
+    Export {
+        file: &'a str,
+    },
     /// Run the kept requests again, and compare what they give with the file.
-    Audit { file: &'a str },
+    Audit {
+        file: &'a str,
+    },
 }
 
 const FILE: &str = "file";

@@ -63,10 +63,7 @@ fn altered_files(rt: HostRuntime) {
 // The moment of an event, and a station that no request has added.
 fn differences() -> [(&'static str, &'static str); 2] {
     [
-        (
-            "UPDATE events SET moment = 9",
-            "differs at request 3\n",
-        ),
+        ("UPDATE events SET moment = 9", "differs at request 3\n"),
         (
             "INSERT INTO stations VALUES (1203)",
             "differs at request 4\n",

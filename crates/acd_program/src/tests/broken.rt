@@ -50,7 +50,16 @@ fn output_that_cannot_be_written(rt: HostRuntime) {
     assert!(rt; cannot_write(&rt, &["acd", "lines"], FIRST_RUN));
     assert!(rt; cannot_write(&rt, &["acd", "--help"], ""));
     let file = free_path(&rt, "unwritten.db").expect(&rt, "a path");
-    assert!(rt; gives(&rt, &["acd", "lines", "--file", file.as_str()], "", 0, "", ""));
+    assert!(rt;
+        gives(
+            &rt,
+            &["acd", "lines", "--file", file.as_str()],
+            "",
+            0,
+            "",
+            ""
+        )
+    );
     for command in ["report", "export", "audit"] {
         let words = ["acd", command, "--file", file.as_str()];
         assert!(rt; cannot_write(&rt, &words, ""), "{command}");
@@ -63,6 +72,12 @@ fn output_that_cannot_be_written(rt: HostRuntime) {
 fn faults_that_cannot_be_told(rt: HostRuntime) {
     let mut reader: &[u8] = b"";
     let words = ["acd", "report", "--file", "/"];
-    assert_eq!(rt; program(&rt, &words, &mut reader, &mut Broken, &mut Broken), 1);
-    assert_eq!(rt; program(&rt, &["acd"], &mut reader, &mut Broken, &mut Broken), 2);
+    assert_eq!(rt;
+        program(&rt, &words, &mut reader, &mut Broken, &mut Broken),
+        1
+    );
+    assert_eq!(rt;
+        program(&rt, &["acd"], &mut reader, &mut Broken, &mut Broken),
+        2
+    );
 }

@@ -15,11 +15,24 @@ fn write_plan(rt: &HostRuntime, path: &str, len: usize) -> io::Result<()> {
 }
 
 // Whether the import of a plan of so many bytes gives this.
-fn imports(rt: &HostRuntime, len: usize, status: u8, output: &str, fault: &str) -> io::Result<bool> {
+fn imports(
+    rt: &HostRuntime,
+    len: usize,
+    status: u8,
+    output: &str,
+    fault: &str,
+) -> io::Result<bool> {
     let file = free_path(rt, "long.db")?;
     let plan = free_path(rt, "long.csv")?;
     write_plan(rt, plan.as_str(), len)?;
-    let words = ["acd", "import", "--file", file.as_str(), "--plan", plan.as_str()];
+    let words = [
+        "acd",
+        "import",
+        "--file",
+        file.as_str(),
+        "--plan",
+        plan.as_str(),
+    ];
     let gives = gives(rt, &words, "", status, output, fault);
     remove(rt, plan.as_str())?;
     remove(rt, file.as_str())?;

@@ -75,7 +75,16 @@ fn free_port(rt: &HostRuntime) -> io::Result<u16> {
 fn serves_two(rt: &HostRuntime, file: &str, port: u16) -> io::Result<bool> {
     let number = format!(in rt.alloc(); "{port}")?;
     let said = format!(in rt.alloc(); "listening on 127.0.0.1:{port}\n")?;
-    let words = ["acd", "serve", "--file", file, "--port", number.as_str(), "--connections", "2"];
+    let words = [
+        "acd",
+        "serve",
+        "--file",
+        file,
+        "--port",
+        number.as_str(),
+        "--connections",
+        "2",
+    ];
     let mut reader: &[u8] = b"";
     let mut errors = Vec::new(rt.alloc());
     let mut callers = Callers {
@@ -86,11 +95,13 @@ fn serves_two(rt: &HostRuntime, file: &str, port: u16) -> io::Result<bool> {
         second: None,
     };
     let status = program(rt, &words, &mut reader, &mut callers, &mut errors);
-    Ok(status == 0
-        && callers.written.as_slice() == said.as_bytes()
-        && errors.as_slice() == b"acd: connection 2: truncated\n"
-        && is_sent(rt, callers.first, added())
-        && is_sent(rt, callers.second, b""))
+    Ok(
+        status == 0
+            && callers.written.as_slice() == said.as_bytes()
+            && errors.as_slice() == b"acd: connection 2: truncated\n"
+            && is_sent(rt, callers.first, added())
+            && is_sent(rt, callers.second, b""),
+    )
 }
 
 #[test]
@@ -98,13 +109,31 @@ fn desk_over_http(rt: HostRuntime) {
     let file = free_path(&rt, "served.db").expect(&rt, "a path");
     let port = free_port(&rt).expect(&rt, "a port");
     assert!(rt; serves_two(&rt, file.as_str(), port).expect(&rt, "memory"));
-    assert!(rt; gives(&rt, &["acd", "report", "--file", file.as_str()], "", 0, report(), ""));
+    assert!(rt;
+        gives(
+            &rt,
+            &["acd", "report", "--file", file.as_str()],
+            "",
+            0,
+            report(),
+            ""
+        )
+    );
     let _ = remove(&rt, file.as_str());
 }
 
 // Whether serving ends with this fault.
 fn ends_with(rt: &HostRuntime, file: &str, port: &str, fault: &str) -> bool {
-    let words = ["acd", "serve", "--file", file, "--port", port, "--connections", "1"];
+    let words = [
+        "acd",
+        "serve",
+        "--file",
+        file,
+        "--port",
+        port,
+        "--connections",
+        "1",
+    ];
     gives(rt, &words, "", 1, "", fault)
 }
 

@@ -106,9 +106,24 @@ fn ports_and_connections(rt: HostRuntime) {
     for connections in ["0", "1000001", "all", ""] {
         serves_not(&rt, alloc, "8080", connections);
     }
-    tells(&rt, alloc, &["acd", "serve", "--file", "a.db", "--port", "1"], true);
-    tells(&rt, alloc, &["acd", "serve", "--file", "a.db", "--connections", "1"], true);
-    tells(&rt, alloc, &["acd", "serve", "--port", "1", "--connections", "1"], true);
+    tells(
+        &rt,
+        alloc,
+        &["acd", "serve", "--file", "a.db", "--port", "1"],
+        true,
+    );
+    tells(
+        &rt,
+        alloc,
+        &["acd", "serve", "--file", "a.db", "--connections", "1"],
+        true,
+    );
+    tells(
+        &rt,
+        alloc,
+        &["acd", "serve", "--port", "1", "--connections", "1"],
+        true,
+    );
     tells(&rt, alloc, &["acd", "serve", "--help"], false);
 }
 
