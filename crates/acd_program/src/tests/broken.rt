@@ -31,7 +31,7 @@ fn cannot_write(rt: &HostRuntime, words: &[&str], input: &str) -> bool {
     let mut reader = input.as_bytes();
     let mut errors = Vec::new(rt.alloc());
     let status = program(rt, words, &mut reader, &mut Broken, &mut errors);
-    status == 1 && errors.as_slice() == b"acd: cannot write\n"
+    status == 1 && errors.as_slice() == b"acd: cannot write\n".as_slice()
 }
 
 #[test]

@@ -98,7 +98,7 @@ fn serves_two(rt: &HostRuntime, file: &str, port: u16) -> io::Result<bool> {
     Ok(
         status == 0
             && callers.written.as_slice() == said.as_bytes()
-            && errors.as_slice() == b"acd: connection 2: truncated\n"
+            && errors.as_slice() == b"acd: connection 2: truncated\n".as_slice()
             && is_sent(rt, callers.first, added())
             && is_sent(rt, callers.second, b""),
     )
