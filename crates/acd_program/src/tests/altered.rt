@@ -1,6 +1,7 @@
 //! Files that were changed by hand.
 
-use super::files::{free_path, remove};
+use super::faults::all_end_with;
+use super::files::{cannot_open, free_path, remove};
 use super::scripts::{FIRST_ANSWERS, FIRST_RUN, gives};
 use sqlite::{Connection, Error};
 use std::process::Abort;
@@ -58,6 +59,29 @@ fn altered_files(rt: HostRuntime) {
     for (sql, fault) in faults() {
         assert!(rt; report_ends_with(&rt, file.as_str(), sql, fault), "{sql}");
     }
+}
+
+// Whether the commands over a file that another connection has open end with this fault.
+fn is_shut(rt: &HostRuntime, file: &str, fault: &str) -> bool {
+    let words = ["acd", "lines", "--file", file];
+    if !gives(rt, &words, FIRST_RUN, 0, FIRST_ANSWERS, "") {
+        return false;
+    }
+    match Connection::open(rt, file) {
+        Ok(conn) => {
+            let ends = all_end_with(rt, file, fault);
+            ends && conn.close().is_ok()
+        }
+        Err(_) => false,
+    }
+}
+
+#[test]
+fn file_in_use(rt: HostRuntime) {
+    let file = free_path(&rt, "used.db").expect(&rt, "a path");
+    let fault = cannot_open(&rt, file.as_str()).expect(&rt, "memory");
+    assert!(rt; is_shut(&rt, file.as_str(), fault.as_str()));
+    let _ = remove(&rt, file.as_str());
 }
 
 // The moment of an event, and a station that no request has added.
