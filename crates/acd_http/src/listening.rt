@@ -67,6 +67,22 @@ fn take_rest(stream: &TcpStream) {
     }
 }
 
+// The moment is that at which the connection was accepted.
+fn serve_stream<B: Book, C: Clock>(
+    clock: &C,
+    alloc: Global,
+    routes: &Routes,
+    stream: &TcpStream,
+    desk: &mut Desk<B>,
+) -> Result<(), ExchangeFault>
+    ensures { Served (standing B.Book) desk.old result desk.new }
+{
+    let moment = moment_now(clock);
+    let mut reader = stream;
+    let mut writer = stream;
+    exchange(alloc, routes, desk, moment, &mut reader, &mut writer)
+}
+
 // Waits for a connection and serves it. It is closed behind it.
 fn serve_next<B: Book, C: Clock>(
     clock: &C,
@@ -80,8 +96,7 @@ fn serve_next<B: Book, C: Clock>(
     let Ok((stream, _)) = listener.accept() else {
         return Err(ExchangeFault::Read);
     };
-    let moment = moment_now(clock);
-    let outcome = exchange(alloc, routes, desk, moment, &mut &stream, &mut &stream);
+    let outcome = serve_stream(clock, alloc, routes, &stream, desk);
     take_rest(&stream);
     outcome
 }

@@ -1,7 +1,7 @@
 //! The program over three streams.
 
 ghost use Rattle.std.specs.Prelude.{◌≡◌, ◌⊎◌, IfOk};
-ghost use Rattle.acd_program.specs.Statuses.{IsDone, TellsConnections};
+ghost use Rattle.acd_program.specs.Statuses.{IsDone, TellsConnections, audit_status};
 
 use crate::fault::Fault;
 use crate::file::{FileDesk, close, open, open_or_create};
@@ -95,9 +95,9 @@ fn print_export<'a, W: Write>(
     print_read(found, desk, writer)
 }
 
-// Prints what an audit told. Where something differs that is no fault.
+// Prints what an audit told, and gives the exit status. Where something differs that is no fault.
 fn print_audit<'a, W: Write>(told: Audit, writer: &mut W) -> Result<u8, Fault<'a>>
-    ensures { IfOk result IsDone }
+    ensures { IfOk result (λ status. status ≡ audit_status told) }
 {
     match told {
         Audit::Sound => match writeln!(writer, "sound") {
