@@ -1,6 +1,6 @@
 //! The program over three streams.
 
-ghost use Rattle.std.specs.Prelude.{◌≡◌, ◌⊎◌, IfOk};
+ghost use Rattle.std.specs.Prelude.{◌≡◌, ◌≢◌, ◌⊎◌, IfOk};
 ghost use Rattle.acd_program.specs.Statuses.{IsDone, TellsConnections, audit_status};
 
 use crate::fault::Fault;
@@ -173,7 +173,10 @@ fn execute<'a, R: Read, W: Write, E: Write>(
             file,
             port,
             connections,
-        } => after(SUCCESS, serve(rt, file, port, connections, writer, errors)),
+        } => {
+            serve(rt, file, port, connections, writer, errors)?;
+            Ok(SUCCESS)
+        }
         Task::Import { file, plan } => after(SUCCESS, import_plan(rt, file, plan, writer)),
         Task::Report { file } => after(SUCCESS, print_report(rt, file, writer)),
         Task::Export { file } => after(SUCCESS, print_export(rt, file, writer)),
@@ -193,6 +196,7 @@ fn fail<E: Write>(fault: Fault<'_>, errors: &mut E) -> u8
 fn tell<W: Write, E: Write>(alloc: Global, error: &Error, writer: &mut W, errors: &mut E) -> u8
     ensures success { result ≡ 0 → errors.new ≡ errors.old }
     ensures refused { result ≡ 2 → writer.new ≡ writer.old }
+    ensures differs { result ≢ 3 }
 {
     if error.kind() == ErrorKind::OutOfMemory {
         return fail(Fault::NoMemory, errors);

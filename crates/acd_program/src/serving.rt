@@ -43,7 +43,8 @@ fn answer<'a, E: Write>(
         u64::from(connections),
         errors,
     ) {
-        Ok(()) | Err(ServeFault::Write) => Ok(()),
+        Ok(()) => Ok(()),
+        Err(ServeFault::Write) => Ok(()),
         Err(ServeFault::NoMemory) => Err(Fault::NoMemory),
     }
 }
