@@ -15,8 +15,8 @@ use acd_desk::Desk;
 use acd_lines::{Stopped, send};
 use itoa::Buffer;
 use std::alloc::Global;
-use std::io::Write;
-use std::net::TcpListener;
+use std::io::{Read, Write};
+use std::net::{TcpListener, TcpStream};
 use std::time::{Clock, SystemTime, UNIX_EPOCH};
 use thiserror::Error;
 
@@ -48,6 +48,41 @@ fn moment_now(clock: &impl Clock) -> u32 {
     }
 }
 
+/// How often more is read than the request, at most.
+const REST_READS: u8 = 16;
+
+// Takes what has come beyond the request, and waits for no more: a connection that is closed over bytes that were not
+// read is reset, and its peer may lose the reply.
+fn take_rest(stream: &TcpStream) {
+    if stream.set_nonblocking(true).is_err() {
+        return;
+    }
+    let mut chunk = [0u8; 4096];
+    let mut reader = stream;
+    for _ in 0..REST_READS {
+        match reader.read(&mut chunk) {
+            Ok(0) | Err(_) => return,
+            Ok(_) => {}
+        }
+    }
+}
+
+// The moment is that at which the connection was accepted.
+fn serve_stream<B: Book, C: Clock>(
+    clock: &C,
+    alloc: Global,
+    routes: &Routes,
+    stream: &TcpStream,
+    desk: &mut Desk<B>,
+) -> Result<(), ExchangeFault>
+    ensures { Served (standing B.Book) desk.old result desk.new }
+{
+    let moment = moment_now(clock);
+    let mut reader = stream;
+    let mut writer = stream;
+    exchange(alloc, routes, desk, moment, &mut reader, &mut writer)
+}
+
 // Waits for a connection and serves it. It is closed behind it.
 fn serve_next<B: Book, C: Clock>(
     clock: &C,
@@ -61,8 +96,9 @@ fn serve_next<B: Book, C: Clock>(
     let Ok((stream, _)) = listener.accept() else {
         return Err(ExchangeFault::Read);
     };
-    let moment = moment_now(clock);
-    exchange(alloc, routes, desk, moment, &mut &stream, &mut &stream)
+    let outcome = serve_stream(clock, alloc, routes, &stream, desk);
+    take_rest(&stream);
+    outcome
 }
 
 fn fault_text(fault: ExchangeFault) -> &'static [u8]

@@ -7,11 +7,12 @@ use crate::serving::{ExchangeFault, exchange};
 use acd_book::{Book, MemoryBook};
 use acd_desk::Desk;
 use acd_terms::Limits;
-use std::io::{self, Write};
+use std::io::{self, ErrorKind, Read, Write};
 use std::process::Abort;
 
 mod listening;
 mod reads;
+mod refusals;
 
 fn group() -> &'static [u8] {
     b"POST /csta HTTP/1.1\r\nHost: desk\r\nContent-Length: 104\r\n\r\n{\"requester\":\"plan\",\"invoke\":1,\"service\":\"addGroup\",\"device\":\"100\",\"name\":\"Billing\",\"ring\":20,\"wrap\":30}"
@@ -106,6 +107,42 @@ fn cut_at_each_length(rt: HostRuntime) {
         assert!(rt; matches!(result, Err(ExchangeFault::Truncated)), "{n}");
     }
     assert!(rt; output.is_empty());
+    assert_eq!(rt; executed(&rt, desk), 0);
+}
+
+/// Gives its bytes, and then fails for good.
+#[derive(Drop)]
+struct Torn<'a> {
+    left: &'a [u8],
+}
+
+impl Read for Torn<'_> {
+    fn read(&mut self, buf: &mut [u8]) -> io::Result<usize> {
+        if self.left.is_empty() {
+            return Err(io::Error::from(ErrorKind::ConnectionReset));
+        }
+        self.left.read(buf)
+    }
+}
+
+// The reader fails after so many bytes of the request: nothing is written, and nothing changes.
+fn fails_at(rt: &(impl Abort + AllocGlobal), desk: &mut Desk<MemoryBook>, n: usize) {
+    let routes = Routes::new(rt.alloc()).expect(rt, "routes");
+    let mut reader = Torn {
+        left: &group()[..n.min(group().len())],
+    };
+    let mut output = Vec::new(rt.alloc());
+    let result = exchange(rt.alloc(), &routes, desk, 0, &mut reader, &mut output);
+    assert!(rt; matches!(result, Err(ExchangeFault::Read)), "{n}");
+    assert!(rt; output.is_empty(), "{n}");
+}
+
+#[test]
+fn reader_fails_at_each_length(rt: HostRuntime) {
+    let mut desk = opened(&rt);
+    for n in 0..160 {
+        fails_at(&rt, &mut desk, n);
+    }
     assert_eq!(rt; executed(&rt, desk), 0);
 }
 

@@ -35,6 +35,9 @@ pub(crate) enum Fault<'a> {
     Read,
     #[error("cannot write")]
     Write,
+    /// The port that is taken, or isn't given to this program.
+    #[error("cannot listen on port {0}")]
+    CannotListen(u16),
 }
 
 // The table's name in the file.

@@ -11,6 +11,7 @@ mod file;
 mod memory;
 mod plan;
 mod running;
+mod serving;
 mod session;
 mod task;
 #[cfg(test)]

@@ -1,12 +1,13 @@
 //! The program over three streams.
 
-ghost use Rattle.std.specs.Prelude.{◌≡◌, IfOk};
-ghost use Rattle.acd_program.specs.Statuses.{IsDone};
+ghost use Rattle.std.specs.Prelude.{◌≡◌, ◌≢◌, ◌⊎◌, IfOk};
+ghost use Rattle.acd_program.specs.Statuses.{IsDone, TellsConnections, audit_status};
 
 use crate::fault::Fault;
 use crate::file::{FileDesk, book_of, close, close_book, open, open_or_create};
 use crate::memory::lines_over_memory;
 use crate::plan::read_plan;
+use crate::serving::serve;
 use crate::session::lines_over_book;
 use crate::task::{Task, parse};
 use acd_desk::{Audit, DeskFault};
@@ -92,9 +93,9 @@ fn print_export<'a, W: Write>(
     print_read(found, desk, writer)
 }
 
-// Prints what an audit told. Where something differs that is no fault.
+// Prints what an audit told, and gives the exit status. Where something differs that is no fault.
 fn print_audit<'a, W: Write>(told: Audit, writer: &mut W) -> Result<u8, Fault<'a>>
-    ensures { IfOk result IsDone }
+    ensures { IfOk result (λ status. status ≡ audit_status told) }
 {
     match told {
         Audit::Sound => match writeln!(writer, "sound") {
@@ -148,13 +149,15 @@ fn after<'a>(status: u8, done: Result<(), Fault<'a>>) -> Result<u8, Fault<'a>>
 }
 
 // Does it, and gives the exit status where no fault ended it.
-fn execute<'a, R: Read, W: Write>(
+fn execute<'a, R: Read, W: Write, E: Write>(
     rt: &HostRuntime,
     task: Task<'a>,
     reader: &mut R,
     writer: &mut W,
+    errors: &mut E,
 ) -> Result<u8, Fault<'a>>
-    ensures { IfOk result IsDone }
+    ensures status { IfOk result IsDone }
+    ensures told { IfOk result (λ status. (errors.new ≡ errors.old) ⊎ ((status ≡ 0) × TellsConnections (E.contents errors.old) (E.contents errors.new))) }
 {
     match task {
         Task::Lines { file: None } => {
@@ -163,6 +166,14 @@ fn execute<'a, R: Read, W: Write>(
         }
         Task::Lines { file: Some(file) } => {
             after(SUCCESS, lines_over_file(rt, file, reader, writer))
+        }
+        Task::Serve {
+            file,
+            port,
+            connections,
+        } => {
+            serve(rt, file, port, connections, writer, errors)?;
+            Ok(SUCCESS)
         }
         Task::Import { file, plan } => after(SUCCESS, import_plan(rt, file, plan, writer)),
         Task::Report { file } => after(SUCCESS, print_report(rt, file, writer)),
@@ -183,6 +194,7 @@ fn fail<E: Write>(fault: Fault<'_>, errors: &mut E) -> u8
 fn tell<W: Write, E: Write>(alloc: Global, error: &Error, writer: &mut W, errors: &mut E) -> u8
     ensures success { result ≡ 0 → errors.new ≡ errors.old }
     ensures refused { result ≡ 2 → writer.new ≡ writer.old }
+    ensures differs { result ≢ 3 }
 {
     if error.kind() == ErrorKind::OutOfMemory {
         return fail(Fault::NoMemory, errors);
@@ -210,8 +222,10 @@ pub fn program<S: AsStr, R: Read, W: Write, E: Write>(
     writer: &mut W,
     errors: &mut E,
 ) -> u8
-    // success says nothing on the stream of errors
-    ensures success { result ≡ 0 → errors.new ≡ errors.old }
+    // success says nothing on the stream of errors but the lines of connections' faults, or a beginning of them
+    ensures success { result ≡ 0 → (errors.new ≡ errors.old) ⊎ TellsConnections (E.contents errors.old) (E.contents errors.new) }
+    // a difference that an audit tells says nothing there
+    ensures differs { result ≡ 3 → errors.new ≡ errors.old }
     // for a command line that is refused nothing is read, and nothing is written but why
     ensures refused { result ≡ 2 → (reader.new ≡ reader.old) × (writer.new ≡ writer.old) }
 {
@@ -219,7 +233,7 @@ pub fn program<S: AsStr, R: Read, W: Write, E: Write>(
         Ok(task) => task,
         Err(error) => return tell(rt.alloc(), &error, writer, errors),
     };
-    match execute(rt, task, reader, writer) {
+    match execute(rt, task, reader, writer, errors) {
         Ok(status) => status,
         Err(fault) => fail(fault, errors),
     }

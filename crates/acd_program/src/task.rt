@@ -1,5 +1,6 @@
 //! What a command line asks for.
 
+use clap::builder::ValueParser;
 use clap::error::ErrorKind;
 use clap::{Arg, ArgAction, ArgMatches, Command, Error};
 use std::alloc::{AllocError, Global};
@@ -9,20 +10,44 @@ use std::convert::AsStr;
 #[derive(Clone, Copy, Debug, PartialEq, Eq)]
 pub(crate) enum Task<'a> {
     /// Answer the lines of standard input, over a desk in memory or in a file.
-    Lines { file: Option<&'a str> },
+    Lines {
+        file: Option<&'a str>,
+    },
+    /// Answer so many connections over HTTP.
+    Serve {
+        file: &'a str,
+        port: u16,
+        connections: u32,
+    },
     /// Take the requests of a plan.
-    Import { file: &'a str, plan: &'a str },
+    Import {
+        file: &'a str,
+        plan: &'a str,
+    },
     /// Print the queue report.
-    Report { file: &'a str },
+    Report {
+        file: &'a str,
+    },
     /// Print all event reports.
-    Export { file: &'a str },
+    Export {
+        file: &'a str,
+    },
     /// Run the kept requests again, and compare what they give with the file.
-    Audit { file: &'a str },
+    Audit {
+        file: &'a str,
+    },
 }
 
 const FILE: &str = "file";
 
 const PLAN: &str = "plan";
+
+const PORT: &str = "port";
+
+const CONNECTIONS: &str = "connections";
+
+/// How many connections are served at most.
+const MOST_CONNECTIONS: u64 = 1_000_000;
 
 fn file_option<'a>(alloc: Global) -> Arg<'a> {
     Arg::new(alloc, FILE)
@@ -40,6 +65,23 @@ fn plan_option<'a>(alloc: Global) -> Arg<'a> {
         .action(ArgAction::Set)
 }
 
+// An option for a number from 1 on. It is required.
+fn number_option<'a>(
+    alloc: Global,
+    name: &'a str,
+    letter: &'a str,
+    help: &'a str,
+    most: u64,
+) -> Arg<'a> {
+    Arg::new(alloc, name)
+        .long(name)
+        .value_name(letter)
+        .help(help)
+        .value_parser(ValueParser::Unsigned(1, most))
+        .required(true)
+        .action(ArgAction::Set)
+}
+
 fn lines_command<'a>(alloc: Global) -> Result<Command<'a>, AllocError> {
     Command::new(alloc, "lines")
         .about("Answer requests in lines: a moment, a space and the request as JSON")
@@ -47,6 +89,29 @@ fn lines_command<'a>(alloc: Global) -> Result<Command<'a>, AllocError> {
             "Example:\n  acd lines --file desk.db < requests\n\nWithout --file the desk is in memory, and ends with the input. A file that isn't\nthere, or has no bytes, is made.",
         )
         .arg(file_option(alloc))
+}
+
+fn serve_command<'a>(alloc: Global) -> Result<Command<'a>, AllocError> {
+    Command::new(alloc, "serve")
+        .about("Answer requests over HTTP on 127.0.0.1")
+        .after_help(
+            "Example:\n  acd serve --file desk.db --port 8080 --connections 1000\n\nConnections are served one after the other, each with one request; behind the last one\nthe command ends. A file that isn't there, or has no bytes, is made.",
+        )
+        .arg(file_option(alloc).required(true))?
+        .arg(number_option(
+            alloc,
+            PORT,
+            "P",
+            "The port to listen on, from 1 to 65535",
+            u64::from(u16::MAX),
+        ))?
+        .arg(number_option(
+            alloc,
+            CONNECTIONS,
+            "N",
+            "How many connections to serve, from 1 to 1000000",
+            MOST_CONNECTIONS,
+        ))
 }
 
 fn import_command<'a>(alloc: Global) -> Result<Command<'a>, AllocError> {
@@ -87,6 +152,7 @@ fn all_commands<'a>(alloc: Global) -> Result<Command<'a>, AllocError> {
         .about("The desk of a help line: an automatic call distributor")
         .subcommand_required(true)
         .subcommand(lines_command(alloc)?)?
+        .subcommand(serve_command(alloc)?)?
         .subcommand(import_command(alloc)?)?
         .subcommand(report_command(alloc)?)?
         .subcommand(export_command(alloc)?)?
@@ -108,9 +174,20 @@ fn task_of<'a>(command: &str, file: Option<&'a str>, plan: Option<&'a str>) -> O
     }
 }
 
+fn serving_of<'a>(options: &ArgMatches<'a>) -> Option<Task<'a>> {
+    Some(Task::Serve {
+        file: options.get_str(FILE)?,
+        port: options.get_one(PORT)?,
+        connections: options.get_one(CONNECTIONS)?,
+    })
+}
+
 fn task_in<'a>(matches: &ArgMatches<'a>) -> Option<Task<'a>> {
     let (command, options) = matches.subcommand()?;
-    task_of(command, options.get_str(FILE), options.get_str(PLAN))
+    match command {
+        "serve" => serving_of(options),
+        _ => task_of(command, options.get_str(FILE), options.get_str(PLAN)),
+    }
 }
 
 /// What the words ask for; the first is the program's name. The other outcome is a text to print, which may be

@@ -78,3 +78,22 @@ fn next_is_served_behind_a_fault(rt: HostRuntime) {
     assert!(rt; reply(&rt, &mut first).is_empty());
     assert_eq!(rt; reply(&rt, &mut second).as_slice(), group_reply());
 }
+
+// A request, and more than is read at once.
+fn group_and_more(rt: &(impl Abort + AllocGlobal)) -> Vec<u8> {
+    let mut bytes = vec![in rt.alloc(); b' '; 20_000].expect(rt, "memory");
+    for (byte, given) in bytes.iter_mut().zip(group()) {
+        *byte = *given;
+    }
+    bytes
+}
+
+#[test]
+fn more_than_a_request(rt: HostRuntime) {
+    let mut desk = opened(&rt);
+    let listener = listener(&rt);
+    let request = group_and_more(&rt);
+    let mut client = client(&rt, &listener, request.as_slice());
+    serves(&rt, &listener, &mut desk, 1, "");
+    assert_eq!(rt; reply(&rt, &mut client).as_slice(), group_reply());
+}

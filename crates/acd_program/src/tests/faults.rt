@@ -11,8 +11,8 @@ fn reads_end_with(rt: &HostRuntime, file: &str, fault: &str) -> bool {
         && gives(rt, &["acd", "export", "--file", file], "", 1, "", fault)
 }
 
-// Whether lines over the file end with this fault too.
-fn all_end_with(rt: &HostRuntime, file: &str, fault: &str) -> bool {
+/// Whether a report, an export and lines over the file end with this fault.
+pub(crate) fn all_end_with(rt: &HostRuntime, file: &str, fault: &str) -> bool {
     reads_end_with(rt, file, fault)
         && gives(rt, &["acd", "lines", "--file", file], "", 1, "", fault)
 }

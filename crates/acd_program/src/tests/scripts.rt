@@ -10,6 +10,16 @@ agent,7,Ana,,
 agent,8,Ben,,
 ";
 
+/// The answers to the import of that plan.
+pub(crate) fn planned() -> &'static str {
+    r#"200 {"invoke":1,"requester":"plan","result":{}}
+200 {"invoke":2,"requester":"plan","result":{}}
+200 {"invoke":3,"requester":"plan","result":{}}
+200 {"invoke":4,"requester":"plan","result":{}}
+200 {"invoke":5,"requester":"plan","result":{}}
+"#
+}
+
 pub(crate) const FIRST_RUN: &str =
     r#"0 {"requester":"plan","invoke":1,"service":"addGroup","device":"100","name":"Billing","ring":20,"wrap":30}
 0 {"requester":"plan","invoke":2,"service":"addStation","device":"201"}

@@ -1,18 +1,9 @@
 //! A desk in a file, from a plan to its audit.
 
 use super::files::{free_path, remove};
-use super::scripts::{PLAN, gives};
+use super::scripts::{PLAN, gives, planned};
 use std::process::Abort;
 use std::{fs, io};
-
-fn planned() -> &'static str {
-    r#"200 {"invoke":1,"requester":"plan","result":{}}
-200 {"invoke":2,"requester":"plan","result":{}}
-200 {"invoke":3,"requester":"plan","result":{}}
-200 {"invoke":4,"requester":"plan","result":{}}
-200 {"invoke":5,"requester":"plan","result":{}}
-"#
-}
 
 // A call waits, agent 7 answers it and asks to log off, and the caller hangs up.
 fn requests() -> &'static str {

@@ -56,6 +56,77 @@ fn tasks_with_their_paths(rt: HostRuntime) {
     );
 }
 
+// What serving asks for, by its words.
+fn serves(rt: &impl Abort, alloc: Global, port: &str, connections: &str, task: Task<'_>) {
+    let words = [
+        "acd",
+        "serve",
+        "--file",
+        "a.db",
+        "--port",
+        port,
+        "--connections",
+        connections,
+    ];
+    asks(rt, alloc, &words, task);
+}
+
+// These are no port and no number of connections.
+fn serves_not(rt: &impl Abort, alloc: Global, port: &str, connections: &str) {
+    let words = [
+        "acd",
+        "serve",
+        "--file",
+        "a.db",
+        "--port",
+        port,
+        "--connections",
+        connections,
+    ];
+    tells(rt, alloc, &words, true);
+}
+
+#[test]
+fn ports_and_connections(rt: HostRuntime) {
+    let alloc = rt.alloc();
+    serves(
+        &rt,
+        alloc,
+        "65535",
+        "1000000",
+        Task::Serve {
+            file: "a.db",
+            port: 65535,
+            connections: 1_000_000,
+        },
+    );
+    for port in ["0", "65536", "http", "", "-1"] {
+        serves_not(&rt, alloc, port, "1");
+    }
+    for connections in ["0", "1000001", "all", ""] {
+        serves_not(&rt, alloc, "8080", connections);
+    }
+    tells(
+        &rt,
+        alloc,
+        &["acd", "serve", "--file", "a.db", "--port", "1"],
+        true,
+    );
+    tells(
+        &rt,
+        alloc,
+        &["acd", "serve", "--file", "a.db", "--connections", "1"],
+        true,
+    );
+    tells(
+        &rt,
+        alloc,
+        &["acd", "serve", "--port", "1", "--connections", "1"],
+        true,
+    );
+    tells(&rt, alloc, &["acd", "serve", "--help"], false);
+}
+
 #[test]
 fn mistakes_and_help(rt: HostRuntime) {
     let alloc = rt.alloc();
