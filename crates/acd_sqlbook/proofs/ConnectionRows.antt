@@ -44,7 +44,7 @@ use Rattle.acd_sqlbook.proofs.Ordered.{given, answered}
 use Rattle.acd_sqlbook.proofs.Scans.{filter_all, passing}
 use Rattle.acd_sqlbook.proofs.QueryTexts as text
 
-connections_listing : Listing text.read_connections
+unfoldable pub connections_listing : Listing text.read_connections
 unfolding understood everything
 connections_listing = record {
   tree = schema.connections.tree;
