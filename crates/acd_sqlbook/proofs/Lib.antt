@@ -39,4 +39,5 @@ pub mod Reported
 mod Seen
 mod Looked
 mod Paged
+mod Contents
 mod Adopted

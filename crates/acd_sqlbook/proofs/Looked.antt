@@ -96,7 +96,7 @@ all_limited : {X : Type 0} (P : X → Type 0) (o : Option ℕ) (xs : List X) →
 all_limited P None xs h = h
 all_limited P (Some n) xs h = all_taken P n xs h
 
-mapped_all : {X Y : Type 0} (P : Y → Type 0) (f : X → Y) (xs : List X) → AllByRecursion (λ x. P (f x)) xs → AllByRecursion P (map f xs)
+pub mapped_all : {X Y : Type 0} (P : Y → Type 0) (f : X → Y) (xs : List X) → AllByRecursion (λ x. P (f x)) xs → AllByRecursion P (map f xs)
 mapped_all P f [] h = tt
 mapped_all P f (x ∷ xs) h = (h.0, mapped_all P f xs h.1)
 
@@ -104,7 +104,7 @@ all_so : {X : Type 0} (P Q : X → Type 0) → ((x : X) → P x → Q x) → (xs
 all_so P Q so [] h = tt
 all_so P Q so (x ∷ xs) h = (so x h.0, all_so P Q so xs h.1)
 
-moved_all : {X : Type 0} (P : X → Type 0) (xs ys : List X) → IsPermutation xs ys → AllByRecursion P xs → AllByRecursion P ys
+pub moved_all : {X : Type 0} (P : X → Type 0) (xs ys : List X) → IsPermutation xs ys → AllByRecursion P xs → AllByRecursion P ys
 moved_all P xs ys same h = recursion_from_All P ys (All-permutation P xs ys same (All-from_recursion P xs h))
 
 -- one that isn't good is enough
@@ -343,17 +343,29 @@ asks_low_kept = record { tree = refl; tests = λ r. refl; one = refl }
 
 -- ---- pages
 
--- rows with these numbers rise as the numbers do
-rises : (x : Numbered) (xs : List Numbered) → AllByRecursion (λ r. value_cmp (rowid x.row) (rowid r) ≡ Less) (map (λ (y : Numbered). y.row) xs) → AllAfter (by_key (λ (y : Numbered). y.key)) x xs
-rises x [] h = tt
-rises x (y ∷ ys) h = (sym (id_cmp x.key y.key) ∙ ap (λ v. value_cmp v (id_value y.key)) (sym x.is) ∙ ap (value_cmp (rowid x.row)) (sym y.is) ∙ h.0, rises x ys h.1)
+-- rows that have these numbers rise as the numbers do
+module _ {R : Type 0} (key : R → ℕ) (row : R → Row) (keyed : (x : R) → rowid (row x) ≡ id_value (key x)) where
+  compared : (x y : R) → value_cmp (rowid (row x)) (rowid (row y)) ≡ nat_cmp (key x) (key y)
+  compared x y = ap (λ v. value_cmp v (rowid (row y))) (keyed x) ∙ ap (value_cmp (id_value (key x))) (keyed y) ∙ id_cmp (key x) (key y)
 
-ascending_of : (xs : List Numbered) → IsTable (map (λ (y : Numbered). y.row) xs) → IsAscending (by_key (λ (y : Numbered). y.key)) xs
-ascending_of [] h = tt
-ascending_of (x ∷ xs) h = (rises x xs h.0, ascending_of xs h.1)
+  all_after : (x : R) (xs : List R) → AllByRecursion (λ r. value_cmp (rowid (row x)) (rowid r) ≡ Less) (map row xs) → AllAfter (by_key key) x xs
+  all_after x [] h = tt
+  all_after x (y ∷ ys) h = (sym (compared x y) ∙ h.0, all_after x ys h.1)
+
+  all_above : (x : R) (xs : List R) → AllAfter (by_key key) x xs → AllByRecursion (λ r. value_cmp (rowid (row x)) (rowid r) ≡ Less) (map row xs)
+  all_above x [] h = tt
+  all_above x (y ∷ ys) h = (compared x y ∙ h.0, all_above x ys h.1)
+
+  pub ascending_of : (xs : List R) → IsTable (map row xs) → IsAscending (by_key key) xs
+  ascending_of [] h = tt
+  ascending_of (x ∷ xs) h = (all_after x xs h.0, ascending_of xs h.1)
+
+  pub rising_of : (xs : List R) → IsAscending (by_key key) xs → IsTable (map row xs)
+  rising_of [] h = tt
+  rising_of (x ∷ xs) h = (all_above x xs h.0, rising_of xs h.1)
 
 pub numbers_ascend : (l : Log) (d : Database) (xs : List Numbered) → AreNumbered l d.trees xs → IsAscending (by_key (λ (y : Numbered). y.key)) xs
-numbers_ascend l d xs are = ascending_of xs (subst IsTable are.rows are.rising)
+numbers_ascend l d xs are = ascending_of (λ (y : Numbered). y.key) (λ (y : Numbered). y.row) (λ y. y.is) xs (subst IsTable are.rows are.rising)
 
 -- the text asks for the first rows above a number
 pub record AsksPage (l : Log) (text : List ℕ) (it : Listing text) (n limit : ℕ) : Type 0 where

@@ -1,6 +1,6 @@
 -- What a read between transactions sees of a database, whatever that holds.
 use Rattle.std.specs.Prelude.{◌≡◌, Result, IfOk, OnOk, IsTrue}
-use Rattle.sqlite.specs.Effect.{Database}
+use Rattle.sqlite.specs.Effect.{Database, IsDatabase}
 use Rattle.sqlite.specs.State.{State, HasCleanDisk}
 use Rattle.sqlite.specs.declared.error.Error.{Error}
 use Rattle.acd_sqlbook.specs.Draft.{NoStop}
@@ -25,4 +25,5 @@ pub record HasLooked {A : Type 0} (old new : State) (result : Result A Error) (I
   pub seen : Sees old.now old new result (IsAnswer old.now)
   pub up : HasCleanDisk new → OnOk result (IsTrue new.is_open)
   pub settled : IsTrue old.is_open → old.now ≡ old.committed
+  pub obeys : IsTrue old.is_open → IsDatabase old.now
   pub stops : HasCleanDisk new → NoStop old new

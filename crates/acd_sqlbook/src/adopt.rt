@@ -142,7 +142,7 @@ fn is_good_whole<S: Alter>(
 ) -> Result<bool, Error>
     requires { conn.old.in_transaction ≡ false }
     ensures idle { conn.new.in_transaction ≡ false }
-    ensures seen { (d : Database) → d.schema ≡ book_schema → Sees d (state S.Store conn.old) (state S.Store conn.new) result (λ good. good ≡ is_good_in (table_of table) d.trees) }
+    ensures seen { (d : Database) → d.schema ≡ book_schema → Sees d (state S.Store conn.old) (state S.Store conn.new) result (λ good. TellsGood (table_of table) d.trees good) }
 {
     match table.rows(conn) {
         Ok(rows) => are_good(alloc, table.table(), &rows),
@@ -434,7 +434,7 @@ fn fault_of_whole<S: Alter>(
 fn fault_in<S: Alter>(alloc: Global, conn: &mut Connection<S>) -> Result<Option<AdoptFault>, Error>
     requires { conn.old.in_transaction ≡ false }
     ensures idle { conn.new.in_transaction ≡ false }
-    ensures seen { (d : Database) → Sees d (state S.Store conn.old) (state S.Store conn.new) result (λ fault. IsFound d fault) }
+    ensures seen { Sees (state S.Store conn.old).now (state S.Store conn.old) (state S.Store conn.new) result (λ fault. IsFound (state S.Store conn.old).now fault) }
 {
     if !has_meta(conn.schema()) {
         return Ok(Some(AdoptFault::WrongVersion(0)));
@@ -454,6 +454,7 @@ fn look_over<S: Alter>(alloc: Global, conn: &mut Connection<S>) -> Result<Option
     ensures looked { HasLooked (state S.Store conn.old) (state S.Store conn.new) result (λ d fault. IsFound d fault) }
 {
     let _settled = conn.is_autocommit();
+    let _obeyed = conn.schema();
     probe(conn)?;
     fault_in(alloc, conn)
 }
