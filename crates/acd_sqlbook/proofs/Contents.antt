@@ -1,8 +1,9 @@
 -- Rows that are filed, and in their ranges, are those of a content.
-use Rattle.std.proofs.Common.{◌≡◌, ◌==◌, ◌&&◌, ◌≤◌, ℕ, ℤ, pos, negsuc, suc, zero, length, drop, map, cond, not, List, [], ◌∷◌, inl, inr, Option, Some, None, Bool, true, false, IsTrue, refl, sym, ap, ap₂, subst, ◌∙◌, arith}
+use Rattle.std.proofs.Common.{◌≡◌, ◌==◌, ◌&&◌, ◌||◌, ◌≤◌, ℕ, ℤ, pos, negsuc, suc, zero, length, drop, map, cond, not, List, [], ◌∷◌, inl, inr, Option, Some, None, Bool, true, false, IsTrue, refl, sym, ap, ap₂, subst, ◌∙◌, arith}
 use Rattle.std.specs.List.{AllByRecursion, list_any, list_all}
 use Rattle.std.specs.Option.{is_some}
-use Rattle.std.specs.Ordering.{nat_cmp, int_cmp, is_eq}
+use Rattle.std.specs.Ordering.{nat_cmp, int_cmp, is_eq, ordering_reverse}
+use Rattle.std.specs.declared.cmp.Ordering.{Ordering}
 use Rattle.std.specs.declared.cmp.Ordering.TheVariants.{Less, Equal, Greater}
 use Rattle.std.proofs.lemmas.Bool.Decides.{nat_tests}
 use Rattle.std.proofs.lemmas.Int.{ints}
@@ -11,13 +12,13 @@ use Rattle.sqlite_value.specs.declared.value.Value.TheVariants.{Null, Int, Real,
 use Rattle.sqlite_value.specs.declared.keys.Collation.TheVariants.{Binary}
 use Rattle.sqlite_value.specs.Keys.{plain, first_key}
 use Rattle.sqlite_value.specs.Order.{Row, column, value_cmp}
-use Rattle.sqlite_value.proofs.OrderLemmas.{value_cmp-Int}
+use Rattle.sqlite_value.proofs.OrderLemmas.{value_cmp-Int, value_cmp_total}
 use Rattle.sqlite_trees.specs.Tree.{Trees, IsTable, rowid}
 use Rattle.sqlite_trees.specs.View.{is_int}
 use Rattle.sqlite_rules.specs.Lists.{Has}
 use Rattle.sqlite_rules.proofs.ListLemmas.{all_from, all_has}
 use Rattle.sqlite_rules.proofs.ProbeLemmas.{has_mapped, mapped_has}
-use Rattle.sqlite_sql.specs.Ops.{binary, is_false, is_null}
+use Rattle.sqlite_sql.specs.Ops.{binary, is_false, is_true, is_null, from_truth}
 use Rattle.sqlite_sql.specs.Term.{eval}
 use Rattle.sqlite_schema.specs.declared.schema.Column.{Column}
 use Rattle.sqlite_schema.specs.declared.schema.Constraint.{Constraint}
@@ -147,6 +148,236 @@ module _ {R : Type 0} (t : Table) (read : Row → Option R) (values : R → Row)
       each : (xs : List R) → AllByRecursion (λ x. read (values x) ≡ Some x) xs → AllByRecursion (λ x. is_some (read (values x)) ≡ true) xs
       each [] h = tt
       each (x ∷ xs) h = (ap is_some h.0, each xs h.1)
+
+nulls : (c : Column) (cs : List Column) (more : Row → Bool) (n : ℕ) (rows : List Row) → AllByRecursion (λ r. length r ≡ suc (suc n)) rows
+    → AllByRecursion (λ r. (are_typed (Some 0) 0 (c ∷ cs) (drop 1 r) && more r) ≡ true) rows → AllByRecursion (λ r. column r 1 ≡ Null) rows
+nulls c cs more n [] w typed = tt
+nulls c cs more n (r ∷ rows) w typed = (key_null c cs (more r) n r w.0 typed.0, nulls c cs more n rows w.1 typed.1)
+
+-- ---- the limits and the counters
+
+-- a number that the CHECK lets pass
+abbrev passes_one : Value → Bool
+passes_one v = passes_checks (schema.table_of schema.meta) (v ∷ [])
+
+not_false : (b : Bool) → (not (is_false (from_truth (Some b))) && true) ≡ b
+not_false true = refl
+not_false false = refl
+
+one_checked : (n : ℕ) → passes_one (id_value n) ≡ (n == 1)
+unfolding binary
+one_checked n = not_false (is_eq (value_cmp (id_value n) (id_value 1))) ∙ id_tied n 1
+
+negative_checked : (m : ℕ) → passes_one (Int (negsuc m)) ≡ false
+unfolding binary
+negative_checked m = not_false (is_eq (value_cmp (Int (negsuc m)) (id_value 1))) ∙ ap is_eq (value_cmp-Int (negsuc m) (pos 1)) ∙ other m
+  where
+    other : (m : ℕ) → is_eq (int_cmp (negsuc m) (pos 1)) ≡ false
+    other m = grind (arith, ints, nat_tests)
+
+is_one : (v : Value) → IsTrue (is_int v) → passes_one v ≡ true → v ≡ id_value 1
+is_one Null int h = absurd (cc int)
+is_one (Int (pos n)) int h = ap id_value (sym (same_number n 1 (sym (one_checked n) ∙ h)))
+is_one (Int (negsuc m)) int h = absurd (let no = negative_checked m in cc (no, h))
+is_one (Real x) int h = absurd (cc int)
+is_one (Text t) int h = absurd (cc int)
+is_one (Blob b) int h = absurd (cc int)
+
+ones : (rows : List Row) → AllByRecursion (λ r. IsTrue (is_int (rowid r))) rows → AllByRecursion (λ r. passes_checks (schema.table_of schema.meta) r ≡ true) rows → AllByRecursion (λ r. rowid r ≡ id_value 1) rows
+ones [] int h = tt
+ones (r ∷ rows) int h = (is_one (rowid r) int.0 h.0, ones rows int.1 h.1)
+
+-- no two rows have one number
+alone : (rows : List Row) (r : Row) → Has rows r → AllByRecursion (λ r. rowid r ≡ id_value 1) rows → IsTable rows → rows ≡ r ∷ []
+alone [] r h one rising = absurd h
+alone (x ∷ []) r (inl e) one rising = ap (λ y. y ∷ []) (sym e)
+alone (x ∷ []) r (inr h) one rising = absurd h
+alone (x ∷ y ∷ rows) r h one rising =
+    absurd (let tied = ap (λ v. value_cmp v (rowid y)) one.0 ∙ ap (value_cmp (id_value 1)) one.1.0 ∙ id_cmp 1 1 in let never : Equal ≡ Less = sym tied ∙ rising.0.0 in cc never)
+
+meta_form : (r : Row) (m : Meta) → length r ≡ 14 → rowid r ≡ id_value 1 → column r 1 ≡ Null → column r 2 ≡ id_value 1 → values_in table.Meta r ≡ meta_shown m → r ≡ meta_row m
+meta_form r m w key null version shown =
+    of_width 14 r w ∙ ap (λ v. v ∷ cells 1 13 r) key ∙ ap (λ v. id_value 1 ∷ v ∷ cells 2 12 r) null ∙ ap (λ v. id_value 1 ∷ Null ∷ v ∷ cells 3 11 r) version ∙ ap (λ l. id_value 1 ∷ Null ∷ id_value 1 ∷ l) shown
+
+-- ---- connections
+
+either_false : (a b : Bool) → (a || b) ≡ false → (a ≡ false) × (b ≡ false)
+either_false true b h = absurd (cc h)
+either_false false b h = (refl, h)
+
+both_false : (a b : Bool) → (a && b) ≡ false → a ≡ true → b ≡ false
+both_false true b h e = h
+both_false false b h e = absurd (cc e)
+
+not_true : (c : Bool) → (not c && true) ≡ true → c ≡ false
+not_true true h = absurd (cc h)
+not_true false h = refl
+
+turned : (v w : Value) → value_cmp v w ≡ Equal → value_cmp w v ≡ Equal
+turned v w e = value_cmp_total.antisymm w v ∙ ap ordering_reverse e
+
+-- of rows that rise, two of one number are one
+one_number : (rows : List Row) (a b : Row) → IsTable rows → Has rows a → Has rows b → value_cmp (rowid a) (rowid b) ≡ Equal → a ≡ b
+one_number [] a b up h k e = absurd h
+one_number (x ∷ rows) a b up (inl p) (inl q) e = p ∙ sym q
+one_number (x ∷ rows) a b up (inl p) (inr k) e =
+    absurd (let low = all_has (λ y. value_cmp (rowid x) (rowid y) ≡ Less) rows b up.0 k in let never : Equal ≡ Less = sym (ap (λ y. value_cmp (rowid y) (rowid b)) (sym p) ∙ e) ∙ low in cc never)
+one_number (x ∷ rows) a b up (inr h) (inl q) e =
+    absurd (let low = all_has (λ y. value_cmp (rowid x) (rowid y) ≡ Less) rows a up.0 h in let never : Equal ≡ Less = sym (ap (λ y. value_cmp (rowid y) (rowid a)) (sym q) ∙ turned (rowid a) (rowid b) e) ∙ low in cc never)
+one_number (x ∷ rows) a b up (inr h) (inr k) e = one_number rows a b up.1 h k e
+
+abbrev key_columns : List ℕ
+key_columns = 1 ∷ 2 ∷ []
+
+-- a row that has the key, where none clashes, has the number
+same_key : (rows : List Row) (a b : Row) → Has rows a → clashes plain key_columns rows b ≡ false → agree plain key_columns a key_columns b ≡ true → differ (rowid a) (rowid b) ≡ false
+same_key [] a b h none same = absurd h
+same_key (x ∷ rows) a b (inl e) none same =
+    both_false _ _ (ap (λ y. agree plain key_columns y key_columns b && differ (rowid y) (rowid b)) e ∙ (either_false _ _ none).0) same
+same_key (x ∷ rows) a b (inr h) none same = same_key rows a b h (either_false _ _ none).1 same
+
+level : (o : Ordering) → is_true (from_truth (Some (not (is_eq o)))) ≡ false → o ≡ Equal
+level Less h = absurd (cc h)
+level Equal h = refl
+level Greater h = absurd (cc h)
+
+int_of : (v : Value) → IsTrue (is_int v) → (n : ℤ) × (v ≡ Int n)
+int_of Null h = absurd (cc h)
+int_of (Int n) h = (n, refl)
+int_of (Real x) h = absurd (cc h)
+int_of (Text t) h = absurd (cc h)
+int_of (Blob b) h = absurd (cc h)
+
+levels : (m n : ℤ) → differ (Int m) (Int n) ≡ false → value_cmp (Int m) (Int n) ≡ Equal
+unfolding binary
+levels m n h = level (value_cmp (Int m) (Int n)) h
+
+both_ints : (v w : Value) → IsTrue (is_int v) → IsTrue (is_int w) → differ v w ≡ false → value_cmp v w ≡ Equal
+both_ints v w i j h =
+    let m = int_of v i in
+    let n = int_of w j in
+    ap (λ x. value_cmp x w) m.1 ∙ ap (value_cmp (Int m.0)) n.1 ∙ levels m.0 n.0 (sym (ap (λ x. differ x w) m.1 ∙ ap (differ (Int m.0)) n.1) ∙ h)
+
+own : (n : ℕ) → is_eq (value_cmp (id_value n) (id_value n)) ≡ true
+own n = id_tied n n ∙ own_number n
+
+agrees : (m n : ℕ) → agree plain key_columns (Null ∷ id_value m ∷ id_value n ∷ []) key_columns (Null ∷ id_value m ∷ id_value n ∷ []) ≡ true
+unfolding binary first_key
+agrees m n = ap₂ (λ x y. is_true (from_truth (Some x)) && (is_true (from_truth (Some y)) && true)) (own m) (own n)
+
+rows_agree : (a b : Row) (m n : ℕ) → column a 1 ≡ id_value m → column a 2 ≡ id_value n → column b 1 ≡ id_value m → column b 2 ≡ id_value n → agree plain key_columns a key_columns b ≡ true
+rows_agree a b m n e f g h =
+    ap (λ v. agree plain key_columns (Null ∷ v ∷ column a 2 ∷ []) key_columns (Null ∷ column b 1 ∷ column b 2 ∷ [])) e
+    ∙ ap (λ v. agree plain key_columns (Null ∷ id_value m ∷ v ∷ []) key_columns (Null ∷ column b 1 ∷ column b 2 ∷ [])) f
+    ∙ ap (λ v. agree plain key_columns (Null ∷ id_value m ∷ id_value n ∷ []) key_columns (Null ∷ v ∷ column b 2 ∷ [])) g
+    ∙ ap (λ v. agree plain key_columns (Null ∷ id_value m ∷ id_value n ∷ []) key_columns (Null ∷ id_value m ∷ v ∷ [])) h
+    ∙ agrees m n
+
+-- rows and the connections that they are, one for one
+pub record AreLinked (rows : List Row) (xs : List ConnectionRecord) : Type 0 where
+  pub known : (r : Row) → Has rows r → (id : ℤ) × (x : ConnectionRecord) × (r ≡ connection_row id x) × Among x xs
+  pub stored : (x : ConnectionRecord) → Among x xs → (id : ℤ) × Has rows (connection_row id x)
+  pub back : (x : ConnectionRecord) → Among x xs → connection_in (connection_values x) ≡ Some x
+
+linked_one : (r : Row) → IsTrue (is_int (rowid r)) → length r ≡ 8 → is_some (connection_in (values_in table.Connections r)) ≡ true
+    → (id : ℤ) × (x : ConnectionRecord) × (r ≡ connection_row id x) × (connection_in (connection_values x) ≡ Some x)
+linked_one r int w good =
+    let id = int_of (rowid r) int in
+    let x = there (connection_in (values_in table.Connections r)) good in
+    let same = connection_stored (values_in table.Connections r) x.0 x.1 in
+    (id.0, x.0, of_width 8 r w ∙ ap (λ v. v ∷ cells 1 7 r) id.1 ∙ ap (λ l. Int id.0 ∷ l) same, ap connection_in (sym same) ∙ x.1)
+
+linked : (rows : List Row) → AllByRecursion (λ r. IsTrue (is_int (rowid r))) rows → AllByRecursion (λ r. length r ≡ 8) rows → AllByRecursion (λ r. is_some (connection_in (values_in table.Connections r)) ≡ true) rows
+    → (xs : List ConnectionRecord) × AreLinked rows xs
+linked [] int w g = ([], record { known = λ r h. absurd h; stored = λ x a. absurd a; back = λ x a. absurd a })
+linked (r ∷ rows) int w g =
+    let one = linked_one r int.0 w.0 g.0 in
+    let more = linked rows int.1 w.1 g.1 in
+    (one.1 ∷ more.0, joined r rows one.0 one.1 more.0 one.2 one.3 more.1)
+  where
+    joined : (r : Row) (rows : List Row) (id : ℤ) (x : ConnectionRecord) (xs : List ConnectionRecord) → r ≡ connection_row id x → connection_in (connection_values x) ≡ Some x → AreLinked rows xs → AreLinked (r ∷ rows) (x ∷ xs)
+    joined r rows id x xs is back more = record {
+      known = λ s h. elim h [ inl e ↦ (id, x, e ∙ is, inl refl) | inr k ↦ let from = more.known s k in (from.0, from.1, from.2, inr from.3) ];
+      stored = λ y a. elim a [ inl e ↦ (id, inl (ap (connection_row id) e ∙ sym is)) | inr b ↦ let from = more.stored y b in (from.0, inr from.1) ];
+      back = λ y a. elim a [ inl e ↦ subst (λ z. connection_in (connection_values z) ≡ Some z) (sym e) back | inr b ↦ more.back y b ];
+    }
+
+module _ (rows : List Row) (xs : List ConnectionRecord) (are : AreLinked rows xs) (rising : IsTable rows) (numbered : AllByRecursion (λ r. IsTrue (is_int (rowid r))) rows)
+    (unique : AllByRecursion (λ r. clashes plain key_columns rows r ≡ false) rows) where
+  rows_apart : (a b : Row) → Has rows a → Has rows b → column a 1 ≡ column b 1 → column a 2 ≡ column b 2 → a ≡ b
+  rows_apart a b h k e f =
+      let from = are.known a h in
+      let call = ap (λ r. column r 1) from.2 in
+      let device = ap (λ r. column r 2) from.2 in
+      one_number rows a b rising h k
+      (both_ints (rowid a) (rowid b) (at_each (λ r. IsTrue (is_int (rowid r))) rows a numbered h) (at_each (λ r. IsTrue (is_int (rowid r))) rows b numbered k)
+      (same_key rows a b h (at_each (λ r. clashes plain key_columns rows r ≡ false) rows b unique k) (rows_agree a b from.1.call from.1.device call device (sym e ∙ call) (sym f ∙ device))))
+
+  one_of_key : (x y : ConnectionRecord) → Among x xs → Among y xs → connection_order x y ≡ Equal → x ≡ y
+  one_of_key x y a b e =
+      let p = are.stored x a in
+      let q = are.stored y b in
+      let key = key_same x.call x.device y (ap is_eq e) in
+      let same = rows_apart (connection_row p.0 x) (connection_row q.0 y) p.1 q.1 (ap id_value (sym key.0)) (ap id_value (sym key.1)) in
+      sym (connection_back x) ∙ ap (λ r. as_connection (drop 1 r)) same ∙ connection_back y
+
+  pub connections_are : AreConnections rows (in_order xs)
+  connections_are = record {
+    rising = rising;
+    known = λ r h. let from = are.known r h in (from.0, from.1, from.2, to_order xs one_of_key from.1 from.3);
+    stored = λ x a. are.stored x (from_order xs x a);
+    apart = rows_apart;
+    ascending = ordered xs;
+  }
+
+  pub connections_back_in : (ys : List ConnectionRecord) → ((y : ConnectionRecord) → Among y ys → Among y xs) → AllByRecursion (λ r. is_some (connection_in r) ≡ true) (map connection_values ys)
+  connections_back_in [] all = tt
+  connections_back_in (y ∷ ys) all = (ap is_some (are.back y (all y (inl refl))), connections_back_in ys (λ z a. all z (inr a)))
+
+-- ---- the whole
+
+rules_of : (d : Database) → d.schema ≡ book_schema → IsDatabase d → (rule : Constraint) → Keeps rule book_schema d.trees
+rules_of d is obeys rule = subst (λ s. Keeps rule s d.trees) is (obeys.obeys.rules rule)
+
+good_rows : (t : Table) (db : Trees) → is_good_in t db ≡ true → AllByRecursion (λ r. is_good t (values_in t r) ≡ true) (db (tree_of t))
+unfolding is_good_in
+good_rows t db h = of_mapped (λ r. is_good t r ≡ true) (values_in t) (db (tree_of t)) (each_good t (lying t db) h)
+
+readable : (ks : List Kept) → AllByRecursion (λ k. kept_in (kept_values k) ≡ Some k) ks → Every IsReadable ks
+readable [] h = tt
+readable (k ∷ ks) h = ((kept_stored (kept_values k) k h.0).1, readable ks h.1)
+
+-- what each table holds
+pub record Parts (db : Trees) : Type 0 where
+  pub meta : Meta
+  pub meta_is : db (tree_of table.Meta) ≡ meta_row meta ∷ []
+  pub meta_good : is_some (counters_in (meta_shown meta)) ≡ true
+  pub groups : AreOf table.Groups group_in group_values (λ (g : GroupRecord). g.device) group_stored (λ g. refl) (λ r w null. of_width 10 r w ∙ ap (λ v. column r 0 ∷ v ∷ cells 2 8 r) null) (db (tree_of table.Groups))
+  pub stations : AreOf table.Stations station_in station_values (λ (s : StationRecord). s.device) station_stored (λ s. refl) (λ r w null. of_width 2 r w ∙ ap (λ v. column r 0 ∷ v ∷ cells 2 0 r) null) (db (tree_of table.Stations))
+  pub agents : AreOf table.Agents agent_in agent_values (λ (a : AgentRecord). a.agent) agent_stored (λ a. refl) (λ r w null. of_width 9 r w ∙ ap (λ v. column r 0 ∷ v ∷ cells 2 7 r) null) (db (tree_of table.Agents))
+  pub calls : AreOf table.Calls call_in call_values (λ (k : CallRecord). k.call) call_stored (λ k. refl) (λ r w null. of_width 5 r w ∙ ap (λ v. column r 0 ∷ v ∷ cells 2 3 r) null) (db (tree_of table.Calls))
+  pub connections : List ConnectionRecord
+  pub connections_is : AreConnections (db (tree_of table.Connections)) connections
+  pub connections_good : AllByRecursion (λ r. is_some (connection_in r) ≡ true) (map connection_values connections)
+  pub monitors : AreOf table.Monitors monitor_in monitor_values (λ (m : MonitorRecord). m.monitor) monitor_stored (λ m. refl) (λ r w null. of_width 4 r w ∙ ap (λ v. column r 0 ∷ v ∷ cells 2 2 r) null) (db (tree_of table.Monitors))
+  pub events : AreOf table.Events event_in event_values (λ (e : Event). e.number) event_stored (λ e. refl) (λ r w null. of_width 11 r w ∙ ap (λ v. column r 0 ∷ v ∷ cells 2 9 r) null) (db (tree_of table.Events))
+  pub kept : AreOf table.Kept kept_in kept_values (λ (k : Kept). k.stamp) (λ r k h. (kept_stored r k h).0) (λ k. refl) (λ r w null. of_width 8 r w ∙ ap (λ v. column r 0 ∷ v ∷ cells 2 6 r) null) (db (tree_of table.Kept))
+
+module _ (d : Database) (book : IsOfBook d) (obeys : IsDatabase d) (filed : IsFiled d.trees) where
+  rows_in : Table → List Row
+  rows_in t = d.trees (tree_of t)
+
+  in_range : (t : Table) → AllByRecursion (λ r. is_good t (values_in t r) ≡ true) (d.trees (tree_of t))
+  in_range t = good_rows t d.trees (book.in_range filed t)
+
+  typed : Keeps rule.Datatype book_schema d.trees
+  typed = rules_of d book.schema_is obeys rule.Datatype
+
+  one_row : (row : Row) × (d.trees (tree_of table.Meta) ≡ row ∷ []) × (rowid row ≡ id_value 1) × (column row 2 ≡ id_value 1)
+  one_row =
+      let told = book.version in
+      let here = ones (d.trees (tree_of table.Meta)) (filed.numbered table.Meta) (rules_of d book.schema_is obeys rule.Check).0 in
+      (told.0, alone (d.trees (tree_of table.Meta)) told.0 told.1 here (filed.rising table.Meta), at_each (λ r. rowid r ≡ id_value 1) (d.trees (tree_of table.Meta)) told.0 here told.1, whole_stored told.0 2 1 told.2)
 
 pub content_in : (d : Database) → IsOfBook d → IsDatabase d → IsFiled d.trees → (c : Content) × Encodes d.trees c × IsInRange c
 content_in d book obeys filed = ?

@@ -100,7 +100,7 @@ pub mapped_all : {X Y : Type 0} (P : Y → Type 0) (f : X → Y) (xs : List X) �
 mapped_all P f [] h = tt
 mapped_all P f (x ∷ xs) h = (h.0, mapped_all P f xs h.1)
 
-all_so : {X : Type 0} (P Q : X → Type 0) → ((x : X) → P x → Q x) → (xs : List X) → AllByRecursion P xs → AllByRecursion Q xs
+pub all_so : {X : Type 0} (P Q : X → Type 0) → ((x : X) → P x → Q x) → (xs : List X) → AllByRecursion P xs → AllByRecursion Q xs
 all_so P Q so [] h = tt
 all_so P Q so (x ∷ xs) h = (so x h.0, all_so P Q so xs h.1)
 
