@@ -275,8 +275,8 @@ module _ {A : Type 0} (old mid new : State) (r : Result A Error) (P : Database �
   looked first up still settled obeys next =
       let here = sees_at old.now mid new r P next in
       let lies : HasCleanDisk mid → Lies mid old.now = λ m.
-          let was = first.was_open m (up m) in
-          first.same m (record { is_open = was; now = refl; committed = sym (settled was) }) (up m) in
+      let was = first.was_open m (up m) in
+      first.same m (record { is_open = was; now = refl; committed = sym (settled was) }) (up m) in
       record {
         seen = sees_then old.now old mid new tt (λ (x : Unit {0}). ⊤) first (P old.now) (P old.now) r (λ p b q. q) here;
         up = λ k. here.up k (lies (here.clean k));

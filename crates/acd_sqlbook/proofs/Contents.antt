@@ -2,7 +2,7 @@
 use Rattle.std.proofs.Common.{◌≡◌, ◌==◌, ◌&&◌, ◌||◌, ◌≤◌, ℕ, ℤ, pos, negsuc, suc, zero, length, drop, map, cond, not, List, [], ◌∷◌, inl, inr, Option, Some, None, Bool, true, false, IsTrue, refl, sym, ap, ap₂, subst, ◌∙◌, arith}
 use Rattle.std.specs.List.{AllByRecursion, list_any, list_all}
 use Rattle.std.specs.Option.{is_some}
-use Rattle.std.specs.Ordering.{nat_cmp, int_cmp, is_eq, ordering_reverse}
+use Rattle.std.specs.Ordering.{nat_cmp, int_cmp, is_eq, ordering_reverse, is_ne}
 use Rattle.std.specs.declared.cmp.Ordering.{Ordering}
 use Rattle.std.specs.declared.cmp.Ordering.TheVariants.{Less, Equal, Greater}
 use Rattle.std.proofs.lemmas.Bool.Decides.{nat_tests}
@@ -50,7 +50,7 @@ use Rattle.acd_sqlbook.specs.Schema as schema
 use Rattle.acd_sqlbook.proofs.Decoded.{with_all, connection_back, ordered, from_order, to_order}
 use Rattle.acd_sqlbook.proofs.Heaps.{at_each, each_has, key_same}
 use Rattle.acd_sqlbook.proofs.KeyedRows.{id_cmp, id_tied, same_number, own_number}
-use Rattle.acd_sqlbook.proofs.Looked.{ascending_of, rising_of}
+use Rattle.acd_sqlbook.proofs.Looked.{all_so, ascending_of, rising_of}
 use Rattle.acd_sqlbook.proofs.Puts.{truth_back}
 use Rattle.acd_sqlbook.proofs.Ranged.{row_is, cells, whole_stored, group_stored, station_stored, agent_stored, call_stored, connection_stored, monitor_stored, counters_stored}
 use Rattle.acd_sqlbook.proofs.Reported.{event_stored, kept_stored}
@@ -83,19 +83,6 @@ of_mapped : {X Y : Type 0} (P : Y → Type 0) (f : X → Y) (xs : List X) → Al
 of_mapped P f [] h = tt
 of_mapped P f (x ∷ xs) h = (h.0, of_mapped P f xs h.1)
 
-to_mapped : {X Y : Type 0} (P : Y → Type 0) (f : X → Y) (xs : List X) → AllByRecursion (λ x. P (f x)) xs → AllByRecursion P (map f xs)
-to_mapped P f [] h = tt
-to_mapped P f (x ∷ xs) h = (h.0, to_mapped P f xs h.1)
-
--- a row as it is filed
-pub record IsWhole (t : Table) (r : Row) : Type 0 where
-  pub width : length r ≡ width_of t
-  pub good : is_good t (values_in t r) ≡ true
-
-whole_rows : (t : Table) (rows : List Row) → AllByRecursion (λ r. length r ≡ width_of t) rows → AllByRecursion (λ r. is_good t (values_in t r) ≡ true) rows → AllByRecursion (IsWhole t) rows
-whole_rows t [] w g = tt
-whole_rows t (r ∷ rows) w g = (record { width = w.0; good = g.0 }, whole_rows t rows w.1 g.1)
-
 -- ---- the column that is the number
 
 no_value : (v : Value) → is_null v ≡ true → v ≡ Null
@@ -105,10 +92,11 @@ no_value (Real x) h = absurd (cc h)
 no_value (Text t) h = absurd (cc h)
 no_value (Blob b) h = absurd (cc h)
 
-key_null : (c : Column) (cs : List Column) (b : Bool) (n : ℕ) (r : Row) → length r ≡ suc (suc n) → (are_typed (Some 0) 0 (c ∷ cs) (drop 1 r) && b) ≡ true → column r 1 ≡ Null
-key_null c cs b n [] w h = absurd (omega (arith, w))
-key_null c cs b n (v ∷ []) w h = absurd (omega (arith, w))
-key_null c cs b n (v ∷ k ∷ vs) w h = no_value k (first_true _ _ (first_true _ _ h))
+key_null : (columns : List Column) (b : Bool) (n : ℕ) (r : Row) → length r ≡ suc (suc n) → (are_typed (Some 0) 0 columns (drop 1 r) && b) ≡ true → column r 1 ≡ Null
+key_null columns b n [] w h = absurd (omega (arith, w))
+key_null columns b n (v ∷ []) w h = absurd (omega (arith, w))
+key_null [] b n (v ∷ k ∷ vs) w h = absurd (cc h)
+key_null (c ∷ cs) b n (v ∷ k ∷ vs) w h = no_value k (first_true _ _ (first_true _ _ h))
 
 of_width : (n : ℕ) (r : Row) → length r ≡ n → r ≡ cells 0 n r
 of_width n r w = row_is n r (ap (λ k. k == n) w ∙ own_number n)
@@ -142,17 +130,14 @@ module _ {R : Type 0} (t : Table) (read : Row → Option R) (values : R → Row)
       let xs = records_of rows w n g in
       record { records = xs.0; are = record { rows_are = xs.1; ascending = ascending_of key (λ x. keyed_row (values x)) keyed xs.0 (subst IsTable xs.1 rising) }; back = xs.2 }
 
-  pub good_of : (xs : List R) → AllByRecursion (λ x. read (values x) ≡ Some x) xs → AllByRecursion (λ r. is_some (read r) ≡ true) (map values xs)
-  good_of xs back = to_mapped (λ r. is_some (read r) ≡ true) values xs (each xs back)
-    where
-      each : (xs : List R) → AllByRecursion (λ x. read (values x) ≡ Some x) xs → AllByRecursion (λ x. is_some (read (values x)) ≡ true) xs
-      each [] h = tt
-      each (x ∷ xs) h = (ap is_some h.0, each xs h.1)
+read_back : {R : Type 0} (read : Row → Option R) (values : R → Row) (xs : List R) → AllByRecursion (λ x. read (values x) ≡ Some x) xs → AllByRecursion (λ r. is_some (read r) ≡ true) (map values xs)
+read_back read values [] h = tt
+read_back read values (x ∷ xs) h = (ap is_some h.0, read_back read values xs h.1)
 
-nulls : (c : Column) (cs : List Column) (more : Row → Bool) (n : ℕ) (rows : List Row) → AllByRecursion (λ r. length r ≡ suc (suc n)) rows
-    → AllByRecursion (λ r. (are_typed (Some 0) 0 (c ∷ cs) (drop 1 r) && more r) ≡ true) rows → AllByRecursion (λ r. column r 1 ≡ Null) rows
-nulls c cs more n [] w typed = tt
-nulls c cs more n (r ∷ rows) w typed = (key_null c cs (more r) n r w.0 typed.0, nulls c cs more n rows w.1 typed.1)
+nulls : (columns : List Column) (more : Row → Bool) (n : ℕ) (rows : List Row) → AllByRecursion (λ r. length r ≡ suc (suc n)) rows
+    → AllByRecursion (λ r. (are_typed (Some 0) 0 columns (drop 1 r) && more r) ≡ true) rows → AllByRecursion (λ r. column r 1 ≡ Null) rows
+nulls columns more n [] w typed = tt
+nulls columns more n (r ∷ rows) w typed = (key_null columns (more r) n r w.0 typed.0, nulls columns more n rows w.1 typed.1)
 
 -- ---- the limits and the counters
 
@@ -236,7 +221,7 @@ same_key (x ∷ rows) a b (inl e) none same =
     both_false _ _ (ap (λ y. agree plain key_columns y key_columns b && differ (rowid y) (rowid b)) e ∙ (either_false _ _ none).0) same
 same_key (x ∷ rows) a b (inr h) none same = same_key rows a b h (either_false _ _ none).1 same
 
-level : (o : Ordering) → is_true (from_truth (Some (not (is_eq o)))) ≡ false → o ≡ Equal
+level : (o : Ordering) → is_true (from_truth (Some (is_ne o))) ≡ false → o ≡ Equal
 level Less h = absurd (cc h)
 level Equal h = refl
 level Greater h = absurd (cc h)
@@ -348,7 +333,7 @@ readable [] h = tt
 readable (k ∷ ks) h = ((kept_stored (kept_values k) k h.0).1, readable ks h.1)
 
 -- what each table holds
-pub record Parts (db : Trees) : Type 0 where
+record Parts (db : Trees) : Type 0 where
   pub meta : Meta
   pub meta_is : db (tree_of table.Meta) ≡ meta_row meta ∷ []
   pub meta_good : is_some (counters_in (meta_shown meta)) ≡ true
@@ -364,7 +349,7 @@ pub record Parts (db : Trees) : Type 0 where
   pub kept : AreOf table.Kept kept_in kept_values (λ (k : Kept). k.stamp) (λ r k h. (kept_stored r k h).0) (λ k. refl) (λ r w null. of_width 8 r w ∙ ap (λ v. column r 0 ∷ v ∷ cells 2 6 r) null) (db (tree_of table.Kept))
 
 module _ (d : Database) (book : IsOfBook d) (obeys : IsDatabase d) (filed : IsFiled d.trees) where
-  rows_in : Table → List Row
+  abbrev rows_in : Table → List Row
   rows_in t = d.trees (tree_of t)
 
   in_range : (t : Table) → AllByRecursion (λ r. is_good t (values_in t r) ≡ true) (d.trees (tree_of t))
@@ -379,8 +364,106 @@ module _ (d : Database) (book : IsOfBook d) (obeys : IsDatabase d) (filed : IsFi
       let here = ones (d.trees (tree_of table.Meta)) (filed.numbered table.Meta) (rules_of d book.schema_is obeys rule.Check).0 in
       (told.0, alone (d.trees (tree_of table.Meta)) told.0 told.1 here (filed.rising table.Meta), at_each (λ r. rowid r ≡ id_value 1) (d.trees (tree_of table.Meta)) told.0 here told.1, whole_stored told.0 2 1 told.2)
 
+  parts : Parts d.trees
+  parts =
+      let row = one_row in
+      let whole = subst (AllByRecursion (λ r. length r ≡ 14)) row.1 (filed.whole table.Meta) in
+      let null = subst (AllByRecursion (λ r. column r 1 ≡ Null)) row.1 (nulls schema.meta.columns (has_computed (schema.table_of schema.meta)) 12 (d.trees (tree_of table.Meta)) (filed.whole table.Meta) typed.0) in
+      let good = subst (AllByRecursion (λ r. is_some (counters_in (values_in table.Meta r)) ≡ true)) row.1 (in_range table.Meta) in
+      let m = there (counters_in (values_in table.Meta row.0)) good.0 in
+      let shown = counters_stored (values_in table.Meta row.0) m.0 m.1 in
+      let links = linked (rows_in table.Connections) (filed.numbered table.Connections) (filed.whole table.Connections) (in_range table.Connections) in
+      let unique = all_so (λ r. passes rule.Unique book_schema d.trees (schema.table_of schema.connections) r ≡ true) (λ r. clashes plain key_columns (d.trees (tree_of table.Connections)) r ≡ false) (λ r h. not_true _ h) (rows_in table.Connections)
+      (rules_of d book.schema_is obeys rule.Unique).1.1.1.1.1.0 in
+      record {
+        meta = m.0;
+        meta_is = row.1 ∙ ap (λ r. r ∷ []) (meta_form row.0 m.0 whole.0 row.2 null.0 row.3 shown);
+        meta_good = ap (λ r. is_some (counters_in r)) (sym shown) ∙ good.0;
+        groups = are_of table.Groups group_in group_values (λ (g : GroupRecord). g.device) group_stored (λ g. refl) (λ r w null. of_width 10 r w ∙ ap (λ v. column r 0 ∷ v ∷ cells 2 8 r) null) (rows_in table.Groups)
+            (filed.rising table.Groups) (filed.whole table.Groups) (nulls schema.groups.columns (has_computed (schema.table_of schema.groups)) 8 (rows_in table.Groups) (filed.whole table.Groups) typed.1.0) (in_range table.Groups);
+        stations = are_of table.Stations station_in station_values (λ (s : StationRecord). s.device) station_stored (λ s. refl) (λ r w null. of_width 2 r w ∙ ap (λ v. column r 0 ∷ v ∷ cells 2 0 r) null) (rows_in table.Stations)
+            (filed.rising table.Stations) (filed.whole table.Stations) (nulls schema.stations.columns (has_computed (schema.table_of schema.stations)) 0 (rows_in table.Stations) (filed.whole table.Stations) typed.1.1.0) (in_range table.Stations);
+        agents = are_of table.Agents agent_in agent_values (λ (a : AgentRecord). a.agent) agent_stored (λ a. refl) (λ r w null. of_width 9 r w ∙ ap (λ v. column r 0 ∷ v ∷ cells 2 7 r) null) (rows_in table.Agents)
+            (filed.rising table.Agents) (filed.whole table.Agents) (nulls schema.agents.columns (has_computed (schema.table_of schema.agents)) 7 (rows_in table.Agents) (filed.whole table.Agents) typed.1.1.1.0) (in_range table.Agents);
+        calls = are_of table.Calls call_in call_values (λ (k : CallRecord). k.call) call_stored (λ k. refl) (λ r w null. of_width 5 r w ∙ ap (λ v. column r 0 ∷ v ∷ cells 2 3 r) null) (rows_in table.Calls)
+            (filed.rising table.Calls) (filed.whole table.Calls) (nulls schema.calls.columns (has_computed (schema.table_of schema.calls)) 3 (rows_in table.Calls) (filed.whole table.Calls) typed.1.1.1.1.0) (in_range table.Calls);
+        connections = in_order links.0;
+        connections_is = connections_are (rows_in table.Connections) links.0 links.1 (filed.rising table.Connections) (filed.numbered table.Connections) unique;
+        connections_good = connections_back_in (rows_in table.Connections) links.0 links.1 (filed.rising table.Connections) (filed.numbered table.Connections) unique (in_order links.0) (λ y a. from_order links.0 y a);
+        monitors = are_of table.Monitors monitor_in monitor_values (λ (m : MonitorRecord). m.monitor) monitor_stored (λ m. refl) (λ r w null. of_width 4 r w ∙ ap (λ v. column r 0 ∷ v ∷ cells 2 2 r) null) (rows_in table.Monitors)
+            (filed.rising table.Monitors) (filed.whole table.Monitors) (nulls schema.monitors.columns (has_computed (schema.table_of schema.monitors)) 2 (rows_in table.Monitors) (filed.whole table.Monitors) typed.1.1.1.1.1.1.0) (in_range table.Monitors);
+        events = are_of table.Events event_in event_values (λ (e : Event). e.number) event_stored (λ e. refl) (λ r w null. of_width 11 r w ∙ ap (λ v. column r 0 ∷ v ∷ cells 2 9 r) null) (rows_in table.Events)
+            (filed.rising table.Events) (filed.whole table.Events) (nulls schema.events.columns (has_computed (schema.table_of schema.events)) 9 (rows_in table.Events) (filed.whole table.Events) typed.1.1.1.1.1.1.1.0) (in_range table.Events);
+        kept = are_of table.Kept kept_in kept_values (λ (k : Kept). k.stamp) (λ r k h. (kept_stored r k h).0) (λ k. refl) (λ r w null. of_width 8 r w ∙ ap (λ v. column r 0 ∷ v ∷ cells 2 6 r) null) (rows_in table.Kept)
+            (filed.rising table.Kept) (filed.whole table.Kept) (nulls schema.kept.columns (has_computed (schema.table_of schema.kept)) 6 (rows_in table.Kept) (filed.whole table.Kept) typed.1.1.1.1.1.1.1.1.0) (in_range table.Kept);
+      }
+
+module _ (db : Trees) (p : Parts db) where
+  abbrev whole_content : Content
+  whole_content = with_all p.meta p.groups.records p.stations.records p.agents.records p.calls.records p.connections p.monitors.records p.events.records p.kept.records
+
+  parts_encode : Encodes db whole_content
+  parts_encode table.Meta = p.meta_is
+  parts_encode table.Groups = p.groups.are
+  parts_encode table.Stations = p.stations.are
+  parts_encode table.Agents = p.agents.are
+  parts_encode table.Calls = p.calls.are
+  parts_encode table.Connections = p.connections_is
+  parts_encode table.Monitors = p.monitors.are
+  parts_encode table.Events = p.events.are
+  parts_encode table.Kept = (p.kept.are, readable p.kept.records p.kept.back)
+
+  parts_in_range : IsInRange whole_content
+  unfolding is_good_table
+  parts_in_range table.Meta = all_good table.Meta (meta_shown p.meta ∷ []) (p.meta_good, tt)
+  parts_in_range table.Groups = all_good table.Groups (map group_values p.groups.records) (read_back group_in group_values p.groups.records p.groups.back)
+  parts_in_range table.Stations = all_good table.Stations (map station_values p.stations.records) (read_back station_in station_values p.stations.records p.stations.back)
+  parts_in_range table.Agents = all_good table.Agents (map agent_values p.agents.records) (read_back agent_in agent_values p.agents.records p.agents.back)
+  parts_in_range table.Calls = all_good table.Calls (map call_values p.calls.records) (read_back call_in call_values p.calls.records p.calls.back)
+  parts_in_range table.Connections = all_good table.Connections (map connection_values p.connections) p.connections_good
+  parts_in_range table.Monitors = all_good table.Monitors (map monitor_values p.monitors.records) (read_back monitor_in monitor_values p.monitors.records p.monitors.back)
+  parts_in_range table.Events = all_good table.Events (map event_values p.events.records) (read_back event_in event_values p.events.records p.events.back)
+  parts_in_range table.Kept = all_good table.Kept (map kept_values p.kept.records) (read_back kept_in kept_values p.kept.records p.kept.back)
+
 pub content_in : (d : Database) → IsOfBook d → IsDatabase d → IsFiled d.trees → (c : Content) × Encodes d.trees c × IsInRange c
-content_in d book obeys filed = ?
+content_in d book obeys filed = let p = parts d book obeys filed in (whole_content d.trees p, parts_encode d.trees p, parts_in_range d.trees p)
+
+-- ---- the rows of a content are filed
+
+pub record AreFiled (t : Table) (rows : List Row) : Type 0 where
+  pub rising : IsTable rows
+  pub numbered : AllByRecursion (λ r. IsTrue (is_int (rowid r))) rows
+  pub whole : AllByRecursion (λ r. length r ≡ width_of t) rows
+
+module _ {R : Type 0} (t : Table) (key : R → ℕ) (row : R → Row) (keyed : (x : R) → rowid (row x) ≡ id_value (key x)) (wide : (x : R) → length (row x) ≡ width_of t) where
+  each_of : (P : Row → Type 0) → ((x : R) → P (row x)) → (xs : List R) → AllByRecursion P (map row xs)
+  each_of P all [] = tt
+  each_of P all (x ∷ xs) = (all x, each_of P all xs)
+
+  records_filed : (rows : List Row) (records : List R) → AreRows key row rows records → AreFiled t rows
+  records_filed rows records are = subst (AreFiled t) (sym are.rows_are) (record {
+    rising = rising_of key row keyed records are.ascending;
+    numbered = each_of (λ r. IsTrue (is_int (rowid r))) (λ x. ap is_int (keyed x)) records;
+    whole = each_of (λ r. length r ≡ width_of t) wide records;
+  })
+
+connections_filed : (rows : List Row) (records : List ConnectionRecord) → AreConnections rows records → AreFiled table.Connections rows
+connections_filed rows records are = record {
+  rising = are.rising;
+  numbered = each_has (λ r. IsTrue (is_int (rowid r))) rows (λ r h. ap (λ s. is_int (rowid s)) (are.known r h).2);
+  whole = each_has (λ r. length r ≡ 8) rows (λ r h. ap length (are.known r h).2);
+}
+
+each_filed : (db : Trees) (c : Content) → Encodes db c → (t : Table) → AreFiled t (db (tree_of t))
+each_filed db c is table.Meta = subst (AreFiled table.Meta) (sym (is table.Meta)) (record { rising = (tt, tt); numbered = (refl, tt); whole = (refl, tt) })
+each_filed db c is table.Groups = records_filed table.Groups (λ (g : GroupRecord). g.device) group_row (λ g. refl) (λ g. refl) (db (tree_of table.Groups)) c.rows.groups (is table.Groups)
+each_filed db c is table.Stations = records_filed table.Stations (λ (s : StationRecord). s.device) station_row (λ s. refl) (λ s. refl) (db (tree_of table.Stations)) c.rows.stations (is table.Stations)
+each_filed db c is table.Agents = records_filed table.Agents (λ (a : AgentRecord). a.agent) agent_row (λ a. refl) (λ a. refl) (db (tree_of table.Agents)) c.rows.agents (is table.Agents)
+each_filed db c is table.Calls = records_filed table.Calls (λ (k : CallRecord). k.call) call_row (λ k. refl) (λ k. refl) (db (tree_of table.Calls)) c.rows.calls (is table.Calls)
+each_filed db c is table.Connections = connections_filed (db (tree_of table.Connections)) c.rows.connections (is table.Connections)
+each_filed db c is table.Monitors = records_filed table.Monitors (λ (m : MonitorRecord). m.monitor) monitor_row (λ m. refl) (λ m. refl) (db (tree_of table.Monitors)) c.rows.monitors (is table.Monitors)
+each_filed db c is table.Events = records_filed table.Events (λ (e : Event). e.number) event_row (λ e. refl) (λ e. refl) (db (tree_of table.Events)) c.events (is table.Events)
+each_filed db c is table.Kept = records_filed table.Kept (λ (k : Kept). k.stamp) kept_row (λ k. refl) (λ k. refl) (db (tree_of table.Kept)) c.kept (is table.Kept).0
 
 pub filed_in : (db : Trees) (c : Content) → Encodes db c → IsFiled db
-filed_in db c is = ?
+filed_in db c is = record { rising = λ t. (each_filed db c is t).rising; numbered = λ t. (each_filed db c is t).numbered; whole = λ t. (each_filed db c is t).whole }

@@ -172,12 +172,12 @@ pub shown_all : (t : Table) (text : List ℕ) (it : Listing text) → AsksAll t 
     → IsPermutation (lying t d.trees) rows
 shown_all t text it asks d old new rows lies is h =
     let all = scanned it.tree it.terms it.project it.order d.trees [] rows
-        (subst (λ l. IsProgramAnswer [] (record (query_of it) { limit = l }) d.trees [] rows) asks.unlimited (answer_in text it [] d old new rows lies is h)) in
+    (subst (λ l. IsProgramAnswer [] (record (query_of it) { limit = l }) d.trees [] rows) asks.unlimited (answer_in text it [] d old new rows lies is h)) in
     let same : map (showing [] it.project) (passing [] it.terms (d.trees it.tree)) ≡ lying t d.trees =
-        ap (λ ts. map (showing [] it.project) (passing [] ts (d.trees it.tree))) asks.all
-        ∙ ap (map (showing [] it.project)) (filter_all (d.trees it.tree))
-        ∙ map_same (showing [] it.project) (values_in t) asks.shows (d.trees it.tree)
-        ∙ ap (λ n. map (values_in t) (d.trees n)) asks.tree in
+    ap (λ ts. map (showing [] it.project) (passing [] ts (d.trees it.tree))) asks.all
+    ∙ ap (map (showing [] it.project)) (filter_all (d.trees it.tree))
+    ∙ map_same (showing [] it.project) (values_in t) asks.shows (d.trees it.tree)
+    ∙ ap (λ n. map (values_in t) (d.trees n)) asks.tree in
     subst (λ l. IsPermutation l rows) same all
 
 pub asks_groups : AsksAll table.Groups text.read_groups groups_listing

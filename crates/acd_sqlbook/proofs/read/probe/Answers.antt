@@ -41,6 +41,6 @@ returns-in_err-query_row-clause-seen g c d =
 pub returns-clause-seen : goal.returns-clause-seen
 returns-clause-seen g c d =
     let same : HasCleanDisk (state g.S.Store c.query_row.new.self) → IsUnchanged (state g.S.Store c.args.conn.now) (state g.S.Store c.query_row.new.self) =
-        λ clean. row_same probe_text [] (state g.S.Store c.args.conn.now) (state g.S.Store c.query_row.new.self) c.in_ok-query_row.field-0 (probe_plain _) (c.in_ok-query_row.ensures.row clean) in
+    λ clean. row_same probe_text [] (state g.S.Store c.args.conn.now) (state g.S.Store c.query_row.new.self) c.in_ok-query_row.field-0 (probe_plain _) (c.in_ok-query_row.ensures.row clean) in
     sees_shown d (state g.S.Store c.args.conn.now) (state g.S.Store c.query_row.new.self) c.query_row.ensures.survives (λ lies db. never_commits probe_text [] (state g.S.Store c.args.conn.now) db (probe_plain _))
     tt (λ x. ⊤) (λ clean. ((same clean).0.was_open, (same clean).0.is_open)) (λ clean lies. same clean) (λ clean lies. tt)
