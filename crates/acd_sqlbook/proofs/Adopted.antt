@@ -2,7 +2,7 @@
 use Rattle.std.proofs.lemmas.Grind.{common_steps}
 use Rattle.std.proofs.lemmas.Bool.Decides.{nat_tests}
 use Rattle.std.proofs.lemmas.List.Sorted.{list_any-IsPermutation, length_permutation}
-use Rattle.std.proofs.Common.{◌≡◌, ◌==◌, ◌||◌, ℕ, ◌+◌, ◌<◌, ◌≤◌, length, map, not, cond, take, get_or, arith, List, [], ◌∷◌, ◌++◌, inl, inr, Result, Ok, Err, Option, Some, None, Bool, true, false, IsTrue, IfOk, OnOk, refl, sym, ap, subst, subst₂, ◌∙◌}
+use Rattle.std.proofs.Common.{◌≡◌, ◌==◌, ◌||◌, ℕ, ◌+◌, ◌<◌, ◌≤◌, length, map, not, cond, take, get_or, arith, List, [], ◌∷◌, ◌++◌, inl, inr, Result, Ok, Err, Option, Some, None, Bool, true, false, IsTrue, IfOk, refl, sym, ap, subst, subst₂, ◌∙◌}
 use Rattle.std.specs.Prelude.{Vec, IsPermutation, ⊤}
 use Rattle.std.specs.List.{AllByRecursion, list_any}
 use Rattle.std.specs.declared.alloc.Global.{Global}
@@ -25,7 +25,7 @@ use Rattle.acd_sqlbook.specs.declared.adopt.Whole.{Whole}
 use Rattle.acd_sqlbook.specs.declared.adopt.Log.{Log}
 use Rattle.acd_sqlbook.specs.declared.adopt.Page.{Page}
 use Rattle.acd_sqlbook.specs.declared.adopt.Page.TheVariants.{Bad, Last, More}
-use Rattle.acd_sqlbook.specs.Adopting.{is_good, is_good_in, is_good_behind, are_good, lying, table_of, table_of_log, version_fault, fault_of_version, has_meta, all_tables, Numbered, AreNumbered, AreSameFirst, BeginsAsBook, IsToldIn, IsFiled, TellsGood, TellsLow, TellsBehind, IsPageRows, IsBadOf, IsPage, IsPageOf, IsVersionFound, IsRowFound, IsFound, IsFaultOf, IsStoreFault, IsInRange, IsAdopted, IsHandedBack}
+use Rattle.acd_sqlbook.specs.Adopting.{is_good, is_good_in, is_good_behind, are_good, lying, table_of, table_of_log, version_fault, fault_of_version, has_meta, all_tables, Numbered, AreNumbered, AreSameFirst, BeginsAsBook, IsFiled, TellsGood, TellsLow, TellsBehind, IsPageRows, IsBadOf, IsPage, IsPageOf, IsVersionFound, IsRowFound, IsFound, IsFaultOf, IsStoreFault, IsInRange, IsAdopted, IsHandedBack}
 use Rattle.acd_sqlbook.specs.Content.{Encodes}
 use Rattle.acd_sqlbook.specs.Decoding.{content_of}
 use Rattle.acd_sqlbook.specs.Draft.{NoStop}
@@ -40,7 +40,7 @@ use Rattle.acd_sqlbook.proofs.Contents.{content_in, filed_in}
 use Rattle.acd_sqlbook.proofs.KeyedRows.{apart, same_number}
 use Rattle.acd_sqlbook.proofs.Looked.{mapped_all, moved_all}
 use Rattle.acd_sqlbook.proofs.Paged.{page_is, log_told}
-use Rattle.acd_sqlbook.proofs.Seen.{sees_on, sees_so, sees_fail, sees_then, sees_here, sees_not, still_here}
+use Rattle.acd_sqlbook.proofs.Seen.{sees_on, sees_fail, sees_then, sees_here}
 
 -- ---- rows
 

@@ -1,31 +1,28 @@
 -- Rows that are filed, and in their ranges, are those of a content.
-use Rattle.std.proofs.Common.{◌≡◌, ◌==◌, ◌&&◌, ◌||◌, ◌≤◌, ℕ, ℤ, pos, negsuc, suc, zero, length, drop, map, cond, not, List, [], ◌∷◌, inl, inr, Option, Some, None, Bool, true, false, IsTrue, refl, sym, ap, ap₂, subst, ◌∙◌, arith}
-use Rattle.std.specs.List.{AllByRecursion, list_any, list_all}
+use Rattle.std.proofs.Common.{◌≡◌, ◌==◌, ◌&&◌, ◌||◌, ℕ, ℤ, pos, negsuc, suc, length, drop, map, cond, not, List, [], ◌∷◌, inl, inr, Option, Some, None, Bool, true, false, IsTrue, refl, sym, ap, ap₂, subst, ◌∙◌, arith}
+use Rattle.std.specs.List.{AllByRecursion}
 use Rattle.std.specs.Option.{is_some}
-use Rattle.std.specs.Ordering.{nat_cmp, int_cmp, is_eq, ordering_reverse, is_ne}
+use Rattle.std.specs.Ordering.{int_cmp, is_eq, ordering_reverse, is_ne}
 use Rattle.std.specs.declared.cmp.Ordering.{Ordering}
 use Rattle.std.specs.declared.cmp.Ordering.TheVariants.{Less, Equal, Greater}
 use Rattle.std.proofs.lemmas.Bool.Decides.{nat_tests}
 use Rattle.std.proofs.lemmas.Int.{ints}
 use Rattle.sqlite_value.specs.declared.value.Value.{Value}
 use Rattle.sqlite_value.specs.declared.value.Value.TheVariants.{Null, Int, Real, Text, Blob}
-use Rattle.sqlite_value.specs.declared.keys.Collation.TheVariants.{Binary}
 use Rattle.sqlite_value.specs.Keys.{plain, first_key}
 use Rattle.sqlite_value.specs.Order.{Row, column, value_cmp}
 use Rattle.sqlite_value.proofs.OrderLemmas.{value_cmp-Int, value_cmp_total}
 use Rattle.sqlite_trees.specs.Tree.{Trees, IsTable, rowid}
 use Rattle.sqlite_trees.specs.View.{is_int}
 use Rattle.sqlite_rules.specs.Lists.{Has}
-use Rattle.sqlite_rules.proofs.ListLemmas.{all_from, all_has}
-use Rattle.sqlite_rules.proofs.ProbeLemmas.{has_mapped, mapped_has}
+use Rattle.sqlite_rules.proofs.ListLemmas.{all_has}
 use Rattle.sqlite_sql.specs.Ops.{binary, is_false, is_true, is_null, from_truth}
-use Rattle.sqlite_sql.specs.Term.{eval}
 use Rattle.sqlite_schema.specs.declared.schema.Column.{Column}
 use Rattle.sqlite_schema.specs.declared.schema.Constraint.{Constraint}
 use Rattle.sqlite_schema.specs.declared.schema.Constraint.TheVariants as rule
 use Rattle.sqlite_schema.specs.Rules.{Keeps, passes, passes_checks, are_typed, has_computed, agree, differ, clashes}
 use Rattle.sqlite.specs.Effect.{Database, IsDatabase}
-use Rattle.acd_terms.specs.Lists.{Among, IsAscending, Every}
+use Rattle.acd_terms.specs.Lists.{Among, Every}
 use Rattle.acd_terms.specs.Rules.Plan.{connection_order}
 use Rattle.acd_terms.specs.declared.event.Event.{Event}
 use Rattle.acd_terms.specs.declared.record.GroupRecord.{GroupRecord}
@@ -39,10 +36,10 @@ use Rattle.acd_book.specs.declared.kept.Kept.{Kept}
 use Rattle.acd_sqlbook.specs.declared.meta.Meta.{Meta}
 use Rattle.acd_sqlbook.specs.declared.fault.Table.{Table}
 use Rattle.acd_sqlbook.specs.declared.fault.Table.TheVariants as table
-use Rattle.acd_sqlbook.specs.Adopting.{is_good, are_good, is_good_in, is_good_table, values_in, lying, width_of, IsToldIn, IsOfBook, IsFiled, IsInRange}
-use Rattle.acd_sqlbook.specs.Content.{AreRows, AreConnections, IsReadable, Encodes, tree_of, meta_of}
+use Rattle.acd_sqlbook.specs.Adopting.{is_good, are_good, is_good_in, is_good_table, values_in, lying, width_of, IsOfBook, IsFiled, IsInRange}
+use Rattle.acd_sqlbook.specs.Content.{AreRows, AreConnections, IsReadable, Encodes, tree_of}
 use Rattle.acd_sqlbook.specs.Decoding.{as_connection, in_order}
-use Rattle.acd_sqlbook.specs.Ranges.{group_in, station_in, agent_in, call_in, connection_in, monitor_in, counters_in, event_in, kept_in, whole_at}
+use Rattle.acd_sqlbook.specs.Ranges.{group_in, station_in, agent_in, call_in, connection_in, monitor_in, counters_in, event_in, kept_in}
 use Rattle.acd_sqlbook.specs.Reading.{meta_shown}
 use Rattle.acd_sqlbook.specs.Rows.{id_value, keyed_row, meta_row, group_values, station_values, agent_values, call_values, connection_values, connection_row, monitor_values, event_values, kept_values, group_row, station_row, agent_row, call_row, monitor_row, event_row, kept_row}
 use Rattle.acd_sqlbook.specs.Schema.{book_schema}
@@ -51,7 +48,6 @@ use Rattle.acd_sqlbook.proofs.Decoded.{with_all, connection_back, ordered, from_
 use Rattle.acd_sqlbook.proofs.Heaps.{at_each, each_has, key_same}
 use Rattle.acd_sqlbook.proofs.KeyedRows.{id_cmp, id_tied, same_number, own_number}
 use Rattle.acd_sqlbook.proofs.Looked.{all_so, ascending_of, rising_of}
-use Rattle.acd_sqlbook.proofs.Puts.{truth_back}
 use Rattle.acd_sqlbook.proofs.Ranged.{row_is, cells, whole_stored, group_stored, station_stored, agent_stored, call_stored, connection_stored, monitor_stored, counters_stored}
 use Rattle.acd_sqlbook.proofs.Reported.{event_stored, kept_stored}
 

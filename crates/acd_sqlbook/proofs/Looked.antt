@@ -1,6 +1,6 @@
 -- What the queries show of tables whose rows may hold anything.
-use Rattle.std.proofs.Common.{◌≡◌, ℕ, zero, suc, length, take, filter, nat_lt, nat_le, ◌&&◌, List, [], ◌∷◌, map, cond, Bool, true, false, Option, Some, None, Result, inl, inr, refl, sym, ap, subst, ◌∙◌, IsTrue, arith}
-use Rattle.std.specs.Prelude.{Vec, pos, negsuc, ℤ, codes}
+use Rattle.std.proofs.Common.{◌≡◌, ℕ, zero, suc, length, take, filter, nat_lt, nat_le, List, [], ◌∷◌, map, cond, Bool, true, false, Option, Some, None, Result, inl, inr, refl, sym, ap, subst, ◌∙◌, IsTrue, arith}
+use Rattle.std.specs.Prelude.{Vec, pos, negsuc, codes}
 use Rattle.std.specs.declared.alloc.Global.{Global}
 use Rattle.std.specs.List.{AllByRecursion, list_all}
 use Rattle.std.specs.declared.cmp.Ordering.TheVariants.{Less}
@@ -12,18 +12,15 @@ use Rattle.std.proofs.lemmas.Int.{ints}
 use Rattle.std.proofs.lemmas.List.Elements.{All-from_recursion, recursion_from_All}
 use Rattle.std.proofs.lemmas.List.Sorted.{All-permutation, length_permutation}
 use Rattle.sqlite_value.specs.declared.keys.Collation.TheVariants.{Binary}
-use Rattle.sqlite_value.specs.declared.keys.Key.{Key}
 use Rattle.sqlite_value.specs.declared.value.Value.{Value}
 use Rattle.sqlite_value.specs.declared.value.Value.TheVariants.{Null, Int, Real, Text, Blob}
-use Rattle.sqlite_value.specs.Keys.{ascending}
 use Rattle.sqlite_value.specs.Order.{Row, column, value_cmp}
 use Rattle.sqlite_value.proofs.OrderLemmas.{value_cmp-Int}
 use Rattle.sqlite_trees.specs.Tree.{IsTable, rowid}
-use Rattle.sqlite_trees.specs.Tree as tree
 use Rattle.sqlite_trees.specs.View.{is_int}
 use Rattle.sqlite_rules.specs.Lists.{Has}
-use Rattle.sqlite_rules.proofs.ListLemmas.{all_from, all_has}
-use Rattle.sqlite_rules.proofs.ProbeLemmas.{has_mapped, mapped_has}
+use Rattle.sqlite_rules.proofs.ListLemmas.{all_from}
+use Rattle.sqlite_rules.proofs.ProbeLemmas.{mapped_has}
 use Rattle.sqlite_keyed.proofs.ListLemmas.{map_same}
 use Rattle.sqlite_sql.specs.Ops.{binary}
 use Rattle.sqlite_sql.specs.Query.{Output, limited, as_count}
@@ -44,8 +41,8 @@ use Rattle.acd_sqlbook.specs.declared.adopt.Log.{Log}
 use Rattle.acd_sqlbook.specs.declared.adopt.Log.TheVariants as log
 use Rattle.acd_sqlbook.specs.declared.fault.Table.{Table}
 use Rattle.acd_sqlbook.specs.declared.fault.Table.TheVariants as table
-use Rattle.acd_sqlbook.specs.Adopting.{values_in, lying, is_good, are_good, is_good_in, table_of_log, values_behind, has_meta, BeginsAsBook, Numbered, AreNumbered, FromOne, TellsLow, IsPageRows}
-use Rattle.acd_sqlbook.specs.Content.{tree_of, AreRows}
+use Rattle.acd_sqlbook.specs.Adopting.{values_in, lying, is_good, are_good, is_good_in, table_of_log, values_behind, BeginsAsBook, Numbered, AreNumbered, FromOne, TellsLow, IsPageRows}
+use Rattle.acd_sqlbook.specs.Content.{tree_of}
 use Rattle.acd_sqlbook.specs.Decoding.{option_in}
 use Rattle.acd_sqlbook.specs.Ranges.{◌>>=◌, at_least, stamp_at, event_in, kept_in}
 use Rattle.acd_sqlbook.specs.Rows.{id_value}

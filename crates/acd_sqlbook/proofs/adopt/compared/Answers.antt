@@ -1,4 +1,4 @@
-use Rattle.std.proofs.Common.{◌≡◌, ◌∙◌}
+use Rattle.std.proofs.Common.{◌∙◌}
 use Rattle.acd_sqlbook.proofs.Adopted.{begins_of}
 use Rattle.acd_sqlbook.proofs.adopt.compared.Goals as goal
 

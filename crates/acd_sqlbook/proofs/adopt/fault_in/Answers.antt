@@ -1,4 +1,3 @@
-use Rattle.std.proofs.Common.{◌≡◌, sym, ◌∙◌, ap, refl}
 use Rattle.sqlite.specs.Held.{state}
 use Rattle.acd_sqlbook.proofs.adopt.fault_in.Goals as goal
 

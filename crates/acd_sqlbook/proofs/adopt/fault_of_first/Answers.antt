@@ -1,4 +1,4 @@
-use Rattle.std.proofs.Common.{◌≡◌, Err, Some, refl, rules, subst, sym}
+use Rattle.std.proofs.Common.{◌≡◌, Err, refl, rules, subst, sym}
 use Rattle.sqlite.specs.Held.{state}
 use Rattle.acd_sqlbook.specs.Adopting.{IsFound}
 use Rattle.acd_sqlbook.specs.Seeing.{Sees}

@@ -1,6 +1,5 @@
 use Rattle.sqlite.specs.Held.{state}
-use Rattle.acd_sqlbook.specs.Adopting.{lying, table_of, TellsGood}
-use Rattle.std.specs.Prelude.{IsPermutation}
+use Rattle.acd_sqlbook.specs.Adopting.{table_of, TellsGood}
 use Rattle.acd_sqlbook.proofs.Adopted.{whole_told}
 use Rattle.acd_sqlbook.proofs.Seen.{sees_fail}
 use Rattle.acd_sqlbook.proofs.adopt.is_good_whole.Goals as goal

@@ -1,4 +1,4 @@
-use Rattle.std.proofs.Common.{◌≡◌, sym, subst}
+use Rattle.std.proofs.Common.{sym, subst}
 use Rattle.sqlite.specs.Held.{state}
 use Rattle.acd_sqlbook.specs.Adopting.{TellsLow}
 use Rattle.acd_sqlbook.specs.Seeing.{Sees}
