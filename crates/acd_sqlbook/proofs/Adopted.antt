@@ -8,6 +8,8 @@ use Rattle.std.specs.List.{AllByRecursion, list_any}
 use Rattle.std.specs.declared.alloc.Global.{Global}
 use Rattle.sqlite_value.specs.Order.{Row, column}
 use Rattle.sqlite_trees.specs.Tree.{Trees}
+use Rattle.sqlite_trees.specs.Objects.{catalog_tree, IsListed}
+use Rattle.sqlite_trees.specs.View.{View, IsOrdered}
 use Rattle.sqlite_rules.specs.Lists.{Has}
 use Rattle.sqlite_rules.proofs.ListLemmas.{all_from}
 use Rattle.sqlite.specs.Effect.{Database, IsDatabase}
@@ -25,7 +27,7 @@ use Rattle.acd_sqlbook.specs.declared.adopt.Whole.{Whole}
 use Rattle.acd_sqlbook.specs.declared.adopt.Log.{Log}
 use Rattle.acd_sqlbook.specs.declared.adopt.Page.{Page}
 use Rattle.acd_sqlbook.specs.declared.adopt.Page.TheVariants.{Bad, Last, More}
-use Rattle.acd_sqlbook.specs.Adopting.{is_good, is_good_in, is_good_behind, are_good, lying, table_of, table_of_log, version_fault, fault_of_version, has_meta, all_tables, Numbered, AreNumbered, AreSameFirst, BeginsAsBook, IsFiled, TellsGood, TellsLow, TellsBehind, IsPageRows, IsBadOf, IsPage, IsPageOf, IsVersionFound, IsRowFound, IsFound, IsFaultOf, IsStoreFault, IsInRange, IsAdopted, IsHandedBack}
+use Rattle.acd_sqlbook.specs.Adopting.{is_good, is_good_in, is_good_behind, are_good, lying, table_of, table_of_log, version_fault, fault_of_version, has_meta, all_tables, Numbered, AreNumbered, AreSameFirst, BeginsAsBook, IsFiled, AreWhole, TellsGood, TellsLow, TellsBehind, IsPageRows, IsBadOf, IsPage, IsPageOf, IsVersionFound, IsRowFound, IsFound, IsFaultOf, IsStoreFault, IsInRange, IsAdopted, IsHandedBack}
 use Rattle.acd_sqlbook.specs.Content.{Encodes}
 use Rattle.acd_sqlbook.specs.Decoding.{content_of}
 use Rattle.acd_sqlbook.specs.Draft.{NoStop}
@@ -36,7 +38,7 @@ use Rattle.acd_sqlbook.specs.Seeing.{Lies, Sees, HasLooked}
 use Rattle.acd_sqlbook.specs.State.{IsSound, book_state}
 use Rattle.acd_sqlbook.proofs.BookStates.{Settles, Stays}
 use Rattle.acd_sqlbook.proofs.Decoded.{decoded}
-use Rattle.acd_sqlbook.proofs.Contents.{content_in, filed_in}
+use Rattle.acd_sqlbook.proofs.Contents.{content_in, filed_in, filed_by_store}
 use Rattle.acd_sqlbook.proofs.KeyedRows.{apart, same_number}
 use Rattle.acd_sqlbook.proofs.Looked.{mapped_all, moved_all}
 use Rattle.acd_sqlbook.proofs.Paged.{page_is, log_told}
@@ -337,6 +339,14 @@ module _ (old new : State) (settles : Settles old) (settled_after : Settles new)
         };
         in_range = λ filed. let c = made filed in subst IsInRange (sym (decoded old.now.trees c.0 c.1) ∙ sym (ap (λ (d : Database). content_of d.trees) after.committed)) c.2;
       }
+
+  -- the rows of a store that isn't broken rise
+  pub files : HasLooked old new (Ok None) IsFound → (v : View) → old.now.trees ≡ v.trees → IsListed (v.trees catalog_tree) v.shape v.reals → IsOrdered v.shape v.trees → AreWhole old.now.trees → IsFiled old.now.trees
+  files h v same listed ordered whole =
+      let was = (same_content (Ok None) h (h.up k)).0 in
+      let found = h.seen.answer k (lies_before (Ok None) h was) in
+      let obeys : IsDatabase (record { schema = old.now.schema; trees = v.trees }) = subst (λ t. IsDatabase (record { schema = old.now.schema; trees = t })) same (h.obeys was) in
+      subst IsFiled (sym same) (filed_by_store v old.now.schema found.schema_is obeys listed ordered (subst AreWhole same whole))
 
   back : (r : Result (Option AdoptFault) Error) (f : AdoptFault) → HasLooked old new r IsFound → IsFaultOf old.now f → IsHandedBack old.now (book_state old 0) (book_state new 0) f
   back r f h fault = record { sound = still_sound r h; same = same_content r h; stops = λ c stop. (stop.0, h.stops k stop.0 stop.1, stop.2); cause = fault }

@@ -1,5 +1,5 @@
 -- Rows that are filed, and in their ranges, are those of a content.
-use Rattle.std.proofs.Common.{◌≡◌, ◌==◌, ◌&&◌, ◌||◌, ℕ, ℤ, pos, negsuc, suc, length, drop, map, cond, not, List, [], ◌∷◌, inl, inr, Option, Some, None, Bool, true, false, IsTrue, refl, sym, ap, ap₂, subst, ◌∙◌, arith}
+use Rattle.std.proofs.Common.{◌≡◌, ◌==◌, ◌&&◌, ◌||◌, ℕ, ℤ, pos, negsuc, suc, length, drop, map, cond, not, List, [], ◌∷◌, inl, inr, Option, Some, None, Bool, true, false, IsTrue, refl, sym, ap, ap₂, subst, ◌∙◌, arith, ◌+◌, ◌<◌, ◌≤◌, zero}
 use Rattle.std.specs.List.{AllByRecursion}
 use Rattle.std.specs.Option.{is_some}
 use Rattle.std.specs.Ordering.{int_cmp, is_eq, ordering_reverse, is_ne}
@@ -13,11 +13,16 @@ use Rattle.sqlite_value.specs.Keys.{plain, first_key}
 use Rattle.sqlite_value.specs.Order.{Row, column, value_cmp}
 use Rattle.sqlite_value.proofs.OrderLemmas.{value_cmp-Int, value_cmp_total}
 use Rattle.sqlite_trees.specs.Tree.{Trees, IsTable, rowid}
-use Rattle.sqlite_trees.specs.View.{is_int}
+use Rattle.sqlite_trees.specs.View.{View, is_int, IsShaped, IsOrdered}
+use Rattle.sqlite_trees.specs.Objects.{catalog_tree, IsListed}
+use Rattle.sqlite_trees.specs.declared.store.Shape.{Shape}
+use Rattle.sqlite_trees.specs.declared.store.Shape.TheVariants as shape
+use Rattle.sqlite_catalog.proofs.LayoutLemmas.{laid_out, objects_rise}
 use Rattle.sqlite_rules.specs.Lists.{Has}
 use Rattle.sqlite_rules.proofs.ListLemmas.{all_has}
 use Rattle.sqlite_sql.specs.Ops.{binary, is_false, is_true, is_null, from_truth}
 use Rattle.sqlite_schema.specs.declared.schema.Column.{Column}
+use Rattle.sqlite_schema.specs.declared.schema.Schema.{Schema}
 use Rattle.sqlite_schema.specs.declared.schema.Constraint.{Constraint}
 use Rattle.sqlite_schema.specs.declared.schema.Constraint.TheVariants as rule
 use Rattle.sqlite_schema.specs.Rules.{Keeps, passes, passes_checks, are_typed, has_computed, agree, differ, clashes}
@@ -36,7 +41,7 @@ use Rattle.acd_book.specs.declared.kept.Kept.{Kept}
 use Rattle.acd_sqlbook.specs.declared.meta.Meta.{Meta}
 use Rattle.acd_sqlbook.specs.declared.fault.Table.{Table}
 use Rattle.acd_sqlbook.specs.declared.fault.Table.TheVariants as table
-use Rattle.acd_sqlbook.specs.Adopting.{is_good, are_good, is_good_in, is_good_table, values_in, lying, width_of, IsOfBook, IsFiled, IsInRange}
+use Rattle.acd_sqlbook.specs.Adopting.{is_good, are_good, is_good_in, is_good_table, values_in, lying, IsOfBook, IsFiled, AreWhole, IsInRange}
 use Rattle.acd_sqlbook.specs.Content.{AreRows, AreConnections, IsReadable, Encodes, tree_of}
 use Rattle.acd_sqlbook.specs.Decoding.{as_connection, in_order}
 use Rattle.acd_sqlbook.specs.Ranges.{group_in, station_in, agent_in, call_in, connection_in, monitor_in, counters_in, event_in, kept_in}
@@ -50,6 +55,18 @@ use Rattle.acd_sqlbook.proofs.KeyedRows.{id_cmp, id_tied, same_number, own_numbe
 use Rattle.acd_sqlbook.proofs.Looked.{all_so, ascending_of, rising_of}
 use Rattle.acd_sqlbook.proofs.Ranged.{row_is, cells, whole_stored, group_stored, station_stored, agent_stored, call_stored, connection_stored, monitor_stored, counters_stored}
 use Rattle.acd_sqlbook.proofs.Reported.{event_stored, kept_stored}
+
+-- how many values a row has: its number, and one for each column
+abbrev pub width_of : Table → ℕ
+width_of table.Meta = 14
+width_of table.Groups = 10
+width_of table.Stations = 2
+width_of table.Agents = 9
+width_of table.Calls = 5
+width_of table.Connections = 8
+width_of table.Monitors = 4
+width_of table.Events = 11
+width_of table.Kept = 8
 
 -- ---- lists of rows
 
@@ -134,6 +151,39 @@ nulls : (columns : List Column) (more : Row → Bool) (n : ℕ) (rows : List Row
     → AllByRecursion (λ r. (are_typed (Some 0) 0 columns (drop 1 r) && more r) ≡ true) rows → AllByRecursion (λ r. column r 1 ≡ Null) rows
 nulls columns more n [] w typed = tt
 nulls columns more n (r ∷ rows) w typed = (key_null columns (more r) n r w.0 typed.0, nulls columns more n rows w.1 typed.1)
+
+-- ---- the width of a row whose last column is there
+
+second_true : (a b : Bool) → (a && b) ≡ true → b ≡ true
+second_true true b h = h
+second_true false b h = absurd (cc h)
+
+typed_length : (key : Option ℕ) (at : ℕ) (columns : List Column) (vs : Row) → are_typed key at columns vs ≡ true → length vs ≤ length columns
+typed_length key at [] [] h = omega arith
+typed_length key at [] (v ∷ vs) h = absurd (cc h)
+typed_length key at (c ∷ cs) [] h = omega arith
+typed_length key at (c ∷ cs) (v ∷ vs) h = let more = typed_length key (at + 1) cs vs (second_true _ _ h) in omega (arith, more)
+
+there_at : (r : Row) (k : ℕ) → is_null (column r k) ≡ false → k < length r
+there_at [] k h = absurd (cc h)
+there_at (v ∷ r) zero h = omega arith
+there_at (v ∷ r) (suc k) h = let more = there_at r k h in omega (arith, more)
+
+width_is : (columns : List Column) (more : Bool) (r : Row) → (are_typed (Some 0) 0 columns (drop 1 r) && more) ≡ true → is_null (column r (length columns)) ≡ false → length r ≡ suc (length columns)
+width_is columns more [] h last = absurd (let n = there_at [] (length columns) last in omega (arith, n))
+width_is columns more (v ∷ vs) h last =
+    let low = typed_length (Some 0) 0 columns vs (first_true _ _ h) in
+    let high = there_at (v ∷ vs) (length columns) last in
+    omega (arith, low, high)
+
+module _ {R : Type 0} (t : Table) (read : Row → Option R) (values : R → Row) (stored : (r : Row) (x : R) → read r ≡ Some x → r ≡ values x) (columns : List Column) (more : Row → Bool) (at : ℕ)
+    (place : (r : Row) → column (values_in t r) at ≡ column r (length columns)) (last : (x : R) → is_null (column (values x) at) ≡ false) where
+  widths : (rows : List Row) → AllByRecursion (λ r. (are_typed (Some 0) 0 columns (drop 1 r) && more r) ≡ true) rows → AllByRecursion (λ r. is_some (read (values_in t r)) ≡ true) rows
+      → AllByRecursion (λ r. length r ≡ suc (length columns)) rows
+  widths [] typed good = tt
+  widths (r ∷ rows) typed good =
+      let x = there (read (values_in t r)) good.0 in
+      (width_is columns (more r) r typed.0 (ap is_null (sym (place r) ∙ ap (λ l. column l at) (stored (values_in t r) x.0 x.1)) ∙ last x.0), widths rows typed.1 good.1)
 
 -- ---- the limits and the counters
 
@@ -354,6 +404,24 @@ module _ (d : Database) (book : IsOfBook d) (obeys : IsDatabase d) (filed : IsFi
   typed : Keeps rule.Datatype book_schema d.trees
   typed = rules_of d book.schema_is obeys rule.Datatype
 
+  wide_meta : AllByRecursion (λ r. length r ≡ width_of table.Meta) (d.trees (tree_of table.Meta))
+  wide_meta = widths table.Meta counters_in meta_shown counters_stored schema.meta.columns (has_computed (schema.table_of schema.meta)) 10 (λ r. refl) (λ x. refl) (d.trees (tree_of table.Meta)) typed.0 (in_range table.Meta)
+
+  wide_groups : AllByRecursion (λ r. length r ≡ width_of table.Groups) (d.trees (tree_of table.Groups))
+  wide_groups = widths table.Groups group_in group_values group_stored schema.groups.columns (has_computed (schema.table_of schema.groups)) 8 (λ r. refl) (λ x. refl) (d.trees (tree_of table.Groups)) typed.1.0 (in_range table.Groups)
+
+  wide_agents : AllByRecursion (λ r. length r ≡ width_of table.Agents) (d.trees (tree_of table.Agents))
+  wide_agents = widths table.Agents agent_in agent_values agent_stored schema.agents.columns (has_computed (schema.table_of schema.agents)) 7 (λ r. refl) (λ x. refl) (d.trees (tree_of table.Agents)) typed.1.1.1.0 (in_range table.Agents)
+
+  wide_calls : AllByRecursion (λ r. length r ≡ width_of table.Calls) (d.trees (tree_of table.Calls))
+  wide_calls = widths table.Calls call_in call_values call_stored schema.calls.columns (has_computed (schema.table_of schema.calls)) 3 (λ r. refl) (λ x. refl) (d.trees (tree_of table.Calls)) typed.1.1.1.1.0 (in_range table.Calls)
+
+  wide_monitors : AllByRecursion (λ r. length r ≡ width_of table.Monitors) (d.trees (tree_of table.Monitors))
+  wide_monitors = widths table.Monitors monitor_in monitor_values monitor_stored schema.monitors.columns (has_computed (schema.table_of schema.monitors)) 2 (λ r. refl) (λ x. refl) (d.trees (tree_of table.Monitors)) typed.1.1.1.1.1.1.0 (in_range table.Monitors)
+
+  wide_kept : AllByRecursion (λ r. length r ≡ width_of table.Kept) (d.trees (tree_of table.Kept))
+  wide_kept = widths table.Kept kept_in kept_values (λ r k h. (kept_stored r k h).0) schema.kept.columns (has_computed (schema.table_of schema.kept)) 6 (λ r. refl) (λ x. refl) (d.trees (tree_of table.Kept)) typed.1.1.1.1.1.1.1.1.0 (in_range table.Kept)
+
   one_row : (row : Row) × (d.trees (tree_of table.Meta) ≡ row ∷ []) × (rowid row ≡ id_value 1) × (column row 2 ≡ id_value 1)
   one_row =
       let told = book.version in
@@ -363,12 +431,12 @@ module _ (d : Database) (book : IsOfBook d) (obeys : IsDatabase d) (filed : IsFi
   parts : Parts d.trees
   parts =
       let row = one_row in
-      let whole = subst (AllByRecursion (λ r. length r ≡ 14)) row.1 (filed.whole table.Meta) in
-      let null = subst (AllByRecursion (λ r. column r 1 ≡ Null)) row.1 (nulls schema.meta.columns (has_computed (schema.table_of schema.meta)) 12 (d.trees (tree_of table.Meta)) (filed.whole table.Meta) typed.0) in
+      let whole = subst (AllByRecursion (λ r. length r ≡ 14)) row.1 wide_meta in
+      let null = subst (AllByRecursion (λ r. column r 1 ≡ Null)) row.1 (nulls schema.meta.columns (has_computed (schema.table_of schema.meta)) 12 (d.trees (tree_of table.Meta)) wide_meta typed.0) in
       let good = subst (AllByRecursion (λ r. is_some (counters_in (values_in table.Meta r)) ≡ true)) row.1 (in_range table.Meta) in
       let m = there (counters_in (values_in table.Meta row.0)) good.0 in
       let shown = counters_stored (values_in table.Meta row.0) m.0 m.1 in
-      let links = linked (rows_in table.Connections) (filed.numbered table.Connections) (filed.whole table.Connections) (in_range table.Connections) in
+      let links = linked (rows_in table.Connections) (filed.numbered table.Connections) filed.whole.1 (in_range table.Connections) in
       let unique = all_so (λ r. passes rule.Unique book_schema d.trees (schema.table_of schema.connections) r ≡ true) (λ r. clashes plain key_columns (d.trees (tree_of table.Connections)) r ≡ false) (λ r h. not_true _ h) (rows_in table.Connections)
       (rules_of d book.schema_is obeys rule.Unique).1.1.1.1.1.0 in
       record {
@@ -376,22 +444,22 @@ module _ (d : Database) (book : IsOfBook d) (obeys : IsDatabase d) (filed : IsFi
         meta_is = row.1 ∙ ap (λ r. r ∷ []) (meta_form row.0 m.0 whole.0 row.2 null.0 row.3 shown);
         meta_good = ap (λ r. is_some (counters_in r)) (sym shown) ∙ good.0;
         groups = are_of table.Groups group_in group_values (λ (g : GroupRecord). g.device) group_stored (λ g. refl) (λ r w null. of_width 10 r w ∙ ap (λ v. column r 0 ∷ v ∷ cells 2 8 r) null) (rows_in table.Groups)
-            (filed.rising table.Groups) (filed.whole table.Groups) (nulls schema.groups.columns (has_computed (schema.table_of schema.groups)) 8 (rows_in table.Groups) (filed.whole table.Groups) typed.1.0) (in_range table.Groups);
+            (filed.rising table.Groups) wide_groups (nulls schema.groups.columns (has_computed (schema.table_of schema.groups)) 8 (rows_in table.Groups) wide_groups typed.1.0) (in_range table.Groups);
         stations = are_of table.Stations station_in station_values (λ (s : StationRecord). s.device) station_stored (λ s. refl) (λ r w null. of_width 2 r w ∙ ap (λ v. column r 0 ∷ v ∷ cells 2 0 r) null) (rows_in table.Stations)
-            (filed.rising table.Stations) (filed.whole table.Stations) (nulls schema.stations.columns (has_computed (schema.table_of schema.stations)) 0 (rows_in table.Stations) (filed.whole table.Stations) typed.1.1.0) (in_range table.Stations);
+            (filed.rising table.Stations) filed.whole.0 (nulls schema.stations.columns (has_computed (schema.table_of schema.stations)) 0 (rows_in table.Stations) filed.whole.0 typed.1.1.0) (in_range table.Stations);
         agents = are_of table.Agents agent_in agent_values (λ (a : AgentRecord). a.agent) agent_stored (λ a. refl) (λ r w null. of_width 9 r w ∙ ap (λ v. column r 0 ∷ v ∷ cells 2 7 r) null) (rows_in table.Agents)
-            (filed.rising table.Agents) (filed.whole table.Agents) (nulls schema.agents.columns (has_computed (schema.table_of schema.agents)) 7 (rows_in table.Agents) (filed.whole table.Agents) typed.1.1.1.0) (in_range table.Agents);
+            (filed.rising table.Agents) wide_agents (nulls schema.agents.columns (has_computed (schema.table_of schema.agents)) 7 (rows_in table.Agents) wide_agents typed.1.1.1.0) (in_range table.Agents);
         calls = are_of table.Calls call_in call_values (λ (k : CallRecord). k.call) call_stored (λ k. refl) (λ r w null. of_width 5 r w ∙ ap (λ v. column r 0 ∷ v ∷ cells 2 3 r) null) (rows_in table.Calls)
-            (filed.rising table.Calls) (filed.whole table.Calls) (nulls schema.calls.columns (has_computed (schema.table_of schema.calls)) 3 (rows_in table.Calls) (filed.whole table.Calls) typed.1.1.1.1.0) (in_range table.Calls);
+            (filed.rising table.Calls) wide_calls (nulls schema.calls.columns (has_computed (schema.table_of schema.calls)) 3 (rows_in table.Calls) wide_calls typed.1.1.1.1.0) (in_range table.Calls);
         connections = in_order links.0;
         connections_is = connections_are (rows_in table.Connections) links.0 links.1 (filed.rising table.Connections) (filed.numbered table.Connections) unique;
         connections_good = connections_back_in (rows_in table.Connections) links.0 links.1 (filed.rising table.Connections) (filed.numbered table.Connections) unique (in_order links.0) (λ y a. from_order links.0 y a);
         monitors = are_of table.Monitors monitor_in monitor_values (λ (m : MonitorRecord). m.monitor) monitor_stored (λ m. refl) (λ r w null. of_width 4 r w ∙ ap (λ v. column r 0 ∷ v ∷ cells 2 2 r) null) (rows_in table.Monitors)
-            (filed.rising table.Monitors) (filed.whole table.Monitors) (nulls schema.monitors.columns (has_computed (schema.table_of schema.monitors)) 2 (rows_in table.Monitors) (filed.whole table.Monitors) typed.1.1.1.1.1.1.0) (in_range table.Monitors);
+            (filed.rising table.Monitors) wide_monitors (nulls schema.monitors.columns (has_computed (schema.table_of schema.monitors)) 2 (rows_in table.Monitors) wide_monitors typed.1.1.1.1.1.1.0) (in_range table.Monitors);
         events = are_of table.Events event_in event_values (λ (e : Event). e.number) event_stored (λ e. refl) (λ r w null. of_width 11 r w ∙ ap (λ v. column r 0 ∷ v ∷ cells 2 9 r) null) (rows_in table.Events)
-            (filed.rising table.Events) (filed.whole table.Events) (nulls schema.events.columns (has_computed (schema.table_of schema.events)) 9 (rows_in table.Events) (filed.whole table.Events) typed.1.1.1.1.1.1.1.0) (in_range table.Events);
+            (filed.rising table.Events) filed.whole.2 (nulls schema.events.columns (has_computed (schema.table_of schema.events)) 9 (rows_in table.Events) filed.whole.2 typed.1.1.1.1.1.1.1.0) (in_range table.Events);
         kept = are_of table.Kept kept_in kept_values (λ (k : Kept). k.stamp) (λ r k h. (kept_stored r k h).0) (λ k. refl) (λ r w null. of_width 8 r w ∙ ap (λ v. column r 0 ∷ v ∷ cells 2 6 r) null) (rows_in table.Kept)
-            (filed.rising table.Kept) (filed.whole table.Kept) (nulls schema.kept.columns (has_computed (schema.table_of schema.kept)) 6 (rows_in table.Kept) (filed.whole table.Kept) typed.1.1.1.1.1.1.1.1.0) (in_range table.Kept);
+            (filed.rising table.Kept) wide_kept (nulls schema.kept.columns (has_computed (schema.table_of schema.kept)) 6 (rows_in table.Kept) wide_kept typed.1.1.1.1.1.1.1.1.0) (in_range table.Kept);
       }
 
 module _ (db : Trees) (p : Parts db) where
@@ -462,4 +530,27 @@ each_filed db c is table.Events = records_filed table.Events (λ (e : Event). e.
 each_filed db c is table.Kept = records_filed table.Kept (λ (k : Kept). k.stamp) kept_row (λ k. refl) (λ k. refl) (db (tree_of table.Kept)) c.kept (is table.Kept).0
 
 pub filed_in : (db : Trees) (c : Content) → Encodes db c → IsFiled db
-filed_in db c is = record { rising = λ t. (each_filed db c is t).rising; numbered = λ t. (each_filed db c is t).numbered; whole = λ t. (each_filed db c is t).whole }
+filed_in db c is = record { rising = λ t. (each_filed db c is t).rising; numbered = λ t. (each_filed db c is t).numbered; whole = ((each_filed db c is table.Stations).whole, (each_filed db c is table.Connections).whole, (each_filed db c is table.Events).whole) }
+
+-- ---- the rows of a store that isn't broken
+
+shaped_as : (v : View) (t : ℕ) → v.shape t ≡ shape.Table → IsOrdered v.shape v.trees → IsTable (v.trees t) × AllByRecursion (λ r. IsTrue (is_int (rowid r))) (v.trees t)
+shaped_as v t is ordered = subst (λ s. IsShaped s (v.trees t)) is (ordered t)
+
+each_shape : (shapes : ℕ → Shape) → AllByRecursion (λ t. shapes t.tree ≡ shape.Table) book_schema.tables → (t : Table) → shapes (tree_of t) ≡ shape.Table
+each_shape shapes h table.Meta = h.0
+each_shape shapes h table.Groups = h.1.0
+each_shape shapes h table.Stations = h.1.1.0
+each_shape shapes h table.Agents = h.1.1.1.0
+each_shape shapes h table.Calls = h.1.1.1.1.0
+each_shape shapes h table.Connections = h.1.1.1.1.1.0
+each_shape shapes h table.Monitors = h.1.1.1.1.1.1.0
+each_shape shapes h table.Events = h.1.1.1.1.1.1.1.0
+each_shape shapes h table.Kept = h.1.1.1.1.1.1.1.1.0
+
+-- they have integers as numbers, which rise, whatever they hold
+pub filed_by_store : (v : View) (s : Schema) → s ≡ book_schema → IsDatabase (record { schema = s; trees = v.trees }) → IsListed (v.trees catalog_tree) v.shape v.reals → IsOrdered v.shape v.trees → AreWhole v.trees → IsFiled v.trees
+filed_by_store v s is obeys listed ordered whole =
+    let laid = laid_out listed (objects_rise v listed ordered) obeys.lists.listed in
+    let shapes = each_shape v.shape (subst (λ (x : Schema). AllByRecursion (λ t. v.shape t.tree ≡ shape.Table) x.tables) is laid.tables) in
+    record { rising = λ t. (shaped_as v (tree_of t) (shapes t) ordered).0; numbered = λ t. (shaped_as v (tree_of t) (shapes t) ordered).1; whole = whole }

@@ -97,23 +97,18 @@ lying t db = map (values_in t) (db (tree_of t))
 unfoldable pub is_good_in : Table → Trees → Bool
 is_good_in t db = are_good t (lying t db)
 
--- how many values a row has: its number, and one for each column
-abbrev pub width_of : Table → ℕ
-width_of table.Meta = 14
-width_of table.Groups = 10
-width_of table.Stations = 2
-width_of table.Agents = 9
-width_of table.Calls = 5
-width_of table.Connections = 8
-width_of table.Monitors = 4
-width_of table.Events = 11
-width_of table.Kept = 8
+-- Each row has a value for each column. One from before a column was added may lack the last ones, where these may hold NULL.
+abbrev pub AreWhole : Trees → Type 0
+AreWhole db =
+    AllByRecursion (λ r. length r ≡ 2) (db (tree_of table.Stations))
+    × AllByRecursion (λ r. length r ≡ 8) (db (tree_of table.Connections))
+    × AllByRecursion (λ r. length r ≡ 11) (db (tree_of table.Events))
 
--- as a store keeps the rows of its tables: they have integers as numbers, which rise, and no row was written before a column was added
+-- as a store keeps the rows of its tables: they have integers as numbers, which rise
 pub record IsFiled (db : Trees) : Type 0 where
   pub rising : (t : Table) → IsTable (db (tree_of t))
   pub numbered : (t : Table) → AllByRecursion (λ r. IsTrue (is_int (rowid r))) (db (tree_of t))
-  pub whole : (t : Table) → AllByRecursion (λ r. length r ≡ width_of t) (db (tree_of t))
+  pub whole : AreWhole db
 
 -- a bad one is there; and where the rows are filed it is told whether there is one
 pub record TellsGood (t : Table) (db : Trees) (good : Bool) : Type 0 where

@@ -4,7 +4,7 @@ ghost use Rattle.std.specs.Prelude.{◌≡◌, false, None, IfOk, IfErr, IsPermu
 ghost use Rattle.sqlite.specs.Effect.{Database};
 ghost use Rattle.sqlite.specs.State.{HasCleanDisk};
 ghost use Rattle.sqlite.specs.Held.{state};
-ghost use Rattle.acd_sqlbook.specs.Adopting.{table_of, table_of_log, lying, is_good, are_good, is_good_in, number_if_good, last_good, BeginsAsBook, IsLike, TellsGood, TellsLow, TellsBehind, IsPageRows, IsBadOf, IsPage, IsPageOf, PageFits, IsFound, IsRowFound, IsVersionFound, IsStoreFault, IsAdopted, IsHandedBack, version_fault, adopt_fault_of};
+ghost use Rattle.acd_sqlbook.specs.Adopting.{table_of, table_of_log, lying, is_good, are_good, is_good_in, number_if_good, last_good, BeginsAsBook, IsLike, TellsGood, TellsLow, TellsBehind, IsPageRows, IsBadOf, IsPage, IsPageOf, PageFits, IsFound, IsRowFound, IsVersionFound, IsStoreFault, AreWhole, IsFiled, IsAdopted, IsHandedBack, version_fault, adopt_fault_of};
 ghost use Rattle.acd_sqlbook.specs.Draft.{Fits};
 ghost use Rattle.acd_sqlbook.specs.Schema.{book_schema};
 ghost use Rattle.acd_sqlbook.specs.Seeing.{Sees, HasLooked};
@@ -480,6 +480,7 @@ impl<S: Alter> SqlBook<S> {
     ) -> Result<SqlBook<S>, (AdoptFault, Connection<S>)>
         requires { conn.in_transaction ≡ false }
         ensures adopted { IfOk result (λ b. HasCleanDisk (state S.Store b.conn) → IsAdopted (state S.Store conn).now (book_state (state S.Store conn) 0) (book_state (state S.Store b.conn) b.failures)) }
+        ensures filed { IfOk result (λ b. HasCleanDisk (state S.Store b.conn) → (S.Store.view conn.store).is_broken ≡ false → AreWhole (state S.Store conn).now.trees → IsFiled (state S.Store conn).now.trees) }
         ensures counted { IfOk result (λ b. b.failures ≡ 0) }
         ensures clean { IfOk result (λ b. HasCleanDisk (state S.Store b.conn) → HasCleanDisk (state S.Store conn)) }
         ensures idle { IfErr result (λ e. e.1.in_transaction ≡ false) }
