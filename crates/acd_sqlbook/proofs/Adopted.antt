@@ -1,12 +1,21 @@
 -- Reads that are made one after the other, before a connection is taken for a book.
 use Rattle.std.proofs.lemmas.Grind.{common_steps}
 use Rattle.std.proofs.lemmas.Bool.Decides.{nat_tests}
-use Rattle.std.proofs.Common.{◌≡◌, ◌==◌, ℕ, ◌+◌, ◌<◌, ◌≤◌, length, take, get_or, arith, List, [], ◌∷◌, ◌++◌, Result, Ok, Err, Option, Some, None, Bool, true, false, IsTrue, IfOk, refl, sym, ap, subst, ◌∙◌}
-use Rattle.std.specs.Prelude.{Vec}
+use Rattle.std.proofs.lemmas.List.Sorted.{list_any-IsPermutation, length_permutation}
+use Rattle.std.proofs.Common.{◌≡◌, ◌==◌, ◌||◌, ℕ, ◌+◌, ◌<◌, ◌≤◌, length, map, not, cond, take, get_or, arith, List, [], ◌∷◌, ◌++◌, inl, inr, Result, Ok, Err, Option, Some, None, Bool, true, false, IsTrue, IfOk, refl, sym, ap, subst, subst₂, ◌∙◌}
+use Rattle.std.specs.Prelude.{Vec, IsPermutation, ⊤}
+use Rattle.std.specs.List.{AllByRecursion, list_any}
 use Rattle.std.specs.declared.alloc.Global.{Global}
-use Rattle.sqlite_value.specs.Order.{Row}
+use Rattle.sqlite_value.specs.Order.{Row, column}
+use Rattle.sqlite_trees.specs.Tree.{Trees}
+use Rattle.sqlite_trees.specs.Objects.{catalog_tree, IsListed}
+use Rattle.sqlite_trees.specs.View.{View, IsOrdered}
+use Rattle.sqlite_rules.specs.Lists.{Has}
+use Rattle.sqlite_rules.proofs.ListLemmas.{all_from}
+use Rattle.sqlite.specs.Effect.{Database, IsDatabase}
 use Rattle.sqlite.specs.declared.error.Error.{Error}
 use Rattle.sqlite_schema.specs.declared.schema.Schema.{Schema}
+use Rattle.sqlite_schema.specs.declared.schema.Table.{Table as Made}
 use Rattle.sqlite.specs.State.{State, HasCleanDisk}
 use Rattle.acd_terms.specs.Lists.{Every}
 use Rattle.acd_book.specs.Content.{Content}
@@ -18,45 +27,22 @@ use Rattle.acd_sqlbook.specs.declared.adopt.Whole.{Whole}
 use Rattle.acd_sqlbook.specs.declared.adopt.Log.{Log}
 use Rattle.acd_sqlbook.specs.declared.adopt.Page.{Page}
 use Rattle.acd_sqlbook.specs.declared.adopt.Page.TheVariants.{Bad, Last, More}
-use Rattle.acd_sqlbook.specs.Adopting.{is_good_table, is_good_behind, are_good, values_of, low_values, page_values, table_of, table_of_log, version_fault, has_meta, all_tables, IsBadOf, IsPage, IsPageOf, IsFound, IsFaultOf, IsStoreFault, IsInRange, IsAdopted, IsHandedBack}
-use Rattle.acd_sqlbook.specs.Calls.{HasRead}
+use Rattle.acd_sqlbook.specs.Adopting.{is_good, is_good_in, is_good_behind, are_good, lying, table_of, table_of_log, version_fault, fault_of_version, has_meta, all_tables, Numbered, AreNumbered, AreSameFirst, BeginsAsBook, IsFiled, AreWhole, TellsGood, TellsLow, TellsBehind, IsPageRows, IsBadOf, IsPage, IsPageOf, IsVersionFound, IsRowFound, IsFound, IsFaultOf, IsStoreFault, IsInRange, IsAdopted, IsHandedBack}
+use Rattle.acd_sqlbook.specs.Content.{Encodes}
 use Rattle.acd_sqlbook.specs.Decoding.{content_of}
-use Rattle.acd_sqlbook.specs.Draft.{Holds}
-use Rattle.acd_sqlbook.specs.Finding.{Finds}
-use Rattle.acd_sqlbook.specs.Rows.{id_value}
+use Rattle.acd_sqlbook.specs.Draft.{NoStop}
+use Rattle.acd_sqlbook.specs.Ranges.{whole_at}
+use Rattle.acd_sqlbook.specs.Schema.{book_schema}
+use Rattle.acd_sqlbook.specs.Schema as schema
+use Rattle.acd_sqlbook.specs.Seeing.{Lies, Sees, HasLooked}
 use Rattle.acd_sqlbook.specs.State.{IsSound, book_state}
 use Rattle.acd_sqlbook.proofs.BookStates.{Settles, Stays}
-use Rattle.acd_sqlbook.proofs.Chained.{chained, broken}
 use Rattle.acd_sqlbook.proofs.Decoded.{decoded}
-use Rattle.acd_sqlbook.proofs.Listings.{schema_is}
-use Rattle.acd_sqlbook.proofs.Looked.{book_has_meta}
-use Rattle.acd_sqlbook.proofs.Paged.{page_is, none_low, one_low}
-use Rattle.acd_sqlbook.proofs.Standing.{quiet_still}
-
--- ---- one read
-
-module _ {A B : Type 0} (old new : State) (a : A) (P : Content → A → Type 0) (Q : Content → B → Type 0) (h : Finds {E = Error} old new (Ok a) P) where
-  -- what was read goes on to what is made of it
-  pub finds_on : (r : Result B Error) → IfOk r (λ b. (c : Content) → Holds old c → P c a → Q c b) → Finds old new r Q
-  finds_on (Ok b) on = record { up = h.up; quiet = h.quiet; stops = h.stops; answer = λ k c held. on c held (h.answer k c held) }
-  finds_on (Err e) on = record { up = λ k. tt; quiet = h.quiet; stops = h.stops; answer = λ k. tt }
-
-pub finds_fail : {A B : Type 0} (old new : State) (e : Error) (P : Content → A → Type 0) (Q : Content → B → Type 0) → Finds {E = Error} old new (Err e) P → Finds {E = Error} old new (Err e) Q
-finds_fail old new e P Q h = record { up = λ k. tt; quiet = h.quiet; stops = h.stops; answer = λ k. tt }
-
--- a connection that is open, before the first read
-pub finds_here : {A : Type 0} (s : State) (a : A) (P : Content → A → Type 0) → (HasCleanDisk s → IsTrue s.is_open) → ((c : Content) → Holds s c → P c a) → Finds {E = Error} s s (Ok a) P
-finds_here s a P live all = record { up = live; quiet = quiet_still s; stops = λ k c held db left. left; answer = λ k c held. all c held }
-
--- one read behind another
-pub finds_then : {A B : Type 0} (old mid new : State) (a : A) (P : Content → A → Type 0) (Q W : Content → B → Type 0) (r : Result B Error) → Finds {E = Error} old mid (Ok a) P
-    → ((c : Content) → P c a → (b : B) → Q c b → W c b) → Finds {E = Error} mid new r Q → Finds old new r W
-finds_then old mid new a P Q W (Ok b) first both next = chained old mid new a P Q first b b W (λ c p q. both c p b q) next
-finds_then old mid new a P Q W (Err e) first both next = broken old mid new a P Q first e W next
-
--- nothing more is read
-pub finds_end : {A B : Type 0} (old new : State) (a : A) (P : Content → A → Type 0) (e : Error) (Q : Content → B → Type 0) → Finds {E = Error} old new (Ok a) P → Finds {E = Error} old new (Err e) Q
-finds_end old new a P e Q h = record { up = λ k. tt; quiet = h.quiet; stops = h.stops; answer = λ k. tt }
+use Rattle.acd_sqlbook.proofs.Contents.{content_in, filed_in, filed_by_store}
+use Rattle.acd_sqlbook.proofs.KeyedRows.{apart, same_number}
+use Rattle.acd_sqlbook.proofs.Looked.{mapped_all, moved_all}
+use Rattle.acd_sqlbook.proofs.Paged.{page_is, log_told}
+use Rattle.acd_sqlbook.proofs.Seen.{sees_on, sees_fail, sees_then, sees_here}
 
 -- ---- rows
 
@@ -78,54 +64,128 @@ something_in rows h e = let none = ap length e in isnt_nothing rows.len h (omega
 
 -- ---- versions
 
-pub not_made : (s : State) (f : AdoptFault) → (HasCleanDisk s → IsTrue s.is_open) → has_meta s.now.schema.tables ≡ false → Finds {E = Error} s s (Ok (Some f)) IsFound
-not_made s f live none = finds_here s (Some f) IsFound live (λ c held. absurd (cc (sym none ∙ ap (λ (x : Schema). has_meta x.tables) (schema_is s c held) ∙ book_has_meta)))
+no_rows : (f : Row → Row) (rows : List Row) → length (map f rows) ≡ 0 → rows ≡ []
+no_rows f [] h = refl
+no_rows f (row ∷ rows) h = absurd (omega (arith, h))
 
-pub version_told : (old new : State) (rows : Vec Row Global) (f : Option AdoptFault) → f ≡ version_fault rows.items → Finds {E = Error} old new (Ok rows) (λ c rows. rows.items ≡ (id_value 1 ∷ []) ∷ [])
-    → Finds {E = Error} old new (Ok f) (λ c f. f ≡ None)
-version_told old new rows f is h = finds_on old new rows (λ c rows. rows.items ≡ (id_value 1 ∷ []) ∷ []) (λ c f. f ≡ None) h (Ok f) (λ c held are. is ∙ ap version_fault are)
+told : (d : Database) (b : BeginsAsBook d.schema) (row : Row) → Has (d.trees schema.meta.tree) row → (o : Option ℕ) → whole_at row 2 ≡ o → IsVersionFound d (fault_of_version o)
+told d b row h None e = inr (refl, b, (row, h, e))
+told d b row h (Some n) e =
+    (elim (n == 1) as (λ one. (n == 1) ≡ one → IsVersionFound d (cond one None (Some (WrongVersion n)))) [
+      | true ↦ λ is. (row, h, e ∙ ap Some (sym (same_number n 1 is)))
+      | false ↦ λ isnt. (apart n 1 isnt, inr (b, inr (row, h, e)))
+    ]) refl
 
-pub no_version : (old new : State) (f : AdoptFault) → Finds {E = Error} old new (Ok (Some f)) (λ c f. f ≡ None) → Finds {E = Error} old new (Ok (Some f)) IsFound
-no_version old new f h = finds_on old new (Some f) (λ c f. f ≡ None) IsFound h (Ok (Some f)) (λ c held e. absurd (cc e))
+abbrev Shows : Trees → Row → Type 0
+Shows db shown = (row : Row) × Has (db schema.meta.tree) row × (shown ≡ column row 2 ∷ [])
+
+version_found : (d : Database) (b : BeginsAsBook d.schema) (rows : List Row) → IsPermutation (map (λ r. column r 2 ∷ []) (d.trees schema.meta.tree)) rows → AllByRecursion (Shows d.trees) rows → IsVersionFound d (version_fault rows)
+version_found d b [] same all = (apart 0 1 refl, inr (b, inl (no_rows (λ r. column r 2 ∷ []) (d.trees schema.meta.tree) (sym (length_permutation _ [] same)), refl)))
+version_found d b (shown ∷ rows) same all =
+    let from = all.0 in
+    subst (λ r. IsVersionFound d (fault_of_version (whole_at r 0))) (sym from.2) (told d b from.0 from.1 (whole_at from.0 2) refl)
+
+pub version_told : (d : Database) (old new : State) (rows : Vec Row Global) (f : Option AdoptFault) → BeginsAsBook d.schema → f ≡ version_fault rows.items
+    → Sees d old new (Ok rows) (λ rows. IsPermutation (map (λ r. column r 2 ∷ []) (d.trees schema.meta.tree)) rows.items) → Sees d old new (Ok f) (λ f. IsVersionFound d f)
+version_told d old new rows f b is h =
+    sees_on d old new rows (λ rows. IsPermutation (map (λ r. column r 2 ∷ []) (d.trees schema.meta.tree)) rows.items) (λ f. IsVersionFound d f) (Ok f) h
+    (λ lies same.
+    let here = moved_all (Shows d.trees) _ rows.items same (mapped_all (Shows d.trees) (λ r. column r 2 ∷ []) (d.trees schema.meta.tree) (all_from (λ r. Shows d.trees (column r 2 ∷ [])) (d.trees schema.meta.tree) (λ r k. (r, k, refl)))) in
+    subst (IsVersionFound d) (sym is) (version_found d b rows.items same here))
+
+pub not_made : (s : State) (f : AdoptFault) → f ≡ WrongVersion 0 → has_meta s.now.schema.tables ≡ false → Sees s.now s s (Ok (Some f)) (λ f. IsFound s.now f)
+not_made s f is none = sees_here s.now s (Some f) (λ f. IsFound s.now f) (λ lies. subst (IsFaultOf s.now) (sym is) (apart 0 1 refl, inl (none, refl)))
+
+pub other_made : (s : State) (f : AdoptFault) → f ≡ Store → Sees s.now s s (Ok (Some f)) (λ f. IsFound s.now f)
+other_made s f is = sees_here s.now s (Some f) (λ f. IsFound s.now f) (λ lies. subst (IsFaultOf s.now) (sym is) tt)
+
+-- the version alone
+pub version_fault_found : (d : Database) (old new : State) (f : AdoptFault) → Sees d old new (Ok (Some f)) (λ f. IsVersionFound d f) → Sees d old new (Ok (Some f)) (λ f. IsFound d f)
+version_fault_found d old new f h = sees_on d old new (Some f) (λ f. IsVersionFound d f) (λ f. IsFound d f) (Ok (Some f)) h (λ lies p. p)
+
+pub first_alone : (d : Database) (old new : State) (f : AdoptFault) → f ≡ Store → Sees d old new (Ok None) (λ f. IsVersionFound d f) → Sees d old new (Ok (Some f)) (λ f. IsFound d f)
+first_alone d old new f is h = sees_on d old new None (λ f. IsVersionFound d f) (λ f. IsFound d f) (Ok (Some f)) h (λ lies p. subst (IsFaultOf d) (sym is) tt)
+
+both_found : (d : Database) → d.schema ≡ book_schema → IsVersionFound d None → (f : Option AdoptFault) → IsRowFound d f → IsFound d f
+both_found d is version None rows = record { schema_is = is; version = version; in_range = rows }
+both_found d is version (Some f) rows = rows
+
+pub rows_behind : (d : Database) (old mid new : State) (r : Result (Option AdoptFault) Error) → d.schema ≡ book_schema → Sees d old mid (Ok None) (λ f. IsVersionFound d f) → Sees d mid new r (λ f. IsRowFound d f)
+    → Sees d old new r (λ f. IsFound d f)
+rows_behind d old mid new r is first next = sees_then d old mid new None (λ f. IsVersionFound d f) first (λ f. IsRowFound d f) (λ f. IsFound d f) r (both_found d is) next
 
 -- ---- tables that are read whole
 
-pub whole_told : (old new : State) (w : Whole) (rows : Vec Row Global) (r : Result Bool Error) → IfOk r (λ good. good ≡ are_good (table_of w) rows.items)
-    → Finds {E = Error} old new (Ok rows) (λ c rows. rows.items ≡ values_of (table_of w) c) → Finds old new r (λ c good. good ≡ is_good_table (table_of w) c)
-unfolding is_good_table
-whole_told old new w rows (Ok good) is h =
-    finds_on old new rows (λ c rows. rows.items ≡ values_of (table_of w) c) (λ c good. good ≡ is_good_table (table_of w) c) h (Ok good) (λ c held are. is ∙ ap (are_good (table_of w)) are)
-whole_told old new w rows (Err e) is h = finds_end old new rows _ e _ h
+none_bad : (t : Table) (rows : List Row) → are_good t rows ≡ not (list_any (λ r. not (is_good t r)) rows)
+unfolding are_good
+none_bad t [] = refl
+none_bad t (row ∷ rows) = either (is_good t row) (are_good t rows) (list_any (λ r. not (is_good t r)) rows) (none_bad t rows)
+  where
+    either : (a b c : Bool) → b ≡ not c → cond a b false ≡ not (not a || c)
+    either true b c e = e
+    either false b c e = refl
+
+good_moved : (t : Table) (xs ys : List Row) → IsPermutation xs ys → are_good t ys ≡ are_good t xs
+good_moved t xs ys same = none_bad t ys ∙ ap not (sym (list_any-IsPermutation (λ r. not (is_good t r)) xs ys same)) ∙ sym (none_bad t xs)
+
+pub whole_told : (d : Database) (old new : State) (w : Whole) (rows : Vec Row Global) (r : Result Bool Error) → IfOk r (λ good. good ≡ are_good (table_of w) rows.items)
+    → Sees d old new (Ok rows) (λ rows. IsPermutation (lying (table_of w) d.trees) rows.items) → Sees d old new r (λ good. TellsGood (table_of w) d.trees good)
+unfolding is_good_in
+whole_told d old new w rows (Ok good) is h =
+    sees_on d old new rows (λ rows. IsPermutation (lying (table_of w) d.trees) rows.items) (λ good. TellsGood (table_of w) d.trees good) (Ok good) h
+    (λ lies same. let known = is ∙ good_moved (table_of w) (lying (table_of w) d.trees) rows.items same in record { bad = λ e. sym known ∙ e; filed = λ filed. known })
+whole_told d old new w rows (Err e) is h =
+    sees_on d old new rows (λ rows. IsPermutation (lying (table_of w) d.trees) rows.items) (λ good. TellsGood (table_of w) d.trees good) (Err e) h (λ lies same. tt)
 
 -- ---- tables that are read in pages
 
-pub page_told : (old new : State) (l : Log) (n : ℕ) (rows : Vec Row Global) (r : Result Page Error) → IfOk r (λ page. IsPageOf l n rows.items page)
-    → Finds {E = Error} old new (Ok rows) (λ c rows. rows.items ≡ page_values l n c) → Finds old new r (λ c page. IsPage l n c page)
-page_told old new l n rows (Ok page) is h =
-    finds_on old new rows (λ c rows. rows.items ≡ page_values l n c) (λ c page. IsPage l n c page) h (Ok page) (λ c held are. page_is old c held l n rows.items page are is)
-page_told old new l n rows (Err e) is h = finds_end old new rows _ e _ h
+pub page_told : (d : Database) (old new : State) (l : Log) (n : ℕ) (rows : Vec Row Global) (r : Result Page Error) → IfOk r (λ page. IsPageOf l n rows.items page)
+    → Sees d old new (Ok rows) (λ rows. IsPageRows l n 1000 d.trees rows.items) → Sees d old new r (λ page. IsPage l n d.trees page)
+page_told d old new l n rows (Ok page) is h =
+    sees_on d old new rows (λ rows. IsPageRows l n 1000 d.trees rows.items) (λ page. IsPage l n d.trees page) (Ok page) h (λ lies are. page_is l n d rows.items page are is)
+page_told d old new l n rows (Err e) is h =
+    sees_on d old new rows (λ rows. IsPageRows l n 1000 d.trees rows.items) (λ page. IsPage l n d.trees page) (Err e) h (λ lies are. tt)
 
-abbrev pub Left : Log → ℕ → Content → Unit {0} → Type 0
-Left l n c x = is_good_behind l n c ≡ is_good_behind l 0 c
+abbrev pub Left : Log → ℕ → Trees → Unit {0} → Type 0
+Left l n db x = (xs : List Numbered) → AreNumbered l db xs → is_good_behind l n xs ≡ is_good_behind l 0 xs
 
-module _ (old mid new : State) (l : Log) (n : ℕ) (first : Finds {E = Error} old mid (Ok tt) (Left l n)) where
-  pub pages_bad : Finds {E = Error} mid new (Ok Bad) (λ c page. IsPage l n c page) → Finds {E = Error} old new (Ok false) (λ c good. good ≡ is_good_behind l 0 c)
-  pages_bad next = chained old mid new tt (Left l n) (λ c page. IsPage l n c page) first Bad false (λ c good. good ≡ is_good_behind l 0 c) (λ c p q. sym q ∙ p) next
+module _ (d : Database) (old mid new : State) (l : Log) (n : ℕ) (first : Sees d old mid (Ok tt) (Left l n d.trees)) where
+  pub pages_bad : Sees d mid new (Ok Bad) (λ page. IsPage l n d.trees page) → Sees d old new (Ok false) (λ good. TellsBehind l d.trees good)
+  pages_bad next =
+      sees_on d old new Bad (λ page. IsPage l n d.trees page) (λ good. TellsBehind l d.trees good) (Ok false)
+      (sees_then d old mid new tt (Left l n d.trees) first (λ page. IsPage l n d.trees page) (λ page. IsPage l n d.trees page) (Ok Bad) (λ p b q. q) next)
+      (λ lies bad. record { bad = λ e. bad; filed = λ e. absurd (cc e) })
 
-  pub pages_last : Finds {E = Error} mid new (Ok Last) (λ c page. IsPage l n c page) → Finds {E = Error} old new (Ok true) (λ c good. good ≡ is_good_behind l 0 c)
-  pages_last next = chained old mid new tt (Left l n) (λ c page. IsPage l n c page) first Last true (λ c good. good ≡ is_good_behind l 0 c) (λ c p q. sym q ∙ p) next
+  pub pages_last : Sees d mid new (Ok Last) (λ page. IsPage l n d.trees page) → Sees d old new (Ok true) (λ good. TellsBehind l d.trees good)
+  pages_last next =
+      sees_on d old new Last (λ page. IsPage l n d.trees page × Left l n d.trees tt) (λ good. TellsBehind l d.trees good) (Ok true)
+      (sees_then d old mid new tt (Left l n d.trees) first (λ page. IsPage l n d.trees page) (λ page. IsPage l n d.trees page × Left l n d.trees tt) (Ok Last) (λ p b q. (q, p)) next)
+      (λ lies both. record { bad = λ e. absurd (cc e); filed = λ e xs are. sym (both.1 xs are) ∙ both.0 xs are })
 
-  pub pages_more : (m : ℕ) → Finds {E = Error} mid new (Ok (More m)) (λ c page. IsPage l n c page) → Finds {E = Error} old new (Ok tt) (Left l m)
-  pages_more m next = chained old mid new tt (Left l n) (λ c page. IsPage l n c page) first (More m) tt (Left l m) (λ c p q. sym q ∙ p) next
+  pub pages_more : (m : ℕ) → Sees d mid new (Ok (More m)) (λ page. IsPage l n d.trees page) → Sees d old new (Ok tt) (Left l m d.trees)
+  pages_more m next =
+      sees_on d old new (More m) (λ page. IsPage l n d.trees page × Left l n d.trees tt) (Left l m d.trees) (Ok tt)
+      (sees_then d old mid new tt (Left l n d.trees) first (λ page. IsPage l n d.trees page) (λ page. IsPage l n d.trees page × Left l n d.trees tt) (Ok (More m)) (λ p b q. (q, p)) next)
+      (λ lies both xs are. sym (both.0 xs are) ∙ both.1 xs are)
 
-module _ (old mid : State) (l : Log) (low : Vec Row Global) (first : Finds {E = Error} old mid (Ok low) (λ c rows. rows.items ≡ low_values l c)) where
-  pub log_low : (low.items ≡ [] → ⊥) → Finds {E = Error} old mid (Ok false) (λ c good. good ≡ is_good_table (table_of_log l) c)
-  log_low some = finds_on old mid low (λ c rows. rows.items ≡ low_values l c) (λ c good. good ≡ is_good_table (table_of_log l) c) first (Ok false) (λ c held are. sym (one_low l c (λ none. some (are ∙ none))))
+  pub pages_fail : (e : Error) → Sees d mid new (Err e) (λ page. IsPage l n d.trees page) → Sees d old new (Err e) (λ good. TellsBehind l d.trees good)
+  pages_fail e next =
+      sees_then d old mid new tt (Left l n d.trees) first (λ good. TellsBehind l d.trees good) (λ good. TellsBehind l d.trees good) (Err e) (λ p b q. q)
+      (sees_fail d mid new e (λ page. IsPage l n d.trees page) (λ good. TellsBehind l d.trees good) next)
 
-  pub log_pages : (new : State) (r : Result Bool Error) → low.items ≡ [] → Finds {E = Error} mid new r (λ c good. good ≡ is_good_behind l 0 c) → Finds old new r (λ c good. good ≡ is_good_table (table_of_log l) c)
+pub pages_end : (d : Database) (old new : State) (l : Log) (n : ℕ) (e : Error) → Sees d old new (Ok tt) (Left l n d.trees) → Sees d old new (Err e) (λ good. TellsBehind l d.trees good)
+pages_end d old new l n e h = sees_on d old new tt (Left l n d.trees) (λ good. TellsBehind l d.trees good) (Err e) h (λ lies p. tt)
+
+module _ (d : Database) (old mid : State) (l : Log) (low : Vec Row Global) (first : Sees d old mid (Ok low) (λ rows. TellsLow l d.trees rows.items)) where
+  pub log_low : (low.items ≡ [] → ⊥) → Sees d old mid (Ok false) (λ good. TellsGood (table_of_log l) d.trees good)
+  log_low some =
+      sees_on d old mid low (λ rows. TellsLow l d.trees rows.items) (λ good. TellsGood (table_of_log l) d.trees good) (Ok false) first
+      (λ lies tells. record { bad = λ e. tells.some some; filed = λ filed. sym (tells.some some) })
+
+  pub log_pages : (new : State) (r : Result Bool Error) → low.items ≡ [] → Sees d mid new r (λ good. TellsBehind l d.trees good) → Sees d old new r (λ good. TellsGood (table_of_log l) d.trees good)
   log_pages new r none next =
-      finds_then old mid new low (λ c rows. rows.items ≡ low_values l c) (λ c good. good ≡ is_good_behind l 0 c) (λ c good. good ≡ is_good_table (table_of_log l) c) r first
-      (λ c are good is. is ∙ none_low l c (sym are ∙ none)) next
+      sees_then d old mid new low (λ rows. TellsLow l d.trees rows.items) first (λ good. TellsBehind l d.trees good) (λ good. TellsGood (table_of_log l) d.trees good) r
+      (λ tells good behind. log_told l d.trees good (tells.none none) behind) next
 
 -- ---- the tables, one after the other
 
@@ -139,96 +199,166 @@ one_more tables i d low = grind (arith, common_steps)
 taken : (tables : List Table) (i : ℕ) → length tables ≤ i → take i tables ≡ tables
 taken tables i h = grind (arith, common_steps)
 
-abbrev pub Good : List Table → Content → Unit {0} → Type 0
-Good tables c x = Every (λ t. is_good_table t c ≡ true) tables
+abbrev pub Good : List Table → Trees → Unit {0} → Type 0
+Good tables db x = IsFiled db → Every (λ t. is_good_in t db ≡ true) tables
 
-module _ (old mid new : State) (tables : List Table) (i : ℕ) (first : Finds {E = Error} old mid (Ok tt) (Good (take i tables))) where
-  pub tables_next : (t d : Table) (good : Bool) → t ≡ get_or tables i d → i < length tables → good ≡ true → Finds {E = Error} mid new (Ok good) (λ c good. good ≡ is_good_table t c)
-      → Finds {E = Error} old new (Ok tt) (Good (take (i + 1) tables))
-  tables_next t d good at low is next =
-      chained old mid new tt (Good (take i tables)) (λ c good. good ≡ is_good_table t c) first good tt (Good (take (i + 1) tables))
-      (λ c p q. subst (Every (λ t. is_good_table t c ≡ true)) (sym (one_more tables i d low)) (every_pushed (λ t. is_good_table t c ≡ true) (take i tables) (get_or tables i d) p (subst (λ t. is_good_table t c ≡ true) at (sym q ∙ is)))) next
+module _ (d : Database) (old mid new : State) (tables : List Table) (i : ℕ) (first : Sees d old mid (Ok tt) (Good (take i tables) d.trees)) where
+  pub tables_next : (t x : Table) (good : Bool) → t ≡ get_or tables i x → i < length tables → good ≡ true → Sees d mid new (Ok good) (λ good. TellsGood t d.trees good)
+      → Sees d old new (Ok tt) (Good (take (i + 1) tables) d.trees)
+  tables_next t x good at low is next =
+      sees_on d old new good (λ good. TellsGood t d.trees good × Good (take i tables) d.trees tt) (Good (take (i + 1) tables) d.trees) (Ok tt)
+      (sees_then d old mid new tt (Good (take i tables) d.trees) first (λ good. TellsGood t d.trees good) (λ good. TellsGood t d.trees good × Good (take i tables) d.trees tt) (Ok good) (λ p b q. (q, p)) next)
+      (λ lies both filed.
+      subst (Every (λ t. is_good_in t d.trees ≡ true)) (sym (one_more tables i x low))
+      (every_pushed (λ t. is_good_in t d.trees ≡ true) (take i tables) (get_or tables i x) (both.1 filed) (subst (λ t. is_good_in t d.trees ≡ true) at (sym (both.0.filed filed) ∙ is))))
 
-  pub tables_bad : (t : Table) (good : Bool) → good ≡ false → Finds {E = Error} mid new (Ok good) (λ c good. good ≡ is_good_table t c) → Finds {E = Error} old new (Ok (Some t)) (λ c bad. IsBadOf tables c bad)
-  tables_bad t good bad next =
-      chained old mid new tt (Good (take i tables)) (λ c good. good ≡ is_good_table t c) first good (Some t) (λ c bad. IsBadOf tables c bad) (λ c p q. sym q ∙ bad) next
+  pub tables_bad : (t : Table) (good : Bool) → good ≡ false → Sees d mid new (Ok good) (λ good. TellsGood t d.trees good) → Sees d old new (Ok (Some t)) (λ bad. IsBadOf tables d.trees bad)
+  tables_bad t good is next =
+      sees_on d old new good (λ good. TellsGood t d.trees good) (λ bad. IsBadOf tables d.trees bad) (Ok (Some t))
+      (sees_then d old mid new tt (Good (take i tables) d.trees) first (λ good. TellsGood t d.trees good) (λ good. TellsGood t d.trees good) (Ok good) (λ p b q. q) next)
+      (λ lies tells. tells.bad is)
 
-  pub tables_fail : (t : Table) (e : Error) → Finds {E = Error} mid new (Err e) (λ c good. good ≡ is_good_table t c) → Finds {E = Error} old new (Err e) (λ c bad. IsBadOf tables c bad)
-  tables_fail t e next = broken old mid new tt (Good (take i tables)) (λ c good. good ≡ is_good_table t c) first e (λ c bad. IsBadOf tables c bad) next
+  pub tables_fail : (t : Table) (e : Error) → Sees d mid new (Err e) (λ good. TellsGood t d.trees good) → Sees d old new (Err e) (λ bad. IsBadOf tables d.trees bad)
+  tables_fail t e next =
+      sees_then d old mid new tt (Good (take i tables) d.trees) first (λ bad. IsBadOf tables d.trees bad) (λ bad. IsBadOf tables d.trees bad) (Err e) (λ p b q. q)
+      (sees_fail d mid new e (λ good. TellsGood t d.trees good) (λ bad. IsBadOf tables d.trees bad) next)
 
-pub tables_end : (old new : State) (tables : List Table) (i : ℕ) → Finds {E = Error} old new (Ok tt) (Good (take i tables)) → length tables ≤ i → Finds {E = Error} old new (Ok None) (λ c bad. IsBadOf tables c bad)
-tables_end old new tables i h all =
-    finds_on old new tt (Good (take i tables)) (λ c bad. IsBadOf tables c bad) h (Ok None) (λ c held p. subst (Every (λ t. is_good_table t c ≡ true)) (taken tables i all) p)
+pub tables_end : (d : Database) (old new : State) (tables : List Table) (i : ℕ) → Sees d old new (Ok tt) (Good (take i tables) d.trees) → length tables ≤ i → Sees d old new (Ok None) (λ bad. IsBadOf tables d.trees bad)
+tables_end d old new tables i h all =
+    sees_on d old new tt (Good (take i tables) d.trees) (λ bad. IsBadOf tables d.trees bad) (Ok None) h (λ lies p filed. subst (Every (λ t. is_good_in t d.trees ≡ true)) (taken tables i all) (p filed))
 
-each_good : (c : Content) → Every (λ t. is_good_table t c ≡ true) all_tables → IsInRange c
-each_good c h table.Meta = h.0
-each_good c h table.Groups = h.1.0
-each_good c h table.Stations = h.1.1.0
-each_good c h table.Agents = h.1.1.1.0
-each_good c h table.Calls = h.1.1.1.1.0
-each_good c h table.Connections = h.1.1.1.1.1.0
-each_good c h table.Monitors = h.1.1.1.1.1.1.0
-each_good c h table.Events = h.1.1.1.1.1.1.1.0
-each_good c h table.Kept = h.1.1.1.1.1.1.1.1.0
+each_good : (db : Trees) → Every (λ t. is_good_in t db ≡ true) all_tables → (t : Table) → is_good_in t db ≡ true
+each_good db h table.Meta = h.0
+each_good db h table.Groups = h.1.0
+each_good db h table.Stations = h.1.1.0
+each_good db h table.Agents = h.1.1.1.0
+each_good db h table.Calls = h.1.1.1.1.0
+each_good db h table.Connections = h.1.1.1.1.1.0
+each_good db h table.Monitors = h.1.1.1.1.1.1.0
+each_good db h table.Events = h.1.1.1.1.1.1.1.0
+each_good db h table.Kept = h.1.1.1.1.1.1.1.1.0
 
-pub bad_told : (old new : State) (t : Table) → Finds {E = Error} old new (Ok (Some t)) (λ c bad. IsBadOf all_tables c bad) → Finds {E = Error} old new (Ok (Some (BadRow t))) IsFound
-bad_told old new t h = finds_on old new (Some t) (λ c bad. IsBadOf all_tables c bad) IsFound h (Ok (Some (BadRow t))) (λ c held bad. bad)
+pub bad_told : (d : Database) (old new : State) (t : Table) → d.schema ≡ book_schema → Sees d old new (Ok (Some t)) (λ bad. IsBadOf all_tables d.trees bad) → Sees d old new (Ok (Some (BadRow t))) (λ f. IsRowFound d f)
+bad_told d old new t is h = sees_on d old new (Some t) (λ bad. IsBadOf all_tables d.trees bad) (λ f. IsRowFound d f) (Ok (Some (BadRow t))) h (λ lies bad. inl (is, bad))
 
-pub good_told : (old new : State) → Finds {E = Error} old new (Ok None) (λ c bad. IsBadOf all_tables c bad) → Finds {E = Error} old new (Ok None) IsFound
-good_told old new h = finds_on old new None (λ c bad. IsBadOf all_tables c bad) IsFound h (Ok None) (λ c held all. each_good c all)
+pub good_told : (d : Database) (old new : State) → Sees d old new (Ok None) (λ bad. IsBadOf all_tables d.trees bad) → Sees d old new (Ok None) (λ f. IsRowFound d f)
+good_told d old new h = sees_on d old new None (λ bad. IsBadOf all_tables d.trees bad) (λ f. IsRowFound d f) (Ok None) h (λ lies all filed. each_good d.trees (all filed))
+
+-- ---- the whole look
+
+-- in no transaction
+pub was_idle : (inside result : Bool) → inside ≡ false → result ≡ not inside → IsTrue result
+was_idle inside result is e = rw (e, is) refl
+
+-- the first of the tables is that of a book
+begins_of_first : (tables : List Made) → AreSameFirst tables book_schema.tables → (rest : List Made) × (tables ≡ schema.table_of schema.meta ∷ rest)
+begins_of_first [] h = absurd h
+begins_of_first (t ∷ rest) h = (rest, ap (λ x. x ∷ rest) h)
+
+pub begins_of : (a b : List Made) (s own : Schema) → AreSameFirst a b → a ≡ s.tables → b ≡ own.tables → own ≡ book_schema → BeginsAsBook s
+begins_of a b s own same first second is = begins_of_first s.tables (subst₂ AreSameFirst first (second ∙ ap (λ (x : Schema). x.tables) is) same)
+
+-- what is seen of the database that is there
+pub sees_at : {A : Type 0} (d : Database) (old new : State) (r : Result A Error) (P : Database → A → Type 0) → Sees old.now old new r (P old.now) → Sees d old new r (P d)
+sees_at d old new r P h =
+    let there : Lies old d → Sees d old new r (P d) = λ lies. subst (λ x. Sees x old new r (P x)) lies.now h in
+    record {
+      clean = h.clean;
+      was_open = h.was_open;
+      up = λ k lies. (there lies).up k lies;
+      same = λ k lies up. (there lies).same k lies up;
+      stops = λ k lies. (there lies).stops k lies;
+      answer = λ k lies. (there lies).answer k lies;
+    }
+
+module _ {A : Type 0} (old mid new : State) (r : Result A Error) (P : Database → A → Type 0) where
+  pub looked : Sees {A = Unit {0}} old.now old mid (Ok tt) (λ _. ⊤) → (HasCleanDisk mid → IsTrue mid.is_open) → (HasCleanDisk mid → NoStop old mid) → (IsTrue old.is_open → old.now ≡ old.committed)
+      → (IsTrue old.is_open → IsDatabase old.now) → Sees mid.now mid new r (P mid.now) → HasLooked old new r P
+  looked first up still settled obeys next =
+      let here = sees_at old.now mid new r P next in
+      let lies : HasCleanDisk mid → Lies mid old.now = λ m.
+      let was = first.was_open m (up m) in
+      first.same m (record { is_open = was; now = refl; committed = sym (settled was) }) (up m) in
+      record {
+        seen = sees_then old.now old mid new tt (λ (x : Unit {0}). ⊤) first (P old.now) (P old.now) r (λ p b q. q) here;
+        up = λ k. here.up k (lies (here.clean k));
+        settled = settled;
+        obeys = obeys;
+        stops = λ k db left. still (here.clean k) db (here.stops k (lies (here.clean k)) db left);
+      }
+
+pub looked_not : {A : Type 0} (old new : State) (e : Error) (P : Database → A → Type 0) → Sees {A = Unit {0}} old.now old new (Err e) (λ _. ⊤) → (HasCleanDisk new → NoStop old new)
+    → (IsTrue old.is_open → old.now ≡ old.committed) → (IsTrue old.is_open → IsDatabase old.now) → HasLooked old new (Err e) P
+looked_not old new e P first still settled obeys = record { seen = sees_fail old.now old new e (λ _. ⊤) (P old.now) first; up = λ k. tt; settled = settled; obeys = obeys; stops = still }
 
 -- ---- the connection as a book
 
-held_is : (s : State) (c : Content) → Holds s c → content_of s.committed.trees ≡ c
-held_is s c held = decoded s.committed.trees c held.encodes
+module _ (old new : State) (settles : Settles old) (settled_after : Settles new) (stays : Stays new) (k : HasCleanDisk new) where
+  lies_before : (r : Result (Option AdoptFault) Error) → HasLooked old new r IsFound → IsTrue old.is_open → Lies old old.now
+  lies_before r h was = record { is_open = was; now = refl; committed = sym (h.settled was) }
 
-module _ (old new : State) (r : Result (Option AdoptFault) Error) (h : HasRead old new r IsFound) (k : HasCleanDisk new) (sound : IsSound old) where
-  still_sound : IsSound new
-  still_sound = record {
-    stands = λ up. let held = sound.stands (h.quiet.was_open k up) in (held.0, h.quiet.same k held.0 held.1 up);
-    left = λ db left. sound.left db (h.stops k sound.stands db left);
+  same_commit : (r : Result (Option AdoptFault) Error) → HasLooked old new r IsFound → IsTrue old.is_open → IsTrue new.is_open → new.committed ≡ old.committed
+  same_commit r h was up = (h.seen.same k (lies_before r h was) up).committed ∙ h.settled was
+
+  -- it is as sound as it was
+  still_sound : (r : Result (Option AdoptFault) Error) → HasLooked old new r IsFound → IsSound old → IsSound new
+  still_sound r h sound = record {
+    stands = λ up.
+        let was = h.seen.was_open k up in
+        let held = sound.stands was in
+        let lies = h.seen.same k (lies_before r h was) up in
+        let same = same_commit r h was up in
+        (held.0, record { is_open = up; idle = lies.now ∙ sym lies.committed; schema = ap (λ (d : Database). d.schema) same ∙ held.1.schema; encodes = subst (λ (d : Database). Encodes d.trees held.0) (sym same) held.1.encodes });
+    left = λ db left. sound.left db (h.stops k db left);
   }
 
-  same_content : IsTrue new.is_open → IsTrue old.is_open × (content_of new.committed.trees ≡ content_of old.committed.trees)
-  same_content up =
-      let was = h.quiet.was_open k up in
-      let held = sound.stands was in
-      (was, held_is new held.0 (h.quiet.same k held.0 held.1 up) ∙ sym (held_is old held.0 held.1))
+  same_content : (r : Result (Option AdoptFault) Error) → HasLooked old new r IsFound → IsTrue new.is_open → IsTrue old.is_open × (content_of new.committed.trees ≡ content_of old.committed.trees)
+  same_content r h up =
+      let was = h.seen.was_open k up in
+      (was, ap (λ (d : Database). content_of d.trees) ((h.seen.same k (lies_before r h was) up).committed ∙ h.settled was))
 
-pub adopted : (old new : State) → Settles old → Stays new → HasRead old new (Ok None) IsFound → HasCleanDisk new → IsSound old → IsAdopted (book_state old 0) (book_state new 0)
-adopted old new settles stays h k sound =
-    let up = h.up k in
-    let same = same_content old new (Ok None) h k sound up in
-    let held = sound.stands same.0 in
-    record {
-      sound = still_sound old new (Ok None) h k sound;
-      was_open = same.0;
-      live = up;
-      content = same.1;
-      stops = λ c stop. (stop.0, h.stops k sound.stands stop.0 stop.1, stop.2);
-      keeps = λ c stop. (new.committed.trees, stays up, stop.2 ∙ ap content_of (settles stop.0 same.0 stop.1) ∙ sym same.1);
-      in_range = subst IsInRange (sym (held_is old held.0 held.1) ∙ sym same.1) (h.value k held.0 held.1);
-    }
+  pub adopted : HasLooked old new (Ok None) IsFound → IsAdopted old.now (book_state old 0) (book_state new 0)
+  adopted h =
+      let up = h.up k in
+      let same = same_content (Ok None) h up in
+      let lies = lies_before (Ok None) h same.0 in
+      let after = h.seen.same k lies up in
+      let found = h.seen.answer k lies in
+      let made : IsFiled old.now.trees → (c : Content) × Encodes old.now.trees c × IsInRange c = λ filed. content_in old.now found (h.obeys same.0) filed in
+      record {
+        was_open = same.0;
+        live = up;
+        content = same.1;
+        stops = λ c stop. (stop.0, h.stops k stop.0 stop.1, stop.2);
+        keeps = λ c stop. (new.committed.trees, stays up, stop.2 ∙ ap content_of (settles stop.0 same.0 stop.1) ∙ sym same.1);
+        of_book = found;
+        filed = λ sound. let held = sound.stands same.0 in filed_in old.now.trees held.0 (subst (λ (d : Database). Encodes d.trees held.0) (sym held.1.idle) held.1.encodes);
+        sound = λ filed. let c = made filed in record {
+          stands = λ up. (c.0, record { is_open = up; idle = after.now ∙ sym after.committed; schema = ap (λ (d : Database). d.schema) after.committed ∙ found.schema_is; encodes = subst (λ (d : Database). Encodes d.trees c.0) (sym after.committed) c.1 });
+          left = λ db left. (c.0, subst (λ t. Encodes t c.0) (sym (settled_after db up left ∙ ap (λ (d : Database). d.trees) after.committed)) c.1);
+        };
+        in_range = λ filed. let c = made filed in subst IsInRange (sym (decoded old.now.trees c.0 c.1) ∙ sym (ap (λ (d : Database). content_of d.trees) after.committed)) c.2;
+      }
 
-back : (old new : State) (r : Result (Option AdoptFault) Error) (f : AdoptFault) → HasRead old new r IsFound → HasCleanDisk new → IsSound old → IsFaultOf (content_of old.committed.trees) f
-    → IsHandedBack (book_state old 0) (book_state new 0) f
-back old new r f h k sound fault = record {
-  sound = still_sound old new r h k sound;
-  same = same_content old new r h k sound;
-  stops = λ c stop. (stop.0, h.stops k sound.stands stop.0 stop.1, stop.2);
-  cause = fault;
-}
+  -- the rows of a store that isn't broken rise
+  pub files : HasLooked old new (Ok None) IsFound → (v : View) → old.now.trees ≡ v.trees → IsListed (v.trees catalog_tree) v.shape v.reals → IsOrdered v.shape v.trees → AreWhole old.now.trees → IsFiled old.now.trees
+  files h v same listed ordered whole =
+      let was = (same_content (Ok None) h (h.up k)).0 in
+      let found = h.seen.answer k (lies_before (Ok None) h was) in
+      let obeys : IsDatabase (record { schema = old.now.schema; trees = v.trees }) = subst (λ t. IsDatabase (record { schema = old.now.schema; trees = t })) same (h.obeys was) in
+      subst IsFiled (sym same) (filed_by_store v old.now.schema found.schema_is obeys listed ordered (subst AreWhole same whole))
 
-pub back_found : (old new : State) (f : AdoptFault) → HasRead old new (Ok (Some f)) IsFound → HasCleanDisk new → IsSound old → IsHandedBack (book_state old 0) (book_state new 0) f
-back_found old new f h k sound =
-    let held = sound.stands (h.quiet.was_open k (h.up k)) in
-    back old new (Ok (Some f)) f h k sound (subst (λ c. IsFaultOf c f) (sym (held_is old held.0 held.1)) (h.value k held.0 held.1))
+  back : (r : Result (Option AdoptFault) Error) (f : AdoptFault) → HasLooked old new r IsFound → IsFaultOf old.now f → IsHandedBack old.now (book_state old 0) (book_state new 0) f
+  back r f h fault = record { sound = still_sound r h; same = same_content r h; stops = λ c stop. (stop.0, h.stops k stop.0 stop.1, stop.2); cause = fault }
 
-of_store : (c : Content) (f : AdoptFault) → IsStoreFault f → IsFaultOf c f
-of_store c (WrongVersion n) h = h
-of_store c (BadRow t) h = absurd h
-of_store c NoMemory h = tt
-of_store c Store h = tt
+  pub back_found : (f : AdoptFault) → HasLooked old new (Ok (Some f)) IsFound → IsHandedBack old.now (book_state old 0) (book_state new 0) f
+  back_found f h = back (Ok (Some f)) f h (h.seen.answer k (lies_before (Ok (Some f)) h (h.seen.was_open k (h.up k))))
 
-pub back_failed : (old new : State) (e : Error) (f : AdoptFault) → IsStoreFault f → HasRead old new (Err e) IsFound → HasCleanDisk new → IsSound old → IsHandedBack (book_state old 0) (book_state new 0) f
-back_failed old new e f is h k sound = back old new (Err e) f h k sound (of_store (content_of old.committed.trees) f is)
+  of_store : (f : AdoptFault) → IsStoreFault f → IsFaultOf old.now f
+  of_store (WrongVersion n) h = absurd h
+  of_store (BadRow t) h = absurd h
+  of_store NoMemory h = tt
+  of_store Store h = tt
+
+  pub back_failed : (e : Error) (f : AdoptFault) → IsStoreFault f → HasLooked old new (Err e) IsFound → IsHandedBack old.now (book_state old 0) (book_state new 0) f
+  back_failed e f is h = back (Err e) f h (of_store f is)

@@ -2,7 +2,6 @@
 use Rattle.std.proofs.Common.{◌≡◌, ℕ, ◌+◌, zero, suc, List, [], ◌∷◌, map, filter, take, find, nat_lt, ◌==◌, ◌&&◌, cond, Bool, true, false, Option, Some, None, refl, sym, ap, ap₂, ◌∙◌, arith}
 use Rattle.std.specs.Prelude.{negsuc, pos, bytes_eq, option_to_list}
 use Rattle.std.specs.Ordering.{is_eq, is_gt}
-use Rattle.std.proofs.lemmas.Int.{ints}
 use Rattle.std.proofs.lemmas.Bool.Decides.{nat_tests}
 use Rattle.std.proofs.lemmas.List.{take-map}
 use Rattle.std.proofs.lemmas.Map.Text.{is_eq-slice_cmp}
@@ -50,15 +49,15 @@ columns start zero = []
 columns start (suc more) = col 1 start ∷ columns (start + 1) more
 
 -- in the order of the numbers of the rows, all of them
-abbrev by_number : List (Term × Key)
+abbrev pub by_number : List (Term × Key)
 by_number = (col 1 0, ascending Binary) ∷ []
 
-abbrev no_limit : Term
+abbrev pub no_limit : Term
 no_limit = lit (Int (negsuc 0))
 
 -- ---- groups
 
-groups_listing : Listing text.read_groups
+unfoldable pub groups_listing : Listing text.read_groups
 unfolding understood everything
 groups_listing = record { tree = schema.groups.tree; terms = []; project = col 1 0 ∷ columns 2 8; order = by_number; limit = no_limit; names = _; command = refl; plain = (refl, refl); unlisted = refl }
 
@@ -77,7 +76,7 @@ shows_groups old new rows c held h =
 
 -- ---- stations
 
-stations_listing : Listing text.read_stations
+unfoldable pub stations_listing : Listing text.read_stations
 unfolding understood everything
 stations_listing = record { tree = schema.stations.tree; terms = []; project = col 1 0 ∷ columns 2 0; order = by_number; limit = no_limit; names = _; command = refl; plain = (refl, refl); unlisted = refl }
 
@@ -96,7 +95,7 @@ shows_stations old new rows c held h =
 
 -- ---- agents
 
-agents_listing : Listing text.read_agents
+unfoldable pub agents_listing : Listing text.read_agents
 unfolding understood everything
 agents_listing = record { tree = schema.agents.tree; terms = []; project = col 1 0 ∷ columns 2 7; order = by_number; limit = no_limit; names = _; command = refl; plain = (refl, refl); unlisted = refl }
 
@@ -115,7 +114,7 @@ shows_agents old new rows c held h =
 
 -- ---- calls
 
-calls_listing : Listing text.read_calls
+unfoldable pub calls_listing : Listing text.read_calls
 unfolding understood everything
 calls_listing = record { tree = schema.calls.tree; terms = []; project = col 1 0 ∷ columns 2 3; order = by_number; limit = no_limit; names = _; command = refl; plain = (refl, refl); unlisted = refl }
 
@@ -134,7 +133,7 @@ shows_calls old new rows c held h =
 
 -- ---- monitors
 
-monitors_listing : Listing text.read_monitors
+unfoldable pub monitors_listing : Listing text.read_monitors
 unfolding understood everything
 monitors_listing = record { tree = schema.monitors.tree; terms = []; project = col 1 0 ∷ columns 2 2; order = by_number; limit = no_limit; names = _; command = refl; plain = (refl, refl); unlisted = refl }
 
@@ -166,16 +165,16 @@ both_tests false false e f = ap₂ ◌&&◌ f e
 
 -- ---- those above a number
 
-above : (n k : ℕ) → is_gt (value_cmp (id_value k) (id_value n)) ≡ nat_lt n k
+pub above : (n k : ℕ) → is_gt (value_cmp (id_value k) (id_value n)) ≡ nat_lt n k
 above n k = ap is_gt (id_cmp k n) ∙ greater n k
   where
     greater : (n k : ℕ) → is_gt (Rattle.std.specs.Ordering.nat_cmp k n) ≡ nat_lt n k
     greater n k = grind (arith, nat_tests)
 
-abbrev above_parameter : List Term
+abbrev pub above_parameter : List Term
 above_parameter = op2 (Compare Gt Binary) (col 1 0) (col 0 0) ∷ []
 
-events_listing : Listing text.read_events_after
+unfoldable pub events_listing : Listing text.read_events_after
 unfolding understood everything
 events_listing = record { tree = schema.events.tree; terms = above_parameter; project = col 1 0 ∷ columns 2 9; order = by_number; limit = col 0 1; names = _; command = refl; plain = (refl, refl); unlisted = refl }
 
@@ -233,7 +232,7 @@ shows_events_at device number limit old new rows c held h =
     (stored table.Events old c held) h
     ∙ take-map event_values limit (filter (is_told (Some device) number) c.events)
 
-kept_listing : Listing text.read_kept_after
+unfoldable pub kept_listing : Listing text.read_kept_after
 unfolding understood everything
 kept_listing = record { tree = schema.kept.tree; terms = above_parameter; project = col 1 0 ∷ columns 2 6; order = by_number; limit = col 0 1; names = _; command = refl; plain = (refl, refl); unlisted = refl }
 

@@ -1,7 +1,7 @@
 -- Reads, one after the other.
-use Rattle.std.proofs.Common.{◌≡◌, List, Result, Ok, Err, IsTrue, IfOk}
+use Rattle.std.proofs.Common.{◌≡◌, List, Result, Ok, Err, IfOk}
 use Rattle.sqlite.specs.declared.error.Error.{Error}
-use Rattle.sqlite.specs.State.{State, HasCleanDisk}
+use Rattle.sqlite.specs.State.{State}
 use Rattle.acd_terms.specs.declared.rows.Rows.{Rows}
 use Rattle.acd_terms.specs.declared.record.GroupRecord.{GroupRecord}
 use Rattle.acd_terms.specs.declared.record.StationRecord.{StationRecord}

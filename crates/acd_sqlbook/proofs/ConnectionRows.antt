@@ -1,14 +1,13 @@
 -- The query of all connections, whose rows have numbers of their own.
-use Rattle.std.proofs.Common.{◌≡◌, ◌⊎◌, inl, inr, ℕ, ℤ, List, [], ◌∷◌, map, true, refl, sym, ap, ap₂, subst, ◌∙◌}
-use Rattle.std.specs.Prelude.{pos, negsuc}
+use Rattle.std.proofs.Common.{◌≡◌, inl, inr, List, [], ◌∷◌, map, refl, sym, ap, ap₂, subst, ◌∙◌}
+use Rattle.std.specs.Prelude.{negsuc}
 use Rattle.std.specs.declared.cmp.Ordering.{Ordering}
 use Rattle.std.specs.declared.cmp.Ordering.TheVariants.{Less, Equal, Greater}
-use Rattle.std.specs.Ordering.{ordering_then, nat_cmp}
+use Rattle.std.specs.Ordering.{ordering_then}
 use Rattle.std.specs.List.{AllByRecursion}
 use Rattle.std.specs.List.Sorted.{IsPermutation}
 use Rattle.std.proofs.lemmas.Cmp.{tied_itself}
 use Rattle.sqlite_value.specs.declared.keys.Collation.TheVariants.{Binary}
-use Rattle.sqlite_value.specs.declared.keys.Key.{Key}
 use Rattle.sqlite_value.specs.declared.value.Value.TheVariants.{Int}
 use Rattle.sqlite_value.specs.Keys.{ascending}
 use Rattle.sqlite_value.specs.Order.{Row, column, value_cmp}
@@ -17,7 +16,7 @@ use Rattle.sqlite_trees.specs.Tree.{IsTable, rowid}
 use Rattle.sqlite_rules.specs.Lists.{Has}
 use Rattle.sqlite_rules.proofs.ListLemmas.{all_from, all_has}
 use Rattle.sqlite_rules.proofs.ProbeLemmas.{has_mapped, mapped_has}
-use Rattle.sqlite_sql.specs.Term.{Term, lit, col}
+use Rattle.sqlite_sql.specs.Term.{lit, col}
 use Rattle.sqlite_sql.specs.Query.{Output, output_cmp}
 use Rattle.sqlite_keyed.proofs.ListLemmas.{all_map}
 use Rattle.sqlite.specs.Listing.{understood}
@@ -44,7 +43,7 @@ use Rattle.acd_sqlbook.proofs.Ordered.{given, answered}
 use Rattle.acd_sqlbook.proofs.Scans.{filter_all, passing}
 use Rattle.acd_sqlbook.proofs.QueryTexts as text
 
-connections_listing : Listing text.read_connections
+unfoldable pub connections_listing : Listing text.read_connections
 unfolding understood everything
 connections_listing = record {
   tree = schema.connections.tree;

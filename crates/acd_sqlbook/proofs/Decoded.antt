@@ -179,16 +179,16 @@ one_of cmp o (z ∷ zs) x y up (inr a) (inl q) e =
     absurd (let low : cmp y x ≡ Less = subst (λ k. cmp k x ≡ Less) (sym q) (after_among cmp z zs x up.0 a) in let turned = o.antisymm x y ∙ ap ordering_reverse low in cc (turned, e))
 one_of cmp o (z ∷ zs) x y up (inr a) (inr b) e = one_of cmp o zs x y up.1 a b e
 
-ordered : (xs : List ConnectionRecord) → IsAscending connection_order (in_order xs)
+pub ordered : (xs : List ConnectionRecord) → IsAscending connection_order (in_order xs)
 ordered [] = tt
 ordered (x ∷ xs) = ascending-put connection_order connections_total x (in_order xs) (ordered xs)
 
-from_order : (xs : List ConnectionRecord) (z : ConnectionRecord) → Among z (in_order xs) → Among z xs
+pub from_order : (xs : List ConnectionRecord) (z : ConnectionRecord) → Among z (in_order xs) → Among z xs
 from_order [] z a = a
 from_order (x ∷ xs) z a = elim (among_put (connection_order x) x (in_order xs) z a) [ inl e ↦ inl e | inr b ↦ inr (from_order xs z b) ]
 
 -- none is lost where two that compare as equal are one
-to_order : (xs : List ConnectionRecord) → ((x y : ConnectionRecord) → Among x xs → Among y xs → connection_order x y ≡ Equal → x ≡ y) → (z : ConnectionRecord) → Among z xs → Among z (in_order xs)
+pub to_order : (xs : List ConnectionRecord) → ((x y : ConnectionRecord) → Among x xs → Among y xs → connection_order x y ≡ Equal → x ≡ y) → (z : ConnectionRecord) → Among z xs → Among z (in_order xs)
 to_order [] one z a = a
 to_order (x ∷ xs) one z (inl e) = subst (λ k. Among k (put_by (connection_order x) (in_order xs) x)) (sym e) (among-put (connection_order x) x (in_order xs))
 to_order (x ∷ xs) one z (inr a) =
@@ -230,7 +230,7 @@ module _ (rows : List Row) (records : List ConnectionRecord) (are : AreConnectio
 
 -- ---- the whole
 
-abbrev with_all : Meta → List GroupRecord → List StationRecord → List AgentRecord → List CallRecord → List ConnectionRecord → List MonitorRecord → List Event → List Kept → Content
+abbrev pub with_all : Meta → List GroupRecord → List StationRecord → List AgentRecord → List CallRecord → List ConnectionRecord → List MonitorRecord → List Event → List Kept → Content
 with_all m groups stations agents calls connections monitors events kept = record {
   rows = record {
     limits = m.limits;

@@ -8,7 +8,7 @@ use Rattle.std.proofs.lemmas.Bool.Decides.{nat_tests}
 use Rattle.sqlite_value.specs.Order.{Row}
 use Rattle.sqlite.specs.declared.error.Error.{Error}
 use Rattle.sqlite.specs.State.{State}
-use Rattle.acd_terms.specs.Lists.{Every, Among, AllAfter, IsAscending, find_by}
+use Rattle.acd_terms.specs.Lists.{Every, AllAfter, IsAscending, find_by}
 use Rattle.acd_terms.specs.Scans.{at_monitor, monitor_of}
 use Rattle.acd_terms.specs.declared.event.Event.{Event}
 use Rattle.acd_terms.specs.declared.record.MonitorRecord.{MonitorRecord}

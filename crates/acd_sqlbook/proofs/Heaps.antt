@@ -37,7 +37,7 @@ same_id m n e = let k : pos m ≡ pos n = cc in pos_same m n k
     pos_same : (m n : ℕ) → pos m ≡ pos n → m ≡ n
     pos_same m n e = cc
 
-key_same : (call device : ℕ) (x : ConnectionRecord) → is_eq (at_connection call device x) ≡ true → (x.call ≡ call) × (x.device ≡ device)
+pub key_same : (call device : ℕ) (x : ConnectionRecord) → is_eq (at_connection call device x) ≡ true → (x.call ≡ call) × (x.device ≡ device)
 key_same call device x e = is_of_true call device x (sym (connection_key call device x) ∙ e)
 
 same_key : (call device : ℕ) (x : ConnectionRecord) → x.call ≡ call → x.device ≡ device → is_eq (at_connection call device x) ≡ true

@@ -36,6 +36,8 @@ mod Replacing
 mod BookStates
 pub mod Ranged
 pub mod Reported
+mod Seen
 mod Looked
 mod Paged
+mod Contents
 mod Adopted

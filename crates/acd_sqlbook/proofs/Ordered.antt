@@ -3,14 +3,13 @@ use Rattle.std.proofs.Common.{◌≡◌, ℕ, ◌+◌, List, [], ◌∷◌, map,
 use Rattle.std.proofs.Math.ListN.{set, get_or, length-map, get_or-map}
 use Rattle.std.proofs.lemmas.List.{map-set}
 use Rattle.std.proofs.lemmas.List as lists
-use Rattle.std.specs.Prelude.{Option}
 use Rattle.std.specs.Cmp.{IsTotalOrder}
 use Rattle.std.specs.declared.cmp.Ordering.{Ordering}
 use Rattle.std.specs.declared.cmp.Ordering.TheVariants.{Less}
 use Rattle.std.specs.Ordering.{is_lt}
 use Rattle.std.specs.List.{AllByRecursion, swap}
 use Rattle.std.specs.List.Sorted.{IsPermutation, IsSorted, apply_swaps, SwapsInRange}
-use Rattle.std.proofs.lemmas.List.Sorted.{IsPermutation-map, IsPermutation-trans}
+use Rattle.std.proofs.lemmas.List.Sorted.{IsPermutation-trans}
 use Rattle.sqlite_value.specs.declared.value.Value.TheVariants.{Null}
 use Rattle.sqlite_value.specs.declared.keys.Key.{Key}
 use Rattle.sqlite_value.specs.Order.{Row}
@@ -76,6 +75,16 @@ given q params r = output q (params ∷ r ∷ [])
 
 given_is : (q : Query) (params : Row) (rows : List Row) → map (output q) (map (λ r. params ∷ r ∷ []) rows) ≡ map (given q params) rows
 given_is q params rows = map-map (output q) (λ r. params ∷ r ∷ []) rows
+
+-- the first rows, in some order, of those that pass
+pub in_some_order : (t : ℕ) (terms project : List Term) (order : List (Term × Key)) (limit : Term) (db : Trees) (params : Row) (rows : List Row) → IsProgramAnswer [] (asking t terms project order limit) db params rows
+    → (ordered : List Output) × IsPermutation (map (given (asking t terms project order limit) params) (passing params terms (db t))) ordered × (rows ≡ limited (as_count (eval limit (params ∷ []))) (map (λ (o : Output). o.1) ordered))
+in_some_order t terms project order limit db params rows h =
+    let q = asking t terms project order limit in
+    let a : IsAnswer q (overlay db []) params rows = h Null in
+    let staged = a.grouped ∙ staged_is params terms (overlay db [] t) ∙ ap (λ (l : List Row). map (λ r. params ∷ r ∷ []) (passing params terms l)) (nothing_over db t) in
+    let kept = a.distinct ∙ ap (map (output q)) staged ∙ given_is q params (passing params terms (db t)) in
+    (a.ordered, subst (λ k. IsPermutation k a.ordered) kept a.same, a.shown)
 
 -- the first rows in order of those that pass
 pub answered : {R : Type 0} (cmp : R → R → Ordering) (total : IsTotalOrder cmp) (t : ℕ) (terms project : List Term) (order : List (Term × Key)) (limit : Term) (db : Trees) (params : Row) (rows : List Row)

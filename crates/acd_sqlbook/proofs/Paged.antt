@@ -1,32 +1,37 @@
 -- A log that is read page by page: what is left behind a page tells of all.
-use Rattle.std.proofs.Common.{◌≡◌, ℕ, ◌+◌, ◌<◌, ◌≤◌, suc, length, drop, get_or, drop-cons, ap₂, zero, take, filter, nat_lt, List, [], ◌∷◌, map, cond, Option, Some, None, Bool, true, false, refl, sym, ap, subst, ◌∙◌, inl, arith}
-use Rattle.std.specs.Prelude.{nat_le, codes}
+use Rattle.std.proofs.Common.{◌≡◌, ℕ, ◌+◌, ◌<◌, ◌≤◌, suc, length, drop, get_or, drop-cons, ap₂, zero, take, filter, nat_lt, List, [], ◌∷◌, map, cond, Option, Some, None, Bool, true, false, IsTrue, refl, sym, ap, subst, ◌∙◌, inl, inr, arith}
+use Rattle.std.specs.Prelude.{codes}
+use Rattle.std.specs.List.{AllByRecursion}
 use Rattle.std.specs.Str.{bytes_eq}
 use Rattle.std.specs.Option.{is_some}
 use Rattle.std.specs.Ordering.{nat_cmp}
 use Rattle.std.specs.declared.cmp.Ordering.TheVariants.{Less}
-use Rattle.std.proofs.lemmas.List.{drop_all}
+use Rattle.std.proofs.lemmas.List.{drop_all, take-map}
 use Rattle.std.proofs.lemmas.Bool.Decides.{nat_tests}
 use Rattle.sqlite_value.specs.Order.{Row}
-use Rattle.sqlite.specs.State.{State}
+use Rattle.sqlite_trees.specs.Tree.{Trees, rowid}
+use Rattle.sqlite_trees.specs.View.{is_int}
+use Rattle.sqlite_rules.specs.Lists.{Has}
+use Rattle.sqlite_keyed.proofs.ListLemmas.{map-map}
+use Rattle.sqlite.specs.Effect.{Database}
 use Rattle.sqlite_schema.specs.declared.schema.Table.{Table as Made}
 use Rattle.acd_terms.specs.Lists.{Among, IsAscending}
 use Rattle.acd_terms.specs.declared.event.Event.{Event}
 use Rattle.acd_laws.proofs.Lists.{after_among, filter_all, filter_among, ascending-filter}
-use Rattle.acd_book.specs.Content.{Content}
 use Rattle.acd_book.specs.declared.kept.Kept.{Kept}
 use Rattle.acd_sqlbook.specs.declared.fault.Table.{Table}
-use Rattle.acd_sqlbook.specs.declared.fault.Table.TheVariants as table
 use Rattle.acd_sqlbook.specs.declared.adopt.Log.{Log}
 use Rattle.acd_sqlbook.specs.declared.adopt.Log.TheVariants as log
 use Rattle.acd_sqlbook.specs.declared.adopt.Page.{Page}
 use Rattle.acd_sqlbook.specs.declared.adopt.Page.TheVariants.{Bad, Last, More}
-use Rattle.acd_sqlbook.specs.Adopting.{is_good, are_good, is_good_table, is_good_behind, table_of_log, page_values, low_values, number_if_good, last_good, has_meta, IsPageOf, IsPage}
-use Rattle.acd_sqlbook.specs.Draft.{Holds}
-use Rattle.acd_sqlbook.specs.Ranges.{◌>>=◌, whole_at, stamp_at, event_in, kept_in}
-use Rattle.acd_sqlbook.specs.Rows.{id_value, event_values, kept_values}
+use Rattle.acd_sqlbook.specs.Adopting.{is_good, are_good, is_good_in, is_good_behind, lying, values_in, table_of_log, number_if_good, last_good, has_meta, Numbered, AreNumbered, FromOne, TellsGood, TellsBehind, IsPageRows, IsPageOf, IsPage}
+use Rattle.acd_sqlbook.specs.Content.{tree_of}
+use Rattle.acd_sqlbook.specs.Decoding.{option_in}
+use Rattle.acd_sqlbook.specs.Ranges.{◌>>=◌, whole_at, event_in, kept_in}
+use Rattle.acd_sqlbook.proofs.Heaps.{at_each}
 use Rattle.acd_sqlbook.proofs.KeyedRows.{by_key}
-use Rattle.acd_sqlbook.proofs.Listings.{stored}
+use Rattle.acd_sqlbook.proofs.Looked.{bad_among, numbers_ascend}
+use Rattle.acd_sqlbook.proofs.Reported.{event_stored, kept_stored}
 
 above : (m n : ℕ) → nat_cmp m n ≡ Less → nat_lt m n ≡ true
 above m n h = grind (arith, nat_tests)
@@ -105,61 +110,87 @@ module _ {R : Type 0} (l : Log) (key : R → ℕ) (values : R → Row) (keyed : 
       let told = subst (Tells n (behind n xs)) (ap (last_good l n) (sym are) ∙ is) (page_tells (suc k) n (behind n xs) (λ x a. (filter_among (λ y. nat_lt n (key y)) xs x a).1) (ascending-filter (by_key key) (λ y. nat_lt n (key y)) xs up)) in
       told.1 ∙ ap all_good (further n m told.0 xs)
 
-  -- where no number is below 1, those above 0 are all
-  no_low : (low : R → Row) (xs : List R) → map low (take 1 (filter (λ x. nat_lt (key x) 1) xs)) ≡ [] → behind 0 xs ≡ xs
-  no_low low [] h = refl
-  no_low low (x ∷ xs) h =
-      (elim (nat_lt (key x) 1) as (λ b. nat_lt (key x) 1 ≡ b → map low (take 1 (cond b (x ∷ filter (λ x. nat_lt (key x) 1) xs) (filter (λ x. nat_lt (key x) 1) xs))) ≡ [] → behind 0 (x ∷ xs) ≡ x ∷ xs) [
-        | true ↦ λ e g. absurd (cc g)
-        | false ↦ λ e g. rw (from_one (key x) e) (ap (λ r. x ∷ r) (no_low low xs g))
-      ]) refl h
+-- ---- the rows of a log
 
-  some_low : (low : R → Row) → ((x : R) → nat_lt (key x) 1 ≡ true → good x ≡ false) → (xs : List R) → (map low (take 1 (filter (λ x. nat_lt (key x) 1) xs)) ≡ [] → ⊥) → all_good xs ≡ false
-  unfolding are_good
-  some_low low bad [] h = absurd (h refl)
-  some_low low bad (x ∷ xs) h =
-      (elim (nat_lt (key x) 1) as (λ b. nat_lt (key x) 1 ≡ b → (map low (take 1 (cond b (x ∷ filter (λ x. nat_lt (key x) 1) xs) (filter (λ x. nat_lt (key x) 1) xs))) ≡ [] → ⊥) → all_good (x ∷ xs) ≡ false) [
-        | true ↦ λ e g. rw (bad x e) refl
-        | false ↦ λ e g. either (good x) (all_good xs) (some_low low bad xs g)
-      ]) refl h
-    where
-      either : (a b : Bool) → b ≡ false → cond a b false ≡ false
-      either true b e = e
-      either false b e = refl
+number_there : (o : Option Event) → is_some o ≡ true → (e : Event) × (o ≡ Some e)
+number_there None h = absurd (cc h)
+number_there (Some e) h = (e, refl)
 
--- ---- events and kept records
+stamp_there : (o : Option Kept) → is_some o ≡ true → (k : Kept) × (o ≡ Some k)
+stamp_there None h = absurd (cc h)
+stamp_there (Some k) h = (k, refl)
 
-not_one : (n : ℕ) → nat_lt n 1 ≡ true → nat_le 1 n ≡ false
-not_one n h = grind (arith, nat_tests)
+-- a good row tells its number
+good_number : (l : Log) (r : Row) → is_good (table_of_log l) r ≡ true → (n : ℕ) × (whole_at r 0 ≡ Some n)
+good_number log.Events r h = let e = number_there (event_in r) h in (e.0.number, ap (λ x. whole_at x 0) (event_stored r e.0 e.1))
+good_number log.Kept r h = let k = stamp_there (kept_in r) h in (k.0.stamp, ap (λ x. whole_at x 0) (kept_stored r k.0 k.1).0)
 
-low_event_bad : (e : Event) → nat_lt e.number 1 ≡ true → is_some (event_in (event_values e)) ≡ false
-unfolding event_in stamp_at
-low_event_bad e h = rw (not_one e.number h) refl
+bad_row_in : (l : Log) (n : ℕ) (rows : List Row) → last_good l n rows ≡ None → (r : Row) × Has rows r × (is_good (table_of_log l) r ≡ false)
+unfolding last_good
+bad_row_in l n [] h = absurd (cc h)
+bad_row_in l n (row ∷ rows) h =
+    (elim (is_good (table_of_log l) row) as (λ b. is_good (table_of_log l) row ≡ b → (r : Row) × Has (row ∷ rows) r × (is_good (table_of_log l) r ≡ false)) [
+      | true ↦ λ e. let number = good_number l row e in let more = bad_row_in l number.0 rows (rw (e, number.1) at h) in (more.0, inr more.1, more.2)
+      | false ↦ λ e. (row, inl refl, e)
+    ]) refl
 
-low_kept_bad : (k : Kept) → nat_lt k.stamp 1 ≡ true → is_some (kept_in (kept_values k)) ≡ false
-unfolding kept_in stamp_at
-low_kept_bad k h = rw (not_one k.stamp h) refl
+page_bad : (l : Log) (n limit : ℕ) (db : Trees) (rows : List Row) → IsPageRows l n limit db rows → last_good l n rows ≡ None → is_good_in (table_of_log l) db ≡ false
+unfolding is_good_in
+page_bad l n limit db rows page h =
+    let bad = bad_row_in l n rows h in
+    bad_among (table_of_log l) (lying (table_of_log l) db) bad.0 (at_each (λ r. Has (lying (table_of_log l) db) r) rows bad.0 page.known bad.1) bad.2
 
--- what a page leaves of a content
-pub page_is : (s : State) (c : Content) → Holds s c → (l : Log) (n : ℕ) (rows : List Row) (page : Page) → rows ≡ page_values l n c → IsPageOf l n rows page → IsPage l n c page
+abbrev number_key : Numbered → ℕ
+number_key x = x.key
+
+abbrev number_values : Log → Numbered → Row
+number_values l x = values_in (table_of_log l) x.row
+
+number_at : (l : Log) (x : Numbered) → whole_at (number_values l x) 0 ≡ Some x.key
+number_at log.Events x = ap option_in x.is
+number_at log.Kept x = ap option_in x.is
+
+module _ (l : Log) (n : ℕ) (d : Database) (rows : List Row) (page : IsPageRows l n 1000 d.trees rows) (xs : List Numbered) (are : AreNumbered l d.trees xs) where
+  page_left : (p : Page) → IsPageOf l n rows p → Leaves l number_key (number_values l) (number_at l) n xs p
+  page_left p is =
+      page_leaves l number_key (number_values l) (number_at l) 999 n xs rows p (numbers_ascend l d xs are) (page.paged xs are ∙ take-map (number_values l) 1000 (filter (λ (x : Numbered). nat_lt n x.key) xs)) is
+
+-- what a page leaves of a database
+pub page_is : (l : Log) (n : ℕ) (d : Database) (rows : List Row) (p : Page) → IsPageRows l n 1000 d.trees rows → IsPageOf l n rows p → IsPage l n d.trees p
 unfolding is_good_behind
-page_is s c held log.Events n rows Bad are is = page_leaves log.Events (λ (e : Event). e.number) event_values (λ e. refl) 999 n c.events rows Bad (stored table.Events s c held).ascending are is
-page_is s c held log.Events n rows Last are is = page_leaves log.Events (λ (e : Event). e.number) event_values (λ e. refl) 999 n c.events rows Last (stored table.Events s c held).ascending are is
-page_is s c held log.Events n rows (More m) are is = page_leaves log.Events (λ (e : Event). e.number) event_values (λ e. refl) 999 n c.events rows (More m) (stored table.Events s c held).ascending are is
-page_is s c held log.Kept n rows Bad are is = page_leaves log.Kept (λ (k : Kept). k.stamp) kept_values (λ k. refl) 999 n c.kept rows Bad (stored table.Kept s c held).0.ascending are is
-page_is s c held log.Kept n rows Last are is = page_leaves log.Kept (λ (k : Kept). k.stamp) kept_values (λ k. refl) 999 n c.kept rows Last (stored table.Kept s c held).0.ascending are is
-page_is s c held log.Kept n rows (More m) are is = page_leaves log.Kept (λ (k : Kept). k.stamp) kept_values (λ k. refl) 999 n c.kept rows (More m) (stored table.Kept s c held).0.ascending are is
+page_is l n d rows Bad page is = page_bad l n 1000 d.trees rows page is
+page_is l n d rows Last page is = λ (xs : List Numbered) (are : AreNumbered l d.trees xs). page_left l n d rows page xs are Last is
+page_is l n d rows (More m) page is = λ (xs : List Numbered) (are : AreNumbered l d.trees xs). page_left l n d rows page xs are (More m) is
 
--- those above 0 are all, where no number is below 1
-pub none_low : (l : Log) (c : Content) → low_values l c ≡ [] → is_good_behind l 0 c ≡ is_good_table (table_of_log l) c
-unfolding is_good_behind is_good_table
-none_low log.Events c h = ap (λ xs. are_good table.Events (map event_values xs)) (no_low log.Events (λ (e : Event). e.number) event_values (λ e. refl) (λ e. id_value e.number ∷ []) c.events h)
-none_low log.Kept c h = ap (λ xs. are_good table.Kept (map kept_values xs)) (no_low log.Kept (λ (k : Kept). k.stamp) kept_values (λ k. refl) (λ k. id_value k.stamp ∷ []) c.kept h)
+-- ---- rows with numbers from 1 on
 
-pub one_low : (l : Log) (c : Content) → (low_values l c ≡ [] → ⊥) → is_good_table (table_of_log l) c ≡ false
-unfolding is_good_table
-one_low log.Events c h = some_low log.Events (λ (e : Event). e.number) event_values (λ e. refl) (λ e. id_value e.number ∷ []) low_event_bad c.events h
-one_low log.Kept c h = some_low log.Kept (λ (k : Kept). k.stamp) kept_values (λ k. refl) (λ k. id_value k.stamp ∷ []) low_kept_bad c.kept h
+numbered_of : (rows : List Row) → AllByRecursion FromOne rows → (xs : List Numbered) × (rows ≡ map (λ (x : Numbered). x.row) xs) × AllByRecursion (λ (x : Numbered). nat_lt x.key 1 ≡ false) xs
+numbered_of [] h = ([], refl, tt)
+numbered_of (r ∷ rows) h =
+    let more = numbered_of rows h.1 in
+    let x : Numbered = record { key = h.0.0; row = r; is = h.0.1 } in
+    (x ∷ more.0, ap (λ l. r ∷ l) more.1, (h.0.2, more.2))
+
+all_above : (xs : List Numbered) → AllByRecursion (λ (x : Numbered). nat_lt x.key 1 ≡ false) xs → filter (λ (x : Numbered). nat_lt 0 x.key) xs ≡ xs
+all_above [] h = refl
+all_above (x ∷ xs) h = rw (from_one x.key h.0) (ap (λ l. x ∷ l) (all_above xs h.1))
+
+each_from_one : (rows : List Row) → AllByRecursion (λ r. IsTrue (is_int (rowid r))) rows → AllByRecursion (λ r. IsTrue (is_int (rowid r)) → FromOne r) rows → AllByRecursion FromOne rows
+each_from_one [] ints h = tt
+each_from_one (r ∷ rows) ints h = (h.0 ints.0, each_from_one rows ints.1 h.1)
+
+-- where no number is below 1, those above 0 tell of all
+pub log_told : (l : Log) (db : Trees) (good : Bool) → AllByRecursion (λ r. IsTrue (is_int (rowid r)) → FromOne r) (db (tree_of (table_of_log l))) → TellsBehind l db good → TellsGood (table_of_log l) db good
+unfolding is_good_in is_good_behind
+log_told l db false low h = record { bad = h.bad; filed = λ filed. sym (h.bad refl) }
+log_told l db true low h = record {
+  bad = h.bad;
+  filed = λ filed.
+      let xs = numbered_of (db (tree_of (table_of_log l))) (each_from_one (db (tree_of (table_of_log l))) (filed.numbered (table_of_log l)) low) in
+      let behind = h.filed refl xs.0 (record { rising = filed.rising (table_of_log l); rows = xs.1 }) in
+      sym behind ∙ ap (λ ys. are_good (table_of_log l) (map (number_values l) ys)) (all_above xs.0 xs.2)
+      ∙ ap (are_good (table_of_log l)) (sym (map-map (values_in (table_of_log l)) (λ (x : Numbered). x.row) xs.0)) ∙ ap (λ rows. are_good (table_of_log l) (map (values_in (table_of_log l)) rows)) (sym xs.1);
+}
 
 -- ---- rows, one after the other
 

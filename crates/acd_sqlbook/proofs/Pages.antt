@@ -11,7 +11,7 @@ use Rattle.sqlite.specs.declared.error.Error.{Error}
 use Rattle.sqlite.specs.State.{State}
 use Rattle.acd_terms.specs.declared.event.Event.{Event}
 use Rattle.acd_book.specs.Content.{Content, is_at, is_told}
-use Rattle.acd_sqlbook.specs.Draft.{Fits, Holds}
+use Rattle.acd_sqlbook.specs.Draft.{Fits}
 use Rattle.acd_sqlbook.specs.Finding.{Finds}
 
 abbrev pub greatest : ℕ

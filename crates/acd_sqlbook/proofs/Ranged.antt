@@ -17,6 +17,7 @@ use Rattle.acd_terms.specs.declared.state.Pending.{Pending}
 use Rattle.acd_terms.specs.declared.state.ConnectionState.{ConnectionState}
 use Rattle.acd_terms.specs.declared.event.EventKind.{EventKind}
 use Rattle.acd_terms.specs.declared.event.Cause.{Cause}
+use Rattle.acd_terms.specs.declared.rows.Limits.{Limits}
 use Rattle.acd_terms.specs.declared.record.Figures.{Figures}
 use Rattle.acd_terms.specs.declared.record.GroupRecord.{GroupRecord}
 use Rattle.acd_terms.specs.declared.record.StationRecord.{StationRecord}
@@ -26,9 +27,11 @@ use Rattle.acd_terms.specs.declared.record.ConnectionRecord.{ConnectionRecord}
 use Rattle.acd_terms.specs.declared.record.MonitorRecord.{MonitorRecord}
 use Rattle.acd_laws.proofs.Lists.{find_passes}
 use Rattle.acd_sqlbook.specs.Codes.{with_code, agent_states, pending_states, connection_states, causes, kinds, agent_state_of, pending_of, connection_state_of, kind_of, cause_of}
+use Rattle.acd_sqlbook.specs.declared.meta.Meta.{Meta}
 use Rattle.acd_sqlbook.specs.Decoding.{option_in}
+use Rattle.acd_sqlbook.specs.Reading.{meta_shown}
 use Rattle.acd_sqlbook.specs.Rows.{id_value, agent_code, pending_code, connection_code, kind_code, cause_code, group_values, station_values, agent_values, call_values, connection_values, monitor_values}
-use Rattle.acd_sqlbook.specs.Ranges.{◌>>=◌, text_of, is_null, text_at, whole_at, at_least, stamp_at, serial_at, moment_at, seconds_at, device_at, agent_at, name_at, agent_state_at, pending_at, connection_state_at, kind_at, cause_at, utf8_of, or_none, figures_at, group_in, station_in, agent_in, call_in, connection_in, monitor_in}
+use Rattle.acd_sqlbook.specs.Ranges.{limits_at, counters_in, ◌>>=◌, text_of, is_null, text_at, whole_at, at_least, stamp_at, serial_at, moment_at, seconds_at, device_at, agent_at, name_at, agent_state_at, pending_at, connection_state_at, kind_at, cause_at, utf8_of, or_none, figures_at, group_in, station_in, agent_in, call_in, connection_in, monitor_in}
 
 -- ---- UTF-8
 
@@ -282,3 +285,40 @@ monitor_stored r m h =
     let device = bound _ _ m monitor.2 in
     let after = bound _ _ m device.2 in
     row_is 3 r w.0 ∙ beside _ _ _ _ (serial_stored r 0 _ monitor.1) (beside _ _ _ _ (device_stored r 1 _ device.1) (beside _ _ _ _ (whole_stored r 2 _ after.1) (refl))) ∙ ap monitor_values (some_same _ m after.2)
+
+-- ---- the limits and the counters
+
+limits_stored : (r : Row) (l : Limits) → limits_at r ≡ Some l
+    → (column r 0 ≡ id_value l.requests) × (column r 1 ≡ id_value l.calls) × (column r 2 ≡ id_value l.groups) × (column r 3 ≡ id_value l.stations) × (column r 4 ≡ id_value l.agents) × (column r 5 ≡ id_value l.monitors)
+unfolding limits_at
+limits_stored r l h =
+    let requests = bound _ _ l h in
+    let calls = bound _ _ l requests.2 in
+    let groups = bound _ _ l calls.2 in
+    let stations = bound _ _ l groups.2 in
+    let agents = bound _ _ l stations.2 in
+    let monitors = bound _ _ l agents.2 in
+    let same = some_same _ l monitors.2 in (
+      whole_stored r 0 _ requests.1 ∙ ap (λ (x : Limits). id_value x.requests) same,
+      whole_stored r 1 _ calls.1 ∙ ap (λ (x : Limits). id_value x.calls) same,
+      whole_stored r 2 _ groups.1 ∙ ap (λ (x : Limits). id_value x.groups) same,
+      whole_stored r 3 _ stations.1 ∙ ap (λ (x : Limits). id_value x.stations) same,
+      whole_stored r 4 _ agents.1 ∙ ap (λ (x : Limits). id_value x.agents) same,
+      whole_stored r 5 _ monitors.1 ∙ ap (λ (x : Limits). id_value x.monitors) same,
+    )
+
+pub counters_stored : (r : Row) (m : Meta) → counters_in r ≡ Some m → r ≡ meta_shown m
+unfolding counters_in
+counters_stored r m h =
+    let w = guarded (length r == 11) _ m h in
+    let limits = bound _ _ m w.1 in
+    let stamp = bound _ _ m limits.2 in
+    let moment = bound _ _ m stamp.2 in
+    let call = bound _ _ m moment.2 in
+    let monitor = bound _ _ m call.2 in
+    let event = bound _ _ m monitor.2 in
+    let l = limits_stored r limits.0 limits.1 in
+    row_is 11 r w.0
+    ∙ beside _ _ _ _ l.0 (beside _ _ _ _ l.1 (beside _ _ _ _ l.2 (beside _ _ _ _ l.3 (beside _ _ _ _ l.4 (beside _ _ _ _ l.5
+    (beside _ _ _ _ (whole_stored r 6 _ stamp.1) (beside _ _ _ _ (moment_stored r 7 _ moment.1) (beside _ _ _ _ (whole_stored r 8 _ call.1) (beside _ _ _ _ (whole_stored r 9 _ monitor.1) (beside _ _ _ _ (whole_stored r 10 _ event.1) refl))))))))))
+    ∙ ap meta_shown (some_same _ m event.2)

@@ -44,7 +44,7 @@ selected schema text it params old new rows has h =
 
 -- ---- the limits and the counters
 
-meta_selection : Selection book_schema text.read_meta
+unfoldable pub meta_selection : Selection book_schema text.read_meta
 unfolding understood everything
 meta_selection = record {
   tree = schema.meta.tree;

@@ -1,6 +1,5 @@
 -- Calls over a connection that was tried first.
-use Rattle.std.proofs.Common.{◌≡◌, ◌⊎◌, inl, inr, ℕ, List, [], ◌∷◌, length, Result, Ok, Err, IsTrue, IfOk, OnOk, OnErr, refl, sym, ap, subst, ◌∙◌}
-use Rattle.sqlite_trees.specs.Tree.{Trees}
+use Rattle.std.proofs.Common.{◌≡◌, inl, inr, ℕ, List, [], ◌∷◌, length, Result, Ok, Err, IsTrue, IfOk, OnOk, OnErr, ap, subst, ◌∙◌}
 use Rattle.sqlite_value.specs.Order.{Row}
 use Rattle.sqlite.specs.declared.error.Error.{Error}
 use Rattle.sqlite.specs.State.{State, HasCleanDisk}
@@ -12,7 +11,7 @@ use Rattle.acd_sqlbook.specs.declared.meta.Meta.{Meta}
 use Rattle.acd_sqlbook.specs.Commit.{counted, made_by, written_by}
 use Rattle.acd_sqlbook.specs.Content.{Encodes, meta_of}
 use Rattle.acd_sqlbook.specs.Reading.{meta_shown}
-use Rattle.acd_sqlbook.specs.Calls.{Stands, HasRead, HasCommitted}
+use Rattle.acd_sqlbook.specs.Calls.{HasRead, HasCommitted}
 use Rattle.acd_sqlbook.specs.Draft.{Holds, Quiet, NoStop, AddsStop}
 use Rattle.acd_sqlbook.specs.Finding.{Finds}
 

@@ -15,4 +15,5 @@ pub mod State
 pub mod Reports
 pub mod Ranges
 pub mod StoreLaws
+pub mod Seeing
 pub mod Adopting

@@ -1,15 +1,16 @@
 //! Takes a connection over a book of version 1, where each value is in its range.
 
-ghost use Rattle.std.specs.Prelude.{◌≡◌, false, None, IsTrue, IfOk, IfErr};
+ghost use Rattle.std.specs.Prelude.{◌≡◌, false, None, IfOk, IfErr, IsPermutation};
+ghost use Rattle.sqlite.specs.Effect.{Database};
 ghost use Rattle.sqlite.specs.State.{HasCleanDisk};
 ghost use Rattle.sqlite.specs.Held.{state};
-ghost use Rattle.acd_sqlbook.specs.Adopting.{table_of, table_of_log, values_of, low_values, page_values, is_good, are_good, is_good_table, is_good_behind, number_if_good, last_good, IsBadOf, IsPage, IsPageOf, PageFits, IsFound, IsStoreFault, IsAdopted, IsHandedBack, version_fault, adopt_fault_of};
-ghost use Rattle.acd_sqlbook.specs.Calls.{HasRead};
+ghost use Rattle.acd_sqlbook.specs.Adopting.{table_of, table_of_log, lying, is_good, are_good, is_good_in, number_if_good, last_good, BeginsAsBook, IsLike, TellsGood, TellsLow, TellsBehind, IsPageRows, IsBadOf, IsPage, IsPageOf, PageFits, IsFound, IsRowFound, IsVersionFound, IsStoreFault, AreWhole, IsFiled, IsAdopted, IsHandedBack, version_fault, adopt_fault_of};
 ghost use Rattle.acd_sqlbook.specs.Draft.{Fits};
-ghost use Rattle.acd_sqlbook.specs.Finding.{Finds};
-ghost use Rattle.acd_sqlbook.specs.State.{book_state, IsSound};
+ghost use Rattle.acd_sqlbook.specs.Schema.{book_schema};
+ghost use Rattle.acd_sqlbook.specs.Seeing.{Sees, HasLooked};
+ghost use Rattle.acd_sqlbook.specs.State.{book_state};
 
-use crate::book::SqlBook;
+use crate::book::{SqlBook, set_up};
 use crate::commit::{fits, too_large};
 use crate::decode::{
     agent_in, call_in, connection_in, counters_in, event_in, group_in, kept_in, monitor_in,
@@ -22,8 +23,11 @@ use crate::query::{
     station_rows,
 };
 use crate::read::probe;
+use crate::same::{is_same_first, is_same_schema};
 use crate::values;
-use sqlite::{Alter, Connection, Error, ErrorCode, Row};
+use acd_terms::Limits;
+use sqlite::{Alter, Connection, Error, ErrorCode, MemStore, Row};
+use sqlite_schema::schema::Schema;
 use std::alloc::Global;
 
 // A table that is read whole.
@@ -43,6 +47,16 @@ pub(crate) enum Whole {
 pub(crate) enum Log {
     Events,
     Kept,
+}
+
+// How far the tables of a database are those of a book.
+#[derive(Clone, Copy)]
+pub(crate) enum Likeness {
+    /// All of them, and no others.
+    Whole,
+    /// The first, which tells the version.
+    First,
+    Other,
 }
 
 // What a page of a log tells.
@@ -105,7 +119,7 @@ impl Whole {
     fn rows<S: Alter>(self, conn: &mut Connection<S>) -> Result<Vec<Row>, Error>
         requires { conn.old.in_transaction ≡ false }
         ensures idle { conn.new.in_transaction ≡ false }
-        ensures found { Finds (state S.Store conn.old) (state S.Store conn.new) result (λ c rows. rows.items ≡ values_of (table_of self) c) }
+        ensures seen { (d : Database) → d.schema ≡ book_schema → Sees d (state S.Store conn.old) (state S.Store conn.new) result (λ rows. IsPermutation (lying (table_of self) d.trees) rows.items) }
     {
         match self {
             Whole::Meta => counter_rows(conn),
@@ -128,7 +142,7 @@ fn is_good_whole<S: Alter>(
 ) -> Result<bool, Error>
     requires { conn.old.in_transaction ≡ false }
     ensures idle { conn.new.in_transaction ≡ false }
-    ensures found { Finds (state S.Store conn.old) (state S.Store conn.new) result (λ c good. good ≡ is_good_table (table_of table) c) }
+    ensures seen { (d : Database) → d.schema ≡ book_schema → Sees d (state S.Store conn.old) (state S.Store conn.new) result (λ good. TellsGood (table_of table) d.trees good) }
 {
     match table.rows(conn) {
         Ok(rows) => are_good(alloc, table.table(), &rows),
@@ -149,7 +163,7 @@ impl Log {
     fn low_rows<S: Alter>(self, conn: &mut Connection<S>) -> Result<Vec<Row>, Error>
         requires { conn.old.in_transaction ≡ false }
         ensures idle { conn.new.in_transaction ≡ false }
-        ensures found { Finds (state S.Store conn.old) (state S.Store conn.new) result (λ c rows. rows.items ≡ low_values self c) }
+        ensures seen { (d : Database) → d.schema ≡ book_schema → Sees d (state S.Store conn.old) (state S.Store conn.new) result (λ rows. TellsLow self d.trees rows.items) }
     {
         match self {
             Log::Events => low_event_rows(conn),
@@ -162,7 +176,7 @@ impl Log {
         requires idle { conn.old.in_transaction ≡ false }
         requires number { Fits number }
         ensures idle { conn.new.in_transaction ≡ false }
-        ensures found { Finds (state S.Store conn.old) (state S.Store conn.new) result (λ c rows. rows.items ≡ page_values self number c) }
+        ensures seen { (d : Database) → d.schema ≡ book_schema → Sees d (state S.Store conn.old) (state S.Store conn.new) result (λ rows. IsPageRows self number 1000 d.trees rows.items) }
     {
         match self {
             Log::Events => event_rows(conn, number, 1000),
@@ -223,7 +237,7 @@ fn page_behind<S: Alter>(
     requires idle { conn.old.in_transaction ≡ false }
     requires number { Fits number }
     ensures idle { conn.new.in_transaction ≡ false }
-    ensures found { Finds (state S.Store conn.old) (state S.Store conn.new) result (λ c page. IsPage log number c page) }
+    ensures seen { (d : Database) → d.schema ≡ book_schema → Sees d (state S.Store conn.old) (state S.Store conn.new) result (λ page. IsPage log number d.trees page) }
     ensures fits { IfOk result (λ page. PageFits page) }
 {
     match log.rows(conn, number) {
@@ -239,9 +253,8 @@ fn are_pages_good<S: Alter>(
     log: Log,
 ) -> Result<bool, Error>
     requires idle { conn.old.in_transaction ≡ false }
-    requires live { HasCleanDisk (state S.Store conn.old) → IsTrue (state S.Store conn.old).is_open }
     ensures idle { conn.new.in_transaction ≡ false }
-    ensures found { Finds (state S.Store conn.old) (state S.Store conn.new) result (λ c good. good ≡ is_good_behind log 0 c) }
+    ensures seen { (d : Database) → d.schema ≡ book_schema → Sees d (state S.Store conn.old) (state S.Store conn.new) result (λ good. TellsBehind log d.trees good) }
 {
     let mut number = 0;
     for _ in 0..u64::MAX {
@@ -259,7 +272,7 @@ fn are_pages_good<S: Alter>(
 fn is_good_log<S: Alter>(alloc: Global, conn: &mut Connection<S>, log: Log) -> Result<bool, Error>
     requires { conn.old.in_transaction ≡ false }
     ensures idle { conn.new.in_transaction ≡ false }
-    ensures found { Finds (state S.Store conn.old) (state S.Store conn.new) result (λ c good. good ≡ is_good_table (table_of_log log) c) }
+    ensures seen { (d : Database) → d.schema ≡ book_schema → Sees d (state S.Store conn.old) (state S.Store conn.new) result (λ good. TellsGood (table_of_log log) d.trees good) }
 {
     let low = log.low_rows(conn)?;
     if low.is_empty() {
@@ -277,7 +290,7 @@ fn is_good_table<S: Alter>(
 ) -> Result<bool, Error>
     requires { conn.old.in_transaction ≡ false }
     ensures idle { conn.new.in_transaction ≡ false }
-    ensures found { Finds (state S.Store conn.old) (state S.Store conn.new) result (λ c good. good ≡ is_good_table table c) }
+    ensures seen { (d : Database) → d.schema ≡ book_schema → Sees d (state S.Store conn.old) (state S.Store conn.new) result (λ good. TellsGood table d.trees good) }
 {
     match table {
         Table::Meta => is_good_whole(alloc, conn, Whole::Meta),
@@ -299,9 +312,8 @@ fn bad_table<S: Alter>(
     tables: &[Table],
 ) -> Result<Option<Table>, Error>
     requires idle { conn.old.in_transaction ≡ false }
-    requires live { HasCleanDisk (state S.Store conn.old) → IsTrue (state S.Store conn.old).is_open }
     ensures idle { conn.new.in_transaction ≡ false }
-    ensures found { Finds (state S.Store conn.old) (state S.Store conn.new) result (λ c bad. IsBadOf tables.now c bad) }
+    ensures seen { (d : Database) → d.schema ≡ book_schema → Sees d (state S.Store conn.old) (state S.Store conn.new) result (λ bad. IsBadOf tables.now d.trees bad) }
 {
     for table in tables {
         let good = is_good_table(alloc, conn, *table)?;
@@ -315,9 +327,8 @@ fn bad_table<S: Alter>(
 // What the tables tell against a book.
 fn bad_row<S: Alter>(alloc: Global, conn: &mut Connection<S>) -> Result<Option<AdoptFault>, Error>
     requires idle { conn.old.in_transaction ≡ false }
-    requires live { HasCleanDisk (state S.Store conn.old) → IsTrue (state S.Store conn.old).is_open }
     ensures idle { conn.new.in_transaction ≡ false }
-    ensures found { Finds (state S.Store conn.old) (state S.Store conn.new) result (λ c fault. IsFound c fault) }
+    ensures seen { (d : Database) → d.schema ≡ book_schema → Sees d (state S.Store conn.old) (state S.Store conn.new) result (λ fault. IsRowFound d fault) }
 {
     let tables = [
         Table::Meta,
@@ -354,7 +365,7 @@ fn version_fault(rows: &[Row]) -> Option<AdoptFault>
 fn wrong_version<S: Alter>(conn: &mut Connection<S>) -> Result<Option<AdoptFault>, Error>
     requires { conn.old.in_transaction ≡ false }
     ensures idle { conn.new.in_transaction ≡ false }
-    ensures found { Finds (state S.Store conn.old) (state S.Store conn.new) result (λ c fault. fault ≡ None) }
+    ensures seen { (d : Database) → BeginsAsBook d.schema → Sees d (state S.Store conn.old) (state S.Store conn.new) result (λ fault. IsVersionFound d fault) }
 {
     match version_rows(conn) {
         Ok(rows) => Ok(version_fault(&rows)),
@@ -362,16 +373,56 @@ fn wrong_version<S: Alter>(conn: &mut Connection<S>) -> Result<Option<AdoptFault
     }
 }
 
-// Why the connection isn't taken, where its store serves.
-fn fault_in<S: Alter>(alloc: Global, conn: &mut Connection<S>) -> Result<Option<AdoptFault>, Error>
-    requires idle { conn.old.in_transaction ≡ false }
-    requires live { HasCleanDisk (state S.Store conn.old) → IsTrue (state S.Store conn.old).is_open }
-    ensures idle { conn.new.in_transaction ≡ false }
-    ensures found { Finds (state S.Store conn.old) (state S.Store conn.new) result (λ c fault. IsFound c fault) }
+// The tables of a new book, in memory.
+fn new_tables(alloc: Global) -> Result<Connection<MemStore>, Error>
+    ensures { IfOk result (λ conn. conn.schema ≡ book_schema) }
 {
-    if !has_meta(conn.schema()) {
-        return Ok(Some(AdoptFault::WrongVersion(0)));
+    match Connection::open_in_memory(alloc) {
+        Ok(mut conn) => {
+            set_up(&mut conn, Limits::GREATEST)?;
+            Ok(conn)
+        }
+        Err(_) => Err(Error::SqliteFailure(ErrorCode::OutOfMemory)),
     }
+}
+
+// How far the tables are those of a new book.
+fn compared(alloc: Global, schema: &Schema) -> Result<Likeness, Error>
+    ensures { IfOk result (λ likeness. IsLike schema.now likeness) }
+{
+    let book = new_tables(alloc)?;
+    let own = book.schema();
+    if is_same_schema(schema, own) {
+        return Ok(Likeness::Whole);
+    }
+    if is_same_first(schema.tables.as_slice(), own.tables.as_slice()) {
+        return Ok(Likeness::First);
+    }
+    Ok(Likeness::Other)
+}
+
+// Why a database whose first table alone is that of a book isn't taken.
+fn fault_of_first<S: Alter>(conn: &mut Connection<S>) -> Result<Option<AdoptFault>, Error>
+    requires { conn.old.in_transaction ≡ false }
+    ensures idle { conn.new.in_transaction ≡ false }
+    ensures seen { (d : Database) → BeginsAsBook d.schema → Sees d (state S.Store conn.old) (state S.Store conn.new) result (λ fault. IsFound d fault) }
+{
+    let wrong = wrong_version(conn)?;
+    match wrong {
+        Some(fault) => Ok(Some(fault)),
+        None => Ok(Some(AdoptFault::Store)),
+    }
+}
+
+// Why a database whose tables are those of a book isn't taken.
+fn fault_of_whole<S: Alter>(
+    alloc: Global,
+    conn: &mut Connection<S>,
+) -> Result<Option<AdoptFault>, Error>
+    requires { conn.old.in_transaction ≡ false }
+    ensures idle { conn.new.in_transaction ≡ false }
+    ensures seen { (d : Database) → d.schema ≡ book_schema → Sees d (state S.Store conn.old) (state S.Store conn.new) result (λ fault. IsFound d fault) }
+{
     let wrong = wrong_version(conn)?;
     match wrong {
         Some(fault) => Ok(Some(fault)),
@@ -379,12 +430,31 @@ fn fault_in<S: Alter>(alloc: Global, conn: &mut Connection<S>) -> Result<Option<
     }
 }
 
+// Why the connection isn't taken, where its store serves.
+fn fault_in<S: Alter>(alloc: Global, conn: &mut Connection<S>) -> Result<Option<AdoptFault>, Error>
+    requires { conn.old.in_transaction ≡ false }
+    ensures idle { conn.new.in_transaction ≡ false }
+    ensures seen { Sees (state S.Store conn.old).now (state S.Store conn.old) (state S.Store conn.new) result (λ fault. IsFound (state S.Store conn.old).now fault) }
+{
+    if !has_meta(conn.schema()) {
+        return Ok(Some(AdoptFault::WrongVersion(0)));
+    }
+    let likeness = compared(alloc, conn.schema())?;
+    match likeness {
+        Likeness::Whole => fault_of_whole(alloc, conn),
+        Likeness::First => fault_of_first(conn),
+        Likeness::Other => Ok(Some(AdoptFault::Store)),
+    }
+}
+
 // Why the connection isn't taken.
 fn look_over<S: Alter>(alloc: Global, conn: &mut Connection<S>) -> Result<Option<AdoptFault>, Error>
     requires { conn.old.in_transaction ≡ false }
     ensures idle { conn.new.in_transaction ≡ false }
-    ensures read { HasRead (state S.Store conn.old) (state S.Store conn.new) result (λ c fault. IsFound c fault) }
+    ensures looked { HasLooked (state S.Store conn.old) (state S.Store conn.new) result (λ d fault. IsFound d fault) }
 {
+    let _settled = conn.is_autocommit();
+    let _obeyed = conn.schema();
     probe(conn)?;
     fault_in(alloc, conn)
 }
@@ -409,12 +479,13 @@ impl<S: Alter> SqlBook<S> {
         mut conn: Connection<S>,
     ) -> Result<SqlBook<S>, (AdoptFault, Connection<S>)>
         requires { conn.in_transaction ≡ false }
-        ensures adopted { IfOk result (λ b. HasCleanDisk (state S.Store b.conn) → IsSound (state S.Store conn) → IsAdopted (book_state (state S.Store conn) 0) (book_state (state S.Store b.conn) b.failures)) }
+        ensures adopted { IfOk result (λ b. HasCleanDisk (state S.Store b.conn) → IsAdopted (state S.Store conn).now (book_state (state S.Store conn) 0) (book_state (state S.Store b.conn) b.failures)) }
+        ensures filed { IfOk result (λ b. HasCleanDisk (state S.Store b.conn) → (S.Store.view conn.store).is_broken ≡ false → AreWhole (state S.Store conn).now.trees → IsFiled (state S.Store conn).now.trees) }
         ensures counted { IfOk result (λ b. b.failures ≡ 0) }
         ensures clean { IfOk result (λ b. HasCleanDisk (state S.Store b.conn) → HasCleanDisk (state S.Store conn)) }
         ensures idle { IfErr result (λ e. e.1.in_transaction ≡ false) }
         ensures doubted { IfErr result (λ e. HasCleanDisk (state S.Store e.1) → HasCleanDisk (state S.Store conn)) }
-        ensures handed_back { IfErr result (λ e. HasCleanDisk (state S.Store e.1) → IsSound (state S.Store conn) → IsHandedBack (book_state (state S.Store conn) 0) (book_state (state S.Store e.1) 0) e.0) }
+        ensures handed_back { IfErr result (λ e. HasCleanDisk (state S.Store e.1) → IsHandedBack (state S.Store conn).now (book_state (state S.Store conn) 0) (book_state (state S.Store e.1) 0) e.0) }
     {
         match look_over(alloc, &mut conn) {
             Ok(None) => Ok(SqlBook {

@@ -2,8 +2,11 @@
 
 ghost use Rattle.std.specs.Prelude.{◌≡◌, false};
 
+mod ranges;
+
 use crate::book::SqlBook;
 use crate::fault::{AdoptFault, Table};
+use crate::tests::{answers, commits};
 use acd_book::Book;
 use acd_terms::Limits;
 use sqlite::{Connection, MemStore};
@@ -73,6 +76,24 @@ fn other_versions(rt: HostRuntime) {
     }
 }
 
+// The first table is a book's, and tells its version; the others aren't.
+#[test]
+fn other_tables(rt: HostRuntime) {
+    let alloc = rt.alloc();
+    let tables = [
+        ("DROP TABLE monitors", AdoptFault::Store),
+        ("CREATE TABLE more (id INTEGER)", AdoptFault::Store),
+        (
+            "DROP TABLE monitors; UPDATE meta SET version = 2",
+            AdoptFault::WrongVersion(2),
+        ),
+    ];
+    for (sql, told) in tables {
+        let conn = altered(&rt, alloc, sql);
+        assert_eq!(rt; fault(alloc, conn), Some(told));
+    }
+}
+
 #[test]
 fn a_value_out_of_its_range(rt: HostRuntime) {
     let alloc = rt.alloc();
@@ -116,6 +137,22 @@ fn a_book_as_it_was_left(rt: HostRuntime) {
         Ok(mut book) => {
             assert_eq!(rt; book.failures(), 0);
             assert_eq!(rt; book.limits().expect(&rt, "the limits"), Limits::GREATEST);
+        }
+        Err(_) => panic!(rt; "no book"),
+    }
+}
+
+// What a commit left is there in the book that takes its connection.
+#[test]
+fn a_book_after_a_commit(rt: HostRuntime) {
+    let alloc = rt.alloc();
+    let mut left = commits::new_book(&rt, alloc);
+    commits::commit_first(&rt, alloc, &mut left);
+    match SqlBook::adopt(alloc, left.into_connection()) {
+        Ok(mut book) => {
+            assert_eq!(rt; answers::stations(&rt, &mut book), 1);
+            assert_eq!(rt; answers::event_after(&rt, &mut book, 0), Some(1));
+            assert_eq!(rt; answers::under(&rt, &mut book, 1), Some(1));
         }
         Err(_) => panic!(rt; "no book"),
     }

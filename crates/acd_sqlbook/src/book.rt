@@ -67,8 +67,8 @@ fn noted<T>(found: Result<T, Error>, fresh: &mut bool, failures: &mut u64) -> Re
     }
 }
 
-// Makes the tables, and the row of the limits.
-fn set_up<S: Alter>(conn: &mut Connection<S>, limits: Limits) -> Result<(), Error>
+/// Makes the tables, and the row of the limits.
+pub(crate) fn set_up<S: Alter>(conn: &mut Connection<S>, limits: Limits) -> Result<(), Error>
     requires idle { conn.old.in_transaction ≡ false }
     requires fit { LimitsFit limits }
     ensures idle { conn.new.in_transaction ≡ false }

@@ -36,6 +36,7 @@ mod query;
 mod read;
 mod reads;
 mod ready;
+mod same;
 mod shape;
 #[cfg(test)]
 mod tests;

@@ -1,15 +1,16 @@
 //! The queries by which a connection is looked at before it is taken for a book.
 
-ghost use Rattle.std.specs.Prelude.{◌≡◌, ◌∷◌, [], false, map, take, filter, nat_lt, codes};
+ghost use Rattle.std.specs.Prelude.{◌≡◌, ◌∷◌, [], false, map, codes, IsPermutation};
 ghost use Rattle.std.specs.Str.{bytes_eq};
+ghost use Rattle.sqlite_value.specs.Order.{column};
+ghost use Rattle.sqlite.specs.Effect.{Database};
 ghost use Rattle.sqlite.specs.Held.{state};
-ghost use Rattle.acd_terms.specs.declared.event.Event.{Event};
-ghost use Rattle.acd_book.specs.declared.kept.Kept.{Kept};
-ghost use Rattle.acd_sqlbook.specs.Adopting.{has_meta};
-ghost use Rattle.acd_sqlbook.specs.Content.{meta_of};
-ghost use Rattle.acd_sqlbook.specs.Finding.{Finds};
-ghost use Rattle.acd_sqlbook.specs.Reading.{meta_shown};
-ghost use Rattle.acd_sqlbook.specs.Rows.{id_value};
+ghost use Rattle.acd_sqlbook.specs.declared.adopt.Log.TheVariants as log;
+ghost use Rattle.acd_sqlbook.specs.declared.fault.Table.TheVariants as table;
+ghost use Rattle.acd_sqlbook.specs.Adopting.{has_meta, lying, BeginsAsBook, TellsLow};
+ghost use Rattle.acd_sqlbook.specs.Content.{tree_of};
+ghost use Rattle.acd_sqlbook.specs.Schema.{book_schema};
+ghost use Rattle.acd_sqlbook.specs.Seeing.{Sees};
 
 use crate::read::{meta_rows, read};
 use sqlite::{Alter, Connection, Error, Row};
@@ -34,11 +35,11 @@ pub(crate) fn has_meta(schema: &Schema) -> bool
     false
 }
 
-/// The versions that the table tells, which is one.
+/// The versions that the table tells.
 pub(crate) fn version_rows<S: Alter>(conn: &mut Connection<S>) -> Result<Vec<Row>, Error>
     requires { conn.old.in_transaction ≡ false }
     ensures idle { conn.new.in_transaction ≡ false }
-    ensures found { Finds (state S.Store conn.old) (state S.Store conn.new) result (λ c rows. rows.items ≡ (id_value 1 ∷ []) ∷ []) }
+    ensures seen { (d : Database) → BeginsAsBook d.schema → Sees d (state S.Store conn.old) (state S.Store conn.new) result (λ rows. IsPermutation (map (λ r. column r 2 ∷ []) (d.trees (tree_of table.Meta))) rows.items) }
 {
     read(conn, "SELECT version FROM meta", &[])
 }
@@ -47,7 +48,7 @@ pub(crate) fn version_rows<S: Alter>(conn: &mut Connection<S>) -> Result<Vec<Row
 pub(crate) fn counter_rows<S: Alter>(conn: &mut Connection<S>) -> Result<Vec<Row>, Error>
     requires { conn.old.in_transaction ≡ false }
     ensures idle { conn.new.in_transaction ≡ false }
-    ensures found { Finds (state S.Store conn.old) (state S.Store conn.new) result (λ c rows. rows.items ≡ meta_shown (meta_of c.rows) ∷ []) }
+    ensures seen { (d : Database) → d.schema ≡ book_schema → Sees d (state S.Store conn.old) (state S.Store conn.new) result (λ rows. IsPermutation (lying table.Meta d.trees) rows.items) }
 {
     meta_rows(conn)
 }
@@ -56,7 +57,7 @@ pub(crate) fn counter_rows<S: Alter>(conn: &mut Connection<S>) -> Result<Vec<Row
 pub(crate) fn low_event_rows<S: Alter>(conn: &mut Connection<S>) -> Result<Vec<Row>, Error>
     requires { conn.old.in_transaction ≡ false }
     ensures idle { conn.new.in_transaction ≡ false }
-    ensures found { Finds (state S.Store conn.old) (state S.Store conn.new) result (λ c rows. rows.items ≡ map (λ (e : Event). id_value e.number ∷ []) (take 1 (filter (λ (e : Event). nat_lt e.number 1) c.events))) }
+    ensures seen { (d : Database) → d.schema ≡ book_schema → Sees d (state S.Store conn.old) (state S.Store conn.new) result (λ rows. TellsLow log.Events d.trees rows.items) }
 {
     read(
         conn,
@@ -69,7 +70,7 @@ pub(crate) fn low_event_rows<S: Alter>(conn: &mut Connection<S>) -> Result<Vec<R
 pub(crate) fn low_kept_rows<S: Alter>(conn: &mut Connection<S>) -> Result<Vec<Row>, Error>
     requires { conn.old.in_transaction ≡ false }
     ensures idle { conn.new.in_transaction ≡ false }
-    ensures found { Finds (state S.Store conn.old) (state S.Store conn.new) result (λ c rows. rows.items ≡ map (λ (k : Kept). id_value k.stamp ∷ []) (take 1 (filter (λ (k : Kept). nat_lt k.stamp 1) c.kept))) }
+    ensures seen { (d : Database) → d.schema ≡ book_schema → Sees d (state S.Store conn.old) (state S.Store conn.new) result (λ rows. TellsLow log.Kept d.trees rows.items) }
 {
     read(
         conn,

@@ -1,12 +1,18 @@
 //! The queries between transactions, one a function: rows of one table, in the order of its key.
 
-ghost use Rattle.std.specs.Prelude.{◌≡◌, Some, false, map, take, filter, option_to_list};
+ghost use Rattle.std.specs.Prelude.{◌≡◌, Some, false, map, take, filter, option_to_list, IsPermutation};
+ghost use Rattle.sqlite.specs.Effect.{Database};
 ghost use Rattle.sqlite.specs.Held.{state};
 ghost use Rattle.acd_terms.specs.Scans.{monitor_of};
 ghost use Rattle.acd_book.specs.Content.{events_behind, is_told, kept_of};
 ghost use Rattle.acd_sqlbook.specs.Rows.{group_values, station_values, agent_values, call_values, connection_values, monitor_values, event_values, kept_values};
+ghost use Rattle.acd_sqlbook.specs.declared.adopt.Log.TheVariants as log;
+ghost use Rattle.acd_sqlbook.specs.declared.fault.Table.TheVariants as table;
+ghost use Rattle.acd_sqlbook.specs.Adopting.{lying, IsPageRows};
 ghost use Rattle.acd_sqlbook.specs.Draft.{Fits};
 ghost use Rattle.acd_sqlbook.specs.Finding.{Finds, kept_behind};
+ghost use Rattle.acd_sqlbook.specs.Schema.{book_schema};
+ghost use Rattle.acd_sqlbook.specs.Seeing.{Sees};
 
 use crate::bind;
 use crate::read::read;
@@ -17,6 +23,7 @@ pub(crate) fn group_rows<S: Alter>(conn: &mut Connection<S>) -> Result<Vec<Row>,
     requires { conn.old.in_transaction ≡ false }
     ensures idle { conn.new.in_transaction ≡ false }
     ensures found { Finds (state S.Store conn.old) (state S.Store conn.new) result (λ c rows. rows.items ≡ map group_values c.rows.groups) }
+    ensures seen { (d : Database) → d.schema ≡ book_schema → Sees d (state S.Store conn.old) (state S.Store conn.new) result (λ rows. IsPermutation (lying table.Groups d.trees) rows.items) }
 {
     read(
         conn,
@@ -29,6 +36,7 @@ pub(crate) fn station_rows<S: Alter>(conn: &mut Connection<S>) -> Result<Vec<Row
     requires { conn.old.in_transaction ≡ false }
     ensures idle { conn.new.in_transaction ≡ false }
     ensures found { Finds (state S.Store conn.old) (state S.Store conn.new) result (λ c rows. rows.items ≡ map station_values c.rows.stations) }
+    ensures seen { (d : Database) → d.schema ≡ book_schema → Sees d (state S.Store conn.old) (state S.Store conn.new) result (λ rows. IsPermutation (lying table.Stations d.trees) rows.items) }
 {
     read(conn, "SELECT device FROM stations ORDER BY device", &[])
 }
@@ -37,6 +45,7 @@ pub(crate) fn agent_rows<S: Alter>(conn: &mut Connection<S>) -> Result<Vec<Row>,
     requires { conn.old.in_transaction ≡ false }
     ensures idle { conn.new.in_transaction ≡ false }
     ensures found { Finds (state S.Store conn.old) (state S.Store conn.new) result (λ c rows. rows.items ≡ map agent_values c.rows.agents) }
+    ensures seen { (d : Database) → d.schema ≡ book_schema → Sees d (state S.Store conn.old) (state S.Store conn.new) result (λ rows. IsPermutation (lying table.Agents d.trees) rows.items) }
 {
     read(
         conn,
@@ -49,6 +58,7 @@ pub(crate) fn call_rows<S: Alter>(conn: &mut Connection<S>) -> Result<Vec<Row>, 
     requires { conn.old.in_transaction ≡ false }
     ensures idle { conn.new.in_transaction ≡ false }
     ensures found { Finds (state S.Store conn.old) (state S.Store conn.new) result (λ c rows. rows.items ≡ map call_values c.rows.calls) }
+    ensures seen { (d : Database) → d.schema ≡ book_schema → Sees d (state S.Store conn.old) (state S.Store conn.new) result (λ rows. IsPermutation (lying table.Calls d.trees) rows.items) }
 {
     read(
         conn,
@@ -61,6 +71,7 @@ pub(crate) fn monitor_rows<S: Alter>(conn: &mut Connection<S>) -> Result<Vec<Row
     requires { conn.old.in_transaction ≡ false }
     ensures idle { conn.new.in_transaction ≡ false }
     ensures found { Finds (state S.Store conn.old) (state S.Store conn.new) result (λ c rows. rows.items ≡ map monitor_values c.rows.monitors) }
+    ensures seen { (d : Database) → d.schema ≡ book_schema → Sees d (state S.Store conn.old) (state S.Store conn.new) result (λ rows. IsPermutation (lying table.Monitors d.trees) rows.items) }
 {
     read(
         conn,
@@ -97,6 +108,7 @@ pub(crate) fn event_rows<S: Alter>(
     requires limit { Fits limit }
     ensures idle { conn.new.in_transaction ≡ false }
     ensures found { Finds (state S.Store conn.old) (state S.Store conn.new) result (λ c rows. rows.items ≡ map event_values (events_behind c.events number limit)) }
+    ensures seen { (d : Database) → d.schema ≡ book_schema → Sees d (state S.Store conn.old) (state S.Store conn.new) result (λ rows. IsPageRows log.Events number limit d.trees rows.items) }
 {
     read(
         conn,
@@ -116,6 +128,7 @@ pub(crate) fn kept_rows<S: Alter>(
     requires limit { Fits limit }
     ensures idle { conn.new.in_transaction ≡ false }
     ensures found { Finds (state S.Store conn.old) (state S.Store conn.new) result (λ c rows. rows.items ≡ map kept_values (kept_behind c.kept stamp limit)) }
+    ensures seen { (d : Database) → d.schema ≡ book_schema → Sees d (state S.Store conn.old) (state S.Store conn.new) result (λ rows. IsPageRows log.Kept stamp limit d.trees rows.items) }
 {
     read(
         conn,
@@ -148,6 +161,7 @@ pub(crate) fn connection_rows<S: Alter>(conn: &mut Connection<S>) -> Result<Vec<
     requires { conn.old.in_transaction ≡ false }
     ensures idle { conn.new.in_transaction ≡ false }
     ensures found { Finds (state S.Store conn.old) (state S.Store conn.new) result (λ c rows. rows.items ≡ map connection_values c.rows.connections) }
+    ensures seen { (d : Database) → d.schema ≡ book_schema → Sees d (state S.Store conn.old) (state S.Store conn.new) result (λ rows. IsPermutation (lying table.Connections d.trees) rows.items) }
 {
     read(
         conn,

@@ -1,8 +1,9 @@
 //! Reads between transactions: they change nothing, but that a failure may shut the connection.
 
-ghost use Rattle.std.specs.Prelude.{◌≡◌, ◌∷◌, [], false, OnOk, IfOk, IsTrue};
+ghost use Rattle.std.specs.Prelude.{◌≡◌, ◌∷◌, [], false, OnOk, IfOk, IsTrue, IsPermutation, ⊤};
 ghost use Rattle.sqlite.specs.Given.{IsPlain};
 ghost use Rattle.sqlite.specs.Listing.{understood};
+ghost use Rattle.sqlite.specs.Effect.{Database};
 ghost use Rattle.sqlite.specs.State.{HasCleanDisk, Shown};
 ghost use Rattle.sqlite.specs.Held.{state};
 ghost use Rattle.sqlite.specs.Values.{bound};
@@ -10,7 +11,10 @@ ghost use Rattle.acd_book.specs.Content.{Content};
 ghost use Rattle.acd_sqlbook.specs.Schema.{book_schema};
 ghost use Rattle.acd_sqlbook.specs.Content.{meta_of};
 ghost use Rattle.acd_sqlbook.specs.Reading.{meta_shown, limits_in, meta_in};
+ghost use Rattle.acd_sqlbook.specs.Adopting.{lying};
+ghost use Rattle.acd_sqlbook.specs.declared.fault.Table.TheVariants as table;
 ghost use Rattle.acd_sqlbook.specs.Draft.{Holds, Quiet, NoStop};
+ghost use Rattle.acd_sqlbook.specs.Seeing.{Sees};
 
 use crate::meta::Meta;
 use acd_terms::Limits;
@@ -24,6 +28,7 @@ pub(crate) fn probe<S: Alter>(conn: &mut Connection<S>) -> Result<(), Error>
     ensures up { HasCleanDisk (state S.Store conn.new) → OnOk result (IsTrue (state S.Store conn.new).is_open) }
     ensures quiet { Quiet (state S.Store conn.old) (state S.Store conn.new) }
     ensures stops { HasCleanDisk (state S.Store conn.new) → NoStop (state S.Store conn.old) (state S.Store conn.new) }
+    ensures seen { (d : Database) → Sees d (state S.Store conn.old) (state S.Store conn.new) result (λ _. ⊤) }
 {
     conn.query_row("SELECT 1", &[])?;
     Ok(())
@@ -42,6 +47,7 @@ pub(crate) fn read<S: Alter>(
     ensures stops { HasCleanDisk (state S.Store conn.new) → IsPlain (understood book_schema sql.now) → (c : Content) → Holds (state S.Store conn.old) c
         → NoStop (state S.Store conn.old) (state S.Store conn.new) }
     ensures shown { HasCleanDisk (state S.Store conn.new) → IfOk result (λ rows. Shown sql.now (bound params.now) (state S.Store conn.old) (state S.Store conn.new) rows.items) }
+    ensures seen { (d : Database) → IsPlain (understood d.schema sql.now) → Sees d (state S.Store conn.old) (state S.Store conn.new) result (λ rows. Shown sql.now (bound params.now) (state S.Store conn.old) (state S.Store conn.new) rows.items) }
 {
     conn.query_all(sql, params)
 }
@@ -54,6 +60,7 @@ pub(crate) fn meta_rows<S: Alter>(conn: &mut Connection<S>) -> Result<Vec<Row>, 
     ensures quiet { Quiet (state S.Store conn.old) (state S.Store conn.new) }
     ensures stops { HasCleanDisk (state S.Store conn.new) → (c : Content) → Holds (state S.Store conn.old) c → NoStop (state S.Store conn.old) (state S.Store conn.new) }
     ensures rows { HasCleanDisk (state S.Store conn.new) → IfOk result (λ rows. (c : Content) → Holds (state S.Store conn.old) c → rows.items ≡ meta_shown (meta_of c.rows) ∷ []) }
+    ensures seen { (d : Database) → d.schema ≡ book_schema → Sees d (state S.Store conn.old) (state S.Store conn.new) result (λ rows. IsPermutation (lying table.Meta d.trees) rows.items) }
 {
     read(
         conn,

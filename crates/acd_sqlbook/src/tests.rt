@@ -2,8 +2,8 @@
 
 ghost use Rattle.std.specs.Prelude.{◌≡◌, false};
 
-mod answers;
-mod commits;
+pub(crate) mod answers;
+pub(crate) mod commits;
 mod replaced;
 
 use crate::book::SqlBook;

@@ -27,7 +27,7 @@ fn number_of(rt: &impl Abort, found: Result<Vec<Event>, BookFault>) -> Option<u6
     }
 }
 
-fn under(rt: &impl Abort, book: &mut SqlBook<MemStore>, invoke: u64) -> Option<u64> {
+pub(crate) fn under(rt: &impl Abort, book: &mut SqlBook<MemStore>, invoke: u64) -> Option<u64> {
     let requester = Requester::read(b"plan").expect(rt, "a requester");
     let invoke = Invoke::new(invoke).expect(rt, "an invoke number");
     let found = book.kept(&requester, invoke);
@@ -39,7 +39,7 @@ fn after(rt: &impl Abort, book: &mut SqlBook<MemStore>, stamp: u64) -> Option<u6
     stamp_of(rt, found)
 }
 
-fn event_after(rt: &impl Abort, book: &mut SqlBook<MemStore>, number: u64) -> Option<u64> {
+pub(crate) fn event_after(rt: &impl Abort, book: &mut SqlBook<MemStore>, number: u64) -> Option<u64> {
     let found = book.events_after(number, 10);
     number_of(rt, found)
 }
@@ -49,7 +49,7 @@ fn event_of(rt: &impl Abort, book: &mut SqlBook<MemStore>, monitor: u64) -> Opti
     number_of(rt, found)
 }
 
-fn stations(rt: &impl Abort, book: &mut SqlBook<MemStore>) -> u64 {
+pub(crate) fn stations(rt: &impl Abort, book: &mut SqlBook<MemStore>) -> u64 {
     match book.rows() {
         Ok(rows) => rows.stations.as_slice().len() as u64,
         Err(_) => panic!(rt; "a fault"),

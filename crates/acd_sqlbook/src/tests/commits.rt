@@ -11,7 +11,7 @@ use sqlite::{Connection, MemStore};
 use std::alloc::Global;
 use std::process::Abort;
 
-pub(super) fn new_book(rt: &impl Abort, alloc: Global) -> SqlBook<MemStore> {
+pub(crate) fn new_book(rt: &impl Abort, alloc: Global) -> SqlBook<MemStore> {
     match Connection::open_in_memory(alloc) {
         Ok(conn) => match SqlBook::create(alloc, conn, Limits::GREATEST) {
             Ok(book) => book,
@@ -44,7 +44,7 @@ pub(super) fn record(rt: &impl Abort, alloc: Global, stamp: u64, invoke: u64) ->
 }
 
 // A station, a monitor of it and an event there.
-pub(super) fn commit_first(rt: &impl Abort, alloc: Global, book: &mut SqlBook<MemStore>) {
+pub(crate) fn commit_first(rt: &impl Abort, alloc: Global, book: &mut SqlBook<MemStore>) {
     let device = station(rt);
     let monitor = MonitorRecord {
         monitor: 3,

@@ -1,10 +1,11 @@
 use Rattle.sqlite.specs.Held.{state}
-use Rattle.acd_sqlbook.proofs.Adopted.{finds_fail, version_told}
+use Rattle.acd_sqlbook.specs.Adopting.{IsVersionFound}
+use Rattle.acd_sqlbook.proofs.Adopted.{version_told}
+use Rattle.acd_sqlbook.proofs.Seen.{sees_fail}
 use Rattle.acd_sqlbook.proofs.adopt.wrong_version.Goals as goal
 
-pub returns-in-Err-clause-found : goal.returns-in-Err-clause-found
-returns-in-Err-clause-found g c = finds_fail (state g.S.Store c.args.conn.now) (state g.S.Store c.version_rows.new.conn) c.in-Err.error _ _ c.in-Err.ensures.found
+pub returns-in-Err-clause-seen : goal.returns-in-Err-clause-seen
+returns-in-Err-clause-seen g c d begins = sees_fail d (state g.S.Store c.args.conn.now) (state g.S.Store c.version_rows.new.conn) c.in-Err.error _ (λ f. IsVersionFound d f) (c.in-Err.ensures.seen d begins)
 
-pub returns-in-Ok-clause-found : goal.returns-in-Ok-clause-found
-returns-in-Ok-clause-found g c =
-    version_told (state g.S.Store c.args.conn.now) (state g.S.Store c.version_rows.new.conn) c.in-Ok.rows c.version_fault.result (rw c.deref.ensures.value at c.version_fault.ensures) c.in-Ok.ensures.found
+pub returns-in-Ok-clause-seen : goal.returns-in-Ok-clause-seen
+returns-in-Ok-clause-seen g c d begins = version_told d (state g.S.Store c.args.conn.now) (state g.S.Store c.version_rows.new.conn) c.in-Ok.rows c.version_fault.result begins (rw c.deref.ensures.value at c.version_fault.ensures) (c.in-Ok.ensures.seen d begins)

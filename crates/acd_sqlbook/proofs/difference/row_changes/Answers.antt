@@ -1,4 +1,4 @@
-use Rattle.std.proofs.Common.{◌≡◌, ◌++◌, [], append-nil, refl, sym, ap, ◌∙◌, rules}
+use Rattle.std.proofs.Common.{◌≡◌, ◌++◌, [], append-nil, sym, ap, ◌∙◌, rules}
 use Rattle.std.proofs.lemmas.Cmp.{on_total}
 use Rattle.std.specs.declared.cmp.Ordering.{Ordering}
 use Rattle.acd_sqlbook.specs.Differing.{merged, differences}

@@ -1,9 +1,6 @@
 use Rattle.sqlite.specs.Held.{state}
-use Rattle.acd_sqlbook.proofs.Listings.{finds}
-use Rattle.acd_sqlbook.proofs.Looked.{version_plain, shows_version}
+use Rattle.acd_sqlbook.proofs.Looked.{version_plain, sees_version}
 use Rattle.acd_sqlbook.proofs.look.version_rows.Goals as goal
 
-pub returns-clause-found : goal.returns-clause-found
-returns-clause-found g c =
-    let e = c.read.ensures in
-    finds _ _ (state g.S.Store c.args.conn.now) (state g.S.Store c.read.new.conn) c.read.result version_plain _ e.up e.quiet e.stops e.shown (shows_version _ _)
+pub returns-clause-seen : goal.returns-clause-seen
+returns-clause-seen g c d begins = sees_version d (state g.S.Store c.args.conn.now) (state g.S.Store c.read.new.conn) c.read.result begins (c.read.ensures.seen d (version_plain d begins))

@@ -1,8 +1,5 @@
-use Rattle.std.proofs.Common.{◌≡◌, filter, take, Some}
-use Rattle.std.specs.Prelude.{Vec}
-use Rattle.std.specs.declared.alloc.Global.{Global}
+use Rattle.std.proofs.Common.{filter, take, Some}
 use Rattle.sqlite.specs.Held.{state}
-use Rattle.acd_terms.specs.declared.event.Event.{Event}
 use Rattle.acd_book.specs.Content.{Content, is_told}
 use Rattle.acd_sqlbook.specs.Ranges.{event_in}
 use Rattle.acd_sqlbook.specs.Rows.{event_values}

@@ -1,4 +1,3 @@
-use Rattle.std.proofs.Common.{◌≡◌}
 use Rattle.sqlite.specs.Held.{state}
 use Rattle.acd_sqlbook.proofs.FirstFound.{watched}
 use Rattle.acd_sqlbook.proofs.lookups.events_watched.Goals as goal

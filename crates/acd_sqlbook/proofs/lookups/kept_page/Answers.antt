@@ -1,11 +1,7 @@
-use Rattle.std.proofs.Common.{◌≡◌, ℕ, List, map, nat_lt, refl}
-use Rattle.std.specs.Prelude.{Vec}
-use Rattle.std.specs.declared.alloc.Global.{Global}
+use Rattle.std.proofs.Common.{ℕ, nat_lt, refl}
 use Rattle.sqlite.specs.Held.{state}
-use Rattle.sqlite_value.specs.Order.{Row}
 use Rattle.acd_book.specs.Content.{Content}
 use Rattle.acd_book.specs.declared.kept.Kept.{Kept}
-use Rattle.acd_sqlbook.specs.Finding.{kept_behind}
 use Rattle.acd_sqlbook.specs.Rows.{kept_values}
 use Rattle.acd_sqlbook.proofs.Pages.{paged, falls_number}
 use Rattle.acd_sqlbook.proofs.lookups.kept_page.Goals as goal

@@ -1,4 +1,3 @@
-use Rattle.std.proofs.Common.{◌≡◌, Option}
 use Rattle.sqlite.specs.Held.{state}
 use Rattle.acd_book.specs.Content.{Content, kept_of, is_key}
 use Rattle.acd_book.specs.declared.kept.Kept.{Kept}

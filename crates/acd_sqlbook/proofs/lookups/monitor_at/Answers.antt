@@ -1,4 +1,3 @@
-use Rattle.std.proofs.Common.{◌≡◌}
 use Rattle.sqlite.specs.Held.{state}
 use Rattle.acd_sqlbook.proofs.FirstFound.{monitor_listed, monitor_first}
 use Rattle.acd_sqlbook.proofs.lookups.monitor_at.Goals as goal

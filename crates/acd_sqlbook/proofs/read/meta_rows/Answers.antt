@@ -1,5 +1,7 @@
 use Rattle.sqlite.specs.Held.{state}
 use Rattle.acd_sqlbook.proofs.Selections.{meta_plain, reads_meta_if}
+use Rattle.acd_sqlbook.proofs.Looked.{plain_of, sees_meta}
+use Rattle.acd_sqlbook.proofs.Texts.{read_meta}
 use Rattle.acd_sqlbook.proofs.read.meta_rows.Goals as goal
 
 pub returns-clause-quiet : goal.returns-clause-quiet
@@ -10,3 +12,6 @@ returns-clause-stops g c clean x held = c.read.ensures.stops clean meta_plain x 
 
 pub returns-clause-rows : goal.returns-clause-rows
 returns-clause-rows g c clean = reads_meta_if (state g.S.Store c.args.conn.now) (state g.S.Store c.read.new.conn) c.read.result (c.read.ensures.shown clean)
+
+pub returns-clause-seen : goal.returns-clause-seen
+returns-clause-seen g c d is = sees_meta d (state g.S.Store c.args.conn.now) (state g.S.Store c.read.new.conn) c.read.result is (c.read.ensures.seen d (plain_of read_meta d is meta_plain))

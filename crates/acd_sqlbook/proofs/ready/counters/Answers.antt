@@ -1,7 +1,4 @@
-use Rattle.std.proofs.Common.{◌≡◌, ap, ◌∙◌}
 use Rattle.sqlite.specs.Held.{state}
-use Rattle.acd_sqlbook.specs.Commit.{counted}
-use Rattle.acd_sqlbook.specs.Content.{meta_of}
 use Rattle.acd_sqlbook.proofs.Standing.{reads_counters}
 use Rattle.acd_sqlbook.proofs.ready.counters.Goals as goal
 

@@ -1,4 +1,3 @@
-use Rattle.std.proofs.Common.{◌≡◌}
 use Rattle.sqlite.specs.Held.{state}
 use Rattle.acd_book.specs.Content.{IsKeptAfter}
 use Rattle.acd_sqlbook.proofs.Standing.{reads_behind}

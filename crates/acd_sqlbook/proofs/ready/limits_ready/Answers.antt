@@ -1,4 +1,4 @@
-use Rattle.std.proofs.Common.{◌≡◌, Ok, ap, ◌∙◌}
+use Rattle.std.proofs.Common.{◌≡◌, Ok, ap}
 use Rattle.sqlite.specs.Held.{state}
 use Rattle.acd_sqlbook.proofs.Standing.{reads_on}
 use Rattle.acd_sqlbook.specs.Content.{meta_of}
