@@ -125,23 +125,22 @@ impl Read for Torn<'_> {
     }
 }
 
-// The reader fails after so many bytes of the request: nothing is written, and nothing changes.
-fn fails_at(rt: &(impl Abort + AllocGlobal), desk: &mut Desk<MemoryBook>, n: usize) {
+// The reader fails behind these bytes: nothing is written.
+fn fails_behind(rt: &(impl Abort + AllocGlobal), desk: &mut Desk<MemoryBook>, bytes: &[u8]) {
     let routes = Routes::new(rt.alloc()).expect(rt, "routes");
-    let mut reader = Torn {
-        left: &group()[..n.min(group().len())],
-    };
+    let mut reader = Torn { left: bytes };
     let mut output = Vec::new(rt.alloc());
     let result = exchange(rt.alloc(), &routes, desk, 0, &mut reader, &mut output);
-    assert!(rt; matches!(result, Err(ExchangeFault::Read)), "{n}");
-    assert!(rt; output.is_empty(), "{n}");
+    assert!(rt; matches!(result, Err(ExchangeFault::Read)));
+    assert!(rt; output.is_empty());
 }
 
 #[test]
 fn reader_fails_at_each_length(rt: HostRuntime) {
+    let group = group();
     let mut desk = opened(&rt);
     for n in 0..160 {
-        fails_at(&rt, &mut desk, n);
+        fails_behind(&rt, &mut desk, &group[..n.min(group.len())]);
     }
     assert_eq!(rt; executed(&rt, desk), 0);
 }
