@@ -95,41 +95,6 @@ fn other_tables(rt: HostRuntime) {
 }
 
 #[test]
-fn a_value_out_of_its_range(rt: HostRuntime) {
-    let alloc = rt.alloc();
-    let values = [
-        ("UPDATE meta SET last_moment = 4294967296", Table::Meta),
-        (
-            "INSERT INTO acd_groups VALUES (1501, 'abcdefghijabcdefghijabcdefghijabcdefghijx', 20, 10, 0, 0, 0, 0, 0)",
-            Table::Groups,
-        ),
-        ("INSERT INTO stations VALUES (7)", Table::Stations),
-        (
-            "INSERT INTO agents VALUES (1007, '', 0, NULL, NULL, NULL, 1, 0)",
-            Table::Agents,
-        ),
-        ("INSERT INTO calls VALUES (0, 1201, 1202, 0)", Table::Calls),
-        (
-            "INSERT INTO calls VALUES (1, 1201, 1202, 0); INSERT INTO connections VALUES (1, 1201, 3, NULL, 0, NULL, NULL)",
-            Table::Connections,
-        ),
-        ("INSERT INTO monitors VALUES (1, 1201, -1)", Table::Monitors),
-        (
-            "INSERT INTO events VALUES (-5, 10, 7, 1201, 1, NULL, NULL, NULL, NULL, NULL)",
-            Table::Events,
-        ),
-        (
-            "INSERT INTO kept VALUES (1, 'plan', 1, 10, '{}', 200, '{}')",
-            Table::Kept,
-        ),
-    ];
-    for (sql, table) in values {
-        let conn = altered(&rt, alloc, sql);
-        assert_eq!(rt; fault(alloc, conn), Some(AdoptFault::BadRow(table)));
-    }
-}
-
-#[test]
 fn a_book_as_it_was_left(rt: HostRuntime) {
     let alloc = rt.alloc();
     let events = "INSERT INTO events VALUES (1, 10, 7, 1201, 1, NULL, NULL, NULL, NULL, NULL)";

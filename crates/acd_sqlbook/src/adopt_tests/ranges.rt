@@ -97,6 +97,7 @@ fn change_of_events(at: usize) -> &'static str {
         5 => "UPDATE events SET grp = 1501",
         6 => "UPDATE events SET target = 1202",
         7 => "UPDATE events SET cause = 1",
+        8 => "UPDATE events SET number = -5",
         _ => "UPDATE events SET waited = 5",
     }
 }
@@ -109,6 +110,7 @@ fn change_of_kept(at: usize) -> &'static str {
         3 => "UPDATE kept SET moment = -1",
         4 => "UPDATE kept SET request = ' ' || request",
         5 => "UPDATE kept SET status = 404",
+        6 => "UPDATE kept SET request = '{}'",
         _ => "UPDATE kept SET body = CAST(x'FF' AS TEXT)",
     }
 }
@@ -157,6 +159,6 @@ fn values_of_calls(rt: HostRuntime) {
 
 #[test]
 fn values_of_the_log(rt: HostRuntime) {
-    are_told(&rt, rt.alloc(), Table::Events, 9);
-    are_told(&rt, rt.alloc(), Table::Kept, 7);
+    are_told(&rt, rt.alloc(), Table::Events, 10);
+    are_told(&rt, rt.alloc(), Table::Kept, 8);
 }

@@ -39,7 +39,11 @@ fn after(rt: &impl Abort, book: &mut SqlBook<MemStore>, stamp: u64) -> Option<u6
     stamp_of(rt, found)
 }
 
-pub(crate) fn event_after(rt: &impl Abort, book: &mut SqlBook<MemStore>, number: u64) -> Option<u64> {
+pub(crate) fn event_after(
+    rt: &impl Abort,
+    book: &mut SqlBook<MemStore>,
+    number: u64,
+) -> Option<u64> {
     let found = book.events_after(number, 10);
     number_of(rt, found)
 }
