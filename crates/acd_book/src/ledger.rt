@@ -9,8 +9,9 @@ use acd_tables::Records;
 use acd_terms::{Change, Limits, MonitorRecord, Rows};
 use std::alloc::{AllocError, Global};
 
-// So many changes wait at most before they are made together, and the tables are touched then alone.
-const LONG: usize = 8192;
+// So many changes wait before they are made together: fewer would be made while what they touch is out of the
+// nearest caches, and more wouldn't lie in them.
+const LONG: usize = 256;
 
 /// The tables, and a journal of changes that wait to be made in them. What it holds is the tables with
 /// those changes made. A change that finds no memory stays in the journal, and is tried again later.
