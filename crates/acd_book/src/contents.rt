@@ -122,7 +122,7 @@ impl Contents {
         self.log.append(events);
         self.ledger
             .append(changes, stamp, moment, events.len() as u64);
-        self.ledger.settle();
+        self.ledger.settle_many();
         Ok(())
     }
 }

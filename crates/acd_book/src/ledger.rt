@@ -9,6 +9,10 @@ use acd_tables::Records;
 use acd_terms::{Change, Limits, MonitorRecord, Rows};
 use std::alloc::{AllocError, Global};
 
+// So many changes wait before they are made together: fewer would be made while what they touch is out of the
+// nearest caches, and more wouldn't lie in them.
+const LONG: usize = 256;
+
 /// The tables, and a journal of changes that wait to be made in them. What it holds is the tables with
 /// those changes made. A change that finds no memory stays in the journal, and is tried again later.
 #[derive(Drop)]
@@ -96,6 +100,16 @@ impl Ledger {
         self.journal.clear();
         self.made = 0;
     }
+
+    /// Makes the changes that wait, where they are many.
+    pub(crate) fn settle_many(&mut self)
+        ensures { rows_of self.new ≡ rows_of self.old }
+    {
+        if self.journal.len() >= LONG {
+            self.settle();
+        }
+    }
+
     /// Takes room for so many more changes.
     pub(crate) fn reserve(&mut self, changes: usize) -> Result<(), AllocError>
         ensures same { rows_of self.new ≡ rows_of self.old }

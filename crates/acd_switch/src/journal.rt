@@ -1,6 +1,6 @@
 //! The journal of a step: what it does to the tables, with the events and the changes noted.
 
-ghost use Rattle.std.specs.Prelude.{◌≡◌, ◌++◌, ◌∷◌, [], OnOk};
+ghost use Rattle.std.specs.Prelude.{◌≡◌, ◌++◌, ◌∷◌, [], IfOk, OnOk};
 ghost use Rattle.acd_terms.specs.Moves.{changed, moved, with_event, events_of};
 ghost use Rattle.acd_terms.specs.Changes.{with_change, changes_of, changed_by, growth_by, growth};
 ghost use Rattle.acd_terms.specs.Figures.{with_figures};
@@ -14,6 +14,9 @@ use acd_tables::Tables;
 use acd_terms::{Change, Event, Move};
 use std::alloc::{AllocError, Global};
 
+// Few steps make more events or changes, so most journals never grow.
+const ROOM: usize = 8;
+
 /// The events and the changes of a step, in order. The numbers of the events are 0.
 #[derive(Debug, Drop)]
 pub struct Journal {
@@ -22,14 +25,14 @@ pub struct Journal {
 }
 
 impl Journal {
-    pub fn new(alloc: Global) -> Journal
-        ensures events { result.events.items ≡ [] }
-        ensures changes { result.changes.items ≡ [] }
+    pub fn new(alloc: Global) -> Result<Journal, AllocError>
+        ensures events { IfOk result (λ j. j.events.items ≡ []) }
+        ensures changes { IfOk result (λ j. j.changes.items ≡ []) }
     {
-        Journal {
-            events: Vec::new(alloc),
-            changes: Vec::new(alloc),
-        }
+        Ok(Journal {
+            events: Vec::with_capacity(alloc, ROOM)?,
+            changes: Vec::with_capacity(alloc, ROOM)?,
+        })
     }
 
     /// Makes the moves in order. After an error tables and journal are only to be dropped.

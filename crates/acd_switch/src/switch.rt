@@ -182,7 +182,7 @@ fn execute(
     let moment = moment.max(tables.last_moment());
     let stamp = tables.last_stamp() + 1;
     let last = tables.last_event();
-    let mut journal = Journal::new(alloc);
+    let mut journal = Journal::new(alloc)?;
     let outcome = run_command(alloc, tables, moment, stamp, command, &mut journal)?;
     distribute(tables, moment, &mut journal)?;
     close(tables, moment, stamp, last, &mut journal)?;
