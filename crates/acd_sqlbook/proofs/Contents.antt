@@ -162,7 +162,10 @@ typed_length : (key : Option ℕ) (at : ℕ) (columns : List Column) (vs : Row) 
 typed_length key at [] [] h = omega arith
 typed_length key at [] (v ∷ vs) h = absurd (cc h)
 typed_length key at (c ∷ cs) [] h = omega arith
-typed_length key at (c ∷ cs) (v ∷ vs) h = let more = typed_length key (at + 1) cs vs (second_true _ _ h) in omega (arith, more)
+typed_length key at (c ∷ cs) (v ∷ vs) h =
+    let rest : are_typed key (at + 1) cs vs ≡ true = second_true _ _ h in
+    let more : length vs ≤ length cs = typed_length key (at + 1) cs vs rest in
+    omega (arith, more)
 
 there_at : (r : Row) (k : ℕ) → is_null (column r k) ≡ false → k < length r
 there_at [] k h = absurd (cc h)
