@@ -34,6 +34,11 @@ fn cannot_write(rt: &HostRuntime, words: &[&str], input: &str) -> bool {
     status == 1 && errors.as_slice() == b"acd: cannot write\n".as_slice()
 }
 
+// Whether what this command prints of the file can't be written.
+fn cannot_print(rt: &HostRuntime, command: &str, file: &str) -> bool {
+    cannot_write(rt, &["acd", command, "--file", file], "")
+}
+
 #[test]
 fn input_that_cannot_be_read(rt: HostRuntime) {
     let mut written = Vec::new(rt.alloc());
@@ -61,8 +66,7 @@ fn output_that_cannot_be_written(rt: HostRuntime) {
         )
     );
     for command in ["report", "export", "audit"] {
-        let words = ["acd", command, "--file", file.as_str()];
-        assert!(rt; cannot_write(&rt, &words, ""), "{command}");
+        assert!(rt; cannot_print(&rt, command, file.as_str()), "{command}");
     }
     let _ = remove(&rt, file.as_str());
 }

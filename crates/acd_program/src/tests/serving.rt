@@ -72,21 +72,26 @@ fn free_port(rt: &HostRuntime) -> io::Result<u16> {
     Ok(TcpListener::bind(rt, address(0))?.local_addr()?.port())
 }
 
-fn serves_two(rt: &HostRuntime, file: &str, port: u16) -> io::Result<bool> {
-    let number = format!(in rt.alloc(); "{port}")?;
-    let said = format!(in rt.alloc(); "listening on 127.0.0.1:{port}\n")?;
+// Whether serving these callers ends well, and tells the second one's fault.
+fn serves(rt: &HostRuntime, words: &[&str], callers: &mut Callers<'_>) -> bool {
+    let mut reader: &[u8] = b"";
+    let mut errors = Vec::new(rt.alloc());
+    let status = program(rt, words, &mut reader, callers, &mut errors);
+    status == 0 && errors.as_slice() == b"acd: connection 2: truncated\n".as_slice()
+}
+
+// Whether the two callers on this port are served, and get their replies.
+fn serves_two(rt: &HostRuntime, file: &str, port: u16, number: &str, said: &str) -> bool {
     let words = [
         "acd",
         "serve",
         "--file",
         file,
         "--port",
-        number.as_str(),
+        number,
         "--connections",
         "2",
     ];
-    let mut reader: &[u8] = b"";
-    let mut errors = Vec::new(rt.alloc());
     let mut callers = Callers {
         rt,
         port,
@@ -94,21 +99,19 @@ fn serves_two(rt: &HostRuntime, file: &str, port: u16) -> io::Result<bool> {
         first: None,
         second: None,
     };
-    let status = program(rt, &words, &mut reader, &mut callers, &mut errors);
-    Ok(
-        status == 0
-            && callers.written.as_slice() == said.as_bytes()
-            && errors.as_slice() == b"acd: connection 2: truncated\n".as_slice()
-            && is_sent(rt, callers.first, added())
-            && is_sent(rt, callers.second, b""),
-    )
+    serves(rt, &words, &mut callers)
+        && callers.written.as_slice() == said.as_bytes()
+        && is_sent(rt, callers.first, added())
+        && is_sent(rt, callers.second, b"")
 }
 
 #[test]
 fn desk_over_http(rt: HostRuntime) {
     let file = free_path(&rt, "served.db").expect(&rt, "a path");
     let port = free_port(&rt).expect(&rt, "a port");
-    assert!(rt; serves_two(&rt, file.as_str(), port).expect(&rt, "memory"));
+    let number = format!(in rt.alloc(); "{port}").expect(&rt, "memory");
+    let said = format!(in rt.alloc(); "listening on 127.0.0.1:{port}\n").expect(&rt, "memory");
+    assert!(rt; serves_two(&rt, file.as_str(), port, number.as_str(), said.as_str()));
     assert!(rt;
         gives(
             &rt,
