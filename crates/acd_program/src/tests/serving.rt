@@ -80,29 +80,32 @@ fn serves(rt: &HostRuntime, words: &[&str], callers: &mut Callers<'_>) -> bool {
     status == 0 && errors.as_slice() == b"acd: connection 2: truncated\n".as_slice()
 }
 
-// Whether the two callers on this port are served, and get their replies.
-fn serves_two(rt: &HostRuntime, file: &str, port: u16, number: &str, said: &str) -> bool {
-    let words = [
-        "acd",
-        "serve",
-        "--file",
-        file,
-        "--port",
-        number,
-        "--connections",
-        "2",
-    ];
-    let mut callers = Callers {
+fn callers_on<'a>(rt: &'a HostRuntime, port: u16) -> Callers<'a> {
+    let written = Vec::new(rt.alloc());
+    Callers {
         rt,
         port,
-        written: Vec::new(rt.alloc()),
+        written,
         first: None,
         second: None,
-    };
-    serves(rt, &words, &mut callers)
-        && callers.written.as_slice() == said.as_bytes()
-        && is_sent(rt, callers.first, added())
-        && is_sent(rt, callers.second, b"")
+    }
+}
+
+// Whether the two callers on this port are served, and get their replies.
+fn serves_two(rt: &HostRuntime, words: &[&str], port: u16, said: &str) -> bool {
+    let mut callers = callers_on(rt, port);
+    let served = serves(rt, words, &mut callers);
+    let Callers {
+        rt: _,
+        port: _,
+        written,
+        first,
+        second,
+    } = callers;
+    served
+        && written.as_slice() == said.as_bytes()
+        && is_sent(rt, first, added())
+        && is_sent(rt, second, b"")
 }
 
 #[test]
@@ -111,7 +114,17 @@ fn desk_over_http(rt: HostRuntime) {
     let port = free_port(&rt).expect(&rt, "a port");
     let number = format!(in rt.alloc(); "{port}").expect(&rt, "memory");
     let said = format!(in rt.alloc(); "listening on 127.0.0.1:{port}\n").expect(&rt, "memory");
-    assert!(rt; serves_two(&rt, file.as_str(), port, number.as_str(), said.as_str()));
+    let words = [
+        "acd",
+        "serve",
+        "--file",
+        file.as_str(),
+        "--port",
+        number.as_str(),
+        "--connections",
+        "2",
+    ];
+    assert!(rt; serves_two(&rt, &words, port, said.as_str()));
     assert!(rt;
         gives(
             &rt,
