@@ -68,7 +68,7 @@ no_rows : (f : Row → Row) (rows : List Row) → length (map f rows) ≡ 0 → 
 no_rows f [] h = refl
 no_rows f (row ∷ rows) h = absurd (omega (arith, h))
 
-told : (d : Database) (b : BeginsAsBook d.schema) (row : Row) → Has (d.trees schema.meta.tree) row → (o : Option ℕ) → whole_at row 2 ≡ o → IsVersionFound d (fault_of_version o)
+told : (d : Database) (b : BeginsAsBook d.schema) (r : Row) → Has (d.trees schema.meta.tree) r → (o : Option ℕ) → whole_at r 2 ≡ o → IsVersionFound d (fault_of_version o)
 told d b row h None e = inr (refl, b, (row, h, e))
 told d b row h (Some n) e =
     (elim (n == 1) as (λ one. (n == 1) ≡ one → IsVersionFound d (cond one None (Some (WrongVersion n)))) [
@@ -77,7 +77,7 @@ told d b row h (Some n) e =
     ]) refl
 
 abbrev Shows : Trees → Row → Type 0
-Shows db shown = (row : Row) × Has (db schema.meta.tree) row × (shown ≡ column row 2 ∷ [])
+Shows db shown = (r : Row) × Has (db schema.meta.tree) r × (shown ≡ column r 2 ∷ [])
 
 version_found : (d : Database) (b : BeginsAsBook d.schema) (rows : List Row) → IsPermutation (map (λ r. column r 2 ∷ []) (d.trees schema.meta.tree)) rows → AllByRecursion (Shows d.trees) rows → IsVersionFound d (version_fault rows)
 version_found d b [] same all = (apart 0 1 refl, inr (b, inl (no_rows (λ r. column r 2 ∷ []) (d.trees schema.meta.tree) (sym (length_permutation _ [] same)), refl)))

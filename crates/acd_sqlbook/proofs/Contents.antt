@@ -425,7 +425,7 @@ module _ (d : Database) (book : IsOfBook d) (obeys : IsDatabase d) (filed : IsFi
   wide_kept : AllByRecursion (λ r. length r ≡ width_of table.Kept) (d.trees (tree_of table.Kept))
   wide_kept = widths table.Kept kept_in kept_values (λ r k h. (kept_stored r k h).0) schema.kept.columns (has_computed (schema.table_of schema.kept)) 6 (λ r. refl) (λ x. refl) (d.trees (tree_of table.Kept)) typed.1.1.1.1.1.1.1.1.0 (in_range table.Kept)
 
-  one_row : (row : Row) × (d.trees (tree_of table.Meta) ≡ row ∷ []) × (rowid row ≡ id_value 1) × (column row 2 ≡ id_value 1)
+  one_row : (r : Row) × (d.trees (tree_of table.Meta) ≡ r ∷ []) × (rowid r ≡ id_value 1) × (column r 2 ≡ id_value 1)
   one_row =
       let told = book.version in
       let here = ones (d.trees (tree_of table.Meta)) (filed.numbered table.Meta) (rules_of d book.schema_is obeys rule.Check).0 in

@@ -225,7 +225,7 @@ IsLike s Other = ⊤
 
 -- a row of the first table tells this version
 abbrev pub IsToldIn : Trees → Option ℕ → Type 0
-IsToldIn db version = (row : Row) × Has (db schema.meta.tree) row × (whole_at row 2 ≡ version)
+IsToldIn db version = (r : Row) × Has (db schema.meta.tree) r × (whole_at r 2 ≡ version)
 
 -- the version of a database: 0 where it has no table `meta`, or no row in it
 abbrev pub IsVersion : Database → ℕ → Type 0
