@@ -1,9 +1,6 @@
 //! The desk of a help line as a program: it reads its words, and [`acd_program::program`] does what they ask for.
 #![tactic(auto)]
 
-#[cfg(test)]
-mod scenes;
-
 use acd_program::program;
 use std::process::ExitCode;
 use std::{env, io};

@@ -19,8 +19,6 @@ mod ledger;
 mod log;
 mod memory;
 mod replies;
-#[cfg(test)]
-mod tests;
 mod text;
 
 pub use book::Book;

@@ -22,6 +22,3 @@ pub use read_texts::{PlannedDevice, agent_text, call_text, device_text, queue_te
 pub use reading::read_request;
 pub use replies::{Rejected, outcome_status, rejected_text, reply_text};
 pub use requests::request_text;
-
-#[cfg(test)]
-mod tests;

@@ -1,5 +1,5 @@
 -- A sound content keeps the laws of runs.
-use Rattle.std.proofs.Common.{◌≡◌, ℕ, zero, suc, take, List, [], ◌∷◌, ◌++◌, length, true, refl, sym, ap, subst, ◌∙◌, arith, append_assoc, append-nil}
+use Rattle.std.proofs.Common.{◌≡◌, ℕ, zero, suc, take, List, [], ◌∷◌, ◌++◌, length, true, refl, sym, ap, subst, ◌∙◌, arith, append_assoc, append-nil, length-append}
 use Rattle.acd_terms.specs.Lists.{Among}
 use Rattle.acd_terms.specs.Writes.{empty_rows}
 use Rattle.acd_terms.specs.Step.{step}
@@ -25,12 +25,13 @@ use Rattle.acd_laws.proofs.FiguresCounted.{run_keeps_figures}
 use Rattle.acd_laws.proofs.RulesAll.{run_keeps_rules}
 use Rattle.acd_book.specs.declared.kept.Kept.{Kept}
 use Rattle.acd_book.specs.Content.{Content, empty_content, IsCounted}
-use Rattle.acd_desk.specs.Firsts.{executed, run_from}
+use Rattle.acd_desk.specs.Firsts.{executed, record_of, run_from}
 use Rattle.acd_desk.specs.Stands.{arrivals_of, IsSound, asked_of}
 use Rattle.acd_desk.specs.Laws.{KeepsLaws}
 use Rattle.acd_desk.specs.Replies.{after}
 use Rattle.acd_desk.proofs.Sound.{sound_list, ran_sound}
 use Rattle.acd_desk.proofs.Counting.{counted_run}
+use Rattle.acd_desk.proofs.Steps.{step_stamp}
 use Rattle.acd_desk.proofs.Longer.{ran_none, ran_push}
 
 over : (P : Rows → List Event → Type 0) {s t : Rows} {es fs : List Event} → s ≡ t → es ≡ fs → P s es → P t fs
@@ -54,6 +55,18 @@ sound_rows c sound = ap (λ (x : Content). x.rows) (sound_list c sound) ∙ rows
 
 pub sound_events : (c : Content) → IsSound c → c.events ≡ (terms.run (empty_rows c.rows.limits) (asked_of (arrivals_of c.kept))).events
 sound_events c sound = ap (λ (x : Content). x.events) (sound_list c sound) ∙ events_of_run (arrivals_of c.kept) (empty_content c.rows.limits)
+
+-- a run from the empty state has kept one record for each stamp
+one_each : (l : List Arrival) (c : Content) → length c.kept ≡ c.rows.last_stamp → length (run_from c l).kept ≡ (run_from c l).rows.last_stamp
+one_each [] c h = h
+one_each (a ∷ l) c h =
+    let stamp = step_stamp c.rows a.moment a.request.command in
+    one_each l (executed c a) (omega (arith, h, stamp, length-append c.kept (record_of c.rows a ∷ [])))
+
+-- so has a sound content
+pub sound_count : (c : Content) → IsSound c → c.rows.last_stamp ≡ length c.kept
+sound_count c sound =
+    sym (subst (λ (x : Content). length x.kept ≡ x.rows.last_stamp) (sym (sound_list c sound)) (one_each (arrivals_of c.kept) (empty_content c.rows.limits) refl))
 
 length-asked : (ks : List Kept) → length (asked_of (arrivals_of ks)) ≡ length ks
 length-asked [] = refl

@@ -271,6 +271,10 @@ ran_more s m n l ts a t settles ran took =
       ];
     }
 
+-- one call alone
+pub ran_one : (s n : Standing) (a : Arrival) (t : Taken) → Settles s → Settles n → Took s a t n → Ran s (a ∷ []) (t ∷ []) n
+ran_one s n a t settled settles took = ran_more s s n [] [] a t settles (ran_nothing s settled) took
+
 rejection_no_reply : (t : Taken) → is_rejection t ≡ true → is_reply t ≡ false
 rejection_no_reply (Reply status body) h = absurd (true≢false (sym h))
 rejection_no_reply InvokeReused h = refl

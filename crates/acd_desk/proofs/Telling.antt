@@ -95,6 +95,11 @@ module _ {A B : Type 0} (old new : Standing) where
     loads = told.loads;
   }
 
+-- what follows from what a read answers is told too
+pub told_follows : {A : Type 0} (old new : Standing) (r : Result A DeskFault) (P Q : Content → A → Type 0) → ((c : Content) (x : A) → P c x → Q c x) → Told old new r P → Told old new r Q
+told_follows old new (Ok x) P Q follows told = told_so old new x x P Q (λ c. follows c x) told
+told_follows old new (Err f) P Q follows told = told_nothing old new f P Q told
+
 -- one read behind another that gave an answer
 pub told_then : {A B : Type 0} (old mid new : Standing) (x : A) (r : Result B DeskFault) (P : Content → A → Type 0) (Q R : Content → B → Type 0)
     → ((c : Content) (y : B) → P c x → Q c y → R c y) → Told old mid (Ok x) P → Told mid new r Q → Told old new r R

@@ -1,6 +1,6 @@
 //! A desk over a book.
 
-ghost use Rattle.std.specs.Prelude.{◌≡◌, true, OnOk, OnErr, IfOk, MatchResult};
+ghost use Rattle.std.specs.Prelude.{◌≡◌, true, [], ◌∷◌, OnOk, OnErr, IfOk, MatchResult};
 ghost use Rattle.acd_desk.specs.Arrived.{at};
 ghost use Rattle.acd_desk.specs.Standing.{standing, book_of, holding, with_new_key};
 ghost use Rattle.acd_terms.specs.Lists.{Every};
@@ -118,11 +118,8 @@ impl<B: Book> Desk<B> {
         }
     }
 
-    /// Takes one arrival: a repeat gets its kept reply, and a request with a new key is executed, at this
-    /// moment (in seconds) or at the last one, if that is later.
-    ///
-    /// Tested in this order: the store failed before, the key is kept, the desk is full.
-    pub fn take(&mut self, moment: u32, request: &Request) -> Taken
+    // The answer to one arrival.
+    fn answer(&mut self, moment: u32, request: &Request) -> Taken
         ensures took { Took (standing B.Book self.old) (at moment request.now) result (standing B.Book self.new) }
         ensures shut { (standing B.Book self.old).failed ≡ true → result ≡ Taken.StoreFault }
     {
@@ -134,6 +131,18 @@ impl<B: Book> Desk<B> {
             Ok(None) => self.execute(moment, request),
             Err(fault) => self.fault(fault),
         }
+    }
+
+    /// Takes one arrival: a repeat gets its kept reply, and a request with a new key is executed, at this
+    /// moment (in seconds) or at the last one, if that is later.
+    ///
+    /// Tested in this order: the store failed before, the key is kept, the desk is full.
+    pub fn take(&mut self, moment: u32, request: &Request) -> Taken
+        ensures took { Took (standing B.Book self.old) (at moment request.now) result (standing B.Book self.new) }
+        ensures ran { Ran (standing B.Book self.old) (at moment request.now ∷ []) (result ∷ []) (standing B.Book self.new) }
+        ensures shut { (standing B.Book self.old).failed ≡ true → result ≡ Taken.StoreFault }
+    {
+        self.answer(moment, request)
     }
 
     /// Takes each arrival in turn. Where there is no room for the answers, nothing was executed. Behind a
@@ -170,6 +179,13 @@ impl<B: Book> Desk<B> {
             }),
             Err(fault) => Err((OpenFault::from(fault), book)),
         }
+    }
+
+    /// Whether the desk has failed: it then answers storeFault, and nothing else. It takes no memory.
+    pub fn has_failed(&self) -> bool
+        ensures { result ≡ (standing B.Book self.now).failed }
+    {
+        matches!(self.working, Working::Failed)
     }
 
     /// The desk's book. It takes no memory.

@@ -29,8 +29,6 @@ mod same;
 mod session;
 mod table_reads;
 mod taken;
-#[cfg(test)]
-mod tests;
 mod working;
 
 pub use audit::Audit;

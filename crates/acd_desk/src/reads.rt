@@ -1,8 +1,9 @@
 //! What a desk tells: its reads.
 
-ghost use Rattle.std.specs.Prelude.{◌≡◌, Some, None, is_some, if◌then◌else◌};
+ghost use Rattle.std.specs.Prelude.{◌≡◌, length, Some, None, is_some, if◌then◌else◌};
 ghost use Rattle.acd_terms.specs.Scans.{monitor_of};
 ghost use Rattle.acd_book.specs.Content.{events_behind, events_of_monitor};
+ghost use Rattle.acd_desk.specs.Stands.{IsSound};
 ghost use Rattle.acd_desk.specs.Standing.{standing};
 ghost use Rattle.acd_desk.specs.Told.{Told};
 ghost use Rattle.acd_desk.specs.Tells.{told, agent_read, call_read, device_read, queue_read, report_read, table_read, events_read, monitor_read, page_size};
@@ -77,6 +78,23 @@ impl<B: Book> Desk<B> {
         let last = loaded.switch.tables().last_event();
         self.working = Working::Loaded(loaded);
         Ok(last)
+    }
+
+    // The stamp of the last executed request.
+    fn last_stamp(&mut self) -> Result<u64, DeskFault>
+        ensures { Told (standing B.Book self.old) (standing B.Book self.new) result (λ c last. last ≡ c.rows.last_stamp) }
+    {
+        let loaded = self.switch_out()?;
+        let last = loaded.switch.last_stamp();
+        self.working = Working::Loaded(loaded);
+        Ok(last)
+    }
+
+    /// How many requests were executed. A sound book keeps as many records.
+    pub fn executed(&mut self) -> Result<u64, DeskFault>
+        ensures { Told (standing B.Book self.old) (standing B.Book self.new) result (λ c count. IsSound c → count ≡ length c.kept) }
+    {
+        self.last_stamp()
     }
 
     // The number of the last event, where the monitor is running.

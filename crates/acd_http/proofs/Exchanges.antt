@@ -1,5 +1,5 @@
 -- The reply for the desk's answer, and what goes out of it.
-use Rattle.std.proofs.Common.{◌≡◌, ℕ, List, [], ◌++◌, Bool, cond, length, Option, Result, Ok, Err, String, OnOk, inl, inr, refl, sym, ap, ◌∙◌, subst, append_assoc}
+use Rattle.std.proofs.Common.{◌≡◌, ℕ, List, [], ◌∷◌, ◌++◌, Bool, cond, length, Option, Result, Ok, Err, String, OnOk, inl, inr, refl, sym, ap, ◌∙◌, subst, append_assoc}
 use Rattle.std.specs.Io.KnownBytes.{Appends}
 use Rattle.std.proofs.KnownBytes.{Appends-trans}
 use Rattle.acd_terms.specs.declared.command.Request.{Request}
@@ -7,11 +7,11 @@ use Rattle.acd_book.specs.Content.{Content}
 use Rattle.acd_desk.specs.declared.taken.Taken.{Taken}
 use Rattle.acd_desk.specs.declared.taken.Taken.TheVariants as taken
 use Rattle.acd_desk.specs.Arrived.{at}
-use Rattle.acd_desk.specs.Ran.{Standing, Took}
+use Rattle.acd_desk.specs.Ran.{Standing, Took, Ran}
 use Rattle.acd_desk.specs.Told.{Told}
 use Rattle.acd_desk.specs.Tells.{told}
 use Rattle.acd_desk.specs.declared.fault.DeskFault.{DeskFault}
-use Rattle.acd_desk.proofs.Many.{forgets}
+use Rattle.acd_desk.proofs.Many.{Settles, ran_one, forgets}
 use Rattle.acd_desk.proofs.Telling.{told_so, told_nothing}
 use Rattle.acd_lines.specs.Sent.{Begins}
 use Rattle.acd_lines.proofs.Sends.{begins_front}
@@ -30,11 +30,16 @@ use Rattle.acd_http.specs.Asking.{IsUnknown}
 use Rattle.acd_http.specs.Exchanging.{IsWritten, Replies, Exchanged, seen, told_of, kind_told, told_reply, fixed_reply, reply_out, status_of, kind_of, allow_of, body_of}
 
 module _ {D : Type 0} (stands : D → Standing) (moment : ℕ) where
-  pub replies_arrival : (d e : D) (r : Request) (t : Taken) (out : List ℕ) → Took (stands d) (at moment r) t (stands e) → IsWritten r t out → Replies stands moment d (ask.Arrival r) out e
-  replies_arrival d e r t out took written = elim written [
-    | inl whole ↦ (t, whole, took)
-    | inr lost ↦ (taken.NoMemory, lost.1, forgets (stands d) (stands e) (at moment r) t lost.0 took)
-  ]
+  pub replies_arrival : ((d : D) → Settles (stands d)) → (d e : D) (r : Request) (t : Taken) (out : List ℕ) → Took (stands d) (at moment r) t (stands e) → IsWritten r t out → Replies stands moment d (ask.Arrival r) out e
+  replies_arrival settles d e r t out took written =
+      let ran : (u : Taken) → Took (stands d) (at moment r) u (stands e) → Ran (stands d) (at moment r ∷ []) (u ∷ []) (stands e)
+      = λ u took. ran_one (stands d) (stands e) (at moment r) u (settles d) (settles e) took in
+      elim written [
+        | inl whole ↦ (t, whole, took, ran t took)
+        | inr lost ↦
+            let forgot = forgets (stands d) (stands e) (at moment r) t lost.0 took in
+            (taken.NoMemory, lost.1, forgot, ran taken.NoMemory forgot)
+      ]
 
   -- what the desk told to a read
   pub replies_look : {Z : Type 0} (d e : D) (wanted : Lookup) (bodiless : Bool) (found : Result (Option (String Z)) DeskFault) (out : List ℕ) → out ≡ told_reply bodiless (kind_told wanted) (seen found)

@@ -1,5 +1,5 @@
 -- What is written for what was asked, and what the desk is after it.
-use Rattle.std.specs.Prelude.{◌≡◌, ◌≢◌, ◌⊎◌, ℕ, List, Bool, true, false, Option, Some, None, Result, Ok, Err, String}
+use Rattle.std.specs.Prelude.{◌≡◌, ◌≢◌, ◌⊎◌, ℕ, List, [], ◌∷◌, Bool, true, false, Option, Some, None, Result, Ok, Err, String}
 use Rattle.acd_terms.specs.declared.command.Request.{Request}
 use Rattle.acd_codec.specs.declared.replies.Rejected.{Rejected}
 use Rattle.acd_codec.specs.declared.replies.Rejected.TheVariants as rejections
@@ -13,7 +13,7 @@ use Rattle.acd_desk.specs.declared.taken.Taken.{Taken}
 use Rattle.acd_desk.specs.declared.taken.Taken.TheVariants as taken
 use Rattle.acd_desk.specs.Arrived.{at}
 use Rattle.acd_desk.specs.Served.{is_rejection}
-use Rattle.acd_desk.specs.Ran.{Standing, Took}
+use Rattle.acd_desk.specs.Ran.{Standing, Took, Ran}
 use Rattle.acd_desk.specs.Told.{Told}
 use Rattle.acd_desk.specs.Tells.{told, agent_read, call_read, device_read, queue_read, events_read, monitor_read, report_read}
 use Rattle.acd_lines.specs.Output.{IsInput}
@@ -115,7 +115,8 @@ module _ {D : Type 0} (stands : D → Standing) (moment : ℕ) where
   Replies d (ask.Refused why bodiless) out e = (out ≡ refused_reply bodiless why) × (e ≡ d)
   Replies d (ask.Look wanted bodiless) out e =
       (found : Result (Option (List ℕ)) DeskFault) × (out ≡ told_reply bodiless (kind_told wanted) found) × Told (stands d) (stands e) found (λ (c : Content) (text : Option (List ℕ)). text ≡ told_of c moment wanted)
-  Replies d (ask.Arrival r) out e = (t : Taken) × (out ≡ taken_reply r t) × Took (stands d) (at moment r) t (stands e)
+  Replies d (ask.Arrival r) out e =
+      (t : Taken) × (out ≡ taken_reply r t) × Took (stands d) (at moment r) t (stands e) × Ran (stands d) (at moment r ∷ []) (t ∷ []) (stands e)
 
   -- Before the desk is asked there may be no memory: then it is left as it was.
   abbrev pub Answers : D → Asked → List ℕ → D → Type 0

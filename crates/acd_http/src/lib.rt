@@ -28,8 +28,6 @@ mod serving;
 mod short_text;
 mod target;
 mod telling;
-#[cfg(test)]
-mod tests;
 mod wanted;
 
 pub use asked::Asked;

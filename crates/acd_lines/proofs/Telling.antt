@@ -12,7 +12,8 @@ use Rattle.acd_lines.specs.Input.{cut, Line, no_moment, too_long, faulty, arriva
 use Rattle.acd_lines.specs.Answers.{Answers, IsWritten}
 use Rattle.acd_lines.specs.Output.{AnswerLines, IsInput, IsOutput, IsBegun, whole_lines}
 use Rattle.acd_lines.specs.Parts.{Serves}
-use Rattle.acd_lines.proofs.Turns.{AllDone, ReadDone, SomeDone}
+use Rattle.acd_lines.specs.Lines.{AnsweredAll, AnsweredRead, AnsweredFirst, AnsweredSome}
+use Rattle.acd_lines.proofs.Turns.{AllDone, ReadDone, FirstDone, SomeDone}
 
 -- the arrivals of a line, and those of the lines behind it
 arrivals_behind : (line : Line) (lines : List Line) → arrivals_in (line ∷ lines) ≡ arrivals_in (line ∷ []) ++ arrivals_in lines
@@ -68,20 +69,23 @@ module _ {D : Type 0} (stands : D → Standing) where
 
   -- ---- the clauses of `lines`
 
-  pub all_told : ((d : D) → Settles (stands d)) → (known : Option (List ℕ)) (s t : D) (a c : Option (List ℕ)) → AllDone (Answers stands) known s t a c
-      → (input written : List ℕ) × (answers : List Taken) × IsInput known input × IsOutput (lines_of (cut input)) answers written × Appends a c written × Ran (stands s) (arrivals_in (lines_of (cut input))) answers (stands t)
+  pub all_told : ((d : D) → Settles (stands d)) → (known : Option (List ℕ)) (s t : D) (a c : Option (List ℕ)) → AllDone (Answers stands) known s t a c → AnsweredAll (stands s) known a c (stands t)
   all_told settles known s t a c h =
       let all = told settles s t (cut h.0) h.3.outs h.3.serves in
       (h.0, h.1, all.0, h.2, record { outs = h.3.outs; answered = all.1; whole = h.3.whole }, h.4, all.2)
 
-  pub read_told : ((d : D) → Settles (stands d)) → (p q : Option (List ℕ)) (s t : D) (a c : Option (List ℕ)) → ReadDone (Answers stands) p q s t a c
-      → (bytes written : List ℕ) × (answers : List Taken) × Consumes p q bytes × IsOutput (lines_of (whole_lines bytes)) answers written × Appends a c written × Ran (stands s) (arrivals_in (lines_of (whole_lines bytes))) answers (stands t)
+  pub read_told : ((d : D) → Settles (stands d)) → (p q : Option (List ℕ)) (s t : D) (a c : Option (List ℕ)) → ReadDone (Answers stands) p q s t a c → AnsweredRead (stands s) p q a c (stands t)
   read_told settles p q s t a c h =
       let all = told settles s t (whole_lines h.0) h.3.outs h.3.serves in
       (h.0, h.1, all.0, h.2, record { outs = h.3.outs; answered = all.1; whole = h.3.whole }, h.4, all.2)
 
-  pub some_told : ((d : D) → Settles (stands d)) → (known : Option (List ℕ)) (s t : D) (a c : Option (List ℕ)) → SomeDone (Answers stands) known s t a c
-      → (input written : List ℕ) × (n : ℕ) × (answers : List Taken) × IsInput known input × IsBegun (lines_of (take n (cut input))) answers written × Appends a c written × Ran (stands s) (arrivals_in (lines_of (take n (cut input)))) answers (stands t)
+  pub first_told : ((d : D) → Settles (stands d)) → (known : Option (List ℕ)) (s t : D) (a c : Option (List ℕ)) → FirstDone (Answers stands) known s t a c → AnsweredFirst (stands s) known a c (stands t)
+  first_told settles known s t a c h =
+      let some = h.3 in
+      let all = told settles s t (take some.n (cut h.0)) some.outs some.serves in
+      (h.0, h.1, some.n, all.0, h.2, record { outs = some.outs; answered = all.1; whole = some.whole }, h.4, all.2)
+
+  pub some_told : ((d : D) → Settles (stands d)) → (known : Option (List ℕ)) (s t : D) (a c : Option (List ℕ)) → SomeDone (Answers stands) known s t a c → AnsweredSome (stands s) known a c (stands t)
   some_told settles known s t a c h =
       let some = h.3 in
       let all = told settles s t (take some.n (cut h.0)) some.outs some.serves in

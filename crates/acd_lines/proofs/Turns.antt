@@ -260,6 +260,10 @@ module _ {S : Type 0} (A : S → Line → List ℕ → S → Type 0) where
   abbrev pub ReadDone : Option (List ℕ) → Option (List ℕ) → S → S → Option (List ℕ) → Option (List ℕ) → Type 0
   ReadDone p q s t a c = (bytes answers : List ℕ) × Consumes p q bytes × ServesRead A s bytes answers t × Appends a c answers
 
+  -- some lines were answered, and their answers were written
+  abbrev pub FirstDone : Option (List ℕ) → S → S → Option (List ℕ) → Option (List ℕ) → Type 0
+  FirstDone known s t a c = (input answers : List ℕ) × IsInput known input × ServesSome A s input answers t × Appends a c answers
+
   -- some lines were answered, and a beginning of their answers was written
   abbrev pub SomeDone : Option (List ℕ) → S → S → Option (List ℕ) → Option (List ℕ) → Type 0
   SomeDone known s t a c = (input answers : List ℕ) × IsInput known input × ServesSome A s input answers t × Begins a c answers
@@ -268,6 +272,15 @@ module _ {S : Type 0} (A : S → Line → List ℕ → S → Type 0) where
       → AllDone known s t a c
   all_done n s seen kept waiting mid t a b c known h input done =
       (seen, h.answers ++ done.0, input, done.1, passes_whole a c (h.answers ++ done.0) (passes_then a b c [] waiting [] h.answers done.0 h.passes done.2))
+
+  pub all_first : (known : Option (List ℕ)) (s t : S) (a c : Option (List ℕ)) → AllDone known s t a c → FirstDone known s t a c
+  all_first known s t a c h = (h.0, h.1, h.2, some_all A s h.0 h.1 t h.3, h.4)
+
+  -- no more was read
+  pub first_done : (n : ℕ) (s : S) (seen kept waiting : List ℕ) (t : S) (a b p q : Option (List ℕ)) → Stands A n s seen kept [] [] waiting t a b → waiting ≡ [] → Consumes p q seen → FirstDone p s t a b
+  first_done n s seen kept waiting t a b p q h none taken =
+      let more = input_begun p q seen taken in
+      (seen ++ more.0, h.answers, more.1, some_reached A s seen h.part h.answers more.0 t h.reached, passes_whole a b h.answers (subst (λ (w : List ℕ). Passes a b w h.answers) none h.passes))
 
   -- the writer stopped at the end of the input
   pub end_stopped : (n : ℕ) (s : S) (seen kept waiting : List ℕ) (mid t : S) (a b c known : Option (List ℕ)) → (h : Stands A n s seen kept [] [] waiting mid a b) → IsInput known seen → (out : List ℕ) × ServesAll A s seen (h.answers ++ out) t × Begins b c (waiting ++ out)

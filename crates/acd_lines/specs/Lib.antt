@@ -3,3 +3,4 @@ pub mod Answers
 pub mod Output
 pub mod Sent
 pub mod Parts
+pub mod Lines

@@ -1,5 +1,5 @@
-//! Requests in lines, replies in lines: [`lines`] answers each line that it reads over a desk, and
-//! [`import`] takes the requests of a plan.
+//! Requests in lines, replies in lines: [`lines`] answers each line that it reads over a desk,
+//! [`lines_until_failed`] does so until the desk fails, and [`import`] takes the requests of a plan.
 #![tactic(auto)]
 
 mod answer;
@@ -13,9 +13,7 @@ mod sending;
 mod serve;
 mod session;
 mod split;
-#[cfg(test)]
-mod tests;
 
 pub use importing::import;
 pub use sending::{Stopped, send};
-pub use session::{LinesFault, lines};
+pub use session::{LinesFault, lines, lines_until_failed};

@@ -1,11 +1,8 @@
 //! Lines in, answer lines out.
 
-ghost use Rattle.std.specs.Prelude.{◌≡◌, ℕ, List, take, OnOk, OnErr, IfErr};
-ghost use Rattle.std.specs.Io.KnownBytes.{Appends, Consumes};
-ghost use Rattle.acd_desk.specs.declared.taken.Taken.{Taken};
-ghost use Rattle.acd_desk.specs.Ran.{standing, Ran};
-ghost use Rattle.acd_lines.specs.Input.{cut, lines_of, arrivals_in};
-ghost use Rattle.acd_lines.specs.Output.{IsInput, IsOutput, IsBegun, whole_lines};
+ghost use Rattle.std.specs.Prelude.{◌≡◌, true, false, OnOk, OnErr, IfErr};
+ghost use Rattle.acd_desk.specs.Ran.{standing};
+ghost use Rattle.acd_lines.specs.Lines.{AnsweredAll, AnsweredRead, AnsweredFirst, AnsweredSome};
 
 use crate::outbox::Outbox;
 use crate::partial::Partial;
@@ -60,6 +57,39 @@ const CALLS: u64 = 1_000_000_000_000;
 /// How many bytes are read at once.
 const CHUNK: usize = 65_536;
 
+// Answers lines until the input is at its end or, where `ends` says so, the desk has failed.
+fn answer_lines<B: Book, R: Read, W: Write>(
+    alloc: Global,
+    desk: &mut Desk<B>,
+    ends: bool,
+    reader: &mut R,
+    writer: &mut W,
+) -> Result<(), LinesFault>
+    ensures ok { OnOk result ((ends ≡ true → (standing B.Book desk.new).failed ≡ false) → AnsweredAll (standing B.Book desk.old) (R.remaining reader.old) (W.contents writer.old) (W.contents writer.new) (standing B.Book desk.new)) }
+    ensures first { OnOk result (AnsweredFirst (standing B.Book desk.old) (R.remaining reader.old) (W.contents writer.old) (W.contents writer.new) (standing B.Book desk.new)) }
+    ensures read { IfErr result (λ fault. fault ≡ LinesFault.Read → AnsweredRead (standing B.Book desk.old) (R.remaining reader.old) (R.remaining reader.new) (W.contents writer.old) (W.contents writer.new) (standing B.Book desk.new)) }
+    ensures stopped { OnErr result (AnsweredSome (standing B.Book desk.old) (R.remaining reader.old) (W.contents writer.old) (W.contents writer.new) (standing B.Book desk.new)) }
+    ensures memory { IfErr result (λ fault. fault ≡ LinesFault.NoMemory → (reader.new ≡ reader.old) × (writer.new ≡ writer.old) × (desk.new ≡ desk.old)) }
+{
+    let mut chunk = vec![in alloc; 0u8; CHUNK]?;
+    let mut partial = Partial::new(alloc)?;
+    let mut outbox = Outbox::new(alloc)?;
+    for _ in 0..CALLS {
+        if ends && desk.has_failed() {
+            return Ok(());
+        }
+        match reader.read(chunk.as_mut_slice()) {
+            Ok(0) => {
+                finish(alloc, desk, &partial, &mut outbox, writer)?;
+                return Ok(());
+            }
+            Ok(n) => feed(alloc, desk, &mut partial, &mut outbox, writer, &chunk[..n])?,
+            Err(e) => retried(e, LinesFault::Read)?,
+        }
+    }
+    Err(LinesFault::Read)
+}
+
 /// Writes one answer line for each line that is read. The answers to the lines that have ended are
 /// written before more is read, those of one read together. No more than 4109 bytes of a line are held
 /// behind a read. Calls that are interrupted are made again. Want of memory in a line is its answer, and
@@ -71,32 +101,35 @@ pub fn lines<B: Book, R: Read, W: Write>(
     writer: &mut W,
 ) -> Result<(), LinesFault>
     // one answer line for each line, and the desk has run over the arrivals among them
-    ensures ok { OnOk result ((input written : List ℕ) × (answers : List Taken) × IsInput (R.remaining reader.old) input
-        × IsOutput (lines_of (cut input)) answers written × Appends (W.contents writer.old) (W.contents writer.new) written
-        × Ran (standing B.Book desk.old) (arrivals_in (lines_of (cut input))) answers (standing B.Book desk.new)) }
+    ensures ok { OnOk result (AnsweredAll (standing B.Book desk.old) (R.remaining reader.old) (W.contents writer.old) (W.contents writer.new) (standing B.Book desk.new)) }
     // where reading failed, for the lines that had ended in what was read
-    ensures read { IfErr result (λ fault. fault ≡ LinesFault.Read → (bytes written : List ℕ) × (answers : List Taken) × Consumes (R.remaining reader.old) (R.remaining reader.new) bytes
-        × IsOutput (lines_of (whole_lines bytes)) answers written × Appends (W.contents writer.old) (W.contents writer.new) written
-        × Ran (standing B.Book desk.old) (arrivals_in (lines_of (whole_lines bytes))) answers (standing B.Book desk.new)) }
+    ensures read { IfErr result (λ fault. fault ≡ LinesFault.Read → AnsweredRead (standing B.Book desk.old) (R.remaining reader.old) (R.remaining reader.new) (W.contents writer.old) (W.contents writer.new) (standing B.Book desk.new)) }
     // after any fault, for a beginning of the input
-    ensures stopped { OnErr result ((input written : List ℕ) × (n : ℕ) × (answers : List Taken) × IsInput (R.remaining reader.old) input
-        × IsBegun (lines_of (take n (cut input))) answers written × Appends (W.contents writer.old) (W.contents writer.new) written
-        × Ran (standing B.Book desk.old) (arrivals_in (lines_of (take n (cut input)))) answers (standing B.Book desk.new)) }
+    ensures stopped { OnErr result (AnsweredSome (standing B.Book desk.old) (R.remaining reader.old) (W.contents writer.old) (W.contents writer.new) (standing B.Book desk.new)) }
     // without memory nothing was read
     ensures memory { IfErr result (λ fault. fault ≡ LinesFault.NoMemory → (reader.new ≡ reader.old) × (writer.new ≡ writer.old) × (desk.new ≡ desk.old)) }
 {
-    let mut chunk = vec![in alloc; 0u8; CHUNK]?;
-    let mut partial = Partial::new(alloc)?;
-    let mut outbox = Outbox::new(alloc)?;
-    for _ in 0..CALLS {
-        match reader.read(chunk.as_mut_slice()) {
-            Ok(0) => {
-                finish(alloc, desk, &partial, &mut outbox, writer)?;
-                return Ok(());
-            }
-            Ok(n) => feed(alloc, desk, &mut partial, &mut outbox, writer, &chunk[..n])?,
-            Err(e) => retried(e, LinesFault::Read)?,
-        }
-    }
-    Err(LinesFault::Read)
+    answer_lines(alloc, desk, false, reader, writer)
+}
+
+/// The same, but once the desk has failed nothing more is read: the lines of the read in which a
+/// storeFault was answered are the last. Whether that ended them [`Desk::has_failed`] tells.
+pub fn lines_until_failed<B: Book, R: Read, W: Write>(
+    alloc: Global,
+    desk: &mut Desk<B>,
+    reader: &mut R,
+    writer: &mut W,
+) -> Result<(), LinesFault>
+    // all lines were answered, by a desk that hasn't failed
+    ensures ok { OnOk result ((standing B.Book desk.new).failed ≡ false → AnsweredAll (standing B.Book desk.old) (R.remaining reader.old) (W.contents writer.old) (W.contents writer.new) (standing B.Book desk.new)) }
+    // those that were answered are the first, and all of their answers were written
+    ensures first { OnOk result (AnsweredFirst (standing B.Book desk.old) (R.remaining reader.old) (W.contents writer.old) (W.contents writer.new) (standing B.Book desk.new)) }
+    // where reading failed, for the lines that had ended in what was read
+    ensures read { IfErr result (λ fault. fault ≡ LinesFault.Read → AnsweredRead (standing B.Book desk.old) (R.remaining reader.old) (R.remaining reader.new) (W.contents writer.old) (W.contents writer.new) (standing B.Book desk.new)) }
+    // after any fault, for a beginning of the input
+    ensures stopped { OnErr result (AnsweredSome (standing B.Book desk.old) (R.remaining reader.old) (W.contents writer.old) (W.contents writer.new) (standing B.Book desk.new)) }
+    // without memory nothing was read
+    ensures memory { IfErr result (λ fault. fault ≡ LinesFault.NoMemory → (reader.new ≡ reader.old) × (writer.new ≡ writer.old) × (desk.new ≡ desk.old)) }
+{
+    answer_lines(alloc, desk, true, reader, writer)
 }

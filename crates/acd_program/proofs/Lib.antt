@@ -1,3 +1,4 @@
 pub mod Answering
 pub mod Over
+pub mod Taking
 pub mod Telling

@@ -1,5 +1,5 @@
 -- The lines of connections that failed.
-use Rattle.std.proofs.Common.{◌≡◌, ℕ, List, [], Option, Result, Ok, Err, OnOk, sym, subst, append-nil}
+use Rattle.std.proofs.Common.{◌≡◌, ℕ, List, [], Option, Result, Ok, OnOk, sym, subst, append-nil}
 use Rattle.std.specs.Io.KnownBytes.{Appends}
 use Rattle.acd_desk.specs.Ran.{Standing}
 use Rattle.acd_http.specs.declared.listening.ServeFault.{ServeFault}

@@ -1,3 +1,6 @@
 pub mod Answered
 pub mod Statuses
 pub mod Over
+pub mod Taking
+pub mod Endings
+pub mod Found

@@ -1,5 +1,6 @@
 //! Why a command did not do what it was asked.
 
+use crate::connection::ConnectionFault;
 use crate::session::SessionFault;
 use acd_book::BookFault;
 use acd_desk::{DeskFault, OpenFault};
@@ -16,6 +17,9 @@ pub(crate) enum Fault<'a> {
     /// The file or the plan at this path is not there, can't be read, or is no database.
     #[error("cannot open {0}")]
     CannotOpen(&'a str),
+    /// The file at this path is open in another program, or once more in this one.
+    #[error("{0} is open elsewhere")]
+    OpenElsewhere(&'a str),
     /// The version of the file's tables, or 0 where it has none.
     #[error("wrong version {0}")]
     WrongVersion(u64),
@@ -139,6 +143,16 @@ impl<'a> From<SessionFault> for Fault<'a> {
         match fault {
             SessionFault::Open(fault) => Fault::from(fault),
             SessionFault::Lines(fault) => Fault::from(fault),
+            SessionFault::StoreFailed => Fault::Store,
+        }
+    }
+}
+
+impl<'a> From<ConnectionFault> for Fault<'a> {
+    fn from(fault: ConnectionFault) -> Fault<'a> {
+        match fault {
+            ConnectionFault::Book(fault) => Fault::from(fault),
+            ConnectionFault::Session(fault) => Fault::from(fault),
         }
     }
 }

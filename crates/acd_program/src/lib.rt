@@ -6,10 +6,13 @@
 //! ```
 #![tactic(auto)]
 
+mod auditing;
+mod connection;
 mod fault;
 mod file;
 mod memory;
 mod plan;
+mod progress;
 mod running;
 mod serving;
 mod session;
@@ -17,6 +20,7 @@ mod task;
 #[cfg(test)]
 mod tests;
 
+pub use connection::{ConnectionFault, lines_over_connection};
 pub use memory::{lines_over_memory, new_desk};
 pub use running::program;
 pub use session::{SessionFault, lines_over_book};

@@ -1,16 +1,20 @@
 //! The program over three streams.
 
 ghost use Rattle.std.specs.Prelude.{◌≡◌, ◌≢◌, ◌⊎◌, IfOk};
-ghost use Rattle.acd_program.specs.Statuses.{IsDone, TellsConnections, audit_status};
+ghost use Rattle.acd_program.specs.Statuses.{IsDone, TellsConnections, finding_status};
 
+use crate::auditing::{Finding, audited};
+use crate::connection::lines_over_connection;
 use crate::fault::Fault;
-use crate::file::{FileDesk, book_of, close, close_book, open, open_or_create};
+use crate::file::{
+    FileDesk, close, close_connection, close_watched, connect_or_create, open, open_or_create,
+    open_watched,
+};
 use crate::memory::lines_over_memory;
 use crate::plan::read_plan;
 use crate::serving::serve;
-use crate::session::lines_over_book;
 use crate::task::{Task, parse};
-use acd_desk::{Audit, DeskFault};
+use acd_desk::DeskFault;
 use acd_lines::import;
 use clap::Error;
 use clap::error::ErrorKind;
@@ -27,16 +31,26 @@ const REFUSED: u8 = 2;
 
 const DIFFERS: u8 = 3;
 
+const OPEN_ELSEWHERE: u8 = 4;
+
 // What ended the lines goes before what closing the file found.
 fn lines_over_file<'a, R: Read, W: Write>(
     rt: &HostRuntime,
     file: &'a str,
+    ends_on_store_fault: bool,
     reader: &mut R,
     writer: &mut W,
 ) -> Result<(), Fault<'a>> {
-    let book = book_of(rt, file)?;
-    let (done, book) = lines_over_book(rt.alloc(), book, reader, writer);
-    let closed = close_book(book);
+    let (conn, is_new) = connect_or_create(rt, file)?;
+    let (done, conn) = lines_over_connection(
+        rt.alloc(),
+        conn,
+        is_new,
+        ends_on_store_fault,
+        reader,
+        writer,
+    );
+    let closed = close_connection(conn);
     done?;
     closed
 }
@@ -93,32 +107,42 @@ fn print_export<'a, W: Write>(
     print_read(found, desk, writer)
 }
 
-// Prints what an audit told, and gives the exit status. Where something differs that is no fault.
-fn print_audit<'a, W: Write>(told: Audit, writer: &mut W) -> Result<u8, Fault<'a>>
-    ensures { IfOk result (λ status. status ≡ audit_status told) }
+// The exit status that goes with what an audit found. Where something differs that is no fault.
+fn status_of(found: &Finding) -> u8
+    ensures { result ≡ finding_status found.now }
 {
-    match told {
-        Audit::Sound => match writeln!(writer, "sound") {
-            Ok(()) => Ok(SUCCESS),
-            Err(_) => Err(Fault::Write),
-        },
-        Audit::Differs(place) => match writeln!(writer, "differs at request {place}") {
-            Ok(()) => Ok(DIFFERS),
-            Err(_) => Err(Fault::Write),
-        },
+    match found {
+        Finding::Sound => SUCCESS,
+        Finding::Counted(_) => SUCCESS,
+        Finding::Differs(_) => DIFFERS,
+    }
+}
+
+// Prints what an audit found, and gives the exit status.
+fn print_finding<'a, W: Write>(found: Finding, writer: &mut W) -> Result<u8, Fault<'a>>
+    ensures { IfOk result (λ status. status ≡ finding_status found) }
+{
+    let status = status_of(&found);
+    let printed = match found {
+        Finding::Sound => writeln!(writer, "sound"),
+        Finding::Counted(count) => writeln!(writer, "sound\nexecuted {count}"),
+        Finding::Differs(place) => writeln!(writer, "differs at request {place}"),
+    };
+    match printed {
+        Ok(()) => Ok(status),
+        Err(_) => Err(Fault::Write),
     }
 }
 
 fn print_audited<'a, W: Write>(
-    found: Result<Audit, DeskFault>,
-    desk: FileDesk,
+    found: Result<Finding, DeskFault>,
+    closed: Result<(), Fault<'a>>,
     writer: &mut W,
 ) -> Result<u8, Fault<'a>>
     ensures { IfOk result IsDone }
 {
-    let closed = close(desk);
     match found {
-        Ok(told) => match print_audit(told, writer) {
+        Ok(found) => match print_finding(found, writer) {
             Ok(status) => after(status, closed),
             Err(fault) => Err(fault),
         },
@@ -129,13 +153,14 @@ fn print_audited<'a, W: Write>(
 fn audit_file<'a, W: Write>(
     rt: &HostRuntime,
     file: &'a str,
+    counts: bool,
     writer: &mut W,
 ) -> Result<u8, Fault<'a>>
     ensures { IfOk result IsDone }
 {
-    let mut desk = open(rt, file)?;
-    let found = desk.audit();
-    print_audited(found, desk, writer)
+    let mut desk = open_watched(rt, file)?;
+    let found = audited(&mut desk, counts);
+    print_audited(found, close_watched(desk), writer)
 }
 
 // The status, where no fault ended the work.
@@ -160,13 +185,17 @@ fn execute<'a, R: Read, W: Write, E: Write>(
     ensures told { IfOk result (λ status. (errors.new ≡ errors.old) ⊎ ((status ≡ 0) × TellsConnections (E.contents errors.old) (E.contents errors.new))) }
 {
     match task {
-        Task::Lines { file: None } => {
+        Task::Lines { file: None, .. } => {
             lines_over_memory(rt.alloc(), reader, writer)?;
             Ok(SUCCESS)
         }
-        Task::Lines { file: Some(file) } => {
-            after(SUCCESS, lines_over_file(rt, file, reader, writer))
-        }
+        Task::Lines {
+            file: Some(file),
+            ends_on_store_fault,
+        } => after(
+            SUCCESS,
+            lines_over_file(rt, file, ends_on_store_fault, reader, writer),
+        ),
         Task::Serve {
             file,
             port,
@@ -178,16 +207,19 @@ fn execute<'a, R: Read, W: Write, E: Write>(
         Task::Import { file, plan } => after(SUCCESS, import_plan(rt, file, plan, writer)),
         Task::Report { file } => after(SUCCESS, print_report(rt, file, writer)),
         Task::Export { file } => after(SUCCESS, print_export(rt, file, writer)),
-        Task::Audit { file } => audit_file(rt, file, writer),
+        Task::Audit { file, counts } => audit_file(rt, file, counts, writer),
     }
 }
 
-// A fault is one line.
+// A fault is one line. That another program has the file is told by a status of its own.
 fn fail<E: Write>(fault: Fault<'_>, errors: &mut E) -> u8
-    ensures { result ≡ 1 }
+    ensures { (result ≡ 1) ⊎ (result ≡ 4) }
 {
     let _ = writeln!(errors, "acd: {fault}");
-    FAULT
+    match fault {
+        Fault::OpenElsewhere(_) => OPEN_ELSEWHERE,
+        _ => FAULT,
+    }
 }
 
 // Tells the text of a command line that asks for no task, which may be the help that was asked for.
@@ -213,8 +245,8 @@ fn tell<W: Write, E: Write>(alloc: Global, error: &Error, writer: &mut W, errors
 }
 
 /// Does what the words ask for; the first is the program's name. It answers the exit status: 0 for success, 1 for
-/// a fault, which is one line on `errors`, 2 for a command line that it refuses, and 3 for an audit that tells a
-/// difference.
+/// a fault, which is one line on `errors`, 2 for a command line that it refuses, 3 for an audit that tells a
+/// difference, and 4, with a fault's line, where the file is open elsewhere.
 pub fn program<S: AsStr, R: Read, W: Write, E: Write>(
     rt: &HostRuntime,
     words: &[S],

@@ -1,6 +1,6 @@
 //! The desk of a file, over HTTP.
 
-ghost use Rattle.std.specs.Prelude.{◌≡◌, OnOk, OnErr};
+ghost use Rattle.std.specs.Prelude.{OnOk};
 ghost use Rattle.acd_program.specs.Statuses.{TellsConnections};
 
 use crate::fault::Fault;

@@ -1,15 +1,14 @@
 //! Lines over a book, from the opening of its desk to the end.
 
-ghost use Rattle.std.specs.Prelude.{◌≡◌, List, ℕ, OnOk, IfErr};
-ghost use Rattle.std.specs.Io.KnownBytes.{Appends};
-ghost use Rattle.acd_desk.specs.declared.taken.Taken.{Taken};
+ghost use Rattle.std.specs.Prelude.{◌≡◌, true, OnOk, IfErr};
 ghost use Rattle.acd_desk.specs.Opening.{Refused};
-ghost use Rattle.acd_lines.specs.Input.{cut, lines_of};
-ghost use Rattle.acd_program.specs.Over.{AnswersOver, BeginsOver, IsOpenFault, IsLinesFault};
+ghost use Rattle.acd_desk.specs.Standing.{standing};
+ghost use Rattle.acd_lines.specs.Lines.{AnsweredAll, AnsweredFirst, AnsweredSome};
+ghost use Rattle.acd_program.specs.Over.{AnswersOver, FailsOver, BeginsOver, IsOpenFault, IsLinesFault, IsStoreFailed};
 
 use acd_book::Book;
 use acd_desk::{Desk, OpenFault};
-use acd_lines::{LinesFault, lines};
+use acd_lines::{LinesFault, lines, lines_until_failed};
 use std::alloc::Global;
 use std::io::{Read, Write};
 use thiserror::Error;
@@ -23,12 +22,49 @@ pub enum SessionFault {
     /// Reading or writing failed, or there was no memory to begin with.
     #[error("{0}")]
     Lines(LinesFault),
+    /// A storeFault was answered, and nothing more was read.
+    #[error("store fault")]
+    StoreFailed,
 }
 
-/// Opens a desk over the book, answers each line, and gives the book back.
+// Answers each line until the input ends or, where that is asked for, the desk fails.
+fn answer<B: Book, R: Read, W: Write>(
+    alloc: Global,
+    desk: &mut Desk<B>,
+    ends_on_store_fault: bool,
+    reader: &mut R,
+    writer: &mut W,
+) -> Result<(), SessionFault>
+    ensures ok { OnOk result (AnsweredAll (standing B.Book desk.old) (R.remaining reader.old) (W.contents writer.old) (W.contents writer.new) (standing B.Book desk.new)) }
+    ensures stopped { IfErr result (λ fault. IsLinesFault fault → AnsweredSome (standing B.Book desk.old) (R.remaining reader.old) (W.contents writer.old) (W.contents writer.new) (standing B.Book desk.new)) }
+    ensures failed { IfErr result (λ fault. IsStoreFailed fault → ((standing B.Book desk.new).failed ≡ true)
+        × AnsweredFirst (standing B.Book desk.old) (R.remaining reader.old) (W.contents writer.old) (W.contents writer.new) (standing B.Book desk.new)) }
+    ensures asked { IfErr result (λ fault. IsStoreFailed fault → ends_on_store_fault ≡ true) }
+    ensures opened { IfErr result (λ fault. (why : OpenFault) → ¬ (IsOpenFault why fault)) }
+{
+    if !ends_on_store_fault {
+        return match lines(alloc, desk, reader, writer) {
+            Ok(()) => Ok(()),
+            Err(fault) => Err(SessionFault::Lines(fault)),
+        };
+    }
+    match lines_until_failed(alloc, desk, reader, writer) {
+        Ok(()) => {
+            if desk.has_failed() {
+                return Err(SessionFault::StoreFailed);
+            }
+            Ok(())
+        }
+        Err(fault) => Err(SessionFault::Lines(fault)),
+    }
+}
+
+/// Opens a desk over the book, answers each line, and gives the book back. A storeFault is an answer like
+/// any other, unless it is asked for that it ends the lines: those of its read are then the last.
 pub fn lines_over_book<B: Book, R: Read, W: Write>(
     alloc: Global,
     book: B,
+    ends_on_store_fault: bool,
     reader: &mut R,
     writer: &mut W,
 ) -> (Result<(), SessionFault>, B)
@@ -36,6 +72,9 @@ pub fn lines_over_book<B: Book, R: Read, W: Write>(
     ensures ok { OnOk result.0 (AnswersOver (B.state book) (R.remaining reader.old) (W.contents writer.old) (W.contents writer.new) (B.state result.1)) }
     // where reading or writing ended it, for a beginning of the input
     ensures stopped { IfErr result.0 (λ fault. IsLinesFault fault → BeginsOver (B.state book) (R.remaining reader.old) (W.contents writer.old) (W.contents writer.new) (B.state result.1)) }
+    // where a storeFault ended it, which was asked for, the first lines were answered whole, and that is among the answers
+    ensures failed { IfErr result.0 (λ fault. IsStoreFailed fault → (ends_on_store_fault ≡ true)
+        × FailsOver (B.state book) (R.remaining reader.old) (W.contents writer.old) (W.contents writer.new) (B.state result.1)) }
     // where the book makes no desk nothing was read or written
     ensures refused { IfErr result.0 (λ fault. (why : OpenFault) → IsOpenFault why fault → Refused (B.state book) why (B.state result.1) × (reader.new ≡ reader.old) × (writer.new ≡ writer.old)) }
 {
@@ -43,8 +82,8 @@ pub fn lines_over_book<B: Book, R: Read, W: Write>(
         Ok(desk) => desk,
         Err((fault, book)) => return (Err(SessionFault::Open(fault)), book),
     };
-    match lines(alloc, &mut desk, reader, writer) {
+    match answer(alloc, &mut desk, ends_on_store_fault, reader, writer) {
         Ok(()) => (Ok(()), desk.close()),
-        Err(fault) => (Err(SessionFault::Lines(fault)), desk.close()),
+        Err(fault) => (Err(fault), desk.close()),
     }
 }

@@ -12,6 +12,7 @@ pub(crate) enum Task<'a> {
     /// Answer the lines of standard input, over a desk in memory or in a file.
     Lines {
         file: Option<&'a str>,
+        ends_on_store_fault: bool,
     },
     /// Answer so many connections over HTTP.
     Serve {
@@ -35,6 +36,7 @@ pub(crate) enum Task<'a> {
     /// Run the kept requests again, and compare what they give with the file.
     Audit {
         file: &'a str,
+        counts: bool,
     },
 }
 
@@ -45,6 +47,10 @@ const PLAN: &str = "plan";
 const PORT: &str = "port";
 
 const CONNECTIONS: &str = "connections";
+
+const END_ON_STORE_FAULT: &str = "end-on-store-fault";
+
+const COUNT: &str = "count";
 
 /// How many connections are served at most.
 const MOST_CONNECTIONS: u64 = 1_000_000;
@@ -63,6 +69,13 @@ fn plan_option<'a>(alloc: Global) -> Arg<'a> {
         .value_name("C")
         .help("The plan, as CSV")
         .action(ArgAction::Set)
+}
+
+fn flag<'a>(alloc: Global, name: &'a str, help: &'a str) -> Arg<'a> {
+    Arg::new(alloc, name)
+        .long(name)
+        .help(help)
+        .action(ArgAction::SetTrue)
 }
 
 // An option for a number from 1 on. It is required.
@@ -88,7 +101,12 @@ fn lines_command<'a>(alloc: Global) -> Result<Command<'a>, AllocError> {
         .after_help(
             "Example:\n  acd lines --file desk.db < requests\n\nWithout --file the desk is in memory, and ends with the input. A file that isn't\nthere, or has no bytes, is made.",
         )
-        .arg(file_option(alloc))
+        .arg(file_option(alloc))?
+        .arg(flag(
+            alloc,
+            END_ON_STORE_FAULT,
+            "End with status 1 once a storeFault was answered",
+        ))
 }
 
 fn serve_command<'a>(alloc: Global) -> Result<Command<'a>, AllocError> {
@@ -144,7 +162,12 @@ fn audit_command<'a>(alloc: Global) -> Result<Command<'a>, AllocError> {
         .after_help(
             "Example:\n  acd audit --file desk.db\n\nIt prints sound or, with status 3, the first request whose record or events differ.",
         )
-        .arg(file_option(alloc).required(true))
+        .arg(file_option(alloc).required(true))?
+        .arg(flag(
+            alloc,
+            COUNT,
+            "Behind sound, print how many requests were executed",
+        ))
 }
 
 fn all_commands<'a>(alloc: Global) -> Result<Command<'a>, AllocError> {
@@ -159,18 +182,10 @@ fn all_commands<'a>(alloc: Global) -> Result<Command<'a>, AllocError> {
         .subcommand(audit_command(alloc)?)
 }
 
-// The task of a command with these options, or None where one is missing.
-fn task_of<'a>(command: &str, file: Option<&'a str>, plan: Option<&'a str>) -> Option<Task<'a>> {
-    match command {
-        "lines" => Some(Task::Lines { file }),
-        "import" => Some(Task::Import {
-            file: file?,
-            plan: plan?,
-        }),
-        "report" => Some(Task::Report { file: file? }),
-        "export" => Some(Task::Export { file: file? }),
-        "audit" => Some(Task::Audit { file: file? }),
-        _ => None,
+fn lines_of<'a>(options: &ArgMatches<'a>) -> Task<'a> {
+    Task::Lines {
+        file: options.get_str(FILE),
+        ends_on_store_fault: options.get_flag(END_ON_STORE_FAULT),
     }
 }
 
@@ -182,11 +197,30 @@ fn serving_of<'a>(options: &ArgMatches<'a>) -> Option<Task<'a>> {
     })
 }
 
+fn import_of<'a>(options: &ArgMatches<'a>) -> Option<Task<'a>> {
+    Some(Task::Import {
+        file: options.get_str(FILE)?,
+        plan: options.get_str(PLAN)?,
+    })
+}
+
+// The task of a command that needs a file, or None where it is missing.
+fn reading_of<'a>(command: &str, file: &'a str, counts: bool) -> Option<Task<'a>> {
+    match command {
+        "report" => Some(Task::Report { file }),
+        "export" => Some(Task::Export { file }),
+        "audit" => Some(Task::Audit { file, counts }),
+        _ => None,
+    }
+}
+
 fn task_in<'a>(matches: &ArgMatches<'a>) -> Option<Task<'a>> {
     let (command, options) = matches.subcommand()?;
     match command {
+        "lines" => Some(lines_of(options)),
         "serve" => serving_of(options),
-        _ => task_of(command, options.get_str(FILE), options.get_str(PLAN)),
+        "import" => import_of(options),
+        _ => reading_of(command, options.get_str(FILE)?, options.get_flag(COUNT)),
     }
 }
 

@@ -18,8 +18,6 @@ mod fault;
 mod plan;
 mod queues;
 mod rows;
-#[cfg(test)]
-mod tests;
 
 pub use export::{events_csv, events_page, export_header, pages_join};
 pub use fault::{PlanFault, PlanMember};

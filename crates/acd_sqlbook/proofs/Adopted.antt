@@ -19,6 +19,7 @@ use Rattle.sqlite_schema.specs.declared.schema.Table.{Table as Made}
 use Rattle.sqlite.specs.State.{State, HasCleanDisk}
 use Rattle.acd_terms.specs.Lists.{Every}
 use Rattle.acd_book.specs.Content.{Content}
+use Rattle.acd_book.specs.Order.{IsOrdered as IsInOrder}
 use Rattle.acd_sqlbook.specs.declared.fault.Table.{Table}
 use Rattle.acd_sqlbook.specs.declared.fault.Table.TheVariants as table
 use Rattle.acd_sqlbook.specs.declared.fault.AdoptFault.{AdoptFault}
@@ -39,6 +40,7 @@ use Rattle.acd_sqlbook.specs.State.{IsSound, book_state}
 use Rattle.acd_sqlbook.proofs.BookStates.{Settles, Stays}
 use Rattle.acd_sqlbook.proofs.Decoded.{decoded}
 use Rattle.acd_sqlbook.proofs.Contents.{content_in, filed_in, filed_by_store}
+use Rattle.acd_sqlbook.proofs.Rising.{stored_ordered}
 use Rattle.acd_sqlbook.proofs.KeyedRows.{apart, same_number}
 use Rattle.acd_sqlbook.proofs.Looked.{mapped_all, moved_all}
 use Rattle.acd_sqlbook.proofs.Paged.{page_is, log_told}
@@ -325,6 +327,7 @@ module _ (old new : State) (settles : Settles old) (settled_after : Settles new)
       let after = h.seen.same k lies up in
       let found = h.seen.answer k lies in
       let made : IsFiled old.now.trees → (c : Content) × Encodes old.now.trees c × IsInRange c = λ filed. content_in old.now found (h.obeys same.0) filed in
+      let held : (c : (c : Content) × Encodes old.now.trees c × IsInRange c) → c.0 ≡ content_of new.committed.trees = λ c. sym (decoded old.now.trees c.0 c.1) ∙ sym (ap (λ (d : Database). content_of d.trees) after.committed) in
       record {
         was_open = same.0;
         live = up;
@@ -337,7 +340,8 @@ module _ (old new : State) (settles : Settles old) (settled_after : Settles new)
           stands = λ up. (c.0, record { is_open = up; idle = after.now ∙ sym after.committed; schema = ap (λ (d : Database). d.schema) after.committed ∙ found.schema_is; encodes = subst (λ (d : Database). Encodes d.trees c.0) (sym after.committed) c.1 });
           left = λ db left. (c.0, subst (λ t. Encodes t c.0) (sym (settled_after db up left ∙ ap (λ (d : Database). d.trees) after.committed)) c.1);
         };
-        in_range = λ filed. let c = made filed in subst IsInRange (sym (decoded old.now.trees c.0 c.1) ∙ sym (ap (λ (d : Database). content_of d.trees) after.committed)) c.2;
+        in_range = λ filed. let c = made filed in subst IsInRange (held c) c.2;
+        ordered = λ filed. let c = made filed in subst IsInOrder (held c) (stored_ordered old.now.trees c.0 c.1 c.2);
       }
 
   -- the rows of a store that isn't broken rise

@@ -70,7 +70,7 @@ width_of table.Kept = 8
 
 -- ---- lists of rows
 
-there : {X : Type 0} (o : Option X) → is_some o ≡ true → (x : X) × (o ≡ Some x)
+pub there : {X : Type 0} (o : Option X) → is_some o ≡ true → (x : X) × (o ≡ Some x)
 there None h = absurd (cc h)
 there (Some x) h = (x, refl)
 
@@ -78,7 +78,7 @@ first_true : (a b : Bool) → (a && b) ≡ true → a ≡ true
 first_true true b h = refl
 first_true false b h = absurd (cc h)
 
-each_good : (t : Table) (rows : List Row) → are_good t rows ≡ true → AllByRecursion (λ r. is_good t r ≡ true) rows
+pub each_good : (t : Table) (rows : List Row) → are_good t rows ≡ true → AllByRecursion (λ r. is_good t r ≡ true) rows
 unfolding are_good
 each_good t [] h = tt
 each_good t (row ∷ rows) h =
@@ -92,7 +92,7 @@ unfolding are_good
 all_good t [] h = refl
 all_good t (row ∷ rows) h = rw h.0 (all_good t rows h.1)
 
-of_mapped : {X Y : Type 0} (P : Y → Type 0) (f : X → Y) (xs : List X) → AllByRecursion P (map f xs) → AllByRecursion (λ x. P (f x)) xs
+pub of_mapped : {X Y : Type 0} (P : Y → Type 0) (f : X → Y) (xs : List X) → AllByRecursion P (map f xs) → AllByRecursion (λ x. P (f x)) xs
 of_mapped P f [] h = tt
 of_mapped P f (x ∷ xs) h = (h.0, of_mapped P f xs h.1)
 

@@ -40,4 +40,5 @@ mod Seen
 mod Looked
 mod Paged
 mod Contents
+mod Rising
 mod Adopted

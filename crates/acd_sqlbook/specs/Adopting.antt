@@ -15,6 +15,7 @@ use Rattle.sqlite.specs.declared.error.Error.TheVariants.{SqliteFailure}
 use Rattle.sqlite.specs.declared.error.ErrorCode.TheVariants.{OutOfMemory}
 use Rattle.acd_terms.specs.Lists.{Every}
 use Rattle.acd_book.specs.Content.{Content, Within}
+use Rattle.acd_book.specs.Order.{IsOrdered}
 use Rattle.acd_book.specs.State.{BookState}
 use Rattle.acd_sqlbook.specs.declared.fault.Table.{Table}
 use Rattle.acd_sqlbook.specs.declared.fault.Table.TheVariants as table
@@ -298,6 +299,7 @@ pub record IsAdopted (d : Database) (old new : BookState) : Type 0 where
   pub filed : old.is_sound → IsFiled d.trees
   pub sound : IsFiled d.trees → new.is_sound
   pub in_range : IsFiled d.trees → IsInRange new.content
+  pub ordered : IsFiled d.trees → IsOrdered new.content
 
 -- a connection that is handed back: no stop is new, and while it is open it holds what it held
 pub record IsHandedBack (d : Database) (old new : BookState) (fault : AdoptFault) : Type 0 where

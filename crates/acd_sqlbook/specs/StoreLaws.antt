@@ -1,10 +1,19 @@
--- What is known of the store of a book.
+-- What is known of the store of a book, and of what it holds.
 use Rattle.std.specs.Prelude.{ℕ}
+use Rattle.sqlite_trees.specs.Tree.{Trees}
 use Rattle.sqlite_trees.specs.declared.memory.MemStore.{MemStore}
 use Rattle.sqlite.specs.Held.{Held, state}
 use Rattle.sqlite.specs.Steps.{over_memory}
+use Rattle.acd_book.specs.Content.{Content}
+use Rattle.acd_book.specs.Order.{IsOrdered}
+use Rattle.acd_sqlbook.specs.Adopting.{IsInRange}
+use Rattle.acd_sqlbook.specs.Content.{Encodes}
 use Rattle.acd_sqlbook.specs.State.{book_state}
 
 -- over a store in memory a book is clean, whatever was done to it
 abbrev pub MemoryIsClean : Type 0
 MemoryIsClean = (h : Held MemStore) (failures : ℕ) → (book_state (state over_memory h) failures).is_clean
+
+-- what tables hold stands in order, where each value is in its range
+abbrev pub StoredIsOrdered : Type 0
+StoredIsOrdered = (db : Trees) (c : Content) → Encodes db c → IsInRange c → IsOrdered c

@@ -11,16 +11,10 @@
 //! ```
 #![tactic(auto)]
 
-#[cfg(test)]
-mod changes_tests;
 mod distribution;
 mod figures;
 mod journal;
 mod row_fault;
-#[cfg(test)]
-mod rows_tests;
-#[cfg(test)]
-mod services_tests;
 mod switch;
 mod tick;
 

@@ -21,8 +21,6 @@ mod scans;
 mod sets;
 mod table;
 mod tables;
-#[cfg(test)]
-mod tests;
 mod turns;
 mod uses;
 mod writes;

@@ -1,7 +1,7 @@
 //! Files that were changed by hand.
 
 use super::faults::all_end_with;
-use super::files::{cannot_open, free_path, remove};
+use super::files::{free_path, open_elsewhere, remove};
 use super::scripts::{FIRST_ANSWERS, FIRST_RUN, gives};
 use sqlite::{Connection, Error};
 use std::process::Abort;
@@ -26,10 +26,12 @@ fn report_ends_with(rt: &HostRuntime, file: &str, sql: &str, fault: &str) -> boo
     ends
 }
 
-// Whether, behind the change, an audit of the file tells this difference.
+// Whether, behind the change, an audit of the file tells this difference, also where a count is asked for.
 fn audit_tells(rt: &HostRuntime, file: &str, sql: &str, told: &str) -> bool {
-    let words = ["acd", "audit", "--file", file];
-    let tells = is_changed(rt, file, sql) && gives(rt, &words, "", 3, told, "");
+    let words = ["acd", "audit", "--file", file, "--count"];
+    let tells = is_changed(rt, file, sql)
+        && gives(rt, &words, "", 3, told, "")
+        && gives(rt, &words[..4], "", 3, told, "");
     let _ = remove(rt, file);
     tells
 }
@@ -69,8 +71,8 @@ fn is_shut(rt: &HostRuntime, file: &str, fault: &str) -> bool {
     }
     match Connection::open(rt, file) {
         Ok(conn) => {
-            let ends = all_end_with(rt, file, fault);
-            ends && conn.close().is_ok()
+            let ends = all_end_with(rt, file, 4, fault);
+            ends && conn.close().is_ok() && gives(rt, &words, FIRST_RUN, 0, FIRST_ANSWERS, "")
         }
         Err(_) => false,
     }
@@ -79,7 +81,7 @@ fn is_shut(rt: &HostRuntime, file: &str, fault: &str) -> bool {
 #[test]
 fn file_in_use(rt: HostRuntime) {
     let file = free_path(&rt, "used.db").expect(&rt, "a path");
-    let fault = cannot_open(&rt, file.as_str()).expect(&rt, "memory");
+    let fault = open_elsewhere(&rt, file.as_str()).expect(&rt, "memory");
     assert!(rt; is_shut(&rt, file.as_str(), fault.as_str()));
     let _ = remove(&rt, file.as_str());
 }

@@ -5,16 +5,25 @@ use super::scripts::{PLAN, gives};
 use std::process::Abort;
 use std::{fs, io};
 
-// Whether a report and an export of the file end with this fault.
-fn reads_end_with(rt: &HostRuntime, file: &str, fault: &str) -> bool {
-    gives(rt, &["acd", "report", "--file", file], "", 1, "", fault)
-        && gives(rt, &["acd", "export", "--file", file], "", 1, "", fault)
+// Whether this command over the file ends with this status and fault, and takes and gives nothing.
+fn command_ends_with(rt: &HostRuntime, command: &str, file: &str, status: u8, fault: &str) -> bool {
+    gives(rt, &["acd", command, "--file", file], "", status, "", fault)
 }
 
-/// Whether a report, an export and lines over the file end with this fault.
-pub(crate) fn all_end_with(rt: &HostRuntime, file: &str, fault: &str) -> bool {
-    reads_end_with(rt, file, fault)
-        && gives(rt, &["acd", "lines", "--file", file], "", 1, "", fault)
+// Whether a report and an export of the file end with this fault.
+fn reads_end_with(rt: &HostRuntime, file: &str, fault: &str) -> bool {
+    command_ends_with(rt, "report", file, 1, fault)
+        && command_ends_with(rt, "export", file, 1, fault)
+}
+
+/// Whether a report, an export, an audit and lines over the file end with this status and fault.
+pub(crate) fn all_end_with(rt: &HostRuntime, file: &str, status: u8, fault: &str) -> bool {
+    for command in ["report", "export", "audit", "lines"] {
+        if !command_ends_with(rt, command, file, status, fault) {
+            return false;
+        }
+    }
+    true
 }
 
 // Whether a plan of this text is refused with this line, before a file is made.
@@ -56,11 +65,11 @@ fn file_of_no_bytes(rt: HostRuntime) {
 // A folder, and a text.
 #[test]
 fn no_databases(rt: HostRuntime) {
-    assert!(rt; all_end_with(&rt, "/", "acd: cannot open /\n"));
+    assert!(rt; all_end_with(&rt, "/", 1, "acd: cannot open /\n"));
     let file = free_path(&rt, "text.db").expect(&rt, "a path");
     fs::write(&rt, file.as_str(), PLAN).expect(&rt, "written");
     let fault = cannot_open(&rt, file.as_str()).expect(&rt, "memory");
-    assert!(rt; all_end_with(&rt, file.as_str(), fault.as_str()));
+    assert!(rt; all_end_with(&rt, file.as_str(), 1, fault.as_str()));
     let _ = remove(&rt, file.as_str());
 }
 

@@ -19,6 +19,11 @@ pub(crate) fn free_path(rt: &HostRuntime, name: &str) -> io::Result<String> {
     Ok(path)
 }
 
+/// The fault line of a path that is open elsewhere.
+pub(crate) fn open_elsewhere(rt: &HostRuntime, path: &str) -> io::Result<String> {
+    Ok(format!(in rt.alloc(); "acd: {path} is open elsewhere\n")?)
+}
+
 /// The fault line of a path.
 pub(crate) fn cannot_open(rt: &HostRuntime, path: &str) -> io::Result<String> {
     Ok(format!(in rt.alloc(); "acd: cannot open {path}\n")?)

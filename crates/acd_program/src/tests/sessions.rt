@@ -64,6 +64,12 @@ fn plan_file(rt: &HostRuntime) -> io::Result<String> {
     Ok(plan)
 }
 
+// Five requests of the plan, and six.
+fn counts(rt: &HostRuntime, file: &str) -> bool {
+    let words = ["acd", "audit", "--count", "--file", file];
+    gives(rt, &words, "", 0, "sound\nexecuted 11\n", "")
+}
+
 // The plan is imported twice: the second time its answers are the kept ones.
 #[test]
 fn desk_in_a_file(rt: HostRuntime) {
@@ -76,6 +82,7 @@ fn desk_in_a_file(rt: HostRuntime) {
         assert!(rt; answers_with(&rt, "report", file.as_str(), "", report()));
         assert!(rt; answers_with(&rt, "export", file.as_str(), "", export()));
         assert!(rt; answers_with(&rt, "audit", file.as_str(), "", "sound\n"));
+        assert!(rt; counts(&rt, file.as_str()));
     }
     let _ = remove(&rt, plan.as_str());
     let _ = remove(&rt, file.as_str());

@@ -15,6 +15,24 @@ Example:
   acd report --file desk.db
 ";
 
+fn lines_help() -> &'static str {
+    "Answer requests in lines: a moment, a space and the request as JSON
+
+Usage: acd lines [OPTIONS]
+
+Options:
+      --file <F>            The file of the desk
+      --end-on-store-fault  End with status 1 once a storeFault was answered
+  -h, --help                Print help
+
+Example:
+  acd lines --file desk.db < requests
+
+Without --file the desk is in memory, and ends with the input. A file that isn't
+there, or has no bytes, is made.
+"
+}
+
 fn serve_help() -> &'static str {
     "Answer requests over HTTP on 127.0.0.1
 
@@ -55,10 +73,13 @@ For more information, try '--help'.
 fn lines_in_memory(rt: HostRuntime) {
     assert!(rt; gives(&rt, &["acd", "lines"], FIRST_RUN, 0, FIRST_ANSWERS, ""));
     assert!(rt; gives(&rt, &["acd", "lines"], "", 0, "", ""));
+    let words = ["acd", "lines", "--end-on-store-fault"];
+    assert!(rt; gives(&rt, &words, FIRST_RUN, 0, FIRST_ANSWERS, ""));
 }
 
 #[test]
 fn help(rt: HostRuntime) {
+    assert!(rt; gives(&rt, &["acd", "lines", "--help"], "", 0, lines_help(), ""));
     assert!(rt; gives(&rt, &["acd", "report", "--help"], "", 0, REPORT_HELP, ""));
     assert!(rt; gives(&rt, &["acd", "serve", "--help"], "", 0, serve_help(), ""));
 }

@@ -20,12 +20,23 @@ fn tells(rt: &impl Abort, alloc: Global, words: &[&str], is_mistake: bool) {
 #[test]
 fn tasks_with_their_paths(rt: HostRuntime) {
     let alloc = rt.alloc();
-    asks(&rt, alloc, &["acd", "lines"], Task::Lines { file: None });
+    asks(
+        &rt,
+        alloc,
+        &["acd", "lines"],
+        Task::Lines {
+            file: None,
+            ends_on_store_fault: false,
+        },
+    );
     asks(
         &rt,
         alloc,
         &["acd", "lines", "--file", "a.db"],
-        Task::Lines { file: Some("a.db") },
+        Task::Lines {
+            file: Some("a.db"),
+            ends_on_store_fault: false,
+        },
     );
     asks(
         &rt,
@@ -52,7 +63,41 @@ fn tasks_with_their_paths(rt: HostRuntime) {
         &rt,
         alloc,
         &["acd", "audit", "--file", "a.db"],
-        Task::Audit { file: "a.db" },
+        Task::Audit {
+            file: "a.db",
+            counts: false,
+        },
+    );
+}
+
+#[test]
+fn tasks_with_flags(rt: HostRuntime) {
+    let alloc = rt.alloc();
+    asks(
+        &rt,
+        alloc,
+        &["acd", "lines", "--end-on-store-fault", "--file", "a.db"],
+        Task::Lines {
+            file: Some("a.db"),
+            ends_on_store_fault: true,
+        },
+    );
+    asks(
+        &rt,
+        alloc,
+        &["acd", "audit", "--file", "a.db", "--count"],
+        Task::Audit {
+            file: "a.db",
+            counts: true,
+        },
+    );
+    tells(&rt, alloc, &["acd", "lines", "--count"], true);
+    tells(&rt, alloc, &["acd", "audit", "--count"], true);
+    tells(
+        &rt,
+        alloc,
+        &["acd", "report", "--file", "a.db", "--count"],
+        true,
     );
 }
 

@@ -30,23 +30,29 @@ fn told(rt: &impl Abort, alloc: Global, change: &str) -> Option<AdoptFault> {
 fn change_of_meta(at: usize) -> &'static str {
     match at {
         0 => "UPDATE meta SET max_requests = -1",
-        1 => "UPDATE meta SET max_monitors = -1",
-        2 => "UPDATE meta SET last_stamp = -1",
-        3 => "UPDATE meta SET last_moment = -1",
-        4 => "UPDATE meta SET last_call = -1",
-        5 => "UPDATE meta SET last_monitor = -1",
+        1 => "UPDATE meta SET max_calls = -1",
+        2 => "UPDATE meta SET max_groups = -1",
+        3 => "UPDATE meta SET max_stations = -1",
+        4 => "UPDATE meta SET max_agents = -1",
+        5 => "UPDATE meta SET max_monitors = -1",
+        6 => "UPDATE meta SET last_stamp = -1",
+        7 => "UPDATE meta SET last_moment = -1",
+        8 => "UPDATE meta SET last_call = -1",
+        9 => "UPDATE meta SET last_monitor = -1",
         _ => "UPDATE meta SET last_event = -1",
     }
 }
 
 fn change_of_groups(at: usize) -> &'static str {
     match at {
-        0 => "UPDATE acd_groups SET name = ''",
-        1 => "UPDATE acd_groups SET ring = 3601",
-        2 => "UPDATE acd_groups SET wrap = -1",
-        3 => "UPDATE acd_groups SET entered = -1",
-        4 => "UPDATE acd_groups SET answered = -1",
-        5 => "UPDATE acd_groups SET moved = -1",
+        0 => "INSERT INTO acd_groups VALUES (7, 'Sales', 20, 30, 0, 0, 0, 0, 0)",
+        1 => "UPDATE acd_groups SET name = ''",
+        2 => "UPDATE acd_groups SET ring = 3601",
+        3 => "UPDATE acd_groups SET wrap = -1",
+        4 => "UPDATE acd_groups SET entered = -1",
+        5 => "UPDATE acd_groups SET answered = -1",
+        6 => "UPDATE acd_groups SET abandoned = -1",
+        7 => "UPDATE acd_groups SET moved = -1",
         _ => "UPDATE acd_groups SET waited = -1",
     }
 }
@@ -98,7 +104,47 @@ fn change_of_events(at: usize) -> &'static str {
         6 => "UPDATE events SET target = 1202",
         7 => "UPDATE events SET cause = 1",
         8 => "UPDATE events SET number = -5",
-        _ => "UPDATE events SET waited = 5",
+        9 => "UPDATE events SET waited = 5",
+        10 => "UPDATE events SET device = 7",
+        11 => "UPDATE events SET kind = 16, call = NULL, agent = 7",
+        12 => "UPDATE events SET kind = 12, device = NULL, grp = 7",
+        13 => "UPDATE events SET kind = 9, target = 7",
+        14 => "UPDATE events SET kind = 3, cause = 2",
+        15 => "UPDATE events SET kind = 3",
+        _ => "UPDATE events SET kind = 6, grp = 1501, waited = -1",
+    }
+}
+
+// Reports of other kinds, with the columns that these have.
+fn other_report(at: usize) -> &'static str {
+    match at {
+        0 => "UPDATE events SET kind = 16, call = NULL, agent = 17",
+        1 => "UPDATE events SET kind = 12, device = NULL, grp = 1501",
+        2 => "UPDATE events SET kind = 9, target = 1202",
+        3 => "UPDATE events SET kind = 3, cause = 1",
+        _ => "UPDATE events SET kind = 6, grp = 1501, waited = 0",
+    }
+}
+
+// A column that refers to a key holds a bad value only where that key is bad, whose table is read first.
+fn change_of_references(at: usize) -> (Table, &'static str) {
+    match at {
+        0 => (
+            Table::Stations,
+            "INSERT INTO stations VALUES (7); UPDATE agents SET station = 7",
+        ),
+        1 => (
+            Table::Groups,
+            "INSERT INTO acd_groups VALUES (7, 'Sales', 20, 30, 0, 0, 0, 0, 0); UPDATE agents SET grp = 7",
+        ),
+        2 => (
+            Table::Calls,
+            "INSERT INTO calls VALUES (0, 15550001, 1201, 0); UPDATE connections SET call = 0",
+        ),
+        _ => (
+            Table::Groups,
+            "INSERT INTO acd_groups VALUES (7, 'Sales', 20, 30, 0, 0, 0, 0, 0); UPDATE connections SET grp = 7",
+        ),
     }
 }
 
@@ -144,8 +190,8 @@ fn rows_in_their_ranges(rt: HostRuntime) {
 
 #[test]
 fn values_of_the_plan(rt: HostRuntime) {
-    are_told(&rt, rt.alloc(), Table::Meta, 7);
-    are_told(&rt, rt.alloc(), Table::Groups, 7);
+    are_told(&rt, rt.alloc(), Table::Meta, 11);
+    are_told(&rt, rt.alloc(), Table::Groups, 9);
     are_told(&rt, rt.alloc(), Table::Stations, 1);
     are_told(&rt, rt.alloc(), Table::Agents, 5);
 }
@@ -159,6 +205,24 @@ fn values_of_calls(rt: HostRuntime) {
 
 #[test]
 fn values_of_the_log(rt: HostRuntime) {
-    are_told(&rt, rt.alloc(), Table::Events, 10);
+    are_told(&rt, rt.alloc(), Table::Events, 17);
     are_told(&rt, rt.alloc(), Table::Kept, 8);
+}
+
+#[test]
+fn reports_of_other_kinds(rt: HostRuntime) {
+    for at in 0..5 {
+        assert_eq!(rt; told(&rt, rt.alloc(), other_report(at)), None);
+    }
+}
+
+#[test]
+fn values_that_refer_to_a_key(rt: HostRuntime) {
+    for at in 0..4 {
+        let (table, change) = change_of_references(at);
+        assert_eq!(rt;
+            told(&rt, rt.alloc(), change),
+            Some(AdoptFault::BadRow(table))
+        );
+    }
 }

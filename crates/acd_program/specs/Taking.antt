@@ -1,0 +1,18 @@
+-- For private clauses: the book over a connection, as what the database held.
+use Rattle.std.specs.Prelude.{◌≡◌, ◌⊎◌, Bool, true}
+use Rattle.sqlite.specs.State.{State}
+use Rattle.acd_book.specs.State.{BookState}
+use Rattle.acd_sqlbook.specs.Schema.{no_schema}
+use Rattle.acd_program.specs.Over.{held, unmade}
+
+-- a book that came of another and holds the same
+pub record IsOf (old new : BookState) : Type 0 where
+  pub clean : new.is_clean → old.is_clean
+  pub sound : new.is_clean → old.is_sound → new.is_sound
+  pub content : new.is_clean → old.is_sound → new.content ≡ old.content
+  pub opened : new.is_clean → old.is_sound → old.is_open
+  pub failures : new.failures ≡ old.failures
+
+-- the book that the database held or, where it had no tables and one was to be made, a new one
+abbrev pub IsTaken : Bool → State → BookState → Type 0
+IsTaken makes s new = IsOf (held s) new ⊎ ((makes ≡ true) × (s.now.schema ≡ no_schema) × IsOf (unmade s) new)

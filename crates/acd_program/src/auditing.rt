@@ -1,0 +1,46 @@
+//! The audit of a desk, with the number of executed requests where that is asked for.
+
+ghost use Rattle.std.specs.Prelude.{◌≡◌, IfOk};
+ghost use Rattle.acd_book.specs.State.{IfHonest};
+ghost use Rattle.acd_desk.specs.Standing.{standing, InStep};
+ghost use Rattle.acd_program.specs.Found.{uncounted, IsFinding};
+
+use acd_book::Book;
+use acd_desk::{Audit, Desk, DeskFault};
+
+/// What an audit finds.
+#[derive(Clone, Copy, Debug, PartialEq, Eq)]
+pub(crate) enum Finding {
+    Sound,
+    /// Sound, and how many requests were executed.
+    Counted(u64),
+    /// The first request whose record or events differ.
+    Differs(u64),
+}
+
+fn uncounted(told: Audit) -> Finding
+    ensures { result ≡ uncounted told }
+{
+    match told {
+        Audit::Sound => Finding::Sound,
+        Audit::Differs(place) => Finding::Differs(place),
+    }
+}
+
+/// Audits what the desk's book holds.
+pub(crate) fn audited<B: Book>(desk: &mut Desk<B>, counts: bool) -> Result<Finding, DeskFault>
+    ensures { IfHonest (standing B.Book desk.old).book (standing B.Book desk.new).book
+        (InStep (standing B.Book desk.old) → IfOk result (λ found. IsFinding (standing B.Book desk.old).book.content found)) }
+{
+    let told = match desk.audit() {
+        Ok(told) => told,
+        Err(fault) => return Err(fault),
+    };
+    match told {
+        Audit::Sound if counts => match desk.executed() {
+            Ok(count) => Ok(Finding::Counted(count)),
+            Err(fault) => Err(fault),
+        },
+        told => Ok(uncounted(told)),
+    }
+}

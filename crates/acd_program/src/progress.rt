@@ -1,0 +1,156 @@
+//! What is shown of long work, where standard error is a terminal.
+
+use acd_book::{Book, BookFault, Kept};
+use acd_terms::{Change, Event, Invoke, Limits, Requester, Rows};
+use std::io::IsTerminal;
+use std::time::Instant;
+
+// How many bytes of a file take about a second to look through.
+const LONG: u64 = 24_000_000;
+
+// After so many seconds the line of a replay is shown anew.
+const PAUSE: u64 = 1;
+
+/// Says that a file of so many bytes is opened, where that takes a while.
+pub(crate) fn announce(rt: &HostRuntime, path: &str, len: u64) {
+    if len >= LONG && rt.stderr().is_terminal() {
+        let _ = eprintln!(rt; "acd: opening {path}");
+    }
+}
+
+/// A line that tells once a second how many requests were replayed. It is taken away at the end.
+#[derive(Drop)]
+pub(crate) struct Progress<'a> {
+    rt: &'a HostRuntime,
+    // When the line was last due, where it is shown at all.
+    due: Option<Instant>,
+    is_shown: bool,
+    replayed: u64,
+    all: u64,
+}
+
+impl<'a> Progress<'a> {
+    pub(crate) fn new(rt: &'a HostRuntime) -> Progress<'a> {
+        let due = if rt.stderr().is_terminal() {
+            Instant::now(rt).ok()
+        } else {
+            None
+        };
+        Progress {
+            rt,
+            due,
+            is_shown: false,
+            replayed: 0,
+            all: 0,
+        }
+    }
+
+    fn is_due(&self) -> bool {
+        match self.due {
+            Some(due) => matches!(due.elapsed(self.rt), Ok(past) if past.as_secs() >= PAUSE),
+            None => false,
+        }
+    }
+
+    // One more is replayed.
+    fn step(&mut self) {
+        if self.is_due() {
+            let _ = eprint!(self.rt;
+                "acd: {} of {} requests replayed\x1b[K\r",
+                self.replayed, self.all
+            );
+            self.due = Instant::now(self.rt).ok();
+            self.is_shown = true;
+        }
+        self.replayed = self.replayed.saturating_add(1);
+    }
+
+    fn end(&self) {
+        if self.is_shown {
+            let _ = eprint!(self.rt; "\x1b[K");
+        }
+    }
+}
+
+/// A book whose replay is watched: its records are asked for one after the other.
+#[derive(Drop)]
+pub(crate) struct Watched<'a, B: Book> {
+    inner: B,
+    progress: Progress<'a>,
+}
+
+impl<'a, B: Book> Watched<'a, B> {
+    pub(crate) fn new(inner: B, progress: Progress<'a>) -> Watched<'a, B> {
+        Watched { inner, progress }
+    }
+
+    /// Gives the book back.
+    pub(crate) fn into_inner(self) -> B {
+        let Watched { inner, progress } = self;
+        progress.end();
+        inner
+    }
+}
+
+impl<'a, B: Book> Book for Watched<'a, B> {
+    ghost state = { λ w. B.state w.inner };
+
+    ghost settled = { λ w. B.settled w.inner };
+
+    ghost stays = { λ w. B.stays w.inner };
+
+    ghost stands = { λ w. B.stands w.inner };
+
+    fn failures(&self) -> u64 {
+        self.inner.failures()
+    }
+
+    fn limits(&mut self) -> Result<Limits, BookFault> {
+        self.inner.limits()
+    }
+
+    fn rows(&mut self) -> Result<Rows, BookFault> {
+        match self.inner.rows() {
+            Ok(rows) => {
+                self.progress.all = rows.last_stamp;
+                Ok(rows)
+            }
+            Err(fault) => Err(fault),
+        }
+    }
+
+    fn kept(&mut self, requester: &Requester, invoke: Invoke) -> Result<Option<Kept>, BookFault> {
+        self.inner.kept(requester, invoke)
+    }
+
+    fn kept_after(&mut self, stamp: u64) -> Result<Option<Kept>, BookFault> {
+        self.progress.step();
+        self.inner.kept_after(stamp)
+    }
+
+    fn events_after(&mut self, number: u64, limit: usize) -> Result<Vec<Event>, BookFault> {
+        self.inner.events_after(number, limit)
+    }
+
+    fn events_of_monitor(
+        &mut self,
+        monitor: u64,
+        number: u64,
+        limit: usize,
+    ) -> Result<Vec<Event>, BookFault> {
+        self.inner.events_of_monitor(monitor, number, limit)
+    }
+
+    fn commit(&mut self, rows: &Rows, events: &[Event], kept: &Kept) -> Result<(), BookFault> {
+        self.inner.commit(rows, events, kept)
+    }
+
+    fn commit_changes(
+        &mut self,
+        changes: &[Change],
+        events: &[Event],
+        kept: &Kept,
+    ) -> Result<(), BookFault> {
+        self.inner.commit_changes(changes, events, kept)
+    }
+}

@@ -1,0 +1,92 @@
+//! A switch that executes what a desk does.
+
+ghost use Rattle.acd_terms.specs.Rules.First.{BreaksNoRule};
+
+use crate::look_ups::{self, same};
+use acd_codec::{outcome_status, reply_text};
+use acd_switch::Switch;
+use acd_terms::{Arrival, Command, Event, Limits, Outcome, Rows};
+use std::alloc::Global;
+use std::process::Abort;
+
+/// A switch beside a desk.
+#[derive(Drop)]
+pub struct Reference {
+    switch: Switch,
+    ghost rules: { BreaksNoRule switch },
+}
+
+// Executes a request.
+fn stepped(
+    rt: &impl Abort,
+    switch: &mut Switch,
+    moment: u32,
+    command: &Command,
+) -> (Outcome, Vec<Event>)
+    requires { BreaksNoRule switch.old }
+    ensures { BreaksNoRule switch.new }
+{
+    assert!(rt; !switch.is_full());
+    switch.step(moment, command).expect(rt, "memory")
+}
+
+impl Reference {
+    pub fn new(rt: &impl Abort, alloc: Global, limits: Limits) -> Reference {
+        assert!(rt; limits.fits());
+        Reference {
+            switch: Switch::new(alloc, limits),
+        }
+    }
+
+    /// A switch of these rows, which break no rule.
+    pub fn of_rows(rt: &impl Abort, alloc: Global, rows: &Rows) -> Reference {
+        match Switch::from_rows(alloc, rows) {
+            Ok(switch) => Reference { switch },
+            Err(_) => panic!(rt; "rows that break a rule"),
+        }
+    }
+
+    /// Executes a request.
+    pub fn step(
+        &mut self,
+        rt: &impl Abort,
+        moment: u32,
+        command: &Command,
+    ) -> (Outcome, Vec<Event>) {
+        stepped(rt, &mut self.switch, moment, command)
+    }
+
+    pub fn rows(&self, rt: &impl Abort) -> Rows {
+        self.switch.rows().expect(rt, "memory")
+    }
+
+    /// Executes a request whose key is new: it makes the answer line and the events. A full switch has made
+    /// no event, and answers nothing.
+    pub fn take(
+        &mut self,
+        rt: &impl Abort,
+        alloc: Global,
+        arrival: &Arrival,
+        answer: &str,
+        events: &[Event],
+    ) {
+        if self.switch.is_full() {
+            assert!(rt; events.is_empty());
+            return;
+        }
+        let request = &arrival.request;
+        let (outcome, made) = self.step(rt, arrival.moment, &request.command);
+        assert!(rt; made.as_slice() == events);
+        let body = reply_text(alloc, &request.requester, request.invoke, outcome);
+        let body = body.expect(rt, "memory");
+        let status = outcome_status(outcome);
+        let line = format!(in alloc; "{status} {body}").expect(rt, "memory");
+        assert_eq!(rt; answer, line.as_str());
+    }
+
+    /// It has these rows, and each look-up in its tables is their scan.
+    pub fn compare(&self, rt: &impl Abort, rows: &Rows) {
+        same(rt, &self.rows(rt), rows);
+        look_ups::compare(rt, &self.switch, rows);
+    }
+}

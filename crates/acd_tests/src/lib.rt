@@ -1,0 +1,24 @@
+//! Tests of the crates below by their public calls: what no contract says of them. Each module is named as its
+//! crate. They stand here so that no crate is proved a second time for its tests.
+#![tactic(auto)]
+
+#[cfg(test)]
+mod book;
+#[cfg(test)]
+mod codec;
+#[cfg(test)]
+mod comparing;
+#[cfg(test)]
+mod desk;
+#[cfg(test)]
+mod http;
+#[cfg(test)]
+mod lines;
+#[cfg(test)]
+mod reports;
+#[cfg(test)]
+mod switch;
+#[cfg(test)]
+mod tables;
+#[cfg(test)]
+mod terms;
