@@ -52,7 +52,9 @@ fn play_change(
     line: usize,
     change: &str,
 ) -> Result<(), SceneFault> {
-    let (wanted, sql) = change.split_once(' ').or_failed("a change")?;
+    let Some((wanted, sql)) = change.split_once(' ') else {
+        return Err(SceneFault::Expected("what is told, and a change"));
+    };
     let told = told(alloc, changed(alloc, book, sql)?)?;
     if told.as_str() == wanted {
         return Ok(());

@@ -2,7 +2,7 @@
 
 use crate::fault::{OrFailed, SceneFault, holds};
 use crate::files::{adopted, new_files};
-use crate::player::{opened, session, written};
+use crate::player::{opened, session, timed, written};
 use acd_book::Book;
 use acd_codec::read_request;
 use acd_desk::{Audit, Desk, Taken};
@@ -21,8 +21,7 @@ struct Scene {
 }
 
 fn arrival(alloc: Global, line: &str) -> Result<Arrival, SceneFault> {
-    let (digits, json) = line.split_once(' ').or_failed("a moment")?;
-    let moment = digits.parse::<u32>().or_failed("a moment")?;
+    let (moment, json) = timed(line)?;
     let request = read_request(alloc, json.as_bytes()).or_failed("a request")?;
     Ok(Arrival { moment, request })
 }

@@ -87,14 +87,22 @@ fn answered<B: Book + Drop>(
     Ok((output, desk.close()))
 }
 
+/// The moment of a request's line, and its JSON.
+pub fn timed(line: &str) -> Result<(u32, &str), SceneFault> {
+    let Some((digits, json)) = line.split_once(' ') else {
+        return Err(SceneFault::Expected("a moment"));
+    };
+    let moment = digits.parse::<u32>().or_failed("a moment")?;
+    Ok((moment, json))
+}
+
 // The request of the line, where it is one and its key isn't kept.
 fn new_arrival<B: Book>(
     alloc: Global,
     book: &mut B,
     asked: &str,
 ) -> Result<Option<Arrival>, SceneFault> {
-    let (digits, json) = asked.split_once(' ').or_failed("a moment")?;
-    let moment = digits.parse::<u32>().or_failed("a moment")?;
+    let (moment, json) = timed(asked)?;
     let Ok(request) = read_request(alloc, json.as_bytes()) else {
         return Ok(None);
     };
@@ -262,7 +270,9 @@ pub fn session(
     for text in texts {
         for line in text.lines() {
             if let Some(asked) = line.strip_prefix("> ") {
-                let (own, json) = asked.split_once(' ').or_failed("a moment")?;
+                let Some((own, json)) = asked.split_once(' ') else {
+                    return Err(SceneFault::Expected("a moment"));
+                };
                 let moment = moment.unwrap_or(own);
                 for part in [moment, " ", json, "\n"] {
                     input.push_str(part)?;

@@ -27,7 +27,9 @@ fn monitor_events<B: Book>(
     desk: &mut Desk<B>,
     numbers: &str,
 ) -> Result<Option<String>, SceneFault> {
-    let (monitor, after) = numbers.split_once(' ').or_failed("two numbers")?;
+    let Some((monitor, after)) = numbers.split_once(' ') else {
+        return Err(SceneFault::Expected("two numbers"));
+    };
     Ok(desk.monitor_events(number(monitor)?, number(after)?)?)
 }
 
@@ -56,9 +58,9 @@ fn told_of_many<B: Book>(
 /// What the desk tells of what is asked: `agent 7`, `call 1`, `device 201`, `queue 100`, `events 10`,
 /// `monitor 1 9`, `report 40` or `export all`.
 pub fn told<B: Book>(desk: &mut Desk<B>, asked: &str) -> Result<Option<String>, SceneFault> {
-    let (what, of) = asked
-        .split_once(' ')
-        .or_failed("what is read, and of what")?;
+    let Some((what, of)) = asked.split_once(' ') else {
+        return Err(SceneFault::Expected("what is read, and of what"));
+    };
     if what == "agent" {
         Ok(desk.agent(agent(of)?)?)
     } else if what == "call" {

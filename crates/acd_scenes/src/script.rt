@@ -84,7 +84,9 @@ fn limits_of(alloc: Global, numbers: &str) -> Result<Limits, SceneFault> {
 // What is said of a scene and its parts: the name, behind it the limits where they aren't the greatest, and
 // the parts' names.
 fn read_scene<'a>(alloc: Global, said: &'a str) -> Result<(&'a str, Limits, &'a str), SceneFault> {
-    let (scene, names) = said.split_once(": ").or_failed("parts")?;
+    let Some((scene, names)) = said.split_once(": ") else {
+        return Err(SceneFault::Expected("parts of a scene"));
+    };
     match scene.split_once(" within ") {
         Some((name, numbers)) => Ok((name, limits_of(alloc, numbers)?, names)),
         None => Ok((scene, Limits::GREATEST, names)),
@@ -138,7 +140,9 @@ impl<'a> Script<'a> {
 
     // The parts of a scene with the greatest limits.
     fn parts<'b, 's>(&'s self, said: &'b str) -> Result<(&'b str, Vec<&'s str>), SceneFault> {
-        let (name, names) = said.split_once(": ").or_failed("parts")?;
+        let Some((name, names)) = said.split_once(": ") else {
+            return Err(SceneFault::Expected("parts of a scene"));
+        };
         Ok((name, texts_of(self.alloc, &self.parts, names)?))
     }
 
