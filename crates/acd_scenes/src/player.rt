@@ -301,7 +301,8 @@ fn send<B: Book>(
     )
 }
 
-fn held_by<B: Book>(book: &mut B) -> Result<(Rows, Vec<Event>), SceneFault> {
+/// The rows and all events of the book.
+pub fn held_by<B: Book>(book: &mut B) -> Result<(Rows, Vec<Event>), SceneFault> {
     let rows = book.rows()?;
     let events = book.events_after(0, ALL)?;
     Ok((rows, events))

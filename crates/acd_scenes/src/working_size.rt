@@ -4,19 +4,17 @@
 //! group, and sixty calls, five in each group: twenty are offered, and forty wait.
 
 use crate::fault::{OrFailed, SceneFault, holds, same};
-use crate::player::opened;
+use crate::player::{held_by, opened};
 use crate::reference::Reference;
 use crate::reports::ALL;
 use crate::script::database;
 use acd_book::{Book, BookFault, Kept, MemoryBook, Text};
 use acd_desk::{Desk, Taken};
-use acd_sqlbook::SqlBook;
 use acd_tables::{Records, Tables};
 use acd_terms::{
     AgentId, Arrival, Command, DeviceId, Event, Figures, Invoke, Limits, Name, Pending, Request,
     Requested, Requester, Rows, Seconds, scans,
 };
-use sqlite::MemStore;
 use std::alloc::Global;
 
 // How many requests make the office, and how many events they report: 40 log on, 20 become ready, 60
@@ -175,16 +173,20 @@ fn office<B: Book + Drop>(alloc: Global, book: B) -> Result<B, SceneFault> {
     Ok(desk.close())
 }
 
-fn office_in_memory(alloc: Global) -> Result<MemoryBook, SceneFault> {
-    office(alloc, MemoryBook::new(alloc, Limits::GREATEST))
+// All that the book then holds.
+fn held_after<B: Book + Drop>(alloc: Global, book: B) -> Result<(Rows, Vec<Event>), SceneFault> {
+    let mut book = office(alloc, book)?;
+    held_by(&mut book)
 }
 
-fn office_in_database(alloc: Global) -> Result<SqlBook<MemStore>, SceneFault> {
-    office(alloc, database(alloc, Limits::GREATEST)?)
+fn rows_in_memory(alloc: Global) -> Result<Rows, SceneFault> {
+    let (rows, _) = held_after(alloc, MemoryBook::new(alloc, Limits::GREATEST))?;
+    Ok(rows)
 }
 
-fn events_of<B: Book>(book: &mut B) -> Result<Vec<Event>, SceneFault> {
-    Ok(book.events_after(0, ALL)?)
+fn rows_in_database(alloc: Global) -> Result<Rows, SceneFault> {
+    let (rows, _) = held_after(alloc, database(alloc, Limits::GREATEST)?)?;
+    Ok(rows)
 }
 
 // Twelve groups and their monitors, forty stations and agents, and sixty calls of two connections.
@@ -220,15 +222,11 @@ fn expect_all(rows: &Rows) -> Result<(), SceneFault> {
 }
 
 fn rows_of_an_office(alloc: Global) -> Result<(), SceneFault> {
-    let rows = office_in_memory(alloc)?.rows()?;
+    let rows = rows_in_memory(alloc)?;
     expect_all(&rows)?;
     same(&rows.clone()?, &rows, "a copy of the rows")?;
     expect_loaded(alloc, &rows)?;
-    same(
-        &office_in_database(alloc)?.rows()?,
-        &rows,
-        "the rows in a database",
-    )
+    same(&rows_in_database(alloc)?, &rows, "the rows in a database")
 }
 
 // Records and tables are made of the rows, and give them back.
@@ -240,14 +238,14 @@ fn expect_loaded(alloc: Global, rows: &Rows) -> Result<(), SceneFault> {
 }
 
 fn switch_of_an_office(alloc: Global) -> Result<(), SceneFault> {
-    let rows = office_in_memory(alloc)?.rows()?;
+    let rows = rows_in_memory(alloc)?;
     same(&scans::queued_count(&rows), &40, "calls that wait")?;
     Reference::of_rows(alloc, &rows)?.compare(&rows)
 }
 
 // All offers are taken back at one tick, each with three events.
 fn tick_of_an_office(alloc: Global) -> Result<(), SceneFault> {
-    let rows = office_in_memory(alloc)?.rows()?;
+    let rows = rows_in_memory(alloc)?;
     let mut switch = Reference::of_rows(alloc, &rows)?;
     let (_, events) = switch.step(20, &Command::Tick)?;
     same(&events.len(), &60, "events of a tick")?;
@@ -256,28 +254,34 @@ fn tick_of_an_office(alloc: Global) -> Result<(), SceneFault> {
     switch.compare(&rows)
 }
 
-// The desk takes twenty offers back at one tick, and twenty agents end their after-call work at another:
-// each reports it, and a call leaves its queue and rings.
-fn two_ticks<B: Book + Drop>(alloc: Global, book: B) -> Result<(), SceneFault> {
+// Two ticks, and between them the first twenty agents ask for after-call work.
+fn two_ticks(alloc: Global) -> Result<Asking, SceneFault> {
     let mut asking = Asking::new(alloc, 20, REQUESTS);
     asking.ask(Command::Tick)?;
     asking.ask_for(Pending::WorkingAfterCall)?;
     asking.moment = 50;
     asking.ask(Command::Tick)?;
-    let mut desk = opened(alloc, book)?;
-    run_all(&mut desk, &asking)?;
-    let rows = desk.close().rows()?;
+    Ok(asking)
+}
+
+// The rows of the book after all that made the office, and two ticks.
+fn rows_after_ticks<B: Book + Drop>(alloc: Global, book: B) -> Result<Rows, SceneFault> {
+    let mut desk = opened(alloc, office(alloc, book)?)?;
+    run_all(&mut desk, &two_ticks(alloc)?)?;
+    let mut book = desk.close();
+    Ok(book.rows()?)
+}
+
+// The desk takes twenty offers back at one tick, and twenty agents end their after-call work at another:
+// each reports it, and a call leaves its queue and rings.
+fn desk_of_an_office<B: Book + Drop>(alloc: Global, book: B) -> Result<(), SceneFault> {
+    let rows = rows_after_ticks(alloc, book)?;
     same(
         &rows.last_event,
         &(EVENTS + 60 + 20 + 60),
         "events of two ticks",
     )?;
     Reference::of_rows(alloc, &rows)?.compare(&rows)
-}
-
-fn desk_of_an_office(alloc: Global) -> Result<(), SceneFault> {
-    two_ticks(alloc, office_in_memory(alloc)?)?;
-    two_ticks(alloc, office_in_database(alloc)?)
 }
 
 // The numbers of the events go on by one from the first.
@@ -291,17 +295,12 @@ fn expect_numbers(events: &[Event], first: u64) -> Result<(), SceneFault> {
 }
 
 fn expect_events<B: Book>(book: &mut B) -> Result<(), SceneFault> {
-    let events = events_of(book)?;
+    let events = book.events_after(0, ALL)?;
     same(&(events.len() as u64), &EVENTS, "all events")?;
     expect_numbers(&events, 1)?;
     let some = book.events_after(101, 25)?;
     same(&some.len(), &25, "some events")?;
     expect_numbers(&some, 102)
-}
-
-fn events_of_an_office(alloc: Global) -> Result<(), SceneFault> {
-    expect_events(&mut office_in_memory(alloc)?)?;
-    expect_events(&mut office_in_database(alloc)?)
 }
 
 // How many events of a group's monitor, at most.
@@ -331,11 +330,6 @@ fn expect_watched<B: Book>(book: &mut B) -> Result<(), SceneFault> {
     Ok(())
 }
 
-fn monitors_of_an_office(alloc: Global) -> Result<(), SceneFault> {
-    expect_watched(&mut office_in_memory(alloc)?)?;
-    expect_watched(&mut office_in_database(alloc)?)
-}
-
 fn stamp_after<B: Book>(book: &mut B, stamp: u64) -> Result<Option<u64>, SceneFault> {
     match book.kept_after(stamp)? {
         Some(kept) => Ok(Some(kept.stamp)),
@@ -361,9 +355,12 @@ fn expect_kept<B: Book>(book: &mut B) -> Result<(), SceneFault> {
     same(&stamp_of(book, REQUESTS + 1)?, &None, "no stamp of a key")
 }
 
-fn kept_replies_of_an_office(alloc: Global) -> Result<(), SceneFault> {
-    expect_kept(&mut office_in_memory(alloc)?)?;
-    expect_kept(&mut office_in_database(alloc)?)
+// The events, the monitors and the kept replies of the book after all that made the office.
+fn reads_of_an_office<B: Book + Drop>(alloc: Global, book: B) -> Result<(), SceneFault> {
+    let mut book = office(alloc, book)?;
+    expect_events(&mut book)?;
+    expect_watched(&mut book)?;
+    expect_kept(&mut book)
 }
 
 fn first_record(alloc: Global) -> Result<Kept, SceneFault> {
@@ -377,28 +374,27 @@ fn first_record(alloc: Global) -> Result<Kept, SceneFault> {
 }
 
 // A new book takes all tables and all events by one commit, and not the same record twice.
-fn expect_committed<B: Book>(
+fn expect_committed<B: Book + Drop>(
     alloc: Global,
-    copy: &mut B,
+    copy: B,
     office: &(Rows, Vec<Event>),
     refused: BookFault,
 ) -> Result<(), SceneFault> {
+    let mut copy = copy;
     let (rows, events) = office;
     let record = first_record(alloc)?;
-    committed(copy, rows, events, &record)?;
-    same(&copy.rows()?, rows, "the rows of a commit")?;
-    same(&events_of(copy)?, events, "the events of a commit")?;
-    let again = committed(copy, rows, &[], &record);
+    committed(&mut copy, rows, events, &record)?;
+    same(&held_by(&mut copy)?, office, "what is committed")?;
+    let again = committed(&mut copy, rows, &[], &record);
     same(&again, &Err(refused), "no record twice")
 }
 
 fn commit_of_an_office(alloc: Global) -> Result<(), SceneFault> {
-    let mut book = office_in_memory(alloc)?;
-    let office = (book.rows()?, events_of(&mut book)?);
-    let mut copy = MemoryBook::new(alloc, Limits::GREATEST);
-    expect_committed(alloc, &mut copy, &office, BookFault::NoMemory)?;
-    let mut copy = database(alloc, Limits::GREATEST)?;
-    expect_committed(alloc, &mut copy, &office, BookFault::Store)
+    let office = held_after(alloc, MemoryBook::new(alloc, Limits::GREATEST))?;
+    let copy = MemoryBook::new(alloc, Limits::GREATEST);
+    expect_committed(alloc, copy, &office, BookFault::NoMemory)?;
+    let copy = database(alloc, Limits::GREATEST)?;
+    expect_committed(alloc, copy, &office, BookFault::Store)
 }
 
 // The commit, without its clauses.
@@ -416,9 +412,9 @@ pub fn play(alloc: Global) -> Result<(), SceneFault> {
     rows_of_an_office(alloc)?;
     switch_of_an_office(alloc)?;
     tick_of_an_office(alloc)?;
-    desk_of_an_office(alloc)?;
-    events_of_an_office(alloc)?;
-    monitors_of_an_office(alloc)?;
-    kept_replies_of_an_office(alloc)?;
+    desk_of_an_office(alloc, MemoryBook::new(alloc, Limits::GREATEST))?;
+    desk_of_an_office(alloc, database(alloc, Limits::GREATEST)?)?;
+    reads_of_an_office(alloc, MemoryBook::new(alloc, Limits::GREATEST))?;
+    reads_of_an_office(alloc, database(alloc, Limits::GREATEST)?)?;
     commit_of_an_office(alloc)
 }
