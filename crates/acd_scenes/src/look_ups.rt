@@ -1,178 +1,230 @@
 //! Each look-up of the switch's tables is the scan of the rows, after each request of the scenes.
 
+use crate::fault::{OrFailed, SceneFault, holds, same};
 use acd_switch::Switch;
 use acd_tables::Tables;
 use acd_terms::{AgentRecord, CallRecord, ConnectionRecord, DeviceId, Rows, scans};
-use std::fmt::Debug;
-use std::process::Abort;
 
-/// The two are the same. Where it is asked in many places, a proof of each takes less than with `assert_eq!`.
-pub fn same<T: PartialEq + Debug>(rt: &impl Abort, left: &T, right: &T) {
-    assert_eq!(rt; *left, *right);
-}
-
-fn compare_device(rt: &impl Abort, tables: &Tables, rows: &Rows, device: DeviceId) {
-    same(rt, &tables.group(device), &scans::group_of(rows, device));
+fn compare_records_of(tables: &Tables, rows: &Rows, device: DeviceId) -> Result<(), SceneFault> {
     same(
-        rt,
+        &tables.group(device),
+        &scans::group_of(rows, device),
+        "group",
+    )?;
+    same(
         &tables.station(device),
         &scans::station_of(rows, device),
-    );
+        "station",
+    )?;
     same(
-        rt,
-        &tables.is_planned(device),
-        &scans::is_planned(rows, device),
-    );
+        &tables.agent_at(device),
+        &scans::agent_at(rows, device),
+        "agent at a station",
+    )?;
     same(
-        rt,
-        &tables.is_calling(device),
-        &scans::is_calling(rows, device),
-    );
-    same(rt, &tables.is_used(device), &scans::is_used(rows, device));
-    same(rt, &tables.agent_at(device), &scans::agent_at(rows, device));
-    same(
-        rt,
-        &tables.is_live_at(device),
-        &scans::is_live_at(rows, device),
-    );
-    same(rt, &tables.is_idle(device), &scans::is_idle(rows, device));
-    same(
-        rt,
         &tables.first_waiting(device),
         &scans::first_waiting(rows, device),
-    );
+        "first waiting call",
+    )?;
     same(
-        rt,
         &tables.first_eligible(device),
         &scans::first_eligible(rows, device),
-    );
+        "first eligible agent",
+    )
 }
 
-fn compare_agent(rt: &impl Abort, tables: &Tables, rows: &Rows, agent: &AgentRecord) {
-    same(rt, &tables.agent(agent.agent), &Some(*agent));
+fn compare_uses_of(tables: &Tables, rows: &Rows, device: DeviceId) -> Result<(), SceneFault> {
     same(
-        rt,
+        &tables.is_planned(device),
+        &scans::is_planned(rows, device),
+        "planned device",
+    )?;
+    same(
+        &tables.is_calling(device),
+        &scans::is_calling(rows, device),
+        "calling device",
+    )?;
+    same(
+        &tables.is_used(device),
+        &scans::is_used(rows, device),
+        "used device",
+    )?;
+    same(
+        &tables.is_live_at(device),
+        &scans::is_live_at(rows, device),
+        "live device",
+    )?;
+    same(
+        &tables.is_idle(device),
+        &scans::is_idle(rows, device),
+        "idle device",
+    )
+}
+
+fn compare_device(tables: &Tables, rows: &Rows, device: DeviceId) -> Result<(), SceneFault> {
+    compare_records_of(tables, rows, device)?;
+    compare_uses_of(tables, rows, device)
+}
+
+fn compare_agent(tables: &Tables, rows: &Rows, agent: &AgentRecord) -> Result<(), SceneFault> {
+    same(&tables.agent(agent.agent), &Some(*agent), "agent")?;
+    same(
         &tables.is_occupied(agent),
         &scans::is_occupied(rows, agent),
-    );
+        "occupied agent",
+    )?;
     for group in &rows.groups {
         same(
-            rt,
             &tables.is_eligible(group.device, agent),
             &scans::is_eligible(rows, group.device, agent),
-        );
+            "eligible agent",
+        )?;
     }
+    Ok(())
 }
 
-fn compare_call(rt: &impl Abort, tables: &Tables, rows: &Rows, call: &CallRecord) {
-    same(rt, &tables.call(call.call), &Some(*call));
+fn compare_call(tables: &Tables, rows: &Rows, call: &CallRecord) -> Result<(), SceneFault> {
+    same(&tables.call(call.call), &Some(*call), "call")?;
     same(
-        rt,
         &tables.connections_of(call.call),
         &scans::connections_of(rows, call.call),
-    );
-    compare_device(rt, tables, rows, call.caller);
+        "connections of a call",
+    )?;
+    compare_device(tables, rows, call.caller)
 }
 
 fn compare_connection(
-    rt: &impl Abort,
     tables: &Tables,
     rows: &Rows,
     connection: &ConnectionRecord,
-) {
+) -> Result<(), SceneFault> {
     same(
-        rt,
         &tables.connection(connection.call, connection.device),
         &Some(*connection),
-    );
+        "connection",
+    )?;
     same(
-        rt,
         &tables.other_of(connection),
         &scans::other_of(rows, connection),
-    );
+        "other connection",
+    )
 }
 
 // The calls that wait in the group.
-fn compare_queue(rt: &impl Abort, tables: &Tables, rows: &Rows, group: DeviceId) {
-    let queue = tables.queue_of(group).expect(rt, "a group");
+fn compare_queue(tables: &Tables, rows: &Rows, group: DeviceId) -> Result<(), SceneFault> {
+    let queue = tables.queue_of(group).or_failed("the queue of a group")?;
     let mut waiting = 0usize;
     for connection in &rows.connections {
         if connection.device == group && connection.state.is_queued() {
-            let place = connection.place.expect(rt, "a place");
-            assert!(rt; queue.contains(&(place, connection.call)));
+            let place = connection
+                .place
+                .or_failed("the place of a call that waits")?;
+            holds(
+                queue.contains(&(place, connection.call)),
+                "a call that waits is queued",
+            )?;
             waiting = waiting.saturating_add(1);
         }
     }
-    same(rt, &queue.len(), &waiting);
+    same(&queue.len(), &waiting, "calls that wait")
 }
 
 // The agents to whom a call of the group may be offered.
-fn compare_ready(rt: &impl Abort, tables: &Tables, rows: &Rows, group: DeviceId) {
-    let ready = tables.ready_of(group).expect(rt, "a group");
+fn compare_ready(tables: &Tables, rows: &Rows, group: DeviceId) -> Result<(), SceneFault> {
+    let ready = tables
+        .ready_of(group)
+        .or_failed("the ready agents of a group")?;
     let mut eligible = 0usize;
     for agent in &rows.agents {
         if scans::is_eligible(rows, group, agent) {
-            assert!(rt; ready.contains(&(agent.stamp, agent.agent)));
+            holds(
+                ready.contains(&(agent.stamp, agent.agent)),
+                "an eligible agent is ready",
+            )?;
             eligible = eligible.saturating_add(1);
         }
     }
-    same(rt, &ready.len(), &eligible);
+    same(&ready.len(), &eligible, "eligible agents")
 }
 
 // The numbers up to the last one and the one behind it, of calls and monitors that are gone too.
-fn compare_numbers(rt: &impl Abort, tables: &Tables, rows: &Rows) {
+fn compare_numbers(tables: &Tables, rows: &Rows) -> Result<(), SceneFault> {
     for call in 0..=rows.last_call {
-        same(rt, &tables.call(call), &scans::call_of(rows, call));
+        same(
+            &tables.call(call),
+            &scans::call_of(rows, call),
+            "call of a number",
+        )?;
     }
     for monitor in 0..=rows.last_monitor {
         same(
-            rt,
             &tables.monitor(monitor),
             &scans::monitor_of(rows, monitor),
-        );
+            "monitor of a number",
+        )?;
     }
-    same(rt, &tables.queued_count(), &scans::queued_count(rows));
+    same(
+        &tables.queued_count(),
+        &scans::queued_count(rows),
+        "count of queued calls",
+    )
 }
 
 // The figures of each group; a station has none.
-fn compare_figures(rt: &impl Abort, switch: &Switch, rows: &Rows) {
+fn compare_figures(switch: &Switch, rows: &Rows) -> Result<(), SceneFault> {
     for group in &rows.groups {
-        same(rt, &switch.figures(group.device), &Some(group.figures));
+        same(
+            &switch.figures(group.device),
+            &Some(group.figures),
+            "figures of a group",
+        )?;
     }
     for station in &rows.stations {
-        assert!(rt; switch.figures(station.device).is_none());
+        holds(
+            switch.figures(station.device).is_none(),
+            "no figures of a station",
+        )?;
     }
+    Ok(())
 }
 
 /// Compares them all with the rows, which are the switch's own.
-pub fn compare(rt: &impl Abort, switch: &Switch, rows: &Rows) {
-    compare_devices(rt, switch.tables(), rows);
-    compare_records(rt, switch.tables(), rows);
-    compare_numbers(rt, switch.tables(), rows);
-    compare_figures(rt, switch, rows);
+pub fn compare(switch: &Switch, rows: &Rows) -> Result<(), SceneFault> {
+    compare_devices(switch.tables(), rows)?;
+    compare_records(switch.tables(), rows)?;
+    compare_numbers(switch.tables(), rows)?;
+    compare_figures(switch, rows)
 }
 
-fn compare_devices(rt: &impl Abort, tables: &Tables, rows: &Rows) {
+fn compare_devices(tables: &Tables, rows: &Rows) -> Result<(), SceneFault> {
     for group in &rows.groups {
-        compare_device(rt, tables, rows, group.device);
-        compare_queue(rt, tables, rows, group.device);
-        compare_ready(rt, tables, rows, group.device);
+        compare_device(tables, rows, group.device)?;
+        compare_queue(tables, rows, group.device)?;
+        compare_ready(tables, rows, group.device)?;
     }
     for station in &rows.stations {
-        compare_device(rt, tables, rows, station.device);
-        assert!(rt; tables.queue_of(station.device).is_none());
-        assert!(rt; tables.ready_of(station.device).is_none());
+        compare_device(tables, rows, station.device)?;
+        holds(
+            tables.queue_of(station.device).is_none(),
+            "no queue of a station",
+        )?;
+        holds(
+            tables.ready_of(station.device).is_none(),
+            "no ready agents of a station",
+        )?;
     }
+    Ok(())
 }
 
-fn compare_records(rt: &impl Abort, tables: &Tables, rows: &Rows) {
+fn compare_records(tables: &Tables, rows: &Rows) -> Result<(), SceneFault> {
     for agent in &rows.agents {
-        compare_agent(rt, tables, rows, agent);
+        compare_agent(tables, rows, agent)?;
     }
     for call in &rows.calls {
-        compare_call(rt, tables, rows, call);
+        compare_call(tables, rows, call)?;
     }
     for connection in &rows.connections {
-        compare_connection(rt, tables, rows, connection);
+        compare_connection(tables, rows, connection)?;
     }
+    Ok(())
 }

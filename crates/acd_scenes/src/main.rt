@@ -3,6 +3,7 @@
 #![tactic(auto)]
 
 mod altered;
+mod fault;
 mod files;
 mod fused;
 mod held;
@@ -14,6 +15,7 @@ mod reports;
 mod script;
 mod working_size;
 
+use script::Script;
 use std::io::{self, Read, Write};
 use std::process::ExitCode;
 
@@ -22,9 +24,16 @@ fn main(rt: HostRuntime) -> ExitCode {
     if rt.reader().read_to_string(&mut input).is_err() {
         return ExitCode::FAILURE;
     }
-    let told = script::told(&rt, rt.alloc(), input.as_str());
-    match io::writer(&rt).write_all(told.as_bytes()) {
+    let mut script = Script::new(rt.alloc());
+    let played = script.play(input.as_str());
+    if io::writer(&rt).write_all(script.told().as_bytes()).is_err() {
+        return ExitCode::FAILURE;
+    }
+    match played {
         Ok(()) => ExitCode::SUCCESS,
-        Err(_) => ExitCode::FAILURE,
+        Err((line, fault)) => {
+            let _ = eprintln!(rt; "acd_scenes: {line}: {fault}");
+            ExitCode::FAILURE
+        }
     }
 }
