@@ -17,8 +17,6 @@ mod running;
 mod serving;
 mod session;
 mod task;
-#[cfg(test)]
-mod tests;
 
 pub use connection::{ConnectionFault, lines_over_connection};
 pub use memory::{lines_over_memory, new_desk};

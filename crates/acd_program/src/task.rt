@@ -7,7 +7,7 @@ use std::alloc::{AllocError, Global};
 use std::convert::AsStr;
 
 /// What a command line asks for, with the paths that it names.
-#[derive(Clone, Copy, Debug, PartialEq, Eq)]
+#[derive(Clone, Copy)]
 pub(crate) enum Task<'a> {
     /// Answer the lines of standard input, over a desk in memory or in a file.
     Lines {

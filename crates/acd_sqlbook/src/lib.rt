@@ -16,8 +16,6 @@
 #![tactic(auto)]
 
 mod adopt;
-#[cfg(test)]
-mod adopt_tests;
 mod bind;
 mod book;
 mod codes;
@@ -25,8 +23,6 @@ mod commit;
 mod create;
 mod decode;
 mod difference;
-#[cfg(test)]
-mod difference_tests;
 mod fault;
 pub mod laws;
 mod look;
@@ -38,8 +34,6 @@ mod reads;
 mod ready;
 mod same;
 mod shape;
-#[cfg(test)]
-mod tests;
 mod transition;
 mod values;
 mod write;

@@ -151,17 +151,13 @@ fn traffic_changes(alloc: Global, held: &Rows, new: &Rows) -> Result<Vec<Change>
     Ok(changes)
 }
 
-/// The changes from the tables that are held to new ones, in an order that keeps each reference and each
-/// key at each step, where both states keep them.
-///
-/// Groups and stations come before agents, and agents give their stations up before others take them.
-/// Connections go before their calls, and calls come before their connections. A group, a station or an
-/// agent that is gone is named by [`Change::Nothing`].
-pub(crate) fn rows_changes(
-    alloc: Global,
-    held: &Rows,
-    new: &Rows,
-) -> Result<Vec<Change>, AllocError>
+// The changes from the tables that are held to new ones, in an order that keeps each reference and each
+// key at each step, where both states keep them.
+//
+// Groups and stations come before agents, and agents give their stations up before others take them.
+// Connections go before their calls, and calls come before their connections. A group, a station or an
+// agent that is gone is named by [`Change::Nothing`].
+fn rows_changes(alloc: Global, held: &Rows, new: &Rows) -> Result<Vec<Change>, AllocError>
     ensures { IfOk result (λ changes. Lead held.now new.now changes.items) }
 {
     let mut changes = plan_changes(alloc, held, new)?;

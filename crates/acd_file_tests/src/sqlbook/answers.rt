@@ -1,9 +1,11 @@
 //! What a book in memory answers of a commit.
 
-use super::commits::{commit_first, new_book};
-use crate::book::SqlBook;
+use super::commits::commit_first;
+use super::{expect_limits, new_book};
+use crate::comparing::same;
 use acd_book::{Book, BookFault, Kept};
-use acd_terms::{Event, Invoke, Limits, Requester};
+use acd_sqlbook::SqlBook;
+use acd_terms::{Event, Invoke, Requester};
 use sqlite::MemStore;
 use std::process::Abort;
 
@@ -27,7 +29,8 @@ fn number_of(rt: &impl Abort, found: Result<Vec<Event>, BookFault>) -> Option<u6
     }
 }
 
-pub(crate) fn under(rt: &impl Abort, book: &mut SqlBook<MemStore>, invoke: u64) -> Option<u64> {
+/// The stamp that is kept under an invoke number.
+pub fn under(rt: &impl Abort, book: &mut SqlBook<MemStore>, invoke: u64) -> Option<u64> {
     let requester = Requester::read(b"plan").expect(rt, "a requester");
     let invoke = Invoke::new(invoke).expect(rt, "an invoke number");
     let found = book.kept(&requester, invoke);
@@ -39,11 +42,8 @@ fn after(rt: &impl Abort, book: &mut SqlBook<MemStore>, stamp: u64) -> Option<u6
     stamp_of(rt, found)
 }
 
-pub(crate) fn event_after(
-    rt: &impl Abort,
-    book: &mut SqlBook<MemStore>,
-    number: u64,
-) -> Option<u64> {
+/// The number of the first event behind a number.
+pub fn event_after(rt: &impl Abort, book: &mut SqlBook<MemStore>, number: u64) -> Option<u64> {
     let found = book.events_after(number, 10);
     number_of(rt, found)
 }
@@ -53,7 +53,8 @@ fn event_of(rt: &impl Abort, book: &mut SqlBook<MemStore>, monitor: u64) -> Opti
     number_of(rt, found)
 }
 
-pub(crate) fn stations(rt: &impl Abort, book: &mut SqlBook<MemStore>) -> u64 {
+/// How many stations there are.
+pub fn stations(rt: &impl Abort, book: &mut SqlBook<MemStore>) -> u64 {
     match book.rows() {
         Ok(rows) => rows.stations.as_slice().len() as u64,
         Err(_) => panic!(rt; "a fault"),
@@ -65,17 +66,17 @@ fn a_book_answers_of_a_commit(rt: HostRuntime) {
     let mut book = new_book(&rt, rt.alloc());
     commit_first(&rt, rt.alloc(), &mut book);
     for (invoke, stamp) in [(1, Some(1)), (2, None)] {
-        assert_eq!(rt; under(&rt, &mut book, invoke), stamp);
+        same(&rt, &under(&rt, &mut book, invoke), &stamp);
     }
     for (stamp, next) in [(0, Some(1)), (1, None), (u64::MAX, None)] {
-        assert_eq!(rt; after(&rt, &mut book, stamp), next);
+        same(&rt, &after(&rt, &mut book, stamp), &next);
     }
     for (number, next) in [(0, Some(1)), (1, None), (u64::MAX, None)] {
-        assert_eq!(rt; event_after(&rt, &mut book, number), next);
+        same(&rt, &event_after(&rt, &mut book, number), &next);
     }
     for (monitor, event) in [(3, Some(1)), (4, None), (u64::MAX, None)] {
-        assert_eq!(rt; event_of(&rt, &mut book, monitor), event);
+        same(&rt, &event_of(&rt, &mut book, monitor), &event);
     }
-    assert_eq!(rt; stations(&rt, &mut book), 1);
-    assert_eq!(rt; book.limits().expect(&rt, "the limits"), Limits::GREATEST);
+    same(&rt, &stations(&rt, &mut book), &1);
+    expect_limits(&rt, &mut book);
 }

@@ -1,6 +1,6 @@
 //! The program over three streams, with no file.
 
-use super::scripts::{FIRST_ANSWERS, FIRST_RUN, gives, refuses};
+use super::scripts::{FIRST_ANSWERS, FIRST_RUN, gives};
 use std::process::Abort;
 
 const REPORT_HELP: &str = "Print the queue report at the last executed moment
@@ -98,12 +98,4 @@ fn refusals_of_words(rt: HostRuntime) {
         "1",
     ];
     assert!(rt; gives(&rt, &words, "", 2, "", no_port()));
-}
-
-#[test]
-fn refused_command_lines(rt: HostRuntime) {
-    assert!(rt; refuses(&rt, &["acd"]));
-    assert!(rt; refuses(&rt, &["acd", "rows"]));
-    assert!(rt; refuses(&rt, &["acd", "audit"]));
-    assert!(rt; refuses(&rt, &["acd", "import", "--file", "desk.db"]));
 }

@@ -86,6 +86,32 @@ fn file_in_use(rt: HostRuntime) {
     let _ = remove(&rt, file.as_str());
 }
 
+// A call, whose event is to have a number that one in the file has, and a station.
+fn next_run() -> &'static str {
+    r#"20 {"requester":"pbx","invoke":2,"service":"arriveCall","caller":"0301235","called":"100"}
+20 {"requester":"plan","invoke":3,"service":"addStation","device":"202"}
+"#
+}
+
+fn store_faults() -> &'static str {
+    r#"503 {"error":{"code":34,"name":"storeFault"}}
+503 {"error":{"code":34,"name":"storeFault"}}
+"#
+}
+
+#[test]
+fn store_faults_of_a_file(rt: HostRuntime) {
+    let file = free_path(&rt, "failing.db").expect(&rt, "a path");
+    let file = file.as_str();
+    assert!(rt; is_changed(&rt, file, "UPDATE meta SET last_event = 0"));
+    let words = ["acd", "lines", "--end-on-store-fault", "--file", file];
+    let fault = "acd: store fault\n";
+    assert!(rt; gives(&rt, &words, next_run(), 1, store_faults(), fault));
+    let words = ["acd", "lines", "--file", file];
+    assert!(rt; gives(&rt, &words, next_run(), 0, store_faults(), ""));
+    let _ = remove(&rt, file);
+}
+
 // The moment of an event, and a station that no request has added.
 fn differences() -> [(&'static str, &'static str); 2] {
     [

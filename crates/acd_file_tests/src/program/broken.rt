@@ -2,7 +2,7 @@
 
 use super::files::{free_path, remove};
 use super::scripts::{FIRST_RUN, gives};
-use crate::running::program;
+use acd_program::program;
 use std::io::{self, ErrorKind, Read, Write};
 use std::process::Abort;
 

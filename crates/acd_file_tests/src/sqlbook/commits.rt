@@ -1,32 +1,17 @@
 //! Commits of changes over a book in memory: what they leave in the tables, and a commit that is refused.
 
-use super::number;
-use crate::book::SqlBook;
+use super::records::{device, station};
+use super::{expect_limits, expect_numbers, new_book};
+use crate::comparing::same;
 use acd_book::{Book, BookFault, Kept, Text};
-use acd_terms::{
-    Change, Command, DeviceId, Event, Invoke, Limits, MonitorRecord, Report, Request, Requester,
-    StationRecord,
-};
-use sqlite::{Connection, MemStore};
+use acd_sqlbook::SqlBook;
+use acd_terms::{Change, Command, Event, Invoke, MonitorRecord, Report, Request, Requester};
+use sqlite::MemStore;
 use std::alloc::Global;
 use std::process::Abort;
 
-pub(crate) fn new_book(rt: &impl Abort, alloc: Global) -> SqlBook<MemStore> {
-    match Connection::open_in_memory(alloc) {
-        Ok(conn) => match SqlBook::create(alloc, conn, Limits::GREATEST) {
-            Ok(book) => book,
-            Err(_) => panic!(rt; "no book"),
-        },
-        Err(_) => panic!(rt; "no memory"),
-    }
-}
-
-fn station(rt: &impl Abort) -> DeviceId {
-    DeviceId::read(b"201").expect(rt, "a device")
-}
-
-// The record of a stamp, kept under an invoke number.
-pub(super) fn record(rt: &impl Abort, alloc: Global, stamp: u64, invoke: u64) -> Kept {
+/// The record of a stamp, kept under an invoke number.
+pub fn record(rt: &impl Abort, alloc: Global, stamp: u64, invoke: u64) -> Kept {
     let body = String::from_str(alloc, "{}").expect(rt, "memory");
     Kept {
         stamp,
@@ -35,7 +20,7 @@ pub(super) fn record(rt: &impl Abort, alloc: Global, stamp: u64, invoke: u64) ->
             requester: Requester::read(b"plan").expect(rt, "a requester"),
             invoke: Invoke::new(invoke).expect(rt, "an invoke number"),
             command: Command::AddStation {
-                device: station(rt),
+                device: device(rt, "201"),
             },
         },
         status: 200,
@@ -43,16 +28,16 @@ pub(super) fn record(rt: &impl Abort, alloc: Global, stamp: u64, invoke: u64) ->
     }
 }
 
-// A station, a monitor of it and an event there.
-pub(crate) fn commit_first(rt: &impl Abort, alloc: Global, book: &mut SqlBook<MemStore>) {
-    let device = station(rt);
+/// A commit of a station, a monitor of it and an event there.
+pub fn commit_first(rt: &impl Abort, alloc: Global, book: &mut SqlBook<MemStore>) {
+    let device = device(rt, "201");
     let monitor = MonitorRecord {
         monitor: 3,
         device,
         after_event: 0,
     };
     let changes = [
-        Change::PutStation(StationRecord { device }),
+        Change::PutStation(station(rt, "201")),
         Change::PutMonitor(monitor),
     ];
     let event = Event {
@@ -65,13 +50,6 @@ pub(crate) fn commit_first(rt: &impl Abort, alloc: Global, book: &mut SqlBook<Me
     };
     book.commit_changes(&changes, &[event], &record(rt, alloc, 1, 1))
         .expect(rt, "the first commit");
-}
-
-pub(super) fn fault_of(done: Result<(), BookFault>) -> Option<BookFault> {
-    match done {
-        Ok(()) => None,
-        Err(fault) => Some(fault),
-    }
 }
 
 #[test]
@@ -89,9 +67,7 @@ fn a_commit_is_in_the_tables(rt: HostRuntime) {
         ("SELECT last_monitor FROM meta", 3),
         ("SELECT last_event FROM meta", 1),
     ];
-    for (sql, found) in questions {
-        assert_eq!(rt; number(&rt, &mut conn, sql), found);
-    }
+    expect_numbers(&rt, &mut conn, &questions);
 }
 
 #[test]
@@ -100,13 +76,16 @@ fn a_refused_commit_changes_nothing(rt: HostRuntime) {
     let mut book = new_book(&rt, alloc);
     commit_first(&rt, alloc, &mut book);
     let again = book.commit_changes(&[], &[], &record(&rt, alloc, 2, 1));
-    assert_eq!(rt; fault_of(again), Some(BookFault::Store));
-    assert_eq!(rt; book.failures(), 1);
+    same(&rt, &again, &Err(BookFault::Store));
+    same(&rt, &book.failures(), &1);
     let next = book.commit_changes(&[], &[], &record(&rt, alloc, 2, 2));
-    assert_eq!(rt; fault_of(next), None);
-    assert_eq!(rt; book.failures(), 1);
-    assert_eq!(rt; book.limits().expect(&rt, "the limits"), Limits::GREATEST);
+    same(&rt, &next, &Ok(()));
+    same(&rt, &book.failures(), &1);
+    expect_limits(&rt, &mut book);
     let mut conn = book.into_connection();
-    assert_eq!(rt; number(&rt, &mut conn, "SELECT last_stamp FROM meta"), 2);
-    assert_eq!(rt; number(&rt, &mut conn, "SELECT count(*) FROM kept"), 2);
+    let questions = [
+        ("SELECT last_stamp FROM meta", 2),
+        ("SELECT count(*) FROM kept", 2),
+    ];
+    expect_numbers(&rt, &mut conn, &questions);
 }

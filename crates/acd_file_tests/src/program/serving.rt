@@ -2,7 +2,7 @@
 
 use super::files::{free_path, remove};
 use super::scripts::gives;
-use crate::running::program;
+use acd_program::program;
 use std::io::{self, Read, Write};
 use std::net::{Ipv4Addr, Shutdown, SocketAddr, TcpListener, TcpStream};
 use std::process::Abort;

@@ -9,4 +9,4 @@ mod scripts;
 mod serving;
 mod sessions;
 mod streams;
-mod tasks;
+mod words;

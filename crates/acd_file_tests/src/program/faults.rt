@@ -17,7 +17,7 @@ fn reads_end_with(rt: &HostRuntime, file: &str, fault: &str) -> bool {
 }
 
 /// Whether a report, an export, an audit and lines over the file end with this status and fault.
-pub(crate) fn all_end_with(rt: &HostRuntime, file: &str, status: u8, fault: &str) -> bool {
+pub fn all_end_with(rt: &HostRuntime, file: &str, status: u8, fault: &str) -> bool {
     for command in ["report", "export", "audit", "lines"] {
         if !command_ends_with(rt, command, file, status, fault) {
             return false;

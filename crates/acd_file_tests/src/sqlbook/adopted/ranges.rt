@@ -1,7 +1,7 @@
 //! Each column that has a range, with a value out of it: the answer is its table. The same rows without it are a book's.
 
-use super::{altered, fault};
-use crate::fault::{AdoptFault, Table};
+use super::{altered, expect_told};
+use acd_sqlbook::{AdoptFault, Table};
 use std::alloc::Global;
 use std::process::Abort;
 
@@ -17,14 +17,15 @@ INSERT INTO events VALUES (1, 10, 7, 1201, 1, NULL, NULL, NULL, NULL, NULL);
 INSERT INTO kept VALUES (1, 'plan', 2, 10, '{"device":"201","invoke":2,"requester":"plan","service":"addStation"}', 200, '{}')"#
 }
 
-// What is told of these rows after a change.
-fn told(rt: &impl Abort, alloc: Global, change: &str) -> Option<AdoptFault> {
-    let mut conn = altered(rt, alloc, rows());
-    conn.execute_batch(change).expect(rt, "a change");
-    if !conn.is_autocommit() {
-        panic!(rt; "a transaction");
-    }
-    fault(alloc, conn)
+// After a change these rows are those of a book, or this is told of them.
+fn expect(rt: &impl Abort, alloc: Global, change: &'static str, told: Option<AdoptFault>) {
+    let conn = altered(rt, alloc, &[rows(), change]);
+    expect_told(rt, alloc, conn, change, told);
+}
+
+// What is told of a value that is out of its range.
+fn bad_row(table: Table) -> Option<AdoptFault> {
+    Some(AdoptFault::BadRow(table))
 }
 
 fn change_of_meta(at: usize) -> &'static str {
@@ -178,14 +179,14 @@ fn change_of(table: Table, at: usize) -> &'static str {
 // Each of so many changes is told by its table.
 fn are_told(rt: &impl Abort, alloc: Global, table: Table, count: usize) {
     for at in 0..count {
-        let change = change_of(table, at);
-        assert_eq!(rt; told(rt, alloc, change), Some(AdoptFault::BadRow(table)));
+        expect(rt, alloc, change_of(table, at), bad_row(table));
     }
 }
 
 #[test]
 fn rows_in_their_ranges(rt: HostRuntime) {
-    assert_eq!(rt; fault(rt.alloc(), altered(&rt, rt.alloc(), rows())), None);
+    let conn = altered(&rt, rt.alloc(), &[rows()]);
+    expect_told(&rt, rt.alloc(), conn, "", None);
 }
 
 #[test]
@@ -212,7 +213,7 @@ fn values_of_the_log(rt: HostRuntime) {
 #[test]
 fn reports_of_other_kinds(rt: HostRuntime) {
     for at in 0..5 {
-        assert_eq!(rt; told(&rt, rt.alloc(), other_report(at)), None);
+        expect(&rt, rt.alloc(), other_report(at), None);
     }
 }
 
@@ -220,9 +221,6 @@ fn reports_of_other_kinds(rt: HostRuntime) {
 fn values_that_refer_to_a_key(rt: HostRuntime) {
     for at in 0..4 {
         let (table, change) = change_of_references(at);
-        assert_eq!(rt;
-            told(&rt, rt.alloc(), change),
-            Some(AdoptFault::BadRow(table))
-        );
+        expect(&rt, rt.alloc(), change, bad_row(table));
     }
 }
