@@ -93,9 +93,9 @@ impl Contents {
         if !self.log.precedes(events) {
             return Err(AllocError);
         }
-        let ledger = Ledger::from_rows(self.alloc, rows)?;
-        let kept = kept.clone()?;
         self.log.reserve(events.len())?;
+        let kept = kept.clone()?;
+        let ledger = Ledger::from_rows(self.alloc, rows)?;
         self.replies.push(kept)?;
         self.log.append(events);
         self.ledger = ledger;

@@ -1,14 +1,64 @@
 //! Requests as JSON.
 
-ghost use Rattle.std.specs.Prelude.{◌≡◌, IfOk, string_bytes};
-ghost use Rattle.serde_json.specs.View.{view};
-ghost use Rattle.serde_json.specs.Data.{object, no_members};
+ghost use Rattle.std.specs.Prelude.{◌≡◌, IfOk, OnOk, string_bytes};
+ghost use Rattle.serde_json.specs.View.{view, members_view};
+ghost use Rattle.serde_json.specs.Data.{string, number, unsigned, object, no_members, put};
+ghost use Rattle.acd_terms.specs.Forms.{digits_of};
+ghost use Rattle.acd_codec.specs.Members.{member_name};
+ghost use Rattle.acd_codec.specs.Services.{asked_name};
 ghost use Rattle.acd_codec.specs.RequestTexts.{add_group, add_agent, arrive_call, make_call, at_device, at_connection, to_device, set_agent_state, monitor_stop, sent, request_data, request_text};
 
+use crate::member::Member;
 use crate::service::{Asked, Service};
 use acd_terms::{AgentId, Command, DeviceId, Name, Request, Requested, Seconds, Serial};
-use serde_json::{Value, json};
+use serde_json::{Map, Value};
 use std::alloc::{AllocError, Global};
+
+// The members of a request; they stand in the order of their names.
+type Members = Map<String, Value>;
+
+// Adds a member that is a text.
+fn put_text(
+    alloc: Global,
+    members: &mut Members,
+    member: Member,
+    text: &str,
+) -> Result<(), AllocError>
+    ensures { OnOk result (members_view members.new.entries ≡ put (member_name member) (string text.now) (members_view members.old.entries)) }
+{
+    let value = Value::try_from_str(alloc, text)?;
+    serde_json::put(members, alloc, member.name(), value)
+}
+
+// Adds a member that is a number.
+fn put_number(
+    alloc: Global,
+    members: &mut Members,
+    member: Member,
+    value: u64,
+) -> Result<(), AllocError>
+    ensures { OnOk result (members_view members.new.entries ≡ put (member_name member) (number (unsigned value)) (members_view members.old.entries)) }
+{
+    serde_json::put(members, alloc, member.name(), Value::from(value))
+}
+
+// What every request has.
+fn sent(alloc: Global, request: &Request, service: Service) -> Result<Members, AllocError>
+    ensures { let r = request.now in
+        IfOk result (λ m. members_view m.entries ≡ sent r.requester r.invoke service no_members) }
+{
+    let mut members = Map::new(alloc);
+    let invoke = u64::from(request.invoke.number());
+    put_number(alloc, &mut members, Member::Invoke, invoke)?;
+    put_text(
+        alloc,
+        &mut members,
+        Member::Requester,
+        request.requester.as_str(),
+    )?;
+    put_text(alloc, &mut members, Member::Service, service.name())?;
+    Ok(members)
+}
 
 fn add_group(
     alloc: Global,
@@ -17,19 +67,15 @@ fn add_group(
     name: &Name,
     ring: &Seconds,
     wrap: &Seconds,
-) -> Result<Value, AllocError>
+) -> Result<Members, AllocError>
     ensures { let r = request.now in
-        IfOk result (λ v. view v ≡ object (add_group r.requester r.invoke device.now name.now ring.now wrap.now)) }
+        IfOk result (λ m. members_view m.entries ≡ add_group r.requester r.invoke device.now name.now ring.now wrap.now) }
 {
-    json!(in alloc; {
-        "device": device.text().as_str(),
-        "invoke": request.invoke.number(),
-        "name": name.as_str(),
-        "requester": request.requester.as_str(),
-        "ring": ring.number(),
-        "service": Service::AddGroup.name(),
-        "wrap": wrap.number(),
-    })
+    let mut members = at_device(alloc, request, Service::AddGroup, device)?;
+    put_text(alloc, &mut members, Member::Name, name.as_str())?;
+    put_number(alloc, &mut members, Member::Ring, u64::from(ring.number()))?;
+    put_number(alloc, &mut members, Member::Wrap, u64::from(wrap.number()))?;
+    Ok(members)
 }
 
 fn add_agent(
@@ -37,17 +83,14 @@ fn add_agent(
     request: &Request,
     agent: &AgentId,
     name: &Name,
-) -> Result<Value, AllocError>
+) -> Result<Members, AllocError>
     ensures { let r = request.now in
-        IfOk result (λ v. view v ≡ object (add_agent r.requester r.invoke agent.now name.now)) }
+        IfOk result (λ m. members_view m.entries ≡ add_agent r.requester r.invoke agent.now name.now) }
 {
-    json!(in alloc; {
-        "agent": agent.text().as_str(),
-        "invoke": request.invoke.number(),
-        "name": name.as_str(),
-        "requester": request.requester.as_str(),
-        "service": Service::AddAgent.name(),
-    })
+    let mut members = sent(alloc, request, Service::AddAgent)?;
+    put_text(alloc, &mut members, Member::Agent, agent.text().as_str())?;
+    put_text(alloc, &mut members, Member::Name, name.as_str())?;
+    Ok(members)
 }
 
 fn at_device(
@@ -55,16 +98,13 @@ fn at_device(
     request: &Request,
     service: Service,
     device: &DeviceId,
-) -> Result<Value, AllocError>
+) -> Result<Members, AllocError>
     ensures { let r = request.now in
-        IfOk result (λ v. view v ≡ object (at_device r.requester r.invoke service device.now)) }
+        IfOk result (λ m. members_view m.entries ≡ at_device r.requester r.invoke service device.now) }
 {
-    json!(in alloc; {
-        "device": device.text().as_str(),
-        "invoke": request.invoke.number(),
-        "requester": request.requester.as_str(),
-        "service": service.name(),
-    })
+    let mut members = sent(alloc, request, service)?;
+    put_text(alloc, &mut members, Member::Device, device.text().as_str())?;
+    Ok(members)
 }
 
 fn at_connection(
@@ -73,17 +113,13 @@ fn at_connection(
     service: Service,
     call: &Serial,
     device: &DeviceId,
-) -> Result<Value, AllocError>
+) -> Result<Members, AllocError>
     ensures { let r = request.now in
-        IfOk result (λ v. view v ≡ object (at_connection r.requester r.invoke service call.now device.now)) }
+        IfOk result (λ m. members_view m.entries ≡ at_connection r.requester r.invoke service call.now device.now) }
 {
-    json!(in alloc; {
-        "call": call.number(),
-        "device": device.text().as_str(),
-        "invoke": request.invoke.number(),
-        "requester": request.requester.as_str(),
-        "service": service.name(),
-    })
+    let mut members = at_device(alloc, request, service, device)?;
+    put_number(alloc, &mut members, Member::Call, call.number())?;
+    Ok(members)
 }
 
 fn to_device(
@@ -93,18 +129,13 @@ fn to_device(
     call: &Serial,
     device: &DeviceId,
     to: &DeviceId,
-) -> Result<Value, AllocError>
+) -> Result<Members, AllocError>
     ensures { let r = request.now in
-        IfOk result (λ v. view v ≡ object (to_device r.requester r.invoke service call.now device.now to.now)) }
+        IfOk result (λ m. members_view m.entries ≡ to_device r.requester r.invoke service call.now device.now to.now) }
 {
-    json!(in alloc; {
-        "call": call.number(),
-        "device": device.text().as_str(),
-        "invoke": request.invoke.number(),
-        "requester": request.requester.as_str(),
-        "service": service.name(),
-        "to": to.text().as_str(),
-    })
+    let mut members = at_connection(alloc, request, service, call, device)?;
+    put_text(alloc, &mut members, Member::To, to.text().as_str())?;
+    Ok(members)
 }
 
 fn arrive_call(
@@ -112,17 +143,14 @@ fn arrive_call(
     request: &Request,
     caller: &DeviceId,
     called: &DeviceId,
-) -> Result<Value, AllocError>
+) -> Result<Members, AllocError>
     ensures { let r = request.now in
-        IfOk result (λ v. view v ≡ object (arrive_call r.requester r.invoke caller.now called.now)) }
+        IfOk result (λ m. members_view m.entries ≡ arrive_call r.requester r.invoke caller.now called.now) }
 {
-    json!(in alloc; {
-        "called": called.text().as_str(),
-        "caller": caller.text().as_str(),
-        "invoke": request.invoke.number(),
-        "requester": request.requester.as_str(),
-        "service": Service::ArriveCall.name(),
-    })
+    let mut members = sent(alloc, request, Service::ArriveCall)?;
+    put_text(alloc, &mut members, Member::Caller, caller.text().as_str())?;
+    put_text(alloc, &mut members, Member::Called, called.text().as_str())?;
+    Ok(members)
 }
 
 fn make_call(
@@ -130,17 +158,45 @@ fn make_call(
     request: &Request,
     device: &DeviceId,
     called: &DeviceId,
-) -> Result<Value, AllocError>
+) -> Result<Members, AllocError>
     ensures { let r = request.now in
-        IfOk result (λ v. view v ≡ object (make_call r.requester r.invoke device.now called.now)) }
+        IfOk result (λ m. members_view m.entries ≡ make_call r.requester r.invoke device.now called.now) }
 {
-    json!(in alloc; {
-        "called": called.text().as_str(),
-        "device": device.text().as_str(),
-        "invoke": request.invoke.number(),
-        "requester": request.requester.as_str(),
-        "service": Service::MakeCall.name(),
-    })
+    let mut members = at_device(alloc, request, Service::MakeCall, device)?;
+    put_text(alloc, &mut members, Member::Called, called.text().as_str())?;
+    Ok(members)
+}
+
+// What an agent is asked for, without the place of a logged-on one.
+fn asking(
+    alloc: Global,
+    request: &Request,
+    agent: &AgentId,
+    asked: Asked,
+) -> Result<Members, AllocError>
+    ensures { let r = request.now in
+        IfOk result (λ m. members_view m.entries ≡ put (member_name Member.Requested) (string (asked_name asked)) (put (member_name Member.Agent) (string (digits_of agent.now)) (sent r.requester r.invoke Service.SetAgentState no_members))) }
+{
+    let mut members = sent(alloc, request, Service::SetAgentState)?;
+    put_text(alloc, &mut members, Member::Agent, agent.text().as_str())?;
+    put_text(alloc, &mut members, Member::Requested, asked.name())?;
+    Ok(members)
+}
+
+fn log_on(
+    alloc: Global,
+    request: &Request,
+    agent: &AgentId,
+    device: &DeviceId,
+    group: &DeviceId,
+) -> Result<Members, AllocError>
+    ensures { let r = request.now in
+        IfOk result (λ m. members_view m.entries ≡ set_agent_state r.requester r.invoke agent.now (Requested.LoggedOn device.now group.now)) }
+{
+    let mut members = asking(alloc, request, agent, Asked::LoggedOn)?;
+    put_text(alloc, &mut members, Member::Device, device.text().as_str())?;
+    put_text(alloc, &mut members, Member::Group, group.text().as_str())?;
+    Ok(members)
 }
 
 fn set_agent_state(
@@ -148,57 +204,28 @@ fn set_agent_state(
     request: &Request,
     agent: &AgentId,
     requested: &Requested,
-) -> Result<Value, AllocError>
+) -> Result<Members, AllocError>
     ensures { let r = request.now in
-        IfOk result (λ v. view v ≡ object (set_agent_state r.requester r.invoke agent.now requested.now)) }
+        IfOk result (λ m. members_view m.entries ≡ set_agent_state r.requester r.invoke agent.now requested.now) }
 {
-    let service = Service::SetAgentState.name();
     match requested {
-        Requested::LoggedOn { device, group } => json!(in alloc; {
-            "agent": agent.text().as_str(),
-            "device": device.text().as_str(),
-            "group": group.text().as_str(),
-            "invoke": request.invoke.number(),
-            "requested": Asked::LoggedOn.name(),
-            "requester": request.requester.as_str(),
-            "service": service,
-        }),
-        Requested::State(state) => json!(in alloc; {
-            "agent": agent.text().as_str(),
-            "invoke": request.invoke.number(),
-            "requested": state.name(),
-            "requester": request.requester.as_str(),
-            "service": service,
-        }),
+        Requested::LoggedOn { device, group } => log_on(alloc, request, agent, device, group),
+        Requested::State(state) => asking(alloc, request, agent, Asked::State(*state)),
     }
 }
 
-fn monitor_stop(alloc: Global, request: &Request, monitor: &Serial) -> Result<Value, AllocError>
+fn monitor_stop(alloc: Global, request: &Request, monitor: &Serial) -> Result<Members, AllocError>
     ensures { let r = request.now in
-        IfOk result (λ v. view v ≡ object (monitor_stop r.requester r.invoke monitor.now)) }
+        IfOk result (λ m. members_view m.entries ≡ monitor_stop r.requester r.invoke monitor.now) }
 {
-    json!(in alloc; {
-        "invoke": request.invoke.number(),
-        "monitor": monitor.number(),
-        "requester": request.requester.as_str(),
-        "service": Service::MonitorStop.name(),
-    })
-}
-
-fn tick(alloc: Global, request: &Request) -> Result<Value, AllocError>
-    ensures { let r = request.now in
-        IfOk result (λ v. view v ≡ object (sent r.requester r.invoke Service.Tick no_members)) }
-{
-    json!(in alloc; {
-        "invoke": request.invoke.number(),
-        "requester": request.requester.as_str(),
-        "service": Service::Tick.name(),
-    })
+    let mut members = sent(alloc, request, Service::MonitorStop)?;
+    put_number(alloc, &mut members, Member::Monitor, monitor.number())?;
+    Ok(members)
 }
 
 #[tactic(auto, unfolding(crate::specs::RequestTexts::request_data))]
-fn value_of(alloc: Global, request: &Request) -> Result<Value, AllocError>
-    ensures { IfOk result (λ v. view v ≡ request_data request.now) }
+fn members_of(alloc: Global, request: &Request) -> Result<Members, AllocError>
+    ensures { IfOk result (λ m. object (members_view m.entries) ≡ request_data request.now) }
 {
     let service = Service::of(&request.command);
     match &request.command {
@@ -229,8 +256,15 @@ fn value_of(alloc: Global, request: &Request) -> Result<Value, AllocError>
             set_agent_state(alloc, request, agent, requested)
         }
         Command::MonitorStop { monitor } => monitor_stop(alloc, request, monitor),
-        Command::Tick => tick(alloc, request),
+        Command::Tick => sent(alloc, request, service),
     }
+}
+
+fn value_of(alloc: Global, request: &Request) -> Result<Value, AllocError>
+    ensures { IfOk result (λ v. view v ≡ request_data request.now) }
+{
+    let members = members_of(alloc, request)?;
+    Ok(Value::Object(members))
 }
 
 /// The one text of a request: compact JSON, its members in the order of their names.

@@ -58,6 +58,25 @@ fn has_events<B: Book>(book: &mut B, last: u64, events: &[Event]) -> Result<bool
     Ok(are_same_events(&found, events))
 }
 
+// Whether a record and its events, above a number, are these, and no earlier record has its key.
+fn is_as_kept<B: Book>(
+    book: &mut B,
+    kept: &Kept,
+    last: u64,
+    expected: &Kept,
+    events: &[Event],
+) -> Result<bool, BookFault>
+    ensures { Reads (B.state book.old) (B.state book.new) result (λ c found. Decides found ((kept.now ≡ expected.now) × IsFirstOfKey c kept.now × (events_behind c.events last (length events.now) ≡ events.now))) }
+{
+    if !is_first_of_key(book, kept)? {
+        return Ok(false);
+    }
+    if !is_same_kept(kept, expected) {
+        return Ok(false);
+    }
+    has_events(book, last, events)
+}
+
 // Replays a record: the switch behind it, where the record and its events are what its request gives.
 fn replayed<B: Book>(
     alloc: Global,
@@ -69,19 +88,14 @@ fn replayed<B: Book>(
     ensures told { Reads (B.state book.old) (B.state book.new) result (λ c found. IsReplayed c replay.switch kept.now found) }
     ensures stepped { IfOk result (λ found. IfSome found (λ next. next.switch ≡ (stepped replay.switch (again kept.now)).rows)) }
 {
-    if !is_first_of_key(book, kept)? {
-        return Ok(None);
-    }
     let LoadedSwitch { mut switch } = replay;
     let last = switch.tables().last_event();
     let (done, expected) = executed(alloc, &mut switch, kept.moment, &kept.request)?;
-    if !is_same_kept(kept, &expected) {
-        return Ok(None);
+    if is_as_kept(book, kept, last, &expected, &done.events)? {
+        Ok(Some(LoadedSwitch { switch }))
+    } else {
+        Ok(None)
     }
-    if !has_events(book, last, &done.events)? {
-        return Ok(None);
-    }
-    Ok(Some(LoadedSwitch { switch }))
 }
 
 // Whether no event is left behind a number.

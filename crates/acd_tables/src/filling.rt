@@ -4,10 +4,29 @@ ghost use Rattle.std.specs.Prelude.{◌≡◌, [], true, OnOk};
 ghost use Rattle.acd_terms.specs.Rules.Plan.{ascends, group_order, agent_order, connection_order};
 
 use crate::tables::Tables;
-use acd_terms::{AgentRecord, ConnectionRecord, GroupRecord};
+use acd_terms::{AgentRecord, ConnectionRecord, GroupRecord, Rows, ascends};
 use std::alloc::AllocError;
 
 impl Tables {
+    /// Puts the records of these rows that have indexes into tables that have none. Lists that don't stand
+    /// in strictly ascending key are refused as if there were no memory.
+    pub(crate) fn put_indexed(&mut self, rows: &Rows) -> Result<(), AllocError>
+        requires groups { self.old.groups ≡ [] }
+        requires agents { self.old.agents ≡ [] }
+        requires connections { self.old.connections ≡ [] }
+        ensures { OnOk result (self.new ≡ record self.old { groups = rows.now.groups; agents = rows.now.agents; connections = rows.now.connections }) }
+    {
+        if !(ascends(rows.groups.as_slice())
+            && ascends(rows.agents.as_slice())
+            && ascends(rows.connections.as_slice()))
+        {
+            return Err(AllocError);
+        }
+        self.put_groups(rows.groups.as_slice())?;
+        self.put_agents(rows.agents.as_slice())?;
+        self.put_connections(rows.connections.as_slice())
+    }
+
     /// Puts the groups into tables that have none.
     #[tactic(auto, unfolding(acd_terms::specs::Writes::with_group))]
     pub(crate) fn put_groups(&mut self, groups: &[GroupRecord]) -> Result<(), AllocError>

@@ -9,7 +9,7 @@ use crate::indexes::Indexes;
 use crate::records::Records;
 use acd_terms::{
     AgentId, AgentRecord, CallRecord, ConnectionRecord, DeviceId, GroupRecord, Limits,
-    MonitorRecord, Rows, StationRecord, ascends,
+    MonitorRecord, Rows, StationRecord,
 };
 use std::alloc::{AllocError, Global};
 use std::collections::btree_map::Values;
@@ -62,20 +62,12 @@ impl Tables {
     pub fn from_rows(alloc: Global, rows: &Rows) -> Result<Self, AllocError>
         ensures { IfOk result (λ t. t ≡ rows.now) }
     {
-        if !(ascends(rows.groups.as_slice())
-            && ascends(rows.agents.as_slice())
-            && ascends(rows.connections.as_slice()))
-        {
-            return Err(AllocError);
-        }
         let mut tables = Tables {
             alloc,
             records: Records::without_indexed(alloc, rows)?,
             indexes: Indexes::new(alloc),
         };
-        tables.put_groups(rows.groups.as_slice())?;
-        tables.put_agents(rows.agents.as_slice())?;
-        tables.put_connections(rows.connections.as_slice())?;
+        tables.put_indexed(rows)?;
         Ok(tables)
     }
 
