@@ -40,25 +40,20 @@ fn told<'a>(found: Result<Option<String>, DeskFault>) -> Result<Option<String>, 
     }
 }
 
-/// The report of the queues. No moment is before 0, so it is that of the last executed request.
-pub(crate) fn report<'a, S: Alter>(
-    alloc: Global,
-    conn: Connection<S>,
-) -> (Result<Option<String>, Fault<'a>>, Connection<S>)
-    requires { conn.in_transaction ≡ false }
-{
-    let mut desk = match desk_over(alloc, conn, false) {
-        Ok(desk) => desk,
-        Err((fault, conn)) => return (Err(fault), conn),
-    };
-    let found = desk.report(0);
-    (told(found), desk.close().into_connection())
+/// What is read of a desk as one text.
+#[derive(Clone, Copy)]
+pub(crate) enum Reading {
+    /// The report of the queues. No moment is before 0, so it is that of the last executed request.
+    Report,
+    /// The export of all events.
+    Export,
 }
 
-/// The export of all events.
-pub(crate) fn export<'a, S: Alter>(
+/// Reads it.
+pub(crate) fn read<'a, S: Alter>(
     alloc: Global,
     conn: Connection<S>,
+    reading: Reading,
 ) -> (Result<Option<String>, Fault<'a>>, Connection<S>)
     requires { conn.in_transaction ≡ false }
 {
@@ -66,7 +61,10 @@ pub(crate) fn export<'a, S: Alter>(
         Ok(desk) => desk,
         Err((fault, conn)) => return (Err(fault), conn),
     };
-    let found = desk.export();
+    let found = match reading {
+        Reading::Report => desk.report(0),
+        Reading::Export => desk.export(),
+    };
     (told(found), desk.close().into_connection())
 }
 

@@ -5,16 +5,15 @@ ghost use Rattle.acd_program.specs.Statuses.{IsDone, TellsConnections, finding_s
 
 use crate::auditing::Finding;
 use crate::connection::lines_over_connection;
-use crate::desk::{audit, export, import_requests, report};
+use crate::desk::{Reading, audit, import_requests, read};
 use crate::fault::Fault;
-use crate::file::{Store, close_connection, connect_or_create, connect_to};
+use crate::file::{close_connection, connect_or_create, connect_to};
 use crate::memory::lines_over_memory;
 use crate::plan::read_plan;
 use crate::serving::serve;
 use crate::task::{Task, parse};
 use clap::Error;
 use clap::error::ErrorKind;
-use sqlite::Connection;
 use std::alloc::Global;
 use std::convert::AsStr;
 use std::io::{Read, Write};
@@ -68,10 +67,13 @@ fn import_plan<'a, W: Write>(
 
 // Closes the file, and then prints what was read of its desk.
 fn print_read<'a, W: Write>(
-    found: Result<Option<String>, Fault<'a>>,
-    conn: Connection<Store>,
+    rt: &HostRuntime,
+    file: &'a str,
+    reading: Reading,
     writer: &mut W,
 ) -> Result<(), Fault<'a>> {
+    let conn = connect_to(rt, file)?;
+    let (found, conn) = read(rt.alloc(), conn, reading);
     let closed = close_connection(conn);
     match found {
         Ok(Some(text)) => match writer.write_all(text.as_bytes()) {
@@ -81,26 +83,6 @@ fn print_read<'a, W: Write>(
         Ok(None) => closed,
         Err(fault) => Err(fault),
     }
-}
-
-fn print_report<'a, W: Write>(
-    rt: &HostRuntime,
-    file: &'a str,
-    writer: &mut W,
-) -> Result<(), Fault<'a>> {
-    let conn = connect_to(rt, file)?;
-    let (found, conn) = report(rt.alloc(), conn);
-    print_read(found, conn, writer)
-}
-
-fn print_export<'a, W: Write>(
-    rt: &HostRuntime,
-    file: &'a str,
-    writer: &mut W,
-) -> Result<(), Fault<'a>> {
-    let conn = connect_to(rt, file)?;
-    let (found, conn) = export(rt.alloc(), conn);
-    print_read(found, conn, writer)
 }
 
 fn serve_file<'a, W: Write, E: Write>(
@@ -220,8 +202,8 @@ fn execute<'a, R: Read, W: Write, E: Write>(
             Ok(SUCCESS)
         }
         Task::Import { file, plan } => after(SUCCESS, import_plan(rt, file, plan, writer)),
-        Task::Report { file } => after(SUCCESS, print_report(rt, file, writer)),
-        Task::Export { file } => after(SUCCESS, print_export(rt, file, writer)),
+        Task::Report { file } => after(SUCCESS, print_read(rt, file, Reading::Report, writer)),
+        Task::Export { file } => after(SUCCESS, print_read(rt, file, Reading::Export, writer)),
         Task::Audit { file, counts } => audit_file(rt, file, counts, writer),
     }
 }
