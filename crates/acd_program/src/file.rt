@@ -2,25 +2,13 @@
 
 ghost use Rattle.std.specs.Prelude.{◌≡◌, false, IfOk};
 
-use crate::connection::book_over;
 use crate::fault::Fault;
-use crate::progress::{Progress, Watched, announce};
-use acd_desk::Desk;
-use acd_sqlbook::SqlBook;
+use crate::progress::announce;
 use sqlite::{Connection, Error, ErrorCode, File, FileStore};
 use std::{fs, io};
 
 /// The store of a file.
 pub(crate) type Store = FileStore<File>;
-
-/// A book in a file.
-pub(crate) type FileBook = SqlBook<Store>;
-
-/// A desk over a file.
-pub(crate) type FileDesk = Desk<FileBook>;
-
-/// A desk over a file whose audit is watched.
-pub(crate) type WatchedDesk<'a> = Desk<Watched<'a, FileBook>>;
 
 // What there is at a path.
 #[derive(Clone, Copy)]
@@ -75,8 +63,11 @@ pub(crate) fn connect_or_create<'a>(
     Ok((conn, is_new))
 }
 
-// A connection to the file at a path, which it never makes.
-fn connect_to<'a>(rt: &HostRuntime, path: &'a str) -> Result<Connection<Store>, Fault<'a>>
+/// A connection to the file at a path, which it never makes.
+pub(crate) fn connect_to<'a>(
+    rt: &HostRuntime,
+    path: &'a str,
+) -> Result<Connection<Store>, Fault<'a>>
     ensures { IfOk result (λ conn. conn.in_transaction ≡ false) }
 {
     let found = look(rt, path)?;
@@ -87,62 +78,6 @@ fn connect_to<'a>(rt: &HostRuntime, path: &'a str) -> Result<Connection<Store>, 
     }
 }
 
-// Closes the file behind a fault, which goes before what closing it finds.
-fn give_up<'a>(conn: Connection<Store>, fault: Fault<'a>) -> Fault<'a> {
-    let _ = conn.close();
-    fault
-}
-
-fn book_of<'a>(
-    rt: &HostRuntime,
-    conn: Connection<Store>,
-    is_new: bool,
-) -> Result<FileBook, Fault<'a>>
-    requires { conn.in_transaction ≡ false }
-{
-    match book_over(rt.alloc(), conn, is_new) {
-        Ok(book) => Ok(book),
-        Err((fault, conn)) => Err(give_up(conn, Fault::from(fault))),
-    }
-}
-
-fn desk_over<'a>(rt: &HostRuntime, book: FileBook) -> Result<FileDesk, Fault<'a>> {
-    match Desk::open(rt.alloc(), book) {
-        Ok(desk) => Ok(desk),
-        Err((fault, book)) => Err(give_up(book.into_connection(), Fault::from(fault))),
-    }
-}
-
-/// Opens the desk of a file, which it never makes, to be audited.
-pub(crate) fn open_watched<'a, 'r>(
-    rt: &'r HostRuntime,
-    path: &'a str,
-) -> Result<WatchedDesk<'r>, Fault<'a>> {
-    let conn = connect_to(rt, path)?;
-    let book = book_of(rt, conn, false)?;
-    match Desk::open(rt.alloc(), Watched::new(book, Progress::new(rt))) {
-        Ok(desk) => Ok(desk),
-        Err((fault, watched)) => Err(give_up(
-            watched.into_inner().into_connection(),
-            Fault::from(fault),
-        )),
-    }
-}
-
-/// Opens the desk of a file, which it never makes.
-pub(crate) fn open<'a>(rt: &HostRuntime, path: &'a str) -> Result<FileDesk, Fault<'a>> {
-    let conn = connect_to(rt, path)?;
-    let book = book_of(rt, conn, false)?;
-    desk_over(rt, book)
-}
-
-/// Opens the desk of a file, or makes one where there is no file or it has no bytes.
-pub(crate) fn open_or_create<'a>(rt: &HostRuntime, path: &'a str) -> Result<FileDesk, Fault<'a>> {
-    let (conn, is_new) = connect_or_create(rt, path)?;
-    let book = book_of(rt, conn, is_new)?;
-    desk_over(rt, book)
-}
-
 /// Closes the connection, so that the file alone holds its database.
 pub(crate) fn close_connection<'a>(conn: Connection<Store>) -> Result<(), Fault<'a>> {
     match conn.close() {
@@ -150,14 +85,4 @@ pub(crate) fn close_connection<'a>(conn: Connection<Store>) -> Result<(), Fault<
         Err(Error::SqliteFailure(ErrorCode::OutOfMemory)) => Err(Fault::NoMemory),
         Err(_) => Err(Fault::Store),
     }
-}
-
-/// Closes a desk that was audited.
-pub(crate) fn close_watched<'a>(desk: WatchedDesk<'_>) -> Result<(), Fault<'a>> {
-    close_connection(desk.close().into_inner().into_connection())
-}
-
-/// Closes the desk and its book.
-pub(crate) fn close<'a>(desk: FileDesk) -> Result<(), Fault<'a>> {
-    close_connection(desk.close().into_connection())
 }

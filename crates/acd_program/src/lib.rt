@@ -8,6 +8,7 @@
 
 mod auditing;
 mod connection;
+mod desk;
 mod fault;
 mod file;
 mod memory;

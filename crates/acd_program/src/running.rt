@@ -1,21 +1,17 @@
 //! The program over three streams.
 
-ghost use Rattle.std.specs.Prelude.{◌≡◌, ◌≢◌, ◌⊎◌, IfOk};
+ghost use Rattle.std.specs.Prelude.{◌≡◌, ◌≢◌, ◌⊎◌, IfOk, OnOk};
 ghost use Rattle.acd_program.specs.Statuses.{IsDone, TellsConnections, finding_status};
 
-use crate::auditing::{Finding, audited};
+use crate::auditing::Finding;
 use crate::connection::lines_over_connection;
+use crate::desk::{Reading, audit, import_requests, read};
 use crate::fault::Fault;
-use crate::file::{
-    FileDesk, close, close_connection, close_watched, connect_or_create, open, open_or_create,
-    open_watched,
-};
+use crate::file::{close_connection, connect_or_create, connect_to};
 use crate::memory::lines_over_memory;
 use crate::plan::read_plan;
 use crate::serving::serve;
 use crate::task::{Task, parse};
-use acd_desk::DeskFault;
-use acd_lines::import;
 use clap::Error;
 use clap::error::ErrorKind;
 use std::alloc::Global;
@@ -62,49 +58,50 @@ fn import_plan<'a, W: Write>(
     writer: &mut W,
 ) -> Result<(), Fault<'a>> {
     let requests = read_plan(rt, plan)?;
-    let mut desk = open_or_create(rt, file)?;
-    let done = import(rt.alloc(), &mut desk, &requests, writer);
-    let closed = close(desk);
+    let (conn, is_new) = connect_or_create(rt, file)?;
+    let (done, conn) = import_requests(rt.alloc(), conn, is_new, &requests, writer);
+    let closed = close_connection(conn);
     done?;
     closed
 }
 
 // Closes the file, and then prints what was read of its desk.
 fn print_read<'a, W: Write>(
-    found: Result<Option<String>, DeskFault>,
-    desk: FileDesk,
+    rt: &HostRuntime,
+    file: &'a str,
+    reading: Reading,
     writer: &mut W,
 ) -> Result<(), Fault<'a>> {
-    let closed = close(desk);
+    let conn = connect_to(rt, file)?;
+    let (found, conn) = read(rt.alloc(), conn, reading);
+    let closed = close_connection(conn);
     match found {
         Ok(Some(text)) => match writer.write_all(text.as_bytes()) {
             Ok(()) => closed,
             Err(_) => Err(Fault::Write),
         },
         Ok(None) => closed,
-        Err(fault) => Err(Fault::from(fault)),
+        Err(fault) => Err(fault),
     }
 }
 
-// No moment is before 0, so the report is that of the last executed one.
-fn print_report<'a, W: Write>(
+fn serve_file<'a, W: Write, E: Write>(
     rt: &HostRuntime,
     file: &'a str,
+    port: u16,
+    connections: u32,
     writer: &mut W,
-) -> Result<(), Fault<'a>> {
-    let mut desk = open(rt, file)?;
-    let found = desk.report(0);
-    print_read(found, desk, writer)
-}
-
-fn print_export<'a, W: Write>(
-    rt: &HostRuntime,
-    file: &'a str,
-    writer: &mut W,
-) -> Result<(), Fault<'a>> {
-    let mut desk = open(rt, file)?;
-    let found = desk.export();
-    print_read(found, desk, writer)
+    errors: &mut E,
+) -> Result<(), Fault<'a>>
+    ensures { OnOk result (TellsConnections (E.contents errors.old) (E.contents errors.new)) }
+{
+    let (conn, is_new) = connect_or_create(rt, file)?;
+    let (done, conn) = serve(rt, conn, is_new, port, connections, writer, errors);
+    let closed = close_connection(conn);
+    match done {
+        Ok(()) => closed,
+        Err(fault) => Err(fault),
+    }
 }
 
 // The exit status that goes with what an audit found. Where something differs that is no fault.
@@ -135,7 +132,7 @@ fn print_finding<'a, W: Write>(found: Finding, writer: &mut W) -> Result<u8, Fau
 }
 
 fn print_audited<'a, W: Write>(
-    found: Result<Finding, DeskFault>,
+    found: Result<Finding, Fault<'a>>,
     closed: Result<(), Fault<'a>>,
     writer: &mut W,
 ) -> Result<u8, Fault<'a>>
@@ -146,7 +143,7 @@ fn print_audited<'a, W: Write>(
             Ok(status) => after(status, closed),
             Err(fault) => Err(fault),
         },
-        Err(fault) => Err(Fault::from(fault)),
+        Err(fault) => Err(fault),
     }
 }
 
@@ -158,9 +155,9 @@ fn audit_file<'a, W: Write>(
 ) -> Result<u8, Fault<'a>>
     ensures { IfOk result IsDone }
 {
-    let mut desk = open_watched(rt, file)?;
-    let found = audited(&mut desk, counts);
-    print_audited(found, close_watched(desk), writer)
+    let conn = connect_to(rt, file)?;
+    let (found, conn) = audit(rt, conn, counts);
+    print_audited(found, close_connection(conn), writer)
 }
 
 // The status, where no fault ended the work.
@@ -201,12 +198,12 @@ fn execute<'a, R: Read, W: Write, E: Write>(
             port,
             connections,
         } => {
-            serve(rt, file, port, connections, writer, errors)?;
+            serve_file(rt, file, port, connections, writer, errors)?;
             Ok(SUCCESS)
         }
         Task::Import { file, plan } => after(SUCCESS, import_plan(rt, file, plan, writer)),
-        Task::Report { file } => after(SUCCESS, print_report(rt, file, writer)),
-        Task::Export { file } => after(SUCCESS, print_export(rt, file, writer)),
+        Task::Report { file } => after(SUCCESS, print_read(rt, file, Reading::Report, writer)),
+        Task::Export { file } => after(SUCCESS, print_read(rt, file, Reading::Export, writer)),
         Task::Audit { file, counts } => audit_file(rt, file, counts, writer),
     }
 }

@@ -1,11 +1,14 @@
-//! The desk of a file, over HTTP.
+//! The desk of a database, over HTTP.
 
-ghost use Rattle.std.specs.Prelude.{OnOk};
+ghost use Rattle.std.specs.Prelude.{◌≡◌, false, OnOk};
 ghost use Rattle.acd_program.specs.Statuses.{TellsConnections};
 
+use crate::desk::desk_over;
 use crate::fault::Fault;
-use crate::file::{FileDesk, close, open_or_create};
+use acd_book::Book;
+use acd_desk::Desk;
 use acd_http::{ServeFault, serve_on};
+use sqlite::{Alter, Connection};
 use std::io::{ErrorKind, Write};
 use std::net::{Ipv4Addr, SocketAddr, TcpListener};
 
@@ -26,10 +29,10 @@ fn say<'a, W: Write>(port: u16, writer: &mut W) -> Result<(), Fault<'a>> {
 }
 
 // A line of a connection that could not be written is no fault of the command.
-fn answer<'a, E: Write>(
+fn answer<'a, B: Book, E: Write>(
     rt: &HostRuntime,
     listener: &TcpListener,
-    desk: &mut FileDesk,
+    desk: &mut Desk<B>,
     connections: u32,
     errors: &mut E,
 ) -> Result<(), Fault<'a>>
@@ -49,9 +52,9 @@ fn answer<'a, E: Write>(
     }
 }
 
-fn serve_desk<'a, W: Write, E: Write>(
+fn serve_desk<'a, B: Book, W: Write, E: Write>(
     rt: &HostRuntime,
-    desk: &mut FileDesk,
+    desk: &mut Desk<B>,
     port: u16,
     connections: u32,
     writer: &mut W,
@@ -64,23 +67,24 @@ fn serve_desk<'a, W: Write, E: Write>(
     answer(rt, &listener, desk, connections, errors)
 }
 
-/// Serves so many connections over the desk of a file, which it makes where there is none. The faults of connections
-/// are lines on `errors`.
-pub(crate) fn serve<'a, W: Write, E: Write>(
+/// Serves so many connections over the desk of a database, which is made where there is none and one is to be made.
+/// The faults of connections are lines on `errors`.
+pub(crate) fn serve<'a, S: Alter, W: Write, E: Write>(
     rt: &HostRuntime,
-    file: &'a str,
+    conn: Connection<S>,
+    makes: bool,
     port: u16,
     connections: u32,
     writer: &mut W,
     errors: &mut E,
-) -> Result<(), Fault<'a>>
-    ensures { OnOk result (TellsConnections (E.contents errors.old) (E.contents errors.new)) }
+) -> (Result<(), Fault<'a>>, Connection<S>)
+    requires { conn.in_transaction ≡ false }
+    ensures { OnOk result.0 (TellsConnections (E.contents errors.old) (E.contents errors.new)) }
 {
-    let mut desk = open_or_create(rt, file)?;
+    let mut desk = match desk_over(rt.alloc(), conn, makes) {
+        Ok(desk) => desk,
+        Err((fault, conn)) => return (Err(fault), conn),
+    };
     let done = serve_desk(rt, &mut desk, port, connections, writer, errors);
-    let closed = close(desk);
-    match done {
-        Ok(()) => closed,
-        Err(fault) => Err(fault),
-    }
+    (done, desk.close().into_connection())
 }
