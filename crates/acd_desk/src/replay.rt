@@ -1,16 +1,17 @@
 //! The kept requests of a book run again, and compared with what it holds.
 
-ghost use Rattle.std.specs.Prelude.{◌≡◌, ◌<◌, ◌≤◌, cond, true, [], Some, length, option_map, IfOk, IfSome};
+ghost use Rattle.std.specs.Prelude.{◌≡◌, ◌<◌, ◌≤◌, cond, true, [], Some, length, option_map, IfOk, IfSome, OnOk};
 ghost use Rattle.std.specs.Bool.{Decides};
 ghost use Rattle.acd_book.specs.Content.{events_behind};
 ghost use Rattle.acd_book.specs.Memory.{stamp_of};
 ghost use Rattle.acd_book.specs.Order.{IsOrdered};
 ghost use Rattle.acd_book.specs.State.{Reads};
 ghost use Rattle.acd_terms.specs.Limits.{limits_fit};
+ghost use Rattle.acd_terms.specs.Rules.First.{BreaksNoRule};
 ghost use Rattle.acd_terms.specs.Writes.{empty_rows};
 ghost use Rattle.acd_desk.specs.Firsts.{stepped};
 ghost use Rattle.acd_desk.specs.Audit.{IsAudit};
-ghost use Rattle.acd_desk.specs.Replay.{again, IsFirstOfKey, IsEnd, Begins, IsReplayed, IsStep, CountsOne, Ends};
+ghost use Rattle.acd_desk.specs.Replay.{again, IsFirstOfKey, Matches, IsEnd, Begins, IsReplayed, IsStep, CountsOne, Ends};
 
 use crate::audit::Audit;
 use crate::executing::executed;
@@ -77,6 +78,24 @@ fn is_as_kept<B: Book>(
     has_events(book, last, events)
 }
 
+// Executes a kept request again, and tells whether its record and events are what it gives.
+fn replays_as_kept<B: Book>(
+    alloc: Global,
+    book: &mut B,
+    switch: &mut Switch,
+    kept: &Kept,
+) -> Result<bool, BookFault>
+    requires rules { BreaksNoRule switch.old }
+    requires room { switch.old.last_stamp < switch.old.limits.requests }
+    ensures told { Reads (B.state book.old) (B.state book.new) result (λ c found. Decides found (Matches c switch.old kept.now)) }
+    ensures stepped { OnOk result (switch.new ≡ (stepped switch.old (again kept.now)).rows) }
+    ensures rules { OnOk result (BreaksNoRule switch.new) }
+{
+    let last = switch.tables().last_event();
+    let (done, expected) = executed(alloc, switch, kept.moment, &kept.request)?;
+    is_as_kept(book, kept, last, &expected, &done.events)
+}
+
 // Replays a record: the switch behind it, where the record and its events are what its request gives.
 fn replayed<B: Book>(
     alloc: Global,
@@ -89,9 +108,7 @@ fn replayed<B: Book>(
     ensures stepped { IfOk result (λ found. IfSome found (λ next. next.switch ≡ (stepped replay.switch (again kept.now)).rows)) }
 {
     let LoadedSwitch { mut switch } = replay;
-    let last = switch.tables().last_event();
-    let (done, expected) = executed(alloc, &mut switch, kept.moment, &kept.request)?;
-    if is_as_kept(book, kept, last, &expected, &done.events)? {
+    if replays_as_kept(alloc, book, &mut switch, kept)? {
         Ok(Some(LoadedSwitch { switch }))
     } else {
         Ok(None)
