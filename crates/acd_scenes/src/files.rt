@@ -1,70 +1,72 @@
 //! A desk over files that is closed and opened between any two requests.
 
-use crate::fault::{OrFailed, SceneFault, holds};
 use crate::player::{opened, session, written};
 use acd_sqlbook::SqlBook;
 use acd_terms::Limits;
 use sqlite::{Connection, FileStore, Files, Options};
 use sqlite_disk::Memory;
 use std::alloc::Global;
+use std::process::Abort;
 
 // The files of a book that is closed.
-fn closed(book: SqlBook<FileStore<Memory>>) -> Result<Files<Memory>, SceneFault> {
-    book.into_connection()
-        .close_files()
-        .or_failed("files that are closed")
+fn closed(rt: &impl Abort, book: SqlBook<FileStore<Memory>>) -> Files<Memory> {
+    match book.into_connection().close_files() {
+        Ok(files) => files,
+        Err(_) => panic!(rt; "not closed"),
+    }
 }
 
-/// The files of a new book.
-pub fn new_files(alloc: Global) -> Result<Files<Memory>, SceneFault> {
+// The files of a new book.
+pub fn new_files(rt: &impl Abort, alloc: Global) -> Files<Memory> {
     let files = Files {
         log: Memory::new(alloc),
         db: Memory::new(alloc),
     };
-    let Ok(conn) = Connection::open_files(alloc, files, Options::new(7)) else {
-        return Err(SceneFault::Expected("new files that are opened"));
-    };
-    closed(SqlBook::create(alloc, conn, Limits::GREATEST).or_failed("a new book")?)
+    match Connection::open_files(alloc, files, Options::new(7)) {
+        Ok(conn) => match SqlBook::create(alloc, conn, Limits::GREATEST) {
+            Ok(book) => closed(rt, book),
+            Err((fault, _)) => panic!(rt; "{fault:?}"),
+        },
+        Err(_) => panic!(rt; "not opened"),
+    }
 }
 
-/// The book that files hold.
-pub fn adopted(
-    alloc: Global,
-    files: Files<Memory>,
-) -> Result<SqlBook<FileStore<Memory>>, SceneFault> {
+// The book that files hold.
+pub fn adopted(rt: &impl Abort, alloc: Global, files: Files<Memory>) -> SqlBook<FileStore<Memory>> {
     if !files.may_be_used() {
-        return Err(SceneFault::Expected("files that may be used"));
+        panic!(rt; "not to be used");
     }
-    let Ok(conn) = Connection::open_files(alloc, files, Options::new(8)) else {
-        return Err(SceneFault::Expected("files that are opened"));
-    };
-    SqlBook::adopt(alloc, conn).or_failed("the book of the files")
+    match Connection::open_files(alloc, files, Options::new(8)) {
+        Ok(conn) => match SqlBook::adopt(alloc, conn) {
+            Ok(book) => book,
+            Err((fault, _)) => panic!(rt; "{fault:?}"),
+        },
+        Err(_) => panic!(rt; "not opened"),
+    }
 }
 
 // A desk over the files answers the line at the end of the answers.
 fn answer(
+    rt: &impl Abort,
     alloc: Global,
     files: Files<Memory>,
     line: &str,
     answers: &mut String,
-) -> Result<Files<Memory>, SceneFault> {
-    let mut desk = opened(alloc, adopted(alloc, files)?)?;
-    let answer = written(alloc, &mut desk, line)?;
-    answers.push_str(answer.as_str())?;
-    closed(desk.close())
+) -> Files<Memory> {
+    let mut desk = opened(rt, alloc, adopted(rt, alloc, files));
+    let answer = written(rt, alloc, &mut desk, line);
+    answers.push_str(answer.as_str()).expect(rt, "memory");
+    closed(rt, desk.close())
 }
 
 /// Each request of the transcripts is answered by a desk that was opened for it, over the files that the
 /// one before it has closed.
-pub fn play(alloc: Global, texts: &[&str]) -> Result<(), SceneFault> {
-    let (input, output) = session(alloc, texts, None)?;
-    let mut files = new_files(alloc)?;
+pub fn play(rt: &impl Abort, alloc: Global, texts: &[&str]) {
+    let (input, output) = session(rt, alloc, texts, None);
+    let mut files = new_files(rt, alloc);
     let mut answers = String::new(alloc);
     for line in input.lines() {
-        files = answer(alloc, files, line, &mut answers)?;
+        files = answer(rt, alloc, files, line, &mut answers);
     }
-    holds(
-        answers.as_str() == output.as_str(),
-        "the answers over files",
-    )
+    assert_eq!(rt; answers.as_str(), output.as_str());
 }

@@ -1,7 +1,8 @@
 //! What the rows hold, in lines of transcripts.
 
-use acd_terms::{AgentRecord, ConnectionRecord, ConnectionState, GroupRecord, MonitorRecord, Rows};
-use std::alloc::{AllocError, Global};
+use acd_terms::{AgentRecord, ConnectionRecord, ConnectionState, GroupRecord, Rows};
+use std::alloc::Global;
+use std::process::Abort;
 
 fn state_name(state: ConnectionState) -> &'static str {
     match state {
@@ -15,11 +16,11 @@ fn state_name(state: ConnectionState) -> &'static str {
 }
 
 // The agent's state, what is pending, and the stamp and moment of the request that gave the state.
-fn agent_line(alloc: Global, agent: &AgentRecord) -> Result<String, AllocError> {
+fn agent_line(rt: &impl Abort, alloc: Global, agent: &AgentRecord) -> String {
     let digits = agent.agent.text();
     let (digits, state) = (digits.as_str(), agent.state.name());
     let (stamp, since) = (agent.stamp, agent.since);
-    match agent.pending {
+    let line = match agent.pending {
         Some(pending) => {
             let pending = pending.name();
             format!(in alloc;
@@ -27,93 +28,49 @@ fn agent_line(alloc: Global, agent: &AgentRecord) -> Result<String, AllocError> 
             )
         }
         None => format!(in alloc; "= agent {digits} {state}, stamp {stamp}, since {since}"),
-    }
+    };
+    line.expect(rt, "memory")
 }
 
 // What the group has counted.
-fn figures_line(alloc: Global, group: &GroupRecord) -> Result<String, AllocError> {
+fn figures_line(rt: &impl Abort, alloc: Global, group: &GroupRecord) -> String {
     let digits = group.device.text();
     let (digits, f) = (digits.as_str(), group.figures);
-    format!(in alloc;
+    let line = format!(in alloc;
         "= figures of {digits}: entered {}, answered {}, abandoned {}, moved {}, waited {}",
         f.entered, f.answered, f.abandoned, f.moved, f.waited
-    )
+    );
+    line.expect(rt, "memory")
 }
 
 // The call's connection at the device: its state, and its group where it has one.
-fn connection_line(alloc: Global, connection: &ConnectionRecord) -> Result<String, AllocError> {
+fn connection_line(rt: &impl Abort, alloc: Global, connection: &ConnectionRecord) -> String {
     let digits = connection.device.text();
     let (call, digits) = (connection.call, digits.as_str());
     let state = state_name(connection.state);
-    match connection.group {
+    let line = match connection.group {
         Some(group) => {
             let group = group.text();
             let group = group.as_str();
             format!(in alloc; "= call {call} at {digits} {state} of group {group}")
         }
         None => format!(in alloc; "= call {call} at {digits} {state}"),
-    }
+    };
+    line.expect(rt, "memory")
 }
 
 // Place and moment with which the call entered the queue where it waits, or from which it rings.
-fn entry_line(alloc: Global, connection: &ConnectionRecord) -> Result<String, AllocError> {
+fn entry_line(rt: &impl Abort, alloc: Global, connection: &ConnectionRecord) -> String {
     let digits = connection.device.text();
     let (call, digits) = (connection.call, digits.as_str());
     match (connection.place, connection.queued) {
-        (Some(place), Some(queued)) => format!(in alloc;
-            "= entry of call {call} at {digits}: place {place}, queued {queued}"
-        ),
-        _ => Ok(String::new(alloc)),
+        (Some(place), Some(queued)) => {
+            format!(in alloc;
+                "= entry of call {call} at {digits}: place {place}, queued {queued}"
+            ).expect(rt, "memory")
+        }
+        _ => String::new(alloc),
     }
-}
-
-fn monitor_line(alloc: Global, monitor: &MonitorRecord) -> Result<String, AllocError> {
-    let digits = monitor.device.text();
-    let (number, digits) = (monitor.monitor, digits.as_str());
-    let after = monitor.after_event;
-    format!(in alloc; "= monitor {number} at {digits} after event {after}")
-}
-
-fn push_agents_and_groups(
-    alloc: Global,
-    rows: &Rows,
-    lines: &mut Vec<String>,
-) -> Result<(), AllocError> {
-    for agent in &rows.agents {
-        lines.push(agent_line(alloc, agent)?)?;
-    }
-    for group in &rows.groups {
-        lines.push(figures_line(alloc, group)?)?;
-    }
-    Ok(())
-}
-
-fn push_calls(alloc: Global, rows: &Rows, lines: &mut Vec<String>) -> Result<(), AllocError> {
-    for connection in &rows.connections {
-        lines.push(connection_line(alloc, connection)?)?;
-        lines.push(entry_line(alloc, connection)?)?;
-    }
-    for call in &rows.calls {
-        lines.push(format!(in alloc; "= call {} since {}", call.call, call.since)?)?;
-    }
-    Ok(())
-}
-
-fn push_monitors(alloc: Global, rows: &Rows, lines: &mut Vec<String>) -> Result<(), AllocError> {
-    for monitor in &rows.monitors {
-        lines.push(monitor_line(alloc, monitor)?)?;
-    }
-    lines.push(format!(in alloc; "= {} monitors", rows.monitors.len())?)?;
-    Ok(())
-}
-
-fn push_counters(alloc: Global, rows: &Rows, lines: &mut Vec<String>) -> Result<(), AllocError> {
-    let line = format!(in alloc;
-        "= last stamp {}, moment {}, event {}",
-        rows.last_stamp, rows.last_moment, rows.last_event
-    )?;
-    lines.push(line)?;
-    Ok(())
 }
 
 /// All lines of the rows:
@@ -127,17 +84,53 @@ fn push_counters(alloc: Global, rows: &Rows, lines: &mut Vec<String>) -> Result<
 /// - `= monitor 2 at 201 after event 1`
 /// - `= 1 monitors`: how many run
 /// - `= last stamp 16, moment 79, event 22`
-pub fn lines(alloc: Global, rows: &Rows) -> Result<Vec<String>, AllocError> {
+pub fn lines(rt: &impl Abort, alloc: Global, rows: &Rows) -> Vec<String> {
     let mut lines = Vec::new(alloc);
-    push_agents_and_groups(alloc, rows, &mut lines)?;
-    push_calls(alloc, rows, &mut lines)?;
-    push_monitors(alloc, rows, &mut lines)?;
-    push_counters(alloc, rows, &mut lines)?;
-    Ok(lines)
+    for agent in &rows.agents {
+        lines
+            .push(agent_line(rt, alloc, agent))
+            .expect(rt, "memory");
+    }
+    for group in &rows.groups {
+        lines
+            .push(figures_line(rt, alloc, group))
+            .expect(rt, "memory");
+    }
+    for connection in &rows.connections {
+        lines
+            .push(connection_line(rt, alloc, connection))
+            .expect(rt, "memory");
+        lines
+            .push(entry_line(rt, alloc, connection))
+            .expect(rt, "memory");
+    }
+    for call in &rows.calls {
+        let line = format!(in alloc; "= call {} since {}", call.call, call.since);
+        lines.push(line.expect(rt, "memory")).expect(rt, "memory");
+    }
+    for monitor in &rows.monitors {
+        let digits = monitor.device.text();
+        let line = format!(in alloc;
+            "= monitor {} at {} after event {}",
+            monitor.monitor,
+            digits.as_str(),
+            monitor.after_event
+        );
+        lines.push(line.expect(rt, "memory")).expect(rt, "memory");
+    }
+    let line = format!(in alloc; "= {} monitors", rows.monitors.len());
+    lines.push(line.expect(rt, "memory")).expect(rt, "memory");
+    let line = format!(in alloc;
+        "= last stamp {}, moment {}, event {}",
+        rows.last_stamp, rows.last_moment, rows.last_event
+    );
+    lines.push(line.expect(rt, "memory")).expect(rt, "memory");
+    lines
 }
 
-/// Whether the line is one of them.
-pub fn is_line(alloc: Global, rows: &Rows, line: &str) -> Result<bool, AllocError> {
-    let lines = lines(alloc, rows)?;
-    Ok(lines.iter().any(|held| held.as_str() == line))
+/// The line is one of them.
+pub fn is_line(rt: &impl Abort, alloc: Global, rows: &Rows, line: &str) -> bool {
+    lines(rt, alloc, rows)
+        .iter()
+        .any(|held| held.as_str() == line)
 }

@@ -12,7 +12,7 @@
 //! | `. TEXT` | a line of what it tells; where there is no such thing there is none |
 //! | `# TEXT` | a comment |
 
-use crate::fault::{OrFailed, SceneFault, holds, same};
+use crate::look_ups::same;
 use crate::reference::Reference;
 use crate::reports::ALL;
 use crate::{held, reads, reports};
@@ -21,17 +21,24 @@ use acd_codec::{event_text, read_request};
 use acd_desk::Desk;
 use acd_lines::lines;
 use acd_terms::{Arrival, Event, Rows};
-use std::alloc::{AllocError, Global};
+use std::alloc::Global;
+use std::process::Abort;
 
 // The greatest moment.
 const AT_LAST: &str = "4294967295";
 
+/// Where a transcript isn't what happens.
+#[derive(Drop)]
+pub struct Mismatch {
+    /// The line, from 0, in its part of the scene.
+    pub line: usize,
+    pub what: String,
+}
+
 // What happened at a line, and the text that it is about.
-fn mismatch_at(alloc: Global, line: usize, how: &str, text: &str) -> SceneFault {
-    match line_of(alloc, &[how, text]) {
-        Ok(what) => SceneFault::Mismatch { line, what },
-        Err(fault) => SceneFault::NoMemory(fault),
-    }
+fn mismatch_at(rt: &impl Abort, alloc: Global, line: usize, how: &str, text: &str) -> Mismatch {
+    let what = line_of(rt, alloc, &[how, text]);
+    Mismatch { line, what }
 }
 
 // A scene on its way.
@@ -46,295 +53,274 @@ struct Player {
     told: u64,
 }
 
-/// A desk over the book.
-pub fn opened<B: Book + Drop>(alloc: Global, book: B) -> Result<Desk<B>, SceneFault> {
+pub fn opened<B: Book + Drop>(rt: &impl Abort, alloc: Global, book: B) -> Desk<B> {
     match Desk::open(alloc, book) {
-        Ok(desk) => Ok(desk),
-        Err((fault, _book)) => Err(SceneFault::Open(fault)),
+        Ok(desk) => desk,
+        Err((fault, _)) => panic!(rt; "{fault:?}"),
     }
 }
 
 // A line of these parts, one behind the other.
-fn line_of(alloc: Global, parts: &[&str]) -> Result<String, AllocError> {
+fn line_of(rt: &impl Abort, alloc: Global, parts: &[&str]) -> String {
     let mut line = String::new(alloc);
     for part in parts {
-        line.push_str(part)?;
+        line.push_str(part).expect(rt, "memory");
     }
-    Ok(line)
+    line
 }
 
-/// What the program writes to this input.
-pub fn written<B: Book>(
-    alloc: Global,
-    desk: &mut Desk<B>,
-    input: &str,
-) -> Result<String, SceneFault> {
+// What the program writes to this input.
+pub fn written<B: Book>(rt: &impl Abort, alloc: Global, desk: &mut Desk<B>, input: &str) -> String {
     let mut reader = input.as_bytes();
     let mut writer = Vec::new(alloc);
-    lines(alloc, desk, &mut reader, &mut writer).or_failed("lines that are read and written")?;
-    String::from_utf8(writer).or_failed("text")
-}
-
-// What the program writes to the request over a book, and the book.
-fn answered<B: Book + Drop>(
-    alloc: Global,
-    book: B,
-    asked: &str,
-) -> Result<(String, B), SceneFault> {
-    let input = line_of(alloc, &[asked, "\n"])?;
-    let mut desk = opened(alloc, book)?;
-    let output = written(alloc, &mut desk, input.as_str())?;
-    Ok((output, desk.close()))
-}
-
-/// The moment of a request's line, and its JSON.
-pub fn timed(line: &str) -> Result<(u32, &str), SceneFault> {
-    let Some((digits, json)) = line.split_once(' ') else {
-        return Err(SceneFault::Expected("a moment"));
-    };
-    let moment = digits.parse::<u32>().or_failed("a moment")?;
-    Ok((moment, json))
+    let ended = lines(alloc, desk, &mut reader, &mut writer);
+    assert!(rt; ended.is_ok());
+    String::from_utf8(writer).expect(rt, "text")
 }
 
 // The request of the line, where it is one and its key isn't kept.
 fn new_arrival<B: Book>(
+    rt: &impl Abort,
     alloc: Global,
     book: &mut B,
     asked: &str,
-) -> Result<Option<Arrival>, SceneFault> {
-    let (moment, json) = timed(asked)?;
+) -> Option<Arrival> {
+    let (digits, json) = asked.split_once(' ').expect(rt, "a moment");
+    let moment = digits.parse::<u32>().expect(rt, "a moment");
     let Ok(request) = read_request(alloc, json.as_bytes()) else {
-        return Ok(None);
+        return None;
     };
-    match book.kept(&request.requester, request.invoke)? {
-        Some(_) => Ok(None),
-        None => Ok(Some(Arrival { moment, request })),
+    let kept = book.kept(&request.requester, request.invoke);
+    match kept.expect(rt, "memory") {
+        Some(_) => None,
+        None => Some(Arrival { moment, request }),
     }
 }
 
 impl Player {
     // The line is the next one that the last request made.
-    fn expect_made(&mut self, number: usize, line: &str) -> Result<(), SceneFault> {
+    fn expect_made(&mut self, rt: &impl Abort, number: usize, line: &str) -> Result<(), Mismatch> {
         let alloc = self.alloc;
         match self.made.get(self.read) {
             Some(made) if made.as_str() == line => {}
-            Some(made) => return Err(mismatch_at(alloc, number, "made: ", made.as_str())),
-            None => return Err(mismatch_at(alloc, number, "not made: ", line)),
+            Some(made) => return Err(mismatch_at(rt, alloc, number, "made: ", made.as_str())),
+            None => return Err(mismatch_at(rt, alloc, number, "not made: ", line)),
         }
         self.read = self.read.saturating_add(1);
         Ok(())
     }
 
     // All lines that the last request made were read.
-    fn expect_all_read(&self, number: usize) -> Result<(), SceneFault> {
+    fn expect_all_read(&self, rt: &impl Abort, number: usize) -> Result<(), Mismatch> {
         match self.made.get(self.read) {
-            Some(made) => Err(mismatch_at(self.alloc, number, "left out: ", made.as_str())),
+            Some(made) => Err(mismatch_at(rt, self.alloc, number, "left out: ", made.as_str())),
             None => Ok(()),
         }
     }
 
     // Keeps what a request made.
-    fn make(&mut self, answer: &str, events: &[Event]) -> Result<(), SceneFault> {
+    fn make(&mut self, rt: &impl Abort, answer: &str, events: &[Event]) {
         let mut made = Vec::new(self.alloc);
-        made.push(line_of(self.alloc, &["< ", answer])?)?;
+        let answer = line_of(rt, self.alloc, &["< ", answer]);
+        made.push(answer).expect(rt, "memory");
         for event in events {
-            let text = event_text(self.alloc, event)?;
-            made.push(line_of(self.alloc, &["! ", text.as_str()])?)?;
+            let text = event_text(self.alloc, event).expect(rt, "memory");
+            let line = line_of(rt, self.alloc, &["! ", text.as_str()]);
+            made.push(line).expect(rt, "memory");
         }
         self.made = made;
         self.read = 0;
         self.told = self.told.saturating_add(events.len() as u64);
-        Ok(())
     }
 
-    // The switch makes the same of a request whose key is new. Nothing else makes an event.
-    fn step(
-        &mut self,
-        arrival: &Option<Arrival>,
-        answer: &str,
-        events: &[Event],
-    ) -> Result<(), SceneFault> {
-        match arrival {
-            Some(arrival) => self.reference.take(arrival, answer, events),
-            None => holds(events.is_empty(), "no event of what isn't executed"),
-        }
-    }
-
-    // The look-ups are the scans of the rows, and the reports tell the rows.
-    fn compare<B: Book>(&self, book: &mut B) -> Result<(), SceneFault> {
-        let (rows, events) = held_by(book)?;
-        self.reference.compare(&rows)?;
-        reports::compare(&events, &rows)
-    }
-
-    // The desk over the book answers the line, and so does the switch. Then both are compared.
-    fn ask<B: Book + Drop>(&mut self, book: B, asked: &str) -> Result<B, SceneFault> {
+    // The desk over the book answers the line, and so does the switch. Then the look-ups are the scans of
+    // the rows, and the reports tell the rows.
+    fn ask<B: Book + Drop>(&mut self, rt: &impl Abort, book: B, asked: &str) -> B {
         let mut book = book;
-        let arrival = new_arrival(self.alloc, &mut book, asked)?;
-        let (output, mut book) = answered(self.alloc, book, asked)?;
-        let answer = output.strip_suffix("\n").or_failed("an answer line")?;
-        let events = book.events_after(self.told, ALL)?;
-        self.make(answer, &events)?;
-        self.step(&arrival, answer, &events)?;
-        self.compare(&mut book)?;
-        Ok(book)
+        let arrival = new_arrival(rt, self.alloc, &mut book, asked);
+        let mut desk = opened(rt, self.alloc, book);
+        let input = line_of(rt, self.alloc, &[asked, "\n"]);
+        let output = written(rt, self.alloc, &mut desk, &input);
+        let answer = output.strip_suffix("\n").expect(rt, "an answer line");
+        let mut book = desk.close();
+        let events = book.events_after(self.told, ALL).expect(rt, "memory");
+        self.make(rt, answer, &events);
+        match arrival {
+            Some(arrival) => self
+                .reference
+                .take(rt, self.alloc, &arrival, answer, &events),
+            None => assert!(rt; events.is_empty()),
+        }
+        let rows = book.rows().expect(rt, "memory");
+        self.reference.compare(rt, &rows);
+        let all = book.events_after(0, ALL).expect(rt, "memory");
+        reports::compare(rt, &all, &rows);
+        book
     }
 
     // Keeps what a read told.
-    fn keep_told(&mut self, text: &str) -> Result<(), SceneFault> {
+    fn keep_told(&mut self, rt: &impl Abort, text: &str) {
         let mut told = Vec::new(self.alloc);
         for line in text.lines() {
-            told.push(line_of(self.alloc, &[". ", line])?)?;
+            let line = line_of(rt, self.alloc, &[". ", line]);
+            told.push(line).expect(rt, "memory");
         }
         self.made = told;
         self.read = 0;
-        Ok(())
     }
 
     // A desk over the book is asked for a read.
-    fn look<B: Book + Drop>(&mut self, book: B, asked: &str) -> Result<B, SceneFault> {
-        let mut desk = opened(self.alloc, book)?;
-        match reads::told(&mut desk, asked)? {
-            Some(text) => self.keep_told(text.as_str())?,
-            None => self.keep_told("")?,
+    fn look<B: Book + Drop>(&mut self, rt: &impl Abort, book: B, asked: &str) -> B {
+        let mut desk = opened(rt, self.alloc, book);
+        match reads::told(rt, &mut desk, asked) {
+            Some(text) => self.keep_told(rt, text.as_str()),
+            None => self.keep_told(rt, ""),
         }
-        Ok(desk.close())
+        desk.close()
     }
 
     // The rows hold the line.
     fn expect_held<B: Book>(
         &self,
+        rt: &impl Abort,
         book: &mut B,
         number: usize,
         line: &str,
-    ) -> Result<(), SceneFault> {
-        let rows = book.rows()?;
-        if held::is_line(self.alloc, &rows, line)? {
+    ) -> Result<(), Mismatch> {
+        let rows = book.rows().expect(rt, "memory");
+        if held::is_line(rt, self.alloc, &rows, line) {
             return Ok(());
         }
-        Err(mismatch_at(self.alloc, number, "not held: ", line))
+        Err(mismatch_at(rt, self.alloc, number, "not held: ", line))
     }
 
     // One line of a transcript.
     fn play_line<B: Book + Drop>(
         &mut self,
+        rt: &impl Abort,
         book: B,
         number: usize,
         line: &str,
-    ) -> Result<B, SceneFault> {
+    ) -> Result<B, Mismatch> {
         if line.starts_with("< ") || line.starts_with("! ") || line.starts_with(". ") {
-            self.expect_made(number, line)?;
+            self.expect_made(rt, number, line)?;
             return Ok(book);
         }
-        self.expect_all_read(number)?;
+        self.expect_all_read(rt, number)?;
         if let Some(asked) = line.strip_prefix("> ") {
-            return self.ask(book, asked);
+            return Ok(self.ask(rt, book, asked));
         }
         if let Some(asked) = line.strip_prefix("? ") {
-            return self.look(book, asked);
+            return Ok(self.look(rt, book, asked));
         }
         let mut book = book;
         if line.starts_with("= ") {
-            self.expect_held(&mut book, number, line)?;
+            self.expect_held(rt, &mut book, number, line)?;
         } else if !line.is_empty() && !line.starts_with("# ") {
-            return Err(mismatch_at(self.alloc, number, "no line of a transcript: ", line));
+            return Err(mismatch_at(rt, self.alloc, number, "no line of a transcript: ", line));
         }
         Ok(book)
     }
 
-    fn play_text<B: Book + Drop>(&mut self, book: B, text: &str) -> Result<B, SceneFault> {
+    fn play_text<B: Book + Drop>(
+        &mut self,
+        rt: &impl Abort,
+        book: B,
+        text: &str,
+    ) -> Result<B, Mismatch> {
         let mut book = book;
         let mut asked = false;
         for (number, line) in text.lines().enumerate() {
             asked = asked || line.starts_with("> ") || line.starts_with("? ");
-            book = self.play_line(book, number, line)?;
+            book = self.play_line(rt, book, number, line)?;
         }
         let count = text.lines().count();
-        self.expect_all_read(count)?;
+        self.expect_all_read(rt, count)?;
         if !asked {
-            return Err(mismatch_at(self.alloc, count, "no request", ""));
+            return Err(mismatch_at(rt, self.alloc, count, "no request", ""));
         }
         Ok(book)
     }
 }
 
-/// The requests of the transcripts as one input, at their own moments or all at this one, and the answers
-/// as one output.
+// The requests of the transcripts as one input, at their own moments or all at this one, and the answers
+// as one output.
 pub fn session(
+    rt: &impl Abort,
     alloc: Global,
     texts: &[&str],
     moment: Option<&str>,
-) -> Result<(String, String), SceneFault> {
+) -> (String, String) {
     let mut input = String::new(alloc);
     let mut output = String::new(alloc);
     for text in texts {
         for line in text.lines() {
             if let Some(asked) = line.strip_prefix("> ") {
-                let Some((own, json)) = asked.split_once(' ') else {
-                    return Err(SceneFault::Expected("a moment"));
-                };
+                let (own, json) = asked.split_once(' ').expect(rt, "a moment");
                 let moment = moment.unwrap_or(own);
                 for part in [moment, " ", json, "\n"] {
-                    input.push_str(part)?;
+                    input.push_str(part).expect(rt, "memory");
                 }
             } else if let Some(answer) = line.strip_prefix("< ") {
-                output.push_str(answer)?;
-                output.push_str("\n")?;
+                output.push_str(answer).expect(rt, "memory");
+                output.push_str("\n").expect(rt, "memory");
             }
         }
     }
-    Ok((input, output))
+    (input, output)
 }
 
 // The requests of the transcripts as one input get the answers of the transcripts.
 fn send<B: Book>(
+    rt: &impl Abort,
     alloc: Global,
     desk: &mut Desk<B>,
     texts: &[&str],
     moment: Option<&str>,
-) -> Result<(), SceneFault> {
-    let (input, output) = session(alloc, texts, moment)?;
-    let answers = written(alloc, desk, &input)?;
-    holds(
-        answers.as_str() == output.as_str(),
-        "the answers of all requests",
-    )
+) {
+    let (input, output) = session(rt, alloc, texts, moment);
+    let answers = written(rt, alloc, desk, &input);
+    assert_eq!(rt; answers.as_str(), output.as_str());
 }
 
-/// The rows and all events of the book.
-pub fn held_by<B: Book>(book: &mut B) -> Result<(Rows, Vec<Event>), SceneFault> {
-    let rows = book.rows()?;
-    let events = book.events_after(0, ALL)?;
-    Ok((rows, events))
+fn held_by<B: Book>(rt: &impl Abort, book: &mut B) -> (Rows, Vec<Event>) {
+    let rows = book.rows().expect(rt, "memory");
+    let events = book.events_after(0, ALL).expect(rt, "memory");
+    (rows, events)
 }
 
 // One desk is sent all requests again, at the moments and at the greatest one: each gets its answer, and
 // nothing changes.
-fn send_again<B: Book + Drop>(alloc: Global, book: B, texts: &[&str]) -> Result<B, SceneFault> {
+fn send_again<B: Book + Drop>(rt: &impl Abort, alloc: Global, book: B, texts: &[&str]) -> B {
     let mut book = book;
-    let before = held_by(&mut book)?;
-    let mut desk = opened(alloc, book)?;
-    send(alloc, &mut desk, texts, None)?;
-    send(alloc, &mut desk, texts, Some(AT_LAST))?;
+    let before = held_by(rt, &mut book);
+    let mut desk = opened(rt, alloc, book);
+    send(rt, alloc, &mut desk, texts, None);
+    send(rt, alloc, &mut desk, texts, Some(AT_LAST));
     let mut book = desk.close();
-    same(&held_by(&mut book)?, &before, "what repeats change")?;
-    Ok(book)
+    same(rt, &held_by(rt, &mut book), &before);
+    book
 }
 
 /// Plays the transcripts of a scene, one after the other, over a new book. Each line is what the desk
 /// answers, the book holds and the switch makes, and nothing is left out.
-pub fn play<B: Book + Drop>(alloc: Global, book: B, texts: &[&str]) -> Result<B, SceneFault> {
+pub fn play<B: Book + Drop>(
+    rt: &impl Abort,
+    alloc: Global,
+    book: B,
+    texts: &[&str],
+) -> Result<B, Mismatch> {
     let mut book = book;
-    let limits = book.limits()?;
+    let limits = book.limits().expect(rt, "memory");
     let mut player = Player {
         alloc,
-        reference: Reference::new(alloc, limits)?,
+        reference: Reference::new(rt, alloc, limits),
         made: Vec::new(alloc),
         read: 0,
         told: 0,
     };
     for text in texts {
-        book = player.play_text(book, text)?;
+        book = player.play_text(rt, book, text)?;
     }
-    send_again(alloc, book, texts)
+    Ok(send_again(rt, alloc, book, texts))
 }

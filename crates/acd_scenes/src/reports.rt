@@ -1,11 +1,12 @@
 //! The event reports alone tell the connections, the agents and the order of the queues that stand in the
 //! rows.
 
-use crate::fault::{SceneFault, holds, same};
+use crate::look_ups::same;
 use acd_terms::{
     AgentId, AgentState, Cause, ConnectionRecord, ConnectionState, DeviceId, Event, EventKind,
     Report, Rows,
 };
+use std::process::Abort;
 
 // More events than any scene has.
 pub const ALL: usize = 1000;
@@ -105,51 +106,42 @@ fn state_kept(rows: &Rows, call: u64, device: DeviceId) -> Option<ConnectionStat
     None
 }
 
-fn compare_connection(
-    events: &[Event],
-    rows: &Rows,
-    call: u64,
-    device: DeviceId,
-) -> Result<(), SceneFault> {
-    if is_external_caller(rows, call, device) {
-        return Ok(());
+fn compare_connection(rt: &impl Abort, events: &[Event], rows: &Rows, call: u64, device: DeviceId) {
+    if !is_external_caller(rows, call, device) {
+        same(
+            rt,
+            &connection_told(events, call, device),
+            &state_kept(rows, call, device),
+        );
     }
-    same(
-        &connection_told(events, call, device),
-        &state_kept(rows, call, device),
-        "the connection that events tell",
-    )
 }
 
 // Each connection of the rows, and each of which an event tells.
-fn compare_connections(events: &[Event], rows: &Rows) -> Result<(), SceneFault> {
+fn compare_connections(rt: &impl Abort, events: &[Event], rows: &Rows) {
     for connection in rows.connections.as_slice() {
-        compare_connection(events, rows, connection.call, connection.device)?;
+        compare_connection(rt, events, rows, connection.call, connection.device);
     }
     for event in events {
         let columns = event.report.columns();
         if let (Some(call), Some(device)) = (columns.call, columns.device) {
-            compare_connection(events, rows, call, device)?;
+            compare_connection(rt, events, rows, call, device);
         }
     }
-    Ok(())
 }
 
-fn compare_agents(events: &[Event], rows: &Rows) -> Result<(), SceneFault> {
+fn compare_agents(rt: &impl Abort, events: &[Event], rows: &Rows) {
     for agent in rows.agents.as_slice() {
         same(
+            rt,
             &seat_told(events, agent.agent),
             &(agent.state, agent.station),
-            "the agent that events tell",
-        )?;
+        );
     }
     for event in events {
         if let Some(told) = event.report.columns().agent {
-            let is_held = rows.agents.as_slice().iter().any(|a| a.agent == told);
-            holds(is_held, "an agent of an event")?;
+            assert!(rt; rows.agents.as_slice().iter().any(|a| a.agent == told));
         }
     }
-    Ok(())
 }
 
 // It waits in the group, or rings from it.
@@ -159,27 +151,24 @@ fn is_held_by(connection: &ConnectionRecord, group: DeviceId) -> bool {
 }
 
 // An earlier place is an earlier entry.
-fn compare_queue(events: &[Event], rows: &Rows, group: DeviceId) -> Result<(), SceneFault> {
+fn compare_queue(rt: &impl Abort, events: &[Event], rows: &Rows, group: DeviceId) {
     for first in rows.connections.as_slice() {
         for second in rows.connections.as_slice() {
             if is_held_by(first, group) && is_held_by(second, group) {
                 let entry = last_entry(events, group, first.call);
                 let other = last_entry(events, group, second.call);
-                holds(entry > 0, "an event of a call that waits")?;
-                let order = first.place.cmp(&second.place);
-                same(&order, &entry.cmp(&other), "the order that events tell")?;
+                assert!(rt; entry > 0);
+                same(rt, &first.place.cmp(&second.place), &entry.cmp(&other));
             }
         }
     }
-    Ok(())
 }
 
 /// Compares what all events tell with the rows.
-pub fn compare(events: &[Event], rows: &Rows) -> Result<(), SceneFault> {
-    compare_connections(events, rows)?;
-    compare_agents(events, rows)?;
+pub fn compare(rt: &impl Abort, events: &[Event], rows: &Rows) {
+    compare_connections(rt, events, rows);
+    compare_agents(rt, events, rows);
     for group in rows.groups.as_slice() {
-        compare_queue(events, rows, group.device)?;
+        compare_queue(rt, events, rows, group.device);
     }
-    Ok(())
 }

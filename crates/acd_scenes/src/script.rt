@@ -11,14 +11,15 @@
 //! | `altered NAME: PART` | is taken by a book whose database is then changed by each of its lines `~ TOLD SQL` ([`altered`](crate::altered)) |
 //! | `office` | the [office of working size](crate::working_size) |
 
-use crate::fault::{OrFailed, SceneFault, holds};
-use crate::player::play;
+use crate::altered::Unseen;
+use crate::player::{Mismatch, play};
 use crate::{altered, files, fused, working_size};
 use acd_book::MemoryBook;
 use acd_sqlbook::SqlBook;
 use acd_terms::Limits;
 use sqlite::{Connection, MemStore};
 use std::alloc::Global;
+use std::process::Abort;
 
 // A part that scenes are made of.
 #[derive(Drop)]
@@ -28,207 +29,190 @@ struct Part<'a> {
 }
 
 /// A new book in a database in memory.
-pub fn database(alloc: Global, limits: Limits) -> Result<SqlBook<MemStore>, SceneFault> {
-    let Ok(conn) = Connection::open_in_memory(alloc) else {
-        return Err(SceneFault::Expected("a database"));
-    };
-    SqlBook::create(alloc, conn, limits).or_failed("a new book")
+pub fn database(rt: &impl Abort, alloc: Global, limits: Limits) -> SqlBook<MemStore> {
+    match Connection::open_in_memory(alloc) {
+        Ok(conn) => match SqlBook::create(alloc, conn, limits) {
+            Ok(book) => book,
+            Err((fault, _)) => panic!(rt; "{fault:?}"),
+        },
+        Err(_) => panic!(rt; "memory"),
+    }
 }
 
 // Over a new book in memory with these limits, and over one in a database.
-fn played(alloc: Global, limits: Limits, texts: &[&str]) -> Result<(), SceneFault> {
-    let _ = play(alloc, MemoryBook::new(alloc, limits), texts)?;
-    let _ = play(alloc, database(alloc, limits)?, texts)?;
+fn played(rt: &impl Abort, alloc: Global, limits: Limits, texts: &[&str]) -> Result<(), Mismatch> {
+    let _ = play(rt, alloc, MemoryBook::new(alloc, limits), texts)?;
+    let _ = play(rt, alloc, database(rt, alloc, limits), texts)?;
     Ok(())
 }
 
 // The text of the part.
-fn text_of<'b>(parts: &'b [Part<'_>], name: &str) -> Result<&'b str, SceneFault> {
+fn text_of<'b>(rt: &impl Abort, parts: &'b [Part<'_>], name: &str) -> &'b str {
     match parts.iter().find(|part| part.name == name) {
-        Some(part) => Ok(part.text.as_str()),
-        None => Err(SceneFault::Expected("a part")),
+        Some(part) => part.text.as_str(),
+        None => panic!(rt; "no part {name}"),
     }
 }
 
 // The texts of these parts.
 fn texts_of<'b>(
+    rt: &impl Abort,
     alloc: Global,
     parts: &'b [Part<'_>],
     names: &str,
-) -> Result<Vec<&'b str>, SceneFault> {
+) -> Vec<&'b str> {
     let mut texts = Vec::new(alloc);
     for name in names.split(' ') {
-        texts.push(text_of(parts, name)?)?;
+        texts.push(text_of(rt, parts, name)).expect(rt, "memory");
     }
-    Ok(texts)
+    texts
 }
 
-fn limits_of(alloc: Global, numbers: &str) -> Result<Limits, SceneFault> {
+fn limits_of(rt: &impl Abort, alloc: Global, numbers: &str) -> Limits {
     let mut read = Vec::new(alloc);
     for number in numbers.split(' ') {
-        read.push(number.parse::<u64>().or_failed("a limit")?)?;
+        let number = number.parse::<u64>().expect(rt, "a limit");
+        read.push(number).expect(rt, "memory");
     }
     match read.as_slice() {
-        [requests, calls, groups, stations, agents, monitors] => Ok(Limits {
+        [requests, calls, groups, stations, agents, monitors] => Limits {
             requests: *requests,
             calls: *calls,
             groups: *groups,
             stations: *stations,
             agents: *agents,
             monitors: *monitors,
-        }),
-        _ => Err(SceneFault::Expected("six limits")),
+        },
+        _ => panic!(rt; "not six limits: {numbers}"),
     }
 }
 
 // What is said of a scene and its parts: the name, behind it the limits where they aren't the greatest, and
 // the parts' names.
-fn read_scene<'a>(alloc: Global, said: &'a str) -> Result<(&'a str, Limits, &'a str), SceneFault> {
-    let Some((scene, names)) = said.split_once(": ") else {
-        return Err(SceneFault::Expected("parts of a scene"));
-    };
+fn read_scene<'a>(rt: &impl Abort, alloc: Global, said: &'a str) -> (&'a str, Limits, &'a str) {
+    let (scene, names) = said.split_once(": ").expect(rt, "parts");
     match scene.split_once(" within ") {
-        Some((name, numbers)) => Ok((name, limits_of(alloc, numbers)?, names)),
-        None => Ok((scene, Limits::GREATEST, names)),
+        Some((name, numbers)) => (name, limits_of(rt, alloc, numbers), names),
+        None => (scene, Limits::GREATEST, names),
     }
 }
 
 /// The parts that were read, and what is told of the scenes.
 #[derive(Drop)]
-pub struct Script<'a> {
+struct Script<'a> {
     alloc: Global,
     parts: Vec<Part<'a>>,
     told: String,
 }
 
 impl<'a> Script<'a> {
-    /// Nothing was read yet.
-    pub fn new(alloc: Global) -> Script<'a> {
-        Script {
-            alloc,
-            parts: Vec::new(alloc),
-            told: String::new(alloc),
-        }
-    }
-
-    fn tell(&mut self, line: &str) -> Result<(), SceneFault> {
-        self.told.push_str(line)?;
-        self.told.push_str("\n")?;
-        Ok(())
+    fn tell(&mut self, rt: &impl Abort, line: &str) {
+        self.told.push_str(line).expect(rt, "memory");
+        self.told.push_str("\n").expect(rt, "memory");
     }
 
     // A scene is what happens: its name.
-    fn scene<'b>(&self, said: &'b str) -> Result<&'b str, SceneFault> {
-        let (name, limits, names) = read_scene(self.alloc, said)?;
-        let texts = texts_of(self.alloc, &self.parts, names)?;
-        played(self.alloc, limits, &texts)?;
-        Ok(name)
+    fn scene<'b>(&self, rt: &impl Abort, said: &'b str) -> &'b str {
+        let (name, limits, names) = read_scene(rt, self.alloc, said);
+        let texts = texts_of(rt, self.alloc, &self.parts, names);
+        match played(rt, self.alloc, limits, &texts) {
+            Ok(()) => name,
+            Err(Mismatch { line, what }) => panic!(rt; "{name}, line {line}: {what}"),
+        }
     }
 
     // It isn't: its name, and where it is wrong.
-    fn wrong(&self, said: &str) -> Result<String, SceneFault> {
-        let (name, limits, names) = read_scene(self.alloc, said)?;
-        let texts = texts_of(self.alloc, &self.parts, names)?;
-        match played(self.alloc, limits, &texts) {
-            Ok(()) => Err(SceneFault::Expected("a scene that isn't what happens")),
-            Err(SceneFault::Mismatch { line, what }) => {
-                Ok(format!(in self.alloc; "{name}, line {line}: {what}")?)
+    fn wrong(&self, rt: &impl Abort, said: &str) -> String {
+        let (name, limits, names) = read_scene(rt, self.alloc, said);
+        let texts = texts_of(rt, self.alloc, &self.parts, names);
+        let told = match played(rt, self.alloc, limits, &texts) {
+            Ok(()) => panic!(rt; "{name} is what happens"),
+            Err(Mismatch { line, what }) => {
+                format!(in self.alloc; "{name}, line {line}: {what}")
             }
-            Err(fault) => Err(fault),
-        }
+        };
+        told.expect(rt, "memory")
     }
 
     // The parts of a scene with the greatest limits.
-    fn parts<'b, 's>(&'s self, said: &'b str) -> Result<(&'b str, Vec<&'s str>), SceneFault> {
-        let Some((name, names)) = said.split_once(": ") else {
-            return Err(SceneFault::Expected("parts of a scene"));
-        };
-        Ok((name, texts_of(self.alloc, &self.parts, names)?))
+    fn parts<'b, 's>(&'s self, rt: &impl Abort, said: &'b str) -> (&'b str, Vec<&'s str>) {
+        let (name, names) = said.split_once(": ").expect(rt, "parts");
+        (name, texts_of(rt, self.alloc, &self.parts, names))
     }
 
     // It is what happens over files: its name.
-    fn over_files<'b>(&self, said: &'b str) -> Result<&'b str, SceneFault> {
-        let (name, texts) = self.parts(said)?;
-        files::play(self.alloc, &texts)?;
-        Ok(name)
+    fn over_files<'b>(&self, rt: &impl Abort, said: &'b str) -> &'b str {
+        let (name, texts) = self.parts(rt, said);
+        files::play(rt, self.alloc, &texts);
+        name
     }
 
     // And over files that stop: its name.
-    fn over_stops<'b>(&self, said: &'b str) -> Result<&'b str, SceneFault> {
-        let (name, texts) = self.parts(said)?;
-        fused::play(self.alloc, &texts)?;
-        Ok(name)
+    fn over_stops<'b>(&self, rt: &impl Abort, said: &'b str) -> &'b str {
+        let (name, texts) = self.parts(rt, said);
+        fused::play(rt, self.alloc, &texts);
+        name
     }
 
     // What is told of its book behind each change: its name.
-    fn changes<'b>(&self, said: &'b str) -> Result<&'b str, SceneFault> {
-        let (name, texts) = self.parts(said)?;
-        altered::play(self.alloc, &texts)?;
-        Ok(name)
-    }
-
-    // A new part begins.
-    fn begin(&mut self, name: &'a str) -> Result<(), SceneFault> {
-        let text = String::new(self.alloc);
-        self.parts.push(Part { name, text })?;
-        Ok(())
+    fn changes<'b>(&self, rt: &impl Abort, said: &'b str) -> &'b str {
+        let (name, texts) = self.parts(rt, said);
+        match altered::play(rt, self.alloc, &texts) {
+            None => name,
+            Some(Unseen { change, told }) => panic!(rt; "{name}: {told} behind {change}"),
+        }
     }
 
     // A line of the part that was begun last.
-    fn add(&mut self, line: &str) -> Result<(), SceneFault> {
+    fn add(&mut self, rt: &impl Abort, line: &str) {
         match self.parts.last_mut() {
             Some(part) => {
-                part.text.push_str(line)?;
-                part.text.push_str("\n")?;
-                Ok(())
+                part.text.push_str(line).expect(rt, "memory");
+                part.text.push_str("\n").expect(rt, "memory");
             }
-            None => holds(
-                line.is_empty() || line.starts_with("# "),
-                "a part before its lines",
-            ),
+            None => assert!(rt; line.is_empty() || line.starts_with("# ")),
         }
     }
 
-    fn play_line(&mut self, line: &'a str) -> Result<(), SceneFault> {
+    fn play_line(&mut self, rt: &impl Abort, line: &'a str) {
         if let Some(name) = line.strip_prefix("part ") {
-            self.begin(name)
+            let text = String::new(self.alloc);
+            self.parts.push(Part { name, text }).expect(rt, "memory");
         } else if let Some(said) = line.strip_prefix("scene ") {
-            let name = self.scene(said)?;
-            self.tell(name)
+            let name = self.scene(rt, said);
+            self.tell(rt, name);
         } else if let Some(said) = line.strip_prefix("wrong ") {
-            let line = self.wrong(said)?;
-            self.tell(line.as_str())
+            let line = self.wrong(rt, said);
+            self.tell(rt, line.as_str());
         } else if let Some(said) = line.strip_prefix("files ") {
-            let name = self.over_files(said)?;
-            self.tell(name)
+            let name = self.over_files(rt, said);
+            self.tell(rt, name);
         } else if let Some(said) = line.strip_prefix("stops ") {
-            let name = self.over_stops(said)?;
-            self.tell(name)
+            let name = self.over_stops(rt, said);
+            self.tell(rt, name);
         } else if let Some(said) = line.strip_prefix("altered ") {
-            let name = self.changes(said)?;
-            self.tell(name)
+            let name = self.changes(rt, said);
+            self.tell(rt, name);
         } else if line == "office" {
-            working_size::play(self.alloc)?;
-            self.tell(line)
+            working_size::play(rt, self.alloc);
+            self.tell(rt, line);
         } else {
-            self.add(line)
+            self.add(rt, line);
         }
     }
+}
 
-    /// Plays a script, up to the first of its lines that is otherwise than it should be: answers this line, and
-    /// what is wrong.
-    pub fn play(&mut self, input: &'a str) -> Result<(), (&'a str, SceneFault)> {
-        for line in input.lines() {
-            if let Err(fault) = self.play_line(line) {
-                return Err((line, fault));
-            }
-        }
-        Ok(())
+/// Plays a script. Each scene that is as it should be has a line in the answer, its name; a wrong one has
+/// also the line in its last part from 0, and what is wrong there. The first that is otherwise ends the
+/// program.
+pub fn told(rt: &impl Abort, alloc: Global, input: &str) -> String {
+    let mut script = Script {
+        alloc,
+        parts: Vec::new(alloc),
+        told: String::new(alloc),
+    };
+    for line in input.lines() {
+        script.play_line(rt, line);
     }
-
-    /// What was told so far. Each scene that is as it should be has a line, its name; a wrong one has also the
-    /// line in its last part from 0, and what is wrong there.
-    pub fn told(&self) -> &str {
-        self.told.as_str()
-    }
+    script.told
 }

@@ -1,4 +1,25 @@
-call_waits
+//! The scenes, in lines of a [script](crate::script), and what is told of them.
+
+mod agents;
+mod calls;
+mod refusals;
+mod told;
+
+use std::alloc::{AllocError, Global};
+
+/// All lines.
+pub fn all(alloc: Global) -> Result<String, AllocError> {
+    let mut lines = String::new(alloc);
+    lines.push_str(calls::lines())?;
+    lines.push_str(agents::lines())?;
+    lines.push_str(refusals::lines())?;
+    lines.push_str(told::lines())?;
+    Ok(lines)
+}
+
+/// The name of each scene, and where each wrong one is wrong.
+pub fn names() -> &'static str {
+    r#"call_waits
 offered_to_the_ready_agent
 answered_call
 longest_ready_first
@@ -72,3 +93,5 @@ surplus_report, line 2: not made: ! {"call":1,"cause":"newCall","device":"100","
 other_rows, line 2: not held: = figures of 100: entered 1, answered 0, abandoned 0, moved 0, waited 0
 another_read, line 3: made: . {"events":[],"last":0}
 office
+"#
+}

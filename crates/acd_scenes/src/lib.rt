@@ -1,0 +1,30 @@
+//! Scenes from request to reply, played over a desk, its book and a switch, with ample memory. They stand in a crate
+//! of their own, so that no other crate is proved a second time for them.
+#![tactic(auto)]
+
+#[cfg(test)]
+mod altered;
+#[cfg(test)]
+mod files;
+#[cfg(test)]
+mod fused;
+#[cfg(test)]
+mod held;
+#[cfg(test)]
+mod look_ups;
+#[cfg(test)]
+mod player;
+#[cfg(test)]
+mod reads;
+#[cfg(test)]
+mod reference;
+#[cfg(test)]
+mod reports;
+#[cfg(test)]
+mod scenes;
+#[cfg(test)]
+mod script;
+#[cfg(test)]
+mod tests;
+#[cfg(test)]
+mod working_size;
