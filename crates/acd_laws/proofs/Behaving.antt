@@ -24,9 +24,7 @@ use Rattle.acd_terms.specs.Rules.Plan.{agent_order}
 use Rattle.acd_laws.proofs.Lists.{every_among, every_from, every-put}
 use Rattle.acd_laws.proofs.State.{group_put, station_put}
 use Rattle.std.proofs.lemmas.Bool.{leb-false}
-use Rattle.acd_terms.specs.Services.Plan.{add_group, add_station, add_agent, new_group, new_agent}
-use Rattle.acd_terms.specs.Services.NewCalls.{arrive_call, make_call, next_call}
-use Rattle.acd_terms.specs.Services.Monitors.{monitor_start, monitor_stop, next_monitor}
+use Rattle.acd_terms.specs.Services.{add_group, add_station, add_agent, new_group, new_agent, arrive_call, make_call, next_call, monitor_start, monitor_stop, next_monitor}
 use Rattle.acd_laws.specs.Bounds.{Sizes, AgentTimed, at_place, MonitorRule, Monitored}
 use Rattle.acd_laws.proofs.Serving.{by_refusal, by_found}
 use Rattle.acd_laws.proofs.Members.{among_put}

@@ -12,7 +12,6 @@ use Rattle.acd_terms.specs.declared.event.Cause.{Cause}
 use Rattle.acd_terms.specs.declared.event.Cause.TheVariants as C
 use Rattle.acd_terms.specs.declared.moves.Move.{Move}
 use Rattle.acd_terms.specs.declared.moves.Change.TheVariants.{PutAgent, PutConnection, RemoveConnection}
-use Rattle.acd_terms.specs.declared.moves.Served.TheVariants.{Done}
 use Rattle.acd_terms.specs.Lists.{count, IsAscending}
 use Rattle.acd_terms.specs.States.{state_wanted, is_in}
 use Rattle.acd_terms.specs.Scans.{connection_of, other_of, is_occupied}
@@ -21,16 +20,12 @@ use Rattle.acd_terms.specs.Moves.{changed}
 use Rattle.acd_terms.specs.CallMoves.{originate, arrive, talking, answer, hold, retrieve, divert, transfer}
 use Rattle.acd_terms.specs.AgentMoves.{in_state, go_from, log_on_at, wait_for}
 use Rattle.acd_terms.specs.Release.{ending_of, release}
-use Rattle.acd_terms.specs.Served.{moves_of}
+use Rattle.acd_terms.specs.Served.{moves_of, gives}
 use Rattle.acd_terms.specs.Rules.Plan.{agent_order, connection_order}
 use Rattle.acd_laws.specs.Counts.{Orders}
 use Rattle.acd_laws.proofs.Lists.{every_among}
 use Rattle.acd_laws.proofs.State.{own_key, connection_among, agent_among, agent_own}
-use Rattle.acd_terms.specs.Services.NewCalls.{phone_off_hook}
-use Rattle.acd_terms.specs.Services.Talking.{answer_call, hold_call, retrieve_call, occupy}
-use Rattle.acd_terms.specs.Services.Clearing.{clear_connection, clearing}
-use Rattle.acd_terms.specs.Services.GivingAway.{deflect_call, single_step_transfer}
-use Rattle.acd_terms.specs.Services.Agents.{log_on, go_or_wait, change_state, set_agent_state}
+use Rattle.acd_terms.specs.Services.{phone_off_hook, answer_call, hold_call, retrieve_call, occupy, clear_connection, clearing, deflect_call, single_step_transfer, log_on, go_or_wait, change_state, set_agent_state}
 use Rattle.acd_terms.specs.declared.command.Requested.{Requested}
 use Rattle.acd_terms.specs.declared.command.Requested.TheVariants as requested
 use Rattle.acd_terms.specs.declared.answer.Answer.TheVariants as answer
@@ -232,10 +227,10 @@ behaves_log_on_service s k m agent device group l h =
 
 behaves_go_or_wait : (s : Rows) (k m : ℕ) (a : AgentRecord) (w : Pending) → 1 ≤ k → IsAscending agent_order s.agents → knows s a.agent ≡ true → AgentTimed k m a → Behaves s k m (moves_of (go_or_wait s m k a w))
 behaves_go_or_wait s k m a w l h known t =
-    elim (is_occupied s a) as (λ b. Behaves s k m (moves_of (cond b (Done (answer.Pending a.state w) (wait_for a (Some w) ∷ []))
-    (cond (is_in a.state w) (Done (answer.State a.state) []) (Done (answer.State (state_wanted w)) (go_from m k a a.station (state_wanted w) ∷ [])))))) [
+    elim (is_occupied s a) as (λ b. Behaves s k m (moves_of (cond b (gives (answer.Pending a.state w) (wait_for a (Some w) ∷ []))
+    (cond (is_in a.state w) (gives (answer.State a.state) []) (gives (answer.State (state_wanted w)) (go_from m k a a.station (state_wanted w) ∷ [])))))) [
       | true ↦ behaves_wait s k m a (Some w) t h known
-      | false ↦ elim (is_in a.state w) as (λ b. Behaves s k m (moves_of (cond b (Done (answer.State a.state) []) (Done (answer.State (state_wanted w)) (go_from m k a a.station (state_wanted w) ∷ []))))) [
+      | false ↦ elim (is_in a.state w) as (λ b. Behaves s k m (moves_of (cond b (gives (answer.State a.state) []) (gives (answer.State (state_wanted w)) (go_from m k a a.station (state_wanted w) ∷ []))))) [
         | true ↦ behaves_nothing s k m
         | false ↦ behaves_go_from s k m a a.station (state_wanted w) l h known
       ]

@@ -12,7 +12,7 @@ use Rattle.acd_terms.specs.Writes.{with_group, with_station, with_agent, with_ca
 use Rattle.acd_terms.specs.Moves.{changed, moved, events_of}
 use Rattle.acd_terms.specs.Changes.{changes_of, changed_by, counted_group, grown, growth_in, growth_by, growth, step_changes_by, step_changes}
 use Rattle.acd_terms.specs.Figures.{is_no_answer, is_deflected, figures_of, sum_of_figures, counting, with_figures}
-use Rattle.acd_terms.specs.Services.Plan.{no_figures}
+use Rattle.acd_terms.specs.Services.{no_figures}
 use Rattle.acd_terms.specs.Services.Serve.{serve}
 use Rattle.acd_terms.specs.Step.{numbered, executed_moment, next_stamp, step_moves, step}
 use Rattle.acd_terms.specs.Rules.Plan.{group_order}

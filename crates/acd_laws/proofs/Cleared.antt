@@ -9,7 +9,7 @@ use Rattle.acd_terms.specs.Moves.{no_move, silent, reported}
 use Rattle.acd_terms.specs.CallMoves.{plain, queueing, met_at, arriving, arrival, arrive, begin, end_call}
 use Rattle.acd_terms.specs.AgentMoves.{in_state, state_report, go_to, go_from}
 use Rattle.acd_terms.specs.Release.{release_of, released, release_agent, release}
-use Rattle.acd_terms.specs.Services.Talking.{busy_agent, occupy}
+use Rattle.acd_terms.specs.Services.{busy_agent, occupy}
 use Rattle.acd_terms.specs.Columns.{columns_of}
 use Rattle.acd_terms.specs.Placed.{clears}
 use Rattle.acd_terms.specs.Rules.Plan.{call_order}

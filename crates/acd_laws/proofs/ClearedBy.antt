@@ -7,14 +7,8 @@ use Rattle.acd_terms.specs.Writes.{with_call}
 use Rattle.acd_terms.specs.Moves.{changed, moved}
 use Rattle.acd_terms.specs.CallMoves.{plain, queueing, arrive, connect_caller, initiate, talking, waited_by, ringing, clear, end_call}
 use Rattle.acd_terms.specs.Release.{release, ending_of}
-use Rattle.acd_terms.specs.Served.{moves_of}
-use Rattle.acd_terms.specs.Services.NewCalls.{arrive_call, make_call, phone_off_hook, next_call}
-use Rattle.acd_terms.specs.Services.Talking.{answer_call, hold_call, retrieve_call}
-use Rattle.acd_terms.specs.Services.Clearing.{cleared_group, clear_other, release_other, clearing, clear_connection}
-use Rattle.acd_terms.specs.Services.GivingAway.{deflect_call, single_step_transfer}
-use Rattle.acd_terms.specs.Services.Agents.{log_on, change_state, set_agent_state}
-use Rattle.acd_terms.specs.Services.Plan.{add_group, add_station, add_agent, new_group, new_agent}
-use Rattle.acd_terms.specs.Services.Monitors.{monitor_start, monitor_stop, next_monitor}
+use Rattle.acd_terms.specs.Served.{Served, moves_of}
+use Rattle.acd_terms.specs.Services.{arrive_call, make_call, phone_off_hook, next_call, answer_call, hold_call, retrieve_call, cleared_group, clear_other, release_other, clearing, clear_connection, deflect_call, single_step_transfer, log_on, change_state, set_agent_state, add_group, add_station, add_agent, new_group, new_agent, monitor_start, monitor_stop, next_monitor}
 use Rattle.acd_terms.specs.Choice.{offer_of}
 use Rattle.acd_terms.specs.Distribution.{offer_at, offer_moves}
 use Rattle.acd_terms.specs.Tick.{return_to, rest_moves}
@@ -32,7 +26,6 @@ use Rattle.acd_terms.specs.declared.command.Requested.{Requested}
 use Rattle.acd_terms.specs.declared.command.Requested.TheVariants as requested
 use Rattle.acd_terms.specs.declared.moves.Move.{Move}
 use Rattle.acd_terms.specs.declared.moves.Offer.{Offer}
-use Rattle.acd_terms.specs.declared.moves.Served.{Served}
 use Rattle.acd_terms.specs.declared.moves.Ending.TheVariants.{NoAnswer}
 use Rattle.acd_terms.specs.declared.moves.Change.TheVariants.{PutGroup, PutStation, PutAgent, PutConnection, PutMonitor, RemoveCall, RemoveConnection, RemoveMonitor}
 use Rattle.acd_laws.specs.Counts.{Rules}

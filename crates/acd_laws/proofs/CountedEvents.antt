@@ -6,7 +6,7 @@ use Rattle.acd_terms.specs.Lists.{count, total}
 use Rattle.acd_laws.proofs.Lists.{count-append, total-append}
 use Rattle.acd_terms.specs.Scans.{has}
 use Rattle.acd_terms.specs.Figures.{is_entry, is_answer, waited_there, is_abandonment, is_moving_away, is_deflected, figures_of, sum_of_figures}
-use Rattle.acd_terms.specs.Services.Plan.{no_figures}
+use Rattle.acd_terms.specs.Services.{no_figures}
 use Rattle.acd_terms.specs.Step.{numbered}
 use Rattle.acd_terms.specs.declared.record.Figures.{Figures}
 use Rattle.acd_terms.specs.declared.event.Event.{Event}

@@ -6,12 +6,12 @@ use Rattle.acd_terms.specs.Lists.{Among, find_by, put_by}
 use Rattle.acd_terms.specs.Scans.{at_group, group_of, is_group, is_station, is_calling, connection_of, agent_of, has, queued_in_all}
 use Rattle.acd_terms.specs.Writes.{empty_rows, with_group, with_station, with_agent, with_call, with_connection, with_monitor, without_call, without_connection, without_monitor, with_last}
 use Rattle.acd_terms.specs.Moves.{changed, moved, with_event, events_of, event_at, silent}
-use Rattle.acd_terms.specs.Served.{moves_of}
+use Rattle.acd_terms.specs.Served.{Served, moves_of}
 use Rattle.acd_terms.specs.Figures.{figures_of, sum_of_figures, counting, with_figures}
 use Rattle.acd_terms.specs.Choice.{offer_of}
 use Rattle.acd_terms.specs.Distribution.{offer_at, offer_moves, offers, distribution, station_of_agent, with_offer}
 use Rattle.acd_terms.specs.Tick.{return_to, return_moves, rest_moves, overdue_in, is_overdue, rested_in, each, returns, rests, tick}
-use Rattle.acd_terms.specs.Services.Plan.{no_figures, new_group, add_group}
+use Rattle.acd_terms.specs.Services.{no_figures, new_group, add_group}
 use Rattle.acd_terms.specs.Services.Serve.{serve}
 use Rattle.acd_terms.specs.Step.{numbered, executed_moment, next_stamp, step_moves, step}
 use Rattle.acd_terms.specs.Run.{Asked, run}
@@ -26,7 +26,6 @@ use Rattle.acd_terms.specs.declared.event.Report.{Report}
 use Rattle.acd_terms.specs.declared.command.Command.{Command}
 use Rattle.acd_terms.specs.declared.command.Command.TheVariants.{AddGroup, AddStation, AddAgent, ArriveCall, MakeCall, PhoneOffHook, AnswerCall, HoldCall, RetrieveCall, ClearConnection, DeflectCall, SingleStepTransfer, SetAgentState, MonitorStart, MonitorStop, Tick}
 use Rattle.acd_terms.specs.declared.moves.Move.{Move}
-use Rattle.acd_terms.specs.declared.moves.Served.{Served}
 use Rattle.acd_terms.specs.declared.moves.Ending.TheVariants.{NoAnswer}
 use Rattle.acd_terms.specs.declared.moves.Change.{Change}
 use Rattle.acd_terms.specs.declared.moves.Change.TheVariants.{Nothing, PutGroup, PutStation, PutAgent, PutCall, PutConnection, PutMonitor, RemoveCall, RemoveConnection, RemoveMonitor}

@@ -8,14 +8,8 @@ use Rattle.acd_terms.specs.Moves.{no_move, reported}
 use Rattle.acd_terms.specs.CallMoves.{met_at, arriving, arrival, arrive, answer, waited_by}
 use Rattle.acd_terms.specs.AgentMoves.{in_state, go_to, go_from, state_report}
 use Rattle.acd_terms.specs.Release.{release, release_agent, released, release_of, ending_of}
-use Rattle.acd_terms.specs.Served.{moves_of}
-use Rattle.acd_terms.specs.Services.Plan.{add_station, add_agent}
-use Rattle.acd_terms.specs.Services.NewCalls.{arrive_call, make_call, phone_off_hook}
-use Rattle.acd_terms.specs.Services.Talking.{busy_agent, occupy, answer_call, hold_call, retrieve_call}
-use Rattle.acd_terms.specs.Services.Clearing.{waiting_group, first_group, clearing, clear_connection}
-use Rattle.acd_terms.specs.Services.GivingAway.{deflect_call, single_step_transfer}
-use Rattle.acd_terms.specs.Services.Agents.{log_on, change_state, go_or_wait, set_agent_state}
-use Rattle.acd_terms.specs.Services.Monitors.{monitor_start, monitor_stop}
+use Rattle.acd_terms.specs.Served.{Served, moves_of}
+use Rattle.acd_terms.specs.Services.{add_station, add_agent, arrive_call, make_call, phone_off_hook, busy_agent, occupy, answer_call, hold_call, retrieve_call, waiting_group, first_group, clearing, clear_connection, deflect_call, single_step_transfer, log_on, change_state, go_or_wait, set_agent_state, monitor_start, monitor_stop}
 use Rattle.acd_terms.specs.declared.rows.Rows.{Rows}
 use Rattle.acd_terms.specs.declared.record.GroupRecord.{GroupRecord}
 use Rattle.acd_terms.specs.declared.record.AgentRecord.{AgentRecord}
@@ -29,7 +23,6 @@ use Rattle.acd_terms.specs.declared.event.Report.TheVariants.{Established}
 use Rattle.acd_terms.specs.declared.command.Requested.{Requested}
 use Rattle.acd_terms.specs.declared.command.Requested.TheVariants as requested
 use Rattle.acd_terms.specs.declared.moves.Move.{Move}
-use Rattle.acd_terms.specs.declared.moves.Served.{Served}
 use Rattle.acd_terms.specs.declared.moves.Change.{Change}
 use Rattle.acd_terms.specs.declared.moves.Change.TheVariants.{PutGroup, PutAgent, PutConnection}
 use Rattle.acd_terms.specs.declared.moves.Release.{Release}

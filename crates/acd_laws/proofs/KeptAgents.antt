@@ -9,14 +9,13 @@ use Rattle.acd_terms.specs.declared.state.AgentState.{AgentState}
 use Rattle.acd_terms.specs.declared.state.AgentState.TheVariants as A
 use Rattle.acd_terms.specs.declared.state.Pending.{Pending}
 use Rattle.acd_terms.specs.declared.moves.Change.TheVariants.{PutAgent}
-use Rattle.acd_terms.specs.declared.moves.Served.TheVariants.{Done}
 use Rattle.acd_terms.specs.Lists.{put_by, count, Among}
 use Rattle.acd_terms.specs.States.{is_null, is_ready, is_busy, is_working_after_call, state_wanted, is_in}
 use Rattle.acd_terms.specs.Scans.{group_of, station_of, agent_of, call_of, connection_of, is_group, is_station, has, agent_at, is_distributed, is_occupied}
 use Rattle.acd_terms.specs.Writes.{with_agent}
 use Rattle.acd_terms.specs.Moves.{changed, moved}
 use Rattle.acd_terms.specs.AgentMoves.{in_state, go_to, go_from, log_on_at, wait_for}
-use Rattle.acd_terms.specs.Served.{moves_of}
+use Rattle.acd_terms.specs.Served.{moves_of, gives}
 use Rattle.acd_terms.specs.Rules.Plan.{agent_order}
 use Rattle.acd_laws.specs.Counts.{Rules, IsPlannedStation, IsPlannedGroup, SeatedAs, AgentRule, ConnectionRule, distributed_at, ringing_at, seated_at, ready_at, busy_at, pending_at}
 use Rattle.acd_laws.proofs.Lists.{one, find_passes, find_among, find_none, any_found, ascending-put, every_among, every-put, counted, fewer, two_counted, both_fewer, count_zero, none_from, some_from}
@@ -25,7 +24,7 @@ use Rattle.acd_laws.proofs.Found.{count_agent, has_is, agent_seat}
 use Rattle.acd_laws.proofs.KeptOffer.{unoccupied}
 use Rattle.acd_laws.proofs.Releasing.{serving, loosen, left_keeps, left_state, settled_at, settled_is, pending_or_settled, wanted_not_busy, alerting_or_answered}
 use Rattle.acd_laws.proofs.Serving.{by_found, by_refusal}
-use Rattle.acd_terms.specs.Services.Agents.{log_on, go_or_wait, change_state, set_agent_state}
+use Rattle.acd_terms.specs.Services.{log_on, go_or_wait, change_state, set_agent_state}
 use Rattle.acd_terms.specs.Tick.{rest_moves}
 use Rattle.acd_terms.specs.declared.command.Requested.{Requested}
 use Rattle.acd_terms.specs.declared.command.Requested.TheVariants as requested
@@ -230,10 +229,10 @@ kept_log_on_service s m k agent device group r =
 
 go_or_wait_kept : (s : Rows) (m k : ℕ) (a : AgentRecord) (w : Pending) → Rules s → agent_of s a.agent ≡ Some a → is_null a.state ≡ false → Rules (moved s (moves_of (go_or_wait s m k a w)))
 go_or_wait_kept s m k a w r there seated =
-    (elim (is_occupied s a) as (λ b. is_occupied s a ≡ b → Rules (moved s (moves_of (cond b (Done (answer.Pending a.state w) (wait_for a (Some w) ∷ []))
-    (cond (is_in a.state w) (Done (answer.State a.state) []) (Done (answer.State (state_wanted w)) (go_from m k a a.station (state_wanted w) ∷ []))))))) [
+    (elim (is_occupied s a) as (λ b. is_occupied s a ≡ b → Rules (moved s (moves_of (cond b (gives (answer.Pending a.state w) (wait_for a (Some w) ∷ []))
+    (cond (is_in a.state w) (gives (answer.State a.state) []) (gives (answer.State (state_wanted w)) (go_from m k a a.station (state_wanted w) ∷ []))))))) [
       | true ↦ λ e. kept_wait s a w r there seated e
-      | false ↦ λ e. elim (is_in a.state w) as (λ b. Rules (moved s (moves_of (cond b (Done (answer.State a.state) []) (Done (answer.State (state_wanted w)) (go_from m k a a.station (state_wanted w) ∷ [])))))) [
+      | false ↦ λ e. elim (is_in a.state w) as (λ b. Rules (moved s (moves_of (cond b (gives (answer.State a.state) []) (gives (answer.State (state_wanted w)) (go_from m k a a.station (state_wanted w) ∷ [])))))) [
         | true ↦ r
         | false ↦ kept_go_from s m k a a.station (state_wanted w) r there seated e (wanted_not_busy w (state_wanted w) refl)
       ]

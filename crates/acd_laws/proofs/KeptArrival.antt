@@ -21,7 +21,7 @@ use Rattle.acd_laws.proofs.State.{eqb_self, calls_total, connections_total, call
 use Rattle.acd_laws.proofs.Found.{count_new, none_above, no_call_above, none_of_call}
 use Rattle.acd_laws.proofs.Arriving.{Arrived, arrived, idle_counts, rule_same}
 use Rattle.acd_laws.proofs.Serving.{by_refusal}
-use Rattle.acd_terms.specs.Services.NewCalls.{arrive_call}
+use Rattle.acd_terms.specs.Services.{arrive_call}
 
 pub one_le : (b : Bool) → one b ≤ 1
 one_le true = omega arith

@@ -23,7 +23,7 @@ use Rattle.acd_laws.proofs.KeptOffer.{talking_is}
 use Rattle.acd_laws.proofs.Releasing.{ends_by, after_release, loosen, release_other_kept}
 use Rattle.acd_laws.proofs.KeptReturn.{and_not}
 use Rattle.acd_laws.proofs.Serving.{by_found}
-use Rattle.acd_terms.specs.Services.Clearing.{clear_connection, clearing, cleared_group, waiting_group}
+use Rattle.acd_terms.specs.Services.{clear_connection, clearing, cleared_group, waiting_group}
 
 -- a call ends: l is what is left of the connections
 ended : (s : Rows) (call : ℕ) (l : List ConnectionRecord) (loose : ℕ → Bool) → Rules s → IsAscending connection_order l → ((z : ConnectionRecord) → Among z l → Among z s.connections)

@@ -28,7 +28,7 @@ use Rattle.acd_laws.proofs.KeptReturn.{and_not}
 use Rattle.acd_laws.proofs.KeptClearing.{two_le}
 use Rattle.acd_laws.proofs.KeptTalking.{connected_is}
 use Rattle.acd_laws.proofs.Serving.{by_found, by_refusal}
-use Rattle.acd_terms.specs.Services.GivingAway.{deflect_call, single_step_transfer, is_answered_by}
+use Rattle.acd_terms.specs.Services.{deflect_call, single_step_transfer, is_answered_by}
 
 -- the connection x ends and the call comes to y: by a deflection, where x is open, or a transfer, where none of the call is
 moved_on : (s : Rows) (m k : ℕ) (x y : ConnectionRecord) (c d : ℕ) → x.call ≡ c → Rules s → connection_of s x.call x.device ≡ Some x → Arrived s c d y → connection_of s c d ≡ None → is_initiated x.state ≡ false

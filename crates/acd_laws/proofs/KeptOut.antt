@@ -26,7 +26,7 @@ use Rattle.acd_laws.proofs.KeptClearing.{two_le}
 use Rattle.acd_laws.proofs.KeptTalking.{no_live}
 use Rattle.acd_laws.proofs.KeptGiving.{closed_of, closed_is, open_or_closed}
 use Rattle.acd_laws.proofs.Serving.{by_found, by_refusal}
-use Rattle.acd_terms.specs.Services.NewCalls.{make_call, phone_off_hook}
+use Rattle.acd_terms.specs.Services.{make_call, phone_off_hook}
 
 station_no_group : (s : Rows) (d : ℕ) → ((e : ℕ) → IsTrue (is_group s e) → IsFalse (is_station s e)) → IsTrue (is_station s d) → is_group s d ≡ false
 station_no_group s d kinds h = false_from_ne_true (is_group s d) (λ e. cc (kinds d e, h))

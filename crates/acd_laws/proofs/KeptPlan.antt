@@ -17,7 +17,7 @@ use Rattle.acd_terms.specs.declared.state.ConnectionState.TheVariants as S
 use Rattle.acd_terms.specs.declared.moves.Change.TheVariants.{PutGroup, PutStation, PutAgent, PutMonitor, RemoveMonitor}
 use Rattle.acd_terms.specs.Lists.{put_by, remove_by, count, Among, IsAscending}
 use Rattle.acd_terms.specs.States.{is_hold, is_live}
-use Rattle.acd_terms.specs.Scans.{at_monitor, group_of, station_of, agent_of, call_of, connection_of, is_group, is_station, is_planned, is_calling}
+use Rattle.acd_terms.specs.Scans.{at_monitor, group_of, station_of, agent_of, call_of, connection_of, is_group, is_station, is_planned, is_calling, is_used}
 use Rattle.acd_terms.specs.Writes.{with_group, with_station, with_agent, with_monitor, without_monitor}
 use Rattle.acd_terms.specs.Moves.{changed, moved}
 use Rattle.acd_terms.specs.Served.{moves_of}
@@ -26,8 +26,7 @@ use Rattle.acd_laws.specs.Counts.{Rules, IsPlannedStation, IsPlannedGroup, Seate
 use Rattle.acd_laws.proofs.Lists.{one, any_some, ascending-put, ascending-remove, count-put_new, every_among, every_from, every-put, count_zero, none_from}
 use Rattle.acd_laws.proofs.State.{cmp_equal, groups_total, stations_total, agents_total, monitors_total, agent_find, group_put, station_put, call_among}
 use Rattle.acd_laws.proofs.Serving.{by_found, by_refusal}
-use Rattle.acd_terms.specs.Services.Plan.{add_group, add_station, add_agent, is_used, new_group, new_agent}
-use Rattle.acd_terms.specs.Services.Monitors.{monitor_start, monitor_stop, next_monitor}
+use Rattle.acd_terms.specs.Services.{add_group, add_station, add_agent, new_group, new_agent, monitor_start, monitor_stop, next_monitor}
 
 any_false : {X : Type 0} (p : X → Bool) (xs : List X) → list_any p xs ≡ false → (x : X) → Among x xs → p x ≡ false
 any_false p xs e x a = false_from_ne_true (p x) (λ q. cc (any_some p xs x a q, e))

@@ -26,7 +26,7 @@ use Rattle.acd_laws.proofs.KeptArrival.{one_le}
 use Rattle.acd_laws.proofs.KeptOffer.{ringing_is, alerting_is, ready_is}
 use Rattle.acd_laws.proofs.Releasing.{Serves, serving}
 use Rattle.acd_laws.proofs.Serving.{by_found, by_refusal}
-use Rattle.acd_terms.specs.Services.Talking.{answer_call, hold_call, retrieve_call, occupy, busy_agent}
+use Rattle.acd_terms.specs.Services.{answer_call, hold_call, retrieve_call, occupy, busy_agent}
 
 -- an answer: the connection is connected, and agents are filter after it
 after_answer : (s : Rows) (x : ConnectionRecord) (agents : List AgentRecord) → Rules s → connection_of s x.call x.device ≡ Some x → is_alerting x.state ≡ true

@@ -31,7 +31,7 @@ use Rattle.acd_terms.specs.declared.event.Report.TheVariants as report
 use Rattle.acd_terms.specs.Figures.{is_entry}
 use Rattle.acd_terms.specs.CallMoves.{waited_by}
 use Rattle.acd_terms.specs.AgentMoves.{state_report}
-use Rattle.acd_terms.specs.Services.Talking.{occupy, busy_agent}
+use Rattle.acd_terms.specs.Services.{occupy, busy_agent}
 use Rattle.acd_laws.specs.Bounds.{AgentTimed, CallTimed, IsPlace, IsMoment, ConnectionTimed, at_place, Timed}
 use Rattle.acd_laws.proofs.Balance.{entries, entry_by}
 use Rattle.acd_laws.proofs.Ticking.{release_connections}

@@ -1,5 +1,5 @@
 -- Where no offer is left, a refused request makes no move.
-use Rattle.std.proofs.Common.{◌≡◌, ℕ, zero, suc, [], ◌∷◌, List, Option, Some, None, map, length, refl, ap, ◌∙◌, inl, inr, add-zero}
+use Rattle.std.proofs.Common.{◌≡◌, ℕ, zero, suc, [], ◌∷◌, List, Option, Some, None, Ok, Err, map, length, refl, ap, ◌∙◌, inl, inr, add-zero}
 use Rattle.acd_terms.specs.Lists.{Among}
 use Rattle.acd_terms.specs.Scans.{waiting_in, queued_in_all}
 use Rattle.acd_terms.specs.Writes.{with_last}
@@ -7,7 +7,7 @@ use Rattle.acd_terms.specs.Choice.{waiting_pair, least_from, first_waiting, firs
 use Rattle.acd_terms.specs.Offers.{HasNoOffer}
 use Rattle.acd_terms.specs.Distribution.{offers, distribution}
 use Rattle.acd_terms.specs.Moves.{events_of}
-use Rattle.acd_terms.specs.Served.{outcome_of, moves_of}
+use Rattle.acd_terms.specs.Served.{Served, outcome_of, moves_of}
 use Rattle.acd_terms.specs.Figures.{counting, with_figures, figures_of}
 use Rattle.acd_terms.specs.Step.{step, step_moves, counted, numbered, executed_moment, next_stamp}
 use Rattle.acd_terms.specs.Services.Serve.{serve}
@@ -18,8 +18,6 @@ use Rattle.acd_terms.specs.declared.answer.Refusal.{Refusal}
 use Rattle.acd_terms.specs.declared.answer.Outcome.TheVariants as outcome
 use Rattle.acd_terms.specs.declared.moves.Move.{Move}
 use Rattle.acd_terms.specs.declared.moves.Offer.{Offer}
-use Rattle.acd_terms.specs.declared.moves.Served.{Served}
-use Rattle.acd_terms.specs.declared.moves.Served.TheVariants.{Refused, Done}
 use Rattle.acd_laws.specs.RefusalLaws.{ChangesNothing}
 use Rattle.acd_laws.proofs.CountedEvents.{no_events, sum_nothing}
 
@@ -58,8 +56,8 @@ unfolding with_figures
 no_figures_added s = ap (λ (gs : List GroupRecord). record s { groups = gs }) (counting_nothing s.groups)
 
 refused_moves : (v : Served) (r : Refusal) → outcome_of v ≡ outcome.Refused r → moves_of v ≡ []
-refused_moves (Refused x) r e = refl
-refused_moves (Done answer moves) r e = absurd cc
+refused_moves (Err x) r e = refl
+refused_moves (Ok done) r e = absurd cc
 
 no_moves : (s : Rows) (m : ℕ) (v : Served) → moves_of v ≡ [] → offer_of s ≡ None → step_moves s m v ≡ []
 no_moves s m v e h = rw e (nothing_distributed s m h)

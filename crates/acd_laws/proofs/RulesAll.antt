@@ -28,7 +28,7 @@ use Rattle.acd_terms.specs.Limits.{limits_fit}
 use Rattle.acd_terms.specs.Offers.{HasNoOffer}
 use Rattle.acd_terms.specs.Moves.{events_of}
 use Rattle.acd_terms.specs.Figures.{is_entry, is_answer, waited_there, figures_of, counting, with_figures}
-use Rattle.acd_terms.specs.Services.Plan.{no_figures}
+use Rattle.acd_terms.specs.Services.{no_figures}
 use Rattle.acd_terms.specs.Services.Serve.{serve}
 use Rattle.acd_terms.specs.Rules.Occupied.{waits_in, rings_from}
 use Rattle.acd_terms.specs.Rules.First.{BreaksNoRule}

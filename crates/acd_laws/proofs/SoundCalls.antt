@@ -6,9 +6,8 @@ use Rattle.acd_terms.specs.Scans.{connection_of, call_of, is_station, is_planned
 use Rattle.acd_terms.specs.States.{is_alerting, is_connected, is_hold, is_initiated}
 use Rattle.acd_terms.specs.Writes.{with_call, with_connection}
 use Rattle.acd_terms.specs.CallMoves.{plain, begin, connect_caller, initiate, originate, arrive, answer, talking, waited_by, hold, retrieve}
-use Rattle.acd_terms.specs.Served.{moves_of}
-use Rattle.acd_terms.specs.Services.NewCalls.{arrive_call, make_call, phone_off_hook, next_call}
-use Rattle.acd_terms.specs.Services.Talking.{occupy, answer_call, hold_call, retrieve_call}
+use Rattle.acd_terms.specs.Served.{Served, moves_of}
+use Rattle.acd_terms.specs.Services.{arrive_call, make_call, phone_off_hook, next_call, occupy, answer_call, hold_call, retrieve_call}
 use Rattle.acd_terms.specs.Figures.{is_answer}
 use Rattle.acd_terms.specs.declared.rows.Rows.{Rows}
 use Rattle.acd_terms.specs.declared.record.CallRecord.{CallRecord}
@@ -18,7 +17,6 @@ use Rattle.acd_terms.specs.declared.state.ConnectionState.TheVariants as S
 use Rattle.acd_terms.specs.declared.event.Cause.TheVariants as cause
 use Rattle.acd_terms.specs.declared.event.Report.{Report}
 use Rattle.acd_terms.specs.declared.event.Report.TheVariants as report
-use Rattle.acd_terms.specs.declared.moves.Served.{Served}
 use Rattle.acd_terms.specs.declared.moves.Change.TheVariants.{PutCall, PutConnection}
 use Rattle.acd_laws.specs.Counts.{is_open, StandsAt, Rules, of_call}
 use Rattle.acd_laws.proofs.Lists.{one, two_counted}

@@ -10,9 +10,7 @@ use Rattle.acd_terms.specs.Moves.{no_move, changed, moved}
 use Rattle.acd_terms.specs.CallMoves.{arrive, divert, transfer, clear, end_call}
 use Rattle.acd_terms.specs.AgentMoves.{go_from, log_on_at, wait_for}
 use Rattle.acd_terms.specs.Release.{release, ending_of}
-use Rattle.acd_terms.specs.Services.Clearing.{waiting_group, first_group, clearing, clear_connection}
-use Rattle.acd_terms.specs.Services.GivingAway.{is_answered_by, deflect_call, single_step_transfer}
-use Rattle.acd_terms.specs.Services.Agents.{log_on, change_state, set_agent_state}
+use Rattle.acd_terms.specs.Services.{waiting_group, first_group, clearing, clear_connection, is_answered_by, deflect_call, single_step_transfer, log_on, change_state, set_agent_state}
 use Rattle.acd_terms.specs.Figures.{is_no_answer}
 use Rattle.acd_terms.specs.declared.rows.Rows.{Rows}
 use Rattle.acd_terms.specs.declared.record.AgentRecord.{AgentRecord}
@@ -28,7 +26,7 @@ use Rattle.acd_terms.specs.declared.event.Report.TheVariants as report
 use Rattle.acd_terms.specs.declared.command.Requested.{Requested}
 use Rattle.acd_terms.specs.declared.command.Requested.TheVariants as requested
 use Rattle.acd_terms.specs.declared.moves.Move.{Move}
-use Rattle.acd_terms.specs.declared.moves.Served.{Served}
+use Rattle.acd_terms.specs.Served.{Served}
 use Rattle.acd_terms.specs.declared.moves.Change.TheVariants.{RemoveCall, RemoveConnection}
 use Rattle.acd_laws.specs.Counts.{is_open, Rules, open_of}
 use Rattle.acd_laws.proofs.Lists.{one, none_from, two_counted}

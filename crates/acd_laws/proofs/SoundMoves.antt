@@ -9,7 +9,7 @@ use Rattle.acd_terms.specs.Moves.{no_move, silent, reported, changed, moved}
 use Rattle.acd_terms.specs.CallMoves.{plain, queueing, met_at, arriving, arrival, arrive, destination_of}
 use Rattle.acd_terms.specs.AgentMoves.{in_state, state_report, go_to, go_from, become_busy, wait_for}
 use Rattle.acd_terms.specs.Release.{release, release_agent, released, release_of}
-use Rattle.acd_terms.specs.Services.Talking.{busy_agent, occupy}
+use Rattle.acd_terms.specs.Services.{busy_agent, occupy}
 use Rattle.acd_terms.specs.Columns.{columns_of}
 use Rattle.acd_terms.specs.Figures.{is_entry, is_no_answer}
 use Rattle.acd_terms.specs.Told.{seat_by}

@@ -2,15 +2,13 @@
 use Rattle.std.proofs.Common.{◌≡◌, ℕ, ◌<◌, ◌≤◌, Bool, true, false, ◌&&◌, ◌||◌, List, [], ◌∷◌, Option, Some, None, refl, sym, ◌∙◌, ap, subst, arith, eq-eqb}
 use Rattle.std.specs.Prelude.{◌==◌, is_some}
 use Rattle.std.proofs.lemmas.Bool.{and_right, or_right}
-use Rattle.acd_terms.specs.Scans.{connection_of, agent_of, is_planned, has}
+use Rattle.acd_terms.specs.Scans.{connection_of, agent_of, is_planned, has, is_used}
 use Rattle.acd_terms.specs.States.{is_queued, is_alerting}
 use Rattle.acd_terms.specs.Writes.{with_connection, without_connection}
 use Rattle.acd_terms.specs.Moves.{silent}
 use Rattle.acd_terms.specs.CallMoves.{divert}
 use Rattle.acd_terms.specs.Release.{release}
-use Rattle.acd_terms.specs.Services.Clearing.{waiting_group}
-use Rattle.acd_terms.specs.Services.Plan.{add_group, add_station, add_agent, new_group, new_agent, is_used}
-use Rattle.acd_terms.specs.Services.Monitors.{monitor_start, monitor_stop, next_monitor}
+use Rattle.acd_terms.specs.Services.{waiting_group, add_group, add_station, add_agent, new_group, new_agent, monitor_start, monitor_stop, next_monitor}
 use Rattle.acd_terms.specs.Figures.{is_entry}
 use Rattle.acd_terms.specs.Watched.{seat_of}
 use Rattle.acd_terms.specs.declared.rows.Rows.{Rows}

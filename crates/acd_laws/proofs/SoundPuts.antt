@@ -7,7 +7,7 @@ use Rattle.acd_terms.specs.Scans.{at_connection, connection_of, agent_of, group_
 use Rattle.acd_terms.specs.States.{is_queued, is_alerting}
 use Rattle.acd_terms.specs.Writes.{with_group, with_station, with_agent, with_call, with_connection, with_monitor, without_call, without_connection, without_monitor}
 use Rattle.acd_terms.specs.Moves.{changed}
-use Rattle.acd_terms.specs.Services.Clearing.{waiting_group}
+use Rattle.acd_terms.specs.Services.{waiting_group}
 use Rattle.acd_terms.specs.Watched.{is_held_by}
 use Rattle.acd_terms.specs.Rules.Plan.{connection_order}
 use Rattle.acd_terms.specs.declared.rows.Rows.{Rows}

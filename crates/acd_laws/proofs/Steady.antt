@@ -19,7 +19,7 @@ use Rattle.acd_laws.proofs.Lists.{ascending-put, count-put_old, count-put_most, 
 use Rattle.acd_laws.proofs.State.{cmp_equal, cmp_self, agents_total, agent_find, agent_put}
 use Rattle.acd_terms.specs.Limits.{limits_fit}
 use Rattle.acd_laws.specs.Bounds.{Sizes, MonitorRule, Monitored}
-use Rattle.acd_terms.specs.Services.Plan.{no_figures}
+use Rattle.acd_terms.specs.Services.{no_figures}
 
 -- a change that puts no record but a connection, or the record of an agent who is known
 abbrev pub Steady : (ℕ → Bool) → Change → Type 0

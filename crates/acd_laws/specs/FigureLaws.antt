@@ -4,7 +4,7 @@ use Rattle.acd_terms.specs.Lists.{Among}
 use Rattle.acd_terms.specs.Scans.{group_of, is_group}
 use Rattle.acd_terms.specs.Writes.{empty_rows}
 use Rattle.acd_terms.specs.Figures.{figures_of, counting}
-use Rattle.acd_terms.specs.Services.Plan.{no_figures}
+use Rattle.acd_terms.specs.Services.{no_figures}
 use Rattle.acd_terms.specs.Step.{step}
 use Rattle.acd_terms.specs.Run.{Asked, run}
 use Rattle.acd_terms.specs.Rules.Calls.{is_group_or_none}

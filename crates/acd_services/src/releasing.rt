@@ -7,7 +7,7 @@ use crate::agent_moves::{go_to, wait_for};
 use crate::call_moves::no_move;
 use acd_tables::Tables;
 use acd_terms::{
-    AgentRecord, AgentState, ConnectionRecord, DeviceId, Ending, Move, Pending, Release,
+    AgentRecord, AgentState, ConnectionRecord, DeviceId, Ending, Move, Pending, Release, Turn,
 };
 
 // The table of release.
@@ -22,18 +22,12 @@ fn release_of(how: Ending, pending: Option<Pending>) -> Release
     }
 }
 
-fn released(
-    moment: u32,
-    stamp: u64,
-    agent: &AgentRecord,
-    station: DeviceId,
-    release: Release,
-) -> Move
-    ensures { result ≡ released moment stamp agent.now station release }
+fn released(at: Turn, agent: &AgentRecord, station: DeviceId, release: Release) -> Move
+    ensures { result ≡ released at.moment at.stamp agent.now station release }
 {
     match release {
         Release::Stays => wait_for(agent, None),
-        Release::Goes(state) => go_to(moment, stamp, agent, station, state),
+        Release::Goes(state) => go_to(at, agent, station, state),
     }
 }
 
@@ -50,14 +44,8 @@ pub fn ending_of(connection: &ConnectionRecord) -> Ending
 
 /// Where a distributed connection ends, the agent at its station is released.
 #[tactic(auto, unfolding(acd_terms::specs::Release::release))]
-pub fn release(
-    tables: &Tables,
-    moment: u32,
-    stamp: u64,
-    connection: &ConnectionRecord,
-    how: Ending,
-) -> Move
-    ensures { result ≡ release tables.now moment stamp connection.now how }
+pub fn release(tables: &Tables, at: Turn, connection: &ConnectionRecord, how: Ending) -> Move
+    ensures { result ≡ release tables.now at.moment at.stamp connection.now how }
 {
     if !connection.is_distributed() {
         return no_move();
@@ -66,7 +54,7 @@ pub fn release(
         None => no_move(),
         Some(agent) => {
             let next = release_of(how, agent.pending);
-            released(moment, stamp, &agent, connection.device, next)
+            released(at, &agent, connection.device, next)
         }
     }
 }

@@ -3,9 +3,8 @@ use Rattle.std.proofs.Common.{◌≡◌, ℕ, [], ◌++◌, List, refl, sym, ap,
 use Rattle.acd_terms.specs.declared.rows.Rows.{Rows}
 use Rattle.acd_terms.specs.declared.event.Event.{Event}
 use Rattle.acd_terms.specs.declared.moves.Move.{Move}
-use Rattle.acd_terms.specs.declared.moves.Served.{Served}
+use Rattle.acd_terms.specs.Served.{Served, moves_of, outcome_of}
 use Rattle.acd_terms.specs.Moves.{moved, events_of}
-use Rattle.acd_terms.specs.Served.{moves_of, outcome_of}
 use Rattle.acd_terms.specs.Distribution.{distribution}
 use Rattle.acd_terms.specs.Step.{Stepped, step, step_at, step_moves, numbered, executed_moment, next_stamp}
 use Rattle.acd_terms.specs.Services.Serve.{serve}

@@ -9,7 +9,7 @@ ghost use Rattle.acd_terms.specs.Tick.{is_over, ring_of, wrap_of, is_overdue, ov
 use crate::journal::Journal;
 use acd_services::{divert, go_back, go_from, release};
 use acd_tables::Tables;
-use acd_terms::{AgentRecord, AgentState, Cause, ConnectionRecord, DeviceId, Ending};
+use acd_terms::{AgentRecord, AgentState, Cause, ConnectionRecord, DeviceId, Ending, Turn};
 use std::alloc::{AllocError, Global};
 
 // So many seconds have passed since then. 0 seconds mean never.
@@ -103,14 +103,13 @@ fn rested_in(alloc: Global, tables: &Tables, moment: u32) -> Result<Vec<AgentRec
 // The call goes back to the group that offered it, and the agent is released.
 fn take_back(
     tables: &mut Tables,
-    moment: u32,
-    stamp: u64,
+    at: Turn,
     connection: &ConnectionRecord,
     journal: &mut Journal,
 ) -> Result<(), AllocError>
-    ensures rows { OnOk result (tables.new ≡ moved tables.old (return_moves tables.old moment stamp connection.now)) }
-    ensures events { OnOk result (journal.new.events.items ≡ journal.old.events.items ++ events_of moment (return_moves tables.old moment stamp connection.now)) }
-    ensures changes { OnOk result (journal.new.changes.items ≡ journal.old.changes.items ++ changes_of (return_moves tables.old moment stamp connection.now)) }
+    ensures rows { OnOk result (tables.new ≡ moved tables.old (return_moves tables.old at.moment at.stamp connection.now)) }
+    ensures events { OnOk result (journal.new.events.items ≡ journal.old.events.items ++ events_of at.moment (return_moves tables.old at.moment at.stamp connection.now)) }
+    ensures changes { OnOk result (journal.new.changes.items ≡ journal.old.changes.items ++ changes_of (return_moves tables.old at.moment at.stamp connection.now)) }
 {
     let Some(group) = connection.group else {
         return Ok(());
@@ -118,42 +117,40 @@ fn take_back(
     let moves = [
         divert(connection, group, Cause::NoAnswer),
         go_back(connection, group),
-        release(tables, moment, stamp, connection, Ending::NoAnswer),
+        release(tables, at, connection, Ending::NoAnswer),
     ];
-    journal.make_all(tables, moment, &moves)
+    journal.make_all(tables, at.moment, &moves)
 }
 
 // The agent's after-call work ends.
 fn end_work(
     tables: &mut Tables,
-    moment: u32,
-    stamp: u64,
+    at: Turn,
     agent: &AgentRecord,
     journal: &mut Journal,
 ) -> Result<(), AllocError>
-    ensures rows { OnOk result (tables.new ≡ moved tables.old (rest_moves moment stamp agent.now)) }
-    ensures events { OnOk result (journal.new.events.items ≡ journal.old.events.items ++ events_of moment (rest_moves moment stamp agent.now)) }
-    ensures changes { OnOk result (journal.new.changes.items ≡ journal.old.changes.items ++ changes_of (rest_moves moment stamp agent.now)) }
+    ensures rows { OnOk result (tables.new ≡ moved tables.old (rest_moves at.moment at.stamp agent.now)) }
+    ensures events { OnOk result (journal.new.events.items ≡ journal.old.events.items ++ events_of at.moment (rest_moves at.moment at.stamp agent.now)) }
+    ensures changes { OnOk result (journal.new.changes.items ≡ journal.old.changes.items ++ changes_of (rest_moves at.moment at.stamp agent.now)) }
 {
-    let moves = [go_from(moment, stamp, agent, AgentState::Ready)];
-    journal.make_all(tables, moment, &moves)
+    let moves = [go_from(at, agent, AgentState::Ready)];
+    journal.make_all(tables, at.moment, &moves)
 }
 
 #[tactic(auto, using(acd_terms::proofs::MoveLemmas::moved_append, acd_terms::proofs::MoveLemmas::events_of_append, acd_terms::proofs::ChangeLemmas::changes_of_append, std::proofs::lemmas::Grind::common_steps), unfolding(acd_terms::specs::Tick::returns))]
 fn return_overdue(
     alloc: Global,
     tables: &mut Tables,
-    moment: u32,
-    stamp: u64,
+    at: Turn,
     journal: &mut Journal,
 ) -> Result<(), AllocError>
-    ensures rows { OnOk result (tables.new ≡ moved tables.old (returns tables.old moment stamp)) }
-    ensures events { OnOk result (journal.new.events.items ≡ journal.old.events.items ++ events_of moment (returns tables.old moment stamp)) }
-    ensures changes { OnOk result (journal.new.changes.items ≡ journal.old.changes.items ++ changes_of (returns tables.old moment stamp)) }
+    ensures rows { OnOk result (tables.new ≡ moved tables.old (returns tables.old at.moment at.stamp)) }
+    ensures events { OnOk result (journal.new.events.items ≡ journal.old.events.items ++ events_of at.moment (returns tables.old at.moment at.stamp)) }
+    ensures changes { OnOk result (journal.new.changes.items ≡ journal.old.changes.items ++ changes_of (returns tables.old at.moment at.stamp)) }
 {
-    let overdue = overdue_in(alloc, tables, moment)?;
+    let overdue = overdue_in(alloc, tables, at.moment)?;
     for connection in overdue.as_slice() {
-        take_back(tables, moment, stamp, connection, journal)?;
+        take_back(tables, at, connection, journal)?;
     }
     Ok(())
 }
@@ -162,17 +159,16 @@ fn return_overdue(
 fn end_rested(
     alloc: Global,
     tables: &mut Tables,
-    moment: u32,
-    stamp: u64,
+    at: Turn,
     journal: &mut Journal,
 ) -> Result<(), AllocError>
-    ensures rows { OnOk result (tables.new ≡ moved tables.old (rests tables.old moment stamp)) }
-    ensures events { OnOk result (journal.new.events.items ≡ journal.old.events.items ++ events_of moment (rests tables.old moment stamp)) }
-    ensures changes { OnOk result (journal.new.changes.items ≡ journal.old.changes.items ++ changes_of (rests tables.old moment stamp)) }
+    ensures rows { OnOk result (tables.new ≡ moved tables.old (rests tables.old at.moment at.stamp)) }
+    ensures events { OnOk result (journal.new.events.items ≡ journal.old.events.items ++ events_of at.moment (rests tables.old at.moment at.stamp)) }
+    ensures changes { OnOk result (journal.new.changes.items ≡ journal.old.changes.items ++ changes_of (rests tables.old at.moment at.stamp)) }
 {
-    let rested = rested_in(alloc, tables, moment)?;
+    let rested = rested_in(alloc, tables, at.moment)?;
     for agent in rested.as_slice() {
-        end_work(tables, moment, stamp, agent, journal)?;
+        end_work(tables, at, agent, journal)?;
     }
     Ok(())
 }
@@ -183,14 +179,13 @@ fn end_rested(
 pub fn tick(
     alloc: Global,
     tables: &mut Tables,
-    moment: u32,
-    stamp: u64,
+    at: Turn,
     journal: &mut Journal,
 ) -> Result<(), AllocError>
-    ensures rows { OnOk result (tables.new ≡ moved tables.old (tick tables.old moment stamp)) }
-    ensures events { OnOk result (journal.new.events.items ≡ journal.old.events.items ++ events_of moment (tick tables.old moment stamp)) }
-    ensures changes { OnOk result (journal.new.changes.items ≡ journal.old.changes.items ++ changes_of (tick tables.old moment stamp)) }
+    ensures rows { OnOk result (tables.new ≡ moved tables.old (tick tables.old at.moment at.stamp)) }
+    ensures events { OnOk result (journal.new.events.items ≡ journal.old.events.items ++ events_of at.moment (tick tables.old at.moment at.stamp)) }
+    ensures changes { OnOk result (journal.new.changes.items ≡ journal.old.changes.items ++ changes_of (tick tables.old at.moment at.stamp)) }
 {
-    return_overdue(alloc, tables, moment, stamp, journal)?;
-    end_rested(alloc, tables, moment, stamp, journal)
+    return_overdue(alloc, tables, at, journal)?;
+    end_rested(alloc, tables, at, journal)
 }

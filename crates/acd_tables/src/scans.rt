@@ -3,8 +3,7 @@
 ghost use Rattle.std.specs.Prelude.{◌≡◌, ◌↔◌, ℕ, true, [], ◌∷◌, None, length, map, filter, slice_get, is_some, IfSome, IfOk};
 ghost use Rattle.std.specs.BTreeSet.{contains};
 ghost use Rattle.acd_terms.specs.Lists.{Among};
-ghost use Rattle.acd_terms.specs.Scans.{is_group, agent_of, agent_at, connection_of, connections_of, other_of, is_live_at, is_taken, is_idle, is_idle_there, is_occupied, is_eligible, is_calling, waiting_in, eligible_in, queued_in_all};
-ghost use Rattle.acd_terms.specs.Services.Plan.{is_used};
+ghost use Rattle.acd_terms.specs.Scans.{is_group, agent_of, agent_at, connection_of, connections_of, other_of, is_live_at, is_taken, is_idle, is_idle_there, is_occupied, is_eligible, is_calling, is_used, waiting_in, eligible_in, queued_in_all};
 ghost use Rattle.acd_terms.specs.Choice.{first_waiting, first_eligible, waiting_pair, ready_pair, offer_of};
 ghost use Rattle.acd_tables.specs.Indexed.{pair_cmp, is_ringing, is_working};
 ghost use Rattle.acd_tables.specs.Uses.{kept};
@@ -135,7 +134,7 @@ impl Tables {
     }
 
     /// The number is planned, or that of an external caller of a live call.
-    #[tactic(auto, unfolding(acd_terms::specs::Services::Plan::is_used))]
+    #[tactic(auto, unfolding(acd_terms::specs::Scans::is_used))]
     pub fn is_used(&self, device: DeviceId) -> bool
         ensures { result ≡ is_used self.now device }
     {

@@ -6,14 +6,8 @@ use Rattle.acd_terms.specs.Scans.{group_of, station_of, agent_of, call_of, conne
 use Rattle.acd_terms.specs.Writes.{with_group, with_station, with_agent, with_call, with_connection, with_monitor, without_call, without_connection, without_monitor, with_last, with_last_ids}
 use Rattle.acd_terms.specs.CallMoves.{arrive}
 use Rattle.acd_terms.specs.Release.{release}
-use Rattle.acd_terms.specs.Served.{refuse_if, with_found}
-use Rattle.acd_terms.specs.Services.Plan.{add_group, add_station, add_agent}
-use Rattle.acd_terms.specs.Services.NewCalls.{arrive_call, make_call, phone_off_hook}
-use Rattle.acd_terms.specs.Services.Talking.{occupy, answer_call, hold_call, retrieve_call}
-use Rattle.acd_terms.specs.Services.Clearing.{clear_connection}
-use Rattle.acd_terms.specs.Services.GivingAway.{deflect_call, single_step_transfer}
-use Rattle.acd_terms.specs.Services.Agents.{log_on, change_state}
-use Rattle.acd_terms.specs.Services.Monitors.{monitor_start, monitor_stop}
+use Rattle.acd_terms.specs.Served.{refuse_if, if_ok}
+use Rattle.acd_terms.specs.Services.{add_group, add_station, add_agent, arrive_call, make_call, phone_off_hook, occupy, answer_call, hold_call, retrieve_call, clear_connection, deflect_call, single_step_transfer, log_on, change_state, monitor_start, monitor_stop}
 use Rattle.acd_terms.specs.Choice.{first_waiting, first_eligible, offer_of}
 use Rattle.acd_terms.specs.Distribution.{offer_moves, distribution}
 use Rattle.acd_terms.specs.Tick.{is_overdue, overdue_in, is_rested, rested_in, returns, rests, tick}
@@ -25,7 +19,7 @@ unfoldable pub switch_on_literals : ⊤
 unfolding read_id read_text number_between limits_fit
     group_of station_of agent_of call_of connection_of monitor_of agent_at connections_of other_of is_live_at is_taken is_occupied waiting_in is_eligible eligible_in is_calling queued_in_all
     with_group with_station with_agent with_call with_connection with_monitor without_call without_connection without_monitor with_last with_last_ids
-    arrive release refuse_if with_found
+    arrive release refuse_if if_ok
     add_group add_station add_agent arrive_call make_call phone_off_hook occupy answer_call hold_call retrieve_call clear_connection deflect_call single_step_transfer log_on change_state monitor_start monitor_stop
     first_waiting first_eligible offer_of offer_moves distribution
     is_overdue overdue_in is_rested rested_in returns rests tick figures_of with_figures step run

@@ -115,6 +115,10 @@ eligible_in s group = filter (is_eligible s group) s.agents
 unfoldable pub is_calling : Rows → ℕ → Bool
 is_calling s device = list_any (λ c. c.caller == device) s.calls
 
+-- the number is planned, or that of an external caller of a live call
+abbrev pub is_used : Rows → ℕ → Bool
+is_used s device = is_planned s device || is_calling s device
+
 -- the connections in a queue
 unfoldable pub queued_in_all : Rows → List ConnectionRecord
 queued_in_all s = filter (λ c. is_queued c.state) s.connections

@@ -2,7 +2,7 @@
 use Rattle.std.specs.Prelude.{ℕ, ◌+◌, max, List, [], ◌∷◌, ◌++◌, length}
 use Rattle.acd_terms.specs.Writes.{with_last}
 use Rattle.acd_terms.specs.Moves.{moved, events_of}
-use Rattle.acd_terms.specs.Served.{outcome_of, moves_of}
+use Rattle.acd_terms.specs.Served.{Served, outcome_of, moves_of}
 use Rattle.acd_terms.specs.Distribution.{distribution}
 use Rattle.acd_terms.specs.Figures.{with_figures}
 use Rattle.acd_terms.specs.Services.Serve.{serve}
@@ -10,7 +10,6 @@ use Rattle.acd_terms.specs.declared.rows.Rows.{Rows}
 use Rattle.acd_terms.specs.declared.command.Command.{Command}
 use Rattle.acd_terms.specs.declared.event.Event.{Event}
 use Rattle.acd_terms.specs.declared.moves.Move.{Move}
-use Rattle.acd_terms.specs.declared.moves.Served.{Served}
 use Rattle.acd_terms.specs.declared.answer.Outcome.{Outcome}
 
 -- the events numbered on from a number

@@ -29,12 +29,14 @@ mod short_text;
 mod state;
 
 pub use answer::{Answer, Outcome, Refusal};
-pub use command::{Arrival, Command, Request, Requested};
+pub use command::{Arrival, Command, Request, Requested, Turn};
 pub use event::{Cause, Columns, Event, EventKind, Report, Waited};
 pub use id::{AgentId, DeviceId, IdFault};
 pub use keyed::{Keyed, ascends, find};
 pub use listed::Listed;
-pub use moves::{Change, Destination, Ending, Move, Moves, Offer, Release, Served};
+pub use moves::{
+    Change, Destination, Done, Ending, Move, Moves, Offer, Release, Served, gives, refuse_if,
+};
 pub use name::{Name, NameFault, Requester};
 pub use number::{Invoke, Seconds, Serial};
 pub use record::{

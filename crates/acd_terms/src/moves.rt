@@ -1,6 +1,7 @@
 //! What a service does: a refusal, or an answer and the moves that it makes.
 
 ghost use Rattle.std.specs.Prelude.{◌≡◌, [], ◌∷◌};
+ghost use Rattle.acd_terms.specs.Served.{refuse_if, gives};
 
 use crate::answer::{Answer, Refusal};
 use crate::event::Report;
@@ -109,11 +110,29 @@ impl Moves {
     }
 }
 
-/// What a service does.
+/// What a service does that doesn't refuse.
 #[derive(Debug, Drop)]
-pub enum Served {
-    Refused(Refusal),
-    Done(Answer, Moves),
+pub struct Done {
+    pub answer: Answer,
+    pub moves: Moves,
+}
+
+/// What a service answers: the first refusal that applies, or what it does.
+pub type Served = Result<Done, Refusal>;
+
+/// Refuses where the test holds.
+#[tactic(auto, unfolding(crate::specs::Served::refuse_if))]
+pub fn refuse_if(test: bool, refusal: Refusal) -> Result<(), Refusal>
+    ensures { result ≡ refuse_if test refusal }
+{
+    if test { Err(refusal) } else { Ok(()) }
+}
+
+/// An answer, and the moves that are made.
+pub fn gives(answer: Answer, moves: Moves) -> Served
+    ensures { result ≡ gives answer moves }
+{
+    Ok(Done { answer, moves })
 }
 
 /// How a distributed connection ends.

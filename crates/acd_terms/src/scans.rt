@@ -2,10 +2,9 @@
 
 ghost use Rattle.std.specs.Prelude.{◌≡◌, [], ◌∷◌, length, slice_get};
 ghost use Rattle.std.specs.List.{list_any};
-ghost use Rattle.acd_terms.specs.Scans.{group_of, station_of, agent_of, call_of, connection_of, monitor_of, is_group, is_station, is_planned, agent_at, connections_of, other_of, is_live_at, is_taken, is_idle, is_occupied, is_eligible, is_calling, queued_in_all};
+ghost use Rattle.acd_terms.specs.Scans.{group_of, station_of, agent_of, call_of, connection_of, monitor_of, is_group, is_station, is_planned, agent_at, connections_of, other_of, is_live_at, is_taken, is_idle, is_occupied, is_eligible, is_calling, is_used, queued_in_all};
 ghost use Rattle.acd_terms.specs.Choice.{first_waiting, first_eligible, lesser};
 ghost use Rattle.acd_terms.specs.Rules.Occupied.{waits_in};
-ghost use Rattle.acd_terms.specs.Services.Plan.{is_used};
 
 use crate::id::{AgentId, DeviceId};
 use crate::keyed::find;

@@ -1,16 +1,23 @@
 -- One service: the case of the command. tick is no service of the tables: it makes its moves in turn.
 use Rattle.std.specs.Prelude.{ℕ}
-use Rattle.acd_terms.specs.Services.Plan.{add_group, add_station, add_agent}
-use Rattle.acd_terms.specs.Services.NewCalls.{arrive_call, make_call, phone_off_hook}
-use Rattle.acd_terms.specs.Services.Talking.{answer_call, hold_call, retrieve_call}
-use Rattle.acd_terms.specs.Services.Clearing.{clear_connection}
-use Rattle.acd_terms.specs.Services.GivingAway.{deflect_call, single_step_transfer}
-use Rattle.acd_terms.specs.Services.Agents.{set_agent_state}
-use Rattle.acd_terms.specs.Services.Monitors.{monitor_start, monitor_stop}
+use Rattle.acd_terms.specs.Services.AddGroup.{add_group}
+use Rattle.acd_terms.specs.Services.AddStation.{add_station}
+use Rattle.acd_terms.specs.Services.AddAgent.{add_agent}
+use Rattle.acd_terms.specs.Services.ArriveCall.{arrive_call}
+use Rattle.acd_terms.specs.Services.MakeCall.{make_call}
+use Rattle.acd_terms.specs.Services.PhoneOffHook.{phone_off_hook}
+use Rattle.acd_terms.specs.Services.AnswerCall.{answer_call}
+use Rattle.acd_terms.specs.Services.HoldCall.{hold_call}
+use Rattle.acd_terms.specs.Services.RetrieveCall.{retrieve_call}
+use Rattle.acd_terms.specs.Services.ClearConnection.{clear_connection}
+use Rattle.acd_terms.specs.Services.DeflectCall.{deflect_call}
+use Rattle.acd_terms.specs.Services.SingleStepTransfer.{single_step_transfer}
+use Rattle.acd_terms.specs.Services.SetAgentState.{set_agent_state}
+use Rattle.acd_terms.specs.Services.MonitorStart.{monitor_start}
+use Rattle.acd_terms.specs.Services.MonitorStop.{monitor_stop}
 use Rattle.acd_terms.specs.Tick.{tick}
+use Rattle.acd_terms.specs.Served.{Served, gives}
 use Rattle.acd_terms.specs.declared.rows.Rows.{Rows}
-use Rattle.acd_terms.specs.declared.moves.Served.{Served}
-use Rattle.acd_terms.specs.declared.moves.Served.TheVariants.{Done}
 use Rattle.acd_terms.specs.declared.answer.Answer.TheVariants.{Nothing}
 use Rattle.acd_terms.specs.declared.command.Command.{Command}
 use Rattle.acd_terms.specs.declared.command.Command.TheVariants.{AddGroup, AddStation, AddAgent, ArriveCall, MakeCall, PhoneOffHook, AnswerCall, HoldCall, RetrieveCall, ClearConnection, DeflectCall, SingleStepTransfer, SetAgentState, MonitorStart, MonitorStop, Tick}
@@ -31,4 +38,4 @@ serve s m k (SingleStepTransfer call device to) = single_step_transfer s m k cal
 serve s m k (SetAgentState agent requested) = set_agent_state s m k agent requested
 serve s m k (MonitorStart device) = monitor_start s device
 serve s m k (MonitorStop monitor) = monitor_stop s monitor
-serve s m k Tick = Done Nothing (tick s m k)
+serve s m k Tick = gives Nothing (tick s m k)

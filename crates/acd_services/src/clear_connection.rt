@@ -1,12 +1,13 @@
-//! clearConnection: the call ends.
+//! clearConnection.
 
 ghost use Rattle.std.specs.Prelude.{◌≡◌};
-ghost use Rattle.acd_terms.specs.Services.Clearing.{waiting_group, cleared_group, clear_other, release_other, clear_connection};
+ghost use Rattle.acd_terms.specs.Services.ClearConnection.{waiting_group, cleared_group, clear_other, release_other, clear_connection};
 
 use crate::call_moves::{clear, end_call, no_move};
 use crate::releasing::{ending_of, release};
 use acd_tables::Tables;
-use acd_terms::{Answer, ConnectionRecord, DeviceId, Move, Moves, Refusal, Served};
+use acd_terms::Refusal::{UnknownCall, UnknownConnection};
+use acd_terms::{Answer, ConnectionRecord, DeviceId, Move, Moves, Served, Turn, gives};
 
 fn waiting_group(connection: &ConnectionRecord) -> Option<DeviceId>
     ensures { result ≡ waiting_group connection.now }
@@ -40,39 +41,29 @@ fn clear_other(other: &Option<ConnectionRecord>) -> Move
     }
 }
 
-fn release_other(tables: &Tables, moment: u32, stamp: u64, other: &Option<ConnectionRecord>) -> Move
-    ensures { result ≡ release_other tables.now moment stamp other.now }
+fn release_other(tables: &Tables, at: Turn, other: &Option<ConnectionRecord>) -> Move
+    ensures { result ≡ release_other tables.now at.moment at.stamp other.now }
 {
     match other {
         None => no_move(),
-        Some(other) => release(tables, moment, stamp, other, ending_of(other)),
+        Some(other) => release(tables, at, other, ending_of(other)),
     }
 }
 
 /// The call ends (Clear Connection of ECMA-269, which here clears the other party too).
-#[tactic(auto, unfolding(acd_terms::specs::Services::Clearing::clear_connection, acd_terms::specs::Served::with_found))]
-pub fn clear_connection(
-    tables: &Tables,
-    moment: u32,
-    stamp: u64,
-    call: u64,
-    device: DeviceId,
-) -> Served
-    ensures { result ≡ clear_connection tables.now moment stamp call device }
+#[tactic(auto, unfolding(acd_terms::specs::Services::ClearConnection::clear_connection, acd_terms::specs::Served::if_ok))]
+pub fn clear_connection(tables: &Tables, at: Turn, call: u64, device: DeviceId) -> Served
+    ensures { result ≡ clear_connection tables.now at.moment at.stamp call device }
 {
-    if tables.call(call).is_none() {
-        return Served::Refused(Refusal::UnknownCall);
-    }
-    let Some(connection) = tables.connection(call, device) else {
-        return Served::Refused(Refusal::UnknownConnection);
-    };
+    tables.call(call).ok_or(UnknownCall)?;
+    let connection = tables.connection(call, device).ok_or(UnknownConnection)?;
     let other = tables.other_of(&connection);
     let moves = Moves::five(
         clear(&connection),
         clear_other(&other),
         end_call(connection.call, cleared_group(&connection, &other)),
-        release(tables, moment, stamp, &connection, ending_of(&connection)),
-        release_other(tables, moment, stamp, &other),
+        release(tables, at, &connection, ending_of(&connection)),
+        release_other(tables, at, &other),
     );
-    Served::Done(Answer::Nothing, moves)
+    gives(Answer::Nothing, moves)
 }

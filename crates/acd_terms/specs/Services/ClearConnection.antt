@@ -1,16 +1,15 @@
 -- clearConnection: the call ends.
 use Rattle.std.specs.Prelude.{ℕ, ◌||◌, List, [], ◌∷◌, Option, Some, None, if◌then◌else◌}
+use Rattle.std.specs.Option.{ok_or}
 use Rattle.acd_terms.specs.Scans.{call_of, connection_of, other_of}
 use Rattle.acd_terms.specs.States.{is_queued, is_alerting}
 use Rattle.acd_terms.specs.Moves.{no_move}
 use Rattle.acd_terms.specs.CallMoves.{clear, end_call}
 use Rattle.acd_terms.specs.Release.{release, ending_of}
-use Rattle.acd_terms.specs.Served.{with_found}
+use Rattle.acd_terms.specs.Served.{Served, ◌>>=◌, ◌>>◌, gives}
 use Rattle.acd_terms.specs.declared.rows.Rows.{Rows}
 use Rattle.acd_terms.specs.declared.record.ConnectionRecord.{ConnectionRecord}
 use Rattle.acd_terms.specs.declared.moves.Move.{Move}
-use Rattle.acd_terms.specs.declared.moves.Served.{Served}
-use Rattle.acd_terms.specs.declared.moves.Served.TheVariants.{Done}
 use Rattle.acd_terms.specs.declared.answer.Answer.TheVariants.{Nothing}
 use Rattle.acd_terms.specs.declared.answer.Refusal.TheVariants.{UnknownCall, UnknownConnection}
 
@@ -46,7 +45,7 @@ clearing s m k x other =
     ∷ []
 
 unfoldable pub clear_connection : Rows → ℕ → ℕ → ℕ → ℕ → Served
-clear_connection s m k call device =
-    with_found (call_of s call) UnknownCall (λ c.
-    with_found (connection_of s call device) UnknownConnection (λ x.
-    Done Nothing (clearing s m k x (other_of s x))))
+clear_connection s m k call device = do
+  ok_or (call_of s call) UnknownCall
+  x ← ok_or (connection_of s call device) UnknownConnection
+  gives Nothing (clearing s m k x (other_of s x))
