@@ -1,8 +1,8 @@
 //! The services of the switch on its tables.
 //!
-//! [`serve`] runs one service. Each service is a decision over the tables that changes nothing:
-//! a refusal, or an answer and the moves that it makes ([`acd_terms::Served`]), which [`decide`] gives.
-//! The module `make` alone writes tables and reports events.
+//! [`serve`] runs one service. Each service, in the file of its name, is a decision over the tables
+//! that changes nothing: a refusal, or an answer and the moves that it makes ([`acd_terms::Served`]).
+//! [`decide`] gives it. The module `make` alone writes tables and reports events.
 //!
 //! ```ignore
 //! let outcome = serve(&mut tables, at, &command, &mut events)?;
