@@ -10,7 +10,8 @@ use Rattle.acd_terms.specs.Lists.{count}
 use Rattle.acd_terms.specs.States.{is_initiated, is_alerting, is_hold, is_answered, is_live}
 use Rattle.acd_terms.specs.Scans.{call_of, is_group, is_station, is_planned, is_distributed, is_taken, is_idle}
 use Rattle.acd_terms.specs.CallMoves.{plain, met_at, destination_of, arriving}
-use Rattle.acd_laws.specs.Counts.{Bare, GroupColumn, IsCaller, StandsAt, ConnectionRule, live_at, alerting_at, held_at}
+use Rattle.acd_laws.specs.Counts.{Bare, GroupColumn, IsCaller, StandsAt, ConnectionRule}
+use Rattle.acd_terms.specs.Rules.Calls.{live_at, alerting_at, hold_at}
 use Rattle.acd_laws.proofs.Lists.{none_counted, fewer}
 
 -- what stands at a destination
@@ -82,7 +83,7 @@ live_is_at : (d : ℕ) (x : ConnectionRecord) → live_at d x ≡ true → is_at
 unfolding is_at
 live_is_at d x e = let h = and_parts (is_live x.state) (x.device == d) e in and_from _ _ h.1 (or_left (is_live x.state) (is_hold x.state) h.0)
 
-held_is_at : (d : ℕ) (x : ConnectionRecord) → held_at d x ≡ true → is_at d x ≡ true
+held_is_at : (d : ℕ) (x : ConnectionRecord) → hold_at d x ≡ true → is_at d x ≡ true
 unfolding is_at
 held_is_at d x e = let h = and_parts (is_hold x.state) (x.device == d) e in and_from _ _ h.1 (or_right (is_live x.state) (is_hold x.state) h.0)
 
@@ -97,11 +98,11 @@ alerting_live S.Fail e = absurd (cc (e))
 pub alerting_is_live : (d : ℕ) (x : ConnectionRecord) → alerting_at d x ≡ true → live_at d x ≡ true
 alerting_is_live d x e = let h = and_parts (is_alerting x.state) (x.device == d) e in and_from _ _ (alerting_live x.state h.0) h.1
 
-pub idle_counts : (s : Rows) (d : ℕ) → is_idle s d ≡ true → (count (live_at d) s.connections ≡ 0) × (count (alerting_at d) s.connections ≡ 0) × (count (held_at d) s.connections ≡ 0)
+pub idle_counts : (s : Rows) (d : ℕ) → is_idle s d ≡ true → (count (live_at d) s.connections ≡ 0) × (count (alerting_at d) s.connections ≡ 0) × (count (hold_at d) s.connections ≡ 0)
 idle_counts s d e =
     let z = none_at s d e in
     let a = fewer (live_at d) (is_at d) (live_is_at d) s.connections in
-    let b = fewer (held_at d) (is_at d) (held_is_at d) s.connections in
+    let b = fewer (hold_at d) (is_at d) (held_is_at d) s.connections in
     let c = fewer (alerting_at d) (live_at d) (alerting_is_live d) s.connections in
     (omega (arith, z, a), omega (arith, z, a, c), omega (arith, z, b))
 

@@ -32,7 +32,7 @@ use Rattle.acd_laws.proofs.State.{cmp_self, cmp_equal, groups_total}
 use Rattle.acd_laws.proofs.Lists.{eq_is}
 use Rattle.acd_laws.proofs.CountedEvents.{Quiet, quiet, no_events, sum_nothing, figures_joined, figures_skipped, sum_joined}
 use Rattle.acd_laws.proofs.RulesStep.{ascending_counting}
-use Rattle.acd_laws.proofs.BoundsRead.{keeps_read}
+use Rattle.acd_laws.proofs.DecidedAll.{keeps_read}
 
 -- lists in ascending key
 

@@ -29,7 +29,8 @@ use Rattle.acd_terms.specs.declared.moves.Release.{Release}
 use Rattle.acd_terms.specs.declared.moves.Release.TheVariants.{Stays, Goes}
 use Rattle.acd_terms.specs.declared.moves.Change.{Change}
 use Rattle.acd_terms.specs.declared.moves.Change.TheVariants.{PutAgent, PutConnection}
-use Rattle.acd_laws.specs.Counts.{Rules, of_call}
+use Rattle.acd_laws.specs.Counts.{Rules}
+use Rattle.acd_terms.specs.Rules.Calls.{parties_of}
 use Rattle.acd_laws.specs.PlacedLaws.{IsUpTo, clearings}
 use Rattle.acd_laws.proofs.Lists.{one, counted}
 use Rattle.acd_laws.proofs.State.{eqb_self, call_put, call_remove}
@@ -163,7 +164,7 @@ counted_end s c g k asc live le =
 pub live_call : (s : Rows) → Rules s → (x : ConnectionRecord) → Among x s.connections → (k : CallRecord) × (call_of s x.call ≡ Some k)
 live_call s r x a =
     (elim (call_of s x.call) as (λ o. call_of s x.call ≡ o → (k : CallRecord) × (call_of s x.call ≡ Some k)) [
-      | None ↦ λ e. let z = none_of_call s r x.call e in let c = counted (of_call x.call) s.connections x a (eqb_self x.call) in absurd (omega (arith, z, c))
+      | None ↦ λ e. let z = none_of_call s r x.call e in let c = counted (parties_of x.call) s.connections x a (eqb_self x.call) in absurd (omega (arith, z, c))
       | Some k ↦ λ e. (k, e)
     ]) refl
 

@@ -10,7 +10,8 @@ use Rattle.acd_terms.specs.Lists.{put_by, remove_by, count, Among, IsAscending}
 use Rattle.acd_terms.specs.Scans.{at_connection, agent_of, call_of, connection_of, has, agent_at, other_of}
 use Rattle.acd_terms.specs.Writes.{without_connection}
 use Rattle.acd_terms.specs.Rules.Plan.{agent_order, connection_order}
-use Rattle.acd_laws.specs.Counts.{Rules, CallRule, ConnectionRule, of_call, seated_at, two_if}
+use Rattle.acd_laws.specs.Counts.{Rules, CallRule, ConnectionRule, seated_at, two_if}
+use Rattle.acd_terms.specs.Rules.Calls.{parties_of}
 use Rattle.acd_laws.proofs.Lists.{one, find_passes, find_among, filter_among, count-put_new, count-put_old, count-removed, every_among, counted, none_from, some_is}
 use Rattle.acd_laws.proofs.State.{cmp_equal, cmp_self, is_of, is_of_true, is_of_self, order_equal, order_same, agents_total, connections_total, connection_find, agent_find, connections_without, found_key, connection_among, connection_found, agent_found, call_among, call_key}
 
@@ -31,13 +32,13 @@ call_known s r n c e =
 pub no_call_above : (s : Rows) → Rules s → (n : ℕ) → s.last_call < n → call_of s n ≡ None
 no_call_above s r n lt = none_from (call_of s n) (λ c e. let k = call_known s r n c e in omega (arith, k.0))
 
-pub none_of_call : (s : Rows) → Rules s → (n : ℕ) → call_of s n ≡ None → count (of_call n) s.connections ≡ 0
+pub none_of_call : (s : Rows) → Rules s → (n : ℕ) → call_of s n ≡ None → count (parties_of n) s.connections ≡ 0
 none_of_call s r n e = let p = r.parties n in let z : two_if (is_some (call_of s n)) ≡ 0 = rw e refl in omega (arith, p, z)
 
 pub none_above : (s : Rows) → Rules s → (n d : ℕ) → s.last_call < n → connection_of s n d ≡ None
 none_above s r n d lt = none_from (connection_of s n d) (λ x e.
     let z = none_of_call s r n (no_call_above s r n lt) in
-    let c = counted (of_call n) s.connections x (connection_among s n d x e) (eq-eqb x.call n (found_key s n d x e).0) in omega (arith, z, c))
+    let c = counted (parties_of n) s.connections x (connection_among s n d x e) (eq-eqb x.call n (found_key s n d x e).0) in omega (arith, z, c))
 
 -- the agent that is logged on at a station
 pub agent_at_find : (s : Rows) (d : ℕ) → agent_at s d ≡ find (seated_at d) s.agents

@@ -18,7 +18,8 @@ use Rattle.acd_terms.specs.Moves.{changed, moved}
 use Rattle.acd_terms.specs.AgentMoves.{in_state, go_to, go_from, log_on_at, wait_for}
 use Rattle.acd_terms.specs.Served.{moves_of}
 use Rattle.acd_terms.specs.Rules.Plan.{agent_order}
-use Rattle.acd_laws.specs.Counts.{Rules, IsPlannedStation, IsPlannedGroup, SeatedAs, AgentRule, ConnectionRule, distributed_at, ringing_at, seated_at, ready_at, busy_at, pending_at}
+use Rattle.acd_laws.specs.Counts.{Rules, IsPlannedStation, IsPlannedGroup, SeatedAs, AgentRule, ConnectionRule, ringing_at, seated_at, ready_at, busy_at, pending_at}
+use Rattle.acd_terms.specs.OneOffer.{is_distributed_at}
 use Rattle.acd_laws.proofs.Lists.{one, find_passes, find_among, find_none, any_found, ascending-put, every_among, every-put, counted, fewer, two_counted, both_fewer, count_zero, none_from, some_from}
 use Rattle.acd_laws.proofs.State.{eqb_self, agents_total, agent_among, agent_own}
 use Rattle.acd_laws.proofs.Found.{count_agent, has_is, agent_seat}
@@ -39,7 +40,7 @@ same_agent : (s : Rows) (a b : AgentRecord) → Rules s → agent_of s a.agent �
     → ((d : ℕ) → count (seated_at d) s.agents + one (seated_at d b) ≤ one (seated_at d a) + 1)
     → ((d : ℕ) → count (ringing_at d) s.connections + one (ready_at d a) ≤ count (ready_at d) s.agents + one (ready_at d b))
     → ((d : ℕ) → one (busy_at d a) ≡ one (busy_at d b))
-    → ((d : ℕ) → count (pending_at d) s.agents + one (pending_at d b) ≤ count (distributed_at d) s.connections + one (pending_at d a))
+    → ((d : ℕ) → count (pending_at d) s.agents + one (pending_at d b) ≤ count (is_distributed_at d) s.connections + one (pending_at d a))
     → Rules (changed s (PutAgent b))
 unfolding with_agent call_of connection_of group_of station_of
 same_agent s a b r there number rule seats ready busy pending =
@@ -70,27 +71,27 @@ same_agent s a b r there number rule seats ready busy pending =
     }
 
 -- at an occupied agent's station stands a distributed connection
-occupied_counts : (s : Rows) (a : AgentRecord) (d : ℕ) → is_occupied s a ≡ true → has a.station d ≡ true → 1 ≤ count (distributed_at d) s.connections
+occupied_counts : (s : Rows) (a : AgentRecord) (d : ℕ) → is_occupied s a ≡ true → has a.station d ≡ true → 1 ≤ count (is_distributed_at d) s.connections
 unfolding is_occupied
 occupied_counts s a d e at_d =
     let p : ConnectionRecord → Bool = λ x. has a.station x.device && is_distributed x in
     let f = some_from (find p s.connections) (any_found p s.connections e) in
     let h = and_parts (has a.station f.0.device) (is_distributed f.0) (find_passes p s.connections f.0 f.1) in
     let same : Some f.0.device ≡ Some d = sym (has_is a.station f.0.device h.0) ∙ has_is a.station d at_d in
-    counted (distributed_at d) s.connections f.0 (find_among p s.connections f.0 f.1) (and_from _ _ h.1 (eq-eqb f.0.device d (number_is f.0.device d same)))
+    counted (is_distributed_at d) s.connections f.0 (find_among p s.connections f.0 f.1) (and_from _ _ h.1 (eq-eqb f.0.device d (number_is f.0.device d same)))
   where
     number_is : (m n : ℕ) → Some m ≡ Some n → m ≡ n
     number_is m n e = cc
 
 -- an occupied agent may wait
 may_wait : (s : Rows) (a : AgentRecord) (d : ℕ) → Rules s → agent_of s a.agent ≡ Some a → is_occupied s a ≡ true
-    → count (pending_at d) s.agents + one (has a.station d) ≤ count (distributed_at d) s.connections + one (pending_at d a)
+    → count (pending_at d) s.agents + one (has a.station d) ≤ count (is_distributed_at d) s.connections + one (pending_at d a)
 may_wait s a d r there occupied =
     let o = r.one_agent d in
     let p = r.pending d refl in
-    (elim (has a.station d) as (λ b. has a.station d ≡ b → count (pending_at d) s.agents + one b ≤ count (distributed_at d) s.connections + one (is_some a.pending && b)) [
+    (elim (has a.station d) as (λ b. has a.station d ≡ b → count (pending_at d) s.agents + one b ≤ count (is_distributed_at d) s.connections + one (is_some a.pending && b)) [
       | true ↦ λ q. let c = occupied_counts s a d occupied q in
-          (elim (is_some a.pending) as (λ b. is_some a.pending ≡ b → count (pending_at d) s.agents + 1 ≤ count (distributed_at d) s.connections + one (b && true)) [
+          (elim (is_some a.pending) as (λ b. is_some a.pending ≡ b → count (pending_at d) s.agents + 1 ≤ count (is_distributed_at d) s.connections + one (b && true)) [
             | true ↦ λ w. let f = fewer (pending_at d) (seated_at d) (λ z v. (and_parts (is_some z.pending) (has z.station d) v).1) s.agents in omega (arith, o, f, c)
             | false ↦ λ w.
                 let k = counted (settled_at d) s.agents a (agent_among s a.agent a there) (settled_is a d (none_of a.pending w) q) in

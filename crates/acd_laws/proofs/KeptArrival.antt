@@ -15,7 +15,9 @@ use Rattle.acd_terms.specs.Moves.{changed, moved}
 use Rattle.acd_terms.specs.CallMoves.{plain, arrive}
 use Rattle.acd_terms.specs.Served.{moves_of}
 use Rattle.acd_terms.specs.Rules.Plan.{call_order, connection_order}
-use Rattle.acd_laws.specs.Counts.{Rules, CallRule, IsCaller, ConnectionRule, is_open, of_call, initiated_of, open_of, live_at, alerting_at, held_at, distributed_at, ringing_at, talking_at, two_if}
+use Rattle.acd_laws.specs.Counts.{Rules, CallRule, IsCaller, ConnectionRule, ringing_at, talking_at, two_if}
+use Rattle.acd_terms.specs.Rules.Calls.{is_open, parties_of, initiated_of, open_of, live_at, alerting_at, hold_at}
+use Rattle.acd_terms.specs.OneOffer.{is_distributed_at}
 use Rattle.acd_laws.proofs.Lists.{one, ascending-put, every_among, every_from, every-put, fewer}
 use Rattle.acd_laws.proofs.State.{eqb_self, calls_total, connections_total, call_put, put_other}
 use Rattle.acd_laws.proofs.Found.{count_new, none_above, no_call_above, none_of_call}
@@ -52,7 +54,7 @@ begun s c y r number outside inside a =
     let apart : c.caller ≡ c.called → ⊥ = λ e. cc (outside, inside, ap (is_planned s) e) in
     let none : (d : ℕ) → connection_of s c.call d ≡ None = λ d. none_above s r c.call d (omega (arith, number)) in
     let no_call : call_of s c.call ≡ None = no_call_above s r c.call (omega (arith, number)) in
-    let zero : count (of_call c.call) s.connections ≡ 0 = none_of_call s r c.call no_call in
+    let zero : count (parties_of c.call) s.connections ≡ 0 = none_of_call s r c.call no_call in
     let there : connection_of v y.call y.device ≡ None = rw (a.call, a.device) (put_other u x c.call c.called (λ _ e. apart e) ∙ none c.called) in
     let counts : (p : ConnectionRecord → Bool) → count p t.connections ≡ one (p y) + (one (p x) + count p s.connections) =
     λ p. count_new p v y there ∙ ap (λ n. one (p y) + n) (count_new p u x (none c.caller)) in
@@ -75,9 +77,9 @@ begun s c y r number outside inside a =
           (every-put (connection_order x) (ConnectionRule t) x (record { place = refl; queued = refl; offered = refl }, tt, inr (outside, rw (calls c.call, eqb_self c.call) refl)) s.connections
           (every_from (ConnectionRule t) s.connections (λ z b. rule_same s t (λ _. refl) (λ _. refl) z (λ k. rw (calls z.call) (caller_stays s c z.call z.device no_call k)) (every_among (ConnectionRule s) s.connections z r.connections b))));
       parties = λ n.
-          let e1 = counts (of_call n) in let e2 = counts (initiated_of n) in let p = r.parties n in
+          let e1 = counts (parties_of n) in let e2 = counts (initiated_of n) in let p = r.parties n in
           let i : one (initiated_of n y) ≡ 0 = rw a.not_initiated refl in
-          (elim (c.call == n) as (λ b. (c.call == n) ≡ b → count (of_call n) t.connections + count (initiated_of n) t.connections ≡ two_if (is_some (cond b (Some c) (call_of s n)))) [
+          (elim (c.call == n) as (λ b. (c.call == n) ≡ b → count (parties_of n) t.connections + count (initiated_of n) t.connections ≡ two_if (is_some (cond b (Some c) (call_of s n)))) [
             | true ↦ λ q.
                 let f : one (y.call == n) ≡ 1 = rw (a.call, q) refl in let g : one (c.call == n) ≡ 1 = rw q refl in
                 let z : two_if (is_some (call_of s n)) ≡ 0 = rw (← eqb-true c.call n q, no_call) refl in omega (arith, e1, e2, p, i, f, g, z)
@@ -89,8 +91,8 @@ begun s c y r number outside inside a =
           let e = counts (open_of n) in let o = r.one_open n in
           (elim (c.call == n) as (λ b. (c.call == n) ≡ b → count (open_of n) t.connections ≤ 1) [
             | true ↦ λ q.
-                let z : count (of_call n) s.connections ≡ 0 = subst (λ v. count (of_call v) s.connections ≡ 0) (eqb-true c.call n q) zero in
-                let l = fewer (open_of n) (of_call n) (λ w h. (and_parts (is_open w.state) (w.call == n) h).1) s.connections in
+                let z : count (parties_of n) s.connections ≡ 0 = subst (λ v. count (parties_of v) s.connections ≡ 0) (eqb-true c.call n q) zero in
+                let l = fewer (open_of n) (parties_of n) (λ w h. (and_parts (is_open w.state) (w.call == n) h).1) s.connections in
                 let b = one_le (open_of n y) in omega (arith, e, z, l, b)
             | false ↦ λ q.
                 let f : one (open_of n y) ≡ 0 = ap one (and_right (is_open y.state) (y.call == n) (rw a.call q)) in omega (arith, e, o, f)
@@ -104,18 +106,18 @@ begun s c y r number outside inside a =
             | false ↦ λ q. let f : one (live_at d y) ≡ 0 = ap one q in omega (arith, e, o, g, f)
           ]) refl;
       no_hold = λ d h l.
-          let e = counts (alerting_at d) in let e2 = counts (held_at d) in
-          let i : one (held_at d y) ≡ 0 = rw a.not_hold refl in
-          (elim (alerting_at d y) as (λ b. alerting_at d y ≡ b → count (held_at d) t.connections ≡ 0) [
+          let e = counts (alerting_at d) in let e2 = counts (hold_at d) in
+          let i : one (hold_at d y) ≡ 0 = rw a.not_hold refl in
+          (elim (alerting_at d y) as (λ b. alerting_at d y ≡ b → count (hold_at d) t.connections ≡ 0) [
             | true ↦ λ q. let k = and_parts (is_alerting y.state) (y.device == d) q in
                 let z = (idle_counts s d (subst (λ v. is_idle s v ≡ true) (sym a.device ∙ eqb-true y.device d k.1) (a.alerting_idle k.0))).2 in omega (arith, e2, i, z)
             | false ↦ λ q. let f : one (alerting_at d y) ≡ 0 = ap one q in let z = r.no_hold d h (omega (arith, e, f, l)) in omega (arith, e2, i, z)
           ]) refl;
-      one_offer = λ d. let e = counts (distributed_at d) in let b = r.one_offer d in let f : one (distributed_at d y) ≡ 0 = rw a.not_distributed refl in omega (arith, e, b, f);
+      one_offer = λ d. let e = counts (is_distributed_at d) in let b = r.one_offer d in let f : one (is_distributed_at d y) ≡ 0 = rw a.not_distributed refl in omega (arith, e, b, f);
       one_agent = r.one_agent;
       ready = λ d _. let e = counts (ringing_at d) in let b = r.ready d refl in let f : one (ringing_at d y) ≡ 0 = rw a.not_ringing refl in omega (arith, e, b, f);
       busy = λ d _. let e = counts (talking_at d) in let b = r.busy d refl in let f : one (talking_at d y) ≡ 0 = rw a.not_answered refl in omega (arith, e, b, f);
-      pending = λ d _. let e = counts (distributed_at d) in let o = r.pending d refl in omega (arith, e, o);
+      pending = λ d _. let e = counts (is_distributed_at d) in let o = r.pending d refl in omega (arith, e, o);
       free = λ d q. absurd (cc (q));
     }
 

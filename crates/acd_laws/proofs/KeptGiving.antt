@@ -16,7 +16,9 @@ use Rattle.acd_terms.specs.CallMoves.{destination_of, arriving, arrive}
 use Rattle.acd_terms.specs.Release.{ending_of, release}
 use Rattle.acd_terms.specs.Served.{moves_of}
 use Rattle.acd_terms.specs.Rules.Plan.{connection_order}
-use Rattle.acd_laws.specs.Counts.{RulesBut, Rules, ConnectionRule, is_open, of_call, initiated_of, open_of, live_at, alerting_at, held_at, distributed_at, ringing_at, talking_at}
+use Rattle.acd_laws.specs.Counts.{RulesBut, Rules, ConnectionRule, ringing_at, talking_at}
+use Rattle.acd_terms.specs.Rules.Calls.{is_open, parties_of, initiated_of, open_of, live_at, alerting_at, hold_at}
+use Rattle.acd_terms.specs.OneOffer.{is_distributed_at}
 use Rattle.acd_laws.proofs.Lists.{one, ascending-put, ascending-remove, every-put, every-remove, two_counted, both_fewer, none_from}
 use Rattle.acd_laws.proofs.State.{eqb_self, connections_total, found_key, own_key, connection_among, still_none}
 use Rattle.acd_laws.proofs.Found.{count_new, count_less, connection_rule, other_among, other_device}
@@ -42,8 +44,8 @@ moved_on s m k x y call d xc r ex a none_d not_initiated opens =
     let counts : (p : ConnectionRecord → Bool) → count p v.connections + one (p x) ≡ one (p y) + count p s.connections = λ p.
     let e1 = count_new p u y new in let e2 = count_less p s x.call x.device x ex in omega (arith, e1, e2) in
     let loose : ℕ → Bool = λ e. is_distributed x && (x.device == e) in
-    let free : (e : ℕ) → loose e ≡ true → count (distributed_at e) v.connections ≡ 0 = λ e q. let c = counts (distributed_at e) in let b = r.one_offer e in
-    let f : one (distributed_at e x) ≡ 1 = ap one q in let g : one (distributed_at e y) ≡ 0 = rw a.not_distributed refl in omega (arith, c, b, f, g) in
+    let free : (e : ℕ) → loose e ≡ true → count (is_distributed_at e) v.connections ≡ 0 = λ e q. let c = counts (is_distributed_at e) in let b = r.one_offer e in
+    let f : one (is_distributed_at e x) ≡ 1 = ap one q in let g : one (is_distributed_at e y) ≡ 0 = rw a.not_distributed refl in omega (arith, c, b, f, g) in
     let rv : RulesBut loose v = record {
       orders = record {
         groups = r.orders.groups;
@@ -57,8 +59,8 @@ moved_on s m k x y call d xc r ex a none_d not_initiated opens =
       agents = r.agents;
       calls = r.calls;
       connections = every-put (connection_order y) (ConnectionRule s) y a.rule u.connections (every-remove _ (ConnectionRule s) s.connections r.connections);
-      parties = λ n. let e1 = counts (of_call n) in let e2 = counts (initiated_of n) in let p = r.parties n in
-          let f : one (of_call n y) ≡ one (of_call n x) = rw (a.call, xc) refl in let i : one (initiated_of n x) ≡ 0 = rw not_initiated refl in let j : one (initiated_of n y) ≡ 0 = rw a.not_initiated refl in omega (arith, e1, e2, p, f, i, j);
+      parties = λ n. let e1 = counts (parties_of n) in let e2 = counts (initiated_of n) in let p = r.parties n in
+          let f : one (parties_of n y) ≡ one (parties_of n x) = rw (a.call, xc) refl in let i : one (initiated_of n x) ≡ 0 = rw not_initiated refl in let j : one (initiated_of n y) ≡ 0 = rw a.not_initiated refl in omega (arith, e1, e2, p, f, i, j);
       one_open = λ n. let c = counts (open_of n) in let o = r.one_open n in
           (elim (call == n) as (λ b. (call == n) ≡ b → count (open_of n) v.connections ≤ 1) [
             | true ↦ λ q. let z : count (open_of n) s.connections ≤ one (is_open x.state) = subst (λ w. count (open_of w) s.connections ≤ one (is_open x.state)) (eqb-true call n q) opens in
@@ -71,18 +73,18 @@ moved_on s m k x y call d xc r ex a none_d not_initiated opens =
                 let z = (idle_counts s e (subst (λ t. is_idle s t ≡ true) (sym a.device ∙ eqb-true y.device e w.1) (a.idle w.0))).0 in let g = one_le (live_at e y) in omega (arith, c, z, g)
             | false ↦ λ q. let g : one (live_at e y) ≡ 0 = ap one q in omega (arith, c, o, g)
           ]) refl;
-      no_hold = λ e h l. let c = counts (alerting_at e) in let ch = counts (held_at e) in let i : one (held_at e y) ≡ 0 = rw a.not_hold refl in
-          (elim (alerting_at e y) as (λ b. alerting_at e y ≡ b → count (held_at e) v.connections ≡ 0) [
+      no_hold = λ e h l. let c = counts (alerting_at e) in let ch = counts (hold_at e) in let i : one (hold_at e y) ≡ 0 = rw a.not_hold refl in
+          (elim (alerting_at e y) as (λ b. alerting_at e y ≡ b → count (hold_at e) v.connections ≡ 0) [
             | true ↦ λ q. let w = and_parts (is_alerting y.state) (y.device == e) q in
                 let z = (idle_counts s e (subst (λ t. is_idle s t ≡ true) (sym a.device ∙ eqb-true y.device e w.1) (a.alerting_idle w.0))).2 in omega (arith, ch, i, z)
             | false ↦ λ q. let g : one (alerting_at e y) ≡ 0 = ap one q in let z = r.no_hold e h (omega (arith, c, g, l)) in omega (arith, ch, i, z)
           ]) refl;
-      one_offer = λ e. let c = counts (distributed_at e) in let o = r.one_offer e in let g : one (distributed_at e y) ≡ 0 = rw a.not_distributed refl in omega (arith, c, o, g);
+      one_offer = λ e. let c = counts (is_distributed_at e) in let o = r.one_offer e in let g : one (is_distributed_at e y) ≡ 0 = rw a.not_distributed refl in omega (arith, c, o, g);
       one_agent = r.one_agent;
       ready = λ e _. let c = counts (ringing_at e) in let o = r.ready e refl in let g : one (ringing_at e y) ≡ 0 = rw a.not_ringing refl in omega (arith, c, o, g);
       busy = λ e q. let c = counts (talking_at e) in let o = r.busy e refl in let g : one (talking_at e y) ≡ 0 = rw a.not_answered refl in
           let f : one (talking_at e x) ≡ 0 = ap one (false_from_ne_true (talking_at e x) (λ w. cc (talking_is e x w, q))) in omega (arith, c, o, f, g);
-      pending = λ e q. let c = counts (distributed_at e) in let o = r.pending e refl in let g : one (distributed_at e y) ≡ 0 = rw a.not_distributed refl in let f : one (distributed_at e x) ≡ 0 = ap one q in omega (arith, c, o, f, g);
+      pending = λ e q. let c = counts (is_distributed_at e) in let o = r.pending e refl in let g : one (is_distributed_at e y) ≡ 0 = rw a.not_distributed refl in let f : one (is_distributed_at e x) ≡ 0 = ap one q in omega (arith, c, o, f, g);
       free = free;
     } in
     loosen (λ e. loose e && not (loose e)) (λ _. false) _ (λ e q. absurd (cc (q))) (λ e q. and_not (loose e))
@@ -107,7 +109,7 @@ pub closed_is : (c : ℕ) (x : ConnectionRecord) → is_open x.state ≡ false �
 unfolding closed_of
 closed_is c x e q = and_from _ _ (ap not e) (eq-eqb x.call c q)
 
-pub open_or_closed : (c : ℕ) (x : ConnectionRecord) → one (open_of c x) + one (closed_of c x) ≤ one (of_call c x)
+pub open_or_closed : (c : ℕ) (x : ConnectionRecord) → one (open_of c x) + one (closed_of c x) ≤ one (parties_of c x)
 unfolding closed_of
 open_or_closed c x = elim (is_open x.state) as (λ b. one (b && x.call == c) + one (not b && x.call == c) ≤ one (x.call == c)) [ true ↦ omega arith | false ↦ omega arith ]
 
@@ -130,7 +132,7 @@ closed_call s call x r among xc connected answered_by =
     let od = other_device s x y.0 y.1 in
     let two = two_counted (closed_of call) s.connections x y.0 among (other_among s x y.0 y.1) (closed_is call x (closed_when x.state (or_left _ _ connected)) xc) (closed_is call y.0 (closed_when y.0.state y.2) (od.0 ∙ xc))
     (λ e. od.1 (ap (λ (z : ConnectionRecord). z.device) e)) in
-    let w = both_fewer (open_of call) (closed_of call) (of_call call) (open_or_closed call) s.connections in
+    let w = both_fewer (open_of call) (closed_of call) (parties_of call) (open_or_closed call) s.connections in
     let p = r.parties call in let t = two_le (is_some (call_of s call)) in omega (arith, two, w, p, t)
 
 pub kept_deflect_call : (s : Rows) (m k call device to : ℕ) → Rules s → Rules (moved s (moves_of (deflect_call s m k call device to)))

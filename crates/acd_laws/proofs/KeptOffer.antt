@@ -17,7 +17,9 @@ use Rattle.acd_terms.specs.Writes.{with_connection, without_connection}
 use Rattle.acd_terms.specs.Moves.{changed, moved}
 use Rattle.acd_terms.specs.CallMoves.{ringing}
 use Rattle.acd_terms.specs.Rules.Plan.{connection_order}
-use Rattle.acd_laws.specs.Counts.{Rules, IsPlannedStation, IsPlannedGroup, SeatedAs, AgentRule, InQueue, AlertingColumns, HasColumns, StandsAt, ConnectionRule, is_open, of_call, initiated_of, open_of, live_at, alerting_at, held_at, distributed_at, ringing_at, talking_at, ready_at}
+use Rattle.acd_laws.specs.Counts.{Rules, IsPlannedStation, IsPlannedGroup, SeatedAs, AgentRule, InQueue, AlertingColumns, HasColumns, StandsAt, ConnectionRule, ringing_at, talking_at, ready_at}
+use Rattle.acd_terms.specs.Rules.Calls.{is_open, parties_of, initiated_of, open_of, live_at, alerting_at, hold_at}
+use Rattle.acd_terms.specs.OneOffer.{is_distributed_at}
 use Rattle.acd_laws.proofs.Lists.{one, any_some, ascending-put, ascending-remove, every_among, every-put, every-remove, counted, none_counted, fewer, two_counted, none_from}
 use Rattle.acd_laws.proofs.State.{eqb_self, connections_total, found_key, connection_among, still_none}
 use Rattle.acd_laws.proofs.Found.{count_new, count_less, connection_rule}
@@ -26,7 +28,7 @@ use Rattle.acd_laws.proofs.KeptArrival.{one_le}
 use Rattle.acd_terms.specs.Distribution.{offer_at}
 
 -- a distributed connection rings or is talked on, or neither
-pub ringing_is : (d : ℕ) (x : ConnectionRecord) → ringing_at d x ≡ true → distributed_at d x ≡ true
+pub ringing_is : (d : ℕ) (x : ConnectionRecord) → ringing_at d x ≡ true → is_distributed_at d x ≡ true
 ringing_is d x e =
     (elim x.state as (λ st. ((is_alerting st && is_some x.group) && (x.device == d)) ≡ true → ((is_some x.group && not (is_queued st)) && (x.device == d)) ≡ true) [
       | S.Alerting ↦ λ q. let h = and_parts (is_some x.group) (x.device == d) q in and_from _ _ (and_from _ _ h.0 refl) h.1
@@ -37,7 +39,7 @@ ringing_is d x e =
       | S.Fail ↦ λ q. absurd (cc (q))
     ]) e
 
-pub talking_is : (d : ℕ) (x : ConnectionRecord) → talking_at d x ≡ true → distributed_at d x ≡ true
+pub talking_is : (d : ℕ) (x : ConnectionRecord) → talking_at d x ≡ true → is_distributed_at d x ≡ true
 talking_is d x e =
     (elim x.state as (λ st. ((is_answered st && is_some x.group) && (x.device == d)) ≡ true → ((is_some x.group && not (is_queued st)) && (x.device == d)) ≡ true) [
       | S.Connected ↦ λ q. let h = and_parts (is_some x.group) (x.device == d) q in and_from _ _ (and_from _ _ h.0 refl) h.1
@@ -93,11 +95,11 @@ offered_rule s x d m h q t =
     (subst (AlertingColumns (ringing m x d)) (sym c.group) (record { place = c.place; queued = c.queued; offered = refl }), h.1, t)
 
 -- an unoccupied agent's station has no distributed connection
-pub unoccupied : (s : Rows) (a : AgentRecord) (d : ℕ) → a.station ≡ Some d → is_occupied s a ≡ false → count (distributed_at d) s.connections ≡ 0
+pub unoccupied : (s : Rows) (a : AgentRecord) (d : ℕ) → a.station ≡ Some d → is_occupied s a ≡ false → count (is_distributed_at d) s.connections ≡ 0
 unfolding is_occupied
 unoccupied s a d e free =
     let z = none_counted (λ w. has a.station w.device && is_distributed w) s.connections free in
-    let l = fewer (distributed_at d) (λ w. has a.station w.device && is_distributed w)
+    let l = fewer (is_distributed_at d) (λ w. has a.station w.device && is_distributed w)
     (λ w h. let k = and_parts (is_distributed w) (w.device == d) h in and_from _ _ (rw e (eq-eqb d w.device (sym (eqb-true w.device d k.1)))) k.0) s.connections in
     omega (arith, z, l)
 
@@ -150,7 +152,7 @@ kept_offer s x a d m r ex q among ready station free idle =
       agents = r.agents;
       calls = r.calls;
       connections = every-put (connection_order y) (ConnectionRule s) y (offered_rule s x d m rule q at_d) u.connections (every-remove _ (ConnectionRule s) s.connections r.connections);
-      parties = λ n. let e1 = counts (of_call n) in let e2 = counts (initiated_of n) in let p = r.parties n in let i : one (initiated_of n x) ≡ 0 = rw xs refl in omega (arith, e1, e2, p, i);
+      parties = λ n. let e1 = counts (parties_of n) in let e2 = counts (initiated_of n) in let p = r.parties n in let i : one (initiated_of n x) ≡ 0 = rw xs refl in omega (arith, e1, e2, p, i);
       one_open = λ n. let e = counts (open_of n) in let o = r.one_open n in let f : one (open_of n x) ≡ one (x.call == n) = rw xs refl in omega (arith, e, o, f);
       one_live = λ e h. let c = counts (live_at e) in let f : one (live_at e x) ≡ 0 = rw xs refl in let o = r.one_live e h in
           (elim (d == e) as (λ b. (d == e) ≡ b → count (live_at e) t.connections ≤ 1) [
@@ -158,27 +160,27 @@ kept_offer s x a d m r ex q among ready station free idle =
                 let g : one (live_at e y) ≡ 1 = ap one v in omega (arith, c, f, g, z)
             | false ↦ λ v. let g : one (live_at e y) ≡ 0 = ap one v in omega (arith, c, f, g, o)
           ]) refl;
-      no_hold = λ e h l. let c = counts (alerting_at e) in let ch = counts (held_at e) in let f : one (alerting_at e x) ≡ 0 = rw xs refl in let fh : one (held_at e x) ≡ 0 = rw xs refl in
-          (elim (d == e) as (λ b. (d == e) ≡ b → count (held_at e) t.connections ≡ 0) [
-            | true ↦ λ v. let z : count (held_at e) s.connections ≡ 0 = subst (λ w. count (held_at w) s.connections ≡ 0) (eqb-true d e v) nobody.2 in omega (arith, ch, fh, z)
+      no_hold = λ e h l. let c = counts (alerting_at e) in let ch = counts (hold_at e) in let f : one (alerting_at e x) ≡ 0 = rw xs refl in let fh : one (hold_at e x) ≡ 0 = rw xs refl in
+          (elim (d == e) as (λ b. (d == e) ≡ b → count (hold_at e) t.connections ≡ 0) [
+            | true ↦ λ v. let z : count (hold_at e) s.connections ≡ 0 = subst (λ w. count (hold_at w) s.connections ≡ 0) (eqb-true d e v) nobody.2 in omega (arith, ch, fh, z)
             | false ↦ λ v. let g : one (alerting_at e y) ≡ 0 = ap one v in let o = r.no_hold e h (omega (arith, c, f, g, l)) in omega (arith, ch, fh, o)
           ]) refl;
-      one_offer = λ e. let c = counts (distributed_at e) in let o = r.one_offer e in
-          (elim (d == e) as (λ b. (d == e) ≡ b → count (distributed_at e) t.connections ≤ 1) [
-            | true ↦ λ v. let z : count (distributed_at e) s.connections ≡ 0 = subst (λ w. count (distributed_at w) s.connections ≡ 0) (eqb-true d e v) zero in
-                let g = one_le (distributed_at e y) in omega (arith, c, g, z)
-            | false ↦ λ v. let g : one (distributed_at e y) ≡ 0 = ap one (and_right (is_distributed y) (d == e) v) in omega (arith, c, g, o)
+      one_offer = λ e. let c = counts (is_distributed_at e) in let o = r.one_offer e in
+          (elim (d == e) as (λ b. (d == e) ≡ b → count (is_distributed_at e) t.connections ≤ 1) [
+            | true ↦ λ v. let z : count (is_distributed_at e) s.connections ≡ 0 = subst (λ w. count (is_distributed_at w) s.connections ≡ 0) (eqb-true d e v) zero in
+                let g = one_le (is_distributed_at e y) in omega (arith, c, g, z)
+            | false ↦ λ v. let g : one (is_distributed_at e y) ≡ 0 = ap one (and_right (is_distributed y) (d == e) v) in omega (arith, c, g, o)
           ]) refl;
       one_agent = r.one_agent;
       ready = λ e _. let c = counts (ringing_at e) in let o = r.ready e refl in let f : one (ringing_at e x) ≡ 0 = rw xs refl in
           (elim (d == e) as (λ b. (d == e) ≡ b → count (ringing_at e) t.connections ≤ count (ready_at e) s.agents) [
-            | true ↦ λ v. let z : count (distributed_at e) s.connections ≡ 0 = subst (λ w. count (distributed_at w) s.connections ≡ 0) (eqb-true d e v) zero in
-                let l = fewer (ringing_at e) (distributed_at e) (ringing_is e) s.connections in
+            | true ↦ λ v. let z : count (is_distributed_at e) s.connections ≡ 0 = subst (λ w. count (is_distributed_at w) s.connections ≡ 0) (eqb-true d e v) zero in
+                let l = fewer (ringing_at e) (is_distributed_at e) (ringing_is e) s.connections in
                 let g = one_le (ringing_at e y) in
                 let w = counted (ready_at e) s.agents a among (and_from _ _ ready (rw station v)) in omega (arith, c, f, g, z, l, w)
             | false ↦ λ v. let g : one (ringing_at e y) ≡ 0 = ap one (and_right (is_some x.group) (d == e) v) in omega (arith, c, f, g, o)
           ]) refl;
       busy = λ e _. let c = counts (talking_at e) in let b = r.busy e refl in let f : one (talking_at e x) ≡ 0 = rw xs refl in omega (arith, c, b, f);
-      pending = λ e _. let c = counts (distributed_at e) in let o = r.pending e refl in let f : one (distributed_at e x) ≡ 0 = ap one (and_left (is_distributed x) (x.device == e) (rw xs (and_right (is_some x.group) false refl))) in omega (arith, c, o, f);
+      pending = λ e _. let c = counts (is_distributed_at e) in let o = r.pending e refl in let f : one (is_distributed_at e x) ≡ 0 = ap one (and_left (is_distributed x) (x.device == e) (rw xs (and_right (is_some x.group) false refl))) in omega (arith, c, o, f);
       free = λ e v. absurd (cc (v));
     }

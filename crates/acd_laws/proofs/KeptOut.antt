@@ -16,7 +16,9 @@ use Rattle.acd_terms.specs.Moves.{changed, moved}
 use Rattle.acd_terms.specs.CallMoves.{plain, originate, destination_of, arriving, arrive}
 use Rattle.acd_terms.specs.Served.{moves_of}
 use Rattle.acd_terms.specs.Rules.Plan.{call_order, connection_order}
-use Rattle.acd_laws.specs.Counts.{Rules, CallRule, HasColumns, IsCaller, StandsAt, ConnectionRule, is_open, of_call, initiated_of, open_of, live_at, alerting_at, held_at, distributed_at, ringing_at, talking_at, two_if}
+use Rattle.acd_laws.specs.Counts.{Rules, CallRule, HasColumns, IsCaller, StandsAt, ConnectionRule, ringing_at, talking_at, two_if}
+use Rattle.acd_terms.specs.Rules.Calls.{is_open, parties_of, initiated_of, open_of, live_at, alerting_at, hold_at}
+use Rattle.acd_terms.specs.OneOffer.{is_distributed_at}
 use Rattle.acd_laws.proofs.Lists.{one, ascending-put, every_among, every_from, every-put, counted, fewer, two_counted, both_fewer, none_from}
 use Rattle.acd_laws.proofs.State.{eqb_self, calls_total, connections_total, call_put, found_key, own_key, connection_among, call_among, put_other}
 use Rattle.acd_laws.proofs.Found.{count_new, count_old, connection_rule, no_call_above, none_of_call, none_above}
@@ -41,7 +43,7 @@ made s m device called r station planned differ free =
     let u : Rows = changed s (PutCall c) in
     let t : Rows = changed u (PutConnection y) in
     let no_call : call_of s c.call ≡ None = no_call_above s r c.call (omega arith) in
-    let zero : count (of_call c.call) s.connections ≡ 0 = none_of_call s r c.call no_call in
+    let zero : count (parties_of c.call) s.connections ≡ 0 = none_of_call s r c.call no_call in
     let counts : (p : ConnectionRecord → Bool) → count p t.connections ≡ one (p y) + count p s.connections = λ p. count_new p u y (none_above s r c.call device (omega arith)) in
     let calls : (n : ℕ) → call_of t n ≡ cond (c.call == n) (Some c) (call_of s n) = λ n. call_put s c n in
     record {
@@ -59,11 +61,11 @@ made s m device called r station planned differ free =
           (every_from (CallRule t) s.calls (λ k b. let w = every_among (CallRule s) s.calls k r.calls b in let l : k.call ≤ s.last_call = w.0 in (omega (arith, l), w.1, w.2, w.3)));
       connections = every-put (connection_order y) (ConnectionRule t) y ((record { place = refl; queued = refl; offered = refl }, refl), tt, (station, rw (calls c.call, eqb_self c.call) refl)) s.connections
           (every_from (ConnectionRule t) s.connections (λ z b. rule_same s t (λ _. refl) (λ _. refl) z (λ k. rw (calls z.call) (caller_stays s c z.call z.device no_call k)) (every_among (ConnectionRule s) s.connections z r.connections b)));
-      parties = λ n. let e1 = counts (of_call n) in let e2 = counts (initiated_of n) in let p = r.parties n in
-          (elim (c.call == n) as (λ b. (c.call == n) ≡ b → count (of_call n) t.connections + count (initiated_of n) t.connections ≡ two_if (is_some (cond b (Some c) (call_of s n)))) [
-            | true ↦ λ q. let f : one (of_call n y) ≡ 1 = ap one q in let g : one (initiated_of n y) ≡ 1 = ap one q in
+      parties = λ n. let e1 = counts (parties_of n) in let e2 = counts (initiated_of n) in let p = r.parties n in
+          (elim (c.call == n) as (λ b. (c.call == n) ≡ b → count (parties_of n) t.connections + count (initiated_of n) t.connections ≡ two_if (is_some (cond b (Some c) (call_of s n)))) [
+            | true ↦ λ q. let f : one (parties_of n y) ≡ 1 = ap one q in let g : one (initiated_of n y) ≡ 1 = ap one q in
                 let z : two_if (is_some (call_of s n)) ≡ 0 = rw (← eqb-true c.call n q, no_call) refl in omega (arith, e1, e2, p, f, g, z)
-            | false ↦ λ q. let f : one (of_call n y) ≡ 0 = ap one q in let g : one (initiated_of n y) ≡ 0 = ap one q in omega (arith, e1, e2, p, f, g)
+            | false ↦ λ q. let f : one (parties_of n y) ≡ 0 = ap one q in let g : one (initiated_of n y) ≡ 0 = ap one q in omega (arith, e1, e2, p, f, g)
           ]) refl
           ∙ ap (λ o. two_if (is_some o)) (sym (calls n));
       one_open = λ n. let e = counts (open_of n) in let o = r.one_open n in omega (arith, e, o);
@@ -73,12 +75,12 @@ made s m device called r station planned differ free =
                 let g = one_le (live_at d y) in omega (arith, e, z, g)
             | false ↦ λ q. let o = r.one_live d w in let g : one (live_at d y) ≡ 0 = ap one q in omega (arith, e, o, g)
           ]) refl;
-      no_hold = λ d w l. let c1 = counts (alerting_at d) in let c2 = counts (held_at d) in let o = r.no_hold d w (omega (arith, c1, l)) in omega (arith, c2, o);
-      one_offer = λ d. let e = counts (distributed_at d) in let o = r.one_offer d in omega (arith, e, o);
+      no_hold = λ d w l. let c1 = counts (alerting_at d) in let c2 = counts (hold_at d) in let o = r.no_hold d w (omega (arith, c1, l)) in omega (arith, c2, o);
+      one_offer = λ d. let e = counts (is_distributed_at d) in let o = r.one_offer d in omega (arith, e, o);
       one_agent = r.one_agent;
       ready = λ d _. let e = counts (ringing_at d) in let o = r.ready d refl in omega (arith, e, o);
       busy = λ d _. let e = counts (talking_at d) in let o = r.busy d refl in omega (arith, e, o);
-      pending = λ d _. let e = counts (distributed_at d) in let o = r.pending d refl in omega (arith, e, o);
+      pending = λ d _. let e = counts (is_distributed_at d) in let o = r.pending d refl in omega (arith, e, o);
       free = λ d q. absurd (cc (q));
     }
 
@@ -126,9 +128,9 @@ gone_out s x y c d r ex initiated ec apart a none =
     let among = connection_among s x.call x.device x ex in
     let counts : (p : ConnectionRecord → Bool) → count p t.connections + one (p x) ≡ one (p y) + (one (p x2) + count p s.connections) = λ p.
     let e1 = count_new p u y (rw (a.call, a.device) (put_other s x2 x.call d (λ _ q. apart q) ∙ none)) in let e2 = count_old p s x2 x r.orders.connections ex in omega (arith, e1, e2) in
-    let alone : count (of_call x.call) s.connections ≡ 1 =
+    let alone : count (parties_of x.call) s.connections ≡ 1 =
     let p = r.parties x.call in let w = counted (initiated_of x.call) s.connections x among (and_from _ _ initiated (eqb_self x.call)) in
-    let f = fewer (initiated_of x.call) (of_call x.call) (λ z h. (and_parts (is_initiated z.state) (z.call == x.call) h).1) s.connections in let t = two_le (is_some (call_of s x.call)) in omega (arith, p, w, f, t) in
+    let f = fewer (initiated_of x.call) (parties_of x.call) (λ z h. (and_parts (is_initiated z.state) (z.call == x.call) h).1) s.connections in let t = two_le (is_some (call_of s x.call)) in omega (arith, p, w, f, t) in
     record {
       orders = record {
         groups = r.orders.groups;
@@ -143,13 +145,13 @@ gone_out s x y c d r ex initiated ec apart a none =
       calls = r.calls;
       connections = every-put (connection_order y) (ConnectionRule s) y a.rule u.connections
           (every-put (connection_order x2) (ConnectionRule s) x2 (record { place = bare_of.0.place; queued = bare_of.0.queued; offered = bare_of.0.offered }, rule.1, inl st.0) s.connections r.connections);
-      parties = λ n. let e1 = counts (of_call n) in let e2 = counts (initiated_of n) in let p = r.parties n in
-          let f : one (of_call n y) ≡ one (of_call n x) = rw a.call refl in let i : one (initiated_of n x) ≡ one (of_call n x) = rw xs refl in let j : one (initiated_of n y) ≡ 0 = rw a.not_initiated refl in omega (arith, e1, e2, p, f, i, j);
+      parties = λ n. let e1 = counts (parties_of n) in let e2 = counts (initiated_of n) in let p = r.parties n in
+          let f : one (parties_of n y) ≡ one (parties_of n x) = rw a.call refl in let i : one (initiated_of n x) ≡ one (parties_of n x) = rw xs refl in let j : one (initiated_of n y) ≡ 0 = rw a.not_initiated refl in omega (arith, e1, e2, p, f, i, j);
       one_open = λ n. let e = counts (open_of n) in let o = r.one_open n in
           (elim (x.call == n) as (λ b. (x.call == n) ≡ b → count (open_of n) t.connections ≤ 1) [
-            | true ↦ λ q. let al : count (of_call n) s.connections ≡ 1 = subst (λ v. count (of_call v) s.connections ≡ 1) (eqb-true x.call n q) alone in
+            | true ↦ λ q. let al : count (parties_of n) s.connections ≡ 1 = subst (λ v. count (parties_of v) s.connections ≡ 1) (eqb-true x.call n q) alone in
                 let w = counted (closed_of n) s.connections x among (closed_is n x (rw xs refl) (eqb-true x.call n q)) in
-                let b = both_fewer (open_of n) (closed_of n) (of_call n) (open_or_closed n) s.connections in let g = one_le (open_of n y) in omega (arith, e, al, w, b, g)
+                let b = both_fewer (open_of n) (closed_of n) (parties_of n) (open_or_closed n) s.connections in let g = one_le (open_of n y) in omega (arith, e, al, w, b, g)
             | false ↦ λ q. let g : one (open_of n y) ≡ 0 = ap one (and_right (is_open y.state) (y.call == n) (rw a.call q)) in omega (arith, e, o, g)
           ]) refl;
       one_live = λ e h. let c = counts (live_at e) in let o = r.one_live e h in let f : one (live_at e x) ≡ one (x.device == e) = rw xs refl in
@@ -158,24 +160,24 @@ gone_out s x y c d r ex initiated ec apart a none =
                 let z = (idle_counts s e (subst (λ t. is_idle s t ≡ true) (sym a.device ∙ eqb-true y.device e w.1) (a.idle w.0))).0 in let g = one_le (live_at e y) in omega (arith, c, f, z, g)
             | false ↦ λ q. let g : one (live_at e y) ≡ 0 = ap one q in omega (arith, c, o, f, g)
           ]) refl;
-      no_hold = λ e h l. let c = counts (alerting_at e) in let ch = counts (held_at e) in let i : one (held_at e y) ≡ 0 = rw a.not_hold refl in
-          (elim (alerting_at e y) as (λ b. alerting_at e y ≡ b → count (held_at e) t.connections ≡ 0) [
+      no_hold = λ e h l. let c = counts (alerting_at e) in let ch = counts (hold_at e) in let i : one (hold_at e y) ≡ 0 = rw a.not_hold refl in
+          (elim (alerting_at e y) as (λ b. alerting_at e y ≡ b → count (hold_at e) t.connections ≡ 0) [
             | true ↦ λ q. let w = and_parts (is_alerting y.state) (y.device == e) q in
                 let z = (idle_counts s e (subst (λ t. is_idle s t ≡ true) (sym a.device ∙ eqb-true y.device e w.1) (a.alerting_idle w.0))).2 in omega (arith, ch, i, z)
             | false ↦ λ q. let g : one (alerting_at e y) ≡ 0 = ap one q in let z = r.no_hold e h (omega (arith, c, g, l)) in omega (arith, ch, i, z)
           ]) refl;
-      one_offer = λ e. let c = counts (distributed_at e) in let o = r.one_offer e in let g : one (distributed_at e y) ≡ 0 = rw a.not_distributed refl in let h : one (distributed_at e x2) ≡ 0 = rw no_group refl in omega (arith, c, o, g, h);
+      one_offer = λ e. let c = counts (is_distributed_at e) in let o = r.one_offer e in let g : one (is_distributed_at e y) ≡ 0 = rw a.not_distributed refl in let h : one (is_distributed_at e x2) ≡ 0 = rw no_group refl in omega (arith, c, o, g, h);
       one_agent = r.one_agent;
       ready = λ e _. let c = counts (ringing_at e) in let o = r.ready e refl in let g : one (ringing_at e y) ≡ 0 = rw a.not_ringing refl in omega (arith, c, o, g);
       busy = λ e _. let c = counts (talking_at e) in let o = r.busy e refl in let g : one (talking_at e y) ≡ 0 = rw a.not_answered refl in let f : one (talking_at e x) ≡ 0 = rw xs refl in let h : one (talking_at e x2) ≡ 0 = rw no_group refl in omega (arith, c, o, f, g, h);
-      pending = λ e _. let c = counts (distributed_at e) in let o = r.pending e refl in let g : one (distributed_at e y) ≡ 0 = rw a.not_distributed refl in let f : one (distributed_at e x) ≡ 0 = ap one (and_left (is_distributed x) (x.device == e) (ap (λ b. b && not (is_queued x.state)) (group_none x xs rule.0))) in omega (arith, c, o, f, g);
+      pending = λ e _. let c = counts (is_distributed_at e) in let o = r.pending e refl in let g : one (is_distributed_at e y) ≡ 0 = rw a.not_distributed refl in let f : one (is_distributed_at e x) ≡ 0 = ap one (and_left (is_distributed x) (x.device == e) (ap (λ b. b && not (is_queued x.state)) (group_none x xs rule.0))) in omega (arith, c, o, f, g);
       free = λ e h. absurd (cc (h));
     }
 
-pub initiated_alone : (s : Rows) (x : ConnectionRecord) → Rules s → Among x s.connections → is_initiated x.state ≡ true → count (of_call x.call) s.connections ≡ 1
+pub initiated_alone : (s : Rows) (x : ConnectionRecord) → Rules s → Among x s.connections → is_initiated x.state ≡ true → count (parties_of x.call) s.connections ≡ 1
 initiated_alone s x r among initiated =
     let p = r.parties x.call in let w = counted (initiated_of x.call) s.connections x among (and_from _ _ initiated (eqb_self x.call)) in
-    let f = fewer (initiated_of x.call) (of_call x.call) (λ z h. (and_parts (is_initiated z.state) (z.call == x.call) h).1) s.connections in let t = two_le (is_some (call_of s x.call)) in omega (arith, p, w, f, t)
+    let f = fewer (initiated_of x.call) (parties_of x.call) (λ z h. (and_parts (is_initiated z.state) (z.call == x.call) h).1) s.connections in let t = two_le (is_some (call_of s x.call)) in omega (arith, p, w, f, t)
 
 -- what an initiated call's destination is
 pub record Outgoing (s : Rows) (x : ConnectionRecord) (d : ℕ) : Type 0 where
@@ -194,7 +196,7 @@ outgoing s x c r ex initiated ec =
       apart = apart;
       new = none_from (connection_of s x.call c.called) (λ z e.
           let k = found_key s x.call c.called z e in
-          let two = two_counted (of_call x.call) s.connections x z (connection_among s x.call x.device x ex) (connection_among s x.call c.called z e) (eqb_self x.call) (eq-eqb z.call x.call k.0) (λ q. apart (ap (λ (z : ConnectionRecord). z.device) q ∙ k.1)) in
+          let two = two_counted (parties_of x.call) s.connections x z (connection_among s x.call x.device x ex) (connection_among s x.call c.called z e) (eqb_self x.call) (eq-eqb z.call x.call k.0) (λ q. apart (ap (λ (z : ConnectionRecord). z.device) q ∙ k.1)) in
           let al = initiated_alone s x r (connection_among s x.call x.device x ex) initiated in omega (arith, two, al));
     }
 

@@ -15,7 +15,9 @@ use Rattle.acd_terms.specs.Writes.{with_connection, without_connection}
 use Rattle.acd_terms.specs.Moves.{changed, moved}
 use Rattle.acd_terms.specs.CallMoves.{queueing}
 use Rattle.acd_terms.specs.Rules.Plan.{connection_order}
-use Rattle.acd_laws.specs.Counts.{RulesBut, Rules, Offered, AlertingColumns, HasColumns, GroupColumn, StandsAt, ConnectionRule, is_open, of_call, initiated_of, open_of, live_at, alerting_at, held_at, distributed_at, ringing_at, talking_at}
+use Rattle.acd_laws.specs.Counts.{RulesBut, Rules, Offered, AlertingColumns, HasColumns, GroupColumn, StandsAt, ConnectionRule, ringing_at, talking_at}
+use Rattle.acd_terms.specs.Rules.Calls.{is_open, parties_of, initiated_of, open_of, live_at, alerting_at, hold_at}
+use Rattle.acd_terms.specs.OneOffer.{is_distributed_at}
 use Rattle.acd_laws.proofs.Lists.{one, ascending-put, ascending-remove, every-put, every-remove, two_counted, none_from}
 use Rattle.acd_laws.proofs.State.{eqb_self, connections_total, found_key, connection_among, still_none}
 use Rattle.acd_laws.proofs.Found.{count_new, count_less, connection_rule}
@@ -70,9 +72,9 @@ kept_return_to s m k g x r ex alerting group =
     let e1 = count_new p u y (still_none s x.call x.device x.call g r.orders.connections none) in
     let e2 = count_less p s x.call x.device x ex in omega (arith, e1, e2) in
     let dist : is_distributed x ≡ true = rw (group, xs) refl in
-    let vacant : count (distributed_at x.device) v.connections ≡ 0 =
-    let c = counts (distributed_at x.device) in let o = r.one_offer x.device in
-    let f : one (distributed_at x.device x) ≡ 1 = ap one (and_from _ _ dist (eqb_self x.device)) in omega (arith, c, o, f) in
+    let vacant : count (is_distributed_at x.device) v.connections ≡ 0 =
+    let c = counts (is_distributed_at x.device) in let o = r.one_offer x.device in
+    let f : one (is_distributed_at x.device x) ≡ 1 = ap one (and_from _ _ dist (eqb_self x.device)) in omega (arith, c, o, f) in
     let loose : ℕ → Bool = λ e. is_distributed x && (x.device == e) in
     let rv : RulesBut loose v = record {
       orders = record {
@@ -87,17 +89,17 @@ kept_return_to s m k g x r ex alerting group =
       agents = r.agents;
       calls = r.calls;
       connections = every-put (connection_order y) (ConnectionRule s) y (record { group = refl; place = columns.place; queued = columns.queued; offered = refl }, at_g, at_g) u.connections (every-remove _ (ConnectionRule s) s.connections r.connections);
-      parties = λ n. let e1 = counts (of_call n) in let e2 = counts (initiated_of n) in let p = r.parties n in let i : one (initiated_of n x) ≡ 0 = rw xs refl in omega (arith, e1, e2, p, i);
+      parties = λ n. let e1 = counts (parties_of n) in let e2 = counts (initiated_of n) in let p = r.parties n in let i : one (initiated_of n x) ≡ 0 = rw xs refl in omega (arith, e1, e2, p, i);
       one_open = λ n. let e = counts (open_of n) in let o = r.one_open n in let f : one (open_of n x) ≡ one (x.call == n) = rw xs refl in omega (arith, e, o, f);
       one_live = λ e h. let c = counts (live_at e) in let o = r.one_live e h in omega (arith, c, o);
-      no_hold = λ e h l. let c = counts (alerting_at e) in let ch = counts (held_at e) in let fh : one (held_at e x) ≡ 0 = rw xs refl in
+      no_hold = λ e h l. let c = counts (alerting_at e) in let ch = counts (hold_at e) in let fh : one (hold_at e x) ≡ 0 = rw xs refl in
           let o = r.no_hold e h (omega (arith, c, l)) in omega (arith, ch, fh, o);
-      one_offer = λ e. let c = counts (distributed_at e) in let o = r.one_offer e in omega (arith, c, o);
+      one_offer = λ e. let c = counts (is_distributed_at e) in let o = r.one_offer e in omega (arith, c, o);
       one_agent = r.one_agent;
       ready = λ e _. let c = counts (ringing_at e) in let o = r.ready e refl in omega (arith, c, o);
       busy = λ e _. let c = counts (talking_at e) in let o = r.busy e refl in let f : one (talking_at e x) ≡ 0 = rw xs refl in omega (arith, c, o, f);
-      pending = λ e h. let c = counts (distributed_at e) in let o = r.pending e refl in let f : one (distributed_at e x) ≡ 0 = ap one h in omega (arith, c, o, f);
-      free = λ e h. subst (λ d. count (distributed_at d) v.connections ≡ 0) (eqb-true x.device e (and_parts (is_distributed x) (x.device == e) h).1) vacant;
+      pending = λ e h. let c = counts (is_distributed_at e) in let o = r.pending e refl in let f : one (is_distributed_at e x) ≡ 0 = ap one h in omega (arith, c, o, f);
+      free = λ e h. subst (λ d. count (is_distributed_at d) v.connections ≡ 0) (eqb-true x.device e (and_parts (is_distributed x) (x.device == e) h).1) vacant;
     } in
     loosen (λ e. loose e && not (loose e)) (λ _. false) _ (λ e q. absurd (cc (q))) (λ e q. and_not (loose e))
     (after_release loose s v x NoAnswer m k rv (λ a h. h.there) r among (λ _. vacant) (record { stays = λ _ w q. alerting }))

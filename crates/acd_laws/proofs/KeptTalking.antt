@@ -18,7 +18,9 @@ use Rattle.acd_terms.specs.CallMoves.{talking, hold, retrieve}
 use Rattle.acd_terms.specs.AgentMoves.{become_busy}
 use Rattle.acd_terms.specs.Served.{moves_of}
 use Rattle.acd_terms.specs.Rules.Plan.{agent_order, connection_order}
-use Rattle.acd_laws.specs.Counts.{Rules, AgentRule, Bare, HasColumns, StandsAt, ConnectionRule, is_open, of_call, initiated_of, open_of, live_at, alerting_at, held_at, distributed_at, ringing_at, talking_at, seated_at, ready_at, busy_at, pending_at}
+use Rattle.acd_laws.specs.Counts.{Rules, AgentRule, Bare, HasColumns, StandsAt, ConnectionRule, ringing_at, talking_at, seated_at, ready_at, busy_at, pending_at}
+use Rattle.acd_terms.specs.Rules.Calls.{is_open, parties_of, initiated_of, open_of, live_at, alerting_at, hold_at}
+use Rattle.acd_terms.specs.OneOffer.{is_distributed_at}
 use Rattle.acd_laws.proofs.Lists.{one, ascending-put, every-put, counted, none_counted, fewer, both_fewer}
 use Rattle.acd_laws.proofs.State.{agents_total, connections_total, found_key, own_key, connection_among}
 use Rattle.acd_laws.proofs.Found.{count_old, count_agent, connection_rule}
@@ -33,7 +35,7 @@ after_answer : (s : Rows) (x : ConnectionRecord) (agents : List AgentRecord) →
     → IsAscending agent_order agents → Every (AgentRule s) agents → ((d : ℕ) → count (seated_at d) agents ≤ 1)
     → ((d : ℕ) → count (ringing_at d) s.connections ≤ count (ready_at d) agents + one (ringing_at d x))
     → ((d : ℕ) → count (talking_at d) s.connections + one (ringing_at d x) ≡ count (busy_at d) agents)
-    → ((d : ℕ) → count (pending_at d) agents ≤ count (distributed_at d) s.connections)
+    → ((d : ℕ) → count (pending_at d) agents ≤ count (is_distributed_at d) s.connections)
     → Rules (record s { connections = put_by (connection_order (talking x)) s.connections (talking x); agents = agents })
 unfolding call_of connection_of agent_of group_of station_of
 after_answer s x agents r ex alerting sorted rules one_agent ready busy pending =
@@ -55,15 +57,15 @@ after_answer s x agents r ex alerting sorted rules one_agent ready busy pending 
       agents = rules;
       calls = r.calls;
       connections = every-put (connection_order y) (ConnectionRule s) y (record { place = refl; queued = refl; offered = refl }, rule.1, inl at_x) s.connections r.connections;
-      parties = λ n. let e1 = counts (of_call n) in let e2 = counts (initiated_of n) in let p = r.parties n in let i : one (initiated_of n x) ≡ 0 = rw xs refl in omega (arith, e1, e2, p, i);
+      parties = λ n. let e1 = counts (parties_of n) in let e2 = counts (initiated_of n) in let p = r.parties n in let i : one (initiated_of n x) ≡ 0 = rw xs refl in omega (arith, e1, e2, p, i);
       one_open = λ n. let e = counts (open_of n) in let o = r.one_open n in omega (arith, e, o);
       one_live = λ e h. let c = counts (live_at e) in let o = r.one_live e h in let f : one (live_at e x) ≡ one (x.device == e) = rw xs refl in omega (arith, c, o, f);
-      no_hold = λ e h l. let c = counts (alerting_at e) in let ch = counts (held_at e) in let o = r.no_hold e h (omega (arith, c, l)) in omega (arith, ch, o);
-      one_offer = λ e. let c = counts (distributed_at e) in let o = r.one_offer e in let f : one (distributed_at e x) ≡ one (distributed_at e y) = rw xs refl in omega (arith, c, o, f);
+      no_hold = λ e h l. let c = counts (alerting_at e) in let ch = counts (hold_at e) in let o = r.no_hold e h (omega (arith, c, l)) in omega (arith, ch, o);
+      one_offer = λ e. let c = counts (is_distributed_at e) in let o = r.one_offer e in let f : one (is_distributed_at e x) ≡ one (is_distributed_at e y) = rw xs refl in omega (arith, c, o, f);
       one_agent = one_agent;
       ready = λ e _. let c = counts (ringing_at e) in let o = ready e in omega (arith, c, o);
       busy = λ e _. let c = counts (talking_at e) in let o = busy e in let f : one (talking_at e x) ≡ 0 = rw xs refl in let g : one (ringing_at e x) ≡ one (talking_at e y) = rw xs refl in omega (arith, c, o, f, g);
-      pending = λ e _. let c = counts (distributed_at e) in let o = pending e in let f : one (distributed_at e x) ≡ one (distributed_at e y) = rw xs refl in omega (arith, c, o, f);
+      pending = λ e _. let c = counts (is_distributed_at e) in let o = pending e in let f : one (is_distributed_at e x) ≡ one (is_distributed_at e y) = rw xs refl in omega (arith, c, o, f);
       free = λ e h. absurd (cc (h));
     }
 
@@ -135,7 +137,7 @@ hold_is S.Fail e = absurd (cc (e))
 turned : (s : Rows) (x y : ConnectionRecord) → Rules s → connection_of s x.call x.device ≡ Some x → y.call ≡ x.call → y.device ≡ x.device → ConnectionRule s y
     → is_answered x.state ≡ true → is_answered y.state ≡ true → y.group ≡ x.group
     → ((d : ℕ) → IsTrue (is_station s d) → count (live_at d) (put_by (connection_order y) s.connections y) ≤ 1)
-    → ((d : ℕ) → IsTrue (is_station s d) → 1 ≤ count (alerting_at d) s.connections → count (held_at d) (put_by (connection_order y) s.connections y) ≡ 0)
+    → ((d : ℕ) → IsTrue (is_station s d) → 1 ≤ count (alerting_at d) s.connections → count (hold_at d) (put_by (connection_order y) s.connections y) ≡ 0)
     → Rules (changed s (PutConnection y))
 unfolding with_connection call_of connection_of agent_of group_of station_of
 turned s x y r ex yc yd rule ax ay yg one_live no_hold =
@@ -156,16 +158,16 @@ turned s x y r ex yc yd rule ax ay yg one_live no_hold =
       agents = r.agents;
       calls = r.calls;
       connections = every-put (connection_order y) (ConnectionRule s) y rule s.connections r.connections;
-      parties = λ n. let e1 = counts (of_call n) in let e2 = counts (initiated_of n) in let p = r.parties n in
-          let i : one (initiated_of n x) ≡ 0 = rw nx.0 refl in let j : one (initiated_of n y) ≡ 0 = rw ny.0 refl in let c : one (of_call n y) ≡ one (of_call n x) = rw yc refl in omega (arith, e1, e2, p, i, j, c);
+      parties = λ n. let e1 = counts (parties_of n) in let e2 = counts (initiated_of n) in let p = r.parties n in
+          let i : one (initiated_of n x) ≡ 0 = rw nx.0 refl in let j : one (initiated_of n y) ≡ 0 = rw ny.0 refl in let c : one (parties_of n y) ≡ one (parties_of n x) = rw yc refl in omega (arith, e1, e2, p, i, j, c);
       one_open = λ n. let e = counts (open_of n) in let o = r.one_open n in let i : one (open_of n y) ≡ 0 = rw ny.1 refl in omega (arith, e, o, i);
       one_live = one_live;
       no_hold = λ d h l. let c = counts (alerting_at d) in let i : one (alerting_at d y) ≡ 0 = rw ny.2 refl in no_hold d h (omega (arith, c, i, l));
-      one_offer = λ d. let c = counts (distributed_at d) in let o = r.one_offer d in let i : one (distributed_at d y) ≡ one (distributed_at d x) = rw (yd, yg, ny.3, nx.3) refl in omega (arith, c, o, i);
+      one_offer = λ d. let c = counts (is_distributed_at d) in let o = r.one_offer d in let i : one (is_distributed_at d y) ≡ one (is_distributed_at d x) = rw (yd, yg, ny.3, nx.3) refl in omega (arith, c, o, i);
       one_agent = r.one_agent;
       ready = λ d _. let c = counts (ringing_at d) in let o = r.ready d refl in let i : one (ringing_at d y) ≡ 0 = rw ny.2 refl in omega (arith, c, o, i);
       busy = λ d _. let c = counts (talking_at d) in let o = r.busy d refl in let i : one (talking_at d y) ≡ one (talking_at d x) = rw (yd, yg, ax, ay) refl in omega (arith, c, o, i);
-      pending = λ d _. let c = counts (distributed_at d) in let o = r.pending d refl in let i : one (distributed_at d y) ≡ one (distributed_at d x) = rw (yd, yg, ny.3, nx.3) refl in omega (arith, c, o, i);
+      pending = λ d _. let c = counts (is_distributed_at d) in let o = r.pending d refl in let i : one (is_distributed_at d y) ≡ one (is_distributed_at d x) = rw (yd, yg, ny.3, nx.3) refl in omega (arith, c, o, i);
       free = λ d h. absurd (cc (h));
     }
   where
@@ -210,11 +212,11 @@ kept_hold s x r ex station connected =
     let counts : (p : ConnectionRecord → Bool) → count p (put_by (connection_order y) s.connections y) + one (p x) ≡ one (p y) + count p s.connections = λ p. count_old p s y x r.orders.connections ex in
     turned s x y r ex refl refl (record { place = b.place; queued = b.queued; offered = b.offered }, rule.1, station) (rw xs refl) refl refl
     (λ d h. let c = counts (live_at d) in let o = r.one_live d h in omega (arith, c, o))
-    (λ d h l. let c = counts (held_at d) in let f : one (held_at d x) ≡ 0 = rw xs refl in
-    (elim (x.device == d) as (λ v. (x.device == d) ≡ v → count (held_at d) (put_by (connection_order y) s.connections y) ≡ 0) [
+    (λ d h l. let c = counts (hold_at d) in let f : one (hold_at d x) ≡ 0 = rw xs refl in
+    (elim (x.device == d) as (λ v. (x.device == d) ≡ v → count (hold_at d) (put_by (connection_order y) s.connections y) ≡ 0) [
       | true ↦ λ e. let o = r.one_live d h in let w = counted (connected_at d) s.connections x among (and_from _ _ connected e) in
           let k = both_fewer (alerting_at d) (connected_at d) (live_at d) (alerting_or_connected d) s.connections in absurd (omega (arith, o, w, k, l))
-      | false ↦ λ e. let o = r.no_hold d h l in let g : one (held_at d y) ≡ 0 = ap one e in omega (arith, c, f, g, o)
+      | false ↦ λ e. let o = r.no_hold d h l in let g : one (hold_at d y) ≡ 0 = ap one e in omega (arith, c, f, g, o)
     ]) refl)
 
 pub no_live : (s : Rows) (d : ℕ) → is_live_at s d ≡ false → count (live_at d) s.connections ≡ 0
@@ -238,7 +240,7 @@ kept_retrieve s x r ex holds free =
           let g = one_le (live_at d y) in omega (arith, c, z, g)
       | false ↦ λ e. let o = r.one_live d h in let g : one (live_at d y) ≡ 0 = ap one e in omega (arith, c, o, g)
     ]) refl)
-    (λ d h l. let c = counts (held_at d) in let o = r.no_hold d h l in omega (arith, c, o))
+    (λ d h l. let c = counts (hold_at d) in let o = r.no_hold d h l in omega (arith, c, o))
 
 pub kept_hold_call : (s : Rows) (call device : ℕ) → Rules s → Rules (moved s (moves_of (hold_call s call device)))
 unfolding hold_call

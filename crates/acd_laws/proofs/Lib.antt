@@ -35,10 +35,9 @@ pub mod SoundEnds
 pub mod Ticking
 pub mod RulesKept
 pub mod RulesStep
-pub mod RulesRead
-pub mod ConnectionsRead
-pub mod BoundsRead
-pub mod RulesWritten
+pub mod Decided
+pub mod DecidedCalls
+pub mod DecidedAll
 pub mod SoundOffers
 pub mod Steady
 pub mod Orderly

@@ -17,17 +17,13 @@ use Rattle.acd_laws.proofs.Lists.{every_among, counted, some_from}
 use Rattle.acd_laws.proofs.State.{eqb_self}
 use Rattle.acd_laws.proofs.KeptOffer.{ready_is, talking_is}
 use Rattle.acd_laws.proofs.Releasing.{serving, alerting_or_answered}
-use Rattle.acd_laws.proofs.RulesRead.{one_that}
-use Rattle.acd_laws.proofs.ConnectionsRead.{distributed_counts}
+use Rattle.acd_laws.proofs.Decided.{one_that}
 use Rattle.acd_laws.proofs.RulesStep.{rules_step}
 use Rattle.acd_laws.proofs.Runs.{kept_by_run, rules_first}
 
-busy_is : (st : AgentState) → is_busy st ≡ true → st ≡ A.Busy
+pub busy_is : (st : AgentState) → is_busy st ≡ true → st ≡ A.Busy
 busy_is A.Busy e = refl
-busy_is A.Null e = absurd (cc (e))
-busy_is A.NotReady e = absurd (cc (e))
-busy_is A.Ready e = absurd (cc (e))
-busy_is A.WorkingAfterCall e = absurd (cc (e))
+busy_is _ e = absurd (cc (e))
 
 planned_some : (s : Rows) (o : Option ℕ) → IsPlannedStation s o → is_some o ≡ true
 planned_some s None h = absurd h
@@ -68,7 +64,7 @@ talking s a r i e =
 
 pub rules_give_one_offer : RulesGiveOneOffer
 rules_give_one_offer s r = record {
-  one = λ d. subst (λ n. n ≤ 1) (sym (distributed_counts s d)) (r.one_offer d);
+  one = r.one_offer;
   attended = λ x i e. attended s x r i e;
   no_other = λ a i e. talking s a r i e;
 }

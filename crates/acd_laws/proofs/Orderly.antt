@@ -20,8 +20,8 @@ use Rattle.acd_terms.specs.Lists.{count, Every, IsAscending}
 use Rattle.acd_terms.specs.Scans.{at_agent, at_call, at_connection, is_group, agent_at, is_distributed, is_idle}
 use Rattle.acd_terms.specs.Writes.{with_group, with_station, with_agent, with_call, with_connection, with_monitor, without_call, without_connection, without_monitor}
 use Rattle.acd_terms.specs.Moves.{no_move, reported, changed, moved}
-use Rattle.acd_terms.specs.CallMoves.{plain, met_at, destination_of, arriving, arrival, arrive, answer}
-use Rattle.acd_terms.specs.AgentMoves.{in_state, go_to, go_from, wait_for}
+use Rattle.acd_terms.specs.CallMoves.{plain, met_at, destination_of, arriving, arrival, arrive, answer, waited_by}
+use Rattle.acd_terms.specs.AgentMoves.{in_state, go_to, go_from, wait_for, state_report}
 use Rattle.acd_terms.specs.Release.{release_of, released, release_agent, release}
 use Rattle.acd_terms.specs.Rules.Plan.{agent_order}
 use Rattle.acd_laws.specs.Counts.{seated_at}
@@ -29,8 +29,6 @@ use Rattle.acd_laws.proofs.Lists.{one, find_among, count-put_most, count-remove_
 use Rattle.acd_terms.specs.declared.event.Report.{Report}
 use Rattle.acd_terms.specs.declared.event.Report.TheVariants as report
 use Rattle.acd_terms.specs.Figures.{is_entry}
-use Rattle.acd_terms.specs.CallMoves.{waited_by}
-use Rattle.acd_terms.specs.AgentMoves.{state_report}
 use Rattle.acd_terms.specs.Services.Talking.{occupy, busy_agent}
 use Rattle.acd_laws.specs.Bounds.{AgentTimed, CallTimed, IsPlace, IsMoment, ConnectionTimed, at_place, Timed}
 use Rattle.acd_laws.proofs.Balance.{entries, entry_by}

@@ -12,10 +12,11 @@ use Rattle.acd_terms.specs.declared.record.ConnectionRecord.{ConnectionRecord}
 use Rattle.acd_terms.specs.declared.state.ConnectionState.{ConnectionState}
 use Rattle.acd_terms.specs.declared.state.ConnectionState.TheVariants as S
 use Rattle.acd_terms.specs.declared.event.Event.{Event}
-use Rattle.acd_laws.specs.Counts.{Rules, ConnectionRule, IsCaller, StandsAt, is_open, of_call, initiated_of, open_of, two_if}
+use Rattle.acd_laws.specs.Counts.{Rules, ConnectionRule, IsCaller, StandsAt, two_if}
+use Rattle.acd_terms.specs.Rules.Calls.{is_open, parties_of, initiated_of, open_of}
 use Rattle.acd_laws.specs.PlacedLaws.{KeepsClearings, PlacesExclude}
 use Rattle.acd_laws.proofs.Lists.{one, every_among, counted, fewer, both_fewer}
-use Rattle.acd_laws.proofs.RulesRead.{zero_or}
+use Rattle.acd_laws.proofs.Decided.{zero_or}
 
 queued_or_alerting : (c : ℕ) (x : ConnectionRecord) → one (is_queued_of c x) + one (is_alerting_of c x) ≤ one (open_of c x)
 queued_or_alerting c x = go x.state (x.call == c)
@@ -73,7 +74,7 @@ placed_live s events c k r live never =
         never = never;
         some =
             let p = r.parties c in
-            let f = fewer (initiated_of c) (of_call c) (λ w h. (and_parts (is_initiated w.state) (w.call == c) h).1) s.connections in
+            let f = fewer (initiated_of c) (parties_of c) (λ w h. (and_parts (is_initiated w.state) (w.call == c) h).1) s.connections in
             let t : two_if (is_some (call_of s c)) ≡ 2 = rw live refl in
             omega (arith, p, f, t);
         none_queued = z;

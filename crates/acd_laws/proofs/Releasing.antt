@@ -24,7 +24,8 @@ use Rattle.acd_terms.specs.Moves.{no_move, changed}
 use Rattle.acd_terms.specs.AgentMoves.{in_state}
 use Rattle.acd_terms.specs.Release.{release_of, released, release_agent, ending_of, release}
 use Rattle.acd_terms.specs.Rules.Plan.{agent_order}
-use Rattle.acd_laws.specs.Counts.{RulesBut, Rules, IsPlannedStation, IsPlannedGroup, SeatedAs, AgentRule, HasColumns, ConnectionRule, distributed_at, ringing_at, talking_at, seated_at, ready_at, busy_at, pending_at}
+use Rattle.acd_laws.specs.Counts.{RulesBut, Rules, IsPlannedStation, IsPlannedGroup, SeatedAs, AgentRule, HasColumns, ConnectionRule, ringing_at, talking_at, seated_at, ready_at, busy_at, pending_at}
+use Rattle.acd_terms.specs.OneOffer.{is_distributed_at}
 use Rattle.acd_laws.proofs.Lists.{one, ascending-put, every_among, every-put, among-put, counted, fewer, both_fewer, the_one, some_counted, some_from}
 use Rattle.acd_laws.proofs.State.{eqb_self, agents_total, agent_put, agent_among}
 use Rattle.acd_laws.proofs.Found.{count_agent, agent_seat, agent_there}
@@ -114,7 +115,7 @@ unfolding settled_at
 pending_or_settled e z = elim (is_some z.pending) as (λ b. one (b && has z.station e) + one (not b && has z.station e) ≤ one (has z.station e)) [ true ↦ omega arith | false ↦ omega arith ]
 
 -- one agent's record is put, at a station where no connection is distributed
-pub left_keeps : (loose : ℕ → Bool) (v : Rows) (a b : AgentRecord) (d : ℕ) → RulesBut loose v → agent_of v a.agent ≡ Some a → a.station ≡ Some d → count (distributed_at d) v.connections ≡ 0 → Left v a b
+pub left_keeps : (loose : ℕ → Bool) (v : Rows) (a b : AgentRecord) (d : ℕ) → RulesBut loose v → agent_of v a.agent ≡ Some a → a.station ≡ Some d → count (is_distributed_at d) v.connections ≡ 0 → Left v a b
     → RulesBut (λ e. loose e && not (d == e)) (changed v (PutAgent b))
 unfolding with_agent call_of group_of station_of
 left_keeps loose v a b d r there station vacant l =
@@ -122,7 +123,7 @@ left_keeps loose v a b d r there station vacant l =
     count_agent p v b a r.orders.agents (rw l.agent there) in
     let elsewhere : (e : ℕ) → (d == e) ≡ false → (has a.station e ≡ false) × (has b.station e ≡ false) = λ e q.
     let f : has a.station e ≡ false = rw (station, q) refl in (f, false_from_ne_true _ (λ w. cc (f, l.station e w))) in
-    let nobody : (e : ℕ) → (d == e) ≡ true → count (distributed_at e) v.connections ≡ 0 = λ e q. subst (λ w. count (distributed_at w) v.connections ≡ 0) (eqb-true d e q) vacant in
+    let nobody : (e : ℕ) → (d == e) ≡ true → count (is_distributed_at e) v.connections ≡ 0 = λ e q. subst (λ w. count (is_distributed_at w) v.connections ≡ 0) (eqb-true d e q) vacant in
     let tight : (e : ℕ) → (loose e && not (d == e)) ≡ false → (d == e) ≡ false → loose e ≡ false = λ e h q.
     elim (and_cases (loose e) (not (d == e)) h) [ inl w ↦ w | inr w ↦ absurd (cc (rw q at w)) ] in
     let one_left : (e : ℕ) → count (seated_at e) (put_by (agent_order b) v.agents b) ≤ 1 = λ e. let c = counts (seated_at e) in let o = r.one_agent e in
@@ -171,21 +172,21 @@ left_keeps loose v a b d r there station vacant l =
       one_agent = one_left;
       ready = λ e h.
           (elim (d == e) as (λ x. (d == e) ≡ x → count (ringing_at e) v.connections ≤ count (ready_at e) (put_by (agent_order b) v.agents b)) [
-            | true ↦ λ q. let z = nobody e q in let f = fewer (ringing_at e) (distributed_at e) (ringing_is e) v.connections in omega (arith, z, f)
+            | true ↦ λ q. let z = nobody e q in let f = fewer (ringing_at e) (is_distributed_at e) (ringing_is e) v.connections in omega (arith, z, f)
             | false ↦ λ q. let c = counts (ready_at e) in let o = r.ready e (tight e h q) in
                 let f : one (ready_at e a) ≡ 0 = ap one (and_right (is_ready a.state) (has a.station e) (elsewhere e q).0) in
                 let g : one (ready_at e b) ≡ 0 = ap one (and_right (is_ready b.state) (has b.station e) (elsewhere e q).1) in omega (arith, c, o, f, g)
           ]) refl;
       busy = λ e h.
           (elim (d == e) as (λ x. (d == e) ≡ x → count (talking_at e) v.connections ≡ count (busy_at e) (put_by (agent_order b) v.agents b)) [
-            | true ↦ λ q. let z = nobody e q in let f = fewer (talking_at e) (distributed_at e) (talking_is e) v.connections in
+            | true ↦ λ q. let z = nobody e q in let f = fewer (talking_at e) (is_distributed_at e) (talking_is e) v.connections in
                 let w = none_busy e q in omega (arith, z, f, w)
             | false ↦ λ q. let c = counts (busy_at e) in let o = r.busy e (tight e h q) in
                 let f : one (busy_at e a) ≡ 0 = ap one (and_right (is_busy a.state) (has a.station e) (elsewhere e q).0) in
                 let g : one (busy_at e b) ≡ 0 = ap one (and_right (is_busy b.state) (has b.station e) (elsewhere e q).1) in omega (arith, c, o, f, g)
           ]) refl;
       pending = λ e h.
-          (elim (d == e) as (λ x. (d == e) ≡ x → count (pending_at e) (put_by (agent_order b) v.agents b) ≤ count (distributed_at e) v.connections) [
+          (elim (d == e) as (λ x. (d == e) ≡ x → count (pending_at e) (put_by (agent_order b) v.agents b) ≤ count (is_distributed_at e) v.connections) [
             | true ↦ λ q. let w = none_pending e q in omega (arith, w)
             | false ↦ λ q. let c = counts (pending_at e) in let o = r.pending e (tight e h q) in
                 let f : one (pending_at e a) ≡ 0 = ap one (and_right (is_some a.pending) (has a.station e) (elsewhere e q).0) in
@@ -255,7 +256,7 @@ left_by v a (Goes st) m k d rule seat idle n = (in_state st m k a, refl, left_st
 
 -- after a release at the device of x
 released_agent : (loose : ℕ → Bool) (v : Rows) (o : Option AgentRecord) (a : AgentRecord) (x : ConnectionRecord) (how : Ending) (m k : ℕ) → RulesBut loose v → o ≡ Some a → agent_of v a.agent ≡ Some a → a.station ≡ Some x.device
-    → count (distributed_at x.device) v.connections ≡ 0 → (release_of how a.pending ≡ Stays → is_busy a.state ≡ false)
+    → count (is_distributed_at x.device) v.connections ≡ 0 → (release_of how a.pending ≡ Stays → is_busy a.state ≡ false)
     → RulesBut (λ e. loose e && not (x.device == e)) (changed v (release_agent m k o x.device how).change)
 released_agent loose v None a x how m k r e there station vacant idle = absurd (cc (e))
 released_agent loose v (Some z) a x how m k r e there station vacant idle =
@@ -289,7 +290,7 @@ not_and false = refl
 
 -- s is the state before the service, v the one in which the agent is released
 pub after_release : (loose : ℕ → Bool) (s v : Rows) (x : ConnectionRecord) (how : Ending) (m k : ℕ) → RulesBut loose v → ((a : AgentRecord) → Serves s x a → agent_of v a.agent ≡ Some a) → Rules s → Among x s.connections
-    → (is_distributed x ≡ true → count (distributed_at x.device) v.connections ≡ 0) → Ends x how
+    → (is_distributed x ≡ true → count (is_distributed_at x.device) v.connections ≡ 0) → Ends x how
     → RulesBut (λ e. loose e && not (is_distributed x && (x.device == e))) (changed v (release s m k x how).change)
 unfolding release
 after_release loose s v x how m k r kept rs among vacant ends =

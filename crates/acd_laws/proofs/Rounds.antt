@@ -11,7 +11,7 @@ use Rattle.acd_terms.specs.declared.moves.Ending.TheVariants.{NoAnswer}
 use Rattle.acd_terms.specs.Lists.{count, Every, IsAscending}
 use Rattle.acd_terms.specs.Scans.{connection_of, has}
 use Rattle.acd_terms.specs.Writes.{with_connection, without_connection}
-use Rattle.acd_terms.specs.Moves.{changed, moved}
+use Rattle.acd_terms.specs.Moves.{changed, moved, with_event, events_of}
 use Rattle.acd_terms.specs.CallMoves.{queueing, ringing}
 use Rattle.acd_terms.specs.AgentMoves.{go_from}
 use Rattle.acd_terms.specs.Rules.Plan.{agent_order}
@@ -20,7 +20,6 @@ use Rattle.acd_laws.proofs.Lists.{one, every_among, count-append}
 use Rattle.acd_laws.proofs.State.{connection_among}
 use Rattle.acd_terms.specs.declared.event.Event.{Event}
 use Rattle.acd_terms.specs.declared.event.Report.{Report}
-use Rattle.acd_terms.specs.Moves.{with_event, events_of}
 use Rattle.acd_terms.specs.Figures.{is_entry, is_no_answer}
 use Rattle.acd_terms.specs.Distribution.{offer_at, distribution}
 use Rattle.acd_terms.specs.Tick.{return_to, rest_moves, returns, tick}

@@ -1,5 +1,5 @@
 -- Rows that break no rule break none after a step.
-use Rattle.std.proofs.Common.{◌≡◌, ℕ, ◌+◌, ◌*◌, ◌^◌, ◌<◌, ◌≤◌, ◌⊎◌, inl, inr, true, false, ◌||◌, cond, List, [], ◌∷◌, Option, Some, None, refl, ◌∙◌, ap, subst, arith, length}
+use Rattle.std.proofs.Common.{◌≡◌, ℕ, ◌+◌, ◌*◌, ◌^◌, ◌<◌, ◌≤◌, ◌⊎◌, inl, inr, true, false, ◌||◌, cond, List, [], ◌∷◌, Option, Some, None, refl, ◌∙◌, ap, subst, arith, length, map}
 use Rattle.std.specs.Prelude.{◌==◌}
 use Rattle.std.proofs.lemmas.Bool.{and_parts, eqb-true, false_from_ne_true}
 use Rattle.acd_terms.specs.declared.rows.Rows.{Rows}
@@ -11,11 +11,10 @@ use Rattle.acd_terms.specs.declared.moves.Move.{Move}
 use Rattle.acd_terms.specs.Lists.{count, total, Among, Every}
 use Rattle.acd_terms.specs.States.{is_alerting, is_queued}
 use Rattle.acd_terms.specs.Scans.{group_of, station_of, is_group, is_station, is_planned, has}
-use Rattle.acd_terms.specs.Writes.{with_last}
-use Rattle.acd_terms.specs.Moves.{moved}
+use Rattle.acd_terms.specs.Writes.{with_last, empty_rows}
+use Rattle.acd_terms.specs.Moves.{moved, events_of}
 use Rattle.acd_laws.specs.Counts.{Rules, GroupColumn, StandsAt, ConnectionRule}
 use Rattle.acd_laws.proofs.Lists.{one, every_among, every_from, count_zero}
-use Rattle.std.proofs.Common.{map}
 use Rattle.std.proofs.lemmas.Nat.{mul-le}
 use Rattle.std.proofs.Math.Nat.{add-mul}
 use Rattle.acd_terms.specs.declared.event.Event.{Event}
@@ -26,7 +25,6 @@ use Rattle.acd_terms.specs.declared.rows.Limits.{Limits}
 use Rattle.acd_terms.specs.declared.command.Command.{Command}
 use Rattle.acd_terms.specs.Limits.{limits_fit}
 use Rattle.acd_terms.specs.Offers.{HasNoOffer}
-use Rattle.acd_terms.specs.Moves.{events_of}
 use Rattle.acd_terms.specs.Figures.{is_entry, is_answer, waited_there, figures_of, counting, with_figures}
 use Rattle.acd_terms.specs.Services.Plan.{no_figures}
 use Rattle.acd_terms.specs.Services.Serve.{serve}
@@ -34,7 +32,6 @@ use Rattle.acd_terms.specs.Rules.Occupied.{waits_in, rings_from}
 use Rattle.acd_terms.specs.Rules.First.{BreaksNoRule}
 use Rattle.acd_terms.specs.Step.{step_moves, step, executed_moment, next_stamp}
 use Rattle.acd_terms.specs.Run.{Asked, run}
-use Rattle.acd_terms.specs.Writes.{empty_rows}
 use Rattle.acd_laws.specs.Bounds.{Sizes, IsPlace, ConnectionTimed, at_place, Timed, OnePlace, MonitorRule, Monitored, IsCountedUpTo, IsBalanced, KeepsRules}
 use Rattle.acd_laws.specs.RuleLaws.{RulesAreFacts, RulesAreKept, StepKeepsRules, RunKeepsRules, RulesBound, RulesLeaveRoom}
 use Rattle.acd_laws.proofs.Balance.{holding}
@@ -46,8 +43,7 @@ use Rattle.acd_laws.proofs.Orderly.{WaitsUpTo, timed_more}
 use Rattle.acd_laws.proofs.Rounds.{AllWait}
 use Rattle.acd_laws.proofs.Numbers.{greatest}
 use Rattle.acd_laws.proofs.BoundsStep.{After, Before, after_moves}
-use Rattle.acd_laws.proofs.BoundsRead.{keeps_read, requests_read}
-use Rattle.acd_laws.proofs.RulesWritten.{keeps_written}
+use Rattle.acd_laws.proofs.DecidedAll.{keeps_read, requests_read, keeps_written}
 use Rattle.acd_laws.proofs.RulesStep.{is_group_counting, rules_step}
 
 -- places

@@ -1,5 +1,5 @@
 -- The rules are kept by a step: also where the figures and the counters are set after its moves.
-use Rattle.std.proofs.Common.{◌≡◌, ℕ, ◌≤◌, List, [], ◌∷◌, Option, Some, None, refl, sym, ◌∙◌, ap, subst}
+use Rattle.std.proofs.Common.{◌≡◌, ℕ, ◌≤◌, List, [], ◌∷◌, Option, Some, None, refl, sym, ◌∙◌, ap, subst, map}
 use Rattle.std.specs.Prelude.{is_some}
 use Rattle.acd_terms.specs.declared.rows.Rows.{Rows}
 use Rattle.acd_terms.specs.declared.record.GroupRecord.{GroupRecord}
@@ -15,7 +15,6 @@ use Rattle.acd_terms.specs.Moves.{moved}
 use Rattle.acd_terms.specs.Rules.Plan.{group_order}
 use Rattle.acd_laws.specs.Counts.{Rules, IsPlannedStation, IsPlannedGroup, SeatedAs, AgentRule, CallRule, IsCaller, ConnectionRule, two_if}
 use Rattle.acd_laws.proofs.Lists.{every_among, every_from}
-use Rattle.std.proofs.Common.{map}
 use Rattle.acd_terms.specs.declared.event.Event.{Event}
 use Rattle.acd_terms.specs.declared.command.Command.{Command}
 use Rattle.acd_terms.specs.Figures.{counting, with_figures}

@@ -20,7 +20,8 @@ use Rattle.acd_terms.specs.declared.event.Report.{Report}
 use Rattle.acd_terms.specs.declared.event.Report.TheVariants as report
 use Rattle.acd_terms.specs.declared.moves.Served.{Served}
 use Rattle.acd_terms.specs.declared.moves.Change.TheVariants.{PutCall, PutConnection}
-use Rattle.acd_laws.specs.Counts.{is_open, StandsAt, Rules, of_call}
+use Rattle.acd_terms.specs.Rules.Calls.{is_open, parties_of}
+use Rattle.acd_laws.specs.Counts.{StandsAt, Rules}
 use Rattle.acd_laws.proofs.Lists.{one, two_counted}
 use Rattle.acd_laws.proofs.Members.{among_put}
 use Rattle.acd_laws.proofs.State.{eqb_self, found_key, own_key, connection_among, put_other}
@@ -107,7 +108,7 @@ none_open s x r among initiated z a e q =
     elim (among_put _ (record x { state = S.Connected }) s.connections z a) [
       | inl w ↦ cc (e, ap (λ (y : ConnectionRecord). is_open y.state) w)
       | inr w ↦ (let alone = initiated_alone s x r among initiated in
-          let two = two_counted (of_call x.call) s.connections x z among w (eqb_self x.call) (eq-eqb z.call x.call q)
+          let two = two_counted (parties_of x.call) s.connections x z among w (eqb_self x.call) (eq-eqb z.call x.call q)
           (λ v. cc (ap (λ (y : ConnectionRecord). is_open y.state) v, e, ap is_open (initiated_is x.state initiated))) in omega (arith, alone, two))
     ]
 
@@ -116,8 +117,8 @@ initiated_shut st e = rw (initiated_is st e) refl
 
 sound_out : (s : Rows) (m k b : ℕ) (x : ConnectionRecord) (c : CallRecord) → Rules s → b < k → connection_of s x.call x.device ≡ Some x → is_initiated x.state ≡ true → call_of s x.call ≡ Some c
     → Sound m b k s (originate x c.called ∷ arrive s m k x.call c.called cause.NewCall ∷ [])
-sound_out s m k b x c r l there initiated of_call =
-    let go = outgoing s x c r there initiated of_call in
+sound_out s m k b x c r l there initiated parties_of =
+    let go = outgoing s x c r there initiated parties_of in
     let y : ConnectionRecord = record x { state = S.Connected } in
     let u : Rows = with_connection s y in
     let at : StandsAt s x S.Initiated = subst (StandsAt s x) (initiated_is x.state initiated) (connection_rule s r x.call x.device x there).2 in

@@ -28,7 +28,7 @@ use Rattle.acd_terms.specs.declared.moves.Release.{Release}
 use Rattle.acd_terms.specs.declared.moves.Release.TheVariants.{Stays, Goes}
 use Rattle.acd_terms.specs.declared.moves.Change.{Change}
 use Rattle.acd_terms.specs.declared.moves.Change.TheVariants.{Nothing, PutGroup, PutStation, PutAgent, PutCall, PutConnection, PutMonitor, RemoveCall, RemoveConnection, RemoveMonitor}
-use Rattle.acd_laws.specs.Counts.{is_open}
+use Rattle.acd_terms.specs.Rules.Calls.{is_open}
 use Rattle.acd_laws.proofs.Lists.{one}
 use Rattle.acd_laws.proofs.Told.{Truthful, AllTruthful, truthful-append, truthful_put, truthful_nothing, truthful_agent, truthful_silent_agent}
 use Rattle.acd_laws.proofs.Balance.{Balances, balances-append, holding, held, holding_new, entry_by, gone_by}

@@ -6,7 +6,7 @@ use Rattle.acd_terms.specs.Scans.{connection_of, agent_of, is_planned, has}
 use Rattle.acd_terms.specs.States.{is_queued, is_alerting}
 use Rattle.acd_terms.specs.Writes.{with_connection, without_connection}
 use Rattle.acd_terms.specs.Moves.{silent}
-use Rattle.acd_terms.specs.CallMoves.{divert}
+use Rattle.acd_terms.specs.CallMoves.{divert, queueing, ringing, go_back}
 use Rattle.acd_terms.specs.Release.{release}
 use Rattle.acd_terms.specs.Services.Clearing.{waiting_group}
 use Rattle.acd_terms.specs.Services.Plan.{add_group, add_station, add_agent, new_group, new_agent, is_used}
@@ -21,7 +21,7 @@ use Rattle.acd_terms.specs.declared.event.Cause.TheVariants as cause
 use Rattle.acd_terms.specs.declared.event.Report.{Report}
 use Rattle.acd_terms.specs.declared.event.Report.TheVariants as report
 use Rattle.acd_terms.specs.declared.moves.Change.TheVariants.{PutGroup, PutStation, PutAgent, PutConnection, PutMonitor, RemoveConnection, RemoveMonitor}
-use Rattle.acd_laws.specs.Counts.{Rules}
+use Rattle.acd_laws.specs.Counts.{Rules, GroupColumn}
 use Rattle.acd_laws.proofs.Lists.{one, none_from}
 use Rattle.acd_laws.proofs.State.{found_key, connection_among, still_none}
 use Rattle.acd_laws.proofs.Serving.{by_refusal, by_found}
@@ -31,22 +31,19 @@ use Rattle.acd_laws.proofs.Told.{truthful_put, truthful_remove, truthful_monitor
 use Rattle.acd_laws.proofs.Balance.{held, holding_less, holding_new}
 use Rattle.acd_laws.proofs.Order.{stays, held_put}
 use Rattle.acd_laws.proofs.SoundMoves.{Sound, sound-append, sound_later, sound_unheard, unheard_wait, sound_go_from, sound_release}
-use Rattle.acd_laws.proofs.SoundPuts.{connections_put, removed_within, held_is, waiting_alerting, waiting_open, left_agent, left_plan, planned_station, planned_group}
+use Rattle.acd_laws.proofs.SoundPuts.{connections_put, removed_within, held_is, waiting_alerting, waiting_open, left_agent, left_plan, planned_station, planned_group, held_by_is}
 use Rattle.acd_terms.specs.declared.record.GroupRecord.{GroupRecord}
 use Rattle.acd_terms.specs.declared.record.StationRecord.{StationRecord}
 use Rattle.acd_terms.specs.declared.record.MonitorRecord.{MonitorRecord}
 use Rattle.acd_terms.specs.declared.moves.Ending.TheVariants.{NoAnswer}
 use Rattle.acd_terms.specs.declared.moves.Offer.{Offer}
-use Rattle.acd_terms.specs.CallMoves.{queueing, ringing, go_back}
 use Rattle.acd_terms.specs.Choice.{offer_of}
 use Rattle.acd_terms.specs.Distribution.{offer_at, offer_moves}
 use Rattle.acd_terms.specs.Tick.{return_to, rest_moves}
-use Rattle.acd_laws.specs.Counts.{GroupColumn}
 use Rattle.acd_laws.proofs.KeptOffer.{offer_station, offer_new}
 use Rattle.acd_laws.proofs.KeptReturn.{return_new}
 use Rattle.acd_laws.proofs.Distributing.{Offering, offering, offer_moves_are, offer_own}
 use Rattle.acd_laws.proofs.SoundCalls.{SoundBy, refused}
-use Rattle.acd_laws.proofs.SoundPuts.{held_by_is}
 
 below : (b k : ℕ) → b < k → b ≤ k
 below b k l = omega (arith, l)

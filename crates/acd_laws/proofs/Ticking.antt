@@ -1,5 +1,5 @@
 -- tick: what each return of a call and each end of after-call work keeps, all of them keep.
-use Rattle.std.proofs.Common.{◌≡◌, ℕ, inl, inr, true, false, cond, List, [], ◌∷◌, ◌++◌, Option, Some, None, refl, sym, ◌∙◌, ap, subst, arith, eq-eqb}
+use Rattle.std.proofs.Common.{◌≡◌, ℕ, inl, inr, true, false, cond, List, [], ◌∷◌, ◌++◌, Option, Some, None, refl, sym, ◌∙◌, ap, subst, arith, eq-eqb, append_assoc, append-nil}
 use Rattle.std.specs.Prelude.{◌==◌, is_some}
 use Rattle.std.specs.declared.cmp.Ordering.TheVariants.{Less}
 use Rattle.std.proofs.lemmas.Bool.{and_parts, and_from, eqb-true, false_from_ne_true, cond-false}
@@ -18,17 +18,16 @@ use Rattle.acd_terms.specs.Lists.{remove_by, Among, IsAscending}
 use Rattle.acd_terms.specs.States.{is_working_after_call, is_alerting}
 use Rattle.acd_terms.specs.Scans.{at_connection, agent_of, connection_of, agent_at, is_distributed}
 use Rattle.acd_terms.specs.Writes.{with_agent, with_connection, without_connection}
-use Rattle.acd_terms.specs.Moves.{no_move, changed, moved}
+use Rattle.acd_terms.specs.Moves.{no_move, changed, moved, events_of}
 use Rattle.acd_terms.specs.CallMoves.{queueing}
 use Rattle.acd_terms.specs.AgentMoves.{in_state, go_from}
 use Rattle.acd_terms.specs.Release.{release_of, released, release_agent, release}
 use Rattle.acd_terms.specs.Rules.Plan.{agent_order, connection_order}
-use Rattle.acd_laws.specs.Counts.{Rules, is_open, open_of}
+use Rattle.acd_laws.specs.Counts.{Rules}
+use Rattle.acd_terms.specs.Rules.Calls.{is_open, open_of}
 use Rattle.acd_laws.proofs.Lists.{filter_among, after_among, ascending-filter, among-put_other, among-remove_other, two_counted, some_from}
 use Rattle.acd_laws.proofs.State.{eqb_self, cmp_self, is_of, is_of_true, order_equal, order_same, connection_key, agent_put, agent_found}
-use Rattle.std.proofs.Common.{append_assoc, append-nil}
 use Rattle.acd_terms.specs.declared.event.Event.{Event}
-use Rattle.acd_terms.specs.Moves.{events_of}
 use Rattle.acd_terms.specs.Tick.{is_overdue_offer, is_overdue, overdue_in, return_to, return_moves, is_rested, rested_in, rest_moves, each, returns, rests, tick, is_over_in}
 use Rattle.acd_laws.proofs.MoveEvents.{events-append}
 use Rattle.acd_laws.proofs.Serving.{moved-append}

@@ -1,8 +1,10 @@
 -- The rules of rows as the laws use them: facts of each record, and counts over the plain lists.
 use Rattle.std.specs.Prelude.{◌≡◌, ◌≢◌, ◌⊎◌, ℕ, ◌+◌, ◌≤◌, Bool, true, false, ◌&&◌, ◌==◌, Option, Some, None, is_some, if◌then◌else◌}
 use Rattle.acd_terms.specs.Lists.{Every, IsAscending, count}
-use Rattle.acd_terms.specs.Scans.{call_of, is_group, is_station, is_planned, is_distributed, has}
-use Rattle.acd_terms.specs.States.{is_initiated, is_alerting, is_hold, is_live, is_answered, is_ready, is_busy}
+use Rattle.acd_terms.specs.Scans.{call_of, is_group, is_station, is_planned, has}
+use Rattle.acd_terms.specs.States.{is_alerting, is_answered, is_ready, is_busy}
+use Rattle.acd_terms.specs.OneOffer.{is_distributed_at}
+use Rattle.acd_terms.specs.Rules.Calls.{parties_of, initiated_of, open_of, live_at, alerting_at, hold_at}
 use Rattle.acd_terms.specs.Rules.Plan.{group_order, station_order, agent_order, call_order, connection_order, monitor_order}
 use Rattle.acd_terms.specs.declared.rows.Rows.{Rows}
 use Rattle.acd_terms.specs.declared.record.AgentRecord.{AgentRecord}
@@ -93,34 +95,7 @@ StandsAt s x _ = is_station s x.device ≡ true
 abbrev pub ConnectionRule : Rows → ConnectionRecord → Type 0
 ConnectionRule s x = HasColumns x x.state × GroupColumn s x.group × StandsAt s x x.state
 
-abbrev pub is_open : ConnectionState → Bool
-is_open Alerting = true
-is_open Queued = true
-is_open Fail = true
-is_open _ = false
-
--- what is counted
-abbrev pub of_call : ℕ → ConnectionRecord → Bool
-of_call call x = x.call == call
-
-abbrev pub initiated_of : ℕ → ConnectionRecord → Bool
-initiated_of call x = is_initiated x.state && x.call == call
-
-abbrev pub open_of : ℕ → ConnectionRecord → Bool
-open_of call x = is_open x.state && x.call == call
-
-abbrev pub live_at : ℕ → ConnectionRecord → Bool
-live_at device x = is_live x.state && x.device == device
-
-abbrev pub alerting_at : ℕ → ConnectionRecord → Bool
-alerting_at device x = is_alerting x.state && x.device == device
-
-abbrev pub held_at : ℕ → ConnectionRecord → Bool
-held_at device x = is_hold x.state && x.device == device
-
-abbrev pub distributed_at : ℕ → ConnectionRecord → Bool
-distributed_at device x = is_distributed x && x.device == device
-
+-- what is counted beside what the rules count
 abbrev pub ringing_at : ℕ → ConnectionRecord → Bool
 ringing_at device x = is_alerting x.state && is_some x.group && x.device == device
 
@@ -150,19 +125,19 @@ pub record RulesBut (loose : ℕ → Bool) (s : Rows) : Type 0 where
   pub calls : Every (CallRule s) s.calls
   pub connections : Every (ConnectionRule s) s.connections
   -- a live call has one connection, initiated, or two, none initiated; at most one is open
-  pub parties : (c : ℕ) → count (of_call c) s.connections + count (initiated_of c) s.connections ≡ two_if (is_some (call_of s c))
+  pub parties : (c : ℕ) → count (parties_of c) s.connections + count (initiated_of c) s.connections ≡ two_if (is_some (call_of s c))
   pub one_open : (c : ℕ) → count (open_of c) s.connections ≤ 1
   -- at a station at most one is live, and none on hold beside an alerting one
   pub one_live : (d : ℕ) → is_station s d ≡ true → count (live_at d) s.connections ≤ 1
-  pub no_hold : (d : ℕ) → is_station s d ≡ true → 1 ≤ count (alerting_at d) s.connections → count (held_at d) s.connections ≡ 0
+  pub no_hold : (d : ℕ) → is_station s d ≡ true → 1 ≤ count (alerting_at d) s.connections → count (hold_at d) s.connections ≡ 0
   -- at a station at most one is distributed; its agent is ready where it alerts, busy where it is answered, and no other is busy
-  pub one_offer : (d : ℕ) → count (distributed_at d) s.connections ≤ 1
+  pub one_offer : (d : ℕ) → count (is_distributed_at d) s.connections ≤ 1
   pub one_agent : (d : ℕ) → count (seated_at d) s.agents ≤ 1
   pub ready : (d : ℕ) → loose d ≡ false → count (ringing_at d) s.connections ≤ count (ready_at d) s.agents
   pub busy : (d : ℕ) → loose d ≡ false → count (talking_at d) s.connections ≡ count (busy_at d) s.agents
   -- an agent waits for a state only while it is occupied
-  pub pending : (d : ℕ) → loose d ≡ false → count (pending_at d) s.agents ≤ count (distributed_at d) s.connections
-  pub free : (d : ℕ) → loose d ≡ true → count (distributed_at d) s.connections ≡ 0
+  pub pending : (d : ℕ) → loose d ≡ false → count (pending_at d) s.agents ≤ count (is_distributed_at d) s.connections
+  pub free : (d : ℕ) → loose d ≡ true → count (is_distributed_at d) s.connections ≡ 0
 
 abbrev pub Rules : Rows → Type 0
 Rules s = RulesBut (λ _. false) s

@@ -7,7 +7,7 @@ use Rattle.acd_terms.specs.declared.answer.Outcome.TheVariants.{Done, Refused}
 use Rattle.acd_terms.specs.Step.{step}
 use Rattle.acd_terms.specs.Rules.First.{BreaksNoRule}
 use Rattle.acd_laws.specs.RefusalLaws.{ChangesNothing}
-use Rattle.acd_laws.proofs.BoundsRead.{keeps_read}
+use Rattle.acd_laws.proofs.DecidedAll.{keeps_read}
 use Rattle.acd_laws.proofs.Refused.{refused, no_offer}
 use Rattle.acd_switch.specs.Kept.{IsRefused}
 

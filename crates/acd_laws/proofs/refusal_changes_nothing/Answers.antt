@@ -1,4 +1,4 @@
-use Rattle.acd_laws.proofs.BoundsRead.{keeps_read}
+use Rattle.acd_laws.proofs.DecidedAll.{keeps_read}
 use Rattle.acd_laws.proofs.Refused.{refused, no_offer}
 use Rattle.acd_laws.proofs.refusal_changes_nothing.Goals as goal
 
