@@ -10,7 +10,7 @@ use Rattle.acd_terms.specs.Lists.{count}
 use Rattle.acd_terms.specs.States.{is_initiated, is_alerting, is_hold, is_answered, is_live}
 use Rattle.acd_terms.specs.Scans.{call_of, is_group, is_station, is_planned, is_distributed, is_taken, is_idle}
 use Rattle.acd_terms.specs.CallMoves.{plain, met_at, destination_of, arriving}
-use Rattle.acd_laws.specs.Counts.{Bare, GroupColumn, IsCaller, StandsAt, ConnectionRule}
+use Rattle.acd_laws.proofs.Facts.{Bare, GroupColumn, IsCaller, StandsAt, ConnectionRule}
 use Rattle.acd_terms.specs.Rules.Calls.{live_at, alerting_at, hold_at}
 use Rattle.acd_laws.proofs.Lists.{none_counted, fewer}
 

@@ -1,7 +1,7 @@
 -- Each service keeps its records, sizes and identifiers within bounds.
 use Rattle.std.proofs.Common.{◌≡◌, ℕ, ◌+◌, ◌≤◌, ◌⊎◌, inl, inr, true, false, List, [], ◌∷◌, refl, sym, ◌∙◌, ap, subst, arith, length}
 use Rattle.std.specs.Prelude.{◌==◌, nat_le}
-use Rattle.std.proofs.lemmas.Bool.{or_cases, or_parts, not-false, or_right, or_left}
+use Rattle.std.proofs.lemmas.Bool.{or_cases, or_parts, not-false, or_right, or_left, leb-false}
 use Rattle.acd_terms.specs.declared.rows.Rows.{Rows}
 use Rattle.acd_terms.specs.declared.record.GroupRecord.{GroupRecord}
 use Rattle.acd_terms.specs.declared.record.StationRecord.{StationRecord}
@@ -23,11 +23,10 @@ use Rattle.acd_terms.specs.Served.{moves_of}
 use Rattle.acd_terms.specs.Rules.Plan.{agent_order}
 use Rattle.acd_laws.proofs.Lists.{every_among, every_from, every-put}
 use Rattle.acd_laws.proofs.State.{group_put, station_put}
-use Rattle.std.proofs.lemmas.Bool.{leb-false}
 use Rattle.acd_terms.specs.Services.Plan.{add_group, add_station, add_agent, new_group, new_agent}
 use Rattle.acd_terms.specs.Services.NewCalls.{arrive_call, make_call, next_call}
 use Rattle.acd_terms.specs.Services.Monitors.{monitor_start, monitor_stop, next_monitor}
-use Rattle.acd_laws.specs.Bounds.{Sizes, AgentTimed, at_place, MonitorRule, Monitored}
+use Rattle.acd_laws.proofs.Facts.{Sizes, AgentTimed, at_place, MonitorRule, Monitored}
 use Rattle.acd_laws.proofs.Serving.{by_refusal, by_found}
 use Rattle.acd_laws.proofs.Members.{among_put}
 use Rattle.acd_laws.proofs.Steady.{IsNew, Steadied, Settled, settled, settled_nothing, steadied, sizes_steadied, monitored_steadied, length-put}

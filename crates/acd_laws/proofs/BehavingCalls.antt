@@ -23,7 +23,7 @@ use Rattle.acd_terms.specs.AgentMoves.{in_state, go_from, log_on_at, wait_for}
 use Rattle.acd_terms.specs.Release.{ending_of, release}
 use Rattle.acd_terms.specs.Served.{moves_of}
 use Rattle.acd_terms.specs.Rules.Plan.{agent_order, connection_order}
-use Rattle.acd_laws.specs.Counts.{Orders}
+use Rattle.acd_laws.specs.Orders.{Orders}
 use Rattle.acd_laws.proofs.Lists.{every_among}
 use Rattle.acd_laws.proofs.State.{own_key, connection_among, agent_among, agent_own}
 use Rattle.acd_terms.specs.Services.NewCalls.{phone_off_hook}
@@ -34,7 +34,7 @@ use Rattle.acd_terms.specs.Services.Agents.{log_on, go_or_wait, change_state, se
 use Rattle.acd_terms.specs.declared.command.Requested.{Requested}
 use Rattle.acd_terms.specs.declared.command.Requested.TheVariants as requested
 use Rattle.acd_terms.specs.declared.answer.Answer.TheVariants as answer
-use Rattle.acd_laws.specs.Bounds.{AgentTimed, ConnectionTimed, at_place, Timed}
+use Rattle.acd_laws.proofs.Facts.{AgentTimed, ConnectionTimed, at_place, Timed}
 use Rattle.acd_laws.proofs.Balance.{entry_by}
 use Rattle.acd_laws.proofs.Serving.{by_refusal, by_found}
 use Rattle.acd_laws.proofs.Found.{count_old}

@@ -7,7 +7,7 @@ use Rattle.acd_terms.specs.declared.moves.Move.{Move}
 use Rattle.acd_terms.specs.Lists.{count, Among}
 use Rattle.acd_terms.specs.Moves.{moved, events_of}
 use Rattle.acd_terms.specs.Served.{moves_of}
-use Rattle.acd_laws.specs.Counts.{Rules}
+use Rattle.acd_laws.proofs.Facts.{Rules, Sizes, at_place, Timed, Monitored}
 use Rattle.acd_laws.proofs.Lists.{one, count-append}
 use Rattle.acd_terms.specs.declared.event.Event.{Event}
 use Rattle.acd_terms.specs.declared.command.Command.{Command}
@@ -17,7 +17,6 @@ use Rattle.acd_terms.specs.Services.Serve.{serve}
 use Rattle.acd_terms.specs.Distribution.{distribution}
 use Rattle.acd_terms.specs.Tick.{tick}
 use Rattle.acd_terms.specs.Step.{step_moves}
-use Rattle.acd_laws.specs.Bounds.{Sizes, at_place, Timed, Monitored}
 use Rattle.acd_laws.proofs.Serving.{moved-append}
 use Rattle.acd_laws.proofs.MoveEvents.{events-append}
 use Rattle.acd_laws.proofs.RulesKept.{rules_serve}

@@ -35,7 +35,7 @@ use Rattle.acd_terms.specs.declared.moves.Offer.{Offer}
 use Rattle.acd_terms.specs.declared.moves.Served.{Served}
 use Rattle.acd_terms.specs.declared.moves.Ending.TheVariants.{NoAnswer}
 use Rattle.acd_terms.specs.declared.moves.Change.TheVariants.{PutGroup, PutStation, PutAgent, PutConnection, PutMonitor, RemoveCall, RemoveConnection, RemoveMonitor}
-use Rattle.acd_laws.specs.Counts.{Rules}
+use Rattle.acd_laws.proofs.Facts.{Rules}
 use Rattle.acd_laws.proofs.State.{found_key, connection_among}
 use Rattle.acd_laws.proofs.Serving.{by_refusal, by_found}
 use Rattle.acd_laws.proofs.Found.{call_known, other_device}

@@ -1,11 +1,11 @@
 -- Each rule of rows as the facts that its test decides, both ways: the rules that are tested alone.
 use Rattle.std.proofs.Common.{◌≡◌, ℕ, zero, suc, ◌*◌, ◌≤◌, ◌⊎◌, inl, inr, Bool, true, false, not, ◌&&◌, ◌||◌, List, [], ◌∷◌, Option, Some, None, refl, sym, ◌∙◌, ap, subst, arith, length}
-use Rattle.std.specs.Prelude.{◌==◌, if◌then◌else◌, is_none, is_some, find, nat_le}
+use Rattle.std.specs.Prelude.{◌==◌, if◌then◌else◌, is_none, find, nat_le}
 use Rattle.std.specs.Bool.{Decides}
 use Rattle.std.specs.List.{list_all, list_any}
 use Rattle.std.specs.Cmp.{IsTotalOrder}
 use Rattle.std.specs.declared.cmp.Ordering.{Ordering}
-use Rattle.std.specs.declared.cmp.Ordering.TheVariants.{Less, Equal, Greater}
+use Rattle.std.specs.declared.cmp.Ordering.TheVariants.{Less}
 use Rattle.std.proofs.lemmas.Bool.{le-leb, leb-true, not-true, eqb-true}
 use Rattle.std.proofs.lemmas.Bool.Decides.{Decides-like, Decides-and, Decides-or, Decides-not, Decides-eqb as equals}
 use Rattle.acd_terms.specs.Lists.{count, Among, Every, IsAscending}
@@ -26,8 +26,8 @@ use Rattle.acd_terms.specs.declared.record.ConnectionRecord.{ConnectionRecord}
 use Rattle.acd_terms.specs.declared.record.MonitorRecord.{MonitorRecord}
 use Rattle.acd_terms.specs.declared.state.AgentState.{AgentState}
 use Rattle.acd_terms.specs.declared.state.AgentState.TheVariants as A
-use Rattle.acd_laws.specs.Counts.{Orders, IsPlannedStation, IsPlannedGroup, SeatedAs, AgentRule, CallRule, seated_at}
-use Rattle.acd_laws.specs.Bounds.{Sizes, AgentTimed, CallTimed, IsPlace, IsMoment, IsAfter, ConnectionTimed, at_place, Timed, OnePlace, Monitored, IsCountedUpTo, IsBalanced}
+use Rattle.acd_laws.specs.Orders.{Orders}
+use Rattle.acd_laws.proofs.Facts.{IsPlannedStation, IsPlannedGroup, SeatedAs, AgentRule, CallRule, seated_at, Sizes, AgentTimed, IsPlace, IsMoment, IsAfter, ConnectionTimed, at_place, Timed, OnePlace, Monitored, IsCountedUpTo, IsBalanced}
 use Rattle.acd_laws.proofs.Lists.{find_passes, find_among, any_found, any_some, every_among, every_from, some_counted, all_true, all_from, some_from, some_is, after_lower}
 use Rattle.acd_laws.proofs.State.{eqb_self, groups_total, stations_total, agents_total, calls_total, connections_total, monitors_total, is_group_any, is_station_any}
 use Rattle.acd_laws.proofs.Found.{has_is}

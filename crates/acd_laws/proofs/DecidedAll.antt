@@ -1,5 +1,5 @@
 -- All thirteen rules of rows: the tests in their order, and the facts that they decide.
-use Rattle.std.proofs.Common.{◌≡◌, ◌≤◌, Bool, true, false, Option, Some, None, refl}
+use Rattle.std.proofs.Common.{◌≡◌, ◌≤◌, Bool, true, false, Option, None, refl}
 use Rattle.acd_terms.specs.Rules.Plan.{keeps_limits, keeps_order, keeps_device, keeps_agent, keeps_monitor}
 use Rattle.acd_terms.specs.Rules.Calls.{keeps_call, keeps_connection, keeps_parties, keeps_live}
 use Rattle.acd_terms.specs.Rules.Occupied.{keeps_occupied, keeps_offer, keeps_balance}
@@ -7,22 +7,16 @@ use Rattle.acd_terms.specs.Rules.Counters.{keeps_counters}
 use Rattle.acd_terms.specs.Rules.First.{or_broken, first_broken, BreaksNoRule}
 use Rattle.acd_terms.specs.declared.rows.Rows.{Rows}
 use Rattle.acd_terms.specs.declared.rows.Rule.{Rule}
-use Rattle.acd_laws.specs.Bounds.{KeepsRules}
+use Rattle.acd_laws.specs.OfferLaws.{KeepsWithin}
+use Rattle.acd_laws.proofs.Facts.{Rules, KeepsRules}
 use Rattle.acd_laws.proofs.Decided.{limits_decided, orders_decided, kinds_decided, agents_decided, calls_decided, counters_decided, offers_decided, monitors_decided, balance_decided}
 use Rattle.acd_laws.proofs.DecidedCalls.{rules_read, connections_written, parties_written, live_written, occupied_written}
 
 -- the thirteen tests
 
 pub record Tests (s : Rows) : Type 0 where
+  pub within : KeepsWithin s
   pub limits : keeps_limits s ≡ true
-  pub order : keeps_order s ≡ true
-  pub device : keeps_device s ≡ true
-  pub agent : keeps_agent s ≡ true
-  pub call : keeps_call s ≡ true
-  pub connection : keeps_connection s ≡ true
-  pub parties : keeps_parties s ≡ true
-  pub live : keeps_live s ≡ true
-  pub occupied : keeps_occupied s ≡ true
   pub counters : keeps_counters s ≡ true
   pub offer : keeps_offer s ≡ true
   pub monitor : keeps_monitor s ≡ true
@@ -48,11 +42,37 @@ tests s e =
     let l = kept_first (keeps_offer s) _ _ k.1 in
     let m = kept_first (keeps_monitor s) _ _ l.1 in
     let n = kept_first (keeps_balance s) _ _ m.1 in
-    record { limits = a.0; order = b.0; device = c.0; agent = d.0; call = f.0; connection = g.0; parties = h.0; live = i.0; occupied = j.0; counters = k.0; offer = l.0; monitor = m.0; balance = n.0 }
+    record {
+      within = record { order = b.0; device = c.0; agent = d.0; call = f.0; connection = g.0; parties = h.0; live = i.0; occupied = j.0 };
+      limits = a.0;
+      counters = k.0;
+      offer = l.0;
+      monitor = m.0;
+      balance = n.0;
+    }
 
 pub broken_none : (s : Rows) → Tests s → BreaksNoRule s
 unfolding first_broken
-broken_none s t = rw (t.limits, t.order, t.device, t.agent, t.call, t.connection, t.parties, t.live, t.occupied, t.counters, t.offer, t.monitor, t.balance) refl
+broken_none s t =
+    let w = t.within in
+    rw (t.limits, w.order, w.device, w.agent, w.call, w.connection, w.parties, w.live, w.occupied, t.counters, t.offer, t.monitor, t.balance) refl
+
+-- the rules that hold within a step too, and all
+
+pub within_read : (s : Rows) → KeepsWithin s → Rules s
+within_read s w = rules_read s ((orders_decided s).0 w.order) ((kinds_decided s).0 w.device) ((agents_decided s).0 w.agent) ((calls_decided s).0 w.call) w.connection w.parties w.live w.occupied
+
+pub within_written : (s : Rows) → Rules s → KeepsWithin s
+within_written s r = record {
+  order = (orders_decided s).1 r.orders;
+  device = (kinds_decided s).1 r.kinds;
+  agent = (agents_decided s).1 (record { rule = r.agents; one = r.one_agent });
+  call = (calls_decided s).1 r.calls;
+  connection = connections_written s r;
+  parties = parties_written s r;
+  live = live_written s r;
+  occupied = occupied_written s r;
+}
 
 pub keeps_read : (s : Rows) → BreaksNoRule s → KeepsRules s
 keeps_read s e =
@@ -61,7 +81,7 @@ keeps_read s e =
     let b = (balance_decided s).0 t.balance in
     let c = (counters_decided s b).0 t.counters in
     record {
-      rules = rules_read s ((orders_decided s).0 t.order) ((kinds_decided s).0 t.device) ((agents_decided s).0 t.agent) ((calls_decided s).0 t.call) t.connection t.parties t.live t.occupied;
+      rules = within_read s t.within;
       sizes = l.sizes;
       last_call = l.last_call;
       last_monitor = l.last_monitor;
@@ -74,20 +94,16 @@ keeps_read s e =
       balance = b;
     }
 
+pub rules_are_kept : (s : Rows) → BreaksNoRule s → Rules s
+rules_are_kept s e = within_read s (tests s e).within
+
 pub requests_read : (s : Rows) → BreaksNoRule s → s.last_stamp ≤ s.limits.requests
 requests_read s e = ((limits_decided s).0 (tests s e).limits).last_stamp
 
 pub keeps_written : (s : Rows) → KeepsRules s → s.last_stamp ≤ s.limits.requests → BreaksNoRule s
 keeps_written s h l = broken_none s (record {
+  within = within_written s h.rules;
   limits = (limits_decided s).1 (record { sizes = h.sizes; last_stamp = l; last_call = h.last_call; last_monitor = h.last_monitor });
-  order = (orders_decided s).1 h.rules.orders;
-  device = (kinds_decided s).1 h.rules.kinds;
-  agent = (agents_decided s).1 (record { rule = h.rules.agents; one = h.rules.one_agent });
-  call = (calls_decided s).1 h.rules.calls;
-  connection = connections_written s h.rules;
-  parties = parties_written s h.rules;
-  live = live_written s h.rules;
-  occupied = occupied_written s h.rules;
   counters = (counters_decided s h.balance).1 (record { timed = h.timed; places = h.places; figures = h.figures; last_event = h.last_event });
   offer = (offers_decided s).1 h.offers;
   monitor = (monitors_decided s).1 h.monitors;

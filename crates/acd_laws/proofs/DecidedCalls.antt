@@ -1,17 +1,16 @@
 -- The rules of connections, of their calls, stations and agents: what each test tells, and how together they are facts, both ways.
 use Rattle.std.proofs.Common.{◌≡◌, ℕ, ◌+◌, ◌≤◌, ◌⊎◌, inl, inr, Bool, true, false, not, ◌&&◌, ◌||◌, Option, Some, None, refl, sym, ◌∙◌, ap, subst, arith, eq-eqb}
-use Rattle.std.specs.Prelude.{◌==◌, if◌then◌else◌, is_some, is_none, find, nat_le}
+use Rattle.std.specs.Prelude.{◌==◌, if◌then◌else◌, is_some, is_none}
 use Rattle.std.specs.Bool.{Decides}
-use Rattle.std.specs.List.{list_all}
-use Rattle.std.proofs.lemmas.Bool.{and_parts, and_from, eqb-true, false_from_ne_true, not-false, not-true, or_left, or_right}
+use Rattle.std.proofs.lemmas.Bool.{and_parts, and_from, eqb-true, false_from_ne_true, or_left, or_right}
 use Rattle.std.proofs.lemmas.Bool.Decides.{Decides-eqb as equals}
 use Rattle.acd_terms.specs.Lists.{count, Among, Every}
-use Rattle.acd_terms.specs.States.{is_null, is_ready, is_busy, is_initiated, is_alerting, is_queued, is_answered}
+use Rattle.acd_terms.specs.States.{is_ready, is_busy, is_initiated, is_alerting, is_queued, is_answered}
 use Rattle.acd_terms.specs.Scans.{call_of, is_group, is_station, is_planned, has, agent_at, is_distributed, is_occupied}
-use Rattle.acd_terms.specs.OneOffer.{is_distributed_at, IsAttended, IsTalking, HasOneOffer}
+use Rattle.acd_terms.specs.OneOffer.{is_distributed_at, IsTalking}
 use Rattle.acd_terms.specs.Watched.{is_caller}
 use Rattle.acd_terms.specs.Rules.Calls.{keeps_connection, keeps_parties, keeps_live, is_bare, is_placed, has_columns, is_group_or_none, may_stand, is_open, initiated_at, parties_of, initiated_of, open_of, live_at, alerting_at, hold_at}
-use Rattle.acd_terms.specs.Rules.Occupied.{keeps_occupied, attends, is_attended, is_talking, is_busy_only_talking}
+use Rattle.acd_terms.specs.Rules.Occupied.{keeps_occupied, attends, is_talking}
 use Rattle.acd_terms.specs.declared.rows.Rows.{Rows}
 use Rattle.acd_terms.specs.declared.record.StationRecord.{StationRecord}
 use Rattle.acd_terms.specs.declared.record.AgentRecord.{AgentRecord}
@@ -22,7 +21,8 @@ use Rattle.acd_terms.specs.declared.state.AgentState.{AgentState}
 use Rattle.acd_terms.specs.declared.state.AgentState.TheVariants as A
 use Rattle.acd_terms.specs.declared.state.ConnectionState.{ConnectionState}
 use Rattle.acd_terms.specs.declared.state.ConnectionState.TheVariants as S
-use Rattle.acd_laws.specs.Counts.{Rules, Orders, IsPlannedStation, SeatedAs, AgentRule, CallRule, Bare, AlertingColumns, HasColumns, GroupColumn, IsCaller, StandsAt, ConnectionRule, ringing_at, talking_at, seated_at, ready_at, busy_at, pending_at, two_if}
+use Rattle.acd_laws.proofs.Facts.{Rules, IsPlannedStation, SeatedAs, AgentRule, CallRule, Bare, AlertingColumns, HasColumns, GroupColumn, IsCaller, StandsAt, ConnectionRule, ringing_at, talking_at, seated_at, ready_at, busy_at, pending_at, two_if}
+use Rattle.acd_laws.specs.Orders.{Orders}
 use Rattle.acd_laws.proofs.Lists.{every_among, every_from, counted, fewer, two_counted, count_zero, some_from, some_is, any_some}
 use Rattle.acd_laws.proofs.State.{eqb_self, call_among, call_key, call_found, is_station_any}
 use Rattle.acd_laws.proofs.Found.{agent_seat, none_of_call}

@@ -13,7 +13,7 @@ use Rattle.acd_terms.specs.Scans.{agent_of, connection_of, has, is_idle, is_occu
 use Rattle.acd_terms.specs.Writes.{with_connection, without_connection}
 use Rattle.acd_terms.specs.Moves.{moved, events_of}
 use Rattle.acd_terms.specs.CallMoves.{ringing}
-use Rattle.acd_laws.specs.Counts.{Rules}
+use Rattle.acd_laws.proofs.Facts.{Rules}
 use Rattle.acd_laws.proofs.Lists.{one, filter_among, counted, count_length, none_from}
 use Rattle.acd_laws.proofs.State.{connection_found, agent_found, still_none}
 use Rattle.acd_terms.specs.declared.moves.Offer.{Offer}

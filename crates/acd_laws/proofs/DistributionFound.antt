@@ -1,6 +1,6 @@
 -- The moves of a distribution are the offers that are to be made, one after another.
-use Rattle.std.proofs.Common.{◌≡◌, ℕ, zero, suc, ◌+◌, ◌≤◌, inl, inr, List, [], ◌∷◌, ◌++◌, Option, Some, None, refl, sym, ◌∙◌, ap, subst, arith, length}
-use Rattle.std.specs.Prelude.{filter}
+use Rattle.std.proofs.Common.{◌≡◌, ℕ, zero, suc, ◌+◌, ◌≤◌, inl, inr, List, [], ◌++◌, Some, None, refl, sym, ◌∙◌, ap, subst, arith, length}
+use Rattle.std.specs.Prelude.{◌↔◌}
 use Rattle.acd_terms.specs.Lists.{count, Among}
 use Rattle.acd_terms.specs.Scans.{waiting_in, eligible_in, queued_in_all}
 use Rattle.acd_terms.specs.Choice.{waiting_pair, ready_pair, offer_of}
@@ -8,12 +8,10 @@ use Rattle.acd_terms.specs.Moves.{moved}
 use Rattle.acd_terms.specs.Offers.{IsOffer, HasNoOffer}
 use Rattle.acd_terms.specs.Distribution.{offer_moves, with_offer, offers, distribution}
 use Rattle.acd_terms.specs.declared.rows.Rows.{Rows}
-use Rattle.acd_terms.specs.declared.record.ConnectionRecord.{ConnectionRecord}
-use Rattle.acd_terms.specs.declared.record.AgentRecord.{AgentRecord}
 use Rattle.acd_terms.specs.declared.moves.Move.{Move}
 use Rattle.acd_terms.specs.declared.moves.Offer.{Offer}
-use Rattle.acd_laws.specs.Counts.{Rules}
-use Rattle.acd_laws.specs.OfferLaws.{LeavesNoOffer, IsDistribution, FindsTheDistribution}
+use Rattle.acd_laws.proofs.Facts.{Rules}
+use Rattle.acd_laws.specs.OfferLaws.{LeavesNoOffer, IsDistribution}
 use Rattle.acd_laws.specs.OfferLaws.IsDistribution.{ends, goes_on}
 use Rattle.acd_laws.proofs.Lists.{count_length, none_from, counted}
 use Rattle.acd_laws.proofs.Members.{mapped_among}
@@ -62,7 +60,7 @@ queued_count : (s : Rows) → count in_queue s.connections ≡ length (queued_in
 unfolding queued_in_all
 queued_count s = count_length in_queue s.connections
 
-pub finds_the_distribution : FindsTheDistribution
+pub finds_the_distribution : (s : Rows) (m : ℕ) (moves : List Move) → Rules s → (moves ≡ distribution s m) ↔ IsDistribution m s moves
 unfolding distribution
 finds_the_distribution s m ms r =
     let n = queued_count s in

@@ -11,7 +11,7 @@ use Rattle.acd_terms.specs.declared.record.ConnectionRecord.{ConnectionRecord}
 use Rattle.acd_terms.specs.declared.state.ConnectionState.{ConnectionState}
 use Rattle.acd_terms.specs.declared.state.ConnectionState.TheVariants as S
 use Rattle.acd_terms.specs.declared.event.Event.{Event}
-use Rattle.acd_laws.specs.Counts.{Rules, AlertingColumns, HasColumns, ConnectionRule}
+use Rattle.acd_laws.proofs.Facts.{Rules, AlertingColumns, HasColumns, ConnectionRule}
 use Rattle.acd_laws.proofs.Tells.{HasEntries}
 use Rattle.acd_laws.proofs.Lists.{every_among, some_from}
 

@@ -13,7 +13,7 @@ use Rattle.acd_terms.specs.declared.event.Event.{Event}
 use Rattle.acd_terms.specs.declared.command.Command.{Command}
 use Rattle.acd_terms.specs.declared.command.Command.TheVariants.{AddGroup, AddStation, AddAgent, ArriveCall, MakeCall, PhoneOffHook, AnswerCall, HoldCall, RetrieveCall, ClearConnection, DeflectCall, SingleStepTransfer, SetAgentState, MonitorStart, MonitorStop, Tick}
 use Rattle.acd_terms.specs.declared.moves.Move.{Move}
-use Rattle.acd_laws.specs.Counts.{Rules}
+use Rattle.acd_laws.proofs.Facts.{Rules}
 use Rattle.acd_laws.proofs.Tells.{shown, seat}
 use Rattle.acd_laws.proofs.CountedEvents.{figures_joined}
 use Rattle.acd_laws.proofs.Told.{after-append, shown_after, seat_after}

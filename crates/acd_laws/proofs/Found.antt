@@ -10,7 +10,7 @@ use Rattle.acd_terms.specs.Lists.{put_by, remove_by, count, Among, IsAscending}
 use Rattle.acd_terms.specs.Scans.{at_connection, agent_of, call_of, connection_of, has, agent_at, other_of}
 use Rattle.acd_terms.specs.Writes.{without_connection}
 use Rattle.acd_terms.specs.Rules.Plan.{agent_order, connection_order}
-use Rattle.acd_laws.specs.Counts.{Rules, CallRule, ConnectionRule, seated_at, two_if}
+use Rattle.acd_laws.proofs.Facts.{Rules, CallRule, ConnectionRule, seated_at, two_if}
 use Rattle.acd_terms.specs.Rules.Calls.{parties_of}
 use Rattle.acd_laws.proofs.Lists.{one, find_passes, find_among, filter_among, count-put_new, count-put_old, count-removed, every_among, counted, none_from, some_is}
 use Rattle.acd_laws.proofs.State.{cmp_equal, cmp_self, is_of, is_of_true, is_of_self, order_equal, order_same, agents_total, connections_total, connection_find, agent_find, connections_without, found_key, connection_among, connection_found, agent_found, call_among, call_key}

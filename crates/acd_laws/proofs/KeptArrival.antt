@@ -15,7 +15,7 @@ use Rattle.acd_terms.specs.Moves.{changed, moved}
 use Rattle.acd_terms.specs.CallMoves.{plain, arrive}
 use Rattle.acd_terms.specs.Served.{moves_of}
 use Rattle.acd_terms.specs.Rules.Plan.{call_order, connection_order}
-use Rattle.acd_laws.specs.Counts.{Rules, CallRule, IsCaller, ConnectionRule, ringing_at, talking_at, two_if}
+use Rattle.acd_laws.proofs.Facts.{Rules, CallRule, IsCaller, ConnectionRule, ringing_at, talking_at, two_if}
 use Rattle.acd_terms.specs.Rules.Calls.{is_open, parties_of, initiated_of, open_of, live_at, alerting_at, hold_at}
 use Rattle.acd_terms.specs.OneOffer.{is_distributed_at}
 use Rattle.acd_laws.proofs.Lists.{one, ascending-put, every_among, every_from, every-put, fewer}

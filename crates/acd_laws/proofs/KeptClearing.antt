@@ -14,7 +14,7 @@ use Rattle.acd_terms.specs.CallMoves.{clear, end_call}
 use Rattle.acd_terms.specs.Release.{ending_of, release}
 use Rattle.acd_terms.specs.Served.{moves_of}
 use Rattle.acd_terms.specs.Rules.Plan.{call_order, connection_order}
-use Rattle.acd_laws.specs.Counts.{RulesBut, Rules, CallRule, ConnectionRule, ringing_at, talking_at, two_if}
+use Rattle.acd_laws.proofs.Facts.{RulesBut, Rules, CallRule, ConnectionRule, ringing_at, talking_at, two_if}
 use Rattle.acd_terms.specs.Rules.Calls.{parties_of, initiated_of, open_of, live_at, alerting_at, hold_at}
 use Rattle.acd_terms.specs.OneOffer.{is_distributed_at}
 use Rattle.acd_laws.proofs.Lists.{one, find_none, ascending-remove, every_among, every_from, every-remove, among-remove, counted, fewer, count_zero}

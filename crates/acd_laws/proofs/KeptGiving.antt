@@ -16,7 +16,7 @@ use Rattle.acd_terms.specs.CallMoves.{destination_of, arriving, arrive}
 use Rattle.acd_terms.specs.Release.{ending_of, release}
 use Rattle.acd_terms.specs.Served.{moves_of}
 use Rattle.acd_terms.specs.Rules.Plan.{connection_order}
-use Rattle.acd_laws.specs.Counts.{RulesBut, Rules, ConnectionRule, ringing_at, talking_at}
+use Rattle.acd_laws.proofs.Facts.{RulesBut, Rules, ConnectionRule, ringing_at, talking_at}
 use Rattle.acd_terms.specs.Rules.Calls.{is_open, parties_of, initiated_of, open_of, live_at, alerting_at, hold_at}
 use Rattle.acd_terms.specs.OneOffer.{is_distributed_at}
 use Rattle.acd_laws.proofs.Lists.{one, ascending-put, ascending-remove, every-put, every-remove, two_counted, both_fewer, none_from}

@@ -18,7 +18,7 @@ use Rattle.acd_terms.specs.CallMoves.{talking, hold, retrieve}
 use Rattle.acd_terms.specs.AgentMoves.{become_busy}
 use Rattle.acd_terms.specs.Served.{moves_of}
 use Rattle.acd_terms.specs.Rules.Plan.{agent_order, connection_order}
-use Rattle.acd_laws.specs.Counts.{Rules, AgentRule, Bare, HasColumns, StandsAt, ConnectionRule, ringing_at, talking_at, seated_at, ready_at, busy_at, pending_at}
+use Rattle.acd_laws.proofs.Facts.{Rules, AgentRule, Bare, HasColumns, StandsAt, ConnectionRule, ringing_at, talking_at, seated_at, ready_at, busy_at, pending_at}
 use Rattle.acd_terms.specs.Rules.Calls.{is_open, parties_of, initiated_of, open_of, live_at, alerting_at, hold_at}
 use Rattle.acd_terms.specs.OneOffer.{is_distributed_at}
 use Rattle.acd_laws.proofs.Lists.{one, ascending-put, every-put, counted, none_counted, fewer, both_fewer}

@@ -11,7 +11,7 @@ use Rattle.acd_terms.specs.Lists.{count, Among}
 use Rattle.acd_terms.specs.States.{is_queued}
 use Rattle.acd_terms.specs.Scans.{agent_of, call_of, connection_of, queued_in_all}
 use Rattle.acd_terms.specs.Moves.{moved, with_event, events_of}
-use Rattle.acd_laws.specs.Counts.{Rules}
+use Rattle.acd_laws.proofs.Facts.{Rules}
 use Rattle.acd_terms.specs.Rules.Calls.{parties_of}
 use Rattle.acd_laws.proofs.Lists.{one, filter_among, counted, fewer, count_length}
 use Rattle.acd_laws.proofs.State.{eqb_self, call_among, call_key}

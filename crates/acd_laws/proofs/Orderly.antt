@@ -24,13 +24,12 @@ use Rattle.acd_terms.specs.CallMoves.{plain, met_at, destination_of, arriving, a
 use Rattle.acd_terms.specs.AgentMoves.{in_state, go_to, go_from, wait_for, state_report}
 use Rattle.acd_terms.specs.Release.{release_of, released, release_agent, release}
 use Rattle.acd_terms.specs.Rules.Plan.{agent_order}
-use Rattle.acd_laws.specs.Counts.{seated_at}
+use Rattle.acd_laws.proofs.Facts.{seated_at, AgentTimed, CallTimed, IsPlace, IsMoment, ConnectionTimed, at_place, Timed}
 use Rattle.acd_laws.proofs.Lists.{one, find_among, count-put_most, count-remove_most, every_among, every-put, every-remove}
 use Rattle.acd_terms.specs.declared.event.Report.{Report}
 use Rattle.acd_terms.specs.declared.event.Report.TheVariants as report
 use Rattle.acd_terms.specs.Figures.{is_entry}
 use Rattle.acd_terms.specs.Services.Talking.{occupy, busy_agent}
-use Rattle.acd_laws.specs.Bounds.{AgentTimed, CallTimed, IsPlace, IsMoment, ConnectionTimed, at_place, Timed}
 use Rattle.acd_laws.proofs.Balance.{entries, entry_by}
 use Rattle.acd_laws.proofs.Ticking.{release_connections}
 use Rattle.acd_laws.proofs.Steady.{Steady, knows}

@@ -12,7 +12,7 @@ use Rattle.acd_terms.specs.declared.record.ConnectionRecord.{ConnectionRecord}
 use Rattle.acd_terms.specs.declared.state.ConnectionState.{ConnectionState}
 use Rattle.acd_terms.specs.declared.state.ConnectionState.TheVariants as S
 use Rattle.acd_terms.specs.declared.event.Event.{Event}
-use Rattle.acd_laws.specs.Counts.{Rules, ConnectionRule, IsCaller, StandsAt, two_if}
+use Rattle.acd_laws.proofs.Facts.{Rules, ConnectionRule, IsCaller, StandsAt, two_if}
 use Rattle.acd_terms.specs.Rules.Calls.{is_open, parties_of, initiated_of, open_of}
 use Rattle.acd_laws.specs.PlacedLaws.{KeepsClearings, PlacesExclude}
 use Rattle.acd_laws.proofs.Lists.{one, every_among, counted, fewer, both_fewer}

@@ -3,7 +3,7 @@ use Rattle.std.proofs.Common.{ℕ, ◌+◌, true, ◌&&◌, List, [], ◌++◌, 
 use Rattle.std.proofs.lemmas.Bool.{lt-leb}
 use Rattle.acd_terms.specs.Lists.{Every}
 use Rattle.acd_terms.specs.Scans.{call_of}
-use Rattle.acd_terms.specs.Placed.{cleared_by}
+use Rattle.acd_terms.specs.Placed.{cleared_by, IsPlaced}
 use Rattle.acd_terms.specs.Figures.{with_figures}
 use Rattle.acd_terms.specs.Writes.{empty_rows, with_last}
 use Rattle.acd_terms.specs.Moves.{moved, events_of}
@@ -18,14 +18,14 @@ use Rattle.acd_terms.specs.declared.event.Event.{Event}
 use Rattle.acd_terms.specs.declared.command.Command.{Command}
 use Rattle.acd_terms.specs.declared.command.Command.TheVariants.{AddGroup, AddStation, AddAgent, ArriveCall, MakeCall, PhoneOffHook, AnswerCall, HoldCall, RetrieveCall, ClearConnection, DeflectCall, SingleStepTransfer, SetAgentState, MonitorStart, MonitorStop, Tick}
 use Rattle.acd_terms.specs.declared.moves.Move.{Move}
-use Rattle.acd_laws.specs.Counts.{Rules}
-use Rattle.acd_laws.specs.PlacedLaws.{NamesNoLaterCall, KeepsClearings, StepNamesNoLaterCall, RunNamesNoLaterCall, StepKeepsClearings, StepPlaces, RunIsPlaced}
+use Rattle.acd_laws.proofs.Facts.{Rules}
+use Rattle.acd_laws.specs.PlacedLaws.{NamesNoLaterCall, KeepsClearings, RunNamesNoLaterCall, RunIsPlaced}
 use Rattle.acd_laws.proofs.Lists.{one}
 use Rattle.acd_laws.proofs.Ticking.{Kept, kept-append, tick_keeps}
 use Rattle.acd_laws.proofs.Distributing.{distribution_keeps}
 use Rattle.acd_laws.proofs.RulesKept.{rules_serve}
 use Rattle.acd_laws.proofs.RulesStep.{rules_step}
-use Rattle.acd_laws.proofs.Runs.{kept_by_run, rules_first}
+use Rattle.acd_laws.proofs.Runs.{kept_by_run, rules_first, KeptByRules}
 use Rattle.acd_laws.proofs.Known.{AllCounted, Named, SameCalls, same_clearings, counted_plain, clearings_moved, clearings_numbered, names_moved, names_numbered}
 use Rattle.acd_laws.proofs.ClearedBy.{plain_add_group, plain_add_station, plain_add_agent, plain_monitor_start, plain_monitor_stop, counted_arrive_call, counted_make_call, plain_phone_off_hook, plain_answer_call, plain_hold_call, plain_retrieve_call, plain_deflect_call, plain_single_step_transfer, counted_clear_connection, plain_set_agent_state, counted_offer, counted_return, counted_rest}
 use Rattle.acd_laws.proofs.Placed.{placed_from}
@@ -72,7 +72,7 @@ calls_ended : (t : Rows) (es : List Event) (k m n : ℕ) → SameCalls t (ended 
 unfolding with_last with_figures
 calls_ended t es k m n = (refl, refl)
 
-pub step_names_no_later_call : StepNamesNoLaterCall
+pub step_names_no_later_call : KeptByRules NamesNoLaterCall
 unfolding step
 step_names_no_later_call s events moment command r h =
     let m : ℕ = executed_moment s moment in
@@ -85,7 +85,7 @@ step_names_no_later_call s events moment command r h =
     names_numbered (ended t es k m (s.last_event + length es)).last_call events es s.last_event
     (subst (λ (l : ℕ). Every (Named l) (events ++ es)) (sym same.1) kept)
 
-pub step_keeps_clearings : StepKeepsClearings
+pub step_keeps_clearings : KeptByRules KeepsClearings
 unfolding step
 step_keeps_clearings s events moment command r h n p =
     let m : ℕ = executed_moment s moment in
@@ -97,7 +97,7 @@ step_keeps_clearings s events moment command r h n p =
     let kept : KeepsClearings t (events ++ es) = moves_keep KeepsClearings m k (clearings_moved m) s events command r h in
     clearings_numbered t events es s.last_event kept n p ∙ sym (same_clearings t (ended t es k m (s.last_event + length es)) same n)
 
-pub step_places : StepPlaces
+pub step_places : (s : Rows) (events : List Event) (moment : ℕ) (command : Command) → Rules s → KeepsClearings s events → IsPlaced (step s moment command).rows (events ++ (step s moment command).events)
 step_places s events moment command r h = placed_from _ _ (rules_step s moment command r) (step_keeps_clearings s events moment command r h)
 
 -- runs

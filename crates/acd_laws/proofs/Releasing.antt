@@ -24,7 +24,7 @@ use Rattle.acd_terms.specs.Moves.{no_move, changed}
 use Rattle.acd_terms.specs.AgentMoves.{in_state}
 use Rattle.acd_terms.specs.Release.{release_of, released, release_agent, ending_of, release}
 use Rattle.acd_terms.specs.Rules.Plan.{agent_order}
-use Rattle.acd_laws.specs.Counts.{RulesBut, Rules, IsPlannedStation, IsPlannedGroup, SeatedAs, AgentRule, HasColumns, ConnectionRule, ringing_at, talking_at, seated_at, ready_at, busy_at, pending_at}
+use Rattle.acd_laws.proofs.Facts.{RulesBut, Rules, IsPlannedStation, IsPlannedGroup, SeatedAs, AgentRule, HasColumns, ConnectionRule, ringing_at, talking_at, seated_at, ready_at, busy_at, pending_at}
 use Rattle.acd_terms.specs.OneOffer.{is_distributed_at}
 use Rattle.acd_laws.proofs.Lists.{one, ascending-put, every_among, every-put, among-put, counted, fewer, both_fewer, the_one, some_counted, some_from}
 use Rattle.acd_laws.proofs.State.{eqb_self, agents_total, agent_put, agent_among}

@@ -15,7 +15,7 @@ use Rattle.acd_terms.specs.Moves.{changed, moved, with_event, events_of}
 use Rattle.acd_terms.specs.CallMoves.{queueing, ringing}
 use Rattle.acd_terms.specs.AgentMoves.{go_from}
 use Rattle.acd_terms.specs.Rules.Plan.{agent_order}
-use Rattle.acd_laws.specs.Counts.{Rules}
+use Rattle.acd_laws.proofs.Facts.{Rules, IsMoment, IsAfter, ConnectionTimed, at_place, Timed}
 use Rattle.acd_laws.proofs.Lists.{one, every_among, count-append}
 use Rattle.acd_laws.proofs.State.{connection_among}
 use Rattle.acd_terms.specs.declared.event.Event.{Event}
@@ -23,7 +23,6 @@ use Rattle.acd_terms.specs.declared.event.Report.{Report}
 use Rattle.acd_terms.specs.Figures.{is_entry, is_no_answer}
 use Rattle.acd_terms.specs.Distribution.{offer_at, distribution}
 use Rattle.acd_terms.specs.Tick.{return_to, rest_moves, returns, tick}
-use Rattle.acd_laws.specs.Bounds.{IsMoment, IsAfter, ConnectionTimed, at_place, Timed}
 use Rattle.acd_laws.proofs.Balance.{entries, entry_by}
 use Rattle.acd_laws.proofs.Found.{count_less}
 use Rattle.acd_laws.proofs.Steady.{AllSteady, Steadied, steadied, steadied_then, unchanged}

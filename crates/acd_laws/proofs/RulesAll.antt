@@ -13,7 +13,7 @@ use Rattle.acd_terms.specs.States.{is_alerting, is_queued}
 use Rattle.acd_terms.specs.Scans.{group_of, station_of, is_group, is_station, is_planned, has}
 use Rattle.acd_terms.specs.Writes.{with_last, empty_rows}
 use Rattle.acd_terms.specs.Moves.{moved, events_of}
-use Rattle.acd_laws.specs.Counts.{Rules, GroupColumn, StandsAt, ConnectionRule}
+use Rattle.acd_laws.proofs.Facts.{Rules, GroupColumn, StandsAt, ConnectionRule, Sizes, IsPlace, ConnectionTimed, at_place, Timed, OnePlace, MonitorRule, Monitored, IsCountedUpTo, IsBalanced, KeepsRules}
 use Rattle.acd_laws.proofs.Lists.{one, every_among, every_from, count_zero}
 use Rattle.std.proofs.lemmas.Nat.{mul-le}
 use Rattle.std.proofs.Math.Nat.{add-mul}
@@ -32,8 +32,7 @@ use Rattle.acd_terms.specs.Rules.Occupied.{waits_in, rings_from}
 use Rattle.acd_terms.specs.Rules.First.{BreaksNoRule}
 use Rattle.acd_terms.specs.Step.{step_moves, step, executed_moment, next_stamp}
 use Rattle.acd_terms.specs.Run.{Asked, run}
-use Rattle.acd_laws.specs.Bounds.{Sizes, IsPlace, ConnectionTimed, at_place, Timed, OnePlace, MonitorRule, Monitored, IsCountedUpTo, IsBalanced, KeepsRules}
-use Rattle.acd_laws.specs.RuleLaws.{RulesAreFacts, RulesAreKept, StepKeepsRules, RunKeepsRules, RulesBound, RulesLeaveRoom}
+use Rattle.acd_laws.specs.RuleLaws.{StepKeepsRules, RunKeepsRules, RulesBound, RulesLeaveRoom}
 use Rattle.acd_laws.proofs.Balance.{holding}
 use Rattle.acd_laws.proofs.Following.{follows_step}
 use Rattle.acd_laws.proofs.WatchedRuns.{step_leaves_no_offer}
@@ -231,12 +230,6 @@ limits_step s moment c h =
     let k : ℕ = next_stamp s in
     let before : Before s k m = record { rules = h.rules; timed = timed_more s.last_stamp k s.last_moment m s (omega arith) (omega arith) h.timed; stamp = omega arith; sizes = h.sizes; monitors = h.monitors } in
     (after_moves s k m c before).limits
-
-pub rules_are_facts : RulesAreFacts
-rules_are_facts s = (λ e. (keeps_read s e, requests_read s e), λ h. keeps_written s h.0 h.1)
-
-pub rules_are_kept : RulesAreKept
-rules_are_kept s e = (keeps_read s e).rules
 
 pub step_keeps_rules : StepKeepsRules
 step_keeps_rules s moment c e l =

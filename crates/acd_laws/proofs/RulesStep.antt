@@ -13,7 +13,7 @@ use Rattle.acd_terms.specs.Scans.{at_group, group_of, station_of, call_of, is_gr
 use Rattle.acd_terms.specs.Writes.{with_last}
 use Rattle.acd_terms.specs.Moves.{moved}
 use Rattle.acd_terms.specs.Rules.Plan.{group_order}
-use Rattle.acd_laws.specs.Counts.{Rules, IsPlannedStation, IsPlannedGroup, SeatedAs, AgentRule, CallRule, IsCaller, ConnectionRule, two_if}
+use Rattle.acd_laws.proofs.Facts.{Rules, IsPlannedStation, IsPlannedGroup, SeatedAs, AgentRule, CallRule, IsCaller, ConnectionRule, two_if}
 use Rattle.acd_laws.proofs.Lists.{every_among, every_from}
 use Rattle.acd_terms.specs.declared.event.Event.{Event}
 use Rattle.acd_terms.specs.declared.command.Command.{Command}

@@ -21,7 +21,7 @@ use Rattle.acd_terms.specs.declared.event.Report.TheVariants as report
 use Rattle.acd_terms.specs.declared.moves.Served.{Served}
 use Rattle.acd_terms.specs.declared.moves.Change.TheVariants.{PutCall, PutConnection}
 use Rattle.acd_terms.specs.Rules.Calls.{is_open, parties_of}
-use Rattle.acd_laws.specs.Counts.{StandsAt, Rules}
+use Rattle.acd_laws.proofs.Facts.{StandsAt, Rules}
 use Rattle.acd_laws.proofs.Lists.{one, two_counted}
 use Rattle.acd_laws.proofs.Members.{among_put}
 use Rattle.acd_laws.proofs.State.{eqb_self, found_key, own_key, connection_among, put_other}

@@ -31,7 +31,7 @@ use Rattle.acd_terms.specs.declared.moves.Move.{Move}
 use Rattle.acd_terms.specs.declared.moves.Served.{Served}
 use Rattle.acd_terms.specs.declared.moves.Change.TheVariants.{RemoveCall, RemoveConnection}
 use Rattle.acd_terms.specs.Rules.Calls.{is_open, open_of}
-use Rattle.acd_laws.specs.Counts.{Rules}
+use Rattle.acd_laws.proofs.Facts.{Rules}
 use Rattle.acd_laws.proofs.Lists.{one, none_from, two_counted}
 use Rattle.acd_laws.proofs.State.{removed_other, eqb_self, found_key, own_key, connection_among, agent_own, still_none}
 use Rattle.acd_laws.proofs.Serving.{by_refusal, by_found}

@@ -21,7 +21,7 @@ use Rattle.acd_terms.specs.declared.event.Cause.TheVariants as cause
 use Rattle.acd_terms.specs.declared.event.Report.{Report}
 use Rattle.acd_terms.specs.declared.event.Report.TheVariants as report
 use Rattle.acd_terms.specs.declared.moves.Change.TheVariants.{PutGroup, PutStation, PutAgent, PutConnection, PutMonitor, RemoveConnection, RemoveMonitor}
-use Rattle.acd_laws.specs.Counts.{Rules, GroupColumn}
+use Rattle.acd_laws.proofs.Facts.{Rules, GroupColumn}
 use Rattle.acd_laws.proofs.Lists.{one, none_from}
 use Rattle.acd_laws.proofs.State.{found_key, connection_among, still_none}
 use Rattle.acd_laws.proofs.Serving.{by_refusal, by_found}

@@ -19,7 +19,7 @@ use Rattle.acd_terms.specs.declared.moves.Move.{Move}
 use Rattle.acd_terms.specs.declared.moves.Change.{Change}
 use Rattle.acd_terms.specs.declared.moves.Change.TheVariants.{Nothing, PutGroup, PutStation, PutAgent, PutCall, PutConnection, PutMonitor, RemoveCall, RemoveConnection, RemoveMonitor}
 use Rattle.acd_terms.specs.Rules.Calls.{is_open, open_of}
-use Rattle.acd_laws.specs.Counts.{HasColumns}
+use Rattle.acd_laws.proofs.Facts.{HasColumns}
 use Rattle.acd_laws.proofs.Lists.{one, among-remove, counted, ascending-put, ascending-remove}
 use Rattle.acd_laws.proofs.State.{connections_total}
 use Rattle.acd_laws.proofs.Found.{count_less}

@@ -18,7 +18,7 @@ use Rattle.acd_terms.specs.Rules.Plan.{agent_order}
 use Rattle.acd_laws.proofs.Lists.{ascending-put, count-put_old, count-put_most, count-remove_most, every_among, every_from, among-remove, some_from}
 use Rattle.acd_laws.proofs.State.{cmp_equal, cmp_self, agents_total, agent_find, agent_put}
 use Rattle.acd_terms.specs.Limits.{limits_fit}
-use Rattle.acd_laws.specs.Bounds.{Sizes, MonitorRule, Monitored}
+use Rattle.acd_laws.proofs.Facts.{Sizes, MonitorRule, Monitored}
 use Rattle.acd_terms.specs.Services.Plan.{no_figures}
 
 -- a change that puts no record but a connection, or the record of an agent who is known

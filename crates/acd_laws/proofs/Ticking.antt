@@ -23,7 +23,7 @@ use Rattle.acd_terms.specs.CallMoves.{queueing}
 use Rattle.acd_terms.specs.AgentMoves.{in_state, go_from}
 use Rattle.acd_terms.specs.Release.{release_of, released, release_agent, release}
 use Rattle.acd_terms.specs.Rules.Plan.{agent_order, connection_order}
-use Rattle.acd_laws.specs.Counts.{Rules}
+use Rattle.acd_laws.proofs.Facts.{Rules}
 use Rattle.acd_terms.specs.Rules.Calls.{is_open, open_of}
 use Rattle.acd_laws.proofs.Lists.{filter_among, after_among, ascending-filter, among-put_other, among-remove_other, two_counted, some_from}
 use Rattle.acd_laws.proofs.State.{eqb_self, cmp_self, is_of, is_of_true, order_equal, order_same, connection_key, agent_put, agent_found}

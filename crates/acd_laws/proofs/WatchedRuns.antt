@@ -24,10 +24,10 @@ use Rattle.acd_terms.specs.declared.state.ConnectionState.TheVariants as S
 use Rattle.acd_terms.specs.declared.event.Event.{Event}
 use Rattle.acd_terms.specs.declared.command.Command.{Command}
 use Rattle.acd_terms.specs.declared.moves.Move.{Move}
-use Rattle.acd_laws.specs.Counts.{Rules, IsCaller, StandsAt}
-use Rattle.acd_laws.specs.WatchedLaws.{TellsNoMore, StepKeepsWatched, RunIsWatched, RunTellsNoMore}
-use Rattle.acd_laws.specs.BalanceLaws.{IsBalanced, StepBalances, RunIsBalanced}
-use Rattle.acd_laws.specs.OfferLaws.{LeavesNoOffer, StepLeavesNoOffer, RunLeavesNoOffer}
+use Rattle.acd_laws.proofs.Facts.{Rules, IsCaller, StandsAt}
+use Rattle.acd_laws.specs.WatchedLaws.{TellsNoMore, RunIsWatched, RunTellsNoMore}
+use Rattle.acd_laws.specs.BalanceLaws.{IsBalanced, RunIsBalanced}
+use Rattle.acd_laws.specs.OfferLaws.{LeavesNoOffer, RunLeavesNoOffer}
 use Rattle.acd_laws.proofs.Lists.{none_from}
 use Rattle.acd_laws.proofs.Members.{mapped_among}
 use Rattle.acd_laws.proofs.State.{found_key}
@@ -43,7 +43,7 @@ use Rattle.acd_laws.proofs.Distributing.{nothing_left}
 use Rattle.acd_laws.proofs.RulesKept.{rules_serve}
 use Rattle.acd_laws.proofs.RulesStep.{is_group_counting, rules_step}
 use Rattle.acd_laws.proofs.Following.{Follows, follows_step}
-use Rattle.acd_laws.proofs.Runs.{kept_by_run, rules_first}
+use Rattle.acd_laws.proofs.Runs.{kept_by_run, rules_first, KeptByRules}
 
 -- the end of a step sets figures and counters: nothing else of the state after its moves changes
 abbrev ended : Rows → List Event → ℕ → ℕ → ℕ → Rows
@@ -102,8 +102,7 @@ tells_ended s t events es k m told f =
       up_to = subst (λ v. UpTo v e.last_event e (events ++ numbered s.last_event es)) c.0 (subst (λ v. UpTo k v e (events ++ numbered s.last_event es)) c.1 w.up_to);
     }
 
-step_tells : (s : Rows) (events : List Event) (moment : ℕ) (command : Command) → Rules s → Tells s events
-    → Tells (step s moment command).rows (events ++ (step s moment command).events)
+step_tells : KeptByRules Tells
 unfolding step
 step_tells s events moment command r told =
     let m : ℕ = executed_moment s moment in
@@ -171,14 +170,15 @@ told_by s events r w n = record {
   up_to = record { entries = n.entries; places = n.places };
 }
 
-pub step_keeps_watched : StepKeepsWatched
+pub step_keeps_watched : (s : Rows) (events : List Event) (moment : ℕ) (command : Command) → Rules s → IsWatched s events → TellsNoMore s events
+    → IsWatched (step s moment command).rows (events ++ (step s moment command).events) × TellsNoMore (step s moment command).rows (events ++ (step s moment command).events)
 step_keeps_watched s events moment command r w n =
     let told = step_tells s events moment command r (told_by s events r w n) in
     (watched_by _ _ (rules_step s moment command r) told, no_more_by _ _ told)
 
 -- balance
 
-pub step_balances : StepBalances
+pub step_balances : KeptByRules IsBalanced
 unfolding step
 step_balances s events moment command r h g =
     let m : ℕ = executed_moment s moment in
@@ -202,7 +202,7 @@ no_offer_ended : (t : Rows) (es : List Event) (k m n : ℕ) → LeavesNoOffer t 
 unfolding with_last with_figures waiting_in eligible_in is_eligible is_occupied is_taken
 no_offer_ended t es k m n h g a = let w = mapped_among (counting es) t.groups g a in subst (λ d. HasNoOffer (ended t es k m n) d) (ap (λ (z : GroupRecord). z.device) (sym w.1.1)) (h w.0 w.1.0)
 
-pub step_leaves_no_offer : StepLeavesNoOffer
+pub step_leaves_no_offer : (s : Rows) (moment : ℕ) (command : Command) → Rules s → LeavesNoOffer (step s moment command).rows
 unfolding step
 step_leaves_no_offer s moment command r =
     let m : ℕ = executed_moment s moment in

@@ -12,7 +12,7 @@ use Rattle.acd_terms.specs.declared.rows.Limits.{Limits}
 use Rattle.acd_terms.specs.declared.record.GroupRecord.{GroupRecord}
 use Rattle.acd_terms.specs.declared.command.Command.{Command}
 use Rattle.acd_switch.specs.Counting.{AreFitting, AllFit}
-use Rattle.acd_laws.specs.Bounds.{IsCountedUpTo, IsBalanced}
+use Rattle.acd_laws.proofs.Facts.{IsCountedUpTo, IsBalanced}
 use Rattle.acd_laws.proofs.DecidedAll.{keeps_read}
 use Rattle.acd_switch.specs.Room.{HasRoom, Fits}
 
