@@ -33,7 +33,8 @@ use Rattle.acd_laws.proofs.Facts.{Rules}
 use Rattle.acd_terms.specs.Rules.Calls.{parties_of}
 use Rattle.acd_laws.specs.PlacedLaws.{IsUpTo, clearings}
 use Rattle.acd_laws.proofs.Lists.{one, counted}
-use Rattle.acd_laws.proofs.State.{eqb_self, call_put, call_remove}
+use Rattle.acd_laws.proofs.Keyed.{eqb_self}
+use Rattle.acd_laws.proofs.State.{call_put, call_remove}
 use Rattle.acd_laws.proofs.Found.{call_known, none_of_call}
 use Rattle.acd_laws.proofs.Known.{Counted, LeavesCalls, Plain}
 

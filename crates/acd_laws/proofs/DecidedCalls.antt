@@ -24,7 +24,8 @@ use Rattle.acd_terms.specs.declared.state.ConnectionState.TheVariants as S
 use Rattle.acd_laws.proofs.Facts.{Rules, IsPlannedStation, SeatedAs, AgentRule, CallRule, Bare, AlertingColumns, HasColumns, GroupColumn, IsCaller, StandsAt, ConnectionRule, ringing_at, talking_at, seated_at, ready_at, busy_at, pending_at, two_if}
 use Rattle.acd_laws.specs.Orders.{Orders}
 use Rattle.acd_laws.proofs.Lists.{every_among, every_from, counted, fewer, two_counted, count_zero, some_from, some_is, any_some}
-use Rattle.acd_laws.proofs.State.{eqb_self, call_among, call_key, call_found, is_station_any}
+use Rattle.acd_laws.proofs.Keyed.{eqb_self}
+use Rattle.acd_laws.proofs.State.{call_among, call_key, call_found, is_station_any}
 use Rattle.acd_laws.proofs.Found.{agent_seat, none_of_call}
 use Rattle.acd_laws.proofs.KeptOffer.{ringing_is, talking_is}
 use Rattle.acd_laws.proofs.KeptOut.{initiated_is}

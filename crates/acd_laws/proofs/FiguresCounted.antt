@@ -36,7 +36,7 @@ use Rattle.acd_laws.proofs.Lists.{filter_among, among-remove}
 use Rattle.acd_laws.proofs.Members.{among_put, mapped_among}
 use Rattle.acd_laws.proofs.Serving.{by_refusal}
 use Rattle.acd_laws.proofs.CountedEvents.{group_counted, quiet, figures_joined, figures_numbered, figures_skipped, no_events, nothing_sum}
-use Rattle.acd_laws.proofs.GroupsFound.{group_found_put, group_counted_found, is_some_mapped}
+use Rattle.acd_laws.proofs.State.{group_found_put, group_counted_found, is_some_mapped}
 use Rattle.acd_laws.proofs.FiguresFit.{IsAmongGroups, KnowsGroups, LeavesGroups, PutsKnown, ReportsKnown, AllFit, FitsState, known_found, fits_release, fits_go_from, fits_add_station, fits_add_agent, fits_arrive_call, fits_make_call, fits_phone_off_hook, fits_answer_call, fits_hold_call, fits_retrieve_call, fits_clear_connection, fits_deflect_call, fits_single_step_transfer, fits_set_agent_state, fits_monitor_start, fits_monitor_stop}
 use Rattle.acd_laws.proofs.Runs.{kept_by_run}
 

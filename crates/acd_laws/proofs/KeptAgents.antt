@@ -21,7 +21,8 @@ use Rattle.acd_terms.specs.Rules.Plan.{agent_order}
 use Rattle.acd_laws.proofs.Facts.{Rules, IsPlannedStation, IsPlannedGroup, SeatedAs, AgentRule, ConnectionRule, ringing_at, seated_at, ready_at, busy_at, pending_at}
 use Rattle.acd_terms.specs.OneOffer.{is_distributed_at}
 use Rattle.acd_laws.proofs.Lists.{one, find_passes, find_among, find_none, any_found, ascending-put, every_among, every-put, counted, fewer, two_counted, both_fewer, count_zero, none_from, some_from}
-use Rattle.acd_laws.proofs.State.{eqb_self, agents_total, agent_among, agent_own}
+use Rattle.acd_laws.proofs.Keyed.{eqb_self}
+use Rattle.acd_laws.proofs.State.{agents_total, agent_among, agent_own}
 use Rattle.acd_laws.proofs.Found.{count_agent, has_is, agent_seat}
 use Rattle.acd_laws.proofs.KeptOffer.{unoccupied}
 use Rattle.acd_laws.proofs.Releasing.{serving, loosen, left_keeps, left_state, settled_at, settled_is, pending_or_settled, wanted_not_busy, alerting_or_answered}

@@ -19,7 +19,8 @@ use Rattle.acd_laws.proofs.Facts.{Rules, CallRule, IsCaller, ConnectionRule, rin
 use Rattle.acd_terms.specs.Rules.Calls.{is_open, parties_of, initiated_of, open_of, live_at, alerting_at, hold_at}
 use Rattle.acd_terms.specs.OneOffer.{is_distributed_at}
 use Rattle.acd_laws.proofs.Lists.{one, ascending-put, every_among, every_from, every-put, fewer}
-use Rattle.acd_laws.proofs.State.{eqb_self, calls_total, connections_total, call_put, put_other}
+use Rattle.acd_laws.proofs.Keyed.{eqb_self}
+use Rattle.acd_laws.proofs.State.{calls_total, connections_total, call_put, put_other}
 use Rattle.acd_laws.proofs.Found.{count_new, none_above, no_call_above, none_of_call}
 use Rattle.acd_laws.proofs.Arriving.{Arrived, arrived, idle_counts, rule_same}
 use Rattle.acd_laws.proofs.Serving.{by_refusal}

@@ -18,7 +18,8 @@ use Rattle.acd_laws.proofs.Facts.{RulesBut, Rules, CallRule, ConnectionRule, rin
 use Rattle.acd_terms.specs.Rules.Calls.{parties_of, initiated_of, open_of, live_at, alerting_at, hold_at}
 use Rattle.acd_terms.specs.OneOffer.{is_distributed_at}
 use Rattle.acd_laws.proofs.Lists.{one, find_none, ascending-remove, every_among, every_from, every-remove, among-remove, counted, fewer, count_zero}
-use Rattle.acd_laws.proofs.State.{eqb_self, is_of, call_remove, own_key, connection_among, removed_other}
+use Rattle.acd_laws.proofs.Keyed.{eqb_self}
+use Rattle.acd_laws.proofs.State.{is_of, call_remove, own_key, connection_among, removed_other}
 use Rattle.acd_laws.proofs.Found.{count_less, connection_rule, connection_there, other_among, other_device, other_agents, left_among}
 use Rattle.acd_laws.proofs.Arriving.{rule_same}
 use Rattle.acd_laws.proofs.KeptOffer.{talking_is}

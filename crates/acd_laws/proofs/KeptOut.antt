@@ -20,7 +20,8 @@ use Rattle.acd_laws.proofs.Facts.{Rules, CallRule, HasColumns, IsCaller, StandsA
 use Rattle.acd_terms.specs.Rules.Calls.{is_open, parties_of, initiated_of, open_of, live_at, alerting_at, hold_at}
 use Rattle.acd_terms.specs.OneOffer.{is_distributed_at}
 use Rattle.acd_laws.proofs.Lists.{one, ascending-put, every_among, every_from, every-put, counted, fewer, two_counted, both_fewer, none_from}
-use Rattle.acd_laws.proofs.State.{eqb_self, calls_total, connections_total, call_put, found_key, own_key, connection_among, call_among, put_other}
+use Rattle.acd_laws.proofs.Keyed.{eqb_self}
+use Rattle.acd_laws.proofs.State.{calls_total, connections_total, call_put, found_key, own_key, connection_among, call_among, put_other}
 use Rattle.acd_laws.proofs.Found.{count_new, count_old, connection_rule, no_call_above, none_of_call, none_above}
 use Rattle.acd_laws.proofs.Arriving.{Arrived, arrived, idle_counts, rule_same}
 use Rattle.acd_laws.proofs.KeptArrival.{one_le, caller_stays}

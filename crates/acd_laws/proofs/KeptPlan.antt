@@ -24,7 +24,8 @@ use Rattle.acd_terms.specs.Served.{moves_of}
 use Rattle.acd_terms.specs.Rules.Plan.{group_order, station_order, agent_order, monitor_order}
 use Rattle.acd_laws.proofs.Facts.{Rules, IsPlannedStation, IsPlannedGroup, SeatedAs, AgentRule, CallRule, GroupColumn, IsCaller, StandsAt, ConnectionRule, seated_at, ready_at, busy_at, pending_at}
 use Rattle.acd_laws.proofs.Lists.{one, any_some, ascending-put, ascending-remove, count-put_new, every_among, every_from, every-put, count_zero, none_from}
-use Rattle.acd_laws.proofs.State.{cmp_equal, groups_total, stations_total, agents_total, monitors_total, agent_find, group_put, station_put, call_among}
+use Rattle.acd_laws.proofs.Keyed.{cmp_equal}
+use Rattle.acd_laws.proofs.State.{groups_total, stations_total, agents_total, monitors_total, agent_find, group_put, station_put, call_among}
 use Rattle.acd_laws.proofs.Serving.{by_found, by_refusal}
 use Rattle.acd_terms.specs.Services.Plan.{add_group, add_station, add_agent, is_used, new_group, new_agent}
 use Rattle.acd_terms.specs.Services.Monitors.{monitor_start, monitor_stop, next_monitor}

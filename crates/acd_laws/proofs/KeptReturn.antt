@@ -19,7 +19,8 @@ use Rattle.acd_laws.proofs.Facts.{RulesBut, Rules, Offered, AlertingColumns, Has
 use Rattle.acd_terms.specs.Rules.Calls.{is_open, parties_of, initiated_of, open_of, live_at, alerting_at, hold_at}
 use Rattle.acd_terms.specs.OneOffer.{is_distributed_at}
 use Rattle.acd_laws.proofs.Lists.{one, ascending-put, ascending-remove, every-put, every-remove, two_counted, none_from}
-use Rattle.acd_laws.proofs.State.{eqb_self, connections_total, found_key, connection_among, still_none}
+use Rattle.acd_laws.proofs.Keyed.{eqb_self}
+use Rattle.acd_laws.proofs.State.{connections_total, found_key, connection_among, still_none}
 use Rattle.acd_laws.proofs.Found.{count_new, count_less, connection_rule}
 use Rattle.acd_laws.proofs.KeptOffer.{alerting_is}
 use Rattle.acd_laws.proofs.Releasing.{after_release, loosen}

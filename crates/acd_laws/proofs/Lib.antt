@@ -5,9 +5,9 @@ pub mod Members
 pub mod MoveEvents
 pub mod CountedEvents
 pub mod FiguresFit
-pub mod GroupsFound
 pub mod FiguresCounted
 pub mod Lists
+pub mod Keyed
 pub mod State
 pub mod Serving
 pub mod Found

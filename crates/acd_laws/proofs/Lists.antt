@@ -12,16 +12,6 @@ use Rattle.acd_terms.specs.Lists.{find_by, put_by, remove_by, count, total, Amon
 abbrev pub one : Bool → ℕ
 one b = cond b 1 0
 
-or_twice : (a b : Bool) → (a || b) ≡ (a || (a || b))
-or_twice true b = refl
-or_twice false b = refl
-
-or_swap : (a b c : Bool) → (a || (b || c)) ≡ (b || (a || c))
-or_swap true true c = refl
-or_swap true false c = refl
-or_swap false true c = refl
-or_swap false false c = refl
-
 pub eq_is : (o : Ordering) → is_eq o ≡ true → o ≡ Equal
 eq_is Less e = absurd (cc (e))
 eq_is Equal e = refl
@@ -60,28 +50,19 @@ some_tail k y ys z e q = rw e at q
 not_key : {X : Type 0} (cmp : X → X → Ordering) (k : X → Bool) (x y : X) → ((y : X) → k y ≡ true → cmp x y ≡ Equal) → cmp x y ≡ Greater → k y ≡ false
 not_key cmp k x y g q = false_from_ne_true (k y) (λ r. cc (q, g y r))
 
--- the record that was put is found by its key
-pub find-put_hit : {X : Type 0} (cmp : X → X → Ordering) (p : X → Bool) (x : X) → p x ≡ true → ((y : X) → p y ≡ true → cmp x y ≡ Equal) → (xs : List X) → find p (put_by (cmp x) xs x) ≡ Some x
-find-put_hit cmp p x e h [] = simp e
-find-put_hit cmp p x e h (y ∷ ys) =
-    (elim (cmp x y) as (λ o. cmp x y ≡ o → find p (match_ordering o (x ∷ y ∷ ys) (x ∷ ys) (y ∷ put_by (cmp x) ys x)) ≡ Some x) [
-      | Less ↦ λ _. simp e
-      | Equal ↦ λ _. simp e
-      | Greater ↦ λ q.
-          (elim (p y) as (λ b. p y ≡ b → cond b (Some y) (find p (put_by (cmp x) ys x)) ≡ Some x) [
-            | true ↦ λ r. absurd (cc (q, h y r))
-            | false ↦ λ _. find-put_hit cmp p x e h ys
+-- a record that was put is found where it passes, and else what was found before
+pub find-put : {X : Type 0} (cmp : X → X → Ordering) (p : X → Bool) (x : X) → ((y : X) → cmp x y ≡ Equal → p y ≡ p x) → ((y : X) → p x ≡ true → p y ≡ true → cmp x y ≡ Equal) → (xs : List X)
+    → find p (put_by (cmp x) xs x) ≡ cond (p x) (Some x) (find p xs)
+find-put cmp p x h g [] = refl
+find-put cmp p x h g (y ∷ ys) =
+    (elim (cmp x y) as (λ o. cmp x y ≡ o → find p (match_ordering o (x ∷ y ∷ ys) (x ∷ ys) (y ∷ put_by (cmp x) ys x)) ≡ cond (p x) (Some x) (cond (p y) (Some y) (find p ys))) [
+      | Less ↦ λ _. refl
+      | Equal ↦ λ e. rw (h y e) (elim (p x) as (λ b. cond b (Some x) (find p ys) ≡ cond b (Some x) (cond b (Some y) (find p ys))) [ true ↦ refl | false ↦ refl ])
+      | Greater ↦ λ e.
+          (elim (p y) as (λ b. p y ≡ b → cond b (Some y) (find p (put_by (cmp x) ys x)) ≡ cond (p x) (Some x) (cond b (Some y) (find p ys))) [
+            | true ↦ λ r. rw (false_from_ne_true (p x) (λ q. cc (e, g y q r))) refl
+            | false ↦ λ _. find-put cmp p x h g ys
           ]) refl
-    ]) refl
-
--- and no other is lost or made
-pub find-put_miss : {X : Type 0} (cmp : X → X → Ordering) (p : X → Bool) (x : X) → p x ≡ false → ((y : X) → cmp x y ≡ Equal → p y ≡ false) → (xs : List X) → find p (put_by (cmp x) xs x) ≡ find p xs
-find-put_miss cmp p x e h [] = simp e
-find-put_miss cmp p x e h (y ∷ ys) =
-    (elim (cmp x y) as (λ o. cmp x y ≡ o → find p (match_ordering o (x ∷ y ∷ ys) (x ∷ ys) (y ∷ put_by (cmp x) ys x)) ≡ find p (y ∷ ys)) [
-      | Less ↦ λ _. simp e
-      | Equal ↦ λ q. simp (e, h y q)
-      | Greater ↦ λ q. ap (λ r. cond (p y) (Some y) r) (find-put_miss cmp p x e h ys)
     ]) refl
 
 pub find_passes : {X : Type 0} (p : X → Bool) (xs : List X) (x : X) → find p xs ≡ Some x → p x ≡ true
@@ -117,15 +98,6 @@ some_found p (y ∷ ys) x (inr a) e = elim (p y) as (λ b. is_some (cond b (Some
 pub any-find : {X : Type 0} (p : X → Bool) (xs : List X) → list_any p xs ≡ is_some (find p xs)
 any-find p [] = refl
 any-find p (y ∷ ys) = elim (p y) as (λ b. (b || list_any p ys) ≡ is_some (cond b (Some y) (find p ys))) [ true ↦ refl | false ↦ any-find p ys ]
-
-pub any-put : {X : Type 0} (cmp : X → X → Ordering) (p : X → Bool) (x : X) → ((y : X) → cmp x y ≡ Equal → p y ≡ p x) → (xs : List X) → list_any p (put_by (cmp x) xs x) ≡ (p x || list_any p xs)
-any-put cmp p x h [] = refl
-any-put cmp p x h (y ∷ ys) =
-    (elim (cmp x y) as (λ o. cmp x y ≡ o → list_any p (match_ordering o (x ∷ y ∷ ys) (x ∷ ys) (y ∷ put_by (cmp x) ys x)) ≡ (p x || (p y || list_any p ys))) [
-      | Less ↦ λ _. refl
-      | Equal ↦ λ e. rw (h y e) (or_twice (p x) (list_any p ys))
-      | Greater ↦ λ _. ap (λ r. p y || r) (any-put cmp p x h ys) ∙ or_swap (p y) (p x) (list_any p ys)
-    ]) refl
 
 pub any_none : {X : Type 0} (p : X → Bool) (xs : List X) → list_any p xs ≡ false → find p xs ≡ None
 any_none p [] e = refl

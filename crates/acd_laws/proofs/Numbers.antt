@@ -14,7 +14,8 @@ use Rattle.acd_terms.specs.Moves.{moved, with_event, events_of}
 use Rattle.acd_laws.proofs.Facts.{Rules}
 use Rattle.acd_terms.specs.Rules.Calls.{parties_of}
 use Rattle.acd_laws.proofs.Lists.{one, filter_among, counted, fewer, count_length}
-use Rattle.acd_laws.proofs.State.{eqb_self, call_among, call_key}
+use Rattle.acd_laws.proofs.Keyed.{eqb_self}
+use Rattle.acd_laws.proofs.State.{call_among, call_key}
 use Rattle.acd_terms.specs.Limits.{limits_fit}
 use Rattle.acd_terms.specs.declared.event.Event.{Event}
 use Rattle.acd_terms.specs.declared.event.Report.{Report}

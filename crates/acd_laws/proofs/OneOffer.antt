@@ -14,7 +14,7 @@ use Rattle.acd_terms.specs.declared.state.AgentState.TheVariants as A
 use Rattle.acd_laws.proofs.Facts.{Rules, IsPlannedStation, SeatedAs, AgentRule, ConnectionRule, talking_at, busy_at}
 use Rattle.acd_laws.specs.OneOfferLaws.{RunHasOneOffer}
 use Rattle.acd_laws.proofs.Lists.{every_among, counted, some_from}
-use Rattle.acd_laws.proofs.State.{eqb_self}
+use Rattle.acd_laws.proofs.Keyed.{eqb_self}
 use Rattle.acd_laws.proofs.KeptOffer.{ready_is, talking_is}
 use Rattle.acd_laws.proofs.Releasing.{serving, alerting_or_answered}
 use Rattle.acd_laws.proofs.Decided.{one_that}

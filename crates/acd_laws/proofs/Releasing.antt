@@ -27,7 +27,8 @@ use Rattle.acd_terms.specs.Rules.Plan.{agent_order}
 use Rattle.acd_laws.proofs.Facts.{RulesBut, Rules, IsPlannedStation, IsPlannedGroup, SeatedAs, AgentRule, HasColumns, ConnectionRule, ringing_at, talking_at, seated_at, ready_at, busy_at, pending_at}
 use Rattle.acd_terms.specs.OneOffer.{is_distributed_at}
 use Rattle.acd_laws.proofs.Lists.{one, ascending-put, every_among, every-put, among-put, counted, fewer, both_fewer, the_one, some_counted, some_from}
-use Rattle.acd_laws.proofs.State.{eqb_self, agents_total, agent_put, agent_among}
+use Rattle.acd_laws.proofs.Keyed.{eqb_self}
+use Rattle.acd_laws.proofs.State.{agents_total, agent_put, agent_among}
 use Rattle.acd_laws.proofs.Found.{count_agent, agent_seat, agent_there}
 use Rattle.acd_laws.proofs.KeptOffer.{ringing_is, talking_is, ready_is}
 

@@ -20,7 +20,7 @@ use Rattle.acd_terms.specs.declared.command.Command.{Command}
 use Rattle.acd_terms.specs.Figures.{counting, with_figures}
 use Rattle.acd_terms.specs.Services.Serve.{serve}
 use Rattle.acd_terms.specs.Step.{step_moves, step, executed_moment, next_stamp, counted as with_counters}
-use Rattle.acd_laws.proofs.GroupsFound.{group_counted_found, is_some_mapped}
+use Rattle.acd_laws.proofs.State.{group_counted_found, is_some_mapped}
 use Rattle.acd_laws.proofs.Arriving.{rule_same}
 use Rattle.acd_laws.proofs.RulesKept.{rules_moves}
 

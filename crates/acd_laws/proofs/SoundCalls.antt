@@ -24,7 +24,8 @@ use Rattle.acd_terms.specs.Rules.Calls.{is_open, parties_of}
 use Rattle.acd_laws.proofs.Facts.{StandsAt, Rules}
 use Rattle.acd_laws.proofs.Lists.{one, two_counted}
 use Rattle.acd_laws.proofs.Members.{among_put}
-use Rattle.acd_laws.proofs.State.{eqb_self, found_key, own_key, connection_among, put_other}
+use Rattle.acd_laws.proofs.Keyed.{eqb_self}
+use Rattle.acd_laws.proofs.State.{found_key, own_key, connection_among, put_other}
 use Rattle.acd_laws.proofs.Serving.{by_refusal, by_found}
 use Rattle.acd_laws.proofs.Found.{connection_there, connection_rule, none_above, agent_there}
 use Rattle.acd_laws.proofs.KeptOut.{initiated_is, initiated_alone, outgoing}

@@ -33,7 +33,8 @@ use Rattle.acd_terms.specs.declared.moves.Change.TheVariants.{RemoveCall, Remove
 use Rattle.acd_terms.specs.Rules.Calls.{is_open, open_of}
 use Rattle.acd_laws.proofs.Facts.{Rules}
 use Rattle.acd_laws.proofs.Lists.{one, none_from, two_counted}
-use Rattle.acd_laws.proofs.State.{removed_other, eqb_self, found_key, own_key, connection_among, agent_own, still_none}
+use Rattle.acd_laws.proofs.State.{removed_other, found_key, own_key, connection_among, agent_own, still_none}
+use Rattle.acd_laws.proofs.Keyed.{eqb_self}
 use Rattle.acd_laws.proofs.Serving.{by_refusal, by_found}
 use Rattle.acd_laws.proofs.Found.{connection_there, connection_rule, agent_there, other_agents, other_among, other_device}
 use Rattle.acd_laws.proofs.Releasing.{release_other_kept}

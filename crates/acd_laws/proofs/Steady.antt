@@ -16,7 +16,8 @@ use Rattle.acd_terms.specs.Writes.{with_agent, with_connection, without_call, wi
 use Rattle.acd_terms.specs.Moves.{changed, moved}
 use Rattle.acd_terms.specs.Rules.Plan.{agent_order}
 use Rattle.acd_laws.proofs.Lists.{ascending-put, count-put_old, count-put_most, count-remove_most, every_among, every_from, among-remove, some_from}
-use Rattle.acd_laws.proofs.State.{cmp_equal, cmp_self, agents_total, agent_find, agent_put}
+use Rattle.acd_laws.proofs.Keyed.{cmp_equal, cmp_self}
+use Rattle.acd_laws.proofs.State.{agents_total, agent_find, agent_put}
 use Rattle.acd_terms.specs.Limits.{limits_fit}
 use Rattle.acd_laws.proofs.Facts.{Sizes, MonitorRule, Monitored}
 use Rattle.acd_terms.specs.Services.Plan.{no_figures}
