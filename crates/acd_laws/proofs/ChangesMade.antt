@@ -31,7 +31,7 @@ use Rattle.acd_laws.proofs.Members.{found_among}
 use Rattle.acd_laws.proofs.Keyed.{cmp_self, cmp_equal}
 use Rattle.acd_laws.proofs.State.{groups_total}
 use Rattle.acd_laws.proofs.CountedEvents.{Quiet, quiet, no_events, sum_nothing, figures_joined, figures_skipped, sum_joined}
-use Rattle.acd_laws.proofs.RulesStep.{ascending_counting}
+use Rattle.acd_laws.proofs.Ended.{ascending_counting}
 use Rattle.acd_laws.proofs.DecidedAll.{keeps_read}
 
 -- lists in ascending key

@@ -35,7 +35,7 @@ pub mod SoundCalls
 pub mod SoundEnds
 pub mod Ticking
 pub mod RulesKept
-pub mod RulesStep
+pub mod Ended
 pub mod Decided
 pub mod DecidedCalls
 pub mod DecidedAll

@@ -18,7 +18,7 @@ use Rattle.acd_laws.proofs.Keyed.{eqb_self}
 use Rattle.acd_laws.proofs.KeptOffer.{ready_is, talking_is}
 use Rattle.acd_laws.proofs.Releasing.{serving, alerting_or_answered}
 use Rattle.acd_laws.proofs.Decided.{one_that}
-use Rattle.acd_laws.proofs.RulesStep.{rules_step}
+use Rattle.acd_laws.proofs.Ended.{rules_step}
 use Rattle.acd_laws.proofs.Runs.{kept_by_run, rules_first}
 use Rattle.acd_terms.specs.Step.{step}
 use Rattle.acd_terms.specs.declared.command.Command.{Command}

@@ -24,7 +24,7 @@ use Rattle.acd_laws.proofs.Lists.{one}
 use Rattle.acd_laws.proofs.Ticking.{Kept, kept-append, tick_keeps}
 use Rattle.acd_laws.proofs.Distributing.{distribution_keeps}
 use Rattle.acd_laws.proofs.RulesKept.{rules_serve}
-use Rattle.acd_laws.proofs.RulesStep.{rules_step}
+use Rattle.acd_laws.proofs.Ended.{ended, rules_step}
 use Rattle.acd_laws.proofs.Runs.{kept_by_run, rules_first, KeptByRules}
 use Rattle.acd_laws.proofs.Known.{AllCounted, Named, SameCalls, same_clearings, counted_plain, clearings_moved, clearings_numbered, names_moved, names_numbered}
 use Rattle.acd_laws.proofs.ClearedBy.{plain_add_group, plain_add_station, plain_add_agent, plain_monitor_start, plain_monitor_stop, counted_arrive_call, counted_make_call, plain_phone_off_hook, plain_answer_call, plain_hold_call, plain_retrieve_call, plain_deflect_call, plain_single_step_transfer, counted_clear_connection, plain_set_agent_state, counted_offer, counted_return, counted_rest}
@@ -65,9 +65,6 @@ moves_keep P m k f s es c r h =
     (distribution_keeps P m (λ v es o rv p e. f v es (offer_moves v m o) (counted_offer v m o rv e) p) t (es ++ events_of m ms) (rules_serve s m k c r) (serve_keeps P m k f s es c r h))
 
 -- the end of a step sets figures and counters: calls stay
-abbrev ended : Rows → List Event → ℕ → ℕ → ℕ → Rows
-ended t es k m n = with_last (with_figures t es) k m n
-
 calls_ended : (t : Rows) (es : List Event) (k m n : ℕ) → SameCalls t (ended t es k m n)
 unfolding with_last with_figures
 calls_ended t es k m n = (refl, refl)

@@ -1,5 +1,5 @@
 -- Rows that break no rule break none after a step.
-use Rattle.std.proofs.Common.{◌≡◌, ℕ, ◌+◌, ◌*◌, ◌^◌, ◌<◌, ◌≤◌, ◌⊎◌, inl, inr, true, false, ◌||◌, cond, List, [], ◌∷◌, Option, Some, None, refl, ◌∙◌, ap, subst, arith, length, map}
+use Rattle.std.proofs.Common.{◌≡◌, ℕ, ◌+◌, ◌*◌, ◌^◌, ◌<◌, ◌≤◌, ◌⊎◌, inl, inr, true, false, cond, List, [], ◌∷◌, Option, Some, None, refl, ◌∙◌, ap, subst, arith, length, map}
 use Rattle.std.specs.Prelude.{◌==◌}
 use Rattle.std.proofs.lemmas.Bool.{and_parts, eqb-true, false_from_ne_true}
 use Rattle.acd_terms.specs.declared.rows.Rows.{Rows}
@@ -10,7 +10,7 @@ use Rattle.acd_terms.specs.declared.state.ConnectionState.TheVariants as S
 use Rattle.acd_terms.specs.declared.moves.Move.{Move}
 use Rattle.acd_terms.specs.Lists.{count, total, Among, Every}
 use Rattle.acd_terms.specs.States.{is_alerting, is_queued}
-use Rattle.acd_terms.specs.Scans.{group_of, station_of, is_group, is_station, is_planned, has}
+use Rattle.acd_terms.specs.Scans.{is_group, is_planned, has}
 use Rattle.acd_terms.specs.Writes.{with_last, empty_rows}
 use Rattle.acd_terms.specs.Moves.{moved, events_of}
 use Rattle.acd_laws.proofs.Facts.{Rules, GroupColumn, StandsAt, ConnectionRule, Sizes, IsPlace, ConnectionTimed, at_place, Timed, OnePlace, MonitorRule, Monitored, IsCountedUpTo, IsBalanced, KeepsRules}
@@ -43,7 +43,7 @@ use Rattle.acd_laws.proofs.Rounds.{AllWait}
 use Rattle.acd_laws.proofs.Numbers.{greatest}
 use Rattle.acd_laws.proofs.BoundsStep.{After, Before, after_moves}
 use Rattle.acd_laws.proofs.DecidedAll.{keeps_read, requests_read, keeps_written}
-use Rattle.acd_laws.proofs.RulesStep.{is_group_counting, rules_step}
+use Rattle.acd_laws.proofs.Ended.{ended, planned_ended, rules_step}
 
 -- places
 
@@ -145,9 +145,6 @@ every-map : {X : Type 0} (P : X → Type 0) (f : X → X) (xs : List X) → ((x 
 every-map P f [] h = tt
 every-map P f (x ∷ xs) h = (h x (inl refl), every-map P f xs (λ z i. h z (inr i)))
 
-abbrev ended : Rows → List Event → ℕ → ℕ → ℕ → Rows
-ended t es k m n = with_last (with_figures t es) k m n
-
 sizes_ended : (t : Rows) (es : List Event) (k m n : ℕ) → Sizes t → Sizes (ended t es k m n)
 unfolding with_last with_figures
 sizes_ended t es k m n h = let a = length-map (counting es) t.groups in let b = h.groups in record { limits = h.limits; groups = omega (arith, a, b); stations = h.stations; agents = h.agents; calls = h.calls; monitors = h.monitors }
@@ -159,10 +156,6 @@ timed_ended t es k m n h = record { agents = h.agents; calls = h.calls; connecti
 places_ended : (t : Rows) (es : List Event) (k m n : ℕ) → OnePlace t → OnePlace (ended t es k m n)
 unfolding with_last with_figures
 places_ended t es k m n h = h
-
-planned_ended : (t : Rows) (es : List Event) (k m n d : ℕ) → is_planned (ended t es k m n) d ≡ is_planned t d
-unfolding with_last with_figures group_of station_of
-planned_ended t es k m n d = ap (λ b. b || is_station t d) (is_group_counting t es d)
 
 monitors_ended : (t : Rows) (es : List Event) (k m n : ℕ) → t.last_event ≤ n → ((d : ℕ) → is_planned (ended t es k m n) d ≡ is_planned t d) → Monitored t → Monitored (ended t es k m n)
 unfolding with_last with_figures

@@ -1,8 +1,8 @@
 -- The reports of every run tell its state; every run is balanced, and leaves no offer.
-use Rattle.std.proofs.Common.{◌≡◌, ℕ, ◌+◌, inl, inr, Bool, true, false, not, ◌&&◌, ◌||◌, cond, List, [], ◌++◌, Option, Some, None, refl, sym, ◌∙◌, ap, subst, length, arith, eq-eqb}
+use Rattle.std.proofs.Common.{◌≡◌, ℕ, ◌+◌, inl, inr, Bool, true, false, not, ◌&&◌, cond, List, [], ◌++◌, Option, Some, None, refl, sym, ◌∙◌, ap, subst, length, arith, eq-eqb}
 use Rattle.std.specs.Prelude.{option_map}
 use Rattle.std.proofs.lemmas.Bool.{and_parts, not-true, or_left, or_right}
-use Rattle.acd_terms.specs.Scans.{connection_of, agent_of, call_of, group_of, station_of, is_group, is_station, is_planned, is_occupied, is_taken, is_eligible, waiting_in, eligible_in}
+use Rattle.acd_terms.specs.Scans.{connection_of, agent_of, call_of, is_group, is_station, is_planned, is_occupied, is_taken, is_eligible, waiting_in, eligible_in}
 use Rattle.acd_terms.specs.Writes.{empty_rows, with_last}
 use Rattle.acd_terms.specs.Moves.{moved, events_of}
 use Rattle.acd_terms.specs.Figures.{figures_of, sum_of_figures, counting, with_figures}
@@ -41,17 +41,11 @@ use Rattle.acd_laws.proofs.Order.{Ordered}
 use Rattle.acd_laws.proofs.Entries.{entry_number, entered_by}
 use Rattle.acd_laws.proofs.Distributing.{nothing_left}
 use Rattle.acd_laws.proofs.RulesKept.{rules_serve}
-use Rattle.acd_laws.proofs.RulesStep.{is_group_counting, rules_step}
+use Rattle.acd_laws.proofs.Ended.{ended, planned_ended, rules_step}
 use Rattle.acd_laws.proofs.Following.{Follows, follows_step}
 use Rattle.acd_laws.proofs.Runs.{kept_by_run, rules_first, KeptByRules}
 
--- the end of a step sets figures and counters: nothing else of the state after its moves changes
-abbrev ended : Rows → List Event → ℕ → ℕ → ℕ → Rows
-ended t es k m n = with_last (with_figures t es) k m n
-
-planned_ended : (t : Rows) (es : List Event) (k m n d : ℕ) → is_planned (ended t es k m n) d ≡ is_planned t d
-unfolding with_last with_figures group_of station_of
-planned_ended t es k m n d = ap (λ b. b || is_station t d) (is_group_counting t es d)
+-- what the end of a step leaves
 
 state_ended : (t : Rows) (es : List Event) (k m n c d : ℕ) → state_at (ended t es k m n) c d ≡ state_at t c d
 unfolding with_last with_figures connection_of
