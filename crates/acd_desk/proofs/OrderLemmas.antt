@@ -21,8 +21,7 @@ use Rattle.acd_terms.specs.declared.record.AgentRecord.{AgentRecord}
 use Rattle.acd_terms.specs.declared.record.ConnectionRecord.{ConnectionRecord}
 use Rattle.acd_terms.specs.Rules.Calls.{parties_of}
 use Rattle.acd_laws.proofs.Facts.{two_if}
-use Rattle.acd_laws.proofs.Lists.{is_eq_of, count_length, after_among, filter_among, any_some, ascending-put, ascending-filter, among-put, among-put_other}
-use Rattle.acd_laws.proofs.Members.{mapped_among}
+use Rattle.acd_laws.proofs.Lists.{is_eq_of, count_length, after_among, filter_among, any_some, ascending-put, ascending-filter, among-put, among-put_other, mapped_among}
 use Rattle.acd_laws.proofs.Keyed.{cmp_self}
 use Rattle.acd_laws.proofs.State.{order_same, connection_found}
 use Rattle.acd_laws.proofs.DecidedAll.{rules_are_kept}

@@ -88,12 +88,10 @@ unfolding is_at
 held_is_at d x e = let h = and_parts (is_hold x.state) (x.device == d) e in and_from _ _ h.1 (or_right (is_live x.state) (is_hold x.state) h.0)
 
 alerting_live : (st : ConnectionState) → is_alerting st ≡ true → is_live st ≡ true
-alerting_live S.Alerting e = refl
-alerting_live S.Initiated e = refl
-alerting_live S.Connected e = refl
 alerting_live S.Hold e = absurd (cc (e))
 alerting_live S.Queued e = absurd (cc (e))
 alerting_live S.Fail e = absurd (cc (e))
+alerting_live _ e = refl
 
 pub alerting_is_live : (d : ℕ) (x : ConnectionRecord) → alerting_at d x ≡ true → live_at d x ≡ true
 alerting_is_live d x e = let h = and_parts (is_alerting x.state) (x.device == d) e in and_from _ _ (alerting_live x.state h.0) h.1
@@ -118,8 +116,6 @@ rule_same s t g h x f r = (r.0, group_same x.group r.1, stands_same x.state r.2)
     stands_same : (st : ConnectionState) → StandsAt s x st → StandsAt t x st
     stands_same S.Queued c = g x.device ∙ c
     stands_same S.Initiated c = (h x.device ∙ c.0, f c.1)
-    stands_same S.Alerting c = h x.device ∙ c
-    stands_same S.Hold c = h x.device ∙ c
-    stands_same S.Fail c = h x.device ∙ c
     stands_same S.Connected (inl c) = inl (h x.device ∙ c)
     stands_same S.Connected (inr c) = inr (rw (g x.device, h x.device) c.0, f c.1)
+    stands_same _ c = h x.device ∙ c

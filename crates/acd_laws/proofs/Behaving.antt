@@ -21,14 +21,13 @@ use Rattle.acd_terms.specs.Moves.{silent, changed, moved}
 use Rattle.acd_terms.specs.CallMoves.{plain, begin, connect_caller, initiate, arrive}
 use Rattle.acd_terms.specs.Served.{moves_of}
 use Rattle.acd_terms.specs.Rules.Plan.{agent_order}
-use Rattle.acd_laws.proofs.Lists.{every_among, every_from, every-put}
+use Rattle.acd_laws.proofs.Lists.{every_among, every_from, every-put, among_put}
 use Rattle.acd_laws.proofs.State.{group_put, station_put}
 use Rattle.acd_terms.specs.Services.Plan.{add_group, add_station, add_agent, new_group, new_agent}
 use Rattle.acd_terms.specs.Services.NewCalls.{arrive_call, make_call, next_call}
 use Rattle.acd_terms.specs.Services.Monitors.{monitor_start, monitor_stop, next_monitor}
 use Rattle.acd_laws.proofs.Facts.{Sizes, AgentTimed, at_place, MonitorRule, Monitored}
 use Rattle.acd_laws.proofs.Serving.{by_refusal, by_found}
-use Rattle.acd_laws.proofs.Members.{among_put}
 use Rattle.acd_laws.proofs.Steady.{IsNew, Steadied, Settled, settled, settled_nothing, steadied, sizes_steadied, monitored_steadied, length-put}
 use Rattle.acd_laws.proofs.Orderly.{Fit, Orderly, orderly_nothing, timed_plain, fit_arrive, entry_most, places_put, places_arrive, steady_arrive}
 

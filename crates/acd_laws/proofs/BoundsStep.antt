@@ -8,7 +8,7 @@ use Rattle.acd_terms.specs.Lists.{count, Among}
 use Rattle.acd_terms.specs.Moves.{moved, events_of}
 use Rattle.acd_terms.specs.Served.{moves_of}
 use Rattle.acd_laws.proofs.Facts.{Rules, Sizes, at_place, Timed, Monitored}
-use Rattle.acd_laws.proofs.Lists.{one, count-append}
+use Rattle.acd_laws.proofs.Lists.{one, count-append, every-append}
 use Rattle.acd_terms.specs.declared.event.Event.{Event}
 use Rattle.acd_terms.specs.declared.command.Command.{Command}
 use Rattle.acd_terms.specs.declared.command.Command.TheVariants.{AddGroup, AddStation, AddAgent, ArriveCall, MakeCall, PhoneOffHook, AnswerCall, HoldCall, RetrieveCall, ClearConnection, DeflectCall, SingleStepTransfer, SetAgentState, MonitorStart, MonitorStop, Tick}
@@ -17,14 +17,13 @@ use Rattle.acd_terms.specs.Services.Serve.{serve}
 use Rattle.acd_terms.specs.Distribution.{distribution}
 use Rattle.acd_terms.specs.Tick.{tick}
 use Rattle.acd_terms.specs.Step.{step_moves}
-use Rattle.acd_laws.proofs.Serving.{moved-append}
-use Rattle.acd_laws.proofs.MoveEvents.{events-append}
+use Rattle.acd_terms.proofs.MoveLemmas.{moved_append, events_of_append}
 use Rattle.acd_laws.proofs.RulesKept.{rules_serve}
 use Rattle.acd_laws.proofs.Steady.{IsNew, sizes_steadied, monitored_steadied}
 use Rattle.acd_laws.proofs.Orderly.{timed_moved}
 use Rattle.acd_laws.proofs.Behaving.{Behaves, behaves_add_group, behaves_add_station, behaves_add_agent, behaves_arrive_call, behaves_make_call, behaves_monitor_start, behaves_monitor_stop}
 use Rattle.acd_laws.proofs.BehavingCalls.{behaves_phone_off_hook, behaves_answer_call, behaves_hold_call, behaves_retrieve_call, behaves_clear_connection, behaves_deflect_call, behaves_single_step_transfer, behaves_set_agent_state}
-use Rattle.acd_laws.proofs.Rounds.{AllWait, entered_is, waits_events, every-append, Within, distribution_within, tick_within, returns_agents}
+use Rattle.acd_laws.proofs.Rounds.{AllWait, entered_is, waits_events, Within, distribution_within, tick_within, returns_agents}
 use Rattle.acd_laws.proofs.Numbers.{events_length, connections_length, greatest, distribution_length, tick_length}
 
 -- what holds after moves of a step, with their events
@@ -134,5 +133,5 @@ after_moves s k m c b =
     let d = connections_length t r in
     let g = greatest t a.sizes.limits in
     let x = a.sizes.calls in let gc = g.calls in
-    subst (λ u. After s k m 21000 u (events_of m (ms ++ ns))) (sym (moved-append s ms ns))
-    (subst (After s k m 21000 (moved t ns)) (sym (events-append m ms ns)) (after_rounds s k m 13000 8000 t (moved t ns) (events_of m ms) (events_of m ns) a w (omega (arith, e, f, d, x, gc))))
+    subst (λ u. After s k m 21000 u (events_of m (ms ++ ns))) (sym (moved_append s ms ns))
+    (subst (After s k m 21000 (moved t ns)) (sym (events_of_append m ms ns)) (after_rounds s k m 13000 8000 t (moved t ns) (events_of m ms) (events_of m ns) a w (omega (arith, e, f, d, x, gc))))

@@ -28,9 +28,9 @@ use Rattle.acd_laws.proofs.Keyed.{eqb_self}
 use Rattle.acd_laws.proofs.State.{call_among, call_key, call_found, is_station_any}
 use Rattle.acd_laws.proofs.Found.{agent_seat, none_of_call}
 use Rattle.acd_laws.proofs.KeptOffer.{ringing_is, talking_is}
-use Rattle.acd_laws.proofs.KeptOut.{initiated_is}
+use Rattle.acd_laws.proofs.States.{initiated_is, busy_is}
 use Rattle.acd_laws.proofs.Releasing.{serving, alerting_or_answered}
-use Rattle.acd_laws.proofs.OneOffer.{busy_is, rules_give_one_offer}
+use Rattle.acd_laws.proofs.OneOffer.{rules_give_one_offer}
 use Rattle.acd_laws.proofs.Decided.{◌and◌, ◌or◌, like, holds, fails, absent, within, when, each, any, is_number, zero_or, one_that, at_most, station_there, AgentsKept}
 
 -- the columns of a connection
@@ -52,10 +52,9 @@ columns_decided : (x : ConnectionRecord) (st : ConnectionState) → Decides (has
 columns_decided x S.Queued = like (is_number x.group x.device and placed_decided x and absent x.offered)
     (λ p. record { group = p.0.0; place = p.0.1.0; queued = p.0.1.1; offered = p.1 }) (λ h. ((h.group, (h.place, h.queued)), h.offered))
 columns_decided x S.Alerting = alerting_decided x x.group
-columns_decided x S.Connected = bare_decided x
-columns_decided x S.Hold = bare_decided x
 columns_decided x S.Initiated = fresh_decided x
 columns_decided x S.Fail = fresh_decided x
+columns_decided x _ = bare_decided x
 
 -- connections
 
@@ -358,10 +357,7 @@ seated s a st h e = there a.station (planned st h)
   where
     planned : (st : AgentState) → SeatedAs s a st → IsPlannedStation s a.station
     planned A.Null h = absurd (let n = h.2 in cc (ap is_some n, e))
-    planned A.NotReady h = h.0
-    planned A.Ready h = h.0
-    planned A.Busy h = h.0
-    planned A.WorkingAfterCall h = h.0
+    planned _ h = h.0
 
     there : (o : Option ℕ) → IsPlannedStation s o → (d : ℕ) × (o ≡ Some d)
     there None h = absurd h

@@ -14,17 +14,15 @@ use Rattle.acd_terms.specs.Writes.{with_connection, without_connection}
 use Rattle.acd_terms.specs.Moves.{moved, events_of}
 use Rattle.acd_terms.specs.CallMoves.{ringing}
 use Rattle.acd_laws.proofs.Facts.{Rules}
-use Rattle.acd_laws.proofs.Lists.{one, filter_among, counted, count_length, none_from}
+use Rattle.acd_laws.proofs.Lists.{one, filter_among, counted, count_length, none_from, mapped_among}
 use Rattle.acd_laws.proofs.State.{connection_found, agent_found, still_none}
 use Rattle.acd_terms.specs.declared.moves.Offer.{Offer}
 use Rattle.acd_terms.specs.declared.event.Event.{Event}
 use Rattle.acd_terms.specs.Choice.{waiting_pair, ready_pair, offer_of}
 use Rattle.acd_terms.specs.Offers.{IsOffer, HasNoOffer}
 use Rattle.acd_terms.specs.Distribution.{offer_at, offer_moves, with_offer, offers, distribution}
-use Rattle.acd_laws.proofs.Members.{mapped_among}
-use Rattle.acd_laws.proofs.MoveEvents.{events-append}
+use Rattle.acd_terms.proofs.MoveLemmas.{events_of_append, moved_append}
 use Rattle.acd_laws.proofs.OfferFound.{finds_the_offer, nothing_found}
-use Rattle.acd_laws.proofs.Serving.{moved-append}
 use Rattle.acd_laws.proofs.Found.{count_new, count_less, connection_there}
 use Rattle.acd_laws.proofs.KeptOffer.{offer_station, offer_new, kept_offer}
 
@@ -126,8 +124,8 @@ offers_keep P m f (suc n) s es r h =
       | Some o ↦ λ e.
           let one : List Move = offer_moves s m o in
           let rest : List Move = offers n (moved s one) m in
-          subst (λ t. P t (es ++ events_of m (one ++ rest))) (sym (moved-append s one rest))
-          (subst (P (moved (moved s one) rest)) (append_assoc es (events_of m one) (events_of m rest) ∙ ap (λ qs. es ++ qs) (sym (events-append m one rest)))
+          subst (λ t. P t (es ++ events_of m (one ++ rest))) (sym (moved_append s one rest))
+          (subst (P (moved (moved s one) rest)) (append_assoc es (events_of m one) (events_of m rest) ∙ ap (λ qs. es ++ qs) (sym (events_of_append m one rest)))
           (offers_keep P m f n (moved s one) (es ++ events_of m one) (rules_offer s m o r e) (f s es o r h e)))
     ]) refl
 
@@ -172,7 +170,7 @@ none_left (suc n) s m r l =
     (elim (offer_of s) as (λ p. offer_of s ≡ p → offer_of (moved s (with_offer p [] (λ o. offer_moves s m o ++ offers n (moved s (offer_moves s m o)) m))) ≡ None) [
       | None ↦ λ e. e
       | Some o ↦ λ e. let f = fewer_queued s m o r e in
-          ap offer_of (moved-append s (offer_moves s m o) (offers n (moved s (offer_moves s m o)) m)) ∙ none_left n (moved s (offer_moves s m o)) m (rules_offer s m o r e) (omega (arith, f, l))
+          ap offer_of (moved_append s (offer_moves s m o) (offers n (moved s (offer_moves s m o)) m)) ∙ none_left n (moved s (offer_moves s m o)) m (rules_offer s m o r e) (omega (arith, f, l))
     ]) refl
 
 pub no_offer_after : (s : Rows) (m : ℕ) → Rules s → offer_of (moved s (distribution s m)) ≡ None

@@ -32,8 +32,7 @@ use Rattle.acd_terms.specs.declared.moves.Change.{Change}
 use Rattle.acd_terms.specs.declared.moves.Change.TheVariants.{Nothing, PutGroup, PutStation, PutAgent, PutCall, PutConnection, PutMonitor, RemoveCall, RemoveConnection, RemoveMonitor}
 use Rattle.acd_terms.specs.declared.moves.Offer.{Offer}
 use Rattle.acd_laws.specs.FigureLaws.{KeepsFigures, StepKeepsFigures, RunKeepsFigures, StepAddsFigures}
-use Rattle.acd_laws.proofs.Lists.{filter_among, among-remove}
-use Rattle.acd_laws.proofs.Members.{among_put, mapped_among}
+use Rattle.acd_laws.proofs.Lists.{filter_among, among-remove, among_put, mapped_among}
 use Rattle.acd_laws.proofs.Serving.{by_refusal}
 use Rattle.acd_laws.proofs.CountedEvents.{group_counted, quiet, figures_joined, figures_numbered, figures_skipped, no_events, nothing_sum}
 use Rattle.acd_laws.proofs.State.{group_found_put, group_counted_found, is_some_mapped}

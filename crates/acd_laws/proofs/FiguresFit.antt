@@ -35,8 +35,7 @@ use Rattle.acd_terms.specs.declared.moves.Change.TheVariants.{PutGroup, PutAgent
 use Rattle.acd_terms.specs.declared.moves.Release.{Release}
 use Rattle.acd_terms.specs.declared.moves.Release.TheVariants.{Stays, Goes}
 use Rattle.acd_terms.specs.declared.moves.Ending.{Ending}
-use Rattle.acd_laws.proofs.Lists.{find_among}
-use Rattle.acd_laws.proofs.Members.{found_among}
+use Rattle.acd_laws.proofs.Lists.{find_among, found_among}
 use Rattle.acd_laws.proofs.Serving.{by_refusal, by_found}
 use Rattle.acd_laws.proofs.CountedEvents.{group_counted}
 

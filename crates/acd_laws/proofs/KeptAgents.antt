@@ -32,6 +32,7 @@ use Rattle.acd_terms.specs.Tick.{rest_moves}
 use Rattle.acd_terms.specs.declared.command.Requested.{Requested}
 use Rattle.acd_terms.specs.declared.command.Requested.TheVariants as requested
 use Rattle.acd_terms.specs.declared.answer.Answer.TheVariants as answer
+use Rattle.acd_laws.proofs.States.{null_is}
 
 agent_seat_has : (s : Rows) (d : ℕ) (a : AgentRecord) → agent_at s d ≡ Some a → seated_at d a ≡ true
 agent_seat_has s d a e = rw (agent_seat s d a e).1 (eqb_self d)
@@ -128,10 +129,7 @@ seat_station s a h = let d = planned_some s a.station h.0 in (d.0, d.1, h)
 -- a seated agent has a station
 seat_there : (s : Rows) (a : AgentRecord) (st : AgentState) → is_null st ≡ false → SeatedAs s a st → (d : ℕ) × (a.station ≡ Some d) × (IsPlannedStation s a.station × IsPlannedGroup s a.group)
 seat_there s a A.Null e h = absurd (cc (e))
-seat_there s a A.NotReady e h = seat_station s a h
-seat_there s a A.Ready e h = seat_station s a h
-seat_there s a A.Busy e h = seat_station s a h
-seat_there s a A.WorkingAfterCall e h = seat_station s a h
+seat_there s a _ e h = seat_station s a h
 
 -- an unoccupied agent goes to a state other than busy
 pub kept_go_to : (s : Rows) (a : AgentRecord) (st : AgentState) (m k d : ℕ) → Rules s → agent_of s a.agent ≡ Some a → is_null a.state ≡ false → is_occupied s a ≡ false → is_busy st ≡ false → Rules (changed s (go_to m k a d st).change)
@@ -140,13 +138,6 @@ kept_go_to s a st m k at r there seated free not_busy =
     let d = seat_there s a a.state seated rule in
     loosen (λ e. false && not (d.0 == e)) (λ _. false) _ (λ e q. absurd (cc (q))) (λ e q. refl)
     (left_keeps (λ _. false) s a (in_state st m k a) d.0 r there d.1 (unoccupied s a d.0 d.1 free) (left_state s a st m k not_busy d.2))
-
-null_is : (st : AgentState) → is_null st ≡ true → st ≡ A.Null
-null_is A.Null e = refl
-null_is A.NotReady e = absurd (cc (e))
-null_is A.Ready e = absurd (cc (e))
-null_is A.Busy e = absurd (cc (e))
-null_is A.WorkingAfterCall e = absurd (cc (e))
 
 none_seated : (s : Rows) (d : ℕ) → agent_at s d ≡ None → count (seated_at d) s.agents ≡ 0
 unfolding agent_at
@@ -194,10 +185,7 @@ occupied_state s a r there e =
 
 not_working : (st : AgentState) → is_working_after_call st ≡ true → (is_null st ≡ false) × (is_ready st ≡ false) × (is_busy st ≡ false)
 not_working A.WorkingAfterCall e = (refl, refl, refl)
-not_working A.Null e = absurd (cc (e))
-not_working A.NotReady e = absurd (cc (e))
-not_working A.Ready e = absurd (cc (e))
-not_working A.Busy e = absurd (cc (e))
+not_working _ e = absurd (cc (e))
 
 -- after-call work ends
 pub kept_rest : (s : Rows) (m k d : ℕ) (a : AgentRecord) → Rules s → agent_of s a.agent ≡ Some a → is_working_after_call a.state ≡ true → Rules (changed s (go_to m k a d A.Ready).change)

@@ -5,9 +5,6 @@ use Rattle.std.proofs.lemmas.Bool.{and_parts, and_from, eqb-true, and_left, and_
 use Rattle.acd_terms.specs.declared.rows.Rows.{Rows}
 use Rattle.acd_terms.specs.declared.record.AgentRecord.{AgentRecord}
 use Rattle.acd_terms.specs.declared.record.ConnectionRecord.{ConnectionRecord}
-use Rattle.acd_terms.specs.declared.state.AgentState.{AgentState}
-use Rattle.acd_terms.specs.declared.state.AgentState.TheVariants as A
-use Rattle.acd_terms.specs.declared.state.ConnectionState.{ConnectionState}
 use Rattle.acd_terms.specs.declared.state.ConnectionState.TheVariants as S
 use Rattle.acd_terms.specs.declared.moves.Change.TheVariants.{PutConnection, RemoveConnection}
 use Rattle.acd_terms.specs.Lists.{count, Among}
@@ -27,17 +24,14 @@ use Rattle.acd_laws.proofs.Found.{count_new, count_less, connection_rule}
 use Rattle.acd_laws.proofs.Arriving.{idle_counts}
 use Rattle.acd_laws.proofs.KeptArrival.{one_le}
 use Rattle.acd_terms.specs.Distribution.{offer_at}
+use Rattle.acd_laws.proofs.States.{queued_is, ready_is}
 
 -- a distributed connection rings or is talked on, or neither
 pub ringing_is : (d : ℕ) (x : ConnectionRecord) → ringing_at d x ≡ true → is_distributed_at d x ≡ true
 ringing_is d x e =
     (elim x.state as (λ st. ((is_alerting st && is_some x.group) && (x.device == d)) ≡ true → ((is_some x.group && not (is_queued st)) && (x.device == d)) ≡ true) [
       | S.Alerting ↦ λ q. let h = and_parts (is_some x.group) (x.device == d) q in and_from _ _ (and_from _ _ h.0 refl) h.1
-      | S.Initiated ↦ λ q. absurd (cc (q))
-      | S.Connected ↦ λ q. absurd (cc (q))
-      | S.Hold ↦ λ q. absurd (cc (q))
-      | S.Queued ↦ λ q. absurd (cc (q))
-      | S.Fail ↦ λ q. absurd (cc (q))
+      | _ ↦ λ q. absurd (cc (q))
     ]) e
 
 pub talking_is : (d : ℕ) (x : ConnectionRecord) → talking_at d x ≡ true → is_distributed_at d x ≡ true
@@ -45,10 +39,7 @@ talking_is d x e =
     (elim x.state as (λ st. ((is_answered st && is_some x.group) && (x.device == d)) ≡ true → ((is_some x.group && not (is_queued st)) && (x.device == d)) ≡ true) [
       | S.Connected ↦ λ q. let h = and_parts (is_some x.group) (x.device == d) q in and_from _ _ (and_from _ _ h.0 refl) h.1
       | S.Hold ↦ λ q. let h = and_parts (is_some x.group) (x.device == d) q in and_from _ _ (and_from _ _ h.0 refl) h.1
-      | S.Initiated ↦ λ q. absurd (cc (q))
-      | S.Alerting ↦ λ q. absurd (cc (q))
-      | S.Queued ↦ λ q. absurd (cc (q))
-      | S.Fail ↦ λ q. absurd (cc (q))
+      | _ ↦ λ q. absurd (cc (q))
     ]) e
 
 -- a connection at an idle station is open
@@ -56,39 +47,14 @@ open_when_idle : (s : Rows) (z : ConnectionRecord) → Among z s.connections →
 unfolding is_taken
 open_when_idle s z a e =
     (elim z.state as (λ st. z.state ≡ st → is_open st ≡ true) [
-      | S.Alerting ↦ λ _. refl
-      | S.Queued ↦ λ _. refl
-      | S.Fail ↦ λ _. refl
       | S.Initiated ↦ λ q. absurd (busy (rw q (and_from _ _ (eqb_self z.device) refl)))
       | S.Connected ↦ λ q. absurd (busy (rw q (and_from _ _ (eqb_self z.device) refl)))
       | S.Hold ↦ λ q. absurd (busy (rw q (and_from _ _ (eqb_self z.device) refl)))
+      | _ ↦ λ _. refl
     ]) refl
   where
     busy : ((z.device == z.device) && (is_live z.state || is_hold z.state)) ≡ true → ⊥
     busy h = cc (any_some (λ x. x.device == z.device && (is_live x.state || is_hold x.state)) s.connections z a h, not-true _ e)
-
-pub queued_is : (st : ConnectionState) → is_queued st ≡ true → st ≡ S.Queued
-queued_is S.Queued e = refl
-queued_is S.Initiated e = absurd (cc (e))
-queued_is S.Alerting e = absurd (cc (e))
-queued_is S.Connected e = absurd (cc (e))
-queued_is S.Hold e = absurd (cc (e))
-queued_is S.Fail e = absurd (cc (e))
-
-pub alerting_is : (st : ConnectionState) → is_alerting st ≡ true → st ≡ S.Alerting
-alerting_is S.Alerting e = refl
-alerting_is S.Initiated e = absurd (cc (e))
-alerting_is S.Queued e = absurd (cc (e))
-alerting_is S.Connected e = absurd (cc (e))
-alerting_is S.Hold e = absurd (cc (e))
-alerting_is S.Fail e = absurd (cc (e))
-
-pub ready_is : (st : AgentState) → is_ready st ≡ true → st ≡ A.Ready
-ready_is A.Ready e = refl
-ready_is A.Null e = absurd (cc (e))
-ready_is A.NotReady e = absurd (cc (e))
-ready_is A.Busy e = absurd (cc (e))
-ready_is A.WorkingAfterCall e = absurd (cc (e))
 
 offered_rule : (s : Rows) (x : ConnectionRecord) (d m : ℕ) → ConnectionRule s x → is_queued x.state ≡ true → IsTrue (is_station s d) → ConnectionRule s (ringing m x d)
 offered_rule s x d m h q t =

@@ -5,7 +5,6 @@ use Rattle.std.proofs.lemmas.Bool.{and_parts, and_from, eqb-true, false_from_ne_
 use Rattle.acd_terms.specs.declared.rows.Rows.{Rows}
 use Rattle.acd_terms.specs.declared.record.CallRecord.{CallRecord}
 use Rattle.acd_terms.specs.declared.record.ConnectionRecord.{ConnectionRecord}
-use Rattle.acd_terms.specs.declared.state.ConnectionState.{ConnectionState}
 use Rattle.acd_terms.specs.declared.state.ConnectionState.TheVariants as S
 use Rattle.acd_terms.specs.declared.moves.Change.TheVariants.{PutCall, PutConnection}
 use Rattle.acd_terms.specs.Lists.{count, Among}
@@ -30,6 +29,7 @@ use Rattle.acd_laws.proofs.KeptTalking.{no_live}
 use Rattle.acd_laws.proofs.KeptGiving.{closed_of, closed_is, open_or_closed}
 use Rattle.acd_laws.proofs.Serving.{by_found, by_refusal}
 use Rattle.acd_terms.specs.Services.NewCalls.{make_call, phone_off_hook}
+use Rattle.acd_laws.proofs.States.{initiated_is}
 
 station_no_group : (s : Rows) (d : ℕ) → ((e : ℕ) → IsTrue (is_group s e) → IsFalse (is_station s e)) → IsTrue (is_station s d) → is_group s d ≡ false
 station_no_group s d kinds h = false_from_ne_true (is_group s d) (λ e. cc (kinds d e, h))
@@ -95,14 +95,6 @@ kept_make_call s m device called r =
     by_refusal (λ v. Rules (moved s (moves_of v))) _ _ _ (λ _. r) (λ free.
     by_refusal (λ v. Rules (moved s (moves_of v))) _ _ _ (λ _. r) (λ _.
     made s m device called r (not-false (is_station s device) station) (not-false (is_planned s called) known) differ free))))))
-
-pub initiated_is : (st : ConnectionState) → is_initiated st ≡ true → st ≡ S.Initiated
-initiated_is S.Initiated e = refl
-initiated_is S.Alerting e = absurd (cc (e))
-initiated_is S.Queued e = absurd (cc (e))
-initiated_is S.Connected e = absurd (cc (e))
-initiated_is S.Hold e = absurd (cc (e))
-initiated_is S.Fail e = absurd (cc (e))
 
 is_caller_of : (o : Option CallRecord) (c : CallRecord) (d : ℕ) → o ≡ Some c → IsCaller o d → c.caller ≡ d
 is_caller_of o c d e h = subst (λ v. IsCaller v d) e h

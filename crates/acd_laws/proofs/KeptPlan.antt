@@ -50,11 +50,9 @@ nobody_at s d r free z a =
     cases : (st : ConnectionState) → z.device ≡ d → is_group s d ≡ false → is_station s d ≡ false → list_any (λ (c : CallRecord). c.caller == d) s.calls ≡ false → StandsAt s z st → ⊥
     cases S.Queued e g t f h = cc (subst (λ v. is_group s v ≡ true) e h, g)
     cases S.Initiated e g t f h = cc (subst (λ v. is_station s v ≡ true) e h.0, t)
-    cases S.Alerting e g t f h = cc (subst (λ v. is_station s v ≡ true) e h, t)
-    cases S.Hold e g t f h = cc (subst (λ v. is_station s v ≡ true) e h, t)
-    cases S.Fail e g t f h = cc (subst (λ v. is_station s v ≡ true) e h, t)
     cases S.Connected e g t f (inl h) = cc (subst (λ v. is_station s v ≡ true) e h, t)
     cases S.Connected e g t f (inr h) = caller (call_of s z.call) refl e f h.1
+    cases _ e g t f h = cc (subst (λ v. is_station s v ≡ true) e h, t)
 
 -- seats and columns with more devices planned
 more_station : (s t : Rows) → ((d : ℕ) → IsTrue (is_station s d) → IsTrue (is_station t d)) → (o : Option ℕ) → IsPlannedStation s o → IsPlannedStation t o
@@ -67,10 +65,7 @@ more_group s t f (Some d) h = f d h
 
 more_seat : (s t : Rows) → ((d : ℕ) → IsTrue (is_station s d) → IsTrue (is_station t d)) → ((d : ℕ) → IsTrue (is_group s d) → IsTrue (is_group t d)) → (a : AgentRecord) (st : AgentState) → SeatedAs s a st → SeatedAs t a st
 more_seat s t f g a A.Null h = h
-more_seat s t f g a A.NotReady h = (more_station s t f a.station h.0, more_group s t g a.group h.1)
-more_seat s t f g a A.Ready h = (more_station s t f a.station h.0, more_group s t g a.group h.1)
-more_seat s t f g a A.Busy h = (more_station s t f a.station h.0, more_group s t g a.group h.1)
-more_seat s t f g a A.WorkingAfterCall h = (more_station s t f a.station h.0, more_group s t g a.group h.1)
+more_seat s t f g a _ h = (more_station s t f a.station h.0, more_group s t g a.group h.1)
 
 more_column : (s t : Rows) → ((d : ℕ) → IsTrue (is_group s d) → IsTrue (is_group t d)) → (o : Option ℕ) → GroupColumn s o → GroupColumn t o
 more_column s t g None h = tt
@@ -80,11 +75,9 @@ more_stands : (s t : Rows) → ((d : ℕ) → IsTrue (is_station s d) → IsTrue
     → (is_planned s z.device ≡ false → is_planned t z.device ≡ false) → (st : ConnectionState) → StandsAt s z st → StandsAt t z st
 more_stands s t f g z c p S.Queued h = g z.device h
 more_stands s t f g z c p S.Initiated h = (f z.device h.0, subst (λ o. IsCaller o z.device) (sym c) h.1)
-more_stands s t f g z c p S.Alerting h = f z.device h
-more_stands s t f g z c p S.Hold h = f z.device h
-more_stands s t f g z c p S.Fail h = f z.device h
 more_stands s t f g z c p S.Connected (inl h) = inl (f z.device h)
 more_stands s t f g z c p S.Connected (inr h) = inr (p h.0, subst (λ o. IsCaller o z.device) (sym c) h.1)
+more_stands s t f g z c p _ h = f z.device h
 
 -- a group is planned
 kept_group : (s : Rows) (g : GroupRecord) → Rules s → is_used s g.device ≡ false → Rules (changed s (PutGroup g))

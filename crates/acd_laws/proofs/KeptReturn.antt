@@ -22,7 +22,7 @@ use Rattle.acd_laws.proofs.Lists.{one, ascending-put, ascending-remove, every-pu
 use Rattle.acd_laws.proofs.Keyed.{eqb_self}
 use Rattle.acd_laws.proofs.State.{connections_total, found_key, connection_among, still_none}
 use Rattle.acd_laws.proofs.Found.{count_new, count_less, connection_rule}
-use Rattle.acd_laws.proofs.KeptOffer.{alerting_is}
+use Rattle.acd_laws.proofs.States.{alerting_is}
 use Rattle.acd_laws.proofs.Releasing.{after_release, loosen}
 use Rattle.acd_terms.specs.Tick.{return_to}
 
@@ -30,11 +30,9 @@ use Rattle.acd_terms.specs.Tick.{return_to}
 at_group_queued : (s : Rows) (z : ConnectionRecord) (st : ConnectionState) → ((d : ℕ) → IsTrue (is_group s d) → IsFalse (is_station s d)) → StandsAt s z st → IsTrue (is_group s z.device) → st ≡ S.Queued
 at_group_queued s z S.Queued kinds h g = refl
 at_group_queued s z S.Initiated kinds h g = absurd (cc (h.0, kinds z.device g))
-at_group_queued s z S.Alerting kinds h g = absurd (cc (h, kinds z.device g))
-at_group_queued s z S.Hold kinds h g = absurd (cc (h, kinds z.device g))
-at_group_queued s z S.Fail kinds h g = absurd (cc (h, kinds z.device g))
 at_group_queued s z S.Connected kinds (inl h) g = absurd (cc (h, kinds z.device g))
 at_group_queued s z S.Connected kinds (inr h) g = absurd (cc (h.0, or_left (is_group s z.device) (is_station s z.device) g))
+at_group_queued s z _ kinds h g = absurd (cc (h, kinds z.device g))
 
 pub and_not : (a : Bool) → (a && not a) ≡ false
 and_not true = refl

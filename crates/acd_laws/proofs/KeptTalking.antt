@@ -25,7 +25,8 @@ use Rattle.acd_laws.proofs.Lists.{one, ascending-put, every-put, counted, none_c
 use Rattle.acd_laws.proofs.State.{agents_total, connections_total, found_key, own_key, connection_among}
 use Rattle.acd_laws.proofs.Found.{count_old, count_agent, connection_rule}
 use Rattle.acd_laws.proofs.KeptArrival.{one_le}
-use Rattle.acd_laws.proofs.KeptOffer.{ringing_is, alerting_is, ready_is}
+use Rattle.acd_laws.proofs.KeptOffer.{ringing_is}
+use Rattle.acd_laws.proofs.States.{alerting_is, ready_is, connected_is, hold_is}
 use Rattle.acd_laws.proofs.Releasing.{Serves, serving}
 use Rattle.acd_laws.proofs.Serving.{by_found, by_refusal}
 use Rattle.acd_terms.specs.Services.Talking.{answer_call, hold_call, retrieve_call, occupy, busy_agent}
@@ -117,22 +118,6 @@ kept_answer_call s m k call device r =
     by_refusal (λ v. Rules (moved s (moves_of v))) _ _ _ (λ _. r) (λ alerting.
     kept_answer s m k x r (own_key s call device x ex) (not-false (is_alerting x.state) alerting))))
 
-pub connected_is : (st : ConnectionState) → is_connected st ≡ true → st ≡ S.Connected
-connected_is S.Connected e = refl
-connected_is S.Alerting e = absurd (cc (e))
-connected_is S.Initiated e = absurd (cc (e))
-connected_is S.Queued e = absurd (cc (e))
-connected_is S.Hold e = absurd (cc (e))
-connected_is S.Fail e = absurd (cc (e))
-
-pub hold_is : (st : ConnectionState) → is_hold st ≡ true → st ≡ S.Hold
-hold_is S.Hold e = refl
-hold_is S.Alerting e = absurd (cc (e))
-hold_is S.Initiated e = absurd (cc (e))
-hold_is S.Queued e = absurd (cc (e))
-hold_is S.Connected e = absurd (cc (e))
-hold_is S.Fail e = absurd (cc (e))
-
 -- a connected call and a held one change places: x before, y after
 turned : (s : Rows) (x y : ConnectionRecord) → Rules s → connection_of s x.call x.device ≡ Some x → y.call ≡ x.call → y.device ≡ x.device → ConnectionRule s y
     → is_answered x.state ≡ true → is_answered y.state ≡ true → y.group ≡ x.group
@@ -174,18 +159,12 @@ turned s x y r ex yc yd rule ax ay yg one_live no_hold =
     answered_only : (st : ConnectionState) → is_answered st ≡ true → (is_initiated st ≡ false) × (is_open st ≡ false) × (is_alerting st ≡ false) × (is_queued st ≡ false)
     answered_only S.Connected e = (refl, refl, refl, refl)
     answered_only S.Hold e = (refl, refl, refl, refl)
-    answered_only S.Initiated e = absurd (cc (e))
-    answered_only S.Alerting e = absurd (cc (e))
-    answered_only S.Queued e = absurd (cc (e))
-    answered_only S.Fail e = absurd (cc (e))
+    answered_only _ e = absurd (cc (e))
 
 bare_answered : (s : Rows) (x : ConnectionRecord) (st : ConnectionState) → is_answered st ≡ true → HasColumns x st → Bare x
 bare_answered s x S.Connected e h = h
 bare_answered s x S.Hold e h = h
-bare_answered s x S.Initiated e h = absurd (cc (e))
-bare_answered s x S.Alerting e h = absurd (cc (e))
-bare_answered s x S.Queued e h = absurd (cc (e))
-bare_answered s x S.Fail e h = absurd (cc (e))
+bare_answered s x _ e h = absurd (cc (e))
 
 connected_at : ℕ → ConnectionRecord → Bool
 connected_at d x = is_connected x.state && x.device == d
@@ -194,11 +173,7 @@ alerting_or_connected : (d : ℕ) (x : ConnectionRecord) → one (alerting_at d 
 unfolding connected_at
 alerting_or_connected d x = elim x.state as (λ st. one (is_alerting st && x.device == d) + one (is_connected st && x.device == d) ≤ one (is_live st && x.device == d)) [
   | S.Queued ↦ omega arith
-  | S.Alerting ↦ omega arith
-  | S.Fail ↦ omega arith
-  | S.Initiated ↦ omega arith
-  | S.Connected ↦ omega arith
-  | S.Hold ↦ omega arith
+  | _ ↦ omega arith
 ]
 
 pub kept_hold : (s : Rows) (x : ConnectionRecord) → Rules s → connection_of s x.call x.device ≡ Some x → IsTrue (is_station s x.device) → is_connected x.state ≡ true → Rules (moved s (hold x ∷ []))

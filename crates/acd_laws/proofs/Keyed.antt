@@ -15,6 +15,9 @@ use Rattle.acd_laws.proofs.Lists.{one, eq_is, is_eq_of, find_by_find, find-put, 
 pub eqb_self : (n : ℕ) → (n == n) ≡ true
 eqb_self n = eq-eqb n n refl
 
+pub eqb_swap : (m n : ℕ) → (m == n) ≡ (n == m)
+eqb_swap m n = both_ways (m == n) (n == m) (λ e. eq-eqb n m (sym (eqb-true m n e))) (λ e. eq-eqb m n (sym (eqb-true n m e)))
+
 pub cmp_equal : (m n : ℕ) → nat_cmp m n ≡ Equal → m ≡ n
 cmp_equal m n e = grind (arith, nat_tests)
 

@@ -16,7 +16,7 @@ use Rattle.acd_terms.specs.declared.moves.Move.{Move}
 use Rattle.acd_terms.specs.declared.moves.Change.{Change}
 use Rattle.acd_terms.specs.declared.moves.Change.TheVariants.{Nothing, PutGroup, PutStation, PutAgent, PutCall, PutConnection, PutMonitor, RemoveCall, RemoveConnection, RemoveMonitor}
 use Rattle.acd_laws.specs.PlacedLaws.{IsUpTo, NamesNoLaterCall, clearings, KeepsClearings}
-use Rattle.acd_laws.proofs.Lists.{one, count-append}
+use Rattle.acd_laws.proofs.Lists.{one, count-append, every-append}
 use Rattle.acd_laws.proofs.CountedEvents.{count_numbered}
 
 -- what a report that may be there clears and names
@@ -102,10 +102,6 @@ later_in last more (Some r) l h = later last more (columns_of r).call l h
 grown : (s : Rows) (ms : List Move) → AllCounted s ms → s.last_call ≤ (moved s ms).last_call
 grown s [] h = omega arith
 grown s (x ∷ ms) h = let a = h.0.grows in let b = grown (changed s x.change) ms h.1 in omega (arith, a, b)
-
-every-append : {X : Type 0} (P : X → Type 0) (xs ys : List X) → Every P xs → Every P ys → Every P (xs ++ ys)
-every-append P [] ys h g = g
-every-append P (x ∷ xs) ys h g = (h.0, every-append P xs ys h.1 g)
 
 every_later : (last more : ℕ) → last ≤ more → (es : List Event) → Every (Named last) es → Every (Named more) es
 every_later last more l [] h = tt

@@ -1,13 +1,12 @@
 pub mod Facts
 pub mod Least
 pub mod OfferFound
-pub mod Members
-pub mod MoveEvents
 pub mod CountedEvents
 pub mod FiguresFit
 pub mod FiguresCounted
 pub mod Lists
 pub mod Keyed
+pub mod States
 pub mod State
 pub mod Serving
 pub mod Found

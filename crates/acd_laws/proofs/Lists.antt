@@ -1,5 +1,5 @@
 -- Lemmas on lists of records in ascending key.
-use Rattle.std.proofs.Common.{◌≡◌, ℕ, ◌+◌, ◌≤◌, inl, inr, Bool, true, false, not, ◌||◌, cond, List, [], ◌∷◌, ◌++◌, Option, Some, None, refl, sym, ◌∙◌, ap, subst, arith, length}
+use Rattle.std.proofs.Common.{◌≡◌, ℕ, ◌+◌, ◌≤◌, inl, inr, Bool, true, false, not, ◌||◌, cond, List, [], ◌∷◌, ◌++◌, Option, Some, None, refl, sym, ◌∙◌, ap, subst, arith, length, map, ◌⊎◌}
 use Rattle.std.specs.Prelude.{is_some, filter, find}
 use Rattle.std.specs.List.{list_any, list_all}
 use Rattle.std.specs.declared.cmp.Ordering.{Ordering}
@@ -13,9 +13,8 @@ abbrev pub one : Bool → ℕ
 one b = cond b 1 0
 
 pub eq_is : (o : Ordering) → is_eq o ≡ true → o ≡ Equal
-eq_is Less e = absurd (cc (e))
 eq_is Equal e = refl
-eq_is Greater e = absurd (cc (e))
+eq_is _ e = absurd (cc (e))
 
 pub is_eq_of : (o : Ordering) → o ≡ Equal → is_eq o ≡ true
 is_eq_of o e = rw e refl
@@ -259,9 +258,8 @@ count-put_most at p x [] = omega arith
 count-put_most at p x (y ∷ ys) =
     let ih = count-put_most at p x ys in
     elim (at y) as (λ o. count p (match_ordering o (x ∷ y ∷ ys) (x ∷ ys) (y ∷ put_by at ys x)) ≤ one (p x) + (one (p y) + count p ys)) [
-      | Less ↦ omega arith
-      | Equal ↦ omega arith
       | Greater ↦ omega (arith, ih)
+      | _ ↦ omega arith
     ]
 
 pub count-remove_most : {X : Type 0} (at : X → Ordering) (p : X → Bool) (xs : List X) → count p (remove_by at xs) ≤ count p xs
@@ -288,6 +286,10 @@ every_among P (y ∷ ys) x h (inr a) = every_among P ys x h.1 a
 pub every_from : {X : Type 0} (P : X → Type 0) (xs : List X) → ((x : X) → Among x xs → P x) → Every P xs
 every_from P [] h = tt
 every_from P (y ∷ ys) h = (h y (inl refl), every_from P ys (λ x a. h x (inr a)))
+
+pub every-append : {X : Type 0} (P : X → Type 0) (xs ys : List X) → Every P xs → Every P ys → Every P (xs ++ ys)
+every-append P [] ys h g = g
+every-append P (x ∷ xs) ys h g = (h.0, every-append P xs ys h.1 g)
 
 pub every-put : {X : Type 0} (at : X → Ordering) (P : X → Type 0) (x : X) → P x → (xs : List X) → Every P xs → Every P (put_by at xs x)
 every-put at P x p [] h = (p, tt)
@@ -429,3 +431,28 @@ some_from (Some x) e = (x, refl)
 
 pub some_is : {X : Type 0} (x y : X) → Some x ≡ Some y → x ≡ y
 some_is x y e = cc
+
+-- what stands in a list after a put, or under a map, and what a look-up finds of it
+
+pub among_put : {T : Type 0} (at : T → Ordering) (r : T) (xs : List T) (z : T) → Among z (put_by at xs r) → (z ≡ r) ⊎ Among z xs
+among_put at r [] z (inl e) = inl e
+among_put at r [] z (inr a) = absurd a
+among_put at r (x ∷ xs) z a =
+    (elim (at x) as (λ o. Among z (match_ordering o (r ∷ x ∷ xs) (r ∷ xs) (x ∷ put_by at xs r)) → (z ≡ r) ⊎ Among z (x ∷ xs)) [
+      | Less ↦ λ b. b
+      | Equal ↦ λ b. elim b [ inl e ↦ inl e | inr w ↦ inr (inr w) ]
+      | Greater ↦ λ b. elim b [ inl e ↦ inr (inl e) | inr w ↦ elim (among_put at r xs z w) [ inl e ↦ inl e | inr v ↦ inr (inr v) ] ]
+    ]) a
+
+pub found_among : {T : Type 0} (at : T → Ordering) (xs : List T) (x : T) → find_by at xs ≡ Some x → Among x xs
+found_among at [] x e = absurd (cc (e))
+found_among at (y ∷ ys) x e =
+    (elim (is_eq (at y)) as (λ b. cond b (Some y) (find_by at ys) ≡ Some x → Among x (y ∷ ys)) [
+      | true ↦ λ q. inl cc
+      | false ↦ λ q. inr (found_among at ys x q)
+    ]) e
+
+pub mapped_among : {T S : Type 0} (f : T → S) (xs : List T) (z : S) → Among z (map f xs) → (x : T) × (Among x xs × (z ≡ f x))
+mapped_among f [] z a = absurd a
+mapped_among f (x ∷ xs) z (inl e) = (x, (inl refl, e))
+mapped_among f (x ∷ xs) z (inr a) = let m = mapped_among f xs z a in (m.0, (inr m.1.0, m.1.1))

@@ -9,23 +9,19 @@ use Rattle.acd_terms.specs.OneOffer.{IsAttended, IsTalking, HasOneOffer}
 use Rattle.acd_terms.specs.declared.rows.Rows.{Rows}
 use Rattle.acd_terms.specs.declared.record.AgentRecord.{AgentRecord}
 use Rattle.acd_terms.specs.declared.record.ConnectionRecord.{ConnectionRecord}
-use Rattle.acd_terms.specs.declared.state.AgentState.{AgentState}
 use Rattle.acd_terms.specs.declared.state.AgentState.TheVariants as A
 use Rattle.acd_laws.proofs.Facts.{Rules, IsPlannedStation, SeatedAs, AgentRule, ConnectionRule, talking_at, busy_at}
 use Rattle.acd_laws.specs.OneOfferLaws.{RunHasOneOffer}
 use Rattle.acd_laws.proofs.Lists.{every_among, counted, some_from}
 use Rattle.acd_laws.proofs.Keyed.{eqb_self}
-use Rattle.acd_laws.proofs.KeptOffer.{ready_is, talking_is}
+use Rattle.acd_laws.proofs.States.{ready_is, busy_is}
+use Rattle.acd_laws.proofs.KeptOffer.{talking_is}
 use Rattle.acd_laws.proofs.Releasing.{serving, alerting_or_answered}
 use Rattle.acd_laws.proofs.Decided.{one_that}
 use Rattle.acd_laws.proofs.Ended.{rules_step}
 use Rattle.acd_laws.proofs.Runs.{kept_by_run, rules_first}
 use Rattle.acd_terms.specs.Step.{step}
 use Rattle.acd_terms.specs.declared.command.Command.{Command}
-
-pub busy_is : (st : AgentState) → is_busy st ≡ true → st ≡ A.Busy
-busy_is A.Busy e = refl
-busy_is _ e = absurd (cc (e))
 
 planned_some : (s : Rows) (o : Option ℕ) → IsPlannedStation s o → is_some o ≡ true
 planned_some s None h = absurd h

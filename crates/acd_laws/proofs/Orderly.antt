@@ -124,10 +124,7 @@ fit_arrive s t k m c d cause l = record { fit = timed_arriving (is_group s d) (i
 
 fit_state : (t : Rows) (k m : ℕ) (a : AgentRecord) (st : AgentState) (n d : ℕ) → AgentTimed k m a → FitMove t k m (reported (PutAgent a) (state_report st n d))
 fit_state t k m a A.Null n d h = record { fit = h; waits = tt }
-fit_state t k m a A.NotReady n d h = record { fit = h; waits = tt }
-fit_state t k m a A.Ready n d h = record { fit = h; waits = tt }
-fit_state t k m a A.Busy n d h = record { fit = h; waits = tt }
-fit_state t k m a A.WorkingAfterCall n d h = record { fit = h; waits = tt }
+fit_state t k m a _ n d h = record { fit = h; waits = tt }
 
 pub fit_go_to : (t : Rows) (k m d : ℕ) (a : AgentRecord) (st : AgentState) → 1 ≤ k → FitMove t k m (go_to m k a d st)
 fit_go_to t k m d a st l = fit_state t k m (in_state st m k a) st a.agent d (record { above = l; stamp = omega arith; since = omega arith })
@@ -190,10 +187,7 @@ entry_most g x = entry_le g x.report
 
 entry_state : (g : ℕ) (st : AgentState) (n d : ℕ) → entry_by g (Some (state_report st n d)) ≡ 0
 entry_state g A.Null n d = refl
-entry_state g A.NotReady n d = refl
-entry_state g A.Ready n d = refl
-entry_state g A.Busy n d = refl
-entry_state g A.WorkingAfterCall n d = refl
+entry_state g _ n d = refl
 
 entry_release_agent : (g m k d : ℕ) (o : Option AgentRecord) (how : Ending) → entry_by g (release_agent m k o d how).report ≡ 0
 entry_release_agent g m k d None how = refl

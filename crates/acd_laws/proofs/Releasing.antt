@@ -30,15 +30,13 @@ use Rattle.acd_laws.proofs.Lists.{one, ascending-put, every_among, every-put, am
 use Rattle.acd_laws.proofs.Keyed.{eqb_self}
 use Rattle.acd_laws.proofs.State.{agents_total, agent_put, agent_among}
 use Rattle.acd_laws.proofs.Found.{count_agent, agent_seat, agent_there}
-use Rattle.acd_laws.proofs.KeptOffer.{ringing_is, talking_is, ready_is}
+use Rattle.acd_laws.proofs.KeptOffer.{ringing_is, talking_is}
+use Rattle.acd_laws.proofs.States.{ready_is}
 
 -- a seat that a station has
 pub seat_from : (s : Rows) (a : AgentRecord) (d : ℕ) (st : AgentState) → SeatedAs s a st → a.station ≡ Some d → IsPlannedStation s a.station × IsPlannedGroup s a.group
 seat_from s a d A.Null h e = absurd (cc (h.0, e))
-seat_from s a d A.NotReady h e = h
-seat_from s a d A.Ready h e = h
-seat_from s a d A.Busy h e = h
-seat_from s a d A.WorkingAfterCall h e = h
+seat_from s a d _ h e = h
 
 -- the record that a release leaves
 pub record Left (s : Rows) (a b : AgentRecord) : Type 0 where
@@ -50,17 +48,12 @@ pub record Left (s : Rows) (a b : AgentRecord) : Type 0 where
 
 pub left_pending : (s : Rows) (a : AgentRecord) (st : AgentState) → SeatedAs s a st → SeatedAs s (record a { pending = None }) st
 left_pending s a A.Null h = (h.0, h.1, refl)
-left_pending s a A.NotReady h = h
-left_pending s a A.Ready h = h
-left_pending s a A.Busy h = h
-left_pending s a A.WorkingAfterCall h = h
+left_pending s a _ h = h
 
 pub left_state : (s : Rows) (a : AgentRecord) (st : AgentState) (m k : ℕ) → is_busy st ≡ false → IsPlannedStation s a.station × IsPlannedGroup s a.group → Left s a (in_state st m k a)
 left_state s a A.Null m k n h = record { agent = refl; rule = (refl, refl, refl); station = λ e q. absurd (cc (q)); not_busy = refl; settled = refl }
-left_state s a A.NotReady m k n h = record { agent = refl; rule = h; station = λ e q. q; not_busy = refl; settled = refl }
-left_state s a A.Ready m k n h = record { agent = refl; rule = h; station = λ e q. q; not_busy = refl; settled = refl }
 left_state s a A.Busy m k n h = absurd (cc (n))
-left_state s a A.WorkingAfterCall m k n h = record { agent = refl; rule = h; station = λ e q. q; not_busy = refl; settled = refl }
+left_state s a _ m k n h = record { agent = refl; rule = h; station = λ e q. q; not_busy = refl; settled = refl }
 
 pub wanted_not_busy : (w : Pending) (st : AgentState) → state_wanted w ≡ st → is_busy st ≡ false
 wanted_not_busy W.LoggedOff st e = rw (← e) refl
@@ -211,11 +204,10 @@ alerting_or_answered s x rule e = cases x.state rule.0 (and_parts (is_some x.gro
   where
     cases : (st : ConnectionState) → HasColumns x st → is_some x.group ≡ true → not (is_queued st) ≡ true → (is_alerting st ≡ true) ⊎ (is_answered st ≡ true)
     cases S.Alerting c g q = inl refl
-    cases S.Connected c g q = inr refl
-    cases S.Hold c g q = inr refl
     cases S.Queued c g q = absurd (cc (q))
     cases S.Initiated c g q = absurd (cc (rw c.1 at g))
     cases S.Fail c g q = absurd (cc (rw c.1 at g))
+    cases _ c g q = inr refl
 
 pub serving : (s : Rows) (x : ConnectionRecord) → Rules s → Among x s.connections → is_distributed x ≡ true → (a : AgentRecord) × Serves s x a
 unfolding agent_at

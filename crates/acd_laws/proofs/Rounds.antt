@@ -16,7 +16,7 @@ use Rattle.acd_terms.specs.CallMoves.{queueing, ringing}
 use Rattle.acd_terms.specs.AgentMoves.{go_from}
 use Rattle.acd_terms.specs.Rules.Plan.{agent_order}
 use Rattle.acd_laws.proofs.Facts.{Rules, IsMoment, IsAfter, ConnectionTimed, at_place, Timed}
-use Rattle.acd_laws.proofs.Lists.{one, every_among, count-append}
+use Rattle.acd_laws.proofs.Lists.{one, every_among, count-append, every-append}
 use Rattle.acd_laws.proofs.State.{connection_among}
 use Rattle.acd_terms.specs.declared.event.Event.{Event}
 use Rattle.acd_terms.specs.declared.event.Report.{Report}
@@ -50,10 +50,6 @@ waits_event m (Some r) es h g = (h, g)
 pub waits_events : (s : Rows) (k m : ℕ) (ms : List Move) → AllFit s k m ms → AllWait m (events_of m ms)
 waits_events s k m [] f = tt
 waits_events s k m (x ∷ xs) f = waits_event m x.report (events_of m xs) f.0.waits (waits_events s k m xs f.1)
-
-pub every-append : {X : Type 0} (P : X → Type 0) (xs ys : List X) → Every P xs → Every P ys → Every P (xs ++ ys)
-every-append P [] ys h g = g
-every-append P (x ∷ xs) ys h g = (h.0, every-append P xs ys h.1 g)
 
 -- what rounds keep, from the state in which they begin
 pub record Within (s : Rows) (k m : ℕ) (t : Rows) (es : List Event) : Type 0 where

@@ -4,9 +4,6 @@ use Rattle.std.specs.Prelude.{◌==◌}
 use Rattle.std.proofs.lemmas.Bool.{and_parts, eqb-true, false_from_ne_true}
 use Rattle.acd_terms.specs.declared.rows.Rows.{Rows}
 use Rattle.acd_terms.specs.declared.record.GroupRecord.{GroupRecord}
-use Rattle.acd_terms.specs.declared.record.ConnectionRecord.{ConnectionRecord}
-use Rattle.acd_terms.specs.declared.state.ConnectionState.{ConnectionState}
-use Rattle.acd_terms.specs.declared.state.ConnectionState.TheVariants as S
 use Rattle.acd_terms.specs.declared.moves.Move.{Move}
 use Rattle.acd_terms.specs.Lists.{count, total, Among, Every}
 use Rattle.acd_terms.specs.States.{is_alerting, is_queued}
@@ -44,6 +41,7 @@ use Rattle.acd_laws.proofs.Numbers.{greatest}
 use Rattle.acd_laws.proofs.BoundsStep.{After, Before, after_moves}
 use Rattle.acd_laws.proofs.DecidedAll.{keeps_read, requests_read, keeps_written}
 use Rattle.acd_laws.proofs.Ended.{ended, planned_ended, rules_step}
+use Rattle.acd_laws.proofs.States.{queued_is}
 
 -- places
 
@@ -105,20 +103,12 @@ none_held : (s : Rows) (d : ℕ) → Rules s → is_group s d ≡ false → hold
 none_held s d r e =
     let a = count_zero (waits_in d) s.connections (λ x i. false_from_ne_true (waits_in d x) (λ q.
     let h = and_parts (x.device == d) (is_queued x.state) q in
-    cc (e, subst (λ v. is_group s v ≡ true) (eqb-true x.device d h.0) (stands x x.state h.1 (every_among (ConnectionRule s) s.connections x r.connections i).2)))) in
+    cc (e, subst (λ v. is_group s v ≡ true) (eqb-true x.device d h.0) (subst (StandsAt s x) (queued_is x.state h.1) (every_among (ConnectionRule s) s.connections x r.connections i).2)))) in
     let b = count_zero (rings_from d) s.connections (λ x i. false_from_ne_true (rings_from d x) (λ q.
     let h = and_parts (has x.group d) (is_alerting x.state) q in
     cc (e, column x.group h.0 (every_among (ConnectionRule s) s.connections x r.connections i).1))) in
     omega (arith, a, b)
   where
-    stands : (x : ConnectionRecord) (st : ConnectionState) → is_queued st ≡ true → StandsAt s x st → is_group s x.device ≡ true
-    stands x S.Queued q h = h
-    stands x S.Initiated q h = absurd (cc (q))
-    stands x S.Alerting q h = absurd (cc (q))
-    stands x S.Connected q h = absurd (cc (q))
-    stands x S.Hold q h = absurd (cc (q))
-    stands x S.Fail q h = absurd (cc (q))
-
     column : (o : Option ℕ) → has o d ≡ true → GroupColumn s o → is_group s d ≡ true
     column None q h = absurd (cc (q))
     column (Some g) q h = subst (λ v. is_group s v ≡ true) (eqb-true g d q) h

@@ -10,7 +10,7 @@ use Rattle.acd_terms.specs.declared.command.Command.TheVariants.{AddGroup, AddSt
 use Rattle.acd_terms.specs.Services.Serve.{serve}
 use Rattle.acd_terms.specs.Step.{step_moves}
 use Rattle.acd_terms.specs.Distribution.{distribution}
-use Rattle.acd_laws.proofs.Serving.{moved-append}
+use Rattle.acd_terms.proofs.MoveLemmas.{moved_append}
 use Rattle.acd_laws.proofs.Ticking.{tick_keeps}
 use Rattle.acd_laws.proofs.Distributing.{rules_distribution}
 use Rattle.acd_laws.proofs.KeptArrival.{kept_arrive_call}
@@ -42,4 +42,4 @@ rules_serve s m k Tick r = (tick_keeps (λ t es. Unit {0}) m k (λ t es x g r h 
 pub rules_moves : (s : Rows) (m k : ℕ) (c : Command) → Rules s → Rules (moved s (step_moves s m (serve s m k c)))
 rules_moves s m k c r =
     let ms : List Move = moves_of (serve s m k c) in
-    subst Rules (sym (moved-append s ms (distribution (moved s ms) m))) (rules_distribution (moved s ms) m (rules_serve s m k c r))
+    subst Rules (sym (moved_append s ms (distribution (moved s ms) m))) (rules_distribution (moved s ms) m (rules_serve s m k c r))

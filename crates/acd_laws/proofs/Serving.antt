@@ -1,12 +1,9 @@
 -- How to show a fact of what a service answers: of each refusal, and of what follows where no test holds.
-use Rattle.std.proofs.Common.{◌≡◌, Bool, true, false, List, [], ◌∷◌, ◌++◌, Option, Some, None, refl}
-use Rattle.acd_terms.specs.declared.rows.Rows.{Rows}
+use Rattle.std.proofs.Common.{◌≡◌, Bool, true, false, Option, Some, None, refl}
 use Rattle.acd_terms.specs.declared.answer.Refusal.{Refusal}
-use Rattle.acd_terms.specs.declared.moves.Move.{Move}
 use Rattle.acd_terms.specs.declared.moves.Served.{Served}
 use Rattle.acd_terms.specs.declared.moves.Served.TheVariants.{Refused}
 use Rattle.acd_terms.specs.Served.{refuse_if, with_found}
-use Rattle.acd_terms.specs.Moves.{moved, changed}
 
 pub by_refusal : (P : Served → Type 0) (b : Bool) (r : Refusal) (rest : Served) → ((r : Refusal) → P (Refused r)) → (b ≡ false → P rest) → P (refuse_if b r rest)
 unfolding refuse_if
@@ -17,7 +14,3 @@ pub by_found : {T : Type 0} (P : Served → Type 0) (o : Option T) (r : Refusal)
 unfolding with_found
 by_found P None r rest f h = f r
 by_found P (Some x) r rest f h = h x refl
-
-pub moved-append : (s : Rows) (ms ns : List Move) → moved s (ms ++ ns) ≡ moved (moved s ms) ns
-moved-append s [] ns = refl
-moved-append s (m ∷ ms) ns = moved-append (changed s m.change) ms ns

@@ -22,14 +22,13 @@ use Rattle.acd_terms.specs.declared.moves.Served.{Served}
 use Rattle.acd_terms.specs.declared.moves.Change.TheVariants.{PutCall, PutConnection}
 use Rattle.acd_terms.specs.Rules.Calls.{is_open, parties_of}
 use Rattle.acd_laws.proofs.Facts.{StandsAt, Rules}
-use Rattle.acd_laws.proofs.Lists.{one, two_counted}
-use Rattle.acd_laws.proofs.Members.{among_put}
+use Rattle.acd_laws.proofs.Lists.{one, two_counted, among_put}
 use Rattle.acd_laws.proofs.Keyed.{eqb_self}
 use Rattle.acd_laws.proofs.State.{found_key, own_key, connection_among, put_other}
 use Rattle.acd_laws.proofs.Serving.{by_refusal, by_found}
 use Rattle.acd_laws.proofs.Found.{connection_there, connection_rule, none_above, agent_there}
-use Rattle.acd_laws.proofs.KeptOut.{initiated_is, initiated_alone, outgoing}
-use Rattle.acd_laws.proofs.KeptTalking.{hold_is}
+use Rattle.acd_laws.proofs.States.{initiated_is, hold_is}
+use Rattle.acd_laws.proofs.KeptOut.{initiated_alone, outgoing}
 use Rattle.acd_laws.proofs.Told.{truthful_put, truthful_outside, truthful_call}
 use Rattle.acd_laws.proofs.Balance.{held}
 use Rattle.acd_laws.proofs.SoundMoves.{Sound, sound-append, sound_later, sound_nothing, sound_unheard, left_connection, sound_occupy, sound_arrive}
@@ -145,11 +144,7 @@ sound_phone_off_hook s m k b call device r l =
 
 alerting_station : (s : Rows) (x : ConnectionRecord) (st : ConnectionState) → is_alerting st ≡ true → StandsAt s x st → is_station s x.device ≡ true
 alerting_station s x S.Alerting e h = h
-alerting_station s x S.Initiated e h = absurd (cc (e))
-alerting_station s x S.Connected e h = absurd (cc (e))
-alerting_station s x S.Hold e h = absurd (cc (e))
-alerting_station s x S.Queued e h = absurd (cc (e))
-alerting_station s x S.Fail e h = absurd (cc (e))
+alerting_station s x _ e h = absurd (cc (e))
 
 answered_in : (g m : ℕ) (call device : ℕ) (queued o : Option ℕ) → one (is_answer g (report.Established call device (waited_by m queued o))) ≡ one (has o g)
 answered_in g m call device queued None = refl
@@ -179,10 +174,7 @@ sound_answer_call s m k b call device r l =
 pub connected_shut : (st : ConnectionState) → is_connected st ≡ true → is_open st ≡ false
 connected_shut S.Connected e = refl
 connected_shut S.Hold e = refl
-connected_shut S.Initiated e = absurd (cc (e))
-connected_shut S.Alerting e = absurd (cc (e))
-connected_shut S.Queued e = absurd (cc (e))
-connected_shut S.Fail e = absurd (cc (e))
+connected_shut _ e = absurd (cc (e))
 
 pub sound_hold_call : (s : Rows) (m k b call device : ℕ) → Rules s → b < k → SoundBy m b k s (hold_call s call device)
 unfolding hold_call

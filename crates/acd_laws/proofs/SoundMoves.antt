@@ -99,10 +99,7 @@ sound_unheard m b s x t u =
 
 pub unheard_state : (a : AgentRecord) (state : AgentState) (agent station : ℕ) → Unheard (reported (PutAgent a) (state_report state agent station))
 unheard_state a A.Null agent station = record { leaves = tt; entry = λ g. refl; gone = λ g. refl }
-unheard_state a A.NotReady agent station = record { leaves = tt; entry = λ g. refl; gone = λ g. refl }
-unheard_state a A.Ready agent station = record { leaves = tt; entry = λ g. refl; gone = λ g. refl }
-unheard_state a A.Busy agent station = record { leaves = tt; entry = λ g. refl; gone = λ g. refl }
-unheard_state a A.WorkingAfterCall agent station = record { leaves = tt; entry = λ g. refl; gone = λ g. refl }
+unheard_state a _ agent station = record { leaves = tt; entry = λ g. refl; gone = λ g. refl }
 
 pub unheard_wait : (a : AgentRecord) → Unheard (silent (PutAgent a))
 unheard_wait a = record { leaves = tt; entry = λ g. refl; gone = λ g. refl }

@@ -60,12 +60,10 @@ ascending_less s c d h = ascending-remove connection_order (at_connection c d) s
 pub held_shut : (g : ℕ) (x : ConnectionRecord) → is_open x.state ≡ false → held g x ≡ 0
 held_shut g x e =
     (elim x.state as (λ st. is_open st ≡ false → held g (record x { state = st }) ≡ 0) [
-      | S.Initiated ↦ λ _. none
-      | S.Connected ↦ λ _. none
-      | S.Hold ↦ λ _. none
       | S.Alerting ↦ λ q. absurd (cc (q))
       | S.Queued ↦ λ q. absurd (cc (q))
       | S.Fail ↦ λ q. absurd (cc (q))
+      | _ ↦ λ _. none
     ]) e
   where
     none : one ((x.device == g) && false) + one (has x.group g && false) ≡ 0
@@ -74,12 +72,10 @@ held_shut g x e =
 pub not_held : (g : ℕ) (x : ConnectionRecord) → is_open x.state ≡ false → is_held_by g x ≡ false
 not_held g x e =
     (elim x.state as (λ st. is_open st ≡ false → is_held_by g (record x { state = st }) ≡ false) [
-      | S.Initiated ↦ λ _. refl
-      | S.Connected ↦ λ _. refl
-      | S.Hold ↦ λ _. refl
       | S.Alerting ↦ λ q. absurd (cc (q))
       | S.Queued ↦ λ q. absurd (cc (q))
       | S.Fail ↦ λ q. absurd (cc (q))
+      | _ ↦ λ _. refl
     ]) e
 
 -- one that waits or rings is held by its group, any other by none
@@ -96,10 +92,7 @@ held_is g x h = go x.state h
     go : (st : ConnectionState) → HasColumns x st → one ((x.device == g) && is_queued st) + one (has x.group g && is_alerting st) ≡ one (has (cond (is_queued st || is_alerting st) x.group None) g)
     go S.Queued c = rw (and_yes (x.device == g), and_right (has x.group g) false refl) (let e : one (x.device == g) ≡ one (has x.group g) = ap (λ o. one (has o g)) (sym c.group) in omega (arith, e))
     go S.Alerting c = rw (and_yes (has x.group g), and_right (x.device == g) false refl) (omega arith)
-    go S.Initiated c = shut
-    go S.Connected c = shut
-    go S.Hold c = shut
-    go S.Fail c = shut
+    go _ c = shut
 
 pub held_by_is : (g : ℕ) (x : ConnectionRecord) → HasColumns x x.state → is_held_by g x ≡ has (waiting_group x) g
 held_by_is g x h = go x.state h
@@ -114,11 +107,7 @@ held_by_is g x h = go x.state h
         either : (b : Bool) → (b || false) ≡ b
         either true = refl
         either false = refl
-    go S.Alerting c = refl
-    go S.Initiated c = refl
-    go S.Connected c = refl
-    go S.Hold c = refl
-    go S.Fail c = refl
+    go _ c = refl
 
 pub waiting_alerting : (x : ConnectionRecord) → is_alerting x.state ≡ true → waiting_group x ≡ x.group
 waiting_alerting x e = go x.state e
@@ -126,10 +115,7 @@ waiting_alerting x e = go x.state e
     go : (st : ConnectionState) → is_alerting st ≡ true → cond (is_queued st || is_alerting st) x.group None ≡ x.group
     go S.Alerting e = refl
     go S.Queued e = refl
-    go S.Initiated e = absurd (cc (e))
-    go S.Connected e = absurd (cc (e))
-    go S.Hold e = absurd (cc (e))
-    go S.Fail e = absurd (cc (e))
+    go _ e = absurd (cc (e))
 
 pub waiting_open : (x : ConnectionRecord) → (is_alerting x.state || is_queued x.state) ≡ true → waiting_group x ≡ x.group
 waiting_open x e = go x.state e
@@ -137,10 +123,7 @@ waiting_open x e = go x.state e
     go : (st : ConnectionState) → (is_alerting st || is_queued st) ≡ true → cond (is_queued st || is_alerting st) x.group None ≡ x.group
     go S.Alerting e = refl
     go S.Queued e = refl
-    go S.Initiated e = absurd (cc (e))
-    go S.Connected e = absurd (cc (e))
-    go S.Hold e = absurd (cc (e))
-    go S.Fail e = absurd (cc (e))
+    go _ e = absurd (cc (e))
 
 -- puts and removals
 

@@ -22,7 +22,7 @@ use Rattle.acd_terms.specs.declared.record.ConnectionRecord.{ConnectionRecord}
 use Rattle.acd_terms.specs.declared.record.MonitorRecord.{MonitorRecord}
 use Rattle.acd_terms.specs.declared.event.Event.{Event}
 use Rattle.acd_laws.proofs.Lists.{eq_is, is_eq_of}
-use Rattle.acd_laws.proofs.Keyed.{Keyed, by_number, cmp_equal, cmp_self, find_is, some_is_any, found_among, found_has, found_own, found_put, some_put, found_left}
+use Rattle.acd_laws.proofs.Keyed.{Keyed, by_number, cmp_equal, cmp_self, find_is, some_is_any, found_among, found_has, found_own, found_put, some_put, found_left, eqb_swap}
 
 abbrev pub by_group : Keyed GroupRecord ℕ
 by_group = by_number (λ (x : GroupRecord). x.device)
@@ -167,10 +167,7 @@ call_put s c n = found_put by_call s.calls c n
 
 pub call_remove : (s : Rows) (c n : ℕ) → IsAscending call_order s.calls → call_of (without_call s c) n ≡ cond (c == n) None (call_of s n)
 unfolding without_call call_of
-call_remove s c n h = found_left by_call s.calls h c n (c == n) (λ y q. ap (λ v. v == c) (eqb-true y.call n q) ∙ turned n c)
-  where
-    turned : (m n : ℕ) → (m == n) ≡ (n == m)
-    turned m n = both_ways (m == n) (n == m) (λ e. eq-eqb n m (sym (eqb-true m n e))) (λ e. eq-eqb m n (sym (eqb-true n m e)))
+call_remove s c n h = found_left by_call s.calls h c n (c == n) (λ y q. ap (λ v. v == c) (eqb-true y.call n q) ∙ eqb_swap n c)
 
 pub call_among : (s : Rows) (n : ℕ) (c : CallRecord) → call_of s n ≡ Some c → Among c s.calls
 unfolding call_of

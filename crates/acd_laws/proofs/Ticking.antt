@@ -30,8 +30,7 @@ use Rattle.acd_laws.proofs.Keyed.{eqb_self, cmp_self}
 use Rattle.acd_laws.proofs.State.{is_of, is_of_true, order_equal, order_same, connection_key, agent_put, agent_found}
 use Rattle.acd_terms.specs.declared.event.Event.{Event}
 use Rattle.acd_terms.specs.Tick.{is_overdue_offer, is_overdue, overdue_in, return_to, return_moves, is_rested, rested_in, rest_moves, each, returns, rests, tick, is_over_in}
-use Rattle.acd_laws.proofs.MoveEvents.{events-append}
-use Rattle.acd_laws.proofs.Serving.{moved-append}
+use Rattle.acd_terms.proofs.MoveLemmas.{events_of_append, moved_append}
 use Rattle.acd_laws.proofs.Found.{connection_there}
 use Rattle.acd_laws.proofs.KeptReturn.{kept_return_to}
 use Rattle.acd_laws.proofs.KeptAgents.{kept_rest_moves}
@@ -46,8 +45,8 @@ kept_nothing P m s es h = subst (P s) (sym (append-nil es)) h
 
 pub kept-append : (P : Rows → List Event → Type 0) (m : ℕ) (s : Rows) (es : List Event) (ms ns : List Move) → Kept P m (moved s ms) (es ++ events_of m ms) ns → Kept P m s es (ms ++ ns)
 kept-append P m s es ms ns h =
-    subst (λ t. P t (es ++ events_of m (ms ++ ns))) (sym (moved-append s ms ns))
-    (subst (P (moved (moved s ms) ns)) (append_assoc es (events_of m ms) (events_of m ns) ∙ ap (λ qs. es ++ qs) (sym (events-append m ms ns))) h)
+    subst (λ t. P t (es ++ events_of m (ms ++ ns))) (sym (moved_append s ms ns))
+    (subst (P (moved (moved s ms) ns)) (append_assoc es (events_of m ms) (events_of m ns) ∙ ap (λ qs. es ++ qs) (sym (events_of_append m ms ns))) h)
 
 -- a release leaves the connections
 
@@ -80,11 +79,7 @@ return_stays t m k g x z a ne =
 
 opens : (st : ConnectionState) → is_alerting st ≡ true → is_open st ≡ true
 opens S.Alerting e = refl
-opens S.Initiated e = absurd (cc (e))
-opens S.Connected e = absurd (cc (e))
-opens S.Hold e = absurd (cc (e))
-opens S.Queued e = absurd (cc (e))
-opens S.Fail e = absurd (cc (e))
+opens _ e = absurd (cc (e))
 
 -- two alerting connections are of two calls
 pub other_call : (t : Rows) (x z : ConnectionRecord) → Rules t → Among x t.connections → Among z t.connections → is_alerting x.state ≡ true → is_alerting z.state ≡ true → connection_order x z ≡ Less → z.call ≡ x.call → ⊥
@@ -130,7 +125,7 @@ returns_keep P m k f t es (x ∷ xs) so b r h =
       alerting = bz.alerting;
       grouped = bz.grouped;
     }) r1 h1 in
-    (subst Rules (sym (moved-append t one rest)) ih.0, kept-append P m t es one rest ih.1)
+    (subst Rules (sym (moved_append t one rest)) ih.0, kept-append P m t es one rest ih.1)
 
 -- ends of after-call work, one after the other
 
@@ -150,7 +145,7 @@ rests_keep P m k f t es (a ∷ xs) so b r h =
     let ih = rests_keep P m k f (moved t one) (es ++ events_of m one) xs so.1
     (λ c i. let bc = b c (inr i) in
     (rest_stays t m k a a.station c.agent (false_from_ne_true (a.agent == c.agent) (λ q. cc (after_among agent_order a xs c so.0 i, cmp_self a.agent c.agent (eqb-true a.agent c.agent q)))) ∙ bc.0, bc.1)) r1 h1 in
-    (subst Rules (sym (moved-append t one rest)) ih.0, kept-append P m t es one rest ih.1)
+    (subst Rules (sym (moved_append t one rest)) ih.0, kept-append P m t es one rest ih.1)
 
 overdue_back : (s : Rows) (m : ℕ) (z : ConnectionRecord) → Among z (overdue_in s m) → Back s z
 unfolding overdue_in is_overdue
@@ -187,4 +182,4 @@ tick_keeps P m k f g s es r h =
     let t : Rows = moved s (returns s m k) in
     let a = returned P m k f s es r h in
     let b = rested P m k g t (es ++ events_of m (returns s m k)) a.0 a.1 in
-    (subst Rules (sym (moved-append s (returns s m k) (rests t m k))) b.0, kept-append P m s es (returns s m k) (rests t m k) b.1)
+    (subst Rules (sym (moved_append s (returns s m k) (rests t m k))) b.0, kept-append P m s es (returns s m k) (rests t m k) b.1)

@@ -28,10 +28,9 @@ use Rattle.acd_laws.proofs.Facts.{Rules, IsCaller, StandsAt}
 use Rattle.acd_laws.specs.WatchedLaws.{TellsNoMore, RunIsWatched, RunTellsNoMore}
 use Rattle.acd_laws.specs.BalanceLaws.{IsBalanced, RunIsBalanced}
 use Rattle.acd_laws.specs.OfferLaws.{LeavesNoOffer, RunLeavesNoOffer}
-use Rattle.acd_laws.proofs.Lists.{none_from}
-use Rattle.acd_laws.proofs.Members.{mapped_among}
+use Rattle.acd_laws.proofs.Lists.{none_from, mapped_among}
 use Rattle.acd_laws.proofs.State.{found_key}
-use Rattle.acd_laws.proofs.Serving.{moved-append}
+use Rattle.acd_terms.proofs.MoveLemmas.{moved_append}
 use Rattle.acd_laws.proofs.Found.{connection_rule}
 use Rattle.acd_laws.proofs.CountedEvents.{figures_joined, figures_numbered}
 use Rattle.acd_laws.proofs.Tells.{shown, seat, UpTo, Tells}
@@ -106,18 +105,16 @@ step_tells s events moment command r told =
 
 -- what the reports tell of a state that keeps the rules
 
+not_caller : (o : Option CallRecord) (d : ℕ) → is_caller o d ≡ false → IsCaller o d → ⊥
+not_caller None d e i = i
+not_caller (Some c) d e i = cc (e, eq-eqb c.caller d i)
+
 not_standing : (s : Rows) (x : ConnectionRecord) (st : ConnectionState) → is_planned s x.device ≡ false → is_caller (call_of s x.call) x.device ≡ false → StandsAt s x st → ⊥
 not_standing s x S.Queued p c h = cc (p, or_left (is_group s x.device) (is_station s x.device) h)
 not_standing s x S.Initiated p c h = cc (p, or_right (is_group s x.device) (is_station s x.device) h.0)
-not_standing s x S.Alerting p c h = cc (p, or_right (is_group s x.device) (is_station s x.device) h)
-not_standing s x S.Hold p c h = cc (p, or_right (is_group s x.device) (is_station s x.device) h)
-not_standing s x S.Fail p c h = cc (p, or_right (is_group s x.device) (is_station s x.device) h)
 not_standing s x S.Connected p c (inl h) = cc (p, or_right (is_group s x.device) (is_station s x.device) h)
-not_standing s x S.Connected p c (inr h) = calls (call_of s x.call) c h.1
-  where
-    calls : (o : Option CallRecord) → is_caller o x.device ≡ false → IsCaller o x.device → ⊥
-    calls None e i = i
-    calls (Some k) e i = cc (e, eq-eqb k.caller x.device i)
+not_standing s x S.Connected p c (inr h) = not_caller (call_of s x.call) x.device c h.1
+not_standing s x _ p c h = cc (p, or_right (is_group s x.device) (is_station s x.device) h)
 
 -- neither at a planned device nor at the caller of its call a connection stands
 none_outside : (s : Rows) (c d : ℕ) → Rules s → is_planned s d ≡ false → is_caller (call_of s c) d ≡ false → connection_of s c d ≡ None
@@ -204,7 +201,7 @@ step_leaves_no_offer s moment command r =
     let ms : List Move = moves_of (serve s m k command) in
     let all : List Move = step_moves s m (serve s m k command) in
     no_offer_ended (moved s all) (events_of m all) k m (s.last_event + length (events_of m all))
-    (subst LeavesNoOffer (sym (moved-append s ms (distribution (moved s ms) m))) (λ g a. nothing_left (moved s ms) m g (rules_serve s m k command r) a))
+    (subst LeavesNoOffer (sym (moved_append s ms (distribution (moved s ms) m))) (λ g a. nothing_left (moved s ms) m g (rules_serve s m k command r) a))
 
 -- runs
 
@@ -215,14 +212,10 @@ record Holds (s : Rows) (events : List Event) : Type 0 where
   balanced : IsBalanced s events
   no_offer : LeavesNoOffer s
 
-both_none : (b : Bool) → cond {A = Option ConnectionState} b None None ≡ None
-both_none true = refl
-both_none false = refl
-
 nothing_told : (limits : Limits) → Tells (empty_rows limits) []
 unfolding connection_of agent_of
 nothing_told limits = record {
-  connections = λ c d. both_none (is_planned (empty_rows limits) d);
+  connections = λ c d. elim (is_planned (empty_rows limits) d) as (λ b. cond {A = Option ConnectionState} b None None ≡ None) [ true ↦ refl | false ↦ refl ];
   agents = λ a. refl;
   entries = λ g c p a. absurd a.there;
   queues = λ g c d p q a b. absurd a.there;
