@@ -16,13 +16,8 @@ use Rattle.acd_terms.specs.Services.Plan.{no_figures}
 use Rattle.acd_terms.specs.Services.Serve.{serve}
 use Rattle.acd_terms.specs.Step.{numbered, executed_moment, next_stamp, step_moves, step}
 use Rattle.acd_terms.specs.Rules.Plan.{group_order}
-use Rattle.acd_terms.specs.declared.rows.Rows.{Rows}
-use Rattle.acd_terms.specs.declared.record.GroupRecord.{GroupRecord}
-use Rattle.acd_terms.specs.declared.event.Event.{Event}
-use Rattle.acd_terms.specs.declared.event.Report.{Report}
+use Rattle.acd_laws.proofs.Types.{Rows, GroupRecord, Change, Event, Move, Report}
 use Rattle.acd_terms.specs.declared.event.Report.TheVariants.{Queued, Established, CallCleared, Diverted}
-use Rattle.acd_terms.specs.declared.moves.Move.{Move}
-use Rattle.acd_terms.specs.declared.moves.Change.{Change}
 use Rattle.acd_terms.specs.declared.moves.Change.TheVariants.{PutGroup}
 use Rattle.acd_terms.proofs.ChangeLemmas.{changed_by_append, moved_by_changes}
 use Rattle.acd_laws.specs.ChangeLaws.{StepMakesItsChanges}

@@ -8,9 +8,7 @@ use Rattle.acd_terms.specs.Scans.{has}
 use Rattle.acd_terms.specs.Figures.{is_entry, is_answer, waited_there, is_abandonment, is_moving_away, is_deflected, figures_of, sum_of_figures}
 use Rattle.acd_terms.specs.Services.Plan.{no_figures}
 use Rattle.acd_terms.specs.Step.{numbered}
-use Rattle.acd_terms.specs.declared.record.Figures.{Figures}
-use Rattle.acd_terms.specs.declared.event.Event.{Event}
-use Rattle.acd_terms.specs.declared.event.Report.{Report}
+use Rattle.acd_laws.proofs.Types.{Figures, Event, Report}
 use Rattle.acd_terms.specs.declared.event.Report.TheVariants.{Queued, Established, CallCleared, Diverted}
 
 -- numbers don't count

@@ -17,17 +17,10 @@ use Rattle.acd_terms.specs.Rules.Plan.{group_order, station_order, agent_order, 
 use Rattle.acd_terms.specs.Rules.Calls.{keeps_call}
 use Rattle.acd_terms.specs.Rules.Occupied.{keeps_offer, keeps_balance, is_empty}
 use Rattle.acd_terms.specs.Rules.Counters.{keeps_counters, is_moment_or_none, is_own_place, is_offered_after, is_timed, is_countable}
-use Rattle.acd_terms.specs.declared.rows.Rows.{Rows}
-use Rattle.acd_terms.specs.declared.record.GroupRecord.{GroupRecord}
-use Rattle.acd_terms.specs.declared.record.StationRecord.{StationRecord}
-use Rattle.acd_terms.specs.declared.record.AgentRecord.{AgentRecord}
-use Rattle.acd_terms.specs.declared.record.CallRecord.{CallRecord}
-use Rattle.acd_terms.specs.declared.record.ConnectionRecord.{ConnectionRecord}
-use Rattle.acd_terms.specs.declared.record.MonitorRecord.{MonitorRecord}
-use Rattle.acd_terms.specs.declared.state.AgentState.{AgentState}
+use Rattle.acd_laws.proofs.Types.{Rows, GroupRecord, StationRecord, AgentRecord, CallRecord, ConnectionRecord, MonitorRecord, AgentState}
 use Rattle.acd_terms.specs.declared.state.AgentState.TheVariants as A
 use Rattle.acd_laws.specs.Orders.{Orders}
-use Rattle.acd_laws.proofs.Facts.{IsPlannedStation, IsPlannedGroup, SeatedAs, AgentRule, CallRule, seated_at, Sizes, AgentTimed, IsPlace, IsMoment, IsAfter, ConnectionTimed, at_place, Timed, OnePlace, Monitored, IsCountedUpTo, IsBalanced}
+use Rattle.acd_laws.proofs.Facts.{IsPlannedStation, IsPlannedGroup, SeatedAs, AgentRule, CallRule, seated_at, Sizes, AgentTimed, IsPlace, IsMoment, IsAfter, ConnectionTimed, at_place, Timed, OnePlace, Monitored, IsCountedUpTo, AddsUp}
 use Rattle.acd_laws.proofs.Lists.{find_passes, find_among, any_found, any_some, every_among, every_from, some_counted, all_true, all_from, some_from, some_is, after_lower}
 use Rattle.acd_laws.proofs.Keyed.{eqb_self}
 use Rattle.acd_laws.proofs.State.{groups_total, stations_total, agents_total, calls_total, connections_total, monitors_total, is_group_any, is_station_any}
@@ -204,7 +197,7 @@ timed_decided s x = like (place_decided s x.place and moment_decided s x.queued 
     (λ p. (record { place = p.0.0.0.0; queued = p.0.0.1; offered = p.0.1; order = p.1 }, p.0.0.0.1)) (λ h. ((((h.0.place, h.1), h.0.queued), h.0.offered), h.0.order))
 
 -- what is counted as answered, abandoned or moved is so of what entered, where the figures add up
-countable_decided : (s : Rows) (g : GroupRecord) → IsBalanced s g → Decides (is_countable s g) (IsCountedUpTo s.last_stamp s.last_moment g)
+countable_decided : (s : Rows) (g : GroupRecord) → AddsUp s g → Decides (is_countable s g) (IsCountedUpTo s.last_stamp s.last_moment g)
 countable_decided s g b = like
     (within g.figures.entered s.last_stamp and within g.figures.answered g.figures.entered and within g.figures.abandoned g.figures.entered and within g.figures.moved g.figures.entered
     and within g.figures.waited (g.figures.answered * s.last_moment))
@@ -216,7 +209,7 @@ pub record CountersKept (s : Rows) : Type 0 where
   pub figures : Every (IsCountedUpTo s.last_stamp s.last_moment) s.groups
   pub last_event : s.last_event ≤ 100000 * s.last_stamp
 
-pub counters_decided : (s : Rows) → Every (IsBalanced s) s.groups → Decides (keeps_counters s) (CountersKept s)
+pub counters_decided : (s : Rows) → Every (AddsUp s) s.groups → Decides (keeps_counters s) (CountersKept s)
 unfolding keeps_counters
 counters_decided s b = like
     (every (agent_timed s) s.agents and every (λ (c : CallRecord). within c.since s.last_moment) s.calls and each (timed_decided s) s.connections and countable and within s.last_event (100000 * s.last_stamp))
@@ -228,8 +221,8 @@ counters_decided s b = like
     })
     (λ h. ((((h.timed.agents, h.timed.calls), λ x i. (every_among (ConnectionTimed s.last_stamp s.last_moment) s.connections x h.timed.connections i, λ n e. h.places n)), h.figures), h.last_event))
   where
-    balanced : (g : GroupRecord) → Among g s.groups → IsBalanced s g
-    balanced g i = every_among (IsBalanced s) s.groups g b i
+    balanced : (g : GroupRecord) → Among g s.groups → AddsUp s g
+    balanced g i = every_among (AddsUp s) s.groups g b i
 
     countable : Decides (list_all (is_countable s) s.groups) (Every (IsCountedUpTo s.last_stamp s.last_moment) s.groups)
     countable = (
@@ -251,6 +244,6 @@ pub monitors_decided : (s : Rows) → Decides (keeps_monitor s) (Monitored s)
 unfolding keeps_monitor
 monitors_decided s = every (λ (w : MonitorRecord). like (holds (is_planned s w.device) and within w.monitor s.last_monitor and within w.after_event s.last_event) (λ p. (p.0.0, p.0.1, p.1)) (λ h. ((h.0, h.1), h.2))) s.monitors
 
-pub balance_decided : (s : Rows) → Decides (keeps_balance s) (Every (IsBalanced s) s.groups)
+pub balance_decided : (s : Rows) → Decides (keeps_balance s) (Every (AddsUp s) s.groups)
 unfolding keeps_balance
 balance_decided s = every (λ (g : GroupRecord). equals g.figures.entered _) s.groups

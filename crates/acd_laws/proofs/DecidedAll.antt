@@ -5,8 +5,7 @@ use Rattle.acd_terms.specs.Rules.Calls.{keeps_call, keeps_connection, keeps_part
 use Rattle.acd_terms.specs.Rules.Occupied.{keeps_occupied, keeps_offer, keeps_balance}
 use Rattle.acd_terms.specs.Rules.Counters.{keeps_counters}
 use Rattle.acd_terms.specs.Rules.First.{or_broken, first_broken, BreaksNoRule}
-use Rattle.acd_terms.specs.declared.rows.Rows.{Rows}
-use Rattle.acd_terms.specs.declared.rows.Rule.{Rule}
+use Rattle.acd_laws.proofs.Types.{Rows, Rule}
 use Rattle.acd_laws.specs.OfferLaws.{KeepsWithin}
 use Rattle.acd_laws.proofs.Facts.{Rules, KeepsRules}
 use Rattle.acd_laws.proofs.Decided.{limits_decided, orders_decided, kinds_decided, agents_decided, calls_decided, counters_decided, offers_decided, monitors_decided, balance_decided}

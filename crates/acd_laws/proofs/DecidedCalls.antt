@@ -11,15 +11,8 @@ use Rattle.acd_terms.specs.OneOffer.{is_distributed_at, IsTalking}
 use Rattle.acd_terms.specs.Watched.{is_caller}
 use Rattle.acd_terms.specs.Rules.Calls.{keeps_connection, keeps_parties, keeps_live, is_bare, is_placed, has_columns, is_group_or_none, may_stand, is_open, initiated_at, parties_of, initiated_of, open_of, live_at, alerting_at, hold_at}
 use Rattle.acd_terms.specs.Rules.Occupied.{keeps_occupied, attends, is_talking}
-use Rattle.acd_terms.specs.declared.rows.Rows.{Rows}
-use Rattle.acd_terms.specs.declared.record.StationRecord.{StationRecord}
-use Rattle.acd_terms.specs.declared.record.AgentRecord.{AgentRecord}
-use Rattle.acd_terms.specs.declared.record.CallRecord.{CallRecord}
-use Rattle.acd_terms.specs.declared.record.ConnectionRecord.{ConnectionRecord}
-use Rattle.acd_terms.specs.declared.state.Pending.{Pending}
-use Rattle.acd_terms.specs.declared.state.AgentState.{AgentState}
+use Rattle.acd_laws.proofs.Types.{Rows, StationRecord, AgentRecord, CallRecord, ConnectionRecord, ConnectionState, AgentState, Pending}
 use Rattle.acd_terms.specs.declared.state.AgentState.TheVariants as A
-use Rattle.acd_terms.specs.declared.state.ConnectionState.{ConnectionState}
 use Rattle.acd_terms.specs.declared.state.ConnectionState.TheVariants as S
 use Rattle.acd_laws.proofs.Facts.{Rules, IsPlannedStation, SeatedAs, AgentRule, CallRule, Bare, AlertingColumns, HasColumns, GroupColumn, IsCaller, StandsAt, ConnectionRule, ringing_at, talking_at, seated_at, ready_at, busy_at, pending_at, two_if}
 use Rattle.acd_laws.specs.Orders.{Orders}

@@ -6,9 +6,7 @@ use Rattle.acd_terms.specs.Scans.{queued_in_all}
 use Rattle.acd_terms.specs.Choice.{offer_of}
 use Rattle.acd_terms.specs.Moves.{moved}
 use Rattle.acd_terms.specs.Distribution.{offer_moves, with_offer, offers, distribution}
-use Rattle.acd_terms.specs.declared.rows.Rows.{Rows}
-use Rattle.acd_terms.specs.declared.moves.Move.{Move}
-use Rattle.acd_terms.specs.declared.moves.Offer.{Offer}
+use Rattle.acd_laws.proofs.Types.{Rows, Move, Offer}
 use Rattle.acd_laws.proofs.Facts.{Rules}
 use Rattle.acd_laws.specs.OfferLaws.{IsDistribution}
 use Rattle.acd_laws.specs.OfferLaws.IsDistribution.{ends, goes_on}

@@ -1,10 +1,7 @@
 -- The end of a step sets figures and counters: nothing else of the state after its moves changes, and the rules hold on.
 use Rattle.std.proofs.Common.{◌≡◌, ℕ, List, [], ◌∷◌, Option, Some, None, refl, sym, ◌∙◌, ap, subst, map}
 use Rattle.std.specs.Prelude.{is_some}
-use Rattle.acd_terms.specs.declared.rows.Rows.{Rows}
-use Rattle.acd_terms.specs.declared.record.GroupRecord.{GroupRecord}
-use Rattle.acd_terms.specs.declared.record.AgentRecord.{AgentRecord}
-use Rattle.acd_terms.specs.declared.state.AgentState.{AgentState}
+use Rattle.acd_laws.proofs.Types.{Rows, GroupRecord, AgentRecord, AgentState, Command, Event}
 use Rattle.acd_terms.specs.declared.state.AgentState.TheVariants as A
 use Rattle.acd_terms.specs.Lists.{find_by, AllAfter, IsAscending}
 use Rattle.acd_terms.specs.Scans.{at_group, group_of, station_of, call_of, is_group, is_station, is_planned}
@@ -12,8 +9,6 @@ use Rattle.acd_terms.specs.Writes.{with_last}
 use Rattle.acd_terms.specs.Rules.Plan.{group_order}
 use Rattle.acd_laws.proofs.Facts.{Rules, IsPlannedStation, IsPlannedGroup, SeatedAs, AgentRule, CallRule, IsCaller, ConnectionRule, two_if}
 use Rattle.acd_laws.proofs.Lists.{every_among, every_from}
-use Rattle.acd_terms.specs.declared.event.Event.{Event}
-use Rattle.acd_terms.specs.declared.command.Command.{Command}
 use Rattle.acd_terms.specs.Figures.{counting, with_figures}
 use Rattle.acd_terms.specs.Step.{step, executed_moment, next_stamp}
 use Rattle.acd_laws.proofs.State.{group_counted_found, is_some_mapped}

@@ -6,11 +6,8 @@ use Rattle.acd_terms.specs.Scans.{has}
 use Rattle.acd_terms.specs.States.{is_queued, is_alerting}
 use Rattle.acd_terms.specs.Told.{enters, last_entry}
 use Rattle.acd_terms.specs.Watched.{is_held_by, HasEntered}
-use Rattle.acd_terms.specs.declared.rows.Rows.{Rows}
-use Rattle.acd_terms.specs.declared.record.ConnectionRecord.{ConnectionRecord}
-use Rattle.acd_terms.specs.declared.state.ConnectionState.{ConnectionState}
+use Rattle.acd_laws.proofs.Types.{Rows, ConnectionRecord, ConnectionState, Event}
 use Rattle.acd_terms.specs.declared.state.ConnectionState.TheVariants as S
-use Rattle.acd_terms.specs.declared.event.Event.{Event}
 use Rattle.acd_laws.proofs.Facts.{Rules, AlertingColumns, HasColumns, ConnectionRule}
 use Rattle.acd_laws.proofs.Tells.{HasEntries}
 use Rattle.acd_laws.proofs.Lists.{every_among, some_from}

@@ -5,19 +5,12 @@ use Rattle.acd_terms.specs.Scans.{call_of, is_group, is_station, is_planned, has
 use Rattle.acd_terms.specs.States.{is_alerting, is_answered, is_ready, is_busy}
 use Rattle.acd_terms.specs.OneOffer.{is_distributed_at}
 use Rattle.acd_terms.specs.Rules.Calls.{parties_of, initiated_of, open_of, live_at, alerting_at, hold_at}
-use Rattle.acd_terms.specs.declared.rows.Rows.{Rows}
-use Rattle.acd_terms.specs.declared.record.AgentRecord.{AgentRecord}
-use Rattle.acd_terms.specs.declared.record.CallRecord.{CallRecord}
-use Rattle.acd_terms.specs.declared.record.ConnectionRecord.{ConnectionRecord}
-use Rattle.acd_terms.specs.declared.state.AgentState.{AgentState}
+use Rattle.acd_laws.proofs.Types.{Rows, GroupRecord, AgentRecord, CallRecord, ConnectionRecord, MonitorRecord, ConnectionState, AgentState}
 use Rattle.acd_terms.specs.declared.state.AgentState.TheVariants as agent
-use Rattle.acd_terms.specs.declared.state.ConnectionState.{ConnectionState}
 use Rattle.acd_terms.specs.declared.state.ConnectionState.TheVariants.{Initiated, Alerting, Connected, Hold, Queued}
 use Rattle.acd_terms.specs.Limits.{limits_fit}
 use Rattle.acd_terms.specs.Offers.{HasNoOffer}
 use Rattle.acd_terms.specs.Rules.Occupied.{waits_in, rings_from}
-use Rattle.acd_terms.specs.declared.record.GroupRecord.{GroupRecord}
-use Rattle.acd_terms.specs.declared.record.MonitorRecord.{MonitorRecord}
 use Rattle.acd_laws.specs.Orders.{Orders}
 
 -- each agent: one in null has no seat, any other a planned station and group
@@ -201,8 +194,8 @@ abbrev pub IsCountedUpTo : ℕ → ℕ → GroupRecord → Type 0
 IsCountedUpTo k m g = (g.figures.entered ≤ k) × (g.figures.waited ≤ g.figures.answered * m)
 
 -- entered is what waits, rings, was answered, was abandoned and was moved
-abbrev pub IsBalanced : Rows → GroupRecord → Type 0
-IsBalanced s g = g.figures.entered ≡ count (waits_in g.device) s.connections + count (rings_from g.device) s.connections
+abbrev pub AddsUp : Rows → GroupRecord → Type 0
+AddsUp s g = g.figures.entered ≡ count (waits_in g.device) s.connections + count (rings_from g.device) s.connections
     + g.figures.answered + g.figures.abandoned + g.figures.moved
 
 -- all rules but that the last stamp is within the limit of requests
@@ -217,4 +210,4 @@ pub record KeepsRules (s : Rows) : Type 0 where
   pub last_event : s.last_event ≤ 100000 * s.last_stamp
   pub offers : (g : GroupRecord) → Among g s.groups → HasNoOffer s g.device
   pub monitors : Monitored s
-  pub balance : Every (IsBalanced s) s.groups
+  pub balance : Every (AddsUp s) s.groups

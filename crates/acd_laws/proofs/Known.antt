@@ -8,13 +8,8 @@ use Rattle.acd_terms.specs.Moves.{changed, moved, with_event, events_of}
 use Rattle.acd_terms.specs.Columns.{columns_of}
 use Rattle.acd_terms.specs.Placed.{clears, cleared_by}
 use Rattle.acd_terms.specs.Step.{numbered}
-use Rattle.acd_terms.specs.declared.rows.Rows.{Rows}
-use Rattle.acd_terms.specs.declared.record.CallRecord.{CallRecord}
-use Rattle.acd_terms.specs.declared.event.Event.{Event}
-use Rattle.acd_terms.specs.declared.event.Report.{Report}
-use Rattle.acd_terms.specs.declared.moves.Move.{Move}
-use Rattle.acd_terms.specs.declared.moves.Change.{Change}
-use Rattle.acd_terms.specs.declared.moves.Change.TheVariants.{Nothing, PutGroup, PutStation, PutAgent, PutCall, PutConnection, PutMonitor, RemoveCall, RemoveConnection, RemoveMonitor}
+use Rattle.acd_laws.proofs.Types.{Rows, CallRecord, Change, Event, Move, Report}
+use Rattle.acd_terms.specs.declared.moves.Change.TheVariants.{PutCall, RemoveCall}
 use Rattle.acd_laws.specs.PlacedLaws.{IsUpTo, NamesNoLaterCall, clearings, KeepsClearings}
 use Rattle.acd_laws.proofs.Lists.{one, count-append, every-append}
 use Rattle.acd_laws.proofs.CountedEvents.{count_numbered}
@@ -139,16 +134,9 @@ SameCalls s t = (t.calls ≡ s.calls) × (t.last_call ≡ s.last_call)
 
 pub left_calls : (s : Rows) (c : Change) → LeavesCalls c → SameCalls s (changed s c)
 unfolding with_group with_station with_agent with_connection with_monitor without_connection without_monitor
-left_calls s Nothing h = (refl, refl)
-left_calls s (PutGroup g) h = (refl, refl)
-left_calls s (PutStation t) h = (refl, refl)
-left_calls s (PutAgent a) h = (refl, refl)
 left_calls s (PutCall c) h = absurd h
-left_calls s (PutConnection x) h = (refl, refl)
-left_calls s (PutMonitor w) h = (refl, refl)
 left_calls s (RemoveCall c) h = absurd h
-left_calls s (RemoveConnection c d) h = (refl, refl)
-left_calls s (RemoveMonitor w) h = (refl, refl)
+left_calls s _ h = (refl, refl)
 
 pub same_call : (s t : Rows) → SameCalls s t → (n : ℕ) → call_of t n ≡ call_of s n
 unfolding call_of

@@ -1,3 +1,4 @@
+pub mod Types
 pub mod Facts
 pub mod Least
 pub mod OfferFound

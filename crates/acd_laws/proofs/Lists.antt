@@ -19,9 +19,6 @@ eq_is _ e = absurd (cc (e))
 pub is_eq_of : (o : Ordering) → o ≡ Equal → is_eq o ≡ true
 is_eq_of o e = rw e refl
 
-pub ne_eq : (o : Ordering) → is_eq o ≡ false → o ≡ Equal → ⊥
-ne_eq o e q = cc (e, is_eq_of o q)
-
 pub greater_ne : (o : Ordering) → o ≡ Greater → is_eq o ≡ false
 greater_ne o e = rw e refl
 
@@ -372,9 +369,6 @@ both_fewer p q r h (y ∷ ys) = let a = h y in let b = both_fewer p q r h ys in 
 pub count_zero : {X : Type 0} (p : X → Bool) (xs : List X) → ((x : X) → Among x xs → p x ≡ false) → count p xs ≡ 0
 count_zero p [] h = refl
 count_zero p (y ∷ ys) h = let e : one (p y) ≡ 0 = ap one (h y (inl refl)) in let ih = count_zero p ys (λ x a. h x (inr a)) in omega (arith, e, ih)
-
-pub none_of_zero : {X : Type 0} (p : X → Bool) (xs : List X) → count p xs ≡ 0 → (x : X) → Among x xs → p x ≡ false
-none_of_zero p xs e x a = false_from_ne_true (p x) (λ q. let c = counted p xs x a q in absurd (omega (arith, e, c)))
 
 -- the one that is found passes, where at most one may and some does
 pub the_one : {X : Type 0} (p q : X → Bool) → ((x : X) → q x ≡ true → p x ≡ true) → (xs : List X) (a : X) → count p xs ≤ 1 → 1 ≤ count q xs → find p xs ≡ Some a → q a ≡ true

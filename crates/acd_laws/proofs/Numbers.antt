@@ -1,12 +1,8 @@
 -- How many events a step makes at most.
-use Rattle.std.proofs.Common.{◌≡◌, ℕ, zero, suc, ◌+◌, ◌*◌, ◌≤◌, inl, inr, Bool, true, false, not, ◌&&◌, cond, List, [], ◌∷◌, ◌++◌, Option, Some, None, refl, sym, ◌∙◌, ap, arith, length, eq-eqb, length-append}
-use Rattle.std.specs.Prelude.{◌==◌, is_some, filter, nat_le}
-use Rattle.std.proofs.lemmas.Bool.{and_parts, not-true, leb-true}
-use Rattle.acd_terms.specs.declared.rows.Rows.{Rows}
-use Rattle.acd_terms.specs.declared.record.AgentRecord.{AgentRecord}
-use Rattle.acd_terms.specs.declared.record.CallRecord.{CallRecord}
-use Rattle.acd_terms.specs.declared.record.ConnectionRecord.{ConnectionRecord}
-use Rattle.acd_terms.specs.declared.moves.Move.{Move}
+use Rattle.std.proofs.Common.{◌≡◌, ℕ, zero, suc, ◌+◌, ◌*◌, ◌≤◌, inl, inr, Bool, true, false, not, cond, List, [], ◌∷◌, ◌++◌, Option, Some, None, refl, sym, ◌∙◌, ap, arith, length, eq-eqb, length-append}
+use Rattle.std.specs.Prelude.{◌==◌, is_some, filter}
+use Rattle.std.proofs.lemmas.Bool.{not-true}
+use Rattle.acd_laws.proofs.Types.{Rows, AgentRecord, CallRecord, ConnectionRecord, Event, Move, Offer, Report}
 use Rattle.acd_terms.specs.Lists.{count, Among}
 use Rattle.acd_terms.specs.States.{is_queued}
 use Rattle.acd_terms.specs.Scans.{agent_of, call_of, connection_of, queued_in_all}
@@ -17,15 +13,13 @@ use Rattle.acd_laws.proofs.Lists.{one, filter_among, counted, fewer, count_lengt
 use Rattle.acd_laws.proofs.Keyed.{eqb_self}
 use Rattle.acd_laws.proofs.State.{call_among, call_key}
 use Rattle.acd_terms.specs.Limits.{limits_fit}
-use Rattle.acd_terms.specs.declared.event.Event.{Event}
-use Rattle.acd_terms.specs.declared.event.Report.{Report}
-use Rattle.acd_terms.specs.declared.moves.Offer.{Offer}
 use Rattle.acd_terms.specs.Choice.{offer_of}
 use Rattle.acd_terms.specs.Distribution.{offer_at, offer_moves, with_offer, offers, distribution, station_of_agent}
 use Rattle.acd_terms.specs.Tick.{return_to, return_moves, rest_moves, each, is_overdue, overdue_in, is_rested, rested_in, returns, rests, tick}
 use Rattle.acd_laws.proofs.Found.{none_of_call}
 use Rattle.acd_laws.proofs.KeptClearing.{two_le}
 use Rattle.acd_laws.proofs.Steady.{count_all}
+use Rattle.acd_laws.proofs.Decided.{◌and◌, within}
 
 -- no more events than moves
 event_length : (m : ℕ) (o : Option Report) (es : List Event) → length (with_event m o es) ≤ 1 + length es
@@ -74,10 +68,6 @@ two_each (c ∷ cs) xs h f =
     (λ d i. (let u = f d (inr i) in let v = fewer_filtered (parties_of d.call) (λ x. not (parties_of c.call x)) xs in omega (arith, u, v))) in
     omega (arith, a, b, ih)
 
-no_some : (o : Option CallRecord) → ((c : CallRecord) → o ≡ Some c → ⊥) → o ≡ None
-no_some None h = refl
-no_some (Some c) h = absurd (h c refl)
-
 pub connections_length : (s : Rows) → Rules s → length s.connections ≤ 2 * length s.calls
 connections_length s r = two_each s.calls s.connections
     (λ x i. (elim (call_of s x.call) as (λ o. call_of s x.call ≡ o → HasCall s.calls x) [
@@ -96,12 +86,8 @@ pub record Greatest (s : Rows) : Type 0 where
 pub greatest : (s : Rows) → limits_fit s.limits ≡ true → Greatest s
 unfolding limits_fit
 greatest s e =
-    let a = and_parts (nat_le s.limits.requests 1000000000 && nat_le s.limits.calls 2000 && nat_le s.limits.groups 64 && nat_le s.limits.stations 1000 && nat_le s.limits.agents 1000) (nat_le s.limits.monitors 256) e in
-    let b = and_parts (nat_le s.limits.requests 1000000000 && nat_le s.limits.calls 2000 && nat_le s.limits.groups 64 && nat_le s.limits.stations 1000) (nat_le s.limits.agents 1000) a.0 in
-    let c = and_parts (nat_le s.limits.requests 1000000000 && nat_le s.limits.calls 2000 && nat_le s.limits.groups 64) (nat_le s.limits.stations 1000) b.0 in
-    let d = and_parts (nat_le s.limits.requests 1000000000 && nat_le s.limits.calls 2000) (nat_le s.limits.groups 64) c.0 in
-    let f = and_parts (nat_le s.limits.requests 1000000000) (nat_le s.limits.calls 2000) d.0 in
-    record { calls = leb-true s.limits.calls 2000 f.1; agents = leb-true s.limits.agents 1000 b.1; requests = leb-true s.limits.requests 1000000000 f.0 }
+    let p = (within s.limits.requests 1000000000 and within s.limits.calls 2000 and within s.limits.groups 64 and within s.limits.stations 1000 and within s.limits.agents 1000 and within s.limits.monitors 256).0 e in
+    record { calls = p.0.0.0.0.1; agents = p.0.1; requests = p.0.0.0.0.0 }
 
 -- the moves of a distribution and of tick
 

@@ -7,9 +7,7 @@ use Rattle.acd_terms.specs.Lists.{Among, AllAfter, IsAscending}
 use Rattle.acd_terms.specs.Scans.{waiting_in, eligible_in}
 use Rattle.acd_terms.specs.Choice.{waiting_pair, ready_pair, first_waiting, first_eligible, offer_or, offer_in, offer_of}
 use Rattle.acd_terms.specs.Offers.{IsLeast, HasNoOffer, IsOffer, FindsTheOffer}
-use Rattle.acd_terms.specs.declared.rows.Rows.{Rows}
-use Rattle.acd_terms.specs.declared.record.GroupRecord.{GroupRecord}
-use Rattle.acd_terms.specs.declared.moves.Offer.{Offer}
+use Rattle.acd_laws.proofs.Types.{Rows, GroupRecord, Offer}
 use Rattle.acd_laws.proofs.Least.{none_of, least_is, least_found, none_mapped}
 use Rattle.acd_laws.proofs.Lists.{some_is}
 use Rattle.acd_terms.specs.Distribution.{offers}

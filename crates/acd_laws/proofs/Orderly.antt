@@ -1,20 +1,10 @@
 -- What services keep of stamps, moments and places: by each move.
 use Rattle.std.proofs.Common.{◌≡◌, ℕ, ◌+◌, ◌≤◌, Bool, true, false, cond, List, [], ◌∷◌, Option, Some, None, refl, ap, arith, length}
 use Rattle.std.specs.Prelude.{◌==◌, is_some}
-use Rattle.acd_terms.specs.declared.rows.Rows.{Rows}
-use Rattle.acd_terms.specs.declared.record.AgentRecord.{AgentRecord}
-use Rattle.acd_terms.specs.declared.record.ConnectionRecord.{ConnectionRecord}
-use Rattle.acd_terms.specs.declared.state.AgentState.{AgentState}
+use Rattle.acd_laws.proofs.Types.{Rows, AgentRecord, ConnectionRecord, ConnectionState, AgentState, Pending, Cause, Change, Ending, Move, Release, Report}
 use Rattle.acd_terms.specs.declared.state.AgentState.TheVariants as A
-use Rattle.acd_terms.specs.declared.state.Pending.{Pending}
-use Rattle.acd_terms.specs.declared.state.ConnectionState.{ConnectionState}
 use Rattle.acd_terms.specs.declared.state.ConnectionState.TheVariants as S
-use Rattle.acd_terms.specs.declared.event.Cause.{Cause}
-use Rattle.acd_terms.specs.declared.moves.Move.{Move}
-use Rattle.acd_terms.specs.declared.moves.Change.{Change}
-use Rattle.acd_terms.specs.declared.moves.Change.TheVariants.{Nothing, PutGroup, PutStation, PutAgent, PutCall, PutConnection, PutMonitor, RemoveCall, RemoveConnection, RemoveMonitor}
-use Rattle.acd_terms.specs.declared.moves.Ending.{Ending}
-use Rattle.acd_terms.specs.declared.moves.Release.{Release}
+use Rattle.acd_terms.specs.declared.moves.Change.TheVariants.{Nothing, PutAgent, PutCall, PutConnection, RemoveCall, RemoveConnection}
 use Rattle.acd_terms.specs.declared.moves.Release.TheVariants.{Stays, Goes}
 use Rattle.acd_terms.specs.Lists.{count, Every, IsAscending}
 use Rattle.acd_terms.specs.Scans.{at_agent, at_call, at_connection, is_group, agent_at, is_distributed, is_idle}
@@ -26,7 +16,6 @@ use Rattle.acd_terms.specs.Release.{release_of, released, release_agent, release
 use Rattle.acd_terms.specs.Rules.Plan.{agent_order}
 use Rattle.acd_laws.proofs.Facts.{seated_at, AgentTimed, CallTimed, IsPlace, IsMoment, ConnectionTimed, at_place, Timed}
 use Rattle.acd_laws.proofs.Lists.{one, find_among, count-put_most, count-remove_most, every_among, every-put, every-remove}
-use Rattle.acd_terms.specs.declared.event.Report.{Report}
 use Rattle.acd_terms.specs.declared.event.Report.TheVariants as report
 use Rattle.acd_terms.specs.Figures.{is_entry}
 use Rattle.acd_terms.specs.Services.Talking.{occupy, busy_agent}
@@ -69,15 +58,12 @@ orderly_nothing s k m = record { fit = tt; entries = λ g. omega arith; places =
 pub timed_change : (s : Rows) (k m : ℕ) (c : Change) → Timed k m s → Fit k m c → Timed k m (changed s c)
 unfolding with_group with_station with_agent with_call with_connection with_monitor without_call without_connection without_monitor
 timed_change s k m Nothing h f = h
-timed_change s k m (PutGroup g) h f = record { agents = h.agents; calls = h.calls; connections = h.connections }
-timed_change s k m (PutStation t) h f = record { agents = h.agents; calls = h.calls; connections = h.connections }
-timed_change s k m (PutMonitor w) h f = record { agents = h.agents; calls = h.calls; connections = h.connections }
 timed_change s k m (PutAgent a) h f = record { agents = every-put (at_agent a.agent) (AgentTimed k m) a f s.agents h.agents; calls = h.calls; connections = h.connections }
 timed_change s k m (PutCall c) h f = record { agents = h.agents; calls = every-put (at_call c.call) (CallTimed m) c f s.calls h.calls; connections = h.connections }
 timed_change s k m (PutConnection x) h f = record { agents = h.agents; calls = h.calls; connections = every-put (at_connection x.call x.device) (ConnectionTimed k m) x f s.connections h.connections }
 timed_change s k m (RemoveCall c) h f = record { agents = h.agents; calls = every-remove (at_call c) (CallTimed m) s.calls h.calls; connections = h.connections }
 timed_change s k m (RemoveConnection c d) h f = record { agents = h.agents; calls = h.calls; connections = every-remove (at_connection c d) (ConnectionTimed k m) s.connections h.connections }
-timed_change s k m (RemoveMonitor w) h f = record { agents = h.agents; calls = h.calls; connections = h.connections }
+timed_change s k m _ h f = record { agents = h.agents; calls = h.calls; connections = h.connections }
 
 pub timed_moved : (s t : Rows) (k m : ℕ) (ms : List Move) → Timed k m t → AllFit s k m ms → Timed k m (moved t ms)
 timed_moved s t k m [] h f = h

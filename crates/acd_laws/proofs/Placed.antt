@@ -6,12 +6,8 @@ use Rattle.acd_terms.specs.Lists.{Among, count}
 use Rattle.acd_terms.specs.States.{is_queued, is_alerting, is_initiated}
 use Rattle.acd_terms.specs.Scans.{call_of, is_group, is_station}
 use Rattle.acd_terms.specs.Placed.{cleared_by, is_queued_of, is_alerting_of, IsCleared, IsWaiting, IsAtDevices, IsPlaced}
-use Rattle.acd_terms.specs.declared.rows.Rows.{Rows}
-use Rattle.acd_terms.specs.declared.record.CallRecord.{CallRecord}
-use Rattle.acd_terms.specs.declared.record.ConnectionRecord.{ConnectionRecord}
-use Rattle.acd_terms.specs.declared.state.ConnectionState.{ConnectionState}
+use Rattle.acd_laws.proofs.Types.{Rows, CallRecord, ConnectionRecord, ConnectionState, Event}
 use Rattle.acd_terms.specs.declared.state.ConnectionState.TheVariants as S
-use Rattle.acd_terms.specs.declared.event.Event.{Event}
 use Rattle.acd_laws.proofs.Facts.{Rules, ConnectionRule, IsCaller, StandsAt, two_if}
 use Rattle.acd_terms.specs.Rules.Calls.{is_open, parties_of, initiated_of, open_of}
 use Rattle.acd_laws.specs.PlacedLaws.{KeepsClearings, PlacesExclude}

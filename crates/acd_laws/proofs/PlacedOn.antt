@@ -6,16 +6,12 @@ use Rattle.std.proofs.lemmas.Bool.Decides.{leb_tells}
 use Rattle.acd_terms.specs.Scans.{call_of}
 use Rattle.acd_terms.specs.Columns.{columns_of}
 use Rattle.acd_terms.specs.Placed.{clears, cleared_by, IsPlaced}
-use Rattle.acd_terms.specs.declared.rows.Rows.{Rows}
-use Rattle.acd_terms.specs.declared.record.CallRecord.{CallRecord}
-use Rattle.acd_terms.specs.declared.event.Event.{Event}
-use Rattle.acd_terms.specs.declared.event.Report.{Report}
+use Rattle.acd_laws.proofs.Types.{Rows, CallRecord, Command, Event, Report}
 use Rattle.acd_terms.specs.declared.event.Report.TheVariants as report
 use Rattle.acd_laws.specs.PlacedLaws.{IsUpTo, NamesNoLaterCall, clearings, KeepsClearings}
 use Rattle.acd_laws.proofs.Lists.{one, every_among, count_zero}
 use Rattle.acd_laws.proofs.PlacedRuns.{step_places}
 use Rattle.acd_terms.specs.Step.{step}
-use Rattle.acd_terms.specs.declared.command.Command.{Command}
 use Rattle.acd_laws.proofs.Facts.{Rules}
 
 -- a report that names no call above the last clears none there

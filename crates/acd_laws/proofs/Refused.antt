@@ -8,12 +8,8 @@ use Rattle.acd_terms.specs.Moves.{events_of}
 use Rattle.acd_terms.specs.Served.{outcome_of, moves_of}
 use Rattle.acd_terms.specs.Step.{step, step_moves, counted, numbered, executed_moment, next_stamp}
 use Rattle.acd_terms.specs.Services.Serve.{serve}
-use Rattle.acd_terms.specs.declared.rows.Rows.{Rows}
-use Rattle.acd_terms.specs.declared.command.Command.{Command}
-use Rattle.acd_terms.specs.declared.answer.Refusal.{Refusal}
+use Rattle.acd_laws.proofs.Types.{Rows, Command, Move, Refusal, Served}
 use Rattle.acd_terms.specs.declared.answer.Outcome.TheVariants as outcome
-use Rattle.acd_terms.specs.declared.moves.Move.{Move}
-use Rattle.acd_terms.specs.declared.moves.Served.{Served}
 use Rattle.acd_terms.specs.declared.moves.Served.TheVariants.{Refused, Done}
 use Rattle.acd_laws.specs.RefusalLaws.{ChangesNothing}
 use Rattle.acd_laws.proofs.OfferFound.{no_offers}

@@ -4,10 +4,7 @@ use Rattle.acd_terms.specs.Scans.{group_of, station_of, call_of}
 use Rattle.acd_terms.specs.Writes.{empty_rows}
 use Rattle.acd_terms.specs.Step.{step}
 use Rattle.acd_terms.specs.Run.{Asked, run}
-use Rattle.acd_terms.specs.declared.rows.Rows.{Rows}
-use Rattle.acd_terms.specs.declared.rows.Limits.{Limits}
-use Rattle.acd_terms.specs.declared.command.Command.{Command}
-use Rattle.acd_terms.specs.declared.event.Event.{Event}
+use Rattle.acd_laws.proofs.Types.{Rows, Limits, Command, Event}
 use Rattle.acd_laws.proofs.Facts.{Rules}
 
 -- a fact of a state and of all events up to it, which a step keeps

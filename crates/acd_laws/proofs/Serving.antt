@@ -1,7 +1,6 @@
 -- How to show a fact of what a service answers: of each refusal, and of what follows where no test holds.
 use Rattle.std.proofs.Common.{◌≡◌, Bool, true, false, Option, Some, None, refl}
-use Rattle.acd_terms.specs.declared.answer.Refusal.{Refusal}
-use Rattle.acd_terms.specs.declared.moves.Served.{Served}
+use Rattle.acd_laws.proofs.Types.{Refusal, Served}
 use Rattle.acd_terms.specs.declared.moves.Served.TheVariants.{Refused}
 use Rattle.acd_terms.specs.Served.{refuse_if, with_found}
 

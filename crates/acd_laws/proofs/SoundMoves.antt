@@ -27,7 +27,7 @@ use Rattle.acd_terms.specs.declared.moves.Ending.{Ending}
 use Rattle.acd_terms.specs.declared.moves.Release.{Release}
 use Rattle.acd_terms.specs.declared.moves.Release.TheVariants.{Stays, Goes}
 use Rattle.acd_terms.specs.declared.moves.Change.{Change}
-use Rattle.acd_terms.specs.declared.moves.Change.TheVariants.{Nothing, PutGroup, PutStation, PutAgent, PutCall, PutConnection, PutMonitor, RemoveCall, RemoveConnection, RemoveMonitor}
+use Rattle.acd_terms.specs.declared.moves.Change.TheVariants.{PutAgent, PutConnection, RemoveConnection}
 use Rattle.acd_terms.specs.Rules.Calls.{is_open}
 use Rattle.acd_laws.proofs.Lists.{one}
 use Rattle.acd_laws.proofs.Told.{Truthful, AllTruthful, truthful-append, truthful_put, truthful_nothing, truthful_agent, truthful_silent_agent}
@@ -61,16 +61,9 @@ LeavesConnections _ = Unit {0}
 
 pub left_connections : (s : Rows) (c : Change) → LeavesConnections c → (changed s c).connections ≡ s.connections
 unfolding with_group with_station with_agent with_call with_monitor without_call without_monitor
-left_connections s Nothing h = refl
-left_connections s (PutGroup g) h = refl
-left_connections s (PutStation t) h = refl
-left_connections s (PutAgent a) h = refl
-left_connections s (PutCall c) h = refl
 left_connections s (PutConnection x) h = absurd h
-left_connections s (PutMonitor w) h = refl
-left_connections s (RemoveCall c) h = refl
 left_connections s (RemoveConnection c d) h = absurd h
-left_connections s (RemoveMonitor w) h = refl
+left_connections s _ h = refl
 
 pub left_connection : (s : Rows) (c : Change) (a b : ℕ) → LeavesConnections c → connection_of (changed s c) a b ≡ connection_of s a b
 unfolding connection_of

@@ -17,7 +17,7 @@ use Rattle.acd_terms.specs.declared.state.ConnectionState.TheVariants as S
 use Rattle.acd_terms.specs.declared.event.Report.{Report}
 use Rattle.acd_terms.specs.declared.moves.Move.{Move}
 use Rattle.acd_terms.specs.declared.moves.Change.{Change}
-use Rattle.acd_terms.specs.declared.moves.Change.TheVariants.{Nothing, PutGroup, PutStation, PutAgent, PutCall, PutConnection, PutMonitor, RemoveCall, RemoveConnection, RemoveMonitor}
+use Rattle.acd_terms.specs.declared.moves.Change.TheVariants.{PutGroup, PutStation, PutAgent, PutConnection, RemoveConnection}
 use Rattle.acd_terms.specs.Rules.Calls.{is_open, open_of}
 use Rattle.acd_laws.proofs.Facts.{HasColumns}
 use Rattle.acd_laws.proofs.Lists.{one, among-remove, counted, ascending-put, ascending-remove}
@@ -162,16 +162,8 @@ LeavesAgents _ = Unit {0}
 
 pub left_agent : (s : Rows) (c : Change) (n : ℕ) → LeavesAgents c → agent_of (changed s c) n ≡ agent_of s n
 unfolding agent_of with_group with_station with_call with_connection with_monitor without_call without_connection without_monitor
-left_agent s Nothing n h = refl
-left_agent s (PutGroup g) n h = refl
-left_agent s (PutStation t) n h = refl
 left_agent s (PutAgent a) n h = absurd h
-left_agent s (PutCall c) n h = refl
-left_agent s (PutConnection x) n h = refl
-left_agent s (PutMonitor w) n h = refl
-left_agent s (RemoveCall c) n h = refl
-left_agent s (RemoveConnection c d) n h = refl
-left_agent s (RemoveMonitor w) n h = refl
+left_agent s _ n h = refl
 
 abbrev pub LeavesPlan : Change → Type 0
 LeavesPlan (PutGroup g) = ⊥
@@ -180,16 +172,9 @@ LeavesPlan _ = Unit {0}
 
 pub left_plan : (s : Rows) (c : Change) (d : ℕ) → LeavesPlan c → is_planned (changed s c) d ≡ is_planned s d
 unfolding group_of station_of with_agent with_call with_connection with_monitor without_call without_connection without_monitor
-left_plan s Nothing d h = refl
 left_plan s (PutGroup g) d h = absurd h
 left_plan s (PutStation t) d h = absurd h
-left_plan s (PutAgent a) d h = refl
-left_plan s (PutCall c) d h = refl
-left_plan s (PutConnection x) d h = refl
-left_plan s (PutMonitor w) d h = refl
-left_plan s (RemoveCall c) d h = refl
-left_plan s (RemoveConnection a b) d h = refl
-left_plan s (RemoveMonitor w) d h = refl
+left_plan s _ d h = refl
 
 -- where the one open connection of a call is taken away, none is left
 pub open_gone : (s : Rows) (call : ℕ) (x : ConnectionRecord) → connection_of s x.call x.device ≡ Some x → x.call ≡ call → count (open_of call) s.connections ≤ one (is_open x.state)

@@ -13,14 +13,7 @@ use Rattle.acd_terms.specs.Scans.{at_group, at_connection, group_of, station_of,
 use Rattle.acd_terms.specs.Writes.{with_group, with_station, with_agent, with_call, with_connection, without_call, without_connection}
 use Rattle.acd_terms.specs.Rules.Plan.{group_order, station_order, agent_order, call_order, connection_order, monitor_order}
 use Rattle.acd_terms.specs.Figures.{counting}
-use Rattle.acd_terms.specs.declared.rows.Rows.{Rows}
-use Rattle.acd_terms.specs.declared.record.GroupRecord.{GroupRecord}
-use Rattle.acd_terms.specs.declared.record.StationRecord.{StationRecord}
-use Rattle.acd_terms.specs.declared.record.AgentRecord.{AgentRecord}
-use Rattle.acd_terms.specs.declared.record.CallRecord.{CallRecord}
-use Rattle.acd_terms.specs.declared.record.ConnectionRecord.{ConnectionRecord}
-use Rattle.acd_terms.specs.declared.record.MonitorRecord.{MonitorRecord}
-use Rattle.acd_terms.specs.declared.event.Event.{Event}
+use Rattle.acd_laws.proofs.Types.{Rows, GroupRecord, StationRecord, AgentRecord, CallRecord, ConnectionRecord, MonitorRecord, Event}
 use Rattle.acd_laws.proofs.Lists.{eq_is, is_eq_of}
 use Rattle.acd_laws.proofs.Keyed.{Keyed, by_number, cmp_equal, cmp_self, find_is, some_is_any, found_among, found_has, found_own, found_put, some_put, found_left, eqb_swap}
 

@@ -3,16 +3,10 @@ use Rattle.std.proofs.Common.{◌≡◌, ℕ, inl, inr, true, false, cond, List,
 use Rattle.std.specs.Prelude.{◌==◌, is_some}
 use Rattle.std.specs.declared.cmp.Ordering.TheVariants.{Less}
 use Rattle.std.proofs.lemmas.Bool.{and_parts, and_from, eqb-true, false_from_ne_true, cond-false}
-use Rattle.acd_terms.specs.declared.rows.Rows.{Rows}
-use Rattle.acd_terms.specs.declared.record.AgentRecord.{AgentRecord}
-use Rattle.acd_terms.specs.declared.record.ConnectionRecord.{ConnectionRecord}
+use Rattle.acd_laws.proofs.Types.{Rows, AgentRecord, ConnectionRecord, ConnectionState, Ending, Event, Move, Release}
 use Rattle.acd_terms.specs.declared.state.AgentState.TheVariants as A
-use Rattle.acd_terms.specs.declared.state.ConnectionState.{ConnectionState}
 use Rattle.acd_terms.specs.declared.state.ConnectionState.TheVariants as S
-use Rattle.acd_terms.specs.declared.moves.Move.{Move}
-use Rattle.acd_terms.specs.declared.moves.Ending.{Ending}
 use Rattle.acd_terms.specs.declared.moves.Ending.TheVariants.{NoAnswer}
-use Rattle.acd_terms.specs.declared.moves.Release.{Release}
 use Rattle.acd_terms.specs.declared.moves.Release.TheVariants.{Stays, Goes}
 use Rattle.acd_terms.specs.Lists.{remove_by, Among, IsAscending}
 use Rattle.acd_terms.specs.States.{is_working_after_call, is_alerting}
@@ -28,7 +22,6 @@ use Rattle.acd_terms.specs.Rules.Calls.{is_open, open_of}
 use Rattle.acd_laws.proofs.Lists.{filter_among, after_among, ascending-filter, among-put_other, among-remove_other, two_counted, some_from}
 use Rattle.acd_laws.proofs.Keyed.{eqb_self, cmp_self}
 use Rattle.acd_laws.proofs.State.{is_of, is_of_true, order_equal, order_same, connection_key, agent_put, agent_found}
-use Rattle.acd_terms.specs.declared.event.Event.{Event}
 use Rattle.acd_terms.specs.Tick.{is_overdue_offer, is_overdue, overdue_in, return_to, return_moves, is_rested, rested_in, rest_moves, each, returns, rests, tick, is_over_in}
 use Rattle.acd_terms.proofs.MoveLemmas.{events_of_append, moved_append}
 use Rattle.acd_laws.proofs.Found.{connection_there}

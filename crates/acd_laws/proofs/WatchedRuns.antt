@@ -13,17 +13,8 @@ use Rattle.acd_terms.specs.Services.Serve.{serve}
 use Rattle.acd_terms.specs.Distribution.{distribution}
 use Rattle.acd_terms.specs.Served.{moves_of}
 use Rattle.acd_terms.specs.Step.{numbered, executed_moment, next_stamp, step_moves, step}
-use Rattle.acd_terms.specs.declared.rows.Rows.{Rows}
-use Rattle.acd_terms.specs.declared.rows.Limits.{Limits}
-use Rattle.acd_terms.specs.declared.record.Figures.{Figures}
-use Rattle.acd_terms.specs.declared.record.GroupRecord.{GroupRecord}
-use Rattle.acd_terms.specs.declared.record.CallRecord.{CallRecord}
-use Rattle.acd_terms.specs.declared.record.ConnectionRecord.{ConnectionRecord}
-use Rattle.acd_terms.specs.declared.state.ConnectionState.{ConnectionState}
+use Rattle.acd_laws.proofs.Types.{Rows, Limits, GroupRecord, CallRecord, ConnectionRecord, Figures, ConnectionState, Command, Event, Move}
 use Rattle.acd_terms.specs.declared.state.ConnectionState.TheVariants as S
-use Rattle.acd_terms.specs.declared.event.Event.{Event}
-use Rattle.acd_terms.specs.declared.command.Command.{Command}
-use Rattle.acd_terms.specs.declared.moves.Move.{Move}
 use Rattle.acd_laws.proofs.Facts.{Rules, IsCaller, StandsAt}
 use Rattle.acd_laws.specs.WatchedLaws.{TellsNoMore, RunIsWatched, RunTellsNoMore}
 use Rattle.acd_laws.specs.BalanceLaws.{IsBalanced, RunIsBalanced}
@@ -33,7 +24,7 @@ use Rattle.acd_laws.proofs.State.{found_key}
 use Rattle.acd_terms.proofs.MoveLemmas.{moved_append}
 use Rattle.acd_laws.proofs.Found.{connection_rule}
 use Rattle.acd_laws.proofs.CountedEvents.{figures_joined, figures_numbered}
-use Rattle.acd_laws.proofs.Tells.{shown, seat, UpTo, Tells}
+use Rattle.acd_laws.proofs.Tells.{shown, Tells}
 use Rattle.acd_laws.proofs.Told.{after-append, after-numbered}
 use Rattle.acd_laws.proofs.Balance.{holding}
 use Rattle.acd_laws.proofs.Order.{Ordered}
@@ -44,34 +35,6 @@ use Rattle.acd_laws.proofs.Ended.{ended, planned_ended, rules_step}
 use Rattle.acd_laws.proofs.Following.{Follows, follows_step}
 use Rattle.acd_laws.proofs.Runs.{kept_by_run, rules_first, KeptByRules}
 
--- what the end of a step leaves
-
-state_ended : (t : Rows) (es : List Event) (k m n c d : ℕ) → state_at (ended t es k m n) c d ≡ state_at t c d
-unfolding with_last with_figures connection_of
-state_ended t es k m n c d = refl
-
-shown_ended : (t : Rows) (es : List Event) (k m n c d : ℕ) → shown (ended t es k m n) c d ≡ shown t c d
-shown_ended t es k m n c d = ap (λ b. cond b (state_at (ended t es k m n) c d) None) (planned_ended t es k m n d) ∙ ap (λ v. cond (is_planned t d) v None) (state_ended t es k m n c d)
-
-seat_ended : (t : Rows) (es : List Event) (k m n a : ℕ) → seat (ended t es k m n) a ≡ seat t a
-unfolding with_last with_figures agent_of
-seat_ended t es k m n a = refl
-
-ordered_ended : (t : Rows) (es : List Event) (k m n : ℕ) (events : List Event) → Ordered k n t events → Ordered k n (ended t es k m n) events
-unfolding with_last with_figures
-ordered_ended t es k m n events o = record {
-  in_order = λ g c d p q a b. o.in_order g c d p q (back g c p a) (back g d q b);
-  entered = λ g c p a. o.entered g c p (back g c p a);
-  up_to = record { entries = o.up_to.entries; places = λ g c p a. o.up_to.places g c p (back g c p a) };
-}
-  where
-    back : (g c p : ℕ) → IsHeldAt (ended t es k m n) g c p → IsHeldAt t g c p
-    back g c p h = record { connection = h.connection; there = h.there; held = h.held; of_call = h.of_call; at_place = h.at_place }
-
-counters_ended : (t : Rows) (es : List Event) (k m n : ℕ) → (k ≡ (ended t es k m n).last_stamp) × (n ≡ (ended t es k m n).last_event)
-unfolding with_last
-counters_ended t es k m n = (refl, refl)
-
 holding_ended : (t : Rows) (es : List Event) (k m n g : ℕ) → holding (ended t es k m n) g ≡ holding t g
 unfolding with_last with_figures
 holding_ended t es k m n g = refl
@@ -79,20 +42,19 @@ holding_ended t es k m n g = refl
 -- what a step tells
 
 tells_ended : (s t : Rows) (events es : List Event) (k m : ℕ) → Tells s events → Follows s s.last_stamp k t es → Tells (ended t es k m (s.last_event + length es)) (events ++ numbered s.last_event es)
+unfolding with_last with_figures connection_of agent_of
 tells_ended s t events es k m told f =
     let n : ℕ = s.last_event + length es in
-    let e : Rows = ended t es k m n in
-    let o : Ordered s.last_stamp s.last_event s events = record { in_order = told.queues; entered = told.entries; up_to = told.up_to } in
-    let w : Ordered k n e (events ++ numbered s.last_event es) = ordered_ended t es k m n (events ++ numbered s.last_event es) (f.order events s.last_event o) in
-    let c = counters_ended t es k m n in
+    let w : Ordered k n t (events ++ numbered s.last_event es) = f.order events s.last_event (record { in_order = told.queues; entered = told.entries; up_to = told.up_to }) in
+    let back : (g c p : ℕ) → IsHeldAt (ended t es k m n) g c p → IsHeldAt t g c p = λ g c p h. record { connection = h.connection; there = h.there; held = h.held; of_call = h.of_call; at_place = h.at_place } in
     record {
-      connections = λ call device. shown_ended t es k m n call device ∙ f.connections call device ∙ ap (λ v. after (connection_told call device) v es) (told.connections call device)
+      connections = λ call device. ap (λ b. cond b (state_at t call device) None) (planned_ended t es k m n device) ∙ f.connections call device ∙ ap (λ v. after (connection_told call device) v es) (told.connections call device)
           ∙ sym (after-append (connection_told call device) None events (numbered s.last_event es) ∙ after-numbered (connection_told call device) _ s.last_event es);
-      agents = λ agent. seat_ended t es k m n agent ∙ f.agents agent ∙ ap (λ v. after (seat_told agent) v es) (told.agents agent)
+      agents = λ agent. f.agents agent ∙ ap (λ v. after (seat_told agent) v es) (told.agents agent)
           ∙ sym (after-append (seat_told agent) _ events (numbered s.last_event es) ∙ after-numbered (seat_told agent) _ s.last_event es);
-      entries = w.entered;
-      queues = w.in_order;
-      up_to = subst (λ v. UpTo v e.last_event e (events ++ numbered s.last_event es)) c.0 (subst (λ v. UpTo k v e (events ++ numbered s.last_event es)) c.1 w.up_to);
+      entries = λ g c p h. w.entered g c p (back g c p h);
+      queues = λ g c d p q x y. w.in_order g c d p q (back g c p x) (back g d q y);
+      up_to = record { entries = w.up_to.entries; places = λ g c p h. w.up_to.places g c p (back g c p h) };
     }
 
 step_tells : KeptByRules Tells
