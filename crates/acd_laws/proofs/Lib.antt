@@ -29,11 +29,13 @@ pub mod KeptPlan
 pub mod KeptAgents
 pub mod Distributing
 pub mod DistributionFound
+pub mod Deeds
 pub mod SoundPuts
 pub mod SoundCalls
 pub mod SoundEnds
 pub mod Ticking
 pub mod RulesKept
+pub mod ByDeeds
 pub mod RulesStep
 pub mod RulesRead
 pub mod ConnectionsRead
