@@ -87,12 +87,10 @@ unfolding is_at
 held_is_at d x e = let h = and_parts (is_hold x.state) (x.device == d) e in and_from _ _ h.1 (or_right (is_live x.state) (is_hold x.state) h.0)
 
 alerting_live : (st : ConnectionState) → is_alerting st ≡ true → is_live st ≡ true
-alerting_live S.Alerting e = refl
-alerting_live S.Initiated e = refl
-alerting_live S.Connected e = refl
 alerting_live S.Hold e = absurd (cc (e))
 alerting_live S.Queued e = absurd (cc (e))
 alerting_live S.Fail e = absurd (cc (e))
+alerting_live _ e = refl
 
 pub alerting_is_live : (d : ℕ) (x : ConnectionRecord) → alerting_at d x ≡ true → live_at d x ≡ true
 alerting_is_live d x e = let h = and_parts (is_alerting x.state) (x.device == d) e in and_from _ _ (alerting_live x.state h.0) h.1

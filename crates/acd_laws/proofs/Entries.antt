@@ -50,10 +50,7 @@ alerting_place x g (Some n) h e = h.place
 place_in : (x : ConnectionRecord) (g : ℕ) (st : ConnectionState) → HasColumns x st → ((is_queued st && x.device == g) || (is_alerting st && has x.group g)) ≡ true → is_some x.place ≡ true
 place_in x g S.Queued h e = h.place
 place_in x g S.Alerting h e = alerting_place x g x.group h e
-place_in x g S.Initiated h e = absurd (cc (e))
-place_in x g S.Connected h e = absurd (cc (e))
-place_in x g S.Hold h e = absurd (cc (e))
-place_in x g S.Fail h e = absurd (cc (e))
+place_in x g _ h e = absurd (cc (e))
 
 -- the number of its entry is above 0
 pub entry_number : (g c : ℕ) (x : ConnectionRecord) (events : List Event) → x.call ≡ c → HasEntered events g x.call → 0 < last_entry g c 0 events

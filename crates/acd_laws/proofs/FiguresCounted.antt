@@ -44,16 +44,8 @@ use Rattle.acd_laws.proofs.Runs.{kept_by_run}
 
 groups_changed : (s : Rows) (c : Change) → LeavesGroups c → (changed s c).groups ≡ s.groups
 unfolding with_station with_agent with_call with_connection with_monitor without_call without_connection without_monitor
-groups_changed s Nothing h = refl
 groups_changed s (PutGroup g) h = absurd h
-groups_changed s (PutStation t) h = refl
-groups_changed s (PutAgent a) h = refl
-groups_changed s (PutCall c) h = refl
-groups_changed s (PutConnection x) h = refl
-groups_changed s (PutMonitor w) h = refl
-groups_changed s (RemoveCall c) h = refl
-groups_changed s (RemoveConnection c d) h = refl
-groups_changed s (RemoveMonitor w) h = refl
+groups_changed s _ h = refl
 
 groups_moved : (P : Type 0) (gs : List GroupRecord) (s : Rows) (ms : List Move) → AllFit P gs ms → (moved s ms).groups ≡ s.groups
 groups_moved P gs s [] h = refl
@@ -62,16 +54,9 @@ groups_moved P gs s (m ∷ ms) h = groups_moved P gs (changed s m.change) ms h.1
 knows_changed : (gs : List GroupRecord) (s : Rows) (c : Change) → PutsKnown gs c → ((x : ConnectionRecord) → Among x s.connections → IsAmongGroups gs x.group)
     → (x : ConnectionRecord) → Among x (changed s c).connections → IsAmongGroups gs x.group
 unfolding with_group with_station with_agent with_call with_connection with_monitor without_call without_connection without_monitor
-knows_changed gs s Nothing p h x a = h x a
-knows_changed gs s (PutGroup g) p h x a = h x a
-knows_changed gs s (PutStation t) p h x a = h x a
-knows_changed gs s (PutAgent t) p h x a = h x a
-knows_changed gs s (PutCall c) p h x a = h x a
 knows_changed gs s (PutConnection y) p h x a = elim (among_put _ y s.connections x a) [ inl e ↦ subst (λ (z : ConnectionRecord). IsAmongGroups gs z.group) (sym e) p | inr b ↦ h x b ]
-knows_changed gs s (PutMonitor w) p h x a = h x a
-knows_changed gs s (RemoveCall c) p h x a = h x a
 knows_changed gs s (RemoveConnection c d) p h x a = h x (among-remove _ s.connections x a)
-knows_changed gs s (RemoveMonitor w) p h x a = h x a
+knows_changed gs s _ p h x a = h x a
 
 knows_moved : (P : Type 0) (gs : List GroupRecord) (s : Rows) (ms : List Move) → AllFit P gs ms → P → ((x : ConnectionRecord) → Among x s.connections → IsAmongGroups gs x.group)
     → (x : ConnectionRecord) → Among x (moved s ms).connections → IsAmongGroups gs x.group

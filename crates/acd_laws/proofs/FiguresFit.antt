@@ -88,10 +88,7 @@ known_other s x y e k = k y (find_among _ s.connections y e)
 
 fits_report : (P : Type 0) (gs : List GroupRecord) (a : AgentRecord) (state : AgentState) (agent station : ℕ) → Fits P gs (reported (PutAgent a) (state_report state agent station))
 fits_report P gs a Null agent station = (tt, λ _. (tt, tt))
-fits_report P gs a NotReady agent station = (tt, λ _. (tt, tt))
-fits_report P gs a Ready agent station = (tt, λ _. (tt, tt))
-fits_report P gs a Busy agent station = (tt, λ _. (tt, tt))
-fits_report P gs a WorkingAfterCall agent station = (tt, λ _. (tt, tt))
+fits_report P gs a _ agent station = (tt, λ _. (tt, tt))
 
 fits_go_to : (P : Type 0) (gs : List GroupRecord) (m k : ℕ) (a : AgentRecord) (station : ℕ) (state : AgentState) → Fits P gs (go_to m k a station state)
 fits_go_to P gs m k a station state = fits_report P gs (in_state state m k a) state a.agent station

@@ -111,10 +111,7 @@ kept_wait s a w r there seated occupied =
   where
     rule : (st : AgentState) → is_null st ≡ false → SeatedAs s a st → SeatedAs s (record a { pending = Some w }) st
     rule A.Null e h = absurd (cc (e))
-    rule A.NotReady e h = h
-    rule A.Ready e h = h
-    rule A.Busy e h = h
-    rule A.WorkingAfterCall e h = h
+    rule _ e h = h
 
 planned_some : (s : Rows) (o : Option ℕ) → IsPlannedStation s o → (d : ℕ) × (o ≡ Some d)
 planned_some s None h = absurd h
@@ -126,10 +123,7 @@ seat_station s a h = let d = planned_some s a.station h.0 in (d.0, d.1, h)
 -- a seated agent has a station
 seat_there : (s : Rows) (a : AgentRecord) (st : AgentState) → is_null st ≡ false → SeatedAs s a st → (d : ℕ) × (a.station ≡ Some d) × (IsPlannedStation s a.station × IsPlannedGroup s a.group)
 seat_there s a A.Null e h = absurd (cc (e))
-seat_there s a A.NotReady e h = seat_station s a h
-seat_there s a A.Ready e h = seat_station s a h
-seat_there s a A.Busy e h = seat_station s a h
-seat_there s a A.WorkingAfterCall e h = seat_station s a h
+seat_there s a _ e h = seat_station s a h
 
 -- an unoccupied agent goes to a state other than busy
 pub kept_go_to : (s : Rows) (a : AgentRecord) (st : AgentState) (m k d : ℕ) → Rules s → agent_of s a.agent ≡ Some a → is_null a.state ≡ false → is_occupied s a ≡ false → is_busy st ≡ false → Rules (changed s (go_to m k a d st).change)
@@ -141,10 +135,7 @@ kept_go_to s a st m k at r there seated free not_busy =
 
 null_is : (st : AgentState) → is_null st ≡ true → st ≡ A.Null
 null_is A.Null e = refl
-null_is A.NotReady e = absurd (cc (e))
-null_is A.Ready e = absurd (cc (e))
-null_is A.Busy e = absurd (cc (e))
-null_is A.WorkingAfterCall e = absurd (cc (e))
+null_is _ e = absurd (cc (e))
 
 none_seated : (s : Rows) (d : ℕ) → agent_at s d ≡ None → count (seated_at d) s.agents ≡ 0
 unfolding agent_at
@@ -192,10 +183,7 @@ occupied_state s a r there e =
 
 not_working : (st : AgentState) → is_working_after_call st ≡ true → (is_null st ≡ false) × (is_ready st ≡ false) × (is_busy st ≡ false)
 not_working A.WorkingAfterCall e = (refl, refl, refl)
-not_working A.Null e = absurd (cc (e))
-not_working A.NotReady e = absurd (cc (e))
-not_working A.Ready e = absurd (cc (e))
-not_working A.Busy e = absurd (cc (e))
+not_working _ e = absurd (cc (e))
 
 -- after-call work ends
 pub kept_rest : (s : Rows) (m k d : ℕ) (a : AgentRecord) → Rules s → agent_of s a.agent ≡ Some a → is_working_after_call a.state ≡ true → Rules (changed s (go_to m k a d A.Ready).change)

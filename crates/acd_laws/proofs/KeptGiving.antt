@@ -95,10 +95,7 @@ moved_on s m k x y call d xc r ex a none_d not_initiated opens =
 pub open_cases : (st : ConnectionState) → (is_alerting st || is_queued st) ≡ true → (is_initiated st ≡ false) × (is_open st ≡ true)
 open_cases S.Alerting e = (refl, refl)
 open_cases S.Queued e = (refl, refl)
-open_cases S.Initiated e = absurd (cc (e))
-open_cases S.Connected e = absurd (cc (e))
-open_cases S.Hold e = absurd (cc (e))
-open_cases S.Fail e = absurd (cc (e))
+open_cases _ e = absurd (cc (e))
 
 pub closed_of : ℕ → ConnectionRecord → Bool
 closed_of c x = not (is_open x.state) && x.call == c
@@ -114,10 +111,7 @@ open_or_closed c x = elim (is_open x.state) as (λ b. one (b && x.call == c) + o
 closed_when : (st : ConnectionState) → is_answered st ≡ true → is_open st ≡ false
 closed_when S.Connected e = refl
 closed_when S.Hold e = refl
-closed_when S.Initiated e = absurd (cc (e))
-closed_when S.Alerting e = absurd (cc (e))
-closed_when S.Queued e = absurd (cc (e))
-closed_when S.Fail e = absurd (cc (e))
+closed_when _ e = absurd (cc (e))
 
 answered_other : (o : Option ConnectionRecord) → is_answered_by o ≡ true → (y : ConnectionRecord) × (o ≡ Some y) × (is_answered y.state ≡ true)
 answered_other None e = absurd (cc (e))

@@ -66,26 +66,15 @@ open_when_idle s z a e =
 
 pub queued_is : (st : ConnectionState) → is_queued st ≡ true → st ≡ S.Queued
 queued_is S.Queued e = refl
-queued_is S.Initiated e = absurd (cc (e))
-queued_is S.Alerting e = absurd (cc (e))
-queued_is S.Connected e = absurd (cc (e))
-queued_is S.Hold e = absurd (cc (e))
-queued_is S.Fail e = absurd (cc (e))
+queued_is _ e = absurd (cc (e))
 
 pub alerting_is : (st : ConnectionState) → is_alerting st ≡ true → st ≡ S.Alerting
 alerting_is S.Alerting e = refl
-alerting_is S.Initiated e = absurd (cc (e))
-alerting_is S.Queued e = absurd (cc (e))
-alerting_is S.Connected e = absurd (cc (e))
-alerting_is S.Hold e = absurd (cc (e))
-alerting_is S.Fail e = absurd (cc (e))
+alerting_is _ e = absurd (cc (e))
 
 pub ready_is : (st : AgentState) → is_ready st ≡ true → st ≡ A.Ready
 ready_is A.Ready e = refl
-ready_is A.Null e = absurd (cc (e))
-ready_is A.NotReady e = absurd (cc (e))
-ready_is A.Busy e = absurd (cc (e))
-ready_is A.WorkingAfterCall e = absurd (cc (e))
+ready_is _ e = absurd (cc (e))
 
 offered_rule : (s : Rows) (x : ConnectionRecord) (d m : ℕ) → ConnectionRule s x → is_queued x.state ≡ true → IsTrue (is_station s d) → ConnectionRule s (ringing m x d)
 offered_rule s x d m h q t =

@@ -95,11 +95,7 @@ kept_make_call s m device called r =
 
 pub initiated_is : (st : ConnectionState) → is_initiated st ≡ true → st ≡ S.Initiated
 initiated_is S.Initiated e = refl
-initiated_is S.Alerting e = absurd (cc (e))
-initiated_is S.Queued e = absurd (cc (e))
-initiated_is S.Connected e = absurd (cc (e))
-initiated_is S.Hold e = absurd (cc (e))
-initiated_is S.Fail e = absurd (cc (e))
+initiated_is _ e = absurd (cc (e))
 
 is_caller_of : (o : Option CallRecord) (c : CallRecord) (d : ℕ) → o ≡ Some c → IsCaller o d → c.caller ≡ d
 is_caller_of o c d e h = subst (λ v. IsCaller v d) e h

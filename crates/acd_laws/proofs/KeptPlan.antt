@@ -66,10 +66,7 @@ more_group s t f (Some d) h = f d h
 
 more_seat : (s t : Rows) → ((d : ℕ) → IsTrue (is_station s d) → IsTrue (is_station t d)) → ((d : ℕ) → IsTrue (is_group s d) → IsTrue (is_group t d)) → (a : AgentRecord) (st : AgentState) → SeatedAs s a st → SeatedAs t a st
 more_seat s t f g a A.Null h = h
-more_seat s t f g a A.NotReady h = (more_station s t f a.station h.0, more_group s t g a.group h.1)
-more_seat s t f g a A.Ready h = (more_station s t f a.station h.0, more_group s t g a.group h.1)
-more_seat s t f g a A.Busy h = (more_station s t f a.station h.0, more_group s t g a.group h.1)
-more_seat s t f g a A.WorkingAfterCall h = (more_station s t f a.station h.0, more_group s t g a.group h.1)
+more_seat s t f g a _ h = (more_station s t f a.station h.0, more_group s t g a.group h.1)
 
 more_column : (s t : Rows) → ((d : ℕ) → IsTrue (is_group s d) → IsTrue (is_group t d)) → (o : Option ℕ) → GroupColumn s o → GroupColumn t o
 more_column s t g None h = tt

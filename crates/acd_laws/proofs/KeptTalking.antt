@@ -117,19 +117,11 @@ kept_answer_call s m k call device r =
 
 pub connected_is : (st : ConnectionState) → is_connected st ≡ true → st ≡ S.Connected
 connected_is S.Connected e = refl
-connected_is S.Alerting e = absurd (cc (e))
-connected_is S.Initiated e = absurd (cc (e))
-connected_is S.Queued e = absurd (cc (e))
-connected_is S.Hold e = absurd (cc (e))
-connected_is S.Fail e = absurd (cc (e))
+connected_is _ e = absurd (cc (e))
 
 pub hold_is : (st : ConnectionState) → is_hold st ≡ true → st ≡ S.Hold
 hold_is S.Hold e = refl
-hold_is S.Alerting e = absurd (cc (e))
-hold_is S.Initiated e = absurd (cc (e))
-hold_is S.Queued e = absurd (cc (e))
-hold_is S.Connected e = absurd (cc (e))
-hold_is S.Fail e = absurd (cc (e))
+hold_is _ e = absurd (cc (e))
 
 -- a connected call and a held one change places: x before, y after
 turned : (s : Rows) (x y : ConnectionRecord) → Rules s → connection_of s x.call x.device ≡ Some x → y.call ≡ x.call → y.device ≡ x.device → ConnectionRule s y
@@ -172,18 +164,12 @@ turned s x y r ex yc yd rule ax ay yg one_live no_hold =
     answered_only : (st : ConnectionState) → is_answered st ≡ true → (is_initiated st ≡ false) × (is_open st ≡ false) × (is_alerting st ≡ false) × (is_queued st ≡ false)
     answered_only S.Connected e = (refl, refl, refl, refl)
     answered_only S.Hold e = (refl, refl, refl, refl)
-    answered_only S.Initiated e = absurd (cc (e))
-    answered_only S.Alerting e = absurd (cc (e))
-    answered_only S.Queued e = absurd (cc (e))
-    answered_only S.Fail e = absurd (cc (e))
+    answered_only _ e = absurd (cc (e))
 
 bare_answered : (s : Rows) (x : ConnectionRecord) (st : ConnectionState) → is_answered st ≡ true → HasColumns x st → Bare x
 bare_answered s x S.Connected e h = h
 bare_answered s x S.Hold e h = h
-bare_answered s x S.Initiated e h = absurd (cc (e))
-bare_answered s x S.Alerting e h = absurd (cc (e))
-bare_answered s x S.Queued e h = absurd (cc (e))
-bare_answered s x S.Fail e h = absurd (cc (e))
+bare_answered s x _ e h = absurd (cc (e))
 
 connected_at : ℕ → ConnectionRecord → Bool
 connected_at d x = is_connected x.state && x.device == d

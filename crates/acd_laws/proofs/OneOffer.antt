@@ -24,10 +24,7 @@ use Rattle.acd_laws.proofs.Runs.{kept_by_run, rules_first}
 
 busy_is : (st : AgentState) → is_busy st ≡ true → st ≡ A.Busy
 busy_is A.Busy e = refl
-busy_is A.Null e = absurd (cc (e))
-busy_is A.NotReady e = absurd (cc (e))
-busy_is A.Ready e = absurd (cc (e))
-busy_is A.WorkingAfterCall e = absurd (cc (e))
+busy_is _ e = absurd (cc (e))
 
 planned_some : (s : Rows) (o : Option ℕ) → IsPlannedStation s o → is_some o ≡ true
 planned_some s None h = absurd h

@@ -72,15 +72,12 @@ orderly_nothing s k m = record { fit = tt; entries = λ g. omega arith; places =
 pub timed_change : (s : Rows) (k m : ℕ) (c : Change) → Timed k m s → Fit k m c → Timed k m (changed s c)
 unfolding with_group with_station with_agent with_call with_connection with_monitor without_call without_connection without_monitor
 timed_change s k m Nothing h f = h
-timed_change s k m (PutGroup g) h f = record { agents = h.agents; calls = h.calls; connections = h.connections }
-timed_change s k m (PutStation t) h f = record { agents = h.agents; calls = h.calls; connections = h.connections }
-timed_change s k m (PutMonitor w) h f = record { agents = h.agents; calls = h.calls; connections = h.connections }
 timed_change s k m (PutAgent a) h f = record { agents = every-put (at_agent a.agent) (AgentTimed k m) a f s.agents h.agents; calls = h.calls; connections = h.connections }
 timed_change s k m (PutCall c) h f = record { agents = h.agents; calls = every-put (at_call c.call) (CallTimed m) c f s.calls h.calls; connections = h.connections }
 timed_change s k m (PutConnection x) h f = record { agents = h.agents; calls = h.calls; connections = every-put (at_connection x.call x.device) (ConnectionTimed k m) x f s.connections h.connections }
 timed_change s k m (RemoveCall c) h f = record { agents = h.agents; calls = every-remove (at_call c) (CallTimed m) s.calls h.calls; connections = h.connections }
 timed_change s k m (RemoveConnection c d) h f = record { agents = h.agents; calls = h.calls; connections = every-remove (at_connection c d) (ConnectionTimed k m) s.connections h.connections }
-timed_change s k m (RemoveMonitor w) h f = record { agents = h.agents; calls = h.calls; connections = h.connections }
+timed_change s k m _ h f = record { agents = h.agents; calls = h.calls; connections = h.connections }
 
 pub timed_moved : (s t : Rows) (k m : ℕ) (ms : List Move) → Timed k m t → AllFit s k m ms → Timed k m (moved t ms)
 timed_moved s t k m [] h f = h
@@ -127,10 +124,7 @@ fit_arrive s t k m c d cause l = record { fit = timed_arriving (is_group s d) (i
 
 fit_state : (t : Rows) (k m : ℕ) (a : AgentRecord) (st : AgentState) (n d : ℕ) → AgentTimed k m a → FitMove t k m (reported (PutAgent a) (state_report st n d))
 fit_state t k m a A.Null n d h = record { fit = h; waits = tt }
-fit_state t k m a A.NotReady n d h = record { fit = h; waits = tt }
-fit_state t k m a A.Ready n d h = record { fit = h; waits = tt }
-fit_state t k m a A.Busy n d h = record { fit = h; waits = tt }
-fit_state t k m a A.WorkingAfterCall n d h = record { fit = h; waits = tt }
+fit_state t k m a _ n d h = record { fit = h; waits = tt }
 
 pub fit_go_to : (t : Rows) (k m d : ℕ) (a : AgentRecord) (st : AgentState) → 1 ≤ k → FitMove t k m (go_to m k a d st)
 fit_go_to t k m d a st l = fit_state t k m (in_state st m k a) st a.agent d (record { above = l; stamp = omega arith; since = omega arith })
@@ -193,10 +187,7 @@ entry_most g x = entry_le g x.report
 
 entry_state : (g : ℕ) (st : AgentState) (n d : ℕ) → entry_by g (Some (state_report st n d)) ≡ 0
 entry_state g A.Null n d = refl
-entry_state g A.NotReady n d = refl
-entry_state g A.Ready n d = refl
-entry_state g A.Busy n d = refl
-entry_state g A.WorkingAfterCall n d = refl
+entry_state g _ n d = refl
 
 entry_release_agent : (g m k d : ℕ) (o : Option AgentRecord) (how : Ending) → entry_by g (release_agent m k o d how).report ≡ 0
 entry_release_agent g m k d None how = refl

@@ -46,11 +46,7 @@ at_device s x k S.Connected (inr h) e q = inl (sym (subst (λ o. IsCaller o x.de
 
 at_queue : (s : Rows) (x : ConnectionRecord) (st : ConnectionState) → StandsAt s x st → is_queued st ≡ true → is_group s x.device ≡ true
 at_queue s x S.Queued h e = h
-at_queue s x S.Initiated h e = absurd (cc (e))
-at_queue s x S.Alerting h e = absurd (cc (e))
-at_queue s x S.Connected h e = absurd (cc (e))
-at_queue s x S.Hold h e = absurd (cc (e))
-at_queue s x S.Fail h e = absurd (cc (e))
+at_queue s x _ h e = absurd (cc (e))
 
 -- a live call waits in one queue, or is at devices
 placed_live : (s : Rows) (events : List Event) (c : ℕ) (k : CallRecord) → Rules s → call_of s c ≡ Some k → cleared_by c events ≡ 0 → IsWaiting s events c ⊎ IsAtDevices s events c

@@ -33,10 +33,7 @@ use Rattle.acd_laws.proofs.KeptOffer.{ringing_is, talking_is, ready_is}
 -- a seat that a station has
 pub seat_from : (s : Rows) (a : AgentRecord) (d : ℕ) (st : AgentState) → SeatedAs s a st → a.station ≡ Some d → IsPlannedStation s a.station × IsPlannedGroup s a.group
 seat_from s a d A.Null h e = absurd (cc (h.0, e))
-seat_from s a d A.NotReady h e = h
-seat_from s a d A.Ready h e = h
-seat_from s a d A.Busy h e = h
-seat_from s a d A.WorkingAfterCall h e = h
+seat_from s a d _ h e = h
 
 -- the record that a release leaves
 pub record Left (s : Rows) (a b : AgentRecord) : Type 0 where
@@ -48,23 +45,16 @@ pub record Left (s : Rows) (a b : AgentRecord) : Type 0 where
 
 pub left_pending : (s : Rows) (a : AgentRecord) (st : AgentState) → SeatedAs s a st → SeatedAs s (record a { pending = None }) st
 left_pending s a A.Null h = (h.0, h.1, refl)
-left_pending s a A.NotReady h = h
-left_pending s a A.Ready h = h
-left_pending s a A.Busy h = h
-left_pending s a A.WorkingAfterCall h = h
+left_pending s a _ h = h
 
 pub left_state : (s : Rows) (a : AgentRecord) (st : AgentState) (m k : ℕ) → is_busy st ≡ false → IsPlannedStation s a.station × IsPlannedGroup s a.group → Left s a (in_state st m k a)
 left_state s a A.Null m k n h = record { agent = refl; rule = (refl, refl, refl); station = λ e q. absurd (cc (q)); not_busy = refl; settled = refl }
-left_state s a A.NotReady m k n h = record { agent = refl; rule = h; station = λ e q. q; not_busy = refl; settled = refl }
-left_state s a A.Ready m k n h = record { agent = refl; rule = h; station = λ e q. q; not_busy = refl; settled = refl }
 left_state s a A.Busy m k n h = absurd (cc (n))
-left_state s a A.WorkingAfterCall m k n h = record { agent = refl; rule = h; station = λ e q. q; not_busy = refl; settled = refl }
+left_state s a _ m k n h = record { agent = refl; rule = h; station = λ e q. q; not_busy = refl; settled = refl }
 
 pub wanted_not_busy : (w : Pending) (st : AgentState) → state_wanted w ≡ st → is_busy st ≡ false
 wanted_not_busy W.LoggedOff st e = rw (← e) refl
-wanted_not_busy W.NotReady st e = rw (← e) refl
-wanted_not_busy W.Ready st e = rw (← e) refl
-wanted_not_busy W.WorkingAfterCall st e = rw (← e) refl
+wanted_not_busy _ st e = rw (← e) refl
 
 goes_is : (p q : AgentState) → Goes p ≡ Goes q → p ≡ q
 goes_is p q e = cc
@@ -77,17 +67,13 @@ release_not_busy Answered (Some w) st e = wanted_not_busy w st (wanted w e)
   where
     wanted : (v : Pending) → release_of Answered (Some v) ≡ Goes st → state_wanted v ≡ st
     wanted W.LoggedOff q = goes_is _ _ q
-    wanted W.NotReady q = goes_is _ _ q
-    wanted W.Ready q = goes_is _ _ q
-    wanted W.WorkingAfterCall q = goes_is _ _ q
+    wanted _ q = goes_is _ _ q
 release_not_busy Unanswered (Some W.Ready) st e = absurd (cc (e))
 release_not_busy Unanswered (Some W.LoggedOff) st e = rw (← goes_is _ _ e) refl
 release_not_busy Unanswered (Some W.NotReady) st e = rw (← goes_is _ _ e) refl
 release_not_busy Unanswered (Some W.WorkingAfterCall) st e = rw (← goes_is _ _ e) refl
 release_not_busy NoAnswer (Some W.LoggedOff) st e = rw (← goes_is _ _ e) refl
-release_not_busy NoAnswer (Some W.NotReady) st e = rw (← goes_is _ _ e) refl
-release_not_busy NoAnswer (Some W.Ready) st e = rw (← goes_is _ _ e) refl
-release_not_busy NoAnswer (Some W.WorkingAfterCall) st e = rw (← goes_is _ _ e) refl
+release_not_busy NoAnswer _ st e = rw (← goes_is _ _ e) refl
 
 -- at a station and not busy
 still_at : ℕ → AgentRecord → Bool
@@ -303,10 +289,7 @@ after_release loose s v x how m k r kept rs among vacant ends =
 
 answered_moves : (w : Option Pending) → release_of Answered w ≡ Stays → ⊥
 answered_moves None e = cc
-answered_moves (Some W.LoggedOff) e = cc
-answered_moves (Some W.NotReady) e = cc
-answered_moves (Some W.Ready) e = cc
-answered_moves (Some W.WorkingAfterCall) e = cc
+answered_moves _ e = cc
 
 -- as a clearing or a deflection ends it
 pub ends_by : (s : Rows) (x : ConnectionRecord) → ConnectionRule s x → Ends x (ending_of x)

@@ -143,11 +143,7 @@ sound_phone_off_hook s m k b call device r l =
 
 alerting_station : (s : Rows) (x : ConnectionRecord) (st : ConnectionState) → is_alerting st ≡ true → StandsAt s x st → is_station s x.device ≡ true
 alerting_station s x S.Alerting e h = h
-alerting_station s x S.Initiated e h = absurd (cc (e))
-alerting_station s x S.Connected e h = absurd (cc (e))
-alerting_station s x S.Hold e h = absurd (cc (e))
-alerting_station s x S.Queued e h = absurd (cc (e))
-alerting_station s x S.Fail e h = absurd (cc (e))
+alerting_station s x _ e h = absurd (cc (e))
 
 answered_in : (g m : ℕ) (call device : ℕ) (queued o : Option ℕ) → one (is_answer g (report.Established call device (waited_by m queued o))) ≡ one (has o g)
 answered_in g m call device queued None = refl
@@ -177,10 +173,7 @@ sound_answer_call s m k b call device r l =
 pub connected_shut : (st : ConnectionState) → is_connected st ≡ true → is_open st ≡ false
 connected_shut S.Connected e = refl
 connected_shut S.Hold e = refl
-connected_shut S.Initiated e = absurd (cc (e))
-connected_shut S.Alerting e = absurd (cc (e))
-connected_shut S.Queued e = absurd (cc (e))
-connected_shut S.Fail e = absurd (cc (e))
+connected_shut _ e = absurd (cc (e))
 
 pub sound_hold_call : (s : Rows) (m k b call device : ℕ) → Rules s → b < k → SoundBy m b k s (hold_call s call device)
 unfolding hold_call

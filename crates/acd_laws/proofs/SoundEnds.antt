@@ -54,12 +54,10 @@ waits_open : (x : ConnectionRecord) (g : ℕ) → waiting_group x ≡ Some g →
 waits_open x g e = go x.state e
   where
     go : (st : ConnectionState) → cond (is_queued st || is_alerting st) x.group None ≡ Some g → is_open st ≡ true
-    go S.Queued q = refl
-    go S.Alerting q = refl
-    go S.Fail q = refl
     go S.Initiated q = absurd (cc (q))
     go S.Connected q = absurd (cc (q))
     go S.Hold q = absurd (cc (q))
+    go _ q = refl
 
 one_of_two : (p q : Option ℕ) (g : ℕ) → ((a b : ℕ) → p ≡ Some a → q ≡ Some b → ⊥) → one (has p g) + one (has q g) ≡ one (has (first_group p q) g)
 one_of_two None q g h = omega arith

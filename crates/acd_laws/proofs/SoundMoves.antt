@@ -61,16 +61,9 @@ LeavesConnections _ = Unit {0}
 
 pub left_connections : (s : Rows) (c : Change) → LeavesConnections c → (changed s c).connections ≡ s.connections
 unfolding with_group with_station with_agent with_call with_monitor without_call without_monitor
-left_connections s Nothing h = refl
-left_connections s (PutGroup g) h = refl
-left_connections s (PutStation t) h = refl
-left_connections s (PutAgent a) h = refl
-left_connections s (PutCall c) h = refl
 left_connections s (PutConnection x) h = absurd h
-left_connections s (PutMonitor w) h = refl
-left_connections s (RemoveCall c) h = refl
 left_connections s (RemoveConnection c d) h = absurd h
-left_connections s (RemoveMonitor w) h = refl
+left_connections s _ h = refl
 
 pub left_connection : (s : Rows) (c : Change) (a b : ℕ) → LeavesConnections c → connection_of (changed s c) a b ≡ connection_of s a b
 unfolding connection_of
@@ -99,10 +92,7 @@ sound_unheard m b s x t u =
 
 pub unheard_state : (a : AgentRecord) (state : AgentState) (agent station : ℕ) → Unheard (reported (PutAgent a) (state_report state agent station))
 unheard_state a A.Null agent station = record { leaves = tt; entry = λ g. refl; gone = λ g. refl }
-unheard_state a A.NotReady agent station = record { leaves = tt; entry = λ g. refl; gone = λ g. refl }
-unheard_state a A.Ready agent station = record { leaves = tt; entry = λ g. refl; gone = λ g. refl }
-unheard_state a A.Busy agent station = record { leaves = tt; entry = λ g. refl; gone = λ g. refl }
-unheard_state a A.WorkingAfterCall agent station = record { leaves = tt; entry = λ g. refl; gone = λ g. refl }
+unheard_state a _ agent station = record { leaves = tt; entry = λ g. refl; gone = λ g. refl }
 
 pub unheard_wait : (a : AgentRecord) → Unheard (silent (PutAgent a))
 unheard_wait a = record { leaves = tt; entry = λ g. refl; gone = λ g. refl }

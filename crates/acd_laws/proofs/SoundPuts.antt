@@ -95,10 +95,7 @@ held_is g x h = go x.state h
     go : (st : ConnectionState) → HasColumns x st → one ((x.device == g) && is_queued st) + one (has x.group g && is_alerting st) ≡ one (has (cond (is_queued st || is_alerting st) x.group None) g)
     go S.Queued c = rw (and_yes (x.device == g), and_right (has x.group g) false refl) (let e : one (x.device == g) ≡ one (has x.group g) = ap (λ o. one (has o g)) (sym c.group) in omega (arith, e))
     go S.Alerting c = rw (and_yes (has x.group g), and_right (x.device == g) false refl) (omega arith)
-    go S.Initiated c = shut
-    go S.Connected c = shut
-    go S.Hold c = shut
-    go S.Fail c = shut
+    go _ c = shut
 
 pub held_by_is : (g : ℕ) (x : ConnectionRecord) → HasColumns x x.state → is_held_by g x ≡ has (waiting_group x) g
 held_by_is g x h = go x.state h
@@ -114,10 +111,7 @@ held_by_is g x h = go x.state h
         either true = refl
         either false = refl
     go S.Alerting c = refl
-    go S.Initiated c = refl
-    go S.Connected c = refl
-    go S.Hold c = refl
-    go S.Fail c = refl
+    go _ c = refl
 
 pub waiting_alerting : (x : ConnectionRecord) → is_alerting x.state ≡ true → waiting_group x ≡ x.group
 waiting_alerting x e = go x.state e
@@ -125,10 +119,7 @@ waiting_alerting x e = go x.state e
     go : (st : ConnectionState) → is_alerting st ≡ true → cond (is_queued st || is_alerting st) x.group None ≡ x.group
     go S.Alerting e = refl
     go S.Queued e = refl
-    go S.Initiated e = absurd (cc (e))
-    go S.Connected e = absurd (cc (e))
-    go S.Hold e = absurd (cc (e))
-    go S.Fail e = absurd (cc (e))
+    go _ e = absurd (cc (e))
 
 pub waiting_open : (x : ConnectionRecord) → (is_alerting x.state || is_queued x.state) ≡ true → waiting_group x ≡ x.group
 waiting_open x e = go x.state e
@@ -136,10 +127,7 @@ waiting_open x e = go x.state e
     go : (st : ConnectionState) → (is_alerting st || is_queued st) ≡ true → cond (is_queued st || is_alerting st) x.group None ≡ x.group
     go S.Alerting e = refl
     go S.Queued e = refl
-    go S.Initiated e = absurd (cc (e))
-    go S.Connected e = absurd (cc (e))
-    go S.Hold e = absurd (cc (e))
-    go S.Fail e = absurd (cc (e))
+    go _ e = absurd (cc (e))
 
 -- puts and removals
 
@@ -178,16 +166,8 @@ LeavesAgents _ = Unit {0}
 
 pub left_agent : (s : Rows) (c : Change) (n : ℕ) → LeavesAgents c → agent_of (changed s c) n ≡ agent_of s n
 unfolding agent_of with_group with_station with_call with_connection with_monitor without_call without_connection without_monitor
-left_agent s Nothing n h = refl
-left_agent s (PutGroup g) n h = refl
-left_agent s (PutStation t) n h = refl
 left_agent s (PutAgent a) n h = absurd h
-left_agent s (PutCall c) n h = refl
-left_agent s (PutConnection x) n h = refl
-left_agent s (PutMonitor w) n h = refl
-left_agent s (RemoveCall c) n h = refl
-left_agent s (RemoveConnection c d) n h = refl
-left_agent s (RemoveMonitor w) n h = refl
+left_agent s _ n h = refl
 
 abbrev pub LeavesPlan : Change → Type 0
 LeavesPlan (PutGroup g) = ⊥
@@ -196,16 +176,9 @@ LeavesPlan _ = Unit {0}
 
 pub left_plan : (s : Rows) (c : Change) (d : ℕ) → LeavesPlan c → is_planned (changed s c) d ≡ is_planned s d
 unfolding group_of station_of with_agent with_call with_connection with_monitor without_call without_connection without_monitor
-left_plan s Nothing d h = refl
 left_plan s (PutGroup g) d h = absurd h
 left_plan s (PutStation t) d h = absurd h
-left_plan s (PutAgent a) d h = refl
-left_plan s (PutCall c) d h = refl
-left_plan s (PutConnection x) d h = refl
-left_plan s (PutMonitor w) d h = refl
-left_plan s (RemoveCall c) d h = refl
-left_plan s (RemoveConnection a b) d h = refl
-left_plan s (RemoveMonitor w) d h = refl
+left_plan s _ d h = refl
 
 -- where the one open connection of a call is taken away, none is left
 pub open_gone : (s : Rows) (call : ℕ) (x : ConnectionRecord) → connection_of s x.call x.device ≡ Some x → x.call ≡ call → count (open_of call) s.connections ≤ one (is_open x.state)

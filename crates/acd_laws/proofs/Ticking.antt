@@ -80,11 +80,7 @@ return_stays t m k g x z a ne =
 
 opens : (st : ConnectionState) → is_alerting st ≡ true → is_open st ≡ true
 opens S.Alerting e = refl
-opens S.Initiated e = absurd (cc (e))
-opens S.Connected e = absurd (cc (e))
-opens S.Hold e = absurd (cc (e))
-opens S.Queued e = absurd (cc (e))
-opens S.Fail e = absurd (cc (e))
+opens _ e = absurd (cc (e))
 
 -- two alerting connections are of two calls
 pub other_call : (t : Rows) (x z : ConnectionRecord) → Rules t → Among x t.connections → Among z t.connections → is_alerting x.state ≡ true → is_alerting z.state ≡ true → connection_order x z ≡ Less → z.call ≡ x.call → ⊥
