@@ -30,11 +30,7 @@ pub ringing_is : (d : ℕ) (x : ConnectionRecord) → ringing_at d x ≡ true �
 ringing_is d x e =
     (elim x.state as (λ st. ((is_alerting st && is_some x.group) && (x.device == d)) ≡ true → ((is_some x.group && not (is_queued st)) && (x.device == d)) ≡ true) [
       | S.Alerting ↦ λ q. let h = and_parts (is_some x.group) (x.device == d) q in and_from _ _ (and_from _ _ h.0 refl) h.1
-      | S.Initiated ↦ λ q. absurd (cc (q))
-      | S.Connected ↦ λ q. absurd (cc (q))
-      | S.Hold ↦ λ q. absurd (cc (q))
-      | S.Queued ↦ λ q. absurd (cc (q))
-      | S.Fail ↦ λ q. absurd (cc (q))
+      | _ ↦ λ q. absurd (cc (q))
     ]) e
 
 pub talking_is : (d : ℕ) (x : ConnectionRecord) → talking_at d x ≡ true → distributed_at d x ≡ true
@@ -42,10 +38,7 @@ talking_is d x e =
     (elim x.state as (λ st. ((is_answered st && is_some x.group) && (x.device == d)) ≡ true → ((is_some x.group && not (is_queued st)) && (x.device == d)) ≡ true) [
       | S.Connected ↦ λ q. let h = and_parts (is_some x.group) (x.device == d) q in and_from _ _ (and_from _ _ h.0 refl) h.1
       | S.Hold ↦ λ q. let h = and_parts (is_some x.group) (x.device == d) q in and_from _ _ (and_from _ _ h.0 refl) h.1
-      | S.Initiated ↦ λ q. absurd (cc (q))
-      | S.Alerting ↦ λ q. absurd (cc (q))
-      | S.Queued ↦ λ q. absurd (cc (q))
-      | S.Fail ↦ λ q. absurd (cc (q))
+      | _ ↦ λ q. absurd (cc (q))
     ]) e
 
 -- a connection at an idle station is open
@@ -53,12 +46,10 @@ open_when_idle : (s : Rows) (z : ConnectionRecord) → Among z s.connections →
 unfolding is_taken
 open_when_idle s z a e =
     (elim z.state as (λ st. z.state ≡ st → is_open st ≡ true) [
-      | S.Alerting ↦ λ _. refl
-      | S.Queued ↦ λ _. refl
-      | S.Fail ↦ λ _. refl
       | S.Initiated ↦ λ q. absurd (busy (rw q (and_from _ _ (eqb_self z.device) refl)))
       | S.Connected ↦ λ q. absurd (busy (rw q (and_from _ _ (eqb_self z.device) refl)))
       | S.Hold ↦ λ q. absurd (busy (rw q (and_from _ _ (eqb_self z.device) refl)))
+      | _ ↦ λ _. refl
     ]) refl
   where
     busy : ((z.device == z.device) && (is_live z.state || is_hold z.state)) ≡ true → ⊥

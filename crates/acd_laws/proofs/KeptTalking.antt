@@ -178,11 +178,7 @@ alerting_or_connected : (d : ℕ) (x : ConnectionRecord) → one (alerting_at d 
 unfolding connected_at
 alerting_or_connected d x = elim x.state as (λ st. one (is_alerting st && x.device == d) + one (is_connected st && x.device == d) ≤ one (is_live st && x.device == d)) [
   | S.Queued ↦ omega arith
-  | S.Alerting ↦ omega arith
-  | S.Fail ↦ omega arith
-  | S.Initiated ↦ omega arith
-  | S.Connected ↦ omega arith
-  | S.Hold ↦ omega arith
+  | _ ↦ omega arith
 ]
 
 pub kept_hold : (s : Rows) (x : ConnectionRecord) → Rules s → connection_of s x.call x.device ≡ Some x → IsTrue (is_station s x.device) → is_connected x.state ≡ true → Rules (moved s (hold x ∷ []))

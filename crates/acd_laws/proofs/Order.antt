@@ -112,12 +112,10 @@ held_put s t l y g c p within was same h =
 pub held_open : (g : ℕ) (z : ConnectionRecord) → is_held_by g z ≡ true → is_open z.state ≡ true
 held_open g z h =
     (elim z.state as (λ st. is_held_by g (record z { state = st }) ≡ true → is_open st ≡ true) [
-      | S.Queued ↦ λ _. refl
-      | S.Alerting ↦ λ _. refl
-      | S.Fail ↦ λ _. refl
       | S.Initiated ↦ λ q. absurd (cc (q))
       | S.Connected ↦ λ q. absurd (cc (q))
       | S.Hold ↦ λ q. absurd (cc (q))
+      | _ ↦ λ _. refl
     ]) h
 
 -- an entry: the new place is the greatest, and the new event the last

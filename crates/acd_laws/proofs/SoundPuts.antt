@@ -59,12 +59,10 @@ ascending_less s c d h = ascending-remove connection_order (at_connection c d) s
 pub held_shut : (g : ℕ) (x : ConnectionRecord) → is_open x.state ≡ false → held g x ≡ 0
 held_shut g x e =
     (elim x.state as (λ st. is_open st ≡ false → held g (record x { state = st }) ≡ 0) [
-      | S.Initiated ↦ λ _. none
-      | S.Connected ↦ λ _. none
-      | S.Hold ↦ λ _. none
       | S.Alerting ↦ λ q. absurd (cc (q))
       | S.Queued ↦ λ q. absurd (cc (q))
       | S.Fail ↦ λ q. absurd (cc (q))
+      | _ ↦ λ _. none
     ]) e
   where
     none : one ((x.device == g) && false) + one (has x.group g && false) ≡ 0
@@ -73,12 +71,10 @@ held_shut g x e =
 pub not_held : (g : ℕ) (x : ConnectionRecord) → is_open x.state ≡ false → is_held_by g x ≡ false
 not_held g x e =
     (elim x.state as (λ st. is_open st ≡ false → is_held_by g (record x { state = st }) ≡ false) [
-      | S.Initiated ↦ λ _. refl
-      | S.Connected ↦ λ _. refl
-      | S.Hold ↦ λ _. refl
       | S.Alerting ↦ λ q. absurd (cc (q))
       | S.Queued ↦ λ q. absurd (cc (q))
       | S.Fail ↦ λ q. absurd (cc (q))
+      | _ ↦ λ _. refl
     ]) e
 
 -- one that waits or rings is held by its group, any other by none
