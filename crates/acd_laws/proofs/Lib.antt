@@ -10,6 +10,8 @@ pub mod Lists
 pub mod State
 pub mod Serving
 pub mod Found
+pub mod AgentMoves
+pub mod Arrivals
 pub mod Arriving
 pub mod KeptArrival
 pub mod KeptOffer
