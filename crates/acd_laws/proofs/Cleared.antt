@@ -3,13 +3,11 @@ use Rattle.std.proofs.Common.{◌≡◌, ℕ, ◌+◌, ◌≤◌, Bool, true, fa
 use Rattle.std.specs.Prelude.{◌==◌, is_none, nat_le, max}
 use Rattle.std.proofs.lemmas.Bool.{eqb-true, le-leb, leb-true, leb-false, lt-leb}
 use Rattle.acd_terms.specs.Lists.{Among, IsAscending}
-use Rattle.acd_terms.specs.Scans.{call_of, agent_at, is_group, is_idle, is_distributed}
+use Rattle.acd_terms.specs.Scans.{call_of}
 use Rattle.acd_terms.specs.Writes.{with_call, without_call}
 use Rattle.acd_terms.specs.Moves.{no_move, silent, reported}
-use Rattle.acd_terms.specs.CallMoves.{plain, queueing, met_at, arriving, arrival, arrive, begin, end_call}
-use Rattle.acd_terms.specs.AgentMoves.{in_state, state_report, go_to, go_from}
-use Rattle.acd_terms.specs.Release.{release_of, released, release_agent, release}
-use Rattle.acd_terms.specs.Services.Talking.{busy_agent, occupy}
+use Rattle.acd_terms.specs.CallMoves.{arrive, begin, end_call}
+use Rattle.acd_terms.specs.AgentMoves.{state_report}
 use Rattle.acd_terms.specs.Columns.{columns_of}
 use Rattle.acd_terms.specs.Placed.{clears}
 use Rattle.acd_terms.specs.Rules.Plan.{call_order}
@@ -19,16 +17,11 @@ use Rattle.acd_terms.specs.declared.record.CallRecord.{CallRecord}
 use Rattle.acd_terms.specs.declared.record.ConnectionRecord.{ConnectionRecord}
 use Rattle.acd_terms.specs.declared.state.AgentState.{AgentState}
 use Rattle.acd_terms.specs.declared.state.AgentState.TheVariants as A
-use Rattle.acd_terms.specs.declared.state.ConnectionState.TheVariants as S
 use Rattle.acd_terms.specs.declared.event.Cause.{Cause}
 use Rattle.acd_terms.specs.declared.event.Report.{Report}
-use Rattle.acd_terms.specs.declared.event.Report.TheVariants as report
 use Rattle.acd_terms.specs.declared.moves.Move.{Move}
-use Rattle.acd_terms.specs.declared.moves.Ending.{Ending}
-use Rattle.acd_terms.specs.declared.moves.Release.{Release}
-use Rattle.acd_terms.specs.declared.moves.Release.TheVariants.{Stays, Goes}
 use Rattle.acd_terms.specs.declared.moves.Change.{Change}
-use Rattle.acd_terms.specs.declared.moves.Change.TheVariants.{PutAgent, PutConnection}
+use Rattle.acd_terms.specs.declared.moves.Change.TheVariants.{PutAgent}
 use Rattle.acd_laws.specs.Counts.{Rules, of_call}
 use Rattle.acd_laws.specs.PlacedLaws.{IsUpTo, clearings}
 use Rattle.acd_laws.proofs.Lists.{one, counted}
@@ -36,33 +29,36 @@ use Rattle.acd_laws.proofs.State.{eqb_self, call_put, call_remove}
 use Rattle.acd_laws.proofs.Found.{call_known, none_of_call}
 use Rattle.acd_laws.proofs.Known.{Counted, LeavesCalls, Plain}
 use Rattle.acd_laws.proofs.AgentMoves.{AgentMove, stays, waits, tells}
-use Rattle.acd_laws.proofs.Arrivals.{Arrival, queues, alerts, fails}
+use Rattle.acd_laws.proofs.Arrivals.{Arrival, queues, alerts, fails, arrival_of}
 
 -- each move that leaves the calls
 
-pub plain_silent : (last : ℕ) (c : Change) → LeavesCalls c → Plain last (silent c)
-plain_silent last c h = record { leaves = h; cleared = λ n. refl; named = tt }
+pub plain_silent : {last : ℕ} {c : Change} → LeavesCalls c → Plain last (silent c)
+plain_silent h = record { leaves = h; cleared = λ n. refl; named = tt }
 
-pub plain_nothing : (last : ℕ) → Plain last no_move
-plain_nothing last = record { leaves = tt; cleared = λ n. refl; named = tt }
+pub plain_nothing : {last : ℕ} → Plain last no_move
+plain_nothing = record { leaves = tt; cleared = λ n. refl; named = tt }
 
 -- a report that isn't of a clearing
-pub plain_reported : (last : ℕ) (c : Change) (r : Report) → LeavesCalls c → ((n : ℕ) → clears n r ≡ false) → IsUpTo last (columns_of r).call → Plain last (reported c r)
-plain_reported last c r h f l = record { leaves = h; cleared = λ n. ap one (f n); named = l }
+pub plain_reported : {last : ℕ} {c : Change} {r : Report} → LeavesCalls c → ((n : ℕ) → clears n r ≡ false) → IsUpTo last (columns_of r).call → Plain last (reported c r)
+plain_reported h f l = record { leaves = h; cleared = λ n. ap one (f n); named = l }
 
-pub plain_arrival : (s : Rows) (last m k call to : ℕ) (why : Cause) (x : Move) → Arrival s m k call to why x → call ≤ last → Plain last x
-plain_arrival s last m k call to why x (queues _) l = plain_reported last (PutConnection (queueing call to (Some k) (Some m))) (report.Queued call to why) tt (λ n. refl) l
-plain_arrival s last m k call to why x alerts l = plain_reported last (PutConnection (plain call to S.Alerting)) (report.Delivered call to why None) tt (λ n. refl) l
-plain_arrival s last m k call to why x fails l = plain_reported last (PutConnection (plain call to S.Fail)) (report.Failed call to) tt (λ n. refl) l
+plain_arrival : {s : Rows} {last m k call to : ℕ} {why : Cause} {x : Move} → Arrival s m k call to why x → call ≤ last → Plain last x
+plain_arrival (queues _) l = plain_reported tt (λ n. refl) l
+plain_arrival alerts l = plain_reported tt (λ n. refl) l
+plain_arrival fails l = plain_reported tt (λ n. refl) l
 
-pub plain_agent : {K : AgentRecord → Type 0} (last m k : ℕ) (x : Move) → AgentMove K m k x → Plain last x
-plain_agent last m k x stays = plain_nothing last
-plain_agent last m k x (waits a pending _) = plain_silent last (PutAgent (record a { pending = pending })) tt
-plain_agent last m k x (tells a b d _ _) = by b.state
-  where
-    by : (st : AgentState) → Plain last (reported (PutAgent b) (state_report st b.agent d))
-    by A.Null = plain_reported last (PutAgent b) (state_report A.Null b.agent d) tt (λ n. refl) tt
-    by st = plain_reported last (PutAgent b) (state_report st b.agent d) tt (λ n. refl) tt
+pub plain_arrive : {last : ℕ} (s : Rows) (m k call to : ℕ) (why : Cause) → call ≤ last → Plain last (arrive s m k call to why)
+plain_arrive s m k call to why l = plain_arrival (arrival_of s m k call to why) l
+
+plain_state : {last : ℕ} (a : AgentRecord) (st : AgentState) (n d : ℕ) → Plain last (reported (PutAgent a) (state_report st n d))
+plain_state a A.Null n d = plain_reported tt (λ n. refl) tt
+plain_state a st n d = plain_reported tt (λ n. refl) tt
+
+pub plain_agent : {K : AgentRecord → Type 0} {last m k : ℕ} {x : Move} → AgentMove K m k x → Plain last x
+plain_agent stays = plain_nothing
+plain_agent (waits a pending _) = plain_silent tt
+plain_agent (tells a b d _ _) = plain_state b b.state b.agent d
 
 -- a new call is one above the last
 

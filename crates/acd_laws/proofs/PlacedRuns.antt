@@ -1,5 +1,5 @@
 -- Where each call stands, how often it was cleared and which calls events name: by each step, and after every run.
-use Rattle.std.proofs.Common.{ℕ, ◌+◌, true, ◌&&◌, List, [], ◌++◌, Some, refl, sym, ◌∙◌, ap, subst, length}
+use Rattle.std.proofs.Common.{ℕ, ◌+◌, true, ◌&&◌, List, [], ◌++◌, refl, sym, ◌∙◌, ap, subst, length}
 use Rattle.std.proofs.lemmas.Bool.{lt-leb}
 use Rattle.acd_terms.specs.Lists.{Every}
 use Rattle.acd_terms.specs.Scans.{call_of}

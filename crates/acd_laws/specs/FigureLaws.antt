@@ -14,6 +14,7 @@ use Rattle.acd_terms.specs.declared.record.GroupRecord.{GroupRecord}
 use Rattle.acd_terms.specs.declared.record.ConnectionRecord.{ConnectionRecord}
 use Rattle.acd_terms.specs.declared.command.Command.{Command}
 use Rattle.acd_terms.specs.declared.event.Event.{Event}
+use Rattle.acd_laws.specs.Counts.{Rules}
 
 -- the figures of each group are those that all events count, which count nothing for what is no group
 pub record KeepsFigures (s : Rows) (events : List Event) : Type 0 where
@@ -21,9 +22,9 @@ pub record KeepsFigures (s : Rows) (events : List Event) : Type 0 where
   pub others : (d : ℕ) → is_group s d ≡ false → figures_of d events ≡ no_figures
   pub offered_by : (x : ConnectionRecord) → Among x s.connections → is_group_or_none s x.group ≡ true
 
--- a step keeps this, with its events added to those before
+-- a step from a state that keeps the rules keeps this, with its events added to those before
 abbrev pub StepKeepsFigures : Type 0
-StepKeepsFigures = (s : Rows) (events : List Event) (moment : ℕ) (command : Command) → KeepsFigures s events
+StepKeepsFigures = (s : Rows) (events : List Event) (moment : ℕ) (command : Command) → Rules s → KeepsFigures s events
     → KeepsFigures (step s moment command).rows (events ++ (step s moment command).events)
 
 -- after every run each group has the figures of all its events
@@ -33,5 +34,5 @@ RunKeepsFigures = (limits : Limits) (asked : List Asked) (g : GroupRecord) → A
 
 -- of a planned group's record a step changes the figures alone, by what its events count
 abbrev pub StepAddsFigures : Type 0
-StepAddsFigures = (s : Rows) (moment : ℕ) (command : Command) (d : ℕ) (g : GroupRecord) → group_of s d ≡ Some g
+StepAddsFigures = (s : Rows) (moment : ℕ) (command : Command) (d : ℕ) (g : GroupRecord) → Rules s → group_of s d ≡ Some g
     → group_of (step s moment command).rows d ≡ Some (counting (step s moment command).events g)
