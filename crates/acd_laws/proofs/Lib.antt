@@ -33,8 +33,7 @@ pub mod Distributing
 pub mod DistributionFound
 pub mod Deeds
 pub mod SoundPuts
-pub mod SoundCalls
-pub mod SoundEnds
+pub mod SoundDeeds
 pub mod Ticking
 pub mod RulesKept
 pub mod ByDeeds
@@ -43,7 +42,6 @@ pub mod RulesRead
 pub mod ConnectionsRead
 pub mod BoundsRead
 pub mod RulesWritten
-pub mod SoundOffers
 pub mod Steady
 pub mod Orderly
 pub mod Behaving
