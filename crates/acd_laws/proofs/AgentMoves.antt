@@ -2,6 +2,8 @@
 use Rattle.std.proofs.Common.{◌≡◌, ℕ, Bool, true, false, cond, Option, Some, None, refl, ◌∙◌, ap}
 use Rattle.std.specs.Prelude.{◌==◌}
 use Rattle.std.proofs.lemmas.Bool.{cond-false}
+use Rattle.acd_terms.specs.Lists.{IsAscending}
+use Rattle.acd_terms.specs.Rules.Plan.{agent_order}
 use Rattle.acd_terms.specs.Scans.{agent_of, agent_at, is_distributed}
 use Rattle.acd_terms.specs.Writes.{with_agent}
 use Rattle.acd_terms.specs.Moves.{no_move, reported, changed}
@@ -20,6 +22,7 @@ use Rattle.acd_terms.specs.declared.moves.Ending.{Ending}
 use Rattle.acd_terms.specs.declared.moves.Release.{Release}
 use Rattle.acd_terms.specs.declared.moves.Release.TheVariants.{Stays, Goes}
 use Rattle.acd_laws.proofs.State.{agent_put}
+use Rattle.acd_laws.proofs.Found.{agent_there}
 
 -- the agent in another state, at the same station unless it is null
 pub record Reseated (m k : ℕ) (a b : AgentRecord) : Type 0 where
@@ -61,6 +64,16 @@ occupies_agent K m k d (Some a) h = tells a (record a { state = A.Busy; stamp = 
 pub occupies : (K : AgentRecord → Type 0) (s : Rows) (m k : ℕ) (x : ConnectionRecord) → ((a : AgentRecord) → agent_at s x.device ≡ Some a → K a) → AgentMove K m k (occupy s m k x)
 unfolding occupy
 occupies K s m k x h = either K m k (is_distributed x) _ (occupies_agent K m k x.device (agent_at s x.device) h)
+
+-- the agent is known with just this record
+abbrev pub Recorded : Rows → AgentRecord → Type 0
+Recorded t a = agent_of t a.agent ≡ Some a
+
+pub releases_here : (s : Rows) (m k : ℕ) (x : ConnectionRecord) (how : Ending) → IsAscending agent_order s.agents → AgentMove (Recorded s) m k (release s m k x how)
+releases_here s m k x how h = releases (Recorded s) s m k x how (λ a e. agent_there s h x.device a e)
+
+pub occupies_here : (s : Rows) (m k : ℕ) (x : ConnectionRecord) → IsAscending agent_order s.agents → AgentMove (Recorded s) m k (occupy s m k x)
+occupies_here s m k x h = occupies (Recorded s) s m k x (λ a e. agent_there s h x.device a e)
 
 -- where nothing has to be known of the agent
 abbrev pub Anyone : AgentRecord → Type 0

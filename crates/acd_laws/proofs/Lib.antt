@@ -45,7 +45,6 @@ pub mod RulesWritten
 pub mod Steady
 pub mod Orderly
 pub mod Behaving
-pub mod BehavingCalls
 pub mod Rounds
 pub mod Numbers
 pub mod Following

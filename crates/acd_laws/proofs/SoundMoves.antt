@@ -9,7 +9,6 @@ use Rattle.acd_terms.specs.Columns.{columns_of}
 use Rattle.acd_terms.specs.Told.{Seat, seat_by}
 use Rattle.acd_terms.specs.Watched.{seat_of}
 use Rattle.acd_terms.specs.declared.rows.Rows.{Rows}
-use Rattle.acd_terms.specs.declared.record.AgentRecord.{AgentRecord}
 use Rattle.acd_terms.specs.declared.state.AgentState.{AgentState}
 use Rattle.acd_terms.specs.declared.state.AgentState.TheVariants as A
 use Rattle.acd_terms.specs.declared.event.Report.{Report}
@@ -18,7 +17,7 @@ use Rattle.acd_terms.specs.declared.moves.Change.{Change}
 use Rattle.acd_terms.specs.declared.moves.Change.TheVariants.{Nothing, PutAgent, PutConnection, RemoveConnection}
 use Rattle.acd_laws.proofs.Told.{Truthful, AllTruthful, truthful-append, truthful_nothing, truthful_agent, truthful_silent_agent}
 use Rattle.acd_laws.proofs.Balance.{Balances, balances-append, holding, entry_by, gone_by}
-use Rattle.acd_laws.proofs.AgentMoves.{AgentMove, stays as nothing, waits, tells}
+use Rattle.acd_laws.proofs.AgentMoves.{AgentMove, stays as nothing, waits, tells, Recorded}
 use Rattle.acd_laws.proofs.Order.{OrderKept, stays, order-append, order_later, held_within}
 
 pub record Sound (m b c : ℕ) (s : Rows) (ms : List Move) : Type 0 where
@@ -91,10 +90,6 @@ record StateReport (st : AgentState) (n d : ℕ) (r : Report) : Type 0 where
 state_told : (st : AgentState) (n d : ℕ) → StateReport st n d (state_report st n d)
 state_told A.Null n d = record { agent = refl; call = refl; seat = λ old. refl; entry = λ g. refl; gone = λ g. refl }
 state_told st n d = record { agent = refl; call = refl; seat = λ old. refl; entry = λ g. refl; gone = λ g. refl }
-
--- the agent is known with just this record
-abbrev pub Recorded : Rows → AgentRecord → Type 0
-Recorded t a = agent_of t a.agent ≡ Some a
 
 pub sound_agent : {m b k : ℕ} {t : Rows} {x : Move} → AgentMove (Recorded t) m k x → Sound m b b t (x ∷ [])
 sound_agent {m} {b} {k} {t} nothing = silently Nothing (truthful_nothing t) tt
