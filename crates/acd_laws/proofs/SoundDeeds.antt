@@ -316,7 +316,7 @@ sound_deed s m k b _ (deflects p to state free) r l =
     sound_given s m k b to p (report.Diverted p.x.call p.x.device to cause.Deflected p.x.group) cause.Deflected r l (sound_deflects s m b to p r state) free refl (omega (arith, f, o))
 sound_deed s m k b _ (transfers p to state other free) r l =
     sound_given s m k b to p (report.Transferred p.x.call p.x.device to) cause.Transferred r l (sound_transfers s m b to p r state) free refl
-    (closed_call s p.x.call p.x r (connection_among s p.x.call p.x.device p.x p.found) refl state other)
+    (closed_call s p.x r (connection_among s p.x.call p.x.device p.x p.found) state other)
 sound_deed s m k b _ (logs_on a device group _ _ _ _ _) r l =
     let c : AgentRecord = record a { state = A.NotReady; pending = None; station = Some device; group = Some group; stamp = k; since = m } in
     later l (sound_unheard m b s (log_on_at m k a device group) (truthful_agent s c (report.AgentLoggedOn a.agent device group) refl refl refl) (record { leaves = tt; entry = λ g. refl; gone = λ g. refl }))
