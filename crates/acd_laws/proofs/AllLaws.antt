@@ -20,7 +20,7 @@ step_keeps_laws s events moment command left h =
       one_offer = step_keeps_one_offer s moment command r;
       no_offer = step_leaves_no_offer s moment command r;
       balanced = step_balances s events moment command r h.balanced;
-      figures = step_keeps_figures s events moment command h.figures;
+      figures = step_keeps_figures s events moment command r h.figures;
       watched = w.0;
       no_more = w.1;
     }

@@ -2,9 +2,7 @@
 use Rattle.std.proofs.Common.{◌≡◌, ℕ, inl, inr, Bool, true, false, ◌&&◌, ◌||◌, Option, Some, None, refl, ◌∙◌, arith}
 use Rattle.std.specs.Prelude.{◌==◌, is_some}
 use Rattle.std.proofs.lemmas.Bool.{and_parts, and_from, not-true, or_right, or_left}
-use Rattle.acd_terms.specs.declared.rows.Rows.{Rows}
-use Rattle.acd_terms.specs.declared.record.ConnectionRecord.{ConnectionRecord}
-use Rattle.acd_terms.specs.declared.state.ConnectionState.{ConnectionState}
+use Rattle.acd_laws.proofs.Types.{Rows, ConnectionRecord, ConnectionState}
 use Rattle.acd_terms.specs.declared.state.ConnectionState.TheVariants as S
 use Rattle.acd_terms.specs.Lists.{count}
 use Rattle.acd_terms.specs.States.{is_initiated, is_alerting, is_hold, is_answered, is_live}

@@ -1,37 +1,26 @@
 -- The rules are kept by setAgentState, and by the end of after-call work.
-use Rattle.std.proofs.Common.{◌≡◌, ℕ, ◌+◌, ◌≤◌, ◌⊎◌, inl, inr, Bool, true, false, not, ◌&&◌, cond, [], ◌∷◌, Option, Some, None, refl, sym, ◌∙◌, ap, subst, arith, eq-eqb}
+use Rattle.std.proofs.Common.{◌≡◌, ℕ, ◌+◌, ◌≤◌, ◌⊎◌, inl, inr, Bool, true, false, not, ◌&&◌, Option, Some, None, refl, sym, ◌∙◌, ap, subst, arith, eq-eqb}
 use Rattle.std.specs.Prelude.{◌==◌, IsTrue, is_some, find}
-use Rattle.std.proofs.lemmas.Bool.{and_parts, and_from, eqb-true, false_from_ne_true, and_right, cases_eq, not-false}
-use Rattle.acd_terms.specs.declared.rows.Rows.{Rows}
-use Rattle.acd_terms.specs.declared.record.AgentRecord.{AgentRecord}
-use Rattle.acd_terms.specs.declared.record.ConnectionRecord.{ConnectionRecord}
-use Rattle.acd_terms.specs.declared.state.AgentState.{AgentState}
+use Rattle.std.proofs.lemmas.Bool.{and_parts, and_from, eqb-true, false_from_ne_true, and_right, cases_eq}
+use Rattle.acd_laws.proofs.Types.{Rows, AgentRecord, ConnectionRecord, AgentState, Pending}
 use Rattle.acd_terms.specs.declared.state.AgentState.TheVariants as A
-use Rattle.acd_terms.specs.declared.state.Pending.{Pending}
 use Rattle.acd_terms.specs.declared.moves.Change.TheVariants.{PutAgent}
-use Rattle.acd_terms.specs.declared.moves.Served.TheVariants.{Done}
 use Rattle.acd_terms.specs.Lists.{put_by, count, Among}
-use Rattle.acd_terms.specs.States.{is_null, is_ready, is_busy, is_working_after_call, state_wanted, is_in}
+use Rattle.acd_terms.specs.States.{is_null, is_ready, is_busy, is_working_after_call}
 use Rattle.acd_terms.specs.Scans.{group_of, station_of, agent_of, call_of, connection_of, is_group, is_station, has, agent_at, is_distributed, is_occupied}
 use Rattle.acd_terms.specs.Writes.{with_agent}
 use Rattle.acd_terms.specs.Moves.{changed, moved}
-use Rattle.acd_terms.specs.AgentMoves.{in_state, go_to, go_from, log_on_at, wait_for}
-use Rattle.acd_terms.specs.Served.{moves_of}
+use Rattle.acd_terms.specs.AgentMoves.{in_state, go_to, go_from, log_on_at}
 use Rattle.acd_terms.specs.Rules.Plan.{agent_order}
 use Rattle.acd_laws.proofs.Facts.{Rules, IsPlannedStation, IsPlannedGroup, SeatedAs, AgentRule, ConnectionRule, ringing_at, seated_at, ready_at, busy_at, pending_at}
 use Rattle.acd_terms.specs.OneOffer.{is_distributed_at}
-use Rattle.acd_laws.proofs.Lists.{one, find_passes, find_among, find_none, any_found, ascending-put, every_among, every-put, counted, fewer, two_counted, both_fewer, count_zero, none_from, some_from}
+use Rattle.acd_laws.proofs.Lists.{one, find_passes, find_among, find_none, any_found, ascending-put, every_among, every-put, counted, fewer, two_counted, both_fewer, count_zero, some_from}
 use Rattle.acd_laws.proofs.Keyed.{eqb_self}
-use Rattle.acd_laws.proofs.State.{agents_total, agent_among, agent_own}
+use Rattle.acd_laws.proofs.State.{agents_total, agent_among}
 use Rattle.acd_laws.proofs.Found.{count_agent, has_is, agent_seat}
 use Rattle.acd_laws.proofs.KeptOffer.{unoccupied}
-use Rattle.acd_laws.proofs.Releasing.{serving, loosen, left_keeps, left_state, settled_at, settled_is, pending_or_settled, wanted_not_busy, alerting_or_answered}
-use Rattle.acd_laws.proofs.Serving.{by_found, by_refusal}
-use Rattle.acd_terms.specs.Services.Agents.{log_on, go_or_wait, change_state, set_agent_state}
+use Rattle.acd_laws.proofs.Releasing.{serving, loosen, left_keeps, left_state, settled_at, settled_is, pending_or_settled, alerting_or_answered}
 use Rattle.acd_terms.specs.Tick.{rest_moves}
-use Rattle.acd_terms.specs.declared.command.Requested.{Requested}
-use Rattle.acd_terms.specs.declared.command.Requested.TheVariants as requested
-use Rattle.acd_terms.specs.declared.answer.Answer.TheVariants as answer
 use Rattle.acd_laws.proofs.States.{null_is}
 
 agent_seat_has : (s : Rows) (d : ℕ) (a : AgentRecord) → agent_at s d ≡ Some a → seated_at d a ≡ true
@@ -107,17 +96,14 @@ may_wait s a d r there occupied =
     none_of (Some w) e = absurd (cc (e))
 
 -- an occupied agent is asked: the pending state alone changes
-kept_wait : (s : Rows) (a : AgentRecord) (w : Pending) → Rules s → agent_of s a.agent ≡ Some a → is_null a.state ≡ false → is_occupied s a ≡ true → Rules (changed s (PutAgent (record a { pending = Some w })))
+pub kept_wait : (s : Rows) (a : AgentRecord) (w : Pending) → Rules s → agent_of s a.agent ≡ Some a → is_null a.state ≡ false → is_occupied s a ≡ true → Rules (changed s (PutAgent (record a { pending = Some w })))
 kept_wait s a w r there seated occupied =
     same_agent s a (record a { pending = Some w }) r there refl (rule a.state seated (every_among (AgentRule s) s.agents a r.agents (agent_among s a.agent a there)))
     (λ d. let o = r.one_agent d in omega (arith, o)) (λ d. let o = r.ready d refl in omega (arith, o)) (λ d. refl) (λ d. may_wait s a d r there occupied)
   where
     rule : (st : AgentState) → is_null st ≡ false → SeatedAs s a st → SeatedAs s (record a { pending = Some w }) st
     rule A.Null e h = absurd (cc (e))
-    rule A.NotReady e h = h
-    rule A.Ready e h = h
-    rule A.Busy e h = h
-    rule A.WorkingAfterCall e h = h
+    rule _ e h = h
 
 planned_some : (s : Rows) (o : Option ℕ) → IsPlannedStation s o → (d : ℕ) × (o ≡ Some d)
 planned_some s None h = absurd h
@@ -132,7 +118,7 @@ seat_there s a A.Null e h = absurd (cc (e))
 seat_there s a _ e h = seat_station s a h
 
 -- an unoccupied agent goes to a state other than busy
-pub kept_go_to : (s : Rows) (a : AgentRecord) (st : AgentState) (m k d : ℕ) → Rules s → agent_of s a.agent ≡ Some a → is_null a.state ≡ false → is_occupied s a ≡ false → is_busy st ≡ false → Rules (changed s (go_to m k a d st).change)
+kept_go_to : (s : Rows) (a : AgentRecord) (st : AgentState) (m k d : ℕ) → Rules s → agent_of s a.agent ≡ Some a → is_null a.state ≡ false → is_occupied s a ≡ false → is_busy st ≡ false → Rules (changed s (go_to m k a d st).change)
 kept_go_to s a st m k at r there seated free not_busy =
     let rule = every_among (AgentRule s) s.agents a r.agents (agent_among s a.agent a there) in
     let d = seat_there s a a.state seated rule in
@@ -187,55 +173,14 @@ not_working : (st : AgentState) → is_working_after_call st ≡ true → (is_nu
 not_working A.WorkingAfterCall e = (refl, refl, refl)
 not_working _ e = absurd (cc (e))
 
--- after-call work ends
-pub kept_rest : (s : Rows) (m k d : ℕ) (a : AgentRecord) → Rules s → agent_of s a.agent ≡ Some a → is_working_after_call a.state ≡ true → Rules (changed s (go_to m k a d A.Ready).change)
-kept_rest s m k d a r there working =
-    let n = not_working a.state working in
-    kept_go_to s a A.Ready m k d r there n.0
-    (false_from_ne_true (is_occupied s a) (λ e. elim (occupied_state s a r there e) [ inl w ↦ cc (w, n.1) | inr w ↦ cc (w, n.2) ])) refl
-
 -- an agent of no station is in null
-kept_go_from : (s : Rows) (m k : ℕ) (a : AgentRecord) (o : Option ℕ) (st : AgentState) → Rules s → agent_of s a.agent ≡ Some a → is_null a.state ≡ false → is_occupied s a ≡ false → is_busy st ≡ false → Rules (changed s (go_from m k a o st).change)
+pub kept_go_from : (s : Rows) (m k : ℕ) (a : AgentRecord) (o : Option ℕ) (st : AgentState) → Rules s → agent_of s a.agent ≡ Some a → is_null a.state ≡ false → is_occupied s a ≡ false → is_busy st ≡ false → Rules (changed s (go_from m k a o st).change)
 kept_go_from s m k a None st r there seated free not_busy = r
 kept_go_from s m k a (Some d) st r there seated free not_busy = kept_go_to s a st m k d r there seated free not_busy
 
+-- after-call work ends
 pub kept_rest_moves : (s : Rows) (m k : ℕ) (a : AgentRecord) → Rules s → agent_of s a.agent ≡ Some a → is_working_after_call a.state ≡ true → Rules (moved s (rest_moves m k a))
 kept_rest_moves s m k a r there working =
     let n = not_working a.state working in
     kept_go_from s m k a a.station A.Ready r there n.0
     (false_from_ne_true (is_occupied s a) (λ e. elim (occupied_state s a r there e) [ inl w ↦ cc (w, n.1) | inr w ↦ cc (w, n.2) ])) refl
-
-pub kept_log_on_service : (s : Rows) (m k agent device group : ℕ) → Rules s → Rules (moved s (moves_of (log_on s m k agent device group)))
-unfolding log_on
-kept_log_on_service s m k agent device group r =
-    by_found (λ v. Rules (moved s (moves_of v))) _ _ _ (λ _. r) (λ a ea.
-    by_refusal (λ v. Rules (moved s (moves_of v))) _ _ _ (λ _. r) (λ null.
-    by_refusal (λ v. Rules (moved s (moves_of v))) _ _ _ (λ _. r) (λ _.
-    by_refusal (λ v. Rules (moved s (moves_of v))) _ _ _ (λ _. r) (λ station.
-    by_refusal (λ v. Rules (moved s (moves_of v))) _ _ _ (λ _. r) (λ taken.
-    by_refusal (λ v. Rules (moved s (moves_of v))) _ _ _ (λ _. r) (λ _.
-    by_refusal (λ v. Rules (moved s (moves_of v))) _ _ _ (λ _. r) (λ no_group.
-    kept_log_on s a device group m k r (agent_own s agent a ea) (not-false (is_null a.state) null) (not-false (is_station s device) station) (not-false (is_group s group) no_group)
-    (none_from (agent_at s device) (λ b e. cc (taken, ap is_some e))))))))))
-
-go_or_wait_kept : (s : Rows) (m k : ℕ) (a : AgentRecord) (w : Pending) → Rules s → agent_of s a.agent ≡ Some a → is_null a.state ≡ false → Rules (moved s (moves_of (go_or_wait s m k a w)))
-go_or_wait_kept s m k a w r there seated =
-    (elim (is_occupied s a) as (λ b. is_occupied s a ≡ b → Rules (moved s (moves_of (cond b (Done (answer.Pending a.state w) (wait_for a (Some w) ∷ []))
-    (cond (is_in a.state w) (Done (answer.State a.state) []) (Done (answer.State (state_wanted w)) (go_from m k a a.station (state_wanted w) ∷ []))))))) [
-      | true ↦ λ e. kept_wait s a w r there seated e
-      | false ↦ λ e. elim (is_in a.state w) as (λ b. Rules (moved s (moves_of (cond b (Done (answer.State a.state) []) (Done (answer.State (state_wanted w)) (go_from m k a a.station (state_wanted w) ∷ [])))))) [
-        | true ↦ r
-        | false ↦ kept_go_from s m k a a.station (state_wanted w) r there seated e (wanted_not_busy w (state_wanted w) refl)
-      ]
-    ]) refl
-
-kept_change_state : (s : Rows) (m k agent : ℕ) (w : Pending) → Rules s → Rules (moved s (moves_of (change_state s m k agent w)))
-unfolding change_state
-kept_change_state s m k agent w r =
-    by_found (λ v. Rules (moved s (moves_of v))) _ _ _ (λ _. r) (λ a ea.
-    by_refusal (λ v. Rules (moved s (moves_of v))) _ _ _ (λ _. r) (λ seated.
-    go_or_wait_kept s m k a w r (agent_own s agent a ea) seated))
-
-pub kept_set_agent_state : (s : Rows) (m k agent : ℕ) (q : Requested) → Rules s → Rules (moved s (moves_of (set_agent_state s m k agent q)))
-kept_set_agent_state s m k agent (requested.LoggedOn device group) r = kept_log_on_service s m k agent device group r
-kept_set_agent_state s m k agent (requested.State w) r = kept_change_state s m k agent w r

@@ -1,19 +1,16 @@
 -- The rules are kept by arriveCall.
 use Rattle.std.proofs.Common.{◌≡◌, ℕ, ◌+◌, ◌≤◌, inr, Bool, true, false, cond, Some, None, refl, sym, ◌∙◌, ap, subst, arith}
 use Rattle.std.specs.Prelude.{◌==◌, IsTrue, is_some}
-use Rattle.std.proofs.lemmas.Bool.{and_parts, eqb-true, false_from_ne_true, and_right, or_parts, not-false, or_right}
-use Rattle.acd_terms.specs.declared.rows.Rows.{Rows}
-use Rattle.acd_terms.specs.declared.record.CallRecord.{CallRecord}
-use Rattle.acd_terms.specs.declared.record.ConnectionRecord.{ConnectionRecord}
+use Rattle.std.proofs.lemmas.Bool.{and_parts, eqb-true, false_from_ne_true, and_right, or_parts, or_right}
+use Rattle.acd_laws.proofs.Types.{Rows, CallRecord, ConnectionRecord}
 use Rattle.acd_terms.specs.declared.state.ConnectionState.TheVariants as S
 use Rattle.acd_terms.specs.declared.moves.Change.TheVariants.{PutCall, PutConnection}
 use Rattle.acd_terms.specs.Lists.{count}
 use Rattle.acd_terms.specs.States.{is_alerting, is_live}
 use Rattle.acd_terms.specs.Scans.{group_of, station_of, call_of, connection_of, is_group, is_station, is_planned, is_idle}
 use Rattle.acd_terms.specs.Writes.{with_call, with_connection}
-use Rattle.acd_terms.specs.Moves.{changed, moved}
-use Rattle.acd_terms.specs.CallMoves.{plain, arrive}
-use Rattle.acd_terms.specs.Served.{moves_of}
+use Rattle.acd_terms.specs.Moves.{changed}
+use Rattle.acd_terms.specs.CallMoves.{plain}
 use Rattle.acd_terms.specs.Rules.Plan.{call_order, connection_order}
 use Rattle.acd_laws.proofs.Facts.{Rules, CallRule, IsCaller, ConnectionRule, ringing_at, talking_at, two_if}
 use Rattle.acd_terms.specs.Rules.Calls.{is_open, parties_of, initiated_of, open_of, live_at, alerting_at, hold_at}
@@ -22,9 +19,7 @@ use Rattle.acd_laws.proofs.Lists.{one, ascending-put, every_among, every_from, e
 use Rattle.acd_laws.proofs.Keyed.{eqb_self}
 use Rattle.acd_laws.proofs.State.{calls_total, connections_total, call_put, put_other}
 use Rattle.acd_laws.proofs.Found.{count_new, none_above, no_call_above, none_of_call}
-use Rattle.acd_laws.proofs.Arriving.{Arrived, arrived, idle_counts, rule_same}
-use Rattle.acd_laws.proofs.Serving.{by_refusal}
-use Rattle.acd_terms.specs.Services.NewCalls.{arrive_call}
+use Rattle.acd_laws.proofs.Arriving.{Arrived, idle_counts, rule_same}
 
 pub one_le : (b : Bool) → one b ≤ 1
 one_le true = omega arith
@@ -44,7 +39,7 @@ not_station s d e outside h = false_from_ne_true (d == e) (λ q.
     let same : is_planned s d ≡ is_planned s e = ap (is_planned s) (eqb-true d e q) in cc (or_right (is_group s e) (is_station s e) h, same, outside))
 
 -- a call arrives: the state with the call, its caller's connection and one at its destination
-begun : (s : Rows) (c : CallRecord) (y : ConnectionRecord) → Rules s → c.call ≡ s.last_call + 1 → is_planned s c.caller ≡ false → is_planned s c.called ≡ true → Arrived s c.call c.called y
+pub begun : (s : Rows) (c : CallRecord) (y : ConnectionRecord) → Rules s → c.call ≡ s.last_call + 1 → is_planned s c.caller ≡ false → is_planned s c.called ≡ true → Arrived s c.call c.called y
     → Rules (changed (changed (changed s (PutCall c)) (PutConnection (plain c.call c.caller S.Connected))) (PutConnection y))
 unfolding with_connection with_call call_of connection_of group_of station_of
 begun s c y r number outside inside a =
@@ -121,12 +116,3 @@ begun s c y r number outside inside a =
       pending = λ d _. let e = counts (is_distributed_at d) in let o = r.pending d refl in omega (arith, e, o);
       free = λ d q. absurd (cc (q));
     }
-
-pub kept_arrive_call : (s : Rows) (m k caller called : ℕ) → Rules s → Rules (moved s (moves_of (arrive_call s m k caller called)))
-unfolding arrive_call arrive
-kept_arrive_call s m k caller called r =
-    by_refusal (λ v. Rules (moved s (moves_of v))) _ _ _ (λ _. r) (λ outside.
-    by_refusal (λ v. Rules (moved s (moves_of v))) _ _ _ (λ _. r) (λ known.
-    by_refusal (λ v. Rules (moved s (moves_of v))) _ _ _ (λ _. r) (λ _.
-    let inside : is_planned s called ≡ true = not-false (is_planned s called) known in
-    begun s (record { call = s.last_call + 1; caller = caller; called = called; since = m }) _ r refl outside inside (arrived s m k (s.last_call + 1) called inside))))

@@ -2,8 +2,7 @@
 use Rattle.std.proofs.Common.{◌≡◌, ℕ, ◌+◌, ◌≤◌, inl, inr, Bool, true, false, not, ◌&&◌, ◌||◌, cond, List, [], ◌∷◌, Option, Some, None, refl, sym, ◌∙◌, ap, subst, arith, eq-eqb}
 use Rattle.std.specs.Prelude.{◌==◌, is_some}
 use Rattle.std.proofs.lemmas.Bool.{and_parts, and_from, eqb-true, false_from_ne_true, and_right, or_cases, or_parts, or_right, or_left}
-use Rattle.acd_terms.specs.declared.rows.Rows.{Rows}
-use Rattle.acd_terms.specs.declared.record.ConnectionRecord.{ConnectionRecord}
+use Rattle.acd_laws.proofs.Types.{Rows, ConnectionRecord}
 use Rattle.acd_terms.specs.declared.moves.Change.TheVariants.{RemoveConnection}
 use Rattle.acd_terms.specs.Lists.{remove_by, count, Among, IsAscending}
 use Rattle.acd_terms.specs.States.{is_initiated}
@@ -12,21 +11,19 @@ use Rattle.acd_terms.specs.Writes.{with_connection, without_call, without_connec
 use Rattle.acd_terms.specs.Moves.{changed, moved}
 use Rattle.acd_terms.specs.CallMoves.{clear, end_call}
 use Rattle.acd_terms.specs.Release.{ending_of, release}
-use Rattle.acd_terms.specs.Served.{moves_of}
 use Rattle.acd_terms.specs.Rules.Plan.{call_order, connection_order}
 use Rattle.acd_laws.proofs.Facts.{RulesBut, Rules, CallRule, ConnectionRule, ringing_at, talking_at, two_if}
 use Rattle.acd_terms.specs.Rules.Calls.{parties_of, initiated_of, open_of, live_at, alerting_at, hold_at}
 use Rattle.acd_terms.specs.OneOffer.{is_distributed_at}
 use Rattle.acd_laws.proofs.Lists.{one, find_none, ascending-remove, every_among, every_from, every-remove, among-remove, counted, fewer, count_zero}
 use Rattle.acd_laws.proofs.Keyed.{eqb_self}
-use Rattle.acd_laws.proofs.State.{is_of, call_remove, own_key, connection_among, removed_other}
+use Rattle.acd_laws.proofs.State.{is_of, call_remove, connection_among, removed_other}
 use Rattle.acd_laws.proofs.Found.{count_less, connection_rule, connection_there, other_among, other_device, other_agents, left_among}
 use Rattle.acd_laws.proofs.Arriving.{rule_same}
 use Rattle.acd_laws.proofs.KeptOffer.{talking_is}
 use Rattle.acd_laws.proofs.Releasing.{ends_by, after_release, loosen, release_other_kept}
 use Rattle.acd_laws.proofs.KeptReturn.{and_not}
-use Rattle.acd_laws.proofs.Serving.{by_found}
-use Rattle.acd_terms.specs.Services.Clearing.{clear_connection, clearing, cleared_group, waiting_group}
+use Rattle.acd_terms.specs.Services.Clearing.{clearing, cleared_group, waiting_group}
 
 -- a call ends: l is what is left of the connections
 ended : (s : Rows) (call : ℕ) (l : List ConnectionRecord) (loose : ℕ → Bool) → Rules s → IsAscending connection_order l → ((z : ConnectionRecord) → Among z l → Among z s.connections)
@@ -85,7 +82,7 @@ either_and_not true false = refl
 either_and_not false true = refl
 either_and_not false false = refl
 
-kept_clear : (s : Rows) (m k : ℕ) (x : ConnectionRecord) (o : Option ConnectionRecord) → other_of s x ≡ o → Rules s → connection_of s x.call x.device ≡ Some x
+pub kept_clear : (s : Rows) (m k : ℕ) (x : ConnectionRecord) (o : Option ConnectionRecord) → other_of s x ≡ o → Rules s → connection_of s x.call x.device ≡ Some x
     → Rules (moved s (clearing s m k x o))
 unfolding with_connection without_connection without_call call_of connection_of agent_of group_of station_of other_of
 kept_clear s m k x None eo r ex =
@@ -152,10 +149,3 @@ kept_clear s m k x (Some y) eo r ex =
     (λ d. r1.free y.device (and_from _ _ (or_right (is_distributed x && (x.device == y.device)) _ (and_from _ _ d (eqb_self y.device))) (ap not (and_right (is_distributed x) (x.device == y.device) apart))))
     (ends_by s y (connection_rule s r y.call y.device y ey)) in
     loosen _ (λ _. false) _ (λ e q. absurd (cc (q))) (λ e q. either_and_not (is_distributed x && (x.device == e)) (is_distributed y && (y.device == e))) r2
-
-pub kept_clear_connection : (s : Rows) (m k call device : ℕ) → Rules s → Rules (moved s (moves_of (clear_connection s m k call device)))
-unfolding clear_connection
-kept_clear_connection s m k call device r =
-    by_found (λ v. Rules (moved s (moves_of v))) _ _ _ (λ _. r) (λ c ec.
-    by_found (λ v. Rules (moved s (moves_of v))) _ _ _ (λ _. r) (λ x ex.
-    kept_clear s m k x (other_of s x) refl r (own_key s call device x ex)))

@@ -1,41 +1,36 @@
 -- The rules are kept by makeCall and phoneOffHook.
 use Rattle.std.proofs.Common.{◌≡◌, ℕ, ◌+◌, ◌≤◌, inl, Bool, true, false, not, ◌&&◌, cond, Option, Some, None, refl, sym, ◌∙◌, ap, subst, arith, eq-eqb}
 use Rattle.std.specs.Prelude.{◌==◌, IsTrue, IsFalse, is_some}
-use Rattle.std.proofs.lemmas.Bool.{and_parts, and_from, eqb-true, false_from_ne_true, and_left, and_right, not-false}
-use Rattle.acd_terms.specs.declared.rows.Rows.{Rows}
-use Rattle.acd_terms.specs.declared.record.CallRecord.{CallRecord}
-use Rattle.acd_terms.specs.declared.record.ConnectionRecord.{ConnectionRecord}
+use Rattle.std.proofs.lemmas.Bool.{and_parts, and_from, eqb-true, false_from_ne_true, and_left, and_right}
+use Rattle.acd_laws.proofs.Types.{Rows, CallRecord, ConnectionRecord}
 use Rattle.acd_terms.specs.declared.state.ConnectionState.TheVariants as S
 use Rattle.acd_terms.specs.declared.moves.Change.TheVariants.{PutCall, PutConnection}
 use Rattle.acd_terms.specs.Lists.{count, Among}
 use Rattle.acd_terms.specs.States.{is_initiated, is_alerting, is_queued, is_live}
 use Rattle.acd_terms.specs.Scans.{group_of, station_of, agent_of, call_of, connection_of, is_group, is_station, is_planned, is_distributed, is_live_at, is_idle}
 use Rattle.acd_terms.specs.Writes.{with_call, with_connection}
-use Rattle.acd_terms.specs.Moves.{changed, moved}
-use Rattle.acd_terms.specs.CallMoves.{plain, originate, destination_of, arriving, arrive}
-use Rattle.acd_terms.specs.Served.{moves_of}
+use Rattle.acd_terms.specs.Moves.{changed}
+use Rattle.acd_terms.specs.CallMoves.{plain}
 use Rattle.acd_terms.specs.Rules.Plan.{call_order, connection_order}
 use Rattle.acd_laws.proofs.Facts.{Rules, CallRule, HasColumns, IsCaller, StandsAt, ConnectionRule, ringing_at, talking_at, two_if}
 use Rattle.acd_terms.specs.Rules.Calls.{is_open, parties_of, initiated_of, open_of, live_at, alerting_at, hold_at}
 use Rattle.acd_terms.specs.OneOffer.{is_distributed_at}
 use Rattle.acd_laws.proofs.Lists.{one, ascending-put, every_among, every_from, every-put, counted, fewer, two_counted, both_fewer, none_from}
 use Rattle.acd_laws.proofs.Keyed.{eqb_self}
-use Rattle.acd_laws.proofs.State.{calls_total, connections_total, call_put, found_key, own_key, connection_among, call_among, put_other}
+use Rattle.acd_laws.proofs.State.{calls_total, connections_total, call_put, found_key, connection_among, call_among, put_other}
 use Rattle.acd_laws.proofs.Found.{count_new, count_old, connection_rule, no_call_above, none_of_call, none_above}
-use Rattle.acd_laws.proofs.Arriving.{Arrived, arrived, idle_counts, rule_same}
+use Rattle.acd_laws.proofs.Arriving.{Arrived, idle_counts, rule_same}
 use Rattle.acd_laws.proofs.KeptArrival.{one_le, caller_stays}
 use Rattle.acd_laws.proofs.KeptClearing.{two_le}
 use Rattle.acd_laws.proofs.KeptTalking.{no_live}
 use Rattle.acd_laws.proofs.KeptGiving.{closed_of, closed_is, open_or_closed}
-use Rattle.acd_laws.proofs.Serving.{by_found, by_refusal}
-use Rattle.acd_terms.specs.Services.NewCalls.{make_call, phone_off_hook}
 use Rattle.acd_laws.proofs.States.{initiated_is}
 
 station_no_group : (s : Rows) (d : ℕ) → ((e : ℕ) → IsTrue (is_group s e) → IsFalse (is_station s e)) → IsTrue (is_station s d) → is_group s d ≡ false
 station_no_group s d kinds h = false_from_ne_true (is_group s d) (λ e. cc (kinds d e, h))
 
 -- a call is made: the state with the call and its initiated connection
-made : (s : Rows) (m device called : ℕ) → Rules s → IsTrue (is_station s device) → is_planned s called ≡ true → (called == device) ≡ false → is_live_at s device ≡ false
+pub made : (s : Rows) (m device called : ℕ) → Rules s → IsTrue (is_station s device) → is_planned s called ≡ true → (called == device) ≡ false → is_live_at s device ≡ false
     → Rules (changed (changed s (PutCall (record { call = s.last_call + 1; caller = device; called = called; since = m }))) (PutConnection (plain (s.last_call + 1) device S.Initiated)))
 unfolding with_connection with_call call_of connection_of agent_of group_of station_of
 made s m device called r station planned differ free =
@@ -85,17 +80,6 @@ made s m device called r station planned differ free =
       free = λ d q. absurd (cc (q));
     }
 
-pub kept_make_call : (s : Rows) (m device called : ℕ) → Rules s → Rules (moved s (moves_of (make_call s m device called)))
-unfolding make_call
-kept_make_call s m device called r =
-    by_refusal (λ v. Rules (moved s (moves_of v))) _ _ _ (λ _. r) (λ _.
-    by_refusal (λ v. Rules (moved s (moves_of v))) _ _ _ (λ _. r) (λ station.
-    by_refusal (λ v. Rules (moved s (moves_of v))) _ _ _ (λ _. r) (λ known.
-    by_refusal (λ v. Rules (moved s (moves_of v))) _ _ _ (λ _. r) (λ differ.
-    by_refusal (λ v. Rules (moved s (moves_of v))) _ _ _ (λ _. r) (λ free.
-    by_refusal (λ v. Rules (moved s (moves_of v))) _ _ _ (λ _. r) (λ _.
-    made s m device called r (not-false (is_station s device) station) (not-false (is_planned s called) known) differ free))))))
-
 is_caller_of : (o : Option CallRecord) (c : CallRecord) (d : ℕ) → o ≡ Some c → IsCaller o d → c.caller ≡ d
 is_caller_of o c d e h = subst (λ v. IsCaller v d) e h
 
@@ -106,7 +90,7 @@ group_none x e c = none_is x.group (subst (HasColumns x) e c).1
     none_is o q = rw q refl
 
 -- an initiated call goes out: x is connected, and y stands at the destination
-gone_out : (s : Rows) (x y : ConnectionRecord) (c : CallRecord) (d : ℕ) → Rules s → connection_of s x.call x.device ≡ Some x → is_initiated x.state ≡ true → call_of s x.call ≡ Some c → (x.device ≡ d → ⊥) → Arrived s x.call d y → connection_of s x.call d ≡ None
+pub gone_out : (s : Rows) (x y : ConnectionRecord) (c : CallRecord) (d : ℕ) → Rules s → connection_of s x.call x.device ≡ Some x → is_initiated x.state ≡ true → call_of s x.call ≡ Some c → (x.device ≡ d → ⊥) → Arrived s x.call d y → connection_of s x.call d ≡ None
     → Rules (changed (changed s (PutConnection (record x { state = S.Connected }))) (PutConnection y))
 unfolding with_connection call_of connection_of agent_of group_of station_of
 gone_out s x y c d r ex initiated ec apart a none =
@@ -192,17 +176,3 @@ outgoing s x c r ex initiated ec =
           let two = two_counted (parties_of x.call) s.connections x z (connection_among s x.call x.device x ex) (connection_among s x.call c.called z e) (eqb_self x.call) (eq-eqb z.call x.call k.0) (λ q. apart (ap (λ (z : ConnectionRecord). z.device) q ∙ k.1)) in
           let al = initiated_alone s x r (connection_among s x.call x.device x ex) initiated in omega (arith, two, al));
     }
-
-pub kept_phone_off_hook : (s : Rows) (m k call device : ℕ) → Rules s → Rules (moved s (moves_of (phone_off_hook s m k call device)))
-unfolding phone_off_hook arrive
-kept_phone_off_hook s m k call device r =
-    by_found (λ v. Rules (moved s (moves_of v))) _ _ _ (λ _. r) (λ c ec.
-    by_found (λ v. Rules (moved s (moves_of v))) _ _ _ (λ _. r) (λ x ex.
-    by_refusal (λ v. Rules (moved s (moves_of v))) _ _ _ (λ _. r) (λ state.
-    let key = found_key s call device x ex in
-    let own = own_key s call device x ex in
-    let initiated : is_initiated x.state ≡ true = not-false (is_initiated x.state) state in
-    let ec2 : call_of s x.call ≡ Some c = ap (call_of s) key.0 ∙ ec in
-    let go = outgoing s x c r own initiated ec2 in
-    subst (λ n. Rules (changed (changed s (originate x c.called).change) (PutConnection (arriving (destination_of s c.called) m k n c.called)))) key.0
-    (gone_out s x (arriving (destination_of s c.called) m k x.call c.called) c c.called r own initiated ec2 go.apart (arrived s m k x.call c.called go.planned) go.new))))

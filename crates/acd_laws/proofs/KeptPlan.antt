@@ -1,34 +1,23 @@
 -- The rules are kept by addGroup, addStation, addAgent, monitorStart and monitorStop.
 use Rattle.std.proofs.Common.{◌≡◌, ℕ, ◌+◌, inl, inr, Bool, true, false, ◌&&◌, ◌||◌, List, Option, Some, None, refl, sym, ◌∙◌, ap, subst, arith, eq-eqb}
-use Rattle.std.specs.Prelude.{◌==◌, IsTrue, is_some, max}
+use Rattle.std.specs.Prelude.{◌==◌, IsTrue, max}
 use Rattle.std.specs.List.{list_any}
 use Rattle.std.proofs.lemmas.Bool.{eqb-true, false_from_ne_true, and_right, or_cases, or_parts, or_right, or_left}
-use Rattle.acd_terms.specs.declared.rows.Rows.{Rows}
-use Rattle.acd_terms.specs.declared.record.GroupRecord.{GroupRecord}
-use Rattle.acd_terms.specs.declared.record.StationRecord.{StationRecord}
-use Rattle.acd_terms.specs.declared.record.AgentRecord.{AgentRecord}
-use Rattle.acd_terms.specs.declared.record.CallRecord.{CallRecord}
-use Rattle.acd_terms.specs.declared.record.ConnectionRecord.{ConnectionRecord}
-use Rattle.acd_terms.specs.declared.record.MonitorRecord.{MonitorRecord}
-use Rattle.acd_terms.specs.declared.state.AgentState.{AgentState}
+use Rattle.acd_laws.proofs.Types.{Rows, GroupRecord, StationRecord, AgentRecord, CallRecord, ConnectionRecord, MonitorRecord, ConnectionState, AgentState}
 use Rattle.acd_terms.specs.declared.state.AgentState.TheVariants as A
-use Rattle.acd_terms.specs.declared.state.ConnectionState.{ConnectionState}
 use Rattle.acd_terms.specs.declared.state.ConnectionState.TheVariants as S
 use Rattle.acd_terms.specs.declared.moves.Change.TheVariants.{PutGroup, PutStation, PutAgent, PutMonitor, RemoveMonitor}
 use Rattle.acd_terms.specs.Lists.{put_by, remove_by, count, Among, IsAscending}
 use Rattle.acd_terms.specs.States.{is_hold, is_live}
 use Rattle.acd_terms.specs.Scans.{at_monitor, group_of, station_of, agent_of, call_of, connection_of, is_group, is_station, is_planned, is_calling}
 use Rattle.acd_terms.specs.Writes.{with_group, with_station, with_agent, with_monitor, without_monitor}
-use Rattle.acd_terms.specs.Moves.{changed, moved}
-use Rattle.acd_terms.specs.Served.{moves_of}
+use Rattle.acd_terms.specs.Moves.{changed}
 use Rattle.acd_terms.specs.Rules.Plan.{group_order, station_order, agent_order, monitor_order}
 use Rattle.acd_laws.proofs.Facts.{Rules, IsPlannedStation, IsPlannedGroup, SeatedAs, AgentRule, CallRule, GroupColumn, IsCaller, StandsAt, ConnectionRule, seated_at, ready_at, busy_at, pending_at}
-use Rattle.acd_laws.proofs.Lists.{one, any_some, ascending-put, ascending-remove, count-put_new, every_among, every_from, every-put, count_zero, none_from}
+use Rattle.acd_laws.proofs.Lists.{one, any_some, ascending-put, ascending-remove, count-put_new, every_among, every_from, every-put, count_zero}
 use Rattle.acd_laws.proofs.Keyed.{cmp_equal}
 use Rattle.acd_laws.proofs.State.{groups_total, stations_total, agents_total, monitors_total, agent_find, group_put, station_put, call_among}
-use Rattle.acd_laws.proofs.Serving.{by_found, by_refusal}
-use Rattle.acd_terms.specs.Services.Plan.{add_group, add_station, add_agent, is_used, new_group, new_agent}
-use Rattle.acd_terms.specs.Services.Monitors.{monitor_start, monitor_stop, next_monitor}
+use Rattle.acd_terms.specs.Services.Plan.{is_used, new_agent}
 
 any_false : {X : Type 0} (p : X → Bool) (xs : List X) → list_any p xs ≡ false → (x : X) → Among x xs → p x ≡ false
 any_false p xs e x a = false_from_ne_true (p x) (λ q. cc (any_some p xs x a q, e))
@@ -80,7 +69,7 @@ more_stands s t f g z c p S.Connected (inr h) = inr (p h.0, subst (λ o. IsCalle
 more_stands s t f g z c p _ h = f z.device h
 
 -- a group is planned
-kept_group : (s : Rows) (g : GroupRecord) → Rules s → is_used s g.device ≡ false → Rules (changed s (PutGroup g))
+pub kept_group : (s : Rows) (g : GroupRecord) → Rules s → is_used s g.device ≡ false → Rules (changed s (PutGroup g))
 unfolding is_calling with_group call_of connection_of agent_of station_of
 kept_group s g r free =
     let t : Rows = changed s (PutGroup g) in
@@ -113,7 +102,7 @@ kept_group s g r free =
     }
 
 -- a station is planned
-kept_station : (s : Rows) (g : StationRecord) → Rules s → is_used s g.device ≡ false → Rules (changed s (PutStation g))
+pub kept_station : (s : Rows) (g : StationRecord) → Rules s → is_used s g.device ≡ false → Rules (changed s (PutStation g))
 unfolding is_calling with_station call_of connection_of agent_of group_of
 kept_station s g r free =
     let t : Rows = changed s (PutStation g) in
@@ -143,22 +132,8 @@ kept_station s g r free =
       free = r.free;
     }
 
-pub kept_add_group : (s : Rows) (device : ℕ) (name : List ℕ) (ring wrap : ℕ) → Rules s → Rules (moved s (moves_of (add_group s device name ring wrap)))
-unfolding add_group
-kept_add_group s device name ring wrap r =
-    by_refusal (λ v. Rules (moved s (moves_of v))) _ _ _ (λ _. r) (λ free.
-    by_refusal (λ v. Rules (moved s (moves_of v))) _ _ _ (λ _. r) (λ _.
-    kept_group s (new_group device name ring wrap) r free))
-
-pub kept_add_station : (s : Rows) (device : ℕ) → Rules s → Rules (moved s (moves_of (add_station s device)))
-unfolding add_station
-kept_add_station s device r =
-    by_refusal (λ v. Rules (moved s (moves_of v))) _ _ _ (λ _. r) (λ free.
-    by_refusal (λ v. Rules (moved s (moves_of v))) _ _ _ (λ _. r) (λ _.
-    kept_station s (record { device = device }) r free))
-
 -- an agent is planned, in null
-kept_new_agent : (s : Rows) (m k agent : ℕ) (name : List ℕ) → Rules s → agent_of s agent ≡ None → Rules (changed s (PutAgent (new_agent m k agent name)))
+pub kept_new_agent : (s : Rows) (m k agent : ℕ) (name : List ℕ) → Rules s → agent_of s agent ≡ None → Rules (changed s (PutAgent (new_agent m k agent name)))
 unfolding with_agent call_of connection_of group_of station_of
 kept_new_agent s m k agent name r none =
     let b : AgentRecord = new_agent m k agent name in
@@ -182,13 +157,6 @@ kept_new_agent s m k agent name r none =
       free = r.free;
     }
 
-pub kept_add_agent : (s : Rows) (m k agent : ℕ) (name : List ℕ) → Rules s → Rules (moved s (moves_of (add_agent s m k agent name)))
-unfolding add_agent
-kept_add_agent s m k agent name r =
-    by_refusal (λ v. Rules (moved s (moves_of v))) _ _ _ (λ _. r) (λ new.
-    by_refusal (λ v. Rules (moved s (moves_of v))) _ _ _ (λ _. r) (λ _.
-    kept_new_agent s m k agent name r (none_from (agent_of s agent) (λ a e. cc (new, ap is_some e)))))
-
 -- the monitors may change
 pub with_monitors : (s : Rows) (ws : List MonitorRecord) (n : ℕ) → Rules s → IsAscending monitor_order ws → Rules (record s { monitors = ws; last_monitor = n })
 unfolding call_of connection_of agent_of group_of station_of
@@ -210,22 +178,10 @@ with_monitors s ws n r h = record {
   free = r.free;
 }
 
-started : (s : Rows) (w : MonitorRecord) → Rules s → Rules (changed s (PutMonitor w))
+pub started : (s : Rows) (w : MonitorRecord) → Rules s → Rules (changed s (PutMonitor w))
 unfolding with_monitor
 started s w r = with_monitors s (put_by (monitor_order w) s.monitors w) (max s.last_monitor w.monitor) r (ascending-put monitor_order monitors_total w s.monitors r.orders.monitors)
 
-stopped : (s : Rows) (n : ℕ) → Rules s → Rules (changed s (RemoveMonitor n))
+pub stopped : (s : Rows) (n : ℕ) → Rules s → Rules (changed s (RemoveMonitor n))
 unfolding without_monitor
 stopped s n r = with_monitors s (remove_by (at_monitor n) s.monitors) s.last_monitor r (ascending-remove monitor_order (at_monitor n) s.monitors r.orders.monitors)
-
-pub kept_monitor_start : (s : Rows) (device : ℕ) → Rules s → Rules (moved s (moves_of (monitor_start s device)))
-unfolding monitor_start
-kept_monitor_start s device r =
-    by_refusal (λ v. Rules (moved s (moves_of v))) _ _ _ (λ _. r) (λ _.
-    by_refusal (λ v. Rules (moved s (moves_of v))) _ _ _ (λ _. r) (λ _.
-    started s (record { monitor = next_monitor s; device = device; after_event = s.last_event }) r))
-
-pub kept_monitor_stop : (s : Rows) (monitor : ℕ) → Rules s → Rules (moved s (moves_of (monitor_stop s monitor)))
-unfolding monitor_stop
-kept_monitor_stop s monitor r =
-    by_found (λ v. Rules (moved s (moves_of v))) _ _ _ (λ _. r) (λ w _. stopped s monitor r)

@@ -1,12 +1,9 @@
 -- The rules are kept by answerCall, holdCall and retrieveCall.
-use Rattle.std.proofs.Common.{◌≡◌, ℕ, ◌+◌, ◌≤◌, inl, Bool, true, false, not, ◌&&◌, cond, List, [], ◌∷◌, Option, Some, None, refl, sym, ap, subst, arith}
+use Rattle.std.proofs.Common.{◌≡◌, ℕ, ◌+◌, ◌≤◌, inl, Bool, true, false, not, ◌&&◌, cond, List, [], ◌∷◌, Option, Some, None, refl, ap, subst, arith}
 use Rattle.std.specs.Prelude.{◌==◌, IsTrue, is_some}
-use Rattle.std.proofs.lemmas.Bool.{and_parts, and_from, eqb-true, false_from_ne_true, not-false}
-use Rattle.acd_terms.specs.declared.rows.Rows.{Rows}
-use Rattle.acd_terms.specs.declared.record.AgentRecord.{AgentRecord}
-use Rattle.acd_terms.specs.declared.record.ConnectionRecord.{ConnectionRecord}
+use Rattle.std.proofs.lemmas.Bool.{and_parts, and_from, eqb-true, false_from_ne_true}
+use Rattle.acd_laws.proofs.Types.{Rows, AgentRecord, ConnectionRecord, ConnectionState}
 use Rattle.acd_terms.specs.declared.state.AgentState.TheVariants as A
-use Rattle.acd_terms.specs.declared.state.ConnectionState.{ConnectionState}
 use Rattle.acd_terms.specs.declared.state.ConnectionState.TheVariants as S
 use Rattle.acd_terms.specs.declared.moves.Change.TheVariants.{PutConnection}
 use Rattle.acd_terms.specs.Lists.{put_by, count, Every, IsAscending}
@@ -16,20 +13,18 @@ use Rattle.acd_terms.specs.Writes.{with_agent, with_connection}
 use Rattle.acd_terms.specs.Moves.{no_move, changed, moved}
 use Rattle.acd_terms.specs.CallMoves.{talking, hold, retrieve}
 use Rattle.acd_terms.specs.AgentMoves.{become_busy}
-use Rattle.acd_terms.specs.Served.{moves_of}
 use Rattle.acd_terms.specs.Rules.Plan.{agent_order, connection_order}
 use Rattle.acd_laws.proofs.Facts.{Rules, AgentRule, Bare, HasColumns, StandsAt, ConnectionRule, ringing_at, talking_at, seated_at, ready_at, busy_at, pending_at}
 use Rattle.acd_terms.specs.Rules.Calls.{is_open, parties_of, initiated_of, open_of, live_at, alerting_at, hold_at}
 use Rattle.acd_terms.specs.OneOffer.{is_distributed_at}
 use Rattle.acd_laws.proofs.Lists.{one, ascending-put, every-put, counted, none_counted, fewer, both_fewer}
-use Rattle.acd_laws.proofs.State.{agents_total, connections_total, found_key, own_key, connection_among}
+use Rattle.acd_laws.proofs.State.{agents_total, connections_total, connection_among}
 use Rattle.acd_laws.proofs.Found.{count_old, count_agent, connection_rule}
 use Rattle.acd_laws.proofs.KeptArrival.{one_le}
 use Rattle.acd_laws.proofs.KeptOffer.{ringing_is}
 use Rattle.acd_laws.proofs.States.{alerting_is, ready_is, connected_is, hold_is}
 use Rattle.acd_laws.proofs.Releasing.{Serves, serving}
-use Rattle.acd_laws.proofs.Serving.{by_found, by_refusal}
-use Rattle.acd_terms.specs.Services.Talking.{answer_call, hold_call, retrieve_call, occupy, busy_agent}
+use Rattle.acd_terms.specs.Services.Talking.{occupy, busy_agent}
 
 -- an answer: the connection is connected, and agents are filter after it
 after_answer : (s : Rows) (x : ConnectionRecord) (agents : List AgentRecord) → Rules s → connection_of s x.call x.device ≡ Some x → is_alerting x.state ≡ true
@@ -100,7 +95,7 @@ busy_by : (s : Rows) (m k : ℕ) (x : ConnectionRecord) (o : Option AgentRecord)
 busy_by s m k x None a e r = absurd (cc (e))
 busy_by s m k x (Some z) a e r = let same : z ≡ a = cc in rw same r
 
-kept_answer : (s : Rows) (m k : ℕ) (x : ConnectionRecord) → Rules s → connection_of s x.call x.device ≡ Some x → is_alerting x.state ≡ true
+pub kept_answer : (s : Rows) (m k : ℕ) (x : ConnectionRecord) → Rules s → connection_of s x.call x.device ≡ Some x → is_alerting x.state ≡ true
     → Rules (changed (changed s (PutConnection (talking x))) (occupy s m k x).change)
 unfolding occupy
 kept_answer s m k x r ex alerting =
@@ -109,14 +104,6 @@ kept_answer s m k x r ex alerting =
           busy_by s m k x (agent_at s x.device) h.0 h.1.at_station (answer_busy s m k x r ex alerting e h.0 h.1)
       | false ↦ λ e. answer_plain s x r ex alerting e
     ]) refl
-
-pub kept_answer_call : (s : Rows) (m k call device : ℕ) → Rules s → Rules (moved s (moves_of (answer_call s m k call device)))
-unfolding answer_call
-kept_answer_call s m k call device r =
-    by_found (λ v. Rules (moved s (moves_of v))) _ _ _ (λ _. r) (λ c ec.
-    by_found (λ v. Rules (moved s (moves_of v))) _ _ _ (λ _. r) (λ x ex.
-    by_refusal (λ v. Rules (moved s (moves_of v))) _ _ _ (λ _. r) (λ alerting.
-    kept_answer s m k x r (own_key s call device x ex) (not-false (is_alerting x.state) alerting))))
 
 -- a connected call and a held one change places: x before, y after
 turned : (s : Rows) (x y : ConnectionRecord) → Rules s → connection_of s x.call x.device ≡ Some x → y.call ≡ x.call → y.device ≡ x.device → ConnectionRule s y
@@ -216,21 +203,3 @@ kept_retrieve s x r ex holds free =
       | false ↦ λ e. let o = r.one_live d h in let g : one (live_at d y) ≡ 0 = ap one e in omega (arith, c, o, g)
     ]) refl)
     (λ d h l. let c = counts (hold_at d) in let o = r.no_hold d h l in omega (arith, c, o))
-
-pub kept_hold_call : (s : Rows) (call device : ℕ) → Rules s → Rules (moved s (moves_of (hold_call s call device)))
-unfolding hold_call
-kept_hold_call s call device r =
-    by_found (λ v. Rules (moved s (moves_of v))) _ _ _ (λ _. r) (λ c ec.
-    by_found (λ v. Rules (moved s (moves_of v))) _ _ _ (λ _. r) (λ x ex.
-    by_refusal (λ v. Rules (moved s (moves_of v))) _ _ _ (λ _. r) (λ station.
-    by_refusal (λ v. Rules (moved s (moves_of v))) _ _ _ (λ _. r) (λ connected.
-    kept_hold s x r (own_key s call device x ex) (subst (λ d. IsTrue (is_station s d)) (sym (found_key s call device x ex).1) (not-false (is_station s device) station)) (not-false (is_connected x.state) connected)))))
-
-pub kept_retrieve_call : (s : Rows) (call device : ℕ) → Rules s → Rules (moved s (moves_of (retrieve_call s call device)))
-unfolding retrieve_call
-kept_retrieve_call s call device r =
-    by_found (λ v. Rules (moved s (moves_of v))) _ _ _ (λ _. r) (λ c ec.
-    by_found (λ v. Rules (moved s (moves_of v))) _ _ _ (λ _. r) (λ x ex.
-    by_refusal (λ v. Rules (moved s (moves_of v))) _ _ _ (λ _. r) (λ holds.
-    by_refusal (λ v. Rules (moved s (moves_of v))) _ _ _ (λ _. r) (λ free.
-    kept_retrieve s x r (own_key s call device x ex) (not-false (is_hold x.state) holds) (subst (λ d. is_live_at s d ≡ false) (sym (found_key s call device x ex).1) free)))))

@@ -13,12 +13,8 @@ use Rattle.acd_terms.specs.Told.{enters, last_entry}
 use Rattle.acd_terms.specs.Watched.{is_held_by, IsHeldAt, InOrder}
 use Rattle.acd_terms.specs.Step.{numbered}
 use Rattle.acd_terms.specs.Rules.Plan.{connection_order}
-use Rattle.acd_terms.specs.declared.rows.Rows.{Rows}
-use Rattle.acd_terms.specs.declared.record.ConnectionRecord.{ConnectionRecord}
+use Rattle.acd_laws.proofs.Types.{Rows, ConnectionRecord, Event, Move, Report}
 use Rattle.acd_terms.specs.declared.state.ConnectionState.TheVariants as S
-use Rattle.acd_terms.specs.declared.event.Event.{Event}
-use Rattle.acd_terms.specs.declared.event.Report.{Report}
-use Rattle.acd_terms.specs.declared.moves.Move.{Move}
 use Rattle.acd_terms.specs.Rules.Calls.{is_open}
 use Rattle.acd_laws.proofs.Tells.{HasEntries, UpTo}
 use Rattle.acd_laws.proofs.Lists.{one, some_is, among_put}

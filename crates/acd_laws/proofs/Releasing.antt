@@ -2,19 +2,12 @@
 use Rattle.std.proofs.Common.{◌≡◌, ℕ, ◌+◌, ◌≤◌, ◌⊎◌, inl, inr, Bool, true, false, not, ◌&&◌, cond, Option, Some, None, refl, sym, ◌∙◌, ap, subst, arith}
 use Rattle.std.specs.Prelude.{◌==◌, is_some}
 use Rattle.std.proofs.lemmas.Bool.{and_parts, and_from, eqb-true, false_from_ne_true, and_right, and_cases, cond-false}
-use Rattle.acd_terms.specs.declared.rows.Rows.{Rows}
-use Rattle.acd_terms.specs.declared.record.AgentRecord.{AgentRecord}
-use Rattle.acd_terms.specs.declared.record.ConnectionRecord.{ConnectionRecord}
-use Rattle.acd_terms.specs.declared.state.AgentState.{AgentState}
+use Rattle.acd_laws.proofs.Types.{Rows, AgentRecord, ConnectionRecord, ConnectionState, AgentState, Pending, Ending, Release}
 use Rattle.acd_terms.specs.declared.state.AgentState.TheVariants as A
-use Rattle.acd_terms.specs.declared.state.Pending.{Pending}
 use Rattle.acd_terms.specs.declared.state.Pending.TheVariants as W
-use Rattle.acd_terms.specs.declared.state.ConnectionState.{ConnectionState}
 use Rattle.acd_terms.specs.declared.state.ConnectionState.TheVariants as S
 use Rattle.acd_terms.specs.declared.moves.Change.TheVariants.{PutAgent}
-use Rattle.acd_terms.specs.declared.moves.Ending.{Ending}
 use Rattle.acd_terms.specs.declared.moves.Ending.TheVariants.{Answered, Unanswered, NoAnswer}
-use Rattle.acd_terms.specs.declared.moves.Release.{Release}
 use Rattle.acd_terms.specs.declared.moves.Release.TheVariants.{Stays, Goes}
 use Rattle.acd_terms.specs.Lists.{put_by, count, Among}
 use Rattle.acd_terms.specs.States.{is_ready, is_busy, is_alerting, is_queued, is_answered, state_wanted}
@@ -57,9 +50,7 @@ left_state s a _ m k n h = record { agent = refl; rule = h; station = λ e q. q;
 
 pub wanted_not_busy : (w : Pending) (st : AgentState) → state_wanted w ≡ st → is_busy st ≡ false
 wanted_not_busy W.LoggedOff st e = rw (← e) refl
-wanted_not_busy W.NotReady st e = rw (← e) refl
-wanted_not_busy W.Ready st e = rw (← e) refl
-wanted_not_busy W.WorkingAfterCall st e = rw (← e) refl
+wanted_not_busy _ st e = rw (← e) refl
 
 goes_is : (p q : AgentState) → Goes p ≡ Goes q → p ≡ q
 goes_is p q e = cc
@@ -72,17 +63,13 @@ release_not_busy Answered (Some w) st e = wanted_not_busy w st (wanted w e)
   where
     wanted : (v : Pending) → release_of Answered (Some v) ≡ Goes st → state_wanted v ≡ st
     wanted W.LoggedOff q = goes_is _ _ q
-    wanted W.NotReady q = goes_is _ _ q
-    wanted W.Ready q = goes_is _ _ q
-    wanted W.WorkingAfterCall q = goes_is _ _ q
+    wanted _ q = goes_is _ _ q
 release_not_busy Unanswered (Some W.Ready) st e = absurd (cc (e))
 release_not_busy Unanswered (Some W.LoggedOff) st e = rw (← goes_is _ _ e) refl
 release_not_busy Unanswered (Some W.NotReady) st e = rw (← goes_is _ _ e) refl
 release_not_busy Unanswered (Some W.WorkingAfterCall) st e = rw (← goes_is _ _ e) refl
 release_not_busy NoAnswer (Some W.LoggedOff) st e = rw (← goes_is _ _ e) refl
-release_not_busy NoAnswer (Some W.NotReady) st e = rw (← goes_is _ _ e) refl
-release_not_busy NoAnswer (Some W.Ready) st e = rw (← goes_is _ _ e) refl
-release_not_busy NoAnswer (Some W.WorkingAfterCall) st e = rw (← goes_is _ _ e) refl
+release_not_busy NoAnswer _ st e = rw (← goes_is _ _ e) refl
 
 -- at a station and not busy
 still_at : ℕ → AgentRecord → Bool
@@ -297,10 +284,7 @@ after_release loose s v x how m k r kept rs among vacant ends =
 
 answered_moves : (w : Option Pending) → release_of Answered w ≡ Stays → ⊥
 answered_moves None e = cc
-answered_moves (Some W.LoggedOff) e = cc
-answered_moves (Some W.NotReady) e = cc
-answered_moves (Some W.Ready) e = cc
-answered_moves (Some W.WorkingAfterCall) e = cc
+answered_moves _ e = cc
 
 -- as a clearing or a deflection ends it
 pub ends_by : (s : Rows) (x : ConnectionRecord) → ConnectionRule s x → Ends x (ending_of x)
