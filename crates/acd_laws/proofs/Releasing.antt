@@ -28,6 +28,7 @@ use Rattle.acd_laws.specs.Counts.{RulesBut, Rules, IsPlannedStation, IsPlannedGr
 use Rattle.acd_laws.proofs.Lists.{one, ascending-put, every_among, every-put, among-put, counted, fewer, both_fewer, the_one, some_counted, some_from}
 use Rattle.acd_laws.proofs.State.{eqb_self, agents_total, agent_put, agent_among}
 use Rattle.acd_laws.proofs.Found.{count_agent, agent_seat, agent_there}
+use Rattle.acd_laws.proofs.Keeping.{with_agents}
 use Rattle.acd_laws.proofs.KeptOffer.{ringing_is, talking_is, ready_is}
 
 -- a seat that a station has
@@ -136,24 +137,9 @@ left_keeps loose v a b d r there station vacant l =
       | false ↦ λ q. let g : one (seated_at e b) ≡ 0 = ap one q in
           let f = fewer (pending_at e) (seated_at e) (λ z w. (and_parts (is_some z.pending) (has z.station e) w).1) (put_by (agent_order b) v.agents b) in omega (arith, c, o, here, g, f)
     ]) refl in
-    record {
-      orders = record {
-        groups = r.orders.groups;
-        stations = r.orders.stations;
-        monitors = r.orders.monitors;
-        calls = r.orders.calls;
-        connections = r.orders.connections;
-        agents = ascending-put agent_order agents_total b v.agents r.orders.agents;
-      };
-      kinds = r.kinds;
-      agents = every-put (agent_order b) (AgentRule v) b l.rule v.agents r.agents;
-      calls = r.calls;
-      connections = r.connections;
-      parties = r.parties;
-      one_open = r.one_open;
-      one_live = r.one_live;
-      no_hold = r.no_hold;
-      one_offer = r.one_offer;
+    with_agents loose (λ e. loose e && not (d == e)) v (put_by (agent_order b) v.agents b) r (λ e h. (and_parts (loose e) (not (d == e)) h).0) (record {
+      sorted = ascending-put agent_order agents_total b v.agents r.orders.agents;
+      rules = every-put (agent_order b) (AgentRule v) b l.rule v.agents r.agents;
       one_agent = one_left;
       ready = λ e h.
           (elim (d == e) as (λ x. (d == e) ≡ x → count (ringing_at e) v.connections ≤ count (ready_at e) (put_by (agent_order b) v.agents b)) [
@@ -177,8 +163,7 @@ left_keeps loose v a b d r there station vacant l =
                 let f : one (pending_at e a) ≡ 0 = ap one (and_right (is_some a.pending) (has a.station e) (elsewhere e q).0) in
                 let g : one (pending_at e b) ≡ 0 = ap one (and_right (is_some b.pending) (has b.station e) (elsewhere e q).1) in omega (arith, c, o, f, g)
           ]) refl;
-      free = λ e h. r.free e (and_parts (loose e) (not (d == e)) h).0;
-    }
+    })
 
 -- the agent of a distributed connection
 pub record Serves (s : Rows) (x : ConnectionRecord) (a : AgentRecord) : Type 0 where
