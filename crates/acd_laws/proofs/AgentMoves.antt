@@ -7,7 +7,7 @@ use Rattle.acd_terms.specs.Rules.Plan.{agent_order}
 use Rattle.acd_terms.specs.Scans.{agent_of, agent_at, is_distributed}
 use Rattle.acd_terms.specs.Writes.{with_agent}
 use Rattle.acd_terms.specs.Moves.{no_move, reported, changed}
-use Rattle.acd_terms.specs.AgentMoves.{kept_in, in_state, state_report, go_from, become_busy, wait_for}
+use Rattle.acd_terms.specs.AgentMoves.{kept_in, in_state, state_report, go_from, wait_for}
 use Rattle.acd_terms.specs.Release.{release_of, released, release_agent, release}
 use Rattle.acd_terms.specs.Services.Talking.{busy_agent, occupy}
 use Rattle.acd_terms.specs.declared.rows.Rows.{Rows}

@@ -1,6 +1,6 @@
 -- All laws together: a step keeps them, and they hold of every run.
 use Rattle.acd_laws.specs.Counts.{Rules}
-use Rattle.acd_laws.specs.AllLaws.{LawsHold, StepKeepsLaws, RunKeepsLaws}
+use Rattle.acd_laws.specs.AllLaws.{StepKeepsLaws, RunKeepsLaws}
 use Rattle.acd_laws.proofs.FiguresCounted.{step_keeps_figures, figures_kept}
 use Rattle.acd_laws.proofs.OneOffer.{step_keeps_one_offer, run_has_one_offer}
 use Rattle.acd_laws.proofs.PlacedRuns.{step_names_no_later_call, run_names_no_later_call, run_is_placed}

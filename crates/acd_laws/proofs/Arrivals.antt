@@ -1,5 +1,5 @@
 -- What a call meets at a device: it waits there, alerts or fails.
-use Rattle.std.proofs.Common.{◌≡◌, ℕ, Bool, true, false, Option, Some, None, refl}
+use Rattle.std.proofs.Common.{◌≡◌, ℕ, Bool, true, false, Some, None, refl}
 use Rattle.acd_terms.specs.Scans.{is_group, is_idle}
 use Rattle.acd_terms.specs.Moves.{reported}
 use Rattle.acd_terms.specs.CallMoves.{plain, queueing, met_at, arriving, arrival, arrive}

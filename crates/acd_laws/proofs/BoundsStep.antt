@@ -5,13 +5,12 @@ use Rattle.acd_terms.specs.declared.rows.Rows.{Rows}
 use Rattle.acd_terms.specs.declared.record.GroupRecord.{GroupRecord}
 use Rattle.acd_terms.specs.declared.moves.Move.{Move}
 use Rattle.acd_terms.specs.Lists.{count, Among}
-use Rattle.acd_terms.specs.Moves.{moved}
+use Rattle.acd_terms.specs.Moves.{moved, events_of}
 use Rattle.acd_terms.specs.Served.{moves_of}
 use Rattle.acd_laws.specs.Counts.{Rules}
 use Rattle.acd_laws.proofs.Lists.{one, count-append}
 use Rattle.acd_terms.specs.declared.event.Event.{Event}
 use Rattle.acd_terms.specs.declared.command.Command.{Command}
-use Rattle.acd_terms.specs.Moves.{events_of}
 use Rattle.acd_terms.specs.Figures.{is_entry}
 use Rattle.acd_terms.specs.Services.Serve.{serve}
 use Rattle.acd_terms.specs.Distribution.{distribution}

@@ -26,10 +26,9 @@ use Rattle.acd_terms.specs.declared.moves.Change.{Change}
 use Rattle.acd_terms.specs.declared.moves.Change.TheVariants.{PutGroup}
 use Rattle.acd_terms.proofs.ChangeLemmas.{changed_by_append, moved_by_changes}
 use Rattle.acd_laws.specs.ChangeLaws.{StepMakesItsChanges}
-use Rattle.acd_laws.proofs.Lists.{is_eq_of, less_ne, greater_ne, after_among, after_same, ascending-put}
+use Rattle.acd_laws.proofs.Lists.{is_eq_of, less_ne, greater_ne, after_among, after_same, ascending-put, eq_is}
 use Rattle.acd_laws.proofs.Members.{found_among}
 use Rattle.acd_laws.proofs.State.{cmp_self, cmp_equal, groups_total}
-use Rattle.acd_laws.proofs.Lists.{eq_is}
 use Rattle.acd_laws.proofs.CountedEvents.{Quiet, quiet, no_events, sum_nothing, figures_joined, figures_skipped, sum_joined}
 use Rattle.acd_laws.proofs.RulesStep.{ascending_counting}
 use Rattle.acd_laws.proofs.BoundsRead.{keeps_read}

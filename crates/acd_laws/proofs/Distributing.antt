@@ -1,5 +1,5 @@
 -- Distribution: what the next offer is of, what each offer keeps, and that none is left.
-use Rattle.std.proofs.Common.{◌≡◌, ℕ, zero, suc, ◌+◌, ◌≤◌, Bool, true, false, not, ◌&&◌, List, [], ◌++◌, Option, Some, None, refl, sym, ◌∙◌, ap, subst, arith, length}
+use Rattle.std.proofs.Common.{◌≡◌, ℕ, zero, suc, ◌+◌, ◌≤◌, Bool, true, false, not, ◌&&◌, List, [], ◌++◌, Option, Some, None, refl, sym, ◌∙◌, ap, subst, arith, length, append_assoc, append-nil}
 use Rattle.std.specs.Prelude.{◌==◌, filter}
 use Rattle.std.proofs.lemmas.Bool.{and_parts, eqb-true, not-true}
 use Rattle.acd_terms.specs.declared.rows.Rows.{Rows}
@@ -11,15 +11,13 @@ use Rattle.acd_terms.specs.Lists.{count, Among}
 use Rattle.acd_terms.specs.States.{is_ready, is_queued}
 use Rattle.acd_terms.specs.Scans.{agent_of, connection_of, has, is_idle, is_occupied, waiting_in, is_idle_there, is_eligible, eligible_in, queued_in_all}
 use Rattle.acd_terms.specs.Writes.{with_connection, without_connection}
-use Rattle.acd_terms.specs.Moves.{moved}
+use Rattle.acd_terms.specs.Moves.{moved, events_of}
 use Rattle.acd_terms.specs.CallMoves.{ringing}
 use Rattle.acd_laws.specs.Counts.{Rules}
 use Rattle.acd_laws.proofs.Lists.{one, filter_among, counted, count_length, none_from}
 use Rattle.acd_laws.proofs.State.{connection_found, agent_found, still_none}
-use Rattle.std.proofs.Common.{append_assoc, append-nil}
 use Rattle.acd_terms.specs.declared.moves.Offer.{Offer}
 use Rattle.acd_terms.specs.declared.event.Event.{Event}
-use Rattle.acd_terms.specs.Moves.{events_of}
 use Rattle.acd_terms.specs.Choice.{waiting_pair, ready_pair, offer_of}
 use Rattle.acd_terms.specs.Offers.{IsOffer, HasNoOffer}
 use Rattle.acd_terms.specs.Distribution.{offer_at, offer_moves, with_offer, offers, distribution}

@@ -1,6 +1,5 @@
 -- The moves of a distribution are the offers that are to be made, one after another.
-use Rattle.std.proofs.Common.{◌≡◌, ℕ, zero, suc, ◌+◌, ◌≤◌, inl, inr, List, [], ◌∷◌, ◌++◌, Option, Some, None, refl, sym, ◌∙◌, ap, subst, arith, length}
-use Rattle.std.specs.Prelude.{filter}
+use Rattle.std.proofs.Common.{◌≡◌, ℕ, zero, suc, ◌≤◌, inl, inr, List, [], ◌++◌, Some, None, refl, sym, ◌∙◌, ap, subst, arith, length}
 use Rattle.acd_terms.specs.Lists.{count, Among}
 use Rattle.acd_terms.specs.Scans.{waiting_in, eligible_in, queued_in_all}
 use Rattle.acd_terms.specs.Choice.{waiting_pair, ready_pair, offer_of}
@@ -8,8 +7,6 @@ use Rattle.acd_terms.specs.Moves.{moved}
 use Rattle.acd_terms.specs.Offers.{IsOffer, HasNoOffer}
 use Rattle.acd_terms.specs.Distribution.{offer_moves, with_offer, offers, distribution}
 use Rattle.acd_terms.specs.declared.rows.Rows.{Rows}
-use Rattle.acd_terms.specs.declared.record.ConnectionRecord.{ConnectionRecord}
-use Rattle.acd_terms.specs.declared.record.AgentRecord.{AgentRecord}
 use Rattle.acd_terms.specs.declared.moves.Move.{Move}
 use Rattle.acd_terms.specs.declared.moves.Offer.{Offer}
 use Rattle.acd_laws.specs.Counts.{Rules}

@@ -1,7 +1,7 @@
 -- How many events a step makes at most.
-use Rattle.std.proofs.Common.{◌≡◌, ℕ, zero, suc, ◌+◌, ◌*◌, ◌≤◌, inl, inr, Bool, true, false, not, ◌&&◌, cond, List, [], ◌∷◌, ◌++◌, Option, Some, None, refl, sym, ◌∙◌, ap, arith, length, eq-eqb}
+use Rattle.std.proofs.Common.{◌≡◌, ℕ, zero, suc, ◌+◌, ◌*◌, ◌≤◌, inl, inr, Bool, true, false, not, ◌&&◌, cond, List, [], ◌∷◌, ◌++◌, Option, Some, None, refl, sym, ◌∙◌, ap, arith, length, eq-eqb, length-append}
 use Rattle.std.specs.Prelude.{◌==◌, is_some, filter, nat_le}
-use Rattle.std.proofs.lemmas.Bool.{and_parts, not-true}
+use Rattle.std.proofs.lemmas.Bool.{and_parts, not-true, leb-true}
 use Rattle.acd_terms.specs.declared.rows.Rows.{Rows}
 use Rattle.acd_terms.specs.declared.record.AgentRecord.{AgentRecord}
 use Rattle.acd_terms.specs.declared.record.CallRecord.{CallRecord}
@@ -10,17 +10,14 @@ use Rattle.acd_terms.specs.declared.moves.Move.{Move}
 use Rattle.acd_terms.specs.Lists.{count, Among}
 use Rattle.acd_terms.specs.States.{is_queued}
 use Rattle.acd_terms.specs.Scans.{agent_of, call_of, connection_of, queued_in_all}
-use Rattle.acd_terms.specs.Moves.{moved}
+use Rattle.acd_terms.specs.Moves.{moved, with_event, events_of}
 use Rattle.acd_laws.specs.Counts.{Rules, of_call}
 use Rattle.acd_laws.proofs.Lists.{one, filter_among, counted, fewer, count_length}
 use Rattle.acd_laws.proofs.State.{eqb_self, call_among, call_key}
-use Rattle.std.proofs.Common.{length-append}
-use Rattle.std.proofs.lemmas.Bool.{leb-true}
 use Rattle.acd_terms.specs.Limits.{limits_fit}
 use Rattle.acd_terms.specs.declared.event.Event.{Event}
 use Rattle.acd_terms.specs.declared.event.Report.{Report}
 use Rattle.acd_terms.specs.declared.moves.Offer.{Offer}
-use Rattle.acd_terms.specs.Moves.{with_event, events_of}
 use Rattle.acd_terms.specs.Choice.{offer_of}
 use Rattle.acd_terms.specs.Distribution.{offer_at, offer_moves, with_offer, offers, distribution, station_of_agent}
 use Rattle.acd_terms.specs.Tick.{return_to, return_moves, rest_moves, each, is_overdue, overdue_in, is_rested, rested_in, returns, rests, tick}

@@ -1,7 +1,7 @@
 -- A release keeps the rules.
 use Rattle.std.proofs.Common.{◌≡◌, ℕ, ◌+◌, ◌≤◌, ◌⊎◌, inl, inr, Bool, true, false, not, ◌&&◌, cond, Option, Some, None, refl, sym, ◌∙◌, ap, subst, arith}
 use Rattle.std.specs.Prelude.{◌==◌, is_some}
-use Rattle.std.proofs.lemmas.Bool.{and_parts, and_from, eqb-true, false_from_ne_true, and_right, and_cases, cond-false}
+use Rattle.std.proofs.lemmas.Bool.{and_parts, and_from, eqb-true, false_from_ne_true, and_right, and_cases}
 use Rattle.acd_terms.specs.declared.rows.Rows.{Rows}
 use Rattle.acd_terms.specs.declared.record.AgentRecord.{AgentRecord}
 use Rattle.acd_terms.specs.declared.record.ConnectionRecord.{ConnectionRecord}
@@ -26,8 +26,9 @@ use Rattle.acd_terms.specs.Release.{release_of, released, release_agent, ending_
 use Rattle.acd_terms.specs.Rules.Plan.{agent_order}
 use Rattle.acd_laws.specs.Counts.{RulesBut, Rules, IsPlannedStation, IsPlannedGroup, SeatedAs, AgentRule, HasColumns, ConnectionRule, distributed_at, ringing_at, talking_at, seated_at, ready_at, busy_at, pending_at}
 use Rattle.acd_laws.proofs.Lists.{one, ascending-put, every_among, every-put, among-put, counted, fewer, both_fewer, the_one, some_counted, some_from}
-use Rattle.acd_laws.proofs.State.{eqb_self, agents_total, agent_put, agent_among}
+use Rattle.acd_laws.proofs.State.{eqb_self, agents_total, agent_among}
 use Rattle.acd_laws.proofs.Found.{count_agent, agent_seat, agent_there}
+use Rattle.acd_laws.proofs.AgentMoves.{releases, agent_others}
 use Rattle.acd_laws.proofs.Keeping.{with_agents}
 use Rattle.acd_laws.proofs.KeptOffer.{ringing_is, talking_is, ready_is}
 
@@ -287,18 +288,5 @@ ends_by s x rule = record {
 }
 
 -- a release leaves the agents of other numbers
-released_other : (t : Rows) (o : Option AgentRecord) (d : ℕ) (how : Ending) (m k n : ℕ) → ((a : AgentRecord) → o ≡ Some a → (a.agent == n) ≡ false) → agent_of (changed t (release_agent m k o d how).change) n ≡ agent_of t n
-released_other t None d how m k n h = refl
-released_other t (Some a) d how m k n h = by (release_of how a.pending)
-  where
-    by : (to : Release) → agent_of (changed t (released m k a d to).change) n ≡ agent_of t n
-    by Stays = agent_put t (record a { pending = None }) n ∙ cond-false (a.agent == n) _ _ (h a refl)
-    by (Goes st) = agent_put t (in_state st m k a) n ∙ cond-false (a.agent == n) _ _ (h a refl)
-
 pub release_other_kept : (s t : Rows) (x : ConnectionRecord) (how : Ending) (m k n : ℕ) → ((a : AgentRecord) → agent_at s x.device ≡ Some a → (a.agent == n) ≡ false) → agent_of (changed t (release s m k x how).change) n ≡ agent_of t n
-unfolding release
-release_other_kept s t x how m k n h =
-    elim (is_distributed x) as (λ b. agent_of (changed t (cond b (release_agent m k (agent_at s x.device) x.device how) no_move).change) n ≡ agent_of t n) [
-      | true ↦ released_other t (agent_at s x.device) x.device how m k n h
-      | false ↦ refl
-    ]
+release_other_kept s t x how m k n h = agent_others m k n t _ (releases (λ a. (a.agent == n) ≡ false) s m k x how h)
