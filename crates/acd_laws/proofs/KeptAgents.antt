@@ -19,6 +19,7 @@ use Rattle.acd_laws.proofs.Keyed.{eqb_self}
 use Rattle.acd_laws.proofs.State.{agents_total, agent_among}
 use Rattle.acd_laws.proofs.Found.{count_agent, has_is, agent_seat}
 use Rattle.acd_laws.proofs.KeptOffer.{unoccupied}
+use Rattle.acd_laws.proofs.Keeping.{with_agents}
 use Rattle.acd_laws.proofs.Releasing.{serving, loosen, left_keeps, left_state, settled_at, settled_is, pending_or_settled, alerting_or_answered}
 use Rattle.acd_terms.specs.Tick.{rest_moves}
 use Rattle.acd_laws.proofs.States.{null_is}
@@ -36,30 +37,14 @@ same_agent : (s : Rows) (a b : AgentRecord) → Rules s → agent_of s a.agent �
 unfolding with_agent call_of connection_of group_of station_of
 same_agent s a b r there number rule seats ready busy pending =
     let counts : (p : AgentRecord → Bool) → count p (put_by (agent_order b) s.agents b) + one (p a) ≡ one (p b) + count p s.agents = λ p. count_agent p s b a r.orders.agents (rw number there) in
-    record {
-      orders = record {
-        groups = r.orders.groups;
-        stations = r.orders.stations;
-        monitors = r.orders.monitors;
-        calls = r.orders.calls;
-        connections = r.orders.connections;
-        agents = ascending-put agent_order agents_total b s.agents r.orders.agents;
-      };
-      kinds = r.kinds;
-      agents = every-put (agent_order b) (AgentRule s) b rule s.agents r.agents;
-      calls = r.calls;
-      connections = r.connections;
-      parties = r.parties;
-      one_open = r.one_open;
-      one_live = r.one_live;
-      no_hold = r.no_hold;
-      one_offer = r.one_offer;
+    with_agents (λ _. false) (λ _. false) s (put_by (agent_order b) s.agents b) r (λ d e. e) (record {
+      sorted = ascending-put agent_order agents_total b s.agents r.orders.agents;
+      rules = every-put (agent_order b) (AgentRule s) b rule s.agents r.agents;
       one_agent = λ d. let c = counts (seated_at d) in let o = seats d in omega (arith, c, o);
       ready = λ d _. let c = counts (ready_at d) in let o = ready d in omega (arith, c, o);
       busy = λ d _. let c = counts (busy_at d) in let o = busy d in let b = r.busy d refl in omega (arith, c, o, b);
       pending = λ d _. let c = counts (pending_at d) in let o = pending d in omega (arith, c, o);
-      free = r.free;
-    }
+    })
 
 -- at an occupied agent's station stands a distributed connection
 occupied_counts : (s : Rows) (a : AgentRecord) (d : ℕ) → is_occupied s a ≡ true → has a.station d ≡ true → 1 ≤ count (is_distributed_at d) s.connections

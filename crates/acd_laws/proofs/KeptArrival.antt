@@ -1,13 +1,12 @@
 -- The rules are kept by arriveCall.
 use Rattle.std.proofs.Common.{◌≡◌, ℕ, ◌+◌, ◌≤◌, inr, Bool, true, false, cond, Some, None, refl, sym, ◌∙◌, ap, subst, arith}
 use Rattle.std.specs.Prelude.{◌==◌, IsTrue, is_some}
-use Rattle.std.proofs.lemmas.Bool.{and_parts, eqb-true, false_from_ne_true, and_right, or_parts, or_right}
+use Rattle.std.proofs.lemmas.Bool.{and_parts, eqb-true, false_from_ne_true, or_parts, or_right}
 use Rattle.acd_laws.proofs.Types.{Rows, CallRecord, ConnectionRecord}
 use Rattle.acd_terms.specs.declared.state.ConnectionState.TheVariants as S
 use Rattle.acd_terms.specs.declared.moves.Change.TheVariants.{PutCall, PutConnection}
 use Rattle.acd_terms.specs.Lists.{count}
-use Rattle.acd_terms.specs.States.{is_alerting, is_live}
-use Rattle.acd_terms.specs.Scans.{group_of, station_of, call_of, connection_of, is_group, is_station, is_planned, is_idle}
+use Rattle.acd_terms.specs.Scans.{group_of, station_of, call_of, connection_of, is_group, is_station, is_planned}
 use Rattle.acd_terms.specs.Writes.{with_call, with_connection}
 use Rattle.acd_terms.specs.Moves.{changed}
 use Rattle.acd_terms.specs.CallMoves.{plain}
@@ -19,11 +18,8 @@ use Rattle.acd_laws.proofs.Lists.{one, ascending-put, every_among, every_from, e
 use Rattle.acd_laws.proofs.Keyed.{eqb_self}
 use Rattle.acd_laws.proofs.State.{calls_total, connections_total, call_put, put_other}
 use Rattle.acd_laws.proofs.Found.{count_new, none_above, no_call_above, none_of_call}
-use Rattle.acd_laws.proofs.Arriving.{Arrived, idle_counts, rule_same}
-
-pub one_le : (b : Bool) → one b ≤ 1
-one_le true = omega arith
-one_le false = omega arith
+use Rattle.acd_laws.proofs.Keeping.{arrived_live, arrived_hold, arrived_open}
+use Rattle.acd_laws.proofs.Arriving.{Arrived, rule_same}
 
 -- who was caller of a live call is so when one more call is put
 pub caller_stays : (s : Rows) (c : CallRecord) (n d : ℕ) → call_of s c.call ≡ None → IsCaller (call_of s n) d → IsCaller (cond (c.call == n) (Some c) (call_of s n)) d
@@ -83,32 +79,13 @@ begun s c y r number outside inside a =
                 let f : one (y.call == n) ≡ 0 = rw (a.call, q) refl in let g : one (c.call == n) ≡ 0 = rw q refl in omega (arith, e1, e2, p, i, f, g)
           ]) refl
           ∙ ap (λ o. two_if (is_some o)) (sym (calls n));
-      one_open = λ n.
-          let e = counts (open_of n) in let o = r.one_open n in
-          (elim (c.call == n) as (λ b. (c.call == n) ≡ b → count (open_of n) t.connections ≤ 1) [
-            | true ↦ λ q.
-                let z : count (parties_of n) s.connections ≡ 0 = subst (λ v. count (parties_of v) s.connections ≡ 0) (eqb-true c.call n q) zero in
-                let l = fewer (open_of n) (parties_of n) (λ w h. (and_parts (is_open w.state) (w.call == n) h).1) s.connections in
-                let b = one_le (open_of n y) in omega (arith, e, z, l, b)
-            | false ↦ λ q.
-                let f : one (open_of n y) ≡ 0 = ap one (and_right (is_open y.state) (y.call == n) (rw a.call q)) in omega (arith, e, o, f)
-          ]) refl;
-      one_live = λ d h.
-          let e = counts (live_at d) in let o = r.one_live d h in let g : one (c.caller == d) ≡ 0 = ap one (not_station s c.caller d outside h) in
-          (elim (live_at d y) as (λ b. live_at d y ≡ b → count (live_at d) t.connections ≤ 1) [
-            | true ↦ λ q. let k = and_parts (is_live y.state) (y.device == d) q in
-                let z = (idle_counts s d (subst (λ v. is_idle s v ≡ true) (sym a.device ∙ eqb-true y.device d k.1) (a.idle k.0))).0 in
-                let f : one (live_at d y) ≤ 1 = one_le (live_at d y) in omega (arith, e, g, z, f)
-            | false ↦ λ q. let f : one (live_at d y) ≡ 0 = ap one q in omega (arith, e, o, g, f)
-          ]) refl;
-      no_hold = λ d h l.
-          let e = counts (alerting_at d) in let e2 = counts (hold_at d) in
-          let i : one (hold_at d y) ≡ 0 = rw a.not_hold refl in
-          (elim (alerting_at d y) as (λ b. alerting_at d y ≡ b → count (hold_at d) t.connections ≡ 0) [
-            | true ↦ λ q. let k = and_parts (is_alerting y.state) (y.device == d) q in
-                let z = (idle_counts s d (subst (λ v. is_idle s v ≡ true) (sym a.device ∙ eqb-true y.device d k.1) (a.alerting_idle k.0))).2 in omega (arith, e2, i, z)
-            | false ↦ λ q. let f : one (alerting_at d y) ≡ 0 = ap one q in let z = r.no_hold d h (omega (arith, e, f, l)) in omega (arith, e2, i, z)
-          ]) refl;
+      one_open = λ n. let e = counts (open_of n) in
+          let l = fewer (open_of c.call) (parties_of c.call) (λ w h. (and_parts (is_open w.state) (w.call == c.call) h).1) s.connections in
+          let o = arrived_open s c.call c.called n y false a (r.one_open n) (omega (arith, zero, l)) in omega (arith, e, o);
+      one_live = λ d h. let e = counts (live_at d) in let g : one (c.caller == d) ≡ 0 = ap one (not_station s c.caller d outside h) in
+          let o = arrived_live s c.call c.called d y a (r.one_live d h) in omega (arith, e, g, o);
+      no_hold = λ d h l. let e = counts (alerting_at d) in let e2 = counts (hold_at d) in let i : one (hold_at d y) ≡ 0 = rw a.not_hold refl in
+          let z = arrived_hold s c.call c.called d y a (r.no_hold d h) (omega (arith, e, l)) in omega (arith, e2, i, z);
       one_offer = λ d. let e = counts (is_distributed_at d) in let b = r.one_offer d in let f : one (is_distributed_at d y) ≡ 0 = rw a.not_distributed refl in omega (arith, e, b, f);
       one_agent = r.one_agent;
       ready = λ d _. let e = counts (ringing_at d) in let b = r.ready d refl in let f : one (ringing_at d y) ≡ 0 = rw a.not_ringing refl in omega (arith, e, b, f);

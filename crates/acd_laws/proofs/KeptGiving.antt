@@ -1,13 +1,13 @@
 -- The rules are kept by deflectCall and singleStepTransfer.
-use Rattle.std.proofs.Common.{◌≡◌, ℕ, ◌+◌, ◌≤◌, Bool, true, false, not, ◌&&◌, ◌||◌, Option, Some, None, refl, sym, ◌∙◌, ap, subst, arith, eq-eqb}
+use Rattle.std.proofs.Common.{◌≡◌, ℕ, ◌+◌, ◌≤◌, Bool, true, false, not, ◌&&◌, ◌||◌, Option, Some, None, refl, ap, arith, eq-eqb}
 use Rattle.std.specs.Prelude.{◌==◌, is_some}
-use Rattle.std.proofs.lemmas.Bool.{and_parts, and_from, eqb-true, false_from_ne_true, and_right, or_left}
+use Rattle.std.proofs.lemmas.Bool.{and_from, false_from_ne_true, or_left}
 use Rattle.acd_laws.proofs.Types.{Rows, ConnectionRecord, ConnectionState}
 use Rattle.acd_terms.specs.declared.state.ConnectionState.TheVariants as S
 use Rattle.acd_terms.specs.declared.moves.Change.TheVariants.{PutConnection, RemoveConnection}
 use Rattle.acd_terms.specs.Lists.{count, Among}
-use Rattle.acd_terms.specs.States.{is_initiated, is_alerting, is_connected, is_queued, is_answered, is_live}
-use Rattle.acd_terms.specs.Scans.{group_of, station_of, agent_of, call_of, connection_of, other_of, is_distributed, is_idle}
+use Rattle.acd_terms.specs.States.{is_initiated, is_alerting, is_connected, is_queued, is_answered}
+use Rattle.acd_terms.specs.Scans.{group_of, station_of, agent_of, call_of, connection_of, other_of, is_distributed}
 use Rattle.acd_terms.specs.Writes.{with_connection, without_connection}
 use Rattle.acd_terms.specs.Moves.{changed}
 use Rattle.acd_terms.specs.Release.{ending_of, release}
@@ -19,8 +19,8 @@ use Rattle.acd_laws.proofs.Lists.{one, ascending-put, ascending-remove, every-pu
 use Rattle.acd_laws.proofs.Keyed.{eqb_self}
 use Rattle.acd_laws.proofs.State.{connections_total, connection_among, still_none}
 use Rattle.acd_laws.proofs.Found.{count_new, count_less, connection_rule, other_among, other_device}
-use Rattle.acd_laws.proofs.Arriving.{Arrived, idle_counts}
-use Rattle.acd_laws.proofs.KeptArrival.{one_le}
+use Rattle.acd_laws.proofs.Arriving.{Arrived}
+use Rattle.acd_laws.proofs.Keeping.{with_connections, arrived_live, arrived_hold, arrived_open}
 use Rattle.acd_laws.proofs.KeptOffer.{talking_is}
 use Rattle.acd_laws.proofs.Releasing.{ends_by, after_release, loosen}
 use Rattle.acd_laws.proofs.KeptReturn.{and_not}
@@ -41,53 +41,24 @@ moved_on s m k x y d r ex a none_d not_initiated opens =
     let loose : ℕ → Bool = λ e. is_distributed x && (x.device == e) in
     let free : (e : ℕ) → loose e ≡ true → count (is_distributed_at e) v.connections ≡ 0 = λ e q. let c = counts (is_distributed_at e) in let b = r.one_offer e in
     let f : one (is_distributed_at e x) ≡ 1 = ap one q in let g : one (is_distributed_at e y) ≡ 0 = rw a.not_distributed refl in omega (arith, c, b, f, g) in
-    let rv : RulesBut loose v = record {
-      orders = record {
-        groups = r.orders.groups;
-        stations = r.orders.stations;
-        agents = r.orders.agents;
-        monitors = r.orders.monitors;
-        calls = r.orders.calls;
-        connections = ascending-put connection_order connections_total y u.connections (ascending-remove connection_order _ s.connections r.orders.connections);
-      };
-      kinds = r.kinds;
-      agents = r.agents;
-      calls = r.calls;
-      connections = every-put (connection_order y) (ConnectionRule s) y a.rule u.connections (every-remove _ (ConnectionRule s) s.connections r.connections);
+    let rv : RulesBut loose v = with_connections loose s v.connections r (record {
+      sorted = ascending-put connection_order connections_total y u.connections (ascending-remove connection_order _ s.connections r.orders.connections);
+      rules = every-put (connection_order y) (ConnectionRule s) y a.rule u.connections (every-remove _ (ConnectionRule s) s.connections r.connections);
       parties = λ n. let e1 = counts (parties_of n) in let e2 = counts (initiated_of n) in let p = r.parties n in
           let f : one (parties_of n y) ≡ one (parties_of n x) = rw a.call refl in let i : one (initiated_of n x) ≡ 0 = rw not_initiated refl in let j : one (initiated_of n y) ≡ 0 = rw a.not_initiated refl in omega (arith, e1, e2, p, f, i, j);
-      one_open = λ n. let c = counts (open_of n) in let o = r.one_open n in
-          (elim (x.call == n) as (λ b. (x.call == n) ≡ b → count (open_of n) v.connections ≤ 1) [
-            | true ↦ λ q. let z : count (open_of n) s.connections ≤ one (is_open x.state) = subst (λ w. count (open_of w) s.connections ≤ one (is_open x.state)) (eqb-true x.call n q) opens in
-                let f : one (open_of n x) ≡ one (is_open x.state) = rw q (ap one (and_true_is (is_open x.state))) in let g = one_le (open_of n y) in omega (arith, c, z, f, g)
-            | false ↦ λ q. let g : one (open_of n y) ≡ 0 = ap one (and_right (is_open y.state) (y.call == n) (rw a.call q)) in omega (arith, c, o, g)
-          ]) refl;
-      one_live = λ e h. let c = counts (live_at e) in let o = r.one_live e h in
-          (elim (live_at e y) as (λ b. live_at e y ≡ b → count (live_at e) v.connections ≤ 1) [
-            | true ↦ λ q. let w = and_parts (is_live y.state) (y.device == e) q in
-                let z = (idle_counts s e (subst (λ t. is_idle s t ≡ true) (sym a.device ∙ eqb-true y.device e w.1) (a.idle w.0))).0 in let g = one_le (live_at e y) in omega (arith, c, z, g)
-            | false ↦ λ q. let g : one (live_at e y) ≡ 0 = ap one q in omega (arith, c, o, g)
-          ]) refl;
+      one_open = λ n. let c = counts (open_of n) in let o = arrived_open s x.call d n y (is_open x.state) a (r.one_open n) opens in omega (arith, c, o);
+      one_live = λ e h. let c = counts (live_at e) in let o = arrived_live s x.call d e y a (r.one_live e h) in omega (arith, c, o);
       no_hold = λ e h l. let c = counts (alerting_at e) in let ch = counts (hold_at e) in let i : one (hold_at e y) ≡ 0 = rw a.not_hold refl in
-          (elim (alerting_at e y) as (λ b. alerting_at e y ≡ b → count (hold_at e) v.connections ≡ 0) [
-            | true ↦ λ q. let w = and_parts (is_alerting y.state) (y.device == e) q in
-                let z = (idle_counts s e (subst (λ t. is_idle s t ≡ true) (sym a.device ∙ eqb-true y.device e w.1) (a.alerting_idle w.0))).2 in omega (arith, ch, i, z)
-            | false ↦ λ q. let g : one (alerting_at e y) ≡ 0 = ap one q in let z = r.no_hold e h (omega (arith, c, g, l)) in omega (arith, ch, i, z)
-          ]) refl;
+          let z = arrived_hold s x.call d e y a (r.no_hold e h) (omega (arith, c, l)) in omega (arith, ch, i, z);
       one_offer = λ e. let c = counts (is_distributed_at e) in let o = r.one_offer e in let g : one (is_distributed_at e y) ≡ 0 = rw a.not_distributed refl in omega (arith, c, o, g);
-      one_agent = r.one_agent;
       ready = λ e _. let c = counts (ringing_at e) in let o = r.ready e refl in let g : one (ringing_at e y) ≡ 0 = rw a.not_ringing refl in omega (arith, c, o, g);
       busy = λ e q. let c = counts (talking_at e) in let o = r.busy e refl in let g : one (talking_at e y) ≡ 0 = rw a.not_answered refl in
           let f : one (talking_at e x) ≡ 0 = ap one (false_from_ne_true (talking_at e x) (λ w. cc (talking_is e x w, q))) in omega (arith, c, o, f, g);
       pending = λ e q. let c = counts (is_distributed_at e) in let o = r.pending e refl in let g : one (is_distributed_at e y) ≡ 0 = rw a.not_distributed refl in let f : one (is_distributed_at e x) ≡ 0 = ap one q in omega (arith, c, o, f, g);
       free = free;
-    } in
+    }) in
     loosen (λ e. loose e && not (loose e)) (λ _. false) _ (λ e q. absurd (cc (q))) (λ e q. and_not (loose e))
     (after_release loose s v x (ending_of x) m k rv (λ a h. h.there) r among (λ d. free x.device (and_from _ _ d (eqb_self x.device))) (ends_by s x (connection_rule s r x.call x.device x ex)))
-  where
-    and_true_is : (b : Bool) → (b && true) ≡ b
-    and_true_is true = refl
-    and_true_is false = refl
 
 pub open_cases : (st : ConnectionState) → (is_alerting st || is_queued st) ≡ true → (is_initiated st ≡ false) × (is_open st ≡ true)
 open_cases S.Alerting e = (refl, refl)

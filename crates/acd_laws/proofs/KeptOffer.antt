@@ -20,7 +20,7 @@ use Rattle.acd_laws.proofs.Keyed.{eqb_self}
 use Rattle.acd_laws.proofs.State.{connections_total, found_key, connection_among, still_none}
 use Rattle.acd_laws.proofs.Found.{count_new, count_less, connection_rule}
 use Rattle.acd_laws.proofs.Arriving.{idle_counts}
-use Rattle.acd_laws.proofs.KeptArrival.{one_le}
+use Rattle.acd_laws.proofs.Keeping.{with_connections, one_le, most_one}
 use Rattle.acd_terms.specs.Distribution.{offer_at}
 use Rattle.acd_laws.proofs.States.{queued_is, ready_is}
 
@@ -104,39 +104,19 @@ kept_offer s x a d m r ex q among ready station free idle =
     let e2 = count_less p s x.call x.device x ex in omega (arith, e1, e2) in
     let zero = unoccupied s a d station free in
     let nobody = idle_counts s d idle in
-    record {
-      orders = record {
-        groups = r.orders.groups;
-        stations = r.orders.stations;
-        agents = r.orders.agents;
-        monitors = r.orders.monitors;
-        calls = r.orders.calls;
-        connections = ascending-put connection_order connections_total y u.connections (ascending-remove connection_order _ s.connections r.orders.connections);
-      };
-      kinds = r.kinds;
-      agents = r.agents;
-      calls = r.calls;
-      connections = every-put (connection_order y) (ConnectionRule s) y (offered_rule s x d m rule q at_d) u.connections (every-remove _ (ConnectionRule s) s.connections r.connections);
+    with_connections (λ _. false) s t.connections r (record {
+      sorted = ascending-put connection_order connections_total y u.connections (ascending-remove connection_order _ s.connections r.orders.connections);
+      rules = every-put (connection_order y) (ConnectionRule s) y (offered_rule s x d m rule q at_d) u.connections (every-remove _ (ConnectionRule s) s.connections r.connections);
       parties = λ n. let e1 = counts (parties_of n) in let e2 = counts (initiated_of n) in let p = r.parties n in let i : one (initiated_of n x) ≡ 0 = rw xs refl in omega (arith, e1, e2, p, i);
       one_open = λ n. let e = counts (open_of n) in let o = r.one_open n in let f : one (open_of n x) ≡ one (x.call == n) = rw xs refl in omega (arith, e, o, f);
-      one_live = λ e h. let c = counts (live_at e) in let f : one (live_at e x) ≡ 0 = rw xs refl in let o = r.one_live e h in
-          (elim (d == e) as (λ b. (d == e) ≡ b → count (live_at e) t.connections ≤ 1) [
-            | true ↦ λ v. let z : count (live_at e) s.connections ≡ 0 = subst (λ w. count (live_at w) s.connections ≡ 0) (eqb-true d e v) nobody.0 in
-                let g : one (live_at e y) ≡ 1 = ap one v in omega (arith, c, f, g, z)
-            | false ↦ λ v. let g : one (live_at e y) ≡ 0 = ap one v in omega (arith, c, f, g, o)
-          ]) refl;
+      one_live = λ e h. let c = counts (live_at e) in let f : one (live_at e x) ≡ 0 = rw xs refl in let o = most_one live_at s.connections d e nobody.0 (r.one_live e h) in omega (arith, c, f, o);
       no_hold = λ e h l. let c = counts (alerting_at e) in let ch = counts (hold_at e) in let f : one (alerting_at e x) ≡ 0 = rw xs refl in let fh : one (hold_at e x) ≡ 0 = rw xs refl in
           (elim (d == e) as (λ b. (d == e) ≡ b → count (hold_at e) t.connections ≡ 0) [
             | true ↦ λ v. let z : count (hold_at e) s.connections ≡ 0 = subst (λ w. count (hold_at w) s.connections ≡ 0) (eqb-true d e v) nobody.2 in omega (arith, ch, fh, z)
             | false ↦ λ v. let g : one (alerting_at e y) ≡ 0 = ap one v in let o = r.no_hold e h (omega (arith, c, f, g, l)) in omega (arith, ch, fh, o)
           ]) refl;
-      one_offer = λ e. let c = counts (is_distributed_at e) in let o = r.one_offer e in
-          (elim (d == e) as (λ b. (d == e) ≡ b → count (is_distributed_at e) t.connections ≤ 1) [
-            | true ↦ λ v. let z : count (is_distributed_at e) s.connections ≡ 0 = subst (λ w. count (is_distributed_at w) s.connections ≡ 0) (eqb-true d e v) zero in
-                let g = one_le (is_distributed_at e y) in omega (arith, c, g, z)
-            | false ↦ λ v. let g : one (is_distributed_at e y) ≡ 0 = ap one (and_right (is_distributed y) (d == e) v) in omega (arith, c, g, o)
-          ]) refl;
-      one_agent = r.one_agent;
+      one_offer = λ e. let c = counts (is_distributed_at e) in let f : one (is_distributed_at e x) ≡ 0 = ap one (and_left (is_distributed x) (x.device == e) (rw xs (and_right (is_some x.group) false refl))) in
+          let g : one (is_distributed_at e y) ≤ one (d == e) = one_and (is_distributed y) (d == e) in let o = most_one is_distributed_at s.connections d e zero (r.one_offer e) in omega (arith, c, f, g, o);
       ready = λ e _. let c = counts (ringing_at e) in let o = r.ready e refl in let f : one (ringing_at e x) ≡ 0 = rw xs refl in
           (elim (d == e) as (λ b. (d == e) ≡ b → count (ringing_at e) t.connections ≤ count (ready_at e) s.agents) [
             | true ↦ λ v. let z : count (is_distributed_at e) s.connections ≡ 0 = subst (λ w. count (is_distributed_at w) s.connections ≡ 0) (eqb-true d e v) zero in
@@ -148,4 +128,8 @@ kept_offer s x a d m r ex q among ready station free idle =
       busy = λ e _. let c = counts (talking_at e) in let b = r.busy e refl in let f : one (talking_at e x) ≡ 0 = rw xs refl in omega (arith, c, b, f);
       pending = λ e _. let c = counts (is_distributed_at e) in let o = r.pending e refl in let f : one (is_distributed_at e x) ≡ 0 = ap one (and_left (is_distributed x) (x.device == e) (rw xs (and_right (is_some x.group) false refl))) in omega (arith, c, o, f);
       free = λ e v. absurd (cc (v));
-    }
+    })
+  where
+    one_and : (b c : Bool) → one (b && c) ≤ one c
+    one_and true c = omega arith
+    one_and false c = omega arith

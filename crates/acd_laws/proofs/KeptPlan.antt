@@ -15,6 +15,7 @@ use Rattle.acd_terms.specs.Moves.{changed}
 use Rattle.acd_terms.specs.Rules.Plan.{group_order, station_order, agent_order, monitor_order}
 use Rattle.acd_laws.proofs.Facts.{Rules, IsPlannedStation, IsPlannedGroup, SeatedAs, AgentRule, CallRule, GroupColumn, IsCaller, StandsAt, ConnectionRule, seated_at, ready_at, busy_at, pending_at}
 use Rattle.acd_laws.proofs.Lists.{one, any_some, ascending-put, ascending-remove, count-put_new, every_among, every_from, every-put, count_zero}
+use Rattle.acd_laws.proofs.Keeping.{with_agents}
 use Rattle.acd_laws.proofs.Keyed.{cmp_equal}
 use Rattle.acd_laws.proofs.State.{groups_total, stations_total, agents_total, monitors_total, agent_find, group_put, station_put, call_among}
 use Rattle.acd_terms.specs.Services.Plan.{is_used, new_agent}
@@ -139,23 +140,14 @@ kept_new_agent s m k agent name r none =
     let b : AgentRecord = new_agent m k agent name in
     let counts : (p : AgentRecord → Bool) → count p (put_by (agent_order b) s.agents b) ≡ one (p b) + count p s.agents = λ p.
     count-put_new agent_order (λ (y : AgentRecord). y.agent == agent) p b (λ y q. eq-eqb y.agent agent (sym (cmp_equal agent y.agent q))) s.agents (sym (agent_find s agent) ∙ none) in
-    record {
-      orders = record { agents = ascending-put agent_order agents_total b s.agents r.orders.agents; groups = r.orders.groups; stations = r.orders.stations; monitors = r.orders.monitors; calls = r.orders.calls; connections = r.orders.connections };
-      kinds = r.kinds;
-      agents = every-put (agent_order b) (AgentRule s) b (refl, refl, refl) s.agents r.agents;
-      calls = r.calls;
-      connections = r.connections;
-      parties = r.parties;
-      one_open = r.one_open;
-      one_live = r.one_live;
-      no_hold = r.no_hold;
-      one_offer = r.one_offer;
+    with_agents (λ _. false) (λ _. false) s (put_by (agent_order b) s.agents b) r (λ d e. e) (record {
+      sorted = ascending-put agent_order agents_total b s.agents r.orders.agents;
+      rules = every-put (agent_order b) (AgentRule s) b (refl, refl, refl) s.agents r.agents;
       one_agent = λ d. let c = counts (seated_at d) in let o = r.one_agent d in omega (arith, c, o);
       ready = λ d q. let c = counts (ready_at d) in let o = r.ready d q in omega (arith, c, o);
       busy = λ d q. let c = counts (busy_at d) in let o = r.busy d q in omega (arith, c, o);
       pending = λ d q. let c = counts (pending_at d) in let o = r.pending d q in omega (arith, c, o);
-      free = r.free;
-    }
+    })
 
 -- the monitors may change
 pub with_monitors : (s : Rows) (ws : List MonitorRecord) (n : ℕ) → Rules s → IsAscending monitor_order ws → Rules (record s { monitors = ws; last_monitor = n })

@@ -21,6 +21,7 @@ use Rattle.acd_laws.proofs.Keyed.{eqb_self}
 use Rattle.acd_laws.proofs.State.{connections_total, found_key, connection_among, still_none}
 use Rattle.acd_laws.proofs.Found.{count_new, count_less, connection_rule}
 use Rattle.acd_laws.proofs.States.{alerting_is}
+use Rattle.acd_laws.proofs.Keeping.{with_connections}
 use Rattle.acd_laws.proofs.Releasing.{after_release, loosen}
 use Rattle.acd_terms.specs.Tick.{return_to}
 
@@ -73,30 +74,19 @@ kept_return_to s m k g x r ex alerting group =
     let c = counts (is_distributed_at x.device) in let o = r.one_offer x.device in
     let f : one (is_distributed_at x.device x) ≡ 1 = ap one (and_from _ _ dist (eqb_self x.device)) in omega (arith, c, o, f) in
     let loose : ℕ → Bool = λ e. is_distributed x && (x.device == e) in
-    let rv : RulesBut loose v = record {
-      orders = record {
-        groups = r.orders.groups;
-        stations = r.orders.stations;
-        agents = r.orders.agents;
-        monitors = r.orders.monitors;
-        calls = r.orders.calls;
-        connections = ascending-put connection_order connections_total y u.connections (ascending-remove connection_order _ s.connections r.orders.connections);
-      };
-      kinds = r.kinds;
-      agents = r.agents;
-      calls = r.calls;
-      connections = every-put (connection_order y) (ConnectionRule s) y (record { group = refl; place = columns.place; queued = columns.queued; offered = refl }, at_g, at_g) u.connections (every-remove _ (ConnectionRule s) s.connections r.connections);
+    let rv : RulesBut loose v = with_connections loose s v.connections r (record {
+      sorted = ascending-put connection_order connections_total y u.connections (ascending-remove connection_order _ s.connections r.orders.connections);
+      rules = every-put (connection_order y) (ConnectionRule s) y (record { group = refl; place = columns.place; queued = columns.queued; offered = refl }, at_g, at_g) u.connections (every-remove _ (ConnectionRule s) s.connections r.connections);
       parties = λ n. let e1 = counts (parties_of n) in let e2 = counts (initiated_of n) in let p = r.parties n in let i : one (initiated_of n x) ≡ 0 = rw xs refl in omega (arith, e1, e2, p, i);
       one_open = λ n. let e = counts (open_of n) in let o = r.one_open n in let f : one (open_of n x) ≡ one (x.call == n) = rw xs refl in omega (arith, e, o, f);
       one_live = λ e h. let c = counts (live_at e) in let o = r.one_live e h in omega (arith, c, o);
       no_hold = λ e h l. let c = counts (alerting_at e) in let ch = counts (hold_at e) in let fh : one (hold_at e x) ≡ 0 = rw xs refl in
           let o = r.no_hold e h (omega (arith, c, l)) in omega (arith, ch, fh, o);
       one_offer = λ e. let c = counts (is_distributed_at e) in let o = r.one_offer e in omega (arith, c, o);
-      one_agent = r.one_agent;
       ready = λ e _. let c = counts (ringing_at e) in let o = r.ready e refl in omega (arith, c, o);
       busy = λ e _. let c = counts (talking_at e) in let o = r.busy e refl in let f : one (talking_at e x) ≡ 0 = rw xs refl in omega (arith, c, o, f);
       pending = λ e h. let c = counts (is_distributed_at e) in let o = r.pending e refl in let f : one (is_distributed_at e x) ≡ 0 = ap one h in omega (arith, c, o, f);
       free = λ e h. subst (λ d. count (is_distributed_at d) v.connections ≡ 0) (eqb-true x.device e (and_parts (is_distributed x) (x.device == e) h).1) vacant;
-    } in
+    }) in
     loosen (λ e. loose e && not (loose e)) (λ _. false) _ (λ e q. absurd (cc (q))) (λ e q. and_not (loose e))
     (after_release loose s v x NoAnswer m k rv (λ a h. h.there) r among (λ _. vacant) (record { stays = λ _ w q. alerting }))

@@ -1,7 +1,7 @@
 -- The rules are kept by answerCall, holdCall and retrieveCall.
 use Rattle.std.proofs.Common.{◌≡◌, ℕ, ◌+◌, ◌≤◌, inl, Bool, true, false, not, ◌&&◌, cond, List, [], ◌∷◌, Option, Some, None, refl, ap, subst, arith}
 use Rattle.std.specs.Prelude.{◌==◌, IsTrue, is_some}
-use Rattle.std.proofs.lemmas.Bool.{and_parts, and_from, eqb-true, false_from_ne_true}
+use Rattle.std.proofs.lemmas.Bool.{and_parts, and_from, false_from_ne_true}
 use Rattle.acd_laws.proofs.Types.{Rows, AgentRecord, ConnectionRecord, ConnectionState}
 use Rattle.acd_terms.specs.declared.state.AgentState.TheVariants as A
 use Rattle.acd_terms.specs.declared.state.ConnectionState.TheVariants as S
@@ -20,7 +20,7 @@ use Rattle.acd_terms.specs.OneOffer.{is_distributed_at}
 use Rattle.acd_laws.proofs.Lists.{one, ascending-put, every-put, counted, none_counted, fewer, both_fewer}
 use Rattle.acd_laws.proofs.State.{agents_total, connections_total, connection_among}
 use Rattle.acd_laws.proofs.Found.{count_old, count_agent, connection_rule}
-use Rattle.acd_laws.proofs.KeptArrival.{one_le}
+use Rattle.acd_laws.proofs.Keeping.{with_connections, most_one}
 use Rattle.acd_laws.proofs.KeptOffer.{ringing_is}
 use Rattle.acd_laws.proofs.States.{alerting_is, ready_is, connected_is, hold_is}
 use Rattle.acd_laws.proofs.Releasing.{Serves, serving}
@@ -117,31 +117,20 @@ turned s x y r ex yc yd rule ax ay yg one_live no_hold =
     let counts : (p : ConnectionRecord → Bool) → count p (put_by (connection_order y) s.connections y) + one (p x) ≡ one (p y) + count p s.connections = λ p. count_old p s y x r.orders.connections same in
     let none : (st : ConnectionState) → is_answered st ≡ true → (is_initiated st ≡ false) × (is_open st ≡ false) × (is_alerting st ≡ false) × (is_queued st ≡ false) = answered_only in
     let nx = none x.state ax in let ny = none y.state ay in
-    record {
-      orders = record {
-        groups = r.orders.groups;
-        stations = r.orders.stations;
-        agents = r.orders.agents;
-        monitors = r.orders.monitors;
-        calls = r.orders.calls;
-        connections = ascending-put connection_order connections_total y s.connections r.orders.connections;
-      };
-      kinds = r.kinds;
-      agents = r.agents;
-      calls = r.calls;
-      connections = every-put (connection_order y) (ConnectionRule s) y rule s.connections r.connections;
+    with_connections (λ _. false) s (put_by (connection_order y) s.connections y) r (record {
+      sorted = ascending-put connection_order connections_total y s.connections r.orders.connections;
+      rules = every-put (connection_order y) (ConnectionRule s) y rule s.connections r.connections;
       parties = λ n. let e1 = counts (parties_of n) in let e2 = counts (initiated_of n) in let p = r.parties n in
           let i : one (initiated_of n x) ≡ 0 = rw nx.0 refl in let j : one (initiated_of n y) ≡ 0 = rw ny.0 refl in let c : one (parties_of n y) ≡ one (parties_of n x) = rw yc refl in omega (arith, e1, e2, p, i, j, c);
       one_open = λ n. let e = counts (open_of n) in let o = r.one_open n in let i : one (open_of n y) ≡ 0 = rw ny.1 refl in omega (arith, e, o, i);
       one_live = one_live;
       no_hold = λ d h l. let c = counts (alerting_at d) in let i : one (alerting_at d y) ≡ 0 = rw ny.2 refl in no_hold d h (omega (arith, c, i, l));
       one_offer = λ d. let c = counts (is_distributed_at d) in let o = r.one_offer d in let i : one (is_distributed_at d y) ≡ one (is_distributed_at d x) = rw (yd, yg, ny.3, nx.3) refl in omega (arith, c, o, i);
-      one_agent = r.one_agent;
       ready = λ d _. let c = counts (ringing_at d) in let o = r.ready d refl in let i : one (ringing_at d y) ≡ 0 = rw ny.2 refl in omega (arith, c, o, i);
       busy = λ d _. let c = counts (talking_at d) in let o = r.busy d refl in let i : one (talking_at d y) ≡ one (talking_at d x) = rw (yd, yg, ax, ay) refl in omega (arith, c, o, i);
       pending = λ d _. let c = counts (is_distributed_at d) in let o = r.pending d refl in let i : one (is_distributed_at d y) ≡ one (is_distributed_at d x) = rw (yd, yg, ny.3, nx.3) refl in omega (arith, c, o, i);
       free = λ d h. absurd (cc (h));
-    }
+    })
   where
     answered_only : (st : ConnectionState) → is_answered st ≡ true → (is_initiated st ≡ false) × (is_open st ≡ false) × (is_alerting st ≡ false) × (is_queued st ≡ false)
     answered_only S.Connected e = (refl, refl, refl, refl)
@@ -196,10 +185,5 @@ kept_retrieve s x r ex holds free =
     let station : IsTrue (is_station s x.device) = subst (StandsAt s x) xs rule.2 in
     let counts : (p : ConnectionRecord → Bool) → count p (put_by (connection_order y) s.connections y) + one (p x) ≡ one (p y) + count p s.connections = λ p. count_old p s y x r.orders.connections ex in
     turned s x y r ex refl refl (record { place = b.place; queued = b.queued; offered = b.offered }, rule.1, inl station) (rw xs refl) refl refl
-    (λ d h. let c = counts (live_at d) in
-    (elim (x.device == d) as (λ v. (x.device == d) ≡ v → count (live_at d) (put_by (connection_order y) s.connections y) ≤ 1) [
-      | true ↦ λ e. let z : count (live_at d) s.connections ≡ 0 = subst (λ w. count (live_at w) s.connections ≡ 0) (eqb-true x.device d e) (no_live s x.device free) in
-          let g = one_le (live_at d y) in omega (arith, c, z, g)
-      | false ↦ λ e. let o = r.one_live d h in let g : one (live_at d y) ≡ 0 = ap one e in omega (arith, c, o, g)
-    ]) refl)
+    (λ d h. let c = counts (live_at d) in let o = most_one live_at s.connections x.device d (no_live s x.device free) (r.one_live d h) in omega (arith, c, o))
     (λ d h l. let c = counts (hold_at d) in let o = r.no_hold d h l in omega (arith, c, o))

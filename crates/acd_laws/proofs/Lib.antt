@@ -14,6 +14,7 @@ pub mod Found
 pub mod AgentMoves
 pub mod Arrivals
 pub mod Arriving
+pub mod Keeping
 pub mod KeptArrival
 pub mod KeptOffer
 pub mod Releasing

@@ -1,7 +1,7 @@
 -- A release keeps the rules.
 use Rattle.std.proofs.Common.{◌≡◌, ℕ, ◌+◌, ◌≤◌, ◌⊎◌, inl, inr, Bool, true, false, not, ◌&&◌, cond, Option, Some, None, refl, sym, ◌∙◌, ap, subst, arith}
 use Rattle.std.specs.Prelude.{◌==◌, is_some}
-use Rattle.std.proofs.lemmas.Bool.{and_parts, and_from, eqb-true, false_from_ne_true, and_right, and_cases, cond-false}
+use Rattle.std.proofs.lemmas.Bool.{and_parts, and_from, eqb-true, false_from_ne_true, and_right, and_cases}
 use Rattle.acd_laws.proofs.Types.{Rows, AgentRecord, ConnectionRecord, ConnectionState, AgentState, Pending, Ending, Release}
 use Rattle.acd_terms.specs.declared.state.AgentState.TheVariants as A
 use Rattle.acd_terms.specs.declared.state.Pending.TheVariants as W
@@ -21,8 +21,10 @@ use Rattle.acd_laws.proofs.Facts.{RulesBut, Rules, IsPlannedStation, IsPlannedGr
 use Rattle.acd_terms.specs.OneOffer.{is_distributed_at}
 use Rattle.acd_laws.proofs.Lists.{one, ascending-put, every_among, every-put, among-put, counted, fewer, both_fewer, the_one, some_counted, some_from}
 use Rattle.acd_laws.proofs.Keyed.{eqb_self}
-use Rattle.acd_laws.proofs.State.{agents_total, agent_put, agent_among}
+use Rattle.acd_laws.proofs.State.{agents_total, agent_among}
 use Rattle.acd_laws.proofs.Found.{count_agent, agent_seat, agent_there}
+use Rattle.acd_laws.proofs.AgentMoves.{releases, agent_others}
+use Rattle.acd_laws.proofs.Keeping.{with_agents}
 use Rattle.acd_laws.proofs.KeptOffer.{ringing_is, talking_is}
 use Rattle.acd_laws.proofs.States.{ready_is}
 
@@ -132,24 +134,9 @@ left_keeps loose v a b d r there station vacant l =
       | false ↦ λ q. let g : one (seated_at e b) ≡ 0 = ap one q in
           let f = fewer (pending_at e) (seated_at e) (λ z w. (and_parts (is_some z.pending) (has z.station e) w).1) (put_by (agent_order b) v.agents b) in omega (arith, c, o, here, g, f)
     ]) refl in
-    record {
-      orders = record {
-        groups = r.orders.groups;
-        stations = r.orders.stations;
-        monitors = r.orders.monitors;
-        calls = r.orders.calls;
-        connections = r.orders.connections;
-        agents = ascending-put agent_order agents_total b v.agents r.orders.agents;
-      };
-      kinds = r.kinds;
-      agents = every-put (agent_order b) (AgentRule v) b l.rule v.agents r.agents;
-      calls = r.calls;
-      connections = r.connections;
-      parties = r.parties;
-      one_open = r.one_open;
-      one_live = r.one_live;
-      no_hold = r.no_hold;
-      one_offer = r.one_offer;
+    with_agents loose (λ e. loose e && not (d == e)) v (put_by (agent_order b) v.agents b) r (λ e h. (and_parts (loose e) (not (d == e)) h).0) (record {
+      sorted = ascending-put agent_order agents_total b v.agents r.orders.agents;
+      rules = every-put (agent_order b) (AgentRule v) b l.rule v.agents r.agents;
       one_agent = one_left;
       ready = λ e h.
           (elim (d == e) as (λ x. (d == e) ≡ x → count (ringing_at e) v.connections ≤ count (ready_at e) (put_by (agent_order b) v.agents b)) [
@@ -173,8 +160,7 @@ left_keeps loose v a b d r there station vacant l =
                 let f : one (pending_at e a) ≡ 0 = ap one (and_right (is_some a.pending) (has a.station e) (elsewhere e q).0) in
                 let g : one (pending_at e b) ≡ 0 = ap one (and_right (is_some b.pending) (has b.station e) (elsewhere e q).1) in omega (arith, c, o, f, g)
           ]) refl;
-      free = λ e h. r.free e (and_parts (loose e) (not (d == e)) h).0;
-    }
+    })
 
 -- the agent of a distributed connection
 pub record Serves (s : Rows) (x : ConnectionRecord) (a : AgentRecord) : Type 0 where
@@ -191,10 +177,11 @@ alerting_or_answered s x rule e = cases x.state rule.0 (and_parts (is_some x.gro
   where
     cases : (st : ConnectionState) → HasColumns x st → is_some x.group ≡ true → not (is_queued st) ≡ true → (is_alerting st ≡ true) ⊎ (is_answered st ≡ true)
     cases S.Alerting c g q = inl refl
+    cases S.Connected c g q = inr refl
+    cases S.Hold c g q = inr refl
     cases S.Queued c g q = absurd (cc (q))
     cases S.Initiated c g q = absurd (cc (rw c.1 at g))
     cases S.Fail c g q = absurd (cc (rw c.1 at g))
-    cases _ c g q = inr refl
 
 pub serving : (s : Rows) (x : ConnectionRecord) → Rules s → Among x s.connections → is_distributed x ≡ true → (a : AgentRecord) × Serves s x a
 unfolding agent_at
@@ -297,18 +284,5 @@ ends_by s x rule = record {
 }
 
 -- a release leaves the agents of other numbers
-released_other : (t : Rows) (o : Option AgentRecord) (d : ℕ) (how : Ending) (m k n : ℕ) → ((a : AgentRecord) → o ≡ Some a → (a.agent == n) ≡ false) → agent_of (changed t (release_agent m k o d how).change) n ≡ agent_of t n
-released_other t None d how m k n h = refl
-released_other t (Some a) d how m k n h = by (release_of how a.pending)
-  where
-    by : (to : Release) → agent_of (changed t (released m k a d to).change) n ≡ agent_of t n
-    by Stays = agent_put t (record a { pending = None }) n ∙ cond-false (a.agent == n) _ _ (h a refl)
-    by (Goes st) = agent_put t (in_state st m k a) n ∙ cond-false (a.agent == n) _ _ (h a refl)
-
 pub release_other_kept : (s t : Rows) (x : ConnectionRecord) (how : Ending) (m k n : ℕ) → ((a : AgentRecord) → agent_at s x.device ≡ Some a → (a.agent == n) ≡ false) → agent_of (changed t (release s m k x how).change) n ≡ agent_of t n
-unfolding release
-release_other_kept s t x how m k n h =
-    elim (is_distributed x) as (λ b. agent_of (changed t (cond b (release_agent m k (agent_at s x.device) x.device how) no_move).change) n ≡ agent_of t n) [
-      | true ↦ released_other t (agent_at s x.device) x.device how m k n h
-      | false ↦ refl
-    ]
+release_other_kept s t x how m k n h = agent_others m k n t _ (releases (λ a. (a.agent == n) ≡ false) s m k x how h)
