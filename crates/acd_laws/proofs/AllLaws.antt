@@ -1,12 +1,13 @@
 -- All laws together: a step keeps them, and they hold of every run.
-use Rattle.acd_laws.specs.Counts.{Rules}
-use Rattle.acd_laws.specs.AllLaws.{LawsHold, StepKeepsLaws, RunKeepsLaws}
+use Rattle.acd_laws.proofs.Facts.{Rules}
+use Rattle.acd_laws.specs.AllLaws.{StepKeepsLaws, RunKeepsLaws}
 use Rattle.acd_laws.proofs.FiguresCounted.{step_keeps_figures, figures_kept}
 use Rattle.acd_laws.proofs.OneOffer.{step_keeps_one_offer, run_has_one_offer}
 use Rattle.acd_laws.proofs.PlacedRuns.{step_names_no_later_call, run_names_no_later_call, run_is_placed}
 use Rattle.acd_laws.proofs.PlacedOn.{step_keeps_places}
 use Rattle.acd_laws.proofs.WatchedRuns.{step_keeps_watched, step_balances, step_leaves_no_offer, run_is_watched, run_tells_no_more, run_is_balanced, run_leaves_no_offer}
-use Rattle.acd_laws.proofs.RulesAll.{rules_are_kept, step_keeps_rules, run_keeps_rules}
+use Rattle.acd_laws.proofs.DecidedAll.{rules_are_kept}
+use Rattle.acd_laws.proofs.RulesAll.{step_keeps_rules, run_keeps_rules}
 
 pub step_keeps_laws : StepKeepsLaws
 step_keeps_laws s events moment command left h =
@@ -19,7 +20,7 @@ step_keeps_laws s events moment command left h =
       one_offer = step_keeps_one_offer s moment command r;
       no_offer = step_leaves_no_offer s moment command r;
       balanced = step_balances s events moment command r h.balanced;
-      figures = step_keeps_figures s events moment command h.figures;
+      figures = step_keeps_figures s events moment command r h.figures;
       watched = w.0;
       no_more = w.1;
     }

@@ -2,15 +2,14 @@
 use Rattle.std.proofs.Common.{◌≡◌, ℕ, inl, inr, Bool, true, false, ◌&&◌, ◌||◌, Option, Some, None, refl, ◌∙◌, arith}
 use Rattle.std.specs.Prelude.{◌==◌, is_some}
 use Rattle.std.proofs.lemmas.Bool.{and_parts, and_from, not-true, or_right, or_left}
-use Rattle.acd_terms.specs.declared.rows.Rows.{Rows}
-use Rattle.acd_terms.specs.declared.record.ConnectionRecord.{ConnectionRecord}
-use Rattle.acd_terms.specs.declared.state.ConnectionState.{ConnectionState}
+use Rattle.acd_laws.proofs.Types.{Rows, ConnectionRecord, ConnectionState}
 use Rattle.acd_terms.specs.declared.state.ConnectionState.TheVariants as S
 use Rattle.acd_terms.specs.Lists.{count}
 use Rattle.acd_terms.specs.States.{is_initiated, is_alerting, is_hold, is_answered, is_live}
 use Rattle.acd_terms.specs.Scans.{call_of, is_group, is_station, is_planned, is_distributed, is_taken, is_idle}
 use Rattle.acd_terms.specs.CallMoves.{plain, met_at, destination_of, arriving}
-use Rattle.acd_laws.specs.Counts.{Bare, GroupColumn, IsCaller, StandsAt, ConnectionRule, live_at, alerting_at, held_at}
+use Rattle.acd_laws.proofs.Facts.{Bare, GroupColumn, IsCaller, StandsAt, ConnectionRule}
+use Rattle.acd_terms.specs.Rules.Calls.{live_at, alerting_at, hold_at}
 use Rattle.acd_laws.proofs.Lists.{none_counted, fewer}
 
 -- what stands at a destination
@@ -82,26 +81,24 @@ live_is_at : (d : ℕ) (x : ConnectionRecord) → live_at d x ≡ true → is_at
 unfolding is_at
 live_is_at d x e = let h = and_parts (is_live x.state) (x.device == d) e in and_from _ _ h.1 (or_left (is_live x.state) (is_hold x.state) h.0)
 
-held_is_at : (d : ℕ) (x : ConnectionRecord) → held_at d x ≡ true → is_at d x ≡ true
+held_is_at : (d : ℕ) (x : ConnectionRecord) → hold_at d x ≡ true → is_at d x ≡ true
 unfolding is_at
 held_is_at d x e = let h = and_parts (is_hold x.state) (x.device == d) e in and_from _ _ h.1 (or_right (is_live x.state) (is_hold x.state) h.0)
 
 alerting_live : (st : ConnectionState) → is_alerting st ≡ true → is_live st ≡ true
-alerting_live S.Alerting e = refl
-alerting_live S.Initiated e = refl
-alerting_live S.Connected e = refl
 alerting_live S.Hold e = absurd (cc (e))
 alerting_live S.Queued e = absurd (cc (e))
 alerting_live S.Fail e = absurd (cc (e))
+alerting_live _ e = refl
 
 pub alerting_is_live : (d : ℕ) (x : ConnectionRecord) → alerting_at d x ≡ true → live_at d x ≡ true
 alerting_is_live d x e = let h = and_parts (is_alerting x.state) (x.device == d) e in and_from _ _ (alerting_live x.state h.0) h.1
 
-pub idle_counts : (s : Rows) (d : ℕ) → is_idle s d ≡ true → (count (live_at d) s.connections ≡ 0) × (count (alerting_at d) s.connections ≡ 0) × (count (held_at d) s.connections ≡ 0)
+pub idle_counts : (s : Rows) (d : ℕ) → is_idle s d ≡ true → (count (live_at d) s.connections ≡ 0) × (count (alerting_at d) s.connections ≡ 0) × (count (hold_at d) s.connections ≡ 0)
 idle_counts s d e =
     let z = none_at s d e in
     let a = fewer (live_at d) (is_at d) (live_is_at d) s.connections in
-    let b = fewer (held_at d) (is_at d) (held_is_at d) s.connections in
+    let b = fewer (hold_at d) (is_at d) (held_is_at d) s.connections in
     let c = fewer (alerting_at d) (live_at d) (alerting_is_live d) s.connections in
     (omega (arith, z, a), omega (arith, z, a, c), omega (arith, z, b))
 
@@ -117,8 +114,6 @@ rule_same s t g h x f r = (r.0, group_same x.group r.1, stands_same x.state r.2)
     stands_same : (st : ConnectionState) → StandsAt s x st → StandsAt t x st
     stands_same S.Queued c = g x.device ∙ c
     stands_same S.Initiated c = (h x.device ∙ c.0, f c.1)
-    stands_same S.Alerting c = h x.device ∙ c
-    stands_same S.Hold c = h x.device ∙ c
-    stands_same S.Fail c = h x.device ∙ c
     stands_same S.Connected (inl c) = inl (h x.device ∙ c)
     stands_same S.Connected (inr c) = inr (rw (g x.device, h x.device) c.0, f c.1)
+    stands_same _ c = h x.device ∙ c

@@ -7,13 +7,9 @@ use Rattle.acd_terms.specs.Moves.{moved, with_event, events_of}
 use Rattle.acd_terms.specs.Figures.{is_entry, is_answer, is_abandonment, is_moving_away, figures_of}
 use Rattle.acd_terms.specs.Rules.Plan.{connection_order}
 use Rattle.acd_terms.specs.Rules.Occupied.{waits_in, rings_from}
-use Rattle.acd_terms.specs.declared.rows.Rows.{Rows}
-use Rattle.acd_terms.specs.declared.record.ConnectionRecord.{ConnectionRecord}
-use Rattle.acd_terms.specs.declared.event.Event.{Event}
-use Rattle.acd_terms.specs.declared.event.Report.{Report}
-use Rattle.acd_terms.specs.declared.moves.Move.{Move}
+use Rattle.acd_laws.proofs.Types.{Rows, ConnectionRecord, Event, Move, Report}
 use Rattle.acd_laws.proofs.Lists.{one}
-use Rattle.acd_laws.proofs.Serving.{moved-append}
+use Rattle.acd_terms.proofs.MoveLemmas.{moved_append}
 use Rattle.acd_laws.proofs.Found.{count_new, count_old, count_less}
 
 -- of a group: what waits in it and rings from it
@@ -106,7 +102,7 @@ pub balances-append : (s : Rows) (ms ns : List Move) → Balances s ms → Balan
 balances-append s ms ns h f g =
     let a = entries-append g ms ns in
     let b = leaves-append g ms ns in
-    let c : holding (moved s (ms ++ ns)) g ≡ holding (moved (moved s ms) ns) g = ap (λ t. holding t g) (moved-append s ms ns) in
+    let c : holding (moved s (ms ++ ns)) g ≡ holding (moved (moved s ms) ns) g = ap (λ t. holding t g) (moved_append s ms ns) in
     let d = h g in
     let e = f g in
     omega (arith, a, b, c, d, e)

@@ -1,47 +1,47 @@
--- Each service keeps its records, sizes and identifiers within bounds.
-use Rattle.std.proofs.Common.{◌≡◌, ℕ, ◌+◌, ◌≤◌, ◌⊎◌, inl, inr, true, false, List, [], ◌∷◌, refl, sym, ◌∙◌, ap, subst, arith, length}
-use Rattle.std.specs.Prelude.{◌==◌, nat_le}
-use Rattle.std.proofs.lemmas.Bool.{or_cases, or_parts, not-false, or_right, or_left}
-use Rattle.acd_terms.specs.declared.rows.Rows.{Rows}
-use Rattle.acd_terms.specs.declared.record.GroupRecord.{GroupRecord}
-use Rattle.acd_terms.specs.declared.record.StationRecord.{StationRecord}
-use Rattle.acd_terms.specs.declared.record.AgentRecord.{AgentRecord}
-use Rattle.acd_terms.specs.declared.record.CallRecord.{CallRecord}
-use Rattle.acd_terms.specs.declared.record.ConnectionRecord.{ConnectionRecord}
-use Rattle.acd_terms.specs.declared.record.MonitorRecord.{MonitorRecord}
+-- Each deed keeps its records, sizes and identifiers within bounds.
+use Rattle.std.proofs.Common.{◌≡◌, ℕ, ◌+◌, ◌≤◌, ◌⊎◌, inl, inr, Bool, true, false, List, [], ◌∷◌, Option, Some, None, refl, sym, ◌∙◌, ap, subst, arith, length}
+use Rattle.std.specs.Prelude.{◌==◌, is_some, nat_le}
+use Rattle.std.proofs.lemmas.Bool.{or_cases, or_parts, or_right, or_left, leb-false}
+use Rattle.acd_laws.proofs.Types.{Rows, GroupRecord, StationRecord, AgentRecord, CallRecord, ConnectionRecord, MonitorRecord, Cause, Move, Report}
+use Rattle.acd_terms.specs.declared.state.AgentState.TheVariants as A
 use Rattle.acd_terms.specs.declared.state.ConnectionState.TheVariants as S
-use Rattle.acd_terms.specs.declared.event.Cause.TheVariants as C
-use Rattle.acd_terms.specs.declared.moves.Move.{Move}
-use Rattle.acd_terms.specs.declared.moves.Change.{Change}
-use Rattle.acd_terms.specs.declared.moves.Change.TheVariants.{PutGroup, PutStation, PutAgent, PutCall, PutMonitor, RemoveMonitor}
-use Rattle.acd_terms.specs.Lists.{count, Among, Every, IsAscending}
-use Rattle.acd_terms.specs.Scans.{at_group, at_station, at_agent, at_call, at_monitor, group_of, station_of, is_group, is_station, is_planned, is_calling}
-use Rattle.acd_terms.specs.Writes.{with_group, with_station, with_agent, with_call, with_connection, with_monitor, without_monitor}
-use Rattle.acd_terms.specs.Moves.{silent, changed, moved}
-use Rattle.acd_terms.specs.CallMoves.{plain, begin, connect_caller, initiate, arrive}
-use Rattle.acd_terms.specs.Served.{moves_of}
+use Rattle.acd_terms.specs.declared.event.Cause.TheVariants.{NewCall, Deflected, Transferred}
+use Rattle.acd_terms.specs.declared.event.Report.TheVariants as report
+use Rattle.acd_terms.specs.declared.moves.Change.TheVariants.{Nothing, PutGroup, PutStation, PutAgent, PutCall, PutMonitor, RemoveCall, RemoveConnection, RemoveMonitor}
+use Rattle.acd_terms.specs.Lists.{Among, Every, IsAscending}
+use Rattle.acd_terms.specs.States.{state_wanted}
+use Rattle.acd_terms.specs.Scans.{at_group, at_station, at_agent, at_call, at_monitor, group_of, station_of, other_of, is_group, is_station, is_planned, is_calling}
+use Rattle.acd_terms.specs.Writes.{with_group, with_station, with_agent, with_call, with_monitor}
+use Rattle.acd_terms.specs.Moves.{silent, reported, moved}
+use Rattle.acd_terms.specs.CallMoves.{plain, connect_caller, initiate, arrive, talking, waited_by}
+use Rattle.acd_terms.specs.Release.{release, ending_of}
 use Rattle.acd_terms.specs.Rules.Plan.{agent_order}
-use Rattle.acd_laws.proofs.Lists.{every_among, every_from, every-put}
+use Rattle.acd_terms.specs.Services.{new_group, new_agent, next_call, cleared_group, clear_other, release_other, next_monitor}
+use Rattle.acd_laws.proofs.Facts.{Rules, Sizes, AgentTimed, ConnectionTimed, Timed, MonitorRule, Monitored}
+use Rattle.acd_laws.proofs.Lists.{every_among, every_from, every-put, among_put}
 use Rattle.acd_laws.proofs.State.{group_put, station_put}
-use Rattle.std.proofs.lemmas.Bool.{leb-false}
-use Rattle.acd_terms.specs.Services.{add_group, add_station, add_agent, new_group, new_agent, arrive_call, make_call, next_call, monitor_start, monitor_stop, next_monitor}
-use Rattle.acd_laws.specs.Bounds.{Sizes, AgentTimed, at_place, MonitorRule, Monitored}
-use Rattle.acd_laws.proofs.Serving.{by_refusal, by_found}
-use Rattle.acd_laws.proofs.Members.{among_put}
-use Rattle.acd_laws.proofs.Steady.{IsNew, Steadied, Settled, settled, settled_nothing, steadied, sizes_steadied, monitored_steadied, length-put}
-use Rattle.acd_laws.proofs.Orderly.{Fit, Orderly, orderly_nothing, timed_plain, fit_arrive, entry_most, places_put, places_arrive, steady_arrive}
+use Rattle.acd_laws.proofs.AgentMoves.{AgentMove, stays, waits as pends, Recorded, goes_from, releases_here, occupies_here}
+use Rattle.acd_laws.proofs.Balance.{entry_by}
+use Rattle.acd_laws.proofs.Deeds.{new_call, Deed, nothing, adds_group, adds_station, adds_agent, watches, unwatches, arrives, makes, goes_out, answers, holds, retrieves, clears, deflects, transfers, logs_on, waits, goes}
+use Rattle.acd_laws.proofs.Steady.{Steady, knows, AllSteady, IsNew, Steadied, Settled, settled, steadied, sizes_steadied, monitored_steadied, length-put}
+use Rattle.acd_laws.proofs.Orderly.{WaitsUpTo, Neat, Steps, done, neat, comes, neat_quiet, neat_silent, neat_agent, neat_remove, neat_put, neat_turned, timed_plain, comes_to, steady_agent, steady_arrive}
 
-abbrev pub Behaves : Rows → ℕ → ℕ → List Move → Type 0
-Behaves s k m ms = Orderly s k m ms × Settled s ms
+-- what holds before a step
+pub record Before (s : Rows) (k m : ℕ) : Type 0 where
+  pub rules : Rules s
+  pub timed : Timed k m s
+  pub stamp : 1 ≤ k
+  pub sizes : Sizes s
+  pub monitors : Monitored s
 
-pub behaves_nothing : (s : Rows) (k m : ℕ) → Behaves s k m []
-behaves_nothing s k m = (orderly_nothing s k m, settled_nothing s)
+-- what the moves of a service keep
+pub record Behaves (s : Rows) (k m : ℕ) (ms : List Move) : Type 0 where
+  pub comes : Bool
+  pub steps : Steps k m comes s ms
+  pub few : length ms ≤ 5
+  pub settled : Settled s ms
 
 -- a silent move of the plan or of a monitor
-
--- a move that changes no connection and reports nothing
-pub quiet : (s : Rows) (k m : ℕ) (c : Change) → Fit k m c → (changed s c).connections ≡ s.connections → Orderly s k m (silent c ∷ [])
-quiet s k m c f e = record { fit = (record { fit = f; waits = tt }, tt); entries = λ g. omega arith; places = λ p. (let h : count (at_place p) (changed s c).connections ≡ count (at_place p) s.connections = ap (count (at_place p)) e in omega (arith, h)); few = omega arith }
 
 sizes_group : (s : Rows) (g : GroupRecord) → nat_le s.limits.groups (length s.groups) ≡ false → Sizes s → Sizes (with_group s g)
 unfolding with_group
@@ -99,9 +99,11 @@ put_new s g z new (inr a) = inl a
 
 behaves_group : (s : Rows) (k m : ℕ) (g : GroupRecord) → nat_le s.limits.groups (length s.groups) ≡ false → IsNew s g → Behaves s k m (silent (PutGroup g) ∷ [])
 unfolding with_group
-behaves_group s k m g room new = (
-  quiet s k m (PutGroup g) tt refl,
-  record {
+behaves_group s k m g room new = record {
+  comes = false;
+  steps = neat (neat_silent (PutGroup g) tt tt) done;
+  few = omega arith;
+  settled = record {
     sizes = sizes_group s g room;
     monitors = monitored_more s (with_group s g) (planned_group s g) refl refl refl;
     groups = λ z a. put_new s g z new (among_put (at_group g.device) g s.groups z a);
@@ -109,61 +111,26 @@ behaves_group s k m g room new = (
     last_call = omega arith;
     last_monitor = omega arith;
     last_event = refl;
-  },
-)
+  };
+}
 
 behaves_station : (s : Rows) (k m : ℕ) (g : StationRecord) → nat_le s.limits.stations (length s.stations) ≡ false → Behaves s k m (silent (PutStation g) ∷ [])
 unfolding with_station
-behaves_station s k m g room = (
-  quiet s k m (PutStation g) tt refl,
-  record {
-    sizes = sizes_station s g room;
-    monitors = monitored_more s (with_station s g) (planned_station s g) refl refl refl;
-    groups = λ z a. inl a;
-    limits = refl;
-    last_call = omega arith;
-    last_monitor = omega arith;
-    last_event = refl;
-  },
-)
+behaves_station s k m g room = record {
+  comes = false;
+  steps = neat (neat_silent (PutStation g) tt tt) done;
+  few = omega arith;
+  settled = record { sizes = sizes_station s g room; monitors = monitored_more s (with_station s g) (planned_station s g) refl refl refl; groups = λ z a. inl a; limits = refl; last_call = omega arith; last_monitor = omega arith; last_event = refl };
+}
 
 behaves_agent : (s : Rows) (k m : ℕ) (g : AgentRecord) → nat_le s.limits.agents (length s.agents) ≡ false → AgentTimed k m g → Behaves s k m (silent (PutAgent g) ∷ [])
 unfolding with_agent group_of station_of
-behaves_agent s k m g room h = (
-  quiet s k m (PutAgent g) h refl,
-  record {
-    sizes = sizes_agent s g room;
-    monitors = monitored_more s (with_agent s g) (λ d e. e) refl refl refl;
-    groups = λ z a. inl a;
-    limits = refl;
-    last_call = omega arith;
-    last_monitor = omega arith;
-    last_event = refl;
-  },
-)
-
-pub behaves_add_group : (s : Rows) (k m device : ℕ) (name : List ℕ) (ring wrap : ℕ) → Behaves s k m (moves_of (add_group s device name ring wrap))
-unfolding add_group
-behaves_add_group s k m device name ring wrap =
-    by_refusal (λ v. Behaves s k m (moves_of v)) _ _ _ (λ _. behaves_nothing s k m) (λ free.
-    by_refusal (λ v. Behaves s k m (moves_of v)) _ _ _ (λ _. behaves_nothing s k m) (λ room.
-    behaves_group s k m (new_group device name ring wrap) room (refl, (or_parts (is_group s device) (is_station s device) (or_parts (is_planned s device) (is_calling s device) free).0).0)))
-
-pub behaves_add_station : (s : Rows) (k m device : ℕ) → Behaves s k m (moves_of (add_station s device))
-unfolding add_station
-behaves_add_station s k m device =
-    by_refusal (λ v. Behaves s k m (moves_of v)) _ _ _ (λ _. behaves_nothing s k m) (λ _.
-    by_refusal (λ v. Behaves s k m (moves_of v)) _ _ _ (λ _. behaves_nothing s k m) (λ room.
-    behaves_station s k m (record { device = device }) room))
-
-pub behaves_add_agent : (s : Rows) (k m agent : ℕ) (name : List ℕ) → 1 ≤ k → Behaves s k m (moves_of (add_agent s m k agent name))
-unfolding add_agent
-behaves_add_agent s k m agent name l =
-    by_refusal (λ v. Behaves s k m (moves_of v)) _ _ _ (λ _. behaves_nothing s k m) (λ _.
-    by_refusal (λ v. Behaves s k m (moves_of v)) _ _ _ (λ _. behaves_nothing s k m) (λ room.
-    behaves_agent s k m (new_agent m k agent name) room (record { above = l; stamp = omega arith; since = omega arith })))
-
--- monitors
+behaves_agent s k m g room h = record {
+  comes = false;
+  steps = neat (neat_silent (PutAgent g) h tt) done;
+  few = omega arith;
+  settled = record { sizes = sizes_agent s g room; monitors = monitored_more s (with_agent s g) (λ d e. e) refl refl refl; groups = λ z a. inl a; limits = refl; last_call = omega arith; last_monitor = omega arith; last_event = refl };
+}
 
 monitored_put : (s : Rows) (w : MonitorRecord) → is_planned s w.device ≡ true → w.after_event ≡ s.last_event → Monitored s → Monitored (with_monitor s w)
 unfolding with_monitor group_of station_of
@@ -173,23 +140,12 @@ monitored_put s w p e h = every-put (at_monitor w.monitor) (MonitorRule (with_mo
 behaves_monitor : (s : Rows) (k m : ℕ) (w : MonitorRecord) → nat_le s.limits.monitors (length s.monitors) ≡ false → is_planned s w.device ≡ true → w.after_event ≡ s.last_event → w.monitor ≡ s.last_monitor + 1
     → Behaves s k m (silent (PutMonitor w) ∷ [])
 unfolding with_monitor
-behaves_monitor s k m w room p e n = (quiet s k m (PutMonitor w) tt refl, record { sizes = sizes_monitor s w room; monitors = monitored_put s w p e; groups = λ z a. inl a; limits = refl; last_call = omega arith; last_monitor = omega (arith, n); last_event = refl })
-
-pub behaves_monitor_start : (s : Rows) (k m device : ℕ) → Behaves s k m (moves_of (monitor_start s device))
-unfolding monitor_start
-behaves_monitor_start s k m device =
-    by_refusal (λ v. Behaves s k m (moves_of v)) _ _ _ (λ _. behaves_nothing s k m) (λ known.
-    by_refusal (λ v. Behaves s k m (moves_of v)) _ _ _ (λ _. behaves_nothing s k m) (λ room.
-    behaves_monitor s k m (record { monitor = next_monitor s; device = device; after_event = s.last_event }) room (not-false (is_planned s device) known) refl refl))
-
-quiet_stop : (s : Rows) (k m n : ℕ) → Orderly s k m (silent (RemoveMonitor n) ∷ [])
-unfolding without_monitor
-quiet_stop s k m n = quiet s k m (RemoveMonitor n) tt refl
-
-pub behaves_monitor_stop : (s : Rows) (k m monitor : ℕ) → IsAscending agent_order s.agents → Behaves s k m (moves_of (monitor_stop s monitor))
-unfolding monitor_stop
-behaves_monitor_stop s k m monitor h =
-    by_found (λ v. Behaves s k m (moves_of v)) _ _ _ (λ _. behaves_nothing s k m) (λ w _. (quiet_stop s k m monitor, settled s (silent (RemoveMonitor monitor) ∷ []) h (tt, tt)))
+behaves_monitor s k m w room p e n = record {
+  comes = false;
+  steps = neat (neat_silent (PutMonitor w) tt tt) done;
+  few = omega arith;
+  settled = record { sizes = sizes_monitor s w room; monitors = monitored_put s w p e; groups = λ z a. inl a; limits = refl; last_call = omega arith; last_monitor = omega (arith, n); last_event = refl };
+}
 
 -- calls
 
@@ -221,10 +177,6 @@ ascending_called : (s : Rows) (c : CallRecord) → IsAscending agent_order s.age
 unfolding with_call
 ascending_called s c h = h
 
-places_called : (s : Rows) (c : CallRecord) (p : ℕ) → count (at_place p) (with_call s c).connections ≡ count (at_place p) s.connections
-unfolding with_call
-places_called s c p = refl
-
 -- a new call, and moves that put connections
 settled_call : (s : Rows) (c : CallRecord) (ms : List Move) → nat_le s.limits.calls (length s.calls) ≡ false → c.call ≡ s.last_call + 1 → Steadied (with_call s c) (moved (with_call s c) ms) → Settled s (silent (PutCall c) ∷ ms)
 settled_call s c ms room n f =
@@ -240,50 +192,90 @@ settled_call s c ms room n f =
       last_event = f.last_event ∙ same_event s c;
     }
 
-arriving_behaves : (s : Rows) (k m : ℕ) (c : CallRecord) → 1 ≤ k → IsAscending agent_order s.agents → c.call ≡ s.last_call + 1 → c.since ≤ m → nat_le s.limits.calls (length s.calls) ≡ false
-    → Behaves s k m (begin c ∷ connect_caller c.call c.caller ∷ arrive s m k c.call c.called C.NewCall ∷ [])
-arriving_behaves s k m c l h n since room =
+-- each deed
+
+clears_other : {k m : ℕ} {t : Rows} (o : Option ConnectionRecord) → Neat k m t (clear_other o)
+clears_other None = neat_silent Nothing tt tt
+clears_other (Some y) = neat_remove y.call y.device (report.ConnectionCleared y.call y.device) tt (λ g. refl)
+
+steady_clears : (s : Rows) (o : Option ConnectionRecord) → Steady (knows s) (clear_other o).change
+steady_clears s None = tt
+steady_clears s (Some y) = tt
+
+releases_other : (s : Rows) (m k : ℕ) (o : Option ConnectionRecord) → IsAscending agent_order s.agents → AgentMove (Recorded s) m k (release_other s m k o)
+releases_other s m k None h = stays
+releases_other s m k (Some y) h = releases_here s m k y (ending_of y) h
+
+waits_answer : (m c d : ℕ) (q o : Option ℕ) → WaitsUpTo m (Some (report.Established c d (waited_by m q o)))
+waits_answer m c d q None = tt
+waits_answer m c d q (Some g) = omega arith
+
+-- moves that put no new record but connections
+steadily : {s : Rows} {k m : ℕ} {e : Bool} {ms : List Move} → Before s k m → Steps k m e s ms → length ms ≤ 5 → AllSteady s ms → Behaves s k m ms
+steadily {s} {k} {m} {e} {ms} b h few a = record { comes = e; steps = h; few = few; settled = settled s ms b.rules.orders.agents a }
+
+-- a connection ends, its call comes to a device, and an agent is released
+given : (s : Rows) (k m to : ℕ) (x : ConnectionRecord) (e : Report) (why : Cause) → Before s k m → WaitsUpTo m (Some e) → ((g : ℕ) → entry_by g (Some e) ≡ 0)
+    → Behaves s k m (reported (RemoveConnection x.call x.device) e ∷ arrive s m k x.call to why ∷ release s m k x (ending_of x) ∷ [])
+given s k m to x e why b w n =
+    let h = releases_here s m k x (ending_of x) b.rules.orders.agents in steadily b
+    (neat (neat_remove x.call x.device e w n) (comes (comes_to s k m x.call to why b.stamp) (neat (neat_agent s b.stamp b.timed h) done)))
+    (omega arith) (tt, (steady_arrive s s m k x.call to why, (steady_agent s h, tt)))
+
+agent_behaves : (s : Rows) (k m : ℕ) (x : Move) → Before s k m → AgentMove (Recorded s) m k x → Behaves s k m (x ∷ [])
+agent_behaves s k m x b h = steadily b (neat (neat_agent s b.stamp b.timed h) done) (omega arith) (steady_agent s h, tt)
+
+pub behaves_deed : (s : Rows) (k m : ℕ) (ms : List Move) → Deed s m k ms → Before s k m → Behaves s k m ms
+behaves_deed s k m _ nothing b = steadily b done (omega arith) tt
+behaves_deed s k m _ (adds_group device name ring wrap free room) b =
+    behaves_group s k m (new_group device name ring wrap) room (refl, (or_parts (is_group s device) (is_station s device) (or_parts (is_planned s device) (is_calling s device) free).0).0)
+behaves_deed s k m _ (adds_station device _ room) b = behaves_station s k m (record { device = device }) room
+behaves_deed s k m _ (adds_agent agent name _ room) b = behaves_agent s k m (new_agent m k agent name) room (record { above = b.stamp; stamp = omega arith; since = omega arith })
+behaves_deed s k m _ (watches device planned room) b = behaves_monitor s k m (record { monitor = next_monitor s; device = device; after_event = s.last_event }) room planned refl refl
+behaves_deed s k m _ (unwatches monitor) b = steadily b (neat (neat_silent (RemoveMonitor monitor) tt tt) done) (omega arith) (tt, tt)
+behaves_deed s k m _ (arrives caller called _ _ room) b =
+    let n : ℕ = next_call s in
+    let c : CallRecord = new_call s m caller called in
     let u : Rows = with_call s c in
-    let x : ConnectionRecord = plain c.call c.caller S.Connected in
-    let rest : List Move = connect_caller c.call c.caller ∷ arrive s m k c.call c.called C.NewCall ∷ [] in (
-      record {
-        fit = (record { fit = since; waits = tt }, (record { fit = timed_plain k m c.call c.caller S.Connected; waits = tt }, (fit_arrive s s k m c.call c.called C.NewCall l, tt)));
-        entries = λ g. (let e = entry_most g (arrive s m k c.call c.called C.NewCall) in omega (arith, e));
-        places = λ p. (let a = places_called s c p in let b = places_put u x p in let d = places_arrive s (with_connection u x) m k c.call c.called C.NewCall p in omega (arith, a, b, d));
-        few = omega arith;
-      },
-      settled_call s c rest room n (steadied u rest (ascending_called s c h) (tt, (steady_arrive s u m k c.call c.called C.NewCall, tt))),
-    )
-
-making_behaves : (s : Rows) (k m : ℕ) (c : CallRecord) → IsAscending agent_order s.agents → c.call ≡ s.last_call + 1 → c.since ≤ m → nat_le s.limits.calls (length s.calls) ≡ false
-    → Behaves s k m (begin c ∷ initiate c.call c.caller ∷ [])
-making_behaves s k m c h n since room =
-    let u : Rows = with_call s c in
-    let x : ConnectionRecord = plain c.call c.caller S.Initiated in (
-      record {
-        fit = (record { fit = since; waits = tt }, (record { fit = timed_plain k m c.call c.caller S.Initiated; waits = tt }, tt));
-        entries = λ g. omega arith;
-        places = λ p. (let a = places_called s c p in let b = places_put u x p in omega (arith, a, b));
-        few = omega arith;
-      },
-      settled_call s c (initiate c.call c.caller ∷ []) room n (steadied u (initiate c.call c.caller ∷ []) (ascending_called s c h) (tt, tt)),
-    )
-
-pub behaves_arrive_call : (s : Rows) (k m caller called : ℕ) → 1 ≤ k → IsAscending agent_order s.agents → Behaves s k m (moves_of (arrive_call s m k caller called))
-unfolding arrive_call
-behaves_arrive_call s k m caller called l h =
-    by_refusal (λ v. Behaves s k m (moves_of v)) _ _ _ (λ _. behaves_nothing s k m) (λ _.
-    by_refusal (λ v. Behaves s k m (moves_of v)) _ _ _ (λ _. behaves_nothing s k m) (λ _.
-    by_refusal (λ v. Behaves s k m (moves_of v)) _ _ _ (λ _. behaves_nothing s k m) (λ room.
-    arriving_behaves s k m (record { call = next_call s; caller = caller; called = called; since = m }) l h refl (omega arith) room)))
-
-pub behaves_make_call : (s : Rows) (k m device called : ℕ) → IsAscending agent_order s.agents → Behaves s k m (moves_of (make_call s m device called))
-unfolding make_call
-behaves_make_call s k m device called h =
-    by_refusal (λ v. Behaves s k m (moves_of v)) _ _ _ (λ _. behaves_nothing s k m) (λ _.
-    by_refusal (λ v. Behaves s k m (moves_of v)) _ _ _ (λ _. behaves_nothing s k m) (λ _.
-    by_refusal (λ v. Behaves s k m (moves_of v)) _ _ _ (λ _. behaves_nothing s k m) (λ _.
-    by_refusal (λ v. Behaves s k m (moves_of v)) _ _ _ (λ _. behaves_nothing s k m) (λ _.
-    by_refusal (λ v. Behaves s k m (moves_of v)) _ _ _ (λ _. behaves_nothing s k m) (λ _.
-    by_refusal (λ v. Behaves s k m (moves_of v)) _ _ _ (λ _. behaves_nothing s k m) (λ room.
-    making_behaves s k m (record { call = next_call s; caller = device; called = called; since = m }) h refl (omega arith) room))))))
+    let rest : List Move = connect_caller n caller ∷ arrive s m k n called NewCall ∷ [] in
+    record {
+      comes = true;
+      steps = neat (neat_silent (PutCall c) (omega arith) tt) (neat (neat_put (plain n caller S.Connected) None (timed_plain k m n caller S.Connected) refl tt (λ g. refl)) (comes (comes_to s k m n called NewCall b.stamp) done));
+      few = omega arith;
+      settled = settled_call s c rest room refl (steadied u rest (ascending_called s c b.rules.orders.agents) (tt, (steady_arrive s u m k n called NewCall, tt)));
+    }
+behaves_deed s k m _ (makes device called _ _ _ _ _ room) b =
+    let n : ℕ = next_call s in
+    let c : CallRecord = new_call s m device called in
+    let rest : List Move = initiate n device ∷ [] in
+    record {
+      comes = false;
+      steps = neat (neat_silent (PutCall c) (omega arith) tt) (neat (neat_put (plain n device S.Initiated) (Some (report.ServiceInitiated n device)) (timed_plain k m n device S.Initiated) refl tt (λ g. refl)) done);
+      few = omega arith;
+      settled = settled_call s c rest room refl (steadied (with_call s c) rest (ascending_called s c b.rules.orders.agents) (tt, tt));
+    }
+behaves_deed s k m _ (goes_out p _) b = steadily b
+    (neat (neat_turned s p.x S.Connected (report.Originated p.x.call p.x.device p.about.called) b.timed b.rules.orders.connections p.found tt (λ g. refl)) (comes (comes_to s k m p.x.call p.about.called NewCall b.stamp) done))
+    (omega arith) (tt, (steady_arrive s s m k p.x.call p.about.called NewCall, tt))
+behaves_deed s k m _ (answers p _) b =
+    let h = occupies_here s m k p.x b.rules.orders.agents in
+    let e : Report = report.Established p.x.call p.x.device (waited_by m p.x.queued p.x.group) in
+    let t : ConnectionTimed k m (talking p.x) = record { place = tt; queued = tt; offered = tt; order = tt } in steadily b
+    (neat (neat_put (talking p.x) (Some e) t refl (waits_answer m p.x.call p.x.device p.x.queued p.x.group) (λ g. refl)) (neat (neat_agent s b.stamp b.timed h) done)) (omega arith) (tt, (steady_agent s h, tt))
+behaves_deed s k m _ (holds p _ _) b = steadily b (neat (neat_turned s p.x S.Hold (report.Held p.x.call p.x.device) b.timed b.rules.orders.connections p.found tt (λ g. refl)) done) (omega arith) (tt, tt)
+behaves_deed s k m _ (retrieves p _ _) b = steadily b (neat (neat_turned s p.x S.Connected (report.Retrieved p.x.call p.x.device) b.timed b.rules.orders.connections p.found tt (λ g. refl)) done) (omega arith) (tt, tt)
+behaves_deed s k m _ (clears p) b =
+    let x : ConnectionRecord = p.x in
+    let o : Option ConnectionRecord = other_of s x in
+    let h = releases_here s m k x (ending_of x) b.rules.orders.agents in
+    let g = releases_other s m k o b.rules.orders.agents in steadily b
+    (neat (neat_remove x.call x.device (report.ConnectionCleared x.call x.device) tt (λ g. refl)) (neat (clears_other o) (neat (neat_quiet (RemoveCall x.call) (Some (report.CallCleared x.call (cleared_group x o))) tt tt tt (λ g. refl))
+    (neat (neat_agent s b.stamp b.timed h) (neat (neat_agent s b.stamp b.timed g) done)))))
+    (omega arith) (tt, (steady_clears s o, (tt, (steady_agent s h, (steady_agent s g, tt)))))
+behaves_deed s k m _ (deflects p to _ _) b = given s k m to p.x (report.Diverted p.x.call p.x.device to Deflected p.x.group) Deflected b tt (λ g. refl)
+behaves_deed s k m _ (transfers p to _ _ _) b = given s k m to p.x (report.Transferred p.x.call p.x.device to) Transferred b tt (λ g. refl)
+behaves_deed s k m _ (logs_on a device group own _ _ _ _) b =
+    let c : AgentRecord = record a { state = A.NotReady; pending = None; station = Some device; group = Some group; stamp = k; since = m } in
+    steadily b (neat (neat_quiet (PutAgent c) (Some (report.AgentLoggedOn a.agent device group)) (record { above = b.stamp; stamp = omega arith; since = omega arith }) tt tt (λ g. refl)) done) (omega arith) (ap is_some own, tt)
+behaves_deed s k m _ (waits a wanted own _ _) b = agent_behaves s k m _ b (pends a (Some wanted) own)
+behaves_deed s k m _ (goes a wanted own _ _) b = agent_behaves s k m _ b (goes_from (Recorded s) m k a a.station (state_wanted wanted) own)

@@ -3,94 +3,56 @@ use Rattle.std.proofs.Common.{◌≡◌, ℕ, ◌+◌, ◌≤◌, Bool, true, fa
 use Rattle.std.specs.Prelude.{◌==◌, is_none, nat_le, max}
 use Rattle.std.proofs.lemmas.Bool.{eqb-true, le-leb, leb-true, leb-false, lt-leb}
 use Rattle.acd_terms.specs.Lists.{Among, IsAscending}
-use Rattle.acd_terms.specs.Scans.{call_of, agent_at, is_group, is_idle, is_distributed}
+use Rattle.acd_terms.specs.Scans.{call_of}
 use Rattle.acd_terms.specs.Writes.{with_call, without_call}
 use Rattle.acd_terms.specs.Moves.{no_move, silent, reported}
-use Rattle.acd_terms.specs.CallMoves.{plain, queueing, met_at, arriving, arrival, arrive, begin, end_call}
-use Rattle.acd_terms.specs.AgentMoves.{in_state, state_report, go_to, go_from}
-use Rattle.acd_terms.specs.Release.{release_of, released, release_agent, release}
-use Rattle.acd_terms.specs.Services.{busy_agent, occupy}
+use Rattle.acd_terms.specs.CallMoves.{arrive, begin, end_call}
+use Rattle.acd_terms.specs.AgentMoves.{state_report}
 use Rattle.acd_terms.specs.Columns.{columns_of}
 use Rattle.acd_terms.specs.Placed.{clears}
 use Rattle.acd_terms.specs.Rules.Plan.{call_order}
-use Rattle.acd_terms.specs.declared.rows.Rows.{Rows}
-use Rattle.acd_terms.specs.declared.record.AgentRecord.{AgentRecord}
-use Rattle.acd_terms.specs.declared.record.CallRecord.{CallRecord}
-use Rattle.acd_terms.specs.declared.record.ConnectionRecord.{ConnectionRecord}
-use Rattle.acd_terms.specs.declared.state.AgentState.{AgentState}
+use Rattle.acd_laws.proofs.Types.{Rows, AgentRecord, CallRecord, ConnectionRecord, AgentState, Cause, Change, Move, Report}
 use Rattle.acd_terms.specs.declared.state.AgentState.TheVariants as A
-use Rattle.acd_terms.specs.declared.state.ConnectionState.TheVariants as S
-use Rattle.acd_terms.specs.declared.event.Cause.{Cause}
-use Rattle.acd_terms.specs.declared.event.Report.{Report}
-use Rattle.acd_terms.specs.declared.event.Report.TheVariants as report
-use Rattle.acd_terms.specs.declared.moves.Move.{Move}
-use Rattle.acd_terms.specs.declared.moves.Ending.{Ending}
-use Rattle.acd_terms.specs.declared.moves.Release.{Release}
-use Rattle.acd_terms.specs.declared.moves.Release.TheVariants.{Stays, Goes}
-use Rattle.acd_terms.specs.declared.moves.Change.{Change}
-use Rattle.acd_terms.specs.declared.moves.Change.TheVariants.{PutAgent, PutConnection}
-use Rattle.acd_laws.specs.Counts.{Rules, of_call}
+use Rattle.acd_terms.specs.declared.moves.Change.TheVariants.{PutAgent}
+use Rattle.acd_laws.proofs.Facts.{Rules}
+use Rattle.acd_terms.specs.Rules.Calls.{parties_of}
 use Rattle.acd_laws.specs.PlacedLaws.{IsUpTo, clearings}
 use Rattle.acd_laws.proofs.Lists.{one, counted}
-use Rattle.acd_laws.proofs.State.{eqb_self, call_put, call_remove}
+use Rattle.acd_laws.proofs.Keyed.{eqb_self}
+use Rattle.acd_laws.proofs.State.{call_put, call_remove}
 use Rattle.acd_laws.proofs.Found.{call_known, none_of_call}
 use Rattle.acd_laws.proofs.Known.{Counted, LeavesCalls, Plain}
+use Rattle.acd_laws.proofs.AgentMoves.{AgentMove, stays, waits, tells}
+use Rattle.acd_laws.proofs.Arrivals.{Arrival, queues, alerts, fails, arrival_of}
 
 -- each move that leaves the calls
 
-pub plain_silent : (last : ℕ) (c : Change) → LeavesCalls c → Plain last (silent c)
-plain_silent last c h = record { leaves = h; cleared = λ n. refl; named = tt }
+pub plain_silent : {last : ℕ} {c : Change} → LeavesCalls c → Plain last (silent c)
+plain_silent h = record { leaves = h; cleared = λ n. refl; named = tt }
 
-pub plain_nothing : (last : ℕ) → Plain last no_move
-plain_nothing last = record { leaves = tt; cleared = λ n. refl; named = tt }
+pub plain_nothing : {last : ℕ} → Plain last no_move
+plain_nothing = record { leaves = tt; cleared = λ n. refl; named = tt }
 
 -- a report that isn't of a clearing
-pub plain_reported : (last : ℕ) (c : Change) (r : Report) → LeavesCalls c → ((n : ℕ) → clears n r ≡ false) → IsUpTo last (columns_of r).call → Plain last (reported c r)
-plain_reported last c r h f l = record { leaves = h; cleared = λ n. ap one (f n); named = l }
+pub plain_reported : {last : ℕ} {c : Change} {r : Report} → LeavesCalls c → ((n : ℕ) → clears n r ≡ false) → IsUpTo last (columns_of r).call → Plain last (reported c r)
+plain_reported h f l = record { leaves = h; cleared = λ n. ap one (f n); named = l }
 
-plain_arriving : (q i : Bool) (last m k call to : ℕ) (why : Cause) → call ≤ last → Plain last (reported (PutConnection (arriving (met_at q i) m k call to)) (arrival (met_at q i) call to why))
-plain_arriving true i last m k call to why l = plain_reported last (PutConnection (queueing call to (Some k) (Some m))) (report.Queued call to why) tt (λ n. refl) l
-plain_arriving false true last m k call to why l = plain_reported last (PutConnection (plain call to S.Alerting)) (report.Delivered call to why None) tt (λ n. refl) l
-plain_arriving false false last m k call to why l = plain_reported last (PutConnection (plain call to S.Fail)) (report.Failed call to) tt (λ n. refl) l
+plain_arrival : {s : Rows} {last m k call to : ℕ} {why : Cause} {x : Move} → Arrival s m k call to why x → call ≤ last → Plain last x
+plain_arrival (queues _) l = plain_reported tt (λ n. refl) l
+plain_arrival alerts l = plain_reported tt (λ n. refl) l
+plain_arrival fails l = plain_reported tt (λ n. refl) l
 
-pub plain_arrive : (last : ℕ) (s : Rows) (m k call to : ℕ) (why : Cause) → call ≤ last → Plain last (arrive s m k call to why)
-unfolding arrive
-plain_arrive last s m k call to why l = plain_arriving (is_group s to) (is_idle s to) last m k call to why l
+pub plain_arrive : {last : ℕ} (s : Rows) (m k call to : ℕ) (why : Cause) → call ≤ last → Plain last (arrive s m k call to why)
+plain_arrive s m k call to why l = plain_arrival (arrival_of s m k call to why) l
 
-pub plain_go_to : (last m k : ℕ) (a : AgentRecord) (station : ℕ) (st : AgentState) → Plain last (go_to m k a station st)
-plain_go_to last m k a station A.Null = plain_reported last (PutAgent (in_state A.Null m k a)) (state_report A.Null a.agent station) tt (λ n. refl) tt
-plain_go_to last m k a station A.NotReady = plain_reported last (PutAgent (in_state A.NotReady m k a)) (state_report A.NotReady a.agent station) tt (λ n. refl) tt
-plain_go_to last m k a station A.Ready = plain_reported last (PutAgent (in_state A.Ready m k a)) (state_report A.Ready a.agent station) tt (λ n. refl) tt
-plain_go_to last m k a station A.Busy = plain_reported last (PutAgent (in_state A.Busy m k a)) (state_report A.Busy a.agent station) tt (λ n. refl) tt
-plain_go_to last m k a station A.WorkingAfterCall = plain_reported last (PutAgent (in_state A.WorkingAfterCall m k a)) (state_report A.WorkingAfterCall a.agent station) tt (λ n. refl) tt
+plain_state : {last : ℕ} (a : AgentRecord) (st : AgentState) (n d : ℕ) → Plain last (reported (PutAgent a) (state_report st n d))
+plain_state a A.Null n d = plain_reported tt (λ n. refl) tt
+plain_state a st n d = plain_reported tt (λ n. refl) tt
 
-pub plain_go_from : (last m k : ℕ) (a : AgentRecord) (o : Option ℕ) (st : AgentState) → Plain last (go_from m k a o st)
-plain_go_from last m k a None st = plain_nothing last
-plain_go_from last m k a (Some station) st = plain_go_to last m k a station st
-
-plain_released : (last m k : ℕ) (a : AgentRecord) (station : ℕ) (to : Release) → Plain last (released m k a station to)
-plain_released last m k a station Stays = plain_silent last (PutAgent (record a { pending = None })) tt
-plain_released last m k a station (Goes st) = plain_go_to last m k a station st
-
-plain_release_agent : (last m k : ℕ) (o : Option AgentRecord) (station : ℕ) (how : Ending) → Plain last (release_agent m k o station how)
-plain_release_agent last m k None station how = plain_nothing last
-plain_release_agent last m k (Some a) station how = plain_released last m k a station (release_of how a.pending)
-
-plain_if : (last : ℕ) (b : Bool) (x : Move) → Plain last x → Plain last (cond b x no_move)
-plain_if last true x h = h
-plain_if last false x h = plain_nothing last
-
-pub plain_release : (last : ℕ) (s : Rows) (m k : ℕ) (x : ConnectionRecord) (how : Ending) → Plain last (release s m k x how)
-unfolding release
-plain_release last s m k x how = plain_if last (is_distributed x) _ (plain_release_agent last m k (agent_at s x.device) x.device how)
-
-plain_busy : (last m k : ℕ) (o : Option AgentRecord) (station : ℕ) → Plain last (busy_agent m k o station)
-plain_busy last m k None station = plain_nothing last
-plain_busy last m k (Some a) station = plain_reported last (PutAgent (record a { state = A.Busy; stamp = k; since = m })) (report.AgentBusy a.agent station) tt (λ n. refl) tt
-
-pub plain_occupy : (last : ℕ) (s : Rows) (m k : ℕ) (x : ConnectionRecord) → Plain last (occupy s m k x)
-unfolding occupy
-plain_occupy last s m k x = plain_if last (is_distributed x) _ (plain_busy last m k (agent_at s x.device) x.device)
+pub plain_agent : {K : AgentRecord → Type 0} {last m k : ℕ} {x : Move} → AgentMove K m k x → Plain last x
+plain_agent stays = plain_nothing
+plain_agent (waits a pending _) = plain_silent tt
+plain_agent (tells a b d _ _) = plain_state b b.state b.agent d
 
 -- a new call is one above the last
 
@@ -163,7 +125,7 @@ counted_end s c g k asc live le =
 pub live_call : (s : Rows) → Rules s → (x : ConnectionRecord) → Among x s.connections → (k : CallRecord) × (call_of s x.call ≡ Some k)
 live_call s r x a =
     (elim (call_of s x.call) as (λ o. call_of s x.call ≡ o → (k : CallRecord) × (call_of s x.call ≡ Some k)) [
-      | None ↦ λ e. let z = none_of_call s r x.call e in let c = counted (of_call x.call) s.connections x a (eqb_self x.call) in absurd (omega (arith, z, c))
+      | None ↦ λ e. let z = none_of_call s r x.call e in let c = counted (parties_of x.call) s.connections x a (eqb_self x.call) in absurd (omega (arith, z, c))
       | Some k ↦ λ e. (k, e)
     ]) refl
 

@@ -1,34 +1,25 @@
 -- Distribution: what the next offer is of, what each offer keeps, and that none is left.
-use Rattle.std.proofs.Common.{◌≡◌, ℕ, zero, suc, ◌+◌, ◌≤◌, Bool, true, false, not, ◌&&◌, List, [], ◌++◌, Option, Some, None, refl, sym, ◌∙◌, ap, subst, arith, length}
+use Rattle.std.proofs.Common.{◌≡◌, ℕ, zero, suc, ◌+◌, ◌≤◌, Bool, true, false, not, ◌&&◌, List, [], ◌++◌, Option, Some, None, refl, sym, ◌∙◌, ap, subst, arith, length, append_assoc, append-nil}
 use Rattle.std.specs.Prelude.{◌==◌, filter}
-use Rattle.std.proofs.lemmas.Bool.{and_parts, eqb-true, not-true}
-use Rattle.acd_terms.specs.declared.rows.Rows.{Rows}
-use Rattle.acd_terms.specs.declared.record.GroupRecord.{GroupRecord}
-use Rattle.acd_terms.specs.declared.record.AgentRecord.{AgentRecord}
-use Rattle.acd_terms.specs.declared.record.ConnectionRecord.{ConnectionRecord}
-use Rattle.acd_terms.specs.declared.moves.Move.{Move}
+use Rattle.acd_laws.proofs.Types.{Rows, GroupRecord, AgentRecord, ConnectionRecord, Event, Move, Offer}
 use Rattle.acd_terms.specs.Lists.{count, Among}
 use Rattle.acd_terms.specs.States.{is_ready, is_queued}
 use Rattle.acd_terms.specs.Scans.{agent_of, connection_of, has, is_idle, is_occupied, waiting_in, is_idle_there, is_eligible, eligible_in, queued_in_all}
 use Rattle.acd_terms.specs.Writes.{with_connection, without_connection}
-use Rattle.acd_terms.specs.Moves.{moved}
+use Rattle.acd_terms.specs.Moves.{moved, events_of}
 use Rattle.acd_terms.specs.CallMoves.{ringing}
-use Rattle.acd_laws.specs.Counts.{Rules}
-use Rattle.acd_laws.proofs.Lists.{one, filter_among, counted, count_length, none_from}
+use Rattle.acd_laws.proofs.Facts.{Rules}
+use Rattle.acd_laws.proofs.Lists.{one, filter_among, counted, count_length, none_from, mapped_among}
 use Rattle.acd_laws.proofs.State.{connection_found, agent_found, still_none}
-use Rattle.std.proofs.Common.{append_assoc, append-nil}
-use Rattle.acd_terms.specs.declared.moves.Offer.{Offer}
-use Rattle.acd_terms.specs.declared.event.Event.{Event}
-use Rattle.acd_terms.specs.Moves.{events_of}
 use Rattle.acd_terms.specs.Choice.{waiting_pair, ready_pair, offer_of}
 use Rattle.acd_terms.specs.Offers.{IsOffer, HasNoOffer}
 use Rattle.acd_terms.specs.Distribution.{offer_at, offer_moves, with_offer, offers, distribution}
-use Rattle.acd_laws.proofs.Members.{mapped_among}
-use Rattle.acd_laws.proofs.MoveEvents.{events-append}
+use Rattle.acd_terms.proofs.MoveLemmas.{events_of_append, moved_append}
 use Rattle.acd_laws.proofs.OfferFound.{finds_the_offer, nothing_found}
-use Rattle.acd_laws.proofs.Serving.{moved-append}
 use Rattle.acd_laws.proofs.Found.{count_new, count_less, connection_there}
 use Rattle.acd_laws.proofs.KeptOffer.{offer_station, offer_new, kept_offer}
+use Rattle.acd_laws.proofs.Decided.{◌and◌, holds, fails}
+use Rattle.std.proofs.lemmas.Bool.Decides.{Decides-eqb as equals}
 
 -- an offer is of a connection that waits in the group, and of an agent who may take it
 pub record Offering (s : Rows) (o : Offer) (x : ConnectionRecord) (a : AgentRecord) (d : ℕ) : Type 0 where
@@ -68,13 +59,10 @@ offering s r o e =
     let a : AgentRecord = v.0 in
     let wx = waiting_is s o.group x w.1.0 in
     let ea = eligible_is s o.group a v.1.0 in
-    let both = and_parts (x.device == o.group) (is_queued x.state) wx.1 in
-    let t = and_parts (has a.group o.group && is_ready a.state && not (is_occupied s a)) (is_idle_there s a.station) ea.1 in
-    let u = and_parts (has a.group o.group && is_ready a.state) (not (is_occupied s a)) t.0 in
-    let q = and_parts (has a.group o.group) (is_ready a.state) u.0 in
-    let d = idle_station s a.station t.1 in
+    let both = (equals x.device o.group and holds (is_queued x.state)).0 wx.1 in
+    let may = (holds (has a.group o.group) and holds (is_ready a.state) and fails (is_occupied s a) and holds (is_idle_there s a.station)).0 ea.1 in
+    let d = idle_station s a.station may.1 in
     let call : x.call ≡ o.call = sym (ap (λ (p : ℕ × ℕ). p.1) w.1.1) in
-    let device : x.device ≡ o.group = eqb-true x.device o.group both.0 in
     let agent : a.agent ≡ o.agent = sym (ap (λ (p : ℕ × ℕ). p.1) v.1.1) in (
       x,
       (
@@ -83,17 +71,17 @@ offering s r o e =
           d.0,
           record {
             call = call;
-            group = device;
+            group = both.0;
             there = wx.0;
             queued = both.1;
             agent = agent;
             known = ea.0;
-            member = q.0;
-            ready = q.1;
+            member = may.0.0.0;
+            ready = may.0.0.1;
             station = d.1.0;
-            free = not-true (is_occupied s a) u.1;
+            free = may.0.1;
             idle = d.1.1;
-            found = subst (λ c. connection_of s c o.group ≡ Some x) call (subst (λ g. connection_of s x.call g ≡ Some x) device (connection_found s r.orders.connections x wx.0));
+            found = subst (λ c. connection_of s c o.group ≡ Some x) call (subst (λ g. connection_of s x.call g ≡ Some x) both.0 (connection_found s r.orders.connections x wx.0));
             agent_found = subst (λ n. agent_of s n ≡ Some a) agent (agent_found s r.orders.agents a ea.0);
           },
         ),
@@ -128,8 +116,8 @@ offers_keep P m f (suc n) s es r h =
       | Some o ↦ λ e.
           let one : List Move = offer_moves s m o in
           let rest : List Move = offers n (moved s one) m in
-          subst (λ t. P t (es ++ events_of m (one ++ rest))) (sym (moved-append s one rest))
-          (subst (P (moved (moved s one) rest)) (append_assoc es (events_of m one) (events_of m rest) ∙ ap (λ qs. es ++ qs) (sym (events-append m one rest)))
+          subst (λ t. P t (es ++ events_of m (one ++ rest))) (sym (moved_append s one rest))
+          (subst (P (moved (moved s one) rest)) (append_assoc es (events_of m one) (events_of m rest) ∙ ap (λ qs. es ++ qs) (sym (events_of_append m one rest)))
           (offers_keep P m f n (moved s one) (es ++ events_of m one) (rules_offer s m o r e) (f s es o r h e)))
     ]) refl
 
@@ -174,7 +162,7 @@ none_left (suc n) s m r l =
     (elim (offer_of s) as (λ p. offer_of s ≡ p → offer_of (moved s (with_offer p [] (λ o. offer_moves s m o ++ offers n (moved s (offer_moves s m o)) m))) ≡ None) [
       | None ↦ λ e. e
       | Some o ↦ λ e. let f = fewer_queued s m o r e in
-          ap offer_of (moved-append s (offer_moves s m o) (offers n (moved s (offer_moves s m o)) m)) ∙ none_left n (moved s (offer_moves s m o)) m (rules_offer s m o r e) (omega (arith, f, l))
+          ap offer_of (moved_append s (offer_moves s m o) (offers n (moved s (offer_moves s m o)) m)) ∙ none_left n (moved s (offer_moves s m o)) m (rules_offer s m o r e) (omega (arith, f, l))
     ]) refl
 
 pub no_offer_after : (s : Rows) (m : ℕ) → Rules s → offer_of (moved s (distribution s m)) ≡ None

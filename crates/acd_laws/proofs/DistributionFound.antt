@@ -1,35 +1,18 @@
 -- The moves of a distribution are the offers that are to be made, one after another.
-use Rattle.std.proofs.Common.{◌≡◌, ℕ, zero, suc, ◌+◌, ◌≤◌, inl, inr, List, [], ◌∷◌, ◌++◌, Option, Some, None, refl, sym, ◌∙◌, ap, subst, arith, length}
-use Rattle.std.specs.Prelude.{filter}
-use Rattle.acd_terms.specs.Lists.{count, Among}
-use Rattle.acd_terms.specs.Scans.{waiting_in, eligible_in, queued_in_all}
-use Rattle.acd_terms.specs.Choice.{waiting_pair, ready_pair, offer_of}
+use Rattle.std.proofs.Common.{◌≡◌, ℕ, zero, suc, ◌+◌, ◌≤◌, List, [], ◌++◌, Some, None, refl, sym, ◌∙◌, ap, subst, arith, length}
+use Rattle.std.specs.Prelude.{◌↔◌}
+use Rattle.acd_terms.specs.Lists.{count}
+use Rattle.acd_terms.specs.Scans.{queued_in_all}
+use Rattle.acd_terms.specs.Choice.{offer_of}
 use Rattle.acd_terms.specs.Moves.{moved}
-use Rattle.acd_terms.specs.Offers.{IsOffer, HasNoOffer}
 use Rattle.acd_terms.specs.Distribution.{offer_moves, with_offer, offers, distribution}
-use Rattle.acd_terms.specs.declared.rows.Rows.{Rows}
-use Rattle.acd_terms.specs.declared.record.ConnectionRecord.{ConnectionRecord}
-use Rattle.acd_terms.specs.declared.record.AgentRecord.{AgentRecord}
-use Rattle.acd_terms.specs.declared.moves.Move.{Move}
-use Rattle.acd_terms.specs.declared.moves.Offer.{Offer}
-use Rattle.acd_laws.specs.Counts.{Rules}
-use Rattle.acd_laws.specs.OfferLaws.{LeavesNoOffer, IsDistribution, FindsTheDistribution}
+use Rattle.acd_laws.proofs.Types.{Rows, Move, Offer}
+use Rattle.acd_laws.proofs.Facts.{Rules}
+use Rattle.acd_laws.specs.OfferLaws.{IsDistribution}
 use Rattle.acd_laws.specs.OfferLaws.IsDistribution.{ends, goes_on}
 use Rattle.acd_laws.proofs.Lists.{count_length, none_from, counted}
-use Rattle.acd_laws.proofs.Members.{mapped_among}
-use Rattle.acd_laws.proofs.OfferFound.{finds_the_offer, nothing_found}
+use Rattle.acd_laws.proofs.OfferFound.{finds_the_offer, nothing_found, no_offer, no_offers}
 use Rattle.acd_laws.proofs.Distributing.{in_queue, offering, rules_offer, fewer_queued}
-
--- where no group has both, no offer is found
-none_to_make : (s : Rows) → Rules s → LeavesNoOffer s → offer_of s ≡ None
-none_to_make s r h = none_from (offer_of s) (λ o e. made (subst (HasNoOffer s) (is_offer o e).named (h (is_offer o e).group (is_offer o e).planned)) (is_offer o e))
-  where
-    is_offer : (o : Offer) → offer_of s ≡ Some o → IsOffer s o
-    is_offer o e = (finds_the_offer s o r.orders.groups).0 e
-
-    made : {o : Offer} → HasNoOffer s o.group → IsOffer s o → ⊥
-    made {o} (inl w) i = let x = mapped_among waiting_pair (waiting_in s o.group) (i.place, o.call) i.call.there in subst (Among x.0) w x.1.0
-    made {o} (inr w) i = let a = mapped_among ready_pair (eligible_in s o.group) (i.stamp, o.agent) i.agent.there in subst (Among a.0) w a.1.0
 
 -- with as many offers as calls are queued, or more
 made_is : (m n : ℕ) (s : Rows) → Rules s → count in_queue s.connections ≤ n → IsDistribution m s (offers n s m)
@@ -41,16 +24,12 @@ made_is m (suc n) s r l =
           goes_on s o _ ((finds_the_offer s o r.orders.groups).0 e) (made_is m n (moved s (offer_moves s m o)) (rules_offer s m o r e) (omega (arith, f, l)))
     ]) refl
 
--- no offers where none is to be made, and one and the rest where one is
-no_offers : (n : ℕ) (s : Rows) (m : ℕ) → offer_of s ≡ None → offers n s m ≡ []
-no_offers zero s m e = refl
-no_offers (suc n) s m e = ap (λ p. with_offer p [] (λ o. offer_moves s m o ++ offers n (moved s (offer_moves s m o)) m)) e
-
+-- one offer and the rest, where one is to be made
 an_offer : (n : ℕ) (s : Rows) (m : ℕ) (o : Offer) → offer_of s ≡ Some o → offers (suc n) s m ≡ offer_moves s m o ++ offers n (moved s (offer_moves s m o)) m
 an_offer n s m o e = ap (λ p. with_offer p [] (λ o. offer_moves s m o ++ offers n (moved s (offer_moves s m o)) m)) e
 
 is_made : (m n : ℕ) (s : Rows) (ms : List Move) → IsDistribution m s ms → Rules s → count in_queue s.connections ≤ n → ms ≡ offers n s m
-is_made m n _ _ (ends s h) r l = sym (no_offers n s m (none_to_make s r h))
+is_made m n _ _ (ends s h) r l = sym (no_offers n s m (no_offer s h))
 is_made m zero _ _ (goes_on s o more i rest) r l = let f = fewer_queued s m o r ((finds_the_offer s o r.orders.groups).1 i) in absurd (omega (arith, f, l))
 is_made m (suc n) _ _ (goes_on s o more i rest) r l =
     let e : offer_of s ≡ Some o = (finds_the_offer s o r.orders.groups).1 i in
@@ -62,7 +41,7 @@ queued_count : (s : Rows) → count in_queue s.connections ≡ length (queued_in
 unfolding queued_in_all
 queued_count s = count_length in_queue s.connections
 
-pub finds_the_distribution : FindsTheDistribution
+pub finds_the_distribution : (s : Rows) (m : ℕ) (moves : List Move) → Rules s → (moves ≡ distribution s m) ↔ IsDistribution m s moves
 unfolding distribution
 finds_the_distribution s m ms r =
     let n = queued_count s in

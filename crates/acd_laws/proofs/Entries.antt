@@ -1,17 +1,14 @@
 -- Each call that waits in a group or rings from it has a last entry there.
-use Rattle.std.proofs.Common.{◌≡◌, ℕ, ◌<◌, ◌⊎◌, inl, inr, Bool, true, false, ◌&&◌, ◌||◌, cond, List, [], ◌∷◌, Option, Some, None, refl, sym, subst, arith}
+use Rattle.std.proofs.Common.{◌≡◌, ℕ, ◌<◌, ◌⊎◌, inl, inr, true, false, ◌&&◌, ◌||◌, cond, List, [], ◌∷◌, Option, Some, None, refl, sym, subst, arith}
 use Rattle.std.specs.Prelude.{◌==◌, is_some}
 use Rattle.acd_terms.specs.Lists.{Among}
 use Rattle.acd_terms.specs.Scans.{has}
 use Rattle.acd_terms.specs.States.{is_queued, is_alerting}
 use Rattle.acd_terms.specs.Told.{enters, last_entry}
 use Rattle.acd_terms.specs.Watched.{is_held_by, HasEntered}
-use Rattle.acd_terms.specs.declared.rows.Rows.{Rows}
-use Rattle.acd_terms.specs.declared.record.ConnectionRecord.{ConnectionRecord}
-use Rattle.acd_terms.specs.declared.state.ConnectionState.{ConnectionState}
+use Rattle.acd_laws.proofs.Types.{Rows, ConnectionRecord, ConnectionState, Event}
 use Rattle.acd_terms.specs.declared.state.ConnectionState.TheVariants as S
-use Rattle.acd_terms.specs.declared.event.Event.{Event}
-use Rattle.acd_laws.specs.Counts.{Rules, AlertingColumns, HasColumns, ConnectionRule}
+use Rattle.acd_laws.proofs.Facts.{Rules, AlertingColumns, HasColumns, ConnectionRule}
 use Rattle.acd_laws.proofs.Tells.{HasEntries}
 use Rattle.acd_laws.proofs.Lists.{every_among, some_from}
 
@@ -50,10 +47,7 @@ alerting_place x g (Some n) h e = h.place
 place_in : (x : ConnectionRecord) (g : ℕ) (st : ConnectionState) → HasColumns x st → ((is_queued st && x.device == g) || (is_alerting st && has x.group g)) ≡ true → is_some x.place ≡ true
 place_in x g S.Queued h e = h.place
 place_in x g S.Alerting h e = alerting_place x g x.group h e
-place_in x g S.Initiated h e = absurd (cc (e))
-place_in x g S.Connected h e = absurd (cc (e))
-place_in x g S.Hold h e = absurd (cc (e))
-place_in x g S.Fail h e = absurd (cc (e))
+place_in x g _ h e = absurd (cc (e))
 
 -- the number of its entry is above 0
 pub entry_number : (g c : ℕ) (x : ConnectionRecord) (events : List Event) → x.call ≡ c → HasEntered events g x.call → 0 < last_entry g c 0 events

@@ -2,17 +2,15 @@
 use Rattle.std.proofs.Common.{◌≡◌, ℕ, ◌+◌, ◌<◌, ◌≤◌, Bool, true, false, not, ◌&&◌, Option, Some, None, refl, sym, ◌∙◌, ap, subst, arith, eq-eqb}
 use Rattle.std.specs.Prelude.{◌==◌, is_some, find}
 use Rattle.std.proofs.lemmas.Bool.{and_parts, eqb-true, false_from_ne_true, not-true}
-use Rattle.acd_terms.specs.declared.rows.Rows.{Rows}
-use Rattle.acd_terms.specs.declared.record.AgentRecord.{AgentRecord}
-use Rattle.acd_terms.specs.declared.record.CallRecord.{CallRecord}
-use Rattle.acd_terms.specs.declared.record.ConnectionRecord.{ConnectionRecord}
+use Rattle.acd_laws.proofs.Types.{Rows, AgentRecord, CallRecord, ConnectionRecord}
 use Rattle.acd_terms.specs.Lists.{put_by, remove_by, count, Among, IsAscending}
 use Rattle.acd_terms.specs.Scans.{at_connection, agent_of, call_of, connection_of, has, agent_at, other_of}
-use Rattle.acd_terms.specs.Writes.{without_connection}
 use Rattle.acd_terms.specs.Rules.Plan.{agent_order, connection_order}
-use Rattle.acd_laws.specs.Counts.{Rules, CallRule, ConnectionRule, of_call, seated_at, two_if}
-use Rattle.acd_laws.proofs.Lists.{one, find_passes, find_among, filter_among, count-put_new, count-put_old, count-removed, every_among, counted, none_from, some_is}
-use Rattle.acd_laws.proofs.State.{cmp_equal, cmp_self, is_of, is_of_true, is_of_self, order_equal, order_same, agents_total, connections_total, connection_find, agent_find, connections_without, found_key, connection_among, connection_found, agent_found, call_among, call_key}
+use Rattle.acd_laws.proofs.Facts.{Rules, CallRule, ConnectionRule, seated_at, two_if}
+use Rattle.acd_terms.specs.Rules.Calls.{parties_of}
+use Rattle.acd_laws.proofs.Lists.{one, find_passes, find_among, filter_among, count-removed, every_among, counted, none_from, some_is}
+use Rattle.acd_laws.proofs.Keyed.{counted_new, counted_old, others_left}
+use Rattle.acd_laws.proofs.State.{by_agent, by_connection, is_of, found_key, connection_among, connection_found, agent_found, call_among, call_key}
 
 -- a connection of the list is found under its key
 pub connection_there : (s : Rows) → Rules s → (x : ConnectionRecord) → Among x s.connections → connection_of s x.call x.device ≡ Some x
@@ -31,13 +29,13 @@ call_known s r n c e =
 pub no_call_above : (s : Rows) → Rules s → (n : ℕ) → s.last_call < n → call_of s n ≡ None
 no_call_above s r n lt = none_from (call_of s n) (λ c e. let k = call_known s r n c e in omega (arith, k.0))
 
-pub none_of_call : (s : Rows) → Rules s → (n : ℕ) → call_of s n ≡ None → count (of_call n) s.connections ≡ 0
+pub none_of_call : (s : Rows) → Rules s → (n : ℕ) → call_of s n ≡ None → count (parties_of n) s.connections ≡ 0
 none_of_call s r n e = let p = r.parties n in let z : two_if (is_some (call_of s n)) ≡ 0 = rw e refl in omega (arith, p, z)
 
 pub none_above : (s : Rows) → Rules s → (n d : ℕ) → s.last_call < n → connection_of s n d ≡ None
 none_above s r n d lt = none_from (connection_of s n d) (λ x e.
     let z = none_of_call s r n (no_call_above s r n lt) in
-    let c = counted (of_call n) s.connections x (connection_among s n d x e) (eq-eqb x.call n (found_key s n d x e).0) in omega (arith, z, c))
+    let c = counted (parties_of n) s.connections x (connection_among s n d x e) (eq-eqb x.call n (found_key s n d x e).0) in omega (arith, z, c))
 
 -- the agent that is logged on at a station
 pub agent_at_find : (s : Rows) (d : ℕ) → agent_at s d ≡ find (seated_at d) s.agents
@@ -83,13 +81,13 @@ other_device s x y e =
 -- any count of connections after one change
 
 pub count_new : (p : ConnectionRecord → Bool) (s : Rows) (x : ConnectionRecord) → connection_of s x.call x.device ≡ None → count p (put_by (connection_order x) s.connections x) ≡ one (p x) + count p s.connections
-count_new p s x e = count-put_new connection_order (is_of x.call x.device) p x (λ y q. let h = order_equal x y q in is_of_self x.call x.device y (sym h.0) (sym h.1)) s.connections (sym (connection_find s x.call x.device) ∙ e)
+unfolding connection_of
+count_new p s x e = counted_new by_connection s.connections p x e
 
 pub count_old : (p : ConnectionRecord → Bool) (s : Rows) (x z : ConnectionRecord) → IsAscending connection_order s.connections → connection_of s x.call x.device ≡ Some z
     → count p (put_by (connection_order x) s.connections x) + one (p z) ≡ one (p x) + count p s.connections
-count_old p s x z h e = count-put_old connection_order connections_total (is_of x.call x.device) p x
-    (λ y q. let h = order_equal x y q in is_of_self x.call x.device y (sym h.0) (sym h.1))
-    (λ y q. let h = is_of_true x.call x.device y q in order_same x y (sym h.0) (sym h.1)) s.connections h z (sym (connection_find s x.call x.device) ∙ e)
+unfolding connection_of
+count_old p s x z h e = counted_old by_connection s.connections p x z h e
 
 pub count_less : (p : ConnectionRecord → Bool) (s : Rows) (c d : ℕ) (z : ConnectionRecord) → connection_of s c d ≡ Some z
     → count p (remove_by (at_connection c d) s.connections) + one (p z) ≡ count p s.connections
@@ -98,10 +96,9 @@ count_less p s c d z e = count-removed (at_connection c d) p s.connections z e
 
 -- any count of agents after one agent's record is put
 pub count_agent : (p : AgentRecord → Bool) (s : Rows) (a z : AgentRecord) → IsAscending agent_order s.agents → agent_of s a.agent ≡ Some z → count p (put_by (agent_order a) s.agents a) + one (p z) ≡ one (p a) + count p s.agents
-count_agent p s a z h e = count-put_old agent_order agents_total (λ (y : AgentRecord). y.agent == a.agent) p a
-    (λ y q. eq-eqb y.agent a.agent (sym (cmp_equal a.agent y.agent q))) (λ y q. cmp_self a.agent y.agent (sym (eqb-true y.agent a.agent q))) s.agents h z (sym (agent_find s a.agent) ∙ e)
+unfolding agent_of
+count_agent p s a z h e = counted_old by_agent s.agents p a z h e
 
 -- what is left after a removal
 pub left_among : (s : Rows) (a b : ℕ) → IsAscending connection_order s.connections → (z : ConnectionRecord) → Among z (remove_by (at_connection a b) s.connections) → Among z s.connections × (not (is_of a b z) ≡ true)
-unfolding without_connection
-left_among s a b h z i = filter_among (λ x. not (is_of a b x)) s.connections z (subst (Among z) (connections_without s a b h) i)
+left_among s a b h z i = filter_among (λ x. not (is_of a b x)) s.connections z (subst (Among z) (others_left by_connection s.connections h (a, b)) i)

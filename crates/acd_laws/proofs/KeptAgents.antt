@@ -1,34 +1,28 @@
 -- The rules are kept by setAgentState, and by the end of after-call work.
-use Rattle.std.proofs.Common.{◌≡◌, ℕ, ◌+◌, ◌≤◌, ◌⊎◌, inl, inr, Bool, true, false, not, ◌&&◌, cond, [], ◌∷◌, Option, Some, None, refl, sym, ◌∙◌, ap, subst, arith, eq-eqb}
+use Rattle.std.proofs.Common.{◌≡◌, ℕ, ◌+◌, ◌≤◌, ◌⊎◌, inl, inr, Bool, true, false, not, ◌&&◌, Option, Some, None, refl, sym, ◌∙◌, ap, subst, arith, eq-eqb}
 use Rattle.std.specs.Prelude.{◌==◌, IsTrue, is_some, find}
-use Rattle.std.proofs.lemmas.Bool.{and_parts, and_from, eqb-true, false_from_ne_true, and_right, cases_eq, not-false}
-use Rattle.acd_terms.specs.declared.rows.Rows.{Rows}
-use Rattle.acd_terms.specs.declared.record.AgentRecord.{AgentRecord}
-use Rattle.acd_terms.specs.declared.record.ConnectionRecord.{ConnectionRecord}
-use Rattle.acd_terms.specs.declared.state.AgentState.{AgentState}
+use Rattle.std.proofs.lemmas.Bool.{and_parts, and_from, eqb-true, false_from_ne_true, and_right, cases_eq}
+use Rattle.acd_laws.proofs.Types.{Rows, AgentRecord, ConnectionRecord, AgentState, Pending}
 use Rattle.acd_terms.specs.declared.state.AgentState.TheVariants as A
-use Rattle.acd_terms.specs.declared.state.Pending.{Pending}
 use Rattle.acd_terms.specs.declared.moves.Change.TheVariants.{PutAgent}
 use Rattle.acd_terms.specs.Lists.{put_by, count, Among}
-use Rattle.acd_terms.specs.States.{is_null, is_ready, is_busy, is_working_after_call, state_wanted, is_in}
+use Rattle.acd_terms.specs.States.{is_null, is_ready, is_busy, is_working_after_call}
 use Rattle.acd_terms.specs.Scans.{group_of, station_of, agent_of, call_of, connection_of, is_group, is_station, has, agent_at, is_distributed, is_occupied}
 use Rattle.acd_terms.specs.Writes.{with_agent}
 use Rattle.acd_terms.specs.Moves.{changed, moved}
-use Rattle.acd_terms.specs.AgentMoves.{in_state, go_to, go_from, log_on_at, wait_for}
-use Rattle.acd_terms.specs.Served.{moves_of, gives}
+use Rattle.acd_terms.specs.AgentMoves.{in_state, go_to, go_from, log_on_at}
 use Rattle.acd_terms.specs.Rules.Plan.{agent_order}
-use Rattle.acd_laws.specs.Counts.{Rules, IsPlannedStation, IsPlannedGroup, SeatedAs, AgentRule, ConnectionRule, distributed_at, ringing_at, seated_at, ready_at, busy_at, pending_at}
-use Rattle.acd_laws.proofs.Lists.{one, find_passes, find_among, find_none, any_found, ascending-put, every_among, every-put, counted, fewer, two_counted, both_fewer, count_zero, none_from, some_from}
-use Rattle.acd_laws.proofs.State.{eqb_self, agents_total, agent_among, agent_own}
+use Rattle.acd_laws.proofs.Facts.{Rules, IsPlannedStation, IsPlannedGroup, SeatedAs, AgentRule, ConnectionRule, ringing_at, seated_at, ready_at, busy_at, pending_at}
+use Rattle.acd_terms.specs.OneOffer.{is_distributed_at}
+use Rattle.acd_laws.proofs.Lists.{one, find_passes, find_among, find_none, any_found, ascending-put, every_among, every-put, counted, fewer, two_counted, both_fewer, count_zero, some_from}
+use Rattle.acd_laws.proofs.Keyed.{eqb_self}
+use Rattle.acd_laws.proofs.State.{agents_total, agent_among}
 use Rattle.acd_laws.proofs.Found.{count_agent, has_is, agent_seat}
 use Rattle.acd_laws.proofs.KeptOffer.{unoccupied}
-use Rattle.acd_laws.proofs.Releasing.{serving, loosen, left_keeps, left_state, settled_at, settled_is, pending_or_settled, wanted_not_busy, alerting_or_answered}
-use Rattle.acd_laws.proofs.Serving.{by_found, by_refusal}
-use Rattle.acd_terms.specs.Services.{log_on, go_or_wait, change_state, set_agent_state}
+use Rattle.acd_laws.proofs.Keeping.{with_agents}
+use Rattle.acd_laws.proofs.Releasing.{serving, loosen, left_keeps, left_state, settled_at, settled_is, pending_or_settled, alerting_or_answered}
 use Rattle.acd_terms.specs.Tick.{rest_moves}
-use Rattle.acd_terms.specs.declared.command.Requested.{Requested}
-use Rattle.acd_terms.specs.declared.command.Requested.TheVariants as requested
-use Rattle.acd_terms.specs.declared.answer.Answer.TheVariants as answer
+use Rattle.acd_laws.proofs.States.{null_is}
 
 agent_seat_has : (s : Rows) (d : ℕ) (a : AgentRecord) → agent_at s d ≡ Some a → seated_at d a ≡ true
 agent_seat_has s d a e = rw (agent_seat s d a e).1 (eqb_self d)
@@ -38,58 +32,42 @@ same_agent : (s : Rows) (a b : AgentRecord) → Rules s → agent_of s a.agent �
     → ((d : ℕ) → count (seated_at d) s.agents + one (seated_at d b) ≤ one (seated_at d a) + 1)
     → ((d : ℕ) → count (ringing_at d) s.connections + one (ready_at d a) ≤ count (ready_at d) s.agents + one (ready_at d b))
     → ((d : ℕ) → one (busy_at d a) ≡ one (busy_at d b))
-    → ((d : ℕ) → count (pending_at d) s.agents + one (pending_at d b) ≤ count (distributed_at d) s.connections + one (pending_at d a))
+    → ((d : ℕ) → count (pending_at d) s.agents + one (pending_at d b) ≤ count (is_distributed_at d) s.connections + one (pending_at d a))
     → Rules (changed s (PutAgent b))
 unfolding with_agent call_of connection_of group_of station_of
 same_agent s a b r there number rule seats ready busy pending =
     let counts : (p : AgentRecord → Bool) → count p (put_by (agent_order b) s.agents b) + one (p a) ≡ one (p b) + count p s.agents = λ p. count_agent p s b a r.orders.agents (rw number there) in
-    record {
-      orders = record {
-        groups = r.orders.groups;
-        stations = r.orders.stations;
-        monitors = r.orders.monitors;
-        calls = r.orders.calls;
-        connections = r.orders.connections;
-        agents = ascending-put agent_order agents_total b s.agents r.orders.agents;
-      };
-      kinds = r.kinds;
-      agents = every-put (agent_order b) (AgentRule s) b rule s.agents r.agents;
-      calls = r.calls;
-      connections = r.connections;
-      parties = r.parties;
-      one_open = r.one_open;
-      one_live = r.one_live;
-      no_hold = r.no_hold;
-      one_offer = r.one_offer;
+    with_agents (λ _. false) (λ _. false) s (put_by (agent_order b) s.agents b) r (λ d e. e) (record {
+      sorted = ascending-put agent_order agents_total b s.agents r.orders.agents;
+      rules = every-put (agent_order b) (AgentRule s) b rule s.agents r.agents;
       one_agent = λ d. let c = counts (seated_at d) in let o = seats d in omega (arith, c, o);
       ready = λ d _. let c = counts (ready_at d) in let o = ready d in omega (arith, c, o);
       busy = λ d _. let c = counts (busy_at d) in let o = busy d in let b = r.busy d refl in omega (arith, c, o, b);
       pending = λ d _. let c = counts (pending_at d) in let o = pending d in omega (arith, c, o);
-      free = r.free;
-    }
+    })
 
 -- at an occupied agent's station stands a distributed connection
-occupied_counts : (s : Rows) (a : AgentRecord) (d : ℕ) → is_occupied s a ≡ true → has a.station d ≡ true → 1 ≤ count (distributed_at d) s.connections
+occupied_counts : (s : Rows) (a : AgentRecord) (d : ℕ) → is_occupied s a ≡ true → has a.station d ≡ true → 1 ≤ count (is_distributed_at d) s.connections
 unfolding is_occupied
 occupied_counts s a d e at_d =
     let p : ConnectionRecord → Bool = λ x. has a.station x.device && is_distributed x in
     let f = some_from (find p s.connections) (any_found p s.connections e) in
     let h = and_parts (has a.station f.0.device) (is_distributed f.0) (find_passes p s.connections f.0 f.1) in
     let same : Some f.0.device ≡ Some d = sym (has_is a.station f.0.device h.0) ∙ has_is a.station d at_d in
-    counted (distributed_at d) s.connections f.0 (find_among p s.connections f.0 f.1) (and_from _ _ h.1 (eq-eqb f.0.device d (number_is f.0.device d same)))
+    counted (is_distributed_at d) s.connections f.0 (find_among p s.connections f.0 f.1) (and_from _ _ h.1 (eq-eqb f.0.device d (number_is f.0.device d same)))
   where
     number_is : (m n : ℕ) → Some m ≡ Some n → m ≡ n
     number_is m n e = cc
 
 -- an occupied agent may wait
 may_wait : (s : Rows) (a : AgentRecord) (d : ℕ) → Rules s → agent_of s a.agent ≡ Some a → is_occupied s a ≡ true
-    → count (pending_at d) s.agents + one (has a.station d) ≤ count (distributed_at d) s.connections + one (pending_at d a)
+    → count (pending_at d) s.agents + one (has a.station d) ≤ count (is_distributed_at d) s.connections + one (pending_at d a)
 may_wait s a d r there occupied =
     let o = r.one_agent d in
     let p = r.pending d refl in
-    (elim (has a.station d) as (λ b. has a.station d ≡ b → count (pending_at d) s.agents + one b ≤ count (distributed_at d) s.connections + one (is_some a.pending && b)) [
+    (elim (has a.station d) as (λ b. has a.station d ≡ b → count (pending_at d) s.agents + one b ≤ count (is_distributed_at d) s.connections + one (is_some a.pending && b)) [
       | true ↦ λ q. let c = occupied_counts s a d occupied q in
-          (elim (is_some a.pending) as (λ b. is_some a.pending ≡ b → count (pending_at d) s.agents + 1 ≤ count (distributed_at d) s.connections + one (b && true)) [
+          (elim (is_some a.pending) as (λ b. is_some a.pending ≡ b → count (pending_at d) s.agents + 1 ≤ count (is_distributed_at d) s.connections + one (b && true)) [
             | true ↦ λ w. let f = fewer (pending_at d) (seated_at d) (λ z v. (and_parts (is_some z.pending) (has z.station d) v).1) s.agents in omega (arith, o, f, c)
             | false ↦ λ w.
                 let k = counted (settled_at d) s.agents a (agent_among s a.agent a there) (settled_is a d (none_of a.pending w) q) in
@@ -103,17 +81,14 @@ may_wait s a d r there occupied =
     none_of (Some w) e = absurd (cc (e))
 
 -- an occupied agent is asked: the pending state alone changes
-kept_wait : (s : Rows) (a : AgentRecord) (w : Pending) → Rules s → agent_of s a.agent ≡ Some a → is_null a.state ≡ false → is_occupied s a ≡ true → Rules (changed s (PutAgent (record a { pending = Some w })))
+pub kept_wait : (s : Rows) (a : AgentRecord) (w : Pending) → Rules s → agent_of s a.agent ≡ Some a → is_null a.state ≡ false → is_occupied s a ≡ true → Rules (changed s (PutAgent (record a { pending = Some w })))
 kept_wait s a w r there seated occupied =
     same_agent s a (record a { pending = Some w }) r there refl (rule a.state seated (every_among (AgentRule s) s.agents a r.agents (agent_among s a.agent a there)))
     (λ d. let o = r.one_agent d in omega (arith, o)) (λ d. let o = r.ready d refl in omega (arith, o)) (λ d. refl) (λ d. may_wait s a d r there occupied)
   where
     rule : (st : AgentState) → is_null st ≡ false → SeatedAs s a st → SeatedAs s (record a { pending = Some w }) st
     rule A.Null e h = absurd (cc (e))
-    rule A.NotReady e h = h
-    rule A.Ready e h = h
-    rule A.Busy e h = h
-    rule A.WorkingAfterCall e h = h
+    rule _ e h = h
 
 planned_some : (s : Rows) (o : Option ℕ) → IsPlannedStation s o → (d : ℕ) × (o ≡ Some d)
 planned_some s None h = absurd h
@@ -125,25 +100,15 @@ seat_station s a h = let d = planned_some s a.station h.0 in (d.0, d.1, h)
 -- a seated agent has a station
 seat_there : (s : Rows) (a : AgentRecord) (st : AgentState) → is_null st ≡ false → SeatedAs s a st → (d : ℕ) × (a.station ≡ Some d) × (IsPlannedStation s a.station × IsPlannedGroup s a.group)
 seat_there s a A.Null e h = absurd (cc (e))
-seat_there s a A.NotReady e h = seat_station s a h
-seat_there s a A.Ready e h = seat_station s a h
-seat_there s a A.Busy e h = seat_station s a h
-seat_there s a A.WorkingAfterCall e h = seat_station s a h
+seat_there s a _ e h = seat_station s a h
 
 -- an unoccupied agent goes to a state other than busy
-pub kept_go_to : (s : Rows) (a : AgentRecord) (st : AgentState) (m k d : ℕ) → Rules s → agent_of s a.agent ≡ Some a → is_null a.state ≡ false → is_occupied s a ≡ false → is_busy st ≡ false → Rules (changed s (go_to m k a d st).change)
+kept_go_to : (s : Rows) (a : AgentRecord) (st : AgentState) (m k d : ℕ) → Rules s → agent_of s a.agent ≡ Some a → is_null a.state ≡ false → is_occupied s a ≡ false → is_busy st ≡ false → Rules (changed s (go_to m k a d st).change)
 kept_go_to s a st m k at r there seated free not_busy =
     let rule = every_among (AgentRule s) s.agents a r.agents (agent_among s a.agent a there) in
     let d = seat_there s a a.state seated rule in
     loosen (λ e. false && not (d.0 == e)) (λ _. false) _ (λ e q. absurd (cc (q))) (λ e q. refl)
     (left_keeps (λ _. false) s a (in_state st m k a) d.0 r there d.1 (unoccupied s a d.0 d.1 free) (left_state s a st m k not_busy d.2))
-
-null_is : (st : AgentState) → is_null st ≡ true → st ≡ A.Null
-null_is A.Null e = refl
-null_is A.NotReady e = absurd (cc (e))
-null_is A.Ready e = absurd (cc (e))
-null_is A.Busy e = absurd (cc (e))
-null_is A.WorkingAfterCall e = absurd (cc (e))
 
 none_seated : (s : Rows) (d : ℕ) → agent_at s d ≡ None → count (seated_at d) s.agents ≡ 0
 unfolding agent_at
@@ -191,60 +156,16 @@ occupied_state s a r there e =
 
 not_working : (st : AgentState) → is_working_after_call st ≡ true → (is_null st ≡ false) × (is_ready st ≡ false) × (is_busy st ≡ false)
 not_working A.WorkingAfterCall e = (refl, refl, refl)
-not_working A.Null e = absurd (cc (e))
-not_working A.NotReady e = absurd (cc (e))
-not_working A.Ready e = absurd (cc (e))
-not_working A.Busy e = absurd (cc (e))
-
--- after-call work ends
-pub kept_rest : (s : Rows) (m k d : ℕ) (a : AgentRecord) → Rules s → agent_of s a.agent ≡ Some a → is_working_after_call a.state ≡ true → Rules (changed s (go_to m k a d A.Ready).change)
-kept_rest s m k d a r there working =
-    let n = not_working a.state working in
-    kept_go_to s a A.Ready m k d r there n.0
-    (false_from_ne_true (is_occupied s a) (λ e. elim (occupied_state s a r there e) [ inl w ↦ cc (w, n.1) | inr w ↦ cc (w, n.2) ])) refl
+not_working _ e = absurd (cc (e))
 
 -- an agent of no station is in null
-kept_go_from : (s : Rows) (m k : ℕ) (a : AgentRecord) (o : Option ℕ) (st : AgentState) → Rules s → agent_of s a.agent ≡ Some a → is_null a.state ≡ false → is_occupied s a ≡ false → is_busy st ≡ false → Rules (changed s (go_from m k a o st).change)
+pub kept_go_from : (s : Rows) (m k : ℕ) (a : AgentRecord) (o : Option ℕ) (st : AgentState) → Rules s → agent_of s a.agent ≡ Some a → is_null a.state ≡ false → is_occupied s a ≡ false → is_busy st ≡ false → Rules (changed s (go_from m k a o st).change)
 kept_go_from s m k a None st r there seated free not_busy = r
 kept_go_from s m k a (Some d) st r there seated free not_busy = kept_go_to s a st m k d r there seated free not_busy
 
+-- after-call work ends
 pub kept_rest_moves : (s : Rows) (m k : ℕ) (a : AgentRecord) → Rules s → agent_of s a.agent ≡ Some a → is_working_after_call a.state ≡ true → Rules (moved s (rest_moves m k a))
 kept_rest_moves s m k a r there working =
     let n = not_working a.state working in
     kept_go_from s m k a a.station A.Ready r there n.0
     (false_from_ne_true (is_occupied s a) (λ e. elim (occupied_state s a r there e) [ inl w ↦ cc (w, n.1) | inr w ↦ cc (w, n.2) ])) refl
-
-pub kept_log_on_service : (s : Rows) (m k agent device group : ℕ) → Rules s → Rules (moved s (moves_of (log_on s m k agent device group)))
-unfolding log_on
-kept_log_on_service s m k agent device group r =
-    by_found (λ v. Rules (moved s (moves_of v))) _ _ _ (λ _. r) (λ a ea.
-    by_refusal (λ v. Rules (moved s (moves_of v))) _ _ _ (λ _. r) (λ null.
-    by_refusal (λ v. Rules (moved s (moves_of v))) _ _ _ (λ _. r) (λ _.
-    by_refusal (λ v. Rules (moved s (moves_of v))) _ _ _ (λ _. r) (λ station.
-    by_refusal (λ v. Rules (moved s (moves_of v))) _ _ _ (λ _. r) (λ taken.
-    by_refusal (λ v. Rules (moved s (moves_of v))) _ _ _ (λ _. r) (λ _.
-    by_refusal (λ v. Rules (moved s (moves_of v))) _ _ _ (λ _. r) (λ no_group.
-    kept_log_on s a device group m k r (agent_own s agent a ea) (not-false (is_null a.state) null) (not-false (is_station s device) station) (not-false (is_group s group) no_group)
-    (none_from (agent_at s device) (λ b e. cc (taken, ap is_some e))))))))))
-
-go_or_wait_kept : (s : Rows) (m k : ℕ) (a : AgentRecord) (w : Pending) → Rules s → agent_of s a.agent ≡ Some a → is_null a.state ≡ false → Rules (moved s (moves_of (go_or_wait s m k a w)))
-go_or_wait_kept s m k a w r there seated =
-    (elim (is_occupied s a) as (λ b. is_occupied s a ≡ b → Rules (moved s (moves_of (cond b (gives (answer.Pending a.state w) (wait_for a (Some w) ∷ []))
-    (cond (is_in a.state w) (gives (answer.State a.state) []) (gives (answer.State (state_wanted w)) (go_from m k a a.station (state_wanted w) ∷ []))))))) [
-      | true ↦ λ e. kept_wait s a w r there seated e
-      | false ↦ λ e. elim (is_in a.state w) as (λ b. Rules (moved s (moves_of (cond b (gives (answer.State a.state) []) (gives (answer.State (state_wanted w)) (go_from m k a a.station (state_wanted w) ∷ [])))))) [
-        | true ↦ r
-        | false ↦ kept_go_from s m k a a.station (state_wanted w) r there seated e (wanted_not_busy w (state_wanted w) refl)
-      ]
-    ]) refl
-
-kept_change_state : (s : Rows) (m k agent : ℕ) (w : Pending) → Rules s → Rules (moved s (moves_of (change_state s m k agent w)))
-unfolding change_state
-kept_change_state s m k agent w r =
-    by_found (λ v. Rules (moved s (moves_of v))) _ _ _ (λ _. r) (λ a ea.
-    by_refusal (λ v. Rules (moved s (moves_of v))) _ _ _ (λ _. r) (λ seated.
-    go_or_wait_kept s m k a w r (agent_own s agent a ea) seated))
-
-pub kept_set_agent_state : (s : Rows) (m k agent : ℕ) (q : Requested) → Rules s → Rules (moved s (moves_of (set_agent_state s m k agent q)))
-kept_set_agent_state s m k agent (requested.LoggedOn device group) r = kept_log_on_service s m k agent device group r
-kept_set_agent_state s m k agent (requested.State w) r = kept_change_state s m k agent w r

@@ -1,31 +1,25 @@
 -- The rules are kept by arriveCall.
 use Rattle.std.proofs.Common.{◌≡◌, ℕ, ◌+◌, ◌≤◌, inr, Bool, true, false, cond, Some, None, refl, sym, ◌∙◌, ap, subst, arith}
 use Rattle.std.specs.Prelude.{◌==◌, IsTrue, is_some}
-use Rattle.std.proofs.lemmas.Bool.{and_parts, eqb-true, false_from_ne_true, and_right, or_parts, not-false, or_right}
-use Rattle.acd_terms.specs.declared.rows.Rows.{Rows}
-use Rattle.acd_terms.specs.declared.record.CallRecord.{CallRecord}
-use Rattle.acd_terms.specs.declared.record.ConnectionRecord.{ConnectionRecord}
+use Rattle.std.proofs.lemmas.Bool.{and_parts, eqb-true, false_from_ne_true, or_parts, or_right}
+use Rattle.acd_laws.proofs.Types.{Rows, CallRecord, ConnectionRecord}
 use Rattle.acd_terms.specs.declared.state.ConnectionState.TheVariants as S
 use Rattle.acd_terms.specs.declared.moves.Change.TheVariants.{PutCall, PutConnection}
 use Rattle.acd_terms.specs.Lists.{count}
-use Rattle.acd_terms.specs.States.{is_alerting, is_live}
-use Rattle.acd_terms.specs.Scans.{group_of, station_of, call_of, connection_of, is_group, is_station, is_planned, is_idle}
+use Rattle.acd_terms.specs.Scans.{group_of, station_of, call_of, connection_of, is_group, is_station, is_planned}
 use Rattle.acd_terms.specs.Writes.{with_call, with_connection}
-use Rattle.acd_terms.specs.Moves.{changed, moved}
-use Rattle.acd_terms.specs.CallMoves.{plain, arrive}
-use Rattle.acd_terms.specs.Served.{moves_of}
+use Rattle.acd_terms.specs.Moves.{changed}
+use Rattle.acd_terms.specs.CallMoves.{plain}
 use Rattle.acd_terms.specs.Rules.Plan.{call_order, connection_order}
-use Rattle.acd_laws.specs.Counts.{Rules, CallRule, IsCaller, ConnectionRule, is_open, of_call, initiated_of, open_of, live_at, alerting_at, held_at, distributed_at, ringing_at, talking_at, two_if}
+use Rattle.acd_laws.proofs.Facts.{Rules, CallRule, IsCaller, ConnectionRule, ringing_at, talking_at, two_if}
+use Rattle.acd_terms.specs.Rules.Calls.{is_open, parties_of, initiated_of, open_of, live_at, alerting_at, hold_at}
+use Rattle.acd_terms.specs.OneOffer.{is_distributed_at}
 use Rattle.acd_laws.proofs.Lists.{one, ascending-put, every_among, every_from, every-put, fewer}
-use Rattle.acd_laws.proofs.State.{eqb_self, calls_total, connections_total, call_put, put_other}
+use Rattle.acd_laws.proofs.Keyed.{eqb_self}
+use Rattle.acd_laws.proofs.State.{calls_total, connections_total, call_put, put_other}
 use Rattle.acd_laws.proofs.Found.{count_new, none_above, no_call_above, none_of_call}
-use Rattle.acd_laws.proofs.Arriving.{Arrived, arrived, idle_counts, rule_same}
-use Rattle.acd_laws.proofs.Serving.{by_refusal}
-use Rattle.acd_terms.specs.Services.{arrive_call}
-
-pub one_le : (b : Bool) → one b ≤ 1
-one_le true = omega arith
-one_le false = omega arith
+use Rattle.acd_laws.proofs.Keeping.{arrived_live, arrived_hold, arrived_open}
+use Rattle.acd_laws.proofs.Arriving.{Arrived, rule_same}
 
 -- who was caller of a live call is so when one more call is put
 pub caller_stays : (s : Rows) (c : CallRecord) (n d : ℕ) → call_of s c.call ≡ None → IsCaller (call_of s n) d → IsCaller (cond (c.call == n) (Some c) (call_of s n)) d
@@ -41,7 +35,7 @@ not_station s d e outside h = false_from_ne_true (d == e) (λ q.
     let same : is_planned s d ≡ is_planned s e = ap (is_planned s) (eqb-true d e q) in cc (or_right (is_group s e) (is_station s e) h, same, outside))
 
 -- a call arrives: the state with the call, its caller's connection and one at its destination
-begun : (s : Rows) (c : CallRecord) (y : ConnectionRecord) → Rules s → c.call ≡ s.last_call + 1 → is_planned s c.caller ≡ false → is_planned s c.called ≡ true → Arrived s c.call c.called y
+pub begun : (s : Rows) (c : CallRecord) (y : ConnectionRecord) → Rules s → c.call ≡ s.last_call + 1 → is_planned s c.caller ≡ false → is_planned s c.called ≡ true → Arrived s c.call c.called y
     → Rules (changed (changed (changed s (PutCall c)) (PutConnection (plain c.call c.caller S.Connected))) (PutConnection y))
 unfolding with_connection with_call call_of connection_of group_of station_of
 begun s c y r number outside inside a =
@@ -52,7 +46,7 @@ begun s c y r number outside inside a =
     let apart : c.caller ≡ c.called → ⊥ = λ e. cc (outside, inside, ap (is_planned s) e) in
     let none : (d : ℕ) → connection_of s c.call d ≡ None = λ d. none_above s r c.call d (omega (arith, number)) in
     let no_call : call_of s c.call ≡ None = no_call_above s r c.call (omega (arith, number)) in
-    let zero : count (of_call c.call) s.connections ≡ 0 = none_of_call s r c.call no_call in
+    let zero : count (parties_of c.call) s.connections ≡ 0 = none_of_call s r c.call no_call in
     let there : connection_of v y.call y.device ≡ None = rw (a.call, a.device) (put_other u x c.call c.called (λ _ e. apart e) ∙ none c.called) in
     let counts : (p : ConnectionRecord → Bool) → count p t.connections ≡ one (p y) + (one (p x) + count p s.connections) =
     λ p. count_new p v y there ∙ ap (λ n. one (p y) + n) (count_new p u x (none c.caller)) in
@@ -75,9 +69,9 @@ begun s c y r number outside inside a =
           (every-put (connection_order x) (ConnectionRule t) x (record { place = refl; queued = refl; offered = refl }, tt, inr (outside, rw (calls c.call, eqb_self c.call) refl)) s.connections
           (every_from (ConnectionRule t) s.connections (λ z b. rule_same s t (λ _. refl) (λ _. refl) z (λ k. rw (calls z.call) (caller_stays s c z.call z.device no_call k)) (every_among (ConnectionRule s) s.connections z r.connections b))));
       parties = λ n.
-          let e1 = counts (of_call n) in let e2 = counts (initiated_of n) in let p = r.parties n in
+          let e1 = counts (parties_of n) in let e2 = counts (initiated_of n) in let p = r.parties n in
           let i : one (initiated_of n y) ≡ 0 = rw a.not_initiated refl in
-          (elim (c.call == n) as (λ b. (c.call == n) ≡ b → count (of_call n) t.connections + count (initiated_of n) t.connections ≡ two_if (is_some (cond b (Some c) (call_of s n)))) [
+          (elim (c.call == n) as (λ b. (c.call == n) ≡ b → count (parties_of n) t.connections + count (initiated_of n) t.connections ≡ two_if (is_some (cond b (Some c) (call_of s n)))) [
             | true ↦ λ q.
                 let f : one (y.call == n) ≡ 1 = rw (a.call, q) refl in let g : one (c.call == n) ≡ 1 = rw q refl in
                 let z : two_if (is_some (call_of s n)) ≡ 0 = rw (← eqb-true c.call n q, no_call) refl in omega (arith, e1, e2, p, i, f, g, z)
@@ -85,45 +79,17 @@ begun s c y r number outside inside a =
                 let f : one (y.call == n) ≡ 0 = rw (a.call, q) refl in let g : one (c.call == n) ≡ 0 = rw q refl in omega (arith, e1, e2, p, i, f, g)
           ]) refl
           ∙ ap (λ o. two_if (is_some o)) (sym (calls n));
-      one_open = λ n.
-          let e = counts (open_of n) in let o = r.one_open n in
-          (elim (c.call == n) as (λ b. (c.call == n) ≡ b → count (open_of n) t.connections ≤ 1) [
-            | true ↦ λ q.
-                let z : count (of_call n) s.connections ≡ 0 = subst (λ v. count (of_call v) s.connections ≡ 0) (eqb-true c.call n q) zero in
-                let l = fewer (open_of n) (of_call n) (λ w h. (and_parts (is_open w.state) (w.call == n) h).1) s.connections in
-                let b = one_le (open_of n y) in omega (arith, e, z, l, b)
-            | false ↦ λ q.
-                let f : one (open_of n y) ≡ 0 = ap one (and_right (is_open y.state) (y.call == n) (rw a.call q)) in omega (arith, e, o, f)
-          ]) refl;
-      one_live = λ d h.
-          let e = counts (live_at d) in let o = r.one_live d h in let g : one (c.caller == d) ≡ 0 = ap one (not_station s c.caller d outside h) in
-          (elim (live_at d y) as (λ b. live_at d y ≡ b → count (live_at d) t.connections ≤ 1) [
-            | true ↦ λ q. let k = and_parts (is_live y.state) (y.device == d) q in
-                let z = (idle_counts s d (subst (λ v. is_idle s v ≡ true) (sym a.device ∙ eqb-true y.device d k.1) (a.idle k.0))).0 in
-                let f : one (live_at d y) ≤ 1 = one_le (live_at d y) in omega (arith, e, g, z, f)
-            | false ↦ λ q. let f : one (live_at d y) ≡ 0 = ap one q in omega (arith, e, o, g, f)
-          ]) refl;
-      no_hold = λ d h l.
-          let e = counts (alerting_at d) in let e2 = counts (held_at d) in
-          let i : one (held_at d y) ≡ 0 = rw a.not_hold refl in
-          (elim (alerting_at d y) as (λ b. alerting_at d y ≡ b → count (held_at d) t.connections ≡ 0) [
-            | true ↦ λ q. let k = and_parts (is_alerting y.state) (y.device == d) q in
-                let z = (idle_counts s d (subst (λ v. is_idle s v ≡ true) (sym a.device ∙ eqb-true y.device d k.1) (a.alerting_idle k.0))).2 in omega (arith, e2, i, z)
-            | false ↦ λ q. let f : one (alerting_at d y) ≡ 0 = ap one q in let z = r.no_hold d h (omega (arith, e, f, l)) in omega (arith, e2, i, z)
-          ]) refl;
-      one_offer = λ d. let e = counts (distributed_at d) in let b = r.one_offer d in let f : one (distributed_at d y) ≡ 0 = rw a.not_distributed refl in omega (arith, e, b, f);
+      one_open = λ n. let e = counts (open_of n) in
+          let l = fewer (open_of c.call) (parties_of c.call) (λ w h. (and_parts (is_open w.state) (w.call == c.call) h).1) s.connections in
+          let o = arrived_open s c.call c.called n y false a (r.one_open n) (omega (arith, zero, l)) in omega (arith, e, o);
+      one_live = λ d h. let e = counts (live_at d) in let g : one (c.caller == d) ≡ 0 = ap one (not_station s c.caller d outside h) in
+          let o = arrived_live s c.call c.called d y a (r.one_live d h) in omega (arith, e, g, o);
+      no_hold = λ d h l. let e = counts (alerting_at d) in let e2 = counts (hold_at d) in let i : one (hold_at d y) ≡ 0 = rw a.not_hold refl in
+          let z = arrived_hold s c.call c.called d y a (r.no_hold d h) (omega (arith, e, l)) in omega (arith, e2, i, z);
+      one_offer = λ d. let e = counts (is_distributed_at d) in let b = r.one_offer d in let f : one (is_distributed_at d y) ≡ 0 = rw a.not_distributed refl in omega (arith, e, b, f);
       one_agent = r.one_agent;
       ready = λ d _. let e = counts (ringing_at d) in let b = r.ready d refl in let f : one (ringing_at d y) ≡ 0 = rw a.not_ringing refl in omega (arith, e, b, f);
       busy = λ d _. let e = counts (talking_at d) in let b = r.busy d refl in let f : one (talking_at d y) ≡ 0 = rw a.not_answered refl in omega (arith, e, b, f);
-      pending = λ d _. let e = counts (distributed_at d) in let o = r.pending d refl in omega (arith, e, o);
+      pending = λ d _. let e = counts (is_distributed_at d) in let o = r.pending d refl in omega (arith, e, o);
       free = λ d q. absurd (cc (q));
     }
-
-pub kept_arrive_call : (s : Rows) (m k caller called : ℕ) → Rules s → Rules (moved s (moves_of (arrive_call s m k caller called)))
-unfolding arrive_call arrive
-kept_arrive_call s m k caller called r =
-    by_refusal (λ v. Rules (moved s (moves_of v))) _ _ _ (λ _. r) (λ outside.
-    by_refusal (λ v. Rules (moved s (moves_of v))) _ _ _ (λ _. r) (λ known.
-    by_refusal (λ v. Rules (moved s (moves_of v))) _ _ _ (λ _. r) (λ _.
-    let inside : is_planned s called ≡ true = not-false (is_planned s called) known in
-    begun s (record { call = s.last_call + 1; caller = caller; called = called; since = m }) _ r refl outside inside (arrived s m k (s.last_call + 1) called inside))))

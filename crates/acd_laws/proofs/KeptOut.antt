@@ -1,38 +1,37 @@
 -- The rules are kept by makeCall and phoneOffHook.
 use Rattle.std.proofs.Common.{◌≡◌, ℕ, ◌+◌, ◌≤◌, inl, Bool, true, false, not, ◌&&◌, cond, Option, Some, None, refl, sym, ◌∙◌, ap, subst, arith, eq-eqb}
 use Rattle.std.specs.Prelude.{◌==◌, IsTrue, IsFalse, is_some}
-use Rattle.std.proofs.lemmas.Bool.{and_parts, and_from, eqb-true, false_from_ne_true, and_left, and_right, not-false}
-use Rattle.acd_terms.specs.declared.rows.Rows.{Rows}
-use Rattle.acd_terms.specs.declared.record.CallRecord.{CallRecord}
-use Rattle.acd_terms.specs.declared.record.ConnectionRecord.{ConnectionRecord}
-use Rattle.acd_terms.specs.declared.state.ConnectionState.{ConnectionState}
+use Rattle.std.proofs.lemmas.Bool.{and_parts, and_from, eqb-true, false_from_ne_true, and_left}
+use Rattle.acd_laws.proofs.Types.{Rows, CallRecord, ConnectionRecord}
 use Rattle.acd_terms.specs.declared.state.ConnectionState.TheVariants as S
 use Rattle.acd_terms.specs.declared.moves.Change.TheVariants.{PutCall, PutConnection}
 use Rattle.acd_terms.specs.Lists.{count, Among}
-use Rattle.acd_terms.specs.States.{is_initiated, is_alerting, is_queued, is_live}
-use Rattle.acd_terms.specs.Scans.{group_of, station_of, agent_of, call_of, connection_of, is_group, is_station, is_planned, is_distributed, is_live_at, is_idle}
+use Rattle.acd_terms.specs.States.{is_initiated, is_queued}
+use Rattle.acd_terms.specs.Scans.{group_of, station_of, agent_of, call_of, connection_of, is_group, is_station, is_planned, is_distributed, is_live_at}
 use Rattle.acd_terms.specs.Writes.{with_call, with_connection}
-use Rattle.acd_terms.specs.Moves.{changed, moved}
-use Rattle.acd_terms.specs.CallMoves.{plain, originate, destination_of, arriving, arrive}
-use Rattle.acd_terms.specs.Served.{moves_of}
+use Rattle.acd_terms.specs.Moves.{changed}
+use Rattle.acd_terms.specs.CallMoves.{plain}
 use Rattle.acd_terms.specs.Rules.Plan.{call_order, connection_order}
-use Rattle.acd_laws.specs.Counts.{Rules, CallRule, HasColumns, IsCaller, StandsAt, ConnectionRule, is_open, of_call, initiated_of, open_of, live_at, alerting_at, held_at, distributed_at, ringing_at, talking_at, two_if}
+use Rattle.acd_laws.proofs.Facts.{Rules, CallRule, HasColumns, IsCaller, StandsAt, ConnectionRule, ringing_at, talking_at, two_if}
+use Rattle.acd_terms.specs.Rules.Calls.{parties_of, initiated_of, open_of, live_at, alerting_at, hold_at}
+use Rattle.acd_terms.specs.OneOffer.{is_distributed_at}
 use Rattle.acd_laws.proofs.Lists.{one, ascending-put, every_among, every_from, every-put, counted, fewer, two_counted, both_fewer, none_from}
-use Rattle.acd_laws.proofs.State.{eqb_self, calls_total, connections_total, call_put, found_key, own_key, connection_among, call_among, put_other}
+use Rattle.acd_laws.proofs.Keyed.{eqb_self}
+use Rattle.acd_laws.proofs.State.{calls_total, connections_total, call_put, found_key, connection_among, call_among, put_other}
 use Rattle.acd_laws.proofs.Found.{count_new, count_old, connection_rule, no_call_above, none_of_call, none_above}
-use Rattle.acd_laws.proofs.Arriving.{Arrived, arrived, idle_counts, rule_same}
-use Rattle.acd_laws.proofs.KeptArrival.{one_le, caller_stays}
+use Rattle.acd_laws.proofs.Arriving.{Arrived, rule_same}
+use Rattle.acd_laws.proofs.KeptArrival.{caller_stays}
+use Rattle.acd_laws.proofs.Keeping.{with_connections, most_one, arrived_live, arrived_hold, arrived_open}
 use Rattle.acd_laws.proofs.KeptClearing.{two_le}
 use Rattle.acd_laws.proofs.KeptTalking.{no_live}
 use Rattle.acd_laws.proofs.KeptGiving.{closed_of, closed_is, open_or_closed}
-use Rattle.acd_laws.proofs.Serving.{by_found, by_refusal}
-use Rattle.acd_terms.specs.Services.{make_call, phone_off_hook}
+use Rattle.acd_laws.proofs.States.{initiated_is}
 
 station_no_group : (s : Rows) (d : ℕ) → ((e : ℕ) → IsTrue (is_group s e) → IsFalse (is_station s e)) → IsTrue (is_station s d) → is_group s d ≡ false
 station_no_group s d kinds h = false_from_ne_true (is_group s d) (λ e. cc (kinds d e, h))
 
 -- a call is made: the state with the call and its initiated connection
-made : (s : Rows) (m device called : ℕ) → Rules s → IsTrue (is_station s device) → is_planned s called ≡ true → (called == device) ≡ false → is_live_at s device ≡ false
+pub made : (s : Rows) (m device called : ℕ) → Rules s → IsTrue (is_station s device) → is_planned s called ≡ true → (called == device) ≡ false → is_live_at s device ≡ false
     → Rules (changed (changed s (PutCall (record { call = s.last_call + 1; caller = device; called = called; since = m }))) (PutConnection (plain (s.last_call + 1) device S.Initiated)))
 unfolding with_connection with_call call_of connection_of agent_of group_of station_of
 made s m device called r station planned differ free =
@@ -41,7 +40,7 @@ made s m device called r station planned differ free =
     let u : Rows = changed s (PutCall c) in
     let t : Rows = changed u (PutConnection y) in
     let no_call : call_of s c.call ≡ None = no_call_above s r c.call (omega arith) in
-    let zero : count (of_call c.call) s.connections ≡ 0 = none_of_call s r c.call no_call in
+    let zero : count (parties_of c.call) s.connections ≡ 0 = none_of_call s r c.call no_call in
     let counts : (p : ConnectionRecord → Bool) → count p t.connections ≡ one (p y) + count p s.connections = λ p. count_new p u y (none_above s r c.call device (omega arith)) in
     let calls : (n : ℕ) → call_of t n ≡ cond (c.call == n) (Some c) (call_of s n) = λ n. call_put s c n in
     record {
@@ -59,47 +58,23 @@ made s m device called r station planned differ free =
           (every_from (CallRule t) s.calls (λ k b. let w = every_among (CallRule s) s.calls k r.calls b in let l : k.call ≤ s.last_call = w.0 in (omega (arith, l), w.1, w.2, w.3)));
       connections = every-put (connection_order y) (ConnectionRule t) y ((record { place = refl; queued = refl; offered = refl }, refl), tt, (station, rw (calls c.call, eqb_self c.call) refl)) s.connections
           (every_from (ConnectionRule t) s.connections (λ z b. rule_same s t (λ _. refl) (λ _. refl) z (λ k. rw (calls z.call) (caller_stays s c z.call z.device no_call k)) (every_among (ConnectionRule s) s.connections z r.connections b)));
-      parties = λ n. let e1 = counts (of_call n) in let e2 = counts (initiated_of n) in let p = r.parties n in
-          (elim (c.call == n) as (λ b. (c.call == n) ≡ b → count (of_call n) t.connections + count (initiated_of n) t.connections ≡ two_if (is_some (cond b (Some c) (call_of s n)))) [
-            | true ↦ λ q. let f : one (of_call n y) ≡ 1 = ap one q in let g : one (initiated_of n y) ≡ 1 = ap one q in
+      parties = λ n. let e1 = counts (parties_of n) in let e2 = counts (initiated_of n) in let p = r.parties n in
+          (elim (c.call == n) as (λ b. (c.call == n) ≡ b → count (parties_of n) t.connections + count (initiated_of n) t.connections ≡ two_if (is_some (cond b (Some c) (call_of s n)))) [
+            | true ↦ λ q. let f : one (parties_of n y) ≡ 1 = ap one q in let g : one (initiated_of n y) ≡ 1 = ap one q in
                 let z : two_if (is_some (call_of s n)) ≡ 0 = rw (← eqb-true c.call n q, no_call) refl in omega (arith, e1, e2, p, f, g, z)
-            | false ↦ λ q. let f : one (of_call n y) ≡ 0 = ap one q in let g : one (initiated_of n y) ≡ 0 = ap one q in omega (arith, e1, e2, p, f, g)
+            | false ↦ λ q. let f : one (parties_of n y) ≡ 0 = ap one q in let g : one (initiated_of n y) ≡ 0 = ap one q in omega (arith, e1, e2, p, f, g)
           ]) refl
           ∙ ap (λ o. two_if (is_some o)) (sym (calls n));
       one_open = λ n. let e = counts (open_of n) in let o = r.one_open n in omega (arith, e, o);
-      one_live = λ d w. let e = counts (live_at d) in
-          (elim (device == d) as (λ b. (device == d) ≡ b → count (live_at d) t.connections ≤ 1) [
-            | true ↦ λ q. let z : count (live_at d) s.connections ≡ 0 = subst (λ x. count (live_at x) s.connections ≡ 0) (eqb-true device d q) (no_live s device free) in
-                let g = one_le (live_at d y) in omega (arith, e, z, g)
-            | false ↦ λ q. let o = r.one_live d w in let g : one (live_at d y) ≡ 0 = ap one q in omega (arith, e, o, g)
-          ]) refl;
-      no_hold = λ d w l. let c1 = counts (alerting_at d) in let c2 = counts (held_at d) in let o = r.no_hold d w (omega (arith, c1, l)) in omega (arith, c2, o);
-      one_offer = λ d. let e = counts (distributed_at d) in let o = r.one_offer d in omega (arith, e, o);
+      one_live = λ d w. let e = counts (live_at d) in let o = most_one live_at s.connections device d (no_live s device free) (r.one_live d w) in omega (arith, e, o);
+      no_hold = λ d w l. let c1 = counts (alerting_at d) in let c2 = counts (hold_at d) in let o = r.no_hold d w (omega (arith, c1, l)) in omega (arith, c2, o);
+      one_offer = λ d. let e = counts (is_distributed_at d) in let o = r.one_offer d in omega (arith, e, o);
       one_agent = r.one_agent;
       ready = λ d _. let e = counts (ringing_at d) in let o = r.ready d refl in omega (arith, e, o);
       busy = λ d _. let e = counts (talking_at d) in let o = r.busy d refl in omega (arith, e, o);
-      pending = λ d _. let e = counts (distributed_at d) in let o = r.pending d refl in omega (arith, e, o);
+      pending = λ d _. let e = counts (is_distributed_at d) in let o = r.pending d refl in omega (arith, e, o);
       free = λ d q. absurd (cc (q));
     }
-
-pub kept_make_call : (s : Rows) (m device called : ℕ) → Rules s → Rules (moved s (moves_of (make_call s m device called)))
-unfolding make_call
-kept_make_call s m device called r =
-    by_refusal (λ v. Rules (moved s (moves_of v))) _ _ _ (λ _. r) (λ _.
-    by_refusal (λ v. Rules (moved s (moves_of v))) _ _ _ (λ _. r) (λ station.
-    by_refusal (λ v. Rules (moved s (moves_of v))) _ _ _ (λ _. r) (λ known.
-    by_refusal (λ v. Rules (moved s (moves_of v))) _ _ _ (λ _. r) (λ differ.
-    by_refusal (λ v. Rules (moved s (moves_of v))) _ _ _ (λ _. r) (λ free.
-    by_refusal (λ v. Rules (moved s (moves_of v))) _ _ _ (λ _. r) (λ _.
-    made s m device called r (not-false (is_station s device) station) (not-false (is_planned s called) known) differ free))))))
-
-pub initiated_is : (st : ConnectionState) → is_initiated st ≡ true → st ≡ S.Initiated
-initiated_is S.Initiated e = refl
-initiated_is S.Alerting e = absurd (cc (e))
-initiated_is S.Queued e = absurd (cc (e))
-initiated_is S.Connected e = absurd (cc (e))
-initiated_is S.Hold e = absurd (cc (e))
-initiated_is S.Fail e = absurd (cc (e))
 
 is_caller_of : (o : Option CallRecord) (c : CallRecord) (d : ℕ) → o ≡ Some c → IsCaller o d → c.caller ≡ d
 is_caller_of o c d e h = subst (λ v. IsCaller v d) e h
@@ -110,8 +85,13 @@ group_none x e c = none_is x.group (subst (HasColumns x) e c).1
     none_is : (o : Option ℕ) → o ≡ None → is_some o ≡ false
     none_is o q = rw q refl
 
+pub initiated_alone : (s : Rows) (x : ConnectionRecord) → Rules s → Among x s.connections → is_initiated x.state ≡ true → count (parties_of x.call) s.connections ≡ 1
+initiated_alone s x r among initiated =
+    let p = r.parties x.call in let w = counted (initiated_of x.call) s.connections x among (and_from _ _ initiated (eqb_self x.call)) in
+    let f = fewer (initiated_of x.call) (parties_of x.call) (λ z h. (and_parts (is_initiated z.state) (z.call == x.call) h).1) s.connections in let t = two_le (is_some (call_of s x.call)) in omega (arith, p, w, f, t)
+
 -- an initiated call goes out: x is connected, and y stands at the destination
-gone_out : (s : Rows) (x y : ConnectionRecord) (c : CallRecord) (d : ℕ) → Rules s → connection_of s x.call x.device ≡ Some x → is_initiated x.state ≡ true → call_of s x.call ≡ Some c → (x.device ≡ d → ⊥) → Arrived s x.call d y → connection_of s x.call d ≡ None
+pub gone_out : (s : Rows) (x y : ConnectionRecord) (c : CallRecord) (d : ℕ) → Rules s → connection_of s x.call x.device ≡ Some x → is_initiated x.state ≡ true → call_of s x.call ≡ Some c → (x.device ≡ d → ⊥) → Arrived s x.call d y → connection_of s x.call d ≡ None
     → Rules (changed (changed s (PutConnection (record x { state = S.Connected }))) (PutConnection y))
 unfolding with_connection call_of connection_of agent_of group_of station_of
 gone_out s x y c d r ex initiated ec apart a none =
@@ -126,56 +106,26 @@ gone_out s x y c d r ex initiated ec apart a none =
     let among = connection_among s x.call x.device x ex in
     let counts : (p : ConnectionRecord → Bool) → count p t.connections + one (p x) ≡ one (p y) + (one (p x2) + count p s.connections) = λ p.
     let e1 = count_new p u y (rw (a.call, a.device) (put_other s x2 x.call d (λ _ q. apart q) ∙ none)) in let e2 = count_old p s x2 x r.orders.connections ex in omega (arith, e1, e2) in
-    let alone : count (of_call x.call) s.connections ≡ 1 =
-    let p = r.parties x.call in let w = counted (initiated_of x.call) s.connections x among (and_from _ _ initiated (eqb_self x.call)) in
-    let f = fewer (initiated_of x.call) (of_call x.call) (λ z h. (and_parts (is_initiated z.state) (z.call == x.call) h).1) s.connections in let t = two_le (is_some (call_of s x.call)) in omega (arith, p, w, f, t) in
-    record {
-      orders = record {
-        groups = r.orders.groups;
-        stations = r.orders.stations;
-        agents = r.orders.agents;
-        monitors = r.orders.monitors;
-        calls = r.orders.calls;
-        connections = ascending-put connection_order connections_total y u.connections (ascending-put connection_order connections_total x2 s.connections r.orders.connections);
-      };
-      kinds = r.kinds;
-      agents = r.agents;
-      calls = r.calls;
-      connections = every-put (connection_order y) (ConnectionRule s) y a.rule u.connections
+    let shut : count (open_of x.call) s.connections ≤ 0 =
+    let al = initiated_alone s x r among initiated in
+    let w = counted (closed_of x.call) s.connections x among (closed_is x.call x (rw xs refl) refl) in
+    let b = both_fewer (open_of x.call) (closed_of x.call) (parties_of x.call) (open_or_closed x.call) s.connections in omega (arith, al, w, b) in
+    with_connections (λ _. false) s t.connections r (record {
+      sorted = ascending-put connection_order connections_total y u.connections (ascending-put connection_order connections_total x2 s.connections r.orders.connections);
+      rules = every-put (connection_order y) (ConnectionRule s) y a.rule u.connections
           (every-put (connection_order x2) (ConnectionRule s) x2 (record { place = bare_of.0.place; queued = bare_of.0.queued; offered = bare_of.0.offered }, rule.1, inl st.0) s.connections r.connections);
-      parties = λ n. let e1 = counts (of_call n) in let e2 = counts (initiated_of n) in let p = r.parties n in
-          let f : one (of_call n y) ≡ one (of_call n x) = rw a.call refl in let i : one (initiated_of n x) ≡ one (of_call n x) = rw xs refl in let j : one (initiated_of n y) ≡ 0 = rw a.not_initiated refl in omega (arith, e1, e2, p, f, i, j);
-      one_open = λ n. let e = counts (open_of n) in let o = r.one_open n in
-          (elim (x.call == n) as (λ b. (x.call == n) ≡ b → count (open_of n) t.connections ≤ 1) [
-            | true ↦ λ q. let al : count (of_call n) s.connections ≡ 1 = subst (λ v. count (of_call v) s.connections ≡ 1) (eqb-true x.call n q) alone in
-                let w = counted (closed_of n) s.connections x among (closed_is n x (rw xs refl) (eqb-true x.call n q)) in
-                let b = both_fewer (open_of n) (closed_of n) (of_call n) (open_or_closed n) s.connections in let g = one_le (open_of n y) in omega (arith, e, al, w, b, g)
-            | false ↦ λ q. let g : one (open_of n y) ≡ 0 = ap one (and_right (is_open y.state) (y.call == n) (rw a.call q)) in omega (arith, e, o, g)
-          ]) refl;
-      one_live = λ e h. let c = counts (live_at e) in let o = r.one_live e h in let f : one (live_at e x) ≡ one (x.device == e) = rw xs refl in
-          (elim (live_at e y) as (λ b. live_at e y ≡ b → count (live_at e) t.connections ≤ 1) [
-            | true ↦ λ q. let w = and_parts (is_live y.state) (y.device == e) q in
-                let z = (idle_counts s e (subst (λ t. is_idle s t ≡ true) (sym a.device ∙ eqb-true y.device e w.1) (a.idle w.0))).0 in let g = one_le (live_at e y) in omega (arith, c, f, z, g)
-            | false ↦ λ q. let g : one (live_at e y) ≡ 0 = ap one q in omega (arith, c, o, f, g)
-          ]) refl;
-      no_hold = λ e h l. let c = counts (alerting_at e) in let ch = counts (held_at e) in let i : one (held_at e y) ≡ 0 = rw a.not_hold refl in
-          (elim (alerting_at e y) as (λ b. alerting_at e y ≡ b → count (held_at e) t.connections ≡ 0) [
-            | true ↦ λ q. let w = and_parts (is_alerting y.state) (y.device == e) q in
-                let z = (idle_counts s e (subst (λ t. is_idle s t ≡ true) (sym a.device ∙ eqb-true y.device e w.1) (a.alerting_idle w.0))).2 in omega (arith, ch, i, z)
-            | false ↦ λ q. let g : one (alerting_at e y) ≡ 0 = ap one q in let z = r.no_hold e h (omega (arith, c, g, l)) in omega (arith, ch, i, z)
-          ]) refl;
-      one_offer = λ e. let c = counts (distributed_at e) in let o = r.one_offer e in let g : one (distributed_at e y) ≡ 0 = rw a.not_distributed refl in let h : one (distributed_at e x2) ≡ 0 = rw no_group refl in omega (arith, c, o, g, h);
-      one_agent = r.one_agent;
+      parties = λ n. let e1 = counts (parties_of n) in let e2 = counts (initiated_of n) in let p = r.parties n in
+          let f : one (parties_of n y) ≡ one (parties_of n x) = rw a.call refl in let i : one (initiated_of n x) ≡ one (parties_of n x) = rw xs refl in let j : one (initiated_of n y) ≡ 0 = rw a.not_initiated refl in omega (arith, e1, e2, p, f, i, j);
+      one_open = λ n. let e = counts (open_of n) in let o = arrived_open s x.call d n y false a (r.one_open n) shut in omega (arith, e, o);
+      one_live = λ e h. let c = counts (live_at e) in let f : one (live_at e x) ≡ one (x.device == e) = rw xs refl in let o = arrived_live s x.call d e y a (r.one_live e h) in omega (arith, c, f, o);
+      no_hold = λ e h l. let c = counts (alerting_at e) in let ch = counts (hold_at e) in let i : one (hold_at e y) ≡ 0 = rw a.not_hold refl in
+          let z = arrived_hold s x.call d e y a (r.no_hold e h) (omega (arith, c, l)) in omega (arith, ch, i, z);
+      one_offer = λ e. let c = counts (is_distributed_at e) in let o = r.one_offer e in let g : one (is_distributed_at e y) ≡ 0 = rw a.not_distributed refl in let h : one (is_distributed_at e x2) ≡ 0 = rw no_group refl in omega (arith, c, o, g, h);
       ready = λ e _. let c = counts (ringing_at e) in let o = r.ready e refl in let g : one (ringing_at e y) ≡ 0 = rw a.not_ringing refl in omega (arith, c, o, g);
       busy = λ e _. let c = counts (talking_at e) in let o = r.busy e refl in let g : one (talking_at e y) ≡ 0 = rw a.not_answered refl in let f : one (talking_at e x) ≡ 0 = rw xs refl in let h : one (talking_at e x2) ≡ 0 = rw no_group refl in omega (arith, c, o, f, g, h);
-      pending = λ e _. let c = counts (distributed_at e) in let o = r.pending e refl in let g : one (distributed_at e y) ≡ 0 = rw a.not_distributed refl in let f : one (distributed_at e x) ≡ 0 = ap one (and_left (is_distributed x) (x.device == e) (ap (λ b. b && not (is_queued x.state)) (group_none x xs rule.0))) in omega (arith, c, o, f, g);
+      pending = λ e _. let c = counts (is_distributed_at e) in let o = r.pending e refl in let g : one (is_distributed_at e y) ≡ 0 = rw a.not_distributed refl in let f : one (is_distributed_at e x) ≡ 0 = ap one (and_left (is_distributed x) (x.device == e) (ap (λ b. b && not (is_queued x.state)) (group_none x xs rule.0))) in omega (arith, c, o, f, g);
       free = λ e h. absurd (cc (h));
-    }
-
-pub initiated_alone : (s : Rows) (x : ConnectionRecord) → Rules s → Among x s.connections → is_initiated x.state ≡ true → count (of_call x.call) s.connections ≡ 1
-initiated_alone s x r among initiated =
-    let p = r.parties x.call in let w = counted (initiated_of x.call) s.connections x among (and_from _ _ initiated (eqb_self x.call)) in
-    let f = fewer (initiated_of x.call) (of_call x.call) (λ z h. (and_parts (is_initiated z.state) (z.call == x.call) h).1) s.connections in let t = two_le (is_some (call_of s x.call)) in omega (arith, p, w, f, t)
+    })
 
 -- what an initiated call's destination is
 pub record Outgoing (s : Rows) (x : ConnectionRecord) (d : ℕ) : Type 0 where
@@ -194,20 +144,6 @@ outgoing s x c r ex initiated ec =
       apart = apart;
       new = none_from (connection_of s x.call c.called) (λ z e.
           let k = found_key s x.call c.called z e in
-          let two = two_counted (of_call x.call) s.connections x z (connection_among s x.call x.device x ex) (connection_among s x.call c.called z e) (eqb_self x.call) (eq-eqb z.call x.call k.0) (λ q. apart (ap (λ (z : ConnectionRecord). z.device) q ∙ k.1)) in
+          let two = two_counted (parties_of x.call) s.connections x z (connection_among s x.call x.device x ex) (connection_among s x.call c.called z e) (eqb_self x.call) (eq-eqb z.call x.call k.0) (λ q. apart (ap (λ (z : ConnectionRecord). z.device) q ∙ k.1)) in
           let al = initiated_alone s x r (connection_among s x.call x.device x ex) initiated in omega (arith, two, al));
     }
-
-pub kept_phone_off_hook : (s : Rows) (m k call device : ℕ) → Rules s → Rules (moved s (moves_of (phone_off_hook s m k call device)))
-unfolding phone_off_hook arrive
-kept_phone_off_hook s m k call device r =
-    by_found (λ v. Rules (moved s (moves_of v))) _ _ _ (λ _. r) (λ c ec.
-    by_found (λ v. Rules (moved s (moves_of v))) _ _ _ (λ _. r) (λ x ex.
-    by_refusal (λ v. Rules (moved s (moves_of v))) _ _ _ (λ _. r) (λ state.
-    let key = found_key s call device x ex in
-    let own = own_key s call device x ex in
-    let initiated : is_initiated x.state ≡ true = not-false (is_initiated x.state) state in
-    let ec2 : call_of s x.call ≡ Some c = ap (call_of s) key.0 ∙ ec in
-    let go = outgoing s x c r own initiated ec2 in
-    subst (λ n. Rules (changed (changed s (originate x c.called).change) (PutConnection (arriving (destination_of s c.called) m k n c.called)))) key.0
-    (gone_out s x (arriving (destination_of s c.called) m k x.call c.called) c c.called r own initiated ec2 go.apart (arrived s m k x.call c.called go.planned) go.new))))

@@ -1,32 +1,24 @@
 -- The rules are kept by addGroup, addStation, addAgent, monitorStart and monitorStop.
 use Rattle.std.proofs.Common.{◌≡◌, ℕ, ◌+◌, inl, inr, Bool, true, false, ◌&&◌, ◌||◌, List, Option, Some, None, refl, sym, ◌∙◌, ap, subst, arith, eq-eqb}
-use Rattle.std.specs.Prelude.{◌==◌, IsTrue, is_some, max}
+use Rattle.std.specs.Prelude.{◌==◌, IsTrue, max}
 use Rattle.std.specs.List.{list_any}
 use Rattle.std.proofs.lemmas.Bool.{eqb-true, false_from_ne_true, and_right, or_cases, or_parts, or_right, or_left}
-use Rattle.acd_terms.specs.declared.rows.Rows.{Rows}
-use Rattle.acd_terms.specs.declared.record.GroupRecord.{GroupRecord}
-use Rattle.acd_terms.specs.declared.record.StationRecord.{StationRecord}
-use Rattle.acd_terms.specs.declared.record.AgentRecord.{AgentRecord}
-use Rattle.acd_terms.specs.declared.record.CallRecord.{CallRecord}
-use Rattle.acd_terms.specs.declared.record.ConnectionRecord.{ConnectionRecord}
-use Rattle.acd_terms.specs.declared.record.MonitorRecord.{MonitorRecord}
-use Rattle.acd_terms.specs.declared.state.AgentState.{AgentState}
+use Rattle.acd_laws.proofs.Types.{Rows, GroupRecord, StationRecord, AgentRecord, CallRecord, ConnectionRecord, MonitorRecord, ConnectionState, AgentState}
 use Rattle.acd_terms.specs.declared.state.AgentState.TheVariants as A
-use Rattle.acd_terms.specs.declared.state.ConnectionState.{ConnectionState}
 use Rattle.acd_terms.specs.declared.state.ConnectionState.TheVariants as S
 use Rattle.acd_terms.specs.declared.moves.Change.TheVariants.{PutGroup, PutStation, PutAgent, PutMonitor, RemoveMonitor}
 use Rattle.acd_terms.specs.Lists.{put_by, remove_by, count, Among, IsAscending}
 use Rattle.acd_terms.specs.States.{is_hold, is_live}
 use Rattle.acd_terms.specs.Scans.{at_monitor, group_of, station_of, agent_of, call_of, connection_of, is_group, is_station, is_planned, is_calling, is_used}
 use Rattle.acd_terms.specs.Writes.{with_group, with_station, with_agent, with_monitor, without_monitor}
-use Rattle.acd_terms.specs.Moves.{changed, moved}
-use Rattle.acd_terms.specs.Served.{moves_of}
+use Rattle.acd_terms.specs.Moves.{changed}
 use Rattle.acd_terms.specs.Rules.Plan.{group_order, station_order, agent_order, monitor_order}
-use Rattle.acd_laws.specs.Counts.{Rules, IsPlannedStation, IsPlannedGroup, SeatedAs, AgentRule, CallRule, GroupColumn, IsCaller, StandsAt, ConnectionRule, seated_at, ready_at, busy_at, pending_at}
-use Rattle.acd_laws.proofs.Lists.{one, any_some, ascending-put, ascending-remove, count-put_new, every_among, every_from, every-put, count_zero, none_from}
-use Rattle.acd_laws.proofs.State.{cmp_equal, groups_total, stations_total, agents_total, monitors_total, agent_find, group_put, station_put, call_among}
-use Rattle.acd_laws.proofs.Serving.{by_found, by_refusal}
-use Rattle.acd_terms.specs.Services.{add_group, add_station, add_agent, new_group, new_agent, monitor_start, monitor_stop, next_monitor}
+use Rattle.acd_laws.proofs.Facts.{Rules, IsPlannedStation, IsPlannedGroup, SeatedAs, AgentRule, CallRule, GroupColumn, IsCaller, StandsAt, ConnectionRule, seated_at, ready_at, busy_at, pending_at}
+use Rattle.acd_laws.proofs.Lists.{one, any_some, ascending-put, ascending-remove, count-put_new, every_among, every_from, every-put, count_zero}
+use Rattle.acd_laws.proofs.Keeping.{with_agents}
+use Rattle.acd_laws.proofs.Keyed.{cmp_equal}
+use Rattle.acd_laws.proofs.State.{groups_total, stations_total, agents_total, monitors_total, agent_find, group_put, station_put, call_among}
+use Rattle.acd_terms.specs.Services.{new_agent}
 
 any_false : {X : Type 0} (p : X → Bool) (xs : List X) → list_any p xs ≡ false → (x : X) → Among x xs → p x ≡ false
 any_false p xs e x a = false_from_ne_true (p x) (λ q. cc (any_some p xs x a q, e))
@@ -48,11 +40,9 @@ nobody_at s d r free z a =
     cases : (st : ConnectionState) → z.device ≡ d → is_group s d ≡ false → is_station s d ≡ false → list_any (λ (c : CallRecord). c.caller == d) s.calls ≡ false → StandsAt s z st → ⊥
     cases S.Queued e g t f h = cc (subst (λ v. is_group s v ≡ true) e h, g)
     cases S.Initiated e g t f h = cc (subst (λ v. is_station s v ≡ true) e h.0, t)
-    cases S.Alerting e g t f h = cc (subst (λ v. is_station s v ≡ true) e h, t)
-    cases S.Hold e g t f h = cc (subst (λ v. is_station s v ≡ true) e h, t)
-    cases S.Fail e g t f h = cc (subst (λ v. is_station s v ≡ true) e h, t)
     cases S.Connected e g t f (inl h) = cc (subst (λ v. is_station s v ≡ true) e h, t)
     cases S.Connected e g t f (inr h) = caller (call_of s z.call) refl e f h.1
+    cases _ e g t f h = cc (subst (λ v. is_station s v ≡ true) e h, t)
 
 -- seats and columns with more devices planned
 more_station : (s t : Rows) → ((d : ℕ) → IsTrue (is_station s d) → IsTrue (is_station t d)) → (o : Option ℕ) → IsPlannedStation s o → IsPlannedStation t o
@@ -65,10 +55,7 @@ more_group s t f (Some d) h = f d h
 
 more_seat : (s t : Rows) → ((d : ℕ) → IsTrue (is_station s d) → IsTrue (is_station t d)) → ((d : ℕ) → IsTrue (is_group s d) → IsTrue (is_group t d)) → (a : AgentRecord) (st : AgentState) → SeatedAs s a st → SeatedAs t a st
 more_seat s t f g a A.Null h = h
-more_seat s t f g a A.NotReady h = (more_station s t f a.station h.0, more_group s t g a.group h.1)
-more_seat s t f g a A.Ready h = (more_station s t f a.station h.0, more_group s t g a.group h.1)
-more_seat s t f g a A.Busy h = (more_station s t f a.station h.0, more_group s t g a.group h.1)
-more_seat s t f g a A.WorkingAfterCall h = (more_station s t f a.station h.0, more_group s t g a.group h.1)
+more_seat s t f g a _ h = (more_station s t f a.station h.0, more_group s t g a.group h.1)
 
 more_column : (s t : Rows) → ((d : ℕ) → IsTrue (is_group s d) → IsTrue (is_group t d)) → (o : Option ℕ) → GroupColumn s o → GroupColumn t o
 more_column s t g None h = tt
@@ -78,14 +65,12 @@ more_stands : (s t : Rows) → ((d : ℕ) → IsTrue (is_station s d) → IsTrue
     → (is_planned s z.device ≡ false → is_planned t z.device ≡ false) → (st : ConnectionState) → StandsAt s z st → StandsAt t z st
 more_stands s t f g z c p S.Queued h = g z.device h
 more_stands s t f g z c p S.Initiated h = (f z.device h.0, subst (λ o. IsCaller o z.device) (sym c) h.1)
-more_stands s t f g z c p S.Alerting h = f z.device h
-more_stands s t f g z c p S.Hold h = f z.device h
-more_stands s t f g z c p S.Fail h = f z.device h
 more_stands s t f g z c p S.Connected (inl h) = inl (f z.device h)
 more_stands s t f g z c p S.Connected (inr h) = inr (p h.0, subst (λ o. IsCaller o z.device) (sym c) h.1)
+more_stands s t f g z c p _ h = f z.device h
 
 -- a group is planned
-kept_group : (s : Rows) (g : GroupRecord) → Rules s → is_used s g.device ≡ false → Rules (changed s (PutGroup g))
+pub kept_group : (s : Rows) (g : GroupRecord) → Rules s → is_used s g.device ≡ false → Rules (changed s (PutGroup g))
 unfolding is_calling with_group call_of connection_of agent_of station_of
 kept_group s g r free =
     let t : Rows = changed s (PutGroup g) in
@@ -118,7 +103,7 @@ kept_group s g r free =
     }
 
 -- a station is planned
-kept_station : (s : Rows) (g : StationRecord) → Rules s → is_used s g.device ≡ false → Rules (changed s (PutStation g))
+pub kept_station : (s : Rows) (g : StationRecord) → Rules s → is_used s g.device ≡ false → Rules (changed s (PutStation g))
 unfolding is_calling with_station call_of connection_of agent_of group_of
 kept_station s g r free =
     let t : Rows = changed s (PutStation g) in
@@ -148,51 +133,21 @@ kept_station s g r free =
       free = r.free;
     }
 
-pub kept_add_group : (s : Rows) (device : ℕ) (name : List ℕ) (ring wrap : ℕ) → Rules s → Rules (moved s (moves_of (add_group s device name ring wrap)))
-unfolding add_group
-kept_add_group s device name ring wrap r =
-    by_refusal (λ v. Rules (moved s (moves_of v))) _ _ _ (λ _. r) (λ free.
-    by_refusal (λ v. Rules (moved s (moves_of v))) _ _ _ (λ _. r) (λ _.
-    kept_group s (new_group device name ring wrap) r free))
-
-pub kept_add_station : (s : Rows) (device : ℕ) → Rules s → Rules (moved s (moves_of (add_station s device)))
-unfolding add_station
-kept_add_station s device r =
-    by_refusal (λ v. Rules (moved s (moves_of v))) _ _ _ (λ _. r) (λ free.
-    by_refusal (λ v. Rules (moved s (moves_of v))) _ _ _ (λ _. r) (λ _.
-    kept_station s (record { device = device }) r free))
-
 -- an agent is planned, in null
-kept_new_agent : (s : Rows) (m k agent : ℕ) (name : List ℕ) → Rules s → agent_of s agent ≡ None → Rules (changed s (PutAgent (new_agent m k agent name)))
+pub kept_new_agent : (s : Rows) (m k agent : ℕ) (name : List ℕ) → Rules s → agent_of s agent ≡ None → Rules (changed s (PutAgent (new_agent m k agent name)))
 unfolding with_agent call_of connection_of group_of station_of
 kept_new_agent s m k agent name r none =
     let b : AgentRecord = new_agent m k agent name in
     let counts : (p : AgentRecord → Bool) → count p (put_by (agent_order b) s.agents b) ≡ one (p b) + count p s.agents = λ p.
     count-put_new agent_order (λ (y : AgentRecord). y.agent == agent) p b (λ y q. eq-eqb y.agent agent (sym (cmp_equal agent y.agent q))) s.agents (sym (agent_find s agent) ∙ none) in
-    record {
-      orders = record { agents = ascending-put agent_order agents_total b s.agents r.orders.agents; groups = r.orders.groups; stations = r.orders.stations; monitors = r.orders.monitors; calls = r.orders.calls; connections = r.orders.connections };
-      kinds = r.kinds;
-      agents = every-put (agent_order b) (AgentRule s) b (refl, refl, refl) s.agents r.agents;
-      calls = r.calls;
-      connections = r.connections;
-      parties = r.parties;
-      one_open = r.one_open;
-      one_live = r.one_live;
-      no_hold = r.no_hold;
-      one_offer = r.one_offer;
+    with_agents (λ _. false) (λ _. false) s (put_by (agent_order b) s.agents b) r (λ d e. e) (record {
+      sorted = ascending-put agent_order agents_total b s.agents r.orders.agents;
+      rules = every-put (agent_order b) (AgentRule s) b (refl, refl, refl) s.agents r.agents;
       one_agent = λ d. let c = counts (seated_at d) in let o = r.one_agent d in omega (arith, c, o);
       ready = λ d q. let c = counts (ready_at d) in let o = r.ready d q in omega (arith, c, o);
       busy = λ d q. let c = counts (busy_at d) in let o = r.busy d q in omega (arith, c, o);
       pending = λ d q. let c = counts (pending_at d) in let o = r.pending d q in omega (arith, c, o);
-      free = r.free;
-    }
-
-pub kept_add_agent : (s : Rows) (m k agent : ℕ) (name : List ℕ) → Rules s → Rules (moved s (moves_of (add_agent s m k agent name)))
-unfolding add_agent
-kept_add_agent s m k agent name r =
-    by_refusal (λ v. Rules (moved s (moves_of v))) _ _ _ (λ _. r) (λ new.
-    by_refusal (λ v. Rules (moved s (moves_of v))) _ _ _ (λ _. r) (λ _.
-    kept_new_agent s m k agent name r (none_from (agent_of s agent) (λ a e. cc (new, ap is_some e)))))
+    })
 
 -- the monitors may change
 pub with_monitors : (s : Rows) (ws : List MonitorRecord) (n : ℕ) → Rules s → IsAscending monitor_order ws → Rules (record s { monitors = ws; last_monitor = n })
@@ -215,22 +170,10 @@ with_monitors s ws n r h = record {
   free = r.free;
 }
 
-started : (s : Rows) (w : MonitorRecord) → Rules s → Rules (changed s (PutMonitor w))
+pub started : (s : Rows) (w : MonitorRecord) → Rules s → Rules (changed s (PutMonitor w))
 unfolding with_monitor
 started s w r = with_monitors s (put_by (monitor_order w) s.monitors w) (max s.last_monitor w.monitor) r (ascending-put monitor_order monitors_total w s.monitors r.orders.monitors)
 
-stopped : (s : Rows) (n : ℕ) → Rules s → Rules (changed s (RemoveMonitor n))
+pub stopped : (s : Rows) (n : ℕ) → Rules s → Rules (changed s (RemoveMonitor n))
 unfolding without_monitor
 stopped s n r = with_monitors s (remove_by (at_monitor n) s.monitors) s.last_monitor r (ascending-remove monitor_order (at_monitor n) s.monitors r.orders.monitors)
-
-pub kept_monitor_start : (s : Rows) (device : ℕ) → Rules s → Rules (moved s (moves_of (monitor_start s device)))
-unfolding monitor_start
-kept_monitor_start s device r =
-    by_refusal (λ v. Rules (moved s (moves_of v))) _ _ _ (λ _. r) (λ _.
-    by_refusal (λ v. Rules (moved s (moves_of v))) _ _ _ (λ _. r) (λ _.
-    started s (record { monitor = next_monitor s; device = device; after_event = s.last_event }) r))
-
-pub kept_monitor_stop : (s : Rows) (monitor : ℕ) → Rules s → Rules (moved s (moves_of (monitor_stop s monitor)))
-unfolding monitor_stop
-kept_monitor_stop s monitor r =
-    by_found (λ v. Rules (moved s (moves_of v))) _ _ _ (λ _. r) (λ w _. stopped s monitor r)

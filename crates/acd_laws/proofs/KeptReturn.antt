@@ -2,9 +2,7 @@
 use Rattle.std.proofs.Common.{◌≡◌, ℕ, ◌+◌, inl, inr, Bool, true, false, not, ◌&&◌, Some, None, refl, sym, ◌∙◌, ap, subst, arith, eq-eqb}
 use Rattle.std.specs.Prelude.{◌==◌, IsTrue, IsFalse}
 use Rattle.std.proofs.lemmas.Bool.{and_parts, and_from, eqb-true, or_left}
-use Rattle.acd_terms.specs.declared.rows.Rows.{Rows}
-use Rattle.acd_terms.specs.declared.record.ConnectionRecord.{ConnectionRecord}
-use Rattle.acd_terms.specs.declared.state.ConnectionState.{ConnectionState}
+use Rattle.acd_laws.proofs.Types.{Rows, ConnectionRecord, ConnectionState}
 use Rattle.acd_terms.specs.declared.state.ConnectionState.TheVariants as S
 use Rattle.acd_terms.specs.declared.moves.Change.TheVariants.{PutConnection, RemoveConnection}
 use Rattle.acd_terms.specs.declared.moves.Ending.TheVariants.{NoAnswer}
@@ -15,11 +13,15 @@ use Rattle.acd_terms.specs.Writes.{with_connection, without_connection}
 use Rattle.acd_terms.specs.Moves.{changed, moved}
 use Rattle.acd_terms.specs.CallMoves.{queueing}
 use Rattle.acd_terms.specs.Rules.Plan.{connection_order}
-use Rattle.acd_laws.specs.Counts.{RulesBut, Rules, Offered, AlertingColumns, HasColumns, GroupColumn, StandsAt, ConnectionRule, is_open, of_call, initiated_of, open_of, live_at, alerting_at, held_at, distributed_at, ringing_at, talking_at}
+use Rattle.acd_laws.proofs.Facts.{RulesBut, Rules, Offered, AlertingColumns, HasColumns, GroupColumn, StandsAt, ConnectionRule, ringing_at, talking_at}
+use Rattle.acd_terms.specs.Rules.Calls.{is_open, parties_of, initiated_of, open_of, live_at, alerting_at, hold_at}
+use Rattle.acd_terms.specs.OneOffer.{is_distributed_at}
 use Rattle.acd_laws.proofs.Lists.{one, ascending-put, ascending-remove, every-put, every-remove, two_counted, none_from}
-use Rattle.acd_laws.proofs.State.{eqb_self, connections_total, found_key, connection_among, still_none}
+use Rattle.acd_laws.proofs.Keyed.{eqb_self}
+use Rattle.acd_laws.proofs.State.{connections_total, found_key, connection_among, still_none}
 use Rattle.acd_laws.proofs.Found.{count_new, count_less, connection_rule}
-use Rattle.acd_laws.proofs.KeptOffer.{alerting_is}
+use Rattle.acd_laws.proofs.States.{alerting_is}
+use Rattle.acd_laws.proofs.Keeping.{with_connections}
 use Rattle.acd_laws.proofs.Releasing.{after_release, loosen}
 use Rattle.acd_terms.specs.Tick.{return_to}
 
@@ -27,11 +29,9 @@ use Rattle.acd_terms.specs.Tick.{return_to}
 at_group_queued : (s : Rows) (z : ConnectionRecord) (st : ConnectionState) → ((d : ℕ) → IsTrue (is_group s d) → IsFalse (is_station s d)) → StandsAt s z st → IsTrue (is_group s z.device) → st ≡ S.Queued
 at_group_queued s z S.Queued kinds h g = refl
 at_group_queued s z S.Initiated kinds h g = absurd (cc (h.0, kinds z.device g))
-at_group_queued s z S.Alerting kinds h g = absurd (cc (h, kinds z.device g))
-at_group_queued s z S.Hold kinds h g = absurd (cc (h, kinds z.device g))
-at_group_queued s z S.Fail kinds h g = absurd (cc (h, kinds z.device g))
 at_group_queued s z S.Connected kinds (inl h) g = absurd (cc (h, kinds z.device g))
 at_group_queued s z S.Connected kinds (inr h) g = absurd (cc (h.0, or_left (is_group s z.device) (is_station s z.device) g))
+at_group_queued s z _ kinds h g = absurd (cc (h, kinds z.device g))
 
 pub and_not : (a : Bool) → (a && not a) ≡ false
 and_not true = refl
@@ -70,34 +70,23 @@ kept_return_to s m k g x r ex alerting group =
     let e1 = count_new p u y (still_none s x.call x.device x.call g r.orders.connections none) in
     let e2 = count_less p s x.call x.device x ex in omega (arith, e1, e2) in
     let dist : is_distributed x ≡ true = rw (group, xs) refl in
-    let vacant : count (distributed_at x.device) v.connections ≡ 0 =
-    let c = counts (distributed_at x.device) in let o = r.one_offer x.device in
-    let f : one (distributed_at x.device x) ≡ 1 = ap one (and_from _ _ dist (eqb_self x.device)) in omega (arith, c, o, f) in
+    let vacant : count (is_distributed_at x.device) v.connections ≡ 0 =
+    let c = counts (is_distributed_at x.device) in let o = r.one_offer x.device in
+    let f : one (is_distributed_at x.device x) ≡ 1 = ap one (and_from _ _ dist (eqb_self x.device)) in omega (arith, c, o, f) in
     let loose : ℕ → Bool = λ e. is_distributed x && (x.device == e) in
-    let rv : RulesBut loose v = record {
-      orders = record {
-        groups = r.orders.groups;
-        stations = r.orders.stations;
-        agents = r.orders.agents;
-        monitors = r.orders.monitors;
-        calls = r.orders.calls;
-        connections = ascending-put connection_order connections_total y u.connections (ascending-remove connection_order _ s.connections r.orders.connections);
-      };
-      kinds = r.kinds;
-      agents = r.agents;
-      calls = r.calls;
-      connections = every-put (connection_order y) (ConnectionRule s) y (record { group = refl; place = columns.place; queued = columns.queued; offered = refl }, at_g, at_g) u.connections (every-remove _ (ConnectionRule s) s.connections r.connections);
-      parties = λ n. let e1 = counts (of_call n) in let e2 = counts (initiated_of n) in let p = r.parties n in let i : one (initiated_of n x) ≡ 0 = rw xs refl in omega (arith, e1, e2, p, i);
+    let rv : RulesBut loose v = with_connections loose s v.connections r (record {
+      sorted = ascending-put connection_order connections_total y u.connections (ascending-remove connection_order _ s.connections r.orders.connections);
+      rules = every-put (connection_order y) (ConnectionRule s) y (record { group = refl; place = columns.place; queued = columns.queued; offered = refl }, at_g, at_g) u.connections (every-remove _ (ConnectionRule s) s.connections r.connections);
+      parties = λ n. let e1 = counts (parties_of n) in let e2 = counts (initiated_of n) in let p = r.parties n in let i : one (initiated_of n x) ≡ 0 = rw xs refl in omega (arith, e1, e2, p, i);
       one_open = λ n. let e = counts (open_of n) in let o = r.one_open n in let f : one (open_of n x) ≡ one (x.call == n) = rw xs refl in omega (arith, e, o, f);
       one_live = λ e h. let c = counts (live_at e) in let o = r.one_live e h in omega (arith, c, o);
-      no_hold = λ e h l. let c = counts (alerting_at e) in let ch = counts (held_at e) in let fh : one (held_at e x) ≡ 0 = rw xs refl in
+      no_hold = λ e h l. let c = counts (alerting_at e) in let ch = counts (hold_at e) in let fh : one (hold_at e x) ≡ 0 = rw xs refl in
           let o = r.no_hold e h (omega (arith, c, l)) in omega (arith, ch, fh, o);
-      one_offer = λ e. let c = counts (distributed_at e) in let o = r.one_offer e in omega (arith, c, o);
-      one_agent = r.one_agent;
+      one_offer = λ e. let c = counts (is_distributed_at e) in let o = r.one_offer e in omega (arith, c, o);
       ready = λ e _. let c = counts (ringing_at e) in let o = r.ready e refl in omega (arith, c, o);
       busy = λ e _. let c = counts (talking_at e) in let o = r.busy e refl in let f : one (talking_at e x) ≡ 0 = rw xs refl in omega (arith, c, o, f);
-      pending = λ e h. let c = counts (distributed_at e) in let o = r.pending e refl in let f : one (distributed_at e x) ≡ 0 = ap one h in omega (arith, c, o, f);
-      free = λ e h. subst (λ d. count (distributed_at d) v.connections ≡ 0) (eqb-true x.device e (and_parts (is_distributed x) (x.device == e) h).1) vacant;
-    } in
+      pending = λ e h. let c = counts (is_distributed_at e) in let o = r.pending e refl in let f : one (is_distributed_at e x) ≡ 0 = ap one h in omega (arith, c, o, f);
+      free = λ e h. subst (λ d. count (is_distributed_at d) v.connections ≡ 0) (eqb-true x.device e (and_parts (is_distributed x) (x.device == e) h).1) vacant;
+    }) in
     loosen (λ e. loose e && not (loose e)) (λ _. false) _ (λ e q. absurd (cc (q))) (λ e q. and_not (loose e))
     (after_release loose s v x NoAnswer m k rv (λ a h. h.there) r among (λ _. vacant) (record { stays = λ _ w q. alerting }))

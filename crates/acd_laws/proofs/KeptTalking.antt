@@ -1,12 +1,9 @@
 -- The rules are kept by answerCall, holdCall and retrieveCall.
-use Rattle.std.proofs.Common.{◌≡◌, ℕ, ◌+◌, ◌≤◌, inl, Bool, true, false, not, ◌&&◌, cond, List, [], ◌∷◌, Option, Some, None, refl, sym, ap, subst, arith}
+use Rattle.std.proofs.Common.{◌≡◌, ℕ, ◌+◌, ◌≤◌, inl, Bool, true, false, not, ◌&&◌, cond, List, [], ◌∷◌, Option, Some, None, refl, ap, subst, arith}
 use Rattle.std.specs.Prelude.{◌==◌, IsTrue, is_some}
-use Rattle.std.proofs.lemmas.Bool.{and_parts, and_from, eqb-true, false_from_ne_true, not-false}
-use Rattle.acd_terms.specs.declared.rows.Rows.{Rows}
-use Rattle.acd_terms.specs.declared.record.AgentRecord.{AgentRecord}
-use Rattle.acd_terms.specs.declared.record.ConnectionRecord.{ConnectionRecord}
+use Rattle.std.proofs.lemmas.Bool.{and_parts, and_from, false_from_ne_true}
+use Rattle.acd_laws.proofs.Types.{Rows, AgentRecord, ConnectionRecord, ConnectionState}
 use Rattle.acd_terms.specs.declared.state.AgentState.TheVariants as A
-use Rattle.acd_terms.specs.declared.state.ConnectionState.{ConnectionState}
 use Rattle.acd_terms.specs.declared.state.ConnectionState.TheVariants as S
 use Rattle.acd_terms.specs.declared.moves.Change.TheVariants.{PutConnection}
 use Rattle.acd_terms.specs.Lists.{put_by, count, Every, IsAscending}
@@ -16,24 +13,25 @@ use Rattle.acd_terms.specs.Writes.{with_agent, with_connection}
 use Rattle.acd_terms.specs.Moves.{no_move, changed, moved}
 use Rattle.acd_terms.specs.CallMoves.{talking, hold, retrieve}
 use Rattle.acd_terms.specs.AgentMoves.{become_busy}
-use Rattle.acd_terms.specs.Served.{moves_of}
 use Rattle.acd_terms.specs.Rules.Plan.{agent_order, connection_order}
-use Rattle.acd_laws.specs.Counts.{Rules, AgentRule, Bare, HasColumns, StandsAt, ConnectionRule, is_open, of_call, initiated_of, open_of, live_at, alerting_at, held_at, distributed_at, ringing_at, talking_at, seated_at, ready_at, busy_at, pending_at}
+use Rattle.acd_laws.proofs.Facts.{Rules, AgentRule, Bare, HasColumns, StandsAt, ConnectionRule, ringing_at, talking_at, seated_at, ready_at, busy_at, pending_at}
+use Rattle.acd_terms.specs.Rules.Calls.{is_open, parties_of, initiated_of, open_of, live_at, alerting_at, hold_at}
+use Rattle.acd_terms.specs.OneOffer.{is_distributed_at}
 use Rattle.acd_laws.proofs.Lists.{one, ascending-put, every-put, counted, none_counted, fewer, both_fewer}
-use Rattle.acd_laws.proofs.State.{agents_total, connections_total, found_key, own_key, connection_among}
+use Rattle.acd_laws.proofs.State.{agents_total, connections_total, connection_among}
 use Rattle.acd_laws.proofs.Found.{count_old, count_agent, connection_rule}
-use Rattle.acd_laws.proofs.KeptArrival.{one_le}
-use Rattle.acd_laws.proofs.KeptOffer.{ringing_is, alerting_is, ready_is}
+use Rattle.acd_laws.proofs.Keeping.{with_connections, most_one}
+use Rattle.acd_laws.proofs.KeptOffer.{ringing_is}
+use Rattle.acd_laws.proofs.States.{alerting_is, ready_is, connected_is, hold_is}
 use Rattle.acd_laws.proofs.Releasing.{Serves, serving}
-use Rattle.acd_laws.proofs.Serving.{by_found, by_refusal}
-use Rattle.acd_terms.specs.Services.{answer_call, hold_call, retrieve_call, occupy, busy_agent}
+use Rattle.acd_terms.specs.Services.{occupy, busy_agent}
 
 -- an answer: the connection is connected, and agents are filter after it
 after_answer : (s : Rows) (x : ConnectionRecord) (agents : List AgentRecord) → Rules s → connection_of s x.call x.device ≡ Some x → is_alerting x.state ≡ true
     → IsAscending agent_order agents → Every (AgentRule s) agents → ((d : ℕ) → count (seated_at d) agents ≤ 1)
     → ((d : ℕ) → count (ringing_at d) s.connections ≤ count (ready_at d) agents + one (ringing_at d x))
     → ((d : ℕ) → count (talking_at d) s.connections + one (ringing_at d x) ≡ count (busy_at d) agents)
-    → ((d : ℕ) → count (pending_at d) agents ≤ count (distributed_at d) s.connections)
+    → ((d : ℕ) → count (pending_at d) agents ≤ count (is_distributed_at d) s.connections)
     → Rules (record s { connections = put_by (connection_order (talking x)) s.connections (talking x); agents = agents })
 unfolding call_of connection_of agent_of group_of station_of
 after_answer s x agents r ex alerting sorted rules one_agent ready busy pending =
@@ -55,15 +53,15 @@ after_answer s x agents r ex alerting sorted rules one_agent ready busy pending 
       agents = rules;
       calls = r.calls;
       connections = every-put (connection_order y) (ConnectionRule s) y (record { place = refl; queued = refl; offered = refl }, rule.1, inl at_x) s.connections r.connections;
-      parties = λ n. let e1 = counts (of_call n) in let e2 = counts (initiated_of n) in let p = r.parties n in let i : one (initiated_of n x) ≡ 0 = rw xs refl in omega (arith, e1, e2, p, i);
+      parties = λ n. let e1 = counts (parties_of n) in let e2 = counts (initiated_of n) in let p = r.parties n in let i : one (initiated_of n x) ≡ 0 = rw xs refl in omega (arith, e1, e2, p, i);
       one_open = λ n. let e = counts (open_of n) in let o = r.one_open n in omega (arith, e, o);
       one_live = λ e h. let c = counts (live_at e) in let o = r.one_live e h in let f : one (live_at e x) ≡ one (x.device == e) = rw xs refl in omega (arith, c, o, f);
-      no_hold = λ e h l. let c = counts (alerting_at e) in let ch = counts (held_at e) in let o = r.no_hold e h (omega (arith, c, l)) in omega (arith, ch, o);
-      one_offer = λ e. let c = counts (distributed_at e) in let o = r.one_offer e in let f : one (distributed_at e x) ≡ one (distributed_at e y) = rw xs refl in omega (arith, c, o, f);
+      no_hold = λ e h l. let c = counts (alerting_at e) in let ch = counts (hold_at e) in let o = r.no_hold e h (omega (arith, c, l)) in omega (arith, ch, o);
+      one_offer = λ e. let c = counts (is_distributed_at e) in let o = r.one_offer e in let f : one (is_distributed_at e x) ≡ one (is_distributed_at e y) = rw xs refl in omega (arith, c, o, f);
       one_agent = one_agent;
       ready = λ e _. let c = counts (ringing_at e) in let o = ready e in omega (arith, c, o);
       busy = λ e _. let c = counts (talking_at e) in let o = busy e in let f : one (talking_at e x) ≡ 0 = rw xs refl in let g : one (ringing_at e x) ≡ one (talking_at e y) = rw xs refl in omega (arith, c, o, f, g);
-      pending = λ e _. let c = counts (distributed_at e) in let o = pending e in let f : one (distributed_at e x) ≡ one (distributed_at e y) = rw xs refl in omega (arith, c, o, f);
+      pending = λ e _. let c = counts (is_distributed_at e) in let o = pending e in let f : one (is_distributed_at e x) ≡ one (is_distributed_at e y) = rw xs refl in omega (arith, c, o, f);
       free = λ e h. absurd (cc (h));
     }
 
@@ -97,7 +95,7 @@ busy_by : (s : Rows) (m k : ℕ) (x : ConnectionRecord) (o : Option AgentRecord)
 busy_by s m k x None a e r = absurd (cc (e))
 busy_by s m k x (Some z) a e r = let same : z ≡ a = cc in rw same r
 
-kept_answer : (s : Rows) (m k : ℕ) (x : ConnectionRecord) → Rules s → connection_of s x.call x.device ≡ Some x → is_alerting x.state ≡ true
+pub kept_answer : (s : Rows) (m k : ℕ) (x : ConnectionRecord) → Rules s → connection_of s x.call x.device ≡ Some x → is_alerting x.state ≡ true
     → Rules (changed (changed s (PutConnection (talking x))) (occupy s m k x).change)
 unfolding occupy
 kept_answer s m k x r ex alerting =
@@ -107,35 +105,11 @@ kept_answer s m k x r ex alerting =
       | false ↦ λ e. answer_plain s x r ex alerting e
     ]) refl
 
-pub kept_answer_call : (s : Rows) (m k call device : ℕ) → Rules s → Rules (moved s (moves_of (answer_call s m k call device)))
-unfolding answer_call
-kept_answer_call s m k call device r =
-    by_found (λ v. Rules (moved s (moves_of v))) _ _ _ (λ _. r) (λ c ec.
-    by_found (λ v. Rules (moved s (moves_of v))) _ _ _ (λ _. r) (λ x ex.
-    by_refusal (λ v. Rules (moved s (moves_of v))) _ _ _ (λ _. r) (λ alerting.
-    kept_answer s m k x r (own_key s call device x ex) (not-false (is_alerting x.state) alerting))))
-
-pub connected_is : (st : ConnectionState) → is_connected st ≡ true → st ≡ S.Connected
-connected_is S.Connected e = refl
-connected_is S.Alerting e = absurd (cc (e))
-connected_is S.Initiated e = absurd (cc (e))
-connected_is S.Queued e = absurd (cc (e))
-connected_is S.Hold e = absurd (cc (e))
-connected_is S.Fail e = absurd (cc (e))
-
-pub hold_is : (st : ConnectionState) → is_hold st ≡ true → st ≡ S.Hold
-hold_is S.Hold e = refl
-hold_is S.Alerting e = absurd (cc (e))
-hold_is S.Initiated e = absurd (cc (e))
-hold_is S.Queued e = absurd (cc (e))
-hold_is S.Connected e = absurd (cc (e))
-hold_is S.Fail e = absurd (cc (e))
-
 -- a connected call and a held one change places: x before, y after
 turned : (s : Rows) (x y : ConnectionRecord) → Rules s → connection_of s x.call x.device ≡ Some x → y.call ≡ x.call → y.device ≡ x.device → ConnectionRule s y
     → is_answered x.state ≡ true → is_answered y.state ≡ true → y.group ≡ x.group
     → ((d : ℕ) → IsTrue (is_station s d) → count (live_at d) (put_by (connection_order y) s.connections y) ≤ 1)
-    → ((d : ℕ) → IsTrue (is_station s d) → 1 ≤ count (alerting_at d) s.connections → count (held_at d) (put_by (connection_order y) s.connections y) ≡ 0)
+    → ((d : ℕ) → IsTrue (is_station s d) → 1 ≤ count (alerting_at d) s.connections → count (hold_at d) (put_by (connection_order y) s.connections y) ≡ 0)
     → Rules (changed s (PutConnection y))
 unfolding with_connection call_of connection_of agent_of group_of station_of
 turned s x y r ex yc yd rule ax ay yg one_live no_hold =
@@ -143,47 +117,30 @@ turned s x y r ex yc yd rule ax ay yg one_live no_hold =
     let counts : (p : ConnectionRecord → Bool) → count p (put_by (connection_order y) s.connections y) + one (p x) ≡ one (p y) + count p s.connections = λ p. count_old p s y x r.orders.connections same in
     let none : (st : ConnectionState) → is_answered st ≡ true → (is_initiated st ≡ false) × (is_open st ≡ false) × (is_alerting st ≡ false) × (is_queued st ≡ false) = answered_only in
     let nx = none x.state ax in let ny = none y.state ay in
-    record {
-      orders = record {
-        groups = r.orders.groups;
-        stations = r.orders.stations;
-        agents = r.orders.agents;
-        monitors = r.orders.monitors;
-        calls = r.orders.calls;
-        connections = ascending-put connection_order connections_total y s.connections r.orders.connections;
-      };
-      kinds = r.kinds;
-      agents = r.agents;
-      calls = r.calls;
-      connections = every-put (connection_order y) (ConnectionRule s) y rule s.connections r.connections;
-      parties = λ n. let e1 = counts (of_call n) in let e2 = counts (initiated_of n) in let p = r.parties n in
-          let i : one (initiated_of n x) ≡ 0 = rw nx.0 refl in let j : one (initiated_of n y) ≡ 0 = rw ny.0 refl in let c : one (of_call n y) ≡ one (of_call n x) = rw yc refl in omega (arith, e1, e2, p, i, j, c);
+    with_connections (λ _. false) s (put_by (connection_order y) s.connections y) r (record {
+      sorted = ascending-put connection_order connections_total y s.connections r.orders.connections;
+      rules = every-put (connection_order y) (ConnectionRule s) y rule s.connections r.connections;
+      parties = λ n. let e1 = counts (parties_of n) in let e2 = counts (initiated_of n) in let p = r.parties n in
+          let i : one (initiated_of n x) ≡ 0 = rw nx.0 refl in let j : one (initiated_of n y) ≡ 0 = rw ny.0 refl in let c : one (parties_of n y) ≡ one (parties_of n x) = rw yc refl in omega (arith, e1, e2, p, i, j, c);
       one_open = λ n. let e = counts (open_of n) in let o = r.one_open n in let i : one (open_of n y) ≡ 0 = rw ny.1 refl in omega (arith, e, o, i);
       one_live = one_live;
       no_hold = λ d h l. let c = counts (alerting_at d) in let i : one (alerting_at d y) ≡ 0 = rw ny.2 refl in no_hold d h (omega (arith, c, i, l));
-      one_offer = λ d. let c = counts (distributed_at d) in let o = r.one_offer d in let i : one (distributed_at d y) ≡ one (distributed_at d x) = rw (yd, yg, ny.3, nx.3) refl in omega (arith, c, o, i);
-      one_agent = r.one_agent;
+      one_offer = λ d. let c = counts (is_distributed_at d) in let o = r.one_offer d in let i : one (is_distributed_at d y) ≡ one (is_distributed_at d x) = rw (yd, yg, ny.3, nx.3) refl in omega (arith, c, o, i);
       ready = λ d _. let c = counts (ringing_at d) in let o = r.ready d refl in let i : one (ringing_at d y) ≡ 0 = rw ny.2 refl in omega (arith, c, o, i);
       busy = λ d _. let c = counts (talking_at d) in let o = r.busy d refl in let i : one (talking_at d y) ≡ one (talking_at d x) = rw (yd, yg, ax, ay) refl in omega (arith, c, o, i);
-      pending = λ d _. let c = counts (distributed_at d) in let o = r.pending d refl in let i : one (distributed_at d y) ≡ one (distributed_at d x) = rw (yd, yg, ny.3, nx.3) refl in omega (arith, c, o, i);
+      pending = λ d _. let c = counts (is_distributed_at d) in let o = r.pending d refl in let i : one (is_distributed_at d y) ≡ one (is_distributed_at d x) = rw (yd, yg, ny.3, nx.3) refl in omega (arith, c, o, i);
       free = λ d h. absurd (cc (h));
-    }
+    })
   where
     answered_only : (st : ConnectionState) → is_answered st ≡ true → (is_initiated st ≡ false) × (is_open st ≡ false) × (is_alerting st ≡ false) × (is_queued st ≡ false)
     answered_only S.Connected e = (refl, refl, refl, refl)
     answered_only S.Hold e = (refl, refl, refl, refl)
-    answered_only S.Initiated e = absurd (cc (e))
-    answered_only S.Alerting e = absurd (cc (e))
-    answered_only S.Queued e = absurd (cc (e))
-    answered_only S.Fail e = absurd (cc (e))
+    answered_only _ e = absurd (cc (e))
 
 bare_answered : (s : Rows) (x : ConnectionRecord) (st : ConnectionState) → is_answered st ≡ true → HasColumns x st → Bare x
 bare_answered s x S.Connected e h = h
 bare_answered s x S.Hold e h = h
-bare_answered s x S.Initiated e h = absurd (cc (e))
-bare_answered s x S.Alerting e h = absurd (cc (e))
-bare_answered s x S.Queued e h = absurd (cc (e))
-bare_answered s x S.Fail e h = absurd (cc (e))
+bare_answered s x _ e h = absurd (cc (e))
 
 connected_at : ℕ → ConnectionRecord → Bool
 connected_at d x = is_connected x.state && x.device == d
@@ -192,11 +149,7 @@ alerting_or_connected : (d : ℕ) (x : ConnectionRecord) → one (alerting_at d 
 unfolding connected_at
 alerting_or_connected d x = elim x.state as (λ st. one (is_alerting st && x.device == d) + one (is_connected st && x.device == d) ≤ one (is_live st && x.device == d)) [
   | S.Queued ↦ omega arith
-  | S.Alerting ↦ omega arith
-  | S.Fail ↦ omega arith
-  | S.Initiated ↦ omega arith
-  | S.Connected ↦ omega arith
-  | S.Hold ↦ omega arith
+  | _ ↦ omega arith
 ]
 
 pub kept_hold : (s : Rows) (x : ConnectionRecord) → Rules s → connection_of s x.call x.device ≡ Some x → IsTrue (is_station s x.device) → is_connected x.state ≡ true → Rules (moved s (hold x ∷ []))
@@ -210,11 +163,11 @@ kept_hold s x r ex station connected =
     let counts : (p : ConnectionRecord → Bool) → count p (put_by (connection_order y) s.connections y) + one (p x) ≡ one (p y) + count p s.connections = λ p. count_old p s y x r.orders.connections ex in
     turned s x y r ex refl refl (record { place = b.place; queued = b.queued; offered = b.offered }, rule.1, station) (rw xs refl) refl refl
     (λ d h. let c = counts (live_at d) in let o = r.one_live d h in omega (arith, c, o))
-    (λ d h l. let c = counts (held_at d) in let f : one (held_at d x) ≡ 0 = rw xs refl in
-    (elim (x.device == d) as (λ v. (x.device == d) ≡ v → count (held_at d) (put_by (connection_order y) s.connections y) ≡ 0) [
+    (λ d h l. let c = counts (hold_at d) in let f : one (hold_at d x) ≡ 0 = rw xs refl in
+    (elim (x.device == d) as (λ v. (x.device == d) ≡ v → count (hold_at d) (put_by (connection_order y) s.connections y) ≡ 0) [
       | true ↦ λ e. let o = r.one_live d h in let w = counted (connected_at d) s.connections x among (and_from _ _ connected e) in
           let k = both_fewer (alerting_at d) (connected_at d) (live_at d) (alerting_or_connected d) s.connections in absurd (omega (arith, o, w, k, l))
-      | false ↦ λ e. let o = r.no_hold d h l in let g : one (held_at d y) ≡ 0 = ap one e in omega (arith, c, f, g, o)
+      | false ↦ λ e. let o = r.no_hold d h l in let g : one (hold_at d y) ≡ 0 = ap one e in omega (arith, c, f, g, o)
     ]) refl)
 
 pub no_live : (s : Rows) (d : ℕ) → is_live_at s d ≡ false → count (live_at d) s.connections ≡ 0
@@ -232,28 +185,5 @@ kept_retrieve s x r ex holds free =
     let station : IsTrue (is_station s x.device) = subst (StandsAt s x) xs rule.2 in
     let counts : (p : ConnectionRecord → Bool) → count p (put_by (connection_order y) s.connections y) + one (p x) ≡ one (p y) + count p s.connections = λ p. count_old p s y x r.orders.connections ex in
     turned s x y r ex refl refl (record { place = b.place; queued = b.queued; offered = b.offered }, rule.1, inl station) (rw xs refl) refl refl
-    (λ d h. let c = counts (live_at d) in
-    (elim (x.device == d) as (λ v. (x.device == d) ≡ v → count (live_at d) (put_by (connection_order y) s.connections y) ≤ 1) [
-      | true ↦ λ e. let z : count (live_at d) s.connections ≡ 0 = subst (λ w. count (live_at w) s.connections ≡ 0) (eqb-true x.device d e) (no_live s x.device free) in
-          let g = one_le (live_at d y) in omega (arith, c, z, g)
-      | false ↦ λ e. let o = r.one_live d h in let g : one (live_at d y) ≡ 0 = ap one e in omega (arith, c, o, g)
-    ]) refl)
-    (λ d h l. let c = counts (held_at d) in let o = r.no_hold d h l in omega (arith, c, o))
-
-pub kept_hold_call : (s : Rows) (call device : ℕ) → Rules s → Rules (moved s (moves_of (hold_call s call device)))
-unfolding hold_call
-kept_hold_call s call device r =
-    by_found (λ v. Rules (moved s (moves_of v))) _ _ _ (λ _. r) (λ c ec.
-    by_found (λ v. Rules (moved s (moves_of v))) _ _ _ (λ _. r) (λ x ex.
-    by_refusal (λ v. Rules (moved s (moves_of v))) _ _ _ (λ _. r) (λ station.
-    by_refusal (λ v. Rules (moved s (moves_of v))) _ _ _ (λ _. r) (λ connected.
-    kept_hold s x r (own_key s call device x ex) (subst (λ d. IsTrue (is_station s d)) (sym (found_key s call device x ex).1) (not-false (is_station s device) station)) (not-false (is_connected x.state) connected)))))
-
-pub kept_retrieve_call : (s : Rows) (call device : ℕ) → Rules s → Rules (moved s (moves_of (retrieve_call s call device)))
-unfolding retrieve_call
-kept_retrieve_call s call device r =
-    by_found (λ v. Rules (moved s (moves_of v))) _ _ _ (λ _. r) (λ c ec.
-    by_found (λ v. Rules (moved s (moves_of v))) _ _ _ (λ _. r) (λ x ex.
-    by_refusal (λ v. Rules (moved s (moves_of v))) _ _ _ (λ _. r) (λ holds.
-    by_refusal (λ v. Rules (moved s (moves_of v))) _ _ _ (λ _. r) (λ free.
-    kept_retrieve s x r (own_key s call device x ex) (not-false (is_hold x.state) holds) (subst (λ d. is_live_at s d ≡ false) (sym (found_key s call device x ex).1) free)))))
+    (λ d h. let c = counts (live_at d) in let o = most_one live_at s.connections x.device d (no_live s x.device free) (r.one_live d h) in omega (arith, c, o))
+    (λ d h l. let c = counts (hold_at d) in let o = r.no_hold d h l in omega (arith, c, o))

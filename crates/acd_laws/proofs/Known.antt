@@ -8,15 +8,10 @@ use Rattle.acd_terms.specs.Moves.{changed, moved, with_event, events_of}
 use Rattle.acd_terms.specs.Columns.{columns_of}
 use Rattle.acd_terms.specs.Placed.{clears, cleared_by}
 use Rattle.acd_terms.specs.Step.{numbered}
-use Rattle.acd_terms.specs.declared.rows.Rows.{Rows}
-use Rattle.acd_terms.specs.declared.record.CallRecord.{CallRecord}
-use Rattle.acd_terms.specs.declared.event.Event.{Event}
-use Rattle.acd_terms.specs.declared.event.Report.{Report}
-use Rattle.acd_terms.specs.declared.moves.Move.{Move}
-use Rattle.acd_terms.specs.declared.moves.Change.{Change}
-use Rattle.acd_terms.specs.declared.moves.Change.TheVariants.{Nothing, PutGroup, PutStation, PutAgent, PutCall, PutConnection, PutMonitor, RemoveCall, RemoveConnection, RemoveMonitor}
+use Rattle.acd_laws.proofs.Types.{Rows, CallRecord, Change, Event, Move, Report}
+use Rattle.acd_terms.specs.declared.moves.Change.TheVariants.{PutCall, RemoveCall}
 use Rattle.acd_laws.specs.PlacedLaws.{IsUpTo, NamesNoLaterCall, clearings, KeepsClearings}
-use Rattle.acd_laws.proofs.Lists.{one, count-append}
+use Rattle.acd_laws.proofs.Lists.{one, count-append, every-append}
 use Rattle.acd_laws.proofs.CountedEvents.{count_numbered}
 
 -- what a report that may be there clears and names
@@ -103,10 +98,6 @@ grown : (s : Rows) (ms : List Move) → AllCounted s ms → s.last_call ≤ (mov
 grown s [] h = omega arith
 grown s (x ∷ ms) h = let a = h.0.grows in let b = grown (changed s x.change) ms h.1 in omega (arith, a, b)
 
-every-append : {X : Type 0} (P : X → Type 0) (xs ys : List X) → Every P xs → Every P ys → Every P (xs ++ ys)
-every-append P [] ys h g = g
-every-append P (x ∷ xs) ys h g = (h.0, every-append P xs ys h.1 g)
-
 every_later : (last more : ℕ) → last ≤ more → (es : List Event) → Every (Named last) es → Every (Named more) es
 every_later last more l [] h = tt
 every_later last more l (e ∷ es) h = (later last more (columns_of e.report).call l h.0, every_later last more l es h.1)
@@ -143,16 +134,9 @@ SameCalls s t = (t.calls ≡ s.calls) × (t.last_call ≡ s.last_call)
 
 pub left_calls : (s : Rows) (c : Change) → LeavesCalls c → SameCalls s (changed s c)
 unfolding with_group with_station with_agent with_connection with_monitor without_connection without_monitor
-left_calls s Nothing h = (refl, refl)
-left_calls s (PutGroup g) h = (refl, refl)
-left_calls s (PutStation t) h = (refl, refl)
-left_calls s (PutAgent a) h = (refl, refl)
 left_calls s (PutCall c) h = absurd h
-left_calls s (PutConnection x) h = (refl, refl)
-left_calls s (PutMonitor w) h = (refl, refl)
 left_calls s (RemoveCall c) h = absurd h
-left_calls s (RemoveConnection c d) h = (refl, refl)
-left_calls s (RemoveMonitor w) h = (refl, refl)
+left_calls s _ h = (refl, refl)
 
 pub same_call : (s t : Rows) → SameCalls s t → (n : ℕ) → call_of t n ≡ call_of s n
 unfolding call_of

@@ -4,6 +4,7 @@ use Rattle.std.specs.Prelude.{nat_lt, ◌==◌}
 use Rattle.std.proofs.lemmas.Bool.Decides.{nat_tests}
 use Rattle.acd_terms.specs.Choice.{pair_lt, lesser, least_from}
 use Rattle.acd_terms.specs.Offers.{IsLeast, FindsLeast}
+use Rattle.acd_laws.proofs.Lists.{some_is}
 
 itself : (a b : ℕ) → (nat_lt a a || (a == a && nat_lt b b)) ≡ false
 itself a b = grind (arith, nat_tests)
@@ -67,9 +68,6 @@ found_from b [] = (b, (refl, record { there = inl refl; least = λ r a. elim a [
 found_from b (p ∷ ps) =
     let f = found_from (lesser (Some b) p) ps in
     (f.0, (f.1.0, least_with b p f.0 ps f.1.1))
-
-some_is : {T : Type 0} (x y : T) → Some x ≡ Some y → x ≡ y
-some_is x y e = cc
 
 pub none_of : (ps : List (ℕ × ℕ)) → least_from None ps ≡ None → ps ≡ []
 none_of [] e = refl

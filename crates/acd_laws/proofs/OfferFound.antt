@@ -1,5 +1,5 @@
 -- The offer that is found is the one that the relation allows.
-use Rattle.std.proofs.Common.{◌≡◌, ℕ, ◌<◌, inl, inr, List, [], ◌∷◌, Option, Some, None, refl, sym, ◌∙◌, ap, subst, arith, map}
+use Rattle.std.proofs.Common.{◌≡◌, ℕ, ◌<◌, inl, inr, List, [], ◌∷◌, Option, Some, None, refl, sym, ◌∙◌, ap, subst, arith, map, zero, suc}
 use Rattle.std.specs.Ordering.{nat_cmp}
 use Rattle.std.specs.declared.cmp.Ordering.TheVariants.{Less}
 use Rattle.std.proofs.lemmas.Bool.Decides.{nat_tests}
@@ -7,10 +7,10 @@ use Rattle.acd_terms.specs.Lists.{Among, AllAfter, IsAscending}
 use Rattle.acd_terms.specs.Scans.{waiting_in, eligible_in}
 use Rattle.acd_terms.specs.Choice.{waiting_pair, ready_pair, first_waiting, first_eligible, offer_or, offer_in, offer_of}
 use Rattle.acd_terms.specs.Offers.{IsLeast, HasNoOffer, IsOffer, FindsTheOffer}
-use Rattle.acd_terms.specs.declared.rows.Rows.{Rows}
-use Rattle.acd_terms.specs.declared.record.GroupRecord.{GroupRecord}
-use Rattle.acd_terms.specs.declared.moves.Offer.{Offer}
+use Rattle.acd_laws.proofs.Types.{Rows, GroupRecord, Offer}
 use Rattle.acd_laws.proofs.Least.{none_of, least_is, least_found, none_mapped}
+use Rattle.acd_laws.proofs.Lists.{some_is}
+use Rattle.acd_terms.specs.Distribution.{offers}
 
 -- what an offer is, over some of the groups
 pub record IsOfferIn (s : Rows) (gs : List GroupRecord) (o : Offer) : Type 0 where
@@ -87,9 +87,6 @@ of_first s g gs w r asc e f = record {
     | inr b ↦ (let late = later_device g k gs asc.0 b in absurd (omega (arith, l, late)))
   ];
 }
-
-some_is : {T : Type 0} (x y : T) → Some x ≡ Some y → x ≡ y
-some_is x y e = cc
 
 found_is : (s : Rows) (gs : List GroupRecord) (o : Offer) → Ascends gs → offer_in s gs ≡ Some o → IsOfferIn s gs o
 found_is s [] o asc e = absurd (cc (e))
@@ -187,3 +184,16 @@ none_in s (h ∷ gs) g e a =
 pub nothing_found : (s : Rows) (g : GroupRecord) → offer_of s ≡ None → Among g s.groups → HasNoOffer s g.device
 unfolding offer_of
 nothing_found s g e a = none_in s s.groups g e a
+
+-- and where none has one, none is found, and none made
+no_offer_in : (s : Rows) (gs : List GroupRecord) → ((g : GroupRecord) → Among g gs → HasNoOffer s g.device) → offer_in s gs ≡ None
+no_offer_in s [] h = refl
+no_offer_in s (g ∷ gs) h = passed s g.device (offer_in s gs) (h g (inl refl)) ∙ no_offer_in s gs (λ x there. h x (inr there))
+
+pub no_offer : (s : Rows) → ((g : GroupRecord) → Among g s.groups → HasNoOffer s g.device) → offer_of s ≡ None
+unfolding offer_of
+no_offer s h = no_offer_in s s.groups h
+
+pub no_offers : (n : ℕ) (s : Rows) (m : ℕ) → offer_of s ≡ None → offers n s m ≡ []
+no_offers zero s m e = refl
+no_offers (suc n) s m e = rw e refl

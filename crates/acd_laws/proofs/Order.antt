@@ -13,18 +13,13 @@ use Rattle.acd_terms.specs.Told.{enters, last_entry}
 use Rattle.acd_terms.specs.Watched.{is_held_by, IsHeldAt, InOrder}
 use Rattle.acd_terms.specs.Step.{numbered}
 use Rattle.acd_terms.specs.Rules.Plan.{connection_order}
-use Rattle.acd_terms.specs.declared.rows.Rows.{Rows}
-use Rattle.acd_terms.specs.declared.record.ConnectionRecord.{ConnectionRecord}
+use Rattle.acd_laws.proofs.Types.{Rows, ConnectionRecord, Event, Move, Report}
 use Rattle.acd_terms.specs.declared.state.ConnectionState.TheVariants as S
-use Rattle.acd_terms.specs.declared.event.Event.{Event}
-use Rattle.acd_terms.specs.declared.event.Report.{Report}
-use Rattle.acd_terms.specs.declared.moves.Move.{Move}
-use Rattle.acd_laws.specs.Counts.{is_open}
+use Rattle.acd_terms.specs.Rules.Calls.{is_open}
 use Rattle.acd_laws.proofs.Tells.{HasEntries, UpTo}
-use Rattle.acd_laws.proofs.Lists.{one, some_is}
-use Rattle.acd_laws.proofs.Members.{among_put}
-use Rattle.acd_laws.proofs.Serving.{moved-append}
-use Rattle.acd_laws.proofs.MoveEvents.{events-append, numbered-append}
+use Rattle.acd_laws.proofs.Lists.{one, some_is, among_put}
+use Rattle.acd_terms.proofs.MoveLemmas.{moved_append, events_of_append}
+use Rattle.acd_laws.proofs.CountedEvents.{numbered-append}
 use Rattle.acd_laws.proofs.Balance.{entries, entry_by}
 
 -- in order, each with an entry, and up to a stamp and an event's number
@@ -89,8 +84,8 @@ pub order-append : (m a b c : ℕ) (s : Rows) (ms ns : List Move) → OrderKept 
 order-append m a b c s ms ns f g events n o =
     let first : List Event = events_of m ms in
     let second : List Event = events_of m ns in
-    subst (λ t. Ordered c (n + length (events_of m (ms ++ ns))) t (events ++ numbered n (events_of m (ms ++ ns)))) (sym (moved-append s ms ns))
-    (subst (λ (es : List Event). Ordered c (n + length es) (moved (moved s ms) ns) (events ++ numbered n es)) (sym (events-append m ms ns))
+    subst (λ t. Ordered c (n + length (events_of m (ms ++ ns))) t (events ++ numbered n (events_of m (ms ++ ns)))) (sym (moved_append s ms ns))
+    (subst (λ (es : List Event). Ordered c (n + length es) (moved (moved s ms) ns) (events ++ numbered n es)) (sym (events_of_append m ms ns))
     (ordered_on c n (moved (moved s ms) ns) events first second (g (events ++ numbered n first) (n + length first) (f events n o))))
 
 -- what is held after a change of connections
@@ -112,12 +107,10 @@ held_put s t l y g c p within was same h =
 pub held_open : (g : ℕ) (z : ConnectionRecord) → is_held_by g z ≡ true → is_open z.state ≡ true
 held_open g z h =
     (elim z.state as (λ st. is_held_by g (record z { state = st }) ≡ true → is_open st ≡ true) [
-      | S.Queued ↦ λ _. refl
-      | S.Alerting ↦ λ _. refl
-      | S.Fail ↦ λ _. refl
       | S.Initiated ↦ λ q. absurd (cc (q))
       | S.Connected ↦ λ q. absurd (cc (q))
       | S.Hold ↦ λ q. absurd (cc (q))
+      | _ ↦ λ _. refl
     ]) h
 
 -- an entry: the new place is the greatest, and the new event the last

@@ -6,16 +6,13 @@ use Rattle.acd_terms.specs.Lists.{Among, count}
 use Rattle.acd_terms.specs.States.{is_queued, is_alerting, is_initiated}
 use Rattle.acd_terms.specs.Scans.{call_of, is_group, is_station}
 use Rattle.acd_terms.specs.Placed.{cleared_by, is_queued_of, is_alerting_of, IsCleared, IsWaiting, IsAtDevices, IsPlaced}
-use Rattle.acd_terms.specs.declared.rows.Rows.{Rows}
-use Rattle.acd_terms.specs.declared.record.CallRecord.{CallRecord}
-use Rattle.acd_terms.specs.declared.record.ConnectionRecord.{ConnectionRecord}
-use Rattle.acd_terms.specs.declared.state.ConnectionState.{ConnectionState}
+use Rattle.acd_laws.proofs.Types.{Rows, CallRecord, ConnectionRecord, ConnectionState, Event}
 use Rattle.acd_terms.specs.declared.state.ConnectionState.TheVariants as S
-use Rattle.acd_terms.specs.declared.event.Event.{Event}
-use Rattle.acd_laws.specs.Counts.{Rules, ConnectionRule, IsCaller, StandsAt, is_open, of_call, initiated_of, open_of, two_if}
+use Rattle.acd_laws.proofs.Facts.{Rules, ConnectionRule, IsCaller, StandsAt, two_if}
+use Rattle.acd_terms.specs.Rules.Calls.{is_open, parties_of, initiated_of, open_of}
 use Rattle.acd_laws.specs.PlacedLaws.{KeepsClearings, PlacesExclude}
 use Rattle.acd_laws.proofs.Lists.{one, every_among, counted, fewer, both_fewer}
-use Rattle.acd_laws.proofs.RulesRead.{zero_or}
+use Rattle.acd_laws.proofs.Decided.{zero_or}
 
 queued_or_alerting : (c : ℕ) (x : ConnectionRecord) → one (is_queued_of c x) + one (is_alerting_of c x) ≤ one (open_of c x)
 queued_or_alerting c x = go x.state (x.call == c)
@@ -23,34 +20,20 @@ queued_or_alerting c x = go x.state (x.call == c)
     go : (st : ConnectionState) (b : Bool) → one (b && is_queued st) + one (b && is_alerting st) ≤ one (is_open st && b)
     go S.Queued true = omega arith
     go S.Queued false = omega arith
-    go S.Alerting true = omega arith
-    go S.Alerting false = omega arith
-    go S.Fail true = omega arith
-    go S.Fail false = omega arith
-    go S.Initiated true = omega arith
-    go S.Initiated false = omega arith
-    go S.Connected true = omega arith
-    go S.Connected false = omega arith
-    go S.Hold true = omega arith
-    go S.Hold false = omega arith
+    go _ true = omega arith
+    go _ false = omega arith
 
 -- a connection that isn't queued stands at a station or at the caller
 at_device : (s : Rows) (x : ConnectionRecord) (k : CallRecord) (st : ConnectionState) → StandsAt s x st → is_queued st ≡ false → call_of s x.call ≡ Some k → (x.device ≡ k.caller) ⊎ (is_station s x.device ≡ true)
 at_device s x k S.Queued h e q = absurd (cc (e))
 at_device s x k S.Initiated h e q = inr h.0
-at_device s x k S.Alerting h e q = inr h
-at_device s x k S.Hold h e q = inr h
-at_device s x k S.Fail h e q = inr h
 at_device s x k S.Connected (inl h) e q = inr h
 at_device s x k S.Connected (inr h) e q = inl (sym (subst (λ o. IsCaller o x.device) q h.1))
+at_device s x k _ h e q = inr h
 
 at_queue : (s : Rows) (x : ConnectionRecord) (st : ConnectionState) → StandsAt s x st → is_queued st ≡ true → is_group s x.device ≡ true
 at_queue s x S.Queued h e = h
-at_queue s x S.Initiated h e = absurd (cc (e))
-at_queue s x S.Alerting h e = absurd (cc (e))
-at_queue s x S.Connected h e = absurd (cc (e))
-at_queue s x S.Hold h e = absurd (cc (e))
-at_queue s x S.Fail h e = absurd (cc (e))
+at_queue s x _ h e = absurd (cc (e))
 
 -- a live call waits in one queue, or is at devices
 placed_live : (s : Rows) (events : List Event) (c : ℕ) (k : CallRecord) → Rules s → call_of s c ≡ Some k → cleared_by c events ≡ 0 → IsWaiting s events c ⊎ IsAtDevices s events c
@@ -73,7 +56,7 @@ placed_live s events c k r live never =
         never = never;
         some =
             let p = r.parties c in
-            let f = fewer (initiated_of c) (of_call c) (λ w h. (and_parts (is_initiated w.state) (w.call == c) h).1) s.connections in
+            let f = fewer (initiated_of c) (parties_of c) (λ w h. (and_parts (is_initiated w.state) (w.call == c) h).1) s.connections in
             let t : two_if (is_some (call_of s c)) ≡ 2 = rw live refl in
             omega (arith, p, f, t);
         none_queued = z;

@@ -1,20 +1,18 @@
 -- Where each call stands after a step: from where each stood before it.
-use Rattle.std.proofs.Common.{◌≡◌, ℕ, ◌<◌, ◌⊎◌, inl, inr, Bool, true, false, ◌&&◌, List, Option, Some, None, refl, sym, ◌∙◌, ap, arith}
+use Rattle.std.proofs.Common.{◌≡◌, ℕ, ◌<◌, inl, inr, true, false, ◌&&◌, List, Option, refl, sym, ◌∙◌, ap, arith, ◌++◌}
 use Rattle.std.specs.Prelude.{◌==◌, is_none, nat_le}
 use Rattle.std.proofs.lemmas.Bool.{eqb-true, false_from_ne_true}
 use Rattle.std.proofs.lemmas.Bool.Decides.{leb_tells}
-use Rattle.acd_terms.specs.Lists.{Every}
 use Rattle.acd_terms.specs.Scans.{call_of}
 use Rattle.acd_terms.specs.Columns.{columns_of}
 use Rattle.acd_terms.specs.Placed.{clears, cleared_by, IsPlaced}
-use Rattle.acd_terms.specs.declared.rows.Rows.{Rows}
-use Rattle.acd_terms.specs.declared.record.CallRecord.{CallRecord}
-use Rattle.acd_terms.specs.declared.event.Event.{Event}
-use Rattle.acd_terms.specs.declared.event.Report.{Report}
+use Rattle.acd_laws.proofs.Types.{Rows, CallRecord, Command, Event, Report}
 use Rattle.acd_terms.specs.declared.event.Report.TheVariants as report
-use Rattle.acd_laws.specs.PlacedLaws.{IsUpTo, NamesNoLaterCall, clearings, KeepsClearings, StepKeepsPlaces}
+use Rattle.acd_laws.specs.PlacedLaws.{IsUpTo, NamesNoLaterCall, clearings, KeepsClearings}
 use Rattle.acd_laws.proofs.Lists.{one, every_among, count_zero}
 use Rattle.acd_laws.proofs.PlacedRuns.{step_places}
+use Rattle.acd_terms.specs.Step.{step}
+use Rattle.acd_laws.proofs.Facts.{Rules}
 
 -- a report that names no call above the last clears none there
 clears_none : (last c : ℕ) (r : Report) → last < c → IsUpTo last (columns_of r).call → clears c r ≡ false
@@ -42,5 +40,6 @@ cleared_as_placed s events names placed c above =
     found : {o : Option CallRecord} → nat_le c s.last_call ≡ true → call_of s c ≡ o → clearings s c ≡ one (is_none o)
     found l e = rw (l, e) refl
 
-pub step_keeps_places : StepKeepsPlaces
+pub step_keeps_places : (s : Rows) (events : List Event) (moment : ℕ) (command : Command) → Rules s → NamesNoLaterCall s events → IsPlaced s events
+    → IsPlaced (step s moment command).rows (events ++ (step s moment command).events)
 step_keeps_places s events moment command r names placed = step_places s events moment command r (cleared_as_placed s events names placed)

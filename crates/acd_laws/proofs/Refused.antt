@@ -1,59 +1,22 @@
 -- Where no offer is left, a refused request makes no move.
-use Rattle.std.proofs.Common.{◌≡◌, ℕ, zero, suc, [], ◌∷◌, List, Option, Some, None, Ok, Err, map, length, refl, ap, ◌∙◌, inl, inr, add-zero}
-use Rattle.acd_terms.specs.Lists.{Among}
-use Rattle.acd_terms.specs.Scans.{waiting_in, queued_in_all}
+use Rattle.std.proofs.Common.{◌≡◌, ℕ, [], List, None, Ok, Err, length, refl, ap, add-zero}
+use Rattle.acd_terms.specs.Scans.{queued_in_all}
 use Rattle.acd_terms.specs.Writes.{with_last}
-use Rattle.acd_terms.specs.Choice.{waiting_pair, least_from, first_waiting, first_eligible, offer_or, offer_in, offer_of}
-use Rattle.acd_terms.specs.Offers.{HasNoOffer}
-use Rattle.acd_terms.specs.Distribution.{offers, distribution}
+use Rattle.acd_terms.specs.Choice.{offer_of}
+use Rattle.acd_terms.specs.Distribution.{distribution}
 use Rattle.acd_terms.specs.Moves.{events_of}
-use Rattle.acd_terms.specs.Served.{Served, outcome_of, moves_of}
-use Rattle.acd_terms.specs.Figures.{counting, with_figures, figures_of}
+use Rattle.acd_terms.specs.Served.{outcome_of, moves_of}
 use Rattle.acd_terms.specs.Step.{step, step_moves, counted, numbered, executed_moment, next_stamp}
 use Rattle.acd_terms.specs.Services.Serve.{serve}
-use Rattle.acd_terms.specs.declared.rows.Rows.{Rows}
-use Rattle.acd_terms.specs.declared.record.GroupRecord.{GroupRecord}
-use Rattle.acd_terms.specs.declared.command.Command.{Command}
-use Rattle.acd_terms.specs.declared.answer.Refusal.{Refusal}
+use Rattle.acd_laws.proofs.Types.{Rows, Command, Move, Refusal, Served}
 use Rattle.acd_terms.specs.declared.answer.Outcome.TheVariants as outcome
-use Rattle.acd_terms.specs.declared.moves.Move.{Move}
-use Rattle.acd_terms.specs.declared.moves.Offer.{Offer}
 use Rattle.acd_laws.specs.RefusalLaws.{ChangesNothing}
-use Rattle.acd_laws.proofs.CountedEvents.{no_events, sum_nothing}
+use Rattle.acd_laws.proofs.OfferFound.{no_offers}
+use Rattle.acd_laws.proofs.ChangesMade.{figures_none}
 
-no_offer_here : (s : Rows) (g : ℕ) (rest : Option Offer) → HasNoOffer s g → offer_or g (first_waiting s g) (first_eligible s g) rest ≡ rest
-unfolding first_waiting first_eligible
-no_offer_here s g rest (inl none) = rw none refl
-no_offer_here s g rest (inr none) = rw none (by_waiting (least_from None (map waiting_pair (waiting_in s g))))
-  where
-    by_waiting : (w : Option (ℕ × ℕ)) → offer_or g w None rest ≡ rest
-    by_waiting None = refl
-    by_waiting (Some p) = refl
-
-no_offer_in : (s : Rows) (gs : List GroupRecord) → ((g : GroupRecord) → Among g gs → HasNoOffer s g.device) → offer_in s gs ≡ None
-no_offer_in s [] h = refl
-no_offer_in s (g ∷ gs) h = no_offer_here s g.device (offer_in s gs) (h g (inl refl)) ∙ no_offer_in s gs (λ x there. h x (inr there))
-
-pub no_offer : (s : Rows) → ((g : GroupRecord) → Among g s.groups → HasNoOffer s g.device) → offer_of s ≡ None
-unfolding offer_of
-no_offer s h = no_offer_in s s.groups h
-
-no_offers : (n : ℕ) (s : Rows) (m : ℕ) → offer_of s ≡ None → offers n s m ≡ []
-no_offers zero s m h = refl
-no_offers (suc n) s m h = rw h refl
-
-pub nothing_distributed : (s : Rows) (m : ℕ) → offer_of s ≡ None → distribution s m ≡ []
+nothing_distributed : (s : Rows) (m : ℕ) → offer_of s ≡ None → distribution s m ≡ []
 unfolding distribution
 nothing_distributed s m h = no_offers (length (queued_in_all s)) s m h
-
-counting_nothing : (gs : List GroupRecord) → map (counting []) gs ≡ gs
-counting_nothing [] = refl
-counting_nothing (g ∷ gs) =
-    rw (sum_nothing g.figures (figures_of g.device []) (no_events g.device), counting_nothing gs) refl
-
-no_figures_added : (s : Rows) → with_figures s [] ≡ s
-unfolding with_figures
-no_figures_added s = ap (λ (gs : List GroupRecord). record s { groups = gs }) (counting_nothing s.groups)
 
 refused_moves : (v : Served) (r : Refusal) → outcome_of v ≡ outcome.Refused r → moves_of v ≡ []
 refused_moves (Err x) r e = refl
@@ -64,7 +27,7 @@ no_moves s m v e h = rw e (nothing_distributed s m h)
 
 nothing_changed : (s : Rows) (k m : ℕ) (moves : List Move) → moves ≡ [] → counted s m k moves ≡ with_last s k m s.last_event
 unfolding with_last
-nothing_changed s k m moves e = rw e (rw (no_figures_added s, add-zero) refl)
+nothing_changed s k m moves e = rw e (rw (figures_none s, add-zero) refl)
 
 -- for a state with no offer left
 pub refused : (s : Rows) (moment : ℕ) (command : Command) (r : Refusal) → offer_of s ≡ None → (step s moment command).outcome ≡ outcome.Refused r → ChangesNothing s moment command

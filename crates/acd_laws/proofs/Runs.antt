@@ -4,15 +4,16 @@ use Rattle.acd_terms.specs.Scans.{group_of, station_of, call_of}
 use Rattle.acd_terms.specs.Writes.{empty_rows}
 use Rattle.acd_terms.specs.Step.{step}
 use Rattle.acd_terms.specs.Run.{Asked, run}
-use Rattle.acd_terms.specs.declared.rows.Rows.{Rows}
-use Rattle.acd_terms.specs.declared.rows.Limits.{Limits}
-use Rattle.acd_terms.specs.declared.command.Command.{Command}
-use Rattle.acd_terms.specs.declared.event.Event.{Event}
-use Rattle.acd_laws.specs.Counts.{Rules}
+use Rattle.acd_laws.proofs.Types.{Rows, Limits, Command, Event}
+use Rattle.acd_laws.proofs.Facts.{Rules}
 
 -- a fact of a state and of all events up to it, which a step keeps
 abbrev pub KeptByStep : (Rows → List Event → Type 0) → Type 0
 KeptByStep P = (s : Rows) (events : List Event) (moment : ℕ) (command : Command) → P s events → P (step s moment command).rows (events ++ (step s moment command).events)
+
+-- and one that a step keeps where the rules hold
+abbrev pub KeptByRules : (Rows → List Event → Type 0) → Type 0
+KeptByRules P = (s : Rows) (events : List Event) (moment : ℕ) (command : Command) → Rules s → P s events → P (step s moment command).rows (events ++ (step s moment command).events)
 
 kept_on : (P : Rows → List Event → Type 0) → KeptByStep P → (asked : List Asked) (s : Rows) (events : List Event) → P s events → P (run s asked).rows (events ++ (run s asked).events)
 unfolding run

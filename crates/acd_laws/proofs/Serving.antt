@@ -1,11 +1,8 @@
 -- How to show a fact of what a service answers: of each refusal, and of what follows where no test holds.
-use Rattle.std.proofs.Common.{◌≡◌, Bool, true, false, List, [], ◌∷◌, ◌++◌, Option, Some, None, Err, refl}
+use Rattle.std.proofs.Common.{◌≡◌, Bool, true, false, Option, Some, None, Err, refl}
 use Rattle.std.specs.Option.{ok_or}
-use Rattle.acd_terms.specs.declared.rows.Rows.{Rows}
-use Rattle.acd_terms.specs.declared.answer.Refusal.{Refusal}
-use Rattle.acd_terms.specs.declared.moves.Move.{Move}
-use Rattle.acd_terms.specs.Served.{Served, refuse_if, if_ok, ◌>>=◌, ◌>>◌}
-use Rattle.acd_terms.specs.Moves.{moved, changed}
+use Rattle.acd_laws.proofs.Types.{Refusal, Served}
+use Rattle.acd_terms.specs.Served.{refuse_if, if_ok, ◌>>=◌, ◌>>◌}
 
 pub by_refusal : (P : Served → Type 0) (b : Bool) (r : Refusal) (rest : Served) → ((r : Refusal) → P (Err r)) → (b ≡ false → P rest) → P (refuse_if b r >> rest)
 unfolding refuse_if if_ok
@@ -16,7 +13,3 @@ pub by_found : {T : Type 0} (P : Served → Type 0) (o : Option T) (r : Refusal)
 unfolding if_ok
 by_found P None r rest f h = f r
 by_found P (Some x) r rest f h = h x refl
-
-pub moved-append : (s : Rows) (ms ns : List Move) → moved s (ms ++ ns) ≡ moved (moved s ms) ns
-moved-append s [] ns = refl
-moved-append s (m ∷ ms) ns = moved-append (changed s m.change) ms ns

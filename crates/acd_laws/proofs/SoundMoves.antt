@@ -1,38 +1,20 @@
 -- What moves tell, balance and keep in order, all three together.
-use Rattle.std.proofs.Common.{◌≡◌, ℕ, ◌+◌, ◌<◌, ◌≤◌, Bool, true, false, not, ◌&&◌, ◌||◌, cond, List, [], ◌∷◌, ◌++◌, Option, Some, None, refl, sym, ◌∙◌, ap, subst, arith}
-use Rattle.std.specs.Prelude.{◌==◌}
-use Rattle.std.proofs.lemmas.Bool.{and_right, and_from}
+use Rattle.std.proofs.Common.{◌≡◌, ℕ, ◌≤◌, List, [], ◌∷◌, ◌++◌, Option, Some, None, refl, sym, ◌∙◌, ap, subst, arith}
 use Rattle.acd_terms.specs.Lists.{Among, find_by}
-use Rattle.acd_terms.specs.Scans.{at_connection, connection_of, agent_of, agent_at, is_group, is_planned, is_idle, is_distributed}
+use Rattle.acd_terms.specs.Scans.{at_connection, connection_of, agent_of}
 use Rattle.acd_terms.specs.Writes.{with_group, with_station, with_agent, with_call, with_monitor, without_call, without_monitor}
-use Rattle.acd_terms.specs.Moves.{no_move, silent, reported, changed, moved}
-use Rattle.acd_terms.specs.CallMoves.{plain, queueing, met_at, arriving, arrival, arrive, destination_of}
-use Rattle.acd_terms.specs.AgentMoves.{in_state, state_report, go_to, go_from, become_busy, wait_for}
-use Rattle.acd_terms.specs.Release.{release, release_agent, released, release_of}
-use Rattle.acd_terms.specs.Services.{busy_agent, occupy}
+use Rattle.acd_terms.specs.Moves.{silent, reported, changed, moved}
+use Rattle.acd_terms.specs.AgentMoves.{kept_in, state_report}
 use Rattle.acd_terms.specs.Columns.{columns_of}
-use Rattle.acd_terms.specs.Figures.{is_entry, is_no_answer}
-use Rattle.acd_terms.specs.Told.{seat_by}
-use Rattle.acd_terms.specs.Watched.{is_held_by, seat_of}
-use Rattle.acd_terms.specs.declared.rows.Rows.{Rows}
-use Rattle.acd_terms.specs.declared.record.AgentRecord.{AgentRecord}
-use Rattle.acd_terms.specs.declared.record.ConnectionRecord.{ConnectionRecord}
-use Rattle.acd_terms.specs.declared.state.AgentState.{AgentState}
+use Rattle.acd_terms.specs.Told.{Seat, seat_by}
+use Rattle.acd_terms.specs.Watched.{seat_of}
+use Rattle.acd_laws.proofs.Types.{Rows, AgentState, Change, Move, Report}
 use Rattle.acd_terms.specs.declared.state.AgentState.TheVariants as A
-use Rattle.acd_terms.specs.declared.state.ConnectionState.TheVariants as S
-use Rattle.acd_terms.specs.declared.state.Pending.{Pending}
-use Rattle.acd_terms.specs.declared.event.Cause.{Cause}
-use Rattle.acd_terms.specs.declared.moves.Move.{Move}
-use Rattle.acd_terms.specs.declared.moves.Ending.{Ending}
-use Rattle.acd_terms.specs.declared.moves.Release.{Release}
-use Rattle.acd_terms.specs.declared.moves.Release.TheVariants.{Stays, Goes}
-use Rattle.acd_terms.specs.declared.moves.Change.{Change}
-use Rattle.acd_terms.specs.declared.moves.Change.TheVariants.{Nothing, PutGroup, PutStation, PutAgent, PutCall, PutConnection, PutMonitor, RemoveCall, RemoveConnection, RemoveMonitor}
-use Rattle.acd_laws.specs.Counts.{is_open}
-use Rattle.acd_laws.proofs.Lists.{one}
-use Rattle.acd_laws.proofs.Told.{Truthful, AllTruthful, truthful-append, truthful_put, truthful_nothing, truthful_agent, truthful_silent_agent}
-use Rattle.acd_laws.proofs.Balance.{Balances, balances-append, holding, held, holding_new, entry_by, gone_by}
-use Rattle.acd_laws.proofs.Order.{OrderKept, stays, order-append, order_later, held_within, comes}
+use Rattle.acd_terms.specs.declared.moves.Change.TheVariants.{Nothing, PutAgent, PutConnection, RemoveConnection}
+use Rattle.acd_laws.proofs.Told.{Truthful, AllTruthful, truthful-append, truthful_nothing, truthful_agent, truthful_silent_agent}
+use Rattle.acd_laws.proofs.Balance.{Balances, balances-append, holding, entry_by, gone_by}
+use Rattle.acd_laws.proofs.AgentMoves.{AgentMove, stays as nothing, waits, tells, Recorded}
+use Rattle.acd_laws.proofs.Order.{OrderKept, stays, order-append, order_later, held_within}
 
 pub record Sound (m b c : ℕ) (s : Rows) (ms : List Move) : Type 0 where
   pub truthful : AllTruthful s ms
@@ -61,16 +43,9 @@ LeavesConnections _ = Unit {0}
 
 pub left_connections : (s : Rows) (c : Change) → LeavesConnections c → (changed s c).connections ≡ s.connections
 unfolding with_group with_station with_agent with_call with_monitor without_call without_monitor
-left_connections s Nothing h = refl
-left_connections s (PutGroup g) h = refl
-left_connections s (PutStation t) h = refl
-left_connections s (PutAgent a) h = refl
-left_connections s (PutCall c) h = refl
 left_connections s (PutConnection x) h = absurd h
-left_connections s (PutMonitor w) h = refl
-left_connections s (RemoveCall c) h = refl
 left_connections s (RemoveConnection c d) h = absurd h
-left_connections s (RemoveMonitor w) h = refl
+left_connections s _ h = refl
 
 pub left_connection : (s : Rows) (c : Change) (a b : ℕ) → LeavesConnections c → connection_of (changed s c) a b ≡ connection_of s a b
 unfolding connection_of
@@ -95,126 +70,30 @@ sound_unheard m b s x t u =
     held_same : (t v : Rows) (g : ℕ) → t.connections ≡ v.connections → holding t g ≡ holding v g
     held_same t v g e = rw e refl
 
--- moves of agents
+-- nothing is seen of the change
+pub silently : {m b : ℕ} {s : Rows} (c : Change) → Truthful s (silent c) → LeavesConnections c → Sound m b b s (silent c ∷ [])
+silently {m} {b} {s} c t h = sound_unheard m b s (silent c) t (record { leaves = h; entry = λ g. refl; gone = λ g. refl })
 
-pub unheard_state : (a : AgentRecord) (state : AgentState) (agent station : ℕ) → Unheard (reported (PutAgent a) (state_report state agent station))
-unheard_state a A.Null agent station = record { leaves = tt; entry = λ g. refl; gone = λ g. refl }
-unheard_state a A.NotReady agent station = record { leaves = tt; entry = λ g. refl; gone = λ g. refl }
-unheard_state a A.Ready agent station = record { leaves = tt; entry = λ g. refl; gone = λ g. refl }
-unheard_state a A.Busy agent station = record { leaves = tt; entry = λ g. refl; gone = λ g. refl }
-unheard_state a A.WorkingAfterCall agent station = record { leaves = tt; entry = λ g. refl; gone = λ g. refl }
+-- what an agent's move tells
 
-pub unheard_wait : (a : AgentRecord) → Unheard (silent (PutAgent a))
-unheard_wait a = record { leaves = tt; entry = λ g. refl; gone = λ g. refl }
+record StateReport (st : AgentState) (n d : ℕ) (r : Report) : Type 0 where
+  agent : (columns_of r).agent ≡ Some n
+  call : (columns_of r).call ≡ None
+  seat : (old : Seat) → record { state = st; station = kept_in st old.station } ≡ seat_by (columns_of r).kind (columns_of r).device old
+  entry : (g : ℕ) → entry_by g (Some r) ≡ 0
+  gone : (g : ℕ) → gone_by g (Some r) ≡ 0
 
-pub unheard_nothing : Unheard no_move
-unheard_nothing = record { leaves = tt; entry = λ g. refl; gone = λ g. refl }
+state_told : (st : AgentState) (n d : ℕ) → StateReport st n d (state_report st n d)
+state_told A.Null n d = record { agent = refl; call = refl; seat = λ old. refl; entry = λ g. refl; gone = λ g. refl }
+state_told st n d = record { agent = refl; call = refl; seat = λ old. refl; entry = λ g. refl; gone = λ g. refl }
 
-truthful_state : (s : Rows) (a : AgentRecord) (m k station : ℕ) (state : AgentState) → agent_of s a.agent ≡ Some a → Truthful s (go_to m k a station state)
-truthful_state s a m k station A.Null e = truthful_agent s (in_state A.Null m k a) _ refl refl refl
-truthful_state s a m k station A.NotReady e = truthful_agent s (in_state A.NotReady m k a) (state_report A.NotReady a.agent station) refl refl (ap (λ o. seat_by (columns_of (state_report A.NotReady a.agent station)).kind (Some station) (seat_of o)) (sym e))
-truthful_state s a m k station A.Ready e = truthful_agent s (in_state A.Ready m k a) (state_report A.Ready a.agent station) refl refl (ap (λ o. seat_by (columns_of (state_report A.Ready a.agent station)).kind (Some station) (seat_of o)) (sym e))
-truthful_state s a m k station A.Busy e = truthful_agent s (in_state A.Busy m k a) (state_report A.Busy a.agent station) refl refl (ap (λ o. seat_by (columns_of (state_report A.Busy a.agent station)).kind (Some station) (seat_of o)) (sym e))
-truthful_state s a m k station A.WorkingAfterCall e = truthful_agent s (in_state A.WorkingAfterCall m k a) (state_report A.WorkingAfterCall a.agent station) refl refl (ap (λ o. seat_by (columns_of (state_report A.WorkingAfterCall a.agent station)).kind (Some station) (seat_of o)) (sym e))
-
-pub sound_go_to : (m b k : ℕ) (s : Rows) (a : AgentRecord) (station : ℕ) (state : AgentState) → agent_of s a.agent ≡ Some a → Sound m b b s (go_to m k a station state ∷ [])
-sound_go_to m b k s a station state e = sound_unheard m b s (go_to m k a station state) (truthful_state s a m k station state e) (unheard_state (in_state state m k a) state a.agent station)
-
-pub sound_go_from : (m b k : ℕ) (s : Rows) (a : AgentRecord) (o : Option ℕ) (state : AgentState) → agent_of s a.agent ≡ Some a → Sound m b b s (go_from m k a o state ∷ [])
-sound_go_from m b k s a None state e = sound_unheard m b s no_move (truthful_nothing s) unheard_nothing
-sound_go_from m b k s a (Some station) state e = sound_go_to m b k s a station state e
-
--- nothing is seen of another pending state
-pub sound_wait : (m b : ℕ) (s : Rows) (a : AgentRecord) (pending : Option Pending) → agent_of s a.agent ≡ Some a → Sound m b b s (wait_for a pending ∷ [])
-sound_wait m b s a pending e = sound_unheard m b s (wait_for a pending) (truthful_silent_agent s (record a { pending = pending }) (ap seat_of (sym e))) (unheard_wait (record a { pending = pending }))
-
-sound_released : (m b k : ℕ) (s : Rows) (a : AgentRecord) (station : ℕ) (to : Release) → agent_of s a.agent ≡ Some a → Sound m b b s (released m k a station to ∷ [])
-sound_released m b k s a station Stays e = sound_wait m b s a None e
-sound_released m b k s a station (Goes state) e = sound_go_to m b k s a station state e
-
-sound_release_agent : (m b k : ℕ) (s : Rows) (o : Option AgentRecord) (station : ℕ) (how : Ending) → ((a : AgentRecord) → o ≡ Some a → agent_of s a.agent ≡ Some a) → Sound m b b s (release_agent m k o station how ∷ [])
-sound_release_agent m b k s None station how h = sound_unheard m b s no_move (truthful_nothing s) unheard_nothing
-sound_release_agent m b k s (Some a) station how h = sound_released m b k s a station (release_of how a.pending) (h a refl)
-
-pub sound_if : (m b : ℕ) (s : Rows) (c : Bool) (x : Move) → Sound m b b s (x ∷ []) → Sound m b b s (cond c x no_move ∷ [])
-sound_if m b s true x h = h
-sound_if m b s false x h = sound_unheard m b s no_move (truthful_nothing s) unheard_nothing
-
--- an agent is released, whose record is still as it was
-pub sound_release : (m b k : ℕ) (s t : Rows) (x : ConnectionRecord) (how : Ending) → ((a : AgentRecord) → agent_at s x.device ≡ Some a → agent_of t a.agent ≡ Some a) → Sound m b b t (release s m k x how ∷ [])
-unfolding release
-sound_release m b k s t x how h = sound_if m b t (is_distributed x) _ (sound_release_agent m b k t (agent_at s x.device) x.device how h)
-
-sound_busy : (m b k : ℕ) (t : Rows) (o : Option AgentRecord) (station : ℕ) → ((a : AgentRecord) → o ≡ Some a → agent_of t a.agent ≡ Some a) → Sound m b b t (busy_agent m k o station ∷ [])
-sound_busy m b k t None station h = sound_unheard m b t no_move (truthful_nothing t) unheard_nothing
-sound_busy m b k t (Some a) station h =
-    sound_unheard m b t (become_busy m k a station)
-    (truthful_agent t (record a { state = A.Busy; stamp = k; since = m }) (state_report A.Busy a.agent station) refl refl (ap (λ o. seat_by (columns_of (state_report A.Busy a.agent station)).kind (Some station) (seat_of o)) (sym (h a refl))))
-    (record { leaves = tt; entry = λ g. refl; gone = λ g. refl })
-
-pub sound_occupy : (m b k : ℕ) (s t : Rows) (x : ConnectionRecord) → ((a : AgentRecord) → agent_at s x.device ≡ Some a → agent_of t a.agent ≡ Some a) → Sound m b b t (occupy s m k x ∷ [])
-unfolding occupy
-sound_occupy m b k s t x h = sound_if m b t (is_distributed x) _ (sound_busy m b k t (agent_at s x.device) x.device h)
-
--- a call comes to a destination at which it wasn't
-
-or_false : (b : Bool) → (b || false) ≡ b
-or_false true = refl
-or_false false = refl
-
-truthful_arriving : (q i : Bool) (t : Rows) (m k call to : ℕ) (cause : Cause) → is_planned t to ≡ true → Truthful t (reported (PutConnection (arriving (met_at q i) m k call to)) (arrival (met_at q i) call to cause))
-truthful_arriving true i t m k call to cause p = truthful_put t (queueing call to (Some k) (Some m)) _ refl refl refl refl p
-truthful_arriving false true t m k call to cause p = truthful_put t (plain call to S.Alerting) _ refl refl refl refl p
-truthful_arriving false false t m k call to cause p = truthful_put t (plain call to S.Fail) _ refl refl refl refl p
-
-balances_arriving : (q i : Bool) (t : Rows) (m k call to : ℕ) (cause : Cause) → is_no_answer cause ≡ false → connection_of t call to ≡ None
-    → Balances t (reported (PutConnection (arriving (met_at q i) m k call to)) (arrival (met_at q i) call to cause) ∷ [])
-balances_arriving true i t m k call to cause e n g =
-    let x : ConnectionRecord = queueing call to (Some k) (Some m) in
-    let h = holding_new t x g n in
-    let a : held g x ≡ one (to == g) = waits (to == g) (to == g) in
-    let c : one ((to == g) && not (is_no_answer cause)) ≡ one (to == g) = ap (λ v. one ((to == g) && not v)) e ∙ ap one (and_yes (to == g)) in
-    omega (arith, h, a, c)
-  where
-    and_yes : (b : Bool) → (b && true) ≡ b
-    and_yes true = refl
-    and_yes false = refl
-
-    waits : (b c : Bool) → one (b && true) + one (c && false) ≡ one b
-    waits true true = refl
-    waits true false = refl
-    waits false true = refl
-    waits false false = refl
-balances_arriving false true t m k call to cause e n g = let h = holding_new t (plain call to S.Alerting) g n in let a : held g (plain call to S.Alerting) ≡ 0 = ap (λ b. one b + 0) (and_right (to == g) false refl) in omega (arith, h, a)
-balances_arriving false false t m k call to cause e n g = let h = holding_new t (plain call to S.Fail) g n in let a : held g (plain call to S.Fail) ≡ 0 = ap (λ b. one b + 0) (and_right (to == g) false refl) in omega (arith, h, a)
-
-queue_arriving : (q i : Bool) (m k call to : ℕ) (cause : Cause) → is_no_answer cause ≡ false → (g : ℕ) → is_held_by g (arriving (met_at q i) m k call to) ≡ true
-    → ((arriving (met_at q i) m k call to).place ≡ Some k) × (is_entry g (arrival (met_at q i) call to cause) ≡ true)
-queue_arriving true i m k call to cause n g h = (refl, and_from (to == g) (not (is_no_answer cause)) (sym (or_false (to == g)) ∙ h) (ap not n))
-queue_arriving false true m k call to cause n g h = absurd (cc (h))
-queue_arriving false false m k call to cause n g h = absurd (cc (h))
-
-call_arriving : (q i : Bool) (m k call to : ℕ) → (arriving (met_at q i) m k call to).call ≡ call
-call_arriving true i m k call to = refl
-call_arriving false true m k call to = refl
-call_arriving false false m k call to = refl
-
-call_arrival : (q i : Bool) (call to : ℕ) (cause : Cause) → (columns_of (arrival (met_at q i) call to cause)).call ≡ Some call
-call_arrival true i call to cause = refl
-call_arrival false true call to cause = refl
-call_arrival false false call to cause = refl
-
--- where none of the call is open, it comes to the device with the stamp as its place
-pub sound_arrive : (m b k : ℕ) (s t : Rows) (call to : ℕ) (cause : Cause) → b < k → is_planned t to ≡ true → is_no_answer cause ≡ false → connection_of t call to ≡ None
-    → ((z : ConnectionRecord) → Among z t.connections → is_open z.state ≡ true → z.call ≡ call → ⊥) → Sound m b k t (arrive s m k call to cause ∷ [])
-unfolding arrive
-sound_arrive m b k s t call to cause l p n none new = record {
-  truthful = (truthful_arriving (is_group s to) (is_idle s to) t m k call to cause p, tt);
-  balances = balances_arriving (is_group s to) (is_idle s to) t m k call to cause n none;
-  order = comes m b k t (arriving (destination_of s to) m k call to) (arrival (destination_of s to) call to cause) call l (record {
-    new = new;
-    call_is = call_arriving (is_group s to) (is_idle s to) m k call to;
-    reported = call_arrival (is_group s to) (is_idle s to) call to cause;
-    queue = queue_arriving (is_group s to) (is_idle s to) m k call to cause n;
-  });
-}
+pub sound_agent : {m b k : ℕ} {t : Rows} {x : Move} → AgentMove (Recorded t) m k x → Sound m b b t (x ∷ [])
+sound_agent {m} {b} {k} {t} nothing = silently Nothing (truthful_nothing t) tt
+sound_agent {m} {b} {k} {t} (waits a pending e) = silently (PutAgent (record a { pending = pending })) (truthful_silent_agent t (record a { pending = pending }) (ap seat_of (sym e))) tt
+sound_agent {m} {b} {k} {t} (tells a c d e h) =
+    let r : Report = state_report c.state c.agent d in
+    let w = state_told c.state c.agent d in
+    let was : agent_of t c.agent ≡ Some a = ap (agent_of t) h.agent ∙ e in
+    let told : seat_of (Some c) ≡ seat_by (columns_of r).kind (columns_of r).device (seat_of (agent_of t c.agent)) =
+    ap (λ (o : Option ℕ). let v : Seat = record { state = c.state; station = o } in v) h.station ∙ w.seat (seat_of (Some a)) ∙ ap (λ o. seat_by (columns_of r).kind (columns_of r).device (seat_of o)) (sym was) in
+    sound_unheard m b t (reported (PutAgent c) r) (truthful_agent t c r w.agent w.call told) (record { leaves = tt; entry = w.entry; gone = w.gone })

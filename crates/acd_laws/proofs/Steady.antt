@@ -3,12 +3,7 @@ use Rattle.std.proofs.Common.{◌≡◌, ℕ, ◌+◌, ◌≤◌, ◌⊎◌, inl
 use Rattle.std.specs.Prelude.{◌==◌, is_some}
 use Rattle.std.specs.declared.cmp.Ordering.{Ordering}
 use Rattle.std.proofs.lemmas.Bool.{eqb-true}
-use Rattle.acd_terms.specs.declared.rows.Rows.{Rows}
-use Rattle.acd_terms.specs.declared.record.GroupRecord.{GroupRecord}
-use Rattle.acd_terms.specs.declared.record.AgentRecord.{AgentRecord}
-use Rattle.acd_terms.specs.declared.record.MonitorRecord.{MonitorRecord}
-use Rattle.acd_terms.specs.declared.moves.Move.{Move}
-use Rattle.acd_terms.specs.declared.moves.Change.{Change}
+use Rattle.acd_laws.proofs.Types.{Rows, GroupRecord, AgentRecord, MonitorRecord, Change, Move}
 use Rattle.acd_terms.specs.declared.moves.Change.TheVariants.{Nothing, PutGroup, PutStation, PutAgent, PutCall, PutConnection, PutMonitor, RemoveCall, RemoveConnection, RemoveMonitor}
 use Rattle.acd_terms.specs.Lists.{put_by, remove_by, count, Among, Every, IsAscending}
 use Rattle.acd_terms.specs.Scans.{at_call, at_monitor, group_of, station_of, agent_of, is_group, is_planned}
@@ -16,9 +11,10 @@ use Rattle.acd_terms.specs.Writes.{with_agent, with_connection, without_call, wi
 use Rattle.acd_terms.specs.Moves.{changed, moved}
 use Rattle.acd_terms.specs.Rules.Plan.{agent_order}
 use Rattle.acd_laws.proofs.Lists.{ascending-put, count-put_old, count-put_most, count-remove_most, every_among, every_from, among-remove, some_from}
-use Rattle.acd_laws.proofs.State.{cmp_equal, cmp_self, agents_total, agent_find, agent_put}
+use Rattle.acd_laws.proofs.Keyed.{cmp_equal, cmp_self}
+use Rattle.acd_laws.proofs.State.{agents_total, agent_find, agent_put}
 use Rattle.acd_terms.specs.Limits.{limits_fit}
-use Rattle.acd_laws.specs.Bounds.{Sizes, MonitorRule, Monitored}
+use Rattle.acd_laws.proofs.Facts.{Sizes, MonitorRule, Monitored}
 use Rattle.acd_terms.specs.Services.{no_figures}
 
 -- a change that puts no record but a connection, or the record of an agent who is known
@@ -99,27 +95,20 @@ known_put s a n e = ap is_some (agent_put s a n) ∙ either (a.agent == n) (agen
 steadied_change : (s : Rows) (c : Change) → IsAscending agent_order s.agents → Steady (knows s) c → Steadied s (changed s c)
 unfolding with_agent with_connection without_call without_connection without_monitor agent_of
 steadied_change s Nothing h st = unchanged s h
-steadied_change s (PutGroup g) h st = absurd st
-steadied_change s (PutStation t) h st = absurd st
-steadied_change s (PutCall c) h st = absurd st
-steadied_change s (PutMonitor w) h st = absurd st
 steadied_change s (PutAgent a) h st = record { limits = refl; groups = refl; stations = refl; agents = length-put_agent s a h st; ascending = ascending-put agent_order agents_total a s.agents h; known = known_put s a; calls = omega arith; monitors = λ w a. a; running = omega arith; last_call = refl; last_monitor = refl; last_event = refl }
 steadied_change s (PutConnection x) h st = record { limits = refl; groups = refl; stations = refl; agents = refl; ascending = h; known = λ n e. e; calls = omega arith; monitors = λ w a. a; running = omega arith; last_call = refl; last_monitor = refl; last_event = refl }
 steadied_change s (RemoveCall c) h st = record { limits = refl; groups = refl; stations = refl; agents = refl; ascending = h; known = λ n e. e; calls = length-remove (at_call c) s.calls; monitors = λ w a. a; running = omega arith; last_call = refl; last_monitor = refl; last_event = refl }
 steadied_change s (RemoveConnection c d) h st = record { limits = refl; groups = refl; stations = refl; agents = refl; ascending = h; known = λ n e. e; calls = omega arith; monitors = λ w a. a; running = omega arith; last_call = refl; last_monitor = refl; last_event = refl }
 steadied_change s (RemoveMonitor n) h st = record { limits = refl; groups = refl; stations = refl; agents = refl; ascending = h; known = λ n e. e; calls = omega arith; monitors = λ w a. among-remove (at_monitor n) s.monitors w a; running = length-remove (at_monitor n) s.monitors; last_call = refl; last_monitor = refl; last_event = refl }
+steadied_change s _ h st = absurd st
 
 steady_more : (p q : ℕ → Bool) (c : Change) → ((n : ℕ) → p n ≡ true → q n ≡ true) → Steady p c → Steady q c
-steady_more p q Nothing f h = tt
 steady_more p q (PutGroup g) f h = absurd h
 steady_more p q (PutStation t) f h = absurd h
 steady_more p q (PutCall c) f h = absurd h
 steady_more p q (PutMonitor w) f h = absurd h
 steady_more p q (PutAgent a) f h = f a.agent h
-steady_more p q (PutConnection x) f h = tt
-steady_more p q (RemoveCall c) f h = tt
-steady_more p q (RemoveConnection c d) f h = tt
-steady_more p q (RemoveMonitor n) f h = tt
+steady_more p q _ f h = tt
 
 steadied_from : (s t : Rows) (ms : List Move) → Steadied s t → AllSteady s ms → Steadied s (moved t ms)
 steadied_from s t [] f h = f

@@ -3,9 +3,7 @@ use Rattle.std.specs.Prelude.{◌≡◌, ℕ, ◌<◌, ◌≤◌, List, Option, 
 use Rattle.acd_terms.specs.Scans.{agent_of, is_planned}
 use Rattle.acd_terms.specs.Told.{after, connection_told, Seat, no_seat, seat_told, last_entry}
 use Rattle.acd_terms.specs.Watched.{state_at, seat_of, IsHeldAt, InOrder}
-use Rattle.acd_terms.specs.declared.rows.Rows.{Rows}
-use Rattle.acd_terms.specs.declared.state.ConnectionState.{ConnectionState}
-use Rattle.acd_terms.specs.declared.event.Event.{Event}
+use Rattle.acd_laws.proofs.Types.{Rows, ConnectionState, Event}
 
 -- the connection's state at a planned device: of any other device nothing is told
 abbrev pub shown : Rows → ℕ → ℕ → Option ConnectionState

@@ -1,38 +1,28 @@
 -- tick: what each return of a call and each end of after-call work keeps, all of them keep.
-use Rattle.std.proofs.Common.{◌≡◌, ℕ, inl, inr, true, false, cond, List, [], ◌∷◌, ◌++◌, Option, Some, None, refl, sym, ◌∙◌, ap, subst, arith, eq-eqb}
+use Rattle.std.proofs.Common.{◌≡◌, ℕ, inl, inr, true, false, List, [], ◌∷◌, ◌++◌, Option, Some, None, refl, sym, ◌∙◌, ap, subst, arith, eq-eqb, append_assoc, append-nil}
 use Rattle.std.specs.Prelude.{◌==◌, is_some}
 use Rattle.std.specs.declared.cmp.Ordering.TheVariants.{Less}
-use Rattle.std.proofs.lemmas.Bool.{and_parts, and_from, eqb-true, false_from_ne_true, cond-false}
-use Rattle.acd_terms.specs.declared.rows.Rows.{Rows}
-use Rattle.acd_terms.specs.declared.record.AgentRecord.{AgentRecord}
-use Rattle.acd_terms.specs.declared.record.ConnectionRecord.{ConnectionRecord}
+use Rattle.std.proofs.lemmas.Bool.{and_parts, and_from, eqb-true, false_from_ne_true}
+use Rattle.acd_laws.proofs.Types.{Rows, AgentRecord, ConnectionRecord, ConnectionState, Event, Move}
 use Rattle.acd_terms.specs.declared.state.AgentState.TheVariants as A
-use Rattle.acd_terms.specs.declared.state.ConnectionState.{ConnectionState}
 use Rattle.acd_terms.specs.declared.state.ConnectionState.TheVariants as S
-use Rattle.acd_terms.specs.declared.moves.Move.{Move}
-use Rattle.acd_terms.specs.declared.moves.Ending.{Ending}
 use Rattle.acd_terms.specs.declared.moves.Ending.TheVariants.{NoAnswer}
-use Rattle.acd_terms.specs.declared.moves.Release.{Release}
-use Rattle.acd_terms.specs.declared.moves.Release.TheVariants.{Stays, Goes}
 use Rattle.acd_terms.specs.Lists.{remove_by, Among, IsAscending}
 use Rattle.acd_terms.specs.States.{is_working_after_call, is_alerting}
-use Rattle.acd_terms.specs.Scans.{at_connection, agent_of, connection_of, agent_at, is_distributed}
-use Rattle.acd_terms.specs.Writes.{with_agent, with_connection, without_connection}
-use Rattle.acd_terms.specs.Moves.{no_move, changed, moved}
+use Rattle.acd_terms.specs.Scans.{at_connection, agent_of, connection_of}
+use Rattle.acd_terms.specs.Writes.{with_connection, without_connection}
+use Rattle.acd_terms.specs.Moves.{moved, events_of}
 use Rattle.acd_terms.specs.CallMoves.{queueing}
-use Rattle.acd_terms.specs.AgentMoves.{in_state, go_from}
-use Rattle.acd_terms.specs.Release.{release_of, released, release_agent, release}
 use Rattle.acd_terms.specs.Rules.Plan.{agent_order, connection_order}
-use Rattle.acd_laws.specs.Counts.{Rules, is_open, open_of}
+use Rattle.acd_laws.proofs.Facts.{Rules}
+use Rattle.acd_terms.specs.Rules.Calls.{is_open, open_of}
 use Rattle.acd_laws.proofs.Lists.{filter_among, after_among, ascending-filter, among-put_other, among-remove_other, two_counted, some_from}
-use Rattle.acd_laws.proofs.State.{eqb_self, cmp_self, is_of, is_of_true, order_equal, order_same, connection_key, agent_put, agent_found}
-use Rattle.std.proofs.Common.{append_assoc, append-nil}
-use Rattle.acd_terms.specs.declared.event.Event.{Event}
-use Rattle.acd_terms.specs.Moves.{events_of}
+use Rattle.acd_laws.proofs.Keyed.{eqb_self, cmp_self}
+use Rattle.acd_laws.proofs.State.{is_of, is_of_true, order_equal, order_same, connection_key, agent_found}
 use Rattle.acd_terms.specs.Tick.{is_overdue_offer, is_overdue, overdue_in, return_to, return_moves, is_rested, rested_in, rest_moves, each, returns, rests, tick, is_over_in}
-use Rattle.acd_laws.proofs.MoveEvents.{events-append}
-use Rattle.acd_laws.proofs.Serving.{moved-append}
+use Rattle.acd_terms.proofs.MoveLemmas.{events_of_append, moved_append}
 use Rattle.acd_laws.proofs.Found.{connection_there}
+use Rattle.acd_laws.proofs.AgentMoves.{goes_from, released_by, agent_connections, agent_others}
 use Rattle.acd_laws.proofs.KeptReturn.{kept_return_to}
 use Rattle.acd_laws.proofs.KeptAgents.{kept_rest_moves}
 
@@ -46,45 +36,22 @@ kept_nothing P m s es h = subst (P s) (sym (append-nil es)) h
 
 pub kept-append : (P : Rows → List Event → Type 0) (m : ℕ) (s : Rows) (es : List Event) (ms ns : List Move) → Kept P m (moved s ms) (es ++ events_of m ms) ns → Kept P m s es (ms ++ ns)
 kept-append P m s es ms ns h =
-    subst (λ t. P t (es ++ events_of m (ms ++ ns))) (sym (moved-append s ms ns))
-    (subst (P (moved (moved s ms) ns)) (append_assoc es (events_of m ms) (events_of m ns) ∙ ap (λ qs. es ++ qs) (sym (events-append m ms ns))) h)
-
--- a release leaves the connections
-
-released_connections : (t : Rows) (o : Option AgentRecord) (d : ℕ) (how : Ending) (m k : ℕ) → (changed t (release_agent m k o d how).change).connections ≡ t.connections
-unfolding with_agent
-released_connections t None d how m k = refl
-released_connections t (Some a) d how m k = by (release_of how a.pending)
-  where
-    by : (to : Release) → (changed t (released m k a d to).change).connections ≡ t.connections
-    by Stays = refl
-    by (Goes st) = refl
-
-pub release_connections : (s t : Rows) (x : ConnectionRecord) (how : Ending) (m k : ℕ) → (changed t (release s m k x how).change).connections ≡ t.connections
-unfolding release
-release_connections s t x how m k =
-    elim (is_distributed x) as (λ b. (changed t (cond b (release_agent m k (agent_at s x.device) x.device how) no_move).change).connections ≡ t.connections) [
-      | true ↦ released_connections t (agent_at s x.device) x.device how m k
-      | false ↦ refl
-    ]
+    subst (λ t. P t (es ++ events_of m (ms ++ ns))) (sym (moved_append s ms ns))
+    (subst (P (moved (moved s ms) ns)) (append_assoc es (events_of m ms) (events_of m ns) ∙ ap (λ qs. es ++ qs) (sym (events_of_append m ms ns))) h)
 
 -- offers that go back, one after the other
 
 pub return_stays : (t : Rows) (m k g : ℕ) (x z : ConnectionRecord) → Among z t.connections → (z.call ≡ x.call → ⊥) → Among z (moved t (return_to t m k x (Some g))).connections
 unfolding with_connection without_connection
 return_stays t m k g x z a ne =
-    subst (Among z) (sym (release_connections t _ x NoAnswer m k))
+    subst (Among z) (sym (agent_connections m k _ _ (released_by t m k x NoAnswer)))
     (among-put_other (at_connection x.call g) (queueing x.call g x.place x.queued) (remove_by (at_connection x.call x.device) t.connections) z
     (among-remove_other (at_connection x.call x.device) t.connections z a (connection_key x.call x.device z ∙ false_from_ne_true (is_of x.call x.device z) (λ e. ne (is_of_true x.call x.device z e).0)))
     (λ e. ne (sym (order_equal (queueing x.call g x.place x.queued) z e).0)))
 
 opens : (st : ConnectionState) → is_alerting st ≡ true → is_open st ≡ true
 opens S.Alerting e = refl
-opens S.Initiated e = absurd (cc (e))
-opens S.Connected e = absurd (cc (e))
-opens S.Hold e = absurd (cc (e))
-opens S.Queued e = absurd (cc (e))
-opens S.Fail e = absurd (cc (e))
+opens _ e = absurd (cc (e))
 
 -- two alerting connections are of two calls
 pub other_call : (t : Rows) (x z : ConnectionRecord) → Rules t → Among x t.connections → Among z t.connections → is_alerting x.state ≡ true → is_alerting z.state ≡ true → connection_order x z ≡ Less → z.call ≡ x.call → ⊥
@@ -130,13 +97,9 @@ returns_keep P m k f t es (x ∷ xs) so b r h =
       alerting = bz.alerting;
       grouped = bz.grouped;
     }) r1 h1 in
-    (subst Rules (sym (moved-append t one rest)) ih.0, kept-append P m t es one rest ih.1)
+    (subst Rules (sym (moved_append t one rest)) ih.0, kept-append P m t es one rest ih.1)
 
 -- ends of after-call work, one after the other
-
-rest_stays : (t : Rows) (m k : ℕ) (a : AgentRecord) (o : Option ℕ) (n : ℕ) → (a.agent == n) ≡ false → agent_of (changed t (go_from m k a o A.Ready).change) n ≡ agent_of t n
-rest_stays t m k a None n ne = refl
-rest_stays t m k a (Some d) n ne = agent_put t (in_state A.Ready m k a) n ∙ cond-false (a.agent == n) _ _ ne
 
 rests_keep : (P : Rows → List Event → Type 0) (m k : ℕ) → RestKeeps P m k → (t : Rows) (es : List Event) (xs : List AgentRecord) → IsAscending agent_order xs → ((a : AgentRecord) → Among a xs → (agent_of t a.agent ≡ Some a) × (is_working_after_call a.state ≡ true)) → Rules t → P t es
     → Rules (moved t (each (λ t a. rest_moves m k a) t xs)) × Kept P m t es (each (λ t a. rest_moves m k a) t xs)
@@ -149,8 +112,8 @@ rests_keep P m k f t es (a ∷ xs) so b r h =
     let h1 : Kept P m t es one = f t es a r h ba.0 ba.1 in
     let ih = rests_keep P m k f (moved t one) (es ++ events_of m one) xs so.1
     (λ c i. let bc = b c (inr i) in
-    (rest_stays t m k a a.station c.agent (false_from_ne_true (a.agent == c.agent) (λ q. cc (after_among agent_order a xs c so.0 i, cmp_self a.agent c.agent (eqb-true a.agent c.agent q)))) ∙ bc.0, bc.1)) r1 h1 in
-    (subst Rules (sym (moved-append t one rest)) ih.0, kept-append P m t es one rest ih.1)
+    (agent_others m k c.agent t _ (goes_from (λ d. (d.agent == c.agent) ≡ false) m k a a.station A.Ready (false_from_ne_true (a.agent == c.agent) (λ q. cc (after_among agent_order a xs c so.0 i, cmp_self a.agent c.agent (eqb-true a.agent c.agent q))))) ∙ bc.0, bc.1)) r1 h1 in
+    (subst Rules (sym (moved_append t one rest)) ih.0, kept-append P m t es one rest ih.1)
 
 overdue_back : (s : Rows) (m : ℕ) (z : ConnectionRecord) → Among z (overdue_in s m) → Back s z
 unfolding overdue_in is_overdue
@@ -187,4 +150,4 @@ tick_keeps P m k f g s es r h =
     let t : Rows = moved s (returns s m k) in
     let a = returned P m k f s es r h in
     let b = rested P m k g t (es ++ events_of m (returns s m k)) a.0 a.1 in
-    (subst Rules (sym (moved-append s (returns s m k) (rests t m k))) b.0, kept-append P m s es (returns s m k) (rests t m k) b.1)
+    (subst Rules (sym (moved_append s (returns s m k) (rests t m k))) b.0, kept-append P m s es (returns s m k) (rests t m k) b.1)

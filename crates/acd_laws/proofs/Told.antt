@@ -11,19 +11,8 @@ use Rattle.acd_terms.specs.Told.{after, connection_told, names, state_by, seat_t
 use Rattle.acd_terms.specs.Watched.{state_at, seat_of}
 use Rattle.acd_terms.specs.Step.{numbered}
 use Rattle.acd_terms.specs.Rules.Plan.{connection_order}
-use Rattle.acd_terms.specs.declared.rows.Rows.{Rows}
-use Rattle.acd_terms.specs.declared.record.GroupRecord.{GroupRecord}
-use Rattle.acd_terms.specs.declared.record.StationRecord.{StationRecord}
-use Rattle.acd_terms.specs.declared.record.AgentRecord.{AgentRecord}
-use Rattle.acd_terms.specs.declared.record.CallRecord.{CallRecord}
-use Rattle.acd_terms.specs.declared.record.ConnectionRecord.{ConnectionRecord}
-use Rattle.acd_terms.specs.declared.record.MonitorRecord.{MonitorRecord}
-use Rattle.acd_terms.specs.declared.state.ConnectionState.{ConnectionState}
-use Rattle.acd_terms.specs.declared.event.Columns.{Columns}
-use Rattle.acd_terms.specs.declared.event.Event.{Event}
-use Rattle.acd_terms.specs.declared.event.Report.{Report}
+use Rattle.acd_laws.proofs.Types.{Rows, GroupRecord, StationRecord, AgentRecord, CallRecord, ConnectionRecord, MonitorRecord, ConnectionState, Columns, Event, Move, Report}
 use Rattle.acd_terms.specs.declared.event.Report.TheVariants.{CallCleared}
-use Rattle.acd_terms.specs.declared.moves.Move.{Move}
 use Rattle.acd_terms.specs.declared.moves.Change.TheVariants.{PutGroup, PutStation, PutAgent, PutCall, PutConnection, PutMonitor, RemoveCall, RemoveConnection, RemoveMonitor}
 use Rattle.acd_laws.proofs.Tells.{shown, seat}
 use Rattle.acd_laws.proofs.State.{is_of, is_of_true, at_put, at_remove, agent_put, group_put, station_put}

@@ -1,8 +1,8 @@
 -- The reports of every run tell its state; every run is balanced, and leaves no offer.
-use Rattle.std.proofs.Common.{◌≡◌, ℕ, ◌+◌, inl, inr, Bool, true, false, not, ◌&&◌, ◌||◌, cond, List, [], ◌++◌, Option, Some, None, refl, sym, ◌∙◌, ap, subst, length, arith, eq-eqb}
+use Rattle.std.proofs.Common.{◌≡◌, ℕ, ◌+◌, inl, inr, Bool, true, false, not, ◌&&◌, cond, List, [], ◌++◌, Option, Some, None, refl, sym, ◌∙◌, ap, subst, length, arith, eq-eqb}
 use Rattle.std.specs.Prelude.{option_map}
 use Rattle.std.proofs.lemmas.Bool.{and_parts, not-true, or_left, or_right}
-use Rattle.acd_terms.specs.Scans.{connection_of, agent_of, call_of, group_of, station_of, is_group, is_station, is_planned, is_occupied, is_taken, is_eligible, waiting_in, eligible_in}
+use Rattle.acd_terms.specs.Scans.{connection_of, agent_of, call_of, is_group, is_station, is_planned, is_occupied, is_taken, is_eligible, waiting_in, eligible_in}
 use Rattle.acd_terms.specs.Writes.{empty_rows, with_last}
 use Rattle.acd_terms.specs.Moves.{moved, events_of}
 use Rattle.acd_terms.specs.Figures.{figures_of, sum_of_figures, counting, with_figures}
@@ -13,71 +13,27 @@ use Rattle.acd_terms.specs.Services.Serve.{serve}
 use Rattle.acd_terms.specs.Distribution.{distribution}
 use Rattle.acd_terms.specs.Served.{moves_of}
 use Rattle.acd_terms.specs.Step.{numbered, executed_moment, next_stamp, step_moves, step}
-use Rattle.acd_terms.specs.declared.rows.Rows.{Rows}
-use Rattle.acd_terms.specs.declared.rows.Limits.{Limits}
-use Rattle.acd_terms.specs.declared.record.Figures.{Figures}
-use Rattle.acd_terms.specs.declared.record.GroupRecord.{GroupRecord}
-use Rattle.acd_terms.specs.declared.record.CallRecord.{CallRecord}
-use Rattle.acd_terms.specs.declared.record.ConnectionRecord.{ConnectionRecord}
-use Rattle.acd_terms.specs.declared.state.ConnectionState.{ConnectionState}
+use Rattle.acd_laws.proofs.Types.{Rows, Limits, GroupRecord, CallRecord, ConnectionRecord, Figures, ConnectionState, Command, Event, Move}
 use Rattle.acd_terms.specs.declared.state.ConnectionState.TheVariants as S
-use Rattle.acd_terms.specs.declared.event.Event.{Event}
-use Rattle.acd_terms.specs.declared.command.Command.{Command}
-use Rattle.acd_terms.specs.declared.moves.Move.{Move}
-use Rattle.acd_laws.specs.Counts.{Rules, IsCaller, StandsAt}
-use Rattle.acd_laws.specs.WatchedLaws.{TellsNoMore, StepKeepsWatched, RunIsWatched, RunTellsNoMore}
-use Rattle.acd_laws.specs.BalanceLaws.{IsBalanced, StepBalances, RunIsBalanced}
-use Rattle.acd_laws.specs.OfferLaws.{LeavesNoOffer, StepLeavesNoOffer, RunLeavesNoOffer}
-use Rattle.acd_laws.proofs.Lists.{none_from}
-use Rattle.acd_laws.proofs.Members.{mapped_among}
+use Rattle.acd_laws.proofs.Facts.{Rules, IsCaller, StandsAt}
+use Rattle.acd_laws.specs.WatchedLaws.{TellsNoMore, RunIsWatched, RunTellsNoMore}
+use Rattle.acd_laws.specs.BalanceLaws.{IsBalanced, RunIsBalanced}
+use Rattle.acd_laws.specs.OfferLaws.{LeavesNoOffer, RunLeavesNoOffer}
+use Rattle.acd_laws.proofs.Lists.{none_from, mapped_among}
 use Rattle.acd_laws.proofs.State.{found_key}
-use Rattle.acd_laws.proofs.Serving.{moved-append}
+use Rattle.acd_terms.proofs.MoveLemmas.{moved_append}
 use Rattle.acd_laws.proofs.Found.{connection_rule}
 use Rattle.acd_laws.proofs.CountedEvents.{figures_joined, figures_numbered}
-use Rattle.acd_laws.proofs.Tells.{shown, seat, UpTo, Tells}
+use Rattle.acd_laws.proofs.Tells.{shown, Tells}
 use Rattle.acd_laws.proofs.Told.{after-append, after-numbered}
 use Rattle.acd_laws.proofs.Balance.{holding}
 use Rattle.acd_laws.proofs.Order.{Ordered}
 use Rattle.acd_laws.proofs.Entries.{entry_number, entered_by}
 use Rattle.acd_laws.proofs.Distributing.{nothing_left}
 use Rattle.acd_laws.proofs.RulesKept.{rules_serve}
-use Rattle.acd_laws.proofs.RulesStep.{is_group_counting, rules_step}
+use Rattle.acd_laws.proofs.Ended.{ended, planned_ended, rules_step}
 use Rattle.acd_laws.proofs.Following.{Follows, follows_step}
-use Rattle.acd_laws.proofs.Runs.{kept_by_run, rules_first}
-
--- the end of a step sets figures and counters: nothing else of the state after its moves changes
-abbrev ended : Rows → List Event → ℕ → ℕ → ℕ → Rows
-ended t es k m n = with_last (with_figures t es) k m n
-
-planned_ended : (t : Rows) (es : List Event) (k m n d : ℕ) → is_planned (ended t es k m n) d ≡ is_planned t d
-unfolding with_last with_figures group_of station_of
-planned_ended t es k m n d = ap (λ b. b || is_station t d) (is_group_counting t es d)
-
-state_ended : (t : Rows) (es : List Event) (k m n c d : ℕ) → state_at (ended t es k m n) c d ≡ state_at t c d
-unfolding with_last with_figures connection_of
-state_ended t es k m n c d = refl
-
-shown_ended : (t : Rows) (es : List Event) (k m n c d : ℕ) → shown (ended t es k m n) c d ≡ shown t c d
-shown_ended t es k m n c d = ap (λ b. cond b (state_at (ended t es k m n) c d) None) (planned_ended t es k m n d) ∙ ap (λ v. cond (is_planned t d) v None) (state_ended t es k m n c d)
-
-seat_ended : (t : Rows) (es : List Event) (k m n a : ℕ) → seat (ended t es k m n) a ≡ seat t a
-unfolding with_last with_figures agent_of
-seat_ended t es k m n a = refl
-
-ordered_ended : (t : Rows) (es : List Event) (k m n : ℕ) (events : List Event) → Ordered k n t events → Ordered k n (ended t es k m n) events
-unfolding with_last with_figures
-ordered_ended t es k m n events o = record {
-  in_order = λ g c d p q a b. o.in_order g c d p q (back g c p a) (back g d q b);
-  entered = λ g c p a. o.entered g c p (back g c p a);
-  up_to = record { entries = o.up_to.entries; places = λ g c p a. o.up_to.places g c p (back g c p a) };
-}
-  where
-    back : (g c p : ℕ) → IsHeldAt (ended t es k m n) g c p → IsHeldAt t g c p
-    back g c p h = record { connection = h.connection; there = h.there; held = h.held; of_call = h.of_call; at_place = h.at_place }
-
-counters_ended : (t : Rows) (es : List Event) (k m n : ℕ) → (k ≡ (ended t es k m n).last_stamp) × (n ≡ (ended t es k m n).last_event)
-unfolding with_last
-counters_ended t es k m n = (refl, refl)
+use Rattle.acd_laws.proofs.Runs.{kept_by_run, rules_first, KeptByRules}
 
 holding_ended : (t : Rows) (es : List Event) (k m n g : ℕ) → holding (ended t es k m n) g ≡ holding t g
 unfolding with_last with_figures
@@ -86,24 +42,22 @@ holding_ended t es k m n g = refl
 -- what a step tells
 
 tells_ended : (s t : Rows) (events es : List Event) (k m : ℕ) → Tells s events → Follows s s.last_stamp k t es → Tells (ended t es k m (s.last_event + length es)) (events ++ numbered s.last_event es)
+unfolding with_last with_figures connection_of agent_of
 tells_ended s t events es k m told f =
     let n : ℕ = s.last_event + length es in
-    let e : Rows = ended t es k m n in
-    let o : Ordered s.last_stamp s.last_event s events = record { in_order = told.queues; entered = told.entries; up_to = told.up_to } in
-    let w : Ordered k n e (events ++ numbered s.last_event es) = ordered_ended t es k m n (events ++ numbered s.last_event es) (f.order events s.last_event o) in
-    let c = counters_ended t es k m n in
+    let w : Ordered k n t (events ++ numbered s.last_event es) = f.order events s.last_event (record { in_order = told.queues; entered = told.entries; up_to = told.up_to }) in
+    let back : (g c p : ℕ) → IsHeldAt (ended t es k m n) g c p → IsHeldAt t g c p = λ g c p h. record { connection = h.connection; there = h.there; held = h.held; of_call = h.of_call; at_place = h.at_place } in
     record {
-      connections = λ call device. shown_ended t es k m n call device ∙ f.connections call device ∙ ap (λ v. after (connection_told call device) v es) (told.connections call device)
+      connections = λ call device. ap (λ b. cond b (state_at t call device) None) (planned_ended t es k m n device) ∙ f.connections call device ∙ ap (λ v. after (connection_told call device) v es) (told.connections call device)
           ∙ sym (after-append (connection_told call device) None events (numbered s.last_event es) ∙ after-numbered (connection_told call device) _ s.last_event es);
-      agents = λ agent. seat_ended t es k m n agent ∙ f.agents agent ∙ ap (λ v. after (seat_told agent) v es) (told.agents agent)
+      agents = λ agent. f.agents agent ∙ ap (λ v. after (seat_told agent) v es) (told.agents agent)
           ∙ sym (after-append (seat_told agent) _ events (numbered s.last_event es) ∙ after-numbered (seat_told agent) _ s.last_event es);
-      entries = w.entered;
-      queues = w.in_order;
-      up_to = subst (λ v. UpTo v e.last_event e (events ++ numbered s.last_event es)) c.0 (subst (λ v. UpTo k v e (events ++ numbered s.last_event es)) c.1 w.up_to);
+      entries = λ g c p h. w.entered g c p (back g c p h);
+      queues = λ g c d p q x y. w.in_order g c d p q (back g c p x) (back g d q y);
+      up_to = record { entries = w.up_to.entries; places = λ g c p h. w.up_to.places g c p (back g c p h) };
     }
 
-step_tells : (s : Rows) (events : List Event) (moment : ℕ) (command : Command) → Rules s → Tells s events
-    → Tells (step s moment command).rows (events ++ (step s moment command).events)
+step_tells : KeptByRules Tells
 unfolding step
 step_tells s events moment command r told =
     let m : ℕ = executed_moment s moment in
@@ -113,18 +67,16 @@ step_tells s events moment command r told =
 
 -- what the reports tell of a state that keeps the rules
 
+not_caller : (o : Option CallRecord) (d : ℕ) → is_caller o d ≡ false → IsCaller o d → ⊥
+not_caller None d e i = i
+not_caller (Some c) d e i = cc (e, eq-eqb c.caller d i)
+
 not_standing : (s : Rows) (x : ConnectionRecord) (st : ConnectionState) → is_planned s x.device ≡ false → is_caller (call_of s x.call) x.device ≡ false → StandsAt s x st → ⊥
 not_standing s x S.Queued p c h = cc (p, or_left (is_group s x.device) (is_station s x.device) h)
 not_standing s x S.Initiated p c h = cc (p, or_right (is_group s x.device) (is_station s x.device) h.0)
-not_standing s x S.Alerting p c h = cc (p, or_right (is_group s x.device) (is_station s x.device) h)
-not_standing s x S.Hold p c h = cc (p, or_right (is_group s x.device) (is_station s x.device) h)
-not_standing s x S.Fail p c h = cc (p, or_right (is_group s x.device) (is_station s x.device) h)
 not_standing s x S.Connected p c (inl h) = cc (p, or_right (is_group s x.device) (is_station s x.device) h)
-not_standing s x S.Connected p c (inr h) = calls (call_of s x.call) c h.1
-  where
-    calls : (o : Option CallRecord) → is_caller o x.device ≡ false → IsCaller o x.device → ⊥
-    calls None e i = i
-    calls (Some k) e i = cc (e, eq-eqb k.caller x.device i)
+not_standing s x S.Connected p c (inr h) = not_caller (call_of s x.call) x.device c h.1
+not_standing s x _ p c h = cc (p, or_right (is_group s x.device) (is_station s x.device) h)
 
 -- neither at a planned device nor at the caller of its call a connection stands
 none_outside : (s : Rows) (c d : ℕ) → Rules s → is_planned s d ≡ false → is_caller (call_of s c) d ≡ false → connection_of s c d ≡ None
@@ -171,14 +123,15 @@ told_by s events r w n = record {
   up_to = record { entries = n.entries; places = n.places };
 }
 
-pub step_keeps_watched : StepKeepsWatched
+pub step_keeps_watched : (s : Rows) (events : List Event) (moment : ℕ) (command : Command) → Rules s → IsWatched s events → TellsNoMore s events
+    → IsWatched (step s moment command).rows (events ++ (step s moment command).events) × TellsNoMore (step s moment command).rows (events ++ (step s moment command).events)
 step_keeps_watched s events moment command r w n =
     let told = step_tells s events moment command r (told_by s events r w n) in
     (watched_by _ _ (rules_step s moment command r) told, no_more_by _ _ told)
 
 -- balance
 
-pub step_balances : StepBalances
+pub step_balances : KeptByRules IsBalanced
 unfolding step
 step_balances s events moment command r h g =
     let m : ℕ = executed_moment s moment in
@@ -202,7 +155,7 @@ no_offer_ended : (t : Rows) (es : List Event) (k m n : ℕ) → LeavesNoOffer t 
 unfolding with_last with_figures waiting_in eligible_in is_eligible is_occupied is_taken
 no_offer_ended t es k m n h g a = let w = mapped_among (counting es) t.groups g a in subst (λ d. HasNoOffer (ended t es k m n) d) (ap (λ (z : GroupRecord). z.device) (sym w.1.1)) (h w.0 w.1.0)
 
-pub step_leaves_no_offer : StepLeavesNoOffer
+pub step_leaves_no_offer : (s : Rows) (moment : ℕ) (command : Command) → Rules s → LeavesNoOffer (step s moment command).rows
 unfolding step
 step_leaves_no_offer s moment command r =
     let m : ℕ = executed_moment s moment in
@@ -210,7 +163,7 @@ step_leaves_no_offer s moment command r =
     let ms : List Move = moves_of (serve s m k command) in
     let all : List Move = step_moves s m (serve s m k command) in
     no_offer_ended (moved s all) (events_of m all) k m (s.last_event + length (events_of m all))
-    (subst LeavesNoOffer (sym (moved-append s ms (distribution (moved s ms) m))) (λ g a. nothing_left (moved s ms) m g (rules_serve s m k command r) a))
+    (subst LeavesNoOffer (sym (moved_append s ms (distribution (moved s ms) m))) (λ g a. nothing_left (moved s ms) m g (rules_serve s m k command r) a))
 
 -- runs
 
@@ -221,14 +174,10 @@ record Holds (s : Rows) (events : List Event) : Type 0 where
   balanced : IsBalanced s events
   no_offer : LeavesNoOffer s
 
-both_none : (b : Bool) → cond {A = Option ConnectionState} b None None ≡ None
-both_none true = refl
-both_none false = refl
-
 nothing_told : (limits : Limits) → Tells (empty_rows limits) []
 unfolding connection_of agent_of
 nothing_told limits = record {
-  connections = λ c d. both_none (is_planned (empty_rows limits) d);
+  connections = λ c d. elim (is_planned (empty_rows limits) d) as (λ b. cond {A = Option ConnectionState} b None None ≡ None) [ true ↦ refl | false ↦ refl ];
   agents = λ a. refl;
   entries = λ g c p a. absurd a.there;
   queues = λ g c d p q a b. absurd a.there;

@@ -117,7 +117,7 @@ fn initiated_of(rows: &Rows, call: u64) -> usize
 {
     rows.connections
         .iter()
-        .filter(|x| x.call == call && x.state.is_initiated())
+        .filter(|x| x.state.is_initiated() && x.call == call)
         .count()
 }
 
@@ -126,7 +126,7 @@ fn initiated_at(rows: &Rows, call: u64, device: DeviceId) -> usize
 {
     rows.connections
         .iter()
-        .filter(|x| x.call == call && x.state.is_initiated() && x.device == device)
+        .filter(|x| x.state.is_initiated() && x.call == call && x.device == device)
         .count()
 }
 
@@ -135,7 +135,7 @@ fn open_of(rows: &Rows, call: u64) -> usize
 {
     rows.connections
         .iter()
-        .filter(|x| x.call == call && is_open(x.state))
+        .filter(|x| is_open(x.state) && x.call == call)
         .count()
 }
 
@@ -173,7 +173,7 @@ fn live_at(rows: &Rows, device: DeviceId) -> usize
 {
     rows.connections
         .iter()
-        .filter(|x| x.device == device && x.state.is_live())
+        .filter(|x| x.state.is_live() && x.device == device)
         .count()
 }
 
@@ -182,7 +182,7 @@ fn alerting_at(rows: &Rows, device: DeviceId) -> usize
 {
     rows.connections
         .iter()
-        .filter(|x| x.device == device && x.state.is_alerting())
+        .filter(|x| x.state.is_alerting() && x.device == device)
         .count()
 }
 
@@ -191,7 +191,7 @@ fn hold_at(rows: &Rows, device: DeviceId) -> usize
 {
     rows.connections
         .iter()
-        .filter(|x| x.device == device && x.state.is_hold())
+        .filter(|x| x.state.is_hold() && x.device == device)
         .count()
 }
 

@@ -14,7 +14,7 @@ fn distributed_at(rows: &Rows, device: DeviceId) -> usize
 {
     rows.connections
         .iter()
-        .filter(|x| x.device == device && x.is_distributed())
+        .filter(|x| x.is_distributed() && x.device == device)
         .count()
 }
 

@@ -33,8 +33,7 @@ use Rattle.acd_terms.specs.declared.record.ConnectionRecord.{ConnectionRecord}
 use Rattle.acd_terms.specs.declared.record.MonitorRecord.{MonitorRecord}
 use Rattle.acd_book.specs.Content.{Content}
 use Rattle.acd_book.specs.declared.kept.Kept.{Kept}
-use Rattle.acd_laws.proofs.Lists.{after_among, among-put, among-put_other, ascending-put}
-use Rattle.acd_laws.proofs.Members.{among_put}
+use Rattle.acd_laws.proofs.Lists.{after_among, among-put, among-put_other, ascending-put, among_put}
 use Rattle.acd_laws.proofs.State.{connections_total}
 use Rattle.acd_sqlbook.specs.declared.fault.Table.TheVariants as table
 use Rattle.acd_sqlbook.specs.declared.meta.Meta.{Meta}

@@ -25,7 +25,7 @@ use Rattle.acd_terms.specs.contracts.record.AgentRecordPartialEq.TheImpl as agen
 use Rattle.acd_terms.specs.contracts.record.CallRecordPartialEq.TheImpl as calls_eq
 use Rattle.acd_terms.specs.contracts.record.ConnectionRecordPartialEq.TheImpl as connections_eq
 use Rattle.acd_terms.specs.contracts.record.MonitorRecordPartialEq.TheImpl as monitors_eq
-use Rattle.acd_laws.specs.Counts.{Orders}
+use Rattle.acd_laws.specs.Orders.{Orders}
 use Rattle.acd_sqlbook.proofs.SameRecords.{same_group, same_station, same_agent, same_call, same_connection, same_monitor}
 use Rattle.acd_sqlbook.specs.Differing.{Step, gone, put, change_by, stepped, LeadTo}
 use Rattle.acd_sqlbook.specs.Transition.{HasTables, AreWhole, Lead, AddsSteps, with_plan}

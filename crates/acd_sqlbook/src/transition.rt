@@ -9,7 +9,7 @@ ghost use Rattle.acd_terms.specs.Lists.{IsAscending};
 ghost use Rattle.acd_terms.specs.Rules.Plan.{connection_order};
 ghost use Rattle.acd_terms.specs.declared.record.AgentRecord.{AgentRecord as Agent};
 ghost use Rattle.acd_book.specs.Content.{Follows, committed};
-ghost use Rattle.acd_laws.specs.Counts.{Orders};
+ghost use Rattle.acd_laws.specs.Orders.{Orders};
 ghost use Rattle.acd_sqlbook.specs.Calls.{HasRead, HasReplaced};
 ghost use Rattle.acd_sqlbook.specs.Content.{meta_of};
 ghost use Rattle.acd_sqlbook.specs.Draft.{Fits, MetaFits};

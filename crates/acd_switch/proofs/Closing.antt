@@ -17,7 +17,7 @@ use Rattle.acd_terms.specs.Rules.First.{BreaksNoRule}
 use Rattle.acd_terms.specs.declared.moves.Change.{Change}
 use Rattle.acd_terms.proofs.MoveLemmas.{moved_append, events_of_append}
 use Rattle.acd_terms.proofs.ChangeLemmas.{changes_of_append}
-use Rattle.acd_laws.proofs.BoundsRead.{keeps_read}
+use Rattle.acd_laws.proofs.DecidedAll.{keeps_read}
 use Rattle.acd_laws.proofs.ChangesMade.{ascending_moved}
 
 -- the state after the service and the distribution

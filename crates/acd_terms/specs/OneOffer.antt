@@ -9,7 +9,7 @@ use Rattle.acd_terms.specs.declared.record.ConnectionRecord.{ConnectionRecord}
 use Rattle.acd_terms.specs.declared.state.AgentState.TheVariants.{Ready, Busy}
 
 abbrev pub is_distributed_at : ℕ → ConnectionRecord → Bool
-is_distributed_at device x = x.device == device && is_distributed x
+is_distributed_at device x = is_distributed x && x.device == device
 
 -- it stands at a station, where an agent is logged on who is ready while it alerts and busy once it is answered
 pub record IsAttended (s : Rows) (x : ConnectionRecord) : Type 0 where

@@ -57,13 +57,13 @@ abbrev pub parties_of : ℕ → ConnectionRecord → Bool
 parties_of call x = x.call == call
 
 abbrev pub initiated_of : ℕ → ConnectionRecord → Bool
-initiated_of call x = x.call == call && is_initiated x.state
+initiated_of call x = is_initiated x.state && x.call == call
 
 abbrev pub initiated_at : ℕ → ℕ → ConnectionRecord → Bool
-initiated_at call device x = x.call == call && is_initiated x.state && x.device == device
+initiated_at call device x = is_initiated x.state && x.call == call && x.device == device
 
 abbrev pub open_of : ℕ → ConnectionRecord → Bool
-open_of call x = x.call == call && is_open x.state
+open_of call x = is_open x.state && x.call == call
 
 -- one connection, initiated at the caller
 abbrev pub is_being_made : Rows → CallRecord → Bool
@@ -79,13 +79,13 @@ unfoldable pub keeps_parties : Rows → Bool
 keeps_parties s = list_all (λ (c : CallRecord). is_being_made s c || has_two_parties s c) s.calls
 
 abbrev pub live_at : ℕ → ConnectionRecord → Bool
-live_at device x = x.device == device && is_live x.state
+live_at device x = is_live x.state && x.device == device
 
 abbrev pub alerting_at : ℕ → ConnectionRecord → Bool
-alerting_at device x = x.device == device && is_alerting x.state
+alerting_at device x = is_alerting x.state && x.device == device
 
 abbrev pub hold_at : ℕ → ConnectionRecord → Bool
-hold_at device x = x.device == device && is_hold x.state
+hold_at device x = is_hold x.state && x.device == device
 
 -- at most one live connection at a station, and none on hold beside an alerting one
 unfoldable pub keeps_live : Rows → Bool

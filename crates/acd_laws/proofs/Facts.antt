@@ -1,26 +1,17 @@
--- The rules of rows as the laws use them: facts of each record, and counts over the plain lists.
-use Rattle.std.specs.Prelude.{◌≡◌, ◌≢◌, ◌⊎◌, ℕ, ◌+◌, ◌≤◌, Bool, true, false, ◌&&◌, ◌==◌, Option, Some, None, is_some, if◌then◌else◌}
-use Rattle.acd_terms.specs.Lists.{Every, IsAscending, count}
-use Rattle.acd_terms.specs.Scans.{call_of, is_group, is_station, is_planned, is_distributed, has}
-use Rattle.acd_terms.specs.States.{is_initiated, is_alerting, is_hold, is_live, is_answered, is_ready, is_busy}
-use Rattle.acd_terms.specs.Rules.Plan.{group_order, station_order, agent_order, call_order, connection_order, monitor_order}
-use Rattle.acd_terms.specs.declared.rows.Rows.{Rows}
-use Rattle.acd_terms.specs.declared.record.AgentRecord.{AgentRecord}
-use Rattle.acd_terms.specs.declared.record.CallRecord.{CallRecord}
-use Rattle.acd_terms.specs.declared.record.ConnectionRecord.{ConnectionRecord}
-use Rattle.acd_terms.specs.declared.state.AgentState.{AgentState}
+-- The rules of rows as facts: of each record, counts over the plain lists, and bounds. Rows that break no rule are these (`DecidedAll`).
+use Rattle.std.specs.Prelude.{◌≡◌, ◌≢◌, ◌⊎◌, ℕ, ◌+◌, ◌≤◌, Bool, true, false, ◌&&◌, ◌==◌, Option, Some, None, is_some, if◌then◌else◌, ◌*◌, length}
+use Rattle.acd_terms.specs.Lists.{Every, count, Among}
+use Rattle.acd_terms.specs.Scans.{call_of, is_group, is_station, is_planned, has}
+use Rattle.acd_terms.specs.States.{is_alerting, is_answered, is_ready, is_busy}
+use Rattle.acd_terms.specs.OneOffer.{is_distributed_at}
+use Rattle.acd_terms.specs.Rules.Calls.{parties_of, initiated_of, open_of, live_at, alerting_at, hold_at}
+use Rattle.acd_laws.proofs.Types.{Rows, GroupRecord, AgentRecord, CallRecord, ConnectionRecord, MonitorRecord, ConnectionState, AgentState}
 use Rattle.acd_terms.specs.declared.state.AgentState.TheVariants as agent
-use Rattle.acd_terms.specs.declared.state.ConnectionState.{ConnectionState}
-use Rattle.acd_terms.specs.declared.state.ConnectionState.TheVariants.{Initiated, Alerting, Connected, Hold, Queued, Fail}
-
--- each list strictly ascending in its key
-pub record Orders (s : Rows) : Type 0 where
-  pub groups : IsAscending group_order s.groups
-  pub stations : IsAscending station_order s.stations
-  pub agents : IsAscending agent_order s.agents
-  pub calls : IsAscending call_order s.calls
-  pub connections : IsAscending connection_order s.connections
-  pub monitors : IsAscending monitor_order s.monitors
+use Rattle.acd_terms.specs.declared.state.ConnectionState.TheVariants.{Initiated, Alerting, Connected, Hold, Queued}
+use Rattle.acd_terms.specs.Limits.{limits_fit}
+use Rattle.acd_terms.specs.Offers.{HasNoOffer}
+use Rattle.acd_terms.specs.Rules.Occupied.{waits_in, rings_from}
+use Rattle.acd_laws.specs.Orders.{Orders}
 
 -- each agent: one in null has no seat, any other a planned station and group
 abbrev pub IsUnseated : AgentRecord → Type 0
@@ -93,34 +84,7 @@ StandsAt s x _ = is_station s x.device ≡ true
 abbrev pub ConnectionRule : Rows → ConnectionRecord → Type 0
 ConnectionRule s x = HasColumns x x.state × GroupColumn s x.group × StandsAt s x x.state
 
-abbrev pub is_open : ConnectionState → Bool
-is_open Alerting = true
-is_open Queued = true
-is_open Fail = true
-is_open _ = false
-
--- what is counted
-abbrev pub of_call : ℕ → ConnectionRecord → Bool
-of_call call x = x.call == call
-
-abbrev pub initiated_of : ℕ → ConnectionRecord → Bool
-initiated_of call x = is_initiated x.state && x.call == call
-
-abbrev pub open_of : ℕ → ConnectionRecord → Bool
-open_of call x = is_open x.state && x.call == call
-
-abbrev pub live_at : ℕ → ConnectionRecord → Bool
-live_at device x = is_live x.state && x.device == device
-
-abbrev pub alerting_at : ℕ → ConnectionRecord → Bool
-alerting_at device x = is_alerting x.state && x.device == device
-
-abbrev pub held_at : ℕ → ConnectionRecord → Bool
-held_at device x = is_hold x.state && x.device == device
-
-abbrev pub distributed_at : ℕ → ConnectionRecord → Bool
-distributed_at device x = is_distributed x && x.device == device
-
+-- what is counted beside what the rules count
 abbrev pub ringing_at : ℕ → ConnectionRecord → Bool
 ringing_at device x = is_alerting x.state && is_some x.group && x.device == device
 
@@ -150,19 +114,100 @@ pub record RulesBut (loose : ℕ → Bool) (s : Rows) : Type 0 where
   pub calls : Every (CallRule s) s.calls
   pub connections : Every (ConnectionRule s) s.connections
   -- a live call has one connection, initiated, or two, none initiated; at most one is open
-  pub parties : (c : ℕ) → count (of_call c) s.connections + count (initiated_of c) s.connections ≡ two_if (is_some (call_of s c))
+  pub parties : (c : ℕ) → count (parties_of c) s.connections + count (initiated_of c) s.connections ≡ two_if (is_some (call_of s c))
   pub one_open : (c : ℕ) → count (open_of c) s.connections ≤ 1
   -- at a station at most one is live, and none on hold beside an alerting one
   pub one_live : (d : ℕ) → is_station s d ≡ true → count (live_at d) s.connections ≤ 1
-  pub no_hold : (d : ℕ) → is_station s d ≡ true → 1 ≤ count (alerting_at d) s.connections → count (held_at d) s.connections ≡ 0
+  pub no_hold : (d : ℕ) → is_station s d ≡ true → 1 ≤ count (alerting_at d) s.connections → count (hold_at d) s.connections ≡ 0
   -- at a station at most one is distributed; its agent is ready where it alerts, busy where it is answered, and no other is busy
-  pub one_offer : (d : ℕ) → count (distributed_at d) s.connections ≤ 1
+  pub one_offer : (d : ℕ) → count (is_distributed_at d) s.connections ≤ 1
   pub one_agent : (d : ℕ) → count (seated_at d) s.agents ≤ 1
   pub ready : (d : ℕ) → loose d ≡ false → count (ringing_at d) s.connections ≤ count (ready_at d) s.agents
   pub busy : (d : ℕ) → loose d ≡ false → count (talking_at d) s.connections ≡ count (busy_at d) s.agents
   -- an agent waits for a state only while it is occupied
-  pub pending : (d : ℕ) → loose d ≡ false → count (pending_at d) s.agents ≤ count (distributed_at d) s.connections
-  pub free : (d : ℕ) → loose d ≡ true → count (distributed_at d) s.connections ≡ 0
+  pub pending : (d : ℕ) → loose d ≡ false → count (pending_at d) s.agents ≤ count (is_distributed_at d) s.connections
+  pub free : (d : ℕ) → loose d ≡ true → count (is_distributed_at d) s.connections ≡ 0
 
 abbrev pub Rules : Rows → Type 0
 Rules s = RulesBut (λ _. false) s
+
+-- bounds
+
+-- no limit above its greatest, and no list above its limit
+pub record Sizes (s : Rows) : Type 0 where
+  pub limits : limits_fit s.limits ≡ true
+  pub groups : length s.groups ≤ s.limits.groups
+  pub stations : length s.stations ≤ s.limits.stations
+  pub agents : length s.agents ≤ s.limits.agents
+  pub calls : length s.calls ≤ s.limits.calls
+  pub monitors : length s.monitors ≤ s.limits.monitors
+
+-- a stamp from 1 to k, a moment up to m
+pub record AgentTimed (k m : ℕ) (a : AgentRecord) : Type 0 where
+  pub above : 1 ≤ a.stamp
+  pub stamp : a.stamp ≤ k
+  pub since : a.since ≤ m
+
+abbrev pub CallTimed : ℕ → CallRecord → Type 0
+CallTimed m c = c.since ≤ m
+
+abbrev pub IsPlace : ℕ → Option ℕ → Type 0
+IsPlace k None = Unit {0}
+IsPlace k (Some p) = (1 ≤ p) × (p ≤ k)
+
+abbrev pub IsMoment : ℕ → Option ℕ → Type 0
+IsMoment m None = Unit {0}
+IsMoment m (Some n) = n ≤ m
+
+abbrev pub IsAfter : Option ℕ → Option ℕ → Type 0
+IsAfter (Some queued) (Some offered) = queued ≤ offered
+IsAfter _ _ = Unit {0}
+
+pub record ConnectionTimed (k m : ℕ) (x : ConnectionRecord) : Type 0 where
+  pub place : IsPlace k x.place
+  pub queued : IsMoment m x.queued
+  pub offered : IsMoment m x.offered
+  pub order : IsAfter x.queued x.offered
+
+abbrev pub at_place : ℕ → ConnectionRecord → Bool
+at_place p x = has x.place p
+
+-- stamps and places from 1 to k, moments up to m
+pub record Timed (k m : ℕ) (s : Rows) : Type 0 where
+  pub agents : Every (AgentTimed k m) s.agents
+  pub calls : Every (CallTimed m) s.calls
+  pub connections : Every (ConnectionTimed k m) s.connections
+
+-- no two connections have one place
+abbrev pub OnePlace : Rows → Type 0
+OnePlace s = (p : ℕ) → count (at_place p) s.connections ≤ 1
+
+-- a monitor's device is planned, and its identifier and event aren't above the last
+abbrev pub MonitorRule : Rows → MonitorRecord → Type 0
+MonitorRule s w = (is_planned s w.device ≡ true) × (w.monitor ≤ s.last_monitor) × (w.after_event ≤ s.last_event)
+
+abbrev pub Monitored : Rows → Type 0
+Monitored s = Every (MonitorRule s) s.monitors
+
+-- no more entries than k, and no call waited longer than m
+abbrev pub IsCountedUpTo : ℕ → ℕ → GroupRecord → Type 0
+IsCountedUpTo k m g = (g.figures.entered ≤ k) × (g.figures.waited ≤ g.figures.answered * m)
+
+-- entered is what waits, rings, was answered, was abandoned and was moved
+abbrev pub AddsUp : Rows → GroupRecord → Type 0
+AddsUp s g = g.figures.entered ≡ count (waits_in g.device) s.connections + count (rings_from g.device) s.connections
+    + g.figures.answered + g.figures.abandoned + g.figures.moved
+
+-- all rules but that the last stamp is within the limit of requests
+pub record KeepsRules (s : Rows) : Type 0 where
+  pub rules : Rules s
+  pub sizes : Sizes s
+  pub last_call : s.last_call ≤ s.last_stamp
+  pub last_monitor : s.last_monitor ≤ s.last_stamp
+  pub timed : Timed s.last_stamp s.last_moment s
+  pub places : OnePlace s
+  pub figures : Every (IsCountedUpTo s.last_stamp s.last_moment) s.groups
+  pub last_event : s.last_event ≤ 100000 * s.last_stamp
+  pub offers : (g : GroupRecord) → Among g s.groups → HasNoOffer s g.device
+  pub monitors : Monitored s
+  pub balance : Every (AddsUp s) s.groups

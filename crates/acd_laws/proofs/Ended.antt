@@ -1,0 +1,85 @@
+-- The end of a step sets figures and counters: nothing else of the state after its moves changes, and the rules hold on.
+use Rattle.std.proofs.Common.{◌≡◌, ℕ, List, [], ◌∷◌, Option, Some, None, refl, sym, ◌∙◌, ap, subst, map}
+use Rattle.std.specs.Prelude.{is_some}
+use Rattle.acd_laws.proofs.Types.{Rows, GroupRecord, AgentRecord, AgentState, Command, Event}
+use Rattle.acd_terms.specs.declared.state.AgentState.TheVariants as A
+use Rattle.acd_terms.specs.Lists.{find_by, AllAfter, IsAscending}
+use Rattle.acd_terms.specs.Scans.{at_group, group_of, station_of, call_of, is_group, is_station, is_planned}
+use Rattle.acd_terms.specs.Writes.{with_last}
+use Rattle.acd_terms.specs.Rules.Plan.{group_order}
+use Rattle.acd_laws.proofs.Facts.{Rules, IsPlannedStation, IsPlannedGroup, SeatedAs, AgentRule, CallRule, IsCaller, ConnectionRule, two_if}
+use Rattle.acd_laws.proofs.Lists.{every_among, every_from}
+use Rattle.acd_terms.specs.Figures.{counting, with_figures}
+use Rattle.acd_terms.specs.Step.{step, executed_moment, next_stamp}
+use Rattle.acd_laws.proofs.State.{group_counted_found, is_some_mapped}
+use Rattle.acd_laws.proofs.Arriving.{rule_same}
+use Rattle.acd_laws.proofs.RulesKept.{rules_moves}
+
+abbrev pub ended : Rows → List Event → ℕ → ℕ → ℕ → Rows
+ended t es k m n = with_last (with_figures t es) k m n
+
+after_counting : (es : List Event) (g : GroupRecord) (gs : List GroupRecord) → AllAfter group_order g gs → AllAfter group_order (counting es g) (map (counting es) gs)
+after_counting es g [] h = tt
+after_counting es g (x ∷ xs) h = (h.0, after_counting es g xs h.1)
+
+pub ascending_counting : (es : List Event) (gs : List GroupRecord) → IsAscending group_order gs → IsAscending group_order (map (counting es) gs)
+ascending_counting es [] h = tt
+ascending_counting es (x ∷ xs) h = (after_counting es x xs h.0, ascending_counting es xs h.1)
+
+pub groups_ended : (t : Rows) (es : List Event) (k m n d : ℕ) → is_group (ended t es k m n) d ≡ is_group t d
+unfolding with_last with_figures group_of
+groups_ended t es k m n d = ap is_some (group_counted_found d es t.groups) ∙ is_some_mapped (counting es) (find_by (at_group d) t.groups)
+
+pub stations_ended : (t : Rows) (es : List Event) (k m n d : ℕ) → is_station (ended t es k m n) d ≡ is_station t d
+unfolding with_last with_figures station_of
+stations_ended t es k m n d = refl
+
+pub planned_ended : (t : Rows) (es : List Event) (k m n d : ℕ) → is_planned (ended t es k m n) d ≡ is_planned t d
+planned_ended t es k m n d = rw (groups_ended t es k m n d, stations_ended t es k m n d) refl
+
+pub calls_ended : (t : Rows) (es : List Event) (k m n c : ℕ) → call_of (ended t es k m n) c ≡ call_of t c
+unfolding with_last with_figures call_of
+calls_ended t es k m n c = refl
+
+-- the rules of a record speak of the planned devices alone, and of the last call
+same_group : (s t : Rows) → ((d : ℕ) → is_group t d ≡ is_group s d) → (o : Option ℕ) → IsPlannedGroup s o → IsPlannedGroup t o
+same_group s t g None h = h
+same_group s t g (Some d) h = g d ∙ h
+
+same_station : (s t : Rows) → ((d : ℕ) → is_station t d ≡ is_station s d) → (o : Option ℕ) → IsPlannedStation s o → IsPlannedStation t o
+same_station s t g None h = h
+same_station s t g (Some d) h = g d ∙ h
+
+same_seat : (s t : Rows) → ((d : ℕ) → is_group t d ≡ is_group s d) → ((d : ℕ) → is_station t d ≡ is_station s d) → (a : AgentRecord) (st : AgentState) → SeatedAs s a st → SeatedAs t a st
+same_seat s t g f a A.Null h = h
+same_seat s t g f a _ h = (same_station s t f a.station h.0, same_group s t g a.group h.1)
+
+pub rules_ended : (t : Rows) (es : List Event) (k m n : ℕ) → Rules t → Rules (ended t es k m n)
+unfolding with_last with_figures
+rules_ended t es k m n r =
+    let u : Rows = ended t es k m n in
+    let g : (d : ℕ) → is_group u d ≡ is_group t d = groups_ended t es k m n in
+    let f : (d : ℕ) → is_station u d ≡ is_station t d = stations_ended t es k m n in
+    let p : (d : ℕ) → is_planned u d ≡ is_planned t d = planned_ended t es k m n in
+    let c : (j : ℕ) → call_of u j ≡ call_of t j = calls_ended t es k m n in
+    record {
+      orders = record { groups = ascending_counting es t.groups r.orders.groups; stations = r.orders.stations; agents = r.orders.agents; calls = r.orders.calls; connections = r.orders.connections; monitors = r.orders.monitors };
+      kinds = λ d h. f d ∙ r.kinds d (sym (g d) ∙ h);
+      agents = every_from (AgentRule u) t.agents (λ a i. same_seat t u g f a a.state (every_among (AgentRule t) t.agents a r.agents i));
+      calls = every_from (CallRule u) t.calls (λ x i. let h = every_among (CallRule t) t.calls x r.calls i in (h.0, p x.called ∙ h.1, h.2, g x.caller ∙ h.3));
+      connections = every_from (ConnectionRule u) t.connections (λ x i. rule_same t u g f x (λ h. subst (λ o. IsCaller o x.device) (sym (c x.call)) h) (every_among (ConnectionRule t) t.connections x r.connections i));
+      parties = λ j. r.parties j ∙ ap (λ o. two_if (is_some o)) (sym (c j));
+      one_open = r.one_open;
+      one_live = λ d h. r.one_live d (sym (f d) ∙ h);
+      no_hold = λ d h l. r.no_hold d (sym (f d) ∙ h) l;
+      one_offer = r.one_offer;
+      one_agent = r.one_agent;
+      ready = r.ready;
+      busy = r.busy;
+      pending = r.pending;
+      free = r.free;
+    }
+
+pub rules_step : (s : Rows) (moment : ℕ) (c : Command) → Rules s → Rules (step s moment c).rows
+unfolding step
+rules_step s moment c r = rules_ended _ _ (next_stamp s) _ _ (rules_moves s (executed_moment s moment) (next_stamp s) c r)

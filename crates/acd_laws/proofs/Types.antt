@@ -1,0 +1,27 @@
+-- The types of rows, moves and events, together: each is declared in a module of its own.
+pub use Rattle.acd_terms.specs.declared.rows.Rows.{Rows}
+pub use Rattle.acd_terms.specs.declared.rows.Limits.{Limits}
+pub use Rattle.acd_terms.specs.declared.rows.Rule.{Rule}
+pub use Rattle.acd_terms.specs.declared.record.GroupRecord.{GroupRecord}
+pub use Rattle.acd_terms.specs.declared.record.StationRecord.{StationRecord}
+pub use Rattle.acd_terms.specs.declared.record.AgentRecord.{AgentRecord}
+pub use Rattle.acd_terms.specs.declared.record.CallRecord.{CallRecord}
+pub use Rattle.acd_terms.specs.declared.record.ConnectionRecord.{ConnectionRecord}
+pub use Rattle.acd_terms.specs.declared.record.MonitorRecord.{MonitorRecord}
+pub use Rattle.acd_terms.specs.declared.record.Figures.{Figures}
+pub use Rattle.acd_terms.specs.declared.state.ConnectionState.{ConnectionState}
+pub use Rattle.acd_terms.specs.declared.state.AgentState.{AgentState}
+pub use Rattle.acd_terms.specs.declared.state.Pending.{Pending}
+pub use Rattle.acd_terms.specs.declared.event.Cause.{Cause}
+pub use Rattle.acd_terms.specs.declared.moves.Change.{Change}
+pub use Rattle.acd_terms.specs.declared.event.Columns.{Columns}
+pub use Rattle.acd_terms.specs.declared.command.Command.{Command}
+pub use Rattle.acd_terms.specs.declared.moves.Ending.{Ending}
+pub use Rattle.acd_terms.specs.declared.event.Event.{Event}
+pub use Rattle.acd_terms.specs.declared.moves.Move.{Move}
+pub use Rattle.acd_terms.specs.declared.moves.Offer.{Offer}
+pub use Rattle.acd_terms.specs.declared.answer.Refusal.{Refusal}
+pub use Rattle.acd_terms.specs.declared.moves.Release.{Release}
+pub use Rattle.acd_terms.specs.declared.event.Report.{Report}
+pub use Rattle.acd_terms.specs.declared.command.Requested.{Requested}
+pub use Rattle.acd_terms.specs.Served.{Served}
