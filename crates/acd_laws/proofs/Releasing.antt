@@ -28,7 +28,7 @@ use Rattle.acd_laws.specs.Counts.{RulesBut, Rules, IsPlannedStation, IsPlannedGr
 use Rattle.acd_laws.proofs.Lists.{one, ascending-put, every_among, every-put, among-put, counted, fewer, both_fewer, the_one, some_counted, some_from}
 use Rattle.acd_laws.proofs.State.{eqb_self, agents_total, agent_among}
 use Rattle.acd_laws.proofs.Found.{count_agent, agent_seat, agent_there}
-use Rattle.acd_laws.proofs.AgentMoves.{releases, agent_others}
+use Rattle.acd_laws.proofs.MoveKinds.{releases, agent_others}
 use Rattle.acd_laws.proofs.Keeping.{with_agents}
 use Rattle.acd_laws.proofs.KeptOffer.{ringing_is, talking_is, ready_is}
 

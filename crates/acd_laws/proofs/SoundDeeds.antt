@@ -46,16 +46,13 @@ use Rattle.acd_laws.proofs.Releasing.{release_other_kept}
 use Rattle.acd_laws.proofs.KeptPlan.{nobody_at}
 use Rattle.acd_laws.proofs.KeptOut.{initiated_is, initiated_alone, outgoing}
 use Rattle.acd_laws.proofs.KeptTalking.{hold_is}
-use Rattle.acd_laws.proofs.KeptGiving.{open_cases, closed_call}
+use Rattle.acd_laws.proofs.KeptEnds.{open_cases, closed_call, return_new}
 use Rattle.acd_laws.proofs.KeptOffer.{alerting_is, offer_station, offer_new}
-use Rattle.acd_laws.proofs.KeptReturn.{return_new}
-use Rattle.acd_laws.proofs.AgentMoves.{Recorded, releases, occupies, goes_from}
-use Rattle.acd_laws.proofs.Arrivals.{arrival_of}
+use Rattle.acd_laws.proofs.MoveKinds.{Recorded, releases, occupies, goes_from, arrival_of}
 use Rattle.acd_laws.proofs.Told.{truthful_put, truthful_remove, truthful_outside, truthful_call, truthful_monitor, truthful_stop, truthful_group, truthful_station, truthful_nothing, truthful_end, truthful_agent, truthful_silent_agent}
 use Rattle.acd_laws.proofs.Balance.{holding, held, gone, holding_less, holding_new}
 use Rattle.acd_laws.proofs.Order.{stays, held_put, held_within}
-use Rattle.acd_laws.proofs.SoundMoves.{Sound, sound-append, sound_later, sound_nothing, sound_unheard, silently, sound_agent, left_connection, left_connections}
-use Rattle.acd_laws.proofs.SoundPuts.{and_yes, or_no, put, remove, ungrouped, connections_put, removed_within, ascending_less, held_shut, held_is, held_by_is, waiting_alerting, waiting_open, sound_put_new, sound_put_old, sound_remove, sound_arrival, LeavesAgents, left_agent, left_agents, arrive_leaves, left_plan, open_gone, planned_station, planned_group}
+use Rattle.acd_laws.proofs.SoundMoves.{Sound, sound-append, sound_later, sound_nothing, sound_unheard, silently, sound_agent, left_connection, left_connections, and_yes, or_no, put, remove, ungrouped, connections_put, removed_within, ascending_less, held_shut, held_is, held_by_is, waiting_alerting, waiting_open, sound_put_new, sound_put_old, sound_remove, sound_arrival, LeavesAgents, left_agent, left_agents, arrive_leaves, left_plan, open_gone, planned_station, planned_group}
 use Rattle.acd_laws.proofs.Deeds.{new_call, Party, Free, Round, offers, returns, rests, Deed, nothing, adds_group, adds_station, adds_agent, watches, unwatches, arrives, makes, goes_out, answers, holds, retrieves, clears, deflects, transfers, logs_on, waits, goes}
 
 later : {m b k : ℕ} {s : Rows} {ms : List Move} → b < k → Sound m b b s ms → Sound m b k s ms

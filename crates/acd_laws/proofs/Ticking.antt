@@ -26,8 +26,8 @@ use Rattle.acd_terms.specs.Tick.{is_overdue_offer, is_overdue, overdue_in, retur
 use Rattle.acd_laws.proofs.MoveEvents.{events-append}
 use Rattle.acd_laws.proofs.Serving.{moved-append}
 use Rattle.acd_laws.proofs.Found.{connection_there}
-use Rattle.acd_laws.proofs.AgentMoves.{goes_from, released_by, agent_connections, agent_others}
-use Rattle.acd_laws.proofs.KeptReturn.{kept_return_to}
+use Rattle.acd_laws.proofs.MoveKinds.{goes_from, released_by, agent_connections, agent_others}
+use Rattle.acd_laws.proofs.KeptEnds.{kept_return_to}
 use Rattle.acd_laws.proofs.KeptAgents.{kept_rest_moves}
 
 -- moves in a row
