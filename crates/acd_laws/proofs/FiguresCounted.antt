@@ -22,16 +22,16 @@ use Rattle.acd_terms.specs.declared.event.Report.{Report}
 use Rattle.acd_terms.specs.declared.event.Report.TheVariants.{Established}
 use Rattle.acd_terms.specs.declared.moves.Move.{Move}
 use Rattle.acd_terms.specs.declared.moves.Ending.TheVariants.{NoAnswer}
-use Rattle.acd_terms.specs.declared.moves.Change.{Change}
 use Rattle.acd_terms.specs.declared.moves.Change.TheVariants.{PutGroup, PutAgent}
 use Rattle.acd_laws.specs.Counts.{Rules, GroupColumn, ConnectionRule}
+use Rattle.acd_laws.proofs.Frames.{LeavesGroups, left_groups}
 use Rattle.acd_laws.proofs.Lists.{every_among}
 use Rattle.acd_laws.proofs.State.{connection_among}
 use Rattle.acd_laws.proofs.Found.{other_among}
 use Rattle.acd_laws.proofs.CountedEvents.{group_counted, quiet, figures_joined, figures_numbered, figures_skipped, no_events, nothing_sum}
 use Rattle.acd_laws.proofs.MoveKinds.{AgentMove, stays, waits as puts, tells, Anyone, goes_from, released_by, occupied_by, Arrival, queues, alerts, fails, arrival_of}
 use Rattle.acd_laws.proofs.Deeds.{Party, Round, offers, returns, rests, Deed, nothing, adds_group, adds_station, adds_agent, watches, unwatches, arrives, makes, goes_out, answers, holds, retrieves, clears, deflects, transfers, logs_on, waits, goes}
-use Rattle.acd_terms.specs.Writes.{empty_rows, with_group, with_station, with_agent, with_call, with_connection, with_monitor, without_call, without_connection, without_monitor, with_last}
+use Rattle.acd_terms.specs.Writes.{empty_rows, with_group, with_last}
 use Rattle.acd_terms.specs.Figures.{figures_of, sum_of_figures, counting, with_figures}
 use Rattle.acd_terms.specs.Services.Serve.{serve}
 use Rattle.acd_terms.specs.Run.{Asked, run}
@@ -51,10 +51,6 @@ use Rattle.acd_laws.proofs.ByDeeds.{by_deeds}
 abbrev pub IsAmongGroups : List GroupRecord → Option ℕ → Type 0
 IsAmongGroups groups None = Unit {0}
 IsAmongGroups groups (Some g) = is_some (find_by (at_group g) groups) ≡ true
-
-abbrev pub LeavesGroups : Change → Type 0
-LeavesGroups (PutGroup g) = ⊥
-LeavesGroups _ = Unit {0}
 
 abbrev pub ReportsKnown : List GroupRecord → Option Report → Type 0
 ReportsKnown groups None = Unit {0}
@@ -155,14 +151,9 @@ fits_round s m k _ (rests a _ _) r = (fits_agent s.groups (goes_from Anyone m k 
 
 -- moves that fit leave the groups, and what they report counts for these alone
 
-groups_changed : (s : Rows) (c : Change) → LeavesGroups c → (changed s c).groups ≡ s.groups
-unfolding with_station with_agent with_call with_connection with_monitor without_call without_connection without_monitor
-groups_changed s (PutGroup g) h = absurd h
-groups_changed s _ h = refl
-
 groups_moved : (gs : List GroupRecord) (s : Rows) (ms : List Move) → AllFit gs ms → (moved s ms).groups ≡ s.groups
 groups_moved gs s [] h = refl
-groups_moved gs s (m ∷ ms) h = groups_moved gs (changed s m.change) ms h.1 ∙ groups_changed s m.change h.0.0
+groups_moved gs s (m ∷ ms) h = groups_moved gs (changed s m.change) ms h.1 ∙ left_groups s m.change h.0.0
 
 not_that : (gs : List GroupRecord) (o : Option ℕ) (d : ℕ) → IsAmongGroups gs o → is_some (find_by (at_group d) gs) ≡ false → has o d ≡ false
 not_that gs None d h e = refl

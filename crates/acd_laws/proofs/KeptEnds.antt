@@ -259,14 +259,14 @@ open_cases S.Alerting e = (refl, refl)
 open_cases S.Queued e = (refl, refl)
 open_cases _ e = absurd (cc (e))
 
-pub closed_of : ℕ → ConnectionRecord → Bool
+closed_of : ℕ → ConnectionRecord → Bool
 closed_of c x = not (is_open x.state) && x.call == c
 
-pub closed_is : (c : ℕ) (x : ConnectionRecord) → is_open x.state ≡ false → x.call ≡ c → closed_of c x ≡ true
+closed_is : (c : ℕ) (x : ConnectionRecord) → is_open x.state ≡ false → x.call ≡ c → closed_of c x ≡ true
 unfolding closed_of
 closed_is c x e q = and_from _ _ (ap not e) (eq-eqb x.call c q)
 
-pub open_or_closed : (c : ℕ) (x : ConnectionRecord) → one (open_of c x) + one (closed_of c x) ≤ one (of_call c x)
+open_or_closed : (c : ℕ) (x : ConnectionRecord) → one (open_of c x) + one (closed_of c x) ≤ one (of_call c x)
 unfolding closed_of
 open_or_closed c x = elim (is_open x.state) as (λ b. one (b && x.call == c) + one (not b && x.call == c) ≤ one (x.call == c)) [ true ↦ omega arith | false ↦ omega arith ]
 

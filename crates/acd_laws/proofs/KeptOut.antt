@@ -14,16 +14,15 @@ use Rattle.acd_terms.specs.Moves.{changed}
 use Rattle.acd_terms.specs.CallMoves.{plain}
 use Rattle.acd_terms.specs.Rules.Plan.{call_order, connection_order}
 use Rattle.acd_laws.specs.Counts.{Rules, CallRule, IsCaller, ConnectionRule, is_open, of_call, initiated_of, open_of, live_at, alerting_at, held_at, distributed_at, ringing_at, talking_at, two_if, HasColumns, StandsAt}
-use Rattle.acd_laws.proofs.Lists.{one, ascending-put, every_among, every_from, every-put, fewer, counted, two_counted, both_fewer, none_from}
+use Rattle.acd_laws.proofs.Lists.{one, ascending-put, every_among, every_from, every-put, fewer, counted, two_counted, none_from}
 use Rattle.acd_laws.proofs.State.{eqb_self, calls_total, connections_total, call_put, put_other, found_key, connection_among, call_among}
 use Rattle.acd_laws.proofs.Found.{count_new, none_above, no_call_above, none_of_call, count_old, connection_rule}
-use Rattle.acd_laws.proofs.Keeping.{arrived_live, arrived_hold, arrived_open, with_connections, most_one}
+use Rattle.acd_laws.proofs.Keeping.{lone, arrived_live, arrived_hold, arrived_open, with_connections, most_one}
 use Rattle.acd_laws.proofs.Arriving.{Arrived, rule_same}
 use Rattle.acd_terms.specs.declared.state.ConnectionState.{ConnectionState}
 use Rattle.acd_terms.specs.States.{is_initiated, is_queued}
 use Rattle.acd_laws.proofs.KeptEnds.{two_le}
 use Rattle.acd_laws.proofs.KeptTalking.{no_live}
-use Rattle.acd_laws.proofs.KeptEnds.{closed_of, closed_is, open_or_closed}
 
 -- who was caller of a live call is so when one more call is put
 pub caller_stays : (s : Rows) (c : CallRecord) (n d : ℕ) → call_of s c.call ≡ None → IsCaller (call_of s n) d → IsCaller (cond (c.call == n) (Some c) (call_of s n)) d
@@ -183,8 +182,8 @@ gone_out s x y c d r ex initiated ec apart a none =
     let e1 = count_new p u y (rw (a.call, a.device) (put_other s x2 x.call d (λ _ q. apart q) ∙ none)) in let e2 = count_old p s x2 x r.orders.connections ex in omega (arith, e1, e2) in
     let shut : count (open_of x.call) s.connections ≤ 0 =
     let al = initiated_alone s x r among initiated in
-    let w = counted (closed_of x.call) s.connections x among (closed_is x.call x (rw xs refl) refl) in
-    let b = both_fewer (open_of x.call) (closed_of x.call) (of_call x.call) (open_or_closed x.call) s.connections in omega (arith, al, w, b) in
+    let w = lone (open_of x.call) (of_call x.call) s.connections x (λ z h. (and_parts (is_open z.state) (z.call == x.call) h).1) among (eqb_self x.call) (omega (arith, al)) in
+    let z : one (open_of x.call x) ≡ 0 = rw xs refl in omega (arith, w, z) in
     with_connections (λ _. false) s t.connections r (record {
       sorted = ascending-put connection_order connections_total y u.connections (ascending-put connection_order connections_total x2 s.connections r.orders.connections);
       rules = every-put (connection_order y) (ConnectionRule s) y a.rule u.connections

@@ -9,6 +9,7 @@ pub mod Lists
 pub mod State
 pub mod Serving
 pub mod Found
+pub mod Frames
 pub mod MoveKinds
 pub mod Arriving
 pub mod Keeping

@@ -116,7 +116,7 @@ second_none g None rest = refl
 second_none g (Some w) rest = refl
 
 -- a group without an offer is passed over
-passed : (s : Rows) (g : ℕ) (rest : Option Offer) → HasNoOffer s g → offer_or g (first_waiting s g) (first_eligible s g) rest ≡ rest
+pub passed : (s : Rows) (g : ℕ) (rest : Option Offer) → HasNoOffer s g → offer_or g (first_waiting s g) (first_eligible s g) rest ≡ rest
 passed s g rest (inl e) = rw (no_waiting s g e) refl
 passed s g rest (inr e) = rw (no_eligible s g e) (second_none g (first_waiting s g) rest)
 

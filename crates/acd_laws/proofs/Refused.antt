@@ -1,9 +1,9 @@
 -- Where no offer is left, a refused request makes no move.
-use Rattle.std.proofs.Common.{◌≡◌, ℕ, zero, suc, [], ◌∷◌, List, Option, Some, None, map, length, refl, ap, ◌∙◌, inl, inr, add-zero}
+use Rattle.std.proofs.Common.{◌≡◌, ℕ, zero, suc, [], ◌∷◌, List, None, map, length, refl, ap, ◌∙◌, inl, inr, add-zero}
 use Rattle.acd_terms.specs.Lists.{Among}
-use Rattle.acd_terms.specs.Scans.{waiting_in, queued_in_all}
+use Rattle.acd_terms.specs.Scans.{queued_in_all}
 use Rattle.acd_terms.specs.Writes.{with_last}
-use Rattle.acd_terms.specs.Choice.{waiting_pair, least_from, first_waiting, first_eligible, offer_or, offer_in, offer_of}
+use Rattle.acd_terms.specs.Choice.{offer_in, offer_of}
 use Rattle.acd_terms.specs.Offers.{HasNoOffer}
 use Rattle.acd_terms.specs.Distribution.{offers, distribution}
 use Rattle.acd_terms.specs.Moves.{events_of}
@@ -17,24 +17,15 @@ use Rattle.acd_terms.specs.declared.command.Command.{Command}
 use Rattle.acd_terms.specs.declared.answer.Refusal.{Refusal}
 use Rattle.acd_terms.specs.declared.answer.Outcome.TheVariants as outcome
 use Rattle.acd_terms.specs.declared.moves.Move.{Move}
-use Rattle.acd_terms.specs.declared.moves.Offer.{Offer}
 use Rattle.acd_terms.specs.declared.moves.Served.{Served}
 use Rattle.acd_terms.specs.declared.moves.Served.TheVariants.{Refused, Done}
 use Rattle.acd_laws.specs.RefusalLaws.{ChangesNothing}
+use Rattle.acd_laws.proofs.OfferFound.{passed}
 use Rattle.acd_laws.proofs.CountedEvents.{no_events, sum_nothing}
-
-no_offer_here : (s : Rows) (g : ℕ) (rest : Option Offer) → HasNoOffer s g → offer_or g (first_waiting s g) (first_eligible s g) rest ≡ rest
-unfolding first_waiting first_eligible
-no_offer_here s g rest (inl none) = rw none refl
-no_offer_here s g rest (inr none) = rw none (by_waiting (least_from None (map waiting_pair (waiting_in s g))))
-  where
-    by_waiting : (w : Option (ℕ × ℕ)) → offer_or g w None rest ≡ rest
-    by_waiting None = refl
-    by_waiting (Some p) = refl
 
 no_offer_in : (s : Rows) (gs : List GroupRecord) → ((g : GroupRecord) → Among g gs → HasNoOffer s g.device) → offer_in s gs ≡ None
 no_offer_in s [] h = refl
-no_offer_in s (g ∷ gs) h = no_offer_here s g.device (offer_in s gs) (h g (inl refl)) ∙ no_offer_in s gs (λ x there. h x (inr there))
+no_offer_in s (g ∷ gs) h = passed s g.device (offer_in s gs) (h g (inl refl)) ∙ no_offer_in s gs (λ x there. h x (inr there))
 
 pub no_offer : (s : Rows) → ((g : GroupRecord) → Among g s.groups → HasNoOffer s g.device) → offer_of s ≡ None
 unfolding offer_of

@@ -1,8 +1,8 @@
 -- What moves tell, balance and keep in order, all three together.
 use Rattle.std.proofs.Common.{◌≡◌, ℕ, ◌≤◌, List, [], ◌∷◌, ◌++◌, Option, Some, None, refl, sym, ◌∙◌, ap, subst, arith, ◌+◌, ◌<◌, Bool, true, false, not, ◌&&◌, ◌||◌, cond, eq-eqb}
-use Rattle.acd_terms.specs.Lists.{Among, find_by, Every, IsAscending, put_by, remove_by, count}
-use Rattle.acd_terms.specs.Scans.{at_connection, connection_of, agent_of, group_of, station_of, is_group, is_station, is_planned, has}
-use Rattle.acd_terms.specs.Writes.{with_group, with_station, with_agent, with_call, with_monitor, without_call, without_monitor, with_connection, without_connection}
+use Rattle.acd_terms.specs.Lists.{Among, IsAscending, put_by, remove_by, count}
+use Rattle.acd_terms.specs.Scans.{at_connection, connection_of, agent_of, is_group, is_station, is_planned, has}
+use Rattle.acd_terms.specs.Writes.{with_connection, without_connection}
 use Rattle.acd_terms.specs.Moves.{silent, reported, changed, moved}
 use Rattle.acd_terms.specs.AgentMoves.{kept_in, state_report}
 use Rattle.acd_terms.specs.Columns.{columns_of}
@@ -14,8 +14,9 @@ use Rattle.acd_terms.specs.declared.state.AgentState.TheVariants as A
 use Rattle.acd_terms.specs.declared.event.Report.{Report}
 use Rattle.acd_terms.specs.declared.moves.Move.{Move}
 use Rattle.acd_terms.specs.declared.moves.Change.{Change}
-use Rattle.acd_terms.specs.declared.moves.Change.TheVariants.{Nothing, PutAgent, PutConnection, RemoveConnection, PutGroup, PutStation}
-use Rattle.acd_laws.proofs.Told.{Truthful, AllTruthful, truthful-append, truthful_nothing, truthful_agent, truthful_silent_agent, truthful_put}
+use Rattle.acd_terms.specs.declared.moves.Change.TheVariants.{Nothing, PutAgent, PutConnection, RemoveConnection}
+use Rattle.acd_laws.proofs.Frames.{LeavesConnections, left_connections, LeavesAgents}
+use Rattle.acd_laws.proofs.Told.{Truthful, AllTruthful, truthful-append, truthful_unseen, truthful_agent, truthful_silent_agent, truthful_put}
 use Rattle.acd_laws.proofs.Balance.{Balances, balances-append, holding, entry_by, gone_by, held, holding_new, holding_old, holding_less}
 use Rattle.acd_laws.proofs.MoveKinds.{AgentMove, stays as nothing, waits, tells, Recorded, Arrival, queues, alerts, fails}
 use Rattle.acd_laws.proofs.Order.{OrderKept, stays, order-append, order_later, held_within, held_put, comes}
@@ -54,23 +55,6 @@ sound_later m b c s ms l f = record { truthful = f.truthful; balances = f.balanc
 pub sound_nothing : (m b : ℕ) (s : Rows) → Sound m b b s []
 sound_nothing m b s = record { truthful = tt; balances = λ g. refl; order = stays m b s [] (λ g. refl) (λ g c p h. h) }
 
--- what a change leaves as it is
-
-abbrev pub LeavesConnections : Change → Type 0
-LeavesConnections (PutConnection x) = ⊥
-LeavesConnections (RemoveConnection c d) = ⊥
-LeavesConnections _ = Unit {0}
-
-pub left_connections : (s : Rows) (c : Change) → LeavesConnections c → (changed s c).connections ≡ s.connections
-unfolding with_group with_station with_agent with_call with_monitor without_call without_monitor
-left_connections s (PutConnection x) h = absurd h
-left_connections s (RemoveConnection c d) h = absurd h
-left_connections s _ h = refl
-
-pub left_connection : (s : Rows) (c : Change) (a b : ℕ) → LeavesConnections c → connection_of (changed s c) a b ≡ connection_of s a b
-unfolding connection_of
-left_connection s c a b h = ap (λ xs. find_by (at_connection a b) xs) (left_connections s c h)
-
 -- a move that changes no connection and reports neither an entry nor what leaves
 
 pub record Unheard (m : Move) : Type 0 where
@@ -108,7 +92,7 @@ state_told A.Null n d = record { agent = refl; call = refl; seat = λ old. refl;
 state_told st n d = record { agent = refl; call = refl; seat = λ old. refl; entry = λ g. refl; gone = λ g. refl }
 
 pub sound_agent : {m b k : ℕ} {t : Rows} {x : Move} → AgentMove (Recorded t) m k x → Sound m b b t (x ∷ [])
-sound_agent {m} {b} {k} {t} nothing = silently Nothing (truthful_nothing t) tt
+sound_agent {m} {b} {k} {t} nothing = silently Nothing (truthful_unseen t Nothing tt tt tt) tt
 sound_agent {m} {b} {k} {t} (waits a pending e) = silently (PutAgent (record a { pending = pending })) (truthful_silent_agent t (record a { pending = pending }) (ap seat_of (sym e))) tt
 sound_agent {m} {b} {k} {t} (tells a c d e h) =
     let r : Report = state_report c.state c.agent d in
@@ -254,32 +238,6 @@ sound_remove m b s x o t there entry gone = record {
   balances = λ g. let h = holding_less s x.call x.device x g there in let f = entry g in let k = gone g in omega (arith, h, f, k);
   order = stays m b s (remove x o ∷ []) (λ g. let f = entry g in omega (arith, f)) (λ g c p h. held_within s (without_connection s x.call x.device) g c p (removed_within s x.call x.device) h);
 }
-
--- what other changes leave
-
-abbrev pub LeavesAgents : Change → Type 0
-LeavesAgents (PutAgent a) = ⊥
-LeavesAgents _ = Unit {0}
-
-pub left_agent : (s : Rows) (c : Change) (n : ℕ) → LeavesAgents c → agent_of (changed s c) n ≡ agent_of s n
-unfolding agent_of with_group with_station with_call with_connection with_monitor without_call without_connection without_monitor
-left_agent s (PutAgent a) n h = absurd h
-left_agent s _ n h = refl
-
-pub left_agents : (s : Rows) (ms : List Move) (n : ℕ) → Every (λ (x : Move). LeavesAgents x.change) ms → agent_of (moved s ms) n ≡ agent_of s n
-left_agents s [] n h = refl
-left_agents s (x ∷ ms) n h = left_agents (changed s x.change) ms n h.1 ∙ left_agent s x.change n h.0
-
-abbrev pub LeavesPlan : Change → Type 0
-LeavesPlan (PutGroup g) = ⊥
-LeavesPlan (PutStation t) = ⊥
-LeavesPlan _ = Unit {0}
-
-pub left_plan : (s : Rows) (c : Change) (d : ℕ) → LeavesPlan c → is_planned (changed s c) d ≡ is_planned s d
-unfolding group_of station_of with_agent with_call with_connection with_monitor without_call without_connection without_monitor
-left_plan s (PutGroup g) d h = absurd h
-left_plan s (PutStation t) d h = absurd h
-left_plan s _ d h = refl
 
 -- where the one open connection of a call is taken away, none is left
 pub open_gone : (s : Rows) (call : ℕ) (x : ConnectionRecord) → connection_of s x.call x.device ≡ Some x → x.call ≡ call → count (open_of call) s.connections ≤ one (is_open x.state)
