@@ -54,28 +54,26 @@ left_state s a A.Null m k n h = record { agent = refl; rule = (refl, refl, refl)
 left_state s a A.Busy m k n h = absurd (cc (n))
 left_state s a _ m k n h = record { agent = refl; rule = h; station = λ e q. q; not_busy = refl; settled = refl }
 
-pub wanted_not_busy : (w : Pending) (st : AgentState) → state_wanted w ≡ st → is_busy st ≡ false
-wanted_not_busy W.LoggedOff st e = rw (← e) refl
-wanted_not_busy _ st e = rw (← e) refl
+pub wanted_not_busy : (w : Pending) → is_busy (state_wanted w) ≡ false
+wanted_not_busy W.LoggedOff = refl
+wanted_not_busy _ = refl
 
-goes_is : (p q : AgentState) → Goes p ≡ Goes q → p ≡ q
-goes_is p q e = cc
+-- a release leads to no busy state
+abbrev NotBusy : Release → Type 0
+NotBusy Stays = Unit {0}
+NotBusy (Goes st) = is_busy st ≡ false
 
-pub release_not_busy : (how : Ending) (w : Option Pending) (st : AgentState) → release_of how w ≡ Goes st → is_busy st ≡ false
-release_not_busy Answered None st e = rw (← goes_is _ _ e) refl
-release_not_busy Unanswered None st e = absurd (cc (e))
-release_not_busy NoAnswer None st e = rw (← goes_is _ _ e) refl
-release_not_busy Answered (Some w) st e = wanted_not_busy w st (wanted w e)
-  where
-    wanted : (v : Pending) → release_of Answered (Some v) ≡ Goes st → state_wanted v ≡ st
-    wanted W.LoggedOff q = goes_is _ _ q
-    wanted _ q = goes_is _ _ q
-release_not_busy Unanswered (Some W.Ready) st e = absurd (cc (e))
-release_not_busy Unanswered (Some W.LoggedOff) st e = rw (← goes_is _ _ e) refl
-release_not_busy Unanswered (Some W.NotReady) st e = rw (← goes_is _ _ e) refl
-release_not_busy Unanswered (Some W.WorkingAfterCall) st e = rw (← goes_is _ _ e) refl
-release_not_busy NoAnswer (Some W.LoggedOff) st e = rw (← goes_is _ _ e) refl
-release_not_busy NoAnswer _ st e = rw (← goes_is _ _ e) refl
+release_not_busy : (how : Ending) (w : Option Pending) → NotBusy (release_of how w)
+release_not_busy Answered None = refl
+release_not_busy Answered (Some W.LoggedOff) = refl
+release_not_busy Answered _ = refl
+release_not_busy Unanswered None = tt
+release_not_busy Unanswered (Some W.Ready) = tt
+release_not_busy Unanswered (Some W.LoggedOff) = refl
+release_not_busy Unanswered _ = refl
+release_not_busy NoAnswer None = refl
+release_not_busy NoAnswer (Some W.LoggedOff) = refl
+release_not_busy NoAnswer _ = refl
 
 -- one agent's record is put, at a station where no connection is distributed
 pub left_keeps : (loose : ℕ → Bool) (v : Rows) (a b : AgentRecord) (d : ℕ) → RulesBut loose v → agent_of v a.agent ≡ Some a → a.station ≡ Some d → count (distributed_at d) v.connections ≡ 0 → Left v a b
@@ -178,10 +176,10 @@ serving s x r among e =
 pub record Ends (x : ConnectionRecord) (how : Ending) : Type 0 where
   pub stays : is_distributed x ≡ true → (w : Option Pending) → release_of how w ≡ Stays → is_alerting x.state ≡ true
 
-left_by : (v : Rows) (a : AgentRecord) (to : Release) (m k d : ℕ) → AgentRule v a → IsPlannedStation v a.station × IsPlannedGroup v a.group → (to ≡ Stays → is_busy a.state ≡ false) → ((st : AgentState) → to ≡ Goes st → is_busy st ≡ false)
+left_by : (v : Rows) (a : AgentRecord) (to : Release) (m k d : ℕ) → AgentRule v a → IsPlannedStation v a.station × IsPlannedGroup v a.group → (to ≡ Stays → is_busy a.state ≡ false) → NotBusy to
     → (b : AgentRecord) × ((released m k a d to).change ≡ PutAgent b) × Left v a b
 left_by v a Stays m k d rule seat idle n = (record a { pending = None }, refl, record { agent = refl; rule = left_pending v a a.state rule; station = λ e q. q; not_busy = idle refl; settled = refl })
-left_by v a (Goes st) m k d rule seat idle n = (in_state st m k a, refl, left_state v a st m k (n st refl) seat)
+left_by v a (Goes st) m k d rule seat idle n = (in_state st m k a, refl, left_state v a st m k n seat)
 
 -- after a release at the device of x
 released_agent : (loose : ℕ → Bool) (v : Rows) (o : Option AgentRecord) (a : AgentRecord) (x : ConnectionRecord) (how : Ending) (m k : ℕ) → RulesBut loose v → o ≡ Some a → agent_of v a.agent ≡ Some a → a.station ≡ Some x.device
