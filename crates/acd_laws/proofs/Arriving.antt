@@ -103,17 +103,23 @@ idle_counts s d e =
     (omega (arith, z, a), omega (arith, z, a, c), omega (arith, z, b))
 
 -- the rule of a connection speaks of groups, stations and its call alone
+
+-- with more devices planned
+pub rule_more : (s t : Rows) → ((d : ℕ) → is_station s d ≡ true → is_station t d ≡ true) → ((d : ℕ) → is_group s d ≡ true → is_group t d ≡ true) → (x : ConnectionRecord)
+    → (IsCaller (call_of s x.call) x.device → IsCaller (call_of t x.call) x.device) → (is_planned s x.device ≡ false → is_planned t x.device ≡ false) → ConnectionRule s x → ConnectionRule t x
+rule_more s t f g x c p r = (r.0, column x.group r.1, stands x.state r.2)
+  where
+    column : (o : Option ℕ) → GroupColumn s o → GroupColumn t o
+    column None h = tt
+    column (Some d) h = g d h
+
+    stands : (st : ConnectionState) → StandsAt s x st → StandsAt t x st
+    stands S.Queued h = g x.device h
+    stands S.Initiated h = (f x.device h.0, c h.1)
+    stands S.Connected (inl h) = inl (f x.device h)
+    stands S.Connected (inr h) = inr (p h.0, c h.1)
+    stands _ h = f x.device h
+
 pub rule_same : (s t : Rows) → ((d : ℕ) → is_group t d ≡ is_group s d) → ((d : ℕ) → is_station t d ≡ is_station s d) → (x : ConnectionRecord)
     → (IsCaller (call_of s x.call) x.device → IsCaller (call_of t x.call) x.device) → ConnectionRule s x → ConnectionRule t x
-rule_same s t g h x f r = (r.0, group_same x.group r.1, stands_same x.state r.2)
-  where
-    group_same : (o : Option ℕ) → GroupColumn s o → GroupColumn t o
-    group_same None c = tt
-    group_same (Some a) c = g a ∙ c
-
-    stands_same : (st : ConnectionState) → StandsAt s x st → StandsAt t x st
-    stands_same S.Queued c = g x.device ∙ c
-    stands_same S.Initiated c = (h x.device ∙ c.0, f c.1)
-    stands_same S.Connected (inl c) = inl (h x.device ∙ c)
-    stands_same S.Connected (inr c) = inr (rw (g x.device, h x.device) c.0, f c.1)
-    stands_same _ c = h x.device ∙ c
+rule_same s t g h x f r = rule_more s t (λ d e. h d ∙ e) (λ d e. g d ∙ e) x f (λ e. rw (g x.device, h x.device) e) r

@@ -1,8 +1,8 @@
 -- The rules where only the connections change, or only the agents; and how many stand at a device where one more comes.
-use Rattle.std.proofs.Common.{◌≡◌, ℕ, ◌+◌, ◌≤◌, Bool, true, false, ◌&&◌, List, refl, sym, ◌∙◌, ap, subst, arith}
+use Rattle.std.proofs.Common.{◌≡◌, ℕ, ◌+◌, ◌≤◌, Bool, true, false, not, ◌&&◌, List, refl, sym, ◌∙◌, ap, subst, arith}
 use Rattle.std.specs.Prelude.{◌==◌, is_some}
-use Rattle.std.proofs.lemmas.Bool.{and_parts, and_right, eqb-true}
-use Rattle.acd_terms.specs.Lists.{count, Every, IsAscending}
+use Rattle.std.proofs.lemmas.Bool.{and_parts, and_from, and_right, eqb-true}
+use Rattle.acd_terms.specs.Lists.{Among, count, Every, IsAscending}
 use Rattle.acd_terms.specs.States.{is_alerting, is_live}
 use Rattle.acd_terms.specs.Scans.{group_of, station_of, call_of, is_station, is_idle}
 use Rattle.acd_terms.specs.Rules.Plan.{agent_order, connection_order}
@@ -10,7 +10,7 @@ use Rattle.acd_laws.proofs.Types.{Rows, AgentRecord, ConnectionRecord}
 use Rattle.acd_laws.proofs.Facts.{RulesBut, Rules, AgentRule, ConnectionRule, ringing_at, talking_at, seated_at, ready_at, busy_at, pending_at, two_if}
 use Rattle.acd_terms.specs.Rules.Calls.{is_open, parties_of, initiated_of, open_of, live_at, alerting_at, hold_at}
 use Rattle.acd_terms.specs.OneOffer.{is_distributed_at}
-use Rattle.acd_laws.proofs.Lists.{one}
+use Rattle.acd_laws.proofs.Lists.{one, counted, fewer, both_fewer}
 use Rattle.acd_laws.proofs.Arriving.{Arrived, idle_counts}
 
 -- what new connections must keep
@@ -75,6 +75,21 @@ with_agents p q s agents r f h = record {
   pending = h.pending;
   free = λ d e. r.free d (f d e);
 }
+
+-- where only a counts for q, of what implies it a counts alone
+pub lone : {X : Type 0} (p q : X → Bool) (xs : List X) (a : X) → ((x : X) → p x ≡ true → q x ≡ true) → Among a xs → q a ≡ true → count q xs ≤ 1 → count p xs ≡ one (p a)
+lone p q xs a f among here l =
+    let m = fewer p q f xs in
+    (elim (p a) as (λ b. p a ≡ b → count p xs ≡ one b) [
+      | true ↦ λ e. let c = counted p xs a among e in omega (arith, c, m, l)
+      | false ↦ λ e. let c = counted (λ x. q x && not (p x)) xs a among (and_from (q a) (not (p a)) here (ap not e)) in
+          let b = both_fewer p (λ x. q x && not (p x)) q (λ x. split (p x) (q x) (f x)) xs in omega (arith, c, b, l)
+    ]) refl
+  where
+    split : (b c : Bool) → (b ≡ true → c ≡ true) → one b + one (c && not b) ≤ one c
+    split true c h = rw (h refl) (omega arith)
+    split false true h = omega arith
+    split false false h = omega arith
 
 pub one_le : (b : Bool) → one b ≤ 1
 one_le true = omega arith

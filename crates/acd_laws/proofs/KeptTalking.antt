@@ -17,10 +17,11 @@ use Rattle.acd_terms.specs.Rules.Plan.{agent_order, connection_order}
 use Rattle.acd_laws.proofs.Facts.{Rules, AgentRule, Bare, HasColumns, StandsAt, ConnectionRule, ringing_at, talking_at, seated_at, ready_at, busy_at, pending_at}
 use Rattle.acd_terms.specs.Rules.Calls.{is_open, parties_of, initiated_of, open_of, live_at, alerting_at, hold_at}
 use Rattle.acd_terms.specs.OneOffer.{is_distributed_at}
-use Rattle.acd_laws.proofs.Lists.{one, ascending-put, every-put, counted, none_counted, fewer, both_fewer}
+use Rattle.acd_laws.proofs.Lists.{one, ascending-put, every-put, none_counted, fewer}
 use Rattle.acd_laws.proofs.State.{agents_total, connections_total, connection_among}
 use Rattle.acd_laws.proofs.Found.{count_old, count_agent, connection_rule}
-use Rattle.acd_laws.proofs.Keeping.{with_connections, most_one}
+use Rattle.acd_laws.proofs.Arriving.{alerting_is_live}
+use Rattle.acd_laws.proofs.Keeping.{lone, with_connections, most_one}
 use Rattle.acd_laws.proofs.KeptOffer.{ringing_is}
 use Rattle.acd_laws.proofs.States.{alerting_is, ready_is, connected_is, hold_is}
 use Rattle.acd_laws.proofs.Releasing.{Serves, serving}
@@ -142,18 +143,7 @@ bare_answered s x S.Connected e h = h
 bare_answered s x S.Hold e h = h
 bare_answered s x _ e h = absurd (cc (e))
 
-connected_at : ℕ → ConnectionRecord → Bool
-connected_at d x = is_connected x.state && x.device == d
-
-alerting_or_connected : (d : ℕ) (x : ConnectionRecord) → one (alerting_at d x) + one (connected_at d x) ≤ one (live_at d x)
-unfolding connected_at
-alerting_or_connected d x = elim x.state as (λ st. one (is_alerting st && x.device == d) + one (is_connected st && x.device == d) ≤ one (is_live st && x.device == d)) [
-  | S.Queued ↦ omega arith
-  | _ ↦ omega arith
-]
-
 pub kept_hold : (s : Rows) (x : ConnectionRecord) → Rules s → connection_of s x.call x.device ≡ Some x → IsTrue (is_station s x.device) → is_connected x.state ≡ true → Rules (moved s (hold x ∷ []))
-unfolding connected_at
 kept_hold s x r ex station connected =
     let y : ConnectionRecord = record x { state = S.Hold } in
     let xs : x.state ≡ S.Connected = connected_is x.state connected in
@@ -165,8 +155,8 @@ kept_hold s x r ex station connected =
     (λ d h. let c = counts (live_at d) in let o = r.one_live d h in omega (arith, c, o))
     (λ d h l. let c = counts (hold_at d) in let f : one (hold_at d x) ≡ 0 = rw xs refl in
     (elim (x.device == d) as (λ v. (x.device == d) ≡ v → count (hold_at d) (put_by (connection_order y) s.connections y) ≡ 0) [
-      | true ↦ λ e. let o = r.one_live d h in let w = counted (connected_at d) s.connections x among (and_from _ _ connected e) in
-          let k = both_fewer (alerting_at d) (connected_at d) (live_at d) (alerting_or_connected d) s.connections in absurd (omega (arith, o, w, k, l))
+      | true ↦ λ e. let w = lone (alerting_at d) (live_at d) s.connections x (alerting_is_live d) among (rw (xs, e) refl) (r.one_live d h) in
+          let z : one (alerting_at d x) ≡ 0 = rw xs refl in absurd (omega (arith, w, z, l))
       | false ↦ λ e. let o = r.no_hold d h l in let g : one (hold_at d y) ≡ 0 = ap one e in omega (arith, c, f, g, o)
     ]) refl)
 

@@ -3,7 +3,6 @@ pub mod Facts
 pub mod Least
 pub mod OfferFound
 pub mod CountedEvents
-pub mod FiguresFit
 pub mod FiguresCounted
 pub mod Lists
 pub mod Keyed
@@ -15,7 +14,6 @@ pub mod AgentMoves
 pub mod Arrivals
 pub mod Arriving
 pub mod Keeping
-pub mod KeptArrival
 pub mod KeptOffer
 pub mod Releasing
 pub mod Tells
@@ -24,17 +22,13 @@ pub mod Balance
 pub mod Order
 pub mod Entries
 pub mod SoundMoves
-pub mod KeptReturn
-pub mod KeptClearing
 pub mod KeptTalking
-pub mod KeptGiving
 pub mod KeptOut
 pub mod KeptPlan
 pub mod KeptAgents
 pub mod Distributing
 pub mod DistributionFound
 pub mod Deeds
-pub mod SoundPuts
 pub mod SoundDeeds
 pub mod Ticking
 pub mod RulesKept
@@ -45,7 +39,6 @@ pub mod DecidedCalls
 pub mod DecidedAll
 pub mod Steady
 pub mod Orderly
-pub mod Behaving
 pub mod Rounds
 pub mod Numbers
 pub mod Following
@@ -54,12 +47,12 @@ pub mod WatchedRuns
 pub mod Refused
 pub mod OneOffer
 pub mod Known
-pub mod Placed
 pub mod Cleared
-pub mod ClearedBy
 pub mod PlacedRuns
-pub mod PlacedOn
 pub mod BoundsStep
 pub mod RulesAll
 pub mod ChangesMade
 pub mod AllLaws
+pub mod Frames
+pub mod KeptEnds
+pub mod MoveKinds
