@@ -14,8 +14,7 @@ use Rattle.acd_laws.proofs.Types.{Rows, AgentRecord, ConnectionRecord, AgentStat
 use Rattle.acd_terms.specs.declared.state.AgentState.TheVariants as A
 use Rattle.acd_terms.specs.declared.moves.Change.TheVariants.{PutAgent}
 use Rattle.acd_terms.specs.declared.moves.Release.TheVariants.{Stays, Goes}
-use Rattle.acd_laws.proofs.State.{agent_put}
-use Rattle.acd_laws.proofs.Found.{agent_there}
+use Rattle.acd_laws.proofs.State.{agent_put, agent_there}
 
 -- the agent in another state, at the same station unless it is null
 pub record Reseated (m k : ℕ) (a b : AgentRecord) : Type 0 where

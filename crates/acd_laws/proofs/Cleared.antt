@@ -19,8 +19,7 @@ use Rattle.acd_terms.specs.Rules.Calls.{parties_of}
 use Rattle.acd_laws.specs.PlacedLaws.{IsUpTo, clearings}
 use Rattle.acd_laws.proofs.Lists.{one, counted}
 use Rattle.acd_laws.proofs.Keyed.{eqb_self}
-use Rattle.acd_laws.proofs.State.{call_put, call_remove, connection_among}
-use Rattle.acd_laws.proofs.Found.{call_known, none_of_call, other_device}
+use Rattle.acd_laws.proofs.State.{call_put, call_remove, connection_among, call_known, none_of_call, other_device}
 use Rattle.acd_laws.proofs.Known.{Counted, LeavesCalls, Plain, AllCounted, counted-append, SameCalls, same_call, counted_plain, plain_calls}
 use Rattle.acd_laws.proofs.MoveKinds.{AgentMove, stays, waits as pends, tells, Anyone, goes_from, released_by, occupied_by, Arrival, queues, alerts, fails, arrival_of}
 use Rattle.acd_terms.specs.States.{state_wanted}

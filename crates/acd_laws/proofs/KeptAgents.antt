@@ -16,8 +16,7 @@ use Rattle.acd_laws.proofs.Facts.{Rules, IsPlannedStation, IsPlannedGroup, Seate
 use Rattle.acd_terms.specs.OneOffer.{is_distributed_at}
 use Rattle.acd_laws.proofs.Lists.{one, find_passes, find_among, find_none, any_found, ascending-put, every_among, every-put, counted, two_counted, count_zero, some_from}
 use Rattle.acd_laws.proofs.Keyed.{eqb_self}
-use Rattle.acd_laws.proofs.State.{agents_total, agent_among}
-use Rattle.acd_laws.proofs.Found.{count_agent, has_is, agent_seat}
+use Rattle.acd_laws.proofs.State.{agents_total, agent_among, count_agent, has_is, agent_seat}
 use Rattle.acd_laws.proofs.KeptOffer.{unoccupied}
 use Rattle.acd_laws.proofs.Keeping.{with_agents, lone}
 use Rattle.acd_laws.proofs.Releasing.{serving, loosen, left_keeps, left_state, alerting_or_answered}

@@ -18,8 +18,7 @@ use Rattle.acd_terms.specs.Rules.Calls.{is_open, parties_of, initiated_of, open_
 use Rattle.acd_terms.specs.OneOffer.{is_distributed_at}
 use Rattle.acd_laws.proofs.Lists.{one, ascending-put, ascending-remove, every-put, every-remove, two_counted, none_from, find_none, every_among, every_from, among-remove, counted, fewer, count_zero, both_fewer}
 use Rattle.acd_laws.proofs.Keyed.{eqb_self}
-use Rattle.acd_laws.proofs.State.{connections_total, found_key, connection_among, still_none, is_of, call_remove, removed_other}
-use Rattle.acd_laws.proofs.Found.{count_new, count_less, connection_rule, connection_there, other_among, other_device, other_agents, left_among}
+use Rattle.acd_laws.proofs.State.{connections_total, found_key, connection_among, still_none, is_of, call_remove, removed_other, count_new, count_less, connection_rule, connection_there, other_among, other_device, other_agents, left_among}
 use Rattle.acd_laws.proofs.States.{alerting_is}
 use Rattle.acd_laws.proofs.KeptOffer.{talking_is}
 use Rattle.acd_laws.proofs.Keeping.{with_connections, arrived_live, arrived_hold, arrived_open}

@@ -16,8 +16,7 @@ use Rattle.acd_terms.specs.Rules.Calls.{is_open, parties_of, initiated_of, open_
 use Rattle.acd_terms.specs.OneOffer.{is_distributed_at}
 use Rattle.acd_laws.proofs.Lists.{one, ascending-put, every_among, every_from, every-put, fewer, counted, two_counted, none_from}
 use Rattle.acd_laws.proofs.Keyed.{eqb_self}
-use Rattle.acd_laws.proofs.State.{calls_total, connections_total, call_put, put_other, found_key, connection_among, call_among}
-use Rattle.acd_laws.proofs.Found.{count_new, none_above, no_call_above, none_of_call, count_old, connection_rule}
+use Rattle.acd_laws.proofs.State.{calls_total, connections_total, call_put, put_other, found_key, connection_among, call_among, count_new, none_above, no_call_above, none_of_call, count_old, connection_rule}
 use Rattle.acd_laws.proofs.Keeping.{lone, arrived_live, arrived_hold, arrived_open, with_connections, most_one}
 use Rattle.acd_laws.proofs.Arriving.{Arrived, rule_same}
 use Rattle.acd_terms.specs.States.{is_initiated, is_queued}

@@ -18,8 +18,7 @@ use Rattle.acd_laws.proofs.Facts.{Rules, AgentRule, Bare, HasColumns, StandsAt, 
 use Rattle.acd_terms.specs.Rules.Calls.{is_open, parties_of, initiated_of, open_of, live_at, alerting_at, hold_at}
 use Rattle.acd_terms.specs.OneOffer.{is_distributed_at}
 use Rattle.acd_laws.proofs.Lists.{one, ascending-put, every-put, none_counted, fewer}
-use Rattle.acd_laws.proofs.State.{agents_total, connections_total, connection_among}
-use Rattle.acd_laws.proofs.Found.{count_old, count_agent, connection_rule}
+use Rattle.acd_laws.proofs.State.{agents_total, connections_total, connection_among, count_old, count_agent, connection_rule}
 use Rattle.acd_laws.proofs.Arriving.{alerting_is_live}
 use Rattle.acd_laws.proofs.Keeping.{lone, with_connections, most_one}
 use Rattle.acd_laws.proofs.KeptOffer.{ringing_is}

@@ -14,8 +14,7 @@ use Rattle.acd_laws.proofs.Types.{Rows, AgentRecord, ConnectionRecord, AgentStat
 use Rattle.acd_terms.specs.declared.state.AgentState.TheVariants as A
 use Rattle.acd_terms.specs.declared.moves.Change.TheVariants.{PutAgent, PutConnection}
 use Rattle.acd_terms.specs.declared.moves.Release.TheVariants.{Stays, Goes}
-use Rattle.acd_laws.proofs.State.{agent_put}
-use Rattle.acd_laws.proofs.Found.{agent_there}
+use Rattle.acd_laws.proofs.State.{agent_put, agent_there}
 use Rattle.acd_terms.specs.CallMoves.{plain, queueing, met_at, arriving, arrival, arrive}
 use Rattle.acd_terms.specs.declared.state.ConnectionState.TheVariants.{Alerting, Fail}
 use Rattle.acd_terms.specs.declared.event.Report.TheVariants.{Queued, Delivered, Failed}

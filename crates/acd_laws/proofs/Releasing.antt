@@ -21,8 +21,7 @@ use Rattle.acd_laws.proofs.Facts.{RulesBut, Rules, IsPlannedStation, IsPlannedGr
 use Rattle.acd_terms.specs.OneOffer.{is_distributed_at}
 use Rattle.acd_laws.proofs.Lists.{one, ascending-put, every_among, every-put, counted, fewer, the_one, some_counted, some_from}
 use Rattle.acd_laws.proofs.Keyed.{eqb_self}
-use Rattle.acd_laws.proofs.State.{agents_total, agent_among}
-use Rattle.acd_laws.proofs.Found.{count_agent, agent_seat, agent_there}
+use Rattle.acd_laws.proofs.State.{agents_total, agent_among, count_agent, agent_seat, agent_there}
 use Rattle.acd_laws.proofs.MoveKinds.{releases, agent_others}
 use Rattle.acd_laws.proofs.Keeping.{with_agents, lone}
 use Rattle.acd_laws.proofs.KeptOffer.{ringing_is, talking_is}

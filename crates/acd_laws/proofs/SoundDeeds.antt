@@ -33,8 +33,7 @@ use Rattle.acd_laws.proofs.Facts.{GroupColumn, StandsAt, Rules}
 use Rattle.acd_laws.proofs.Frames.{left_connections, left_connection, LeavesAgents, left_agent, left_agents, left_plan}
 use Rattle.acd_laws.proofs.Lists.{one, none_from, two_counted, among_put}
 use Rattle.acd_laws.proofs.Keyed.{eqb_self}
-use Rattle.acd_laws.proofs.State.{found_key, connection_among, put_other, removed_other, still_none}
-use Rattle.acd_laws.proofs.Found.{connection_there, connection_rule, none_above, agent_there, other_agents, other_among, other_device}
+use Rattle.acd_laws.proofs.State.{found_key, connection_among, put_other, removed_other, still_none, connection_there, connection_rule, none_above, agent_there, other_agents, other_among, other_device}
 use Rattle.acd_laws.proofs.Releasing.{release_other_kept}
 use Rattle.acd_laws.proofs.KeptPlan.{nobody_at}
 use Rattle.acd_laws.proofs.States.{initiated_is, hold_is, alerting_is}

@@ -28,8 +28,7 @@ use Rattle.acd_terms.specs.declared.state.ConnectionState.TheVariants as S
 use Rattle.acd_terms.specs.Rules.Calls.{is_open, open_of}
 use Rattle.acd_laws.proofs.Facts.{HasColumns}
 use Rattle.acd_laws.proofs.Lists.{one, among-remove, counted, ascending-put, ascending-remove}
-use Rattle.acd_laws.proofs.State.{connections_total}
-use Rattle.acd_laws.proofs.Found.{count_less}
+use Rattle.acd_laws.proofs.State.{connections_total, count_less}
 
 pub record Sound (m b c : ℕ) (s : Rows) (ms : List Move) : Type 0 where
   pub truthful : AllTruthful s ms

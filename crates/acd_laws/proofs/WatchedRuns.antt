@@ -20,9 +20,8 @@ use Rattle.acd_laws.specs.WatchedLaws.{TellsNoMore, RunIsWatched, RunTellsNoMore
 use Rattle.acd_laws.specs.BalanceLaws.{IsBalanced, RunIsBalanced}
 use Rattle.acd_laws.specs.OfferLaws.{LeavesNoOffer, RunLeavesNoOffer}
 use Rattle.acd_laws.proofs.Lists.{none_from, mapped_among}
-use Rattle.acd_laws.proofs.State.{found_key}
+use Rattle.acd_laws.proofs.State.{found_key, connection_rule}
 use Rattle.acd_terms.proofs.MoveLemmas.{moved_append}
-use Rattle.acd_laws.proofs.Found.{connection_rule}
 use Rattle.acd_laws.proofs.CountedEvents.{figures_joined, figures_numbered}
 use Rattle.acd_laws.proofs.Tells.{shown, Tells}
 use Rattle.acd_laws.proofs.Told.{after-append, after-numbered}
