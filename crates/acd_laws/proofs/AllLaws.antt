@@ -3,8 +3,7 @@ use Rattle.acd_laws.specs.Counts.{Rules}
 use Rattle.acd_laws.specs.AllLaws.{StepKeepsLaws, RunKeepsLaws}
 use Rattle.acd_laws.proofs.FiguresCounted.{step_keeps_figures, figures_kept}
 use Rattle.acd_laws.proofs.OneOffer.{step_keeps_one_offer, run_has_one_offer}
-use Rattle.acd_laws.proofs.PlacedRuns.{step_names_no_later_call, run_names_no_later_call, run_is_placed}
-use Rattle.acd_laws.proofs.PlacedRuns.{step_keeps_places}
+use Rattle.acd_laws.proofs.PlacedRuns.{step_names_no_later_call, run_names_no_later_call, run_is_placed, step_keeps_places}
 use Rattle.acd_laws.proofs.WatchedRuns.{step_keeps_watched, step_balances, step_leaves_no_offer, run_is_watched, run_tells_no_more, run_is_balanced, run_leaves_no_offer}
 use Rattle.acd_laws.proofs.RulesAll.{rules_are_kept, step_keeps_rules, run_keeps_rules}
 

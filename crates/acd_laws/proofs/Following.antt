@@ -11,9 +11,8 @@ use Rattle.acd_terms.specs.declared.event.Event.{Event}
 use Rattle.acd_terms.specs.declared.command.Command.{Command}
 use Rattle.acd_terms.specs.declared.moves.Move.{Move}
 use Rattle.acd_laws.specs.Counts.{Rules}
-use Rattle.acd_laws.proofs.Tells.{shown, seat}
+use Rattle.acd_laws.proofs.Told.{shown, seat, after-append, shown_after, seat_after}
 use Rattle.acd_laws.proofs.CountedEvents.{figures_joined}
-use Rattle.acd_laws.proofs.Told.{after-append, shown_after, seat_after}
 use Rattle.acd_laws.proofs.Balance.{holding, balanced_events}
 use Rattle.acd_laws.proofs.Order.{Ordered, ordered_on}
 use Rattle.acd_laws.proofs.SoundMoves.{Sound}

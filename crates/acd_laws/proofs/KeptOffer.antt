@@ -21,8 +21,7 @@ use Rattle.acd_laws.specs.Counts.{Rules, IsPlannedStation, IsPlannedGroup, Seate
 use Rattle.acd_laws.proofs.Lists.{one, any_some, ascending-put, ascending-remove, every_among, every-put, every-remove, counted, none_counted, fewer, two_counted, none_from}
 use Rattle.acd_laws.proofs.State.{eqb_self, connections_total, found_key, connection_among, still_none}
 use Rattle.acd_laws.proofs.Found.{count_new, count_less, connection_rule}
-use Rattle.acd_laws.proofs.Arriving.{idle_counts}
-use Rattle.acd_laws.proofs.Keeping.{with_connections, one_le, most_one}
+use Rattle.acd_laws.proofs.Arriving.{idle_counts, with_connections, one_le, most_one}
 use Rattle.acd_terms.specs.Distribution.{offer_at}
 
 -- a distributed connection rings or is talked on, or neither

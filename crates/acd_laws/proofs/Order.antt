@@ -20,7 +20,7 @@ use Rattle.acd_terms.specs.declared.event.Event.{Event}
 use Rattle.acd_terms.specs.declared.event.Report.{Report}
 use Rattle.acd_terms.specs.declared.moves.Move.{Move}
 use Rattle.acd_laws.specs.Counts.{is_open}
-use Rattle.acd_laws.proofs.Tells.{HasEntries, UpTo}
+use Rattle.acd_laws.proofs.Told.{HasEntries, UpTo}
 use Rattle.acd_laws.proofs.Lists.{one, some_is}
 use Rattle.acd_laws.proofs.Members.{among_put}
 use Rattle.acd_laws.proofs.Serving.{moved-append}

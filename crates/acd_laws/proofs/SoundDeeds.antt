@@ -46,7 +46,7 @@ use Rattle.acd_laws.proofs.Found.{connection_there, connection_rule, none_above,
 use Rattle.acd_laws.proofs.Releasing.{release_other_kept}
 use Rattle.acd_laws.proofs.KeptPlan.{nobody_at}
 use Rattle.acd_laws.proofs.KeptOut.{initiated_is, initiated_alone, outgoing}
-use Rattle.acd_laws.proofs.KeptTalking.{hold_is}
+use Rattle.acd_laws.proofs.KeptOut.{hold_is}
 use Rattle.acd_laws.proofs.KeptEnds.{open_cases, closed_call, return_new}
 use Rattle.acd_laws.proofs.KeptOffer.{alerting_is, offer_station, offer_new}
 use Rattle.acd_laws.proofs.MoveKinds.{Recorded, releases, occupies, goes_from, arrival_of}
