@@ -16,7 +16,7 @@ use Rattle.acd_terms.specs.Services.Plan.{no_figures}
 use Rattle.acd_terms.specs.Services.Serve.{serve}
 use Rattle.acd_terms.specs.Step.{numbered, executed_moment, next_stamp, step_moves, step, counted}
 use Rattle.acd_terms.specs.Rules.Plan.{group_order}
-use Rattle.acd_laws.proofs.Types.{Rows, GroupRecord, Change, Event, Move, Report, Command, Refusal, Served}
+use Rattle.acd_laws.proofs.Types.{Rows, GroupRecord, Change, Command, Event, Move, Refusal, Report, Served}
 use Rattle.acd_terms.specs.declared.event.Report.TheVariants.{Queued, Established, CallCleared, Diverted}
 use Rattle.acd_terms.specs.declared.moves.Change.TheVariants.{PutGroup}
 use Rattle.acd_terms.proofs.ChangeLemmas.{changed_by_append, moved_by_changes}

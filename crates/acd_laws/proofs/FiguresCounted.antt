@@ -19,7 +19,7 @@ use Rattle.acd_terms.specs.declared.moves.Change.TheVariants.{PutGroup, PutAgent
 use Rattle.acd_laws.proofs.Facts.{Rules, GroupColumn, ConnectionRule}
 use Rattle.acd_laws.proofs.Frames.{LeavesGroups, left_groups}
 use Rattle.acd_laws.proofs.Lists.{every_among, among_put, mapped_among}
-use Rattle.acd_laws.proofs.State.{connection_among, group_found_put, group_counted_found, is_some_mapped, other_among}
+use Rattle.acd_laws.proofs.State.{connection_among, other_among, group_found_put, group_counted_found, is_some_mapped}
 use Rattle.acd_laws.proofs.CountedEvents.{group_counted, quiet, figures_joined, figures_numbered, figures_skipped, no_events, nothing_sum}
 use Rattle.acd_laws.proofs.MoveKinds.{AgentMove, stays, waits as puts, tells, Anyone, goes_from, released_by, occupied_by, Arrival, queues, alerts, fails, arrival_of}
 use Rattle.acd_laws.proofs.Deeds.{Party, Round, offers, returns, rests, Deed, nothing, adds_group, adds_station, adds_agent, watches, unwatches, arrives, makes, goes_out, answers, holds, retrieves, clears, deflects, transfers, logs_on, waits, goes}

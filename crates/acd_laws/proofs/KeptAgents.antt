@@ -18,7 +18,7 @@ use Rattle.acd_laws.proofs.Lists.{one, find_passes, find_among, find_none, any_f
 use Rattle.acd_laws.proofs.Keyed.{eqb_self}
 use Rattle.acd_laws.proofs.State.{agents_total, agent_among, count_agent, has_is, agent_seat}
 use Rattle.acd_laws.proofs.KeptOffer.{unoccupied}
-use Rattle.acd_laws.proofs.Keeping.{with_agents, lone}
+use Rattle.acd_laws.proofs.Arriving.{with_agents, lone}
 use Rattle.acd_laws.proofs.Releasing.{serving, loosen, left_keeps, left_state, alerting_or_answered}
 use Rattle.acd_terms.specs.Tick.{rest_moves}
 use Rattle.acd_laws.proofs.States.{null_is}

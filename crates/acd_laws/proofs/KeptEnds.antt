@@ -21,11 +21,10 @@ use Rattle.acd_laws.proofs.Keyed.{eqb_self}
 use Rattle.acd_laws.proofs.State.{connections_total, found_key, connection_among, still_none, is_of, call_remove, removed_other, count_new, count_less, connection_rule, connection_there, other_among, other_device, other_agents, left_among}
 use Rattle.acd_laws.proofs.States.{alerting_is}
 use Rattle.acd_laws.proofs.KeptOffer.{talking_is}
-use Rattle.acd_laws.proofs.Keeping.{with_connections, arrived_live, arrived_hold, arrived_open}
+use Rattle.acd_laws.proofs.Arriving.{with_connections, arrived_live, arrived_hold, arrived_open, rule_same, Arrived}
 use Rattle.acd_laws.proofs.Releasing.{after_release, loosen, ends_by, release_other_kept}
 use Rattle.acd_terms.specs.Tick.{return_to}
 use Rattle.acd_terms.specs.Release.{ending_of, release}
-use Rattle.acd_laws.proofs.Arriving.{rule_same, Arrived}
 use Rattle.acd_terms.specs.Services.Clearing.{clearing, cleared_group, waiting_group}
 use Rattle.acd_terms.specs.Services.GivingAway.{is_answered_by}
 

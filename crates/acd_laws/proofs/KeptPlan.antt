@@ -15,8 +15,7 @@ use Rattle.acd_terms.specs.Moves.{changed}
 use Rattle.acd_terms.specs.Rules.Plan.{group_order, station_order, agent_order, monitor_order}
 use Rattle.acd_laws.proofs.Facts.{Rules, IsPlannedStation, IsPlannedGroup, SeatedAs, AgentRule, CallRule, IsCaller, StandsAt, ConnectionRule, seated_at, ready_at, busy_at, pending_at}
 use Rattle.acd_laws.proofs.Lists.{one, any_some, ascending-put, ascending-remove, count-put_new, every_among, every_from, every-put, count_zero}
-use Rattle.acd_laws.proofs.Arriving.{rule_more}
-use Rattle.acd_laws.proofs.Keeping.{with_agents}
+use Rattle.acd_laws.proofs.Arriving.{rule_more, with_agents}
 use Rattle.acd_laws.proofs.Keyed.{cmp_equal}
 use Rattle.acd_laws.proofs.State.{groups_total, stations_total, agents_total, monitors_total, agent_find, group_put, station_put, call_among}
 use Rattle.acd_terms.specs.Services.Plan.{is_used, new_agent}

@@ -23,7 +23,7 @@ use Rattle.acd_laws.proofs.Lists.{one, ascending-put, every_among, every-put, co
 use Rattle.acd_laws.proofs.Keyed.{eqb_self}
 use Rattle.acd_laws.proofs.State.{agents_total, agent_among, count_agent, agent_seat, agent_there}
 use Rattle.acd_laws.proofs.MoveKinds.{releases, agent_others}
-use Rattle.acd_laws.proofs.Keeping.{with_agents, lone}
+use Rattle.acd_laws.proofs.Arriving.{with_agents, lone}
 use Rattle.acd_laws.proofs.KeptOffer.{ringing_is, talking_is}
 use Rattle.acd_laws.proofs.States.{ready_is}
 

@@ -22,12 +22,11 @@ use Rattle.acd_laws.proofs.Distributing.{rules_distribution}
 use Rattle.acd_laws.proofs.Deeds.{new_call, Deed, nothing, adds_group, adds_station, adds_agent, watches, unwatches, arrives, makes, goes_out, answers, holds, retrieves, clears, deflects, transfers, logs_on, waits, goes, deed_of_serve}
 use Rattle.acd_laws.proofs.Arriving.{arrived}
 use Rattle.acd_laws.proofs.Releasing.{wanted_not_busy}
-use Rattle.acd_laws.proofs.KeptOut.{begun, made, outgoing, gone_out}
-use Rattle.acd_laws.proofs.KeptTalking.{kept_answer, kept_hold, kept_retrieve}
-use Rattle.acd_laws.proofs.States.{connected_is}
+use Rattle.acd_laws.proofs.KeptOut.{begun, made, outgoing, gone_out, kept_answer, kept_hold, kept_retrieve}
 use Rattle.acd_laws.proofs.KeptEnds.{kept_clear, moved_on, open_cases, closed_call}
 use Rattle.acd_laws.proofs.KeptAgents.{kept_log_on, kept_wait, kept_go_from}
 use Rattle.acd_laws.proofs.KeptPlan.{kept_group, kept_station, kept_new_agent, started, stopped}
+use Rattle.acd_laws.proofs.States.{connected_is}
 
 kept_deed : (s : Rows) (m k : ℕ) (ms : List Move) → Deed s m k ms → Rules s → Rules (moved s ms)
 unfolding arrive

@@ -36,7 +36,7 @@ use Rattle.acd_laws.proofs.Keyed.{eqb_self}
 use Rattle.acd_laws.proofs.State.{found_key, connection_among, put_other, removed_other, still_none, connection_there, connection_rule, none_above, agent_there, other_agents, other_among, other_device}
 use Rattle.acd_laws.proofs.Releasing.{release_other_kept}
 use Rattle.acd_laws.proofs.KeptPlan.{nobody_at}
-use Rattle.acd_laws.proofs.States.{initiated_is, hold_is, alerting_is}
+use Rattle.acd_laws.proofs.States.{initiated_is, alerting_is, hold_is}
 use Rattle.acd_laws.proofs.KeptOut.{initiated_alone, outgoing}
 use Rattle.acd_laws.proofs.KeptEnds.{open_cases, closed_call, return_new}
 use Rattle.acd_laws.proofs.KeptOffer.{offer_station, offer_new}

@@ -1,22 +1,46 @@
--- What the reports tell of connections and agents: by each move.
-use Rattle.std.proofs.Common.{◌≡◌, ℕ, ◌+◌, Bool, true, false, ◌&&◌, ◌||◌, cond, List, [], ◌∷◌, ◌++◌, Option, Some, None, refl, sym, ◌∙◌, ap}
-use Rattle.std.specs.Prelude.{◌==◌, option_map}
+-- What the events tell of a state, as moves keep it: the report of a move says just what it changes, at every device.
+use Rattle.std.specs.Prelude.{if◌then◌else◌, ◌==◌, option_map}
+use Rattle.acd_terms.specs.Scans.{agent_of, is_planned, connection_of, group_of, station_of, is_group, is_station, has}
+use Rattle.acd_terms.specs.Told.{after, connection_told, Seat, no_seat, seat_told, last_entry, names, state_by, seat_by}
+use Rattle.acd_terms.specs.Watched.{state_at, seat_of, IsHeldAt, InOrder}
+use Rattle.acd_laws.proofs.Types.{Rows, GroupRecord, StationRecord, AgentRecord, ConnectionRecord, ConnectionState, Change, Columns, Event, Move, Report}
+use Rattle.std.proofs.Common.{◌≡◌, ℕ, ◌≤◌, ◌<◌, ◌+◌, Bool, true, false, ◌&&◌, ◌||◌, cond, List, [], ◌∷◌, ◌++◌, Option, Some, None, refl, sym, ◌∙◌, ap}
 use Rattle.std.proofs.lemmas.Bool.{and_right, eqb-true}
 use Rattle.acd_terms.specs.Lists.{IsAscending}
-use Rattle.acd_terms.specs.Scans.{connection_of, agent_of, group_of, station_of, is_planned, is_group, is_station, has}
 use Rattle.acd_terms.specs.Writes.{with_group, with_station, with_connection, without_connection}
 use Rattle.acd_terms.specs.Moves.{silent, reported, changed, moved, with_event, events_of}
 use Rattle.acd_terms.specs.Columns.{columns_of}
-use Rattle.acd_terms.specs.Told.{after, connection_told, names, state_by, seat_told, seat_by}
-use Rattle.acd_terms.specs.Watched.{state_at, seat_of}
 use Rattle.acd_terms.specs.Step.{numbered}
 use Rattle.acd_terms.specs.Rules.Plan.{connection_order}
-use Rattle.acd_laws.proofs.Types.{Rows, GroupRecord, StationRecord, AgentRecord, ConnectionRecord, ConnectionState, Change, Columns, Event, Move, Report}
 use Rattle.acd_terms.specs.declared.event.Report.TheVariants.{CallCleared}
 use Rattle.acd_terms.specs.declared.moves.Change.TheVariants.{PutGroup, PutStation, PutAgent, PutConnection, RemoveCall, RemoveConnection}
 use Rattle.acd_laws.proofs.Frames.{LeavesConnections, left_connection, LeavesAgents, left_agent, LeavesPlan, left_plan}
-use Rattle.acd_laws.proofs.Tells.{shown, seat}
 use Rattle.acd_laws.proofs.State.{is_of, is_of_true, at_put, at_remove, agent_put, group_put, station_put}
+
+-- the connection's state at a planned device: of any other device nothing is told
+abbrev pub shown : Rows → ℕ → ℕ → Option ConnectionState
+shown s call device = if is_planned s device then state_at s call device else None
+
+-- the agent's state and station
+abbrev pub seat : Rows → ℕ → Seat
+seat s agent = seat_of (agent_of s agent)
+
+-- each call that waits or rings at a place has an entry, whose number is above 0
+abbrev pub HasEntries : Rows → List Event → Type 0
+HasEntries s events = (group call place : ℕ) → IsHeldAt s group call place → 0 < last_entry group call 0 events
+
+-- no entry has a number above the last event's, and none that waits or rings a place above the last stamp
+pub record UpTo (stamp event : ℕ) (s : Rows) (events : List Event) : Type 0 where
+  pub entries : (group call : ℕ) → last_entry group call 0 events ≤ event
+  pub places : (group call place : ℕ) → IsHeldAt s group call place → place ≤ stamp
+
+-- what the events tell is what the state holds
+pub record Tells (s : Rows) (events : List Event) : Type 0 where
+  pub connections : (call device : ℕ) → shown s call device ≡ after (connection_told call device) None events
+  pub agents : (agent : ℕ) → seat s agent ≡ after (seat_told agent) no_seat events
+  pub entries : HasEntries s events
+  pub queues : InOrder s events
+  pub up_to : UpTo s.last_stamp s.last_event s events
 
 -- what is told after a report, if there is one
 abbrev pub heard : {T : Type 0} → (T → Columns → T) → T → Option Report → T
