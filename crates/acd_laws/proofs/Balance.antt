@@ -10,7 +10,7 @@ use Rattle.acd_terms.specs.Rules.Occupied.{waits_in, rings_from}
 use Rattle.acd_laws.proofs.Types.{Rows, ConnectionRecord, Event, Move, Report}
 use Rattle.acd_laws.proofs.Lists.{one}
 use Rattle.acd_terms.proofs.MoveLemmas.{moved_append}
-use Rattle.acd_laws.proofs.Found.{count_new, count_old, count_less}
+use Rattle.acd_laws.proofs.State.{count_new, count_old, count_less}
 
 -- of a group: what waits in it and rings from it
 abbrev pub holding : Rows → ℕ → ℕ

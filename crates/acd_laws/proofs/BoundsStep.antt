@@ -1,12 +1,31 @@
--- The moves of a step stay within bounds.
-use Rattle.std.proofs.Common.{◌≡◌, ℕ, ◌+◌, ◌≤◌, ◌⊎◌, inl, inr, Bool, true, false, cond, List, [], ◌∷◌, ◌++◌, refl, sym, ◌∙◌, subst, arith, length}
-use Rattle.std.specs.Prelude.{◌==◌}
-use Rattle.acd_laws.proofs.Types.{Rows, GroupRecord, Command, Event, Move}
-use Rattle.acd_terms.specs.Lists.{count, Among}
-use Rattle.acd_terms.specs.Moves.{moved, events_of}
+-- The moves of a step stay within bounds: by each deed, and by rounds.
+use Rattle.std.proofs.Common.{◌≡◌, ℕ, ◌+◌, ◌≤◌, ◌⊎◌, inl, inr, Bool, true, false, List, [], ◌∷◌, Option, Some, None, refl, sym, ◌∙◌, ap, subst, arith, length, cond, ◌++◌}
+use Rattle.std.specs.Prelude.{◌==◌, is_some, nat_le}
+use Rattle.std.proofs.lemmas.Bool.{or_cases, or_parts, or_right, or_left, leb-false}
+use Rattle.acd_laws.proofs.Types.{Rows, GroupRecord, StationRecord, AgentRecord, CallRecord, ConnectionRecord, MonitorRecord, Cause, Command, Event, Move, Report}
+use Rattle.acd_terms.specs.declared.state.AgentState.TheVariants as A
+use Rattle.acd_terms.specs.declared.state.ConnectionState.TheVariants as S
+use Rattle.acd_terms.specs.declared.event.Cause.TheVariants.{NewCall, Deflected, Transferred}
+use Rattle.acd_terms.specs.declared.event.Report.TheVariants as report
+use Rattle.acd_terms.specs.declared.moves.Change.TheVariants.{Nothing, PutGroup, PutStation, PutAgent, PutCall, PutMonitor, RemoveCall, RemoveConnection, RemoveMonitor}
+use Rattle.acd_terms.specs.Lists.{Among, Every, IsAscending, count}
+use Rattle.acd_terms.specs.States.{state_wanted}
+use Rattle.acd_terms.specs.Scans.{at_group, at_station, at_agent, at_call, at_monitor, group_of, station_of, other_of, is_group, is_station, is_planned, is_calling}
+use Rattle.acd_terms.specs.Writes.{with_group, with_station, with_agent, with_call, with_monitor}
+use Rattle.acd_terms.specs.Moves.{silent, reported, moved, events_of}
+use Rattle.acd_terms.specs.CallMoves.{plain, connect_caller, initiate, arrive, talking, waited_by}
+use Rattle.acd_terms.specs.Release.{release, ending_of}
+use Rattle.acd_terms.specs.Rules.Plan.{agent_order}
+use Rattle.acd_terms.specs.Services.{new_group, new_agent, next_call, cleared_group, clear_other, release_other, next_monitor}
+use Rattle.acd_laws.proofs.Facts.{Rules, Sizes, AgentTimed, ConnectionTimed, Timed, MonitorRule, Monitored, at_place}
+use Rattle.acd_laws.proofs.Lists.{every_among, every_from, every-put, one, count-append, among_put, every-append}
+use Rattle.acd_laws.proofs.State.{group_put, station_put}
+use Rattle.acd_laws.proofs.MoveKinds.{AgentMove, stays, waits as pends, Recorded, goes_from, releases_here, occupies_here}
+use Rattle.acd_laws.proofs.Balance.{entry_by}
+use Rattle.acd_laws.proofs.Deeds.{new_call, Deed, nothing, adds_group, adds_station, adds_agent, watches, unwatches, arrives, makes, goes_out, answers, holds, retrieves, clears, deflects, transfers, logs_on, waits, goes, deed_of_serve}
+use Rattle.acd_laws.proofs.Steady.{Steady, knows, AllSteady, IsNew, Steadied, Settled, settled, steadied, sizes_steadied, monitored_steadied, length-put}
+use Rattle.acd_laws.proofs.Orderly.{WaitsUpTo, Neat, Steps, done, neat, comes, neat_quiet, neat_silent, neat_agent, neat_remove, neat_put, neat_turned, timed_plain, comes_to, steady_agent, steady_arrive, steps_timed, steps_place}
 use Rattle.acd_terms.specs.Served.{moves_of}
-use Rattle.acd_laws.proofs.Facts.{Rules, Sizes, at_place, Timed, Monitored}
-use Rattle.acd_laws.proofs.Lists.{one, count-append, every-append}
 use Rattle.acd_terms.specs.Figures.{is_entry}
 use Rattle.acd_terms.specs.Services.Serve.{serve}
 use Rattle.acd_terms.specs.Distribution.{distribution}
@@ -14,13 +33,262 @@ use Rattle.acd_terms.specs.Tick.{tick}
 use Rattle.acd_terms.specs.Step.{step_moves}
 use Rattle.acd_terms.proofs.MoveLemmas.{moved_append, events_of_append}
 use Rattle.acd_laws.proofs.RulesKept.{rules_serve}
-use Rattle.acd_laws.proofs.Steady.{IsNew, sizes_steadied, monitored_steadied}
-use Rattle.acd_laws.proofs.Deeds.{deed_of_serve}
-use Rattle.acd_laws.proofs.Orderly.{steps_timed, steps_place}
-use Rattle.acd_laws.proofs.Behaving.{Behaves, behaves_deed}
 use Rattle.acd_laws.proofs.Rounds.{AllWait, Within, steps_entered, steps_wait, distribution_within, tick_within, returns_agents}
 use Rattle.acd_laws.proofs.Numbers.{events_length, connections_length, greatest, distribution_length, tick_length}
-pub use Rattle.acd_laws.proofs.Behaving.{Before}
+
+-- what holds before a step
+pub record Before (s : Rows) (k m : ℕ) : Type 0 where
+  pub rules : Rules s
+  pub timed : Timed k m s
+  pub stamp : 1 ≤ k
+  pub sizes : Sizes s
+  pub monitors : Monitored s
+
+-- what the moves of a service keep
+pub record Behaves (s : Rows) (k m : ℕ) (ms : List Move) : Type 0 where
+  pub comes : Bool
+  pub steps : Steps k m comes s ms
+  pub few : length ms ≤ 5
+  pub settled : Settled s ms
+
+-- a silent move of the plan or of a monitor
+
+sizes_group : (s : Rows) (g : GroupRecord) → nat_le s.limits.groups (length s.groups) ≡ false → Sizes s → Sizes (with_group s g)
+unfolding with_group
+sizes_group s g room h = let a = length-put (at_group g.device) g s.groups in let b = leb-false s.limits.groups (length s.groups) room in
+    record { limits = h.limits; groups = omega (arith, a, b); stations = h.stations; agents = h.agents; calls = h.calls; monitors = h.monitors }
+
+sizes_station : (s : Rows) (g : StationRecord) → nat_le s.limits.stations (length s.stations) ≡ false → Sizes s → Sizes (with_station s g)
+unfolding with_station
+sizes_station s g room h = let a = length-put (at_station g.device) g s.stations in let b = leb-false s.limits.stations (length s.stations) room in
+    record { limits = h.limits; groups = h.groups; stations = omega (arith, a, b); agents = h.agents; calls = h.calls; monitors = h.monitors }
+
+sizes_agent : (s : Rows) (g : AgentRecord) → nat_le s.limits.agents (length s.agents) ≡ false → Sizes s → Sizes (with_agent s g)
+unfolding with_agent
+sizes_agent s g room h = let a = length-put (at_agent g.agent) g s.agents in let b = leb-false s.limits.agents (length s.agents) room in
+    record { limits = h.limits; groups = h.groups; stations = h.stations; agents = omega (arith, a, b); calls = h.calls; monitors = h.monitors }
+
+sizes_call : (s : Rows) (g : CallRecord) → nat_le s.limits.calls (length s.calls) ≡ false → Sizes s → Sizes (with_call s g)
+unfolding with_call
+sizes_call s g room h = let a = length-put (at_call g.call) g s.calls in let b = leb-false s.limits.calls (length s.calls) room in
+    record { limits = h.limits; groups = h.groups; stations = h.stations; agents = h.agents; calls = omega (arith, a, b); monitors = h.monitors }
+
+sizes_monitor : (s : Rows) (g : MonitorRecord) → nat_le s.limits.monitors (length s.monitors) ≡ false → Sizes s → Sizes (with_monitor s g)
+unfolding with_monitor
+sizes_monitor s g room h = let a = length-put (at_monitor g.monitor) g s.monitors in let b = leb-false s.limits.monitors (length s.monitors) room in
+    record { limits = h.limits; groups = h.groups; stations = h.stations; agents = h.agents; calls = h.calls; monitors = omega (arith, a, b) }
+
+-- more is planned
+monitored_more : (s t : Rows) → ((d : ℕ) → is_planned s d ≡ true → is_planned t d ≡ true) → t.last_monitor ≡ s.last_monitor → t.last_event ≡ s.last_event → t.monitors ≡ s.monitors → Monitored s → Monitored t
+monitored_more s t f a b e h = subst (λ ws. Every (MonitorRule t) ws) (sym e) (every_from (MonitorRule t) s.monitors (λ w i.
+    let q = every_among (MonitorRule s) s.monitors w h i in let x = q.1 in let y = q.2 in (f w.device q.0, omega (arith, x, a), omega (arith, y, b))))
+
+station_stays : (s : Rows) (g : GroupRecord) (d : ℕ) → is_station (with_group s g) d ≡ is_station s d
+unfolding with_group station_of
+station_stays s g d = refl
+
+group_stays : (s : Rows) (g : StationRecord) (d : ℕ) → is_group (with_station s g) d ≡ is_group s d
+unfolding with_station group_of
+group_stays s g d = refl
+
+planned_group : (s : Rows) (g : GroupRecord) (d : ℕ) → is_planned s d ≡ true → is_planned (with_group s g) d ≡ true
+planned_group s g d e = elim (or_cases (is_group s d) (is_station s d) e) [
+  | inl w ↦ or_left _ _ (group_put s g d ∙ or_right (g.device == d) (is_group s d) w)
+  | inr w ↦ or_right (is_group (with_group s g) d) _ (station_stays s g d ∙ w)
+]
+
+planned_station : (s : Rows) (g : StationRecord) (d : ℕ) → is_planned s d ≡ true → is_planned (with_station s g) d ≡ true
+planned_station s g d e = elim (or_cases (is_group s d) (is_station s d) e) [
+  | inl w ↦ or_left _ _ (group_stays s g d ∙ w)
+  | inr w ↦ or_right (is_group (with_station s g) d) _ (station_put s g d ∙ or_right (g.device == d) (is_station s d) w)
+]
+
+put_new : (s : Rows) (g z : GroupRecord) → IsNew s g → (z ≡ g) ⊎ Among z s.groups → Among z s.groups ⊎ IsNew s z
+put_new s g z new (inl e) = inr (subst (IsNew s) (sym e) new)
+put_new s g z new (inr a) = inl a
+
+behaves_group : (s : Rows) (k m : ℕ) (g : GroupRecord) → nat_le s.limits.groups (length s.groups) ≡ false → IsNew s g → Behaves s k m (silent (PutGroup g) ∷ [])
+unfolding with_group
+behaves_group s k m g room new = record {
+  comes = false;
+  steps = neat (neat_silent (PutGroup g) tt tt) done;
+  few = omega arith;
+  settled = record {
+    sizes = sizes_group s g room;
+    monitors = monitored_more s (with_group s g) (planned_group s g) refl refl refl;
+    groups = λ z a. put_new s g z new (among_put (at_group g.device) g s.groups z a);
+    limits = refl;
+    last_call = omega arith;
+    last_monitor = omega arith;
+    last_event = refl;
+  };
+}
+
+behaves_station : (s : Rows) (k m : ℕ) (g : StationRecord) → nat_le s.limits.stations (length s.stations) ≡ false → Behaves s k m (silent (PutStation g) ∷ [])
+unfolding with_station
+behaves_station s k m g room = record {
+  comes = false;
+  steps = neat (neat_silent (PutStation g) tt tt) done;
+  few = omega arith;
+  settled = record { sizes = sizes_station s g room; monitors = monitored_more s (with_station s g) (planned_station s g) refl refl refl; groups = λ z a. inl a; limits = refl; last_call = omega arith; last_monitor = omega arith; last_event = refl };
+}
+
+behaves_agent : (s : Rows) (k m : ℕ) (g : AgentRecord) → nat_le s.limits.agents (length s.agents) ≡ false → AgentTimed k m g → Behaves s k m (silent (PutAgent g) ∷ [])
+unfolding with_agent group_of station_of
+behaves_agent s k m g room h = record {
+  comes = false;
+  steps = neat (neat_silent (PutAgent g) h tt) done;
+  few = omega arith;
+  settled = record { sizes = sizes_agent s g room; monitors = monitored_more s (with_agent s g) (λ d e. e) refl refl refl; groups = λ z a. inl a; limits = refl; last_call = omega arith; last_monitor = omega arith; last_event = refl };
+}
+
+monitored_put : (s : Rows) (w : MonitorRecord) → is_planned s w.device ≡ true → w.after_event ≡ s.last_event → Monitored s → Monitored (with_monitor s w)
+unfolding with_monitor group_of station_of
+monitored_put s w p e h = every-put (at_monitor w.monitor) (MonitorRule (with_monitor s w)) w (p, omega arith, omega (arith, e)) s.monitors
+    (every_from (MonitorRule (with_monitor s w)) s.monitors (λ z i. let q = every_among (MonitorRule s) s.monitors z h i in let x = q.1 in (q.0, omega (arith, x), q.2)))
+
+behaves_monitor : (s : Rows) (k m : ℕ) (w : MonitorRecord) → nat_le s.limits.monitors (length s.monitors) ≡ false → is_planned s w.device ≡ true → w.after_event ≡ s.last_event → w.monitor ≡ s.last_monitor + 1
+    → Behaves s k m (silent (PutMonitor w) ∷ [])
+unfolding with_monitor
+behaves_monitor s k m w room p e n = record {
+  comes = false;
+  steps = neat (neat_silent (PutMonitor w) tt tt) done;
+  few = omega arith;
+  settled = record { sizes = sizes_monitor s w room; monitors = monitored_put s w p e; groups = λ z a. inl a; limits = refl; last_call = omega arith; last_monitor = omega (arith, n); last_event = refl };
+}
+
+-- calls
+
+called : (s : Rows) (c : CallRecord) → Monitored s → Monitored (with_call s c)
+unfolding with_call group_of station_of
+called s c h = monitored_more s (with_call s c) (λ d e. e) refl refl refl h
+
+same_limits : (s : Rows) (c : CallRecord) → (with_call s c).limits ≡ s.limits
+unfolding with_call
+same_limits s c = refl
+
+same_groups : (s : Rows) (c : CallRecord) → (with_call s c).groups ≡ s.groups
+unfolding with_call
+same_groups s c = refl
+
+same_event : (s : Rows) (c : CallRecord) → (with_call s c).last_event ≡ s.last_event
+unfolding with_call
+same_event s c = refl
+
+raised : (s : Rows) (c : CallRecord) (n : ℕ) → c.call ≡ s.last_call + 1 → n ≡ (with_call s c).last_call → n ≤ s.last_call + 1
+unfolding with_call
+raised s c n e f = omega (arith, e, f)
+
+same_monitor : (s : Rows) (c : CallRecord) (n : ℕ) → n ≡ (with_call s c).last_monitor → n ≤ s.last_monitor + 1
+unfolding with_call
+same_monitor s c n f = omega (arith, f)
+
+ascending_called : (s : Rows) (c : CallRecord) → IsAscending agent_order s.agents → IsAscending agent_order (with_call s c).agents
+unfolding with_call
+ascending_called s c h = h
+
+-- a new call, and moves that put connections
+settled_call : (s : Rows) (c : CallRecord) (ms : List Move) → nat_le s.limits.calls (length s.calls) ≡ false → c.call ≡ s.last_call + 1 → Steadied (with_call s c) (moved (with_call s c) ms) → Settled s (silent (PutCall c) ∷ ms)
+settled_call s c ms room n f =
+    let t : Rows = moved (with_call s c) ms in
+    let a = f.last_call in let b = f.last_monitor in
+    record {
+      sizes = λ h. sizes_steadied (with_call s c) t f (sizes_call s c room h);
+      monitors = λ h. monitored_steadied (with_call s c) t f (called s c h);
+      groups = λ z i. inl (subst (Among z) (f.groups ∙ same_groups s c) i);
+      limits = f.limits ∙ same_limits s c;
+      last_call = raised s c (moved (with_call s c) ms).last_call n a;
+      last_monitor = same_monitor s c t.last_monitor b;
+      last_event = f.last_event ∙ same_event s c;
+    }
+
+-- each deed
+
+clears_other : {k m : ℕ} {t : Rows} (o : Option ConnectionRecord) → Neat k m t (clear_other o)
+clears_other None = neat_silent Nothing tt tt
+clears_other (Some y) = neat_remove y.call y.device (report.ConnectionCleared y.call y.device) tt (λ g. refl)
+
+steady_clears : (s : Rows) (o : Option ConnectionRecord) → Steady (knows s) (clear_other o).change
+steady_clears s None = tt
+steady_clears s (Some y) = tt
+
+releases_other : (s : Rows) (m k : ℕ) (o : Option ConnectionRecord) → IsAscending agent_order s.agents → AgentMove (Recorded s) m k (release_other s m k o)
+releases_other s m k None h = stays
+releases_other s m k (Some y) h = releases_here s m k y (ending_of y) h
+
+waits_answer : (m c d : ℕ) (q o : Option ℕ) → WaitsUpTo m (Some (report.Established c d (waited_by m q o)))
+waits_answer m c d q None = tt
+waits_answer m c d q (Some g) = omega arith
+
+-- moves that put no new record but connections
+steadily : {s : Rows} {k m : ℕ} {e : Bool} {ms : List Move} → Before s k m → Steps k m e s ms → length ms ≤ 5 → AllSteady s ms → Behaves s k m ms
+steadily {s} {k} {m} {e} {ms} b h few a = record { comes = e; steps = h; few = few; settled = settled s ms b.rules.orders.agents a }
+
+-- a connection ends, its call comes to a device, and an agent is released
+given : (s : Rows) (k m to : ℕ) (x : ConnectionRecord) (e : Report) (why : Cause) → Before s k m → WaitsUpTo m (Some e) → ((g : ℕ) → entry_by g (Some e) ≡ 0)
+    → Behaves s k m (reported (RemoveConnection x.call x.device) e ∷ arrive s m k x.call to why ∷ release s m k x (ending_of x) ∷ [])
+given s k m to x e why b w n =
+    let h = releases_here s m k x (ending_of x) b.rules.orders.agents in steadily b
+    (neat (neat_remove x.call x.device e w n) (comes (comes_to s k m x.call to why b.stamp) (neat (neat_agent s b.stamp b.timed h) done)))
+    (omega arith) (tt, (steady_arrive s s m k x.call to why, (steady_agent s h, tt)))
+
+agent_behaves : (s : Rows) (k m : ℕ) (x : Move) → Before s k m → AgentMove (Recorded s) m k x → Behaves s k m (x ∷ [])
+agent_behaves s k m x b h = steadily b (neat (neat_agent s b.stamp b.timed h) done) (omega arith) (steady_agent s h, tt)
+
+pub behaves_deed : (s : Rows) (k m : ℕ) (ms : List Move) → Deed s m k ms → Before s k m → Behaves s k m ms
+behaves_deed s k m _ nothing b = steadily b done (omega arith) tt
+behaves_deed s k m _ (adds_group device name ring wrap free room) b =
+    behaves_group s k m (new_group device name ring wrap) room (refl, (or_parts (is_group s device) (is_station s device) (or_parts (is_planned s device) (is_calling s device) free).0).0)
+behaves_deed s k m _ (adds_station device _ room) b = behaves_station s k m (record { device = device }) room
+behaves_deed s k m _ (adds_agent agent name _ room) b = behaves_agent s k m (new_agent m k agent name) room (record { above = b.stamp; stamp = omega arith; since = omega arith })
+behaves_deed s k m _ (watches device planned room) b = behaves_monitor s k m (record { monitor = next_monitor s; device = device; after_event = s.last_event }) room planned refl refl
+behaves_deed s k m _ (unwatches monitor) b = steadily b (neat (neat_silent (RemoveMonitor monitor) tt tt) done) (omega arith) (tt, tt)
+behaves_deed s k m _ (arrives caller called _ _ room) b =
+    let n : ℕ = next_call s in
+    let c : CallRecord = new_call s m caller called in
+    let u : Rows = with_call s c in
+    let rest : List Move = connect_caller n caller ∷ arrive s m k n called NewCall ∷ [] in
+    record {
+      comes = true;
+      steps = neat (neat_silent (PutCall c) (omega arith) tt) (neat (neat_put (plain n caller S.Connected) None (timed_plain k m n caller S.Connected) refl tt (λ g. refl)) (comes (comes_to s k m n called NewCall b.stamp) done));
+      few = omega arith;
+      settled = settled_call s c rest room refl (steadied u rest (ascending_called s c b.rules.orders.agents) (tt, (steady_arrive s u m k n called NewCall, tt)));
+    }
+behaves_deed s k m _ (makes device called _ _ _ _ _ room) b =
+    let n : ℕ = next_call s in
+    let c : CallRecord = new_call s m device called in
+    let rest : List Move = initiate n device ∷ [] in
+    record {
+      comes = false;
+      steps = neat (neat_silent (PutCall c) (omega arith) tt) (neat (neat_put (plain n device S.Initiated) (Some (report.ServiceInitiated n device)) (timed_plain k m n device S.Initiated) refl tt (λ g. refl)) done);
+      few = omega arith;
+      settled = settled_call s c rest room refl (steadied (with_call s c) rest (ascending_called s c b.rules.orders.agents) (tt, tt));
+    }
+behaves_deed s k m _ (goes_out p _) b = steadily b
+    (neat (neat_turned s p.x S.Connected (report.Originated p.x.call p.x.device p.about.called) b.timed b.rules.orders.connections p.found tt (λ g. refl)) (comes (comes_to s k m p.x.call p.about.called NewCall b.stamp) done))
+    (omega arith) (tt, (steady_arrive s s m k p.x.call p.about.called NewCall, tt))
+behaves_deed s k m _ (answers p _) b =
+    let h = occupies_here s m k p.x b.rules.orders.agents in
+    let e : Report = report.Established p.x.call p.x.device (waited_by m p.x.queued p.x.group) in
+    let t : ConnectionTimed k m (talking p.x) = record { place = tt; queued = tt; offered = tt; order = tt } in steadily b
+    (neat (neat_put (talking p.x) (Some e) t refl (waits_answer m p.x.call p.x.device p.x.queued p.x.group) (λ g. refl)) (neat (neat_agent s b.stamp b.timed h) done)) (omega arith) (tt, (steady_agent s h, tt))
+behaves_deed s k m _ (holds p _ _) b = steadily b (neat (neat_turned s p.x S.Hold (report.Held p.x.call p.x.device) b.timed b.rules.orders.connections p.found tt (λ g. refl)) done) (omega arith) (tt, tt)
+behaves_deed s k m _ (retrieves p _ _) b = steadily b (neat (neat_turned s p.x S.Connected (report.Retrieved p.x.call p.x.device) b.timed b.rules.orders.connections p.found tt (λ g. refl)) done) (omega arith) (tt, tt)
+behaves_deed s k m _ (clears p) b =
+    let x : ConnectionRecord = p.x in
+    let o : Option ConnectionRecord = other_of s x in
+    let h = releases_here s m k x (ending_of x) b.rules.orders.agents in
+    let g = releases_other s m k o b.rules.orders.agents in steadily b
+    (neat (neat_remove x.call x.device (report.ConnectionCleared x.call x.device) tt (λ g. refl)) (neat (clears_other o) (neat (neat_quiet (RemoveCall x.call) (Some (report.CallCleared x.call (cleared_group x o))) tt tt tt (λ g. refl))
+    (neat (neat_agent s b.stamp b.timed h) (neat (neat_agent s b.stamp b.timed g) done)))))
+    (omega arith) (tt, (steady_clears s o, (tt, (steady_agent s h, (steady_agent s g, tt)))))
+behaves_deed s k m _ (deflects p to _ _) b = given s k m to p.x (report.Diverted p.x.call p.x.device to Deflected p.x.group) Deflected b tt (λ g. refl)
+behaves_deed s k m _ (transfers p to _ _ _) b = given s k m to p.x (report.Transferred p.x.call p.x.device to) Transferred b tt (λ g. refl)
+behaves_deed s k m _ (logs_on a device group own _ _ _ _) b =
+    let c : AgentRecord = record a { state = A.NotReady; pending = None; station = Some device; group = Some group; stamp = k; since = m } in
+    steadily b (neat (neat_quiet (PutAgent c) (Some (report.AgentLoggedOn a.agent device group)) (record { above = b.stamp; stamp = omega arith; since = omega arith }) tt tt (λ g. refl)) done) (omega arith) (ap is_some own, tt)
+behaves_deed s k m _ (waits a wanted own _ _) b = agent_behaves s k m _ b (pends a (Some wanted) own)
+behaves_deed s k m _ (goes a wanted own _ _) b = agent_behaves s k m _ b (goes_from (Recorded s) m k a a.station (state_wanted wanted) own)
 
 -- what holds after moves of a step, with their events
 pub record After (s : Rows) (k m most : ℕ) (t : Rows) (es : List Event) : Type 0 where

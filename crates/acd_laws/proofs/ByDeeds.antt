@@ -1,5 +1,5 @@
 -- What deeds and rounds keep, a step keeps: the inductions over tick and distribution.
-use Rattle.std.proofs.Common.{◌≡◌, ℕ, inl, inr, List, ◌++◌, sym, subst}
+use Rattle.std.proofs.Common.{ℕ, inl, inr, List, ◌++◌, sym, subst}
 use Rattle.acd_terms.specs.Moves.{moved, events_of}
 use Rattle.acd_terms.specs.Served.{moves_of}
 use Rattle.acd_terms.specs.Services.Serve.{serve}

@@ -1,5 +1,5 @@
--- One put of a group for each event that counts makes the figures grow, so the changes of a step make its rows.
-use Rattle.std.proofs.Common.{◌≡◌, ℕ, suc, ◌+◌, true, false, not, cond, List, [], ◌∷◌, Some, None, refl, sym, ◌∙◌, ap, subst, inl, inr, length, map}
+-- What a step changes: its changes make its rows, and a refused request changes nothing.
+use Rattle.std.proofs.Common.{◌≡◌, ℕ, suc, ◌+◌, true, false, not, cond, List, [], ◌∷◌, Some, None, refl, sym, ◌∙◌, ap, subst, inl, inr, length, map, add-zero, Ok, Err}
 use Rattle.std.specs.Prelude.{◌==◌}
 use Rattle.std.specs.Cmp.{IsTotalOrder}
 use Rattle.std.specs.Ordering.{ordering_reverse, is_eq, nat_cmp}
@@ -7,16 +7,16 @@ use Rattle.std.specs.declared.cmp.Ordering.{Ordering}
 use Rattle.std.specs.declared.cmp.Ordering.TheVariants.{Equal, Greater}
 use Rattle.std.proofs.lemmas.Bool.{and_left, and_right, eqb-true, false_from_ne_true}
 use Rattle.acd_terms.specs.Lists.{Among, IsAscending, put_by}
-use Rattle.acd_terms.specs.Scans.{at_group, group_of, has}
+use Rattle.acd_terms.specs.Scans.{at_group, group_of, has, queued_in_all}
 use Rattle.acd_terms.specs.Writes.{with_group, with_station, with_agent, with_call, with_connection, with_monitor, without_call, without_connection, without_monitor, with_last}
 use Rattle.acd_terms.specs.Moves.{changed, moved, events_of}
 use Rattle.acd_terms.specs.Changes.{changes_of, changed_by, counted_group, grown, growth_in, growth_by, growth, step_changes_by, step_changes}
 use Rattle.acd_terms.specs.Figures.{is_no_answer, is_deflected, figures_of, sum_of_figures, counting, with_figures}
 use Rattle.acd_terms.specs.Services.{no_figures}
 use Rattle.acd_terms.specs.Services.Serve.{serve}
-use Rattle.acd_terms.specs.Step.{numbered, executed_moment, next_stamp, step_moves, step}
+use Rattle.acd_terms.specs.Step.{numbered, executed_moment, next_stamp, step_moves, step, counted}
 use Rattle.acd_terms.specs.Rules.Plan.{group_order}
-use Rattle.acd_laws.proofs.Types.{Rows, GroupRecord, Change, Event, Move, Report}
+use Rattle.acd_laws.proofs.Types.{Rows, GroupRecord, Change, Command, Event, Move, Refusal, Report, Served}
 use Rattle.acd_terms.specs.declared.event.Report.TheVariants.{Queued, Established, CallCleared, Diverted}
 use Rattle.acd_terms.specs.declared.moves.Change.TheVariants.{PutGroup}
 use Rattle.acd_terms.proofs.ChangeLemmas.{changed_by_append, moved_by_changes}
@@ -27,6 +27,12 @@ use Rattle.acd_laws.proofs.State.{groups_total, by_group}
 use Rattle.acd_laws.proofs.CountedEvents.{Quiet, quiet, no_events, sum_nothing, figures_joined, figures_skipped, sum_joined}
 use Rattle.acd_laws.proofs.Ended.{ascending_counting}
 use Rattle.acd_laws.proofs.DecidedAll.{keeps_read}
+use Rattle.acd_terms.specs.Choice.{offer_of}
+use Rattle.acd_terms.specs.Distribution.{distribution}
+use Rattle.acd_terms.specs.Served.{outcome_of, moves_of}
+use Rattle.acd_terms.specs.declared.answer.Outcome.TheVariants as outcome
+use Rattle.acd_laws.specs.RefusalLaws.{ChangesNothing}
+use Rattle.acd_laws.proofs.OfferFound.{no_offers}
 
 -- lists in ascending key
 
@@ -162,3 +168,31 @@ step_makes_its_changes s moment command h =
     let ms : List Move = step_moves s m (serve s m (next_stamp s) command) in
     ap (λ t. with_last t (next_stamp s) m (s.last_event + length (numbered s.last_event (events_of m ms)))) (changes_made s m ms (keeps_read s h).rules.orders.groups)
     ∙ ap (λ n. with_last (with_figures (moved s ms) (events_of m ms)) (next_stamp s) m (s.last_event + n)) (length-numbered s.last_event (events_of m ms))
+
+-- a refused request, where no offer is left
+
+nothing_distributed : (s : Rows) (m : ℕ) → offer_of s ≡ None → distribution s m ≡ []
+unfolding distribution
+nothing_distributed s m h = no_offers (length (queued_in_all s)) s m h
+
+refused_moves : (v : Served) (r : Refusal) → outcome_of v ≡ outcome.Refused r → moves_of v ≡ []
+refused_moves (Err x) r e = refl
+refused_moves (Ok done) r e = absurd cc
+
+no_moves : (s : Rows) (m : ℕ) (v : Served) → moves_of v ≡ [] → offer_of s ≡ None → step_moves s m v ≡ []
+no_moves s m v e h = rw e (nothing_distributed s m h)
+
+nothing_changed : (s : Rows) (k m : ℕ) (moves : List Move) → moves ≡ [] → counted s m k moves ≡ with_last s k m s.last_event
+unfolding with_last
+nothing_changed s k m moves e = rw e (rw (figures_none s, add-zero) refl)
+
+-- for a state with no offer left
+pub refused : (s : Rows) (moment : ℕ) (command : Command) (r : Refusal) → offer_of s ≡ None → (step s moment command).outcome ≡ outcome.Refused r → ChangesNothing s moment command
+unfolding step
+refused s moment command r h e =
+    let v = serve s (executed_moment s moment) (next_stamp s) command in
+    let none = no_moves s (executed_moment s moment) v (refused_moves v r e) h in
+    record {
+      events = ap (λ (ms : List Move). numbered s.last_event (events_of (executed_moment s moment) ms)) none;
+      rows = nothing_changed s (next_stamp s) (executed_moment s moment) (step_moves s (executed_moment s moment) v) none;
+    }

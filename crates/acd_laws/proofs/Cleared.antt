@@ -1,29 +1,34 @@
--- How often each call was cleared, and which calls are named: by each move.
-use Rattle.std.proofs.Common.{◌≡◌, ℕ, ◌+◌, ◌≤◌, Bool, true, false, ◌&&◌, cond, Option, Some, None, refl, sym, ◌∙◌, ap, subst, arith, eq-eqb}
+-- How often each call was cleared, and which calls are named: by each move, each deed and each round.
+use Rattle.std.proofs.Common.{◌≡◌, ℕ, ◌+◌, ◌≤◌, Bool, true, false, ◌&&◌, cond, Option, Some, None, refl, sym, ◌∙◌, ap, subst, arith, eq-eqb, List, [], ◌∷◌}
 use Rattle.std.specs.Prelude.{◌==◌, is_none, nat_le, max}
 use Rattle.std.proofs.lemmas.Bool.{eqb-true, le-leb, leb-true, leb-false, lt-leb}
-use Rattle.acd_terms.specs.Lists.{Among, IsAscending}
-use Rattle.acd_terms.specs.Scans.{call_of}
+use Rattle.acd_terms.specs.Lists.{Among, IsAscending, Every}
+use Rattle.acd_terms.specs.Scans.{call_of, other_of}
 use Rattle.acd_terms.specs.Writes.{with_call, without_call}
-use Rattle.acd_terms.specs.Moves.{no_move, silent, reported}
-use Rattle.acd_terms.specs.CallMoves.{arrive, begin, end_call}
+use Rattle.acd_terms.specs.Moves.{no_move, silent, reported, changed, moved}
+use Rattle.acd_terms.specs.CallMoves.{arrive, begin, end_call, connect_caller, initiate, clear}
 use Rattle.acd_terms.specs.AgentMoves.{state_report}
 use Rattle.acd_terms.specs.Columns.{columns_of}
 use Rattle.acd_terms.specs.Placed.{clears}
 use Rattle.acd_terms.specs.Rules.Plan.{call_order}
 use Rattle.acd_laws.proofs.Types.{Rows, AgentRecord, CallRecord, ConnectionRecord, AgentState, Cause, Change, Move, Report}
 use Rattle.acd_terms.specs.declared.state.AgentState.TheVariants as A
-use Rattle.acd_terms.specs.declared.moves.Change.TheVariants.{PutAgent}
+use Rattle.acd_terms.specs.declared.moves.Change.TheVariants.{PutAgent, RemoveCall}
 use Rattle.acd_laws.proofs.Facts.{Rules}
 use Rattle.acd_terms.specs.Rules.Calls.{parties_of}
 use Rattle.acd_laws.specs.PlacedLaws.{IsUpTo, clearings}
 use Rattle.acd_laws.proofs.Lists.{one, counted}
 use Rattle.acd_laws.proofs.Keyed.{eqb_self}
-use Rattle.acd_laws.proofs.State.{call_put, call_remove}
-use Rattle.acd_laws.proofs.Found.{call_known, none_of_call}
-use Rattle.acd_laws.proofs.Known.{Counted, LeavesCalls, Plain}
-use Rattle.acd_laws.proofs.AgentMoves.{AgentMove, stays, waits, tells}
-use Rattle.acd_laws.proofs.Arrivals.{Arrival, queues, alerts, fails, arrival_of}
+use Rattle.acd_laws.proofs.State.{call_put, call_remove, connection_among, call_known, none_of_call, other_device}
+use Rattle.acd_laws.proofs.Known.{Counted, LeavesCalls, Plain, AllCounted, counted-append, SameCalls, same_call, counted_plain, plain_calls}
+use Rattle.acd_laws.proofs.MoveKinds.{AgentMove, stays, waits as pends, tells, Anyone, goes_from, released_by, occupied_by, Arrival, queues, alerts, fails, arrival_of}
+use Rattle.acd_terms.specs.States.{state_wanted}
+use Rattle.acd_terms.specs.Release.{release, ending_of}
+use Rattle.acd_terms.specs.Services.{next_call, cleared_group, clear_other, release_other, clearing}
+use Rattle.acd_terms.specs.declared.state.AgentState.TheVariants.{Ready}
+use Rattle.acd_terms.specs.declared.event.Cause.TheVariants.{NewCall}
+use Rattle.acd_terms.specs.declared.moves.Ending.TheVariants.{NoAnswer}
+use Rattle.acd_laws.proofs.Deeds.{new_call, Party, Round, offers, returns, rests, Deed, nothing, adds_group, adds_station, adds_agent, watches, unwatches, arrives, makes, goes_out, answers, holds, retrieves, clears as clears_call, deflects, transfers, logs_on, waits, goes}
 
 -- each move that leaves the calls
 
@@ -51,7 +56,7 @@ plain_state a st n d = plain_reported tt (λ n. refl) tt
 
 pub plain_agent : {K : AgentRecord → Type 0} {last m k : ℕ} {x : Move} → AgentMove K m k x → Plain last x
 plain_agent stays = plain_nothing
-plain_agent (waits a pending _) = plain_silent tt
+plain_agent (pends a pending _) = plain_silent tt
 plain_agent (tells a b d _ _) = plain_state b b.state b.agent d
 
 -- a new call is one above the last
@@ -131,3 +136,70 @@ live_call s r x a =
 
 pub up_to : (s : Rows) → Rules s → (x : ConnectionRecord) → Among x s.connections → x.call ≤ s.last_call
 up_to s r x a = let k = live_call s r x a in (call_known s r x.call k.0 k.1).0
+
+party_up_to : (s : Rows) (p : Party s) → Rules s → p.x.call ≤ s.last_call
+party_up_to s p r = up_to s r p.x (connection_among s p.x.call p.x.device p.x p.found)
+
+-- a clearing
+
+plain_clear : {last : ℕ} (x : ConnectionRecord) → x.call ≤ last → Plain last (clear x)
+plain_clear x l = plain_reported tt (λ _. refl) l
+
+plain_clear_other : {last : ℕ} (o : Option ConnectionRecord) → ((y : ConnectionRecord) → o ≡ Some y → y.call ≤ last) → Plain last (clear_other o)
+plain_clear_other None h = plain_nothing
+plain_clear_other (Some y) h = plain_clear y (h y refl)
+
+plain_release_other : {last : ℕ} (s : Rows) (m k : ℕ) (o : Option ConnectionRecord) → Plain last (release_other s m k o)
+plain_release_other s m k None = plain_nothing
+plain_release_other s m k (Some y) = plain_agent (released_by s m k y (ending_of y))
+
+counted_clearing : (s : Rows) (m k : ℕ) (p : Party s) → Rules s → AllCounted s (clearing s m k p.x (other_of s p.x))
+counted_clearing s m k p r =
+    let x : ConnectionRecord = p.x in
+    let o : Option ConnectionRecord = other_of s x in
+    let le = party_up_to s p r in
+    let two : List Move = clear x ∷ clear_other o ∷ [] in
+    let last : List Move = release s m k x (ending_of x) ∷ release_other s m k o ∷ [] in
+    let plain_two : Every (Plain s.last_call) two = (plain_clear x le, (plain_clear_other o (λ y e. let same = (other_device s x y e).0 in omega (arith, same, le)), tt)) in
+    let t : Rows = moved s two in
+    let same : SameCalls s t = plain_calls s.last_call s two plain_two in
+    counted-append s two (end_call x.call (cleared_group x o) ∷ last) (counted_plain s two plain_two) (
+      counted_end t x.call (cleared_group x o) p.about (subst (IsAscending call_order) (sym same.0) r.orders.calls) (same_call s t same x.call ∙ p.live) (let e = same.1 in omega (arith, e, le)),
+      counted_plain (changed t (RemoveCall x.call)) last (plain_agent (released_by s m k x (ending_of x)), (plain_release_other s m k o, tt)),
+    )
+
+-- each deed and each round
+
+-- a new call, whose number the state before allows, and moves that speak of it
+counted_new : (s : Rows) (c : CallRecord) (ms : List Move) → Rules s → c.call ≡ s.last_call + 1 → ((l : ℕ) → c.call ≤ l → Every (Plain l) ms) → AllCounted s (begin c ∷ ms)
+counted_new s c ms r n h = (counted_begin s c r n, counted_plain (with_call s c) ms (h (with_call s c).last_call (let e = last_begun s c in omega (arith, e))))
+
+pub counted_deed : (s : Rows) (m k : ℕ) (ms : List Move) → Deed s m k ms → Rules s → AllCounted s ms
+counted_deed s m k _ nothing r = tt
+counted_deed s m k ms (adds_group _ _ _ _ _ _) r = counted_plain s ms (plain_silent tt, tt)
+counted_deed s m k ms (adds_station _ _ _) r = counted_plain s ms (plain_silent tt, tt)
+counted_deed s m k ms (adds_agent _ _ _ _) r = counted_plain s ms (plain_silent tt, tt)
+counted_deed s m k ms (watches _ _ _) r = counted_plain s ms (plain_silent tt, tt)
+counted_deed s m k ms (unwatches _) r = counted_plain s ms (plain_silent tt, tt)
+counted_deed s m k _ (arrives caller called _ _ _) r =
+    counted_new s (new_call s m caller called) (connect_caller (next_call s) caller ∷ arrive s m k (next_call s) called NewCall ∷ []) r refl (λ l up. (plain_silent tt, (plain_arrive s m k _ _ _ up, tt)))
+counted_deed s m k _ (makes device called _ _ _ _ _ _) r = counted_new s (new_call s m device called) (initiate (next_call s) device ∷ []) r refl (λ l up. (plain_reported tt (λ _. refl) up, tt))
+counted_deed s m k ms (goes_out p _) r = counted_plain s ms (plain_reported tt (λ _. refl) (party_up_to s p r), (plain_arrive s m k _ _ _ (party_up_to s p r), tt))
+counted_deed s m k ms (answers p _) r = counted_plain s ms (plain_reported tt (λ _. refl) (party_up_to s p r), (plain_agent (occupied_by s m k p.x), tt))
+counted_deed s m k ms (holds p _ _) r = counted_plain s ms (plain_reported tt (λ _. refl) (party_up_to s p r), tt)
+counted_deed s m k ms (retrieves p _ _) r = counted_plain s ms (plain_reported tt (λ _. refl) (party_up_to s p r), tt)
+counted_deed s m k _ (clears_call p) r = counted_clearing s m k p r
+counted_deed s m k ms (deflects p to _ _) r =
+    let le = party_up_to s p r in counted_plain s ms (plain_reported tt (λ _. refl) le, (plain_arrive s m k _ _ _ le, (plain_agent (released_by s m k p.x (ending_of p.x)), tt)))
+counted_deed s m k ms (transfers p to _ _ _) r =
+    let le = party_up_to s p r in counted_plain s ms (plain_reported tt (λ _. refl) le, (plain_arrive s m k _ _ _ le, (plain_agent (released_by s m k p.x (ending_of p.x)), tt)))
+counted_deed s m k ms (logs_on _ _ _ _ _ _ _ _) r = counted_plain s ms (plain_reported tt (λ _. refl) tt, tt)
+counted_deed s m k ms (waits _ _ _ _ _) r = counted_plain s ms (plain_silent tt, tt)
+counted_deed s m k ms (goes a wanted _ _ _) r = counted_plain s ms (plain_agent (goes_from Anyone m k a a.station (state_wanted wanted) tt), tt)
+
+pub counted_round : (s : Rows) (m k : ℕ) (ms : List Move) → Round s m k ms → Rules s → AllCounted s ms
+counted_round s m k ms (offers o x a d h) r = let le = up_to s r x h.there in counted_plain s ms (plain_reported tt (λ _. refl) le, (plain_reported tt (λ _. refl) le, tt))
+counted_round s m k ms (returns x g there _ _) r =
+    let le = up_to s r x (connection_among s x.call x.device x there) in
+    counted_plain s ms (plain_reported tt (λ _. refl) le, (plain_reported tt (λ _. refl) le, (plain_agent (released_by s m k x NoAnswer), tt)))
+counted_round s m k ms (rests a _ _) r = counted_plain s ms (plain_agent (goes_from Anyone m k a a.station Ready tt), tt)

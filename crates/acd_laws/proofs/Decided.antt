@@ -23,8 +23,7 @@ use Rattle.acd_laws.specs.Orders.{Orders}
 use Rattle.acd_laws.proofs.Facts.{IsPlannedStation, IsPlannedGroup, SeatedAs, AgentRule, CallRule, seated_at, Sizes, AgentTimed, IsPlace, IsMoment, IsAfter, ConnectionTimed, at_place, Timed, OnePlace, Monitored, IsCountedUpTo, AddsUp}
 use Rattle.acd_laws.proofs.Lists.{find_passes, find_among, any_found, any_some, every_among, every_from, some_counted, all_true, all_from, some_from, some_is, after_lower}
 use Rattle.acd_laws.proofs.Keyed.{eqb_self}
-use Rattle.acd_laws.proofs.State.{groups_total, stations_total, agents_total, calls_total, connections_total, monitors_total, is_group_any, is_station_any}
-use Rattle.acd_laws.proofs.Found.{has_is}
+use Rattle.acd_laws.proofs.State.{groups_total, stations_total, agents_total, calls_total, connections_total, monitors_total, is_group_any, is_station_any, has_is}
 
 -- words
 

@@ -18,8 +18,7 @@ use Rattle.acd_laws.proofs.Facts.{Rules, IsPlannedStation, SeatedAs, AgentRule, 
 use Rattle.acd_laws.specs.Orders.{Orders}
 use Rattle.acd_laws.proofs.Lists.{every_among, every_from, counted, fewer, two_counted, count_zero, some_from, some_is, any_some}
 use Rattle.acd_laws.proofs.Keyed.{eqb_self}
-use Rattle.acd_laws.proofs.State.{call_among, call_key, call_found, is_station_any}
-use Rattle.acd_laws.proofs.Found.{agent_seat, none_of_call}
+use Rattle.acd_laws.proofs.State.{call_among, call_key, call_found, is_station_any, agent_seat, none_of_call}
 use Rattle.acd_laws.proofs.KeptOffer.{ringing_is, talking_is}
 use Rattle.acd_laws.proofs.States.{initiated_is, busy_is}
 use Rattle.acd_laws.proofs.Releasing.{serving, alerting_or_answered}

@@ -7,9 +7,8 @@ use Rattle.acd_terms.specs.Services.Serve.{serve}
 use Rattle.acd_terms.specs.Step.{numbered, step_moves}
 use Rattle.acd_laws.proofs.Types.{Rows, Figures, Command, Event, Move}
 use Rattle.acd_laws.proofs.Facts.{Rules}
-use Rattle.acd_laws.proofs.Tells.{shown, seat}
+use Rattle.acd_laws.proofs.Told.{shown, seat, after-append, shown_after, seat_after}
 use Rattle.acd_laws.proofs.CountedEvents.{figures_joined}
-use Rattle.acd_laws.proofs.Told.{after-append, shown_after, seat_after}
 use Rattle.acd_laws.proofs.Balance.{holding, balanced_events}
 use Rattle.acd_laws.proofs.Order.{Ordered, ordered_on}
 use Rattle.acd_laws.proofs.SoundMoves.{Sound}

@@ -1,7 +1,7 @@
 -- The rules are kept by setAgentState, and by the end of after-call work.
 use Rattle.std.proofs.Common.{◌≡◌, ℕ, ◌+◌, ◌≤◌, ◌⊎◌, inl, inr, Bool, true, false, not, ◌&&◌, Option, Some, None, refl, sym, ◌∙◌, ap, subst, arith, eq-eqb}
 use Rattle.std.specs.Prelude.{◌==◌, IsTrue, is_some, find}
-use Rattle.std.proofs.lemmas.Bool.{and_parts, and_from, eqb-true, false_from_ne_true, and_right, cases_eq}
+use Rattle.std.proofs.lemmas.Bool.{and_parts, and_from, eqb-true, false_from_ne_true, cases_eq}
 use Rattle.acd_laws.proofs.Types.{Rows, AgentRecord, ConnectionRecord, AgentState, Pending}
 use Rattle.acd_terms.specs.declared.state.AgentState.TheVariants as A
 use Rattle.acd_terms.specs.declared.moves.Change.TheVariants.{PutAgent}
@@ -14,13 +14,12 @@ use Rattle.acd_terms.specs.AgentMoves.{in_state, go_to, go_from, log_on_at}
 use Rattle.acd_terms.specs.Rules.Plan.{agent_order}
 use Rattle.acd_laws.proofs.Facts.{Rules, IsPlannedStation, IsPlannedGroup, SeatedAs, AgentRule, ConnectionRule, ringing_at, seated_at, ready_at, busy_at, pending_at}
 use Rattle.acd_terms.specs.OneOffer.{is_distributed_at}
-use Rattle.acd_laws.proofs.Lists.{one, find_passes, find_among, find_none, any_found, ascending-put, every_among, every-put, counted, fewer, two_counted, both_fewer, count_zero, some_from}
+use Rattle.acd_laws.proofs.Lists.{one, find_passes, find_among, find_none, any_found, ascending-put, every_among, every-put, counted, two_counted, count_zero, some_from}
 use Rattle.acd_laws.proofs.Keyed.{eqb_self}
-use Rattle.acd_laws.proofs.State.{agents_total, agent_among}
-use Rattle.acd_laws.proofs.Found.{count_agent, has_is, agent_seat}
+use Rattle.acd_laws.proofs.State.{agents_total, agent_among, count_agent, has_is, agent_seat}
 use Rattle.acd_laws.proofs.KeptOffer.{unoccupied}
-use Rattle.acd_laws.proofs.Keeping.{with_agents}
-use Rattle.acd_laws.proofs.Releasing.{serving, loosen, left_keeps, left_state, settled_at, settled_is, pending_or_settled, alerting_or_answered}
+use Rattle.acd_laws.proofs.Arriving.{with_agents, lone}
+use Rattle.acd_laws.proofs.Releasing.{serving, loosen, left_keeps, left_state, alerting_or_answered}
 use Rattle.acd_terms.specs.Tick.{rest_moves}
 use Rattle.acd_laws.proofs.States.{null_is}
 
@@ -63,22 +62,13 @@ occupied_counts s a d e at_d =
 may_wait : (s : Rows) (a : AgentRecord) (d : ℕ) → Rules s → agent_of s a.agent ≡ Some a → is_occupied s a ≡ true
     → count (pending_at d) s.agents + one (has a.station d) ≤ count (is_distributed_at d) s.connections + one (pending_at d a)
 may_wait s a d r there occupied =
-    let o = r.one_agent d in
     let p = r.pending d refl in
     (elim (has a.station d) as (λ b. has a.station d ≡ b → count (pending_at d) s.agents + one b ≤ count (is_distributed_at d) s.connections + one (is_some a.pending && b)) [
       | true ↦ λ q. let c = occupied_counts s a d occupied q in
-          (elim (is_some a.pending) as (λ b. is_some a.pending ≡ b → count (pending_at d) s.agents + 1 ≤ count (is_distributed_at d) s.connections + one (b && true)) [
-            | true ↦ λ w. let f = fewer (pending_at d) (seated_at d) (λ z v. (and_parts (is_some z.pending) (has z.station d) v).1) s.agents in omega (arith, o, f, c)
-            | false ↦ λ w.
-                let k = counted (settled_at d) s.agents a (agent_among s a.agent a there) (settled_is a d (none_of a.pending w) q) in
-                let f = both_fewer (pending_at d) (settled_at d) (seated_at d) (pending_or_settled d) s.agents in omega (arith, o, f, k, c)
-          ]) refl
-      | false ↦ λ q. let z : one (is_some a.pending && false) ≡ 0 = ap one (and_right (is_some a.pending) false refl) in omega (arith, p)
+          let o = lone (pending_at d) (seated_at d) s.agents a (λ z v. (and_parts (is_some z.pending) (has z.station d) v).1) (agent_among s a.agent a there) q (r.one_agent d) in
+          let w : one (pending_at d a) ≡ one (is_some a.pending && true) = ap (λ b. one (is_some a.pending && b)) q in omega (arith, o, c, w)
+      | false ↦ λ q. omega (arith, p)
     ]) refl
-  where
-    none_of : (o : Option Pending) → is_some o ≡ false → o ≡ None
-    none_of None e = refl
-    none_of (Some w) e = absurd (cc (e))
 
 -- an occupied agent is asked: the pending state alone changes
 pub kept_wait : (s : Rows) (a : AgentRecord) (w : Pending) → Rules s → agent_of s a.agent ≡ Some a → is_null a.state ≡ false → is_occupied s a ≡ true → Rules (changed s (PutAgent (record a { pending = Some w })))

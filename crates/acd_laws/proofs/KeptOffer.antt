@@ -17,10 +17,8 @@ use Rattle.acd_terms.specs.Rules.Calls.{is_open, parties_of, initiated_of, open_
 use Rattle.acd_terms.specs.OneOffer.{is_distributed_at}
 use Rattle.acd_laws.proofs.Lists.{one, any_some, ascending-put, ascending-remove, every_among, every-put, every-remove, counted, none_counted, fewer, two_counted, none_from}
 use Rattle.acd_laws.proofs.Keyed.{eqb_self}
-use Rattle.acd_laws.proofs.State.{connections_total, found_key, connection_among, still_none}
-use Rattle.acd_laws.proofs.Found.{count_new, count_less, connection_rule}
-use Rattle.acd_laws.proofs.Arriving.{idle_counts}
-use Rattle.acd_laws.proofs.Keeping.{with_connections, one_le, most_one}
+use Rattle.acd_laws.proofs.State.{connections_total, found_key, connection_among, still_none, count_new, count_less, connection_rule}
+use Rattle.acd_laws.proofs.Arriving.{idle_counts, with_connections, one_le, most_one}
 use Rattle.acd_terms.specs.Distribution.{offer_at}
 use Rattle.acd_laws.proofs.States.{queued_is, ready_is}
 

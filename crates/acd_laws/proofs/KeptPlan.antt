@@ -13,9 +13,9 @@ use Rattle.acd_terms.specs.Scans.{at_monitor, group_of, station_of, agent_of, ca
 use Rattle.acd_terms.specs.Writes.{with_group, with_station, with_agent, with_monitor, without_monitor}
 use Rattle.acd_terms.specs.Moves.{changed}
 use Rattle.acd_terms.specs.Rules.Plan.{group_order, station_order, agent_order, monitor_order}
-use Rattle.acd_laws.proofs.Facts.{Rules, IsPlannedStation, IsPlannedGroup, SeatedAs, AgentRule, CallRule, GroupColumn, IsCaller, StandsAt, ConnectionRule, seated_at, ready_at, busy_at, pending_at}
+use Rattle.acd_laws.proofs.Facts.{Rules, IsPlannedStation, IsPlannedGroup, SeatedAs, AgentRule, CallRule, IsCaller, StandsAt, ConnectionRule, seated_at, ready_at, busy_at, pending_at}
 use Rattle.acd_laws.proofs.Lists.{one, any_some, ascending-put, ascending-remove, count-put_new, every_among, every_from, every-put, count_zero}
-use Rattle.acd_laws.proofs.Keeping.{with_agents}
+use Rattle.acd_laws.proofs.Arriving.{rule_more, with_agents}
 use Rattle.acd_laws.proofs.Keyed.{cmp_equal}
 use Rattle.acd_laws.proofs.State.{groups_total, stations_total, agents_total, monitors_total, agent_find, group_put, station_put, call_among}
 use Rattle.acd_terms.specs.Services.{new_agent}
@@ -44,7 +44,7 @@ nobody_at s d r free z a =
     cases S.Connected e g t f (inr h) = caller (call_of s z.call) refl e f h.1
     cases _ e g t f h = cc (subst (λ v. is_station s v ≡ true) e h, t)
 
--- seats and columns with more devices planned
+-- seats with more devices planned
 more_station : (s t : Rows) → ((d : ℕ) → IsTrue (is_station s d) → IsTrue (is_station t d)) → (o : Option ℕ) → IsPlannedStation s o → IsPlannedStation t o
 more_station s t f None h = h
 more_station s t f (Some d) h = f d h
@@ -56,18 +56,6 @@ more_group s t f (Some d) h = f d h
 more_seat : (s t : Rows) → ((d : ℕ) → IsTrue (is_station s d) → IsTrue (is_station t d)) → ((d : ℕ) → IsTrue (is_group s d) → IsTrue (is_group t d)) → (a : AgentRecord) (st : AgentState) → SeatedAs s a st → SeatedAs t a st
 more_seat s t f g a A.Null h = h
 more_seat s t f g a _ h = (more_station s t f a.station h.0, more_group s t g a.group h.1)
-
-more_column : (s t : Rows) → ((d : ℕ) → IsTrue (is_group s d) → IsTrue (is_group t d)) → (o : Option ℕ) → GroupColumn s o → GroupColumn t o
-more_column s t g None h = tt
-more_column s t g (Some d) h = g d h
-
-more_stands : (s t : Rows) → ((d : ℕ) → IsTrue (is_station s d) → IsTrue (is_station t d)) → ((d : ℕ) → IsTrue (is_group s d) → IsTrue (is_group t d)) → (z : ConnectionRecord) → call_of t z.call ≡ call_of s z.call
-    → (is_planned s z.device ≡ false → is_planned t z.device ≡ false) → (st : ConnectionState) → StandsAt s z st → StandsAt t z st
-more_stands s t f g z c p S.Queued h = g z.device h
-more_stands s t f g z c p S.Initiated h = (f z.device h.0, subst (λ o. IsCaller o z.device) (sym c) h.1)
-more_stands s t f g z c p S.Connected (inl h) = inl (f z.device h)
-more_stands s t f g z c p S.Connected (inr h) = inr (p h.0, subst (λ o. IsCaller o z.device) (sym c) h.1)
-more_stands s t f g z c p _ h = f z.device h
 
 -- a group is planned
 pub kept_group : (s : Rows) (g : GroupRecord) → Rules s → is_used s g.device ≡ false → Rules (changed s (PutGroup g))
@@ -88,8 +76,8 @@ kept_group s g r free =
         h.2,
         other c.caller (any_false (λ (c : CallRecord). c.caller == g.device) s.calls f.1 c i) ∙ h.3,
       ));
-      connections = every_from (ConnectionRule t) s.connections (λ z i. let h = every_among (ConnectionRule s) s.connections z r.connections i in
-          (h.0, more_column s t more z.group h.1, more_stands s t (λ d w. w) more z refl (λ w. ap (λ b. b || is_station s z.device) (other z.device (nobody_at s g.device r free z i)) ∙ w) z.state h.2));
+      connections = every_from (ConnectionRule t) s.connections (λ z i.
+          rule_more s t (λ d w. w) more z (λ k. k) (λ w. ap (λ b. b || is_station s z.device) (other z.device (nobody_at s g.device r free z i)) ∙ w) (every_among (ConnectionRule s) s.connections z r.connections i));
       parties = r.parties;
       one_open = r.one_open;
       one_live = r.one_live;
@@ -119,8 +107,8 @@ kept_station s g r free =
       agents = every_from (AgentRule t) s.agents (λ a i. more_seat s t more (λ d h. h) a a.state (every_among (AgentRule s) s.agents a r.agents i));
       calls = every_from (CallRule t) s.calls (λ c i. let h = every_among (CallRule s) s.calls c r.calls i in
           (h.0, (elim (or_cases (is_group s c.called) (is_station s c.called) h.1) [ inl w ↦ or_left _ _ w | inr w ↦ or_right (is_group s c.called) _ (more c.called w) ]), h.2, h.3));
-      connections = every_from (ConnectionRule t) s.connections (λ z i. let h = every_among (ConnectionRule s) s.connections z r.connections i in
-          (h.0, h.1, more_stands s t more (λ d w. w) z refl (λ w. ap (λ b. is_group s z.device || b) (other z.device (nobody_at s g.device r free z i)) ∙ w) z.state h.2));
+      connections = every_from (ConnectionRule t) s.connections (λ z i.
+          rule_more s t more (λ d w. w) z (λ k. k) (λ w. ap (λ b. is_group s z.device || b) (other z.device (nobody_at s g.device r free z i)) ∙ w) (every_among (ConnectionRule s) s.connections z r.connections i));
       parties = r.parties;
       one_open = r.one_open;
       one_live = λ d h. elim (or_cases (g.device == d) (is_station s d) (sym (station_put s g d) ∙ h)) [ inl e ↦ (let z = empty is_live d e in omega (arith, z)) | inr w ↦ r.one_live d w ];

@@ -11,13 +11,12 @@ use Rattle.acd_laws.proofs.Facts.{Rules}
 use Rattle.acd_terms.specs.Rules.Calls.{parties_of}
 use Rattle.acd_laws.proofs.Lists.{one, filter_among, counted, fewer, count_length}
 use Rattle.acd_laws.proofs.Keyed.{eqb_self}
-use Rattle.acd_laws.proofs.State.{call_among, call_key}
+use Rattle.acd_laws.proofs.State.{call_among, call_key, none_of_call}
 use Rattle.acd_terms.specs.Limits.{limits_fit}
 use Rattle.acd_terms.specs.Choice.{offer_of}
 use Rattle.acd_terms.specs.Distribution.{offer_at, offer_moves, with_offer, offers, distribution, station_of_agent}
 use Rattle.acd_terms.specs.Tick.{return_to, return_moves, rest_moves, each, is_overdue, overdue_in, is_rested, rested_in, returns, rests, tick}
-use Rattle.acd_laws.proofs.Found.{none_of_call}
-use Rattle.acd_laws.proofs.KeptClearing.{two_le}
+use Rattle.acd_laws.proofs.KeptEnds.{two_le}
 use Rattle.acd_laws.proofs.Steady.{count_all}
 use Rattle.acd_laws.proofs.Decided.{◌and◌, within}
 

@@ -16,7 +16,7 @@ use Rattle.acd_terms.specs.Rules.Plan.{connection_order}
 use Rattle.acd_laws.proofs.Types.{Rows, ConnectionRecord, Event, Move, Report}
 use Rattle.acd_terms.specs.declared.state.ConnectionState.TheVariants as S
 use Rattle.acd_terms.specs.Rules.Calls.{is_open}
-use Rattle.acd_laws.proofs.Tells.{HasEntries, UpTo}
+use Rattle.acd_laws.proofs.Told.{HasEntries, UpTo}
 use Rattle.acd_laws.proofs.Lists.{one, some_is, among_put}
 use Rattle.acd_terms.proofs.MoveLemmas.{moved_append, events_of_append}
 use Rattle.acd_laws.proofs.CountedEvents.{numbered-append}

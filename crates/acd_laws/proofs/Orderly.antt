@@ -15,13 +15,11 @@ use Rattle.acd_terms.specs.AgentMoves.{state_report}
 use Rattle.acd_terms.specs.Figures.{is_entry}
 use Rattle.acd_terms.specs.Rules.Plan.{connection_order}
 use Rattle.acd_laws.proofs.Facts.{AgentTimed, CallTimed, IsPlace, IsMoment, ConnectionTimed, at_place, Timed}
+use Rattle.acd_laws.proofs.Frames.{LeavesConnections, left_connections}
 use Rattle.acd_laws.proofs.Lists.{one, count-put_most, count-remove_most, every_among, every-put, every-remove}
-use Rattle.acd_laws.proofs.State.{agent_among, connection_among}
-use Rattle.acd_laws.proofs.Found.{count_old}
-use Rattle.acd_laws.proofs.AgentMoves.{AgentMove, stays, waits, tells, Recorded}
-use Rattle.acd_laws.proofs.Arrivals.{Arrival, queues, alerts, fails, arrival_of}
+use Rattle.acd_laws.proofs.State.{agent_among, connection_among, count_old}
+use Rattle.acd_laws.proofs.MoveKinds.{AgentMove, stays, waits, tells, Recorded, Arrival, queues, alerts, fails, arrival_of}
 use Rattle.acd_laws.proofs.Balance.{entries, entry_by}
-use Rattle.acd_laws.proofs.SoundMoves.{LeavesConnections, left_connections}
 use Rattle.acd_laws.proofs.Steady.{Steady, knows}
 
 -- the record that is put has its stamp, moments and place within bounds

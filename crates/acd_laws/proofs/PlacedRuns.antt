@@ -1,25 +1,111 @@
--- Where each call stands, how often it was cleared and which calls events name: by each step, and after every run.
-use Rattle.std.proofs.Common.{ℕ, ◌+◌, true, ◌&&◌, List, [], ◌++◌, refl, sym, ◌∙◌, ap, subst, length}
-use Rattle.std.proofs.lemmas.Bool.{lt-leb}
-use Rattle.acd_terms.specs.Lists.{Every}
-use Rattle.acd_terms.specs.Scans.{call_of}
-use Rattle.acd_terms.specs.Placed.{cleared_by, IsPlaced}
+-- Where each call stands, how often it was cleared and which calls events name: of a state, by each step, and after every run.
+use Rattle.std.proofs.Common.{◌≡◌, ℕ, ◌+◌, ◌≤◌, ◌⊎◌, inl, inr, Bool, true, false, ◌&&◌, List, Some, None, refl, sym, ◌∙◌, ap, subst, arith, [], ◌++◌, length, ◌<◌, Option}
+use Rattle.std.specs.Prelude.{◌==◌, is_some, is_none, nat_le}
+use Rattle.std.proofs.lemmas.Bool.{and_parts, and_from, eqb-true, false_from_ne_true, le-leb, lt-leb}
+use Rattle.acd_terms.specs.Lists.{Among, count, Every}
+use Rattle.acd_terms.specs.States.{is_queued, is_alerting, is_initiated}
+use Rattle.acd_terms.specs.Scans.{call_of, is_group, is_station}
+use Rattle.acd_terms.specs.Placed.{cleared_by, is_queued_of, is_alerting_of, IsCleared, IsWaiting, IsAtDevices, IsPlaced, clears}
+use Rattle.acd_laws.proofs.Types.{Rows, Limits, CallRecord, ConnectionRecord, ConnectionState, Command, Event, Move, Report}
+use Rattle.acd_terms.specs.declared.state.ConnectionState.TheVariants as S
+use Rattle.acd_laws.proofs.Facts.{Rules, ConnectionRule, IsCaller, StandsAt, two_if}
+use Rattle.acd_terms.specs.Rules.Calls.{is_open, parties_of, initiated_of, open_of}
+use Rattle.acd_laws.specs.PlacedLaws.{KeepsClearings, PlacesExclude, NamesNoLaterCall, RunNamesNoLaterCall, RunIsPlaced, IsUpTo, clearings}
+use Rattle.acd_laws.proofs.Lists.{one, every_among, counted, fewer, both_fewer, count_zero}
+use Rattle.acd_laws.proofs.Decided.{zero_or}
 use Rattle.acd_terms.specs.Figures.{with_figures}
 use Rattle.acd_terms.specs.Writes.{empty_rows, with_last}
 use Rattle.acd_terms.specs.Moves.{moved, events_of}
 use Rattle.acd_terms.specs.Services.Serve.{serve}
 use Rattle.acd_terms.specs.Step.{executed_moment, next_stamp, step_moves, step}
-use Rattle.acd_laws.proofs.Types.{Rows, Limits, Command, Event, Move}
-use Rattle.acd_laws.proofs.Facts.{Rules}
-use Rattle.acd_laws.specs.PlacedLaws.{NamesNoLaterCall, KeepsClearings, RunNamesNoLaterCall, RunIsPlaced}
-use Rattle.acd_laws.proofs.Lists.{one}
 use Rattle.acd_laws.proofs.Ticking.{Kept}
 use Rattle.acd_laws.proofs.ByDeeds.{by_deeds}
 use Rattle.acd_laws.proofs.Ended.{rules_step, ended}
 use Rattle.acd_laws.proofs.Runs.{kept_by_run, rules_first, KeptByRules}
 use Rattle.acd_laws.proofs.Known.{AllCounted, Named, SameCalls, same_clearings, clearings_moved, clearings_numbered, names_moved, names_numbered}
-use Rattle.acd_laws.proofs.ClearedBy.{counted_deed, counted_round}
-use Rattle.acd_laws.proofs.Placed.{placed_from}
+use Rattle.acd_laws.proofs.Cleared.{counted_deed, counted_round}
+use Rattle.std.proofs.lemmas.Bool.Decides.{leb_tells}
+use Rattle.acd_terms.specs.Columns.{columns_of}
+use Rattle.acd_terms.specs.declared.event.Report.TheVariants as report
+
+queued_or_alerting : (c : ℕ) (x : ConnectionRecord) → one (is_queued_of c x) + one (is_alerting_of c x) ≤ one (open_of c x)
+queued_or_alerting c x = go x.state (x.call == c)
+  where
+    go : (st : ConnectionState) (b : Bool) → one (b && is_queued st) + one (b && is_alerting st) ≤ one (is_open st && b)
+    go S.Queued true = omega arith
+    go S.Queued false = omega arith
+    go S.Alerting true = omega arith
+    go S.Alerting false = omega arith
+    go S.Fail true = omega arith
+    go S.Fail false = omega arith
+    go S.Initiated true = omega arith
+    go S.Initiated false = omega arith
+    go S.Connected true = omega arith
+    go S.Connected false = omega arith
+    go S.Hold true = omega arith
+    go S.Hold false = omega arith
+
+-- a connection that isn't queued stands at a station or at the caller
+at_device : (s : Rows) (x : ConnectionRecord) (k : CallRecord) (st : ConnectionState) → StandsAt s x st → is_queued st ≡ false → call_of s x.call ≡ Some k → (x.device ≡ k.caller) ⊎ (is_station s x.device ≡ true)
+at_device s x k S.Queued h e q = absurd (cc (e))
+at_device s x k S.Initiated h e q = inr h.0
+at_device s x k S.Alerting h e q = inr h
+at_device s x k S.Hold h e q = inr h
+at_device s x k S.Fail h e q = inr h
+at_device s x k S.Connected (inl h) e q = inr h
+at_device s x k S.Connected (inr h) e q = inl (sym (subst (λ o. IsCaller o x.device) q h.1))
+
+at_queue : (s : Rows) (x : ConnectionRecord) (st : ConnectionState) → StandsAt s x st → is_queued st ≡ true → is_group s x.device ≡ true
+at_queue s x S.Queued h e = h
+at_queue s x _ h e = absurd (cc (e))
+
+-- a live call waits in one queue, or is at devices
+placed_live : (s : Rows) (events : List Event) (c : ℕ) (k : CallRecord) → Rules s → call_of s c ≡ Some k → cleared_by c events ≡ 0 → IsWaiting s events c ⊎ IsAtDevices s events c
+placed_live s events c k r live never =
+    let open_le = r.one_open c in
+    let both = both_fewer (is_queued_of c) (is_alerting_of c) (open_of c) (queued_or_alerting c) s.connections in
+    let rule : (x : ConnectionRecord) → Among x s.connections → ConnectionRule s x = λ x a. every_among (ConnectionRule s) s.connections x r.connections a in
+    elim (zero_or (count (is_queued_of c) s.connections)) [
+      | inr m ↦ inl (record {
+        live = k;
+        there = live;
+        never = never;
+        once = omega (arith, m, both, open_le);
+        at_group = λ x a e. at_queue s x x.state (rule x a).2 (and_parts (x.call == c) (is_queued x.state) e).1;
+        silent = omega (arith, m, both, open_le);
+      })
+      | inl z ↦ inr (record {
+        live = k;
+        there = live;
+        never = never;
+        some =
+            let p = r.parties c in
+            let f = fewer (initiated_of c) (parties_of c) (λ w h. (and_parts (is_initiated w.state) (w.call == c) h).1) s.connections in
+            let t : two_if (is_some (call_of s c)) ≡ 2 = rw live refl in
+            omega (arith, p, f, t);
+        none_queued = z;
+        at_devices = λ x a q.
+            let same : x.call ≡ c = eqb-true x.call c q in
+            at_device s x k x.state (rule x a).2
+            (false_from_ne_true (is_queued x.state) (λ e. let n = counted (is_queued_of c) s.connections x a (and_from (x.call == c) (is_queued x.state) q e) in omega (arith, n, z)))
+            (ap (call_of s) same ∙ live);
+      })
+    ]
+
+pub placed_from : (s : Rows) (events : List Event) → Rules s → KeepsClearings s events → IsPlaced s events
+placed_from s events r h c pos le =
+    (elim (call_of s c) as (λ o. call_of s c ≡ o → cleared_by c events ≡ one (nat_le c s.last_call && is_none o) → IsCleared s events c ⊎ IsWaiting s events c ⊎ IsAtDevices s events c) [
+      | None ↦ λ e q. inl (record { ended = e; once = q ∙ rw (le-leb c s.last_call le) refl })
+      | Some k ↦ λ e q. inr (placed_live s events c k r e (q ∙ none_if (nat_le c s.last_call)))
+    ]) refl (h c pos)
+  where
+    none_if : (b : Bool) → one (b && false) ≡ 0
+    none_if true = refl
+    none_if false = refl
+
+-- the three ways exclude one another
+pub places_exclude : PlacesExclude
+places_exclude s events c = (λ a b. cc (a.ended, b.there), λ a b. cc (a.ended, b.there), λ a b. let e = a.once in let z = b.none_queued in absurd (omega (arith, e, z)))
 
 -- what counted moves keep, deeds and rounds keep, and so a step's moves
 moves_keep : (P : Rows → List Event → Type 0) (m k : ℕ) → ((s : Rows) (es : List Event) (ms : List Move) → AllCounted s ms → P s es → Kept P m s es ms)
@@ -85,3 +171,33 @@ run_names_no_later_call limits asked = (kept_by_run History history_step limits 
 
 pub run_is_placed : RunIsPlaced
 run_is_placed limits asked = let h = kept_by_run History history_step limits (history_first limits) asked in placed_from _ _ h.rules h.cleared
+
+-- a report that names no call above the last clears none there
+clears_none : (last c : ℕ) (r : Report) → last < c → IsUpTo last (columns_of r).call → clears c r ≡ false
+clears_none last c (report.CallCleared n g) l h = false_from_ne_true (n == c) (λ e. let q = eqb-true n c e in absurd (omega (arith, l, h, q)))
+clears_none last c _ l h = refl
+
+never_cleared : (s : Rows) (events : List Event) (c : ℕ) → NamesNoLaterCall s events → s.last_call < c → cleared_by c events ≡ 0
+unfolding cleared_by
+never_cleared s events c h l =
+    count_zero (λ (e : Event). clears c e.report) events
+    (λ e i. clears_none s.last_call c e.report l (every_among (λ (e : Event). IsUpTo s.last_call (columns_of e.report).call) events e h i))
+
+-- where each call stands tells how often it was cleared
+cleared_as_placed : (s : Rows) (events : List Event) → NamesNoLaterCall s events → IsPlaced s events → KeepsClearings s events
+cleared_as_placed s events names placed c above =
+    elim (leb_tells c s.last_call) [
+      | inr w ↦ never_cleared s events c names w.1 ∙ sym (ap (λ b. one (b && is_none (call_of s c))) w.0)
+      | inl w ↦ elim (placed c above w.1) [
+        | inl p ↦ p.once ∙ sym (found w.0 p.ended)
+        | inr (inl p) ↦ p.never ∙ sym (found w.0 p.there)
+        | inr (inr p) ↦ p.never ∙ sym (found w.0 p.there)
+      ]
+    ]
+  where
+    found : {o : Option CallRecord} → nat_le c s.last_call ≡ true → call_of s c ≡ o → clearings s c ≡ one (is_none o)
+    found l e = rw (l, e) refl
+
+pub step_keeps_places : (s : Rows) (events : List Event) (moment : ℕ) (command : Command) → Rules s → NamesNoLaterCall s events → IsPlaced s events
+    → IsPlaced (step s moment command).rows (events ++ (step s moment command).events)
+step_keeps_places s events moment command r names placed = step_places s events moment command r (cleared_as_placed s events names placed)

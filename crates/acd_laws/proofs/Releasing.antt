@@ -19,12 +19,11 @@ use Rattle.acd_terms.specs.Release.{release_of, released, release_agent, ending_
 use Rattle.acd_terms.specs.Rules.Plan.{agent_order}
 use Rattle.acd_laws.proofs.Facts.{RulesBut, Rules, IsPlannedStation, IsPlannedGroup, SeatedAs, AgentRule, HasColumns, ConnectionRule, ringing_at, talking_at, seated_at, ready_at, busy_at, pending_at}
 use Rattle.acd_terms.specs.OneOffer.{is_distributed_at}
-use Rattle.acd_laws.proofs.Lists.{one, ascending-put, every_among, every-put, among-put, counted, fewer, both_fewer, the_one, some_counted, some_from}
+use Rattle.acd_laws.proofs.Lists.{one, ascending-put, every_among, every-put, counted, fewer, the_one, some_counted, some_from}
 use Rattle.acd_laws.proofs.Keyed.{eqb_self}
-use Rattle.acd_laws.proofs.State.{agents_total, agent_among}
-use Rattle.acd_laws.proofs.Found.{count_agent, agent_seat, agent_there}
-use Rattle.acd_laws.proofs.AgentMoves.{releases, agent_others}
-use Rattle.acd_laws.proofs.Keeping.{with_agents}
+use Rattle.acd_laws.proofs.State.{agents_total, agent_among, count_agent, agent_seat, agent_there}
+use Rattle.acd_laws.proofs.MoveKinds.{releases, agent_others}
+use Rattle.acd_laws.proofs.Arriving.{with_agents, lone}
 use Rattle.acd_laws.proofs.KeptOffer.{ringing_is, talking_is}
 use Rattle.acd_laws.proofs.States.{ready_is}
 
@@ -50,52 +49,26 @@ left_state s a A.Null m k n h = record { agent = refl; rule = (refl, refl, refl)
 left_state s a A.Busy m k n h = absurd (cc (n))
 left_state s a _ m k n h = record { agent = refl; rule = h; station = λ e q. q; not_busy = refl; settled = refl }
 
-pub wanted_not_busy : (w : Pending) (st : AgentState) → state_wanted w ≡ st → is_busy st ≡ false
-wanted_not_busy W.LoggedOff st e = rw (← e) refl
-wanted_not_busy _ st e = rw (← e) refl
+pub wanted_not_busy : (w : Pending) → is_busy (state_wanted w) ≡ false
+wanted_not_busy W.LoggedOff = refl
+wanted_not_busy _ = refl
 
-goes_is : (p q : AgentState) → Goes p ≡ Goes q → p ≡ q
-goes_is p q e = cc
+-- a release leads to no busy state
+abbrev NotBusy : Release → Type 0
+NotBusy Stays = Unit {0}
+NotBusy (Goes st) = is_busy st ≡ false
 
-pub release_not_busy : (how : Ending) (w : Option Pending) (st : AgentState) → release_of how w ≡ Goes st → is_busy st ≡ false
-release_not_busy Answered None st e = rw (← goes_is _ _ e) refl
-release_not_busy Unanswered None st e = absurd (cc (e))
-release_not_busy NoAnswer None st e = rw (← goes_is _ _ e) refl
-release_not_busy Answered (Some w) st e = wanted_not_busy w st (wanted w e)
-  where
-    wanted : (v : Pending) → release_of Answered (Some v) ≡ Goes st → state_wanted v ≡ st
-    wanted W.LoggedOff q = goes_is _ _ q
-    wanted _ q = goes_is _ _ q
-release_not_busy Unanswered (Some W.Ready) st e = absurd (cc (e))
-release_not_busy Unanswered (Some W.LoggedOff) st e = rw (← goes_is _ _ e) refl
-release_not_busy Unanswered (Some W.NotReady) st e = rw (← goes_is _ _ e) refl
-release_not_busy Unanswered (Some W.WorkingAfterCall) st e = rw (← goes_is _ _ e) refl
-release_not_busy NoAnswer (Some W.LoggedOff) st e = rw (← goes_is _ _ e) refl
-release_not_busy NoAnswer _ st e = rw (← goes_is _ _ e) refl
-
--- at a station and not busy
-still_at : ℕ → AgentRecord → Bool
-still_at e z = not (is_busy z.state) && has z.station e
-
-still : (z : AgentRecord) (e : ℕ) → is_busy z.state ≡ false → has z.station e ≡ true → still_at e z ≡ true
-unfolding still_at
-still z e f q = and_from _ _ (ap not f) q
-
-busy_or_still : (e : ℕ) (z : AgentRecord) → one (busy_at e z) + one (still_at e z) ≤ one (seated_at e z)
-unfolding still_at
-busy_or_still e z = elim (is_busy z.state) as (λ b. one (b && has z.station e) + one (not b && has z.station e) ≤ one (has z.station e)) [ true ↦ omega arith | false ↦ omega arith ]
-
--- at a station and waiting for nothing
-pub settled_at : ℕ → AgentRecord → Bool
-settled_at e z = not (is_some z.pending) && has z.station e
-
-pub settled_is : (z : AgentRecord) (e : ℕ) → z.pending ≡ None → has z.station e ≡ true → settled_at e z ≡ true
-unfolding settled_at
-settled_is z e f q = and_from _ _ (rw f refl) q
-
-pub pending_or_settled : (e : ℕ) (z : AgentRecord) → one (pending_at e z) + one (settled_at e z) ≤ one (seated_at e z)
-unfolding settled_at
-pending_or_settled e z = elim (is_some z.pending) as (λ b. one (b && has z.station e) + one (not b && has z.station e) ≤ one (has z.station e)) [ true ↦ omega arith | false ↦ omega arith ]
+release_not_busy : (how : Ending) (w : Option Pending) → NotBusy (release_of how w)
+release_not_busy Answered None = refl
+release_not_busy Answered (Some W.LoggedOff) = refl
+release_not_busy Answered _ = refl
+release_not_busy Unanswered None = tt
+release_not_busy Unanswered (Some W.Ready) = tt
+release_not_busy Unanswered (Some W.LoggedOff) = refl
+release_not_busy Unanswered _ = refl
+release_not_busy NoAnswer None = refl
+release_not_busy NoAnswer (Some W.LoggedOff) = refl
+release_not_busy NoAnswer _ = refl
 
 -- one agent's record is put, at a station where no connection is distributed
 pub left_keeps : (loose : ℕ → Bool) (v : Rows) (a b : AgentRecord) (d : ℕ) → RulesBut loose v → agent_of v a.agent ≡ Some a → a.station ≡ Some d → count (is_distributed_at d) v.connections ≡ 0 → Left v a b
@@ -114,26 +87,8 @@ left_keeps loose v a b d r there station vacant l =
       | true ↦ λ q. let f : one (seated_at e a) ≡ 1 = ap one (l.station e q) in let g : one (seated_at e b) ≡ 1 = ap one q in omega (arith, c, o, f, g)
       | false ↦ λ q. let g : one (seated_at e b) ≡ 0 = ap one q in omega (arith, c, o, g)
     ]) refl in
-    let none_busy : (e : ℕ) → (d == e) ≡ true → count (busy_at e) (put_by (agent_order b) v.agents b) ≡ 0 = λ e h.
-    let c = counts (seated_at e) in let o = r.one_agent e in let s1 = one_left e in
-    let here : one (seated_at e a) ≡ 1 = rw (station, h) refl in
-    (elim (has b.station e) as (λ x. has b.station e ≡ x → count (busy_at e) (put_by (agent_order b) v.agents b) ≡ 0) [
-      | true ↦ λ q.
-          let w = counted (still_at e) (put_by (agent_order b) v.agents b) b (among-put (agent_order b) b v.agents) (still b e l.not_busy q) in
-          let f = both_fewer (busy_at e) (still_at e) (seated_at e) (busy_or_still e) (put_by (agent_order b) v.agents b) in omega (arith, w, f, s1)
-      | false ↦ λ q. let g : one (seated_at e b) ≡ 0 = ap one q in
-          let f = fewer (busy_at e) (seated_at e) (λ z w. (and_parts (is_busy z.state) (has z.station e) w).1) (put_by (agent_order b) v.agents b) in omega (arith, c, o, here, g, f)
-    ]) refl in
-    let none_pending : (e : ℕ) → (d == e) ≡ true → count (pending_at e) (put_by (agent_order b) v.agents b) ≡ 0 = λ e h.
-    let c = counts (seated_at e) in let o = r.one_agent e in let s1 = one_left e in
-    let here : one (seated_at e a) ≡ 1 = rw (station, h) refl in
-    (elim (has b.station e) as (λ x. has b.station e ≡ x → count (pending_at e) (put_by (agent_order b) v.agents b) ≡ 0) [
-      | true ↦ λ q.
-          let w = counted (settled_at e) (put_by (agent_order b) v.agents b) b (among-put (agent_order b) b v.agents) (settled_is b e l.settled q) in
-          let f = both_fewer (pending_at e) (settled_at e) (seated_at e) (pending_or_settled e) (put_by (agent_order b) v.agents b) in omega (arith, w, f, s1)
-      | false ↦ λ q. let g : one (seated_at e b) ≡ 0 = ap one q in
-          let f = fewer (pending_at e) (seated_at e) (λ z w. (and_parts (is_some z.pending) (has z.station e) w).1) (put_by (agent_order b) v.agents b) in omega (arith, c, o, here, g, f)
-    ]) refl in
+    let none_left : (p : AgentRecord → Bool) (e : ℕ) → ((z : AgentRecord) → p z ≡ true → has z.station e ≡ true) → (d == e) ≡ true → p b ≡ false → count p (put_by (agent_order b) v.agents b) ≡ 0 = λ p e f h n.
+    let c = counts p in let o = lone p (seated_at e) v.agents a f (agent_among v a.agent a there) (rw (station, h) refl) (r.one_agent e) in let z : one (p b) ≡ 0 = ap one n in omega (arith, c, o, z) in
     with_agents loose (λ e. loose e && not (d == e)) v (put_by (agent_order b) v.agents b) r (λ e h. (and_parts (loose e) (not (d == e)) h).0) (record {
       sorted = ascending-put agent_order agents_total b v.agents r.orders.agents;
       rules = every-put (agent_order b) (AgentRule v) b l.rule v.agents r.agents;
@@ -148,14 +103,14 @@ left_keeps loose v a b d r there station vacant l =
       busy = λ e h.
           (elim (d == e) as (λ x. (d == e) ≡ x → count (talking_at e) v.connections ≡ count (busy_at e) (put_by (agent_order b) v.agents b)) [
             | true ↦ λ q. let z = nobody e q in let f = fewer (talking_at e) (is_distributed_at e) (talking_is e) v.connections in
-                let w = none_busy e q in omega (arith, z, f, w)
+                let w = none_left (busy_at e) e (λ z w. (and_parts (is_busy z.state) (has z.station e) w).1) q (rw l.not_busy refl) in omega (arith, z, f, w)
             | false ↦ λ q. let c = counts (busy_at e) in let o = r.busy e (tight e h q) in
                 let f : one (busy_at e a) ≡ 0 = ap one (and_right (is_busy a.state) (has a.station e) (elsewhere e q).0) in
                 let g : one (busy_at e b) ≡ 0 = ap one (and_right (is_busy b.state) (has b.station e) (elsewhere e q).1) in omega (arith, c, o, f, g)
           ]) refl;
       pending = λ e h.
           (elim (d == e) as (λ x. (d == e) ≡ x → count (pending_at e) (put_by (agent_order b) v.agents b) ≤ count (is_distributed_at e) v.connections) [
-            | true ↦ λ q. let w = none_pending e q in omega (arith, w)
+            | true ↦ λ q. let w = none_left (pending_at e) e (λ z w. (and_parts (is_some z.pending) (has z.station e) w).1) q (rw l.settled refl) in omega (arith, w)
             | false ↦ λ q. let c = counts (pending_at e) in let o = r.pending e (tight e h q) in
                 let f : one (pending_at e a) ≡ 0 = ap one (and_right (is_some a.pending) (has a.station e) (elsewhere e q).0) in
                 let g : one (pending_at e b) ≡ 0 = ap one (and_right (is_some b.pending) (has b.station e) (elsewhere e q).1) in omega (arith, c, o, f, g)
@@ -216,10 +171,10 @@ serving s x r among e =
 pub record Ends (x : ConnectionRecord) (how : Ending) : Type 0 where
   pub stays : is_distributed x ≡ true → (w : Option Pending) → release_of how w ≡ Stays → is_alerting x.state ≡ true
 
-left_by : (v : Rows) (a : AgentRecord) (to : Release) (m k d : ℕ) → AgentRule v a → IsPlannedStation v a.station × IsPlannedGroup v a.group → (to ≡ Stays → is_busy a.state ≡ false) → ((st : AgentState) → to ≡ Goes st → is_busy st ≡ false)
+left_by : (v : Rows) (a : AgentRecord) (to : Release) (m k d : ℕ) → AgentRule v a → IsPlannedStation v a.station × IsPlannedGroup v a.group → (to ≡ Stays → is_busy a.state ≡ false) → NotBusy to
     → (b : AgentRecord) × ((released m k a d to).change ≡ PutAgent b) × Left v a b
 left_by v a Stays m k d rule seat idle n = (record a { pending = None }, refl, record { agent = refl; rule = left_pending v a a.state rule; station = λ e q. q; not_busy = idle refl; settled = refl })
-left_by v a (Goes st) m k d rule seat idle n = (in_state st m k a, refl, left_state v a st m k (n st refl) seat)
+left_by v a (Goes st) m k d rule seat idle n = (in_state st m k a, refl, left_state v a st m k n seat)
 
 -- after a release at the device of x
 released_agent : (loose : ℕ → Bool) (v : Rows) (o : Option AgentRecord) (a : AgentRecord) (x : ConnectionRecord) (how : Ending) (m k : ℕ) → RulesBut loose v → o ≡ Some a → agent_of v a.agent ≡ Some a → a.station ≡ Some x.device

@@ -21,9 +21,9 @@ use Rattle.acd_terms.specs.Rules.Plan.{agent_order}
 use Rattle.acd_laws.proofs.Facts.{Rules, IsMoment, IsAfter, ConnectionTimed, at_place, Timed}
 use Rattle.acd_laws.proofs.Lists.{one, count-append, every-append}
 use Rattle.acd_laws.proofs.Balance.{entries, entry_by}
-use Rattle.acd_laws.proofs.Found.{count_less, connection_there}
+use Rattle.acd_laws.proofs.State.{count_less, connection_there}
 use Rattle.acd_laws.proofs.Ticking.{returned}
-use Rattle.acd_laws.proofs.AgentMoves.{Recorded, goes_from, releases_here}
+use Rattle.acd_laws.proofs.MoveKinds.{Recorded, goes_from, releases_here}
 use Rattle.acd_laws.proofs.Deeds.{offers, returns, rests}
 use Rattle.acd_laws.proofs.ByDeeds.{RoundKeeps, by_rounds, by_tick}
 use Rattle.acd_laws.proofs.Steady.{AllSteady, Steadied, steadied, steadied_then, unchanged}

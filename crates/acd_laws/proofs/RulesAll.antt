@@ -1,4 +1,4 @@
--- Rows that break no rule break none after a step.
+-- Rows that break no rule break none after a step; all laws together.
 use Rattle.std.proofs.Common.{◌≡◌, ℕ, ◌+◌, ◌*◌, ◌^◌, ◌<◌, ◌≤◌, ◌⊎◌, inl, inr, true, false, cond, List, [], ◌∷◌, Option, Some, None, refl, ◌∙◌, ap, subst, arith, length, map}
 use Rattle.std.specs.Prelude.{◌==◌}
 use Rattle.std.proofs.lemmas.Bool.{and_parts, eqb-true, false_from_ne_true}
@@ -25,16 +25,20 @@ use Rattle.acd_terms.specs.Run.{Asked, run}
 use Rattle.acd_laws.specs.RuleLaws.{StepKeepsRules, RunKeepsRules, RulesBound, RulesLeaveRoom}
 use Rattle.acd_laws.proofs.Balance.{holding}
 use Rattle.acd_laws.proofs.Following.{follows_step}
-use Rattle.acd_laws.proofs.WatchedRuns.{step_leaves_no_offer}
+use Rattle.acd_laws.proofs.WatchedRuns.{step_leaves_no_offer, step_keeps_watched, step_balances, run_is_watched, run_tells_no_more, run_is_balanced, run_leaves_no_offer}
 use Rattle.acd_laws.proofs.Runs.{rules_first}
 use Rattle.acd_laws.proofs.Steady.{IsNew}
 use Rattle.acd_laws.proofs.Orderly.{WaitsUpTo, timed_more}
 use Rattle.acd_laws.proofs.Rounds.{AllWait}
 use Rattle.acd_laws.proofs.Numbers.{greatest}
 use Rattle.acd_laws.proofs.BoundsStep.{After, Before, after_moves}
-use Rattle.acd_laws.proofs.DecidedAll.{keeps_read, requests_read, keeps_written}
+use Rattle.acd_laws.proofs.DecidedAll.{keeps_read, requests_read, keeps_written, rules_are_kept}
 use Rattle.acd_laws.proofs.Ended.{ended, planned_ended, rules_step}
 use Rattle.acd_laws.proofs.States.{queued_is}
+use Rattle.acd_laws.specs.AllLaws.{StepKeepsLaws, RunKeepsLaws}
+use Rattle.acd_laws.proofs.FiguresCounted.{step_keeps_figures, figures_kept}
+use Rattle.acd_laws.proofs.OneOffer.{step_keeps_one_offer, run_has_one_offer}
+use Rattle.acd_laws.proofs.PlacedRuns.{step_names_no_later_call, run_names_no_later_call, run_is_placed, step_keeps_places}
 
 -- places
 
@@ -238,3 +242,34 @@ rules_leave_room s g e l i =
     let n = f.entered in let a = f.answered in let c = f.abandoned in let d = f.moved in let w = f.waited in
     let q = mul-le g.figures.answered s.last_moment 1000000000 (2 ^ 32) (omega (arith, n, a, r, t)) (omega (arith, l)) in
     record { entered = omega (arith, n, r, t); answered = omega (arith, n, a, r, t); abandoned = omega (arith, n, c, r, t); moved = omega (arith, n, d, r, t); waited = omega (arith, w, q) }
+
+-- all laws together
+
+pub step_keeps_laws : StepKeepsLaws
+step_keeps_laws s events moment command left h =
+    let r : Rules s = rules_are_kept s h.rules in
+    let w = step_keeps_watched s events moment command r h.watched h.no_more in
+    record {
+      rules = step_keeps_rules s moment command h.rules left;
+      placed = step_keeps_places s events moment command r h.names h.placed;
+      names = step_names_no_later_call s events moment command r h.names;
+      one_offer = step_keeps_one_offer s moment command r;
+      no_offer = step_leaves_no_offer s moment command r;
+      balanced = step_balances s events moment command r h.balanced;
+      figures = step_keeps_figures s events moment command r h.figures;
+      watched = w.0;
+      no_more = w.1;
+    }
+
+pub run_keeps_laws : RunKeepsLaws
+run_keeps_laws limits asked fit few = record {
+  rules = run_keeps_rules limits asked fit few;
+  placed = run_is_placed limits asked;
+  names = run_names_no_later_call limits asked;
+  one_offer = run_has_one_offer limits asked;
+  no_offer = run_leaves_no_offer limits asked;
+  balanced = run_is_balanced limits asked;
+  figures = figures_kept limits asked;
+  watched = run_is_watched limits asked;
+  no_more = run_tells_no_more limits asked;
+}

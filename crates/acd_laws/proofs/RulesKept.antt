@@ -20,14 +20,11 @@ use Rattle.acd_laws.proofs.Distributing.{rules_distribution}
 use Rattle.acd_laws.proofs.Deeds.{new_call, Deed, nothing, adds_group, adds_station, adds_agent, watches, unwatches, arrives, makes, goes_out, answers, holds, retrieves, clears, deflects, transfers, logs_on, waits, goes, deed_of_serve}
 use Rattle.acd_laws.proofs.Arriving.{arrived}
 use Rattle.acd_laws.proofs.Releasing.{wanted_not_busy}
-use Rattle.acd_laws.proofs.KeptArrival.{begun}
-use Rattle.acd_laws.proofs.KeptOut.{made, outgoing, gone_out}
-use Rattle.acd_laws.proofs.KeptTalking.{kept_answer, kept_hold, kept_retrieve}
-use Rattle.acd_laws.proofs.States.{connected_is}
-use Rattle.acd_laws.proofs.KeptClearing.{kept_clear}
-use Rattle.acd_laws.proofs.KeptGiving.{moved_on, open_cases, closed_call}
+use Rattle.acd_laws.proofs.KeptOut.{begun, made, outgoing, gone_out, kept_answer, kept_hold, kept_retrieve}
+use Rattle.acd_laws.proofs.KeptEnds.{kept_clear, moved_on, open_cases, closed_call}
 use Rattle.acd_laws.proofs.KeptAgents.{kept_log_on, kept_wait, kept_go_from}
 use Rattle.acd_laws.proofs.KeptPlan.{kept_group, kept_station, kept_new_agent, started, stopped}
+use Rattle.acd_laws.proofs.States.{connected_is}
 
 kept_deed : (s : Rows) (m k : ℕ) (ms : List Move) → Deed s m k ms → Rules s → Rules (moved s ms)
 unfolding arrive
@@ -57,7 +54,7 @@ kept_deed s m k _ (transfers p to state other free) r =
     (closed_call s p.x r (connection_among s p.x.call p.x.device p.x p.found) state other)
 kept_deed s m k _ (logs_on a device group own null station free grouped) r = kept_log_on s a device group m k r own null station grouped free
 kept_deed s m k _ (waits a wanted own seated occupied) r = kept_wait s a wanted r own seated occupied
-kept_deed s m k _ (goes a wanted own seated free) r = kept_go_from s m k a a.station (state_wanted wanted) r own seated free (wanted_not_busy wanted (state_wanted wanted) refl)
+kept_deed s m k _ (goes a wanted own seated free) r = kept_go_from s m k a a.station (state_wanted wanted) r own seated free (wanted_not_busy wanted)
 
 pub rules_serve : (s : Rows) (m k : ℕ) (c : Command) → Rules s → Rules (moved s (moves_of (serve s m k c)))
 rules_serve s m k c r = elim (deed_of_serve s m k c) [

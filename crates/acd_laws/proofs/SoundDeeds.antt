@@ -26,24 +26,21 @@ use Rattle.acd_terms.specs.declared.moves.Ending.TheVariants.{NoAnswer}
 use Rattle.acd_terms.specs.declared.moves.Change.TheVariants.{Nothing, PutGroup, PutStation, PutAgent, PutCall, PutConnection, PutMonitor, RemoveCall, RemoveConnection, RemoveMonitor}
 use Rattle.acd_terms.specs.Rules.Calls.{is_open, parties_of, open_of}
 use Rattle.acd_laws.proofs.Facts.{GroupColumn, StandsAt, Rules}
+use Rattle.acd_laws.proofs.Frames.{left_connections, left_connection, LeavesAgents, left_agent, left_agents, left_plan}
 use Rattle.acd_laws.proofs.Lists.{one, none_from, two_counted, among_put}
 use Rattle.acd_laws.proofs.Keyed.{eqb_self}
-use Rattle.acd_laws.proofs.State.{found_key, connection_among, put_other, removed_other, still_none}
-use Rattle.acd_laws.proofs.Found.{connection_there, connection_rule, none_above, agent_there, other_agents, other_among, other_device}
+use Rattle.acd_laws.proofs.State.{found_key, connection_among, put_other, removed_other, still_none, connection_there, connection_rule, none_above, agent_there, other_agents, other_among, other_device}
 use Rattle.acd_laws.proofs.Releasing.{release_other_kept}
 use Rattle.acd_laws.proofs.KeptPlan.{nobody_at}
-use Rattle.acd_laws.proofs.States.{initiated_is, hold_is, alerting_is}
+use Rattle.acd_laws.proofs.States.{initiated_is, alerting_is, hold_is}
 use Rattle.acd_laws.proofs.KeptOut.{initiated_alone, outgoing}
-use Rattle.acd_laws.proofs.KeptGiving.{open_cases, closed_call}
+use Rattle.acd_laws.proofs.KeptEnds.{open_cases, closed_call, return_new}
 use Rattle.acd_laws.proofs.KeptOffer.{offer_station, offer_new}
-use Rattle.acd_laws.proofs.KeptReturn.{return_new}
-use Rattle.acd_laws.proofs.AgentMoves.{Recorded, releases, occupies, goes_from}
-use Rattle.acd_laws.proofs.Arrivals.{arrival_of}
-use Rattle.acd_laws.proofs.Told.{truthful_put, truthful_remove, truthful_outside, truthful_call, truthful_monitor, truthful_stop, truthful_group, truthful_station, truthful_nothing, truthful_end, truthful_agent, truthful_silent_agent}
+use Rattle.acd_laws.proofs.MoveKinds.{Recorded, releases, occupies, goes_from, arrival_of}
+use Rattle.acd_laws.proofs.Told.{truthful_put, truthful_remove, truthful_outside, truthful_unseen, truthful_group, truthful_station, truthful_end, truthful_agent, truthful_silent_agent}
 use Rattle.acd_laws.proofs.Balance.{holding, held, gone, holding_less, holding_new}
 use Rattle.acd_laws.proofs.Order.{stays, held_put, held_within}
-use Rattle.acd_laws.proofs.SoundMoves.{Sound, sound-append, sound_later, sound_nothing, sound_unheard, silently, sound_agent, left_connection, left_connections}
-use Rattle.acd_laws.proofs.SoundPuts.{and_yes, or_no, put, remove, ungrouped, connections_put, removed_within, ascending_less, held_shut, held_is, held_by_is, waiting_alerting, waiting_open, sound_put_new, sound_put_old, sound_remove, sound_arrival, LeavesAgents, left_agent, left_agents, arrive_leaves, left_plan, open_gone, planned_station, planned_group}
+use Rattle.acd_laws.proofs.SoundMoves.{Sound, sound-append, sound_later, sound_nothing, sound_unheard, silently, sound_agent, and_yes, or_no, put, remove, ungrouped, connections_put, removed_within, ascending_less, held_shut, held_is, held_by_is, waiting_alerting, waiting_open, sound_put_new, sound_put_old, sound_remove, sound_arrival, arrive_leaves, open_gone, planned_station, planned_group}
 use Rattle.acd_laws.proofs.Deeds.{new_call, Party, Free, Round, offers, returns, rests, Deed, nothing, adds_group, adds_station, adds_agent, watches, unwatches, arrives, makes, goes_out, answers, holds, retrieves, clears, deflects, transfers, logs_on, waits, goes}
 
 later : {m b k : ℕ} {s : Rows} {ms : List Move} → b < k → Sound m b b s ms → Sound m b k s ms
@@ -78,7 +75,7 @@ sound_arrives s m k b caller called r l free planned =
     let u : Rows = with_connection t x in
     let none : (d : ℕ) → connection_of t n d ≡ None = λ d. left_connection s (PutCall c) n d tt ∙ none_above s r n d (omega arith) in
     let apart : caller ≡ called → ⊥ = λ e. cc (free, planned, ap (is_planned s) e) in
-    sound-append m b b k s (begin c ∷ []) (connect_caller n caller ∷ arrive s m k n called cause.NewCall ∷ []) (silently (PutCall c) (truthful_call s c) tt)
+    sound-append m b b k s (begin c ∷ []) (connect_caller n caller ∷ arrive s m k n called cause.NewCall ∷ []) (silently (PutCall c) (truthful_unseen s (PutCall c) tt tt tt) tt)
     (sound-append m b b k t (connect_caller n caller ∷ []) (arrive s m k n called cause.NewCall ∷ [])
     (sound_put_new m b t x None (truthful_outside t x (left_plan s (PutCall c) caller tt ∙ free)) (none caller) (ungrouped n caller S.Connected refl) (λ g. refl) (λ g. refl))
     (sound_arrival m b k s u n called cause.NewCall _ (arrival_of s m k n called cause.NewCall) l
@@ -92,7 +89,7 @@ sound_makes s m b device called r planned =
     let c : CallRecord = new_call s m device called in
     let x : ConnectionRecord = plain n device S.Initiated in
     let t : Rows = with_call s c in
-    sound-append m b b b s (begin c ∷ []) (initiate n device ∷ []) (silently (PutCall c) (truthful_call s c) tt)
+    sound-append m b b b s (begin c ∷ []) (initiate n device ∷ []) (silently (PutCall c) (truthful_unseen s (PutCall c) tt tt tt) tt)
     (sound_put_new m b t x (Some (report.ServiceInitiated n device))
     (truthful_put t x (report.ServiceInitiated n device) refl refl refl refl (left_plan s (PutCall c) device tt ∙ planned))
     (left_connection s (PutCall c) n device tt ∙ none_above s r n device (omega arith)) (ungrouped n device S.Initiated refl) (λ g. refl) (λ g. refl))
@@ -194,7 +191,7 @@ sound_clear_one s m b x r there =
     let t : Rows = without_call u x.call in
     let same : t.connections ≡ u.connections = left_connections u (RemoveCall x.call) tt in
     record {
-      truthful = (truthful_remove s x.call x.device (report.ConnectionCleared x.call x.device) r.orders.connections refl refl refl refl, (truthful_nothing u, (truthful_end u x.call (waiting_group x), tt)));
+      truthful = (truthful_remove s x.call x.device (report.ConnectionCleared x.call x.device) r.orders.connections refl refl refl refl, (truthful_unseen u Nothing tt tt tt, (truthful_end u x.call (waiting_group x), tt)));
       balances = λ g.
           let a = holding_less s x.call x.device x g there in
           let c = held_is g x (connection_rule s r x.call x.device x there).0 in
@@ -241,7 +238,7 @@ sound_clearing s m k b x None r there other =
     let three : List Move = clear x ∷ no_move ∷ end_call x.call (waiting_group x) ∷ [] in
     let t : Rows = moved s three in
     sound-append m b b b s three (release s m k x (ending_of x) ∷ no_move ∷ []) (sound_clear_one s m b x r there)
-    (sound-append m b b b t (release s m k x (ending_of x) ∷ []) (no_move ∷ []) (sound_released s m k b three x (ending_of x) r (tt, (tt, (tt, tt)))) (silently Nothing (truthful_nothing _) tt))
+    (sound-append m b b b t (release s m k x (ending_of x) ∷ []) (no_move ∷ []) (sound_released s m k b three x (ending_of x) r (tt, (tt, (tt, tt)))) (silently Nothing (truthful_unseen _ Nothing tt tt tt) tt))
 sound_clearing s m k b x (Some y) r there other =
     let w = other_device s x y other in
     let three : List Move = clear x ∷ clear y ∷ end_call x.call (first_group (waiting_group x) (waiting_group y)) ∷ [] in
@@ -286,8 +283,8 @@ sound_deed s m k b _ (adds_group device name ring wrap free _) r l = later l (si
 sound_deed s m k b _ (adds_station device free _) r l = later l (silently (PutStation (record { device = device })) (truthful_station s (record { device = device }) (none_stands s device r free)) tt)
 sound_deed s m k b _ (adds_agent agent name new _) r l = later l (silently (PutAgent (new_agent m k agent name)) (truthful_silent_agent s (new_agent m k agent name) (ap seat_of (sym new))) tt)
 sound_deed s m k b _ (watches device _ _) r l =
-    let w : MonitorRecord = record { monitor = next_monitor s; device = device; after_event = s.last_event } in later l (silently (PutMonitor w) (truthful_monitor s w) tt)
-sound_deed s m k b _ (unwatches monitor) r l = later l (silently (RemoveMonitor monitor) (truthful_stop s monitor) tt)
+    let w : MonitorRecord = record { monitor = next_monitor s; device = device; after_event = s.last_event } in later l (silently (PutMonitor w) (truthful_unseen s (PutMonitor w) tt tt tt) tt)
+sound_deed s m k b _ (unwatches monitor) r l = later l (silently (RemoveMonitor monitor) (truthful_unseen s (RemoveMonitor monitor) tt tt tt) tt)
 sound_deed s m k b _ (arrives caller called outside inside _) r l = sound_arrives s m k b caller called r l outside inside
 sound_deed s m k b _ (makes device called planned _ _ _ _ _) r l = later l (sound_makes s m b device called r planned)
 sound_deed s m k b _ (goes_out p state) r l = sound_out s m k b p r l state

@@ -18,12 +18,11 @@ use Rattle.acd_laws.proofs.Facts.{Rules}
 use Rattle.acd_terms.specs.Rules.Calls.{is_open, open_of}
 use Rattle.acd_laws.proofs.Lists.{filter_among, after_among, ascending-filter, among-put_other, among-remove_other, two_counted, some_from}
 use Rattle.acd_laws.proofs.Keyed.{eqb_self, cmp_self}
-use Rattle.acd_laws.proofs.State.{is_of, is_of_true, order_equal, order_same, connection_key, agent_found}
+use Rattle.acd_laws.proofs.State.{is_of, is_of_true, order_equal, order_same, connection_key, agent_found, connection_there}
 use Rattle.acd_terms.specs.Tick.{is_overdue_offer, is_overdue, overdue_in, return_to, return_moves, is_rested, rested_in, rest_moves, each, returns, rests, tick, is_over_in}
 use Rattle.acd_terms.proofs.MoveLemmas.{events_of_append, moved_append}
-use Rattle.acd_laws.proofs.Found.{connection_there}
-use Rattle.acd_laws.proofs.AgentMoves.{goes_from, released_by, agent_connections, agent_others}
-use Rattle.acd_laws.proofs.KeptReturn.{kept_return_to}
+use Rattle.acd_laws.proofs.MoveKinds.{goes_from, released_by, agent_connections, agent_others}
+use Rattle.acd_laws.proofs.KeptEnds.{kept_return_to}
 use Rattle.acd_laws.proofs.KeptAgents.{kept_rest_moves}
 
 -- moves in a row

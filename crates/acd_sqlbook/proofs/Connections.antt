@@ -52,11 +52,10 @@ use Rattle.acd_sqlbook.proofs.Frames.{drafted}
 use Rattle.acd_sqlbook.proofs.KeyedRows.{id_tied}
 use Rattle.acd_sqlbook.proofs.Puts.{truth_back}
 use Rattle.acd_sqlbook.proofs.Scans.{showing, passing, filter_like, all_out}
-use Rattle.acd_sqlbook.proofs.Statements.{Deletion, deletion_edit, deleted, Replaces, replaces}
+use Rattle.acd_sqlbook.proofs.Statements.{Deletion, deletion_edit, deleted, Replaces, replaces, inert_works}
 use Rattle.acd_sqlbook.proofs.Texts as text
 use Rattle.acd_sqlbook.proofs.Upserts.{Upsertion, Way, put, changed, upserted}
 use Rattle.acd_sqlbook.proofs.Writes.{run, inert, either, cast_id, cast_null, cast_maybe}
-use Rattle.acd_sqlbook.proofs.Statements.{inert_works}
 
 -- ---- rows that are put beside others
 

@@ -8,7 +8,7 @@ use Rattle.acd_terms.specs.Step.{step}
 use Rattle.acd_terms.specs.Rules.First.{BreaksNoRule}
 use Rattle.acd_laws.specs.RefusalLaws.{ChangesNothing}
 use Rattle.acd_laws.proofs.DecidedAll.{keeps_read}
-use Rattle.acd_laws.proofs.Refused.{refused}
+use Rattle.acd_laws.proofs.ChangesMade.{refused}
 use Rattle.acd_laws.proofs.OfferFound.{no_offer}
 use Rattle.acd_switch.specs.Kept.{IsRefused}
 

@@ -16,7 +16,7 @@ use Rattle.acd_terms.specs.Choice.{first_waiting, first_eligible, offer_or, offe
 use Rattle.acd_terms.specs.declared.rows.Rows.{Rows}
 use Rattle.acd_terms.specs.declared.record.GroupRecord.{GroupRecord}
 use Rattle.acd_terms.specs.declared.moves.Offer.{Offer}
-use Rattle.acd_laws.proofs.Least.{least_is}
+use Rattle.acd_laws.proofs.OfferFound.{least_is}
 use Rattle.acd_laws.proofs.Lists.{any_found, any_some, find_passes, find_among, some_from, none_from, after_among}
 use Rattle.acd_laws.proofs.State.{is_group_any}
 use Rattle.acd_tables.specs.Indexed.{IsIndexed}

@@ -19,7 +19,7 @@ use Rattle.acd_terms.specs.declared.rows.Rows.{Rows}
 use Rattle.acd_terms.specs.declared.record.AgentRecord.{AgentRecord}
 use Rattle.acd_terms.specs.declared.record.ConnectionRecord.{ConnectionRecord}
 use Rattle.acd_laws.proofs.Lists.{among-filter, filter_among, mapped_among}
-use Rattle.acd_laws.proofs.Least.{least_found}
+use Rattle.acd_laws.proofs.OfferFound.{least_found}
 use Rattle.acd_laws.proofs.State.{connection_among, connection_found, found_key, agent_among, agent_found, agent_key}
 use Rattle.acd_tables.specs.Sets.{holds, holds_in, has_set}
 use Rattle.acd_tables.specs.Indexed.{PairSets, pair_cmp, lists, waits_at, is_busying, is_busy_at, is_free, is_able, is_able_since, IsFirstIn}

@@ -28,8 +28,7 @@ use Rattle.acd_tables.specs.declared.indexes.Indexes.{Indexes}
 use Rattle.acd_tables.specs.declared.indexes.Entries.{Entries}
 use Rattle.acd_tables.specs.declared.indexes.Turn.{Turn}
 use Rattle.acd_laws.proofs.Lists.{some_is, count_length, ascending-put}
-use Rattle.acd_laws.proofs.State.{agent_put, agent_key, agents_total, groups_total, group_put}
-use Rattle.acd_laws.proofs.Found.{has_is, count_new, count_old, count_less}
+use Rattle.acd_laws.proofs.State.{agent_put, agent_key, agents_total, groups_total, group_put, has_is, count_new, count_old, count_less}
 use Rattle.acd_laws.proofs.Numbers.{filter_length}
 use Rattle.acd_tables.proofs.OfferLemmas.{undone, offers-same}
 use Rattle.acd_tables.proofs.TurnLemmas.{Replaces, Replaces-put, Replaces-removed, eq_key, pair_key}

@@ -18,8 +18,7 @@ use Rattle.acd_terms.specs.declared.record.AgentRecord.{AgentRecord}
 use Rattle.acd_terms.specs.declared.record.ConnectionRecord.{ConnectionRecord}
 use Rattle.acd_laws.proofs.Lists.{eq_is, is_eq_of, some_is, ascending-put, ascending-remove}
 use Rattle.acd_laws.proofs.Keyed.{cmp_equal, cmp_self}
-use Rattle.acd_laws.proofs.State.{connections_total, at_put, at_remove, agent_put, agent_key, found_key}
-use Rattle.acd_laws.proofs.Found.{agent_seat, agent_there}
+use Rattle.acd_laws.proofs.State.{connections_total, at_put, at_remove, agent_put, agent_key, found_key, agent_seat, agent_there}
 use Rattle.acd_tables.specs.Indexed.{pair_cmp, waits_at, is_busying, is_busy_at, is_free, is_able_since, Seats}
 use Rattle.acd_tables.specs.Uses.{is_used, is_in_use}
 use Rattle.acd_tables.specs.declared.uses.Use.TheVariants.{Busying}

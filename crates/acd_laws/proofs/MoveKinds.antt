@@ -1,21 +1,23 @@
--- What a release, an occupation and a change of an agent's state are: no move, or the put of one agent, silently or with the report of its state.
+-- The kinds of an agent's move, and of what a call meets at a device.
 use Rattle.std.proofs.Common.{◌≡◌, ℕ, Bool, true, false, cond, Option, Some, None, refl, ◌∙◌, ap}
 use Rattle.std.specs.Prelude.{◌==◌}
 use Rattle.std.proofs.lemmas.Bool.{cond-false}
 use Rattle.acd_terms.specs.Lists.{IsAscending}
 use Rattle.acd_terms.specs.Rules.Plan.{agent_order}
-use Rattle.acd_terms.specs.Scans.{agent_of, agent_at, is_distributed}
+use Rattle.acd_terms.specs.Scans.{agent_of, agent_at, is_distributed, is_group, is_idle}
 use Rattle.acd_terms.specs.Writes.{with_agent}
 use Rattle.acd_terms.specs.Moves.{no_move, reported, changed}
-use Rattle.acd_terms.specs.AgentMoves.{kept_in, in_state, state_report, go_from, become_busy, wait_for}
+use Rattle.acd_terms.specs.AgentMoves.{kept_in, in_state, state_report, go_from, wait_for}
 use Rattle.acd_terms.specs.Release.{release_of, released, release_agent, release}
 use Rattle.acd_terms.specs.Services.{busy_agent, occupy}
-use Rattle.acd_laws.proofs.Types.{Rows, AgentRecord, ConnectionRecord, AgentState, Pending, Ending, Move, Release}
+use Rattle.acd_laws.proofs.Types.{Rows, AgentRecord, ConnectionRecord, AgentState, Pending, Cause, Ending, Move, Release}
 use Rattle.acd_terms.specs.declared.state.AgentState.TheVariants as A
-use Rattle.acd_terms.specs.declared.moves.Change.TheVariants.{PutAgent}
+use Rattle.acd_terms.specs.declared.moves.Change.TheVariants.{PutAgent, PutConnection}
 use Rattle.acd_terms.specs.declared.moves.Release.TheVariants.{Stays, Goes}
-use Rattle.acd_laws.proofs.State.{agent_put}
-use Rattle.acd_laws.proofs.Found.{agent_there}
+use Rattle.acd_laws.proofs.State.{agent_put, agent_there}
+use Rattle.acd_terms.specs.CallMoves.{plain, queueing, met_at, arriving, arrival, arrive}
+use Rattle.acd_terms.specs.declared.state.ConnectionState.TheVariants.{Alerting, Fail}
+use Rattle.acd_terms.specs.declared.event.Report.TheVariants.{Queued, Delivered, Failed}
 
 -- the agent in another state, at the same station unless it is null
 pub record Reseated (m k : ℕ) (a b : AgentRecord) : Type 0 where
@@ -90,3 +92,17 @@ pub agent_others : (m k n : ℕ) (t : Rows) (x : Move) → AgentMove (λ a. (a.a
 agent_others m k n t x stays = refl
 agent_others m k n t x (waits a pending h) = agent_put t (record a { pending = pending }) n ∙ cond-false (a.agent == n) _ _ h
 agent_others m k n t x (tells a b d h r) = agent_put t b n ∙ cond-false (b.agent == n) _ _ (ap (λ v. v == n) r.agent ∙ h)
+
+pub data Arrival (s : Rows) (m k call to : ℕ) (why : Cause) : Move → Type 0 where
+  queues : is_group s to ≡ true → Arrival s m k call to why (reported (PutConnection (queueing call to (Some k) (Some m))) (Queued call to why))
+  alerts : Arrival s m k call to why (reported (PutConnection (plain call to Alerting)) (Delivered call to why None))
+  fails : Arrival s m k call to why (reported (PutConnection (plain call to Fail)) (Failed call to))
+
+pub arrival_of : (s : Rows) (m k call to : ℕ) (why : Cause) → Arrival s m k call to why (arrive s m k call to why)
+unfolding arrive
+arrival_of s m k call to why = at (is_group s to) (is_idle s to) refl
+  where
+    at : (q i : Bool) → is_group s to ≡ q → Arrival s m k call to why (reported (PutConnection (arriving (met_at q i) m k call to)) (arrival (met_at q i) call to why))
+    at true i e = queues e
+    at false true e = alerts
+    at false false e = fails
