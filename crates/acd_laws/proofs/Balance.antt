@@ -1,15 +1,15 @@
 -- Entered is waiting, ringing, answered, abandoned and moved together: by each move.
 use Rattle.std.proofs.Common.{◌≡◌, ℕ, ◌+◌, List, [], ◌∷◌, ◌++◌, Option, Some, None, refl, ◌∙◌, ap, arith}
 use Rattle.acd_terms.specs.Lists.{IsAscending, count}
-use Rattle.acd_terms.specs.Scans.{connection_of}
-use Rattle.acd_terms.specs.Writes.{with_connection, without_connection}
-use Rattle.acd_terms.specs.Moves.{moved, with_event, events_of}
-use Rattle.acd_terms.specs.Figures.{is_entry, is_answer, is_abandonment, is_moving_away, figures_of}
-use Rattle.acd_terms.specs.Rules.Plan.{connection_order}
-use Rattle.acd_terms.specs.Rules.Occupied.{waits_in, rings_from}
+use Rattle.acd_model.specs.Scans.{connection_of}
+use Rattle.acd_model.specs.Writes.{with_connection, without_connection}
+use Rattle.acd_model.specs.Moves.{moved, with_event, events_of}
+use Rattle.acd_model.specs.Figures.{is_entry, is_answer, is_abandonment, is_moving_away, figures_of}
+use Rattle.acd_model.specs.Rules.Plan.{connection_order}
+use Rattle.acd_model.specs.Rules.Occupied.{waits_in, rings_from}
 use Rattle.acd_laws.proofs.Types.{Rows, ConnectionRecord, Event, Move, Report}
 use Rattle.acd_laws.proofs.Lists.{one}
-use Rattle.acd_terms.proofs.MoveLemmas.{moved_append}
+use Rattle.acd_model.proofs.MoveLemmas.{moved_append}
 use Rattle.acd_laws.proofs.State.{count_new, count_old, count_less}
 
 -- of a group: what waits in it and rings from it

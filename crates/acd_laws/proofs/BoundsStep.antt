@@ -7,16 +7,16 @@ use Rattle.acd_terms.specs.declared.state.AgentState.TheVariants as A
 use Rattle.acd_terms.specs.declared.state.ConnectionState.TheVariants as S
 use Rattle.acd_terms.specs.declared.event.Cause.TheVariants.{NewCall, Deflected, Transferred}
 use Rattle.acd_terms.specs.declared.event.Report.TheVariants as report
-use Rattle.acd_terms.specs.declared.moves.Change.TheVariants.{Nothing, PutGroup, PutStation, PutAgent, PutCall, PutMonitor, RemoveCall, RemoveConnection, RemoveMonitor}
 use Rattle.acd_terms.specs.Lists.{Among, Every, IsAscending, count}
 use Rattle.acd_terms.specs.States.{state_wanted}
-use Rattle.acd_terms.specs.Scans.{at_group, at_station, at_agent, at_call, at_monitor, group_of, station_of, other_of, is_group, is_station, is_planned, is_calling}
-use Rattle.acd_terms.specs.Writes.{with_group, with_station, with_agent, with_call, with_monitor}
-use Rattle.acd_terms.specs.Moves.{silent, reported, moved, events_of}
-use Rattle.acd_terms.specs.CallMoves.{plain, connect_caller, initiate, arrive, talking, waited_by}
-use Rattle.acd_terms.specs.Release.{release, ending_of}
-use Rattle.acd_terms.specs.Rules.Plan.{agent_order}
-use Rattle.acd_terms.specs.Services.{new_group, new_agent, next_call, cleared_group, clear_other, release_other, next_monitor}
+use Rattle.acd_model.specs.declared.moves.Change.TheVariants.{Nothing, PutGroup, PutStation, PutAgent, PutCall, PutMonitor, RemoveCall, RemoveConnection, RemoveMonitor}
+use Rattle.acd_model.specs.Scans.{at_group, at_station, at_agent, at_call, at_monitor, group_of, station_of, other_of, is_group, is_station, is_planned, is_calling}
+use Rattle.acd_model.specs.Writes.{with_group, with_station, with_agent, with_call, with_monitor}
+use Rattle.acd_model.specs.Moves.{silent, reported, moved, events_of}
+use Rattle.acd_model.specs.CallMoves.{plain, connect_caller, initiate, arrive, talking, waited_by}
+use Rattle.acd_model.specs.Release.{release, ending_of}
+use Rattle.acd_model.specs.Rules.Plan.{agent_order}
+use Rattle.acd_model.specs.Services.{new_group, new_agent, next_call, cleared_group, clear_other, release_other, next_monitor}
 use Rattle.acd_laws.proofs.Facts.{Rules, Sizes, AgentTimed, ConnectionTimed, Timed, MonitorRule, Monitored, at_place}
 use Rattle.acd_laws.proofs.Lists.{every_among, every_from, every-put, one, count-append, among_put, every-append}
 use Rattle.acd_laws.proofs.State.{group_put, station_put}
@@ -25,13 +25,13 @@ use Rattle.acd_laws.proofs.Balance.{entry_by}
 use Rattle.acd_laws.proofs.Deeds.{new_call, Deed, nothing, adds_group, adds_station, adds_agent, watches, unwatches, arrives, makes, goes_out, answers, holds, retrieves, clears, deflects, transfers, logs_on, waits, goes, deed_of_serve}
 use Rattle.acd_laws.proofs.Steady.{Steady, knows, AllSteady, IsNew, Steadied, Settled, settled, steadied, sizes_steadied, monitored_steadied, length-put}
 use Rattle.acd_laws.proofs.Orderly.{WaitsUpTo, Neat, Steps, done, neat, comes, neat_quiet, neat_silent, neat_agent, neat_remove, neat_put, neat_turned, timed_plain, comes_to, steady_agent, steady_arrive, steps_timed, steps_place}
-use Rattle.acd_terms.specs.Served.{moves_of}
-use Rattle.acd_terms.specs.Figures.{is_entry}
-use Rattle.acd_terms.specs.Services.Serve.{serve}
-use Rattle.acd_terms.specs.Distribution.{distribution}
-use Rattle.acd_terms.specs.Tick.{tick}
-use Rattle.acd_terms.specs.Step.{step_moves}
-use Rattle.acd_terms.proofs.MoveLemmas.{moved_append, events_of_append}
+use Rattle.acd_model.specs.Served.{moves_of}
+use Rattle.acd_model.specs.Figures.{is_entry}
+use Rattle.acd_model.specs.Services.Serve.{serve}
+use Rattle.acd_model.specs.Distribution.{distribution}
+use Rattle.acd_model.specs.Tick.{tick}
+use Rattle.acd_model.specs.Step.{step_moves}
+use Rattle.acd_model.proofs.MoveLemmas.{moved_append, events_of_append}
 use Rattle.acd_laws.proofs.RulesKept.{rules_serve}
 use Rattle.acd_laws.proofs.Rounds.{AllWait, Within, steps_entered, steps_wait, distribution_within, tick_within, returns_agents}
 use Rattle.acd_laws.proofs.Numbers.{events_length, connections_length, greatest, distribution_length, tick_length}

@@ -1,11 +1,11 @@
 -- What deeds and rounds keep, a step keeps: the inductions over tick and distribution.
 use Rattle.std.proofs.Common.{ℕ, inl, inr, List, ◌++◌, sym, subst}
-use Rattle.acd_terms.specs.Moves.{moved, events_of}
-use Rattle.acd_terms.specs.Served.{moves_of}
-use Rattle.acd_terms.specs.Services.Serve.{serve}
-use Rattle.acd_terms.specs.Step.{step_moves}
-use Rattle.acd_terms.specs.Distribution.{distribution}
-use Rattle.acd_terms.specs.Tick.{tick}
+use Rattle.acd_model.specs.Moves.{moved, events_of}
+use Rattle.acd_model.specs.Served.{moves_of}
+use Rattle.acd_model.specs.Services.Serve.{serve}
+use Rattle.acd_model.specs.Step.{step_moves}
+use Rattle.acd_model.specs.Distribution.{distribution}
+use Rattle.acd_model.specs.Tick.{tick}
 use Rattle.acd_laws.proofs.Types.{Rows, Command, Event, Move}
 use Rattle.acd_laws.proofs.Facts.{Rules}
 use Rattle.acd_laws.proofs.Ticking.{Kept, kept-append, tick_keeps}

@@ -3,19 +3,19 @@ use Rattle.std.proofs.Common.{◌≡◌, ℕ, ◌+◌, ◌≤◌, Bool, true, fa
 use Rattle.std.specs.Prelude.{◌==◌, is_none, nat_le, max}
 use Rattle.std.proofs.lemmas.Bool.{eqb-true, le-leb, leb-true, leb-false, lt-leb}
 use Rattle.acd_terms.specs.Lists.{Among, IsAscending, Every}
-use Rattle.acd_terms.specs.Scans.{call_of, other_of}
-use Rattle.acd_terms.specs.Writes.{with_call, without_call}
-use Rattle.acd_terms.specs.Moves.{no_move, silent, reported, changed, moved}
-use Rattle.acd_terms.specs.CallMoves.{arrive, begin, end_call, connect_caller, initiate, clear}
-use Rattle.acd_terms.specs.AgentMoves.{state_report}
 use Rattle.acd_terms.specs.Columns.{columns_of}
-use Rattle.acd_terms.specs.Placed.{clears}
-use Rattle.acd_terms.specs.Rules.Plan.{call_order}
+use Rattle.acd_model.specs.Scans.{call_of, other_of}
+use Rattle.acd_model.specs.Writes.{with_call, without_call}
+use Rattle.acd_model.specs.Moves.{no_move, silent, reported, changed, moved}
+use Rattle.acd_model.specs.CallMoves.{arrive, begin, end_call, connect_caller, initiate, clear}
+use Rattle.acd_model.specs.AgentMoves.{state_report}
+use Rattle.acd_model.specs.Placed.{clears}
+use Rattle.acd_model.specs.Rules.Plan.{call_order}
 use Rattle.acd_laws.proofs.Types.{Rows, AgentRecord, CallRecord, ConnectionRecord, AgentState, Cause, Change, Move, Report}
 use Rattle.acd_terms.specs.declared.state.AgentState.TheVariants as A
-use Rattle.acd_terms.specs.declared.moves.Change.TheVariants.{PutAgent, RemoveCall}
+use Rattle.acd_model.specs.declared.moves.Change.TheVariants.{PutAgent, RemoveCall}
 use Rattle.acd_laws.proofs.Facts.{Rules}
-use Rattle.acd_terms.specs.Rules.Calls.{parties_of}
+use Rattle.acd_model.specs.Rules.Calls.{parties_of}
 use Rattle.acd_laws.specs.PlacedLaws.{IsUpTo, clearings}
 use Rattle.acd_laws.proofs.Lists.{one, counted}
 use Rattle.acd_laws.proofs.Keyed.{eqb_self}
@@ -23,11 +23,11 @@ use Rattle.acd_laws.proofs.State.{call_put, call_remove, connection_among, call_
 use Rattle.acd_laws.proofs.Known.{Counted, LeavesCalls, Plain, AllCounted, counted-append, SameCalls, same_call, counted_plain, plain_calls}
 use Rattle.acd_laws.proofs.MoveKinds.{AgentMove, stays, waits as pends, tells, Anyone, goes_from, released_by, occupied_by, Arrival, queues, alerts, fails, arrival_of}
 use Rattle.acd_terms.specs.States.{state_wanted}
-use Rattle.acd_terms.specs.Release.{release, ending_of}
-use Rattle.acd_terms.specs.Services.{next_call, cleared_group, clear_other, release_other, clearing}
 use Rattle.acd_terms.specs.declared.state.AgentState.TheVariants.{Ready}
 use Rattle.acd_terms.specs.declared.event.Cause.TheVariants.{NewCall}
-use Rattle.acd_terms.specs.declared.moves.Ending.TheVariants.{NoAnswer}
+use Rattle.acd_model.specs.Release.{release, ending_of}
+use Rattle.acd_model.specs.Services.{next_call, cleared_group, clear_other, release_other, clearing}
+use Rattle.acd_model.specs.declared.moves.Ending.TheVariants.{NoAnswer}
 use Rattle.acd_laws.proofs.Deeds.{new_call, Party, Round, offers, returns, rests, Deed, nothing, adds_group, adds_station, adds_agent, watches, unwatches, arrives, makes, goes_out, answers, holds, retrieves, clears as clears_call, deflects, transfers, logs_on, waits, goes}
 
 -- each move that leaves the calls

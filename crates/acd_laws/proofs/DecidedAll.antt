@@ -1,10 +1,10 @@
 -- All thirteen rules of rows: the tests in their order, and the facts that they decide.
 use Rattle.std.proofs.Common.{◌≡◌, ◌≤◌, Bool, true, false, Option, None, refl}
-use Rattle.acd_terms.specs.Rules.Plan.{keeps_limits, keeps_order, keeps_device, keeps_agent, keeps_monitor}
-use Rattle.acd_terms.specs.Rules.Calls.{keeps_call, keeps_connection, keeps_parties, keeps_live}
-use Rattle.acd_terms.specs.Rules.Occupied.{keeps_occupied, keeps_offer, keeps_balance}
-use Rattle.acd_terms.specs.Rules.Counters.{keeps_counters}
-use Rattle.acd_terms.specs.Rules.First.{or_broken, first_broken, BreaksNoRule}
+use Rattle.acd_model.specs.Rules.Plan.{keeps_limits, keeps_order, keeps_device, keeps_agent, keeps_monitor}
+use Rattle.acd_model.specs.Rules.Calls.{keeps_call, keeps_connection, keeps_parties, keeps_live}
+use Rattle.acd_model.specs.Rules.Occupied.{keeps_occupied, keeps_offer, keeps_balance}
+use Rattle.acd_model.specs.Rules.Counters.{keeps_counters}
+use Rattle.acd_model.specs.Rules.First.{or_broken, first_broken, BreaksNoRule}
 use Rattle.acd_laws.proofs.Types.{Rows, Rule}
 use Rattle.acd_laws.specs.OfferLaws.{KeepsWithin}
 use Rattle.acd_laws.proofs.Facts.{Rules, KeepsRules}

@@ -5,12 +5,12 @@ use Rattle.std.specs.Bool.{Decides}
 use Rattle.std.proofs.lemmas.Bool.{and_parts, and_from, eqb-true, false_from_ne_true, or_left, or_right}
 use Rattle.std.proofs.lemmas.Bool.Decides.{Decides-eqb as equals}
 use Rattle.acd_terms.specs.Lists.{count, Among, Every}
-use Rattle.acd_terms.specs.States.{is_ready, is_busy, is_initiated, is_alerting, is_queued, is_answered}
-use Rattle.acd_terms.specs.Scans.{call_of, is_group, is_station, is_planned, has, agent_at, is_distributed, is_occupied}
-use Rattle.acd_terms.specs.OneOffer.{is_distributed_at, IsTalking}
-use Rattle.acd_terms.specs.Watched.{is_caller}
-use Rattle.acd_terms.specs.Rules.Calls.{keeps_connection, keeps_parties, keeps_live, is_bare, is_placed, has_columns, is_group_or_none, may_stand, is_open, initiated_at, parties_of, initiated_of, open_of, live_at, alerting_at, hold_at}
-use Rattle.acd_terms.specs.Rules.Occupied.{keeps_occupied, attends, is_talking}
+use Rattle.acd_terms.specs.States.{is_ready, is_busy, is_initiated, is_alerting, is_queued, is_answered, is_distributed}
+use Rattle.acd_model.specs.Scans.{call_of, is_group, is_station, is_planned, has, agent_at, is_occupied}
+use Rattle.acd_model.specs.OneOffer.{is_distributed_at, IsTalking}
+use Rattle.acd_model.specs.Watched.{is_caller}
+use Rattle.acd_model.specs.Rules.Calls.{keeps_connection, keeps_parties, keeps_live, is_bare, is_placed, has_columns, is_group_or_none, may_stand, is_open, initiated_at, parties_of, initiated_of, open_of, live_at, alerting_at, hold_at}
+use Rattle.acd_model.specs.Rules.Occupied.{keeps_occupied, attends, is_talking}
 use Rattle.acd_laws.proofs.Types.{Rows, StationRecord, AgentRecord, CallRecord, ConnectionRecord, ConnectionState, AgentState, Pending}
 use Rattle.acd_terms.specs.declared.state.AgentState.TheVariants as A
 use Rattle.acd_terms.specs.declared.state.ConnectionState.TheVariants as S

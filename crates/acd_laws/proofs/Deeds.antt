@@ -3,22 +3,22 @@ use Rattle.std.proofs.Common.{◌≡◌, ℕ, ◌⊎◌, inl, inr, Bool, true, f
 use Rattle.std.specs.Option.{ok_or}
 use Rattle.std.specs.Prelude.{◌==◌, is_some, nat_le}
 use Rattle.std.proofs.lemmas.Bool.{not-false, and_parts}
-use Rattle.acd_terms.specs.Scans.{call_of, connection_of, other_of, agent_of, agent_at, is_planned, is_station, is_group, is_live_at, is_occupied, is_used}
 use Rattle.acd_terms.specs.States.{is_null, is_in, state_wanted, is_queued, is_alerting, is_connected, is_initiated, is_hold, is_working_after_call}
-use Rattle.acd_terms.specs.Moves.{silent}
-use Rattle.acd_terms.specs.CallMoves.{begin, connect_caller, initiate, originate, arrive, answer, hold, retrieve, divert, transfer}
-use Rattle.acd_terms.specs.AgentMoves.{go_from, log_on_at, wait_for}
-use Rattle.acd_terms.specs.Release.{release, ending_of}
-use Rattle.acd_terms.specs.Served.{refuse_if, ◌>>=◌, ◌>>◌, moves_of}
-use Rattle.acd_terms.specs.Services.{add_group, add_station, add_agent, new_group, new_agent, arrive_call, make_call, phone_off_hook, has_no_call_left, next_call, occupy, answer_call, hold_call, retrieve_call, clearing, clear_connection, is_in_call, is_answered_by, deflect_call, single_step_transfer, log_on, change_state, set_agent_state, monitor_start, monitor_stop, next_monitor}
-use Rattle.acd_terms.specs.Services.Serve.{serve}
-use Rattle.acd_terms.specs.Distribution.{offer_at}
-use Rattle.acd_terms.specs.Tick.{return_to, rest_moves, tick}
+use Rattle.acd_model.specs.Scans.{call_of, connection_of, other_of, agent_of, agent_at, is_planned, is_station, is_group, is_live_at, is_occupied, is_used}
+use Rattle.acd_model.specs.Moves.{silent}
+use Rattle.acd_model.specs.CallMoves.{begin, connect_caller, initiate, originate, arrive, answer, hold, retrieve, divert, transfer}
+use Rattle.acd_model.specs.AgentMoves.{go_from, log_on_at, wait_for}
+use Rattle.acd_model.specs.Release.{release, ending_of}
+use Rattle.acd_model.specs.Served.{refuse_if, ◌>>=◌, ◌>>◌, moves_of}
+use Rattle.acd_model.specs.Services.{add_group, add_station, add_agent, new_group, new_agent, arrive_call, make_call, phone_off_hook, has_no_call_left, next_call, occupy, answer_call, hold_call, retrieve_call, clearing, clear_connection, is_in_call, is_answered_by, deflect_call, single_step_transfer, log_on, change_state, set_agent_state, monitor_start, monitor_stop, next_monitor}
+use Rattle.acd_model.specs.Services.Serve.{serve}
+use Rattle.acd_model.specs.Distribution.{offer_at}
+use Rattle.acd_model.specs.Tick.{return_to, rest_moves, tick}
 use Rattle.acd_laws.proofs.Types.{Rows, AgentRecord, CallRecord, ConnectionRecord, Pending, Command, Move, Offer, Refusal, Requested, Served}
 use Rattle.acd_terms.specs.declared.command.Command.TheVariants.{AddGroup, AddStation, AddAgent, ArriveCall, MakeCall, PhoneOffHook, AnswerCall, HoldCall, RetrieveCall, ClearConnection, DeflectCall, SingleStepTransfer, SetAgentState, MonitorStart, MonitorStop, Tick}
 use Rattle.acd_terms.specs.declared.command.Requested.TheVariants as requested
 use Rattle.acd_terms.specs.declared.event.Cause.TheVariants.{NewCall, Deflected, Transferred}
-use Rattle.acd_terms.specs.declared.moves.Change.TheVariants.{PutGroup, PutStation, PutAgent, PutMonitor, RemoveMonitor}
+use Rattle.acd_model.specs.declared.moves.Change.TheVariants.{PutGroup, PutStation, PutAgent, PutMonitor, RemoveMonitor}
 use Rattle.acd_laws.proofs.Lists.{none_from}
 use Rattle.acd_laws.proofs.State.{found_key, own_key, agent_own}
 use Rattle.acd_laws.proofs.Serving.{by_refusal, by_found}

@@ -4,17 +4,17 @@ use Rattle.std.specs.Prelude.{◌==◌, filter, ◌↔◌}
 use Rattle.acd_laws.proofs.Types.{Rows, GroupRecord, AgentRecord, ConnectionRecord, Event, Move, Offer}
 use Rattle.acd_terms.specs.Lists.{count, Among}
 use Rattle.acd_terms.specs.States.{is_ready, is_queued}
-use Rattle.acd_terms.specs.Scans.{agent_of, connection_of, has, is_idle, is_occupied, waiting_in, is_idle_there, is_eligible, eligible_in, queued_in_all}
-use Rattle.acd_terms.specs.Writes.{with_connection, without_connection}
-use Rattle.acd_terms.specs.Moves.{moved, events_of}
-use Rattle.acd_terms.specs.CallMoves.{ringing}
+use Rattle.acd_model.specs.Scans.{agent_of, connection_of, has, is_idle, is_occupied, waiting_in, is_idle_there, is_eligible, eligible_in, queued_in_all}
+use Rattle.acd_model.specs.Writes.{with_connection, without_connection}
+use Rattle.acd_model.specs.Moves.{moved, events_of}
+use Rattle.acd_model.specs.CallMoves.{ringing}
 use Rattle.acd_laws.proofs.Facts.{Rules}
 use Rattle.acd_laws.proofs.Lists.{one, filter_among, counted, count_length, none_from, mapped_among}
 use Rattle.acd_laws.proofs.State.{connection_found, agent_found, still_none, count_new, count_less, connection_there}
-use Rattle.acd_terms.specs.Choice.{waiting_pair, ready_pair, offer_of}
-use Rattle.acd_terms.specs.Offers.{IsOffer, HasNoOffer}
-use Rattle.acd_terms.specs.Distribution.{offer_at, offer_moves, with_offer, offers, distribution}
-use Rattle.acd_terms.proofs.MoveLemmas.{events_of_append, moved_append}
+use Rattle.acd_model.specs.Choice.{waiting_pair, ready_pair, offer_of}
+use Rattle.acd_model.specs.Offers.{IsOffer, HasNoOffer}
+use Rattle.acd_model.specs.Distribution.{offer_at, offer_moves, with_offer, offers, distribution}
+use Rattle.acd_model.proofs.MoveLemmas.{events_of_append, moved_append}
 use Rattle.acd_laws.proofs.OfferFound.{finds_the_offer, nothing_found, no_offer, no_offers}
 use Rattle.acd_laws.proofs.KeptOffer.{offer_station, offer_new, kept_offer}
 use Rattle.acd_laws.proofs.Decided.{◌and◌, holds, fails}

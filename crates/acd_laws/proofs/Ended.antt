@@ -4,13 +4,13 @@ use Rattle.std.specs.Prelude.{is_some}
 use Rattle.acd_laws.proofs.Types.{Rows, GroupRecord, AgentRecord, AgentState, Command, Event}
 use Rattle.acd_terms.specs.declared.state.AgentState.TheVariants as A
 use Rattle.acd_terms.specs.Lists.{find_by, AllAfter, IsAscending}
-use Rattle.acd_terms.specs.Scans.{at_group, group_of, station_of, call_of, is_group, is_station, is_planned}
-use Rattle.acd_terms.specs.Writes.{with_last}
-use Rattle.acd_terms.specs.Rules.Plan.{group_order}
+use Rattle.acd_model.specs.Scans.{at_group, group_of, station_of, call_of, is_group, is_station, is_planned}
+use Rattle.acd_model.specs.Writes.{with_last}
+use Rattle.acd_model.specs.Rules.Plan.{group_order}
 use Rattle.acd_laws.proofs.Facts.{Rules, IsPlannedStation, IsPlannedGroup, SeatedAs, AgentRule, CallRule, IsCaller, ConnectionRule, two_if}
 use Rattle.acd_laws.proofs.Lists.{every_among, every_from}
-use Rattle.acd_terms.specs.Figures.{counting, with_figures}
-use Rattle.acd_terms.specs.Step.{step, executed_moment, next_stamp}
+use Rattle.acd_model.specs.Figures.{counting, with_figures}
+use Rattle.acd_model.specs.Step.{step, executed_moment, next_stamp}
 use Rattle.acd_laws.proofs.State.{group_counted_found, is_some_mapped}
 use Rattle.acd_laws.proofs.Arriving.{rule_same}
 use Rattle.acd_laws.proofs.RulesKept.{rules_moves}

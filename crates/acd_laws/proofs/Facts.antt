@@ -1,16 +1,16 @@
 -- The rules of rows as facts: of each record, counts over the plain lists, and bounds. Rows that break no rule are these (`DecidedAll`).
 use Rattle.std.specs.Prelude.{◌≡◌, ◌≢◌, ◌⊎◌, ℕ, ◌+◌, ◌≤◌, Bool, true, false, ◌&&◌, ◌==◌, Option, Some, None, is_some, if◌then◌else◌, ◌*◌, length}
 use Rattle.acd_terms.specs.Lists.{Every, count, Among}
-use Rattle.acd_terms.specs.Scans.{call_of, is_group, is_station, is_planned, has}
 use Rattle.acd_terms.specs.States.{is_alerting, is_answered, is_ready, is_busy}
-use Rattle.acd_terms.specs.OneOffer.{is_distributed_at}
-use Rattle.acd_terms.specs.Rules.Calls.{parties_of, initiated_of, open_of, live_at, alerting_at, hold_at}
+use Rattle.acd_model.specs.Scans.{call_of, is_group, is_station, is_planned, has}
+use Rattle.acd_model.specs.OneOffer.{is_distributed_at}
+use Rattle.acd_model.specs.Rules.Calls.{parties_of, initiated_of, open_of, live_at, alerting_at, hold_at}
 use Rattle.acd_laws.proofs.Types.{Rows, GroupRecord, AgentRecord, CallRecord, ConnectionRecord, MonitorRecord, ConnectionState, AgentState}
 use Rattle.acd_terms.specs.declared.state.AgentState.TheVariants as agent
 use Rattle.acd_terms.specs.declared.state.ConnectionState.TheVariants.{Initiated, Alerting, Connected, Hold, Queued}
 use Rattle.acd_terms.specs.Limits.{limits_fit}
-use Rattle.acd_terms.specs.Offers.{HasNoOffer}
-use Rattle.acd_terms.specs.Rules.Occupied.{waits_in, rings_from}
+use Rattle.acd_model.specs.Offers.{HasNoOffer}
+use Rattle.acd_model.specs.Rules.Occupied.{waits_in, rings_from}
 use Rattle.acd_laws.specs.Orders.{Orders}
 
 -- each agent: one in null has no seat, any other a planned station and group

@@ -1,10 +1,10 @@
 -- What follows of a state, of the events since: what they tell, balance and keep in order, over a whole step.
 use Rattle.std.proofs.Common.{◌≡◌, ℕ, ◌+◌, ◌<◌, ◌≤◌, List, [], ◌++◌, refl, sym, ◌∙◌, ap, subst, length, arith, append-nil}
-use Rattle.acd_terms.specs.Moves.{moved, events_of}
-use Rattle.acd_terms.specs.Figures.{figures_of}
-use Rattle.acd_terms.specs.Told.{after, connection_told, seat_told}
-use Rattle.acd_terms.specs.Services.Serve.{serve}
-use Rattle.acd_terms.specs.Step.{numbered, step_moves}
+use Rattle.acd_model.specs.Moves.{moved, events_of}
+use Rattle.acd_model.specs.Figures.{figures_of}
+use Rattle.acd_model.specs.Told.{after, connection_told, seat_told}
+use Rattle.acd_model.specs.Services.Serve.{serve}
+use Rattle.acd_model.specs.Step.{numbered, step_moves}
 use Rattle.acd_laws.proofs.Types.{Rows, Figures, Command, Event, Move}
 use Rattle.acd_laws.proofs.Facts.{Rules}
 use Rattle.acd_laws.proofs.Told.{shown, seat, after-append, shown_after, seat_after}

@@ -1,11 +1,11 @@
 -- What a change leaves as it is: each writes one list.
 use Rattle.std.proofs.Common.{◌≡◌, ℕ, List, [], ◌∷◌, refl, ◌∙◌, ap}
 use Rattle.acd_terms.specs.Lists.{Every, find_by}
-use Rattle.acd_terms.specs.Scans.{at_connection, connection_of, agent_of, group_of, station_of, is_planned}
-use Rattle.acd_terms.specs.Writes.{with_group, with_station, with_agent, with_call, with_connection, with_monitor, without_call, without_connection, without_monitor}
-use Rattle.acd_terms.specs.Moves.{changed, moved}
+use Rattle.acd_model.specs.Scans.{at_connection, connection_of, agent_of, group_of, station_of, is_planned}
+use Rattle.acd_model.specs.Writes.{with_group, with_station, with_agent, with_call, with_connection, with_monitor, without_call, without_connection, without_monitor}
+use Rattle.acd_model.specs.Moves.{changed, moved}
 use Rattle.acd_laws.proofs.Types.{Rows, Change, Move}
-use Rattle.acd_terms.specs.declared.moves.Change.TheVariants.{PutGroup, PutStation, PutAgent, PutConnection, RemoveConnection}
+use Rattle.acd_model.specs.declared.moves.Change.TheVariants.{PutGroup, PutStation, PutAgent, PutConnection, RemoveConnection}
 
 -- what a change leaves as it is
 

@@ -4,23 +4,23 @@ use Rattle.std.specs.Prelude.{◌==◌, IsTrue, is_some, find}
 use Rattle.std.proofs.lemmas.Bool.{and_parts, and_from, eqb-true, false_from_ne_true, cases_eq}
 use Rattle.acd_laws.proofs.Types.{Rows, AgentRecord, ConnectionRecord, AgentState, Pending}
 use Rattle.acd_terms.specs.declared.state.AgentState.TheVariants as A
-use Rattle.acd_terms.specs.declared.moves.Change.TheVariants.{PutAgent}
 use Rattle.acd_terms.specs.Lists.{put_by, count, Among}
-use Rattle.acd_terms.specs.States.{is_null, is_ready, is_busy, is_working_after_call}
-use Rattle.acd_terms.specs.Scans.{group_of, station_of, agent_of, call_of, connection_of, is_group, is_station, has, agent_at, is_distributed, is_occupied}
-use Rattle.acd_terms.specs.Writes.{with_agent}
-use Rattle.acd_terms.specs.Moves.{changed, moved}
-use Rattle.acd_terms.specs.AgentMoves.{in_state, go_to, go_from, log_on_at}
-use Rattle.acd_terms.specs.Rules.Plan.{agent_order}
+use Rattle.acd_terms.specs.States.{is_null, is_ready, is_busy, is_working_after_call, is_distributed}
+use Rattle.acd_model.specs.declared.moves.Change.TheVariants.{PutAgent}
+use Rattle.acd_model.specs.Scans.{group_of, station_of, agent_of, call_of, connection_of, is_group, is_station, has, agent_at, is_occupied}
+use Rattle.acd_model.specs.Writes.{with_agent}
+use Rattle.acd_model.specs.Moves.{changed, moved}
+use Rattle.acd_model.specs.AgentMoves.{in_state, go_to, go_from, log_on_at}
+use Rattle.acd_model.specs.Rules.Plan.{agent_order}
 use Rattle.acd_laws.proofs.Facts.{Rules, IsPlannedStation, IsPlannedGroup, SeatedAs, AgentRule, ConnectionRule, ringing_at, seated_at, ready_at, busy_at, pending_at}
-use Rattle.acd_terms.specs.OneOffer.{is_distributed_at}
+use Rattle.acd_model.specs.OneOffer.{is_distributed_at}
 use Rattle.acd_laws.proofs.Lists.{one, find_passes, find_among, find_none, any_found, ascending-put, every_among, every-put, counted, two_counted, count_zero, some_from}
 use Rattle.acd_laws.proofs.Keyed.{eqb_self}
 use Rattle.acd_laws.proofs.State.{agents_total, agent_among, count_agent, has_is, agent_seat}
 use Rattle.acd_laws.proofs.KeptOffer.{unoccupied}
 use Rattle.acd_laws.proofs.Arriving.{with_agents, lone}
 use Rattle.acd_laws.proofs.Releasing.{serving, loosen, left_keeps, left_state, alerting_or_answered}
-use Rattle.acd_terms.specs.Tick.{rest_moves}
+use Rattle.acd_model.specs.Tick.{rest_moves}
 use Rattle.acd_laws.proofs.States.{null_is}
 
 agent_seat_has : (s : Rows) (d : ℕ) (a : AgentRecord) → agent_at s d ≡ Some a → seated_at d a ≡ true

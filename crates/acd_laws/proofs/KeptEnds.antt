@@ -4,18 +4,18 @@ use Rattle.std.specs.Prelude.{◌==◌, IsTrue, IsFalse, is_some}
 use Rattle.std.proofs.lemmas.Bool.{and_parts, and_from, eqb-true, or_left, false_from_ne_true, and_right, or_cases, or_parts, or_right}
 use Rattle.acd_laws.proofs.Types.{Rows, ConnectionRecord, ConnectionState}
 use Rattle.acd_terms.specs.declared.state.ConnectionState.TheVariants as S
-use Rattle.acd_terms.specs.declared.moves.Change.TheVariants.{PutConnection, RemoveConnection}
-use Rattle.acd_terms.specs.declared.moves.Ending.TheVariants.{NoAnswer}
 use Rattle.acd_terms.specs.Lists.{count, Among, remove_by, IsAscending}
-use Rattle.acd_terms.specs.States.{is_alerting, is_initiated, is_connected, is_queued, is_answered}
-use Rattle.acd_terms.specs.Scans.{group_of, station_of, agent_of, call_of, connection_of, is_group, is_station, is_distributed, at_call, at_connection, other_of}
-use Rattle.acd_terms.specs.Writes.{with_connection, without_connection, without_call}
-use Rattle.acd_terms.specs.Moves.{changed, moved}
-use Rattle.acd_terms.specs.CallMoves.{queueing, clear, end_call}
-use Rattle.acd_terms.specs.Rules.Plan.{connection_order, call_order}
+use Rattle.acd_terms.specs.States.{is_alerting, is_initiated, is_connected, is_queued, is_answered, is_distributed}
+use Rattle.acd_model.specs.declared.moves.Change.TheVariants.{PutConnection, RemoveConnection}
+use Rattle.acd_model.specs.declared.moves.Ending.TheVariants.{NoAnswer}
+use Rattle.acd_model.specs.Scans.{group_of, station_of, agent_of, call_of, connection_of, is_group, is_station, at_call, at_connection, other_of}
+use Rattle.acd_model.specs.Writes.{with_connection, without_connection, without_call}
+use Rattle.acd_model.specs.Moves.{changed, moved}
+use Rattle.acd_model.specs.CallMoves.{queueing, clear, end_call}
+use Rattle.acd_model.specs.Rules.Plan.{connection_order, call_order}
 use Rattle.acd_laws.proofs.Facts.{RulesBut, Rules, Offered, AlertingColumns, HasColumns, GroupColumn, StandsAt, ConnectionRule, ringing_at, talking_at, CallRule, two_if}
-use Rattle.acd_terms.specs.Rules.Calls.{is_open, parties_of, initiated_of, open_of, live_at, alerting_at, hold_at}
-use Rattle.acd_terms.specs.OneOffer.{is_distributed_at}
+use Rattle.acd_model.specs.Rules.Calls.{is_open, parties_of, initiated_of, open_of, live_at, alerting_at, hold_at}
+use Rattle.acd_model.specs.OneOffer.{is_distributed_at}
 use Rattle.acd_laws.proofs.Lists.{one, ascending-put, ascending-remove, every-put, every-remove, two_counted, none_from, find_none, every_among, every_from, among-remove, counted, fewer, count_zero, both_fewer}
 use Rattle.acd_laws.proofs.Keyed.{eqb_self}
 use Rattle.acd_laws.proofs.State.{connections_total, found_key, connection_among, still_none, is_of, call_remove, removed_other, count_new, count_less, connection_rule, connection_there, other_among, other_device, other_agents, left_among}
@@ -23,9 +23,9 @@ use Rattle.acd_laws.proofs.States.{alerting_is}
 use Rattle.acd_laws.proofs.KeptOffer.{talking_is}
 use Rattle.acd_laws.proofs.Arriving.{with_connections, arrived_live, arrived_hold, arrived_open, rule_same, Arrived}
 use Rattle.acd_laws.proofs.Releasing.{after_release, loosen, ends_by, release_other_kept}
-use Rattle.acd_terms.specs.Tick.{return_to}
-use Rattle.acd_terms.specs.Release.{ending_of, release}
-use Rattle.acd_terms.specs.Services.{clearing, cleared_group, waiting_group, is_answered_by}
+use Rattle.acd_model.specs.Tick.{return_to}
+use Rattle.acd_model.specs.Release.{ending_of, release}
+use Rattle.acd_model.specs.Services.{clearing, cleared_group, waiting_group, is_answered_by}
 
 -- a connection at a group is queued
 at_group_queued : (s : Rows) (z : ConnectionRecord) (st : ConnectionState) → ((d : ℕ) → IsTrue (is_group s d) → IsFalse (is_station s d)) → StandsAt s z st → IsTrue (is_group s z.device) → st ≡ S.Queued

@@ -5,18 +5,18 @@ use Rattle.std.proofs.lemmas.Bool.{and_parts, and_from, false_from_ne_true, eqb-
 use Rattle.acd_laws.proofs.Types.{Rows, AgentRecord, CallRecord, ConnectionRecord, ConnectionState}
 use Rattle.acd_terms.specs.declared.state.AgentState.TheVariants as A
 use Rattle.acd_terms.specs.declared.state.ConnectionState.TheVariants as S
-use Rattle.acd_terms.specs.declared.moves.Change.TheVariants.{PutConnection, PutCall}
 use Rattle.acd_terms.specs.Lists.{put_by, count, Every, IsAscending, Among}
-use Rattle.acd_terms.specs.States.{is_initiated, is_alerting, is_connected, is_hold, is_queued, is_answered, is_live}
-use Rattle.acd_terms.specs.Scans.{group_of, station_of, agent_of, call_of, connection_of, is_station, has, agent_at, is_distributed, is_live_at, is_group, is_planned}
-use Rattle.acd_terms.specs.Writes.{with_agent, with_connection, with_call}
-use Rattle.acd_terms.specs.Moves.{no_move, changed, moved}
-use Rattle.acd_terms.specs.CallMoves.{talking, hold, retrieve, plain}
-use Rattle.acd_terms.specs.AgentMoves.{become_busy}
-use Rattle.acd_terms.specs.Rules.Plan.{agent_order, connection_order, call_order}
+use Rattle.acd_terms.specs.States.{is_initiated, is_alerting, is_connected, is_hold, is_queued, is_answered, is_live, is_distributed}
+use Rattle.acd_model.specs.declared.moves.Change.TheVariants.{PutConnection, PutCall}
+use Rattle.acd_model.specs.Scans.{group_of, station_of, agent_of, call_of, connection_of, is_station, has, agent_at, is_live_at, is_group, is_planned}
+use Rattle.acd_model.specs.Writes.{with_agent, with_connection, with_call}
+use Rattle.acd_model.specs.Moves.{no_move, changed, moved}
+use Rattle.acd_model.specs.CallMoves.{talking, hold, retrieve, plain}
+use Rattle.acd_model.specs.AgentMoves.{become_busy}
+use Rattle.acd_model.specs.Rules.Plan.{agent_order, connection_order, call_order}
 use Rattle.acd_laws.proofs.Facts.{Rules, AgentRule, Bare, HasColumns, StandsAt, ConnectionRule, ringing_at, talking_at, seated_at, ready_at, busy_at, pending_at, CallRule, IsCaller, two_if}
-use Rattle.acd_terms.specs.Rules.Calls.{is_open, parties_of, initiated_of, open_of, live_at, alerting_at, hold_at}
-use Rattle.acd_terms.specs.OneOffer.{is_distributed_at}
+use Rattle.acd_model.specs.Rules.Calls.{is_open, parties_of, initiated_of, open_of, live_at, alerting_at, hold_at}
+use Rattle.acd_model.specs.OneOffer.{is_distributed_at}
 use Rattle.acd_laws.proofs.Lists.{one, ascending-put, every-put, none_counted, fewer, every_among, every_from, counted, two_counted, none_from}
 use Rattle.acd_laws.proofs.State.{agents_total, connections_total, connection_among, calls_total, call_put, put_other, found_key, call_among, count_old, count_agent, connection_rule, count_new, none_above, no_call_above, none_of_call}
 use Rattle.acd_laws.proofs.Keyed.{eqb_self}
@@ -24,7 +24,7 @@ use Rattle.acd_laws.proofs.Arriving.{alerting_is_live, Arrived, rule_same, lone,
 use Rattle.acd_laws.proofs.KeptOffer.{ringing_is}
 use Rattle.acd_laws.proofs.States.{alerting_is, ready_is, initiated_is, connected_is, hold_is}
 use Rattle.acd_laws.proofs.Releasing.{Serves, serving}
-use Rattle.acd_terms.specs.Services.{occupy, busy_agent}
+use Rattle.acd_model.specs.Services.{occupy, busy_agent}
 use Rattle.acd_laws.proofs.KeptEnds.{two_le}
 
 -- an answer: the connection is connected, and agents are filter after it

@@ -6,19 +6,19 @@ use Rattle.std.proofs.lemmas.Bool.{eqb-true, false_from_ne_true, and_right, or_c
 use Rattle.acd_laws.proofs.Types.{Rows, GroupRecord, StationRecord, AgentRecord, CallRecord, ConnectionRecord, MonitorRecord, ConnectionState, AgentState}
 use Rattle.acd_terms.specs.declared.state.AgentState.TheVariants as A
 use Rattle.acd_terms.specs.declared.state.ConnectionState.TheVariants as S
-use Rattle.acd_terms.specs.declared.moves.Change.TheVariants.{PutGroup, PutStation, PutAgent, PutMonitor, RemoveMonitor}
 use Rattle.acd_terms.specs.Lists.{put_by, remove_by, count, Among, IsAscending}
 use Rattle.acd_terms.specs.States.{is_hold, is_live}
-use Rattle.acd_terms.specs.Scans.{at_monitor, group_of, station_of, agent_of, call_of, connection_of, is_group, is_station, is_planned, is_calling, is_used}
-use Rattle.acd_terms.specs.Writes.{with_group, with_station, with_agent, with_monitor, without_monitor}
-use Rattle.acd_terms.specs.Moves.{changed}
-use Rattle.acd_terms.specs.Rules.Plan.{group_order, station_order, agent_order, monitor_order}
+use Rattle.acd_model.specs.declared.moves.Change.TheVariants.{PutGroup, PutStation, PutAgent, PutMonitor, RemoveMonitor}
+use Rattle.acd_model.specs.Scans.{at_monitor, group_of, station_of, agent_of, call_of, connection_of, is_group, is_station, is_planned, is_calling, is_used}
+use Rattle.acd_model.specs.Writes.{with_group, with_station, with_agent, with_monitor, without_monitor}
+use Rattle.acd_model.specs.Moves.{changed}
+use Rattle.acd_model.specs.Rules.Plan.{group_order, station_order, agent_order, monitor_order}
 use Rattle.acd_laws.proofs.Facts.{Rules, IsPlannedStation, IsPlannedGroup, SeatedAs, AgentRule, CallRule, IsCaller, StandsAt, ConnectionRule, seated_at, ready_at, busy_at, pending_at}
 use Rattle.acd_laws.proofs.Lists.{one, any_some, ascending-put, ascending-remove, count-put_new, every_among, every_from, every-put, count_zero}
 use Rattle.acd_laws.proofs.Arriving.{rule_more, with_agents}
 use Rattle.acd_laws.proofs.Keyed.{cmp_equal}
 use Rattle.acd_laws.proofs.State.{groups_total, stations_total, agents_total, monitors_total, agent_find, group_put, station_put, call_among}
-use Rattle.acd_terms.specs.Services.{new_agent}
+use Rattle.acd_model.specs.Services.{new_agent}
 
 any_false : {X : Type 0} (p : X → Bool) (xs : List X) → list_any p xs ≡ false → (x : X) → Among x xs → p x ≡ false
 any_false p xs e x a = false_from_ne_true (p x) (λ q. cc (any_some p xs x a q, e))

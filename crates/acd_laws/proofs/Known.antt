@@ -2,14 +2,14 @@
 use Rattle.std.proofs.Common.{◌≡◌, ℕ, ◌+◌, ◌<◌, ◌≤◌, ◌&&◌, List, [], ◌∷◌, ◌++◌, Option, Some, None, refl, sym, ◌∙◌, ap, subst, arith}
 use Rattle.std.specs.Prelude.{nat_le, is_none}
 use Rattle.acd_terms.specs.Lists.{find_by, Every}
-use Rattle.acd_terms.specs.Scans.{at_call, call_of}
-use Rattle.acd_terms.specs.Writes.{with_group, with_station, with_agent, with_connection, with_monitor, without_connection, without_monitor}
-use Rattle.acd_terms.specs.Moves.{changed, moved, with_event, events_of}
 use Rattle.acd_terms.specs.Columns.{columns_of}
-use Rattle.acd_terms.specs.Placed.{clears, cleared_by}
-use Rattle.acd_terms.specs.Step.{numbered}
+use Rattle.acd_model.specs.Scans.{at_call, call_of}
+use Rattle.acd_model.specs.Writes.{with_group, with_station, with_agent, with_connection, with_monitor, without_connection, without_monitor}
+use Rattle.acd_model.specs.Moves.{changed, moved, with_event, events_of}
+use Rattle.acd_model.specs.Placed.{clears, cleared_by}
+use Rattle.acd_model.specs.Step.{numbered}
 use Rattle.acd_laws.proofs.Types.{Rows, CallRecord, Change, Event, Move, Report}
-use Rattle.acd_terms.specs.declared.moves.Change.TheVariants.{PutCall, RemoveCall}
+use Rattle.acd_model.specs.declared.moves.Change.TheVariants.{PutCall, RemoveCall}
 use Rattle.acd_laws.specs.PlacedLaws.{IsUpTo, NamesNoLaterCall, clearings, KeepsClearings}
 use Rattle.acd_laws.proofs.Lists.{one, count-append, every-append}
 use Rattle.acd_laws.proofs.CountedEvents.{count_numbered}

@@ -3,21 +3,22 @@ use Rattle.std.proofs.Common.{◌≡◌, ℕ, Bool, true, false, cond, Option, S
 use Rattle.std.specs.Prelude.{◌==◌}
 use Rattle.std.proofs.lemmas.Bool.{cond-false}
 use Rattle.acd_terms.specs.Lists.{IsAscending}
-use Rattle.acd_terms.specs.Rules.Plan.{agent_order}
-use Rattle.acd_terms.specs.Scans.{agent_of, agent_at, is_distributed, is_group, is_idle}
-use Rattle.acd_terms.specs.Writes.{with_agent}
-use Rattle.acd_terms.specs.Moves.{no_move, reported, changed}
-use Rattle.acd_terms.specs.AgentMoves.{kept_in, in_state, state_report, go_from, wait_for}
-use Rattle.acd_terms.specs.Release.{release_of, released, release_agent, release}
-use Rattle.acd_terms.specs.Services.{busy_agent, occupy}
+use Rattle.acd_terms.specs.States.{is_distributed}
+use Rattle.acd_model.specs.Rules.Plan.{agent_order}
+use Rattle.acd_model.specs.Scans.{agent_of, agent_at, is_group, is_idle}
+use Rattle.acd_model.specs.Writes.{with_agent}
+use Rattle.acd_model.specs.Moves.{no_move, reported, changed}
+use Rattle.acd_model.specs.AgentMoves.{kept_in, in_state, state_report, go_from, wait_for}
+use Rattle.acd_model.specs.Release.{release_of, released, release_agent, release}
+use Rattle.acd_model.specs.Services.{busy_agent, occupy}
 use Rattle.acd_laws.proofs.Types.{Rows, AgentRecord, ConnectionRecord, AgentState, Pending, Cause, Ending, Move, Release}
 use Rattle.acd_terms.specs.declared.state.AgentState.TheVariants as A
-use Rattle.acd_terms.specs.declared.moves.Change.TheVariants.{PutAgent, PutConnection}
-use Rattle.acd_terms.specs.declared.moves.Release.TheVariants.{Stays, Goes}
+use Rattle.acd_model.specs.declared.moves.Change.TheVariants.{PutAgent, PutConnection}
+use Rattle.acd_model.specs.declared.moves.Release.TheVariants.{Stays, Goes}
 use Rattle.acd_laws.proofs.State.{agent_put, agent_there}
-use Rattle.acd_terms.specs.CallMoves.{plain, queueing, met_at, arriving, arrival, arrive}
 use Rattle.acd_terms.specs.declared.state.ConnectionState.TheVariants.{Alerting, Fail}
 use Rattle.acd_terms.specs.declared.event.Report.TheVariants.{Queued, Delivered, Failed}
+use Rattle.acd_model.specs.CallMoves.{plain, queueing, met_at, arriving, arrival, arrive}
 
 -- the agent in another state, at the same station unless it is null
 pub record Reseated (m k : ℕ) (a b : AgentRecord) : Type 0 where

@@ -2,15 +2,15 @@
 use Rattle.std.proofs.Common.{◌≡◌, ℕ, inl, inr, true, false, ◌&&◌, ◌||◌, cond, List, [], ◌∷◌, Some, None, refl, sym, ◌∙◌, ap, subst, arith, map, ◌<◌, Option, zero, suc}
 use Rattle.std.specs.Prelude.{nat_lt, ◌==◌}
 use Rattle.std.proofs.lemmas.Bool.Decides.{nat_tests}
-use Rattle.acd_terms.specs.Choice.{pair_lt, lesser, least_from, waiting_pair, ready_pair, first_waiting, first_eligible, offer_or, offer_in, offer_of}
-use Rattle.acd_terms.specs.Offers.{IsLeast, FindsLeast, HasNoOffer, IsOffer, FindsTheOffer}
+use Rattle.acd_model.specs.Choice.{pair_lt, lesser, least_from, waiting_pair, ready_pair, first_waiting, first_eligible, offer_or, offer_in, offer_of}
+use Rattle.acd_model.specs.Offers.{IsLeast, FindsLeast, HasNoOffer, IsOffer, FindsTheOffer}
 use Rattle.acd_laws.proofs.Lists.{some_is}
 use Rattle.std.specs.Ordering.{nat_cmp}
 use Rattle.std.specs.declared.cmp.Ordering.TheVariants.{Less}
 use Rattle.acd_terms.specs.Lists.{Among, AllAfter, IsAscending}
-use Rattle.acd_terms.specs.Scans.{waiting_in, eligible_in}
+use Rattle.acd_model.specs.Scans.{waiting_in, eligible_in}
 use Rattle.acd_laws.proofs.Types.{Rows, GroupRecord, Offer}
-use Rattle.acd_terms.specs.Distribution.{offers}
+use Rattle.acd_model.specs.Distribution.{offers}
 
 itself : (a b : ℕ) → (nat_lt a a || (a == a && nat_lt b b)) ≡ false
 itself a b = grind (arith, nat_tests)

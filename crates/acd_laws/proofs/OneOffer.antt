@@ -3,9 +3,9 @@ use Rattle.std.proofs.Common.{◌≡◌, ℕ, true, ◌&&◌, inl, inr, Option, 
 use Rattle.std.specs.Prelude.{◌==◌, is_some}
 use Rattle.std.proofs.lemmas.Bool.{and_parts, and_from, eqb-true}
 use Rattle.acd_terms.specs.Lists.{Among}
-use Rattle.acd_terms.specs.States.{is_null, is_busy, is_alerting, is_answered}
-use Rattle.acd_terms.specs.Scans.{has, is_distributed}
-use Rattle.acd_terms.specs.OneOffer.{IsAttended, IsTalking, HasOneOffer}
+use Rattle.acd_terms.specs.States.{is_null, is_busy, is_alerting, is_answered, is_distributed}
+use Rattle.acd_model.specs.Scans.{has}
+use Rattle.acd_model.specs.OneOffer.{IsAttended, IsTalking, HasOneOffer}
 use Rattle.acd_laws.proofs.Types.{Rows, AgentRecord, ConnectionRecord, Command}
 use Rattle.acd_terms.specs.declared.state.AgentState.TheVariants as A
 use Rattle.acd_laws.proofs.Facts.{Rules, IsPlannedStation, SeatedAs, AgentRule, ConnectionRule, talking_at, busy_at}
@@ -18,7 +18,7 @@ use Rattle.acd_laws.proofs.Releasing.{serving, alerting_or_answered}
 use Rattle.acd_laws.proofs.Decided.{one_that}
 use Rattle.acd_laws.proofs.Ended.{rules_step}
 use Rattle.acd_laws.proofs.Runs.{kept_by_run, rules_first}
-use Rattle.acd_terms.specs.Step.{step}
+use Rattle.acd_model.specs.Step.{step}
 
 planned_some : (s : Rows) (o : Option ℕ) → IsPlannedStation s o → is_some o ≡ true
 planned_some s None h = absurd h

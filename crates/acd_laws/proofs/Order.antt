@@ -4,21 +4,21 @@ use Rattle.std.specs.Prelude.{◌==◌}
 use Rattle.std.proofs.lemmas.List.{length-append}
 use Rattle.std.proofs.lemmas.Bool.{and_left, and_right, and_from, eqb-true, false_from_ne_true}
 use Rattle.acd_terms.specs.Lists.{Among, put_by}
-use Rattle.acd_terms.specs.Scans.{has}
-use Rattle.acd_terms.specs.Writes.{with_connection}
-use Rattle.acd_terms.specs.Moves.{moved, with_event, events_of, event_at}
 use Rattle.acd_terms.specs.Columns.{columns_of}
-use Rattle.acd_terms.specs.Figures.{is_entry}
-use Rattle.acd_terms.specs.Told.{enters, last_entry}
-use Rattle.acd_terms.specs.Watched.{is_held_by, IsHeldAt, InOrder}
-use Rattle.acd_terms.specs.Step.{numbered}
-use Rattle.acd_terms.specs.Rules.Plan.{connection_order}
+use Rattle.acd_model.specs.Scans.{has}
+use Rattle.acd_model.specs.Writes.{with_connection}
+use Rattle.acd_model.specs.Moves.{moved, with_event, events_of, event_at}
+use Rattle.acd_model.specs.Figures.{is_entry}
+use Rattle.acd_model.specs.Told.{enters, last_entry}
+use Rattle.acd_model.specs.Watched.{is_held_by, IsHeldAt, InOrder}
+use Rattle.acd_model.specs.Step.{numbered}
+use Rattle.acd_model.specs.Rules.Plan.{connection_order}
 use Rattle.acd_laws.proofs.Types.{Rows, ConnectionRecord, Event, Move, Report}
 use Rattle.acd_terms.specs.declared.state.ConnectionState.TheVariants as S
-use Rattle.acd_terms.specs.Rules.Calls.{is_open}
+use Rattle.acd_model.specs.Rules.Calls.{is_open}
 use Rattle.acd_laws.proofs.Told.{HasEntries, UpTo}
 use Rattle.acd_laws.proofs.Lists.{one, some_is, among_put}
-use Rattle.acd_terms.proofs.MoveLemmas.{moved_append, events_of_append}
+use Rattle.acd_model.proofs.MoveLemmas.{moved_append, events_of_append}
 use Rattle.acd_laws.proofs.CountedEvents.{numbered-append}
 use Rattle.acd_laws.proofs.Balance.{entries, entry_by}
 

@@ -5,15 +5,15 @@ use Rattle.acd_laws.proofs.Types.{Rows, AgentRecord, ConnectionRecord, Connectio
 use Rattle.acd_terms.specs.declared.state.AgentState.TheVariants as A
 use Rattle.acd_terms.specs.declared.state.ConnectionState.TheVariants as S
 use Rattle.acd_terms.specs.declared.event.Report.TheVariants as report
-use Rattle.acd_terms.specs.declared.moves.Change.TheVariants.{Nothing, PutAgent, PutCall, PutConnection, RemoveCall, RemoveConnection}
 use Rattle.acd_terms.specs.Lists.{count, Every, IsAscending}
-use Rattle.acd_terms.specs.Scans.{at_agent, at_call, at_connection, agent_of, connection_of}
-use Rattle.acd_terms.specs.Writes.{with_group, with_station, with_agent, with_call, with_connection, with_monitor, without_call, without_connection, without_monitor}
-use Rattle.acd_terms.specs.Moves.{silent, reported, changed, moved}
-use Rattle.acd_terms.specs.CallMoves.{plain, queueing, arrive}
-use Rattle.acd_terms.specs.AgentMoves.{state_report}
-use Rattle.acd_terms.specs.Figures.{is_entry}
-use Rattle.acd_terms.specs.Rules.Plan.{connection_order}
+use Rattle.acd_model.specs.declared.moves.Change.TheVariants.{Nothing, PutAgent, PutCall, PutConnection, RemoveCall, RemoveConnection}
+use Rattle.acd_model.specs.Scans.{at_agent, at_call, at_connection, agent_of, connection_of}
+use Rattle.acd_model.specs.Writes.{with_group, with_station, with_agent, with_call, with_connection, with_monitor, without_call, without_connection, without_monitor}
+use Rattle.acd_model.specs.Moves.{silent, reported, changed, moved}
+use Rattle.acd_model.specs.CallMoves.{plain, queueing, arrive}
+use Rattle.acd_model.specs.AgentMoves.{state_report}
+use Rattle.acd_model.specs.Figures.{is_entry}
+use Rattle.acd_model.specs.Rules.Plan.{connection_order}
 use Rattle.acd_laws.proofs.Facts.{AgentTimed, CallTimed, IsPlace, IsMoment, ConnectionTimed, at_place, Timed}
 use Rattle.acd_laws.proofs.Frames.{LeavesConnections, left_connections}
 use Rattle.acd_laws.proofs.Lists.{one, count-put_most, count-remove_most, every_among, every-put, every-remove}

@@ -6,18 +6,18 @@ use Rattle.acd_laws.proofs.Types.{Rows, ConnectionRecord, Event, Move, Report}
 use Rattle.acd_terms.specs.declared.state.AgentState.TheVariants.{Ready}
 use Rattle.acd_terms.specs.declared.event.Cause.TheVariants.{Distributed, NoAnswer as Unanswered}
 use Rattle.acd_terms.specs.declared.event.Report.TheVariants as report
-use Rattle.acd_terms.specs.declared.moves.Ending.TheVariants.{NoAnswer}
 use Rattle.acd_terms.specs.Lists.{count, Every, IsAscending}
-use Rattle.acd_terms.specs.Scans.{connection_of, has}
-use Rattle.acd_terms.specs.Writes.{with_connection, without_connection}
-use Rattle.acd_terms.specs.Moves.{reported, moved, with_event, events_of}
-use Rattle.acd_terms.specs.CallMoves.{queueing, ringing, divert, offer, go_back}
-use Rattle.acd_terms.specs.Figures.{is_entry}
-use Rattle.acd_terms.specs.declared.moves.Change.TheVariants.{PutConnection, RemoveConnection}
-use Rattle.acd_terms.specs.Release.{release}
-use Rattle.acd_terms.specs.Distribution.{distribution}
-use Rattle.acd_terms.specs.Tick.{returns as all_returns, tick}
-use Rattle.acd_terms.specs.Rules.Plan.{agent_order}
+use Rattle.acd_model.specs.declared.moves.Ending.TheVariants.{NoAnswer}
+use Rattle.acd_model.specs.Scans.{connection_of, has}
+use Rattle.acd_model.specs.Writes.{with_connection, without_connection}
+use Rattle.acd_model.specs.Moves.{reported, moved, with_event, events_of}
+use Rattle.acd_model.specs.CallMoves.{queueing, ringing, divert, offer, go_back}
+use Rattle.acd_model.specs.Figures.{is_entry}
+use Rattle.acd_model.specs.declared.moves.Change.TheVariants.{PutConnection, RemoveConnection}
+use Rattle.acd_model.specs.Release.{release}
+use Rattle.acd_model.specs.Distribution.{distribution}
+use Rattle.acd_model.specs.Tick.{returns as all_returns, tick}
+use Rattle.acd_model.specs.Rules.Plan.{agent_order}
 use Rattle.acd_laws.proofs.Facts.{Rules, IsMoment, IsAfter, ConnectionTimed, at_place, Timed}
 use Rattle.acd_laws.proofs.Lists.{one, count-append, every-append}
 use Rattle.acd_laws.proofs.Balance.{entries, entry_by}

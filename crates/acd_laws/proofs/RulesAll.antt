@@ -5,23 +5,24 @@ use Rattle.std.proofs.lemmas.Bool.{and_parts, eqb-true, false_from_ne_true}
 use Rattle.acd_laws.proofs.Types.{Rows, Limits, GroupRecord, Figures, Command, Event, Move, Report}
 use Rattle.acd_terms.specs.Lists.{count, total, Among, Every}
 use Rattle.acd_terms.specs.States.{is_alerting, is_queued}
-use Rattle.acd_terms.specs.Scans.{is_group, has}
-use Rattle.acd_terms.specs.Writes.{with_last, empty_rows}
-use Rattle.acd_terms.specs.Moves.{moved, events_of}
+use Rattle.acd_terms.specs.Rows.{empty_rows}
+use Rattle.acd_model.specs.Scans.{is_group, has}
+use Rattle.acd_model.specs.Writes.{with_last}
+use Rattle.acd_model.specs.Moves.{moved, events_of}
 use Rattle.acd_laws.proofs.Facts.{Rules, GroupColumn, StandsAt, ConnectionRule, IsPlace, ConnectionTimed, at_place, Timed, OnePlace, MonitorRule, IsCountedUpTo, AddsUp, KeepsRules}
 use Rattle.acd_laws.proofs.Lists.{one, every_among, every_from, count_zero}
 use Rattle.std.proofs.lemmas.Nat.{mul-le}
 use Rattle.std.proofs.Math.Nat.{add-mul}
 use Rattle.acd_terms.specs.declared.event.Report.TheVariants as report
 use Rattle.acd_terms.specs.Limits.{limits_fit}
-use Rattle.acd_terms.specs.Offers.{HasNoOffer}
-use Rattle.acd_terms.specs.Figures.{is_entry, is_answer, waited_there, figures_of, counting, with_figures}
-use Rattle.acd_terms.specs.Services.{no_figures}
-use Rattle.acd_terms.specs.Services.Serve.{serve}
-use Rattle.acd_terms.specs.Rules.Occupied.{waits_in, rings_from}
-use Rattle.acd_terms.specs.Rules.First.{BreaksNoRule}
-use Rattle.acd_terms.specs.Step.{step_moves, step, executed_moment, next_stamp}
-use Rattle.acd_terms.specs.Run.{Asked, run}
+use Rattle.acd_model.specs.Offers.{HasNoOffer}
+use Rattle.acd_model.specs.Figures.{is_entry, is_answer, waited_there, figures_of, counting, with_figures}
+use Rattle.acd_model.specs.Services.{no_figures}
+use Rattle.acd_model.specs.Services.Serve.{serve}
+use Rattle.acd_model.specs.Rules.Occupied.{waits_in, rings_from}
+use Rattle.acd_model.specs.Rules.First.{BreaksNoRule}
+use Rattle.acd_model.specs.Step.{step_moves, step, executed_moment, next_stamp}
+use Rattle.acd_model.specs.Run.{Asked, run}
 use Rattle.acd_laws.specs.RuleLaws.{StepKeepsRules, RunKeepsRules, RulesBound, RulesLeaveRoom}
 use Rattle.acd_laws.proofs.Balance.{holding}
 use Rattle.acd_laws.proofs.Following.{follows_step}

@@ -2,19 +2,19 @@
 use Rattle.std.proofs.Common.{◌≡◌, ℕ, inl, inr, List, [], sym, ap, subst, refl, arith}
 use Rattle.acd_laws.proofs.Types.{Rows, Command, Move}
 use Rattle.acd_terms.specs.States.{is_initiated, state_wanted}
-use Rattle.acd_terms.specs.Scans.{other_of}
-use Rattle.acd_terms.specs.Moves.{moved}
-use Rattle.acd_terms.specs.CallMoves.{destination_of, arriving, arrive}
-use Rattle.acd_terms.specs.Served.{moves_of}
-use Rattle.acd_terms.specs.Services.{new_group, next_call, next_monitor}
-use Rattle.acd_terms.specs.Services.Serve.{serve}
-use Rattle.acd_terms.specs.Step.{step_moves}
-use Rattle.acd_terms.specs.Distribution.{distribution}
+use Rattle.acd_model.specs.Scans.{other_of}
+use Rattle.acd_model.specs.Moves.{moved}
+use Rattle.acd_model.specs.CallMoves.{destination_of, arriving, arrive}
+use Rattle.acd_model.specs.Served.{moves_of}
+use Rattle.acd_model.specs.Services.{new_group, next_call, next_monitor}
+use Rattle.acd_model.specs.Services.Serve.{serve}
+use Rattle.acd_model.specs.Step.{step_moves}
+use Rattle.acd_model.specs.Distribution.{distribution}
 use Rattle.acd_laws.proofs.Facts.{Rules}
-use Rattle.acd_terms.specs.Rules.Calls.{is_open}
+use Rattle.acd_model.specs.Rules.Calls.{is_open}
 use Rattle.acd_laws.proofs.Lists.{one}
 use Rattle.acd_laws.proofs.State.{connection_among}
-use Rattle.acd_terms.proofs.MoveLemmas.{moved_append}
+use Rattle.acd_model.proofs.MoveLemmas.{moved_append}
 use Rattle.acd_laws.proofs.Ticking.{tick_keeps}
 use Rattle.acd_laws.proofs.Distributing.{rules_distribution}
 use Rattle.acd_laws.proofs.Deeds.{new_call, Deed, nothing, adds_group, adds_station, adds_agent, watches, unwatches, arrives, makes, goes_out, answers, holds, retrieves, clears, deflects, transfers, logs_on, waits, goes, deed_of_serve}

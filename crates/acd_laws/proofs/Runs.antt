@@ -1,9 +1,9 @@
 -- What each step keeps, every run keeps; and the state with which a run begins.
 use Rattle.std.proofs.Common.{ℕ, List, [], ◌∷◌, ◌++◌, refl, sym, subst, append-nil, append_assoc, arith}
-use Rattle.acd_terms.specs.Scans.{group_of, station_of, call_of}
-use Rattle.acd_terms.specs.Writes.{empty_rows}
-use Rattle.acd_terms.specs.Step.{step}
-use Rattle.acd_terms.specs.Run.{Asked, run}
+use Rattle.acd_terms.specs.Rows.{empty_rows}
+use Rattle.acd_model.specs.Scans.{group_of, station_of, call_of}
+use Rattle.acd_model.specs.Step.{step}
+use Rattle.acd_model.specs.Run.{Asked, run}
 use Rattle.acd_laws.proofs.Types.{Rows, Limits, Command, Event}
 use Rattle.acd_laws.proofs.Facts.{Rules}
 

@@ -2,7 +2,7 @@
 use Rattle.std.proofs.Common.{◌≡◌, Bool, true, false, Option, Some, None, Err, refl}
 use Rattle.std.specs.Option.{ok_or}
 use Rattle.acd_laws.proofs.Types.{Refusal, Served}
-use Rattle.acd_terms.specs.Served.{refuse_if, if_ok, ◌>>=◌, ◌>>◌}
+use Rattle.acd_model.specs.Served.{refuse_if, if_ok, ◌>>=◌, ◌>>◌}
 
 pub by_refusal : (P : Served → Type 0) (b : Bool) (r : Refusal) (rest : Served) → ((r : Refusal) → P (Err r)) → (b ≡ false → P rest) → P (refuse_if b r >> rest)
 unfolding refuse_if if_ok

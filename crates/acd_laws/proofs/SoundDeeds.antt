@@ -3,28 +3,28 @@ use Rattle.std.proofs.Common.{◌≡◌, ℕ, ◌+◌, ◌<◌, ◌≤◌, inl, 
 use Rattle.std.specs.Prelude.{◌==◌}
 use Rattle.std.proofs.lemmas.Bool.{and_right, and_from, or_right}
 use Rattle.acd_terms.specs.Lists.{Among, Every, count}
-use Rattle.acd_terms.specs.Scans.{connection_of, other_of, is_station, is_planned, has, is_used}
 use Rattle.acd_terms.specs.States.{is_queued, is_alerting, is_connected, is_initiated, state_wanted}
-use Rattle.acd_terms.specs.Writes.{with_call, with_connection, without_connection, without_call}
-use Rattle.acd_terms.specs.Moves.{no_move, changed, moved}
-use Rattle.acd_terms.specs.CallMoves.{plain, queueing, ringing, begin, connect_caller, initiate, originate, arrive, answer, talking, waited_by, divert, transfer, go_back, clear, end_call}
-use Rattle.acd_terms.specs.AgentMoves.{log_on_at}
-use Rattle.acd_terms.specs.Release.{release, ending_of}
 use Rattle.acd_terms.specs.Columns.{columns_of}
-use Rattle.acd_terms.specs.Told.{state_by}
-use Rattle.acd_terms.specs.Watched.{seat_of}
-use Rattle.acd_terms.specs.Figures.{is_entry, is_answer, is_no_answer}
-use Rattle.acd_terms.specs.Services.{new_group, new_agent, next_monitor, next_call, occupy, waiting_group, first_group, clearing}
-use Rattle.acd_terms.specs.Distribution.{offer_at}
-use Rattle.acd_terms.specs.Tick.{return_to}
+use Rattle.acd_model.specs.Scans.{connection_of, other_of, is_station, is_planned, has, is_used}
+use Rattle.acd_model.specs.Writes.{with_call, with_connection, without_connection, without_call}
+use Rattle.acd_model.specs.Moves.{no_move, changed, moved}
+use Rattle.acd_model.specs.CallMoves.{plain, queueing, ringing, begin, connect_caller, initiate, originate, arrive, answer, talking, waited_by, divert, transfer, go_back, clear, end_call}
+use Rattle.acd_model.specs.AgentMoves.{log_on_at}
+use Rattle.acd_model.specs.Release.{release, ending_of}
+use Rattle.acd_model.specs.Told.{state_by}
+use Rattle.acd_model.specs.Watched.{seat_of}
+use Rattle.acd_model.specs.Figures.{is_entry, is_answer, is_no_answer}
+use Rattle.acd_model.specs.Services.{new_group, new_agent, next_monitor, next_call, occupy, waiting_group, first_group, clearing}
+use Rattle.acd_model.specs.Distribution.{offer_at}
+use Rattle.acd_model.specs.Tick.{return_to}
 use Rattle.acd_laws.proofs.Types.{Rows, AgentRecord, CallRecord, ConnectionRecord, MonitorRecord, ConnectionState, Cause, Ending, Move, Report}
 use Rattle.acd_terms.specs.declared.state.AgentState.TheVariants as A
 use Rattle.acd_terms.specs.declared.state.ConnectionState.TheVariants as S
 use Rattle.acd_terms.specs.declared.event.Cause.TheVariants as cause
 use Rattle.acd_terms.specs.declared.event.Report.TheVariants as report
-use Rattle.acd_terms.specs.declared.moves.Ending.TheVariants.{NoAnswer}
-use Rattle.acd_terms.specs.declared.moves.Change.TheVariants.{Nothing, PutGroup, PutStation, PutAgent, PutCall, PutConnection, PutMonitor, RemoveCall, RemoveConnection, RemoveMonitor}
-use Rattle.acd_terms.specs.Rules.Calls.{is_open, parties_of, open_of}
+use Rattle.acd_model.specs.declared.moves.Ending.TheVariants.{NoAnswer}
+use Rattle.acd_model.specs.declared.moves.Change.TheVariants.{Nothing, PutGroup, PutStation, PutAgent, PutCall, PutConnection, PutMonitor, RemoveCall, RemoveConnection, RemoveMonitor}
+use Rattle.acd_model.specs.Rules.Calls.{is_open, parties_of, open_of}
 use Rattle.acd_laws.proofs.Facts.{GroupColumn, StandsAt, Rules}
 use Rattle.acd_laws.proofs.Frames.{left_connections, left_connection, LeavesAgents, left_agent, left_agents, left_plan}
 use Rattle.acd_laws.proofs.Lists.{one, none_from, two_counted, among_put}

@@ -4,18 +4,18 @@ use Rattle.std.specs.Prelude.{◌==◌, is_some}
 use Rattle.std.specs.declared.cmp.Ordering.{Ordering}
 use Rattle.std.proofs.lemmas.Bool.{eqb-true}
 use Rattle.acd_laws.proofs.Types.{Rows, GroupRecord, AgentRecord, MonitorRecord, Change, Move}
-use Rattle.acd_terms.specs.declared.moves.Change.TheVariants.{Nothing, PutGroup, PutStation, PutAgent, PutCall, PutConnection, PutMonitor, RemoveCall, RemoveConnection, RemoveMonitor}
 use Rattle.acd_terms.specs.Lists.{put_by, remove_by, count, Among, Every, IsAscending}
-use Rattle.acd_terms.specs.Scans.{at_call, at_monitor, group_of, station_of, agent_of, is_group, is_planned}
-use Rattle.acd_terms.specs.Writes.{with_agent, with_connection, without_call, without_connection, without_monitor}
-use Rattle.acd_terms.specs.Moves.{changed, moved}
-use Rattle.acd_terms.specs.Rules.Plan.{agent_order}
+use Rattle.acd_model.specs.declared.moves.Change.TheVariants.{Nothing, PutGroup, PutStation, PutAgent, PutCall, PutConnection, PutMonitor, RemoveCall, RemoveConnection, RemoveMonitor}
+use Rattle.acd_model.specs.Scans.{at_call, at_monitor, group_of, station_of, agent_of, is_group, is_planned}
+use Rattle.acd_model.specs.Writes.{with_agent, with_connection, without_call, without_connection, without_monitor}
+use Rattle.acd_model.specs.Moves.{changed, moved}
+use Rattle.acd_model.specs.Rules.Plan.{agent_order}
 use Rattle.acd_laws.proofs.Lists.{ascending-put, count-put_old, count-put_most, count-remove_most, every_among, every_from, among-remove, some_from}
 use Rattle.acd_laws.proofs.Keyed.{cmp_equal, cmp_self}
 use Rattle.acd_laws.proofs.State.{agents_total, agent_find, agent_put}
 use Rattle.acd_terms.specs.Limits.{limits_fit}
 use Rattle.acd_laws.proofs.Facts.{Sizes, MonitorRule, Monitored}
-use Rattle.acd_terms.specs.Services.{no_figures}
+use Rattle.acd_model.specs.Services.{no_figures}
 
 -- a change that puts no record but a connection, or the record of an agent who is known
 abbrev pub Steady : (ℕ → Bool) → Change → Type 0

@@ -6,21 +6,21 @@ use Rattle.std.proofs.lemmas.Bool.{and_parts, and_from, eqb-true, false_from_ne_
 use Rattle.acd_laws.proofs.Types.{Rows, AgentRecord, ConnectionRecord, ConnectionState, Event, Move}
 use Rattle.acd_terms.specs.declared.state.AgentState.TheVariants as A
 use Rattle.acd_terms.specs.declared.state.ConnectionState.TheVariants as S
-use Rattle.acd_terms.specs.declared.moves.Ending.TheVariants.{NoAnswer}
 use Rattle.acd_terms.specs.Lists.{remove_by, Among, IsAscending}
 use Rattle.acd_terms.specs.States.{is_working_after_call, is_alerting}
-use Rattle.acd_terms.specs.Scans.{at_connection, agent_of, connection_of}
-use Rattle.acd_terms.specs.Writes.{with_connection, without_connection}
-use Rattle.acd_terms.specs.Moves.{moved, events_of}
-use Rattle.acd_terms.specs.CallMoves.{queueing}
-use Rattle.acd_terms.specs.Rules.Plan.{agent_order, connection_order}
+use Rattle.acd_model.specs.declared.moves.Ending.TheVariants.{NoAnswer}
+use Rattle.acd_model.specs.Scans.{at_connection, agent_of, connection_of}
+use Rattle.acd_model.specs.Writes.{with_connection, without_connection}
+use Rattle.acd_model.specs.Moves.{moved, events_of}
+use Rattle.acd_model.specs.CallMoves.{queueing}
+use Rattle.acd_model.specs.Rules.Plan.{agent_order, connection_order}
 use Rattle.acd_laws.proofs.Facts.{Rules}
-use Rattle.acd_terms.specs.Rules.Calls.{is_open, open_of}
+use Rattle.acd_model.specs.Rules.Calls.{is_open, open_of}
 use Rattle.acd_laws.proofs.Lists.{filter_among, after_among, ascending-filter, among-put_other, among-remove_other, two_counted, some_from}
 use Rattle.acd_laws.proofs.Keyed.{eqb_self, cmp_self}
 use Rattle.acd_laws.proofs.State.{is_of, is_of_true, order_equal, order_same, connection_key, agent_found, connection_there}
-use Rattle.acd_terms.specs.Tick.{is_overdue_offer, is_overdue, overdue_in, return_to, return_moves, is_rested, rested_in, rest_moves, each, returns, rests, tick, is_over_in}
-use Rattle.acd_terms.proofs.MoveLemmas.{events_of_append, moved_append}
+use Rattle.acd_model.specs.Tick.{is_overdue_offer, is_overdue, overdue_in, return_to, return_moves, is_rested, rested_in, rest_moves, each, returns, rests, tick, is_over_in}
+use Rattle.acd_model.proofs.MoveLemmas.{events_of_append, moved_append}
 use Rattle.acd_laws.proofs.MoveKinds.{goes_from, released_by, agent_connections, agent_others}
 use Rattle.acd_laws.proofs.KeptEnds.{kept_return_to}
 use Rattle.acd_laws.proofs.KeptAgents.{kept_rest_moves}

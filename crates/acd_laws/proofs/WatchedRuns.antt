@@ -2,29 +2,30 @@
 use Rattle.std.proofs.Common.{◌≡◌, ℕ, ◌<◌, ◌⊎◌, inl, inr, true, false, ◌&&◌, ◌||◌, cond, List, [], ◌∷◌, Option, Some, None, refl, sym, subst, arith, ◌+◌, Bool, not, ◌++◌, ◌∙◌, ap, length, eq-eqb}
 use Rattle.std.specs.Prelude.{◌==◌, is_some, option_map}
 use Rattle.acd_terms.specs.Lists.{Among}
-use Rattle.acd_terms.specs.Scans.{has, connection_of, agent_of, call_of, is_group, is_station, is_planned, is_occupied, is_taken, is_eligible, waiting_in, eligible_in}
 use Rattle.acd_terms.specs.States.{is_queued, is_alerting}
-use Rattle.acd_terms.specs.Told.{enters, last_entry, after, connection_told, seat_told}
-use Rattle.acd_terms.specs.Watched.{is_held_by, HasEntered, state_at, is_caller, is_external_caller, IsHeldAt, IsWatched}
+use Rattle.acd_model.specs.Scans.{has, connection_of, agent_of, call_of, is_group, is_station, is_planned, is_occupied, is_taken, is_eligible, waiting_in, eligible_in}
+use Rattle.acd_model.specs.Told.{enters, last_entry, after, connection_told, seat_told}
+use Rattle.acd_model.specs.Watched.{is_held_by, HasEntered, state_at, is_caller, is_external_caller, IsHeldAt, IsWatched}
 use Rattle.acd_laws.proofs.Types.{Rows, Limits, GroupRecord, CallRecord, ConnectionRecord, Figures, ConnectionState, Command, Event, Move}
 use Rattle.acd_terms.specs.declared.state.ConnectionState.TheVariants as S
 use Rattle.acd_laws.proofs.Facts.{Rules, AlertingColumns, HasColumns, ConnectionRule, IsCaller, StandsAt}
 use Rattle.acd_laws.proofs.Told.{HasEntries, shown, Tells, after-append, after-numbered}
 use Rattle.acd_laws.proofs.Lists.{every_among, some_from, none_from, mapped_among}
 use Rattle.std.proofs.lemmas.Bool.{and_parts, not-true, or_left, or_right}
-use Rattle.acd_terms.specs.Writes.{empty_rows, with_last}
-use Rattle.acd_terms.specs.Moves.{moved, events_of}
-use Rattle.acd_terms.specs.Figures.{figures_of, sum_of_figures, counting, with_figures}
-use Rattle.acd_terms.specs.Offers.{HasNoOffer}
-use Rattle.acd_terms.specs.Services.Serve.{serve}
-use Rattle.acd_terms.specs.Distribution.{distribution}
-use Rattle.acd_terms.specs.Served.{moves_of}
-use Rattle.acd_terms.specs.Step.{numbered, executed_moment, next_stamp, step_moves, step}
+use Rattle.acd_terms.specs.Rows.{empty_rows}
+use Rattle.acd_model.specs.Writes.{with_last}
+use Rattle.acd_model.specs.Moves.{moved, events_of}
+use Rattle.acd_model.specs.Figures.{figures_of, sum_of_figures, counting, with_figures}
+use Rattle.acd_model.specs.Offers.{HasNoOffer}
+use Rattle.acd_model.specs.Services.Serve.{serve}
+use Rattle.acd_model.specs.Distribution.{distribution}
+use Rattle.acd_model.specs.Served.{moves_of}
+use Rattle.acd_model.specs.Step.{numbered, executed_moment, next_stamp, step_moves, step}
 use Rattle.acd_laws.specs.WatchedLaws.{TellsNoMore, RunIsWatched, RunTellsNoMore}
 use Rattle.acd_laws.specs.BalanceLaws.{IsBalanced, RunIsBalanced}
 use Rattle.acd_laws.specs.OfferLaws.{LeavesNoOffer, RunLeavesNoOffer}
 use Rattle.acd_laws.proofs.State.{found_key, connection_rule}
-use Rattle.acd_terms.proofs.MoveLemmas.{moved_append}
+use Rattle.acd_model.proofs.MoveLemmas.{moved_append}
 use Rattle.acd_laws.proofs.CountedEvents.{figures_joined, figures_numbered}
 use Rattle.acd_laws.proofs.Balance.{holding}
 use Rattle.acd_laws.proofs.Order.{Ordered}

@@ -1,20 +1,20 @@
 -- The figures that a group keeps are those counted from all events.
 use Rattle.std.specs.Prelude.{◌≡◌, ℕ, true, false, List, ◌++◌, Some}
 use Rattle.acd_terms.specs.Lists.{Among}
-use Rattle.acd_terms.specs.Scans.{group_of, is_group}
-use Rattle.acd_terms.specs.Writes.{empty_rows}
-use Rattle.acd_terms.specs.Figures.{figures_of, counting}
-use Rattle.acd_terms.specs.Services.{no_figures}
-use Rattle.acd_terms.specs.Step.{step}
-use Rattle.acd_terms.specs.Run.{Asked, run}
-use Rattle.acd_terms.specs.Rules.Calls.{is_group_or_none}
-use Rattle.acd_terms.specs.Rules.First.{BreaksNoRule}
+use Rattle.acd_terms.specs.Rows.{empty_rows}
 use Rattle.acd_terms.specs.declared.rows.Rows.{Rows}
 use Rattle.acd_terms.specs.declared.rows.Limits.{Limits}
 use Rattle.acd_terms.specs.declared.record.GroupRecord.{GroupRecord}
 use Rattle.acd_terms.specs.declared.record.ConnectionRecord.{ConnectionRecord}
 use Rattle.acd_terms.specs.declared.command.Command.{Command}
 use Rattle.acd_terms.specs.declared.event.Event.{Event}
+use Rattle.acd_model.specs.Scans.{group_of, is_group}
+use Rattle.acd_model.specs.Figures.{figures_of, counting}
+use Rattle.acd_model.specs.Services.{no_figures}
+use Rattle.acd_model.specs.Step.{step}
+use Rattle.acd_model.specs.Run.{Asked, run}
+use Rattle.acd_model.specs.Rules.Calls.{is_group_or_none}
+use Rattle.acd_model.specs.Rules.First.{BreaksNoRule}
 
 -- the figures of each group are those that all events count, which count nothing for what is no group
 pub record KeepsFigures (s : Rows) (events : List Event) : Type 0 where

@@ -1,24 +1,24 @@
 -- Distribution makes the offers that are to be made, and after every step no group has both a waiting call and an eligible agent.
 use Rattle.std.specs.Prelude.{◌≡◌, ◌↔◌, ℕ, true, List, [], ◌++◌}
 use Rattle.acd_terms.specs.Lists.{Among}
-use Rattle.acd_terms.specs.Writes.{empty_rows}
-use Rattle.acd_terms.specs.Offers.{IsOffer, HasNoOffer}
-use Rattle.acd_terms.specs.Moves.{moved}
-use Rattle.acd_terms.specs.Distribution.{offer_moves, distribution}
-use Rattle.acd_terms.specs.Served.{moves_of}
-use Rattle.acd_terms.specs.Services.Serve.{serve}
-use Rattle.acd_terms.specs.Step.{step, executed_moment, next_stamp}
-use Rattle.acd_terms.specs.Run.{Asked, run}
-use Rattle.acd_terms.specs.Rules.Plan.{keeps_order, keeps_device, keeps_agent}
-use Rattle.acd_terms.specs.Rules.Calls.{keeps_call, keeps_connection, keeps_parties, keeps_live}
-use Rattle.acd_terms.specs.Rules.Occupied.{keeps_occupied}
-use Rattle.acd_terms.specs.Rules.First.{BreaksNoRule}
+use Rattle.acd_terms.specs.Rows.{empty_rows}
 use Rattle.acd_terms.specs.declared.rows.Rows.{Rows}
 use Rattle.acd_terms.specs.declared.rows.Limits.{Limits}
 use Rattle.acd_terms.specs.declared.record.GroupRecord.{GroupRecord}
 use Rattle.acd_terms.specs.declared.command.Command.{Command}
-use Rattle.acd_terms.specs.declared.moves.Move.{Move}
-use Rattle.acd_terms.specs.declared.moves.Offer.{Offer}
+use Rattle.acd_model.specs.Offers.{IsOffer, HasNoOffer}
+use Rattle.acd_model.specs.Moves.{moved}
+use Rattle.acd_model.specs.Distribution.{offer_moves, distribution}
+use Rattle.acd_model.specs.Served.{moves_of}
+use Rattle.acd_model.specs.Services.Serve.{serve}
+use Rattle.acd_model.specs.Step.{step, executed_moment, next_stamp}
+use Rattle.acd_model.specs.Run.{Asked, run}
+use Rattle.acd_model.specs.Rules.Plan.{keeps_order, keeps_device, keeps_agent}
+use Rattle.acd_model.specs.Rules.Calls.{keeps_call, keeps_connection, keeps_parties, keeps_live}
+use Rattle.acd_model.specs.Rules.Occupied.{keeps_occupied}
+use Rattle.acd_model.specs.Rules.First.{BreaksNoRule}
+use Rattle.acd_model.specs.declared.moves.Move.{Move}
+use Rattle.acd_model.specs.declared.moves.Offer.{Offer}
 
 -- each group has no waiting call, or no eligible agent
 abbrev pub LeavesNoOffer : Rows → Type 0

@@ -1,13 +1,13 @@
 -- No agent has two distributed calls, and each distributed connection stands where its agent is logged on.
 use Rattle.std.specs.Prelude.{ℕ, List}
-use Rattle.acd_terms.specs.Writes.{empty_rows}
-use Rattle.acd_terms.specs.OneOffer.{HasOneOffer}
-use Rattle.acd_terms.specs.Step.{step}
-use Rattle.acd_terms.specs.Run.{Asked, run}
-use Rattle.acd_terms.specs.Rules.First.{BreaksNoRule}
+use Rattle.acd_terms.specs.Rows.{empty_rows}
 use Rattle.acd_terms.specs.declared.rows.Rows.{Rows}
 use Rattle.acd_terms.specs.declared.rows.Limits.{Limits}
 use Rattle.acd_terms.specs.declared.command.Command.{Command}
+use Rattle.acd_model.specs.OneOffer.{HasOneOffer}
+use Rattle.acd_model.specs.Step.{step}
+use Rattle.acd_model.specs.Run.{Asked, run}
+use Rattle.acd_model.specs.Rules.First.{BreaksNoRule}
 
 -- where no rule is broken
 abbrev pub RulesGiveOneOffer : Type 0

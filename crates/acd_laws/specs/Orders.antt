@@ -1,7 +1,7 @@
 -- The order of the lists of rows.
 use Rattle.acd_terms.specs.Lists.{IsAscending}
-use Rattle.acd_terms.specs.Rules.Plan.{group_order, station_order, agent_order, call_order, connection_order, monitor_order}
 use Rattle.acd_terms.specs.declared.rows.Rows.{Rows}
+use Rattle.acd_model.specs.Rules.Plan.{group_order, station_order, agent_order, call_order, connection_order, monitor_order}
 
 -- each list strictly ascending in its key
 pub record Orders (s : Rows) : Type 0 where

@@ -1,17 +1,17 @@
 -- Where each call stands, how often it was cleared, and which calls events name.
 use Rattle.std.specs.Prelude.{◌≡◌, ℕ, ◌<◌, ◌≤◌, ◌&&◌, nat_le, List, ◌++◌, Option, Some, None, is_none, if◌then◌else◌}
 use Rattle.acd_terms.specs.Lists.{Every}
-use Rattle.acd_terms.specs.Scans.{call_of}
-use Rattle.acd_terms.specs.Writes.{empty_rows}
+use Rattle.acd_terms.specs.Rows.{empty_rows}
 use Rattle.acd_terms.specs.Columns.{columns_of}
-use Rattle.acd_terms.specs.Placed.{cleared_by, IsCleared, IsWaiting, IsAtDevices, IsPlaced}
-use Rattle.acd_terms.specs.Step.{step}
-use Rattle.acd_terms.specs.Run.{Asked, run}
-use Rattle.acd_terms.specs.Rules.First.{BreaksNoRule}
 use Rattle.acd_terms.specs.declared.rows.Rows.{Rows}
 use Rattle.acd_terms.specs.declared.rows.Limits.{Limits}
 use Rattle.acd_terms.specs.declared.command.Command.{Command}
 use Rattle.acd_terms.specs.declared.event.Event.{Event}
+use Rattle.acd_model.specs.Scans.{call_of}
+use Rattle.acd_model.specs.Placed.{cleared_by, IsCleared, IsWaiting, IsAtDevices, IsPlaced}
+use Rattle.acd_model.specs.Step.{step}
+use Rattle.acd_model.specs.Run.{Asked, run}
+use Rattle.acd_model.specs.Rules.First.{BreaksNoRule}
 
 -- the call that may be named isn't above the last
 abbrev pub IsUpTo : ℕ → Option ℕ → Type 0

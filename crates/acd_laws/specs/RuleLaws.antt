@@ -2,14 +2,14 @@
 use Rattle.std.specs.Prelude.{◌≡◌, ℕ, ◌*◌, ◌^◌, ◌<◌, ◌≤◌, true, List, length}
 use Rattle.acd_terms.specs.Lists.{Among}
 use Rattle.acd_terms.specs.Limits.{limits_fit}
-use Rattle.acd_terms.specs.Writes.{empty_rows}
-use Rattle.acd_terms.specs.Rules.First.{BreaksNoRule}
-use Rattle.acd_terms.specs.Step.{step}
-use Rattle.acd_terms.specs.Run.{Asked, run}
+use Rattle.acd_terms.specs.Rows.{empty_rows}
 use Rattle.acd_terms.specs.declared.rows.Rows.{Rows}
 use Rattle.acd_terms.specs.declared.rows.Limits.{Limits}
 use Rattle.acd_terms.specs.declared.record.GroupRecord.{GroupRecord}
 use Rattle.acd_terms.specs.declared.command.Command.{Command}
+use Rattle.acd_model.specs.Rules.First.{BreaksNoRule}
+use Rattle.acd_model.specs.Step.{step}
+use Rattle.acd_model.specs.Run.{Asked, run}
 
 -- all thirteen rules, while one more request is allowed
 abbrev pub StepKeepsRules : Type 0

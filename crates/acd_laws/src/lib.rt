@@ -5,7 +5,7 @@
 //! and after the step no rule is broken (`step_keeps_rules`).
 #![tactic(auto)]
 
-ghost use Rattle.acd_terms.specs.Offers.{FindsFirstWaiting, FindsFirstEligible, FindsTheOffer};
+ghost use Rattle.acd_model.specs.Offers.{FindsFirstWaiting, FindsFirstEligible, FindsTheOffer};
 ghost use Rattle.acd_laws.specs.RefusalLaws.{RefusalChangesNothing};
 ghost use Rattle.acd_laws.specs.FigureLaws.{StepKeepsFigures, RunKeepsFigures, StepAddsFigures};
 ghost use Rattle.acd_laws.specs.WatchedLaws.{StepKeepsWatched, RunIsWatched, RunTellsNoMore};

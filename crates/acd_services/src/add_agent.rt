@@ -1,17 +1,16 @@
 //! addAgent.
 
 ghost use Rattle.std.specs.Prelude.{◌≡◌};
-ghost use Rattle.acd_terms.specs.Services.AddAgent.{add_agent};
+ghost use Rattle.acd_model.specs.Services.AddAgent.{add_agent};
 
 use crate::call_moves::silent;
+use acd_model::{Change, Moves, Served, gives, refuse_if};
 use acd_tables::Tables;
 use acd_terms::Refusal::{AgentExists, PlanFull};
-use acd_terms::{
-    AgentId, AgentRecord, AgentState, Answer, Change, Moves, Name, Served, Turn, gives, refuse_if,
-};
+use acd_terms::{AgentId, AgentRecord, AgentState, Answer, Name, Turn};
 
 /// An agent is planned, who is logged on nowhere.
-#[tactic(auto, unfolding(acd_terms::specs::Services::AddAgent::add_agent, acd_terms::specs::Served::if_ok))]
+#[tactic(auto, unfolding(acd_model::specs::Services::AddAgent::add_agent, acd_model::specs::Served::if_ok))]
 pub fn add_agent(tables: &Tables, at: Turn, agent: AgentId, name: Name) -> Served
     ensures { result ≡ add_agent tables.now at.moment at.stamp agent name }
 {

@@ -1,17 +1,16 @@
 //! addGroup.
 
 ghost use Rattle.std.specs.Prelude.{◌≡◌};
-ghost use Rattle.acd_terms.specs.Services.AddGroup.{add_group};
+ghost use Rattle.acd_model.specs.Services.AddGroup.{add_group};
 
 use crate::call_moves::silent;
+use acd_model::{Change, Moves, Served, gives, refuse_if};
 use acd_tables::Tables;
 use acd_terms::Refusal::{DeviceExists, PlanFull};
-use acd_terms::{
-    Answer, Change, DeviceId, Figures, GroupRecord, Moves, Name, Seconds, Served, gives, refuse_if,
-};
+use acd_terms::{Answer, DeviceId, Figures, GroupRecord, Name, Seconds};
 
 /// A group is planned.
-#[tactic(auto, unfolding(acd_terms::specs::Services::AddGroup::add_group, acd_terms::specs::Served::if_ok))]
+#[tactic(auto, unfolding(acd_model::specs::Services::AddGroup::add_group, acd_model::specs::Served::if_ok))]
 pub fn add_group(
     tables: &Tables,
     device: DeviceId,

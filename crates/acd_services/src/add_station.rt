@@ -1,15 +1,16 @@
 //! addStation.
 
 ghost use Rattle.std.specs.Prelude.{◌≡◌};
-ghost use Rattle.acd_terms.specs.Services.AddStation.{add_station};
+ghost use Rattle.acd_model.specs.Services.AddStation.{add_station};
 
 use crate::call_moves::silent;
+use acd_model::{Change, Moves, Served, gives, refuse_if};
 use acd_tables::Tables;
 use acd_terms::Refusal::{DeviceExists, PlanFull};
-use acd_terms::{Answer, Change, DeviceId, Moves, Served, StationRecord, gives, refuse_if};
+use acd_terms::{Answer, DeviceId, StationRecord};
 
 /// A station is planned.
-#[tactic(auto, unfolding(acd_terms::specs::Services::AddStation::add_station, acd_terms::specs::Served::if_ok))]
+#[tactic(auto, unfolding(acd_model::specs::Services::AddStation::add_station, acd_model::specs::Served::if_ok))]
 pub fn add_station(tables: &Tables, device: DeviceId) -> Served
     ensures { result ≡ add_station tables.now device }
 {

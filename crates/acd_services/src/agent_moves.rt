@@ -1,10 +1,11 @@
 //! The moves of agents.
 
 ghost use Rattle.std.specs.Prelude.{◌≡◌};
-ghost use Rattle.acd_terms.specs.AgentMoves.{kept_in, in_state, state_report, go_to, go_from, log_on_at, become_busy, wait_for};
+ghost use Rattle.acd_model.specs.AgentMoves.{kept_in, in_state, state_report, go_to, go_from, log_on_at, become_busy, wait_for};
 
 use crate::call_moves::{no_move, reported, silent};
-use acd_terms::{AgentId, AgentRecord, AgentState, Change, DeviceId, Move, Pending, Report, Turn};
+use acd_model::{Change, Move};
+use acd_terms::{AgentId, AgentRecord, AgentState, DeviceId, Pending, Report, Turn};
 
 fn kept_in(state: AgentState, place: Option<DeviceId>) -> Option<DeviceId>
     ensures { result ≡ kept_in state place }

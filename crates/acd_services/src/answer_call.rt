@@ -1,16 +1,17 @@
 //! answerCall.
 
 ghost use Rattle.std.specs.Prelude.{◌≡◌};
-ghost use Rattle.acd_terms.specs.Services.AnswerCall.{occupy, answer_call};
+ghost use Rattle.acd_model.specs.Services.AnswerCall.{occupy, answer_call};
 
 use crate::agent_moves::become_busy;
 use crate::call_moves::{answer, no_move};
+use acd_model::{Move, Moves, Served, gives, refuse_if};
 use acd_tables::Tables;
 use acd_terms::Refusal::{UnknownCall, UnknownConnection, WrongConnectionState};
-use acd_terms::{Answer, ConnectionRecord, DeviceId, Move, Moves, Served, Turn, gives, refuse_if};
+use acd_terms::{Answer, ConnectionRecord, DeviceId, Turn};
 
 // Where the connection was distributed, the agent at its station becomes busy.
-#[tactic(auto, unfolding(acd_terms::specs::Services::AnswerCall::occupy))]
+#[tactic(auto, unfolding(acd_model::specs::Services::AnswerCall::occupy))]
 fn occupy(tables: &Tables, at: Turn, connection: &ConnectionRecord) -> Move
     ensures { result ≡ occupy tables.now at.moment at.stamp connection.now }
 {
@@ -24,7 +25,7 @@ fn occupy(tables: &Tables, at: Turn, connection: &ConnectionRecord) -> Move
 }
 
 /// An alerting connection is answered (Answer Call of ECMA-269).
-#[tactic(auto, unfolding(acd_terms::specs::Services::AnswerCall::answer_call, acd_terms::specs::Served::if_ok))]
+#[tactic(auto, unfolding(acd_model::specs::Services::AnswerCall::answer_call, acd_model::specs::Served::if_ok))]
 pub fn answer_call(tables: &Tables, at: Turn, call: u64, device: DeviceId) -> Served
     ensures { result ≡ answer_call tables.now at.moment at.stamp call device }
 {

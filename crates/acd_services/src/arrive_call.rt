@@ -1,15 +1,16 @@
 //! arriveCall.
 
 ghost use Rattle.std.specs.Prelude.{◌≡◌, ◌<◌, ◌^◌, ◌-◌};
-ghost use Rattle.acd_terms.specs.Services.ArriveCall.{arrive_call};
+ghost use Rattle.acd_model.specs.Services.ArriveCall.{arrive_call};
 
 use crate::call_moves::{arrive, begin, connect_caller};
+use acd_model::{Moves, Served, gives, refuse_if};
 use acd_tables::Tables;
 use acd_terms::Refusal::{CallerPlanned, TooManyCalls, UnknownDevice};
-use acd_terms::{Answer, CallRecord, Cause, DeviceId, Moves, Served, Turn, gives, refuse_if};
+use acd_terms::{Answer, CallRecord, Cause, DeviceId, Turn};
 
 /// A call comes in from outside the plan.
-#[tactic(auto, unfolding(acd_terms::specs::Services::ArriveCall::arrive_call, acd_terms::specs::Served::if_ok))]
+#[tactic(auto, unfolding(acd_model::specs::Services::ArriveCall::arrive_call, acd_model::specs::Served::if_ok))]
 pub fn arrive_call(tables: &Tables, at: Turn, caller: DeviceId, called: DeviceId) -> Served
     requires { tables.now.last_call < 2 ^ 64 - 1 }
     ensures { result ≡ arrive_call tables.now at.moment at.stamp caller called }

@@ -1,13 +1,13 @@
 //! The moves of calls and connections.
 
 ghost use Rattle.std.specs.Prelude.{◌≡◌};
-ghost use Rattle.acd_terms.specs.Moves.{no_move, silent, reported};
-ghost use Rattle.acd_terms.specs.CallMoves.{plain, queueing, begin, connect_caller, initiate, originate, destination_of, arriving, arrival, arrive, waited_by, answer, hold, retrieve, offer, go_back, divert, transfer, clear, end_call};
+ghost use Rattle.acd_model.specs.Moves.{no_move, silent, reported};
+ghost use Rattle.acd_model.specs.CallMoves.{plain, queueing, begin, connect_caller, initiate, originate, destination_of, arriving, arrival, arrive, waited_by, answer, hold, retrieve, offer, go_back, divert, transfer, clear, end_call};
 
+use acd_model::{Change, Destination, Move};
 use acd_tables::Tables;
 use acd_terms::{
-    CallRecord, Cause, Change, ConnectionRecord, ConnectionState, Destination, DeviceId, Move,
-    Report, Turn, Waited,
+    CallRecord, Cause, ConnectionRecord, ConnectionState, DeviceId, Report, Turn, Waited,
 };
 
 /// No change and no report.
@@ -152,7 +152,7 @@ fn arrival(destination: Destination, call: u64, to: DeviceId, cause: Cause) -> R
 }
 
 /// The call comes to a destination: it enters a queue, alerts, or fails.
-#[tactic(auto, unfolding(acd_terms::specs::CallMoves::arrive))]
+#[tactic(auto, unfolding(acd_model::specs::CallMoves::arrive))]
 pub fn arrive(tables: &Tables, at: Turn, call: u64, to: DeviceId, cause: Cause) -> Move
     ensures { result ≡ arrive tables.now at.moment at.stamp call to cause }
 {

@@ -1,13 +1,14 @@
 //! clearConnection.
 
 ghost use Rattle.std.specs.Prelude.{◌≡◌};
-ghost use Rattle.acd_terms.specs.Services.ClearConnection.{waiting_group, cleared_group, clear_other, release_other, clear_connection};
+ghost use Rattle.acd_model.specs.Services.ClearConnection.{waiting_group, cleared_group, clear_other, release_other, clear_connection};
 
 use crate::call_moves::{clear, end_call, no_move};
 use crate::releasing::{ending_of, release};
+use acd_model::{Move, Moves, Served, gives};
 use acd_tables::Tables;
 use acd_terms::Refusal::{UnknownCall, UnknownConnection};
-use acd_terms::{Answer, ConnectionRecord, DeviceId, Move, Moves, Served, Turn, gives};
+use acd_terms::{Answer, ConnectionRecord, DeviceId, Turn};
 
 fn waiting_group(connection: &ConnectionRecord) -> Option<DeviceId>
     ensures { result ≡ waiting_group connection.now }
@@ -51,7 +52,7 @@ fn release_other(tables: &Tables, at: Turn, other: &Option<ConnectionRecord>) ->
 }
 
 /// The call ends (Clear Connection of ECMA-269, which here clears the other party too).
-#[tactic(auto, unfolding(acd_terms::specs::Services::ClearConnection::clear_connection, acd_terms::specs::Served::if_ok))]
+#[tactic(auto, unfolding(acd_model::specs::Services::ClearConnection::clear_connection, acd_model::specs::Served::if_ok))]
 pub fn clear_connection(tables: &Tables, at: Turn, call: u64, device: DeviceId) -> Served
     ensures { result ≡ clear_connection tables.now at.moment at.stamp call device }
 {

@@ -1,20 +1,21 @@
 //! deflectCall.
 
 ghost use Rattle.std.specs.Prelude.{◌≡◌};
-ghost use Rattle.acd_terms.specs.Services.DeflectCall.{deflect_call};
+ghost use Rattle.acd_model.specs.Services.DeflectCall.{deflect_call};
 
 use crate::call_moves::{arrive, divert};
 use crate::destinations::{is_busy_station, is_in_call};
 use crate::releasing::{ending_of, release};
+use acd_model::{Moves, Served, gives, refuse_if};
 use acd_tables::Tables;
 use acd_terms::Refusal::{
     DestinationBusy, SameDevice, UnknownCall, UnknownConnection, UnknownDevice,
     WrongConnectionState,
 };
-use acd_terms::{Answer, Cause, DeviceId, Moves, Served, Turn, gives, refuse_if};
+use acd_terms::{Answer, Cause, DeviceId, Turn};
 
 /// An alerting or queued call goes to another device (Deflect Call of ECMA-269).
-#[tactic(auto, unfolding(acd_terms::specs::Services::DeflectCall::deflect_call, acd_terms::specs::Served::if_ok))]
+#[tactic(auto, unfolding(acd_model::specs::Services::DeflectCall::deflect_call, acd_model::specs::Served::if_ok))]
 pub fn deflect_call(tables: &Tables, at: Turn, call: u64, device: DeviceId, to: DeviceId) -> Served
     ensures { result ≡ deflect_call tables.now at.moment at.stamp call device to }
 {

@@ -1,7 +1,7 @@
 //! Devices to which a call isn't given away.
 
 ghost use Rattle.std.specs.Prelude.{◌≡◌};
-ghost use Rattle.acd_terms.specs.Services.Destinations.{is_in_call, is_busy_station};
+ghost use Rattle.acd_model.specs.Services.Destinations.{is_in_call, is_busy_station};
 
 use acd_tables::Tables;
 use acd_terms::DeviceId;

@@ -1,15 +1,16 @@
 //! holdCall.
 
 ghost use Rattle.std.specs.Prelude.{◌≡◌};
-ghost use Rattle.acd_terms.specs.Services.HoldCall.{hold_call};
+ghost use Rattle.acd_model.specs.Services.HoldCall.{hold_call};
 
 use crate::call_moves::hold;
+use acd_model::{Moves, Served, gives, refuse_if};
 use acd_tables::Tables;
 use acd_terms::Refusal::{NotStation, UnknownCall, UnknownConnection, WrongConnectionState};
-use acd_terms::{Answer, DeviceId, Moves, Served, gives, refuse_if};
+use acd_terms::{Answer, DeviceId};
 
 /// A connected station holds (Hold Call of ECMA-269).
-#[tactic(auto, unfolding(acd_terms::specs::Services::HoldCall::hold_call, acd_terms::specs::Served::if_ok))]
+#[tactic(auto, unfolding(acd_model::specs::Services::HoldCall::hold_call, acd_model::specs::Served::if_ok))]
 pub fn hold_call(tables: &Tables, call: u64, device: DeviceId) -> Served
     ensures { result ≡ hold_call tables.now call device }
 {

@@ -1,7 +1,7 @@
 //! The services of the switch on its tables.
 //!
 //! [`serve`] runs one service. Each service, in the file of its name, is a decision over the tables
-//! that changes nothing: a refusal, or an answer and the moves that it makes ([`acd_terms::Served`]).
+//! that changes nothing: a refusal, or an answer and the moves that it makes ([`acd_model::Served`]).
 //! [`decide`] gives it. The module `make` alone writes tables and reports events.
 //!
 //! ```ignore

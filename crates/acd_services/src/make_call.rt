@@ -1,15 +1,16 @@
 //! makeCall.
 
 ghost use Rattle.std.specs.Prelude.{◌≡◌, ◌<◌, ◌^◌, ◌-◌};
-ghost use Rattle.acd_terms.specs.Services.MakeCall.{make_call};
+ghost use Rattle.acd_model.specs.Services.MakeCall.{make_call};
 
 use crate::call_moves::{begin, initiate};
+use acd_model::{Moves, Served, gives, refuse_if};
 use acd_tables::Tables;
 use acd_terms::Refusal::{NotStation, SameDevice, StationBusy, TooManyCalls, UnknownDevice};
-use acd_terms::{Answer, CallRecord, DeviceId, Moves, Served, gives, refuse_if};
+use acd_terms::{Answer, CallRecord, DeviceId};
 
 /// A station begins a call (Make Call of ECMA-269).
-#[tactic(auto, unfolding(acd_terms::specs::Services::MakeCall::make_call, acd_terms::specs::Served::if_ok))]
+#[tactic(auto, unfolding(acd_model::specs::Services::MakeCall::make_call, acd_model::specs::Served::if_ok))]
 pub fn make_call(tables: &Tables, moment: u32, device: DeviceId, called: DeviceId) -> Served
     requires { tables.now.last_call < 2 ^ 64 - 1 }
     ensures { result ≡ make_call tables.now moment device called }

@@ -1,15 +1,16 @@
 //! monitorStart.
 
 ghost use Rattle.std.specs.Prelude.{◌≡◌, ◌<◌, ◌^◌, ◌-◌};
-ghost use Rattle.acd_terms.specs.Services.MonitorStart.{monitor_start};
+ghost use Rattle.acd_model.specs.Services.MonitorStart.{monitor_start};
 
 use crate::call_moves::silent;
+use acd_model::{Change, Moves, Served, gives, refuse_if};
 use acd_tables::Tables;
 use acd_terms::Refusal::{PlanFull, UnknownDevice};
-use acd_terms::{Answer, Change, DeviceId, MonitorRecord, Moves, Served, gives, refuse_if};
+use acd_terms::{Answer, DeviceId, MonitorRecord};
 
 /// A monitor on a planned device begins (Monitor Start of ECMA-269).
-#[tactic(auto, unfolding(acd_terms::specs::Services::MonitorStart::monitor_start, acd_terms::specs::Served::if_ok))]
+#[tactic(auto, unfolding(acd_model::specs::Services::MonitorStart::monitor_start, acd_model::specs::Served::if_ok))]
 pub fn monitor_start(tables: &Tables, device: DeviceId) -> Served
     requires { tables.now.last_monitor < 2 ^ 64 - 1 }
     ensures { result ≡ monitor_start tables.now device }

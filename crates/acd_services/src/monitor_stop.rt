@@ -1,15 +1,16 @@
 //! monitorStop.
 
 ghost use Rattle.std.specs.Prelude.{◌≡◌};
-ghost use Rattle.acd_terms.specs.Services.MonitorStop.{monitor_stop};
+ghost use Rattle.acd_model.specs.Services.MonitorStop.{monitor_stop};
 
 use crate::call_moves::silent;
+use acd_model::{Change, Moves, Served, gives};
 use acd_tables::Tables;
+use acd_terms::Answer;
 use acd_terms::Refusal::UnknownMonitor;
-use acd_terms::{Answer, Change, Moves, Served, gives};
 
 /// A monitor ends (Monitor Stop of ECMA-269).
-#[tactic(auto, unfolding(acd_terms::specs::Services::MonitorStop::monitor_stop, acd_terms::specs::Served::if_ok))]
+#[tactic(auto, unfolding(acd_model::specs::Services::MonitorStop::monitor_stop, acd_model::specs::Served::if_ok))]
 pub fn monitor_stop(tables: &Tables, monitor: u64) -> Served
     ensures { result ≡ monitor_stop tables.now monitor }
 {

@@ -1,14 +1,13 @@
 //! What becomes of an agent whose distributed connection ends.
 
 ghost use Rattle.std.specs.Prelude.{◌≡◌};
-ghost use Rattle.acd_terms.specs.Release.{release_of, released, ending_of, release};
+ghost use Rattle.acd_model.specs.Release.{release_of, released, ending_of, release};
 
 use crate::agent_moves::{go_to, wait_for};
 use crate::call_moves::no_move;
+use acd_model::{Ending, Move, Release};
 use acd_tables::Tables;
-use acd_terms::{
-    AgentRecord, AgentState, ConnectionRecord, DeviceId, Ending, Move, Pending, Release, Turn,
-};
+use acd_terms::{AgentRecord, AgentState, ConnectionRecord, DeviceId, Pending, Turn};
 
 // The table of release.
 fn release_of(how: Ending, pending: Option<Pending>) -> Release
@@ -43,7 +42,7 @@ pub fn ending_of(connection: &ConnectionRecord) -> Ending
 }
 
 /// Where a distributed connection ends, the agent at its station is released.
-#[tactic(auto, unfolding(acd_terms::specs::Release::release))]
+#[tactic(auto, unfolding(acd_model::specs::Release::release))]
 pub fn release(tables: &Tables, at: Turn, connection: &ConnectionRecord, how: Ending) -> Move
     ensures { result ≡ release tables.now at.moment at.stamp connection.now how }
 {

@@ -1,15 +1,16 @@
 //! retrieveCall.
 
 ghost use Rattle.std.specs.Prelude.{◌≡◌};
-ghost use Rattle.acd_terms.specs.Services.RetrieveCall.{retrieve_call};
+ghost use Rattle.acd_model.specs.Services.RetrieveCall.{retrieve_call};
 
 use crate::call_moves::retrieve;
+use acd_model::{Moves, Served, gives, refuse_if};
 use acd_tables::Tables;
 use acd_terms::Refusal::{StationBusy, UnknownCall, UnknownConnection, WrongConnectionState};
-use acd_terms::{Answer, DeviceId, Moves, Served, gives, refuse_if};
+use acd_terms::{Answer, DeviceId};
 
 /// A held connection is retrieved (Retrieve Call of ECMA-269).
-#[tactic(auto, unfolding(acd_terms::specs::Services::RetrieveCall::retrieve_call, acd_terms::specs::Served::if_ok))]
+#[tactic(auto, unfolding(acd_model::specs::Services::RetrieveCall::retrieve_call, acd_model::specs::Served::if_ok))]
 pub fn retrieve_call(tables: &Tables, call: u64, device: DeviceId) -> Served
     ensures { result ≡ retrieve_call tables.now call device }
 {

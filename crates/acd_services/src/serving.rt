@@ -1,9 +1,9 @@
 //! One service on the tables.
 
 ghost use Rattle.std.specs.Prelude.{◌≡◌, ◌++◌, ◌<◌, ◌^◌, ◌-◌, IfOk, OnOk};
-ghost use Rattle.acd_terms.specs.Moves.{moved, events_of};
-ghost use Rattle.acd_terms.specs.Served.{outcome_of, moves_of};
-ghost use Rattle.acd_terms.specs.Services.Serve.{serve};
+ghost use Rattle.acd_model.specs.Moves.{moved, events_of};
+ghost use Rattle.acd_model.specs.Served.{outcome_of, moves_of};
+ghost use Rattle.acd_model.specs.Services.Serve.{serve};
 ghost use Rattle.acd_services.specs.Asked.{IsNoTick};
 
 use crate::add_agent::add_agent;
@@ -22,8 +22,9 @@ use crate::phone_off_hook::phone_off_hook;
 use crate::retrieve_call::retrieve_call;
 use crate::set_agent_state::set_agent_state;
 use crate::single_step_transfer::single_step_transfer;
+use acd_model::Served;
 use acd_tables::Tables;
-use acd_terms::{Command, Event, Outcome, Served, Turn};
+use acd_terms::{Command, Event, Outcome, Turn};
 use std::alloc::AllocError;
 
 /// What the service does. It changes nothing.

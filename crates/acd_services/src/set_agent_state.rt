@@ -2,17 +2,15 @@
 
 ghost use Rattle.std.specs.Prelude.{◌≡◌};
 ghost use Rattle.acd_terms.specs.States.{is_in};
-ghost use Rattle.acd_terms.specs.Services.SetAgentState.{log_on, go_or_wait, change_state, set_agent_state};
+ghost use Rattle.acd_model.specs.Services.SetAgentState.{log_on, go_or_wait, change_state, set_agent_state};
 
 use crate::agent_moves::{go_from, log_on_at, wait_for};
+use acd_model::{Moves, Served, gives, refuse_if};
 use acd_tables::Tables;
 use acd_terms::Refusal::{
     NotGroup, NotStation, StationTaken, UnknownAgent, UnknownDevice, WrongAgentState,
 };
-use acd_terms::{
-    AgentId, AgentRecord, AgentState, Answer, DeviceId, Moves, Pending, Requested, Served, Turn,
-    gives, refuse_if,
-};
+use acd_terms::{AgentId, AgentRecord, AgentState, Answer, DeviceId, Pending, Requested, Turn};
 
 // The agent is in the state that is asked for.
 fn is_in(state: AgentState, asked: Pending) -> bool
@@ -28,7 +26,7 @@ fn is_in(state: AgentState, asked: Pending) -> bool
 }
 
 // An agent in null logs on at a station, in a group.
-#[tactic(auto, unfolding(acd_terms::specs::Services::SetAgentState::log_on, acd_terms::specs::Served::if_ok))]
+#[tactic(auto, unfolding(acd_model::specs::Services::SetAgentState::log_on, acd_model::specs::Served::if_ok))]
 fn log_on(tables: &Tables, at: Turn, agent: AgentId, device: DeviceId, group: DeviceId) -> Served
     ensures { result ≡ log_on tables.now at.moment at.stamp agent device group }
 {
@@ -63,7 +61,7 @@ fn go_or_wait(tables: &Tables, at: Turn, agent: &AgentRecord, asked: Pending) ->
 }
 
 // An agent who is logged on asks for another state.
-#[tactic(auto, unfolding(acd_terms::specs::Services::SetAgentState::change_state, acd_terms::specs::Served::if_ok))]
+#[tactic(auto, unfolding(acd_model::specs::Services::SetAgentState::change_state, acd_model::specs::Served::if_ok))]
 fn change_state(tables: &Tables, at: Turn, agent: AgentId, asked: Pending) -> Served
     ensures { result ≡ change_state tables.now at.moment at.stamp agent asked }
 {

@@ -1,17 +1,18 @@
 //! singleStepTransfer.
 
 ghost use Rattle.std.specs.Prelude.{◌≡◌};
-ghost use Rattle.acd_terms.specs.Services.SingleStepTransfer.{is_answered_by, single_step_transfer};
+ghost use Rattle.acd_model.specs.Services.SingleStepTransfer.{is_answered_by, single_step_transfer};
 
 use crate::call_moves::{arrive, transfer};
 use crate::destinations::{is_busy_station, is_in_call};
 use crate::releasing::{ending_of, release};
+use acd_model::{Moves, Served, gives, refuse_if};
 use acd_tables::Tables;
 use acd_terms::Refusal::{
     DestinationBusy, NotStation, SameDevice, UnknownCall, UnknownConnection, UnknownDevice,
     WrongConnectionState,
 };
-use acd_terms::{Answer, Cause, ConnectionRecord, DeviceId, Moves, Served, Turn, gives, refuse_if};
+use acd_terms::{Answer, Cause, ConnectionRecord, DeviceId, Turn};
 
 fn is_answered_by(other: &Option<ConnectionRecord>) -> bool
     ensures { result ≡ is_answered_by other.now }
@@ -23,7 +24,7 @@ fn is_answered_by(other: &Option<ConnectionRecord>) -> bool
 }
 
 /// A connected station gives its answered call away (Single Step Transfer Call of ECMA-269).
-#[tactic(auto, unfolding(acd_terms::specs::Services::SingleStepTransfer::single_step_transfer, acd_terms::specs::Served::if_ok))]
+#[tactic(auto, unfolding(acd_model::specs::Services::SingleStepTransfer::single_step_transfer, acd_model::specs::Served::if_ok))]
 pub fn single_step_transfer(
     tables: &Tables,
     at: Turn,

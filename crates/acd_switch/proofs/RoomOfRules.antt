@@ -4,13 +4,13 @@ use Rattle.std.proofs.lemmas.Bool.Decides.{nat_tests}
 use Rattle.std.proofs.Math.Nat.{mul-le-mul_right}
 use Rattle.acd_terms.specs.Lists.{Every}
 use Rattle.acd_terms.specs.Limits.{limits_fit}
-use Rattle.acd_terms.specs.Writes.{with_last}
-use Rattle.acd_terms.specs.Step.{step, executed_moment, next_stamp}
-use Rattle.acd_terms.specs.Rules.First.{BreaksNoRule}
 use Rattle.acd_terms.specs.declared.rows.Rows.{Rows}
 use Rattle.acd_terms.specs.declared.rows.Limits.{Limits}
 use Rattle.acd_terms.specs.declared.record.GroupRecord.{GroupRecord}
 use Rattle.acd_terms.specs.declared.command.Command.{Command}
+use Rattle.acd_model.specs.Writes.{with_last}
+use Rattle.acd_model.specs.Step.{step, executed_moment, next_stamp}
+use Rattle.acd_model.specs.Rules.First.{BreaksNoRule}
 use Rattle.acd_switch.specs.Counting.{AreFitting, AllFit}
 use Rattle.acd_laws.proofs.Facts.{IsCountedUpTo, AddsUp}
 use Rattle.acd_laws.proofs.DecidedAll.{keeps_read}

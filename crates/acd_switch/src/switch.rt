@@ -1,16 +1,16 @@
 //! The switch.
 
 ghost use Rattle.std.specs.Prelude.{◌≡◌, ◌<◌, ◌+◌, ◌-◌, ◌^◌, ◌++◌, length, true, nat_le, IfOk, IfErr, OnOk};
-ghost use Rattle.acd_terms.specs.Writes.{empty_rows};
+ghost use Rattle.acd_terms.specs.Rows.{empty_rows};
 ghost use Rattle.acd_terms.specs.Limits.{limits_fit};
-ghost use Rattle.acd_terms.specs.Moves.{moved, events_of};
-ghost use Rattle.acd_terms.specs.Served.{outcome_of, moves_of};
-ghost use Rattle.acd_terms.specs.Services.Serve.{serve};
-ghost use Rattle.acd_terms.specs.Step.{step, numbered, executed_moment, next_stamp};
-ghost use Rattle.acd_terms.specs.Changes.{changes_of, growth, step_changes, rows_made};
-ghost use Rattle.acd_terms.specs.Rules.First.{BreaksNoRule};
 ghost use Rattle.acd_terms.specs.Lists.{IsAscending};
-ghost use Rattle.acd_terms.specs.Rules.Plan.{group_order};
+ghost use Rattle.acd_model.specs.Moves.{moved, events_of};
+ghost use Rattle.acd_model.specs.Served.{outcome_of, moves_of};
+ghost use Rattle.acd_model.specs.Services.Serve.{serve};
+ghost use Rattle.acd_model.specs.Step.{step, numbered, executed_moment, next_stamp};
+ghost use Rattle.acd_model.specs.Changes.{changes_of, growth, step_changes, rows_made};
+ghost use Rattle.acd_model.specs.Rules.First.{BreaksNoRule};
+ghost use Rattle.acd_model.specs.Rules.Plan.{group_order};
 ghost use Rattle.acd_services.specs.Asked.{IsNoTick};
 ghost use Rattle.acd_switch.specs.RowFaults.{IsFaultOf};
 ghost use Rattle.acd_switch.specs.Room.{HasRoom, Fits, closed};
@@ -21,10 +21,11 @@ use crate::distribution::distribute;
 use crate::journal::Journal;
 use crate::row_fault::RowFault;
 use crate::tick::tick;
+use acd_model::Change;
 use acd_rules::first_broken;
 use acd_services::decide;
 use acd_tables::Tables;
-use acd_terms::{Answer, Change, Command, DeviceId, Event, Figures, Limits, Outcome, Rows, Turn};
+use acd_terms::{Answer, Command, DeviceId, Event, Figures, Limits, Outcome, Rows, Turn};
 use std::alloc::{AllocError, Global};
 use std::marker::Model;
 

@@ -1,15 +1,16 @@
 //! tick: offers that rang too long go back, and after-call work that lasted long enough ends.
 
 ghost use Rattle.std.specs.Prelude.{◌≡◌, ◌++◌, OnOk, IfOk};
-ghost use Rattle.acd_terms.specs.Moves.{moved, events_of};
-ghost use Rattle.acd_terms.specs.Changes.{changes_of};
-ghost use Rattle.acd_terms.specs.Scans.{group_of};
-ghost use Rattle.acd_terms.specs.Tick.{is_over, ring_of, wrap_of, is_overdue, overdue_in, return_moves, is_rested, rested_in, rest_moves, returns, rests, tick};
+ghost use Rattle.acd_model.specs.Moves.{moved, events_of};
+ghost use Rattle.acd_model.specs.Changes.{changes_of};
+ghost use Rattle.acd_model.specs.Scans.{group_of};
+ghost use Rattle.acd_model.specs.Tick.{is_over, ring_of, wrap_of, is_overdue, overdue_in, return_moves, is_rested, rested_in, rest_moves, returns, rests, tick};
 
 use crate::journal::Journal;
+use acd_model::Ending;
 use acd_services::{divert, go_back, go_from, release};
 use acd_tables::Tables;
-use acd_terms::{AgentRecord, AgentState, Cause, ConnectionRecord, DeviceId, Ending, Turn};
+use acd_terms::{AgentRecord, AgentState, Cause, ConnectionRecord, DeviceId, Turn};
 use std::alloc::{AllocError, Global};
 
 // So many seconds have passed since then. 0 seconds mean never.
@@ -37,7 +38,7 @@ fn wrap_of(tables: &Tables, group: DeviceId) -> u16
     }
 }
 
-#[tactic(auto, unfolding(acd_terms::specs::Tick::is_overdue))]
+#[tactic(auto, unfolding(acd_model::specs::Tick::is_overdue))]
 fn is_overdue(tables: &Tables, moment: u32, connection: &ConnectionRecord) -> bool
     ensures { result ≡ is_overdue tables.now moment connection.now }
 {
@@ -53,7 +54,7 @@ fn is_overdue(tables: &Tables, moment: u32, connection: &ConnectionRecord) -> bo
     }
 }
 
-#[tactic(auto, unfolding(acd_terms::specs::Tick::is_rested))]
+#[tactic(auto, unfolding(acd_model::specs::Tick::is_rested))]
 fn is_rested(tables: &Tables, moment: u32, agent: &AgentRecord) -> bool
     ensures { result ≡ is_rested tables.now moment agent.now }
 {
@@ -67,7 +68,7 @@ fn is_rested(tables: &Tables, moment: u32, agent: &AgentRecord) -> bool
 }
 
 // The offers that rang too long, in ascending call number.
-#[tactic(auto, unfolding(acd_terms::specs::Tick::overdue_in))]
+#[tactic(auto, unfolding(acd_model::specs::Tick::overdue_in))]
 fn overdue_in(
     alloc: Global,
     tables: &Tables,
@@ -86,7 +87,7 @@ fn overdue_in(
 }
 
 // The agents whose after-call work lasted long enough, in ascending number.
-#[tactic(auto, unfolding(acd_terms::specs::Tick::rested_in))]
+#[tactic(auto, unfolding(acd_model::specs::Tick::rested_in))]
 fn rested_in(alloc: Global, tables: &Tables, moment: u32) -> Result<Vec<AgentRecord>, AllocError>
     ensures { IfOk result (λ v. v.items ≡ rested_in tables.now moment) }
 {
@@ -137,7 +138,7 @@ fn end_work(
     journal.make_all(tables, at.moment, &moves)
 }
 
-#[tactic(auto, using(acd_terms::proofs::MoveLemmas::moved_append, acd_terms::proofs::MoveLemmas::events_of_append, acd_terms::proofs::ChangeLemmas::changes_of_append, std::proofs::lemmas::Grind::common_steps), unfolding(acd_terms::specs::Tick::returns))]
+#[tactic(auto, using(acd_model::proofs::MoveLemmas::moved_append, acd_model::proofs::MoveLemmas::events_of_append, acd_model::proofs::ChangeLemmas::changes_of_append, std::proofs::lemmas::Grind::common_steps), unfolding(acd_model::specs::Tick::returns))]
 fn return_overdue(
     alloc: Global,
     tables: &mut Tables,
@@ -155,7 +156,7 @@ fn return_overdue(
     Ok(())
 }
 
-#[tactic(auto, unfolding(acd_terms::specs::Tick::rests))]
+#[tactic(auto, unfolding(acd_model::specs::Tick::rests))]
 fn end_rested(
     alloc: Global,
     tables: &mut Tables,
@@ -175,7 +176,7 @@ fn end_rested(
 
 /// Takes overdue offers back, one call after the other, then ends after-call work. After an error
 /// tables and journal are only to be dropped.
-#[tactic(auto, using(acd_terms::proofs::MoveLemmas::moved_append, acd_terms::proofs::MoveLemmas::events_of_append, acd_terms::proofs::ChangeLemmas::changes_of_append, std::proofs::lemmas::Grind::common_steps), unfolding(acd_terms::specs::Tick::tick))]
+#[tactic(auto, using(acd_model::proofs::MoveLemmas::moved_append, acd_model::proofs::MoveLemmas::events_of_append, acd_model::proofs::ChangeLemmas::changes_of_append, std::proofs::lemmas::Grind::common_steps), unfolding(acd_model::specs::Tick::tick))]
 pub fn tick(
     alloc: Global,
     tables: &mut Tables,

@@ -1,7 +1,7 @@
 use Rattle.std.proofs.Common.{◌≡◌, ◌++◌, drop}
-use Rattle.acd_terms.specs.Moves.{moved, events_of}
-use Rattle.acd_terms.specs.Changes.{changes_of}
-use Rattle.acd_terms.specs.Tick.{each, rest_moves, rested_in}
+use Rattle.acd_model.specs.Moves.{moved, events_of}
+use Rattle.acd_model.specs.Changes.{changes_of}
+use Rattle.acd_model.specs.Tick.{each, rest_moves, rested_in}
 use Rattle.acd_switch.proofs.tick.end_rested.Given as goal
 
 abbrev pub invariant-loop-agent : goal.invariant-loop-agent

@@ -1,10 +1,10 @@
 use Rattle.std.proofs.Common.{◌≡◌, ◌+◌, ◌∷◌, drop, arith}
 use Rattle.std.proofs.lemmas.Grind.{common_steps}
-use Rattle.acd_terms.specs.Moves.{events_of}
-use Rattle.acd_terms.specs.Changes.{changes_of}
-use Rattle.acd_terms.proofs.MoveLemmas.{events_of_append}
-use Rattle.acd_terms.proofs.ChangeLemmas.{changes_of_append}
-use Rattle.acd_terms.specs.Tick.{return_moves}
+use Rattle.acd_model.specs.Moves.{events_of}
+use Rattle.acd_model.specs.Changes.{changes_of}
+use Rattle.acd_model.proofs.MoveLemmas.{events_of_append}
+use Rattle.acd_model.proofs.ChangeLemmas.{changes_of_append}
+use Rattle.acd_model.specs.Tick.{return_moves}
 use Rattle.acd_switch.proofs.Rounds.{rows_next, told_next}
 use Rattle.acd_switch.proofs.tick.return_overdue.Goals as goal
 

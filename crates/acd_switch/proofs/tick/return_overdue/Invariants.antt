@@ -1,7 +1,7 @@
 use Rattle.std.proofs.Common.{◌≡◌, ◌++◌, drop}
-use Rattle.acd_terms.specs.Moves.{moved, events_of}
-use Rattle.acd_terms.specs.Changes.{changes_of}
-use Rattle.acd_terms.specs.Tick.{each, return_moves, overdue_in}
+use Rattle.acd_model.specs.Moves.{moved, events_of}
+use Rattle.acd_model.specs.Changes.{changes_of}
+use Rattle.acd_model.specs.Tick.{each, return_moves, overdue_in}
 use Rattle.acd_switch.proofs.tick.return_overdue.Given as goal
 
 abbrev pub invariant-loop-connection : goal.invariant-loop-connection
