@@ -1,6 +1,6 @@
 -- Entered is waiting, ringing, answered, abandoned and moved together: by each move.
 use Rattle.std.proofs.Common.{◌≡◌, ℕ, ◌+◌, List, [], ◌∷◌, ◌++◌, Option, Some, None, refl, ◌∙◌, ap, arith}
-use Rattle.acd_terms.specs.Lists.{IsAscending, count}
+use Rattle.acd_terms.specs.Lists.{IsAscending, count, total}
 use Rattle.acd_terms.specs.Scans.{connection_of}
 use Rattle.acd_terms.specs.Writes.{with_connection, without_connection}
 use Rattle.acd_terms.specs.Moves.{moved, with_event, events_of}
@@ -8,7 +8,7 @@ use Rattle.acd_terms.specs.Figures.{is_entry, is_answer, is_abandonment, is_movi
 use Rattle.acd_terms.specs.Rules.Plan.{connection_order}
 use Rattle.acd_terms.specs.Rules.Occupied.{waits_in, rings_from}
 use Rattle.acd_laws.proofs.Types.{Rows, ConnectionRecord, Event, Move, Report}
-use Rattle.acd_laws.proofs.Lists.{one}
+use Rattle.acd_laws.proofs.Lists.{one, total-append}
 use Rattle.acd_terms.proofs.MoveLemmas.{moved_append}
 use Rattle.acd_laws.proofs.State.{count_new, count_old, count_less}
 
@@ -47,12 +47,10 @@ gone_by g None = 0
 gone_by g (Some r) = gone g r
 
 abbrev pub entries : ℕ → List Move → ℕ
-entries g [] = 0
-entries g (m ∷ ms) = entry_by g m.report + entries g ms
+entries g ms = total (λ (x : Move). entry_by g x.report) ms
 
 abbrev pub leaves : ℕ → List Move → ℕ
-leaves g [] = 0
-leaves g (m ∷ ms) = gone_by g m.report + leaves g ms
+leaves g ms = total (λ (x : Move). gone_by g x.report) ms
 
 -- what a group holds after moves, and what left by them, is what it held and what entered
 abbrev pub Balances : Rows → List Move → Type 0
@@ -91,12 +89,10 @@ unfolding figures_of
 balanced_events s m ms h g = let a = entries_is g m ms in let b = leaves_is g m ms in let c = h g in omega (arith, a, b, c)
 
 pub entries-append : (g : ℕ) (ms ns : List Move) → entries g (ms ++ ns) ≡ entries g ms + entries g ns
-entries-append g [] ns = omega arith
-entries-append g (m ∷ ms) ns = let ih = entries-append g ms ns in omega (arith, ih)
+entries-append g ms ns = total-append (λ (x : Move). entry_by g x.report) ms ns
 
 pub leaves-append : (g : ℕ) (ms ns : List Move) → leaves g (ms ++ ns) ≡ leaves g ms + leaves g ns
-leaves-append g [] ns = omega arith
-leaves-append g (m ∷ ms) ns = let ih = leaves-append g ms ns in omega (arith, ih)
+leaves-append g ms ns = total-append (λ (x : Move). gone_by g x.report) ms ns
 
 pub balances-append : (s : Rows) (ms ns : List Move) → Balances s ms → Balances (moved s ms) ns → Balances s (ms ++ ns)
 balances-append s ms ns h f g =

@@ -48,20 +48,9 @@ unfolding cleared_by
 cleared_event n m None es = omega arith
 cleared_event n m (Some r) es = refl
 
-no_event : (n : ℕ) → cleared_by n [] ≡ 0
-unfolding cleared_by
-no_event n = refl
-
-cleared_joined : (n : ℕ) (es fs : List Event) → cleared_by n (es ++ fs) ≡ cleared_by n es + cleared_by n fs
-unfolding cleared_by
-cleared_joined n es fs = count-append (λ (e : Event). clears n e.report) es fs
-
-cleared_numbered : (n k : ℕ) (es : List Event) → cleared_by n (numbered k es) ≡ cleared_by n es
-unfolding cleared_by
-cleared_numbered n k es = count_numbered (clears n) k es
-
 cleared_after : (s : Rows) (m : ℕ) (ms : List Move) → AllCounted s ms → (n : ℕ) → 0 < n → clearings (moved s ms) n ≡ clearings s n + cleared_by n (events_of m ms)
-cleared_after s m [] h n p = let z = no_event n in omega (arith, z)
+unfolding cleared_by
+cleared_after s m [] h n p = omega arith
 cleared_after s m (x ∷ ms) h n p =
     let a = h.0.cleared n p in
     let b = cleared_after (changed s x.change) m ms h.1 n p in
@@ -69,19 +58,21 @@ cleared_after s m (x ∷ ms) h n p =
     omega (arith, a, b, c)
 
 pub clearings_moved : (m : ℕ) (s : Rows) (events : List Event) (ms : List Move) → AllCounted s ms → KeepsClearings s events → KeepsClearings (moved s ms) (events ++ events_of m ms)
+unfolding cleared_by
 clearings_moved m s events ms h k n p =
     let a = k n p in
     let b = cleared_after s m ms h n p in
-    let c = cleared_joined n events (events_of m ms) in
+    let c = count-append (λ (e : Event). clears n e.report) events (events_of m ms) in
     omega (arith, a, b, c)
 
 -- numbers don't count
 pub clearings_numbered : (s : Rows) (events es : List Event) (k : ℕ) → KeepsClearings s (events ++ es) → KeepsClearings s (events ++ numbered k es)
+unfolding cleared_by
 clearings_numbered s events es k h n p =
     let a = h n p in
-    let b = cleared_joined n events es in
-    let c = cleared_joined n events (numbered k es) in
-    let d = cleared_numbered n k es in
+    let b = count-append (λ (e : Event). clears n e.report) events es in
+    let c = count-append (λ (e : Event). clears n e.report) events (numbered k es) in
+    let d = count_numbered (clears n) k es in
     omega (arith, a, b, c, d)
 
 -- names

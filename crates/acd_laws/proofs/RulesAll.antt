@@ -15,7 +15,7 @@ use Rattle.std.proofs.Math.Nat.{add-mul}
 use Rattle.acd_terms.specs.declared.event.Report.TheVariants as report
 use Rattle.acd_terms.specs.Limits.{limits_fit}
 use Rattle.acd_terms.specs.Offers.{HasNoOffer}
-use Rattle.acd_terms.specs.Figures.{is_entry, is_answer, waited_there, figures_of, counting, with_figures}
+use Rattle.acd_terms.specs.Figures.{is_answer, waited_there, figures_of, counting, with_figures}
 use Rattle.acd_terms.specs.Services.Plan.{no_figures}
 use Rattle.acd_terms.specs.Services.Serve.{serve}
 use Rattle.acd_terms.specs.Rules.Occupied.{waits_in, rings_from}
@@ -76,14 +76,6 @@ waited_fits g m (e ∷ es) h =
     let c = add-mul (one (is_answer g e.report)) (count (λ (x : Event). is_answer g x.report) es) m in
     omega (arith, a, b, c)
 
-waited_figures : (g m : ℕ) (es : List Event) → AllWait m es → (figures_of g es).waited ≤ (figures_of g es).answered * m
-unfolding figures_of
-waited_figures g m es h = waited_fits g m es h
-
-entered_figures : (g : ℕ) (es : List Event) → count (λ (e : Event). is_entry g e.report) es ≤ 1 → (figures_of g es).entered ≤ 1
-unfolding figures_of
-entered_figures g es h = h
-
 counted_up : (k m j n : ℕ) (g : GroupRecord) (es : List Event) → IsCountedUpTo j n g → k ≡ j + 1 → n ≤ m → (figures_of g.device es).entered ≤ 1 → (figures_of g.device es).waited ≤ (figures_of g.device es).answered * m
     → IsCountedUpTo k m (counting es g)
 counted_up k m j n g es h e l a b =
@@ -136,7 +128,7 @@ keeps_ended : (s t : Rows) (es : List Event) (k m : ℕ) → KeepsRules s → k 
     → ((g : ℕ) → holding t g + ((figures_of g es).answered + (figures_of g es).abandoned + (figures_of g es).moved) ≡ holding s g + (figures_of g es).entered)
     → Rules (ended t es k m (s.last_event + length es)) → ((g : GroupRecord) → Among g (ended t es k m (s.last_event + length es)).groups → HasNoOffer (ended t es k m (s.last_event + length es)) g.device)
     → KeepsRules (ended t es k m (s.last_event + length es))
-unfolding with_last with_figures
+unfolding with_last with_figures figures_of
 keeps_ended s t es k m h e l a b rules offers =
     let n : ℕ = s.last_event + length es in
     let kept : (g : GroupRecord) → Among g t.groups → WasKept s g = λ g i. was_kept s g h (a.groups g i) in
@@ -152,7 +144,7 @@ keeps_ended s t es k m h e l a b rules offers =
       timed = record { agents = a.timed.agents; calls = a.timed.calls; connections = a.timed.connections };
       places = places_after s t s.last_moment k e h.places h.timed a.places;
       figures = every-map (IsCountedUpTo k m) (counting es) t.groups (λ g i.
-          counted_up k m s.last_stamp s.last_moment g es (kept g i).counted e l (entered_figures g.device es (a.entries g.device)) (waited_figures g.device m es a.waits));
+          counted_up k m s.last_stamp s.last_moment g es (kept g i).counted e l (a.entries g.device) (waited_fits g.device m es a.waits));
       offers = offers;
       monitors = every_from (MonitorRule (ended t es k m n)) t.monitors (λ x i.
           let q = every_among (MonitorRule t) t.monitors x a.monitors i in let u = q.2 in (planned_ended t es k m n x.device ∙ q.0, q.1, omega (arith, u, same)));

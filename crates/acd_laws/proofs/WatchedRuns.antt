@@ -81,10 +81,6 @@ entered_by s events g x r h a e =
     let place = some_from x.place (place_in x g x.state rule.0 e) in
     entered_from g x.call events (h g x.call place.0 (record { connection = x; there = a; held = e; of_call = refl; at_place = place.1 }))
 
-holding_ended : (t : Rows) (es : List Event) (k m n g : ℕ) → holding (ended t es k m n) g ≡ holding t g
-unfolding with_last with_figures
-holding_ended t es k m n g = refl
-
 -- what a step tells
 
 tells_ended : (s t : Rows) (events es : List Event) (k m : ℕ) → Tells s events → Follows s s.last_stamp k t es → Tells (ended t es k m (s.last_event + length es)) (events ++ numbered s.last_event es)
@@ -178,7 +174,7 @@ step_keeps_watched s events moment command r w n =
 -- balance
 
 pub step_balances : KeptByRules IsBalanced
-unfolding step
+unfolding step with_last with_figures
 step_balances s events moment command r h g =
     let m : ℕ = executed_moment s moment in
     let k : ℕ = next_stamp s in
@@ -187,7 +183,7 @@ step_balances s events moment command r h g =
     let f = follows_step s m k s.last_stamp command r (omega arith) in
     let a = h g in
     let b = f.balances g in
-    let c = holding_ended (moved s ms) es k m (s.last_event + length es) g in
+    let c : holding (ended (moved s ms) es k m (s.last_event + length es)) g ≡ holding (moved s ms) g = refl in
     let j = figures_joined g events (numbered s.last_event es) ∙ ap (λ v. sum_of_figures (figures_of g events) v) (figures_numbered g s.last_event es) in
     let j1 : (figures_of g (events ++ numbered s.last_event es)).entered ≡ (figures_of g events).entered + (figures_of g es).entered = ap (λ (w : Figures). w.entered) j in
     let j2 : (figures_of g (events ++ numbered s.last_event es)).answered ≡ (figures_of g events).answered + (figures_of g es).answered = ap (λ (w : Figures). w.answered) j in
