@@ -119,12 +119,9 @@ one_grown s e a =
           ]) refl
     ]) refl
 
-ascending_figures : (s : Rows) (es : List Event) → IsAscending group_order s.groups → IsAscending group_order (with_figures s es).groups
-unfolding with_figures
-ascending_figures s es a = ascending_counting es s.groups a
-
 pub ascending_grown : (s : Rows) (e : Event) → IsAscending group_order s.groups → IsAscending group_order (changed_by s (growth_by s e)).groups
-ascending_grown s e a = subst (λ (t : Rows). IsAscending group_order t.groups) (sym (one_grown s e a)) (ascending_figures s (e ∷ []) a)
+unfolding with_figures
+ascending_grown s e a = subst (λ (t : Rows). IsAscending group_order t.groups) (sym (one_grown s e a)) (ascending_counting (e ∷ []) s.groups a)
 
 pub figures_more : (s : Rows) (e : Event) (es : List Event) → with_figures (with_figures s (e ∷ [])) es ≡ with_figures s (e ∷ es)
 unfolding with_figures
@@ -172,16 +169,13 @@ step_makes_its_changes s moment command h =
 
 -- a refused request, where no offer is left
 
-nothing_distributed : (s : Rows) (m : ℕ) → offer_of s ≡ None → distribution s m ≡ []
-unfolding distribution
-nothing_distributed s m h = no_offers (length (queued_in_all s)) s m h
-
 refused_moves : (v : Served) (r : Refusal) → outcome_of v ≡ outcome.Refused r → moves_of v ≡ []
 refused_moves (Refused x) r e = refl
 refused_moves (Done answer moves) r e = absurd cc
 
 no_moves : (s : Rows) (m : ℕ) (v : Served) → moves_of v ≡ [] → offer_of s ≡ None → step_moves s m v ≡ []
-no_moves s m v e h = rw e (nothing_distributed s m h)
+unfolding distribution
+no_moves s m v e h = rw e (no_offers (length (queued_in_all s)) s m h)
 
 nothing_changed : (s : Rows) (k m : ℕ) (moves : List Move) → moves ≡ [] → counted s m k moves ≡ with_last s k m s.last_event
 unfolding with_last

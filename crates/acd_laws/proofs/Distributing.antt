@@ -1,5 +1,5 @@
 -- A distribution: its offers one after another, what they keep, and that they are those that are to be made, and no others.
-use Rattle.std.proofs.Common.{◌≡◌, ℕ, zero, suc, ◌+◌, ◌≤◌, Bool, true, false, not, ◌&&◌, List, [], ◌++◌, Option, Some, None, refl, sym, ◌∙◌, ap, subst, arith, length, append_assoc, append-nil}
+use Rattle.std.proofs.Common.{◌≡◌, ℕ, zero, suc, ◌+◌, ◌≤◌, Bool, true, false, ◌&&◌, List, [], ◌++◌, Option, Some, None, refl, sym, ◌∙◌, ap, subst, arith, length, append_assoc, append-nil}
 use Rattle.std.specs.Prelude.{◌==◌, filter, ◌↔◌}
 use Rattle.acd_laws.proofs.Types.{Rows, GroupRecord, AgentRecord, ConnectionRecord, Event, Move, Offer}
 use Rattle.acd_terms.specs.Lists.{count, Among}
@@ -42,24 +42,16 @@ idle_station : (s : Rows) (o : Option ℕ) → is_idle_there s o ≡ true → (d
 idle_station s None e = absurd (cc (e))
 idle_station s (Some d) e = (d, (refl, e))
 
-waiting_is : (s : Rows) (g : ℕ) (x : ConnectionRecord) → Among x (waiting_in s g) → Among x s.connections × ((x.device == g && is_queued x.state) ≡ true)
-unfolding waiting_in
-waiting_is s g x a = filter_among (λ (c : ConnectionRecord). c.device == g && is_queued c.state) s.connections x a
-
-eligible_is : (s : Rows) (g : ℕ) (a : AgentRecord) → Among a (eligible_in s g)
-    → Among a s.agents × ((has a.group g && is_ready a.state && not (is_occupied s a) && is_idle_there s a.station) ≡ true)
-unfolding eligible_in is_eligible
-eligible_is s g a i = filter_among (is_eligible s g) s.agents a i
-
 pub offering : (s : Rows) → Rules s → (o : Offer) → offer_of s ≡ Some o → (x : ConnectionRecord) × ((a : AgentRecord) × ((d : ℕ) × Offering s o x a d))
+unfolding waiting_in eligible_in is_eligible
 offering s r o e =
     let h : IsOffer s o = (finds_the_offer s o r.orders.groups).0 e in
     let w = mapped_among waiting_pair (waiting_in s o.group) (h.place, o.call) h.call.there in
     let v = mapped_among ready_pair (eligible_in s o.group) (h.stamp, o.agent) h.agent.there in
     let x : ConnectionRecord = w.0 in
     let a : AgentRecord = v.0 in
-    let wx = waiting_is s o.group x w.1.0 in
-    let ea = eligible_is s o.group a v.1.0 in
+    let wx = filter_among (λ (c : ConnectionRecord). c.device == o.group && is_queued c.state) s.connections x w.1.0 in
+    let ea = filter_among (is_eligible s o.group) s.agents a v.1.0 in
     let both = (equals x.device o.group and holds (is_queued x.state)).0 wx.1 in
     let may = (holds (has a.group o.group) and holds (is_ready a.state) and fails (is_occupied s a) and holds (is_idle_there s a.station)).0 ea.1 in
     let d = idle_station s a.station may.1 in
@@ -199,13 +191,9 @@ is_made m (suc n) _ _ (goes_on s o more i rest) r l =
     ap (λ (v : List Move). offer_moves s m o ++ v) (is_made m n (moved s (offer_moves s m o)) more rest (rules_offer s m o r e) (omega (arith, f, l)))
     ∙ sym (an_offer n s m o e)
 
-queued_count : (s : Rows) → count in_queue s.connections ≡ length (queued_in_all s)
-unfolding queued_in_all
-queued_count s = count_length in_queue s.connections
-
 pub finds_the_distribution : (s : Rows) (m : ℕ) (moves : List Move) → Rules s → (moves ≡ distribution s m) ↔ IsDistribution m s moves
-unfolding distribution
+unfolding distribution queued_in_all
 finds_the_distribution s m ms r =
-    let n = queued_count s in
+    let n = count_length in_queue s.connections in
     let l : count in_queue s.connections ≤ length (queued_in_all s) = omega (arith, n) in
     (λ e. subst (IsDistribution m s) (sym e) (made_is m (length (queued_in_all s)) s r l), λ d. is_made m (length (queued_in_all s)) s ms d r l)

@@ -1,5 +1,5 @@
 -- The end of a step sets figures and counters: nothing else of the state after its moves changes, and the rules hold on.
-use Rattle.std.proofs.Common.{◌≡◌, ℕ, List, [], ◌∷◌, Option, Some, None, refl, sym, ◌∙◌, ap, subst, map}
+use Rattle.std.proofs.Common.{◌≡◌, ℕ, List, [], ◌∷◌, Option, Some, None, refl, sym, ◌∙◌, ap, subst, map, ◌||◌}
 use Rattle.std.specs.Prelude.{is_some}
 use Rattle.acd_laws.proofs.Types.{Rows, GroupRecord, AgentRecord, AgentState, Command, Event}
 use Rattle.acd_terms.specs.declared.state.AgentState.TheVariants as A
@@ -30,16 +30,9 @@ pub groups_ended : (t : Rows) (es : List Event) (k m n d : ℕ) → is_group (en
 unfolding with_last with_figures group_of
 groups_ended t es k m n d = ap is_some (group_counted_found d es t.groups) ∙ is_some_mapped (counting es) (find_by (at_group d) t.groups)
 
-pub stations_ended : (t : Rows) (es : List Event) (k m n d : ℕ) → is_station (ended t es k m n) d ≡ is_station t d
-unfolding with_last with_figures station_of
-stations_ended t es k m n d = refl
-
 pub planned_ended : (t : Rows) (es : List Event) (k m n d : ℕ) → is_planned (ended t es k m n) d ≡ is_planned t d
-planned_ended t es k m n d = rw (groups_ended t es k m n d, stations_ended t es k m n d) refl
-
-pub calls_ended : (t : Rows) (es : List Event) (k m n c : ℕ) → call_of (ended t es k m n) c ≡ call_of t c
-unfolding with_last with_figures call_of
-calls_ended t es k m n c = refl
+unfolding with_last with_figures station_of
+planned_ended t es k m n d = ap (λ b. b || is_station t d) (groups_ended t es k m n d)
 
 -- the rules of a record speak of the planned devices alone, and of the last call
 same_group : (s t : Rows) → ((d : ℕ) → is_group t d ≡ is_group s d) → (o : Option ℕ) → IsPlannedGroup s o → IsPlannedGroup t o
@@ -55,13 +48,13 @@ same_seat s t g f a A.Null h = h
 same_seat s t g f a _ h = (same_station s t f a.station h.0, same_group s t g a.group h.1)
 
 pub rules_ended : (t : Rows) (es : List Event) (k m n : ℕ) → Rules t → Rules (ended t es k m n)
-unfolding with_last with_figures
+unfolding with_last with_figures station_of call_of
 rules_ended t es k m n r =
     let u : Rows = ended t es k m n in
     let g : (d : ℕ) → is_group u d ≡ is_group t d = groups_ended t es k m n in
-    let f : (d : ℕ) → is_station u d ≡ is_station t d = stations_ended t es k m n in
+    let f : (d : ℕ) → is_station u d ≡ is_station t d = λ d. refl in
     let p : (d : ℕ) → is_planned u d ≡ is_planned t d = planned_ended t es k m n in
-    let c : (j : ℕ) → call_of u j ≡ call_of t j = calls_ended t es k m n in
+    let c : (j : ℕ) → call_of u j ≡ call_of t j = λ j. refl in
     record {
       orders = record { groups = ascending_counting es t.groups r.orders.groups; stations = r.orders.stations; agents = r.orders.agents; calls = r.orders.calls; connections = r.orders.connections; monitors = r.orders.monitors };
       kinds = λ d h. f d ∙ r.kinds d (sym (g d) ∙ h);
