@@ -32,7 +32,7 @@ abbrev pub RunKeepsFigures : Type 0
 RunKeepsFigures = (limits : Limits) (asked : List Asked) (g : GroupRecord) → Among g (run (empty_rows limits) asked).rows.groups
     → g.figures ≡ figures_of g.device (run (empty_rows limits) asked).events
 
--- of a planned group's record a step changes the figures alone, by what its events count
+-- of a planned group's record, in a state that keeps the rules, a step changes the figures alone, by what its events count
 abbrev pub StepAddsFigures : Type 0
 StepAddsFigures = (s : Rows) (moment : ℕ) (command : Command) (d : ℕ) (g : GroupRecord) → Rules s → group_of s d ≡ Some g
     → group_of (step s moment command).rows d ≡ Some (counting (step s moment command).events g)

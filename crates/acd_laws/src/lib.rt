@@ -39,7 +39,7 @@ pub fn finds_the_distribution()
     ensures { FindsTheDistribution }
 {}
 
-/// Where the figures of the groups are those of all events before a step, they are those of all events after it.
+/// Where a state keeps the rules, and the figures of the groups are those of all events before a step, they are those of all events after it.
 pub fn step_keeps_figures()
     ensures { StepKeepsFigures }
 {}
@@ -49,7 +49,7 @@ pub fn run_keeps_figures()
     ensures { RunKeepsFigures }
 {}
 
-/// Of a planned group a step changes the figures alone, by what its events count.
+/// Of a planned group of a state that keeps the rules a step changes the figures alone, by what its events count.
 pub fn step_adds_figures()
     ensures { StepAddsFigures }
 {}
