@@ -12,7 +12,7 @@ use Rattle.acd_terms.specs.declared.state.ConnectionState.{ConnectionState}
 use Rattle.acd_terms.specs.declared.state.ConnectionState.TheVariants as S
 use Rattle.acd_terms.specs.declared.event.Event.{Event}
 use Rattle.acd_laws.specs.Counts.{Rules, AlertingColumns, HasColumns, ConnectionRule, IsCaller, StandsAt}
-use Rattle.acd_laws.proofs.Told.{HasEntries, shown, seat, UpTo, Tells, after-append, after-numbered}
+use Rattle.acd_laws.proofs.Told.{HasEntries, shown, Tells, after-append, after-numbered}
 use Rattle.acd_laws.proofs.Lists.{every_among, some_from, none_from}
 use Rattle.std.proofs.lemmas.Bool.{and_parts, not-true, or_left, or_right}
 use Rattle.acd_terms.specs.Writes.{empty_rows, with_last}
@@ -96,20 +96,9 @@ entered_by s events g x r h a e =
 abbrev ended : Rows → List Event → ℕ → ℕ → ℕ → Rows
 ended t es k m n = with_last (with_figures t es) k m n
 
-planned_ended : (t : Rows) (es : List Event) (k m n d : ℕ) → is_planned (ended t es k m n) d ≡ is_planned t d
-unfolding with_last with_figures group_of station_of
-planned_ended t es k m n d = ap (λ b. b || is_station t d) (is_group_counting t es d)
-
-state_ended : (t : Rows) (es : List Event) (k m n c d : ℕ) → state_at (ended t es k m n) c d ≡ state_at t c d
-unfolding with_last with_figures connection_of
-state_ended t es k m n c d = refl
-
 shown_ended : (t : Rows) (es : List Event) (k m n c d : ℕ) → shown (ended t es k m n) c d ≡ shown t c d
-shown_ended t es k m n c d = ap (λ b. cond b (state_at (ended t es k m n) c d) None) (planned_ended t es k m n d) ∙ ap (λ v. cond (is_planned t d) v None) (state_ended t es k m n c d)
-
-seat_ended : (t : Rows) (es : List Event) (k m n a : ℕ) → seat (ended t es k m n) a ≡ seat t a
-unfolding with_last with_figures agent_of
-seat_ended t es k m n a = refl
+unfolding with_last with_figures group_of station_of connection_of
+shown_ended t es k m n c d = ap (λ b. cond (b || is_station t d) (state_at t c d) None) (is_group_counting t es d)
 
 ordered_ended : (t : Rows) (es : List Event) (k m n : ℕ) (events : List Event) → Ordered k n t events → Ordered k n (ended t es k m n) events
 unfolding with_last with_figures
@@ -122,31 +111,23 @@ ordered_ended t es k m n events o = record {
     back : (g c p : ℕ) → IsHeldAt (ended t es k m n) g c p → IsHeldAt t g c p
     back g c p h = record { connection = h.connection; there = h.there; held = h.held; of_call = h.of_call; at_place = h.at_place }
 
-counters_ended : (t : Rows) (es : List Event) (k m n : ℕ) → (k ≡ (ended t es k m n).last_stamp) × (n ≡ (ended t es k m n).last_event)
-unfolding with_last
-counters_ended t es k m n = (refl, refl)
-
-holding_ended : (t : Rows) (es : List Event) (k m n g : ℕ) → holding (ended t es k m n) g ≡ holding t g
-unfolding with_last with_figures
-holding_ended t es k m n g = refl
-
 -- what a step tells
 
 tells_ended : (s t : Rows) (events es : List Event) (k m : ℕ) → Tells s events → Follows s s.last_stamp k t es → Tells (ended t es k m (s.last_event + length es)) (events ++ numbered s.last_event es)
+unfolding with_last with_figures agent_of
 tells_ended s t events es k m told f =
     let n : ℕ = s.last_event + length es in
     let e : Rows = ended t es k m n in
     let o : Ordered s.last_stamp s.last_event s events = record { in_order = told.queues; entered = told.entries; up_to = told.up_to } in
     let w : Ordered k n e (events ++ numbered s.last_event es) = ordered_ended t es k m n (events ++ numbered s.last_event es) (f.order events s.last_event o) in
-    let c = counters_ended t es k m n in
     record {
       connections = λ call device. shown_ended t es k m n call device ∙ f.connections call device ∙ ap (λ v. after (connection_told call device) v es) (told.connections call device)
           ∙ sym (after-append (connection_told call device) None events (numbered s.last_event es) ∙ after-numbered (connection_told call device) _ s.last_event es);
-      agents = λ agent. seat_ended t es k m n agent ∙ f.agents agent ∙ ap (λ v. after (seat_told agent) v es) (told.agents agent)
+      agents = λ agent. f.agents agent ∙ ap (λ v. after (seat_told agent) v es) (told.agents agent)
           ∙ sym (after-append (seat_told agent) _ events (numbered s.last_event es) ∙ after-numbered (seat_told agent) _ s.last_event es);
       entries = w.entered;
       queues = w.in_order;
-      up_to = subst (λ v. UpTo v e.last_event e (events ++ numbered s.last_event es)) c.0 (subst (λ v. UpTo k v e (events ++ numbered s.last_event es)) c.1 w.up_to);
+      up_to = w.up_to;
     }
 
 step_tells : (s : Rows) (events : List Event) (moment : ℕ) (command : Command) → Rules s → Tells s events
@@ -226,7 +207,7 @@ step_keeps_watched s events moment command r w n =
 -- balance
 
 pub step_balances : StepBalances
-unfolding step
+unfolding step with_last with_figures
 step_balances s events moment command r h g =
     let m : ℕ = executed_moment s moment in
     let k : ℕ = next_stamp s in
@@ -235,7 +216,7 @@ step_balances s events moment command r h g =
     let f = follows_step s m k s.last_stamp command r (omega arith) in
     let a = h g in
     let b = f.balances g in
-    let c = holding_ended (moved s ms) es k m (s.last_event + length es) g in
+    let c : holding (ended (moved s ms) es k m (s.last_event + length es)) g ≡ holding (moved s ms) g = refl in
     let j = figures_joined g events (numbered s.last_event es) ∙ ap (λ v. sum_of_figures (figures_of g events) v) (figures_numbered g s.last_event es) in
     let j1 : (figures_of g (events ++ numbered s.last_event es)).entered ≡ (figures_of g events).entered + (figures_of g es).entered = ap (λ (w : Figures). w.entered) j in
     let j2 : (figures_of g (events ++ numbered s.last_event es)).answered ≡ (figures_of g events).answered + (figures_of g es).answered = ap (λ (w : Figures). w.answered) j in
