@@ -140,11 +140,6 @@ turned s x y r ex yc yd rule ax ay yg one_live no_hold =
     answered_only S.Hold e = (refl, refl, refl, refl)
     answered_only _ e = absurd (cc (e))
 
-bare_answered : (s : Rows) (x : ConnectionRecord) (st : ConnectionState) → is_answered st ≡ true → HasColumns x st → Bare x
-bare_answered s x S.Connected e h = h
-bare_answered s x S.Hold e h = h
-bare_answered s x _ e h = absurd (cc (e))
-
 pub kept_hold : (s : Rows) (x : ConnectionRecord) → Rules s → connection_of s x.call x.device ≡ Some x → IsTrue (is_station s x.device) → is_connected x.state ≡ true → Rules (moved s (hold x ∷ []))
 kept_hold s x r ex station connected =
     let y : ConnectionRecord = record x { state = S.Hold } in
