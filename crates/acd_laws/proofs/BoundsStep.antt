@@ -86,23 +86,17 @@ monitored_more : (s t : Rows) → ((d : ℕ) → is_planned s d ≡ true → is_
 monitored_more s t f a b e h = subst (λ ws. Every (MonitorRule t) ws) (sym e) (every_from (MonitorRule t) s.monitors (λ w i.
     let q = every_among (MonitorRule s) s.monitors w h i in let x = q.1 in let y = q.2 in (f w.device q.0, omega (arith, x, a), omega (arith, y, b))))
 
-station_stays : (s : Rows) (g : GroupRecord) (d : ℕ) → is_station (with_group s g) d ≡ is_station s d
-unfolding with_group station_of
-station_stays s g d = refl
-
-group_stays : (s : Rows) (g : StationRecord) (d : ℕ) → is_group (with_station s g) d ≡ is_group s d
-unfolding with_station group_of
-group_stays s g d = refl
-
 planned_group : (s : Rows) (g : GroupRecord) (d : ℕ) → is_planned s d ≡ true → is_planned (with_group s g) d ≡ true
+unfolding with_group station_of
 planned_group s g d e = elim (or_cases (is_group s d) (is_station s d) e) [
   | inl w ↦ or_left _ _ (group_put s g d ∙ or_right (g.device == d) (is_group s d) w)
-  | inr w ↦ or_right (is_group (with_group s g) d) _ (station_stays s g d ∙ w)
+  | inr w ↦ or_right (is_group (with_group s g) d) _ w
 ]
 
 planned_station : (s : Rows) (g : StationRecord) (d : ℕ) → is_planned s d ≡ true → is_planned (with_station s g) d ≡ true
+unfolding with_station group_of
 planned_station s g d e = elim (or_cases (is_group s d) (is_station s d) e) [
-  | inl w ↦ or_left _ _ (group_stays s g d ∙ w)
+  | inl w ↦ or_left _ _ w
   | inr w ↦ or_right (is_group (with_station s g) d) _ (station_put s g d ∙ or_right (g.device == d) (is_station s d) w)
 ]
 
@@ -162,47 +156,24 @@ behaves_monitor s k m w room p e n = record {
 
 -- calls
 
-called : (s : Rows) (c : CallRecord) → Monitored s → Monitored (with_call s c)
-unfolding with_call group_of station_of
-called s c h = monitored_more s (with_call s c) (λ d e. e) refl refl refl h
-
-same_limits : (s : Rows) (c : CallRecord) → (with_call s c).limits ≡ s.limits
-unfolding with_call
-same_limits s c = refl
-
-same_groups : (s : Rows) (c : CallRecord) → (with_call s c).groups ≡ s.groups
-unfolding with_call
-same_groups s c = refl
-
-same_event : (s : Rows) (c : CallRecord) → (with_call s c).last_event ≡ s.last_event
-unfolding with_call
-same_event s c = refl
-
-raised : (s : Rows) (c : CallRecord) (n : ℕ) → c.call ≡ s.last_call + 1 → n ≡ (with_call s c).last_call → n ≤ s.last_call + 1
-unfolding with_call
-raised s c n e f = omega (arith, e, f)
-
-same_monitor : (s : Rows) (c : CallRecord) (n : ℕ) → n ≡ (with_call s c).last_monitor → n ≤ s.last_monitor + 1
-unfolding with_call
-same_monitor s c n f = omega (arith, f)
-
 ascending_called : (s : Rows) (c : CallRecord) → IsAscending agent_order s.agents → IsAscending agent_order (with_call s c).agents
 unfolding with_call
 ascending_called s c h = h
 
 -- a new call, and moves that put connections
 settled_call : (s : Rows) (c : CallRecord) (ms : List Move) → nat_le s.limits.calls (length s.calls) ≡ false → c.call ≡ s.last_call + 1 → Steadied (with_call s c) (moved (with_call s c) ms) → Settled s (silent (PutCall c) ∷ ms)
+unfolding with_call group_of station_of
 settled_call s c ms room n f =
     let t : Rows = moved (with_call s c) ms in
     let a = f.last_call in let b = f.last_monitor in
     record {
       sizes = λ h. sizes_steadied (with_call s c) t f (sizes_call s c room h);
-      monitors = λ h. monitored_steadied (with_call s c) t f (called s c h);
-      groups = λ z i. inl (subst (Among z) (f.groups ∙ same_groups s c) i);
-      limits = f.limits ∙ same_limits s c;
-      last_call = raised s c (moved (with_call s c) ms).last_call n a;
-      last_monitor = same_monitor s c t.last_monitor b;
-      last_event = f.last_event ∙ same_event s c;
+      monitors = λ h. monitored_steadied (with_call s c) t f (monitored_more s (with_call s c) (λ d e. e) refl refl refl h);
+      groups = λ z i. inl (subst (Among z) f.groups i);
+      limits = f.limits;
+      last_call = omega (arith, n, a);
+      last_monitor = omega (arith, b);
+      last_event = f.last_event;
     }
 
 -- each deed

@@ -100,10 +100,6 @@ counted_begin s c r e =
 
 -- a live call ends
 
-last_ended : (s : Rows) (c : ℕ) → (without_call s c).last_call ≡ s.last_call
-unfolding without_call
-last_ended s c = refl
-
 ended : (s : Rows) (c : ℕ) (k : CallRecord) → IsAscending call_order s.calls → call_of s c ≡ Some k → c ≤ s.last_call → (n : ℕ)
     → one (nat_le n s.last_call && is_none (call_of (without_call s c) n)) ≡ clearings s n + one (c == n)
 ended s c k asc live le n =
@@ -118,13 +114,9 @@ ended s c k asc live le n =
     ]) refl
 
 pub counted_end : (s : Rows) (c : ℕ) (g : Option ℕ) (k : CallRecord) → IsAscending call_order s.calls → call_of s c ≡ Some k → c ≤ s.last_call → Counted s (end_call c g)
+unfolding without_call
 counted_end s c g k asc live le =
-    let same = last_ended s c in
-    record {
-      cleared = λ n p. ap (λ l. one (nat_le n l && is_none (call_of (without_call s c) n))) same ∙ ended s c k asc live le n;
-      named = omega (arith, same, le);
-      grows = omega (arith, same);
-    }
+    record { cleared = λ n p. ended s c k asc live le n; named = le; grows = omega arith }
 
 -- a connection is of a live call, whose number isn't above the last
 

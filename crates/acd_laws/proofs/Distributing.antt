@@ -85,9 +85,6 @@ pub offer_moves_are : (s : Rows) (m : ℕ) (o : Offer) (x : ConnectionRecord) (a
 unfolding offer_moves
 offer_moves_are s m o x a d h = rw (h.found, h.agent_found) (ap (λ v. offer_at m (Some x) v) h.station)
 
-pub offer_own : (s : Rows) (o : Offer) (x : ConnectionRecord) (a : AgentRecord) (d : ℕ) → Rules s → Offering s o x a d → connection_of s x.call x.device ≡ Some x
-offer_own s o x a d r h = connection_there s r x h.there
-
 pub rules_offer : (s : Rows) (m : ℕ) (o : Offer) → Rules s → offer_of s ≡ Some o → Rules (moved s (offer_moves s m o))
 rules_offer s m o r e =
     let f = offering s r o e in

@@ -107,14 +107,7 @@ ended s call l loose r sorted within less gone others talk dist free =
     let v : Rows = record s { connections = l; calls = remove_by (at_call call) s.calls } in
     let calls : (n : ℕ) → call_of v n ≡ cond (call == n) None (call_of s n) = λ n. call_remove s call n r.orders.calls in
     record {
-      orders = record {
-        groups = r.orders.groups;
-        stations = r.orders.stations;
-        agents = r.orders.agents;
-        monitors = r.orders.monitors;
-        calls = ascending-remove call_order (at_call call) s.calls r.orders.calls;
-        connections = sorted;
-      };
+      orders = record { groups = r.orders.groups; stations = r.orders.stations; agents = r.orders.agents; monitors = r.orders.monitors; calls = ascending-remove call_order (at_call call) s.calls r.orders.calls; connections = sorted };
       kinds = r.kinds;
       agents = r.agents;
       calls = every-remove _ (CallRule s) s.calls r.calls;

@@ -42,14 +42,7 @@ after_answer s x agents r ex alerting sorted rules one_agent ready busy pending 
     let at_x : IsTrue (is_station s x.device) = subst (StandsAt s x) xs rule.2 in
     let counts : (p : ConnectionRecord → Bool) → count p (put_by (connection_order y) s.connections y) + one (p x) ≡ one (p y) + count p s.connections = λ p. count_old p s y x r.orders.connections ex in
     record {
-      orders = record {
-        groups = r.orders.groups;
-        stations = r.orders.stations;
-        agents = sorted;
-        monitors = r.orders.monitors;
-        calls = r.orders.calls;
-        connections = ascending-put connection_order connections_total y s.connections r.orders.connections;
-      };
+      orders = record { groups = r.orders.groups; stations = r.orders.stations; agents = sorted; monitors = r.orders.monitors; calls = r.orders.calls; connections = ascending-put connection_order connections_total y s.connections r.orders.connections };
       kinds = r.kinds;
       agents = rules;
       calls = r.calls;
@@ -138,11 +131,6 @@ turned s x y r ex yc yd rule ax ay yg one_live no_hold =
     answered_only S.Hold e = (refl, refl, refl, refl)
     answered_only _ e = absurd (cc (e))
 
-bare_answered : (s : Rows) (x : ConnectionRecord) (st : ConnectionState) → is_answered st ≡ true → HasColumns x st → Bare x
-bare_answered s x S.Connected e h = h
-bare_answered s x S.Hold e h = h
-bare_answered s x _ e h = absurd (cc (e))
-
 pub kept_hold : (s : Rows) (x : ConnectionRecord) → Rules s → connection_of s x.call x.device ≡ Some x → IsTrue (is_station s x.device) → is_connected x.state ≡ true → Rules (moved s (hold x ∷ []))
 kept_hold s x r ex station connected =
     let y : ConnectionRecord = record x { state = S.Hold } in
@@ -209,14 +197,7 @@ begun s c y r number outside inside a =
     λ p. count_new p v y there ∙ ap (λ n. one (p y) + n) (count_new p u x (none c.caller)) in
     let calls : (n : ℕ) → call_of t n ≡ cond (c.call == n) (Some c) (call_of s n) = λ n. call_put s c n in
     record {
-      orders = record {
-        groups = r.orders.groups;
-        stations = r.orders.stations;
-        agents = r.orders.agents;
-        monitors = r.orders.monitors;
-        calls = ascending-put call_order calls_total c s.calls r.orders.calls;
-        connections = ascending-put connection_order connections_total y v.connections (ascending-put connection_order connections_total x s.connections r.orders.connections);
-      };
+      orders = record { groups = r.orders.groups; stations = r.orders.stations; agents = r.orders.agents; monitors = r.orders.monitors; calls = ascending-put call_order calls_total c s.calls r.orders.calls; connections = ascending-put connection_order connections_total y v.connections (ascending-put connection_order connections_total x s.connections r.orders.connections) };
       kinds = r.kinds;
       agents = r.agents;
       calls = every-put (call_order c) (CallRule t) c (omega arith, inside, (λ e. apart (sym e)), (or_parts _ _ outside).0) s.calls
@@ -268,14 +249,7 @@ made s m device called r station planned differ free =
     let counts : (p : ConnectionRecord → Bool) → count p t.connections ≡ one (p y) + count p s.connections = λ p. count_new p u y (none_above s r c.call device (omega arith)) in
     let calls : (n : ℕ) → call_of t n ≡ cond (c.call == n) (Some c) (call_of s n) = λ n. call_put s c n in
     record {
-      orders = record {
-        groups = r.orders.groups;
-        stations = r.orders.stations;
-        agents = r.orders.agents;
-        monitors = r.orders.monitors;
-        calls = ascending-put call_order calls_total c s.calls r.orders.calls;
-        connections = ascending-put connection_order connections_total y s.connections r.orders.connections;
-      };
+      orders = record { groups = r.orders.groups; stations = r.orders.stations; agents = r.orders.agents; monitors = r.orders.monitors; calls = ascending-put call_order calls_total c s.calls r.orders.calls; connections = ascending-put connection_order connections_total y s.connections r.orders.connections };
       kinds = r.kinds;
       agents = r.agents;
       calls = every-put (call_order c) (CallRule t) c (omega arith, planned, (λ e. cc (differ, eq-eqb called device e)), station_no_group s device r.kinds station) s.calls

@@ -34,26 +34,16 @@ queued_or_alerting c x = go x.state (x.call == c)
     go : (st : ConnectionState) (b : Bool) → one (b && is_queued st) + one (b && is_alerting st) ≤ one (is_open st && b)
     go S.Queued true = omega arith
     go S.Queued false = omega arith
-    go S.Alerting true = omega arith
-    go S.Alerting false = omega arith
-    go S.Fail true = omega arith
-    go S.Fail false = omega arith
-    go S.Initiated true = omega arith
-    go S.Initiated false = omega arith
-    go S.Connected true = omega arith
-    go S.Connected false = omega arith
-    go S.Hold true = omega arith
-    go S.Hold false = omega arith
+    go _ true = omega arith
+    go _ false = omega arith
 
 -- a connection that isn't queued stands at a station or at the caller
 at_device : (s : Rows) (x : ConnectionRecord) (k : CallRecord) (st : ConnectionState) → StandsAt s x st → is_queued st ≡ false → call_of s x.call ≡ Some k → (x.device ≡ k.caller) ⊎ (is_station s x.device ≡ true)
 at_device s x k S.Queued h e q = absurd (cc (e))
 at_device s x k S.Initiated h e q = inr h.0
-at_device s x k S.Alerting h e q = inr h
-at_device s x k S.Hold h e q = inr h
-at_device s x k S.Fail h e q = inr h
 at_device s x k S.Connected (inl h) e q = inr h
 at_device s x k S.Connected (inr h) e q = inl (sym (subst (λ o. IsCaller o x.device) q h.1))
+at_device s x k _ h e q = inr h
 
 at_queue : (s : Rows) (x : ConnectionRecord) (st : ConnectionState) → StandsAt s x st → is_queued st ≡ true → is_group s x.device ≡ true
 at_queue s x S.Queued h e = h

@@ -169,6 +169,3 @@ settled s ms h a =
       last_monitor = omega (arith, d);
       last_event = f.last_event;
     }
-
-pub settled_nothing : (s : Rows) → Settled s []
-settled_nothing s = record { sizes = λ h. h; monitors = λ h. h; groups = λ g i. inl i; limits = refl; last_call = omega arith; last_monitor = omega arith; last_event = refl }
