@@ -2,12 +2,12 @@
 use Rattle.std.proofs.Common.{◌≡◌, ℕ, ◌+◌, ◌*◌, ◌^◌, ◌<◌, ◌≤◌, ◌⊎◌, inl, inr, true, false, cond, List, [], ◌∷◌, Option, Some, None, refl, ◌∙◌, ap, subst, arith, length, map}
 use Rattle.std.specs.Prelude.{◌==◌}
 use Rattle.std.proofs.lemmas.Bool.{and_parts, eqb-true, false_from_ne_true}
-use Rattle.acd_laws.proofs.Types.{Rows, Limits, GroupRecord, Figures, Command, Event, Move, Report}
+use Rattle.acd_laws.proofs.Types.{Rows, Limits, GroupRecord, Figures, Command, Event, Report}
 use Rattle.acd_terms.specs.Lists.{count, total, Among, Every}
 use Rattle.acd_terms.specs.States.{is_alerting, is_queued}
 use Rattle.acd_terms.specs.Scans.{is_group, has}
 use Rattle.acd_terms.specs.Writes.{with_last, empty_rows}
-use Rattle.acd_terms.specs.Moves.{moved, events_of}
+use Rattle.acd_terms.specs.Moves.{moved}
 use Rattle.acd_laws.proofs.Facts.{Rules, GroupColumn, StandsAt, ConnectionRule, IsPlace, ConnectionTimed, at_place, Timed, OnePlace, MonitorRule, IsCountedUpTo, AddsUp, KeepsRules}
 use Rattle.acd_laws.proofs.Lists.{one, every_among, every_from, count_zero}
 use Rattle.std.proofs.lemmas.Nat.{mul-le}
@@ -17,10 +17,9 @@ use Rattle.acd_terms.specs.Limits.{limits_fit}
 use Rattle.acd_terms.specs.Offers.{HasNoOffer}
 use Rattle.acd_terms.specs.Figures.{is_answer, waited_there, figures_of, counting, with_figures}
 use Rattle.acd_terms.specs.Services.Plan.{no_figures}
-use Rattle.acd_terms.specs.Services.Serve.{serve}
 use Rattle.acd_terms.specs.Rules.Occupied.{waits_in, rings_from}
 use Rattle.acd_terms.specs.Rules.First.{BreaksNoRule}
-use Rattle.acd_terms.specs.Step.{step_moves, step, executed_moment, next_stamp}
+use Rattle.acd_terms.specs.Step.{step, executed_moment, next_stamp}
 use Rattle.acd_terms.specs.Run.{Asked, run}
 use Rattle.acd_laws.specs.RuleLaws.{StepKeepsRules, RunKeepsRules, RulesBound, RulesLeaveRoom}
 use Rattle.acd_laws.proofs.Balance.{holding}
@@ -151,35 +150,21 @@ keeps_ended s t es k m h e l a b rules offers =
       balance = every-map (AddsUp (ended t es k m n)) (counting es) t.groups (λ g i. let p = (kept g i).balanced in let c = b g.device in omega (arith, p, c));
     }
 
-keeps_step : (s : Rows) (moment : ℕ) (c : Command) → KeepsRules s → KeepsRules (step s moment c).rows
-unfolding step
-keeps_step s moment c h =
-    let m : ℕ = executed_moment s moment in
-    let k : ℕ = next_stamp s in
-    let ms : List Move = step_moves s m (serve s m k c) in
-    let es : List Event = events_of m ms in
-    let before : Before s k m = record { rules = h.rules; timed = timed_more s.last_stamp k s.last_moment m s (omega arith) (omega arith) h.timed; stamp = omega arith; sizes = h.sizes; monitors = h.monitors } in
-    keeps_ended s (moved s ms) es k m h refl (omega arith) (after_moves s k m c before) (follows_step s m k s.last_stamp c h.rules (omega arith)).balances
-    (rules_step s moment c h.rules) (step_leaves_no_offer s moment c h.rules)
-
-stamp_step : (s : Rows) (moment : ℕ) (c : Command) → (step s moment c).rows.last_stamp ≡ s.last_stamp + 1
-unfolding step with_last
-stamp_step s moment c = refl
-
-limits_step : (s : Rows) (moment : ℕ) (c : Command) → KeepsRules s → (step s moment c).rows.limits ≡ s.limits
+-- what a step makes of the rows: its stamp is the next, and the limits stay
+step_on : (s : Rows) (moment : ℕ) (c : Command) → KeepsRules s → KeepsRules (step s moment c).rows × ((step s moment c).rows.last_stamp ≡ s.last_stamp + 1) × ((step s moment c).rows.limits ≡ s.limits)
 unfolding step with_last with_figures
-limits_step s moment c h =
+step_on s moment c h =
     let m : ℕ = executed_moment s moment in
     let k : ℕ = next_stamp s in
     let before : Before s k m = record { rules = h.rules; timed = timed_more s.last_stamp k s.last_moment m s (omega arith) (omega arith) h.timed; stamp = omega arith; sizes = h.sizes; monitors = h.monitors } in
-    (after_moves s k m c before).limits
+    let a = after_moves s k m c before in
+    (keeps_ended s _ _ k m h refl (omega arith) a (follows_step s m k s.last_stamp c h.rules (omega arith)).balances (rules_step s moment c h.rules) (step_leaves_no_offer s moment c h.rules), refl, a.limits)
 
 pub step_keeps_rules : StepKeepsRules
 step_keeps_rules s moment c e l =
-    let h = keeps_read s e in
-    let a = stamp_step s moment c in
-    let b : (step s moment c).rows.limits.requests ≡ s.limits.requests = ap (λ (w : Limits). w.requests) (limits_step s moment c h) in
-    keeps_written (step s moment c).rows (keeps_step s moment c h) (omega (arith, a, b, l))
+    let q = step_on s moment c (keeps_read s e) in
+    let a = q.1 in let b = ap (λ (w : Limits). w.requests) q.2 in
+    keeps_written (step s moment c).rows q.0 (omega (arith, a, b, l))
 
 -- runs
 
@@ -202,9 +187,8 @@ run_on : (asked : List Asked) (s : Rows) → BreaksNoRule s → s.last_stamp + l
 unfolding run
 run_on [] s e l = e
 run_on (q ∷ more) s e l =
-    let h = keeps_read s e in
-    let a = stamp_step s q.moment q.command in
-    let b : (step s q.moment q.command).rows.limits.requests ≡ s.limits.requests = ap (λ (w : Limits). w.requests) (limits_step s q.moment q.command h) in
+    let h = step_on s q.moment q.command (keeps_read s e) in
+    let a = h.1 in let b = ap (λ (w : Limits). w.requests) h.2 in
     run_on more (step s q.moment q.command).rows (step_keeps_rules s q.moment q.command e (omega (arith, l))) (omega (arith, a, b, l))
 
 pub run_keeps_rules : RunKeepsRules
