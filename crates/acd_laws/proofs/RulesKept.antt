@@ -56,7 +56,7 @@ kept_deed s m k _ (transfers p to state other free) r =
     (closed_call s p.x r (connection_among s p.x.call p.x.device p.x p.found) state other)
 kept_deed s m k _ (logs_on a device group own null station free grouped) r = kept_log_on s a device group m k r own null station grouped free
 kept_deed s m k _ (waits a wanted own seated occupied) r = kept_wait s a wanted r own seated occupied
-kept_deed s m k _ (goes a wanted own seated free) r = kept_go_from s m k a a.station (state_wanted wanted) r own seated free (wanted_not_busy wanted)
+kept_deed s m k _ (goes a wanted own _ free) r = kept_go_from s m k a (state_wanted wanted) r own free (wanted_not_busy wanted)
 
 pub rules_serve : (s : Rows) (m k : ℕ) (c : Command) → Rules s → Rules (moved s (moves_of (serve s m k c)))
 rules_serve s m k c r = elim (deed_of_serve s m k c) [
