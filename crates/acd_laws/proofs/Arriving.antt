@@ -31,42 +31,12 @@ bare : (c d : ℕ) (state : ConnectionState) → Bare (plain c d state)
 bare c d state = record { place = refl; queued = refl; offered = refl }
 
 arrived_as : (q i : Bool) (s : Rows) (m k c d : ℕ) → is_group s d ≡ q → is_idle s d ≡ i → is_planned s d ≡ true → Arrived s c d (arriving (met_at q i) m k c d)
-arrived_as true i s m k c d e f p = record {
-  call = refl;
-  device = refl;
-  rule = (record { group = refl; place = refl; queued = refl; offered = refl }, e, e);
-  not_initiated = refl;
-  not_hold = refl;
-  not_answered = refl;
-  not_distributed = refl;
-  not_ringing = refl;
-  idle = λ q. absurd (cc (q));
-  alerting_idle = λ q. absurd (cc (q));
-}
-arrived_as false true s m k c d e f p = record {
-  call = refl;
-  device = refl;
-  rule = (bare c d S.Alerting, tt, rw e at p);
-  not_initiated = refl;
-  not_hold = refl;
-  not_answered = refl;
-  not_distributed = refl;
-  not_ringing = refl;
-  idle = λ q. f;
-  alerting_idle = λ q. f;
-}
-arrived_as false false s m k c d e f p = record {
-  call = refl;
-  device = refl;
-  rule = ((bare c d S.Fail, refl), tt, rw e at p);
-  not_initiated = refl;
-  not_hold = refl;
-  not_answered = refl;
-  not_distributed = refl;
-  not_ringing = refl;
-  idle = λ q. absurd (cc (q));
-  alerting_idle = λ q. absurd (cc (q));
-}
+arrived_as true i s m k c d e f p =
+    record { call = refl; device = refl; rule = (record { group = refl; place = refl; queued = refl; offered = refl }, e, e); not_initiated = refl; not_hold = refl; not_answered = refl; not_distributed = refl; not_ringing = refl; idle = λ q. absurd (cc (q)); alerting_idle = λ q. absurd (cc (q)) }
+arrived_as false true s m k c d e f p =
+    record { call = refl; device = refl; rule = (bare c d S.Alerting, tt, rw e at p); not_initiated = refl; not_hold = refl; not_answered = refl; not_distributed = refl; not_ringing = refl; idle = λ q. f; alerting_idle = λ q. f }
+arrived_as false false s m k c d e f p =
+    record { call = refl; device = refl; rule = ((bare c d S.Fail, refl), tt, rw e at p); not_initiated = refl; not_hold = refl; not_answered = refl; not_distributed = refl; not_ringing = refl; idle = λ q. absurd (cc (q)); alerting_idle = λ q. absurd (cc (q)) }
 
 pub arrived : (s : Rows) (m k c d : ℕ) → is_planned s d ≡ true → Arrived s c d (arriving (destination_of s d) m k c d)
 arrived s m k c d p = arrived_as (is_group s d) (is_idle s d) s m k c d refl refl p

@@ -1,30 +1,27 @@
 -- The rules are kept by setAgentState, and by the end of after-call work.
-use Rattle.std.proofs.Common.{◌≡◌, ℕ, ◌+◌, ◌≤◌, ◌⊎◌, inl, inr, Bool, true, false, not, ◌&&◌, Option, Some, None, refl, sym, ◌∙◌, ap, subst, arith, eq-eqb}
+use Rattle.std.proofs.Common.{◌≡◌, ℕ, ◌+◌, ◌≤◌, ◌⊎◌, inl, inr, Bool, true, false, not, ◌&&◌, Some, None, refl, sym, ◌∙◌, ap, subst, arith, eq-eqb}
 use Rattle.std.specs.Prelude.{◌==◌, IsTrue, is_some, find}
-use Rattle.std.proofs.lemmas.Bool.{and_parts, and_from, eqb-true, false_from_ne_true, cases_eq}
+use Rattle.std.proofs.lemmas.Bool.{and_parts, and_from, eqb-true, false_from_ne_true}
 use Rattle.acd_laws.proofs.Types.{Rows, AgentRecord, ConnectionRecord, AgentState, Pending}
 use Rattle.acd_terms.specs.declared.state.AgentState.TheVariants as A
 use Rattle.acd_terms.specs.declared.moves.Change.TheVariants.{PutAgent}
 use Rattle.acd_terms.specs.Lists.{put_by, count, Among}
-use Rattle.acd_terms.specs.States.{is_null, is_ready, is_busy, is_working_after_call}
+use Rattle.acd_terms.specs.States.{is_null, is_queued, is_ready, is_busy, is_working_after_call}
 use Rattle.acd_terms.specs.Scans.{group_of, station_of, agent_of, call_of, connection_of, is_group, is_station, has, agent_at, is_distributed, is_occupied}
 use Rattle.acd_terms.specs.Writes.{with_agent}
 use Rattle.acd_terms.specs.Moves.{changed, moved}
 use Rattle.acd_terms.specs.AgentMoves.{in_state, go_to, go_from, log_on_at}
 use Rattle.acd_terms.specs.Rules.Plan.{agent_order}
-use Rattle.acd_laws.proofs.Facts.{Rules, IsPlannedStation, IsPlannedGroup, SeatedAs, AgentRule, ConnectionRule, ringing_at, seated_at, ready_at, busy_at, pending_at}
+use Rattle.acd_laws.proofs.Facts.{Rules, talking_at, SeatedAs, AgentRule, ConnectionRule, ringing_at, seated_at, ready_at, busy_at, pending_at}
 use Rattle.acd_terms.specs.OneOffer.{is_distributed_at}
-use Rattle.acd_laws.proofs.Lists.{one, find_passes, find_among, find_none, any_found, ascending-put, every_among, every-put, counted, two_counted, count_zero, some_from}
+use Rattle.acd_laws.proofs.Lists.{one, find_passes, find_among, find_none, any_found, ascending-put, every_among, every-put, counted, count_zero, some_from}
 use Rattle.acd_laws.proofs.Keyed.{eqb_self}
-use Rattle.acd_laws.proofs.State.{agents_total, agent_among, count_agent, has_is, agent_seat}
+use Rattle.acd_laws.proofs.State.{agents_total, agent_among, count_agent, has_is}
 use Rattle.acd_laws.proofs.KeptOffer.{unoccupied}
 use Rattle.acd_laws.proofs.Arriving.{with_agents, lone}
-use Rattle.acd_laws.proofs.Releasing.{serving, loosen, left_keeps, left_state, alerting_or_answered}
+use Rattle.acd_laws.proofs.Releasing.{seat_from, loosen, left_keeps, left_state, alerting_or_answered}
 use Rattle.acd_terms.specs.Tick.{rest_moves}
 use Rattle.acd_laws.proofs.States.{null_is}
-
-agent_seat_has : (s : Rows) (d : ℕ) (a : AgentRecord) → agent_at s d ≡ Some a → seated_at d a ≡ true
-agent_seat_has s d a e = rw (agent_seat s d a e).1 (eqb_self d)
 
 -- an agent's record is put that counts at each station as the one before
 same_agent : (s : Rows) (a b : AgentRecord) → Rules s → agent_of s a.agent ≡ Some a → b.agent ≡ a.agent → AgentRule s b
@@ -46,14 +43,18 @@ same_agent s a b r there number rule seats ready busy pending =
     })
 
 -- at an occupied agent's station stands a distributed connection
-occupied_counts : (s : Rows) (a : AgentRecord) (d : ℕ) → is_occupied s a ≡ true → has a.station d ≡ true → 1 ≤ count (is_distributed_at d) s.connections
+occupying : (s : Rows) (a : AgentRecord) → is_occupied s a ≡ true → (x : ConnectionRecord) × Among x s.connections × (has a.station x.device ≡ true) × (is_distributed x ≡ true)
 unfolding is_occupied
-occupied_counts s a d e at_d =
+occupying s a e =
     let p : ConnectionRecord → Bool = λ x. has a.station x.device && is_distributed x in
     let f = some_from (find p s.connections) (any_found p s.connections e) in
     let h = and_parts (has a.station f.0.device) (is_distributed f.0) (find_passes p s.connections f.0 f.1) in
-    let same : Some f.0.device ≡ Some d = sym (has_is a.station f.0.device h.0) ∙ has_is a.station d at_d in
-    counted (is_distributed_at d) s.connections f.0 (find_among p s.connections f.0 f.1) (and_from _ _ h.1 (eq-eqb f.0.device d (number_is f.0.device d same)))
+    (f.0, find_among p s.connections f.0 f.1, h.0, h.1)
+
+occupied_counts : (s : Rows) (a : AgentRecord) (d : ℕ) → is_occupied s a ≡ true → has a.station d ≡ true → 1 ≤ count (is_distributed_at d) s.connections
+occupied_counts s a d e at_d =
+    let x = occupying s a e in
+    counted (is_distributed_at d) s.connections x.0 x.1 (and_from _ _ x.3 (eq-eqb x.0.device d (number_is x.0.device d (sym (has_is a.station x.0.device x.2) ∙ has_is a.station d at_d))))
   where
     number_is : (m n : ℕ) → Some m ≡ Some n → m ≡ n
     number_is m n e = cc
@@ -80,25 +81,19 @@ kept_wait s a w r there seated occupied =
     rule A.Null e h = absurd (cc (e))
     rule _ e h = h
 
-planned_some : (s : Rows) (o : Option ℕ) → IsPlannedStation s o → (d : ℕ) × (o ≡ Some d)
-planned_some s None h = absurd h
-planned_some s (Some d) h = (d, refl)
-
-seat_station : (s : Rows) (a : AgentRecord) → IsPlannedStation s a.station × IsPlannedGroup s a.group → (d : ℕ) × (a.station ≡ Some d) × (IsPlannedStation s a.station × IsPlannedGroup s a.group)
-seat_station s a h = let d = planned_some s a.station h.0 in (d.0, d.1, h)
-
--- a seated agent has a station
-seat_there : (s : Rows) (a : AgentRecord) (st : AgentState) → is_null st ≡ false → SeatedAs s a st → (d : ℕ) × (a.station ≡ Some d) × (IsPlannedStation s a.station × IsPlannedGroup s a.group)
-seat_there s a A.Null e h = absurd (cc (e))
-seat_there s a _ e h = seat_station s a h
-
 -- an unoccupied agent goes to a state other than busy
-kept_go_to : (s : Rows) (a : AgentRecord) (st : AgentState) (m k d : ℕ) → Rules s → agent_of s a.agent ≡ Some a → is_null a.state ≡ false → is_occupied s a ≡ false → is_busy st ≡ false → Rules (changed s (go_to m k a d st).change)
-kept_go_to s a st m k at r there seated free not_busy =
-    let rule = every_among (AgentRule s) s.agents a r.agents (agent_among s a.agent a there) in
-    let d = seat_there s a a.state seated rule in
-    loosen (λ e. false && not (d.0 == e)) (λ _. false) _ (λ e q. absurd (cc (q))) (λ e q. refl)
-    (left_keeps (λ _. false) s a (in_state st m k a) d.0 r there d.1 (unoccupied s a d.0 d.1 free) (left_state s a st m k not_busy d.2))
+kept_go_to : (s : Rows) (a : AgentRecord) (st : AgentState) (m k d : ℕ) → Rules s → agent_of s a.agent ≡ Some a → a.station ≡ Some d → is_occupied s a ≡ false → is_busy st ≡ false → Rules (changed s (go_to m k a d st).change)
+kept_go_to s a st m k d r there station free not_busy =
+    let seat = seat_from s a d a.state (every_among (AgentRule s) s.agents a r.agents (agent_among s a.agent a there)) station in
+    loosen (λ e. false && not (d == e)) (λ _. false) _ (λ e q. absurd (cc (q))) (λ e q. refl)
+    (left_keeps (λ _. false) s a (in_state st m k a) d r there station (unoccupied s a d station free) (left_state s a st m k not_busy seat))
+
+pub kept_go_from : (s : Rows) (m k : ℕ) (a : AgentRecord) (st : AgentState) → Rules s → agent_of s a.agent ≡ Some a → is_occupied s a ≡ false → is_busy st ≡ false → Rules (changed s (go_from m k a a.station st).change)
+kept_go_from s m k a st r there free not_busy =
+    (elim a.station as (λ o. a.station ≡ o → Rules (changed s (go_from m k a o st).change)) [
+      | None ↦ λ _. r
+      | Some d ↦ λ e. kept_go_to s a st m k d r there e free not_busy
+    ]) refl
 
 none_seated : (s : Rows) (d : ℕ) → agent_at s d ≡ None → count (seated_at d) s.agents ≡ 0
 unfolding agent_at
@@ -120,42 +115,30 @@ kept_log_on s a d g m k r there null station group free =
 
 -- an occupied agent is ready or busy
 occupied_state : (s : Rows) (a : AgentRecord) → Rules s → agent_of s a.agent ≡ Some a → is_occupied s a ≡ true → (is_ready a.state ≡ true) ⊎ (is_busy a.state ≡ true)
-unfolding is_occupied
 occupied_state s a r there e =
-    let p : ConnectionRecord → Bool = λ x. has a.station x.device && is_distributed x in
-    let f = some_from (find p s.connections) (any_found p s.connections e) in
-    let x : ConnectionRecord = f.0 in
-    let among : Among x s.connections = find_among p s.connections x f.1 in
-    let h = and_parts (has a.station x.device) (is_distributed x) (find_passes p s.connections x f.1) in
-    let b = serving s x r among h.1 in
-    let rule = every_among (ConnectionRule s) s.connections x r.connections among in
-    let same : a.agent ≡ b.0.agent = elim (cases_eq a.agent b.0.agent) [
-      | inl q ↦ q
-      | inr ne ↦ absurd (let two = two_counted (seated_at x.device) s.agents a b.0 (agent_among s a.agent a there) (agent_among s b.0.agent b.0 b.1.there)
-          h.0 (agent_seat_has s x.device b.0 b.1.at_station) (λ q. ne (ap (λ (z : AgentRecord). z.agent) q)) in
-          let o = r.one_agent x.device in omega (arith, two, o))
-    ] in
-    let is : Some a ≡ Some b.0 = sym there ∙ ap (agent_of s) same ∙ b.1.there in
-    elim (alerting_or_answered s x rule h.1) [
-      | inl w ↦ inl (subst (λ (z : AgentRecord). is_ready z.state ≡ true) (agent_is b.0 a (sym is)) (b.1.ready w))
-      | inr w ↦ inr (subst (λ (z : AgentRecord). is_busy z.state ≡ true) (agent_is b.0 a (sym is)) (b.1.busy w))
+    let x = occupying s a e in
+    let d : ℕ = x.0.device in
+    let grouped = (and_parts (is_some x.0.group) (not (is_queued x.0.state)) x.3).0 in
+    let i = agent_among s a.agent a there in
+    elim (alerting_or_answered s x.0 (every_among (ConnectionRule s) s.connections x.0 r.connections x.1) x.3) [
+      | inl w ↦ (let c = counted (ringing_at d) s.connections x.0 x.1 (and_from _ _ (and_from _ _ w grouped) (eqb_self d)) in let o = r.ready d refl in
+          let l = lone (ready_at d) (seated_at d) s.agents a (λ z v. (and_parts (is_ready z.state) (has z.station d) v).1) i x.2 (r.one_agent d) in
+          inl (and_parts (is_ready a.state) (has a.station d) (one_true (ready_at d a) (omega (arith, c, o, l)))).0)
+      | inr w ↦ (let c = counted (talking_at d) s.connections x.0 x.1 (and_from _ _ (and_from _ _ w grouped) (eqb_self d)) in let o = r.busy d refl in
+          let l = lone (busy_at d) (seated_at d) s.agents a (λ z v. (and_parts (is_busy z.state) (has z.station d) v).1) i x.2 (r.one_agent d) in
+          inr (and_parts (is_busy a.state) (has a.station d) (one_true (busy_at d a) (omega (arith, c, o, l)))).0)
     ]
   where
-    agent_is : (p q : AgentRecord) → Some p ≡ Some q → p ≡ q
-    agent_is p q e = cc
+    one_true : (b : Bool) → 1 ≤ one b → b ≡ true
+    one_true true l = refl
+    one_true false l = absurd (omega (arith, l))
 
-not_working : (st : AgentState) → is_working_after_call st ≡ true → (is_null st ≡ false) × (is_ready st ≡ false) × (is_busy st ≡ false)
-not_working A.WorkingAfterCall e = (refl, refl, refl)
+not_working : (st : AgentState) → is_working_after_call st ≡ true → (is_ready st ≡ false) × (is_busy st ≡ false)
+not_working A.WorkingAfterCall e = (refl, refl)
 not_working _ e = absurd (cc (e))
-
--- an agent of no station is in null
-pub kept_go_from : (s : Rows) (m k : ℕ) (a : AgentRecord) (o : Option ℕ) (st : AgentState) → Rules s → agent_of s a.agent ≡ Some a → is_null a.state ≡ false → is_occupied s a ≡ false → is_busy st ≡ false → Rules (changed s (go_from m k a o st).change)
-kept_go_from s m k a None st r there seated free not_busy = r
-kept_go_from s m k a (Some d) st r there seated free not_busy = kept_go_to s a st m k d r there seated free not_busy
 
 -- after-call work ends
 pub kept_rest_moves : (s : Rows) (m k : ℕ) (a : AgentRecord) → Rules s → agent_of s a.agent ≡ Some a → is_working_after_call a.state ≡ true → Rules (moved s (rest_moves m k a))
 kept_rest_moves s m k a r there working =
     let n = not_working a.state working in
-    kept_go_from s m k a a.station A.Ready r there n.0
-    (false_from_ne_true (is_occupied s a) (λ e. elim (occupied_state s a r there e) [ inl w ↦ cc (w, n.1) | inr w ↦ cc (w, n.2) ])) refl
+    kept_go_from s m k a A.Ready r there (false_from_ne_true (is_occupied s a) (λ e. elim (occupied_state s a r there e) [ inl w ↦ cc (w, n.0) | inr w ↦ cc (w, n.1) ])) refl

@@ -15,13 +15,14 @@ use Rattle.acd_terms.specs.Distribution.{distribution}
 use Rattle.acd_laws.proofs.Facts.{Rules}
 use Rattle.acd_terms.specs.Rules.Calls.{is_open}
 use Rattle.acd_laws.proofs.Lists.{one}
-use Rattle.acd_laws.proofs.State.{connection_among}
+use Rattle.acd_laws.proofs.State.{connection_among, connection_rule}
+use Rattle.acd_terms.specs.Release.{ending_of}
 use Rattle.acd_terms.proofs.MoveLemmas.{moved_append}
 use Rattle.acd_laws.proofs.Ticking.{tick_keeps}
 use Rattle.acd_laws.proofs.Distributing.{rules_distribution}
 use Rattle.acd_laws.proofs.Deeds.{new_call, Deed, nothing, adds_group, adds_station, adds_agent, watches, unwatches, arrives, makes, goes_out, answers, holds, retrieves, clears, deflects, transfers, logs_on, waits, goes, deed_of_serve}
 use Rattle.acd_laws.proofs.Arriving.{arrived}
-use Rattle.acd_laws.proofs.Releasing.{wanted_not_busy}
+use Rattle.acd_laws.proofs.Releasing.{wanted_not_busy, ends_by}
 use Rattle.acd_laws.proofs.KeptOut.{begun, made, outgoing, gone_out, kept_answer, kept_hold, kept_retrieve}
 use Rattle.acd_laws.proofs.KeptEnds.{kept_clear, moved_on, open_cases, closed_call}
 use Rattle.acd_laws.proofs.KeptAgents.{kept_log_on, kept_wait, kept_go_from}
@@ -50,13 +51,14 @@ kept_deed s m k _ (clears p) r = kept_clear s m k p.x (other_of s p.x) refl r p.
 kept_deed s m k _ (deflects p to state free) r =
     let was = open_cases p.x.state state in
     let o = r.one_open p.x.call in let f : one (is_open p.x.state) ≡ 1 = ap one was.1 in
-    moved_on s m k p.x (arriving (destination_of s to) m k p.x.call to) to r p.found (arrived s m k p.x.call to free.planned) free.apart was.0 (omega (arith, o, f))
+    moved_on s m k p.x (arriving (destination_of s to) m k p.x.call to) to (ending_of p.x) r p.found (arrived s m k p.x.call to free.planned) free.apart was.0 (omega (arith, o, f))
+    (ends_by s p.x (connection_rule s r p.x.call p.x.device p.x p.found))
 kept_deed s m k _ (transfers p to state other free) r =
-    moved_on s m k p.x (arriving (destination_of s to) m k p.x.call to) to r p.found (arrived s m k p.x.call to free.planned) free.apart (ap is_initiated (connected_is p.x.state state))
-    (closed_call s p.x r (connection_among s p.x.call p.x.device p.x p.found) state other)
+    moved_on s m k p.x (arriving (destination_of s to) m k p.x.call to) to (ending_of p.x) r p.found (arrived s m k p.x.call to free.planned) free.apart (ap is_initiated (connected_is p.x.state state))
+    (closed_call s p.x r (connection_among s p.x.call p.x.device p.x p.found) state other) (ends_by s p.x (connection_rule s r p.x.call p.x.device p.x p.found))
 kept_deed s m k _ (logs_on a device group own null station free grouped) r = kept_log_on s a device group m k r own null station grouped free
 kept_deed s m k _ (waits a wanted own seated occupied) r = kept_wait s a wanted r own seated occupied
-kept_deed s m k _ (goes a wanted own seated free) r = kept_go_from s m k a a.station (state_wanted wanted) r own seated free (wanted_not_busy wanted)
+kept_deed s m k _ (goes a wanted own _ free) r = kept_go_from s m k a (state_wanted wanted) r own free (wanted_not_busy wanted)
 
 pub rules_serve : (s : Rows) (m k : ℕ) (c : Command) → Rules s → Rules (moved s (moves_of (serve s m k c)))
 rules_serve s m k c r = elim (deed_of_serve s m k c) [
