@@ -2,34 +2,26 @@
 use Rattle.std.proofs.Common.{◌≡◌, ℕ, ◌+◌, ◌≤◌, ◌⊎◌, inl, inr, Bool, true, false, List, [], ◌∷◌, Option, Some, None, refl, sym, ◌∙◌, ap, subst, arith, length, cond, ◌++◌}
 use Rattle.std.specs.Prelude.{◌==◌, is_some, nat_le}
 use Rattle.std.proofs.lemmas.Bool.{or_cases, or_parts, or_right, or_left, leb-false}
-use Rattle.acd_laws.proofs.Types.{Rows, GroupRecord, StationRecord, AgentRecord, CallRecord, ConnectionRecord, MonitorRecord, Cause, Change, Command, Event, Move, Report}
+use Rattle.acd_laws.proofs.Words.{Rows, GroupRecord, StationRecord, AgentRecord, CallRecord, ConnectionRecord, MonitorRecord, Cause, Change, Command, Event, Move, Report, put_by, count, Among, Every, IsAscending, state_wanted, at_group, at_station, at_agent, at_call, at_monitor, group_of, station_of, is_group, is_station, is_planned, other_of, is_calling, with_group, with_station, with_agent, with_call, with_monitor, silent, reported, moved, events_of, agent_order}
 use Rattle.acd_terms.specs.declared.state.AgentState.TheVariants as A
 use Rattle.acd_terms.specs.declared.state.ConnectionState.TheVariants as S
 use Rattle.acd_terms.specs.declared.event.Cause.TheVariants.{NewCall, Deflected, Transferred}
 use Rattle.acd_terms.specs.declared.event.Report.TheVariants as report
 use Rattle.acd_terms.specs.declared.moves.Change.TheVariants.{Nothing, PutGroup, PutStation, PutAgent, PutCall, PutMonitor, RemoveCall, RemoveConnection, RemoveMonitor}
-use Rattle.acd_terms.specs.Lists.{Among, Every, IsAscending, count, put_by}
-use Rattle.acd_terms.specs.States.{state_wanted}
-use Rattle.acd_terms.specs.Scans.{at_group, at_station, at_agent, at_call, at_monitor, group_of, station_of, other_of, is_group, is_station, is_planned, is_calling}
-use Rattle.acd_terms.specs.Writes.{with_group, with_station, with_agent, with_call, with_monitor}
-use Rattle.acd_terms.specs.Moves.{silent, reported, moved, events_of}
 use Rattle.acd_terms.specs.CallMoves.{plain, connect_caller, initiate, arrive, talking, waited_by}
 use Rattle.acd_terms.specs.Release.{release, ending_of}
-use Rattle.acd_terms.specs.Rules.Plan.{agent_order}
 use Rattle.acd_terms.specs.Services.Plan.{new_group, new_agent}
 use Rattle.acd_terms.specs.Services.NewCalls.{next_call}
 use Rattle.acd_terms.specs.Services.Clearing.{cleared_group, clear_other, release_other}
 use Rattle.acd_terms.specs.Services.Monitors.{next_monitor}
 use Rattle.std.specs.declared.cmp.Ordering.{Ordering}
-use Rattle.acd_laws.proofs.Frames.{LeavesConnections}
+use Rattle.acd_laws.proofs.MoveKinds.{LeavesConnections, AgentMove, stays, waits as pends, Recorded, goes_from, releases_here, occupies_here}
 use Rattle.acd_laws.proofs.Facts.{Rules, Sizes, AgentTimed, ConnectionTimed, Timed, MonitorRule, Monitored, at_place}
 use Rattle.acd_laws.proofs.Lists.{every_among, every_from, every-put, one, count-append, among_put, every-append}
 use Rattle.acd_laws.proofs.State.{group_put, station_put}
-use Rattle.acd_laws.proofs.MoveKinds.{AgentMove, stays, waits as pends, Recorded, goes_from, releases_here, occupies_here}
-use Rattle.acd_laws.proofs.Balance.{entry_by}
+use Rattle.acd_laws.proofs.Order.{entry_by}
 use Rattle.acd_laws.proofs.Deeds.{new_call, Deed, nothing, adds_group, adds_station, adds_agent, watches, unwatches, arrives, makes, goes_out, answers, holds, retrieves, clears, deflects, transfers, logs_on, waits, goes, deed_of_serve}
-use Rattle.acd_laws.proofs.Steady.{Steady, knows, AllSteady, IsNew, Steadied, Settled, settled, steadied, sizes_steadied, monitored_steadied, length-put}
-use Rattle.acd_laws.proofs.Orderly.{WaitsUpTo, Neat, Steps, done, neat, comes, neat_quiet, neat_silent, neat_agent, neat_remove, neat_put, neat_turned, timed_plain, comes_to, steady_agent, steady_arrive, steps_timed, steps_place, Fit}
+use Rattle.acd_laws.proofs.Orderly.{Steady, knows, AllSteady, IsNew, Steadied, Settled, settled, steadied, sizes_steadied, monitored_steadied, length-put, WaitsUpTo, Neat, Steps, done, neat, comes, neat_quiet, neat_silent, neat_agent, neat_remove, neat_put, neat_turned, timed_plain, comes_to, steady_agent, steady_arrive, steps_timed, steps_place, Fit}
 use Rattle.acd_terms.specs.Served.{moves_of}
 use Rattle.acd_terms.specs.Figures.{is_entry}
 use Rattle.acd_terms.specs.Services.Serve.{serve}

@@ -6,17 +6,12 @@ use Rattle.std.specs.Ordering.{ordering_reverse, is_eq, nat_cmp}
 use Rattle.std.specs.declared.cmp.Ordering.{Ordering}
 use Rattle.std.specs.declared.cmp.Ordering.TheVariants.{Equal, Greater}
 use Rattle.std.proofs.lemmas.Bool.{and_left, and_right, eqb-true, false_from_ne_true}
-use Rattle.acd_terms.specs.Lists.{Among, IsAscending, put_by}
-use Rattle.acd_terms.specs.Scans.{at_group, group_of, has, queued_in_all}
-use Rattle.acd_terms.specs.Writes.{with_group, with_station, with_agent, with_call, with_connection, with_monitor, without_call, without_connection, without_monitor, with_last}
-use Rattle.acd_terms.specs.Moves.{changed, moved, events_of}
+use Rattle.acd_laws.proofs.Words.{Rows, GroupRecord, Change, Command, Event, Move, Refusal, Report, Served, put_by, Among, IsAscending, at_group, group_of, has, queued_in_all, with_group, with_station, with_agent, with_call, with_connection, with_monitor, without_call, without_connection, without_monitor, with_last, changed, moved, events_of, group_order}
 use Rattle.acd_terms.specs.Changes.{changes_of, changed_by, counted_group, grown, growth_in, growth_by, growth, step_changes_by, step_changes}
 use Rattle.acd_terms.specs.Figures.{is_no_answer, is_deflected, figures_of, sum_of_figures, counting, with_figures}
 use Rattle.acd_terms.specs.Services.Plan.{no_figures}
 use Rattle.acd_terms.specs.Services.Serve.{serve}
 use Rattle.acd_terms.specs.Step.{numbered, executed_moment, next_stamp, step_moves, step, counted}
-use Rattle.acd_terms.specs.Rules.Plan.{group_order}
-use Rattle.acd_laws.proofs.Types.{Rows, GroupRecord, Change, Command, Event, Move, Refusal, Report, Served}
 use Rattle.acd_terms.specs.declared.event.Report.TheVariants.{Queued, Established, CallCleared, Diverted}
 use Rattle.acd_terms.specs.declared.moves.Change.TheVariants.{PutGroup}
 use Rattle.acd_terms.proofs.ChangeLemmas.{changed_by_append, moved_by_changes}

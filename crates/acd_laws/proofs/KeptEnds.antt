@@ -2,20 +2,12 @@
 use Rattle.std.proofs.Common.{◌≡◌, ℕ, ◌+◌, inl, inr, Bool, true, false, not, ◌&&◌, Some, None, refl, sym, ◌∙◌, ap, subst, arith, eq-eqb, ◌≤◌, ◌||◌, cond, List, [], ◌∷◌, Option}
 use Rattle.std.specs.Prelude.{◌==◌, IsTrue, IsFalse, is_some}
 use Rattle.std.proofs.lemmas.Bool.{and_parts, and_from, eqb-true, or_left, false_from_ne_true, and_right, or_cases, or_parts, or_right}
-use Rattle.acd_laws.proofs.Types.{Rows, ConnectionRecord, ConnectionState, Ending}
+use Rattle.acd_laws.proofs.Words.{Rows, ConnectionRecord, ConnectionState, Ending, remove_by, count, Among, IsAscending, is_initiated, is_alerting, is_connected, is_queued, is_answered, at_call, at_connection, group_of, station_of, agent_of, call_of, connection_of, is_group, is_station, other_of, is_distributed, with_connection, without_call, without_connection, changed, moved, call_order, connection_order, is_open, parties_of, initiated_of, open_of, live_at, alerting_at, hold_at, is_distributed_at}
 use Rattle.acd_terms.specs.declared.state.ConnectionState.TheVariants as S
 use Rattle.acd_terms.specs.declared.moves.Change.TheVariants.{PutConnection, RemoveConnection}
 use Rattle.acd_terms.specs.declared.moves.Ending.TheVariants.{NoAnswer}
-use Rattle.acd_terms.specs.Lists.{count, Among, remove_by, IsAscending}
-use Rattle.acd_terms.specs.States.{is_alerting, is_initiated, is_connected, is_queued, is_answered}
-use Rattle.acd_terms.specs.Scans.{group_of, station_of, agent_of, call_of, connection_of, is_group, is_station, is_distributed, at_call, at_connection, other_of}
-use Rattle.acd_terms.specs.Writes.{with_connection, without_connection, without_call}
-use Rattle.acd_terms.specs.Moves.{changed, moved}
 use Rattle.acd_terms.specs.CallMoves.{queueing, clear, end_call}
-use Rattle.acd_terms.specs.Rules.Plan.{connection_order, call_order}
 use Rattle.acd_laws.proofs.Facts.{RulesBut, Rules, Offered, AlertingColumns, HasColumns, GroupColumn, StandsAt, ConnectionRule, ringing_at, talking_at, CallRule, two_if}
-use Rattle.acd_terms.specs.Rules.Calls.{is_open, parties_of, initiated_of, open_of, live_at, alerting_at, hold_at}
-use Rattle.acd_terms.specs.OneOffer.{is_distributed_at}
 use Rattle.acd_laws.proofs.Lists.{one, ascending-put, ascending-remove, every-put, every-remove, two_counted, none_from, find_none, every_among, every_from, among-remove, counted, fewer, count_zero, both_fewer}
 use Rattle.acd_laws.proofs.Keyed.{eqb_self}
 use Rattle.acd_laws.proofs.State.{connections_total, found_key, connection_among, still_none, is_of, call_remove, removed_other, count_new, count_less, connection_rule, connection_there, other_among, other_device, other_agents, left_among}

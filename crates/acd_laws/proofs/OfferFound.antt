@@ -7,9 +7,7 @@ use Rattle.acd_terms.specs.Offers.{IsLeast, FindsLeast, HasNoOffer, IsOffer, Fin
 use Rattle.acd_laws.proofs.Lists.{some_is}
 use Rattle.std.specs.Ordering.{nat_cmp}
 use Rattle.std.specs.declared.cmp.Ordering.TheVariants.{Less}
-use Rattle.acd_terms.specs.Lists.{Among, AllAfter, IsAscending}
-use Rattle.acd_terms.specs.Scans.{waiting_in, eligible_in}
-use Rattle.acd_laws.proofs.Types.{Rows, GroupRecord, Offer}
+use Rattle.acd_laws.proofs.Words.{Rows, GroupRecord, Offer, Among, AllAfter, IsAscending, waiting_in, eligible_in}
 use Rattle.acd_terms.specs.Distribution.{offers}
 
 itself : (a b : ℕ) → (nat_lt a a || (a == a && nat_lt b b)) ≡ false

@@ -2,12 +2,7 @@
 use Rattle.std.proofs.Common.{◌≡◌, ℕ, ◌+◌, ◌*◌, ◌^◌, ◌<◌, ◌≤◌, ◌⊎◌, inl, inr, true, false, cond, List, [], ◌∷◌, Option, Some, None, refl, ◌∙◌, ap, subst, arith, length, map}
 use Rattle.std.specs.Prelude.{◌==◌}
 use Rattle.std.proofs.lemmas.Bool.{and_parts, eqb-true, false_from_ne_true}
-use Rattle.acd_laws.proofs.Types.{Rows, Limits, GroupRecord, Figures, Command, Event, Report}
-use Rattle.acd_terms.specs.Lists.{count, total, Among, Every}
-use Rattle.acd_terms.specs.States.{is_alerting, is_queued}
-use Rattle.acd_terms.specs.Scans.{is_group, has}
-use Rattle.acd_terms.specs.Writes.{with_last, empty_rows}
-use Rattle.acd_terms.specs.Moves.{moved}
+use Rattle.acd_laws.proofs.Words.{Rows, Limits, GroupRecord, Figures, Command, Event, Report, count, total, Among, Every, is_alerting, is_queued, is_group, has, empty_rows, with_last, moved}
 use Rattle.acd_laws.proofs.Facts.{Rules, GroupColumn, StandsAt, ConnectionRule, IsPlace, ConnectionTimed, at_place, Timed, OnePlace, MonitorRule, IsCountedUpTo, AddsUp, KeepsRules}
 use Rattle.acd_laws.proofs.Lists.{one, every_among, every_from, count_zero}
 use Rattle.std.proofs.lemmas.Nat.{mul-le}
@@ -22,17 +17,14 @@ use Rattle.acd_terms.specs.Rules.First.{BreaksNoRule}
 use Rattle.acd_terms.specs.Step.{step, executed_moment, next_stamp}
 use Rattle.acd_terms.specs.Run.{Asked, run}
 use Rattle.acd_laws.specs.RuleLaws.{StepKeepsRules, RunKeepsRules, RulesBound, RulesLeaveRoom}
-use Rattle.acd_laws.proofs.Balance.{holding}
-use Rattle.acd_laws.proofs.Following.{follows_step}
-use Rattle.acd_laws.proofs.WatchedRuns.{step_leaves_no_offer, step_keeps_watched, step_balances, run_is_watched, run_tells_no_more, run_is_balanced, run_leaves_no_offer}
-use Rattle.acd_laws.proofs.Runs.{rules_first}
-use Rattle.acd_laws.proofs.Steady.{IsNew}
-use Rattle.acd_laws.proofs.Orderly.{WaitsUpTo, timed_more}
+use Rattle.acd_laws.proofs.Order.{holding}
+use Rattle.acd_laws.proofs.WatchedRuns.{follows_step, step_leaves_no_offer, step_keeps_watched, step_balances, run_is_watched, run_tells_no_more, run_is_balanced, run_leaves_no_offer}
+use Rattle.acd_laws.proofs.Ended.{rules_first, ended, planned_ended, rules_step}
+use Rattle.acd_laws.proofs.Orderly.{IsNew, WaitsUpTo, timed_more}
 use Rattle.acd_laws.proofs.Rounds.{AllWait}
 use Rattle.acd_laws.proofs.Numbers.{greatest}
 use Rattle.acd_laws.proofs.BoundsStep.{After, Before, after_moves}
 use Rattle.acd_laws.proofs.DecidedAll.{keeps_read, requests_read, keeps_written, rules_are_kept}
-use Rattle.acd_laws.proofs.Ended.{ended, planned_ended, rules_step}
 use Rattle.acd_laws.proofs.States.{queued_is}
 use Rattle.acd_laws.specs.AllLaws.{StepKeepsLaws, RunKeepsLaws}
 use Rattle.acd_laws.proofs.FiguresCounted.{step_keeps_figures, figures_kept}
