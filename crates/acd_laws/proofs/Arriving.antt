@@ -2,17 +2,11 @@
 use Rattle.std.proofs.Common.{◌≡◌, ℕ, inl, inr, Bool, true, false, ◌&&◌, ◌||◌, Option, Some, None, refl, ◌∙◌, arith, ◌+◌, ◌≤◌, not, List, sym, ap, subst}
 use Rattle.std.specs.Prelude.{◌==◌, is_some}
 use Rattle.std.proofs.lemmas.Bool.{and_parts, and_from, not-true, or_right, or_left, and_right, eqb-true}
-use Rattle.acd_laws.proofs.Types.{Rows, AgentRecord, ConnectionRecord, ConnectionState}
+use Rattle.acd_laws.proofs.Words.{Rows, AgentRecord, ConnectionRecord, ConnectionState, count, Among, Every, IsAscending, is_initiated, is_alerting, is_hold, is_answered, is_live, group_of, station_of, call_of, is_group, is_station, is_planned, is_distributed, is_taken, is_idle, agent_order, connection_order, is_open, parties_of, initiated_of, open_of, live_at, alerting_at, hold_at, is_distributed_at}
 use Rattle.acd_terms.specs.declared.state.ConnectionState.TheVariants as S
-use Rattle.acd_terms.specs.Lists.{count, Among, Every, IsAscending}
-use Rattle.acd_terms.specs.States.{is_initiated, is_alerting, is_hold, is_answered, is_live, is_distributed}
-use Rattle.acd_model.specs.Scans.{call_of, is_group, is_station, is_planned, is_taken, is_idle, group_of, station_of}
 use Rattle.acd_model.specs.CallMoves.{plain, met_at, destination_of, arriving}
 use Rattle.acd_laws.proofs.Facts.{Bare, GroupColumn, IsCaller, StandsAt, ConnectionRule, RulesBut, Rules, AgentRule, ringing_at, talking_at, seated_at, ready_at, busy_at, pending_at, two_if}
-use Rattle.acd_model.specs.Rules.Calls.{live_at, alerting_at, hold_at, is_open, parties_of, initiated_of, open_of}
-use Rattle.acd_model.specs.OneOffer.{is_distributed_at}
 use Rattle.acd_laws.proofs.Lists.{none_counted, fewer, one, counted, both_fewer}
-use Rattle.acd_model.specs.Rules.Plan.{agent_order, connection_order}
 
 -- what stands at a destination
 pub record Arrived (s : Rows) (c d : ℕ) (y : ConnectionRecord) : Type 0 where
@@ -31,42 +25,12 @@ bare : (c d : ℕ) (state : ConnectionState) → Bare (plain c d state)
 bare c d state = record { place = refl; queued = refl; offered = refl }
 
 arrived_as : (q i : Bool) (s : Rows) (m k c d : ℕ) → is_group s d ≡ q → is_idle s d ≡ i → is_planned s d ≡ true → Arrived s c d (arriving (met_at q i) m k c d)
-arrived_as true i s m k c d e f p = record {
-  call = refl;
-  device = refl;
-  rule = (record { group = refl; place = refl; queued = refl; offered = refl }, e, e);
-  not_initiated = refl;
-  not_hold = refl;
-  not_answered = refl;
-  not_distributed = refl;
-  not_ringing = refl;
-  idle = λ q. absurd (cc (q));
-  alerting_idle = λ q. absurd (cc (q));
-}
-arrived_as false true s m k c d e f p = record {
-  call = refl;
-  device = refl;
-  rule = (bare c d S.Alerting, tt, rw e at p);
-  not_initiated = refl;
-  not_hold = refl;
-  not_answered = refl;
-  not_distributed = refl;
-  not_ringing = refl;
-  idle = λ q. f;
-  alerting_idle = λ q. f;
-}
-arrived_as false false s m k c d e f p = record {
-  call = refl;
-  device = refl;
-  rule = ((bare c d S.Fail, refl), tt, rw e at p);
-  not_initiated = refl;
-  not_hold = refl;
-  not_answered = refl;
-  not_distributed = refl;
-  not_ringing = refl;
-  idle = λ q. absurd (cc (q));
-  alerting_idle = λ q. absurd (cc (q));
-}
+arrived_as true i s m k c d e f p =
+    record { call = refl; device = refl; rule = (record { group = refl; place = refl; queued = refl; offered = refl }, e, e); not_initiated = refl; not_hold = refl; not_answered = refl; not_distributed = refl; not_ringing = refl; idle = λ q. absurd (cc (q)); alerting_idle = λ q. absurd (cc (q)) }
+arrived_as false true s m k c d e f p =
+    record { call = refl; device = refl; rule = (bare c d S.Alerting, tt, rw e at p); not_initiated = refl; not_hold = refl; not_answered = refl; not_distributed = refl; not_ringing = refl; idle = λ q. f; alerting_idle = λ q. f }
+arrived_as false false s m k c d e f p =
+    record { call = refl; device = refl; rule = ((bare c d S.Fail, refl), tt, rw e at p); not_initiated = refl; not_hold = refl; not_answered = refl; not_distributed = refl; not_ringing = refl; idle = λ q. absurd (cc (q)); alerting_idle = λ q. absurd (cc (q)) }
 
 pub arrived : (s : Rows) (m k c d : ℕ) → is_planned s d ≡ true → Arrived s c d (arriving (destination_of s d) m k c d)
 arrived s m k c d p = arrived_as (is_group s d) (is_idle s d) s m k c d refl refl p

@@ -2,29 +2,23 @@
 use Rattle.std.proofs.Common.{◌≡◌, ℕ, ◌+◌, ◌≤◌, ◌⊎◌, inl, inr, Bool, true, false, List, [], ◌∷◌, Option, Some, None, refl, sym, ◌∙◌, ap, subst, arith, length, cond, ◌++◌}
 use Rattle.std.specs.Prelude.{◌==◌, is_some, nat_le}
 use Rattle.std.proofs.lemmas.Bool.{or_cases, or_parts, or_right, or_left, leb-false}
-use Rattle.acd_laws.proofs.Types.{Rows, GroupRecord, StationRecord, AgentRecord, CallRecord, ConnectionRecord, MonitorRecord, Cause, Command, Event, Move, Report}
+use Rattle.acd_laws.proofs.Words.{Rows, GroupRecord, StationRecord, AgentRecord, CallRecord, ConnectionRecord, MonitorRecord, Cause, Change, Command, Event, Move, Report, put_by, count, Among, Every, IsAscending, state_wanted, at_group, at_station, at_agent, at_call, at_monitor, group_of, station_of, is_group, is_station, is_planned, other_of, is_calling, with_group, with_station, with_agent, with_call, with_monitor, silent, reported, moved, events_of, agent_order}
 use Rattle.acd_terms.specs.declared.state.AgentState.TheVariants as A
 use Rattle.acd_terms.specs.declared.state.ConnectionState.TheVariants as S
 use Rattle.acd_terms.specs.declared.event.Cause.TheVariants.{NewCall, Deflected, Transferred}
 use Rattle.acd_terms.specs.declared.event.Report.TheVariants as report
-use Rattle.acd_terms.specs.Lists.{Among, Every, IsAscending, count}
-use Rattle.acd_terms.specs.States.{state_wanted}
 use Rattle.acd_model.specs.declared.moves.Change.TheVariants.{Nothing, PutGroup, PutStation, PutAgent, PutCall, PutMonitor, RemoveCall, RemoveConnection, RemoveMonitor}
-use Rattle.acd_model.specs.Scans.{at_group, at_station, at_agent, at_call, at_monitor, group_of, station_of, other_of, is_group, is_station, is_planned, is_calling}
-use Rattle.acd_model.specs.Writes.{with_group, with_station, with_agent, with_call, with_monitor}
-use Rattle.acd_model.specs.Moves.{silent, reported, moved, events_of}
 use Rattle.acd_model.specs.CallMoves.{plain, connect_caller, initiate, arrive, talking, waited_by}
 use Rattle.acd_model.specs.Release.{release, ending_of}
-use Rattle.acd_model.specs.Rules.Plan.{agent_order}
 use Rattle.acd_model.specs.Services.{new_group, new_agent, next_call, cleared_group, clear_other, release_other, next_monitor}
+use Rattle.std.specs.declared.cmp.Ordering.{Ordering}
+use Rattle.acd_laws.proofs.MoveKinds.{LeavesConnections, AgentMove, stays, waits as pends, Recorded, goes_from, releases_here, occupies_here}
 use Rattle.acd_laws.proofs.Facts.{Rules, Sizes, AgentTimed, ConnectionTimed, Timed, MonitorRule, Monitored, at_place}
 use Rattle.acd_laws.proofs.Lists.{every_among, every_from, every-put, one, count-append, among_put, every-append}
 use Rattle.acd_laws.proofs.State.{group_put, station_put}
-use Rattle.acd_laws.proofs.MoveKinds.{AgentMove, stays, waits as pends, Recorded, goes_from, releases_here, occupies_here}
-use Rattle.acd_laws.proofs.Balance.{entry_by}
+use Rattle.acd_laws.proofs.Order.{entry_by}
 use Rattle.acd_laws.proofs.Deeds.{new_call, Deed, nothing, adds_group, adds_station, adds_agent, watches, unwatches, arrives, makes, goes_out, answers, holds, retrieves, clears, deflects, transfers, logs_on, waits, goes, deed_of_serve}
-use Rattle.acd_laws.proofs.Steady.{Steady, knows, AllSteady, IsNew, Steadied, Settled, settled, steadied, sizes_steadied, monitored_steadied, length-put}
-use Rattle.acd_laws.proofs.Orderly.{WaitsUpTo, Neat, Steps, done, neat, comes, neat_quiet, neat_silent, neat_agent, neat_remove, neat_put, neat_turned, timed_plain, comes_to, steady_agent, steady_arrive, steps_timed, steps_place}
+use Rattle.acd_laws.proofs.Orderly.{Steady, knows, AllSteady, IsNew, Steadied, Settled, settled, steadied, sizes_steadied, monitored_steadied, length-put, WaitsUpTo, Neat, Steps, done, neat, comes, neat_quiet, neat_silent, neat_agent, neat_remove, neat_put, neat_turned, timed_plain, comes_to, steady_agent, steady_arrive, steps_timed, steps_place, Fit}
 use Rattle.acd_model.specs.Served.{moves_of}
 use Rattle.acd_model.specs.Figures.{is_entry}
 use Rattle.acd_model.specs.Services.Serve.{serve}
@@ -53,53 +47,29 @@ pub record Behaves (s : Rows) (k m : ℕ) (ms : List Move) : Type 0 where
 
 -- a silent move of the plan or of a monitor
 
-sizes_group : (s : Rows) (g : GroupRecord) → nat_le s.limits.groups (length s.groups) ≡ false → Sizes s → Sizes (with_group s g)
-unfolding with_group
-sizes_group s g room h = let a = length-put (at_group g.device) g s.groups in let b = leb-false s.limits.groups (length s.groups) room in
-    record { limits = h.limits; groups = omega (arith, a, b); stations = h.stations; agents = h.agents; calls = h.calls; monitors = h.monitors }
+-- where there is room for one more
+room_for : {X : Type 0} (at : X → Ordering) (x : X) (xs : List X) (limit : ℕ) → nat_le limit (length xs) ≡ false → length (put_by at xs x) ≤ limit
+room_for at x xs limit room = let a = length-put at x xs in let b = leb-false limit (length xs) room in omega (arith, a, b)
 
-sizes_station : (s : Rows) (g : StationRecord) → nat_le s.limits.stations (length s.stations) ≡ false → Sizes s → Sizes (with_station s g)
-unfolding with_station
-sizes_station s g room h = let a = length-put (at_station g.device) g s.stations in let b = leb-false s.limits.stations (length s.stations) room in
-    record { limits = h.limits; groups = h.groups; stations = omega (arith, a, b); agents = h.agents; calls = h.calls; monitors = h.monitors }
-
-sizes_agent : (s : Rows) (g : AgentRecord) → nat_le s.limits.agents (length s.agents) ≡ false → Sizes s → Sizes (with_agent s g)
-unfolding with_agent
-sizes_agent s g room h = let a = length-put (at_agent g.agent) g s.agents in let b = leb-false s.limits.agents (length s.agents) room in
-    record { limits = h.limits; groups = h.groups; stations = h.stations; agents = omega (arith, a, b); calls = h.calls; monitors = h.monitors }
-
-sizes_call : (s : Rows) (g : CallRecord) → nat_le s.limits.calls (length s.calls) ≡ false → Sizes s → Sizes (with_call s g)
-unfolding with_call
-sizes_call s g room h = let a = length-put (at_call g.call) g s.calls in let b = leb-false s.limits.calls (length s.calls) room in
-    record { limits = h.limits; groups = h.groups; stations = h.stations; agents = h.agents; calls = omega (arith, a, b); monitors = h.monitors }
-
-sizes_monitor : (s : Rows) (g : MonitorRecord) → nat_le s.limits.monitors (length s.monitors) ≡ false → Sizes s → Sizes (with_monitor s g)
-unfolding with_monitor
-sizes_monitor s g room h = let a = length-put (at_monitor g.monitor) g s.monitors in let b = leb-false s.limits.monitors (length s.monitors) room in
-    record { limits = h.limits; groups = h.groups; stations = h.stations; agents = h.agents; calls = h.calls; monitors = omega (arith, a, b) }
+silently : (s : Rows) (k m : ℕ) (c : Change) → Fit k m c → LeavesConnections c → Settled s (silent c ∷ []) → Behaves s k m (silent c ∷ [])
+silently s k m c f l h = record { comes = false; steps = neat (neat_silent c f l) done; few = omega arith; settled = h }
 
 -- more is planned
 monitored_more : (s t : Rows) → ((d : ℕ) → is_planned s d ≡ true → is_planned t d ≡ true) → t.last_monitor ≡ s.last_monitor → t.last_event ≡ s.last_event → t.monitors ≡ s.monitors → Monitored s → Monitored t
 monitored_more s t f a b e h = subst (λ ws. Every (MonitorRule t) ws) (sym e) (every_from (MonitorRule t) s.monitors (λ w i.
     let q = every_among (MonitorRule s) s.monitors w h i in let x = q.1 in let y = q.2 in (f w.device q.0, omega (arith, x, a), omega (arith, y, b))))
 
-station_stays : (s : Rows) (g : GroupRecord) (d : ℕ) → is_station (with_group s g) d ≡ is_station s d
-unfolding with_group station_of
-station_stays s g d = refl
-
-group_stays : (s : Rows) (g : StationRecord) (d : ℕ) → is_group (with_station s g) d ≡ is_group s d
-unfolding with_station group_of
-group_stays s g d = refl
-
 planned_group : (s : Rows) (g : GroupRecord) (d : ℕ) → is_planned s d ≡ true → is_planned (with_group s g) d ≡ true
+unfolding with_group station_of
 planned_group s g d e = elim (or_cases (is_group s d) (is_station s d) e) [
   | inl w ↦ or_left _ _ (group_put s g d ∙ or_right (g.device == d) (is_group s d) w)
-  | inr w ↦ or_right (is_group (with_group s g) d) _ (station_stays s g d ∙ w)
+  | inr w ↦ or_right (is_group (with_group s g) d) _ w
 ]
 
 planned_station : (s : Rows) (g : StationRecord) (d : ℕ) → is_planned s d ≡ true → is_planned (with_station s g) d ≡ true
+unfolding with_station group_of
 planned_station s g d e = elim (or_cases (is_group s d) (is_station s d) e) [
-  | inl w ↦ or_left _ _ (group_stays s g d ∙ w)
+  | inl w ↦ or_left _ _ w
   | inr w ↦ or_right (is_group (with_station s g) d) _ (station_put s g d ∙ or_right (g.device == d) (is_station s d) w)
 ]
 
@@ -109,38 +79,31 @@ put_new s g z new (inr a) = inl a
 
 behaves_group : (s : Rows) (k m : ℕ) (g : GroupRecord) → nat_le s.limits.groups (length s.groups) ≡ false → IsNew s g → Behaves s k m (silent (PutGroup g) ∷ [])
 unfolding with_group
-behaves_group s k m g room new = record {
-  comes = false;
-  steps = neat (neat_silent (PutGroup g) tt tt) done;
-  few = omega arith;
-  settled = record {
-    sizes = sizes_group s g room;
-    monitors = monitored_more s (with_group s g) (planned_group s g) refl refl refl;
-    groups = λ z a. put_new s g z new (among_put (at_group g.device) g s.groups z a);
-    limits = refl;
-    last_call = omega arith;
-    last_monitor = omega arith;
-    last_event = refl;
-  };
-}
+behaves_group s k m g room new =
+    let sizes : Sizes s → Sizes (with_group s g) = λ h. record { limits = h.limits; groups = room_for (at_group g.device) g s.groups s.limits.groups room; stations = h.stations; agents = h.agents; calls = h.calls; monitors = h.monitors } in
+    silently s k m (PutGroup g) tt tt (record {
+      sizes = sizes;
+      monitors = monitored_more s (with_group s g) (planned_group s g) refl refl refl;
+      groups = λ z a. put_new s g z new (among_put (at_group g.device) g s.groups z a);
+      limits = refl;
+      last_call = omega arith;
+      last_monitor = omega arith;
+      last_event = refl;
+    })
 
 behaves_station : (s : Rows) (k m : ℕ) (g : StationRecord) → nat_le s.limits.stations (length s.stations) ≡ false → Behaves s k m (silent (PutStation g) ∷ [])
 unfolding with_station
-behaves_station s k m g room = record {
-  comes = false;
-  steps = neat (neat_silent (PutStation g) tt tt) done;
-  few = omega arith;
-  settled = record { sizes = sizes_station s g room; monitors = monitored_more s (with_station s g) (planned_station s g) refl refl refl; groups = λ z a. inl a; limits = refl; last_call = omega arith; last_monitor = omega arith; last_event = refl };
-}
+behaves_station s k m g room =
+    let sizes : Sizes s → Sizes (with_station s g) = λ h. record { limits = h.limits; groups = h.groups; stations = room_for (at_station g.device) g s.stations s.limits.stations room; agents = h.agents; calls = h.calls; monitors = h.monitors } in
+    let monitors = monitored_more s (with_station s g) (planned_station s g) refl refl refl in
+    silently s k m (PutStation g) tt tt (record { sizes = sizes; monitors = monitors; groups = λ z a. inl a; limits = refl; last_call = omega arith; last_monitor = omega arith; last_event = refl })
 
 behaves_agent : (s : Rows) (k m : ℕ) (g : AgentRecord) → nat_le s.limits.agents (length s.agents) ≡ false → AgentTimed k m g → Behaves s k m (silent (PutAgent g) ∷ [])
 unfolding with_agent group_of station_of
-behaves_agent s k m g room h = record {
-  comes = false;
-  steps = neat (neat_silent (PutAgent g) h tt) done;
-  few = omega arith;
-  settled = record { sizes = sizes_agent s g room; monitors = monitored_more s (with_agent s g) (λ d e. e) refl refl refl; groups = λ z a. inl a; limits = refl; last_call = omega arith; last_monitor = omega arith; last_event = refl };
-}
+behaves_agent s k m g room t =
+    let sizes : Sizes s → Sizes (with_agent s g) = λ h. record { limits = h.limits; groups = h.groups; stations = h.stations; agents = room_for (at_agent g.agent) g s.agents s.limits.agents room; calls = h.calls; monitors = h.monitors } in
+    let monitors = monitored_more s (with_agent s g) (λ d e. e) refl refl refl in
+    silently s k m (PutAgent g) t tt (record { sizes = sizes; monitors = monitors; groups = λ z a. inl a; limits = refl; last_call = omega arith; last_monitor = omega arith; last_event = refl })
 
 monitored_put : (s : Rows) (w : MonitorRecord) → is_planned s w.device ≡ true → w.after_event ≡ s.last_event → Monitored s → Monitored (with_monitor s w)
 unfolding with_monitor group_of station_of
@@ -150,38 +113,11 @@ monitored_put s w p e h = every-put (at_monitor w.monitor) (MonitorRule (with_mo
 behaves_monitor : (s : Rows) (k m : ℕ) (w : MonitorRecord) → nat_le s.limits.monitors (length s.monitors) ≡ false → is_planned s w.device ≡ true → w.after_event ≡ s.last_event → w.monitor ≡ s.last_monitor + 1
     → Behaves s k m (silent (PutMonitor w) ∷ [])
 unfolding with_monitor
-behaves_monitor s k m w room p e n = record {
-  comes = false;
-  steps = neat (neat_silent (PutMonitor w) tt tt) done;
-  few = omega arith;
-  settled = record { sizes = sizes_monitor s w room; monitors = monitored_put s w p e; groups = λ z a. inl a; limits = refl; last_call = omega arith; last_monitor = omega (arith, n); last_event = refl };
-}
+behaves_monitor s k m w room p e n =
+    let sizes : Sizes s → Sizes (with_monitor s w) = λ h. record { limits = h.limits; groups = h.groups; stations = h.stations; agents = h.agents; calls = h.calls; monitors = room_for (at_monitor w.monitor) w s.monitors s.limits.monitors room } in
+    silently s k m (PutMonitor w) tt tt (record { sizes = sizes; monitors = monitored_put s w p e; groups = λ z a. inl a; limits = refl; last_call = omega arith; last_monitor = omega (arith, n); last_event = refl })
 
 -- calls
-
-called : (s : Rows) (c : CallRecord) → Monitored s → Monitored (with_call s c)
-unfolding with_call group_of station_of
-called s c h = monitored_more s (with_call s c) (λ d e. e) refl refl refl h
-
-same_limits : (s : Rows) (c : CallRecord) → (with_call s c).limits ≡ s.limits
-unfolding with_call
-same_limits s c = refl
-
-same_groups : (s : Rows) (c : CallRecord) → (with_call s c).groups ≡ s.groups
-unfolding with_call
-same_groups s c = refl
-
-same_event : (s : Rows) (c : CallRecord) → (with_call s c).last_event ≡ s.last_event
-unfolding with_call
-same_event s c = refl
-
-raised : (s : Rows) (c : CallRecord) (n : ℕ) → c.call ≡ s.last_call + 1 → n ≡ (with_call s c).last_call → n ≤ s.last_call + 1
-unfolding with_call
-raised s c n e f = omega (arith, e, f)
-
-same_monitor : (s : Rows) (c : CallRecord) (n : ℕ) → n ≡ (with_call s c).last_monitor → n ≤ s.last_monitor + 1
-unfolding with_call
-same_monitor s c n f = omega (arith, f)
 
 ascending_called : (s : Rows) (c : CallRecord) → IsAscending agent_order s.agents → IsAscending agent_order (with_call s c).agents
 unfolding with_call
@@ -189,17 +125,19 @@ ascending_called s c h = h
 
 -- a new call, and moves that put connections
 settled_call : (s : Rows) (c : CallRecord) (ms : List Move) → nat_le s.limits.calls (length s.calls) ≡ false → c.call ≡ s.last_call + 1 → Steadied (with_call s c) (moved (with_call s c) ms) → Settled s (silent (PutCall c) ∷ ms)
+unfolding with_call group_of station_of
 settled_call s c ms room n f =
     let t : Rows = moved (with_call s c) ms in
     let a = f.last_call in let b = f.last_monitor in
+    let sizes : Sizes s → Sizes (with_call s c) = λ h. record { limits = h.limits; groups = h.groups; stations = h.stations; agents = h.agents; calls = room_for (at_call c.call) c s.calls s.limits.calls room; monitors = h.monitors } in
     record {
-      sizes = λ h. sizes_steadied (with_call s c) t f (sizes_call s c room h);
-      monitors = λ h. monitored_steadied (with_call s c) t f (called s c h);
-      groups = λ z i. inl (subst (Among z) (f.groups ∙ same_groups s c) i);
-      limits = f.limits ∙ same_limits s c;
-      last_call = raised s c (moved (with_call s c) ms).last_call n a;
-      last_monitor = same_monitor s c t.last_monitor b;
-      last_event = f.last_event ∙ same_event s c;
+      sizes = λ h. sizes_steadied (with_call s c) t f (sizes h);
+      monitors = λ h. monitored_steadied (with_call s c) t f (monitored_more s (with_call s c) (λ d e. e) refl refl refl h);
+      groups = λ z i. inl (subst (Among z) f.groups i);
+      limits = f.limits;
+      last_call = omega (arith, n, a);
+      last_monitor = omega (arith, b);
+      last_event = f.last_event;
     }
 
 -- each deed

@@ -6,18 +6,13 @@ use Rattle.std.specs.Ordering.{ordering_reverse, is_eq, nat_cmp}
 use Rattle.std.specs.declared.cmp.Ordering.{Ordering}
 use Rattle.std.specs.declared.cmp.Ordering.TheVariants.{Equal, Greater}
 use Rattle.std.proofs.lemmas.Bool.{and_left, and_right, eqb-true, false_from_ne_true}
-use Rattle.acd_terms.specs.Lists.{Among, IsAscending, put_by}
-use Rattle.acd_model.specs.Scans.{at_group, group_of, has, queued_in_all}
-use Rattle.acd_model.specs.Writes.{with_group, with_station, with_agent, with_call, with_connection, with_monitor, without_call, without_connection, without_monitor, with_last}
-use Rattle.acd_model.specs.Moves.{changed, moved, events_of}
+use Rattle.acd_laws.proofs.Words.{Rows, GroupRecord, Change, Command, Event, Move, Refusal, Report, Served, put_by, Among, IsAscending, at_group, group_of, has, queued_in_all, with_group, with_station, with_agent, with_call, with_connection, with_monitor, without_call, without_connection, without_monitor, with_last, changed, moved, events_of, group_order}
+use Rattle.acd_terms.specs.declared.event.Report.TheVariants.{Queued, Established, CallCleared, Diverted}
 use Rattle.acd_model.specs.Changes.{changes_of, changed_by, counted_group, grown, growth_in, growth_by, growth, step_changes_by, step_changes}
 use Rattle.acd_model.specs.Figures.{is_no_answer, is_deflected, figures_of, sum_of_figures, counting, with_figures}
 use Rattle.acd_model.specs.Services.{no_figures}
 use Rattle.acd_model.specs.Services.Serve.{serve}
 use Rattle.acd_model.specs.Step.{numbered, executed_moment, next_stamp, step_moves, step, counted}
-use Rattle.acd_model.specs.Rules.Plan.{group_order}
-use Rattle.acd_laws.proofs.Types.{Rows, GroupRecord, Change, Command, Event, Move, Refusal, Report, Served}
-use Rattle.acd_terms.specs.declared.event.Report.TheVariants.{Queued, Established, CallCleared, Diverted}
 use Rattle.acd_model.specs.declared.moves.Change.TheVariants.{PutGroup}
 use Rattle.acd_model.proofs.ChangeLemmas.{changed_by_append, moved_by_changes}
 use Rattle.acd_laws.specs.ChangeLaws.{StepMakesItsChanges}
@@ -118,12 +113,9 @@ one_grown s e a =
           ]) refl
     ]) refl
 
-ascending_figures : (s : Rows) (es : List Event) → IsAscending group_order s.groups → IsAscending group_order (with_figures s es).groups
-unfolding with_figures
-ascending_figures s es a = ascending_counting es s.groups a
-
 pub ascending_grown : (s : Rows) (e : Event) → IsAscending group_order s.groups → IsAscending group_order (changed_by s (growth_by s e)).groups
-ascending_grown s e a = subst (λ (t : Rows). IsAscending group_order t.groups) (sym (one_grown s e a)) (ascending_figures s (e ∷ []) a)
+unfolding with_figures
+ascending_grown s e a = subst (λ (t : Rows). IsAscending group_order t.groups) (sym (one_grown s e a)) (ascending_counting (e ∷ []) s.groups a)
 
 pub figures_more : (s : Rows) (e : Event) (es : List Event) → with_figures (with_figures s (e ∷ [])) es ≡ with_figures s (e ∷ es)
 unfolding with_figures
@@ -171,16 +163,13 @@ step_makes_its_changes s moment command h =
 
 -- a refused request, where no offer is left
 
-nothing_distributed : (s : Rows) (m : ℕ) → offer_of s ≡ None → distribution s m ≡ []
-unfolding distribution
-nothing_distributed s m h = no_offers (length (queued_in_all s)) s m h
-
 refused_moves : (v : Served) (r : Refusal) → outcome_of v ≡ outcome.Refused r → moves_of v ≡ []
 refused_moves (Err x) r e = refl
 refused_moves (Ok done) r e = absurd cc
 
 no_moves : (s : Rows) (m : ℕ) (v : Served) → moves_of v ≡ [] → offer_of s ≡ None → step_moves s m v ≡ []
-no_moves s m v e h = rw e (nothing_distributed s m h)
+unfolding distribution
+no_moves s m v e h = rw e (no_offers (length (queued_in_all s)) s m h)
 
 nothing_changed : (s : Rows) (k m : ℕ) (moves : List Move) → moves ≡ [] → counted s m k moves ≡ with_last s k m s.last_event
 unfolding with_last

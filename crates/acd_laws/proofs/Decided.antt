@@ -8,17 +8,12 @@ use Rattle.std.specs.declared.cmp.Ordering.{Ordering}
 use Rattle.std.specs.declared.cmp.Ordering.TheVariants.{Less}
 use Rattle.std.proofs.lemmas.Bool.{le-leb, leb-true, not-true, eqb-true}
 use Rattle.std.proofs.lemmas.Bool.Decides.{Decides-like, Decides-and, Decides-or, Decides-not, Decides-eqb as equals}
-use Rattle.acd_terms.specs.Lists.{count, Among, Every, IsAscending, ascends, is_less}
-use Rattle.acd_terms.specs.States.{is_null}
+use Rattle.acd_laws.proofs.Words.{Rows, GroupRecord, StationRecord, AgentRecord, CallRecord, ConnectionRecord, MonitorRecord, AgentState, count, Among, Every, IsAscending, is_null, is_group, is_station, is_planned, has, waiting_in, eligible_in, keeps_limits, is_less, ascends, group_order, station_order, agent_order, call_order, connection_order, monitor_order, keeps_order, keeps_device, is_station_there, is_group_there, is_alone_at, keeps_agent, keeps_monitor, keeps_call}
 use Rattle.acd_terms.specs.Limits.{limits_fit}
+use Rattle.acd_terms.specs.declared.state.AgentState.TheVariants as A
 use Rattle.acd_model.specs.Offers.{HasNoOffer}
-use Rattle.acd_model.specs.Scans.{is_group, is_station, is_planned, has, waiting_in, eligible_in}
-use Rattle.acd_model.specs.Rules.Plan.{group_order, station_order, agent_order, call_order, connection_order, monitor_order, keeps_limits, keeps_order, keeps_device, keeps_agent, keeps_monitor, is_station_there, is_group_there, is_alone_at}
-use Rattle.acd_model.specs.Rules.Calls.{keeps_call}
 use Rattle.acd_model.specs.Rules.Occupied.{keeps_offer, keeps_balance, is_empty}
 use Rattle.acd_model.specs.Rules.Counters.{keeps_counters, is_moment_or_none, is_own_place, is_offered_after, is_timed, is_countable}
-use Rattle.acd_laws.proofs.Types.{Rows, GroupRecord, StationRecord, AgentRecord, CallRecord, ConnectionRecord, MonitorRecord, AgentState}
-use Rattle.acd_terms.specs.declared.state.AgentState.TheVariants as A
 use Rattle.acd_laws.specs.Orders.{Orders}
 use Rattle.acd_laws.proofs.Facts.{IsPlannedStation, IsPlannedGroup, SeatedAs, AgentRule, CallRule, seated_at, Sizes, AgentTimed, IsPlace, IsMoment, IsAfter, ConnectionTimed, at_place, Timed, OnePlace, Monitored, IsCountedUpTo, AddsUp}
 use Rattle.acd_laws.proofs.Lists.{find_passes, find_among, any_found, any_some, every_among, every_from, some_counted, all_true, all_from, some_from, some_is, after_lower}

@@ -1,28 +1,35 @@
--- What a service does, and an offer, a return and an end of after-call work, with what its tests established: the one walk over refusals.
-use Rattle.std.proofs.Common.{◌≡◌, ℕ, ◌⊎◌, inl, inr, Bool, true, false, not, ◌&&◌, ◌||◌, cond, List, [], ◌∷◌, length, Option, Some, None, refl, ◌∙◌, ap, subst}
+-- What a service does, as deeds: the one walk over refusals; and the rounds of a step.
+use Rattle.std.proofs.Common.{◌≡◌, Bool, true, false, Option, Some, None, refl, ℕ, ◌⊎◌, inl, inr, not, ◌&&◌, ◌||◌, cond, List, [], ◌∷◌, length, ◌∙◌, ap, subst, Err}
 use Rattle.std.specs.Option.{ok_or}
+use Rattle.acd_laws.proofs.Words.{Rows, AgentRecord, CallRecord, ConnectionRecord, Pending, Command, Move, Offer, Refusal, Requested, Served, is_null, is_working_after_call, state_wanted, is_in, is_initiated, is_alerting, is_connected, is_hold, is_queued, agent_of, call_of, connection_of, is_group, is_station, is_planned, agent_at, other_of, is_live_at, is_occupied, silent}
+use Rattle.acd_model.specs.Scans.{is_used}
+use Rattle.acd_model.specs.Served.{refuse_if, if_ok, ◌>>=◌, ◌>>◌, moves_of}
 use Rattle.std.specs.Prelude.{◌==◌, is_some, nat_le}
 use Rattle.std.proofs.lemmas.Bool.{not-false, and_parts}
-use Rattle.acd_terms.specs.States.{is_null, is_in, state_wanted, is_queued, is_alerting, is_connected, is_initiated, is_hold, is_working_after_call}
-use Rattle.acd_model.specs.Scans.{call_of, connection_of, other_of, agent_of, agent_at, is_planned, is_station, is_group, is_live_at, is_occupied, is_used}
-use Rattle.acd_model.specs.Moves.{silent}
+use Rattle.acd_terms.specs.declared.command.Command.TheVariants.{AddGroup, AddStation, AddAgent, ArriveCall, MakeCall, PhoneOffHook, AnswerCall, HoldCall, RetrieveCall, ClearConnection, DeflectCall, SingleStepTransfer, SetAgentState, MonitorStart, MonitorStop, Tick}
+use Rattle.acd_terms.specs.declared.command.Requested.TheVariants as requested
+use Rattle.acd_terms.specs.declared.event.Cause.TheVariants.{NewCall, Deflected, Transferred}
 use Rattle.acd_model.specs.CallMoves.{begin, connect_caller, initiate, originate, arrive, answer, hold, retrieve, divert, transfer}
 use Rattle.acd_model.specs.AgentMoves.{go_from, log_on_at, wait_for}
 use Rattle.acd_model.specs.Release.{release, ending_of}
-use Rattle.acd_model.specs.Served.{refuse_if, ◌>>=◌, ◌>>◌, moves_of}
 use Rattle.acd_model.specs.Services.{add_group, add_station, add_agent, new_group, new_agent, arrive_call, make_call, phone_off_hook, has_no_call_left, next_call, occupy, answer_call, hold_call, retrieve_call, clearing, clear_connection, is_in_call, is_answered_by, deflect_call, single_step_transfer, log_on, change_state, set_agent_state, monitor_start, monitor_stop, next_monitor}
 use Rattle.acd_model.specs.Services.Serve.{serve}
 use Rattle.acd_model.specs.Distribution.{offer_at}
 use Rattle.acd_model.specs.Tick.{return_to, rest_moves, tick}
-use Rattle.acd_laws.proofs.Types.{Rows, AgentRecord, CallRecord, ConnectionRecord, Pending, Command, Move, Offer, Refusal, Requested, Served}
-use Rattle.acd_terms.specs.declared.command.Command.TheVariants.{AddGroup, AddStation, AddAgent, ArriveCall, MakeCall, PhoneOffHook, AnswerCall, HoldCall, RetrieveCall, ClearConnection, DeflectCall, SingleStepTransfer, SetAgentState, MonitorStart, MonitorStop, Tick}
-use Rattle.acd_terms.specs.declared.command.Requested.TheVariants as requested
-use Rattle.acd_terms.specs.declared.event.Cause.TheVariants.{NewCall, Deflected, Transferred}
 use Rattle.acd_model.specs.declared.moves.Change.TheVariants.{PutGroup, PutStation, PutAgent, PutMonitor, RemoveMonitor}
 use Rattle.acd_laws.proofs.Lists.{none_from}
 use Rattle.acd_laws.proofs.State.{found_key, own_key, agent_own}
-use Rattle.acd_laws.proofs.Serving.{by_refusal, by_found}
 use Rattle.acd_laws.proofs.Distributing.{Offering}
+
+pub by_refusal : (P : Served → Type 0) (b : Bool) (r : Refusal) (rest : Served) → ((r : Refusal) → P (Err r)) → (b ≡ false → P rest) → P (refuse_if b r >> rest)
+unfolding refuse_if if_ok
+by_refusal P true r rest f h = f r
+by_refusal P false r rest f h = h refl
+
+pub by_found : {T : Type 0} (P : Served → Type 0) (o : Option T) (r : Refusal) (rest : T → Served) → ((r : Refusal) → P (Err r)) → ((x : T) → o ≡ Some x → P (rest x)) → P (ok_or o r >>= rest)
+unfolding if_ok
+by_found P None r rest f h = f r
+by_found P (Some x) r rest f h = h x refl
 
 -- the call with the next identifier
 abbrev pub new_call : Rows → ℕ → ℕ → ℕ → CallRecord

@@ -1,12 +1,8 @@
--- The end of a step sets figures and counters: nothing else of the state after its moves changes, and the rules hold on.
-use Rattle.std.proofs.Common.{◌≡◌, ℕ, List, [], ◌∷◌, Option, Some, None, refl, sym, ◌∙◌, ap, subst, map}
+-- The end of a step sets figures and counters, and the rules hold on; what each step keeps, every run keeps.
+use Rattle.std.proofs.Common.{◌≡◌, ℕ, List, [], ◌∷◌, Option, Some, None, refl, sym, ◌∙◌, ap, subst, map, ◌||◌, ◌++◌, append-nil, append_assoc, arith}
 use Rattle.std.specs.Prelude.{is_some}
-use Rattle.acd_laws.proofs.Types.{Rows, GroupRecord, AgentRecord, AgentState, Command, Event}
+use Rattle.acd_laws.proofs.Words.{Rows, Limits, GroupRecord, AgentRecord, AgentState, Command, Event, find_by, AllAfter, IsAscending, at_group, group_of, station_of, call_of, is_group, is_station, is_planned, empty_rows, with_last, group_order}
 use Rattle.acd_terms.specs.declared.state.AgentState.TheVariants as A
-use Rattle.acd_terms.specs.Lists.{find_by, AllAfter, IsAscending}
-use Rattle.acd_model.specs.Scans.{at_group, group_of, station_of, call_of, is_group, is_station, is_planned}
-use Rattle.acd_model.specs.Writes.{with_last}
-use Rattle.acd_model.specs.Rules.Plan.{group_order}
 use Rattle.acd_laws.proofs.Facts.{Rules, IsPlannedStation, IsPlannedGroup, SeatedAs, AgentRule, CallRule, IsCaller, ConnectionRule, two_if}
 use Rattle.acd_laws.proofs.Lists.{every_among, every_from}
 use Rattle.acd_model.specs.Figures.{counting, with_figures}
@@ -14,6 +10,7 @@ use Rattle.acd_model.specs.Step.{step, executed_moment, next_stamp}
 use Rattle.acd_laws.proofs.State.{group_counted_found, is_some_mapped}
 use Rattle.acd_laws.proofs.Arriving.{rule_same}
 use Rattle.acd_laws.proofs.RulesKept.{rules_moves}
+use Rattle.acd_model.specs.Run.{Asked, run}
 
 abbrev pub ended : Rows → List Event → ℕ → ℕ → ℕ → Rows
 ended t es k m n = with_last (with_figures t es) k m n
@@ -30,16 +27,9 @@ pub groups_ended : (t : Rows) (es : List Event) (k m n d : ℕ) → is_group (en
 unfolding with_last with_figures group_of
 groups_ended t es k m n d = ap is_some (group_counted_found d es t.groups) ∙ is_some_mapped (counting es) (find_by (at_group d) t.groups)
 
-pub stations_ended : (t : Rows) (es : List Event) (k m n d : ℕ) → is_station (ended t es k m n) d ≡ is_station t d
-unfolding with_last with_figures station_of
-stations_ended t es k m n d = refl
-
 pub planned_ended : (t : Rows) (es : List Event) (k m n d : ℕ) → is_planned (ended t es k m n) d ≡ is_planned t d
-planned_ended t es k m n d = rw (groups_ended t es k m n d, stations_ended t es k m n d) refl
-
-pub calls_ended : (t : Rows) (es : List Event) (k m n c : ℕ) → call_of (ended t es k m n) c ≡ call_of t c
-unfolding with_last with_figures call_of
-calls_ended t es k m n c = refl
+unfolding with_last with_figures station_of
+planned_ended t es k m n d = ap (λ b. b || is_station t d) (groups_ended t es k m n d)
 
 -- the rules of a record speak of the planned devices alone, and of the last call
 same_group : (s t : Rows) → ((d : ℕ) → is_group t d ≡ is_group s d) → (o : Option ℕ) → IsPlannedGroup s o → IsPlannedGroup t o
@@ -55,13 +45,13 @@ same_seat s t g f a A.Null h = h
 same_seat s t g f a _ h = (same_station s t f a.station h.0, same_group s t g a.group h.1)
 
 pub rules_ended : (t : Rows) (es : List Event) (k m n : ℕ) → Rules t → Rules (ended t es k m n)
-unfolding with_last with_figures
+unfolding with_last with_figures station_of call_of
 rules_ended t es k m n r =
     let u : Rows = ended t es k m n in
     let g : (d : ℕ) → is_group u d ≡ is_group t d = groups_ended t es k m n in
-    let f : (d : ℕ) → is_station u d ≡ is_station t d = stations_ended t es k m n in
+    let f : (d : ℕ) → is_station u d ≡ is_station t d = λ d. refl in
     let p : (d : ℕ) → is_planned u d ≡ is_planned t d = planned_ended t es k m n in
-    let c : (j : ℕ) → call_of u j ≡ call_of t j = calls_ended t es k m n in
+    let c : (j : ℕ) → call_of u j ≡ call_of t j = λ j. refl in
     record {
       orders = record { groups = ascending_counting es t.groups r.orders.groups; stations = r.orders.stations; agents = r.orders.agents; calls = r.orders.calls; connections = r.orders.connections; monitors = r.orders.monitors };
       kinds = λ d h. f d ∙ r.kinds d (sym (g d) ∙ h);
@@ -83,3 +73,42 @@ rules_ended t es k m n r =
 pub rules_step : (s : Rows) (moment : ℕ) (c : Command) → Rules s → Rules (step s moment c).rows
 unfolding step
 rules_step s moment c r = rules_ended _ _ (next_stamp s) _ _ (rules_moves s (executed_moment s moment) (next_stamp s) c r)
+
+-- a fact of a state and of all events up to it, which a step keeps
+abbrev pub KeptByStep : (Rows → List Event → Type 0) → Type 0
+KeptByStep P = (s : Rows) (events : List Event) (moment : ℕ) (command : Command) → P s events → P (step s moment command).rows (events ++ (step s moment command).events)
+
+-- and one that a step keeps where the rules hold
+abbrev pub KeptByRules : (Rows → List Event → Type 0) → Type 0
+KeptByRules P = (s : Rows) (events : List Event) (moment : ℕ) (command : Command) → Rules s → P s events → P (step s moment command).rows (events ++ (step s moment command).events)
+
+kept_on : (P : Rows → List Event → Type 0) → KeptByStep P → (asked : List Asked) (s : Rows) (events : List Event) → P s events → P (run s asked).rows (events ++ (run s asked).events)
+unfolding run
+kept_on P f [] s events h = subst (P s) (sym (append-nil events)) h
+kept_on P f (q ∷ more) s events h =
+    let one = step s q.moment q.command in
+    subst (P (run one.rows more).rows) (append_assoc events one.events (run one.rows more).events) (kept_on P f more one.rows (events ++ one.events) (f s events q.moment q.command h))
+
+pub kept_by_run : (P : Rows → List Event → Type 0) → KeptByStep P → (limits : Limits) → P (empty_rows limits) [] → (asked : List Asked) → P (run (empty_rows limits) asked).rows (run (empty_rows limits) asked).events
+kept_by_run P f limits h asked = kept_on P f asked (empty_rows limits) [] h
+
+-- the empty state keeps the rules
+pub rules_first : (limits : Limits) → Rules (empty_rows limits)
+unfolding group_of station_of call_of
+rules_first limits = record {
+  orders = record { groups = tt; stations = tt; agents = tt; calls = tt; connections = tt; monitors = tt };
+  kinds = λ d h. absurd (cc (h));
+  agents = tt;
+  calls = tt;
+  connections = tt;
+  parties = λ c. refl;
+  one_open = λ c. omega arith;
+  one_live = λ d h. omega arith;
+  no_hold = λ d h l. refl;
+  one_offer = λ d. omega arith;
+  one_agent = λ d. omega arith;
+  ready = λ d h. omega arith;
+  busy = λ d h. refl;
+  pending = λ d h. omega arith;
+  free = λ d h. refl;
+}

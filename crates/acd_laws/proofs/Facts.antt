@@ -1,11 +1,6 @@
 -- The rules of rows as facts: of each record, counts over the plain lists, and bounds. Rows that break no rule are these (`DecidedAll`).
 use Rattle.std.specs.Prelude.{◌≡◌, ◌≢◌, ◌⊎◌, ℕ, ◌+◌, ◌≤◌, Bool, true, false, ◌&&◌, ◌==◌, Option, Some, None, is_some, if◌then◌else◌, ◌*◌, length}
-use Rattle.acd_terms.specs.Lists.{Every, count, Among}
-use Rattle.acd_terms.specs.States.{is_alerting, is_answered, is_ready, is_busy}
-use Rattle.acd_model.specs.Scans.{call_of, is_group, is_station, is_planned, has}
-use Rattle.acd_model.specs.OneOffer.{is_distributed_at}
-use Rattle.acd_model.specs.Rules.Calls.{parties_of, initiated_of, open_of, live_at, alerting_at, hold_at}
-use Rattle.acd_laws.proofs.Types.{Rows, GroupRecord, AgentRecord, CallRecord, ConnectionRecord, MonitorRecord, ConnectionState, AgentState}
+use Rattle.acd_laws.proofs.Words.{Rows, GroupRecord, AgentRecord, CallRecord, ConnectionRecord, MonitorRecord, ConnectionState, AgentState, count, Among, Every, is_ready, is_busy, is_alerting, is_answered, call_of, is_group, is_station, is_planned, has, parties_of, initiated_of, open_of, live_at, alerting_at, hold_at, is_distributed_at}
 use Rattle.acd_terms.specs.declared.state.AgentState.TheVariants as agent
 use Rattle.acd_terms.specs.declared.state.ConnectionState.TheVariants.{Initiated, Alerting, Connected, Hold, Queued}
 use Rattle.acd_terms.specs.Limits.{limits_fit}

@@ -2,38 +2,29 @@
 use Rattle.std.proofs.Common.{◌≡◌, ℕ, ◌⊎◌, inl, inr, true, false, ◌||◌, cond, List, [], ◌∷◌, Option, Some, None, refl, subst, ◌+◌, ◌++◌, sym, ◌∙◌, ap, length, append-nil}
 use Rattle.std.specs.Prelude.{is_some, option_map, ◌==◌}
 use Rattle.std.proofs.lemmas.Bool.{or_parts, eqb-true, false_from_ne_true}
-use Rattle.acd_terms.specs.Lists.{Among, Every, find_by, put_by}
-use Rattle.acd_terms.specs.States.{state_wanted, is_queued, is_alerting}
-use Rattle.acd_model.specs.Scans.{at_group, group_of, is_group, is_station, is_planned, is_calling, other_of, has}
-use Rattle.acd_model.specs.Moves.{silent, reported, changed, moved, with_event, events_of, event_at}
+use Rattle.acd_laws.proofs.Words.{Rows, Limits, GroupRecord, AgentRecord, ConnectionRecord, AgentState, Cause, Command, Event, Move, Report, find_by, put_by, Among, Every, state_wanted, is_alerting, is_queued, at_group, group_of, is_group, is_station, is_planned, has, other_of, is_calling, empty_rows, with_group, with_last, silent, reported, changed, moved, event_at, with_event, events_of, is_group_or_none}
+use Rattle.acd_terms.specs.declared.state.AgentState.TheVariants.{Null, Ready}
+use Rattle.acd_terms.specs.declared.event.Report.TheVariants.{Established}
 use Rattle.acd_model.specs.CallMoves.{arrive, waited_by}
 use Rattle.acd_model.specs.AgentMoves.{state_report}
 use Rattle.acd_model.specs.Release.{ending_of}
 use Rattle.acd_model.specs.Services.{no_figures, new_group, waiting_group, first_group, clearing}
-use Rattle.acd_laws.proofs.Types.{Rows, Limits, GroupRecord, AgentRecord, ConnectionRecord, AgentState, Cause, Command, Event, Move, Report}
-use Rattle.acd_terms.specs.declared.state.AgentState.TheVariants.{Null, Ready}
-use Rattle.acd_terms.specs.declared.event.Report.TheVariants.{Established}
 use Rattle.acd_model.specs.declared.moves.Ending.TheVariants.{NoAnswer}
 use Rattle.acd_model.specs.declared.moves.Change.TheVariants.{PutGroup, PutAgent}
 use Rattle.acd_laws.proofs.Facts.{Rules, GroupColumn, ConnectionRule}
-use Rattle.acd_laws.proofs.Frames.{LeavesGroups, left_groups}
+use Rattle.acd_laws.proofs.MoveKinds.{LeavesGroups, left_groups, AgentMove, stays, waits as puts, tells, Anyone, goes_from, released_by, occupied_by, Arrival, queues, alerts, fails, arrival_of}
 use Rattle.acd_laws.proofs.Lists.{every_among, among_put, mapped_among}
 use Rattle.acd_laws.proofs.State.{connection_among, other_among, group_found_put, group_counted_found, is_some_mapped}
 use Rattle.acd_laws.proofs.CountedEvents.{group_counted, quiet, figures_joined, figures_numbered, figures_skipped, no_events, nothing_sum}
-use Rattle.acd_laws.proofs.MoveKinds.{AgentMove, stays, waits as puts, tells, Anyone, goes_from, released_by, occupied_by, Arrival, queues, alerts, fails, arrival_of}
 use Rattle.acd_laws.proofs.Deeds.{Party, Round, offers, returns, rests, Deed, nothing, adds_group, adds_station, adds_agent, watches, unwatches, arrives, makes, goes_out, answers, holds, retrieves, clears, deflects, transfers, logs_on, waits, goes}
-use Rattle.acd_terms.specs.Rows.{empty_rows}
-use Rattle.acd_model.specs.Writes.{with_group, with_last}
 use Rattle.acd_model.specs.Figures.{figures_of, sum_of_figures, counting, with_figures}
 use Rattle.acd_model.specs.Services.Serve.{serve}
 use Rattle.acd_model.specs.Run.{Asked, run}
-use Rattle.acd_model.specs.Rules.Calls.{is_group_or_none}
 use Rattle.acd_model.specs.Step.{numbered, executed_moment, next_stamp, step_moves, step}
 use Rattle.acd_laws.specs.FigureLaws.{KeepsFigures, RunKeepsFigures}
-use Rattle.acd_laws.proofs.Ended.{rules_step}
-use Rattle.acd_laws.proofs.Runs.{rules_first, kept_by_run, KeptByRules}
-use Rattle.acd_laws.proofs.Ticking.{Kept}
-use Rattle.acd_laws.proofs.ByDeeds.{by_deeds}
+use Rattle.acd_laws.proofs.Ended.{rules_step, rules_first, kept_by_run, KeptByRules}
+use Rattle.acd_laws.proofs.Distributing.{Kept}
+use Rattle.acd_laws.proofs.RulesKept.{by_deeds}
 
 -- there is no group, or it is one of these
 abbrev pub IsAmongGroups : List GroupRecord → Option ℕ → Type 0

@@ -2,27 +2,19 @@
 use Rattle.std.proofs.Common.{◌≡◌, ℕ, ◌+◌, inl, inr, Bool, true, false, not, ◌&&◌, Some, None, refl, sym, ◌∙◌, ap, subst, arith, eq-eqb, ◌≤◌, ◌||◌, cond, List, [], ◌∷◌, Option}
 use Rattle.std.specs.Prelude.{◌==◌, IsTrue, IsFalse, is_some}
 use Rattle.std.proofs.lemmas.Bool.{and_parts, and_from, eqb-true, or_left, false_from_ne_true, and_right, or_cases, or_parts, or_right}
-use Rattle.acd_laws.proofs.Types.{Rows, ConnectionRecord, ConnectionState}
+use Rattle.acd_laws.proofs.Words.{Rows, ConnectionRecord, ConnectionState, Ending, remove_by, count, Among, IsAscending, is_initiated, is_alerting, is_connected, is_queued, is_answered, at_call, at_connection, group_of, station_of, agent_of, call_of, connection_of, is_group, is_station, other_of, is_distributed, with_connection, without_call, without_connection, changed, moved, call_order, connection_order, is_open, parties_of, initiated_of, open_of, live_at, alerting_at, hold_at, is_distributed_at}
 use Rattle.acd_terms.specs.declared.state.ConnectionState.TheVariants as S
-use Rattle.acd_terms.specs.Lists.{count, Among, remove_by, IsAscending}
-use Rattle.acd_terms.specs.States.{is_alerting, is_initiated, is_connected, is_queued, is_answered, is_distributed}
 use Rattle.acd_model.specs.declared.moves.Change.TheVariants.{PutConnection, RemoveConnection}
 use Rattle.acd_model.specs.declared.moves.Ending.TheVariants.{NoAnswer}
-use Rattle.acd_model.specs.Scans.{group_of, station_of, agent_of, call_of, connection_of, is_group, is_station, at_call, at_connection, other_of}
-use Rattle.acd_model.specs.Writes.{with_connection, without_connection, without_call}
-use Rattle.acd_model.specs.Moves.{changed, moved}
 use Rattle.acd_model.specs.CallMoves.{queueing, clear, end_call}
-use Rattle.acd_model.specs.Rules.Plan.{connection_order, call_order}
 use Rattle.acd_laws.proofs.Facts.{RulesBut, Rules, Offered, AlertingColumns, HasColumns, GroupColumn, StandsAt, ConnectionRule, ringing_at, talking_at, CallRule, two_if}
-use Rattle.acd_model.specs.Rules.Calls.{is_open, parties_of, initiated_of, open_of, live_at, alerting_at, hold_at}
-use Rattle.acd_model.specs.OneOffer.{is_distributed_at}
 use Rattle.acd_laws.proofs.Lists.{one, ascending-put, ascending-remove, every-put, every-remove, two_counted, none_from, find_none, every_among, every_from, among-remove, counted, fewer, count_zero, both_fewer}
 use Rattle.acd_laws.proofs.Keyed.{eqb_self}
 use Rattle.acd_laws.proofs.State.{connections_total, found_key, connection_among, still_none, is_of, call_remove, removed_other, count_new, count_less, connection_rule, connection_there, other_among, other_device, other_agents, left_among}
 use Rattle.acd_laws.proofs.States.{alerting_is}
 use Rattle.acd_laws.proofs.KeptOffer.{talking_is}
 use Rattle.acd_laws.proofs.Arriving.{with_connections, arrived_live, arrived_hold, arrived_open, rule_same, Arrived}
-use Rattle.acd_laws.proofs.Releasing.{after_release, loosen, ends_by, release_other_kept}
+use Rattle.acd_laws.proofs.Releasing.{Ends, after_release, loosen, ends_by, release_other_kept}
 use Rattle.acd_model.specs.Tick.{return_to}
 use Rattle.acd_model.specs.Release.{ending_of, release}
 use Rattle.acd_model.specs.Services.{clearing, cleared_group, waiting_group, is_answered_by}
@@ -55,43 +47,50 @@ return_new s g x r ex alerting group =
     (λ w. apart (ap (λ (z : ConnectionRecord). z.device) w ∙ key.1)) in
     let l = r.one_open x.call in omega (arith, two, l))
 
--- an offer goes back to its group
-pub kept_return_to : (s : Rows) (m k g : ℕ) (x : ConnectionRecord) → Rules s → connection_of s x.call x.device ≡ Some x → is_alerting x.state ≡ true → x.group ≡ Some g → Rules (moved s (return_to s m k x (Some g)))
+-- the connection x ends and its call comes to y: where x is open, or none of the call is
+pub moved_on : (s : Rows) (m k : ℕ) (x y : ConnectionRecord) (d : ℕ) (how : Ending) → Rules s → connection_of s x.call x.device ≡ Some x → Arrived s x.call d y → connection_of s x.call d ≡ None → is_initiated x.state ≡ false
+    → count (open_of x.call) s.connections ≤ one (is_open x.state) → Ends x how → Rules (changed (changed (changed s (RemoveConnection x.call x.device)) (PutConnection y)) (release s m k x how).change)
 unfolding with_connection without_connection call_of connection_of agent_of group_of station_of
-kept_return_to s m k g x r ex alerting group =
-    let y : ConnectionRecord = queueing x.call g x.place x.queued in
+moved_on s m k x y d how r ex a none_d not_initiated opens ends =
     let u : Rows = changed s (RemoveConnection x.call x.device) in
     let v : Rows = changed u (PutConnection y) in
-    let xs : x.state ≡ S.Alerting = alerting_is x.state alerting in
     let among : Among x s.connections = connection_among s x.call x.device x ex in
+    let new : connection_of u y.call y.device ≡ None = rw (a.call, a.device) (still_none s x.call x.device x.call d r.orders.connections none_d) in
+    let counts : (p : ConnectionRecord → Bool) → count p v.connections + one (p x) ≡ one (p y) + count p s.connections = λ p.
+    let e1 = count_new p u y new in let e2 = count_less p s x.call x.device x ex in omega (arith, e1, e2) in
+    let loose : ℕ → Bool = λ e. is_distributed x && (x.device == e) in
+    let free : (e : ℕ) → loose e ≡ true → count (is_distributed_at e) v.connections ≡ 0 = λ e q. let c = counts (is_distributed_at e) in let b = r.one_offer e in
+    let f : one (is_distributed_at e x) ≡ 1 = ap one q in let g : one (is_distributed_at e y) ≡ 0 = rw a.not_distributed refl in omega (arith, c, b, f, g) in
+    let rv : RulesBut loose v = with_connections loose s v.connections r (record {
+      sorted = ascending-put connection_order connections_total y u.connections (ascending-remove connection_order _ s.connections r.orders.connections);
+      rules = every-put (connection_order y) (ConnectionRule s) y a.rule u.connections (every-remove _ (ConnectionRule s) s.connections r.connections);
+      parties = λ n. let e1 = counts (parties_of n) in let e2 = counts (initiated_of n) in let p = r.parties n in
+          let f : one (parties_of n y) ≡ one (parties_of n x) = rw a.call refl in let i : one (initiated_of n x) ≡ 0 = rw not_initiated refl in let j : one (initiated_of n y) ≡ 0 = rw a.not_initiated refl in omega (arith, e1, e2, p, f, i, j);
+      one_open = λ n. let c = counts (open_of n) in let o = arrived_open s x.call d n y (is_open x.state) a (r.one_open n) opens in omega (arith, c, o);
+      one_live = λ e h. let c = counts (live_at e) in let o = arrived_live s x.call d e y a (r.one_live e h) in omega (arith, c, o);
+      no_hold = λ e h l. let c = counts (alerting_at e) in let ch = counts (hold_at e) in let i : one (hold_at e y) ≡ 0 = rw a.not_hold refl in
+          let z = arrived_hold s x.call d e y a (r.no_hold e h) (omega (arith, c, l)) in omega (arith, ch, i, z);
+      one_offer = λ e. let c = counts (is_distributed_at e) in let o = r.one_offer e in let g : one (is_distributed_at e y) ≡ 0 = rw a.not_distributed refl in omega (arith, c, o, g);
+      ready = λ e _. let c = counts (ringing_at e) in let o = r.ready e refl in let g : one (ringing_at e y) ≡ 0 = rw a.not_ringing refl in omega (arith, c, o, g);
+      busy = λ e q. let c = counts (talking_at e) in let o = r.busy e refl in let g : one (talking_at e y) ≡ 0 = rw a.not_answered refl in
+          let f : one (talking_at e x) ≡ 0 = ap one (false_from_ne_true (talking_at e x) (λ w. cc (talking_is e x w, q))) in omega (arith, c, o, f, g);
+      pending = λ e q. let c = counts (is_distributed_at e) in let o = r.pending e refl in let g : one (is_distributed_at e y) ≡ 0 = rw a.not_distributed refl in let f : one (is_distributed_at e x) ≡ 0 = ap one q in omega (arith, c, o, f, g);
+      free = free;
+    }) in
+    loosen (λ e. loose e && not (loose e)) (λ _. false) _ (λ e q. absurd (cc (q))) (λ e q. and_not (loose e))
+    (after_release loose s v x how m k rv (λ a h. h.there) r among (λ d. free x.device (and_from _ _ d (eqb_self x.device))) ends)
+
+-- an offer goes back to its group
+pub kept_return_to : (s : Rows) (m k g : ℕ) (x : ConnectionRecord) → Rules s → connection_of s x.call x.device ≡ Some x → is_alerting x.state ≡ true → x.group ≡ Some g → Rules (moved s (return_to s m k x (Some g)))
+kept_return_to s m k g x r ex alerting group =
+    let y : ConnectionRecord = queueing x.call g x.place x.queued in
+    let xs : x.state ≡ S.Alerting = alerting_is x.state alerting in
     let rule : ConnectionRule s x = connection_rule s r x.call x.device x ex in
     let columns : Offered x = subst (AlertingColumns x) group (subst (HasColumns x) xs rule.0) in
     let at_g : IsTrue (is_group s g) = subst (GroupColumn s) group rule.1 in
-    let none : connection_of s x.call g ≡ None = return_new s g x r ex alerting group in
-    let counts : (p : ConnectionRecord → Bool) → count p v.connections + one (p x) ≡ one (p y) + count p s.connections = λ p.
-    let e1 = count_new p u y (still_none s x.call x.device x.call g r.orders.connections none) in
-    let e2 = count_less p s x.call x.device x ex in omega (arith, e1, e2) in
-    let dist : is_distributed x ≡ true = rw (group, xs) refl in
-    let vacant : count (is_distributed_at x.device) v.connections ≡ 0 =
-    let c = counts (is_distributed_at x.device) in let o = r.one_offer x.device in
-    let f : one (is_distributed_at x.device x) ≡ 1 = ap one (and_from _ _ dist (eqb_self x.device)) in omega (arith, c, o, f) in
-    let loose : ℕ → Bool = λ e. is_distributed x && (x.device == e) in
-    let rv : RulesBut loose v = with_connections loose s v.connections r (record {
-      sorted = ascending-put connection_order connections_total y u.connections (ascending-remove connection_order _ s.connections r.orders.connections);
-      rules = every-put (connection_order y) (ConnectionRule s) y (record { group = refl; place = columns.place; queued = columns.queued; offered = refl }, at_g, at_g) u.connections (every-remove _ (ConnectionRule s) s.connections r.connections);
-      parties = λ n. let e1 = counts (parties_of n) in let e2 = counts (initiated_of n) in let p = r.parties n in let i : one (initiated_of n x) ≡ 0 = rw xs refl in omega (arith, e1, e2, p, i);
-      one_open = λ n. let e = counts (open_of n) in let o = r.one_open n in let f : one (open_of n x) ≡ one (x.call == n) = rw xs refl in omega (arith, e, o, f);
-      one_live = λ e h. let c = counts (live_at e) in let o = r.one_live e h in omega (arith, c, o);
-      no_hold = λ e h l. let c = counts (alerting_at e) in let ch = counts (hold_at e) in let fh : one (hold_at e x) ≡ 0 = rw xs refl in
-          let o = r.no_hold e h (omega (arith, c, l)) in omega (arith, ch, fh, o);
-      one_offer = λ e. let c = counts (is_distributed_at e) in let o = r.one_offer e in omega (arith, c, o);
-      ready = λ e _. let c = counts (ringing_at e) in let o = r.ready e refl in omega (arith, c, o);
-      busy = λ e _. let c = counts (talking_at e) in let o = r.busy e refl in let f : one (talking_at e x) ≡ 0 = rw xs refl in omega (arith, c, o, f);
-      pending = λ e h. let c = counts (is_distributed_at e) in let o = r.pending e refl in let f : one (is_distributed_at e x) ≡ 0 = ap one h in omega (arith, c, o, f);
-      free = λ e h. subst (λ d. count (is_distributed_at d) v.connections ≡ 0) (eqb-true x.device e (and_parts (is_distributed x) (x.device == e) h).1) vacant;
-    }) in
-    loosen (λ e. loose e && not (loose e)) (λ _. false) _ (λ e q. absurd (cc (q))) (λ e q. and_not (loose e))
-    (after_release loose s v x NoAnswer m k rv (λ a h. h.there) r among (λ _. vacant) (record { stays = λ _ w q. alerting }))
+    let back : Arrived s x.call g y = record { call = refl; device = refl; rule = (record { group = refl; place = columns.place; queued = columns.queued; offered = refl }, at_g, at_g); not_initiated = refl; not_hold = refl; not_answered = refl; not_distributed = refl; not_ringing = refl; idle = λ q. absurd (cc (q)); alerting_idle = λ q. absurd (cc (q)) } in
+    let o = r.one_open x.call in let f : one (is_open x.state) ≡ 1 = rw xs refl in
+    moved_on s m k x y g NoAnswer r ex back (return_new s g x r ex alerting group) (rw xs refl) (omega (arith, o, f)) (record { stays = λ _ w q. alerting })
 
 -- a call ends: l is what is left of the connections
 ended : (s : Rows) (call : ℕ) (l : List ConnectionRecord) (loose : ℕ → Bool) → Rules s → IsAscending connection_order l → ((z : ConnectionRecord) → Among z l → Among z s.connections)
@@ -106,14 +105,7 @@ ended s call l loose r sorted within less gone others talk dist free =
     let v : Rows = record s { connections = l; calls = remove_by (at_call call) s.calls } in
     let calls : (n : ℕ) → call_of v n ≡ cond (call == n) None (call_of s n) = λ n. call_remove s call n r.orders.calls in
     record {
-      orders = record {
-        groups = r.orders.groups;
-        stations = r.orders.stations;
-        agents = r.orders.agents;
-        monitors = r.orders.monitors;
-        calls = ascending-remove call_order (at_call call) s.calls r.orders.calls;
-        connections = sorted;
-      };
+      orders = record { groups = r.orders.groups; stations = r.orders.stations; agents = r.orders.agents; monitors = r.orders.monitors; calls = ascending-remove call_order (at_call call) s.calls r.orders.calls; connections = sorted };
       kinds = r.kinds;
       agents = r.agents;
       calls = every-remove _ (CallRule s) s.calls r.calls;
@@ -217,39 +209,6 @@ kept_clear s m k x (Some y) eo r ex =
     (λ d. r1.free y.device (and_from _ _ (or_right (is_distributed x && (x.device == y.device)) _ (and_from _ _ d (eqb_self y.device))) (ap not (and_right (is_distributed x) (x.device == y.device) apart))))
     (ends_by s y (connection_rule s r y.call y.device y ey)) in
     loosen _ (λ _. false) _ (λ e q. absurd (cc (q))) (λ e q. either_and_not (is_distributed x && (x.device == e)) (is_distributed y && (y.device == e))) r2
-
--- the connection x ends and the call comes to y: by a deflection, where x is open, or a transfer, where none of the call is
-pub moved_on : (s : Rows) (m k : ℕ) (x y : ConnectionRecord) (d : ℕ) → Rules s → connection_of s x.call x.device ≡ Some x → Arrived s x.call d y → connection_of s x.call d ≡ None → is_initiated x.state ≡ false
-    → count (open_of x.call) s.connections ≤ one (is_open x.state) → Rules (changed (changed (changed s (RemoveConnection x.call x.device)) (PutConnection y)) (release s m k x (ending_of x)).change)
-unfolding with_connection without_connection call_of connection_of agent_of group_of station_of
-moved_on s m k x y d r ex a none_d not_initiated opens =
-    let u : Rows = changed s (RemoveConnection x.call x.device) in
-    let v : Rows = changed u (PutConnection y) in
-    let among : Among x s.connections = connection_among s x.call x.device x ex in
-    let new : connection_of u y.call y.device ≡ None = rw (a.call, a.device) (still_none s x.call x.device x.call d r.orders.connections none_d) in
-    let counts : (p : ConnectionRecord → Bool) → count p v.connections + one (p x) ≡ one (p y) + count p s.connections = λ p.
-    let e1 = count_new p u y new in let e2 = count_less p s x.call x.device x ex in omega (arith, e1, e2) in
-    let loose : ℕ → Bool = λ e. is_distributed x && (x.device == e) in
-    let free : (e : ℕ) → loose e ≡ true → count (is_distributed_at e) v.connections ≡ 0 = λ e q. let c = counts (is_distributed_at e) in let b = r.one_offer e in
-    let f : one (is_distributed_at e x) ≡ 1 = ap one q in let g : one (is_distributed_at e y) ≡ 0 = rw a.not_distributed refl in omega (arith, c, b, f, g) in
-    let rv : RulesBut loose v = with_connections loose s v.connections r (record {
-      sorted = ascending-put connection_order connections_total y u.connections (ascending-remove connection_order _ s.connections r.orders.connections);
-      rules = every-put (connection_order y) (ConnectionRule s) y a.rule u.connections (every-remove _ (ConnectionRule s) s.connections r.connections);
-      parties = λ n. let e1 = counts (parties_of n) in let e2 = counts (initiated_of n) in let p = r.parties n in
-          let f : one (parties_of n y) ≡ one (parties_of n x) = rw a.call refl in let i : one (initiated_of n x) ≡ 0 = rw not_initiated refl in let j : one (initiated_of n y) ≡ 0 = rw a.not_initiated refl in omega (arith, e1, e2, p, f, i, j);
-      one_open = λ n. let c = counts (open_of n) in let o = arrived_open s x.call d n y (is_open x.state) a (r.one_open n) opens in omega (arith, c, o);
-      one_live = λ e h. let c = counts (live_at e) in let o = arrived_live s x.call d e y a (r.one_live e h) in omega (arith, c, o);
-      no_hold = λ e h l. let c = counts (alerting_at e) in let ch = counts (hold_at e) in let i : one (hold_at e y) ≡ 0 = rw a.not_hold refl in
-          let z = arrived_hold s x.call d e y a (r.no_hold e h) (omega (arith, c, l)) in omega (arith, ch, i, z);
-      one_offer = λ e. let c = counts (is_distributed_at e) in let o = r.one_offer e in let g : one (is_distributed_at e y) ≡ 0 = rw a.not_distributed refl in omega (arith, c, o, g);
-      ready = λ e _. let c = counts (ringing_at e) in let o = r.ready e refl in let g : one (ringing_at e y) ≡ 0 = rw a.not_ringing refl in omega (arith, c, o, g);
-      busy = λ e q. let c = counts (talking_at e) in let o = r.busy e refl in let g : one (talking_at e y) ≡ 0 = rw a.not_answered refl in
-          let f : one (talking_at e x) ≡ 0 = ap one (false_from_ne_true (talking_at e x) (λ w. cc (talking_is e x w, q))) in omega (arith, c, o, f, g);
-      pending = λ e q. let c = counts (is_distributed_at e) in let o = r.pending e refl in let g : one (is_distributed_at e y) ≡ 0 = rw a.not_distributed refl in let f : one (is_distributed_at e x) ≡ 0 = ap one q in omega (arith, c, o, f, g);
-      free = free;
-    }) in
-    loosen (λ e. loose e && not (loose e)) (λ _. false) _ (λ e q. absurd (cc (q))) (λ e q. and_not (loose e))
-    (after_release loose s v x (ending_of x) m k rv (λ a h. h.there) r among (λ d. free x.device (and_from _ _ d (eqb_self x.device))) (ends_by s x (connection_rule s r x.call x.device x ex)))
 
 pub open_cases : (st : ConnectionState) → (is_alerting st || is_queued st) ≡ true → (is_initiated st ≡ false) × (is_open st ≡ true)
 open_cases S.Alerting e = (refl, refl)

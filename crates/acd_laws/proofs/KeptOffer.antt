@@ -2,19 +2,11 @@
 use Rattle.std.proofs.Common.{◌≡◌, ℕ, ◌+◌, ◌≤◌, Bool, true, false, not, ◌&&◌, ◌||◌, Some, None, refl, sym, ◌∙◌, ap, subst, arith, eq-eqb}
 use Rattle.std.specs.Prelude.{◌==◌, IsTrue, is_some}
 use Rattle.std.proofs.lemmas.Bool.{and_parts, and_from, eqb-true, and_left, and_right, not-true}
-use Rattle.acd_laws.proofs.Types.{Rows, AgentRecord, ConnectionRecord}
+use Rattle.acd_laws.proofs.Words.{Rows, AgentRecord, ConnectionRecord, count, Among, is_ready, is_alerting, is_hold, is_queued, is_answered, is_live, group_of, station_of, call_of, connection_of, is_group, is_station, has, is_distributed, is_taken, is_idle, is_occupied, with_connection, without_connection, changed, moved, connection_order, is_open, parties_of, initiated_of, open_of, live_at, alerting_at, hold_at, is_distributed_at}
 use Rattle.acd_terms.specs.declared.state.ConnectionState.TheVariants as S
-use Rattle.acd_terms.specs.Lists.{count, Among}
-use Rattle.acd_terms.specs.States.{is_ready, is_alerting, is_hold, is_queued, is_answered, is_live, is_distributed}
 use Rattle.acd_model.specs.declared.moves.Change.TheVariants.{PutConnection, RemoveConnection}
-use Rattle.acd_model.specs.Scans.{group_of, station_of, call_of, connection_of, is_group, is_station, has, is_taken, is_idle, is_occupied}
-use Rattle.acd_model.specs.Writes.{with_connection, without_connection}
-use Rattle.acd_model.specs.Moves.{changed, moved}
 use Rattle.acd_model.specs.CallMoves.{ringing}
-use Rattle.acd_model.specs.Rules.Plan.{connection_order}
 use Rattle.acd_laws.proofs.Facts.{Rules, IsPlannedStation, IsPlannedGroup, SeatedAs, AgentRule, InQueue, AlertingColumns, HasColumns, StandsAt, ConnectionRule, ringing_at, talking_at, ready_at}
-use Rattle.acd_model.specs.Rules.Calls.{is_open, parties_of, initiated_of, open_of, live_at, alerting_at, hold_at}
-use Rattle.acd_model.specs.OneOffer.{is_distributed_at}
 use Rattle.acd_laws.proofs.Lists.{one, any_some, ascending-put, ascending-remove, every_among, every-put, every-remove, counted, none_counted, fewer, two_counted, none_from}
 use Rattle.acd_laws.proofs.Keyed.{eqb_self}
 use Rattle.acd_laws.proofs.State.{connections_total, found_key, connection_among, still_none, count_new, count_less, connection_rule}

@@ -2,21 +2,13 @@
 use Rattle.std.proofs.Common.{◌≡◌, ℕ, ◌+◌, ◌≤◌, inl, Bool, true, false, not, ◌&&◌, cond, List, [], ◌∷◌, Option, Some, None, refl, ap, subst, arith, inr, sym, ◌∙◌, eq-eqb}
 use Rattle.std.specs.Prelude.{◌==◌, IsTrue, is_some, IsFalse}
 use Rattle.std.proofs.lemmas.Bool.{and_parts, and_from, false_from_ne_true, eqb-true, or_parts, or_right, and_left}
-use Rattle.acd_laws.proofs.Types.{Rows, AgentRecord, CallRecord, ConnectionRecord, ConnectionState}
+use Rattle.acd_laws.proofs.Words.{Rows, AgentRecord, CallRecord, ConnectionRecord, ConnectionState, put_by, count, Among, Every, IsAscending, is_initiated, is_alerting, is_connected, is_hold, is_queued, is_answered, is_live, group_of, station_of, agent_of, call_of, connection_of, is_group, is_station, is_planned, has, agent_at, is_distributed, is_live_at, with_agent, with_call, with_connection, no_move, changed, moved, agent_order, call_order, connection_order, is_open, parties_of, initiated_of, open_of, live_at, alerting_at, hold_at, is_distributed_at}
 use Rattle.acd_terms.specs.declared.state.AgentState.TheVariants as A
 use Rattle.acd_terms.specs.declared.state.ConnectionState.TheVariants as S
-use Rattle.acd_terms.specs.Lists.{put_by, count, Every, IsAscending, Among}
-use Rattle.acd_terms.specs.States.{is_initiated, is_alerting, is_connected, is_hold, is_queued, is_answered, is_live, is_distributed}
 use Rattle.acd_model.specs.declared.moves.Change.TheVariants.{PutConnection, PutCall}
-use Rattle.acd_model.specs.Scans.{group_of, station_of, agent_of, call_of, connection_of, is_station, has, agent_at, is_live_at, is_group, is_planned}
-use Rattle.acd_model.specs.Writes.{with_agent, with_connection, with_call}
-use Rattle.acd_model.specs.Moves.{no_move, changed, moved}
 use Rattle.acd_model.specs.CallMoves.{talking, hold, retrieve, plain}
 use Rattle.acd_model.specs.AgentMoves.{become_busy}
-use Rattle.acd_model.specs.Rules.Plan.{agent_order, connection_order, call_order}
 use Rattle.acd_laws.proofs.Facts.{Rules, AgentRule, Bare, HasColumns, StandsAt, ConnectionRule, ringing_at, talking_at, seated_at, ready_at, busy_at, pending_at, CallRule, IsCaller, two_if}
-use Rattle.acd_model.specs.Rules.Calls.{is_open, parties_of, initiated_of, open_of, live_at, alerting_at, hold_at}
-use Rattle.acd_model.specs.OneOffer.{is_distributed_at}
 use Rattle.acd_laws.proofs.Lists.{one, ascending-put, every-put, none_counted, fewer, every_among, every_from, counted, two_counted, none_from}
 use Rattle.acd_laws.proofs.State.{agents_total, connections_total, connection_among, calls_total, call_put, put_other, found_key, call_among, count_old, count_agent, connection_rule, count_new, none_above, no_call_above, none_of_call}
 use Rattle.acd_laws.proofs.Keyed.{eqb_self}
@@ -42,14 +34,7 @@ after_answer s x agents r ex alerting sorted rules one_agent ready busy pending 
     let at_x : IsTrue (is_station s x.device) = subst (StandsAt s x) xs rule.2 in
     let counts : (p : ConnectionRecord → Bool) → count p (put_by (connection_order y) s.connections y) + one (p x) ≡ one (p y) + count p s.connections = λ p. count_old p s y x r.orders.connections ex in
     record {
-      orders = record {
-        groups = r.orders.groups;
-        stations = r.orders.stations;
-        agents = sorted;
-        monitors = r.orders.monitors;
-        calls = r.orders.calls;
-        connections = ascending-put connection_order connections_total y s.connections r.orders.connections;
-      };
+      orders = record { groups = r.orders.groups; stations = r.orders.stations; agents = sorted; monitors = r.orders.monitors; calls = r.orders.calls; connections = ascending-put connection_order connections_total y s.connections r.orders.connections };
       kinds = r.kinds;
       agents = rules;
       calls = r.calls;
@@ -138,11 +123,6 @@ turned s x y r ex yc yd rule ax ay yg one_live no_hold =
     answered_only S.Hold e = (refl, refl, refl, refl)
     answered_only _ e = absurd (cc (e))
 
-bare_answered : (s : Rows) (x : ConnectionRecord) (st : ConnectionState) → is_answered st ≡ true → HasColumns x st → Bare x
-bare_answered s x S.Connected e h = h
-bare_answered s x S.Hold e h = h
-bare_answered s x _ e h = absurd (cc (e))
-
 pub kept_hold : (s : Rows) (x : ConnectionRecord) → Rules s → connection_of s x.call x.device ≡ Some x → IsTrue (is_station s x.device) → is_connected x.state ≡ true → Rules (moved s (hold x ∷ []))
 kept_hold s x r ex station connected =
     let y : ConnectionRecord = record x { state = S.Hold } in
@@ -209,14 +189,7 @@ begun s c y r number outside inside a =
     λ p. count_new p v y there ∙ ap (λ n. one (p y) + n) (count_new p u x (none c.caller)) in
     let calls : (n : ℕ) → call_of t n ≡ cond (c.call == n) (Some c) (call_of s n) = λ n. call_put s c n in
     record {
-      orders = record {
-        groups = r.orders.groups;
-        stations = r.orders.stations;
-        agents = r.orders.agents;
-        monitors = r.orders.monitors;
-        calls = ascending-put call_order calls_total c s.calls r.orders.calls;
-        connections = ascending-put connection_order connections_total y v.connections (ascending-put connection_order connections_total x s.connections r.orders.connections);
-      };
+      orders = record { groups = r.orders.groups; stations = r.orders.stations; agents = r.orders.agents; monitors = r.orders.monitors; calls = ascending-put call_order calls_total c s.calls r.orders.calls; connections = ascending-put connection_order connections_total y v.connections (ascending-put connection_order connections_total x s.connections r.orders.connections) };
       kinds = r.kinds;
       agents = r.agents;
       calls = every-put (call_order c) (CallRule t) c (omega arith, inside, (λ e. apart (sym e)), (or_parts _ _ outside).0) s.calls
@@ -268,14 +241,7 @@ made s m device called r station planned differ free =
     let counts : (p : ConnectionRecord → Bool) → count p t.connections ≡ one (p y) + count p s.connections = λ p. count_new p u y (none_above s r c.call device (omega arith)) in
     let calls : (n : ℕ) → call_of t n ≡ cond (c.call == n) (Some c) (call_of s n) = λ n. call_put s c n in
     record {
-      orders = record {
-        groups = r.orders.groups;
-        stations = r.orders.stations;
-        agents = r.orders.agents;
-        monitors = r.orders.monitors;
-        calls = ascending-put call_order calls_total c s.calls r.orders.calls;
-        connections = ascending-put connection_order connections_total y s.connections r.orders.connections;
-      };
+      orders = record { groups = r.orders.groups; stations = r.orders.stations; agents = r.orders.agents; monitors = r.orders.monitors; calls = ascending-put call_order calls_total c s.calls r.orders.calls; connections = ascending-put connection_order connections_total y s.connections r.orders.connections };
       kinds = r.kinds;
       agents = r.agents;
       calls = every-put (call_order c) (CallRule t) c (omega arith, planned, (λ e. cc (differ, eq-eqb called device e)), station_no_group s device r.kinds station) s.calls

@@ -2,13 +2,8 @@
 use Rattle.std.proofs.Common.{◌≡◌, ℕ, zero, suc, ◌+◌, ◌*◌, ◌≤◌, inl, inr, Bool, true, false, not, cond, List, [], ◌∷◌, ◌++◌, Option, Some, None, refl, sym, ◌∙◌, ap, arith, length, eq-eqb, length-append}
 use Rattle.std.specs.Prelude.{◌==◌, is_some, filter}
 use Rattle.std.proofs.lemmas.Bool.{not-true}
-use Rattle.acd_laws.proofs.Types.{Rows, AgentRecord, CallRecord, ConnectionRecord, Event, Move, Offer, Report}
-use Rattle.acd_terms.specs.Lists.{count, Among}
-use Rattle.acd_terms.specs.States.{is_queued}
-use Rattle.acd_model.specs.Scans.{agent_of, call_of, connection_of, queued_in_all}
-use Rattle.acd_model.specs.Moves.{moved, with_event, events_of}
+use Rattle.acd_laws.proofs.Words.{Rows, AgentRecord, CallRecord, ConnectionRecord, Event, Move, Offer, Report, count, Among, is_queued, agent_of, call_of, connection_of, queued_in_all, moved, with_event, events_of, parties_of}
 use Rattle.acd_laws.proofs.Facts.{Rules}
-use Rattle.acd_model.specs.Rules.Calls.{parties_of}
 use Rattle.acd_laws.proofs.Lists.{one, filter_among, counted, fewer, count_length}
 use Rattle.acd_laws.proofs.Keyed.{eqb_self}
 use Rattle.acd_laws.proofs.State.{call_among, call_key, none_of_call}
@@ -17,7 +12,7 @@ use Rattle.acd_model.specs.Choice.{offer_of}
 use Rattle.acd_model.specs.Distribution.{offer_at, offer_moves, with_offer, offers, distribution, station_of_agent}
 use Rattle.acd_model.specs.Tick.{return_to, return_moves, rest_moves, each, is_overdue, overdue_in, is_rested, rested_in, returns, rests, tick}
 use Rattle.acd_laws.proofs.KeptEnds.{two_le}
-use Rattle.acd_laws.proofs.Steady.{count_all}
+use Rattle.acd_laws.proofs.Orderly.{count_all}
 use Rattle.acd_laws.proofs.Decided.{◌and◌, within}
 
 -- no more events than moves

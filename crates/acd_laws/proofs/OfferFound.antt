@@ -7,9 +7,7 @@ use Rattle.acd_model.specs.Offers.{IsLeast, FindsLeast, HasNoOffer, IsOffer, Fin
 use Rattle.acd_laws.proofs.Lists.{some_is}
 use Rattle.std.specs.Ordering.{nat_cmp}
 use Rattle.std.specs.declared.cmp.Ordering.TheVariants.{Less}
-use Rattle.acd_terms.specs.Lists.{Among, AllAfter, IsAscending}
-use Rattle.acd_model.specs.Scans.{waiting_in, eligible_in}
-use Rattle.acd_laws.proofs.Types.{Rows, GroupRecord, Offer}
+use Rattle.acd_laws.proofs.Words.{Rows, GroupRecord, Offer, Among, AllAfter, IsAscending, waiting_in, eligible_in}
 use Rattle.acd_model.specs.Distribution.{offers}
 
 itself : (a b : ℕ) → (nat_lt a a || (a == a && nat_lt b b)) ≡ false
@@ -125,30 +123,6 @@ later_device g h [] a b = absurd b
 later_device g h (k ∷ gs) a (inl e) = less_is g.device h.device (subst (λ (z : GroupRecord). nat_cmp g.device z.device ≡ Less) (sym e) a.0)
 later_device g h (k ∷ gs) a (inr b) = later_device g h gs a.1 b
 
-none_waiting : (s : Rows) (g : ℕ) → first_waiting s g ≡ None → waiting_in s g ≡ []
-unfolding first_waiting
-none_waiting s g e = none_mapped waiting_pair (waiting_in s g) (none_of _ e)
-
-none_eligible : (s : Rows) (g : ℕ) → first_eligible s g ≡ None → eligible_in s g ≡ []
-unfolding first_eligible
-none_eligible s g e = none_mapped ready_pair (eligible_in s g) (none_of _ e)
-
-waiting_least : (s : Rows) (g : ℕ) (w : ℕ × ℕ) → first_waiting s g ≡ Some w → IsLeast w (map waiting_pair (waiting_in s g))
-unfolding first_waiting
-waiting_least s g w e = least_is _ w e
-
-eligible_least : (s : Rows) (g : ℕ) (r : ℕ × ℕ) → first_eligible s g ≡ Some r → IsLeast r (map ready_pair (eligible_in s g))
-unfolding first_eligible
-eligible_least s g r e = least_is _ r e
-
-least_waiting : (s : Rows) (g : ℕ) (w : ℕ × ℕ) → IsLeast w (map waiting_pair (waiting_in s g)) → first_waiting s g ≡ Some w
-unfolding first_waiting
-least_waiting s g w h = least_found _ w h
-
-least_eligible : (s : Rows) (g : ℕ) (r : ℕ × ℕ) → IsLeast r (map ready_pair (eligible_in s g)) → first_eligible s g ≡ Some r
-unfolding first_eligible
-least_eligible s g r h = least_found _ r h
-
 -- one more group, without an offer, before the others
 one_more : (s : Rows) (g : GroupRecord) (gs : List GroupRecord) (o : Offer) → HasNoOffer s g.device → IsOfferIn s gs o → IsOfferIn s (g ∷ gs) o
 one_more s g gs o n h = record {
@@ -165,14 +139,15 @@ one_more s g gs o n h = record {
 -- the offer of the first group
 of_first : (s : Rows) (g : GroupRecord) (gs : List GroupRecord) (w r : ℕ × ℕ) → Ascends (g ∷ gs)
     → first_waiting s g.device ≡ Some w → first_eligible s g.device ≡ Some r → IsOfferIn s (g ∷ gs) (record { group = g.device; call = w.1; agent = r.1 })
+unfolding first_waiting first_eligible
 of_first s g gs w r asc e f = record {
   group = g;
   planned = inl refl;
   named = refl;
   place = w.0;
-  call = waiting_least s g.device w e;
+  call = least_is _ w e;
   stamp = r.0;
-  agent = eligible_least s g.device r f;
+  agent = least_is _ r f;
   first = λ k a l. elim a [
     | inl q ↦ (let same : k.device ≡ g.device = ap (λ (z : GroupRecord). z.device) q in absurd (omega (arith, l, same)))
     | inr b ↦ (let late = later_device g k gs asc.0 b in absurd (omega (arith, l, late)))
@@ -180,24 +155,17 @@ of_first s g gs w r asc e f = record {
 }
 
 found_is : (s : Rows) (gs : List GroupRecord) (o : Offer) → Ascends gs → offer_in s gs ≡ Some o → IsOfferIn s gs o
+unfolding first_waiting first_eligible
 found_is s [] o asc e = absurd (cc (e))
 found_is s (g ∷ gs) o asc e =
     (elim (first_waiting s g.device) as (λ v. first_waiting s g.device ≡ v → offer_or g.device v (first_eligible s g.device) (offer_in s gs) ≡ Some o → IsOfferIn s (g ∷ gs) o) [
-      | None ↦ λ q f. one_more s g gs o (inl (none_waiting s g.device q)) (found_is s gs o asc.1 f)
+      | None ↦ λ q f. one_more s g gs o (inl (none_mapped waiting_pair _ (none_of _ q))) (found_is s gs o asc.1 f)
       | Some w ↦ λ q f.
           (elim (first_eligible s g.device) as (λ v. first_eligible s g.device ≡ v → offer_or g.device (Some w) v (offer_in s gs) ≡ Some o → IsOfferIn s (g ∷ gs) o) [
-            | None ↦ λ p h. one_more s g gs o (inr (none_eligible s g.device p)) (found_is s gs o asc.1 h)
+            | None ↦ λ p h. one_more s g gs o (inr (none_mapped ready_pair _ (none_of _ p))) (found_is s gs o asc.1 h)
             | Some r ↦ λ p h. subst (IsOfferIn s (g ∷ gs)) (some_is _ o h) (of_first s g gs w r asc q p)
           ]) refl f
     ]) refl e
-
-no_waiting : (s : Rows) (g : ℕ) → waiting_in s g ≡ [] → first_waiting s g ≡ None
-unfolding first_waiting
-no_waiting s g e = rw e refl
-
-no_eligible : (s : Rows) (g : ℕ) → eligible_in s g ≡ [] → first_eligible s g ≡ None
-unfolding first_eligible
-no_eligible s g e = rw e refl
 
 second_none : (g : ℕ) (w : Option (ℕ × ℕ)) (rest : Option Offer) → offer_or g w None rest ≡ rest
 second_none g None rest = refl
@@ -205,16 +173,18 @@ second_none g (Some w) rest = refl
 
 -- a group without an offer is passed over
 passed : (s : Rows) (g : ℕ) (rest : Option Offer) → HasNoOffer s g → offer_or g (first_waiting s g) (first_eligible s g) rest ≡ rest
-passed s g rest (inl e) = rw (no_waiting s g e) refl
-passed s g rest (inr e) = rw (no_eligible s g e) (second_none g (first_waiting s g) rest)
+unfolding first_waiting first_eligible
+passed s g rest (inl e) = rw e refl
+passed s g rest (inr e) = rw e (second_none g _ rest)
 
 is_found : (s : Rows) (gs : List GroupRecord) (o : Offer) → Ascends gs → IsOfferIn s gs o → offer_in s gs ≡ Some o
+unfolding first_waiting first_eligible
 is_found s [] o asc h = absurd h.planned
 is_found s (g ∷ gs) o asc h =
     elim h.planned [
       | inl e ↦ (let same : o.group ≡ g.device = sym h.named ∙ ap (λ (z : GroupRecord). z.device) e in
-          let a : first_waiting s g.device ≡ Some (h.place, o.call) = subst (λ d. first_waiting s d ≡ Some (h.place, o.call)) same (least_waiting s o.group (h.place, o.call) h.call) in
-          let b : first_eligible s g.device ≡ Some (h.stamp, o.agent) = subst (λ d. first_eligible s d ≡ Some (h.stamp, o.agent)) same (least_eligible s o.group (h.stamp, o.agent) h.agent) in
+          let a : first_waiting s g.device ≡ Some (h.place, o.call) = subst (λ d. first_waiting s d ≡ Some (h.place, o.call)) same (least_found _ (h.place, o.call) h.call) in
+          let b : first_eligible s g.device ≡ Some (h.stamp, o.agent) = subst (λ d. first_eligible s d ≡ Some (h.stamp, o.agent)) same (least_found _ (h.stamp, o.agent) h.agent) in
           let c : offer_in s (g ∷ gs) ≡ Some (record { group = g.device; call = o.call; agent = o.agent }) = rw (a, b) refl in
           c ∙ ap (λ (d : ℕ). let p : Offer = record { group = d; call = o.call; agent = o.agent } in Some p) (sym same))
       | inr m ↦ (let late : g.device < o.group = subst (λ d. g.device < d) h.named (later_device g h.group gs asc.0 m) in
@@ -261,13 +231,14 @@ finds_the_offer s o asc = (λ e. to_offer s o (found_is s s.groups o asc e), λ 
 
 -- where no offer is found, no group has one
 none_in : (s : Rows) (gs : List GroupRecord) (g : GroupRecord) → offer_in s gs ≡ None → Among g gs → HasNoOffer s g.device
+unfolding first_waiting first_eligible
 none_in s [] g e a = absurd a
 none_in s (h ∷ gs) g e a =
     (elim (first_waiting s h.device) as (λ v. first_waiting s h.device ≡ v → offer_or h.device v (first_eligible s h.device) (offer_in s gs) ≡ None → HasNoOffer s g.device) [
-      | None ↦ λ q f. elim a [ inl w ↦ subst (λ (z : GroupRecord). HasNoOffer s z.device) (sym w) (inl (none_waiting s h.device q)) | inr b ↦ none_in s gs g f b ]
+      | None ↦ λ q f. elim a [ inl w ↦ subst (λ (z : GroupRecord). HasNoOffer s z.device) (sym w) (inl (none_mapped waiting_pair _ (none_of _ q))) | inr b ↦ none_in s gs g f b ]
       | Some w ↦ λ q f.
           (elim (first_eligible s h.device) as (λ v. first_eligible s h.device ≡ v → offer_or h.device (Some w) v (offer_in s gs) ≡ None → HasNoOffer s g.device) [
-            | None ↦ λ p k. elim a [ inl w ↦ subst (λ (z : GroupRecord). HasNoOffer s z.device) (sym w) (inr (none_eligible s h.device p)) | inr b ↦ none_in s gs g k b ]
+            | None ↦ λ p k. elim a [ inl w ↦ subst (λ (z : GroupRecord). HasNoOffer s z.device) (sym w) (inr (none_mapped ready_pair _ (none_of _ p))) | inr b ↦ none_in s gs g k b ]
             | Some r ↦ λ p k. absurd (cc (k))
           ]) refl f
     ]) refl e

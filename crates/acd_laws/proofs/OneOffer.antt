@@ -2,11 +2,7 @@
 use Rattle.std.proofs.Common.{◌≡◌, ℕ, true, ◌&&◌, inl, inr, Option, Some, None, refl, sym, ◌∙◌, ap, subst, arith}
 use Rattle.std.specs.Prelude.{◌==◌, is_some}
 use Rattle.std.proofs.lemmas.Bool.{and_parts, and_from, eqb-true}
-use Rattle.acd_terms.specs.Lists.{Among}
-use Rattle.acd_terms.specs.States.{is_null, is_busy, is_alerting, is_answered, is_distributed}
-use Rattle.acd_model.specs.Scans.{has}
-use Rattle.acd_model.specs.OneOffer.{IsAttended, IsTalking, HasOneOffer}
-use Rattle.acd_laws.proofs.Types.{Rows, AgentRecord, ConnectionRecord, Command}
+use Rattle.acd_laws.proofs.Words.{Rows, AgentRecord, ConnectionRecord, Command, Among, is_null, is_busy, is_alerting, is_answered, has, is_distributed, IsAttended, IsTalking, HasOneOffer}
 use Rattle.acd_terms.specs.declared.state.AgentState.TheVariants as A
 use Rattle.acd_laws.proofs.Facts.{Rules, IsPlannedStation, SeatedAs, AgentRule, ConnectionRule, talking_at, busy_at}
 use Rattle.acd_laws.specs.OneOfferLaws.{RunHasOneOffer}
@@ -16,8 +12,7 @@ use Rattle.acd_laws.proofs.States.{ready_is, busy_is}
 use Rattle.acd_laws.proofs.KeptOffer.{talking_is}
 use Rattle.acd_laws.proofs.Releasing.{serving, alerting_or_answered}
 use Rattle.acd_laws.proofs.Decided.{one_that}
-use Rattle.acd_laws.proofs.Ended.{rules_step}
-use Rattle.acd_laws.proofs.Runs.{kept_by_run, rules_first}
+use Rattle.acd_laws.proofs.Ended.{rules_step, kept_by_run, rules_first}
 use Rattle.acd_model.specs.Step.{step}
 
 planned_some : (s : Rows) (o : Option ℕ) → IsPlannedStation s o → is_some o ≡ true

@@ -2,29 +2,20 @@
 use Rattle.std.proofs.Common.{◌≡◌, ℕ, ◌+◌, ◌≤◌, ◌⊎◌, inl, inr, Bool, true, false, ◌&&◌, List, Some, None, refl, sym, ◌∙◌, ap, subst, arith, [], ◌++◌, length, ◌<◌, Option}
 use Rattle.std.specs.Prelude.{◌==◌, is_some, is_none, nat_le}
 use Rattle.std.proofs.lemmas.Bool.{and_parts, and_from, eqb-true, false_from_ne_true, le-leb, lt-leb}
-use Rattle.acd_terms.specs.Lists.{Among, count, Every}
-use Rattle.acd_terms.specs.States.{is_queued, is_alerting, is_initiated}
-use Rattle.acd_model.specs.Scans.{call_of, is_group, is_station}
-use Rattle.acd_model.specs.Placed.{cleared_by, is_queued_of, is_alerting_of, IsCleared, IsWaiting, IsAtDevices, IsPlaced, clears}
-use Rattle.acd_laws.proofs.Types.{Rows, Limits, CallRecord, ConnectionRecord, ConnectionState, Command, Event, Move, Report}
+use Rattle.acd_laws.proofs.Words.{Rows, Limits, CallRecord, ConnectionRecord, ConnectionState, Command, Event, Move, Report, count, Among, Every, is_initiated, is_alerting, is_queued, call_of, is_group, is_station, empty_rows, with_last, moved, events_of, is_open, parties_of, initiated_of, open_of}
 use Rattle.acd_terms.specs.declared.state.ConnectionState.TheVariants as S
+use Rattle.acd_model.specs.Placed.{cleared_by, is_queued_of, is_alerting_of, IsCleared, IsWaiting, IsAtDevices, IsPlaced, clears}
 use Rattle.acd_laws.proofs.Facts.{Rules, ConnectionRule, IsCaller, StandsAt, two_if}
-use Rattle.acd_model.specs.Rules.Calls.{is_open, parties_of, initiated_of, open_of}
 use Rattle.acd_laws.specs.PlacedLaws.{KeepsClearings, PlacesExclude, NamesNoLaterCall, RunNamesNoLaterCall, RunIsPlaced, IsUpTo, clearings}
 use Rattle.acd_laws.proofs.Lists.{one, every_among, counted, fewer, both_fewer, count_zero}
 use Rattle.acd_laws.proofs.Decided.{zero_or}
-use Rattle.acd_terms.specs.Rows.{empty_rows}
 use Rattle.acd_model.specs.Figures.{with_figures}
-use Rattle.acd_model.specs.Writes.{with_last}
-use Rattle.acd_model.specs.Moves.{moved, events_of}
 use Rattle.acd_model.specs.Services.Serve.{serve}
 use Rattle.acd_model.specs.Step.{executed_moment, next_stamp, step_moves, step}
-use Rattle.acd_laws.proofs.Ticking.{Kept}
-use Rattle.acd_laws.proofs.ByDeeds.{by_deeds}
-use Rattle.acd_laws.proofs.Ended.{rules_step, ended}
-use Rattle.acd_laws.proofs.Runs.{kept_by_run, rules_first, KeptByRules}
-use Rattle.acd_laws.proofs.Known.{AllCounted, Named, SameCalls, same_clearings, clearings_moved, clearings_numbered, names_moved, names_numbered}
-use Rattle.acd_laws.proofs.Cleared.{counted_deed, counted_round}
+use Rattle.acd_laws.proofs.Distributing.{Kept}
+use Rattle.acd_laws.proofs.RulesKept.{by_deeds}
+use Rattle.acd_laws.proofs.Ended.{rules_step, ended, kept_by_run, rules_first, KeptByRules}
+use Rattle.acd_laws.proofs.Cleared.{AllCounted, Named, SameCalls, same_clearings, clearings_moved, clearings_numbered, names_moved, names_numbered, counted_deed, counted_round}
 use Rattle.std.proofs.lemmas.Bool.Decides.{leb_tells}
 use Rattle.acd_terms.specs.Columns.{columns_of}
 use Rattle.acd_terms.specs.declared.event.Report.TheVariants as report
@@ -35,26 +26,16 @@ queued_or_alerting c x = go x.state (x.call == c)
     go : (st : ConnectionState) (b : Bool) → one (b && is_queued st) + one (b && is_alerting st) ≤ one (is_open st && b)
     go S.Queued true = omega arith
     go S.Queued false = omega arith
-    go S.Alerting true = omega arith
-    go S.Alerting false = omega arith
-    go S.Fail true = omega arith
-    go S.Fail false = omega arith
-    go S.Initiated true = omega arith
-    go S.Initiated false = omega arith
-    go S.Connected true = omega arith
-    go S.Connected false = omega arith
-    go S.Hold true = omega arith
-    go S.Hold false = omega arith
+    go _ true = omega arith
+    go _ false = omega arith
 
 -- a connection that isn't queued stands at a station or at the caller
 at_device : (s : Rows) (x : ConnectionRecord) (k : CallRecord) (st : ConnectionState) → StandsAt s x st → is_queued st ≡ false → call_of s x.call ≡ Some k → (x.device ≡ k.caller) ⊎ (is_station s x.device ≡ true)
 at_device s x k S.Queued h e q = absurd (cc (e))
 at_device s x k S.Initiated h e q = inr h.0
-at_device s x k S.Alerting h e q = inr h
-at_device s x k S.Hold h e q = inr h
-at_device s x k S.Fail h e q = inr h
 at_device s x k S.Connected (inl h) e q = inr h
 at_device s x k S.Connected (inr h) e q = inl (sym (subst (λ o. IsCaller o x.device) q h.1))
+at_device s x k _ h e q = inr h
 
 at_queue : (s : Rows) (x : ConnectionRecord) (st : ConnectionState) → StandsAt s x st → is_queued st ≡ true → is_group s x.device ≡ true
 at_queue s x S.Queued h e = h

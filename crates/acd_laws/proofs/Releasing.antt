@@ -2,23 +2,16 @@
 use Rattle.std.proofs.Common.{◌≡◌, ℕ, ◌+◌, ◌≤◌, ◌⊎◌, inl, inr, Bool, true, false, not, ◌&&◌, cond, Option, Some, None, refl, sym, ◌∙◌, ap, subst, arith}
 use Rattle.std.specs.Prelude.{◌==◌, is_some}
 use Rattle.std.proofs.lemmas.Bool.{and_parts, and_from, eqb-true, false_from_ne_true, and_right, and_cases}
-use Rattle.acd_laws.proofs.Types.{Rows, AgentRecord, ConnectionRecord, ConnectionState, AgentState, Pending, Ending, Release}
+use Rattle.acd_laws.proofs.Words.{Rows, AgentRecord, ConnectionRecord, ConnectionState, AgentState, Pending, Ending, Release, put_by, count, Among, is_ready, is_busy, state_wanted, is_alerting, is_queued, is_answered, group_of, station_of, agent_of, call_of, has, agent_at, is_distributed, with_agent, no_move, changed, agent_order, is_distributed_at}
 use Rattle.acd_terms.specs.declared.state.AgentState.TheVariants as A
 use Rattle.acd_terms.specs.declared.state.Pending.TheVariants as W
 use Rattle.acd_terms.specs.declared.state.ConnectionState.TheVariants as S
-use Rattle.acd_terms.specs.Lists.{put_by, count, Among}
-use Rattle.acd_terms.specs.States.{is_ready, is_busy, is_alerting, is_queued, is_answered, state_wanted, is_distributed}
 use Rattle.acd_model.specs.declared.moves.Change.TheVariants.{PutAgent}
 use Rattle.acd_model.specs.declared.moves.Ending.TheVariants.{Answered, Unanswered, NoAnswer}
 use Rattle.acd_model.specs.declared.moves.Release.TheVariants.{Stays, Goes}
-use Rattle.acd_model.specs.Scans.{group_of, station_of, agent_of, call_of, has, agent_at}
-use Rattle.acd_model.specs.Writes.{with_agent}
-use Rattle.acd_model.specs.Moves.{no_move, changed}
 use Rattle.acd_model.specs.AgentMoves.{in_state}
 use Rattle.acd_model.specs.Release.{release_of, released, release_agent, ending_of, release}
-use Rattle.acd_model.specs.Rules.Plan.{agent_order}
 use Rattle.acd_laws.proofs.Facts.{RulesBut, Rules, IsPlannedStation, IsPlannedGroup, SeatedAs, AgentRule, HasColumns, ConnectionRule, ringing_at, talking_at, seated_at, ready_at, busy_at, pending_at}
-use Rattle.acd_model.specs.OneOffer.{is_distributed_at}
 use Rattle.acd_laws.proofs.Lists.{one, ascending-put, every_among, every-put, counted, fewer, the_one, some_counted, some_from}
 use Rattle.acd_laws.proofs.Keyed.{eqb_self}
 use Rattle.acd_laws.proofs.State.{agents_total, agent_among, count_agent, agent_seat, agent_there}

@@ -2,32 +2,26 @@
 use Rattle.std.proofs.Common.{◌≡◌, ℕ, ◌+◌, ◌≤◌, Bool, false, List, [], ◌∷◌, ◌++◌, Option, Some, None, refl, ◌∙◌, ap, arith, length}
 use Rattle.std.specs.Prelude.{◌==◌}
 use Rattle.std.proofs.lemmas.Bool.{and_right}
-use Rattle.acd_laws.proofs.Types.{Rows, ConnectionRecord, Event, Move, Report}
+use Rattle.acd_laws.proofs.Words.{Rows, ConnectionRecord, Event, Move, Report, count, Every, IsAscending, connection_of, has, with_connection, without_connection, reported, moved, with_event, events_of, agent_order}
 use Rattle.acd_terms.specs.declared.state.AgentState.TheVariants.{Ready}
 use Rattle.acd_terms.specs.declared.event.Cause.TheVariants.{Distributed, NoAnswer as Unanswered}
 use Rattle.acd_terms.specs.declared.event.Report.TheVariants as report
-use Rattle.acd_terms.specs.Lists.{count, Every, IsAscending}
 use Rattle.acd_model.specs.declared.moves.Ending.TheVariants.{NoAnswer}
-use Rattle.acd_model.specs.Scans.{connection_of, has}
-use Rattle.acd_model.specs.Writes.{with_connection, without_connection}
-use Rattle.acd_model.specs.Moves.{reported, moved, with_event, events_of}
 use Rattle.acd_model.specs.CallMoves.{queueing, ringing, divert, offer, go_back}
 use Rattle.acd_model.specs.Figures.{is_entry}
 use Rattle.acd_model.specs.declared.moves.Change.TheVariants.{PutConnection, RemoveConnection}
 use Rattle.acd_model.specs.Release.{release}
 use Rattle.acd_model.specs.Distribution.{distribution}
 use Rattle.acd_model.specs.Tick.{returns as all_returns, tick}
-use Rattle.acd_model.specs.Rules.Plan.{agent_order}
 use Rattle.acd_laws.proofs.Facts.{Rules, IsMoment, IsAfter, ConnectionTimed, at_place, Timed}
 use Rattle.acd_laws.proofs.Lists.{one, count-append, every-append}
-use Rattle.acd_laws.proofs.Balance.{entries, entry_by}
+use Rattle.acd_laws.proofs.Order.{entries, entry_by}
 use Rattle.acd_laws.proofs.State.{count_less, connection_there}
-use Rattle.acd_laws.proofs.Ticking.{returned}
+use Rattle.acd_laws.proofs.Distributing.{returned}
 use Rattle.acd_laws.proofs.MoveKinds.{Recorded, goes_from, releases_here}
 use Rattle.acd_laws.proofs.Deeds.{offers, returns, rests}
-use Rattle.acd_laws.proofs.ByDeeds.{RoundKeeps, by_rounds, by_tick}
-use Rattle.acd_laws.proofs.Steady.{AllSteady, Steadied, steadied, steadied_then, unchanged}
-use Rattle.acd_laws.proofs.Orderly.{WaitsUpTo, Carries, Steps, done, neat, comes, carries, steps_timed, steps_enter, steps_place, places_put, connection_timed, neat_agent, steady_agent}
+use Rattle.acd_laws.proofs.RulesKept.{RoundKeeps, by_rounds, by_tick}
+use Rattle.acd_laws.proofs.Orderly.{AllSteady, Steadied, steadied, steadied_then, unchanged, WaitsUpTo, Carries, Steps, done, neat, comes, carries, steps_timed, steps_enter, steps_place, places_put, connection_timed, neat_agent, steady_agent}
 
 -- the entries of moves are those of their events
 entered_event : (g m : ℕ) (o : Option Report) (es : List Event) → count (λ (e : Event). is_entry g e.report) (with_event m o es) ≡ entry_by g o + count (λ (e : Event). is_entry g e.report) es

@@ -2,13 +2,7 @@
 use Rattle.std.proofs.Common.{◌≡◌, ℕ, ◌+◌, ◌*◌, ◌^◌, ◌<◌, ◌≤◌, ◌⊎◌, inl, inr, true, false, cond, List, [], ◌∷◌, Option, Some, None, refl, ◌∙◌, ap, subst, arith, length, map}
 use Rattle.std.specs.Prelude.{◌==◌}
 use Rattle.std.proofs.lemmas.Bool.{and_parts, eqb-true, false_from_ne_true}
-use Rattle.acd_laws.proofs.Types.{Rows, Limits, GroupRecord, Figures, Command, Event, Move, Report}
-use Rattle.acd_terms.specs.Lists.{count, total, Among, Every}
-use Rattle.acd_terms.specs.States.{is_alerting, is_queued}
-use Rattle.acd_terms.specs.Rows.{empty_rows}
-use Rattle.acd_model.specs.Scans.{is_group, has}
-use Rattle.acd_model.specs.Writes.{with_last}
-use Rattle.acd_model.specs.Moves.{moved, events_of}
+use Rattle.acd_laws.proofs.Words.{Rows, Limits, GroupRecord, Figures, Command, Event, Report, count, total, Among, Every, is_alerting, is_queued, is_group, has, empty_rows, with_last, moved}
 use Rattle.acd_laws.proofs.Facts.{Rules, GroupColumn, StandsAt, ConnectionRule, IsPlace, ConnectionTimed, at_place, Timed, OnePlace, MonitorRule, IsCountedUpTo, AddsUp, KeepsRules}
 use Rattle.acd_laws.proofs.Lists.{one, every_among, every_from, count_zero}
 use Rattle.std.proofs.lemmas.Nat.{mul-le}
@@ -16,25 +10,21 @@ use Rattle.std.proofs.Math.Nat.{add-mul}
 use Rattle.acd_terms.specs.declared.event.Report.TheVariants as report
 use Rattle.acd_terms.specs.Limits.{limits_fit}
 use Rattle.acd_model.specs.Offers.{HasNoOffer}
-use Rattle.acd_model.specs.Figures.{is_entry, is_answer, waited_there, figures_of, counting, with_figures}
+use Rattle.acd_model.specs.Figures.{is_answer, waited_there, figures_of, counting, with_figures}
 use Rattle.acd_model.specs.Services.{no_figures}
-use Rattle.acd_model.specs.Services.Serve.{serve}
 use Rattle.acd_model.specs.Rules.Occupied.{waits_in, rings_from}
 use Rattle.acd_model.specs.Rules.First.{BreaksNoRule}
-use Rattle.acd_model.specs.Step.{step_moves, step, executed_moment, next_stamp}
+use Rattle.acd_model.specs.Step.{step, executed_moment, next_stamp}
 use Rattle.acd_model.specs.Run.{Asked, run}
 use Rattle.acd_laws.specs.RuleLaws.{StepKeepsRules, RunKeepsRules, RulesBound, RulesLeaveRoom}
-use Rattle.acd_laws.proofs.Balance.{holding}
-use Rattle.acd_laws.proofs.Following.{follows_step}
-use Rattle.acd_laws.proofs.WatchedRuns.{step_leaves_no_offer, step_keeps_watched, step_balances, run_is_watched, run_tells_no_more, run_is_balanced, run_leaves_no_offer}
-use Rattle.acd_laws.proofs.Runs.{rules_first}
-use Rattle.acd_laws.proofs.Steady.{IsNew}
-use Rattle.acd_laws.proofs.Orderly.{WaitsUpTo, timed_more}
+use Rattle.acd_laws.proofs.Order.{holding}
+use Rattle.acd_laws.proofs.WatchedRuns.{follows_step, step_leaves_no_offer, step_keeps_watched, step_balances, run_is_watched, run_tells_no_more, run_is_balanced, run_leaves_no_offer}
+use Rattle.acd_laws.proofs.Ended.{rules_first, ended, planned_ended, rules_step}
+use Rattle.acd_laws.proofs.Orderly.{IsNew, WaitsUpTo, timed_more}
 use Rattle.acd_laws.proofs.Rounds.{AllWait}
 use Rattle.acd_laws.proofs.Numbers.{greatest}
 use Rattle.acd_laws.proofs.BoundsStep.{After, Before, after_moves}
 use Rattle.acd_laws.proofs.DecidedAll.{keeps_read, requests_read, keeps_written, rules_are_kept}
-use Rattle.acd_laws.proofs.Ended.{ended, planned_ended, rules_step}
 use Rattle.acd_laws.proofs.States.{queued_is}
 use Rattle.acd_laws.specs.AllLaws.{StepKeepsLaws, RunKeepsLaws}
 use Rattle.acd_laws.proofs.FiguresCounted.{step_keeps_figures, figures_kept}
@@ -76,14 +66,6 @@ waited_fits g m (e ∷ es) h =
     let b = waited_fits g m es h.1 in
     let c = add-mul (one (is_answer g e.report)) (count (λ (x : Event). is_answer g x.report) es) m in
     omega (arith, a, b, c)
-
-waited_figures : (g m : ℕ) (es : List Event) → AllWait m es → (figures_of g es).waited ≤ (figures_of g es).answered * m
-unfolding figures_of
-waited_figures g m es h = waited_fits g m es h
-
-entered_figures : (g : ℕ) (es : List Event) → count (λ (e : Event). is_entry g e.report) es ≤ 1 → (figures_of g es).entered ≤ 1
-unfolding figures_of
-entered_figures g es h = h
 
 counted_up : (k m j n : ℕ) (g : GroupRecord) (es : List Event) → IsCountedUpTo j n g → k ≡ j + 1 → n ≤ m → (figures_of g.device es).entered ≤ 1 → (figures_of g.device es).waited ≤ (figures_of g.device es).answered * m
     → IsCountedUpTo k m (counting es g)
@@ -137,7 +119,7 @@ keeps_ended : (s t : Rows) (es : List Event) (k m : ℕ) → KeepsRules s → k 
     → ((g : ℕ) → holding t g + ((figures_of g es).answered + (figures_of g es).abandoned + (figures_of g es).moved) ≡ holding s g + (figures_of g es).entered)
     → Rules (ended t es k m (s.last_event + length es)) → ((g : GroupRecord) → Among g (ended t es k m (s.last_event + length es)).groups → HasNoOffer (ended t es k m (s.last_event + length es)) g.device)
     → KeepsRules (ended t es k m (s.last_event + length es))
-unfolding with_last with_figures
+unfolding with_last with_figures figures_of
 keeps_ended s t es k m h e l a b rules offers =
     let n : ℕ = s.last_event + length es in
     let kept : (g : GroupRecord) → Among g t.groups → WasKept s g = λ g i. was_kept s g h (a.groups g i) in
@@ -153,42 +135,28 @@ keeps_ended s t es k m h e l a b rules offers =
       timed = record { agents = a.timed.agents; calls = a.timed.calls; connections = a.timed.connections };
       places = places_after s t s.last_moment k e h.places h.timed a.places;
       figures = every-map (IsCountedUpTo k m) (counting es) t.groups (λ g i.
-          counted_up k m s.last_stamp s.last_moment g es (kept g i).counted e l (entered_figures g.device es (a.entries g.device)) (waited_figures g.device m es a.waits));
+          counted_up k m s.last_stamp s.last_moment g es (kept g i).counted e l (a.entries g.device) (waited_fits g.device m es a.waits));
       offers = offers;
       monitors = every_from (MonitorRule (ended t es k m n)) t.monitors (λ x i.
           let q = every_among (MonitorRule t) t.monitors x a.monitors i in let u = q.2 in (planned_ended t es k m n x.device ∙ q.0, q.1, omega (arith, u, same)));
       balance = every-map (AddsUp (ended t es k m n)) (counting es) t.groups (λ g i. let p = (kept g i).balanced in let c = b g.device in omega (arith, p, c));
     }
 
-keeps_step : (s : Rows) (moment : ℕ) (c : Command) → KeepsRules s → KeepsRules (step s moment c).rows
-unfolding step
-keeps_step s moment c h =
-    let m : ℕ = executed_moment s moment in
-    let k : ℕ = next_stamp s in
-    let ms : List Move = step_moves s m (serve s m k c) in
-    let es : List Event = events_of m ms in
-    let before : Before s k m = record { rules = h.rules; timed = timed_more s.last_stamp k s.last_moment m s (omega arith) (omega arith) h.timed; stamp = omega arith; sizes = h.sizes; monitors = h.monitors } in
-    keeps_ended s (moved s ms) es k m h refl (omega arith) (after_moves s k m c before) (follows_step s m k s.last_stamp c h.rules (omega arith)).balances
-    (rules_step s moment c h.rules) (step_leaves_no_offer s moment c h.rules)
-
-stamp_step : (s : Rows) (moment : ℕ) (c : Command) → (step s moment c).rows.last_stamp ≡ s.last_stamp + 1
-unfolding step with_last
-stamp_step s moment c = refl
-
-limits_step : (s : Rows) (moment : ℕ) (c : Command) → KeepsRules s → (step s moment c).rows.limits ≡ s.limits
+-- what a step makes of the rows: its stamp is the next, and the limits stay
+step_on : (s : Rows) (moment : ℕ) (c : Command) → KeepsRules s → KeepsRules (step s moment c).rows × ((step s moment c).rows.last_stamp ≡ s.last_stamp + 1) × ((step s moment c).rows.limits ≡ s.limits)
 unfolding step with_last with_figures
-limits_step s moment c h =
+step_on s moment c h =
     let m : ℕ = executed_moment s moment in
     let k : ℕ = next_stamp s in
     let before : Before s k m = record { rules = h.rules; timed = timed_more s.last_stamp k s.last_moment m s (omega arith) (omega arith) h.timed; stamp = omega arith; sizes = h.sizes; monitors = h.monitors } in
-    (after_moves s k m c before).limits
+    let a = after_moves s k m c before in
+    (keeps_ended s _ _ k m h refl (omega arith) a (follows_step s m k s.last_stamp c h.rules (omega arith)).balances (rules_step s moment c h.rules) (step_leaves_no_offer s moment c h.rules), refl, a.limits)
 
 pub step_keeps_rules : StepKeepsRules
 step_keeps_rules s moment c e l =
-    let h = keeps_read s e in
-    let a = stamp_step s moment c in
-    let b : (step s moment c).rows.limits.requests ≡ s.limits.requests = ap (λ (w : Limits). w.requests) (limits_step s moment c h) in
-    keeps_written (step s moment c).rows (keeps_step s moment c h) (omega (arith, a, b, l))
+    let q = step_on s moment c (keeps_read s e) in
+    let a = q.1 in let b = ap (λ (w : Limits). w.requests) q.2 in
+    keeps_written (step s moment c).rows q.0 (omega (arith, a, b, l))
 
 -- runs
 
@@ -211,9 +179,8 @@ run_on : (asked : List Asked) (s : Rows) → BreaksNoRule s → s.last_stamp + l
 unfolding run
 run_on [] s e l = e
 run_on (q ∷ more) s e l =
-    let h = keeps_read s e in
-    let a = stamp_step s q.moment q.command in
-    let b : (step s q.moment q.command).rows.limits.requests ≡ s.limits.requests = ap (λ (w : Limits). w.requests) (limits_step s q.moment q.command h) in
+    let h = step_on s q.moment q.command (keeps_read s e) in
+    let a = h.1 in let b = ap (λ (w : Limits). w.requests) h.2 in
     run_on more (step s q.moment q.command).rows (step_keeps_rules s q.moment q.command e (omega (arith, l))) (omega (arith, a, b, l))
 
 pub run_keeps_rules : RunKeepsRules

@@ -2,12 +2,13 @@
 use Rattle.std.proofs.Common.{◌≡◌, ℕ, ◌+◌, ◌<◌, ◌≤◌, inl, inr, true, false, ◌||◌, cond, List, [], ◌∷◌, Option, Some, None, refl, sym, ◌∙◌, ap, subst, arith, eq-eqb}
 use Rattle.std.specs.Prelude.{◌==◌}
 use Rattle.std.proofs.lemmas.Bool.{and_right, and_from, or_right}
-use Rattle.acd_terms.specs.Lists.{Among, Every, count}
-use Rattle.acd_terms.specs.States.{is_queued, is_alerting, is_connected, is_initiated, state_wanted}
+use Rattle.acd_laws.proofs.Words.{Rows, AgentRecord, CallRecord, ConnectionRecord, MonitorRecord, ConnectionState, Cause, Ending, Move, Report, count, Among, Every, state_wanted, is_initiated, is_alerting, is_connected, is_queued, connection_of, is_station, is_planned, has, other_of, with_call, with_connection, without_call, without_connection, no_move, changed, moved, is_open, parties_of, open_of}
 use Rattle.acd_terms.specs.Columns.{columns_of}
-use Rattle.acd_model.specs.Scans.{connection_of, other_of, is_station, is_planned, has, is_used}
-use Rattle.acd_model.specs.Writes.{with_call, with_connection, without_connection, without_call}
-use Rattle.acd_model.specs.Moves.{no_move, changed, moved}
+use Rattle.acd_terms.specs.declared.state.AgentState.TheVariants as A
+use Rattle.acd_terms.specs.declared.state.ConnectionState.TheVariants as S
+use Rattle.acd_terms.specs.declared.event.Cause.TheVariants as cause
+use Rattle.acd_terms.specs.declared.event.Report.TheVariants as report
+use Rattle.acd_model.specs.Scans.{is_used}
 use Rattle.acd_model.specs.CallMoves.{plain, queueing, ringing, begin, connect_caller, initiate, originate, arrive, answer, talking, waited_by, divert, transfer, go_back, clear, end_call}
 use Rattle.acd_model.specs.AgentMoves.{log_on_at}
 use Rattle.acd_model.specs.Release.{release, ending_of}
@@ -17,16 +18,10 @@ use Rattle.acd_model.specs.Figures.{is_entry, is_answer, is_no_answer}
 use Rattle.acd_model.specs.Services.{new_group, new_agent, next_monitor, next_call, occupy, waiting_group, first_group, clearing}
 use Rattle.acd_model.specs.Distribution.{offer_at}
 use Rattle.acd_model.specs.Tick.{return_to}
-use Rattle.acd_laws.proofs.Types.{Rows, AgentRecord, CallRecord, ConnectionRecord, MonitorRecord, ConnectionState, Cause, Ending, Move, Report}
-use Rattle.acd_terms.specs.declared.state.AgentState.TheVariants as A
-use Rattle.acd_terms.specs.declared.state.ConnectionState.TheVariants as S
-use Rattle.acd_terms.specs.declared.event.Cause.TheVariants as cause
-use Rattle.acd_terms.specs.declared.event.Report.TheVariants as report
 use Rattle.acd_model.specs.declared.moves.Ending.TheVariants.{NoAnswer}
 use Rattle.acd_model.specs.declared.moves.Change.TheVariants.{Nothing, PutGroup, PutStation, PutAgent, PutCall, PutConnection, PutMonitor, RemoveCall, RemoveConnection, RemoveMonitor}
-use Rattle.acd_model.specs.Rules.Calls.{is_open, parties_of, open_of}
 use Rattle.acd_laws.proofs.Facts.{GroupColumn, StandsAt, Rules}
-use Rattle.acd_laws.proofs.Frames.{left_connections, left_connection, LeavesAgents, left_agent, left_agents, left_plan}
+use Rattle.acd_laws.proofs.MoveKinds.{left_connections, left_connection, LeavesAgents, left_agent, left_agents, left_plan, Recorded, releases, occupies, goes_from, arrival_of}
 use Rattle.acd_laws.proofs.Lists.{one, none_from, two_counted, among_put}
 use Rattle.acd_laws.proofs.Keyed.{eqb_self}
 use Rattle.acd_laws.proofs.State.{found_key, connection_among, put_other, removed_other, still_none, connection_there, connection_rule, none_above, agent_there, other_agents, other_among, other_device}
@@ -36,10 +31,8 @@ use Rattle.acd_laws.proofs.States.{initiated_is, alerting_is, hold_is}
 use Rattle.acd_laws.proofs.KeptOut.{initiated_alone, outgoing}
 use Rattle.acd_laws.proofs.KeptEnds.{open_cases, closed_call, return_new}
 use Rattle.acd_laws.proofs.KeptOffer.{offer_station, offer_new}
-use Rattle.acd_laws.proofs.MoveKinds.{Recorded, releases, occupies, goes_from, arrival_of}
 use Rattle.acd_laws.proofs.Told.{truthful_put, truthful_remove, truthful_outside, truthful_unseen, truthful_group, truthful_station, truthful_end, truthful_agent, truthful_silent_agent}
-use Rattle.acd_laws.proofs.Balance.{holding, held, gone, holding_less, holding_new}
-use Rattle.acd_laws.proofs.Order.{stays, held_put, held_within}
+use Rattle.acd_laws.proofs.Order.{holding, held, gone, holding_less, holding_new, stays, held_put, held_within}
 use Rattle.acd_laws.proofs.SoundMoves.{Sound, sound-append, sound_later, sound_nothing, sound_unheard, silently, sound_agent, and_yes, or_no, put, remove, ungrouped, connections_put, removed_within, ascending_less, held_shut, held_is, held_by_is, waiting_alerting, waiting_open, sound_put_new, sound_put_old, sound_remove, sound_arrival, arrive_leaves, open_gone, planned_station, planned_group}
 use Rattle.acd_laws.proofs.Deeds.{new_call, Party, Free, Round, offers, returns, rests, Deed, nothing, adds_group, adds_station, adds_agent, watches, unwatches, arrives, makes, goes_out, answers, holds, retrieves, clears, deflects, transfers, logs_on, waits, goes}
 

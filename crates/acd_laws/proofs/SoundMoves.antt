@@ -1,31 +1,22 @@
 -- What moves tell, balance and keep in order, all three together.
 use Rattle.std.proofs.Common.{◌≡◌, ℕ, ◌≤◌, List, [], ◌∷◌, ◌++◌, Option, Some, None, refl, sym, ◌∙◌, ap, subst, arith, ◌+◌, ◌<◌, Bool, true, false, not, ◌&&◌, ◌||◌, cond, eq-eqb}
-use Rattle.acd_terms.specs.Lists.{Among, IsAscending, put_by, remove_by, count}
+use Rattle.acd_laws.proofs.Words.{Rows, ConnectionRecord, ConnectionState, AgentState, Cause, Change, Move, Report, put_by, remove_by, count, Among, IsAscending, is_alerting, is_queued, at_connection, agent_of, connection_of, is_group, is_station, is_planned, has, with_connection, without_connection, silent, reported, changed, moved, connection_order, is_open, open_of}
 use Rattle.acd_terms.specs.Columns.{columns_of}
-use Rattle.acd_model.specs.Scans.{at_connection, connection_of, agent_of, is_group, is_station, is_planned, has}
-use Rattle.acd_model.specs.Writes.{with_connection, without_connection}
-use Rattle.acd_model.specs.Moves.{silent, reported, changed, moved}
+use Rattle.acd_terms.specs.declared.state.AgentState.TheVariants as A
 use Rattle.acd_model.specs.AgentMoves.{kept_in, state_report}
 use Rattle.acd_model.specs.Told.{Seat, seat_by}
 use Rattle.acd_model.specs.Watched.{seat_of, is_held_by}
-use Rattle.acd_laws.proofs.Types.{Rows, ConnectionRecord, ConnectionState, AgentState, Cause, Change, Move, Report}
-use Rattle.acd_terms.specs.declared.state.AgentState.TheVariants as A
 use Rattle.acd_model.specs.declared.moves.Change.TheVariants.{Nothing, PutAgent, PutConnection, RemoveConnection}
-use Rattle.acd_laws.proofs.Frames.{LeavesConnections, left_connections, LeavesAgents}
+use Rattle.acd_laws.proofs.MoveKinds.{LeavesConnections, left_connections, LeavesAgents, AgentMove, stays as nothing, waits, tells, Recorded, Arrival, queues, alerts, fails}
 use Rattle.acd_laws.proofs.Told.{Truthful, AllTruthful, truthful-append, truthful_unseen, truthful_agent, truthful_silent_agent, truthful_put}
-use Rattle.acd_laws.proofs.Balance.{Balances, balances-append, holding, entry_by, gone_by, held, holding_new, holding_old, holding_less}
-use Rattle.acd_laws.proofs.MoveKinds.{AgentMove, stays as nothing, waits, tells, Recorded, Arrival, queues, alerts, fails}
-use Rattle.acd_laws.proofs.Order.{OrderKept, stays, order-append, order_later, held_within, held_put, comes}
+use Rattle.acd_laws.proofs.Order.{Balances, balances-append, holding, entry_by, gone_by, held, holding_new, holding_old, holding_less, OrderKept, stays, order-append, order_later, held_within, held_put, comes}
 use Rattle.std.specs.Prelude.{◌==◌}
 use Rattle.std.proofs.lemmas.Bool.{and_right, or_left, or_right}
-use Rattle.acd_terms.specs.States.{is_queued, is_alerting}
 use Rattle.acd_terms.specs.declared.event.Report.TheVariants as report
 use Rattle.acd_terms.specs.declared.state.ConnectionState.TheVariants as S
 use Rattle.acd_model.specs.CallMoves.{plain, queueing, arrive}
 use Rattle.acd_model.specs.Figures.{is_entry, is_no_answer}
 use Rattle.acd_model.specs.Services.{waiting_group}
-use Rattle.acd_model.specs.Rules.Plan.{connection_order}
-use Rattle.acd_model.specs.Rules.Calls.{is_open, open_of}
 use Rattle.acd_laws.proofs.Facts.{HasColumns}
 use Rattle.acd_laws.proofs.Lists.{one, among-remove, counted, ascending-put, ascending-remove}
 use Rattle.acd_laws.proofs.State.{connections_total, count_less}

@@ -1,39 +1,84 @@
--- The reports of every run tell its state; every run is balanced, and leaves no offer.
-use Rattle.std.proofs.Common.{◌≡◌, ℕ, ◌<◌, ◌⊎◌, inl, inr, true, false, ◌&&◌, ◌||◌, cond, List, [], ◌∷◌, Option, Some, None, refl, sym, subst, arith, ◌+◌, Bool, not, ◌++◌, ◌∙◌, ap, length, eq-eqb}
-use Rattle.std.specs.Prelude.{◌==◌, is_some, option_map}
-use Rattle.acd_terms.specs.Lists.{Among}
-use Rattle.acd_terms.specs.States.{is_queued, is_alerting}
-use Rattle.acd_model.specs.Scans.{has, connection_of, agent_of, call_of, is_group, is_station, is_planned, is_occupied, is_taken, is_eligible, waiting_in, eligible_in}
-use Rattle.acd_model.specs.Told.{enters, last_entry, after, connection_told, seat_told}
-use Rattle.acd_model.specs.Watched.{is_held_by, HasEntered, state_at, is_caller, is_external_caller, IsHeldAt, IsWatched}
-use Rattle.acd_laws.proofs.Types.{Rows, Limits, GroupRecord, CallRecord, ConnectionRecord, Figures, ConnectionState, Command, Event, Move}
-use Rattle.acd_terms.specs.declared.state.ConnectionState.TheVariants as S
+-- What follows of a state and of the events since, over a whole step: the reports of every run tell its state; every run is balanced, and leaves no offer.
+use Rattle.std.proofs.Common.{◌≡◌, ℕ, ◌+◌, ◌<◌, ◌≤◌, List, [], ◌++◌, refl, sym, ◌∙◌, ap, subst, length, arith, append-nil, ◌⊎◌, inl, inr, true, false, ◌&&◌, ◌||◌, cond, ◌∷◌, Option, Some, None, Bool, not, eq-eqb}
+use Rattle.acd_laws.proofs.Words.{Rows, Limits, GroupRecord, CallRecord, ConnectionRecord, Figures, ConnectionState, Command, Event, Move, Among, is_alerting, is_queued, agent_of, call_of, connection_of, is_group, is_station, is_planned, has, is_taken, is_occupied, waiting_in, is_eligible, eligible_in, empty_rows, with_last, moved, events_of}
+use Rattle.acd_model.specs.Figures.{figures_of, sum_of_figures, counting, with_figures}
+use Rattle.acd_model.specs.Told.{after, connection_told, seat_told, enters, last_entry}
+use Rattle.acd_model.specs.Services.Serve.{serve}
+use Rattle.acd_model.specs.Step.{numbered, step_moves, executed_moment, next_stamp, step}
 use Rattle.acd_laws.proofs.Facts.{Rules, AlertingColumns, HasColumns, ConnectionRule, IsCaller, StandsAt}
-use Rattle.acd_laws.proofs.Told.{HasEntries, shown, Tells, after-append, after-numbered}
+use Rattle.acd_laws.proofs.Told.{shown, seat, after-append, shown_after, seat_after, HasEntries, Tells, after-numbered}
+use Rattle.acd_laws.proofs.CountedEvents.{figures_joined, figures_numbered}
+use Rattle.acd_laws.proofs.Order.{holding, balanced_events, Ordered, ordered_on}
+use Rattle.acd_laws.proofs.SoundMoves.{Sound}
+use Rattle.acd_laws.proofs.SoundDeeds.{sound_deed, sound_round}
+use Rattle.acd_laws.proofs.RulesKept.{by_parts, rules_serve}
+use Rattle.std.specs.Prelude.{◌==◌, is_some, option_map}
+use Rattle.acd_terms.specs.declared.state.ConnectionState.TheVariants as S
+use Rattle.acd_model.specs.Watched.{is_held_by, HasEntered, state_at, is_caller, is_external_caller, IsHeldAt, IsWatched}
 use Rattle.acd_laws.proofs.Lists.{every_among, some_from, none_from, mapped_among}
 use Rattle.std.proofs.lemmas.Bool.{and_parts, not-true, or_left, or_right}
-use Rattle.acd_terms.specs.Rows.{empty_rows}
-use Rattle.acd_model.specs.Writes.{with_last}
-use Rattle.acd_model.specs.Moves.{moved, events_of}
-use Rattle.acd_model.specs.Figures.{figures_of, sum_of_figures, counting, with_figures}
 use Rattle.acd_model.specs.Offers.{HasNoOffer}
-use Rattle.acd_model.specs.Services.Serve.{serve}
 use Rattle.acd_model.specs.Distribution.{distribution}
 use Rattle.acd_model.specs.Served.{moves_of}
-use Rattle.acd_model.specs.Step.{numbered, executed_moment, next_stamp, step_moves, step}
 use Rattle.acd_laws.specs.WatchedLaws.{TellsNoMore, RunIsWatched, RunTellsNoMore}
 use Rattle.acd_laws.specs.BalanceLaws.{IsBalanced, RunIsBalanced}
 use Rattle.acd_laws.specs.OfferLaws.{LeavesNoOffer, RunLeavesNoOffer}
 use Rattle.acd_laws.proofs.State.{found_key, connection_rule}
 use Rattle.acd_model.proofs.MoveLemmas.{moved_append}
-use Rattle.acd_laws.proofs.CountedEvents.{figures_joined, figures_numbered}
-use Rattle.acd_laws.proofs.Balance.{holding}
-use Rattle.acd_laws.proofs.Order.{Ordered}
 use Rattle.acd_laws.proofs.Distributing.{nothing_left}
-use Rattle.acd_laws.proofs.RulesKept.{rules_serve}
-use Rattle.acd_laws.proofs.Ended.{ended, planned_ended, rules_step}
-use Rattle.acd_laws.proofs.Following.{Follows, follows_step}
-use Rattle.acd_laws.proofs.Runs.{kept_by_run, rules_first, KeptByRules}
+use Rattle.acd_laws.proofs.Ended.{ended, planned_ended, rules_step, kept_by_run, rules_first, KeptByRules}
+
+-- t is the state after s and these events; places are up to b in s, and up to c in t
+pub record Follows (s : Rows) (b c : ℕ) (t : Rows) (es : List Event) : Type 0 where
+  pub connections : (call device : ℕ) → shown t call device ≡ after (connection_told call device) (shown s call device) es
+  pub agents : (agent : ℕ) → seat t agent ≡ after (seat_told agent) (seat s agent) es
+  pub balances : (g : ℕ) → holding t g + ((figures_of g es).answered + (figures_of g es).abandoned + (figures_of g es).moved) ≡ holding s g + (figures_of g es).entered
+  pub order : (events : List Event) (n : ℕ) → Ordered b n s events → Ordered c (n + length es) t (events ++ numbered n es)
+
+nothing_counted : (s : Rows) (g : ℕ) → holding s g + ((figures_of g []).answered + (figures_of g []).abandoned + (figures_of g []).moved) ≡ holding s g + (figures_of g []).entered
+unfolding figures_of
+nothing_counted s g = omega arith
+
+pub follows_nothing : (s : Rows) (b : ℕ) → Follows s b b s []
+follows_nothing s b = record {
+  connections = λ c d. refl;
+  agents = λ n. refl;
+  balances = λ g. nothing_counted s g;
+  order = λ events n o. subst (λ (j : ℕ). Ordered b j s (events ++ [])) (omega arith) (subst (Ordered b n s) (sym (append-nil events)) o);
+}
+
+-- sound moves lead on
+pub follows_moves : (s : Rows) (b c d m : ℕ) (t : Rows) (es : List Event) (ms : List Move) → Follows s b c t es → Sound m c d t ms → Follows s b d (moved t ms) (es ++ events_of m ms)
+follows_moves s b c d m t es ms f g = record {
+  connections = λ call device. shown_after t m ms g.truthful call device ∙ ap (λ v. after (connection_told call device) v (events_of m ms)) (f.connections call device)
+      ∙ sym (after-append (connection_told call device) (shown s call device) es (events_of m ms));
+  agents = λ agent. seat_after t m ms g.truthful agent ∙ ap (λ v. after (seat_told agent) v (events_of m ms)) (f.agents agent)
+      ∙ sym (after-append (seat_told agent) (seat s agent) es (events_of m ms));
+  balances = λ x.
+      let a = f.balances x in
+      let e = balanced_events t m ms g.balances x in
+      let j : figures_of x (es ++ events_of m ms) ≡ _ = figures_joined x es (events_of m ms) in
+      let j1 : (figures_of x (es ++ events_of m ms)).entered ≡ (figures_of x es).entered + (figures_of x (events_of m ms)).entered = ap (λ (w : Figures). w.entered) j in
+      let j2 : (figures_of x (es ++ events_of m ms)).answered ≡ (figures_of x es).answered + (figures_of x (events_of m ms)).answered = ap (λ (w : Figures). w.answered) j in
+      let j3 : (figures_of x (es ++ events_of m ms)).abandoned ≡ (figures_of x es).abandoned + (figures_of x (events_of m ms)).abandoned = ap (λ (w : Figures). w.abandoned) j in
+      let j4 : (figures_of x (es ++ events_of m ms)).moved ≡ (figures_of x es).moved + (figures_of x (events_of m ms)).moved = ap (λ (w : Figures). w.moved) j in
+      omega (arith, a, e, j1, j2, j3, j4);
+  order = λ events n o. ordered_on d n (moved t ms) events es (events_of m ms) (g.order (events ++ numbered n es) (n + length es) (f.order events n o));
+}
+
+follows_later : (s : Rows) (b c d : ℕ) (t : Rows) (es : List Event) → c ≤ d → Follows s b c t es → Follows s b d t es
+follows_later s b c d t es l f = record {
+  connections = f.connections;
+  agents = f.agents;
+  balances = f.balances;
+  order = λ events n o. let w = f.order events n o in record { in_order = w.in_order; entered = w.entered; up_to = record { entries = w.up_to.entries; places = λ g x p h. let e = w.up_to.places g x p h in omega (arith, e, l) } };
+}
+
+-- a step: the service leads from one stamp to the next, and rounds keep it
+pub follows_step : (s : Rows) (m k b : ℕ) (c : Command) → Rules s → b < k → Follows s b k (moved s (step_moves s m (serve s m k c))) (events_of m (step_moves s m (serve s m k c)))
+follows_step s m k b c r l =
+    by_parts (Follows s b b) (Follows s b k) m k (λ t es ms d rt f. follows_moves s b b k m t es ms f (sound_deed t m k b ms d rt l)) (λ t es f. follows_later s b b k t es (omega (arith, l)) f)
+    (λ t es ms d rt f. follows_moves s b k k m t es ms f (sound_round t m k k ms d rt)) s [] c r (follows_nothing s b)
 
 -- an entry among events, whose number is the last one
 abbrev EntryIn : ℕ → ℕ → List Event → ℕ → Type 0
@@ -81,10 +126,6 @@ entered_by s events g x r h a e =
     let rule = every_among (ConnectionRule s) s.connections x r.connections a in
     let place = some_from x.place (place_in x g x.state rule.0 e) in
     entered_from g x.call events (h g x.call place.0 (record { connection = x; there = a; held = e; of_call = refl; at_place = place.1 }))
-
-holding_ended : (t : Rows) (es : List Event) (k m n g : ℕ) → holding (ended t es k m n) g ≡ holding t g
-unfolding with_last with_figures
-holding_ended t es k m n g = refl
 
 -- what a step tells
 
@@ -179,7 +220,7 @@ step_keeps_watched s events moment command r w n =
 -- balance
 
 pub step_balances : KeptByRules IsBalanced
-unfolding step
+unfolding step with_last with_figures
 step_balances s events moment command r h g =
     let m : ℕ = executed_moment s moment in
     let k : ℕ = next_stamp s in
@@ -188,7 +229,7 @@ step_balances s events moment command r h g =
     let f = follows_step s m k s.last_stamp command r (omega arith) in
     let a = h g in
     let b = f.balances g in
-    let c = holding_ended (moved s ms) es k m (s.last_event + length es) g in
+    let c : holding (ended (moved s ms) es k m (s.last_event + length es)) g ≡ holding (moved s ms) g = refl in
     let j = figures_joined g events (numbered s.last_event es) ∙ ap (λ v. sum_of_figures (figures_of g events) v) (figures_numbered g s.last_event es) in
     let j1 : (figures_of g (events ++ numbered s.last_event es)).entered ≡ (figures_of g events).entered + (figures_of g es).entered = ap (λ (w : Figures). w.entered) j in
     let j2 : (figures_of g (events ++ numbered s.last_event es)).answered ≡ (figures_of g events).answered + (figures_of g es).answered = ap (λ (w : Figures). w.answered) j in
