@@ -2,12 +2,12 @@
 use Rattle.std.proofs.Common.{◌≡◌, ℕ, ◌+◌, [], ◌∷◌, ◌++◌, List, refl, ap, ◌∙◌, sym, drop, length, ◌≤◌}
 use Rattle.std.proofs.lemmas.List.{drop-append-le}
 use Rattle.acd_terms.specs.declared.rows.Rows.{Rows}
-use Rattle.acd_terms.specs.declared.moves.Change.{Change}
-use Rattle.acd_terms.specs.declared.moves.Change.TheVariants.{Nothing}
-use Rattle.acd_terms.specs.Moves.{changed}
-use Rattle.acd_terms.specs.Changes.{changed_by, rows_made}
-use Rattle.acd_terms.specs.Writes.{with_group, with_station, with_agent, with_call, with_connection, with_monitor, without_call, without_connection, without_monitor, with_last}
-use Rattle.acd_terms.proofs.ChangeLemmas.{changed_by_append}
+use Rattle.acd_model.specs.declared.moves.Change.{Change}
+use Rattle.acd_model.specs.declared.moves.Change.TheVariants.{Nothing}
+use Rattle.acd_model.specs.Moves.{changed}
+use Rattle.acd_model.specs.Changes.{changed_by, rows_made}
+use Rattle.acd_model.specs.Writes.{with_group, with_station, with_agent, with_call, with_connection, with_monitor, without_call, without_connection, without_monitor, with_last}
+use Rattle.acd_model.proofs.ChangeLemmas.{changed_by_append}
 
 limits-changed : (s : Rows) (one : Change) → (changed s one).limits ≡ s.limits
 unfolding with_group with_station with_agent with_call with_connection with_monitor without_call without_connection without_monitor

@@ -1,8 +1,8 @@
 -- What a running monitor tells.
 use Rattle.std.proofs.Common.{◌≡◌, ℕ, max, true, List, take, drop, filter, Option, Some, sym, ap, ◌∙◌}
-use Rattle.acd_terms.specs.Scans.{monitor_of}
 use Rattle.acd_terms.specs.declared.event.Event.{Event}
 use Rattle.acd_terms.specs.declared.record.MonitorRecord.{MonitorRecord}
+use Rattle.acd_model.specs.Scans.{monitor_of}
 use Rattle.acd_book.specs.Content.{Content, is_at, watched_by, events_of_monitor}
 use Rattle.acd_book.specs.Memory.{is_numbered, number_of}
 use Rattle.acd_book.proofs.Numbered.{filter_above}

@@ -3,16 +3,16 @@ use Rattle.std.specs.Prelude.{◌≡◌, ◌⊎◌, ℕ, ◌+◌, ◌-◌, ◌^�
 use Rattle.std.specs.Str.{bytes_eq}
 use Rattle.acd_terms.specs.Lists.{Every, Among}
 use Rattle.acd_terms.specs.Columns.{columns_of}
-use Rattle.acd_terms.specs.Scans.{monitor_of, has}
-use Rattle.acd_terms.specs.Writes.{empty_rows}
-use Rattle.acd_terms.specs.Changes.{rows_made}
-use Rattle.acd_terms.specs.Rules.Plan.{keeps_order}
+use Rattle.acd_terms.specs.Rows.{empty_rows}
 use Rattle.acd_terms.specs.declared.rows.Limits.{Limits}
 use Rattle.acd_terms.specs.declared.rows.Rows.{Rows}
 use Rattle.acd_terms.specs.declared.record.MonitorRecord.{MonitorRecord}
 use Rattle.acd_terms.specs.declared.event.Event.{Event}
-use Rattle.acd_terms.specs.declared.moves.Change.{Change}
 use Rattle.acd_terms.specs.declared.command.Request.{Request}
+use Rattle.acd_model.specs.Scans.{monitor_of, has}
+use Rattle.acd_model.specs.Changes.{rows_made}
+use Rattle.acd_model.specs.Rules.Plan.{keeps_order}
+use Rattle.acd_model.specs.declared.moves.Change.{Change}
 use Rattle.acd_book.specs.declared.kept.Kept.{Kept}
 
 -- the rows are the limits and the tables

@@ -1,7 +1,7 @@
 -- What the tables of a book in memory hold.
 use Rattle.std.specs.Prelude.{drop}
-use Rattle.acd_terms.specs.Changes.{changed_by}
 use Rattle.acd_terms.specs.declared.rows.Rows.{Rows}
+use Rattle.acd_model.specs.Changes.{changed_by}
 use Rattle.acd_book.specs.declared.ledger.Ledger.{Ledger}
 
 -- the records with the changes made that wait

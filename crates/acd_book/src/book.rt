@@ -6,7 +6,8 @@ ghost use Rattle.acd_book.specs.State.{BookState, Reads, Commits};
 
 use crate::fault::BookFault;
 use crate::kept::Kept;
-use acd_terms::{Change, Event, Invoke, Limits, Requester, Rows};
+use acd_model::Change;
+use acd_terms::{Event, Invoke, Limits, Requester, Rows};
 
 /// A store of the limits, the tables, the event reports and the kept replies.
 ///

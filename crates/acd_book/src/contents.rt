@@ -1,14 +1,15 @@
 //! What a book in memory holds, and how a commit changes it: whole or not at all.
 
 ghost use Rattle.std.specs.Prelude.{◌≡◌, Some, IfOk, OnOk, OnErr, take, filter};
-ghost use Rattle.acd_terms.specs.Scans.{monitor_of};
+ghost use Rattle.acd_model.specs.Scans.{monitor_of};
 ghost use Rattle.acd_book.specs.Content.{empty_content, is_at, kept_of, IsKeptAfter, events_behind, events_of_monitor, committed, committed_by};
 
 use crate::kept::Kept;
 use crate::ledger::Ledger;
 use crate::log::Log;
 use crate::replies::Replies;
-use acd_terms::{Change, DeviceId, Event, Invoke, Limits, Requester, Rows};
+use acd_model::Change;
+use acd_terms::{DeviceId, Event, Invoke, Limits, Requester, Rows};
 use std::alloc::{AllocError, Global};
 
 /// The tables, the events and the kept records.

@@ -1,12 +1,13 @@
 //! The tables of a book in memory.
 
 ghost use Rattle.std.specs.Prelude.{◌≡◌, ◌+◌, ◌<◌, ◌≤◌, ◌^◌, length, vec_len, nat_lt, vec_capacity, IfOk, OnOk};
-ghost use Rattle.acd_terms.specs.Changes.{rows_made};
-ghost use Rattle.acd_terms.specs.Scans.{monitor_of};
-ghost use Rattle.acd_terms.specs.Writes.{empty_rows};
+ghost use Rattle.acd_terms.specs.Rows.{empty_rows};
+ghost use Rattle.acd_model.specs.Changes.{rows_made};
+ghost use Rattle.acd_model.specs.Scans.{monitor_of};
 
+use acd_model::Change;
 use acd_tables::Records;
-use acd_terms::{Change, Limits, MonitorRecord, Rows};
+use acd_terms::{Limits, MonitorRecord, Rows};
 use std::alloc::{AllocError, Global};
 
 // So many changes wait before they are made together: fewer would be made while what they touch is out of the

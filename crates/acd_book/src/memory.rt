@@ -8,7 +8,8 @@ use crate::book::Book;
 use crate::contents::Contents;
 use crate::fault::BookFault;
 use crate::kept::Kept;
-use acd_terms::{Change, Event, Invoke, Limits, Requester, Rows};
+use acd_model::Change;
+use acd_terms::{Event, Invoke, Limits, Requester, Rows};
 use std::alloc::Global;
 use std::marker::Model;
 

@@ -3,8 +3,7 @@ use Rattle.std.specs.Prelude.{ℕ, List, [], ◌∷◌, codes, Option, Some, Non
 use Rattle.serde_json.specs.Data.{Data, string}
 use Rattle.serde_json.specs.Written.{compact_text}
 use Rattle.acd_terms.specs.Forms.{digits_of}
-use Rattle.acd_terms.specs.Scans.{is_distributed}
-use Rattle.acd_terms.specs.States.{agent_state_name, pending_name}
+use Rattle.acd_terms.specs.States.{is_distributed, agent_state_name, pending_name}
 use Rattle.acd_terms.specs.declared.record.AgentRecord.{AgentRecord}
 use Rattle.acd_terms.specs.declared.record.CallRecord.{CallRecord}
 use Rattle.acd_terms.specs.declared.record.ConnectionRecord.{ConnectionRecord}

@@ -1,21 +1,21 @@
 -- A sound content keeps the laws of runs.
 use Rattle.std.proofs.Common.{◌≡◌, ℕ, zero, suc, take, List, [], ◌∷◌, ◌++◌, length, true, refl, sym, ap, subst, ◌∙◌, arith, append_assoc, append-nil, length-append}
 use Rattle.acd_terms.specs.Lists.{Among}
-use Rattle.acd_terms.specs.Writes.{empty_rows}
-use Rattle.acd_terms.specs.Step.{step}
-use Rattle.acd_terms.specs.Run.{Asked, Ran}
-use Rattle.acd_terms.specs.Run as terms
-use Rattle.acd_terms.specs.Rules.First.{BreaksNoRule}
+use Rattle.acd_terms.specs.Rows.{empty_rows}
 use Rattle.acd_terms.specs.declared.rows.Rows.{Rows}
 use Rattle.acd_terms.specs.declared.rows.Limits.{Limits}
 use Rattle.acd_terms.specs.Limits.{limits_fit}
 use Rattle.acd_terms.specs.declared.command.Arrival.{Arrival}
 use Rattle.acd_terms.specs.declared.event.Event.{Event}
 use Rattle.acd_terms.specs.declared.record.GroupRecord.{GroupRecord}
-use Rattle.acd_terms.specs.Figures.{figures_of}
-use Rattle.acd_terms.specs.Placed.{IsPlaced}
-use Rattle.acd_terms.specs.OneOffer.{HasOneOffer}
-use Rattle.acd_terms.specs.Watched.{IsWatched}
+use Rattle.acd_model.specs.Step.{step}
+use Rattle.acd_model.specs.Run.{Asked, Ran}
+use Rattle.acd_model.specs.Run as terms
+use Rattle.acd_model.specs.Rules.First.{BreaksNoRule}
+use Rattle.acd_model.specs.Figures.{figures_of}
+use Rattle.acd_model.specs.Placed.{IsPlaced}
+use Rattle.acd_model.specs.OneOffer.{HasOneOffer}
+use Rattle.acd_model.specs.Watched.{IsWatched}
 use Rattle.acd_laws.specs.BalanceLaws.{IsBalanced}
 use Rattle.acd_laws.specs.OfferLaws.{LeavesNoOffer}
 use Rattle.acd_laws.proofs.PlacedRuns.{run_is_placed}

@@ -1,8 +1,8 @@
 -- What opening a desk leaves.
 use Rattle.std.proofs.Common.{◌≡◌, Some, Ok, false, refl, sym, ap, subst, ◌∙◌}
-use Rattle.acd_terms.specs.Rules.First.{first_broken, BreaksNoRule}
 use Rattle.acd_terms.specs.declared.rows.Rows.{Rows}
 use Rattle.acd_terms.specs.declared.rows.Rule.{Rule}
+use Rattle.acd_model.specs.Rules.First.{first_broken, BreaksNoRule}
 use Rattle.acd_book.specs.Content.{Content, IsCounted}
 use Rattle.acd_book.specs.State.{BookState, Reads}
 use Rattle.acd_switch.specs.RowFaults.{IsFaultOf}

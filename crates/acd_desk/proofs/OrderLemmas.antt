@@ -11,19 +11,20 @@ use Rattle.std.specs.BTreeSet.{BTreeSet, contains}
 use Rattle.std.proofs.lemmas.Bool.{and_parts, eqb-true}
 use Rattle.std.proofs.lemmas.Cmp.{nat_cmp_total, on_total, then_total}
 use Rattle.acd_terms.specs.Lists.{Among, AllAfter, IsAscending, put_by}
-use Rattle.acd_terms.specs.Rules.Plan.{agent_order, connection_order}
-use Rattle.acd_terms.specs.Rules.First.{BreaksNoRule}
-use Rattle.acd_terms.specs.Scans.{is_group, call_of, connection_of, connections_of, waiting_in, eligible_in, is_eligible}
 use Rattle.acd_terms.specs.States.{is_queued}
-use Rattle.acd_terms.specs.Choice.{waiting_pair, ready_pair}
 use Rattle.acd_terms.specs.declared.rows.Rows.{Rows}
 use Rattle.acd_terms.specs.declared.record.AgentRecord.{AgentRecord}
 use Rattle.acd_terms.specs.declared.record.ConnectionRecord.{ConnectionRecord}
-use Rattle.acd_laws.specs.Counts.{of_call, two_if}
-use Rattle.acd_laws.proofs.Lists.{is_eq_of, count_length, after_among, filter_among, any_some, ascending-put, ascending-filter, among-put, among-put_other}
-use Rattle.acd_laws.proofs.Members.{mapped_among}
-use Rattle.acd_laws.proofs.State.{cmp_self, order_same, connection_found}
-use Rattle.acd_laws.proofs.RulesAll.{rules_are_kept}
+use Rattle.acd_model.specs.Rules.Plan.{agent_order, connection_order}
+use Rattle.acd_model.specs.Rules.First.{BreaksNoRule}
+use Rattle.acd_model.specs.Scans.{is_group, call_of, connection_of, connections_of, waiting_in, eligible_in, is_eligible}
+use Rattle.acd_model.specs.Choice.{waiting_pair, ready_pair}
+use Rattle.acd_model.specs.Rules.Calls.{parties_of}
+use Rattle.acd_laws.proofs.Facts.{two_if}
+use Rattle.acd_laws.proofs.Lists.{is_eq_of, count_length, after_among, filter_among, any_some, ascending-put, ascending-filter, among-put, among-put_other, mapped_among}
+use Rattle.acd_laws.proofs.Keyed.{cmp_self}
+use Rattle.acd_laws.proofs.State.{order_same, connection_found}
+use Rattle.acd_laws.proofs.DecidedAll.{rules_are_kept}
 use Rattle.acd_tables.specs.Indexed.{pair_cmp}
 use Rattle.acd_tables.proofs.Picked.{ascending-same, contained, exact_pair}
 use Rattle.acd_codec.specs.ReadTexts.{queue_text}
@@ -162,7 +163,7 @@ pub two_parties : (s : Rows) → BreaksNoRule s → (call : ℕ) → length (con
 unfolding connections_of
 two_parties s rules call =
     let parties = (rules_are_kept s rules).parties call in
-    let size = count_length (of_call call) s.connections in
+    let size = count_length (parties_of call) s.connections in
     let most = two_most (is_some (call_of s call)) in
     omega (arith, parties, size, most)
   where

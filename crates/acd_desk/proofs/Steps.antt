@@ -1,16 +1,16 @@
 -- What a step does to the counters and the limits.
 use Rattle.std.proofs.Common.{◌≡◌, ℕ, ◌+◌, List, [], ◌∷◌, length, refl, sym, ap, ◌∙◌, arith, max}
-use Rattle.acd_terms.specs.Moves.{changed, moved, events_of}
-use Rattle.acd_terms.specs.Writes.{with_group, with_station, with_agent, with_call, with_connection, with_monitor, without_call, without_connection, without_monitor, with_last}
-use Rattle.acd_terms.specs.Figures.{with_figures}
-use Rattle.acd_terms.specs.Services.Serve.{serve}
-use Rattle.acd_terms.specs.Step.{step, step_at, step_moves, numbered, executed_moment, next_stamp}
 use Rattle.acd_terms.specs.declared.rows.Rows.{Rows}
 use Rattle.acd_terms.specs.declared.command.Command.{Command}
 use Rattle.acd_terms.specs.declared.event.Event.{Event}
-use Rattle.acd_terms.specs.declared.moves.Change.{Change}
-use Rattle.acd_terms.specs.declared.moves.Change.TheVariants.{Nothing, PutGroup, PutStation, PutAgent, PutCall, PutConnection, PutMonitor, RemoveCall, RemoveConnection, RemoveMonitor}
-use Rattle.acd_terms.specs.declared.moves.Move.{Move}
+use Rattle.acd_model.specs.Moves.{changed, moved, events_of}
+use Rattle.acd_model.specs.Writes.{with_group, with_station, with_agent, with_call, with_connection, with_monitor, without_call, without_connection, without_monitor, with_last}
+use Rattle.acd_model.specs.Figures.{with_figures}
+use Rattle.acd_model.specs.Services.Serve.{serve}
+use Rattle.acd_model.specs.Step.{step, step_at, step_moves, numbered, executed_moment, next_stamp}
+use Rattle.acd_model.specs.declared.moves.Change.{Change}
+use Rattle.acd_model.specs.declared.moves.Change.TheVariants.{Nothing, PutGroup, PutStation, PutAgent, PutCall, PutConnection, PutMonitor, RemoveCall, RemoveConnection, RemoveMonitor}
+use Rattle.acd_model.specs.declared.moves.Move.{Move}
 use Rattle.acd_book.specs.Content.{GoOn}
 
 changed_limits : (s : Rows) (c : Change) → (changed s c).limits ≡ s.limits

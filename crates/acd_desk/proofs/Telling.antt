@@ -1,8 +1,8 @@
 -- What a read of a desk leaves, by what its parts left.
 use Rattle.std.proofs.Common.{◌≡◌, ◌≤◌, ℕ, Bool, true, false, Option, Some, None, Result, Ok, Err, IfOk, OnOk, refl, sym, ap, subst, ◌∙◌, arith, inl, inr, ◌⊎◌, true≢false}
-use Rattle.acd_terms.specs.Rules.First.{BreaksNoRule}
 use Rattle.acd_terms.specs.declared.rows.Rows.{Rows}
 use Rattle.acd_terms.specs.declared.command.Arrival.{Arrival}
+use Rattle.acd_model.specs.Rules.First.{BreaksNoRule}
 use Rattle.acd_book.specs.Content.{Content, IsCounted, HasRisen}
 use Rattle.acd_book.specs.State.{BookState, Reads}
 use Rattle.acd_book.specs.declared.fault.BookFault.{BookFault}

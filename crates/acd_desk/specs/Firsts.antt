@@ -1,12 +1,12 @@
 -- The abstract desk: the switch run once over each request's first arrival.
 use Rattle.std.specs.Prelude.{ℕ, List, [], ◌∷◌, ◌++◌, take, Bool, cond}
 use Rattle.std.specs.List.{list_any}
-use Rattle.acd_terms.specs.Step.{Stepped, step, executed_moment, next_stamp}
 use Rattle.acd_terms.specs.declared.rows.Limits.{Limits}
 use Rattle.acd_terms.specs.declared.rows.Rows.{Rows}
 use Rattle.acd_terms.specs.declared.command.Arrival.{Arrival}
 use Rattle.acd_terms.specs.declared.command.Request.{Request}
 use Rattle.acd_terms.specs.declared.answer.Outcome.{Outcome}
+use Rattle.acd_model.specs.Step.{Stepped, step, executed_moment, next_stamp}
 use Rattle.acd_codec.specs.ReplyTexts.{outcome_status, reply_text}
 use Rattle.acd_book.specs.declared.kept.Kept.{Kept}
 use Rattle.acd_book.specs.Content.{Content, empty_content, committed, is_key}

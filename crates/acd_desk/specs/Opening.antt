@@ -1,6 +1,6 @@
 -- What opening a desk over a book leaves.
 use Rattle.std.specs.Prelude.{◌≡◌, ◌≤◌, false, Some}
-use Rattle.acd_terms.specs.Rules.First.{first_broken, BreaksNoRule}
+use Rattle.acd_model.specs.Rules.First.{first_broken, BreaksNoRule}
 use Rattle.acd_switch.specs.declared.row_fault.RowFault.{RowFault}
 use Rattle.acd_switch.specs.declared.row_fault.RowFault.TheVariants as row
 use Rattle.acd_book.specs.declared.fault.BookFault.{BookFault}

@@ -1,11 +1,11 @@
 -- What is prepared for a commit.
 use Rattle.std.specs.Prelude.{◌≡◌, List, length}
-use Rattle.acd_terms.specs.Changes.{rows_made}
-use Rattle.acd_terms.specs.Rules.First.{BreaksNoRule}
 use Rattle.acd_terms.specs.declared.rows.Rows.{Rows}
-use Rattle.acd_terms.specs.declared.moves.Change.{Change}
 use Rattle.acd_terms.specs.declared.event.Event.{Event}
 use Rattle.acd_terms.specs.declared.command.Arrival.{Arrival}
+use Rattle.acd_model.specs.Changes.{rows_made}
+use Rattle.acd_model.specs.Rules.First.{BreaksNoRule}
+use Rattle.acd_model.specs.declared.moves.Change.{Change}
 use Rattle.acd_book.specs.declared.kept.Kept.{Kept}
 use Rattle.acd_desk.specs.Firsts.{stepped, record_of}
 

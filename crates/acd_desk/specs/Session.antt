@@ -1,8 +1,8 @@
 -- What a session over a book leaves: a desk is opened, runs and is closed.
 use Rattle.std.specs.Prelude.{◌≡◌, ◌≤◌, false, List, [], ◌∷◌, length}
 use Rattle.std.specs.List.{Contains}
-use Rattle.acd_terms.specs.Rules.First.{BreaksNoRule}
 use Rattle.acd_terms.specs.declared.command.Arrival.{Arrival}
+use Rattle.acd_model.specs.Rules.First.{BreaksNoRule}
 use Rattle.acd_book.specs.Content.{Content, HasRisen}
 use Rattle.acd_book.specs.State.{BookState, IfHonest}
 use Rattle.acd_desk.specs.declared.taken.Taken.{Taken}

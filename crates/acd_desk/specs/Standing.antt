@@ -1,8 +1,8 @@
 -- A desk at a moment: what its book says of itself, and what the desk has in memory.
 use Rattle.std.specs.Prelude.{◌≡◌, Bool, true, false, Option, Some, None}
-use Rattle.acd_terms.specs.Rules.First.{BreaksNoRule}
 use Rattle.acd_terms.specs.declared.rows.Rows.{Rows}
 use Rattle.acd_terms.specs.declared.command.Request.{Request}
+use Rattle.acd_model.specs.Rules.First.{BreaksNoRule}
 use Rattle.acd_book.specs.declared.book.Book.{Ghosts}
 use Rattle.acd_book.specs.Content.{IsCounted}
 use Rattle.acd_book.specs.State.{BookState}

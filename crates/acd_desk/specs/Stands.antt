@@ -7,8 +7,8 @@ use Rattle.acd_book.specs.declared.kept.Kept.{Kept}
 use Rattle.acd_terms.specs.declared.command.Request.{Request}
 use Rattle.acd_book.specs.Content.{Content, kept_of}
 use Rattle.acd_desk.specs.declared.taken.Taken.{Taken}
-use Rattle.acd_terms.specs.Step.{executed_moment}
-use Rattle.acd_terms.specs.Run.{Asked}
+use Rattle.acd_model.specs.Step.{executed_moment}
+use Rattle.acd_model.specs.Run.{Asked}
 use Rattle.acd_desk.specs.Firsts.{distinct_from, executed, run}
 use Rattle.acd_desk.specs.Replies.{reply_to}
 

@@ -2,14 +2,14 @@
 use Rattle.std.specs.Prelude.{ℕ, ◌<◌, List, [], ◌∷◌, map, filter, max, nat_lt, Option, Some, None, is_some, option_map, String, string_bytes, if◌then◌else◌}
 use Rattle.std.specs.declared.cmp.Ordering.{Ordering}
 use Rattle.acd_terms.specs.Lists.{put_by}
-use Rattle.acd_terms.specs.Scans.{group_of, agent_of, call_of, monitor_of, is_group, is_station, agent_at, connections_of, waiting_in, eligible_in}
-use Rattle.acd_terms.specs.Choice.{waiting_pair, ready_pair}
 use Rattle.acd_terms.specs.declared.rows.Rows.{Rows}
 use Rattle.acd_terms.specs.declared.record.GroupRecord.{GroupRecord}
 use Rattle.acd_terms.specs.declared.record.AgentRecord.{AgentRecord}
 use Rattle.acd_terms.specs.declared.record.CallRecord.{CallRecord}
 use Rattle.acd_terms.specs.declared.record.ConnectionRecord.{ConnectionRecord}
 use Rattle.acd_terms.specs.declared.event.Event.{Event}
+use Rattle.acd_model.specs.Scans.{group_of, agent_of, call_of, monitor_of, is_group, is_station, agent_at, connections_of, waiting_in, eligible_in}
+use Rattle.acd_model.specs.Choice.{waiting_pair, ready_pair}
 use Rattle.acd_tables.specs.Indexed.{pair_cmp}
 use Rattle.acd_tables.specs.AtDevice.{connections_at}
 use Rattle.acd_codec.specs.ReadTexts.{agent_text, call_text, device_text, queue_text}

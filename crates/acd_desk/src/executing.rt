@@ -1,7 +1,7 @@
 //! One request executed by the switch, before it is kept, and a switch loaded by rows.
 
 ghost use Rattle.std.specs.Prelude.{◌≡◌, ◌<◌, IfOk, IfErr};
-ghost use Rattle.acd_terms.specs.Rules.First.{BreaksNoRule};
+ghost use Rattle.acd_model.specs.Rules.First.{BreaksNoRule};
 ghost use Rattle.acd_desk.specs.Arrived.{at};
 ghost use Rattle.acd_desk.specs.Firsts.{kept_at};
 ghost use Rattle.acd_desk.specs.Prepared.{Prepared};

@@ -1,7 +1,7 @@
 //! What a desk tells: its reads.
 
 ghost use Rattle.std.specs.Prelude.{◌≡◌, length, Some, None, is_some, if◌then◌else◌};
-ghost use Rattle.acd_terms.specs.Scans.{monitor_of};
+ghost use Rattle.acd_model.specs.Scans.{monitor_of};
 ghost use Rattle.acd_book.specs.Content.{events_behind, events_of_monitor};
 ghost use Rattle.acd_desk.specs.Stands.{IsSound};
 ghost use Rattle.acd_desk.specs.Standing.{standing};

@@ -3,8 +3,8 @@
 ghost use Rattle.std.specs.Prelude.{◌≡◌, ◌++◌, [], ◌∷◌, map, IfOk, OnOk};
 ghost use Rattle.std.specs.List.{cons_option, filter_map};
 ghost use Rattle.std.specs.List.Sorted.{IsStrictlySortedBy};
-ghost use Rattle.acd_terms.specs.Scans.{connection_of, connections_of};
-ghost use Rattle.acd_terms.specs.Rules.First.{BreaksNoRule};
+ghost use Rattle.acd_model.specs.Scans.{connection_of, connections_of};
+ghost use Rattle.acd_model.specs.Rules.First.{BreaksNoRule};
 ghost use Rattle.acd_tables.specs.Indexed.{pair_cmp};
 ghost use Rattle.acd_desk.specs.Tells.{told, agent_read, call_read, device_in, device_read, queue_read, report_read, table_read};
 

@@ -1,6 +1,6 @@
 //! What a desk has in memory of its book.
 
-ghost use Rattle.acd_terms.specs.Rules.First.{BreaksNoRule};
+ghost use Rattle.acd_model.specs.Rules.First.{BreaksNoRule};
 
 use acd_switch::Switch;
 

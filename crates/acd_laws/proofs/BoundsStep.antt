@@ -1,33 +1,232 @@
--- The moves of a step stay within bounds.
-use Rattle.std.proofs.Common.{◌≡◌, ℕ, ◌+◌, ◌≤◌, ◌⊎◌, inl, List, [], ◌∷◌, ◌++◌, refl, sym, ◌∙◌, subst, arith, length}
-use Rattle.std.specs.Prelude.{◌==◌}
-use Rattle.acd_terms.specs.declared.rows.Rows.{Rows}
-use Rattle.acd_terms.specs.declared.record.GroupRecord.{GroupRecord}
-use Rattle.acd_terms.specs.declared.moves.Move.{Move}
-use Rattle.acd_terms.specs.Lists.{count, Among}
-use Rattle.acd_terms.specs.Moves.{moved}
-use Rattle.acd_terms.specs.Served.{moves_of}
-use Rattle.acd_laws.specs.Counts.{Rules}
-use Rattle.acd_laws.proofs.Lists.{one, count-append}
-use Rattle.acd_terms.specs.declared.event.Event.{Event}
-use Rattle.acd_terms.specs.declared.command.Command.{Command}
-use Rattle.acd_terms.specs.declared.command.Command.TheVariants.{AddGroup, AddStation, AddAgent, ArriveCall, MakeCall, PhoneOffHook, AnswerCall, HoldCall, RetrieveCall, ClearConnection, DeflectCall, SingleStepTransfer, SetAgentState, MonitorStart, MonitorStop, Tick}
-use Rattle.acd_terms.specs.Moves.{events_of}
-use Rattle.acd_terms.specs.Figures.{is_entry}
-use Rattle.acd_terms.specs.Services.Serve.{serve}
-use Rattle.acd_terms.specs.Distribution.{distribution}
-use Rattle.acd_terms.specs.Tick.{tick}
-use Rattle.acd_terms.specs.Step.{step_moves}
-use Rattle.acd_laws.specs.Bounds.{Sizes, at_place, Timed, Monitored}
-use Rattle.acd_laws.proofs.Serving.{moved-append}
-use Rattle.acd_laws.proofs.MoveEvents.{events-append}
+-- The moves of a step stay within bounds: by each deed, and by rounds.
+use Rattle.std.proofs.Common.{◌≡◌, ℕ, ◌+◌, ◌≤◌, ◌⊎◌, inl, inr, Bool, true, false, List, [], ◌∷◌, Option, Some, None, refl, sym, ◌∙◌, ap, subst, arith, length, cond, ◌++◌}
+use Rattle.std.specs.Prelude.{◌==◌, is_some, nat_le}
+use Rattle.std.proofs.lemmas.Bool.{or_cases, or_parts, or_right, or_left, leb-false}
+use Rattle.acd_laws.proofs.Words.{Rows, GroupRecord, StationRecord, AgentRecord, CallRecord, ConnectionRecord, MonitorRecord, Cause, Change, Command, Event, Move, Report, put_by, count, Among, Every, IsAscending, state_wanted, at_group, at_station, at_agent, at_call, at_monitor, group_of, station_of, is_group, is_station, is_planned, other_of, is_calling, with_group, with_station, with_agent, with_call, with_monitor, silent, reported, moved, events_of, agent_order}
+use Rattle.acd_terms.specs.declared.state.AgentState.TheVariants as A
+use Rattle.acd_terms.specs.declared.state.ConnectionState.TheVariants as S
+use Rattle.acd_terms.specs.declared.event.Cause.TheVariants.{NewCall, Deflected, Transferred}
+use Rattle.acd_terms.specs.declared.event.Report.TheVariants as report
+use Rattle.acd_model.specs.declared.moves.Change.TheVariants.{Nothing, PutGroup, PutStation, PutAgent, PutCall, PutMonitor, RemoveCall, RemoveConnection, RemoveMonitor}
+use Rattle.acd_model.specs.CallMoves.{plain, connect_caller, initiate, arrive, talking, waited_by}
+use Rattle.acd_model.specs.Release.{release, ending_of}
+use Rattle.acd_model.specs.Services.{new_group, new_agent, next_call, cleared_group, clear_other, release_other, next_monitor}
+use Rattle.std.specs.declared.cmp.Ordering.{Ordering}
+use Rattle.acd_laws.proofs.MoveKinds.{LeavesConnections, AgentMove, stays, waits as pends, Recorded, goes_from, releases_here, occupies_here}
+use Rattle.acd_laws.proofs.Facts.{Rules, Sizes, AgentTimed, ConnectionTimed, Timed, MonitorRule, Monitored, at_place}
+use Rattle.acd_laws.proofs.Lists.{every_among, every_from, every-put, one, count-append, among_put, every-append}
+use Rattle.acd_laws.proofs.State.{group_put, station_put}
+use Rattle.acd_laws.proofs.Order.{entry_by}
+use Rattle.acd_laws.proofs.Deeds.{new_call, Deed, nothing, adds_group, adds_station, adds_agent, watches, unwatches, arrives, makes, goes_out, answers, holds, retrieves, clears, deflects, transfers, logs_on, waits, goes, deed_of_serve}
+use Rattle.acd_laws.proofs.Orderly.{Steady, knows, AllSteady, IsNew, Steadied, Settled, settled, steadied, sizes_steadied, monitored_steadied, length-put, WaitsUpTo, Neat, Steps, done, neat, comes, neat_quiet, neat_silent, neat_agent, neat_remove, neat_put, neat_turned, timed_plain, comes_to, steady_agent, steady_arrive, steps_timed, steps_place, Fit}
+use Rattle.acd_model.specs.Served.{moves_of}
+use Rattle.acd_model.specs.Figures.{is_entry}
+use Rattle.acd_model.specs.Services.Serve.{serve}
+use Rattle.acd_model.specs.Distribution.{distribution}
+use Rattle.acd_model.specs.Tick.{tick}
+use Rattle.acd_model.specs.Step.{step_moves}
+use Rattle.acd_model.proofs.MoveLemmas.{moved_append, events_of_append}
 use Rattle.acd_laws.proofs.RulesKept.{rules_serve}
-use Rattle.acd_laws.proofs.Steady.{IsNew, sizes_steadied, monitored_steadied}
-use Rattle.acd_laws.proofs.Orderly.{timed_moved}
-use Rattle.acd_laws.proofs.Behaving.{Behaves, behaves_add_group, behaves_add_station, behaves_add_agent, behaves_arrive_call, behaves_make_call, behaves_monitor_start, behaves_monitor_stop}
-use Rattle.acd_laws.proofs.BehavingCalls.{behaves_phone_off_hook, behaves_answer_call, behaves_hold_call, behaves_retrieve_call, behaves_clear_connection, behaves_deflect_call, behaves_single_step_transfer, behaves_set_agent_state}
-use Rattle.acd_laws.proofs.Rounds.{AllWait, entered_is, waits_events, every-append, Within, distribution_within, tick_within, returns_agents}
+use Rattle.acd_laws.proofs.Rounds.{AllWait, Within, steps_entered, steps_wait, distribution_within, tick_within, returns_agents}
 use Rattle.acd_laws.proofs.Numbers.{events_length, connections_length, greatest, distribution_length, tick_length}
+
+-- what holds before a step
+pub record Before (s : Rows) (k m : ℕ) : Type 0 where
+  pub rules : Rules s
+  pub timed : Timed k m s
+  pub stamp : 1 ≤ k
+  pub sizes : Sizes s
+  pub monitors : Monitored s
+
+-- what the moves of a service keep
+pub record Behaves (s : Rows) (k m : ℕ) (ms : List Move) : Type 0 where
+  pub comes : Bool
+  pub steps : Steps k m comes s ms
+  pub few : length ms ≤ 5
+  pub settled : Settled s ms
+
+-- a silent move of the plan or of a monitor
+
+-- where there is room for one more
+room_for : {X : Type 0} (at : X → Ordering) (x : X) (xs : List X) (limit : ℕ) → nat_le limit (length xs) ≡ false → length (put_by at xs x) ≤ limit
+room_for at x xs limit room = let a = length-put at x xs in let b = leb-false limit (length xs) room in omega (arith, a, b)
+
+silently : (s : Rows) (k m : ℕ) (c : Change) → Fit k m c → LeavesConnections c → Settled s (silent c ∷ []) → Behaves s k m (silent c ∷ [])
+silently s k m c f l h = record { comes = false; steps = neat (neat_silent c f l) done; few = omega arith; settled = h }
+
+-- more is planned
+monitored_more : (s t : Rows) → ((d : ℕ) → is_planned s d ≡ true → is_planned t d ≡ true) → t.last_monitor ≡ s.last_monitor → t.last_event ≡ s.last_event → t.monitors ≡ s.monitors → Monitored s → Monitored t
+monitored_more s t f a b e h = subst (λ ws. Every (MonitorRule t) ws) (sym e) (every_from (MonitorRule t) s.monitors (λ w i.
+    let q = every_among (MonitorRule s) s.monitors w h i in let x = q.1 in let y = q.2 in (f w.device q.0, omega (arith, x, a), omega (arith, y, b))))
+
+planned_group : (s : Rows) (g : GroupRecord) (d : ℕ) → is_planned s d ≡ true → is_planned (with_group s g) d ≡ true
+unfolding with_group station_of
+planned_group s g d e = elim (or_cases (is_group s d) (is_station s d) e) [
+  | inl w ↦ or_left _ _ (group_put s g d ∙ or_right (g.device == d) (is_group s d) w)
+  | inr w ↦ or_right (is_group (with_group s g) d) _ w
+]
+
+planned_station : (s : Rows) (g : StationRecord) (d : ℕ) → is_planned s d ≡ true → is_planned (with_station s g) d ≡ true
+unfolding with_station group_of
+planned_station s g d e = elim (or_cases (is_group s d) (is_station s d) e) [
+  | inl w ↦ or_left _ _ w
+  | inr w ↦ or_right (is_group (with_station s g) d) _ (station_put s g d ∙ or_right (g.device == d) (is_station s d) w)
+]
+
+put_new : (s : Rows) (g z : GroupRecord) → IsNew s g → (z ≡ g) ⊎ Among z s.groups → Among z s.groups ⊎ IsNew s z
+put_new s g z new (inl e) = inr (subst (IsNew s) (sym e) new)
+put_new s g z new (inr a) = inl a
+
+behaves_group : (s : Rows) (k m : ℕ) (g : GroupRecord) → nat_le s.limits.groups (length s.groups) ≡ false → IsNew s g → Behaves s k m (silent (PutGroup g) ∷ [])
+unfolding with_group
+behaves_group s k m g room new =
+    let sizes : Sizes s → Sizes (with_group s g) = λ h. record { limits = h.limits; groups = room_for (at_group g.device) g s.groups s.limits.groups room; stations = h.stations; agents = h.agents; calls = h.calls; monitors = h.monitors } in
+    silently s k m (PutGroup g) tt tt (record {
+      sizes = sizes;
+      monitors = monitored_more s (with_group s g) (planned_group s g) refl refl refl;
+      groups = λ z a. put_new s g z new (among_put (at_group g.device) g s.groups z a);
+      limits = refl;
+      last_call = omega arith;
+      last_monitor = omega arith;
+      last_event = refl;
+    })
+
+behaves_station : (s : Rows) (k m : ℕ) (g : StationRecord) → nat_le s.limits.stations (length s.stations) ≡ false → Behaves s k m (silent (PutStation g) ∷ [])
+unfolding with_station
+behaves_station s k m g room =
+    let sizes : Sizes s → Sizes (with_station s g) = λ h. record { limits = h.limits; groups = h.groups; stations = room_for (at_station g.device) g s.stations s.limits.stations room; agents = h.agents; calls = h.calls; monitors = h.monitors } in
+    let monitors = monitored_more s (with_station s g) (planned_station s g) refl refl refl in
+    silently s k m (PutStation g) tt tt (record { sizes = sizes; monitors = monitors; groups = λ z a. inl a; limits = refl; last_call = omega arith; last_monitor = omega arith; last_event = refl })
+
+behaves_agent : (s : Rows) (k m : ℕ) (g : AgentRecord) → nat_le s.limits.agents (length s.agents) ≡ false → AgentTimed k m g → Behaves s k m (silent (PutAgent g) ∷ [])
+unfolding with_agent group_of station_of
+behaves_agent s k m g room t =
+    let sizes : Sizes s → Sizes (with_agent s g) = λ h. record { limits = h.limits; groups = h.groups; stations = h.stations; agents = room_for (at_agent g.agent) g s.agents s.limits.agents room; calls = h.calls; monitors = h.monitors } in
+    let monitors = monitored_more s (with_agent s g) (λ d e. e) refl refl refl in
+    silently s k m (PutAgent g) t tt (record { sizes = sizes; monitors = monitors; groups = λ z a. inl a; limits = refl; last_call = omega arith; last_monitor = omega arith; last_event = refl })
+
+monitored_put : (s : Rows) (w : MonitorRecord) → is_planned s w.device ≡ true → w.after_event ≡ s.last_event → Monitored s → Monitored (with_monitor s w)
+unfolding with_monitor group_of station_of
+monitored_put s w p e h = every-put (at_monitor w.monitor) (MonitorRule (with_monitor s w)) w (p, omega arith, omega (arith, e)) s.monitors
+    (every_from (MonitorRule (with_monitor s w)) s.monitors (λ z i. let q = every_among (MonitorRule s) s.monitors z h i in let x = q.1 in (q.0, omega (arith, x), q.2)))
+
+behaves_monitor : (s : Rows) (k m : ℕ) (w : MonitorRecord) → nat_le s.limits.monitors (length s.monitors) ≡ false → is_planned s w.device ≡ true → w.after_event ≡ s.last_event → w.monitor ≡ s.last_monitor + 1
+    → Behaves s k m (silent (PutMonitor w) ∷ [])
+unfolding with_monitor
+behaves_monitor s k m w room p e n =
+    let sizes : Sizes s → Sizes (with_monitor s w) = λ h. record { limits = h.limits; groups = h.groups; stations = h.stations; agents = h.agents; calls = h.calls; monitors = room_for (at_monitor w.monitor) w s.monitors s.limits.monitors room } in
+    silently s k m (PutMonitor w) tt tt (record { sizes = sizes; monitors = monitored_put s w p e; groups = λ z a. inl a; limits = refl; last_call = omega arith; last_monitor = omega (arith, n); last_event = refl })
+
+-- calls
+
+ascending_called : (s : Rows) (c : CallRecord) → IsAscending agent_order s.agents → IsAscending agent_order (with_call s c).agents
+unfolding with_call
+ascending_called s c h = h
+
+-- a new call, and moves that put connections
+settled_call : (s : Rows) (c : CallRecord) (ms : List Move) → nat_le s.limits.calls (length s.calls) ≡ false → c.call ≡ s.last_call + 1 → Steadied (with_call s c) (moved (with_call s c) ms) → Settled s (silent (PutCall c) ∷ ms)
+unfolding with_call group_of station_of
+settled_call s c ms room n f =
+    let t : Rows = moved (with_call s c) ms in
+    let a = f.last_call in let b = f.last_monitor in
+    let sizes : Sizes s → Sizes (with_call s c) = λ h. record { limits = h.limits; groups = h.groups; stations = h.stations; agents = h.agents; calls = room_for (at_call c.call) c s.calls s.limits.calls room; monitors = h.monitors } in
+    record {
+      sizes = λ h. sizes_steadied (with_call s c) t f (sizes h);
+      monitors = λ h. monitored_steadied (with_call s c) t f (monitored_more s (with_call s c) (λ d e. e) refl refl refl h);
+      groups = λ z i. inl (subst (Among z) f.groups i);
+      limits = f.limits;
+      last_call = omega (arith, n, a);
+      last_monitor = omega (arith, b);
+      last_event = f.last_event;
+    }
+
+-- each deed
+
+clears_other : {k m : ℕ} {t : Rows} (o : Option ConnectionRecord) → Neat k m t (clear_other o)
+clears_other None = neat_silent Nothing tt tt
+clears_other (Some y) = neat_remove y.call y.device (report.ConnectionCleared y.call y.device) tt (λ g. refl)
+
+steady_clears : (s : Rows) (o : Option ConnectionRecord) → Steady (knows s) (clear_other o).change
+steady_clears s None = tt
+steady_clears s (Some y) = tt
+
+releases_other : (s : Rows) (m k : ℕ) (o : Option ConnectionRecord) → IsAscending agent_order s.agents → AgentMove (Recorded s) m k (release_other s m k o)
+releases_other s m k None h = stays
+releases_other s m k (Some y) h = releases_here s m k y (ending_of y) h
+
+waits_answer : (m c d : ℕ) (q o : Option ℕ) → WaitsUpTo m (Some (report.Established c d (waited_by m q o)))
+waits_answer m c d q None = tt
+waits_answer m c d q (Some g) = omega arith
+
+-- moves that put no new record but connections
+steadily : {s : Rows} {k m : ℕ} {e : Bool} {ms : List Move} → Before s k m → Steps k m e s ms → length ms ≤ 5 → AllSteady s ms → Behaves s k m ms
+steadily {s} {k} {m} {e} {ms} b h few a = record { comes = e; steps = h; few = few; settled = settled s ms b.rules.orders.agents a }
+
+-- a connection ends, its call comes to a device, and an agent is released
+given : (s : Rows) (k m to : ℕ) (x : ConnectionRecord) (e : Report) (why : Cause) → Before s k m → WaitsUpTo m (Some e) → ((g : ℕ) → entry_by g (Some e) ≡ 0)
+    → Behaves s k m (reported (RemoveConnection x.call x.device) e ∷ arrive s m k x.call to why ∷ release s m k x (ending_of x) ∷ [])
+given s k m to x e why b w n =
+    let h = releases_here s m k x (ending_of x) b.rules.orders.agents in steadily b
+    (neat (neat_remove x.call x.device e w n) (comes (comes_to s k m x.call to why b.stamp) (neat (neat_agent s b.stamp b.timed h) done)))
+    (omega arith) (tt, (steady_arrive s s m k x.call to why, (steady_agent s h, tt)))
+
+agent_behaves : (s : Rows) (k m : ℕ) (x : Move) → Before s k m → AgentMove (Recorded s) m k x → Behaves s k m (x ∷ [])
+agent_behaves s k m x b h = steadily b (neat (neat_agent s b.stamp b.timed h) done) (omega arith) (steady_agent s h, tt)
+
+pub behaves_deed : (s : Rows) (k m : ℕ) (ms : List Move) → Deed s m k ms → Before s k m → Behaves s k m ms
+behaves_deed s k m _ nothing b = steadily b done (omega arith) tt
+behaves_deed s k m _ (adds_group device name ring wrap free room) b =
+    behaves_group s k m (new_group device name ring wrap) room (refl, (or_parts (is_group s device) (is_station s device) (or_parts (is_planned s device) (is_calling s device) free).0).0)
+behaves_deed s k m _ (adds_station device _ room) b = behaves_station s k m (record { device = device }) room
+behaves_deed s k m _ (adds_agent agent name _ room) b = behaves_agent s k m (new_agent m k agent name) room (record { above = b.stamp; stamp = omega arith; since = omega arith })
+behaves_deed s k m _ (watches device planned room) b = behaves_monitor s k m (record { monitor = next_monitor s; device = device; after_event = s.last_event }) room planned refl refl
+behaves_deed s k m _ (unwatches monitor) b = steadily b (neat (neat_silent (RemoveMonitor monitor) tt tt) done) (omega arith) (tt, tt)
+behaves_deed s k m _ (arrives caller called _ _ room) b =
+    let n : ℕ = next_call s in
+    let c : CallRecord = new_call s m caller called in
+    let u : Rows = with_call s c in
+    let rest : List Move = connect_caller n caller ∷ arrive s m k n called NewCall ∷ [] in
+    record {
+      comes = true;
+      steps = neat (neat_silent (PutCall c) (omega arith) tt) (neat (neat_put (plain n caller S.Connected) None (timed_plain k m n caller S.Connected) refl tt (λ g. refl)) (comes (comes_to s k m n called NewCall b.stamp) done));
+      few = omega arith;
+      settled = settled_call s c rest room refl (steadied u rest (ascending_called s c b.rules.orders.agents) (tt, (steady_arrive s u m k n called NewCall, tt)));
+    }
+behaves_deed s k m _ (makes device called _ _ _ _ _ room) b =
+    let n : ℕ = next_call s in
+    let c : CallRecord = new_call s m device called in
+    let rest : List Move = initiate n device ∷ [] in
+    record {
+      comes = false;
+      steps = neat (neat_silent (PutCall c) (omega arith) tt) (neat (neat_put (plain n device S.Initiated) (Some (report.ServiceInitiated n device)) (timed_plain k m n device S.Initiated) refl tt (λ g. refl)) done);
+      few = omega arith;
+      settled = settled_call s c rest room refl (steadied (with_call s c) rest (ascending_called s c b.rules.orders.agents) (tt, tt));
+    }
+behaves_deed s k m _ (goes_out p _) b = steadily b
+    (neat (neat_turned s p.x S.Connected (report.Originated p.x.call p.x.device p.about.called) b.timed b.rules.orders.connections p.found tt (λ g. refl)) (comes (comes_to s k m p.x.call p.about.called NewCall b.stamp) done))
+    (omega arith) (tt, (steady_arrive s s m k p.x.call p.about.called NewCall, tt))
+behaves_deed s k m _ (answers p _) b =
+    let h = occupies_here s m k p.x b.rules.orders.agents in
+    let e : Report = report.Established p.x.call p.x.device (waited_by m p.x.queued p.x.group) in
+    let t : ConnectionTimed k m (talking p.x) = record { place = tt; queued = tt; offered = tt; order = tt } in steadily b
+    (neat (neat_put (talking p.x) (Some e) t refl (waits_answer m p.x.call p.x.device p.x.queued p.x.group) (λ g. refl)) (neat (neat_agent s b.stamp b.timed h) done)) (omega arith) (tt, (steady_agent s h, tt))
+behaves_deed s k m _ (holds p _ _) b = steadily b (neat (neat_turned s p.x S.Hold (report.Held p.x.call p.x.device) b.timed b.rules.orders.connections p.found tt (λ g. refl)) done) (omega arith) (tt, tt)
+behaves_deed s k m _ (retrieves p _ _) b = steadily b (neat (neat_turned s p.x S.Connected (report.Retrieved p.x.call p.x.device) b.timed b.rules.orders.connections p.found tt (λ g. refl)) done) (omega arith) (tt, tt)
+behaves_deed s k m _ (clears p) b =
+    let x : ConnectionRecord = p.x in
+    let o : Option ConnectionRecord = other_of s x in
+    let h = releases_here s m k x (ending_of x) b.rules.orders.agents in
+    let g = releases_other s m k o b.rules.orders.agents in steadily b
+    (neat (neat_remove x.call x.device (report.ConnectionCleared x.call x.device) tt (λ g. refl)) (neat (clears_other o) (neat (neat_quiet (RemoveCall x.call) (Some (report.CallCleared x.call (cleared_group x o))) tt tt tt (λ g. refl))
+    (neat (neat_agent s b.stamp b.timed h) (neat (neat_agent s b.stamp b.timed g) done)))))
+    (omega arith) (tt, (steady_clears s o, (tt, (steady_agent s h, (steady_agent s g, tt)))))
+behaves_deed s k m _ (deflects p to _ _) b = given s k m to p.x (report.Diverted p.x.call p.x.device to Deflected p.x.group) Deflected b tt (λ g. refl)
+behaves_deed s k m _ (transfers p to _ _ _) b = given s k m to p.x (report.Transferred p.x.call p.x.device to) Transferred b tt (λ g. refl)
+behaves_deed s k m _ (logs_on a device group own _ _ _ _) b =
+    let c : AgentRecord = record a { state = A.NotReady; pending = None; station = Some device; group = Some group; stamp = k; since = m } in
+    steadily b (neat (neat_quiet (PutAgent c) (Some (report.AgentLoggedOn a.agent device group)) (record { above = b.stamp; stamp = omega arith; since = omega arith }) tt tt (λ g. refl)) done) (omega arith) (ap is_some own, tt)
+behaves_deed s k m _ (waits a wanted own _ _) b = agent_behaves s k m _ b (pends a (Some wanted) own)
+behaves_deed s k m _ (goes a wanted own _ _) b = agent_behaves s k m _ b (goes_from (Recorded s) m k a a.station (state_wanted wanted) own)
 
 -- what holds after moves of a step, with their events
 pub record After (s : Rows) (k m most : ℕ) (t : Rows) (es : List Event) : Type 0 where
@@ -44,29 +243,25 @@ pub record After (s : Rows) (k m most : ℕ) (t : Rows) (es : List Event) : Type
   pub waits : AllWait m es
   pub few : length es ≤ most
 
--- what holds before
-pub record Before (s : Rows) (k m : ℕ) : Type 0 where
-  pub rules : Rules s
-  pub timed : Timed k m s
-  pub stamp : 1 ≤ k
-  pub sizes : Sizes s
-  pub monitors : Monitored s
-
 after_service : (s : Rows) (k m : ℕ) (ms : List Move) → Before s k m → Behaves s k m ms → After s k m 13000 (moved s ms) (events_of m ms)
 after_service s k m ms b h = record {
-  timed = timed_moved s s k m ms b.timed h.0.fit;
-  places = h.0.places;
-  sizes = h.1.sizes b.sizes;
-  monitors = h.1.monitors b.monitors;
-  groups = h.1.groups;
-  limits = h.1.limits;
-  last_call = h.1.last_call;
-  last_monitor = h.1.last_monitor;
-  last_event = h.1.last_event;
-  entries = λ g. (let e = entered_is g m ms in let f = h.0.entries g in omega (arith, e, f));
-  waits = waits_events s k m ms h.0.fit;
-  few = (let a = events_length m ms in let c = h.0.few in omega (arith, a, c));
+  timed = steps_timed h.steps b.timed;
+  places = λ p. (let a = steps_place p h.steps in let c = at_most h.comes (one (k == p)) in omega (arith, a, c));
+  sizes = h.settled.sizes b.sizes;
+  monitors = h.settled.monitors b.monitors;
+  groups = h.settled.groups;
+  limits = h.settled.limits;
+  last_call = h.settled.last_call;
+  last_monitor = h.settled.last_monitor;
+  last_event = h.settled.last_event;
+  entries = λ g. (let a = steps_entered g h.steps in let c = at_most h.comes 1 in omega (arith, a, c));
+  waits = steps_wait h.steps;
+  few = (let a = events_length m ms in let c = h.few in omega (arith, a, c));
 }
+  where
+    at_most : (b : Bool) (n : ℕ) → cond b n 0 ≤ n
+    at_most true n = omega arith
+    at_most false n = omega arith
 
 -- rounds after moves
 after_rounds : (s : Rows) (k m most more : ℕ) (t u : Rows) (es fs : List Event) → After s k m most t es → Within t k m u fs → length fs ≤ more → After s k m (most + more) u (es ++ fs)
@@ -103,23 +298,11 @@ after_tick s k m b =
     let x = b.sizes.calls in let y = b.sizes.agents in let fc = f.calls in let fa = f.agents in
     after_rounds s k m 0 13000 s (moved s (tick s m k)) [] (events_of m (tick s m k)) (after_nothing s k m b) w (omega (arith, a, c, d, e, x, y, fc, fa))
 
-pub after_serve : (s : Rows) (k m : ℕ) (c : Command) → Before s k m → After s k m 13000 (moved s (moves_of (serve s m k c))) (events_of m (moves_of (serve s m k c)))
-after_serve s k m (AddGroup device name ring wrap) b = after_service s k m (moves_of (serve s m k (AddGroup device name ring wrap))) b (behaves_add_group s k m device name ring wrap)
-after_serve s k m (AddStation device) b = after_service s k m (moves_of (serve s m k (AddStation device))) b (behaves_add_station s k m device)
-after_serve s k m (AddAgent agent name) b = after_service s k m (moves_of (serve s m k (AddAgent agent name))) b (behaves_add_agent s k m agent name b.stamp)
-after_serve s k m (ArriveCall caller called) b = after_service s k m (moves_of (serve s m k (ArriveCall caller called))) b (behaves_arrive_call s k m caller called b.stamp b.rules.orders.agents)
-after_serve s k m (MakeCall device called) b = after_service s k m (moves_of (serve s m k (MakeCall device called))) b (behaves_make_call s k m device called b.rules.orders.agents)
-after_serve s k m (PhoneOffHook call device) b = after_service s k m (moves_of (serve s m k (PhoneOffHook call device))) b (behaves_phone_off_hook s k m call device b.stamp b.rules.orders b.timed)
-after_serve s k m (AnswerCall call device) b = after_service s k m (moves_of (serve s m k (AnswerCall call device))) b (behaves_answer_call s k m call device b.stamp b.rules.orders)
-after_serve s k m (HoldCall call device) b = after_service s k m (moves_of (serve s m k (HoldCall call device))) b (behaves_hold_call s k m call device b.rules.orders b.timed)
-after_serve s k m (RetrieveCall call device) b = after_service s k m (moves_of (serve s m k (RetrieveCall call device))) b (behaves_retrieve_call s k m call device b.rules.orders b.timed)
-after_serve s k m (ClearConnection call device) b = after_service s k m (moves_of (serve s m k (ClearConnection call device))) b (behaves_clear_connection s k m call device b.stamp b.rules.orders b.timed)
-after_serve s k m (DeflectCall call device to) b = after_service s k m (moves_of (serve s m k (DeflectCall call device to))) b (behaves_deflect_call s k m call device to b.stamp b.rules.orders b.timed)
-after_serve s k m (SingleStepTransfer call device to) b = after_service s k m (moves_of (serve s m k (SingleStepTransfer call device to))) b (behaves_single_step_transfer s k m call device to b.stamp b.rules.orders b.timed)
-after_serve s k m (SetAgentState agent q) b = after_service s k m (moves_of (serve s m k (SetAgentState agent q))) b (behaves_set_agent_state s k m agent q b.stamp b.rules.orders.agents b.timed)
-after_serve s k m (MonitorStart device) b = after_service s k m (moves_of (serve s m k (MonitorStart device))) b (behaves_monitor_start s k m device)
-after_serve s k m (MonitorStop monitor) b = after_service s k m (moves_of (serve s m k (MonitorStop monitor))) b (behaves_monitor_stop s k m monitor b.rules.orders.agents)
-after_serve s k m Tick b = after_tick s k m b
+after_serve : (s : Rows) (k m : ℕ) (c : Command) → Before s k m → After s k m 13000 (moved s (moves_of (serve s m k c))) (events_of m (moves_of (serve s m k c)))
+after_serve s k m c b = elim (deed_of_serve s m k c) [
+  | inl d ↦ after_service s k m _ b (behaves_deed s k m _ d b)
+  | inr e ↦ subst (λ ms. After s k m 13000 (moved s ms) (events_of m ms)) (sym e) (after_tick s k m b)
+]
 
 -- the service, then the distribution
 pub after_moves : (s : Rows) (k m : ℕ) (c : Command) → Before s k m
@@ -130,11 +313,11 @@ after_moves s k m c b =
     let ns : List Move = distribution t m in
     let a = after_serve s k m c b in
     let r : Rules t = rules_serve s m k c b.rules in
-    let w = distribution_within t k m r a.timed in
+    let w = distribution_within t k m b.stamp r a.timed in
     let e = events_length m ns in
     let f = distribution_length t m in
     let d = connections_length t r in
     let g = greatest t a.sizes.limits in
     let x = a.sizes.calls in let gc = g.calls in
-    subst (λ u. After s k m 21000 u (events_of m (ms ++ ns))) (sym (moved-append s ms ns))
-    (subst (After s k m 21000 (moved t ns)) (sym (events-append m ms ns)) (after_rounds s k m 13000 8000 t (moved t ns) (events_of m ms) (events_of m ns) a w (omega (arith, e, f, d, x, gc))))
+    subst (λ u. After s k m 21000 u (events_of m (ms ++ ns))) (sym (moved_append s ms ns))
+    (subst (After s k m 21000 (moved t ns)) (sym (events_of_append m ms ns)) (after_rounds s k m 13000 8000 t (moved t ns) (events_of m ms) (events_of m ns) a w (omega (arith, e, f, d, x, gc))))

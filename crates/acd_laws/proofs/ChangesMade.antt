@@ -1,38 +1,33 @@
--- One put of a group for each event that counts makes the figures grow, so the changes of a step make its rows.
-use Rattle.std.proofs.Common.{◌≡◌, ℕ, suc, ◌+◌, true, false, not, cond, List, [], ◌∷◌, Some, None, refl, sym, ◌∙◌, ap, subst, inl, inr, length, map}
+-- What a step changes: its changes make its rows, and a refused request changes nothing.
+use Rattle.std.proofs.Common.{◌≡◌, ℕ, suc, ◌+◌, true, false, not, cond, List, [], ◌∷◌, Some, None, refl, sym, ◌∙◌, ap, subst, inl, inr, length, map, add-zero, Ok, Err}
 use Rattle.std.specs.Prelude.{◌==◌}
 use Rattle.std.specs.Cmp.{IsTotalOrder}
 use Rattle.std.specs.Ordering.{ordering_reverse, is_eq, nat_cmp}
 use Rattle.std.specs.declared.cmp.Ordering.{Ordering}
 use Rattle.std.specs.declared.cmp.Ordering.TheVariants.{Equal, Greater}
 use Rattle.std.proofs.lemmas.Bool.{and_left, and_right, eqb-true, false_from_ne_true}
-use Rattle.acd_terms.specs.Lists.{Among, IsAscending, find_by, put_by}
-use Rattle.acd_terms.specs.Scans.{at_group, group_of, has}
-use Rattle.acd_terms.specs.Writes.{with_group, with_station, with_agent, with_call, with_connection, with_monitor, without_call, without_connection, without_monitor, with_last}
-use Rattle.acd_terms.specs.Moves.{changed, moved, events_of}
-use Rattle.acd_terms.specs.Changes.{changes_of, changed_by, counted_group, grown, growth_in, growth_by, growth, step_changes_by, step_changes}
-use Rattle.acd_terms.specs.Figures.{is_no_answer, is_deflected, figures_of, sum_of_figures, counting, with_figures}
-use Rattle.acd_terms.specs.Services.Plan.{no_figures}
-use Rattle.acd_terms.specs.Services.Serve.{serve}
-use Rattle.acd_terms.specs.Step.{numbered, executed_moment, next_stamp, step_moves, step}
-use Rattle.acd_terms.specs.Rules.Plan.{group_order}
-use Rattle.acd_terms.specs.declared.rows.Rows.{Rows}
-use Rattle.acd_terms.specs.declared.record.GroupRecord.{GroupRecord}
-use Rattle.acd_terms.specs.declared.event.Event.{Event}
-use Rattle.acd_terms.specs.declared.event.Report.{Report}
+use Rattle.acd_laws.proofs.Words.{Rows, GroupRecord, Change, Command, Event, Move, Refusal, Report, Served, put_by, Among, IsAscending, at_group, group_of, has, queued_in_all, with_group, with_station, with_agent, with_call, with_connection, with_monitor, without_call, without_connection, without_monitor, with_last, changed, moved, events_of, group_order}
 use Rattle.acd_terms.specs.declared.event.Report.TheVariants.{Queued, Established, CallCleared, Diverted}
-use Rattle.acd_terms.specs.declared.moves.Move.{Move}
-use Rattle.acd_terms.specs.declared.moves.Change.{Change}
-use Rattle.acd_terms.specs.declared.moves.Change.TheVariants.{PutGroup}
-use Rattle.acd_terms.proofs.ChangeLemmas.{changed_by_append, moved_by_changes}
+use Rattle.acd_model.specs.Changes.{changes_of, changed_by, counted_group, grown, growth_in, growth_by, growth, step_changes_by, step_changes}
+use Rattle.acd_model.specs.Figures.{is_no_answer, is_deflected, figures_of, sum_of_figures, counting, with_figures}
+use Rattle.acd_model.specs.Services.{no_figures}
+use Rattle.acd_model.specs.Services.Serve.{serve}
+use Rattle.acd_model.specs.Step.{numbered, executed_moment, next_stamp, step_moves, step, counted}
+use Rattle.acd_model.specs.declared.moves.Change.TheVariants.{PutGroup}
+use Rattle.acd_model.proofs.ChangeLemmas.{changed_by_append, moved_by_changes}
 use Rattle.acd_laws.specs.ChangeLaws.{StepMakesItsChanges}
-use Rattle.acd_laws.proofs.Lists.{is_eq_of, less_ne, greater_ne, after_among, after_same, ascending-put}
-use Rattle.acd_laws.proofs.Members.{found_among}
-use Rattle.acd_laws.proofs.State.{cmp_self, cmp_equal, groups_total}
-use Rattle.acd_laws.proofs.Lists.{eq_is}
+use Rattle.acd_laws.proofs.Lists.{is_eq_of, less_ne, greater_ne, after_among, after_same, ascending-put, find_none, found_among}
+use Rattle.acd_laws.proofs.Keyed.{cmp_self, found_has, find_is, eqb_swap}
+use Rattle.acd_laws.proofs.State.{groups_total, by_group}
 use Rattle.acd_laws.proofs.CountedEvents.{Quiet, quiet, no_events, sum_nothing, figures_joined, figures_skipped, sum_joined}
-use Rattle.acd_laws.proofs.RulesStep.{ascending_counting}
-use Rattle.acd_laws.proofs.BoundsRead.{keeps_read}
+use Rattle.acd_laws.proofs.Ended.{ascending_counting}
+use Rattle.acd_laws.proofs.DecidedAll.{keeps_read}
+use Rattle.acd_terms.specs.declared.answer.Outcome.TheVariants as outcome
+use Rattle.acd_model.specs.Choice.{offer_of}
+use Rattle.acd_model.specs.Distribution.{distribution}
+use Rattle.acd_model.specs.Served.{outcome_of, moves_of}
+use Rattle.acd_laws.specs.RefusalLaws.{ChangesNothing}
+use Rattle.acd_laws.proofs.OfferFound.{no_offers}
 
 -- lists in ascending key
 
@@ -51,22 +46,6 @@ put_mapped cmp o f g h self (y ∷ ys) s (inl e) =
 put_mapped cmp o f g h self (y ∷ ys) s (inr a) =
     let greater : cmp g y ≡ Greater = o.antisymm g y ∙ ap ordering_reverse (after_among cmp y ys g s.0 a) in
     rw greater (ap (λ l. y ∷ l) (put_mapped cmp o f g h self ys s.1 a) ∙ ap (λ z. z ∷ map f ys) (sym (h y (greater_ne (cmp g y) greater))))
-
-not_found : {X : Type 0} (at : X → Ordering) (xs : List X) (x : X) → find_by at xs ≡ None → Among x xs → is_eq (at x) ≡ false
-not_found at [] x e a = absurd a
-not_found at (y ∷ ys) x e a =
-    (elim (is_eq (at y)) as (λ b. is_eq (at y) ≡ b → find_by at (y ∷ ys) ≡ None → is_eq (at x) ≡ false) [
-      | true ↦ λ r q. absurd (cc (rw r at q))
-      | false ↦ λ r q. elim a [ inl w ↦ subst (λ z. is_eq (at z) ≡ false) (sym w) r | inr w ↦ not_found at ys x (rw r at q) w ]
-    ]) refl e
-
-found_here : {X : Type 0} (at : X → Ordering) (xs : List X) (x : X) → find_by at xs ≡ Some x → is_eq (at x) ≡ true
-found_here at [] x e = absurd (cc (e))
-found_here at (y ∷ ys) x e =
-    (elim (is_eq (at y)) as (λ b. is_eq (at y) ≡ b → find_by at (y ∷ ys) ≡ Some x → is_eq (at x) ≡ true) [
-      | true ↦ λ r q. let w : Some y ≡ Some x = rw r at q in cc
-      | false ↦ λ r q. found_here at ys x (rw r at q)
-    ]) refl e
 
 other_number : (a b : ℕ) → is_eq (nat_cmp a b) ≡ false → (a == b) ≡ false
 other_number a b e = false_from_ne_true (a == b) (λ q. cc (e, is_eq_of (nat_cmp a b) (cmp_self a b (eqb-true a b q))))
@@ -113,7 +92,7 @@ found_grown : (s : Rows) (e : Event) (d : ℕ) (g : GroupRecord) → IsAscending
     → with_group s (counting (e ∷ []) g) ≡ with_figures s (e ∷ [])
 unfolding with_figures with_group group_of
 found_grown s e d g a c f =
-    let same : d ≡ g.device = cmp_equal d g.device (eq_is (nat_cmp d g.device) (found_here (at_group d) s.groups g f)) in
+    let same : d ≡ g.device = sym (eqb-true g.device d (found_has by_group s.groups d g f)) in
     ap (λ gs. let t : Rows = record s { groups = gs } in t)
     (put_mapped group_order groups_total (counting (e ∷ [])) g
     (λ x n. counts_nothing e x (rw (c, same) (other_number g.device x.device n)))
@@ -121,7 +100,7 @@ found_grown s e d g a c f =
 
 missed_grown : (s : Rows) (e : Event) (d : ℕ) → counted_group e.report ≡ Some d → group_of s d ≡ None → s ≡ with_figures s (e ∷ [])
 unfolding group_of
-missed_grown s e d c f = none_grown s (e ∷ []) (λ g i. counts_nothing e g (rw c (other_number d g.device (not_found (at_group d) s.groups g f i))))
+missed_grown s e d c f = none_grown s (e ∷ []) (λ g i. counts_nothing e g (rw c (eqb_swap d g.device ∙ find_none (by_group.has d) s.groups (sym (find_is by_group s.groups d) ∙ f) g i)))
 
 pub one_grown : (s : Rows) (e : Event) → IsAscending group_order s.groups → changed_by s (growth_by s e) ≡ with_figures s (e ∷ [])
 one_grown s e a =
@@ -134,12 +113,9 @@ one_grown s e a =
           ]) refl
     ]) refl
 
-ascending_figures : (s : Rows) (es : List Event) → IsAscending group_order s.groups → IsAscending group_order (with_figures s es).groups
-unfolding with_figures
-ascending_figures s es a = ascending_counting es s.groups a
-
 pub ascending_grown : (s : Rows) (e : Event) → IsAscending group_order s.groups → IsAscending group_order (changed_by s (growth_by s e)).groups
-ascending_grown s e a = subst (λ (t : Rows). IsAscending group_order t.groups) (sym (one_grown s e a)) (ascending_figures s (e ∷ []) a)
+unfolding with_figures
+ascending_grown s e a = subst (λ (t : Rows). IsAscending group_order t.groups) (sym (one_grown s e a)) (ascending_counting (e ∷ []) s.groups a)
 
 pub figures_more : (s : Rows) (e : Event) (es : List Event) → with_figures (with_figures s (e ∷ [])) es ≡ with_figures s (e ∷ es)
 unfolding with_figures
@@ -184,3 +160,28 @@ step_makes_its_changes s moment command h =
     let ms : List Move = step_moves s m (serve s m (next_stamp s) command) in
     ap (λ t. with_last t (next_stamp s) m (s.last_event + length (numbered s.last_event (events_of m ms)))) (changes_made s m ms (keeps_read s h).rules.orders.groups)
     ∙ ap (λ n. with_last (with_figures (moved s ms) (events_of m ms)) (next_stamp s) m (s.last_event + n)) (length-numbered s.last_event (events_of m ms))
+
+-- a refused request, where no offer is left
+
+refused_moves : (v : Served) (r : Refusal) → outcome_of v ≡ outcome.Refused r → moves_of v ≡ []
+refused_moves (Err x) r e = refl
+refused_moves (Ok done) r e = absurd cc
+
+no_moves : (s : Rows) (m : ℕ) (v : Served) → moves_of v ≡ [] → offer_of s ≡ None → step_moves s m v ≡ []
+unfolding distribution
+no_moves s m v e h = rw e (no_offers (length (queued_in_all s)) s m h)
+
+nothing_changed : (s : Rows) (k m : ℕ) (moves : List Move) → moves ≡ [] → counted s m k moves ≡ with_last s k m s.last_event
+unfolding with_last
+nothing_changed s k m moves e = rw e (rw (figures_none s, add-zero) refl)
+
+-- for a state with no offer left
+pub refused : (s : Rows) (moment : ℕ) (command : Command) (r : Refusal) → offer_of s ≡ None → (step s moment command).outcome ≡ outcome.Refused r → ChangesNothing s moment command
+unfolding step
+refused s moment command r h e =
+    let v = serve s (executed_moment s moment) (next_stamp s) command in
+    let none = no_moves s (executed_moment s moment) v (refused_moves v r e) h in
+    record {
+      events = ap (λ (ms : List Move). numbered s.last_event (events_of (executed_moment s moment) ms)) none;
+      rows = nothing_changed s (next_stamp s) (executed_moment s moment) (step_moves s (executed_moment s moment) v) none;
+    }

@@ -1,17 +1,13 @@
 -- Counts and figures over lists of events: joined, numbered, and without what does not count.
-use Rattle.std.proofs.Common.{◌≡◌, ℕ, ◌+◌, Bool, false, List, [], ◌∷◌, ◌++◌, Option, Some, None, refl, ◌∙◌, ap, arith}
+use Rattle.std.proofs.Common.{◌≡◌, ℕ, ◌+◌, Bool, false, List, [], ◌∷◌, ◌++◌, Option, Some, None, refl, ◌∙◌, ap, arith, length}
 use Rattle.std.specs.Prelude.{if◌then◌else◌}
 use Rattle.std.proofs.lemmas.Bool.{and_right}
-use Rattle.acd_terms.specs.Lists.{count, total}
+use Rattle.acd_laws.proofs.Words.{Figures, Event, Report, count, total, has}
 use Rattle.acd_laws.proofs.Lists.{count-append, total-append}
-use Rattle.acd_terms.specs.Scans.{has}
-use Rattle.acd_terms.specs.Figures.{is_entry, is_answer, waited_there, is_abandonment, is_moving_away, is_deflected, figures_of, sum_of_figures}
-use Rattle.acd_terms.specs.Services.Plan.{no_figures}
-use Rattle.acd_terms.specs.Step.{numbered}
-use Rattle.acd_terms.specs.declared.record.Figures.{Figures}
-use Rattle.acd_terms.specs.declared.event.Event.{Event}
-use Rattle.acd_terms.specs.declared.event.Report.{Report}
 use Rattle.acd_terms.specs.declared.event.Report.TheVariants.{Queued, Established, CallCleared, Diverted}
+use Rattle.acd_model.specs.Figures.{is_entry, is_answer, waited_there, is_abandonment, is_moving_away, is_deflected, figures_of, sum_of_figures}
+use Rattle.acd_model.specs.Services.{no_figures}
+use Rattle.acd_model.specs.Step.{numbered}
 
 -- numbers don't count
 pub count_numbered : (p : Report → Bool) (n : ℕ) (es : List Event) → count (λ (e : Event). p e.report) (numbered n es) ≡ count (λ (e : Event). p e.report) es
@@ -97,3 +93,8 @@ figures_skipped g e es q = same_five _ _ _ _ _ _ _ _ _ _
     (count_skipped (is_abandonment g) e es q.abandonment)
     (count_skipped (is_moving_away g) e es q.moving_away)
     (total_skipped (waited_there g) e es q.waited)
+
+-- events are numbered on
+pub numbered-append : (n : ℕ) (es fs : List Event) → numbered n (es ++ fs) ≡ numbered n es ++ numbered (n + length es) fs
+numbered-append n [] fs = ap (λ k. numbered k fs) (omega arith)
+numbered-append n (e ∷ es) fs = ap (λ (rest : List Event). record e { number = n + 1 } ∷ rest) (numbered-append (n + 1) es fs ∙ ap (λ k. numbered (n + 1) es ++ numbered k fs) (omega arith))

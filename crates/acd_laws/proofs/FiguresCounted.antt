@@ -1,91 +1,138 @@
--- The figures that a group keeps are those counted from all events: by tick, distribution, step and run.
-use Rattle.std.proofs.Common.{◌≡◌, ℕ, zero, suc, ◌+◌, ◌⊎◌, inl, inr, Bool, true, false, ◌||◌, cond, List, [], ◌∷◌, ◌++◌, Option, Some, None, refl, sym, ◌∙◌, ap, subst, length, map}
+-- The figures that a group keeps are those counted from all events: by each deed, step and run.
+use Rattle.std.proofs.Common.{◌≡◌, ℕ, ◌⊎◌, inl, inr, true, false, ◌||◌, cond, List, [], ◌∷◌, Option, Some, None, refl, subst, ◌+◌, ◌++◌, sym, ◌∙◌, ap, length, append-nil}
 use Rattle.std.specs.Prelude.{is_some, option_map, ◌==◌}
-use Rattle.std.proofs.lemmas.Bool.{eqb-true, false_from_ne_true}
-use Rattle.acd_terms.specs.Lists.{Among, find_by, put_by}
-use Rattle.acd_terms.specs.Scans.{at_group, group_of, is_group, is_station, is_calling, connection_of, agent_of, has, queued_in_all}
-use Rattle.acd_terms.specs.Writes.{empty_rows, with_group, with_station, with_agent, with_call, with_connection, with_monitor, without_call, without_connection, without_monitor, with_last}
-use Rattle.acd_terms.specs.Moves.{changed, moved, with_event, events_of, event_at, silent}
-use Rattle.acd_terms.specs.Served.{moves_of}
-use Rattle.acd_terms.specs.Figures.{figures_of, sum_of_figures, counting, with_figures}
-use Rattle.acd_terms.specs.Choice.{offer_of}
-use Rattle.acd_terms.specs.Distribution.{offer_at, offer_moves, offers, distribution, station_of_agent, with_offer}
-use Rattle.acd_terms.specs.Tick.{return_to, return_moves, rest_moves, overdue_in, is_overdue, rested_in, each, returns, rests, tick}
-use Rattle.acd_terms.specs.Services.Plan.{no_figures, new_group, add_group}
-use Rattle.acd_terms.specs.Services.Serve.{serve}
-use Rattle.acd_terms.specs.Step.{numbered, executed_moment, next_stamp, step_moves, step}
-use Rattle.acd_terms.specs.Run.{Asked, run}
-use Rattle.acd_terms.specs.Rules.Calls.{is_group_or_none}
-use Rattle.acd_terms.specs.declared.rows.Rows.{Rows}
-use Rattle.acd_terms.specs.declared.rows.Limits.{Limits}
-use Rattle.acd_terms.specs.declared.record.GroupRecord.{GroupRecord}
-use Rattle.acd_terms.specs.declared.record.ConnectionRecord.{ConnectionRecord}
-use Rattle.acd_terms.specs.declared.state.AgentState.TheVariants.{Ready}
-use Rattle.acd_terms.specs.declared.event.Event.{Event}
-use Rattle.acd_terms.specs.declared.event.Report.{Report}
-use Rattle.acd_terms.specs.declared.command.Command.{Command}
-use Rattle.acd_terms.specs.declared.command.Command.TheVariants.{AddGroup, AddStation, AddAgent, ArriveCall, MakeCall, PhoneOffHook, AnswerCall, HoldCall, RetrieveCall, ClearConnection, DeflectCall, SingleStepTransfer, SetAgentState, MonitorStart, MonitorStop, Tick}
-use Rattle.acd_terms.specs.declared.moves.Move.{Move}
-use Rattle.acd_terms.specs.declared.moves.Served.{Served}
-use Rattle.acd_terms.specs.declared.moves.Ending.TheVariants.{NoAnswer}
-use Rattle.acd_terms.specs.declared.moves.Change.{Change}
-use Rattle.acd_terms.specs.declared.moves.Change.TheVariants.{Nothing, PutGroup, PutStation, PutAgent, PutCall, PutConnection, PutMonitor, RemoveCall, RemoveConnection, RemoveMonitor}
-use Rattle.acd_terms.specs.declared.moves.Offer.{Offer}
-use Rattle.acd_laws.specs.FigureLaws.{KeepsFigures, StepKeepsFigures, RunKeepsFigures, StepAddsFigures}
-use Rattle.acd_laws.proofs.Lists.{filter_among, among-remove}
-use Rattle.acd_laws.proofs.Members.{among_put, mapped_among}
-use Rattle.acd_laws.proofs.Serving.{by_refusal}
+use Rattle.std.proofs.lemmas.Bool.{or_parts, eqb-true, false_from_ne_true}
+use Rattle.acd_laws.proofs.Words.{Rows, Limits, GroupRecord, AgentRecord, ConnectionRecord, AgentState, Cause, Command, Event, Move, Report, find_by, put_by, Among, Every, state_wanted, is_alerting, is_queued, at_group, group_of, is_group, is_station, is_planned, has, other_of, is_calling, empty_rows, with_group, with_last, silent, reported, changed, moved, event_at, with_event, events_of, is_group_or_none}
+use Rattle.acd_terms.specs.declared.state.AgentState.TheVariants.{Null, Ready}
+use Rattle.acd_terms.specs.declared.event.Report.TheVariants.{Established}
+use Rattle.acd_model.specs.CallMoves.{arrive, waited_by}
+use Rattle.acd_model.specs.AgentMoves.{state_report}
+use Rattle.acd_model.specs.Release.{ending_of}
+use Rattle.acd_model.specs.Services.{no_figures, new_group, waiting_group, first_group, clearing}
+use Rattle.acd_model.specs.declared.moves.Ending.TheVariants.{NoAnswer}
+use Rattle.acd_model.specs.declared.moves.Change.TheVariants.{PutGroup, PutAgent}
+use Rattle.acd_laws.proofs.Facts.{Rules, GroupColumn, ConnectionRule}
+use Rattle.acd_laws.proofs.MoveKinds.{LeavesGroups, left_groups, AgentMove, stays, waits as puts, tells, Anyone, goes_from, released_by, occupied_by, Arrival, queues, alerts, fails, arrival_of}
+use Rattle.acd_laws.proofs.Lists.{every_among, among_put, mapped_among}
+use Rattle.acd_laws.proofs.State.{connection_among, other_among, group_found_put, group_counted_found, is_some_mapped}
 use Rattle.acd_laws.proofs.CountedEvents.{group_counted, quiet, figures_joined, figures_numbered, figures_skipped, no_events, nothing_sum}
-use Rattle.acd_laws.proofs.GroupsFound.{group_found_put, group_counted_found, is_some_mapped}
-use Rattle.acd_laws.proofs.FiguresFit.{IsAmongGroups, KnowsGroups, LeavesGroups, PutsKnown, ReportsKnown, AllFit, FitsState, known_found, fits_release, fits_go_from, fits_add_station, fits_add_agent, fits_arrive_call, fits_make_call, fits_phone_off_hook, fits_answer_call, fits_hold_call, fits_retrieve_call, fits_clear_connection, fits_deflect_call, fits_single_step_transfer, fits_set_agent_state, fits_monitor_start, fits_monitor_stop}
-use Rattle.acd_laws.proofs.Runs.{kept_by_run}
+use Rattle.acd_laws.proofs.Deeds.{Party, Round, offers, returns, rests, Deed, nothing, adds_group, adds_station, adds_agent, watches, unwatches, arrives, makes, goes_out, answers, holds, retrieves, clears, deflects, transfers, logs_on, waits, goes}
+use Rattle.acd_model.specs.Figures.{figures_of, sum_of_figures, counting, with_figures}
+use Rattle.acd_model.specs.Services.Serve.{serve}
+use Rattle.acd_model.specs.Run.{Asked, run}
+use Rattle.acd_model.specs.Step.{numbered, executed_moment, next_stamp, step_moves, step}
+use Rattle.acd_laws.specs.FigureLaws.{KeepsFigures, RunKeepsFigures}
+use Rattle.acd_laws.proofs.Ended.{rules_step, rules_first, kept_by_run, KeptByRules}
+use Rattle.acd_laws.proofs.Distributing.{Kept}
+use Rattle.acd_laws.proofs.RulesKept.{by_deeds}
 
--- moves that fit leave the groups, and what is known of them
+-- there is no group, or it is one of these
+abbrev pub IsAmongGroups : List GroupRecord → Option ℕ → Type 0
+IsAmongGroups groups None = Unit {0}
+IsAmongGroups groups (Some g) = is_some (find_by (at_group g) groups) ≡ true
 
-groups_changed : (s : Rows) (c : Change) → LeavesGroups c → (changed s c).groups ≡ s.groups
-unfolding with_station with_agent with_call with_connection with_monitor without_call without_connection without_monitor
-groups_changed s Nothing h = refl
-groups_changed s (PutGroup g) h = absurd h
-groups_changed s (PutStation t) h = refl
-groups_changed s (PutAgent a) h = refl
-groups_changed s (PutCall c) h = refl
-groups_changed s (PutConnection x) h = refl
-groups_changed s (PutMonitor w) h = refl
-groups_changed s (RemoveCall c) h = refl
-groups_changed s (RemoveConnection c d) h = refl
-groups_changed s (RemoveMonitor w) h = refl
+abbrev pub ReportsKnown : List GroupRecord → Option Report → Type 0
+ReportsKnown groups None = Unit {0}
+ReportsKnown groups (Some r) = IsAmongGroups groups (group_counted r)
 
-groups_moved : (P : Type 0) (gs : List GroupRecord) (s : Rows) (ms : List Move) → AllFit P gs ms → (moved s ms).groups ≡ s.groups
-groups_moved P gs s [] h = refl
-groups_moved P gs s (m ∷ ms) h = groups_moved P gs (changed s m.change) ms h.1 ∙ groups_changed s m.change h.0.0
+-- the move puts no group, and reports of these alone
+abbrev pub Fits : List GroupRecord → Move → Type 0
+Fits groups move = LeavesGroups move.change × ReportsKnown groups move.report
 
-knows_changed : (gs : List GroupRecord) (s : Rows) (c : Change) → PutsKnown gs c → ((x : ConnectionRecord) → Among x s.connections → IsAmongGroups gs x.group)
-    → (x : ConnectionRecord) → Among x (changed s c).connections → IsAmongGroups gs x.group
-unfolding with_group with_station with_agent with_call with_connection with_monitor without_call without_connection without_monitor
-knows_changed gs s Nothing p h x a = h x a
-knows_changed gs s (PutGroup g) p h x a = h x a
-knows_changed gs s (PutStation t) p h x a = h x a
-knows_changed gs s (PutAgent t) p h x a = h x a
-knows_changed gs s (PutCall c) p h x a = h x a
-knows_changed gs s (PutConnection y) p h x a = elim (among_put _ y s.connections x a) [ inl e ↦ subst (λ (z : ConnectionRecord). IsAmongGroups gs z.group) (sym e) p | inr b ↦ h x b ]
-knows_changed gs s (PutMonitor w) p h x a = h x a
-knows_changed gs s (RemoveCall c) p h x a = h x a
-knows_changed gs s (RemoveConnection c d) p h x a = h x (among-remove _ s.connections x a)
-knows_changed gs s (RemoveMonitor w) p h x a = h x a
+abbrev pub AllFit : List GroupRecord → List Move → Type 0
+AllFit groups moves = Every (Fits groups) moves
 
-knows_moved : (P : Type 0) (gs : List GroupRecord) (s : Rows) (ms : List Move) → AllFit P gs ms → P → ((x : ConnectionRecord) → Among x s.connections → IsAmongGroups gs x.group)
-    → (x : ConnectionRecord) → Among x (moved s ms).connections → IsAmongGroups gs x.group
-knows_moved P gs s [] h p k = k
-knows_moved P gs s (m ∷ ms) h p k = knows_moved P gs (changed s m.change) ms h.1 p (knows_changed gs s m.change (h.0.1 p).0 k)
+known_group : (s : Rows) (d : ℕ) → is_group s d ≡ true → IsAmongGroups s.groups (Some d)
+unfolding group_of
+known_group s d e = e
 
-knows_after : (P : Type 0) (s : Rows) (ms : List Move) → AllFit P s.groups ms → P → KnowsGroups s → KnowsGroups (moved s ms)
-knows_after P s ms h p k = subst (λ gs. (x : ConnectionRecord) → Among x (moved s ms).connections → IsAmongGroups gs x.group) (sym (groups_moved P s.groups s ms h)) (knows_moved P s.groups s ms h p k)
+-- the group of each connection is planned
+known_column : (s : Rows) (o : Option ℕ) → GroupColumn s o → IsAmongGroups s.groups o
+known_column s None h = tt
+known_column s (Some g) h = known_group s g h
 
-fit-append : (P : Type 0) (gs : List GroupRecord) (ms ns : List Move) → AllFit P gs ms → AllFit P gs ns → AllFit P gs (ms ++ ns)
-fit-append P gs [] ns h g = g
-fit-append P gs (m ∷ ms) ns h g = (h.0, fit-append P gs ms ns h.1 g)
+known : (s : Rows) (x : ConnectionRecord) → Rules s → Among x s.connections → IsAmongGroups s.groups x.group
+known s x r a = known_column s x.group (every_among (ConnectionRule s) s.connections x r.connections a).1
 
--- what they report counts for their groups alone
+party_known : (s : Rows) (p : Party s) → Rules s → IsAmongGroups s.groups p.x.group
+party_known s p r = known s p.x r (connection_among s p.x.call p.x.device p.x p.found)
+
+fits_state : (gs : List GroupRecord) (a : AgentRecord) (state : AgentState) (agent station : ℕ) → Fits gs (reported (PutAgent a) (state_report state agent station))
+fits_state gs a Null agent station = (tt, tt)
+fits_state gs a _ agent station = (tt, tt)
+
+fits_agent : {K : AgentRecord → Type 0} {m k : ℕ} {x : Move} (gs : List GroupRecord) → AgentMove K m k x → Fits gs x
+fits_agent gs stays = (tt, tt)
+fits_agent gs (puts a pending _) = (tt, tt)
+fits_agent gs (tells a b d _ _) = fits_state gs b b.state b.agent d
+
+fits_arrival : (s : Rows) {m k call to : ℕ} {why : Cause} {x : Move} → Arrival s m k call to why x → Fits s.groups x
+fits_arrival s (queues e) = (tt, known_group s _ e)
+fits_arrival s alerts = (tt, tt)
+fits_arrival s fails = (tt, tt)
+
+fits_arrive : (s : Rows) (m k call to : ℕ) (why : Cause) → Fits s.groups (arrive s m k call to why)
+fits_arrive s m k call to why = fits_arrival s (arrival_of s m k call to why)
+
+fits_answered : (gs : List GroupRecord) (m : ℕ) (x : ConnectionRecord) (o : Option ℕ) → IsAmongGroups gs o → IsAmongGroups gs (group_counted (Established x.call x.device (waited_by m x.queued o)))
+fits_answered gs m x None w = tt
+fits_answered gs m x (Some g) w = w
+
+-- the group of a call that is cleared is that of one of its connections
+
+among_waiting : (gs : List GroupRecord) (x : ConnectionRecord) → IsAmongGroups gs x.group → IsAmongGroups gs (waiting_group x)
+among_waiting gs x h = elim (is_queued x.state || is_alerting x.state) as (λ b. IsAmongGroups gs (cond b x.group None)) [ true ↦ h | false ↦ tt ]
+
+among_first : (gs : List GroupRecord) (o p : Option ℕ) → IsAmongGroups gs o → IsAmongGroups gs p → IsAmongGroups gs (first_group o p)
+among_first gs None p h g = g
+among_first gs (Some a) p h g = h
+
+fits_clearing : (s : Rows) (m k : ℕ) (x : ConnectionRecord) (o : Option ConnectionRecord) → IsAmongGroups s.groups x.group → ((y : ConnectionRecord) → o ≡ Some y → IsAmongGroups s.groups y.group) → AllFit s.groups (clearing s m k x o)
+fits_clearing s m k x None h g = ((tt, tt), ((tt, tt), ((tt, among_waiting s.groups x h), (fits_agent s.groups (released_by s m k x (ending_of x)), ((tt, tt), tt)))))
+fits_clearing s m k x (Some y) h g =
+    let first = among_first s.groups (waiting_group x) (waiting_group y) (among_waiting s.groups x h) (among_waiting s.groups y (g y refl)) in
+    ((tt, tt), ((tt, tt), ((tt, first), (fits_agent s.groups (released_by s m k x (ending_of x)), (fits_agent s.groups (released_by s m k y (ending_of y)), tt)))))
+
+-- each deed: it fits, or adds a group
+
+pub record Adds (s : Rows) (ms : List Move) : Type 0 where
+  pub group : GroupRecord
+  pub alone : ms ≡ silent (PutGroup group) ∷ []
+  pub fresh : is_group s group.device ≡ false
+  pub new : group.figures ≡ no_figures
+
+pub fits_deed : (s : Rows) (m k : ℕ) (ms : List Move) → Deed s m k ms → Rules s → AllFit s.groups ms ⊎ Adds s ms
+fits_deed s m k _ nothing r = inl tt
+fits_deed s m k _ (adds_group device name ring wrap free _) r =
+    inr (record { group = new_group device name ring wrap; alone = refl; fresh = (or_parts (is_group s device) (is_station s device) (or_parts (is_planned s device) (is_calling s device) free).0).0; new = refl })
+fits_deed s m k _ (adds_station _ _ _) r = inl ((tt, tt), tt)
+fits_deed s m k _ (adds_agent _ _ _ _) r = inl ((tt, tt), tt)
+fits_deed s m k _ (watches _ _ _) r = inl ((tt, tt), tt)
+fits_deed s m k _ (unwatches _) r = inl ((tt, tt), tt)
+fits_deed s m k _ (arrives caller called _ _ _) r = inl ((tt, tt), ((tt, tt), (fits_arrive s m k _ called _, tt)))
+fits_deed s m k _ (makes _ _ _ _ _ _ _ _) r = inl ((tt, tt), ((tt, tt), tt))
+fits_deed s m k _ (goes_out p _) r = inl ((tt, tt), (fits_arrive s m k _ p.about.called _, tt))
+fits_deed s m k _ (answers p _) r = inl ((tt, fits_answered s.groups m p.x p.x.group (party_known s p r)), (fits_agent s.groups (occupied_by s m k p.x), tt))
+fits_deed s m k _ (holds _ _ _) r = inl ((tt, tt), tt)
+fits_deed s m k _ (retrieves _ _ _) r = inl ((tt, tt), tt)
+fits_deed s m k _ (clears p) r = inl (fits_clearing s m k p.x (other_of s p.x) (party_known s p r) (λ y e. known s y r (other_among s p.x y e)))
+fits_deed s m k _ (deflects p to _ _) r = inl ((tt, party_known s p r), (fits_arrive s m k _ to _, (fits_agent s.groups (released_by s m k p.x (ending_of p.x)), tt)))
+fits_deed s m k _ (transfers p to _ _ _) r = inl ((tt, tt), (fits_arrive s m k _ to _, (fits_agent s.groups (released_by s m k p.x (ending_of p.x)), tt)))
+fits_deed s m k _ (logs_on _ _ _ _ _ _ _ _) r = inl ((tt, tt), tt)
+fits_deed s m k _ (waits _ _ _ _ _) r = inl ((tt, tt), tt)
+fits_deed s m k _ (goes a wanted _ _ _) r = inl (fits_agent s.groups (goes_from Anyone m k a a.station (state_wanted wanted) tt), tt)
+
+pub fits_round : (s : Rows) (m k : ℕ) (ms : List Move) → Round s m k ms → Rules s → AllFit s.groups ms
+fits_round s m k _ (offers o x a d h) r = ((tt, known s x r h.there), ((tt, tt), tt))
+fits_round s m k _ (returns x g there _ e) r =
+    let own = known s x r (connection_among s x.call x.device x there) in ((tt, own), ((tt, subst (IsAmongGroups s.groups) e own), (fits_agent s.groups (released_by s m k x NoAnswer), tt)))
+fits_round s m k _ (rests a _ _) r = (fits_agent s.groups (goes_from Anyone m k a a.station Ready tt), tt)
+
+-- moves that fit leave the groups, and what they report counts for these alone
+
+groups_moved : (gs : List GroupRecord) (s : Rows) (ms : List Move) → AllFit gs ms → (moved s ms).groups ≡ s.groups
+groups_moved gs s [] h = refl
+groups_moved gs s (m ∷ ms) h = groups_moved gs (changed s m.change) ms h.1 ∙ left_groups s m.change h.0.0
 
 not_that : (gs : List GroupRecord) (o : Option ℕ) (d : ℕ) → IsAmongGroups gs o → is_some (find_by (at_group d) gs) ≡ false → has o d ≡ false
 not_that gs None d h e = refl
@@ -95,233 +142,116 @@ quiet_event : (gs : List GroupRecord) (m d : ℕ) (o : Option Report) (es : List
 quiet_event gs m d None es h e = refl
 quiet_event gs m d (Some r) es h e = figures_skipped d (event_at m r) es (quiet d r (not_that gs (group_counted r) d h e))
 
-quiet_moves : (P : Type 0) (gs : List GroupRecord) (m d : ℕ) (ms : List Move) → AllFit P gs ms → P → is_some (find_by (at_group d) gs) ≡ false → figures_of d (events_of m ms) ≡ no_figures
-quiet_moves P gs m d [] h p e = no_events d
-quiet_moves P gs m d (x ∷ ms) h p e = quiet_event gs m d x.report (events_of m ms) (h.0.1 p).1 e ∙ quiet_moves P gs m d ms h.1 p e
+quiet_moves : (gs : List GroupRecord) (m d : ℕ) (ms : List Move) → AllFit gs ms → is_some (find_by (at_group d) gs) ≡ false → figures_of d (events_of m ms) ≡ no_figures
+quiet_moves gs m d [] h e = no_events d
+quiet_moves gs m d (x ∷ ms) h e = quiet_event gs m d x.report (events_of m ms) h.0.1 e ∙ quiet_moves gs m d ms h.1 e
 
--- tick and distribution
+-- within a step: the groups have the figures of the events before it, and its own count for planned groups alone
 
-fit_each : {T : Type 0} (P : Type 0) (gs : List GroupRecord) (f : Rows → T → List Move) (s : Rows) (xs : List T) → ((t : Rows) (x : T) → Among x xs → AllFit P gs (f t x)) → AllFit P gs (each f s xs)
-fit_each P gs f s [] h = tt
-fit_each P gs f s (x ∷ xs) h = fit-append P gs (f s x) (each f (moved s (f s x)) xs) (h s x (inl refl)) (fit_each P gs f (moved s (f s x)) xs (λ t y a. h t y (inr a)))
-
-fit_return : (P : Type 0) (gs : List GroupRecord) (t : Rows) (m k : ℕ) (x : ConnectionRecord) (o : Option ℕ) → x.group ≡ o → (P → IsAmongGroups gs x.group) → AllFit P gs (return_to t m k x o)
-fit_return P gs t m k x None e h = tt
-fit_return P gs t m k x (Some g) e h =
-    ((tt, λ p. (tt, h p)), ((tt, λ p. (subst (IsAmongGroups gs) e (h p), subst (IsAmongGroups gs) e (h p))), (fits_release P gs t m k x NoAnswer, tt)))
-
-overdue_there : (s : Rows) (m : ℕ) (x : ConnectionRecord) → Among x (overdue_in s m) → Among x s.connections
-unfolding overdue_in
-overdue_there s m x a = (filter_among (is_overdue s m) s.connections x a).0
-
-fit_returns : (s : Rows) (m k : ℕ) → FitsState s (returns s m k)
-unfolding returns
-fit_returns s m k = fit_each (KnowsGroups s) s.groups (λ t x. return_moves t m k x) s (overdue_in s m)
-    (λ t x a. fit_return (KnowsGroups s) s.groups t m k x x.group refl (λ p. p x (overdue_there s m x a)))
-
-fit_rests : (P : Type 0) (gs : List GroupRecord) (s : Rows) (m k : ℕ) → AllFit P gs (rests s m k)
-unfolding rests
-fit_rests P gs s m k = fit_each P gs (λ t a. rest_moves m k a) s (rested_in s m) (λ t a b. (fits_go_from P gs m k a a.station Ready, tt))
-
-fit_tick : (s : Rows) (m k : ℕ) → FitsState s (tick s m k)
-unfolding tick
-fit_tick s m k = fit-append (KnowsGroups s) s.groups (returns s m k) (rests (moved s (returns s m k)) m k) (fit_returns s m k) (fit_rests (KnowsGroups s) s.groups (moved s (returns s m k)) m k)
-
-fit_offer_at : (P : Type 0) (gs : List GroupRecord) (m : ℕ) (o : Option ConnectionRecord) (d : Option ℕ) → ((x : ConnectionRecord) → o ≡ Some x → P → IsAmongGroups gs x.group) → AllFit P gs (offer_at m o d)
-fit_offer_at P gs m (Some x) (Some d) h = ((tt, λ p. (tt, h x refl p)), ((tt, λ p. (h x refl p, tt)), tt))
-fit_offer_at P gs m None d h = tt
-fit_offer_at P gs m (Some x) None h = tt
-
-fit_offer : (P : Type 0) (s : Rows) (m : ℕ) (o : Offer) → (P → KnowsGroups s) → AllFit P s.groups (offer_moves s m o)
-unfolding offer_moves
-fit_offer P s m o k = fit_offer_at P s.groups m (connection_of s o.call o.group) (station_of_agent (agent_of s o.agent)) (λ x e p. known_found s o.call o.group x e (k p))
-
-fit_offers : (P : Type 0) (n : ℕ) (s : Rows) (m : ℕ) → (P → KnowsGroups s) → AllFit P s.groups (offers n s m)
-fit_offers P zero s m k = tt
-fit_offers P (suc n) s m k =
-    elim (offer_of s) as (λ v. AllFit P s.groups (with_offer v [] (λ o. offer_moves s m o ++ offers n (moved s (offer_moves s m o)) m))) [
-      | None ↦ tt
-      | Some o ↦ (let first = fit_offer P s m o k in
-          fit-append P s.groups (offer_moves s m o) (offers n (moved s (offer_moves s m o)) m) first
-          (subst (λ gs. AllFit P gs (offers n (moved s (offer_moves s m o)) m)) (groups_moved P s.groups s (offer_moves s m o) first)
-          (fit_offers P n (moved s (offer_moves s m o)) m (λ p. knows_after P s (offer_moves s m o) first p (k p)))))
-    ]
-
-fit_distribution : (P : Type 0) (s : Rows) (m : ℕ) → (P → KnowsGroups s) → AllFit P s.groups (distribution s m)
-unfolding distribution
-fit_distribution P s m k = fit_offers P (length (queued_in_all s)) s m k
-
--- the service: it fits, or adds a group
-
-pub record Adds (s : Rows) (ms : List Move) : Type 0 where
-  pub group : GroupRecord
-  pub alone : ms ≡ silent (PutGroup group) ∷ []
-  pub fresh : is_group s group.device ≡ false
-  pub new : group.figures ≡ no_figures
-
-abbrev FitsOrAdds : Rows → List Move → Type 0
-FitsOrAdds s ms = FitsState s ms ⊎ Adds s ms
-
-or_first : (a b c : Bool) → ((a || b) || c) ≡ false → a ≡ false
-or_first true b c e = absurd (cc (e))
-or_first false b c e = refl
-
-does_add_group : (s : Rows) (device : ℕ) (name : List ℕ) (ring wrap : ℕ) → FitsOrAdds s (moves_of (add_group s device name ring wrap))
-unfolding add_group
-does_add_group s device name ring wrap =
-    by_refusal (λ v. FitsOrAdds s (moves_of v)) _ _ _ (λ _. inl tt) (λ h.
-    by_refusal (λ v. FitsOrAdds s (moves_of v)) _ _ _ (λ _. inl tt) (λ _.
-    inr (record { group = new_group device name ring wrap; alone = refl; fresh = or_first (is_group s device) (is_station s device) (is_calling s device) h; new = refl })))
-
-does_serve : (s : Rows) (m k : ℕ) (c : Command) → FitsOrAdds s (moves_of (serve s m k c))
-does_serve s m k (AddGroup device name ring wrap) = does_add_group s device name ring wrap
-does_serve s m k (AddStation device) = inl (fits_add_station s device)
-does_serve s m k (AddAgent agent name) = inl (fits_add_agent s m k agent name)
-does_serve s m k (ArriveCall caller called) = inl (fits_arrive_call s m k caller called)
-does_serve s m k (MakeCall device called) = inl (fits_make_call s m device called)
-does_serve s m k (PhoneOffHook call device) = inl (fits_phone_off_hook s m k call device)
-does_serve s m k (AnswerCall call device) = inl (fits_answer_call s m k call device)
-does_serve s m k (HoldCall call device) = inl (fits_hold_call s call device)
-does_serve s m k (RetrieveCall call device) = inl (fits_retrieve_call s call device)
-does_serve s m k (ClearConnection call device) = inl (fits_clear_connection s m k call device)
-does_serve s m k (DeflectCall call device to) = inl (fits_deflect_call s m k call device to)
-does_serve s m k (SingleStepTransfer call device to) = inl (fits_single_step_transfer s m k call device to)
-does_serve s m k (SetAgentState agent requested) = inl (fits_set_agent_state s m k agent requested)
-does_serve s m k (MonitorStart device) = inl (fits_monitor_start s device)
-does_serve s m k (MonitorStop monitor) = inl (fits_monitor_stop s monitor)
-does_serve s m k Tick = inl (fit_tick s m k)
-
--- what is kept, over lists of groups
-
-pub record KeepsOver (gs : List GroupRecord) (xs : List ConnectionRecord) (events : List Event) : Type 0 where
-  pub groups : (g : GroupRecord) → Among g gs → g.figures ≡ figures_of g.device events
-  pub others : (d : ℕ) → is_some (find_by (at_group d) gs) ≡ false → figures_of d events ≡ no_figures
-  pub known : (x : ConnectionRecord) → Among x xs → IsAmongGroups gs x.group
-
-planned_or_none : (s : Rows) (o : Option ℕ) → is_group_or_none s o ≡ true → IsAmongGroups s.groups o
-unfolding group_of
-planned_or_none s None e = tt
-planned_or_none s (Some g) e = e
-
-none_or_planned : (s : Rows) (o : Option ℕ) → IsAmongGroups s.groups o → is_group_or_none s o ≡ true
-unfolding group_of
-none_or_planned s None e = refl
-none_or_planned s (Some g) e = e
-
-over_lists : (s : Rows) (events : List Event) → KeepsFigures s events → KeepsOver s.groups s.connections events
-unfolding group_of
-over_lists s events k = record { groups = k.groups; others = k.others; known = λ x a. planned_or_none s x.group (k.offered_by x a) }
-
-over_rows : (s : Rows) (events : List Event) → KeepsOver s.groups s.connections events → KeepsFigures s events
-unfolding group_of
-over_rows s events k = record { groups = k.groups; others = k.others; offered_by = λ x a. none_or_planned s x.group (k.known x a) }
-
--- a new group, for which nothing was counted
+record Uncounted (old : List Event) (gs : List GroupRecord) (es : List Event) : Type 0 where
+  groups : (g : GroupRecord) → Among g gs → g.figures ≡ figures_of g.device old
+  others : (d : ℕ) → is_some (find_by (at_group d) gs) ≡ false → figures_of d old ≡ no_figures
+  quiet : (d : ℕ) → is_some (find_by (at_group d) gs) ≡ false → figures_of d es ≡ no_figures
 
 some_stays : (d : ℕ) (g : GroupRecord) (gs : List GroupRecord) → is_some (find_by (at_group d) gs) ≡ true → is_some (find_by (at_group d) (put_by (at_group g.device) gs g)) ≡ true
 some_stays d g gs e = ap is_some (group_found_put d g gs) ∙ (elim (g.device == d) as (λ b. is_some (cond b (Some g) (find_by (at_group d) gs)) ≡ true) [ true ↦ refl | false ↦ e ])
 
-known_stays : (g : GroupRecord) (gs : List GroupRecord) (o : Option ℕ) → IsAmongGroups gs o → IsAmongGroups (put_by (at_group g.device) gs g) o
-known_stays g gs None h = tt
-known_stays g gs (Some d) h = some_stays d g gs h
-
-keeps_added : (g : GroupRecord) (gs : List GroupRecord) (xs : List ConnectionRecord) (events : List Event) → is_some (find_by (at_group g.device) gs) ≡ false → g.figures ≡ no_figures
-    → KeepsOver gs xs events → KeepsOver (put_by (at_group g.device) gs g) xs events
-keeps_added g gs xs events fresh new k = record {
+uncounted_added : (old : List Event) (gs : List GroupRecord) (es : List Event) (g : GroupRecord) → is_some (find_by (at_group g.device) gs) ≡ false → g.figures ≡ no_figures → Uncounted old gs es → Uncounted old (put_by (at_group g.device) gs g) es
+uncounted_added old gs es g fresh new k = record {
   groups = λ z a. elim (among_put (at_group g.device) g gs z a) [
-    | inl e ↦ subst (λ (y : GroupRecord). y.figures ≡ figures_of y.device events) (sym e) (new ∙ sym (k.others g.device fresh))
+    | inl e ↦ subst (λ (y : GroupRecord). y.figures ≡ figures_of y.device old) (sym e) (new ∙ sym (k.others g.device fresh))
     | inr b ↦ k.groups z b
   ];
-  others = λ d e. k.others d (false_from_ne_true (is_some (find_by (at_group d) gs)) (λ q. cc (e, some_stays d g gs q)));
-  known = λ x a. known_stays g gs x.group (k.known x a);
-}
-
--- the events of moves that fit are counted at the end
-
-counting_known : (es : List Event) (gs : List GroupRecord) (o : Option ℕ) → IsAmongGroups gs o → IsAmongGroups (map (counting es) gs) o
-counting_known es gs None h = tt
-counting_known es gs (Some d) h = ap is_some (group_counted_found d es gs) ∙ is_some_mapped (counting es) (find_by (at_group d) gs) ∙ h
-
-keeps_counted : (n : ℕ) (gs : List GroupRecord) (xs : List ConnectionRecord) (events es : List Event) → KeepsOver gs xs events
-    → ((d : ℕ) → is_some (find_by (at_group d) gs) ≡ false → figures_of d es ≡ no_figures) → KeepsOver (map (counting es) gs) xs (events ++ numbered n es)
-keeps_counted n gs xs events es k quiet = record {
-  groups = λ z a. let f = mapped_among (counting es) gs z a in
-      subst (λ (y : GroupRecord). y.figures ≡ figures_of y.device (events ++ numbered n es)) (sym f.1.1) (both f.0 (k.groups f.0 f.1.0));
-  others = λ d e. let gone : is_some (find_by (at_group d) gs) ≡ false = sym (ap is_some (group_counted_found d es gs) ∙ is_some_mapped (counting es) (find_by (at_group d) gs)) ∙ e in
-      figures_joined d events (numbered n es) ∙ nothing_sum _ _ (k.others d gone) ∙ figures_numbered d n es ∙ quiet d gone;
-  known = λ x a. counting_known es gs x.group (k.known x a);
+  others = λ d e. k.others d (not_yet d e);
+  quiet = λ d e. k.quiet d (not_yet d e);
 }
   where
-    both : (g : GroupRecord) → g.figures ≡ figures_of g.device events → sum_of_figures g.figures (figures_of g.device es) ≡ figures_of g.device (events ++ numbered n es)
-    both g e = ap (λ f. sum_of_figures f (figures_of g.device es)) e ∙ ap (λ f. sum_of_figures (figures_of g.device events) f) (sym (figures_numbered g.device n es)) ∙ sym (figures_joined g.device events (numbered n es))
+    not_yet : (d : ℕ) → is_some (find_by (at_group d) (put_by (at_group g.device) gs g)) ≡ false → is_some (find_by (at_group d) gs) ≡ false
+    not_yet d e = false_from_ne_true (is_some (find_by (at_group d) gs)) (λ q. cc (e, some_stays d g gs q))
 
--- the end of a step: its moves, its figures and its counters
-abbrev ended : Rows → ℕ → List Move → ℕ → ℕ → ℕ → Rows
-ended t m ms a b c = with_last (with_figures (moved t ms) (events_of m ms)) a b c
+abbrev UncountedIn : List Event → Rows → List Event → Type 0
+UncountedIn old t es = Uncounted old t.groups es
 
-keeps_ended : (t : Rows) (events : List Event) (m n : ℕ) (ms : List Move) (a b c : ℕ) → FitsState t ms → KeepsFigures t events → KeepsFigures (ended t m ms a b c) (events ++ numbered n (events_of m ms))
-unfolding with_last with_figures
-keeps_ended t events m n ms a b c fit k =
-    let over = over_lists t events k in
-    let same = groups_moved (KnowsGroups t) t.groups t ms fit in
-    over_rows (ended t m ms a b c) (events ++ numbered n (events_of m ms))
-    (keeps_counted n (moved t ms).groups (moved t ms).connections events (events_of m ms)
-    (record {
-      groups = λ g w. over.groups g (subst (Among g) same w);
-      others = λ d e. over.others d (subst (λ gs. is_some (find_by (at_group d) gs) ≡ false) same e);
-      known = knows_after (KnowsGroups t) t ms fit over.known over.known;
+uncounted_moved : (old : List Event) (m : ℕ) (s : Rows) (es : List Event) (ms : List Move) → AllFit s.groups ms → UncountedIn old s es → Kept (UncountedIn old) m s es ms
+uncounted_moved old m s es ms fit k =
+    subst (λ gs. Uncounted old gs (es ++ events_of m ms)) (sym (groups_moved s.groups s ms fit)) (record {
+      groups = k.groups;
+      others = k.others;
+      quiet = λ d e. figures_joined d es (events_of m ms) ∙ nothing_sum _ _ (k.quiet d e) ∙ quiet_moves s.groups m d ms fit e;
     })
-    (λ d e. quiet_moves (KnowsGroups t) t.groups m d ms fit over.known (subst (λ gs. is_some (find_by (at_group d) gs) ≡ false) same e)))
 
--- a step's moves fit the state, or fit the state with one more group
-whole_fits : (s : Rows) (m : ℕ) (v : Served) → FitsState s (moves_of v) → FitsState s (step_moves s m v)
-whole_fits s m v f =
-    fit-append (KnowsGroups s) s.groups (moves_of v) (distribution (moved s (moves_of v)) m) f
-    (subst (λ gs. AllFit (KnowsGroups s) gs (distribution (moved s (moves_of v)) m)) (groups_moved (KnowsGroups s) s.groups s (moves_of v) f)
-    (fit_distribution (KnowsGroups s) (moved s (moves_of v)) m (λ k. knows_after (KnowsGroups s) s (moves_of v) f k k)))
-
-keeps_adding : (s : Rows) (events : List Event) (g : GroupRecord) → is_group s g.device ≡ false → g.figures ≡ no_figures → KeepsFigures s events → KeepsFigures (with_group s g) events
+uncounted_with : (old : List Event) (m : ℕ) (s : Rows) (es : List Event) (g : GroupRecord) → is_group s g.device ≡ false → g.figures ≡ no_figures → UncountedIn old s es → Kept (UncountedIn old) m s es (silent (PutGroup g) ∷ [])
 unfolding with_group group_of
-keeps_adding s events g fresh new k = over_rows (with_group s g) events (keeps_added g s.groups s.connections events fresh new (over_lists s events k))
+uncounted_with old m s es g fresh new k = subst (Uncounted old (put_by (at_group g.device) s.groups g)) (sym (append-nil es)) (uncounted_added old s.groups es g fresh new k)
 
-keeps_added_step : (s : Rows) (events : List Event) (m n : ℕ) (ms : List Move) (a b c : ℕ) → Adds s ms → KeepsFigures s events
-    → KeepsFigures (ended s m (ms ++ distribution (moved s ms) m) a b c) (events ++ numbered n (events_of m (ms ++ distribution (moved s ms) m)))
-keeps_added_step s events m n ms a b c h k =
-    subst (λ w. KeepsFigures (ended s m (w ++ distribution (moved s w) m) a b c) (events ++ numbered n (events_of m (w ++ distribution (moved s w) m)))) (sym h.alone)
-    (let t : Rows = with_group s h.group in
-    keeps_ended t events m n (distribution t m) a b c (fit_distribution (KnowsGroups t) t m (λ p. p)) (keeps_adding s events h.group h.fresh h.new k))
-
-pub step_keeps_figures : StepKeepsFigures
-unfolding step
-step_keeps_figures s events moment command k =
-    let m : ℕ = executed_moment s moment in
-    let v : Served = serve s m (next_stamp s) command in
-    elim (does_serve s m (next_stamp s) command) [
-      | inl f ↦ keeps_ended s events m s.last_event (step_moves s m v) (next_stamp s) m (s.last_event + length (events_of m (step_moves s m v))) (whole_fits s m v f) k
-      | inr h ↦ keeps_added_step s events m s.last_event (moves_of v) (next_stamp s) m (s.last_event + length (events_of m (step_moves s m v))) h k
+uncounted_deed : (old : List Event) (m k : ℕ) (s : Rows) (es : List Event) (ms : List Move) → Deed s m k ms → Rules s → UncountedIn old s es → Kept (UncountedIn old) m s es ms
+uncounted_deed old m k s es ms d r h =
+    elim (fits_deed s m k ms d r) [
+      | inl f ↦ uncounted_moved old m s es ms f h
+      | inr a ↦ subst (Kept (UncountedIn old) m s es) (sym a.alone) (uncounted_with old m s es a.group a.fresh a.new h)
     ]
 
+-- the end of a step
+
+over_lists : (s : Rows) (events : List Event) → KeepsFigures s events → UncountedIn events s []
+unfolding group_of
+over_lists s events k = record { groups = k.groups; others = k.others; quiet = λ d e. no_events d }
+
+planned_or_none : (s : Rows) (o : Option ℕ) → GroupColumn s o → is_group_or_none s o ≡ true
+planned_or_none s None h = refl
+planned_or_none s (Some g) h = h
+
+keeps_ended : (t : Rows) (old es : List Event) (n a b c : ℕ) → Rules (with_last (with_figures t es) a b c) → UncountedIn old t es → KeepsFigures (with_last (with_figures t es) a b c) (old ++ numbered n es)
+unfolding with_last with_figures group_of
+keeps_ended t old es n a b c r k = record {
+  groups = λ z i. let f = mapped_among (counting es) t.groups z i in
+      subst (λ (y : GroupRecord). y.figures ≡ figures_of y.device (old ++ numbered n es)) (sym f.1.1) (both f.0 (k.groups f.0 f.1.0));
+  others = λ d e. let gone : is_some (find_by (at_group d) t.groups) ≡ false = sym (ap is_some (group_counted_found d es t.groups) ∙ is_some_mapped (counting es) (find_by (at_group d) t.groups)) ∙ e in
+      figures_joined d old (numbered n es) ∙ nothing_sum _ _ (k.others d gone) ∙ figures_numbered d n es ∙ k.quiet d gone;
+  offered_by = λ x i. planned_or_none v x.group (every_among (ConnectionRule v) t.connections x r.connections i).1;
+}
+  where
+    v : Rows
+    v = with_last (with_figures t es) a b c
+
+    both : (g : GroupRecord) → g.figures ≡ figures_of g.device old → sum_of_figures g.figures (figures_of g.device es) ≡ figures_of g.device (old ++ numbered n es)
+    both g e = ap (λ f. sum_of_figures f (figures_of g.device es)) e ∙ ap (λ f. sum_of_figures (figures_of g.device old) f) (sym (figures_numbered g.device n es)) ∙ sym (figures_joined g.device old (numbered n es))
+
+pub step_keeps_figures : KeptByRules KeepsFigures
+unfolding step
+step_keeps_figures s events moment command r k =
+    let m : ℕ = executed_moment s moment in
+    let ms : List Move = step_moves s m (serve s m (next_stamp s) command) in
+    keeps_ended (moved s ms) events (events_of m ms) s.last_event (next_stamp s) m (s.last_event + length (events_of m ms)) (rules_step s moment command r)
+    (by_deeds (UncountedIn events) m (next_stamp s) (uncounted_deed events m (next_stamp s))
+    (λ t es ns d rt h. uncounted_moved events m t es ns (fits_round t m (next_stamp s) ns d rt) h) s [] command r (over_lists s events k))
+
 -- runs
+
+record Counted (s : Rows) (events : List Event) : Type 0 where
+  rules : Rules s
+  figures : KeepsFigures s events
 
 keeps_at_first : (limits : Limits) → KeepsFigures (empty_rows limits) []
 keeps_at_first limits = record { groups = λ g a. absurd a; others = λ d e. no_events d; offered_by = λ x a. absurd a }
 
 pub figures_kept : (limits : Limits) (asked : List Asked) → KeepsFigures (run (empty_rows limits) asked).rows (run (empty_rows limits) asked).events
-figures_kept limits asked = kept_by_run KeepsFigures step_keeps_figures limits (keeps_at_first limits) asked
+figures_kept limits asked =
+    (kept_by_run Counted
+    (λ s events moment command h. record { rules = rules_step s moment command h.rules; figures = step_keeps_figures s events moment command h.rules h.figures })
+    limits (record { rules = rules_first limits; figures = keeps_at_first limits }) asked).figures
 
 pub run_keeps_figures : RunKeepsFigures
 run_keeps_figures limits asked g a = (figures_kept limits asked).groups g a
 
 -- of a planned group a step changes the figures alone
 
-found_ended : (t : Rows) (m n : ℕ) (ms : List Move) (a b c : ℕ) (d : ℕ) (g : GroupRecord) → FitsState t ms → group_of t d ≡ Some g
-    → group_of (ended t m ms a b c) d ≡ Some (counting (numbered n (events_of m ms)) g)
+found_ended : (t : Rows) (es : List Event) (n a b c d : ℕ) (g : GroupRecord) → group_of t d ≡ Some g → group_of (with_last (with_figures t es) a b c) d ≡ Some (counting (numbered n es) g)
 unfolding with_last with_figures group_of
-found_ended t m n ms a b c d g fit e =
-    group_counted_found d (events_of m ms) (moved t ms).groups
-    ∙ ap (λ gs. option_map (counting (events_of m ms)) (find_by (at_group d) gs)) (groups_moved (KnowsGroups t) t.groups t ms fit)
-    ∙ ap (option_map (counting (events_of m ms))) e
-    ∙ ap (λ f. let h : GroupRecord = record g { figures = sum_of_figures g.figures f } in Some h) (sym (figures_numbered g.device n (events_of m ms)))
+found_ended t es n a b c d g e =
+    group_counted_found d es t.groups
+    ∙ ap (option_map (counting es)) e
+    ∙ ap (λ f. let h : GroupRecord = record g { figures = sum_of_figures g.figures f } in Some h) (sym (figures_numbered g.device n es))
 
 found_added : (s : Rows) (h g : GroupRecord) (d : ℕ) → is_group s h.device ≡ false → group_of s d ≡ Some g → group_of (with_group s h) d ≡ Some g
 unfolding with_group group_of
@@ -332,19 +262,19 @@ found_added s h g d fresh e =
       | false ↦ λ q. e
     ]) refl
 
-found_added_step : (s : Rows) (m n : ℕ) (ms : List Move) (a b c : ℕ) (d : ℕ) (g : GroupRecord) → Adds s ms → group_of s d ≡ Some g
-    → group_of (ended s m (ms ++ distribution (moved s ms) m) a b c) d ≡ Some (counting (numbered n (events_of m (ms ++ distribution (moved s ms) m))) g)
-found_added_step s m n ms a b c d g h e =
-    subst (λ w. group_of (ended s m (w ++ distribution (moved s w) m) a b c) d ≡ Some (counting (numbered n (events_of m (w ++ distribution (moved s w) m))) g)) (sym h.alone)
-    (let t : Rows = with_group s h.group in
-    found_ended t m n (distribution t m) a b c d g (fit_distribution (KnowsGroups t) t m (λ p. p)) (found_added s h.group g d h.fresh e))
+found_moved : (s : Rows) (ms : List Move) (d : ℕ) (g : GroupRecord) → AllFit s.groups ms → group_of s d ≡ Some g → group_of (moved s ms) d ≡ Some g
+unfolding group_of
+found_moved s ms d g fit e = ap (find_by (at_group d)) (groups_moved s.groups s ms fit) ∙ e
 
-pub step_adds_figures : StepAddsFigures
+pub step_adds_figures : (s : Rows) (moment : ℕ) (command : Command) (d : ℕ) (g : GroupRecord) → Rules s → group_of s d ≡ Some g → group_of (step s moment command).rows d ≡ Some (counting (step s moment command).events g)
 unfolding step
-step_adds_figures s moment command d g e =
+step_adds_figures s moment command d g r e =
     let m : ℕ = executed_moment s moment in
-    let v : Served = serve s m (next_stamp s) command in
-    elim (does_serve s m (next_stamp s) command) [
-      | inl f ↦ found_ended s m s.last_event (step_moves s m v) (next_stamp s) m (s.last_event + length (events_of m (step_moves s m v))) d g (whole_fits s m v f) e
-      | inr h ↦ found_added_step s m s.last_event (moves_of v) (next_stamp s) m (s.last_event + length (events_of m (step_moves s m v))) d g h e
-    ]
+    let k : ℕ = next_stamp s in
+    let ms : List Move = step_moves s m (serve s m k command) in
+    found_ended (moved s ms) (events_of m ms) s.last_event k m (s.last_event + length (events_of m ms)) d g
+    (by_deeds (λ t es. group_of t d ≡ Some g) m k
+    (λ t es ns deed rt h. elim (fits_deed t m k ns deed rt) [
+      | inl f ↦ found_moved t ns d g f h
+      | inr a ↦ subst (λ w. group_of (moved t w) d ≡ Some g) (sym a.alone) (found_added t a.group g d a.fresh h)
+    ]) (λ t es ns round rt h. found_moved t ns d g (fits_round t m k ns round rt) h) s [] command r e)

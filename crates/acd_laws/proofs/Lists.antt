@@ -1,5 +1,5 @@
 -- Lemmas on lists of records in ascending key.
-use Rattle.std.proofs.Common.{◌≡◌, ℕ, ◌+◌, ◌≤◌, inl, inr, Bool, true, false, not, ◌||◌, cond, List, [], ◌∷◌, ◌++◌, Option, Some, None, refl, sym, ◌∙◌, ap, subst, arith, length}
+use Rattle.std.proofs.Common.{◌≡◌, ℕ, ◌+◌, ◌≤◌, inl, inr, Bool, true, false, not, ◌||◌, cond, List, [], ◌∷◌, ◌++◌, Option, Some, None, refl, sym, ◌∙◌, ap, subst, arith, length, map, ◌⊎◌}
 use Rattle.std.specs.Prelude.{is_some, filter, find}
 use Rattle.std.specs.List.{list_any, list_all}
 use Rattle.std.specs.declared.cmp.Ordering.{Ordering}
@@ -7,31 +7,17 @@ use Rattle.std.specs.declared.cmp.Ordering.TheVariants.{Less, Equal, Greater}
 use Rattle.std.proofs.lemmas.Bool.{false_from_ne_true, and_parts, and_from}
 use Rattle.std.specs.Cmp.{IsTotalOrder}
 use Rattle.std.specs.Ordering.{ordering_reverse, is_eq, match_ordering}
-use Rattle.acd_terms.specs.Lists.{find_by, put_by, remove_by, count, total, Among, Every, AllAfter, IsAscending}
+use Rattle.acd_laws.proofs.Words.{find_by, put_by, remove_by, count, total, Among, Every, AllAfter, IsAscending}
 
 abbrev pub one : Bool → ℕ
 one b = cond b 1 0
 
-or_twice : (a b : Bool) → (a || b) ≡ (a || (a || b))
-or_twice true b = refl
-or_twice false b = refl
-
-or_swap : (a b c : Bool) → (a || (b || c)) ≡ (b || (a || c))
-or_swap true true c = refl
-or_swap true false c = refl
-or_swap false true c = refl
-or_swap false false c = refl
-
 pub eq_is : (o : Ordering) → is_eq o ≡ true → o ≡ Equal
-eq_is Less e = absurd (cc (e))
 eq_is Equal e = refl
-eq_is Greater e = absurd (cc (e))
+eq_is _ e = absurd (cc (e))
 
 pub is_eq_of : (o : Ordering) → o ≡ Equal → is_eq o ≡ true
 is_eq_of o e = rw e refl
-
-pub ne_eq : (o : Ordering) → is_eq o ≡ false → o ≡ Equal → ⊥
-ne_eq o e q = cc (e, is_eq_of o q)
 
 pub greater_ne : (o : Ordering) → o ≡ Greater → is_eq o ≡ false
 greater_ne o e = rw e refl
@@ -60,28 +46,19 @@ some_tail k y ys z e q = rw e at q
 not_key : {X : Type 0} (cmp : X → X → Ordering) (k : X → Bool) (x y : X) → ((y : X) → k y ≡ true → cmp x y ≡ Equal) → cmp x y ≡ Greater → k y ≡ false
 not_key cmp k x y g q = false_from_ne_true (k y) (λ r. cc (q, g y r))
 
--- the record that was put is found by its key
-pub find-put_hit : {X : Type 0} (cmp : X → X → Ordering) (p : X → Bool) (x : X) → p x ≡ true → ((y : X) → p y ≡ true → cmp x y ≡ Equal) → (xs : List X) → find p (put_by (cmp x) xs x) ≡ Some x
-find-put_hit cmp p x e h [] = simp e
-find-put_hit cmp p x e h (y ∷ ys) =
-    (elim (cmp x y) as (λ o. cmp x y ≡ o → find p (match_ordering o (x ∷ y ∷ ys) (x ∷ ys) (y ∷ put_by (cmp x) ys x)) ≡ Some x) [
-      | Less ↦ λ _. simp e
-      | Equal ↦ λ _. simp e
-      | Greater ↦ λ q.
-          (elim (p y) as (λ b. p y ≡ b → cond b (Some y) (find p (put_by (cmp x) ys x)) ≡ Some x) [
-            | true ↦ λ r. absurd (cc (q, h y r))
-            | false ↦ λ _. find-put_hit cmp p x e h ys
+-- a record that was put is found where it passes, and else what was found before
+pub find-put : {X : Type 0} (cmp : X → X → Ordering) (p : X → Bool) (x : X) → ((y : X) → cmp x y ≡ Equal → p y ≡ p x) → ((y : X) → p x ≡ true → p y ≡ true → cmp x y ≡ Equal) → (xs : List X)
+    → find p (put_by (cmp x) xs x) ≡ cond (p x) (Some x) (find p xs)
+find-put cmp p x h g [] = refl
+find-put cmp p x h g (y ∷ ys) =
+    (elim (cmp x y) as (λ o. cmp x y ≡ o → find p (match_ordering o (x ∷ y ∷ ys) (x ∷ ys) (y ∷ put_by (cmp x) ys x)) ≡ cond (p x) (Some x) (cond (p y) (Some y) (find p ys))) [
+      | Less ↦ λ _. refl
+      | Equal ↦ λ e. rw (h y e) (elim (p x) as (λ b. cond b (Some x) (find p ys) ≡ cond b (Some x) (cond b (Some y) (find p ys))) [ true ↦ refl | false ↦ refl ])
+      | Greater ↦ λ e.
+          (elim (p y) as (λ b. p y ≡ b → cond b (Some y) (find p (put_by (cmp x) ys x)) ≡ cond (p x) (Some x) (cond b (Some y) (find p ys))) [
+            | true ↦ λ r. rw (false_from_ne_true (p x) (λ q. cc (e, g y q r))) refl
+            | false ↦ λ _. find-put cmp p x h g ys
           ]) refl
-    ]) refl
-
--- and no other is lost or made
-pub find-put_miss : {X : Type 0} (cmp : X → X → Ordering) (p : X → Bool) (x : X) → p x ≡ false → ((y : X) → cmp x y ≡ Equal → p y ≡ false) → (xs : List X) → find p (put_by (cmp x) xs x) ≡ find p xs
-find-put_miss cmp p x e h [] = simp e
-find-put_miss cmp p x e h (y ∷ ys) =
-    (elim (cmp x y) as (λ o. cmp x y ≡ o → find p (match_ordering o (x ∷ y ∷ ys) (x ∷ ys) (y ∷ put_by (cmp x) ys x)) ≡ find p (y ∷ ys)) [
-      | Less ↦ λ _. simp e
-      | Equal ↦ λ q. simp (e, h y q)
-      | Greater ↦ λ q. ap (λ r. cond (p y) (Some y) r) (find-put_miss cmp p x e h ys)
     ]) refl
 
 pub find_passes : {X : Type 0} (p : X → Bool) (xs : List X) (x : X) → find p xs ≡ Some x → p x ≡ true
@@ -117,15 +94,6 @@ some_found p (y ∷ ys) x (inr a) e = elim (p y) as (λ b. is_some (cond b (Some
 pub any-find : {X : Type 0} (p : X → Bool) (xs : List X) → list_any p xs ≡ is_some (find p xs)
 any-find p [] = refl
 any-find p (y ∷ ys) = elim (p y) as (λ b. (b || list_any p ys) ≡ is_some (cond b (Some y) (find p ys))) [ true ↦ refl | false ↦ any-find p ys ]
-
-pub any-put : {X : Type 0} (cmp : X → X → Ordering) (p : X → Bool) (x : X) → ((y : X) → cmp x y ≡ Equal → p y ≡ p x) → (xs : List X) → list_any p (put_by (cmp x) xs x) ≡ (p x || list_any p xs)
-any-put cmp p x h [] = refl
-any-put cmp p x h (y ∷ ys) =
-    (elim (cmp x y) as (λ o. cmp x y ≡ o → list_any p (match_ordering o (x ∷ y ∷ ys) (x ∷ ys) (y ∷ put_by (cmp x) ys x)) ≡ (p x || (p y || list_any p ys))) [
-      | Less ↦ λ _. refl
-      | Equal ↦ λ e. rw (h y e) (or_twice (p x) (list_any p ys))
-      | Greater ↦ λ _. ap (λ r. p y || r) (any-put cmp p x h ys) ∙ or_swap (p y) (p x) (list_any p ys)
-    ]) refl
 
 pub any_none : {X : Type 0} (p : X → Bool) (xs : List X) → list_any p xs ≡ false → find p xs ≡ None
 any_none p [] e = refl
@@ -287,9 +255,8 @@ count-put_most at p x [] = omega arith
 count-put_most at p x (y ∷ ys) =
     let ih = count-put_most at p x ys in
     elim (at y) as (λ o. count p (match_ordering o (x ∷ y ∷ ys) (x ∷ ys) (y ∷ put_by at ys x)) ≤ one (p x) + (one (p y) + count p ys)) [
-      | Less ↦ omega arith
-      | Equal ↦ omega arith
       | Greater ↦ omega (arith, ih)
+      | _ ↦ omega arith
     ]
 
 pub count-remove_most : {X : Type 0} (at : X → Ordering) (p : X → Bool) (xs : List X) → count p (remove_by at xs) ≤ count p xs
@@ -316,6 +283,10 @@ every_among P (y ∷ ys) x h (inr a) = every_among P ys x h.1 a
 pub every_from : {X : Type 0} (P : X → Type 0) (xs : List X) → ((x : X) → Among x xs → P x) → Every P xs
 every_from P [] h = tt
 every_from P (y ∷ ys) h = (h y (inl refl), every_from P ys (λ x a. h x (inr a)))
+
+pub every-append : {X : Type 0} (P : X → Type 0) (xs ys : List X) → Every P xs → Every P ys → Every P (xs ++ ys)
+every-append P [] ys h g = g
+every-append P (x ∷ xs) ys h g = (h.0, every-append P xs ys h.1 g)
 
 pub every-put : {X : Type 0} (at : X → Ordering) (P : X → Type 0) (x : X) → P x → (xs : List X) → Every P xs → Every P (put_by at xs x)
 every-put at P x p [] h = (p, tt)
@@ -399,9 +370,6 @@ pub count_zero : {X : Type 0} (p : X → Bool) (xs : List X) → ((x : X) → Am
 count_zero p [] h = refl
 count_zero p (y ∷ ys) h = let e : one (p y) ≡ 0 = ap one (h y (inl refl)) in let ih = count_zero p ys (λ x a. h x (inr a)) in omega (arith, e, ih)
 
-pub none_of_zero : {X : Type 0} (p : X → Bool) (xs : List X) → count p xs ≡ 0 → (x : X) → Among x xs → p x ≡ false
-none_of_zero p xs e x a = false_from_ne_true (p x) (λ q. let c = counted p xs x a q in absurd (omega (arith, e, c)))
-
 -- the one that is found passes, where at most one may and some does
 pub the_one : {X : Type 0} (p q : X → Bool) → ((x : X) → q x ≡ true → p x ≡ true) → (xs : List X) (a : X) → count p xs ≤ 1 → 1 ≤ count q xs → find p xs ≡ Some a → q a ≡ true
 the_one p q h [] a l m e = absurd (cc (e))
@@ -457,3 +425,28 @@ some_from (Some x) e = (x, refl)
 
 pub some_is : {X : Type 0} (x y : X) → Some x ≡ Some y → x ≡ y
 some_is x y e = cc
+
+-- what stands in a list after a put, or under a map, and what a look-up finds of it
+
+pub among_put : {T : Type 0} (at : T → Ordering) (r : T) (xs : List T) (z : T) → Among z (put_by at xs r) → (z ≡ r) ⊎ Among z xs
+among_put at r [] z (inl e) = inl e
+among_put at r [] z (inr a) = absurd a
+among_put at r (x ∷ xs) z a =
+    (elim (at x) as (λ o. Among z (match_ordering o (r ∷ x ∷ xs) (r ∷ xs) (x ∷ put_by at xs r)) → (z ≡ r) ⊎ Among z (x ∷ xs)) [
+      | Less ↦ λ b. b
+      | Equal ↦ λ b. elim b [ inl e ↦ inl e | inr w ↦ inr (inr w) ]
+      | Greater ↦ λ b. elim b [ inl e ↦ inr (inl e) | inr w ↦ elim (among_put at r xs z w) [ inl e ↦ inl e | inr v ↦ inr (inr v) ] ]
+    ]) a
+
+pub found_among : {T : Type 0} (at : T → Ordering) (xs : List T) (x : T) → find_by at xs ≡ Some x → Among x xs
+found_among at [] x e = absurd (cc (e))
+found_among at (y ∷ ys) x e =
+    (elim (is_eq (at y)) as (λ b. cond b (Some y) (find_by at ys) ≡ Some x → Among x (y ∷ ys)) [
+      | true ↦ λ q. inl cc
+      | false ↦ λ q. inr (found_among at ys x q)
+    ]) e
+
+pub mapped_among : {T S : Type 0} (f : T → S) (xs : List T) (z : S) → Among z (map f xs) → (x : T) × (Among x xs × (z ≡ f x))
+mapped_among f [] z a = absurd a
+mapped_among f (x ∷ xs) z (inl e) = (x, (inl refl, e))
+mapped_among f (x ∷ xs) z (inr a) = let m = mapped_among f xs z a in (m.0, (inr m.1.0, m.1.1))

@@ -1,32 +1,19 @@
 -- How many events a step makes at most.
-use Rattle.std.proofs.Common.{◌≡◌, ℕ, zero, suc, ◌+◌, ◌*◌, ◌≤◌, inl, inr, Bool, true, false, not, ◌&&◌, cond, List, [], ◌∷◌, ◌++◌, Option, Some, None, refl, sym, ◌∙◌, ap, arith, length, eq-eqb}
-use Rattle.std.specs.Prelude.{◌==◌, is_some, filter, nat_le}
-use Rattle.std.proofs.lemmas.Bool.{and_parts, not-true}
-use Rattle.acd_terms.specs.declared.rows.Rows.{Rows}
-use Rattle.acd_terms.specs.declared.record.AgentRecord.{AgentRecord}
-use Rattle.acd_terms.specs.declared.record.CallRecord.{CallRecord}
-use Rattle.acd_terms.specs.declared.record.ConnectionRecord.{ConnectionRecord}
-use Rattle.acd_terms.specs.declared.moves.Move.{Move}
-use Rattle.acd_terms.specs.Lists.{count, Among}
-use Rattle.acd_terms.specs.States.{is_queued}
-use Rattle.acd_terms.specs.Scans.{agent_of, call_of, connection_of, queued_in_all}
-use Rattle.acd_terms.specs.Moves.{moved}
-use Rattle.acd_laws.specs.Counts.{Rules, of_call}
+use Rattle.std.proofs.Common.{◌≡◌, ℕ, zero, suc, ◌+◌, ◌*◌, ◌≤◌, inl, inr, Bool, true, false, not, cond, List, [], ◌∷◌, ◌++◌, Option, Some, None, refl, sym, ◌∙◌, ap, arith, length, eq-eqb, length-append}
+use Rattle.std.specs.Prelude.{◌==◌, is_some, filter}
+use Rattle.std.proofs.lemmas.Bool.{not-true}
+use Rattle.acd_laws.proofs.Words.{Rows, AgentRecord, CallRecord, ConnectionRecord, Event, Move, Offer, Report, count, Among, is_queued, agent_of, call_of, connection_of, queued_in_all, moved, with_event, events_of, parties_of}
+use Rattle.acd_laws.proofs.Facts.{Rules}
 use Rattle.acd_laws.proofs.Lists.{one, filter_among, counted, fewer, count_length}
-use Rattle.acd_laws.proofs.State.{eqb_self, call_among, call_key}
-use Rattle.std.proofs.Common.{length-append}
-use Rattle.std.proofs.lemmas.Bool.{leb-true}
+use Rattle.acd_laws.proofs.Keyed.{eqb_self}
+use Rattle.acd_laws.proofs.State.{call_among, call_key, none_of_call}
 use Rattle.acd_terms.specs.Limits.{limits_fit}
-use Rattle.acd_terms.specs.declared.event.Event.{Event}
-use Rattle.acd_terms.specs.declared.event.Report.{Report}
-use Rattle.acd_terms.specs.declared.moves.Offer.{Offer}
-use Rattle.acd_terms.specs.Moves.{with_event, events_of}
-use Rattle.acd_terms.specs.Choice.{offer_of}
-use Rattle.acd_terms.specs.Distribution.{offer_at, offer_moves, with_offer, offers, distribution, station_of_agent}
-use Rattle.acd_terms.specs.Tick.{return_to, return_moves, rest_moves, each, is_overdue, overdue_in, is_rested, rested_in, returns, rests, tick}
-use Rattle.acd_laws.proofs.Found.{none_of_call}
-use Rattle.acd_laws.proofs.KeptClearing.{two_le}
-use Rattle.acd_laws.proofs.Steady.{count_all}
+use Rattle.acd_model.specs.Choice.{offer_of}
+use Rattle.acd_model.specs.Distribution.{offer_at, offer_moves, with_offer, offers, distribution, station_of_agent}
+use Rattle.acd_model.specs.Tick.{return_to, return_moves, rest_moves, each, is_overdue, overdue_in, is_rested, rested_in, returns, rests, tick}
+use Rattle.acd_laws.proofs.KeptEnds.{two_le}
+use Rattle.acd_laws.proofs.Orderly.{count_all}
+use Rattle.acd_laws.proofs.Decided.{◌and◌, within}
 
 -- no more events than moves
 event_length : (m : ℕ) (o : Option Report) (es : List Event) → length (with_event m o es) ≤ 1 + length es
@@ -59,30 +46,26 @@ fewer_filtered p q (x ∷ xs) =
     let ih = fewer_filtered p q xs in
     elim (q x) as (λ b. count p (cond b (x ∷ filter q xs) (filter q xs)) ≤ one (p x) + count p xs) [ true ↦ omega (arith, ih) | false ↦ omega (arith, ih) ]
 
-two_each : (cs : List CallRecord) (xs : List ConnectionRecord) → ((x : ConnectionRecord) → Among x xs → HasCall cs x) → ((c : CallRecord) → Among c cs → count (of_call c.call) xs ≤ 2) → length xs ≤ 2 * length cs
+two_each : (cs : List CallRecord) (xs : List ConnectionRecord) → ((x : ConnectionRecord) → Among x xs → HasCall cs x) → ((c : CallRecord) → Among c cs → count (parties_of c.call) xs ≤ 2) → length xs ≤ 2 * length cs
 two_each [] [] h f = omega arith
 two_each [] (x ∷ xs) h f = absurd ((h x (inl refl)).there)
 two_each (c ∷ cs) xs h f =
-    let rest : List ConnectionRecord = filter (λ x. not (of_call c.call x)) xs in
-    let a = split_length (of_call c.call) xs in
+    let rest : List ConnectionRecord = filter (λ x. not (parties_of c.call x)) xs in
+    let a = split_length (parties_of c.call) xs in
     let b = f c (inl refl) in
     let ih = two_each cs rest
-    (λ x i. (let w = filter_among (λ x. not (of_call c.call x)) xs x i in let k = h x w.0 in
+    (λ x i. (let w = filter_among (λ x. not (parties_of c.call x)) xs x i in let k = h x w.0 in
     elim k.there [
       | inl e ↦ absurd (cc (not-true (x.call == c.call) w.1, eq-eqb x.call c.call (sym k.same ∙ ap (λ (z : CallRecord). z.call) e)))
       | inr t ↦ record { call = k.call; there = t; same = k.same }
     ]))
-    (λ d i. (let u = f d (inr i) in let v = fewer_filtered (of_call d.call) (λ x. not (of_call c.call x)) xs in omega (arith, u, v))) in
+    (λ d i. (let u = f d (inr i) in let v = fewer_filtered (parties_of d.call) (λ x. not (parties_of c.call x)) xs in omega (arith, u, v))) in
     omega (arith, a, b, ih)
-
-no_some : (o : Option CallRecord) → ((c : CallRecord) → o ≡ Some c → ⊥) → o ≡ None
-no_some None h = refl
-no_some (Some c) h = absurd (h c refl)
 
 pub connections_length : (s : Rows) → Rules s → length s.connections ≤ 2 * length s.calls
 connections_length s r = two_each s.calls s.connections
     (λ x i. (elim (call_of s x.call) as (λ o. call_of s x.call ≡ o → HasCall s.calls x) [
-      | None ↦ λ e. (let z = none_of_call s r x.call e in let c = counted (of_call x.call) s.connections x i (eqb_self x.call) in absurd (omega (arith, z, c)))
+      | None ↦ λ e. (let z = none_of_call s r x.call e in let c = counted (parties_of x.call) s.connections x i (eqb_self x.call) in absurd (omega (arith, z, c)))
       | Some c ↦ λ e. record { call = c; there = call_among s x.call c e; same = call_key s x.call c e }
     ]) refl)
     (λ c i. (let p = r.parties c.call in let t = two_le (is_some (call_of s c.call)) in omega (arith, p, t)))
@@ -97,12 +80,8 @@ pub record Greatest (s : Rows) : Type 0 where
 pub greatest : (s : Rows) → limits_fit s.limits ≡ true → Greatest s
 unfolding limits_fit
 greatest s e =
-    let a = and_parts (nat_le s.limits.requests 1000000000 && nat_le s.limits.calls 2000 && nat_le s.limits.groups 64 && nat_le s.limits.stations 1000 && nat_le s.limits.agents 1000) (nat_le s.limits.monitors 256) e in
-    let b = and_parts (nat_le s.limits.requests 1000000000 && nat_le s.limits.calls 2000 && nat_le s.limits.groups 64 && nat_le s.limits.stations 1000) (nat_le s.limits.agents 1000) a.0 in
-    let c = and_parts (nat_le s.limits.requests 1000000000 && nat_le s.limits.calls 2000 && nat_le s.limits.groups 64) (nat_le s.limits.stations 1000) b.0 in
-    let d = and_parts (nat_le s.limits.requests 1000000000 && nat_le s.limits.calls 2000) (nat_le s.limits.groups 64) c.0 in
-    let f = and_parts (nat_le s.limits.requests 1000000000) (nat_le s.limits.calls 2000) d.0 in
-    record { calls = leb-true s.limits.calls 2000 f.1; agents = leb-true s.limits.agents 1000 b.1; requests = leb-true s.limits.requests 1000000000 f.0 }
+    let p = (within s.limits.requests 1000000000 and within s.limits.calls 2000 and within s.limits.groups 64 and within s.limits.stations 1000 and within s.limits.agents 1000 and within s.limits.monitors 256).0 e in
+    record { calls = p.0.0.0.0.1; agents = p.0.1; requests = p.0.0.0.0.0 }
 
 -- the moves of a distribution and of tick
 

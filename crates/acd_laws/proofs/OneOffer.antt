@@ -1,33 +1,19 @@
 -- No agent has two distributed calls: from the rules of rows.
-use Rattle.std.proofs.Common.{◌≡◌, ℕ, ◌≤◌, true, ◌&&◌, ◌⊎◌, inl, inr, Option, Some, None, refl, sym, ◌∙◌, ap, subst, arith}
+use Rattle.std.proofs.Common.{◌≡◌, ℕ, true, ◌&&◌, inl, inr, Option, Some, None, refl, sym, ◌∙◌, ap, subst, arith}
 use Rattle.std.specs.Prelude.{◌==◌, is_some}
 use Rattle.std.proofs.lemmas.Bool.{and_parts, and_from, eqb-true}
-use Rattle.acd_terms.specs.Lists.{Among}
-use Rattle.acd_terms.specs.States.{is_null, is_busy, is_alerting, is_answered}
-use Rattle.acd_terms.specs.Scans.{has, is_distributed}
-use Rattle.acd_terms.specs.OneOffer.{IsAttended, IsTalking}
-use Rattle.acd_terms.specs.declared.rows.Rows.{Rows}
-use Rattle.acd_terms.specs.declared.record.AgentRecord.{AgentRecord}
-use Rattle.acd_terms.specs.declared.record.ConnectionRecord.{ConnectionRecord}
-use Rattle.acd_terms.specs.declared.state.AgentState.{AgentState}
+use Rattle.acd_laws.proofs.Words.{Rows, AgentRecord, ConnectionRecord, Command, Among, is_null, is_busy, is_alerting, is_answered, has, is_distributed, IsAttended, IsTalking, HasOneOffer}
 use Rattle.acd_terms.specs.declared.state.AgentState.TheVariants as A
-use Rattle.acd_laws.specs.Counts.{Rules, IsPlannedStation, SeatedAs, AgentRule, ConnectionRule, talking_at, busy_at}
-use Rattle.acd_laws.specs.OneOfferLaws.{RulesGiveOneOffer, StepKeepsOneOffer, RunHasOneOffer}
+use Rattle.acd_laws.proofs.Facts.{Rules, IsPlannedStation, SeatedAs, AgentRule, ConnectionRule, talking_at, busy_at}
+use Rattle.acd_laws.specs.OneOfferLaws.{RunHasOneOffer}
 use Rattle.acd_laws.proofs.Lists.{every_among, counted, some_from}
-use Rattle.acd_laws.proofs.State.{eqb_self}
-use Rattle.acd_laws.proofs.KeptOffer.{ready_is, talking_is}
+use Rattle.acd_laws.proofs.Keyed.{eqb_self}
+use Rattle.acd_laws.proofs.States.{ready_is, busy_is}
+use Rattle.acd_laws.proofs.KeptOffer.{talking_is}
 use Rattle.acd_laws.proofs.Releasing.{serving, alerting_or_answered}
-use Rattle.acd_laws.proofs.RulesRead.{one_that}
-use Rattle.acd_laws.proofs.ConnectionsRead.{distributed_counts}
-use Rattle.acd_laws.proofs.RulesStep.{rules_step}
-use Rattle.acd_laws.proofs.Runs.{kept_by_run, rules_first}
-
-busy_is : (st : AgentState) → is_busy st ≡ true → st ≡ A.Busy
-busy_is A.Busy e = refl
-busy_is A.Null e = absurd (cc (e))
-busy_is A.NotReady e = absurd (cc (e))
-busy_is A.Ready e = absurd (cc (e))
-busy_is A.WorkingAfterCall e = absurd (cc (e))
+use Rattle.acd_laws.proofs.Decided.{one_that}
+use Rattle.acd_laws.proofs.Ended.{rules_step, kept_by_run, rules_first}
+use Rattle.acd_model.specs.Step.{step}
 
 planned_some : (s : Rows) (o : Option ℕ) → IsPlannedStation s o → is_some o ≡ true
 planned_some s None h = absurd h
@@ -66,14 +52,14 @@ talking s a r i e =
       station = d.1 ∙ ap Some (sym (eqb-true x.0.device d.0 h.1));
     }
 
-pub rules_give_one_offer : RulesGiveOneOffer
+pub rules_give_one_offer : (s : Rows) → Rules s → HasOneOffer s
 rules_give_one_offer s r = record {
-  one = λ d. subst (λ n. n ≤ 1) (sym (distributed_counts s d)) (r.one_offer d);
+  one = r.one_offer;
   attended = λ x i e. attended s x r i e;
   no_other = λ a i e. talking s a r i e;
 }
 
-pub step_keeps_one_offer : StepKeepsOneOffer
+pub step_keeps_one_offer : (s : Rows) (moment : ℕ) (command : Command) → Rules s → HasOneOffer (step s moment command).rows
 step_keeps_one_offer s moment command r = rules_give_one_offer _ (rules_step s moment command r)
 
 pub run_has_one_offer : RunHasOneOffer

@@ -1,31 +1,112 @@
--- The calls that wait in a group or ring from it stand by place as they entered: by moves in a row.
-use Rattle.std.proofs.Common.{◌≡◌, ℕ, ◌+◌, ◌<◌, ◌≤◌, ◌⊎◌, inl, inr, Bool, true, false, ◌&&◌, cond, List, [], ◌∷◌, ◌++◌, Option, Some, None, refl, sym, ◌∙◌, ap, subst, length, arith, append_assoc, eq-eqb}
+-- What a group holds is what entered and didn't leave; and the order of entries is that of places.
+use Rattle.std.proofs.Common.{◌≡◌, ℕ, ◌+◌, List, [], ◌∷◌, ◌++◌, Option, Some, None, refl, ◌∙◌, ap, arith, ◌<◌, ◌≤◌, ◌⊎◌, inl, inr, Bool, true, false, ◌&&◌, cond, sym, subst, length, append_assoc, eq-eqb}
+use Rattle.acd_laws.proofs.Words.{Rows, ConnectionRecord, Event, Move, Report, put_by, count, total, Among, IsAscending, connection_of, has, with_connection, without_connection, moved, event_at, with_event, events_of, connection_order, is_open}
+use Rattle.acd_model.specs.Figures.{is_entry, is_answer, is_abandonment, is_moving_away, figures_of}
+use Rattle.acd_model.specs.Rules.Occupied.{waits_in, rings_from}
+use Rattle.acd_laws.proofs.Lists.{one, total-append, some_is, among_put}
+use Rattle.acd_model.proofs.MoveLemmas.{moved_append, events_of_append}
+use Rattle.acd_laws.proofs.State.{count_new, count_old, count_less}
 use Rattle.std.specs.Prelude.{◌==◌}
 use Rattle.std.proofs.lemmas.List.{length-append}
 use Rattle.std.proofs.lemmas.Bool.{and_left, and_right, and_from, eqb-true, false_from_ne_true}
-use Rattle.acd_terms.specs.Lists.{Among, put_by}
-use Rattle.acd_terms.specs.Scans.{has}
-use Rattle.acd_terms.specs.Writes.{with_connection}
-use Rattle.acd_terms.specs.Moves.{moved, with_event, events_of, event_at}
 use Rattle.acd_terms.specs.Columns.{columns_of}
-use Rattle.acd_terms.specs.Figures.{is_entry}
-use Rattle.acd_terms.specs.Told.{enters, last_entry}
-use Rattle.acd_terms.specs.Watched.{is_held_by, IsHeldAt, InOrder}
-use Rattle.acd_terms.specs.Step.{numbered}
-use Rattle.acd_terms.specs.Rules.Plan.{connection_order}
-use Rattle.acd_terms.specs.declared.rows.Rows.{Rows}
-use Rattle.acd_terms.specs.declared.record.ConnectionRecord.{ConnectionRecord}
 use Rattle.acd_terms.specs.declared.state.ConnectionState.TheVariants as S
-use Rattle.acd_terms.specs.declared.event.Event.{Event}
-use Rattle.acd_terms.specs.declared.event.Report.{Report}
-use Rattle.acd_terms.specs.declared.moves.Move.{Move}
-use Rattle.acd_laws.specs.Counts.{is_open}
-use Rattle.acd_laws.proofs.Tells.{HasEntries, UpTo}
-use Rattle.acd_laws.proofs.Lists.{one, some_is}
-use Rattle.acd_laws.proofs.Members.{among_put}
-use Rattle.acd_laws.proofs.Serving.{moved-append}
-use Rattle.acd_laws.proofs.MoveEvents.{events-append, numbered-append}
-use Rattle.acd_laws.proofs.Balance.{entries, entry_by}
+use Rattle.acd_model.specs.Told.{enters, last_entry}
+use Rattle.acd_model.specs.Watched.{is_held_by, IsHeldAt, InOrder}
+use Rattle.acd_model.specs.Step.{numbered}
+use Rattle.acd_laws.proofs.Told.{HasEntries, UpTo}
+use Rattle.acd_laws.proofs.CountedEvents.{numbered-append}
+
+-- of a group: what waits in it and rings from it
+abbrev pub holding : Rows → ℕ → ℕ
+holding s g = count (waits_in g) s.connections + count (rings_from g) s.connections
+
+-- a connection's part of it
+abbrev pub held : ℕ → ConnectionRecord → ℕ
+held g x = one (waits_in g x) + one (rings_from g x)
+
+pub holding_new : (s : Rows) (x : ConnectionRecord) (g : ℕ) → connection_of s x.call x.device ≡ None → holding (with_connection s x) g ≡ held g x + holding s g
+unfolding with_connection
+holding_new s x g e = let a = count_new (waits_in g) s x e in let b = count_new (rings_from g) s x e in omega (arith, a, b)
+
+pub holding_old : (s : Rows) (x z : ConnectionRecord) (g : ℕ) → IsAscending connection_order s.connections → connection_of s x.call x.device ≡ Some z
+    → holding (with_connection s x) g + held g z ≡ held g x + holding s g
+unfolding with_connection
+holding_old s x z g h e = let a = count_old (waits_in g) s x z h e in let b = count_old (rings_from g) s x z h e in omega (arith, a, b)
+
+pub holding_less : (s : Rows) (c d : ℕ) (z : ConnectionRecord) (g : ℕ) → connection_of s c d ≡ Some z → holding (without_connection s c d) g + held g z ≡ holding s g
+unfolding without_connection
+holding_less s c d z g e = let a = count_less (waits_in g) s c d z e in let b = count_less (rings_from g) s c d z e in omega (arith, a, b)
+
+-- the entries of moves, and what leaves by them
+
+abbrev pub gone : ℕ → Report → ℕ
+gone g r = one (is_answer g r) + one (is_abandonment g r) + one (is_moving_away g r)
+
+abbrev pub entry_by : ℕ → Option Report → ℕ
+entry_by g None = 0
+entry_by g (Some r) = one (is_entry g r)
+
+abbrev pub gone_by : ℕ → Option Report → ℕ
+gone_by g None = 0
+gone_by g (Some r) = gone g r
+
+abbrev pub entries : ℕ → List Move → ℕ
+entries g ms = total (λ (x : Move). entry_by g x.report) ms
+
+abbrev pub leaves : ℕ → List Move → ℕ
+leaves g ms = total (λ (x : Move). gone_by g x.report) ms
+
+-- what a group holds after moves, and what left by them, is what it held and what entered
+abbrev pub Balances : Rows → List Move → Type 0
+Balances s ms = (g : ℕ) → holding (moved s ms) g + leaves g ms ≡ holding s g + entries g ms
+
+-- the same, counted from the events
+
+abbrev entered_in : ℕ → List Event → ℕ
+entered_in g events = count (λ (e : Event). is_entry g e.report) events
+
+abbrev gone_in : ℕ → List Event → ℕ
+gone_in g events =
+    count (λ (e : Event). is_answer g e.report) events + count (λ (e : Event). is_abandonment g e.report) events + count (λ (e : Event). is_moving_away g e.report) events
+
+entered_event : (g m : ℕ) (o : Option Report) (es : List Event) → entered_in g (with_event m o es) ≡ entry_by g o + entered_in g es
+entered_event g m None es = omega arith
+entered_event g m (Some r) es = refl
+
+gone_event : (g m : ℕ) (o : Option Report) (es : List Event) → gone_in g (with_event m o es) ≡ gone_by g o + gone_in g es
+gone_event g m None es = omega arith
+gone_event g m (Some r) es = omega arith
+
+entries_is : (g m : ℕ) (ms : List Move) → entered_in g (events_of m ms) ≡ entries g ms
+entries_is g m [] = refl
+entries_is g m (x ∷ ms) = entered_event g m x.report (events_of m ms) ∙ ap (λ n. entry_by g x.report + n) (entries_is g m ms)
+
+leaves_is : (g m : ℕ) (ms : List Move) → gone_in g (events_of m ms) ≡ leaves g ms
+leaves_is g m [] = refl
+leaves_is g m (x ∷ ms) = gone_event g m x.report (events_of m ms) ∙ ap (λ n. gone_by g x.report + n) (leaves_is g m ms)
+
+-- the figures that the events of balanced moves count
+pub balanced_events : (s : Rows) (m : ℕ) (ms : List Move) → Balances s ms → (g : ℕ)
+    → holding (moved s ms) g + ((figures_of g (events_of m ms)).answered + (figures_of g (events_of m ms)).abandoned + (figures_of g (events_of m ms)).moved)
+    ≡ holding s g + (figures_of g (events_of m ms)).entered
+unfolding figures_of
+balanced_events s m ms h g = let a = entries_is g m ms in let b = leaves_is g m ms in let c = h g in omega (arith, a, b, c)
+
+pub entries-append : (g : ℕ) (ms ns : List Move) → entries g (ms ++ ns) ≡ entries g ms + entries g ns
+entries-append g ms ns = total-append (λ (x : Move). entry_by g x.report) ms ns
+
+pub leaves-append : (g : ℕ) (ms ns : List Move) → leaves g (ms ++ ns) ≡ leaves g ms + leaves g ns
+leaves-append g ms ns = total-append (λ (x : Move). gone_by g x.report) ms ns
+
+pub balances-append : (s : Rows) (ms ns : List Move) → Balances s ms → Balances (moved s ms) ns → Balances s (ms ++ ns)
+balances-append s ms ns h f g =
+    let a = entries-append g ms ns in
+    let b = leaves-append g ms ns in
+    let c : holding (moved s (ms ++ ns)) g ≡ holding (moved (moved s ms) ns) g = ap (λ t. holding t g) (moved_append s ms ns) in
+    let d = h g in
+    let e = f g in
+    omega (arith, a, b, c, d, e)
 
 -- in order, each with an entry, and up to a stamp and an event's number
 pub record Ordered (b n : ℕ) (s : Rows) (events : List Event) : Type 0 where
@@ -89,8 +170,8 @@ pub order-append : (m a b c : ℕ) (s : Rows) (ms ns : List Move) → OrderKept 
 order-append m a b c s ms ns f g events n o =
     let first : List Event = events_of m ms in
     let second : List Event = events_of m ns in
-    subst (λ t. Ordered c (n + length (events_of m (ms ++ ns))) t (events ++ numbered n (events_of m (ms ++ ns)))) (sym (moved-append s ms ns))
-    (subst (λ (es : List Event). Ordered c (n + length es) (moved (moved s ms) ns) (events ++ numbered n es)) (sym (events-append m ms ns))
+    subst (λ t. Ordered c (n + length (events_of m (ms ++ ns))) t (events ++ numbered n (events_of m (ms ++ ns)))) (sym (moved_append s ms ns))
+    (subst (λ (es : List Event). Ordered c (n + length es) (moved (moved s ms) ns) (events ++ numbered n es)) (sym (events_of_append m ms ns))
     (ordered_on c n (moved (moved s ms) ns) events first second (g (events ++ numbered n first) (n + length first) (f events n o))))
 
 -- what is held after a change of connections
@@ -112,12 +193,10 @@ held_put s t l y g c p within was same h =
 pub held_open : (g : ℕ) (z : ConnectionRecord) → is_held_by g z ≡ true → is_open z.state ≡ true
 held_open g z h =
     (elim z.state as (λ st. is_held_by g (record z { state = st }) ≡ true → is_open st ≡ true) [
-      | S.Queued ↦ λ _. refl
-      | S.Alerting ↦ λ _. refl
-      | S.Fail ↦ λ _. refl
       | S.Initiated ↦ λ q. absurd (cc (q))
       | S.Connected ↦ λ q. absurd (cc (q))
       | S.Hold ↦ λ q. absurd (cc (q))
+      | _ ↦ λ _. refl
     ]) h
 
 -- an entry: the new place is the greatest, and the new event the last

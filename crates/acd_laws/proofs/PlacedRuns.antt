@@ -1,78 +1,105 @@
--- Where each call stands, how often it was cleared and which calls events name: by each step, and after every run.
-use Rattle.std.proofs.Common.{ℕ, ◌+◌, true, ◌&&◌, List, [], ◌++◌, Some, refl, sym, ◌∙◌, ap, subst, length}
-use Rattle.std.proofs.lemmas.Bool.{lt-leb}
-use Rattle.acd_terms.specs.Lists.{Every}
-use Rattle.acd_terms.specs.Scans.{call_of}
-use Rattle.acd_terms.specs.Placed.{cleared_by}
-use Rattle.acd_terms.specs.Figures.{with_figures}
-use Rattle.acd_terms.specs.Writes.{empty_rows, with_last}
-use Rattle.acd_terms.specs.Moves.{moved, events_of}
-use Rattle.acd_terms.specs.Served.{moves_of}
-use Rattle.acd_terms.specs.Distribution.{offer_moves, distribution}
-use Rattle.acd_terms.specs.Tick.{return_to, rest_moves}
-use Rattle.acd_terms.specs.Services.Serve.{serve}
-use Rattle.acd_terms.specs.Step.{executed_moment, next_stamp, step_moves, step}
-use Rattle.acd_terms.specs.declared.rows.Rows.{Rows}
-use Rattle.acd_terms.specs.declared.rows.Limits.{Limits}
-use Rattle.acd_terms.specs.declared.event.Event.{Event}
-use Rattle.acd_terms.specs.declared.command.Command.{Command}
-use Rattle.acd_terms.specs.declared.command.Command.TheVariants.{AddGroup, AddStation, AddAgent, ArriveCall, MakeCall, PhoneOffHook, AnswerCall, HoldCall, RetrieveCall, ClearConnection, DeflectCall, SingleStepTransfer, SetAgentState, MonitorStart, MonitorStop, Tick}
-use Rattle.acd_terms.specs.declared.moves.Move.{Move}
-use Rattle.acd_laws.specs.Counts.{Rules}
-use Rattle.acd_laws.specs.PlacedLaws.{NamesNoLaterCall, KeepsClearings, StepNamesNoLaterCall, RunNamesNoLaterCall, StepKeepsClearings, StepPlaces, RunIsPlaced}
-use Rattle.acd_laws.proofs.Lists.{one}
-use Rattle.acd_laws.proofs.Ticking.{Kept, kept-append, tick_keeps}
-use Rattle.acd_laws.proofs.Distributing.{distribution_keeps}
-use Rattle.acd_laws.proofs.RulesKept.{rules_serve}
-use Rattle.acd_laws.proofs.RulesStep.{rules_step}
-use Rattle.acd_laws.proofs.Runs.{kept_by_run, rules_first}
-use Rattle.acd_laws.proofs.Known.{AllCounted, Named, SameCalls, same_clearings, counted_plain, clearings_moved, clearings_numbered, names_moved, names_numbered}
-use Rattle.acd_laws.proofs.ClearedBy.{plain_add_group, plain_add_station, plain_add_agent, plain_monitor_start, plain_monitor_stop, counted_arrive_call, counted_make_call, plain_phone_off_hook, plain_answer_call, plain_hold_call, plain_retrieve_call, plain_deflect_call, plain_single_step_transfer, counted_clear_connection, plain_set_agent_state, counted_offer, counted_return, counted_rest}
-use Rattle.acd_laws.proofs.Placed.{placed_from}
+-- Where each call stands, how often it was cleared and which calls events name: of a state, by each step, and after every run.
+use Rattle.std.proofs.Common.{◌≡◌, ℕ, ◌+◌, ◌≤◌, ◌⊎◌, inl, inr, Bool, true, false, ◌&&◌, List, Some, None, refl, sym, ◌∙◌, ap, subst, arith, [], ◌++◌, length, ◌<◌, Option}
+use Rattle.std.specs.Prelude.{◌==◌, is_some, is_none, nat_le}
+use Rattle.std.proofs.lemmas.Bool.{and_parts, and_from, eqb-true, false_from_ne_true, le-leb, lt-leb}
+use Rattle.acd_laws.proofs.Words.{Rows, Limits, CallRecord, ConnectionRecord, ConnectionState, Command, Event, Move, Report, count, Among, Every, is_initiated, is_alerting, is_queued, call_of, is_group, is_station, empty_rows, with_last, moved, events_of, is_open, parties_of, initiated_of, open_of}
+use Rattle.acd_terms.specs.declared.state.ConnectionState.TheVariants as S
+use Rattle.acd_model.specs.Placed.{cleared_by, is_queued_of, is_alerting_of, IsCleared, IsWaiting, IsAtDevices, IsPlaced, clears}
+use Rattle.acd_laws.proofs.Facts.{Rules, ConnectionRule, IsCaller, StandsAt, two_if}
+use Rattle.acd_laws.specs.PlacedLaws.{KeepsClearings, PlacesExclude, NamesNoLaterCall, RunNamesNoLaterCall, RunIsPlaced, IsUpTo, clearings}
+use Rattle.acd_laws.proofs.Lists.{one, every_among, counted, fewer, both_fewer, count_zero}
+use Rattle.acd_laws.proofs.Decided.{zero_or}
+use Rattle.acd_model.specs.Figures.{with_figures}
+use Rattle.acd_model.specs.Services.Serve.{serve}
+use Rattle.acd_model.specs.Step.{executed_moment, next_stamp, step_moves, step}
+use Rattle.acd_laws.proofs.Distributing.{Kept}
+use Rattle.acd_laws.proofs.RulesKept.{by_deeds}
+use Rattle.acd_laws.proofs.Ended.{rules_step, ended, kept_by_run, rules_first, KeptByRules}
+use Rattle.acd_laws.proofs.Cleared.{AllCounted, Named, SameCalls, same_clearings, clearings_moved, clearings_numbered, names_moved, names_numbered, counted_deed, counted_round}
+use Rattle.std.proofs.lemmas.Bool.Decides.{leb_tells}
+use Rattle.acd_terms.specs.Columns.{columns_of}
+use Rattle.acd_terms.specs.declared.event.Report.TheVariants as report
 
--- what all counted moves keep
-abbrev CountedKeeps : (Rows → List Event → Type 0) → ℕ → Type 0
-CountedKeeps P m = (s : Rows) (es : List Event) (ms : List Move) → AllCounted s ms → P s es → Kept P m s es ms
+queued_or_alerting : (c : ℕ) (x : ConnectionRecord) → one (is_queued_of c x) + one (is_alerting_of c x) ≤ one (open_of c x)
+queued_or_alerting c x = go x.state (x.call == c)
+  where
+    go : (st : ConnectionState) (b : Bool) → one (b && is_queued st) + one (b && is_alerting st) ≤ one (is_open st && b)
+    go S.Queued true = omega arith
+    go S.Queued false = omega arith
+    go _ true = omega arith
+    go _ false = omega arith
 
-serve_keeps : (P : Rows → List Event → Type 0) (m k : ℕ) → CountedKeeps P m → (s : Rows) (es : List Event) (c : Command) → Rules s → P s es → Kept P m s es (moves_of (serve s m k c))
-serve_keeps P m k f s es (AddGroup device name ring wrap) r h = f s es _ (counted_plain s _ (plain_add_group s.last_call s device name ring wrap)) h
-serve_keeps P m k f s es (AddStation device) r h = f s es _ (counted_plain s _ (plain_add_station s.last_call s device)) h
-serve_keeps P m k f s es (AddAgent agent name) r h = f s es _ (counted_plain s _ (plain_add_agent s.last_call s m k agent name)) h
-serve_keeps P m k f s es (ArriveCall caller called) r h = f s es _ (counted_arrive_call s m k caller called r) h
-serve_keeps P m k f s es (MakeCall device called) r h = f s es _ (counted_make_call s m device called r) h
-serve_keeps P m k f s es (PhoneOffHook call device) r h = f s es _ (counted_plain s _ (plain_phone_off_hook s m k call device r)) h
-serve_keeps P m k f s es (AnswerCall call device) r h = f s es _ (counted_plain s _ (plain_answer_call s m k call device r)) h
-serve_keeps P m k f s es (HoldCall call device) r h = f s es _ (counted_plain s _ (plain_hold_call s call device r)) h
-serve_keeps P m k f s es (RetrieveCall call device) r h = f s es _ (counted_plain s _ (plain_retrieve_call s call device r)) h
-serve_keeps P m k f s es (ClearConnection call device) r h = f s es _ (counted_clear_connection s m k call device r) h
-serve_keeps P m k f s es (DeflectCall call device to) r h = f s es _ (counted_plain s _ (plain_deflect_call s m k call device to r)) h
-serve_keeps P m k f s es (SingleStepTransfer call device to) r h = f s es _ (counted_plain s _ (plain_single_step_transfer s m k call device to r)) h
-serve_keeps P m k f s es (SetAgentState agent q) r h = f s es _ (counted_plain s _ (plain_set_agent_state s.last_call s m k agent q)) h
-serve_keeps P m k f s es (MonitorStart device) r h = f s es _ (counted_plain s _ (plain_monitor_start s.last_call s device)) h
-serve_keeps P m k f s es (MonitorStop monitor) r h = f s es _ (counted_plain s _ (plain_monitor_stop s.last_call s monitor)) h
-serve_keeps P m k f s es Tick r h =
-    (tick_keeps P m k
-    (λ t es x g rt p own alerting group. f t es (return_to t m k x (Some g)) (counted_return t m k g x rt own) p)
-    (λ t es a rt p own works. f t es (rest_moves m k a) (counted_rest t m k a) p)
-    s es r h).1
+-- a connection that isn't queued stands at a station or at the caller
+at_device : (s : Rows) (x : ConnectionRecord) (k : CallRecord) (st : ConnectionState) → StandsAt s x st → is_queued st ≡ false → call_of s x.call ≡ Some k → (x.device ≡ k.caller) ⊎ (is_station s x.device ≡ true)
+at_device s x k S.Queued h e q = absurd (cc (e))
+at_device s x k S.Initiated h e q = inr h.0
+at_device s x k S.Connected (inl h) e q = inr h
+at_device s x k S.Connected (inr h) e q = inl (sym (subst (λ o. IsCaller o x.device) q h.1))
+at_device s x k _ h e q = inr h
 
--- the moves of a step: the service's, then the distribution's
-moves_keep : (P : Rows → List Event → Type 0) (m k : ℕ) → CountedKeeps P m → (s : Rows) (es : List Event) (c : Command) → Rules s → P s es → Kept P m s es (step_moves s m (serve s m k c))
-moves_keep P m k f s es c r h =
-    let ms : List Move = moves_of (serve s m k c) in
-    let t : Rows = moved s ms in
-    kept-append P m s es ms (distribution t m)
-    (distribution_keeps P m (λ v es o rv p e. f v es (offer_moves v m o) (counted_offer v m o rv e) p) t (es ++ events_of m ms) (rules_serve s m k c r) (serve_keeps P m k f s es c r h))
+at_queue : (s : Rows) (x : ConnectionRecord) (st : ConnectionState) → StandsAt s x st → is_queued st ≡ true → is_group s x.device ≡ true
+at_queue s x S.Queued h e = h
+at_queue s x _ h e = absurd (cc (e))
+
+-- a live call waits in one queue, or is at devices
+placed_live : (s : Rows) (events : List Event) (c : ℕ) (k : CallRecord) → Rules s → call_of s c ≡ Some k → cleared_by c events ≡ 0 → IsWaiting s events c ⊎ IsAtDevices s events c
+placed_live s events c k r live never =
+    let open_le = r.one_open c in
+    let both = both_fewer (is_queued_of c) (is_alerting_of c) (open_of c) (queued_or_alerting c) s.connections in
+    let rule : (x : ConnectionRecord) → Among x s.connections → ConnectionRule s x = λ x a. every_among (ConnectionRule s) s.connections x r.connections a in
+    elim (zero_or (count (is_queued_of c) s.connections)) [
+      | inr m ↦ inl (record {
+        live = k;
+        there = live;
+        never = never;
+        once = omega (arith, m, both, open_le);
+        at_group = λ x a e. at_queue s x x.state (rule x a).2 (and_parts (x.call == c) (is_queued x.state) e).1;
+        silent = omega (arith, m, both, open_le);
+      })
+      | inl z ↦ inr (record {
+        live = k;
+        there = live;
+        never = never;
+        some =
+            let p = r.parties c in
+            let f = fewer (initiated_of c) (parties_of c) (λ w h. (and_parts (is_initiated w.state) (w.call == c) h).1) s.connections in
+            let t : two_if (is_some (call_of s c)) ≡ 2 = rw live refl in
+            omega (arith, p, f, t);
+        none_queued = z;
+        at_devices = λ x a q.
+            let same : x.call ≡ c = eqb-true x.call c q in
+            at_device s x k x.state (rule x a).2
+            (false_from_ne_true (is_queued x.state) (λ e. let n = counted (is_queued_of c) s.connections x a (and_from (x.call == c) (is_queued x.state) q e) in omega (arith, n, z)))
+            (ap (call_of s) same ∙ live);
+      })
+    ]
+
+pub placed_from : (s : Rows) (events : List Event) → Rules s → KeepsClearings s events → IsPlaced s events
+placed_from s events r h c pos le =
+    (elim (call_of s c) as (λ o. call_of s c ≡ o → cleared_by c events ≡ one (nat_le c s.last_call && is_none o) → IsCleared s events c ⊎ IsWaiting s events c ⊎ IsAtDevices s events c) [
+      | None ↦ λ e q. inl (record { ended = e; once = q ∙ rw (le-leb c s.last_call le) refl })
+      | Some k ↦ λ e q. inr (placed_live s events c k r e (q ∙ none_if (nat_le c s.last_call)))
+    ]) refl (h c pos)
+  where
+    none_if : (b : Bool) → one (b && false) ≡ 0
+    none_if true = refl
+    none_if false = refl
+
+-- the three ways exclude one another
+pub places_exclude : PlacesExclude
+places_exclude s events c = (λ a b. cc (a.ended, b.there), λ a b. cc (a.ended, b.there), λ a b. let e = a.once in let z = b.none_queued in absurd (omega (arith, e, z)))
+
+-- what counted moves keep, deeds and rounds keep, and so a step's moves
+moves_keep : (P : Rows → List Event → Type 0) (m k : ℕ) → ((s : Rows) (es : List Event) (ms : List Move) → AllCounted s ms → P s es → Kept P m s es ms)
+    → (s : Rows) (es : List Event) (c : Command) → Rules s → P s es → Kept P m s es (step_moves s m (serve s m k c))
+moves_keep P m k f s es c r h = by_deeds P m k (λ v fs ms d rv p. f v fs ms (counted_deed v m k ms d rv) p) (λ v fs ms d rv p. f v fs ms (counted_round v m k ms d rv) p) s es c r h
 
 -- the end of a step sets figures and counters: calls stay
-abbrev ended : Rows → List Event → ℕ → ℕ → ℕ → Rows
-ended t es k m n = with_last (with_figures t es) k m n
-
 calls_ended : (t : Rows) (es : List Event) (k m n : ℕ) → SameCalls t (ended t es k m n)
 unfolding with_last with_figures
 calls_ended t es k m n = (refl, refl)
 
-pub step_names_no_later_call : StepNamesNoLaterCall
+pub step_names_no_later_call : KeptByRules NamesNoLaterCall
 unfolding step
 step_names_no_later_call s events moment command r h =
     let m : ℕ = executed_moment s moment in
@@ -85,7 +112,7 @@ step_names_no_later_call s events moment command r h =
     names_numbered (ended t es k m (s.last_event + length es)).last_call events es s.last_event
     (subst (λ (l : ℕ). Every (Named l) (events ++ es)) (sym same.1) kept)
 
-pub step_keeps_clearings : StepKeepsClearings
+pub step_keeps_clearings : KeptByRules KeepsClearings
 unfolding step
 step_keeps_clearings s events moment command r h n p =
     let m : ℕ = executed_moment s moment in
@@ -97,7 +124,7 @@ step_keeps_clearings s events moment command r h n p =
     let kept : KeepsClearings t (events ++ es) = moves_keep KeepsClearings m k (clearings_moved m) s events command r h in
     clearings_numbered t events es s.last_event kept n p ∙ sym (same_clearings t (ended t es k m (s.last_event + length es)) same n)
 
-pub step_places : StepPlaces
+pub step_places : (s : Rows) (events : List Event) (moment : ℕ) (command : Command) → Rules s → KeepsClearings s events → IsPlaced (step s moment command).rows (events ++ (step s moment command).events)
 step_places s events moment command r h = placed_from _ _ (rules_step s moment command r) (step_keeps_clearings s events moment command r h)
 
 -- runs
@@ -126,3 +153,33 @@ run_names_no_later_call limits asked = (kept_by_run History history_step limits 
 
 pub run_is_placed : RunIsPlaced
 run_is_placed limits asked = let h = kept_by_run History history_step limits (history_first limits) asked in placed_from _ _ h.rules h.cleared
+
+-- a report that names no call above the last clears none there
+clears_none : (last c : ℕ) (r : Report) → last < c → IsUpTo last (columns_of r).call → clears c r ≡ false
+clears_none last c (report.CallCleared n g) l h = false_from_ne_true (n == c) (λ e. let q = eqb-true n c e in absurd (omega (arith, l, h, q)))
+clears_none last c _ l h = refl
+
+never_cleared : (s : Rows) (events : List Event) (c : ℕ) → NamesNoLaterCall s events → s.last_call < c → cleared_by c events ≡ 0
+unfolding cleared_by
+never_cleared s events c h l =
+    count_zero (λ (e : Event). clears c e.report) events
+    (λ e i. clears_none s.last_call c e.report l (every_among (λ (e : Event). IsUpTo s.last_call (columns_of e.report).call) events e h i))
+
+-- where each call stands tells how often it was cleared
+cleared_as_placed : (s : Rows) (events : List Event) → NamesNoLaterCall s events → IsPlaced s events → KeepsClearings s events
+cleared_as_placed s events names placed c above =
+    elim (leb_tells c s.last_call) [
+      | inr w ↦ never_cleared s events c names w.1 ∙ sym (ap (λ b. one (b && is_none (call_of s c))) w.0)
+      | inl w ↦ elim (placed c above w.1) [
+        | inl p ↦ p.once ∙ sym (found w.0 p.ended)
+        | inr (inl p) ↦ p.never ∙ sym (found w.0 p.there)
+        | inr (inr p) ↦ p.never ∙ sym (found w.0 p.there)
+      ]
+    ]
+  where
+    found : {o : Option CallRecord} → nat_le c s.last_call ≡ true → call_of s c ≡ o → clearings s c ≡ one (is_none o)
+    found l e = rw (l, e) refl
+
+pub step_keeps_places : (s : Rows) (events : List Event) (moment : ℕ) (command : Command) → Rules s → NamesNoLaterCall s events → IsPlaced s events
+    → IsPlaced (step s moment command).rows (events ++ (step s moment command).events)
+step_keeps_places s events moment command r names placed = step_places s events moment command r (cleared_as_placed s events names placed)

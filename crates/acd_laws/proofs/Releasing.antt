@@ -1,42 +1,29 @@
 -- A release keeps the rules.
 use Rattle.std.proofs.Common.{◌≡◌, ℕ, ◌+◌, ◌≤◌, ◌⊎◌, inl, inr, Bool, true, false, not, ◌&&◌, cond, Option, Some, None, refl, sym, ◌∙◌, ap, subst, arith}
 use Rattle.std.specs.Prelude.{◌==◌, is_some}
-use Rattle.std.proofs.lemmas.Bool.{and_parts, and_from, eqb-true, false_from_ne_true, and_right, and_cases, cond-false}
-use Rattle.acd_terms.specs.declared.rows.Rows.{Rows}
-use Rattle.acd_terms.specs.declared.record.AgentRecord.{AgentRecord}
-use Rattle.acd_terms.specs.declared.record.ConnectionRecord.{ConnectionRecord}
-use Rattle.acd_terms.specs.declared.state.AgentState.{AgentState}
+use Rattle.std.proofs.lemmas.Bool.{and_parts, and_from, eqb-true, false_from_ne_true, and_right, and_cases}
+use Rattle.acd_laws.proofs.Words.{Rows, AgentRecord, ConnectionRecord, ConnectionState, AgentState, Pending, Ending, Release, put_by, count, Among, is_ready, is_busy, state_wanted, is_alerting, is_queued, is_answered, group_of, station_of, agent_of, call_of, has, agent_at, is_distributed, with_agent, no_move, changed, agent_order, is_distributed_at}
 use Rattle.acd_terms.specs.declared.state.AgentState.TheVariants as A
-use Rattle.acd_terms.specs.declared.state.Pending.{Pending}
 use Rattle.acd_terms.specs.declared.state.Pending.TheVariants as W
-use Rattle.acd_terms.specs.declared.state.ConnectionState.{ConnectionState}
 use Rattle.acd_terms.specs.declared.state.ConnectionState.TheVariants as S
-use Rattle.acd_terms.specs.declared.moves.Change.TheVariants.{PutAgent}
-use Rattle.acd_terms.specs.declared.moves.Ending.{Ending}
-use Rattle.acd_terms.specs.declared.moves.Ending.TheVariants.{Answered, Unanswered, NoAnswer}
-use Rattle.acd_terms.specs.declared.moves.Release.{Release}
-use Rattle.acd_terms.specs.declared.moves.Release.TheVariants.{Stays, Goes}
-use Rattle.acd_terms.specs.Lists.{put_by, count, Among}
-use Rattle.acd_terms.specs.States.{is_ready, is_busy, is_alerting, is_queued, is_answered, state_wanted}
-use Rattle.acd_terms.specs.Scans.{group_of, station_of, agent_of, call_of, has, agent_at, is_distributed}
-use Rattle.acd_terms.specs.Writes.{with_agent}
-use Rattle.acd_terms.specs.Moves.{no_move, changed}
-use Rattle.acd_terms.specs.AgentMoves.{in_state}
-use Rattle.acd_terms.specs.Release.{release_of, released, release_agent, ending_of, release}
-use Rattle.acd_terms.specs.Rules.Plan.{agent_order}
-use Rattle.acd_laws.specs.Counts.{RulesBut, Rules, IsPlannedStation, IsPlannedGroup, SeatedAs, AgentRule, HasColumns, ConnectionRule, distributed_at, ringing_at, talking_at, seated_at, ready_at, busy_at, pending_at}
-use Rattle.acd_laws.proofs.Lists.{one, ascending-put, every_among, every-put, among-put, counted, fewer, both_fewer, the_one, some_counted, some_from}
-use Rattle.acd_laws.proofs.State.{eqb_self, agents_total, agent_put, agent_among}
-use Rattle.acd_laws.proofs.Found.{count_agent, agent_seat, agent_there}
-use Rattle.acd_laws.proofs.KeptOffer.{ringing_is, talking_is, ready_is}
+use Rattle.acd_model.specs.declared.moves.Change.TheVariants.{PutAgent}
+use Rattle.acd_model.specs.declared.moves.Ending.TheVariants.{Answered, Unanswered, NoAnswer}
+use Rattle.acd_model.specs.declared.moves.Release.TheVariants.{Stays, Goes}
+use Rattle.acd_model.specs.AgentMoves.{in_state}
+use Rattle.acd_model.specs.Release.{release_of, released, release_agent, ending_of, release}
+use Rattle.acd_laws.proofs.Facts.{RulesBut, Rules, IsPlannedStation, IsPlannedGroup, SeatedAs, AgentRule, HasColumns, ConnectionRule, ringing_at, talking_at, seated_at, ready_at, busy_at, pending_at}
+use Rattle.acd_laws.proofs.Lists.{one, ascending-put, every_among, every-put, counted, fewer, the_one, some_counted, some_from}
+use Rattle.acd_laws.proofs.Keyed.{eqb_self}
+use Rattle.acd_laws.proofs.State.{agents_total, agent_among, count_agent, agent_seat, agent_there}
+use Rattle.acd_laws.proofs.MoveKinds.{releases, agent_others}
+use Rattle.acd_laws.proofs.Arriving.{with_agents, lone}
+use Rattle.acd_laws.proofs.KeptOffer.{ringing_is, talking_is}
+use Rattle.acd_laws.proofs.States.{ready_is}
 
 -- a seat that a station has
 pub seat_from : (s : Rows) (a : AgentRecord) (d : ℕ) (st : AgentState) → SeatedAs s a st → a.station ≡ Some d → IsPlannedStation s a.station × IsPlannedGroup s a.group
 seat_from s a d A.Null h e = absurd (cc (h.0, e))
-seat_from s a d A.NotReady h e = h
-seat_from s a d A.Ready h e = h
-seat_from s a d A.Busy h e = h
-seat_from s a d A.WorkingAfterCall h e = h
+seat_from s a d _ h e = h
 
 -- the record that a release leaves
 pub record Left (s : Rows) (a b : AgentRecord) : Type 0 where
@@ -48,73 +35,36 @@ pub record Left (s : Rows) (a b : AgentRecord) : Type 0 where
 
 pub left_pending : (s : Rows) (a : AgentRecord) (st : AgentState) → SeatedAs s a st → SeatedAs s (record a { pending = None }) st
 left_pending s a A.Null h = (h.0, h.1, refl)
-left_pending s a A.NotReady h = h
-left_pending s a A.Ready h = h
-left_pending s a A.Busy h = h
-left_pending s a A.WorkingAfterCall h = h
+left_pending s a _ h = h
 
 pub left_state : (s : Rows) (a : AgentRecord) (st : AgentState) (m k : ℕ) → is_busy st ≡ false → IsPlannedStation s a.station × IsPlannedGroup s a.group → Left s a (in_state st m k a)
 left_state s a A.Null m k n h = record { agent = refl; rule = (refl, refl, refl); station = λ e q. absurd (cc (q)); not_busy = refl; settled = refl }
-left_state s a A.NotReady m k n h = record { agent = refl; rule = h; station = λ e q. q; not_busy = refl; settled = refl }
-left_state s a A.Ready m k n h = record { agent = refl; rule = h; station = λ e q. q; not_busy = refl; settled = refl }
 left_state s a A.Busy m k n h = absurd (cc (n))
-left_state s a A.WorkingAfterCall m k n h = record { agent = refl; rule = h; station = λ e q. q; not_busy = refl; settled = refl }
+left_state s a _ m k n h = record { agent = refl; rule = h; station = λ e q. q; not_busy = refl; settled = refl }
 
-pub wanted_not_busy : (w : Pending) (st : AgentState) → state_wanted w ≡ st → is_busy st ≡ false
-wanted_not_busy W.LoggedOff st e = rw (← e) refl
-wanted_not_busy W.NotReady st e = rw (← e) refl
-wanted_not_busy W.Ready st e = rw (← e) refl
-wanted_not_busy W.WorkingAfterCall st e = rw (← e) refl
+pub wanted_not_busy : (w : Pending) → is_busy (state_wanted w) ≡ false
+wanted_not_busy W.LoggedOff = refl
+wanted_not_busy _ = refl
 
-goes_is : (p q : AgentState) → Goes p ≡ Goes q → p ≡ q
-goes_is p q e = cc
+-- a release leads to no busy state
+abbrev NotBusy : Release → Type 0
+NotBusy Stays = Unit {0}
+NotBusy (Goes st) = is_busy st ≡ false
 
-pub release_not_busy : (how : Ending) (w : Option Pending) (st : AgentState) → release_of how w ≡ Goes st → is_busy st ≡ false
-release_not_busy Answered None st e = rw (← goes_is _ _ e) refl
-release_not_busy Unanswered None st e = absurd (cc (e))
-release_not_busy NoAnswer None st e = rw (← goes_is _ _ e) refl
-release_not_busy Answered (Some w) st e = wanted_not_busy w st (wanted w e)
-  where
-    wanted : (v : Pending) → release_of Answered (Some v) ≡ Goes st → state_wanted v ≡ st
-    wanted W.LoggedOff q = goes_is _ _ q
-    wanted W.NotReady q = goes_is _ _ q
-    wanted W.Ready q = goes_is _ _ q
-    wanted W.WorkingAfterCall q = goes_is _ _ q
-release_not_busy Unanswered (Some W.Ready) st e = absurd (cc (e))
-release_not_busy Unanswered (Some W.LoggedOff) st e = rw (← goes_is _ _ e) refl
-release_not_busy Unanswered (Some W.NotReady) st e = rw (← goes_is _ _ e) refl
-release_not_busy Unanswered (Some W.WorkingAfterCall) st e = rw (← goes_is _ _ e) refl
-release_not_busy NoAnswer (Some W.LoggedOff) st e = rw (← goes_is _ _ e) refl
-release_not_busy NoAnswer (Some W.NotReady) st e = rw (← goes_is _ _ e) refl
-release_not_busy NoAnswer (Some W.Ready) st e = rw (← goes_is _ _ e) refl
-release_not_busy NoAnswer (Some W.WorkingAfterCall) st e = rw (← goes_is _ _ e) refl
-
--- at a station and not busy
-still_at : ℕ → AgentRecord → Bool
-still_at e z = not (is_busy z.state) && has z.station e
-
-still : (z : AgentRecord) (e : ℕ) → is_busy z.state ≡ false → has z.station e ≡ true → still_at e z ≡ true
-unfolding still_at
-still z e f q = and_from _ _ (ap not f) q
-
-busy_or_still : (e : ℕ) (z : AgentRecord) → one (busy_at e z) + one (still_at e z) ≤ one (seated_at e z)
-unfolding still_at
-busy_or_still e z = elim (is_busy z.state) as (λ b. one (b && has z.station e) + one (not b && has z.station e) ≤ one (has z.station e)) [ true ↦ omega arith | false ↦ omega arith ]
-
--- at a station and waiting for nothing
-pub settled_at : ℕ → AgentRecord → Bool
-settled_at e z = not (is_some z.pending) && has z.station e
-
-pub settled_is : (z : AgentRecord) (e : ℕ) → z.pending ≡ None → has z.station e ≡ true → settled_at e z ≡ true
-unfolding settled_at
-settled_is z e f q = and_from _ _ (rw f refl) q
-
-pub pending_or_settled : (e : ℕ) (z : AgentRecord) → one (pending_at e z) + one (settled_at e z) ≤ one (seated_at e z)
-unfolding settled_at
-pending_or_settled e z = elim (is_some z.pending) as (λ b. one (b && has z.station e) + one (not b && has z.station e) ≤ one (has z.station e)) [ true ↦ omega arith | false ↦ omega arith ]
+release_not_busy : (how : Ending) (w : Option Pending) → NotBusy (release_of how w)
+release_not_busy Answered None = refl
+release_not_busy Answered (Some W.LoggedOff) = refl
+release_not_busy Answered _ = refl
+release_not_busy Unanswered None = tt
+release_not_busy Unanswered (Some W.Ready) = tt
+release_not_busy Unanswered (Some W.LoggedOff) = refl
+release_not_busy Unanswered _ = refl
+release_not_busy NoAnswer None = refl
+release_not_busy NoAnswer (Some W.LoggedOff) = refl
+release_not_busy NoAnswer _ = refl
 
 -- one agent's record is put, at a station where no connection is distributed
-pub left_keeps : (loose : ℕ → Bool) (v : Rows) (a b : AgentRecord) (d : ℕ) → RulesBut loose v → agent_of v a.agent ≡ Some a → a.station ≡ Some d → count (distributed_at d) v.connections ≡ 0 → Left v a b
+pub left_keeps : (loose : ℕ → Bool) (v : Rows) (a b : AgentRecord) (d : ℕ) → RulesBut loose v → agent_of v a.agent ≡ Some a → a.station ≡ Some d → count (is_distributed_at d) v.connections ≡ 0 → Left v a b
     → RulesBut (λ e. loose e && not (d == e)) (changed v (PutAgent b))
 unfolding with_agent call_of group_of station_of
 left_keeps loose v a b d r there station vacant l =
@@ -122,7 +72,7 @@ left_keeps loose v a b d r there station vacant l =
     count_agent p v b a r.orders.agents (rw l.agent there) in
     let elsewhere : (e : ℕ) → (d == e) ≡ false → (has a.station e ≡ false) × (has b.station e ≡ false) = λ e q.
     let f : has a.station e ≡ false = rw (station, q) refl in (f, false_from_ne_true _ (λ w. cc (f, l.station e w))) in
-    let nobody : (e : ℕ) → (d == e) ≡ true → count (distributed_at e) v.connections ≡ 0 = λ e q. subst (λ w. count (distributed_at w) v.connections ≡ 0) (eqb-true d e q) vacant in
+    let nobody : (e : ℕ) → (d == e) ≡ true → count (is_distributed_at e) v.connections ≡ 0 = λ e q. subst (λ w. count (is_distributed_at w) v.connections ≡ 0) (eqb-true d e q) vacant in
     let tight : (e : ℕ) → (loose e && not (d == e)) ≡ false → (d == e) ≡ false → loose e ≡ false = λ e h q.
     elim (and_cases (loose e) (not (d == e)) h) [ inl w ↦ w | inr w ↦ absurd (cc (rw q at w)) ] in
     let one_left : (e : ℕ) → count (seated_at e) (put_by (agent_order b) v.agents b) ≤ 1 = λ e. let c = counts (seated_at e) in let o = r.one_agent e in
@@ -130,69 +80,35 @@ left_keeps loose v a b d r there station vacant l =
       | true ↦ λ q. let f : one (seated_at e a) ≡ 1 = ap one (l.station e q) in let g : one (seated_at e b) ≡ 1 = ap one q in omega (arith, c, o, f, g)
       | false ↦ λ q. let g : one (seated_at e b) ≡ 0 = ap one q in omega (arith, c, o, g)
     ]) refl in
-    let none_busy : (e : ℕ) → (d == e) ≡ true → count (busy_at e) (put_by (agent_order b) v.agents b) ≡ 0 = λ e h.
-    let c = counts (seated_at e) in let o = r.one_agent e in let s1 = one_left e in
-    let here : one (seated_at e a) ≡ 1 = rw (station, h) refl in
-    (elim (has b.station e) as (λ x. has b.station e ≡ x → count (busy_at e) (put_by (agent_order b) v.agents b) ≡ 0) [
-      | true ↦ λ q.
-          let w = counted (still_at e) (put_by (agent_order b) v.agents b) b (among-put (agent_order b) b v.agents) (still b e l.not_busy q) in
-          let f = both_fewer (busy_at e) (still_at e) (seated_at e) (busy_or_still e) (put_by (agent_order b) v.agents b) in omega (arith, w, f, s1)
-      | false ↦ λ q. let g : one (seated_at e b) ≡ 0 = ap one q in
-          let f = fewer (busy_at e) (seated_at e) (λ z w. (and_parts (is_busy z.state) (has z.station e) w).1) (put_by (agent_order b) v.agents b) in omega (arith, c, o, here, g, f)
-    ]) refl in
-    let none_pending : (e : ℕ) → (d == e) ≡ true → count (pending_at e) (put_by (agent_order b) v.agents b) ≡ 0 = λ e h.
-    let c = counts (seated_at e) in let o = r.one_agent e in let s1 = one_left e in
-    let here : one (seated_at e a) ≡ 1 = rw (station, h) refl in
-    (elim (has b.station e) as (λ x. has b.station e ≡ x → count (pending_at e) (put_by (agent_order b) v.agents b) ≡ 0) [
-      | true ↦ λ q.
-          let w = counted (settled_at e) (put_by (agent_order b) v.agents b) b (among-put (agent_order b) b v.agents) (settled_is b e l.settled q) in
-          let f = both_fewer (pending_at e) (settled_at e) (seated_at e) (pending_or_settled e) (put_by (agent_order b) v.agents b) in omega (arith, w, f, s1)
-      | false ↦ λ q. let g : one (seated_at e b) ≡ 0 = ap one q in
-          let f = fewer (pending_at e) (seated_at e) (λ z w. (and_parts (is_some z.pending) (has z.station e) w).1) (put_by (agent_order b) v.agents b) in omega (arith, c, o, here, g, f)
-    ]) refl in
-    record {
-      orders = record {
-        groups = r.orders.groups;
-        stations = r.orders.stations;
-        monitors = r.orders.monitors;
-        calls = r.orders.calls;
-        connections = r.orders.connections;
-        agents = ascending-put agent_order agents_total b v.agents r.orders.agents;
-      };
-      kinds = r.kinds;
-      agents = every-put (agent_order b) (AgentRule v) b l.rule v.agents r.agents;
-      calls = r.calls;
-      connections = r.connections;
-      parties = r.parties;
-      one_open = r.one_open;
-      one_live = r.one_live;
-      no_hold = r.no_hold;
-      one_offer = r.one_offer;
+    let none_left : (p : AgentRecord → Bool) (e : ℕ) → ((z : AgentRecord) → p z ≡ true → has z.station e ≡ true) → (d == e) ≡ true → p b ≡ false → count p (put_by (agent_order b) v.agents b) ≡ 0 = λ p e f h n.
+    let c = counts p in let o = lone p (seated_at e) v.agents a f (agent_among v a.agent a there) (rw (station, h) refl) (r.one_agent e) in let z : one (p b) ≡ 0 = ap one n in omega (arith, c, o, z) in
+    with_agents loose (λ e. loose e && not (d == e)) v (put_by (agent_order b) v.agents b) r (λ e h. (and_parts (loose e) (not (d == e)) h).0) (record {
+      sorted = ascending-put agent_order agents_total b v.agents r.orders.agents;
+      rules = every-put (agent_order b) (AgentRule v) b l.rule v.agents r.agents;
       one_agent = one_left;
       ready = λ e h.
           (elim (d == e) as (λ x. (d == e) ≡ x → count (ringing_at e) v.connections ≤ count (ready_at e) (put_by (agent_order b) v.agents b)) [
-            | true ↦ λ q. let z = nobody e q in let f = fewer (ringing_at e) (distributed_at e) (ringing_is e) v.connections in omega (arith, z, f)
+            | true ↦ λ q. let z = nobody e q in let f = fewer (ringing_at e) (is_distributed_at e) (ringing_is e) v.connections in omega (arith, z, f)
             | false ↦ λ q. let c = counts (ready_at e) in let o = r.ready e (tight e h q) in
                 let f : one (ready_at e a) ≡ 0 = ap one (and_right (is_ready a.state) (has a.station e) (elsewhere e q).0) in
                 let g : one (ready_at e b) ≡ 0 = ap one (and_right (is_ready b.state) (has b.station e) (elsewhere e q).1) in omega (arith, c, o, f, g)
           ]) refl;
       busy = λ e h.
           (elim (d == e) as (λ x. (d == e) ≡ x → count (talking_at e) v.connections ≡ count (busy_at e) (put_by (agent_order b) v.agents b)) [
-            | true ↦ λ q. let z = nobody e q in let f = fewer (talking_at e) (distributed_at e) (talking_is e) v.connections in
-                let w = none_busy e q in omega (arith, z, f, w)
+            | true ↦ λ q. let z = nobody e q in let f = fewer (talking_at e) (is_distributed_at e) (talking_is e) v.connections in
+                let w = none_left (busy_at e) e (λ z w. (and_parts (is_busy z.state) (has z.station e) w).1) q (rw l.not_busy refl) in omega (arith, z, f, w)
             | false ↦ λ q. let c = counts (busy_at e) in let o = r.busy e (tight e h q) in
                 let f : one (busy_at e a) ≡ 0 = ap one (and_right (is_busy a.state) (has a.station e) (elsewhere e q).0) in
                 let g : one (busy_at e b) ≡ 0 = ap one (and_right (is_busy b.state) (has b.station e) (elsewhere e q).1) in omega (arith, c, o, f, g)
           ]) refl;
       pending = λ e h.
-          (elim (d == e) as (λ x. (d == e) ≡ x → count (pending_at e) (put_by (agent_order b) v.agents b) ≤ count (distributed_at e) v.connections) [
-            | true ↦ λ q. let w = none_pending e q in omega (arith, w)
+          (elim (d == e) as (λ x. (d == e) ≡ x → count (pending_at e) (put_by (agent_order b) v.agents b) ≤ count (is_distributed_at e) v.connections) [
+            | true ↦ λ q. let w = none_left (pending_at e) e (λ z w. (and_parts (is_some z.pending) (has z.station e) w).1) q (rw l.settled refl) in omega (arith, w)
             | false ↦ λ q. let c = counts (pending_at e) in let o = r.pending e (tight e h q) in
                 let f : one (pending_at e a) ≡ 0 = ap one (and_right (is_some a.pending) (has a.station e) (elsewhere e q).0) in
                 let g : one (pending_at e b) ≡ 0 = ap one (and_right (is_some b.pending) (has b.station e) (elsewhere e q).1) in omega (arith, c, o, f, g)
           ]) refl;
-      free = λ e h. r.free e (and_parts (loose e) (not (d == e)) h).0;
-    }
+    })
 
 -- the agent of a distributed connection
 pub record Serves (s : Rows) (x : ConnectionRecord) (a : AgentRecord) : Type 0 where
@@ -248,14 +164,14 @@ serving s x r among e =
 pub record Ends (x : ConnectionRecord) (how : Ending) : Type 0 where
   pub stays : is_distributed x ≡ true → (w : Option Pending) → release_of how w ≡ Stays → is_alerting x.state ≡ true
 
-left_by : (v : Rows) (a : AgentRecord) (to : Release) (m k d : ℕ) → AgentRule v a → IsPlannedStation v a.station × IsPlannedGroup v a.group → (to ≡ Stays → is_busy a.state ≡ false) → ((st : AgentState) → to ≡ Goes st → is_busy st ≡ false)
+left_by : (v : Rows) (a : AgentRecord) (to : Release) (m k d : ℕ) → AgentRule v a → IsPlannedStation v a.station × IsPlannedGroup v a.group → (to ≡ Stays → is_busy a.state ≡ false) → NotBusy to
     → (b : AgentRecord) × ((released m k a d to).change ≡ PutAgent b) × Left v a b
 left_by v a Stays m k d rule seat idle n = (record a { pending = None }, refl, record { agent = refl; rule = left_pending v a a.state rule; station = λ e q. q; not_busy = idle refl; settled = refl })
-left_by v a (Goes st) m k d rule seat idle n = (in_state st m k a, refl, left_state v a st m k (n st refl) seat)
+left_by v a (Goes st) m k d rule seat idle n = (in_state st m k a, refl, left_state v a st m k n seat)
 
 -- after a release at the device of x
 released_agent : (loose : ℕ → Bool) (v : Rows) (o : Option AgentRecord) (a : AgentRecord) (x : ConnectionRecord) (how : Ending) (m k : ℕ) → RulesBut loose v → o ≡ Some a → agent_of v a.agent ≡ Some a → a.station ≡ Some x.device
-    → count (distributed_at x.device) v.connections ≡ 0 → (release_of how a.pending ≡ Stays → is_busy a.state ≡ false)
+    → count (is_distributed_at x.device) v.connections ≡ 0 → (release_of how a.pending ≡ Stays → is_busy a.state ≡ false)
     → RulesBut (λ e. loose e && not (x.device == e)) (changed v (release_agent m k o x.device how).change)
 released_agent loose v None a x how m k r e there station vacant idle = absurd (cc (e))
 released_agent loose v (Some z) a x how m k r e there station vacant idle =
@@ -289,7 +205,7 @@ not_and false = refl
 
 -- s is the state before the service, v the one in which the agent is released
 pub after_release : (loose : ℕ → Bool) (s v : Rows) (x : ConnectionRecord) (how : Ending) (m k : ℕ) → RulesBut loose v → ((a : AgentRecord) → Serves s x a → agent_of v a.agent ≡ Some a) → Rules s → Among x s.connections
-    → (is_distributed x ≡ true → count (distributed_at x.device) v.connections ≡ 0) → Ends x how
+    → (is_distributed x ≡ true → count (is_distributed_at x.device) v.connections ≡ 0) → Ends x how
     → RulesBut (λ e. loose e && not (is_distributed x && (x.device == e))) (changed v (release s m k x how).change)
 unfolding release
 after_release loose s v x how m k r kept rs among vacant ends =
@@ -303,10 +219,7 @@ after_release loose s v x how m k r kept rs among vacant ends =
 
 answered_moves : (w : Option Pending) → release_of Answered w ≡ Stays → ⊥
 answered_moves None e = cc
-answered_moves (Some W.LoggedOff) e = cc
-answered_moves (Some W.NotReady) e = cc
-answered_moves (Some W.Ready) e = cc
-answered_moves (Some W.WorkingAfterCall) e = cc
+answered_moves _ e = cc
 
 -- as a clearing or a deflection ends it
 pub ends_by : (s : Rows) (x : ConnectionRecord) → ConnectionRule s x → Ends x (ending_of x)
@@ -319,18 +232,5 @@ ends_by s x rule = record {
 }
 
 -- a release leaves the agents of other numbers
-released_other : (t : Rows) (o : Option AgentRecord) (d : ℕ) (how : Ending) (m k n : ℕ) → ((a : AgentRecord) → o ≡ Some a → (a.agent == n) ≡ false) → agent_of (changed t (release_agent m k o d how).change) n ≡ agent_of t n
-released_other t None d how m k n h = refl
-released_other t (Some a) d how m k n h = by (release_of how a.pending)
-  where
-    by : (to : Release) → agent_of (changed t (released m k a d to).change) n ≡ agent_of t n
-    by Stays = agent_put t (record a { pending = None }) n ∙ cond-false (a.agent == n) _ _ (h a refl)
-    by (Goes st) = agent_put t (in_state st m k a) n ∙ cond-false (a.agent == n) _ _ (h a refl)
-
 pub release_other_kept : (s t : Rows) (x : ConnectionRecord) (how : Ending) (m k n : ℕ) → ((a : AgentRecord) → agent_at s x.device ≡ Some a → (a.agent == n) ≡ false) → agent_of (changed t (release s m k x how).change) n ≡ agent_of t n
-unfolding release
-release_other_kept s t x how m k n h =
-    elim (is_distributed x) as (λ b. agent_of (changed t (cond b (release_agent m k (agent_at s x.device) x.device how) no_move).change) n ≡ agent_of t n) [
-      | true ↦ released_other t (agent_at s x.device) x.device how m k n h
-      | false ↦ refl
-    ]
+release_other_kept s t x how m k n h = agent_others m k n t _ (releases (λ a. (a.agent == n) ≡ false) s m k x how h)

@@ -1,46 +1,39 @@
 -- Offers, returns and ends of after-call work keep what they meet within bounds.
-use Rattle.std.proofs.Common.{◌≡◌, ℕ, ◌+◌, ◌≤◌, false, not, ◌&&◌, List, [], ◌∷◌, ◌++◌, Option, Some, None, refl, sym, ◌∙◌, ap, subst, arith, length}
-use Rattle.std.specs.Prelude.{◌==◌, is_some}
+use Rattle.std.proofs.Common.{◌≡◌, ℕ, ◌+◌, ◌≤◌, Bool, false, List, [], ◌∷◌, ◌++◌, Option, Some, None, refl, ◌∙◌, ap, arith, length}
+use Rattle.std.specs.Prelude.{◌==◌}
 use Rattle.std.proofs.lemmas.Bool.{and_right}
-use Rattle.acd_terms.specs.declared.rows.Rows.{Rows}
-use Rattle.acd_terms.specs.declared.record.ConnectionRecord.{ConnectionRecord}
-use Rattle.acd_terms.specs.declared.state.AgentState.TheVariants as A
-use Rattle.acd_terms.specs.declared.event.Cause.TheVariants as C
-use Rattle.acd_terms.specs.declared.moves.Move.{Move}
-use Rattle.acd_terms.specs.declared.moves.Ending.TheVariants.{NoAnswer}
-use Rattle.acd_terms.specs.Lists.{count, Every, IsAscending}
-use Rattle.acd_terms.specs.Scans.{connection_of, has}
-use Rattle.acd_terms.specs.Writes.{with_connection, without_connection}
-use Rattle.acd_terms.specs.Moves.{changed, moved}
-use Rattle.acd_terms.specs.CallMoves.{queueing, ringing}
-use Rattle.acd_terms.specs.AgentMoves.{go_from}
-use Rattle.acd_terms.specs.Rules.Plan.{agent_order}
-use Rattle.acd_laws.specs.Counts.{Rules}
-use Rattle.acd_laws.proofs.Lists.{one, every_among, count-append}
-use Rattle.acd_laws.proofs.State.{connection_among}
-use Rattle.acd_terms.specs.declared.event.Event.{Event}
-use Rattle.acd_terms.specs.declared.event.Report.{Report}
-use Rattle.acd_terms.specs.Moves.{with_event, events_of}
-use Rattle.acd_terms.specs.Figures.{is_entry, is_no_answer}
-use Rattle.acd_terms.specs.Distribution.{offer_at, distribution}
-use Rattle.acd_terms.specs.Tick.{return_to, rest_moves, returns, tick}
-use Rattle.acd_laws.specs.Bounds.{IsMoment, IsAfter, ConnectionTimed, at_place, Timed}
-use Rattle.acd_laws.proofs.Balance.{entries, entry_by}
-use Rattle.acd_laws.proofs.Found.{count_less}
-use Rattle.acd_laws.proofs.Steady.{AllSteady, Steadied, steadied, steadied_then, unchanged}
-use Rattle.acd_laws.proofs.Orderly.{AllFit, WaitsUpTo, timed_moved, fit_release, entry_release, entry_go_from, places_put, places_release, steady_release, steady_go_from}
-use Rattle.acd_laws.proofs.Ticking.{ReturnKeeps, RestKeeps, returned, tick_keeps}
-use Rattle.acd_laws.proofs.Distributing.{offering, offer_moves_are, offer_own, distribution_keeps}
-use Rattle.acd_laws.proofs.BehavingCalls.{behaves_go_from, go_from_connections}
+use Rattle.acd_laws.proofs.Words.{Rows, ConnectionRecord, Event, Move, Report, count, Every, IsAscending, connection_of, has, with_connection, without_connection, reported, moved, with_event, events_of, agent_order}
+use Rattle.acd_terms.specs.declared.state.AgentState.TheVariants.{Ready}
+use Rattle.acd_terms.specs.declared.event.Cause.TheVariants.{Distributed, NoAnswer as Unanswered}
+use Rattle.acd_terms.specs.declared.event.Report.TheVariants as report
+use Rattle.acd_model.specs.declared.moves.Ending.TheVariants.{NoAnswer}
+use Rattle.acd_model.specs.CallMoves.{queueing, ringing, divert, offer, go_back}
+use Rattle.acd_model.specs.Figures.{is_entry}
+use Rattle.acd_model.specs.declared.moves.Change.TheVariants.{PutConnection, RemoveConnection}
+use Rattle.acd_model.specs.Release.{release}
+use Rattle.acd_model.specs.Distribution.{distribution}
+use Rattle.acd_model.specs.Tick.{returns as all_returns, tick}
+use Rattle.acd_laws.proofs.Facts.{Rules, IsMoment, IsAfter, ConnectionTimed, at_place, Timed}
+use Rattle.acd_laws.proofs.Lists.{one, count-append, every-append}
+use Rattle.acd_laws.proofs.Order.{entries, entry_by}
+use Rattle.acd_laws.proofs.State.{count_less, connection_there}
+use Rattle.acd_laws.proofs.Distributing.{returned}
+use Rattle.acd_laws.proofs.MoveKinds.{Recorded, goes_from, releases_here}
+use Rattle.acd_laws.proofs.Deeds.{offers, returns, rests}
+use Rattle.acd_laws.proofs.RulesKept.{RoundKeeps, by_rounds, by_tick}
+use Rattle.acd_laws.proofs.Orderly.{AllSteady, Steadied, steadied, steadied_then, unchanged, WaitsUpTo, Carries, Steps, done, neat, comes, carries, steps_timed, steps_enter, steps_place, places_put, connection_timed, neat_agent, steady_agent}
 
 -- the entries of moves are those of their events
 entered_event : (g m : ℕ) (o : Option Report) (es : List Event) → count (λ (e : Event). is_entry g e.report) (with_event m o es) ≡ entry_by g o + count (λ (e : Event). is_entry g e.report) es
 entered_event g m None es = omega arith
 entered_event g m (Some r) es = refl
 
-pub entered_is : (g m : ℕ) (ms : List Move) → count (λ (e : Event). is_entry g e.report) (events_of m ms) ≡ entries g ms
+entered_is : (g m : ℕ) (ms : List Move) → count (λ (e : Event). is_entry g e.report) (events_of m ms) ≡ entries g ms
 entered_is g m [] = refl
 entered_is g m (x ∷ xs) = entered_event g m x.report (events_of m xs) ∙ ap (λ n. entry_by g x.report + n) (entered_is g m xs)
+
+pub steps_entered : {k m : ℕ} {e : Bool} {t : Rows} {ms : List Move} (g : ℕ) → Steps k m e t ms → count (λ (e : Event). is_entry g e.report) (events_of m ms) ≤ one e
+steps_entered {k} {m} {e} {t} {ms} g h = let a = entered_is g m ms in let b = steps_enter g h in omega (arith, a, b)
 
 abbrev pub AllWait : ℕ → List Event → Type 0
 AllWait m es = Every (λ (e : Event). WaitsUpTo m (Some e.report)) es
@@ -49,13 +42,11 @@ waits_event : (m : ℕ) (o : Option Report) (es : List Event) → WaitsUpTo m o 
 waits_event m None es h g = g
 waits_event m (Some r) es h g = (h, g)
 
-pub waits_events : (s : Rows) (k m : ℕ) (ms : List Move) → AllFit s k m ms → AllWait m (events_of m ms)
-waits_events s k m [] f = tt
-waits_events s k m (x ∷ xs) f = waits_event m x.report (events_of m xs) f.0.waits (waits_events s k m xs f.1)
-
-pub every-append : {X : Type 0} (P : X → Type 0) (xs ys : List X) → Every P xs → Every P ys → Every P (xs ++ ys)
-every-append P [] ys h g = g
-every-append P (x ∷ xs) ys h g = (h.0, every-append P xs ys h.1 g)
+pub steps_wait : {k m : ℕ} {e : Bool} {t : Rows} {ms : List Move} → Steps k m e t ms → AllWait m (events_of m ms)
+steps_wait done = tt
+steps_wait {k} {m} (neat {x = x} {ms = ms} n more) = waits_event m x.report (events_of m ms) n.waits (steps_wait more)
+steps_wait {k} {m} (comes {x = x} {ms = ms} n more) = waits_event m x.report (events_of m ms) n.waits (steps_wait more)
+steps_wait {k} {m} (carries {x = x} {y = y} {ms = ms} n more) = waits_event m x.report (with_event m y.report (events_of m ms)) n.waits.0 (waits_event m y.report (events_of m ms) n.waits.1 (steps_wait more))
 
 -- what rounds keep, from the state in which they begin
 pub record Within (s : Rows) (k m : ℕ) (t : Rows) (es : List Event) : Type 0 where
@@ -65,18 +56,17 @@ pub record Within (s : Rows) (k m : ℕ) (t : Rows) (es : List Event) : Type 0 w
   pub entries : (g : ℕ) → count (λ (e : Event). is_entry g e.report) es ≡ 0
   pub waits : AllWait m es
 
--- moves without an entry that keep the places
-within : (s : Rows) (k m : ℕ) (t : Rows) (es : List Event) (ms : List Move) → Within s k m t es → AllFit t k m ms → AllSteady t ms → ((g : ℕ) → entries g ms ≡ 0)
-    → ((p : ℕ) → count (at_place p) (moved t ms).connections ≤ count (at_place p) t.connections) → Within s k m (moved t ms) (es ++ events_of m ms)
-within s k m t es ms h f a n p = record {
-  timed = timed_moved t t k m ms h.timed f;
-  places = λ q. (let x = p q in let y = h.places q in omega (arith, x, y));
+-- steps with which no call comes
+within : (s : Rows) (k m : ℕ) (t : Rows) (es : List Event) (ms : List Move) → Within s k m t es → Steps k m false t ms → AllSteady t ms → Within s k m (moved t ms) (es ++ events_of m ms)
+within s k m t es ms h f a = record {
+  timed = steps_timed f h.timed;
+  places = λ q. (let x = steps_place q f in let y = h.places q in omega (arith, x, y));
   steady = steadied_then s t (moved t ms) h.steady (steadied t ms h.steady.ascending a);
-  entries = λ g. (let x = count-append (λ (e : Event). is_entry g e.report) es (events_of m ms) in let y = h.entries g in let z = entered_is g m ms in let w = n g in omega (arith, x, y, z, w));
-  waits = every-append (λ (e : Event). WaitsUpTo m (Some e.report)) es (events_of m ms) h.waits (waits_events t k m ms f);
+  entries = λ g. (let x = count-append (λ (e : Event). is_entry g e.report) es (events_of m ms) in let y = h.entries g in let z = steps_entered g f in omega (arith, x, y, z));
+  waits = every-append (λ (e : Event). WaitsUpTo m (Some e.report)) es (events_of m ms) h.waits (steps_wait f);
 }
 
-pub within_nothing : (s : Rows) (k m : ℕ) → IsAscending agent_order s.agents → Timed k m s → Within s k m s []
+within_nothing : (s : Rows) (k m : ℕ) → IsAscending agent_order s.agents → Timed k m s → Within s k m s []
 within_nothing s k m h t = record { timed = t; places = λ p. omega arith; steady = unchanged s h; entries = λ g. refl; waits = tt }
 
 -- a connection moves, with its place
@@ -87,29 +77,12 @@ places_carried t x y p ex e =
     let b = count_less (at_place p) t x.call x.device x ex in
     let c : one (at_place p y) ≡ one (at_place p x) = ap (λ o. one (has o p)) e in omega (arith, a, b, c)
 
--- an offer
-
 timed_ringing : (k m d : ℕ) (x : ConnectionRecord) → ConnectionTimed k m x → ConnectionTimed k m (ringing m x d)
 timed_ringing k m d x h = record { place = h.place; queued = h.queued; offered = omega arith; order = after x.queued h.queued }
   where
     after : (o : Option ℕ) → IsMoment m o → IsAfter o (Some m)
     after None h = tt
     after (Some q) h = h
-
-offer_within : (s : Rows) (k m : ℕ) (t : Rows) (es : List Event) (x : ConnectionRecord) (d : ℕ) → Within s k m t es → connection_of t x.call x.device ≡ Some x → Within s k m (moved t (offer_at m (Some x) (Some d))) (es ++ events_of m (offer_at m (Some x) (Some d)))
-offer_within s k m t es x d h ex =
-    within s k m t es (offer_at m (Some x) (Some d)) h
-    (record { fit = tt; waits = tt }, (record { fit = timed_ringing k m d x (every_among (ConnectionTimed k m) t.connections x h.timed.connections (connection_among t x.call x.device x ex)); waits = tt }, tt))
-    (tt, (tt, tt)) (λ g. refl) (λ p. places_carried t x (ringing m x d) p ex refl)
-
-pub distribution_within : (s : Rows) (k m : ℕ) → Rules s → Timed k m s → Within s k m (moved s (distribution s m)) (events_of m (distribution s m))
-distribution_within s k m r t =
-    distribution_keeps (Within s k m) m
-    (λ u es o ru h e. (let f = offering u ru o e in
-    subst (λ ms. Within s k m (moved u ms) (es ++ events_of m ms)) (sym (offer_moves_are u m o f.0 f.1.0 f.1.1.0 f.1.1.1)) (offer_within s k m u es f.0 f.1.1.0 h (offer_own u o f.0 f.1.0 f.1.1.0 ru f.1.1.1))))
-    s [] r (within_nothing s k m r.orders.agents t)
-
--- a return of a call
 
 timed_back : (k m g : ℕ) (x : ConnectionRecord) → ConnectionTimed k m x → ConnectionTimed k m (queueing x.call g x.place x.queued)
 timed_back k m g x h = record { place = h.place; queued = h.queued; offered = tt; order = after x.queued }
@@ -118,30 +91,30 @@ timed_back k m g x h = record { place = h.place; queued = h.queued; offered = tt
     after None = tt
     after (Some q) = tt
 
-return_within : (s : Rows) (k m : ℕ) → 1 ≤ k → ReturnKeeps (Within s k m) m k
-return_within s k m l t es x g r h ex al eg =
-    let y : ConnectionRecord = queueing x.call g x.place x.queued in
-    let v : Rows = with_connection (without_connection t x.call x.device) y in
-    within s k m t es (return_to t m k x (Some g)) h (
-      record { fit = tt; waits = tt },
-      (
-        record { fit = timed_back k m g x (every_among (ConnectionTimed k m) t.connections x h.timed.connections (connection_among t x.call x.device x ex)); waits = tt },
-        (fit_release t t k m x NoAnswer l h.timed, tt),
-      ),
-    )
-    (tt, (tt, (steady_release t m k x NoAnswer r.orders.agents, tt)))
-    (λ i. (let a = entry_release i t m k x NoAnswer in let b : one ((g == i) && not (is_no_answer C.NoAnswer)) ≡ 0 = ap one (and_right (g == i) false refl) in omega (arith, a, b)))
-    (λ p. (let a = places_carried t x y p ex refl in let b = places_release t v x NoAnswer m k p in omega (arith, a, b)))
+-- a connection goes, and another of its call has its place
+carried : {k m : ℕ} (t : Rows) (x y : ConnectionRecord) (e f : Report) → Timed k m t → connection_of t x.call x.device ≡ Some x → (ConnectionTimed k m x → ConnectionTimed k m y) → y.place ≡ x.place → WaitsUpTo m (Some e) → WaitsUpTo m (Some f)
+    → ((g : ℕ) → entry_by g (Some e) + entry_by g (Some f) ≡ 0) → Carries k m t (reported (RemoveConnection x.call x.device) e) (reported (PutConnection y) f)
+carried {k} {m} t x y e f h ex same place we wf n = record { fit = (tt, same (connection_timed t k m x h ex)); waits = (we, wf); entry = n; places = λ p. places_carried t x y p ex place }
 
-rest_within : (s : Rows) (k m : ℕ) → 1 ≤ k → RestKeeps (Within s k m) m k
-rest_within s k m l t es a r h there working =
-    let b = behaves_go_from t k m a a.station A.Ready l r.orders.agents (ap is_some there) in
-    within s k m t es (rest_moves m k a) h b.0.fit (steady_go_from t m k a a.station A.Ready (ap is_some there), tt)
-    (λ g. (let e = entry_go_from g m k a a.station A.Ready in omega (arith, e))) (λ p. (let e : count (at_place p) (changed t (go_from m k a a.station A.Ready).change).connections ≡ count (at_place p) t.connections = ap (count (at_place p)) (go_from_connections t m k a a.station A.Ready) in omega (arith, e)))
+within_round : (s : Rows) (k m : ℕ) → 1 ≤ k → RoundKeeps (Within s k m) m k
+within_round s k m l t es _ (offers o x a d i) r h =
+    within s k m t es (divert x d Distributed ∷ offer m x d ∷ []) h
+    (carries (carried t x (ringing m x d) (report.Diverted x.call x.device d Distributed x.group) (report.Delivered x.call d Distributed x.group) h.timed (connection_there t r x i.there) (timed_ringing k m d x) refl tt tt (λ g. refl)) done) (tt, (tt, tt))
+within_round s k m l t es _ (returns x g own _ _) r h =
+    let w = releases_here t m k x NoAnswer r.orders.agents in
+    within s k m t es (divert x g Unanswered ∷ go_back x g ∷ release t m k x NoAnswer ∷ []) h
+    (carries (carried t x (queueing x.call g x.place x.queued) (report.Diverted x.call x.device g Unanswered x.group) (report.Queued x.call g Unanswered) h.timed own (timed_back k m g x) refl tt tt (λ i. ap (λ b. 0 + one b) (and_right (g == i) false refl)))
+    (neat (neat_agent t l h.timed w) done)) (tt, (tt, (steady_agent t w, tt)))
+within_round s k m l t es _ (rests a own _) r h =
+    let w = goes_from (Recorded t) m k a a.station Ready own in within s k m t es _ h (neat (neat_agent t l h.timed w) done) (steady_agent t w, tt)
+
+pub distribution_within : (s : Rows) (k m : ℕ) → 1 ≤ k → Rules s → Timed k m s → Within s k m (moved s (distribution s m)) (events_of m (distribution s m))
+distribution_within s k m l r t = by_rounds (Within s k m) m k (within_round s k m l) s [] r (within_nothing s k m r.orders.agents t)
 
 pub tick_within : (s : Rows) (k m : ℕ) → 1 ≤ k → Rules s → Timed k m s → Within s k m (moved s (tick s m k)) (events_of m (tick s m k))
-tick_within s k m l r t = (tick_keeps (Within s k m) m k (return_within s k m l) (rest_within s k m l) s [] r (within_nothing s k m r.orders.agents t)).1
+tick_within s k m l r t = by_tick (Within s k m) m k (within_round s k m l) s [] r (within_nothing s k m r.orders.agents t)
 
 -- the agents are as many after the returns
-pub returns_agents : (s : Rows) (k m : ℕ) → 1 ≤ k → Rules s → Timed k m s → length (moved s (returns s m k)).agents ≡ length s.agents
-returns_agents s k m l r t = ((returned (Within s k m) m k (return_within s k m l) s [] r (within_nothing s k m r.orders.agents t)).1).steady.agents
+pub returns_agents : (s : Rows) (k m : ℕ) → 1 ≤ k → Rules s → Timed k m s → length (moved s (all_returns s m k)).agents ≡ length s.agents
+returns_agents s k m l r t =
+    (returned (Within s k m) m k (λ u es x g ru h own alerting group. within_round s k m l u es _ (returns x g own alerting group) ru h) s [] r (within_nothing s k m r.orders.agents t)).1.steady.agents

@@ -1,54 +1,35 @@
--- Rows that break no rule break none after a step.
-use Rattle.std.proofs.Common.{◌≡◌, ℕ, ◌+◌, ◌*◌, ◌^◌, ◌<◌, ◌≤◌, ◌⊎◌, inl, inr, true, false, ◌||◌, cond, List, [], ◌∷◌, Option, Some, None, refl, ◌∙◌, ap, subst, arith, length}
+-- Rows that break no rule break none after a step; all laws together.
+use Rattle.std.proofs.Common.{◌≡◌, ℕ, ◌+◌, ◌*◌, ◌^◌, ◌<◌, ◌≤◌, ◌⊎◌, inl, inr, true, false, cond, List, [], ◌∷◌, Option, Some, None, refl, ◌∙◌, ap, subst, arith, length, map}
 use Rattle.std.specs.Prelude.{◌==◌}
 use Rattle.std.proofs.lemmas.Bool.{and_parts, eqb-true, false_from_ne_true}
-use Rattle.acd_terms.specs.declared.rows.Rows.{Rows}
-use Rattle.acd_terms.specs.declared.record.GroupRecord.{GroupRecord}
-use Rattle.acd_terms.specs.declared.record.ConnectionRecord.{ConnectionRecord}
-use Rattle.acd_terms.specs.declared.state.ConnectionState.{ConnectionState}
-use Rattle.acd_terms.specs.declared.state.ConnectionState.TheVariants as S
-use Rattle.acd_terms.specs.declared.moves.Move.{Move}
-use Rattle.acd_terms.specs.Lists.{count, total, Among, Every}
-use Rattle.acd_terms.specs.States.{is_alerting, is_queued}
-use Rattle.acd_terms.specs.Scans.{group_of, station_of, is_group, is_station, is_planned, has}
-use Rattle.acd_terms.specs.Writes.{with_last}
-use Rattle.acd_terms.specs.Moves.{moved}
-use Rattle.acd_laws.specs.Counts.{Rules, GroupColumn, StandsAt, ConnectionRule}
+use Rattle.acd_laws.proofs.Words.{Rows, Limits, GroupRecord, Figures, Command, Event, Report, count, total, Among, Every, is_alerting, is_queued, is_group, has, empty_rows, with_last, moved}
+use Rattle.acd_laws.proofs.Facts.{Rules, GroupColumn, StandsAt, ConnectionRule, IsPlace, ConnectionTimed, at_place, Timed, OnePlace, MonitorRule, IsCountedUpTo, AddsUp, KeepsRules}
 use Rattle.acd_laws.proofs.Lists.{one, every_among, every_from, count_zero}
-use Rattle.std.proofs.Common.{map}
 use Rattle.std.proofs.lemmas.Nat.{mul-le}
 use Rattle.std.proofs.Math.Nat.{add-mul}
-use Rattle.acd_terms.specs.declared.event.Event.{Event}
-use Rattle.acd_terms.specs.declared.event.Report.{Report}
 use Rattle.acd_terms.specs.declared.event.Report.TheVariants as report
-use Rattle.acd_terms.specs.declared.record.Figures.{Figures}
-use Rattle.acd_terms.specs.declared.rows.Limits.{Limits}
-use Rattle.acd_terms.specs.declared.command.Command.{Command}
 use Rattle.acd_terms.specs.Limits.{limits_fit}
-use Rattle.acd_terms.specs.Offers.{HasNoOffer}
-use Rattle.acd_terms.specs.Moves.{events_of}
-use Rattle.acd_terms.specs.Figures.{is_entry, is_answer, waited_there, figures_of, counting, with_figures}
-use Rattle.acd_terms.specs.Services.Plan.{no_figures}
-use Rattle.acd_terms.specs.Services.Serve.{serve}
-use Rattle.acd_terms.specs.Rules.Occupied.{waits_in, rings_from}
-use Rattle.acd_terms.specs.Rules.First.{BreaksNoRule}
-use Rattle.acd_terms.specs.Step.{step_moves, step, executed_moment, next_stamp}
-use Rattle.acd_terms.specs.Run.{Asked, run}
-use Rattle.acd_terms.specs.Writes.{empty_rows}
-use Rattle.acd_laws.specs.Bounds.{Sizes, IsPlace, ConnectionTimed, at_place, Timed, OnePlace, MonitorRule, Monitored, IsCountedUpTo, IsBalanced, KeepsRules}
-use Rattle.acd_laws.specs.RuleLaws.{RulesAreFacts, RulesAreKept, StepKeepsRules, RunKeepsRules, RulesBound, RulesLeaveRoom}
-use Rattle.acd_laws.proofs.Balance.{holding}
-use Rattle.acd_laws.proofs.Following.{follows_step}
-use Rattle.acd_laws.proofs.WatchedRuns.{step_leaves_no_offer}
-use Rattle.acd_laws.proofs.Runs.{rules_first}
-use Rattle.acd_laws.proofs.Steady.{IsNew}
-use Rattle.acd_laws.proofs.Orderly.{WaitsUpTo, timed_more}
+use Rattle.acd_model.specs.Offers.{HasNoOffer}
+use Rattle.acd_model.specs.Figures.{is_answer, waited_there, figures_of, counting, with_figures}
+use Rattle.acd_model.specs.Services.{no_figures}
+use Rattle.acd_model.specs.Rules.Occupied.{waits_in, rings_from}
+use Rattle.acd_model.specs.Rules.First.{BreaksNoRule}
+use Rattle.acd_model.specs.Step.{step, executed_moment, next_stamp}
+use Rattle.acd_model.specs.Run.{Asked, run}
+use Rattle.acd_laws.specs.RuleLaws.{StepKeepsRules, RunKeepsRules, RulesBound, RulesLeaveRoom}
+use Rattle.acd_laws.proofs.Order.{holding}
+use Rattle.acd_laws.proofs.WatchedRuns.{follows_step, step_leaves_no_offer, step_keeps_watched, step_balances, run_is_watched, run_tells_no_more, run_is_balanced, run_leaves_no_offer}
+use Rattle.acd_laws.proofs.Ended.{rules_first, ended, planned_ended, rules_step}
+use Rattle.acd_laws.proofs.Orderly.{IsNew, WaitsUpTo, timed_more}
 use Rattle.acd_laws.proofs.Rounds.{AllWait}
 use Rattle.acd_laws.proofs.Numbers.{greatest}
 use Rattle.acd_laws.proofs.BoundsStep.{After, Before, after_moves}
-use Rattle.acd_laws.proofs.BoundsRead.{keeps_read, requests_read}
-use Rattle.acd_laws.proofs.RulesWritten.{keeps_written}
-use Rattle.acd_laws.proofs.RulesStep.{is_group_counting, rules_step}
+use Rattle.acd_laws.proofs.DecidedAll.{keeps_read, requests_read, keeps_written, rules_are_kept}
+use Rattle.acd_laws.proofs.States.{queued_is}
+use Rattle.acd_laws.specs.AllLaws.{StepKeepsLaws, RunKeepsLaws}
+use Rattle.acd_laws.proofs.FiguresCounted.{step_keeps_figures, figures_kept}
+use Rattle.acd_laws.proofs.OneOffer.{step_keeps_one_offer, run_has_one_offer}
+use Rattle.acd_laws.proofs.PlacedRuns.{step_names_no_later_call, run_names_no_later_call, run_is_placed, step_keeps_places}
 
 -- places
 
@@ -86,14 +67,6 @@ waited_fits g m (e ∷ es) h =
     let c = add-mul (one (is_answer g e.report)) (count (λ (x : Event). is_answer g x.report) es) m in
     omega (arith, a, b, c)
 
-waited_figures : (g m : ℕ) (es : List Event) → AllWait m es → (figures_of g es).waited ≤ (figures_of g es).answered * m
-unfolding figures_of
-waited_figures g m es h = waited_fits g m es h
-
-entered_figures : (g : ℕ) (es : List Event) → count (λ (e : Event). is_entry g e.report) es ≤ 1 → (figures_of g es).entered ≤ 1
-unfolding figures_of
-entered_figures g es h = h
-
 counted_up : (k m j n : ℕ) (g : GroupRecord) (es : List Event) → IsCountedUpTo j n g → k ≡ j + 1 → n ≤ m → (figures_of g.device es).entered ≤ 1 → (figures_of g.device es).waited ≤ (figures_of g.device es).answered * m
     → IsCountedUpTo k m (counting es g)
 counted_up k m j n g es h e l a b =
@@ -110,20 +83,12 @@ none_held : (s : Rows) (d : ℕ) → Rules s → is_group s d ≡ false → hold
 none_held s d r e =
     let a = count_zero (waits_in d) s.connections (λ x i. false_from_ne_true (waits_in d x) (λ q.
     let h = and_parts (x.device == d) (is_queued x.state) q in
-    cc (e, subst (λ v. is_group s v ≡ true) (eqb-true x.device d h.0) (stands x x.state h.1 (every_among (ConnectionRule s) s.connections x r.connections i).2)))) in
+    cc (e, subst (λ v. is_group s v ≡ true) (eqb-true x.device d h.0) (subst (StandsAt s x) (queued_is x.state h.1) (every_among (ConnectionRule s) s.connections x r.connections i).2)))) in
     let b = count_zero (rings_from d) s.connections (λ x i. false_from_ne_true (rings_from d x) (λ q.
     let h = and_parts (has x.group d) (is_alerting x.state) q in
     cc (e, column x.group h.0 (every_among (ConnectionRule s) s.connections x r.connections i).1))) in
     omega (arith, a, b)
   where
-    stands : (x : ConnectionRecord) (st : ConnectionState) → is_queued st ≡ true → StandsAt s x st → is_group s x.device ≡ true
-    stands x S.Queued q h = h
-    stands x S.Initiated q h = absurd (cc (q))
-    stands x S.Alerting q h = absurd (cc (q))
-    stands x S.Connected q h = absurd (cc (q))
-    stands x S.Hold q h = absurd (cc (q))
-    stands x S.Fail q h = absurd (cc (q))
-
     column : (o : Option ℕ) → has o d ≡ true → GroupColumn s o → is_group s d ≡ true
     column None q h = absurd (cc (q))
     column (Some g) q h = subst (λ v. is_group s v ≡ true) (eqb-true g d q) h
@@ -137,7 +102,7 @@ record WasKept (s : Rows) (g : GroupRecord) : Type 0 where
   balanced : g.figures.entered ≡ holding s g.device + g.figures.answered + g.figures.abandoned + g.figures.moved
 
 was_kept : (s : Rows) (g : GroupRecord) → KeepsRules s → Among g s.groups ⊎ IsNew s g → WasKept s g
-was_kept s g h (inl i) = record { counted = every_among (IsCountedUpTo s.last_stamp s.last_moment) s.groups g h.figures i; balanced = every_among (IsBalanced s) s.groups g h.balance i }
+was_kept s g h (inl i) = record { counted = every_among (IsCountedUpTo s.last_stamp s.last_moment) s.groups g h.figures i; balanced = every_among (AddsUp s) s.groups g h.balance i }
 was_kept s g h (inr n) = record { counted = new_counted s.last_stamp s.last_moment g.figures n.0; balanced = new_balanced (holding s g.device) g.figures n.0 (none_held s g.device h.rules n.1) }
 
 -- the end of a step sets figures and counters
@@ -150,104 +115,48 @@ every-map : {X : Type 0} (P : X → Type 0) (f : X → X) (xs : List X) → ((x 
 every-map P f [] h = tt
 every-map P f (x ∷ xs) h = (h x (inl refl), every-map P f xs (λ z i. h z (inr i)))
 
-abbrev ended : Rows → List Event → ℕ → ℕ → ℕ → Rows
-ended t es k m n = with_last (with_figures t es) k m n
-
-sizes_ended : (t : Rows) (es : List Event) (k m n : ℕ) → Sizes t → Sizes (ended t es k m n)
-unfolding with_last with_figures
-sizes_ended t es k m n h = let a = length-map (counting es) t.groups in let b = h.groups in record { limits = h.limits; groups = omega (arith, a, b); stations = h.stations; agents = h.agents; calls = h.calls; monitors = h.monitors }
-
-timed_ended : (t : Rows) (es : List Event) (k m n : ℕ) → Timed k m t → Timed (ended t es k m n).last_stamp (ended t es k m n).last_moment (ended t es k m n)
-unfolding with_last with_figures
-timed_ended t es k m n h = record { agents = h.agents; calls = h.calls; connections = h.connections }
-
-places_ended : (t : Rows) (es : List Event) (k m n : ℕ) → OnePlace t → OnePlace (ended t es k m n)
-unfolding with_last with_figures
-places_ended t es k m n h = h
-
-planned_ended : (t : Rows) (es : List Event) (k m n d : ℕ) → is_planned (ended t es k m n) d ≡ is_planned t d
-unfolding with_last with_figures group_of station_of
-planned_ended t es k m n d = ap (λ b. b || is_station t d) (is_group_counting t es d)
-
-monitors_ended : (t : Rows) (es : List Event) (k m n : ℕ) → t.last_event ≤ n → ((d : ℕ) → is_planned (ended t es k m n) d ≡ is_planned t d) → Monitored t → Monitored (ended t es k m n)
-unfolding with_last with_figures
-monitors_ended t es k m n l p h = every_from (MonitorRule (ended t es k m n)) t.monitors (λ w i. let q = every_among (MonitorRule t) t.monitors w h i in let a = q.2 in (p w.device ∙ q.0, q.1, omega (arith, a, l)))
-
-figures_ended : (s t : Rows) (es : List Event) (k m n : ℕ) → k ≡ s.last_stamp + 1 → s.last_moment ≤ m → AllWait m es → ((g : ℕ) → count (λ (e : Event). is_entry g e.report) es ≤ 1)
-    → ((g : GroupRecord) → Among g t.groups → WasKept s g) → Every (IsCountedUpTo (ended t es k m n).last_stamp (ended t es k m n).last_moment) (ended t es k m n).groups
-unfolding with_last with_figures
-figures_ended s t es k m n e l w one kept = every-map (IsCountedUpTo k m) (counting es) t.groups (λ g i.
-    counted_up k m s.last_stamp s.last_moment g es (kept g i).counted e l (entered_figures g.device es (one g.device)) (waited_figures g.device m es w))
-
-balance_ended : (s t : Rows) (es : List Event) (k m n : ℕ) → ((g : GroupRecord) → Among g t.groups → WasKept s g)
-    → ((g : ℕ) → holding t g + ((figures_of g es).answered + (figures_of g es).abandoned + (figures_of g es).moved) ≡ holding s g + (figures_of g es).entered)
-    → Every (IsBalanced (ended t es k m n)) (ended t es k m n).groups
-unfolding with_last with_figures
-balance_ended s t es k m n kept b = every-map (IsBalanced (ended t es k m n)) (counting es) t.groups (λ g i. let a = (kept g i).balanced in let c = b g.device in omega (arith, a, c))
-
-counters_ended : (s t : Rows) (es : List Event) (k m n : ℕ) → k ≡ s.last_stamp + 1 → t.last_call ≤ s.last_call + 1 → t.last_monitor ≤ s.last_monitor + 1 → s.last_call ≤ s.last_stamp → s.last_monitor ≤ s.last_stamp → n ≤ 100000 * s.last_stamp + 21000
-    → ((ended t es k m n).last_call ≤ (ended t es k m n).last_stamp) × ((ended t es k m n).last_monitor ≤ (ended t es k m n).last_stamp) × ((ended t es k m n).last_event ≤ 100000 * (ended t es k m n).last_stamp)
-unfolding with_last with_figures
-counters_ended s t es k m n e a b c d f = (omega (arith, a, c, e), omega (arith, b, d, e), omega (arith, f, e))
-
 keeps_ended : (s t : Rows) (es : List Event) (k m : ℕ) → KeepsRules s → k ≡ s.last_stamp + 1 → s.last_moment ≤ m → After s k m 21000 t es
     → ((g : ℕ) → holding t g + ((figures_of g es).answered + (figures_of g es).abandoned + (figures_of g es).moved) ≡ holding s g + (figures_of g es).entered)
     → Rules (ended t es k m (s.last_event + length es)) → ((g : GroupRecord) → Among g (ended t es k m (s.last_event + length es)).groups → HasNoOffer (ended t es k m (s.last_event + length es)) g.device)
     → KeepsRules (ended t es k m (s.last_event + length es))
+unfolding with_last with_figures figures_of
 keeps_ended s t es k m h e l a b rules offers =
     let n : ℕ = s.last_event + length es in
     let kept : (g : GroupRecord) → Among g t.groups → WasKept s g = λ g i. was_kept s g h (a.groups g i) in
     let few = a.few in let le = h.last_event in let same = a.last_event in
-    let c = counters_ended s t es k m n e a.last_call a.last_monitor h.last_call h.last_monitor (omega (arith, few, le)) in
+    let calls = a.last_call in let lc = h.last_call in let monitors = a.last_monitor in let lm = h.last_monitor in
+    let size = length-map (counting es) t.groups in let groups = a.sizes.groups in
     record {
       rules = rules;
-      sizes = sizes_ended t es k m n a.sizes;
-      last_call = c.0;
-      last_monitor = c.1;
-      last_event = c.2;
-      timed = timed_ended t es k m n a.timed;
-      places = places_ended t es k m n (places_after s t s.last_moment k e h.places h.timed a.places);
-      figures = figures_ended s t es k m n e l a.waits a.entries kept;
+      sizes = record { limits = a.sizes.limits; groups = omega (arith, size, groups); stations = a.sizes.stations; agents = a.sizes.agents; calls = a.sizes.calls; monitors = a.sizes.monitors };
+      last_call = omega (arith, calls, lc, e);
+      last_monitor = omega (arith, monitors, lm, e);
+      last_event = omega (arith, few, le, e);
+      timed = record { agents = a.timed.agents; calls = a.timed.calls; connections = a.timed.connections };
+      places = places_after s t s.last_moment k e h.places h.timed a.places;
+      figures = every-map (IsCountedUpTo k m) (counting es) t.groups (λ g i.
+          counted_up k m s.last_stamp s.last_moment g es (kept g i).counted e l (a.entries g.device) (waited_fits g.device m es a.waits));
       offers = offers;
-      monitors = monitors_ended t es k m n (omega (arith, same)) (planned_ended t es k m n) a.monitors;
-      balance = balance_ended s t es k m n kept b;
+      monitors = every_from (MonitorRule (ended t es k m n)) t.monitors (λ x i.
+          let q = every_among (MonitorRule t) t.monitors x a.monitors i in let u = q.2 in (planned_ended t es k m n x.device ∙ q.0, q.1, omega (arith, u, same)));
+      balance = every-map (AddsUp (ended t es k m n)) (counting es) t.groups (λ g i. let p = (kept g i).balanced in let c = b g.device in omega (arith, p, c));
     }
 
-keeps_step : (s : Rows) (moment : ℕ) (c : Command) → KeepsRules s → KeepsRules (step s moment c).rows
-unfolding step
-keeps_step s moment c h =
-    let m : ℕ = executed_moment s moment in
-    let k : ℕ = next_stamp s in
-    let ms : List Move = step_moves s m (serve s m k c) in
-    let es : List Event = events_of m ms in
-    let before : Before s k m = record { rules = h.rules; timed = timed_more s.last_stamp k s.last_moment m s (omega arith) (omega arith) h.timed; stamp = omega arith; sizes = h.sizes; monitors = h.monitors } in
-    keeps_ended s (moved s ms) es k m h refl (omega arith) (after_moves s k m c before) (follows_step s m k s.last_stamp c h.rules (omega arith)).balances
-    (rules_step s moment c h.rules) (step_leaves_no_offer s moment c h.rules)
-
-stamp_step : (s : Rows) (moment : ℕ) (c : Command) → (step s moment c).rows.last_stamp ≡ s.last_stamp + 1
-unfolding step with_last
-stamp_step s moment c = refl
-
-limits_step : (s : Rows) (moment : ℕ) (c : Command) → KeepsRules s → (step s moment c).rows.limits ≡ s.limits
+-- what a step makes of the rows: its stamp is the next, and the limits stay
+step_on : (s : Rows) (moment : ℕ) (c : Command) → KeepsRules s → KeepsRules (step s moment c).rows × ((step s moment c).rows.last_stamp ≡ s.last_stamp + 1) × ((step s moment c).rows.limits ≡ s.limits)
 unfolding step with_last with_figures
-limits_step s moment c h =
+step_on s moment c h =
     let m : ℕ = executed_moment s moment in
     let k : ℕ = next_stamp s in
     let before : Before s k m = record { rules = h.rules; timed = timed_more s.last_stamp k s.last_moment m s (omega arith) (omega arith) h.timed; stamp = omega arith; sizes = h.sizes; monitors = h.monitors } in
-    (after_moves s k m c before).limits
-
-pub rules_are_facts : RulesAreFacts
-rules_are_facts s = (λ e. (keeps_read s e, requests_read s e), λ h. keeps_written s h.0 h.1)
-
-pub rules_are_kept : RulesAreKept
-rules_are_kept s e = (keeps_read s e).rules
+    let a = after_moves s k m c before in
+    (keeps_ended s _ _ k m h refl (omega arith) a (follows_step s m k s.last_stamp c h.rules (omega arith)).balances (rules_step s moment c h.rules) (step_leaves_no_offer s moment c h.rules), refl, a.limits)
 
 pub step_keeps_rules : StepKeepsRules
 step_keeps_rules s moment c e l =
-    let h = keeps_read s e in
-    let a = stamp_step s moment c in
-    let b : (step s moment c).rows.limits.requests ≡ s.limits.requests = ap (λ (w : Limits). w.requests) (limits_step s moment c h) in
-    keeps_written (step s moment c).rows (keeps_step s moment c h) (omega (arith, a, b, l))
+    let q = step_on s moment c (keeps_read s e) in
+    let a = q.1 in let b = ap (λ (w : Limits). w.requests) q.2 in
+    keeps_written (step s moment c).rows q.0 (omega (arith, a, b, l))
 
 -- runs
 
@@ -270,9 +179,8 @@ run_on : (asked : List Asked) (s : Rows) → BreaksNoRule s → s.last_stamp + l
 unfolding run
 run_on [] s e l = e
 run_on (q ∷ more) s e l =
-    let h = keeps_read s e in
-    let a = stamp_step s q.moment q.command in
-    let b : (step s q.moment q.command).rows.limits.requests ≡ s.limits.requests = ap (λ (w : Limits). w.requests) (limits_step s q.moment q.command h) in
+    let h = step_on s q.moment q.command (keeps_read s e) in
+    let a = h.1 in let b = ap (λ (w : Limits). w.requests) h.2 in
     run_on more (step s q.moment q.command).rows (step_keeps_rules s q.moment q.command e (omega (arith, l))) (omega (arith, a, b, l))
 
 pub run_keeps_rules : RunKeepsRules
@@ -290,7 +198,7 @@ rules_bound s e =
       last_call = h.last_call;
       last_monitor = h.last_monitor;
       last_event = h.last_event;
-      figures = λ x i. let a = every_among (IsCountedUpTo s.last_stamp s.last_moment) s.groups x h.figures i in let b = every_among (IsBalanced s) s.groups x h.balance i in
+      figures = λ x i. let a = every_among (IsCountedUpTo s.last_stamp s.last_moment) s.groups x h.figures i in let b = every_among (AddsUp s) s.groups x h.balance i in
           record { entered = a.0; answered = omega (arith, b); abandoned = omega (arith, b); moved = omega (arith, b); waited = a.1 };
     }
 
@@ -302,3 +210,34 @@ rules_leave_room s g e l i =
     let n = f.entered in let a = f.answered in let c = f.abandoned in let d = f.moved in let w = f.waited in
     let q = mul-le g.figures.answered s.last_moment 1000000000 (2 ^ 32) (omega (arith, n, a, r, t)) (omega (arith, l)) in
     record { entered = omega (arith, n, r, t); answered = omega (arith, n, a, r, t); abandoned = omega (arith, n, c, r, t); moved = omega (arith, n, d, r, t); waited = omega (arith, w, q) }
+
+-- all laws together
+
+pub step_keeps_laws : StepKeepsLaws
+step_keeps_laws s events moment command left h =
+    let r : Rules s = rules_are_kept s h.rules in
+    let w = step_keeps_watched s events moment command r h.watched h.no_more in
+    record {
+      rules = step_keeps_rules s moment command h.rules left;
+      placed = step_keeps_places s events moment command r h.names h.placed;
+      names = step_names_no_later_call s events moment command r h.names;
+      one_offer = step_keeps_one_offer s moment command r;
+      no_offer = step_leaves_no_offer s moment command r;
+      balanced = step_balances s events moment command r h.balanced;
+      figures = step_keeps_figures s events moment command r h.figures;
+      watched = w.0;
+      no_more = w.1;
+    }
+
+pub run_keeps_laws : RunKeepsLaws
+run_keeps_laws limits asked fit few = record {
+  rules = run_keeps_rules limits asked fit few;
+  placed = run_is_placed limits asked;
+  names = run_names_no_later_call limits asked;
+  one_offer = run_has_one_offer limits asked;
+  no_offer = run_leaves_no_offer limits asked;
+  balanced = run_is_balanced limits asked;
+  figures = figures_kept limits asked;
+  watched = run_is_watched limits asked;
+  no_more = run_tells_no_more limits asked;
+}

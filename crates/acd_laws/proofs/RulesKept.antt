@@ -1,45 +1,99 @@
--- The rules are kept by every service, by distribution, and so by the moves of a step.
-use Rattle.std.proofs.Common.{ℕ, List, [], sym, subst}
-use Rattle.acd_terms.specs.declared.rows.Rows.{Rows}
-use Rattle.acd_terms.specs.declared.moves.Move.{Move}
-use Rattle.acd_terms.specs.Moves.{moved}
-use Rattle.acd_terms.specs.Served.{moves_of}
-use Rattle.acd_laws.specs.Counts.{Rules}
-use Rattle.acd_terms.specs.declared.command.Command.{Command}
-use Rattle.acd_terms.specs.declared.command.Command.TheVariants.{AddGroup, AddStation, AddAgent, ArriveCall, MakeCall, PhoneOffHook, AnswerCall, HoldCall, RetrieveCall, ClearConnection, DeflectCall, SingleStepTransfer, SetAgentState, MonitorStart, MonitorStop, Tick}
-use Rattle.acd_terms.specs.Services.Serve.{serve}
-use Rattle.acd_terms.specs.Step.{step_moves}
-use Rattle.acd_terms.specs.Distribution.{distribution}
-use Rattle.acd_laws.proofs.Serving.{moved-append}
-use Rattle.acd_laws.proofs.Ticking.{tick_keeps}
-use Rattle.acd_laws.proofs.Distributing.{rules_distribution}
-use Rattle.acd_laws.proofs.KeptArrival.{kept_arrive_call}
-use Rattle.acd_laws.proofs.KeptOut.{kept_make_call, kept_phone_off_hook}
-use Rattle.acd_laws.proofs.KeptTalking.{kept_answer_call, kept_hold_call, kept_retrieve_call}
-use Rattle.acd_laws.proofs.KeptClearing.{kept_clear_connection}
-use Rattle.acd_laws.proofs.KeptGiving.{kept_deflect_call, kept_single_step_transfer}
-use Rattle.acd_laws.proofs.KeptAgents.{kept_set_agent_state}
-use Rattle.acd_laws.proofs.KeptPlan.{kept_add_group, kept_add_station, kept_add_agent, kept_monitor_start, kept_monitor_stop}
+-- The rules are kept by every deed, by distribution, and so by the moves of a step; and what deeds and rounds keep, a step keeps.
+use Rattle.std.proofs.Common.{◌≡◌, ℕ, inl, inr, List, [], sym, ap, subst, refl, arith, ◌++◌}
+use Rattle.acd_laws.proofs.Words.{Rows, Command, Event, Move, state_wanted, is_initiated, other_of, moved, events_of, is_open}
+use Rattle.acd_model.specs.CallMoves.{destination_of, arriving, arrive}
+use Rattle.acd_model.specs.Served.{moves_of}
+use Rattle.acd_model.specs.Services.{new_group, next_call, next_monitor}
+use Rattle.acd_model.specs.Services.Serve.{serve}
+use Rattle.acd_model.specs.Step.{step_moves}
+use Rattle.acd_model.specs.Distribution.{distribution}
+use Rattle.acd_laws.proofs.Facts.{Rules}
+use Rattle.acd_laws.proofs.Lists.{one}
+use Rattle.acd_laws.proofs.State.{connection_among, connection_rule}
+use Rattle.acd_model.specs.Release.{ending_of}
+use Rattle.acd_model.proofs.MoveLemmas.{moved_append}
+use Rattle.acd_laws.proofs.Distributing.{tick_keeps, Kept, kept-append, rules_distribution, offering, offer_moves_are, distribution_keeps}
+use Rattle.acd_laws.proofs.Deeds.{new_call, Deed, nothing, adds_group, adds_station, adds_agent, watches, unwatches, arrives, makes, goes_out, answers, holds, retrieves, clears, deflects, transfers, logs_on, waits, goes, deed_of_serve, Round, offers, returns, rests}
+use Rattle.acd_laws.proofs.Arriving.{arrived}
+use Rattle.acd_laws.proofs.Releasing.{wanted_not_busy, ends_by}
+use Rattle.acd_laws.proofs.KeptOut.{begun, made, outgoing, gone_out, kept_answer, kept_hold, kept_retrieve}
+use Rattle.acd_laws.proofs.KeptEnds.{kept_clear, moved_on, open_cases, closed_call}
+use Rattle.acd_laws.proofs.KeptPlan.{kept_log_on, kept_wait, kept_go_from, kept_group, kept_station, kept_new_agent, started, stopped}
+use Rattle.acd_laws.proofs.States.{connected_is}
+use Rattle.acd_model.specs.Tick.{tick}
+
+kept_deed : (s : Rows) (m k : ℕ) (ms : List Move) → Deed s m k ms → Rules s → Rules (moved s ms)
+unfolding arrive
+kept_deed s m k _ nothing r = r
+kept_deed s m k _ (adds_group device name ring wrap free _) r = kept_group s (new_group device name ring wrap) r free
+kept_deed s m k _ (adds_station device free _) r = kept_station s (record { device = device }) r free
+kept_deed s m k _ (adds_agent agent name new _) r = kept_new_agent s m k agent name r new
+kept_deed s m k _ (watches device _ _) r = started s (record { monitor = next_monitor s; device = device; after_event = s.last_event }) r
+kept_deed s m k _ (unwatches monitor) r = stopped s monitor r
+kept_deed s m k _ (arrives caller called outside inside _) r =
+    begun s (new_call s m caller called) (arriving (destination_of s called) m k (next_call s) called) r refl outside inside (arrived s m k (next_call s) called inside)
+kept_deed s m k _ (makes device called _ station inside differ free _) r = made s m device called r station inside differ free
+kept_deed s m k _ (goes_out p state) r =
+    let to : ℕ = p.about.called in
+    let go = outgoing s p.x p.about r p.found state p.live in
+    gone_out s p.x (arriving (destination_of s to) m k p.x.call to) p.about to r p.found state p.live go.apart (arrived s m k p.x.call to go.planned) go.new
+kept_deed s m k _ (answers p state) r = kept_answer s m k p.x r p.found state
+kept_deed s m k _ (holds p station state) r = kept_hold s p.x r p.found station state
+kept_deed s m k _ (retrieves p state free) r = kept_retrieve s p.x r p.found state free
+kept_deed s m k _ (clears p) r = kept_clear s m k p.x (other_of s p.x) refl r p.found
+kept_deed s m k _ (deflects p to state free) r =
+    let was = open_cases p.x.state state in
+    let o = r.one_open p.x.call in let f : one (is_open p.x.state) ≡ 1 = ap one was.1 in
+    moved_on s m k p.x (arriving (destination_of s to) m k p.x.call to) to (ending_of p.x) r p.found (arrived s m k p.x.call to free.planned) free.apart was.0 (omega (arith, o, f))
+    (ends_by s p.x (connection_rule s r p.x.call p.x.device p.x p.found))
+kept_deed s m k _ (transfers p to state other free) r =
+    moved_on s m k p.x (arriving (destination_of s to) m k p.x.call to) to (ending_of p.x) r p.found (arrived s m k p.x.call to free.planned) free.apart (ap is_initiated (connected_is p.x.state state))
+    (closed_call s p.x r (connection_among s p.x.call p.x.device p.x p.found) state other) (ends_by s p.x (connection_rule s r p.x.call p.x.device p.x p.found))
+kept_deed s m k _ (logs_on a device group own null station free grouped) r = kept_log_on s a device group m k r own null station grouped free
+kept_deed s m k _ (waits a wanted own seated occupied) r = kept_wait s a wanted r own seated occupied
+kept_deed s m k _ (goes a wanted own _ free) r = kept_go_from s m k a (state_wanted wanted) r own free (wanted_not_busy wanted)
 
 pub rules_serve : (s : Rows) (m k : ℕ) (c : Command) → Rules s → Rules (moved s (moves_of (serve s m k c)))
-rules_serve s m k (AddGroup device name ring wrap) r = kept_add_group s device name ring wrap r
-rules_serve s m k (AddStation device) r = kept_add_station s device r
-rules_serve s m k (AddAgent agent name) r = kept_add_agent s m k agent name r
-rules_serve s m k (ArriveCall caller called) r = kept_arrive_call s m k caller called r
-rules_serve s m k (MakeCall device called) r = kept_make_call s m device called r
-rules_serve s m k (PhoneOffHook call device) r = kept_phone_off_hook s m k call device r
-rules_serve s m k (AnswerCall call device) r = kept_answer_call s m k call device r
-rules_serve s m k (HoldCall call device) r = kept_hold_call s call device r
-rules_serve s m k (RetrieveCall call device) r = kept_retrieve_call s call device r
-rules_serve s m k (ClearConnection call device) r = kept_clear_connection s m k call device r
-rules_serve s m k (DeflectCall call device to) r = kept_deflect_call s m k call device to r
-rules_serve s m k (SingleStepTransfer call device to) r = kept_single_step_transfer s m k call device to r
-rules_serve s m k (SetAgentState agent q) r = kept_set_agent_state s m k agent q r
-rules_serve s m k (MonitorStart device) r = kept_monitor_start s device r
-rules_serve s m k (MonitorStop monitor) r = kept_monitor_stop s monitor r
-rules_serve s m k Tick r = (tick_keeps (λ t es. Unit {0}) m k (λ t es x g r h e f q. tt) (λ t es a r h e f. tt) s [] r tt).0
+rules_serve s m k c r = elim (deed_of_serve s m k c) [
+  | inl d ↦ kept_deed s m k _ d r
+  | inr e ↦ subst (λ ms. Rules (moved s ms)) (sym e) (tick_keeps (λ t es. Unit {0}) m k (λ t es x g r h e f q. tt) (λ t es a r h e f. tt) s [] r tt).0
+]
 
 pub rules_moves : (s : Rows) (m k : ℕ) (c : Command) → Rules s → Rules (moved s (step_moves s m (serve s m k c)))
 rules_moves s m k c r =
     let ms : List Move = moves_of (serve s m k c) in
-    subst Rules (sym (moved-append s ms (distribution (moved s ms) m))) (rules_distribution (moved s ms) m (rules_serve s m k c r))
+    subst Rules (sym (moved_append s ms (distribution (moved s ms) m))) (rules_distribution (moved s ms) m (rules_serve s m k c r))
+
+-- a deed leads from P to Q
+abbrev pub DeedLeads : (Rows → List Event → Type 0) → (Rows → List Event → Type 0) → ℕ → ℕ → Type 0
+DeedLeads P Q m k = (s : Rows) (es : List Event) (ms : List Move) → Deed s m k ms → Rules s → P s es → Kept Q m s es ms
+
+abbrev pub RoundKeeps : (Rows → List Event → Type 0) → ℕ → ℕ → Type 0
+RoundKeeps P m k = (s : Rows) (es : List Event) (ms : List Move) → Round s m k ms → Rules s → P s es → Kept P m s es ms
+
+pub by_rounds : (P : Rows → List Event → Type 0) (m k : ℕ) → RoundKeeps P m k → (s : Rows) (es : List Event) → Rules s → P s es → Kept P m s es (distribution s m)
+by_rounds P m k f s es r h =
+    distribution_keeps P m (λ t fs o rt p e. let w = offering t rt o e in let d = w.1.1 in
+    subst (Kept P m t fs) (sym (offer_moves_are t m o w.0 w.1.0 d.0 d.1)) (f t fs _ (offers o w.0 w.1.0 d.0 d.1) rt p)) s es r h
+
+pub by_tick : (P : Rows → List Event → Type 0) (m k : ℕ) → RoundKeeps P m k → (s : Rows) (es : List Event) → Rules s → P s es → Kept P m s es (tick s m k)
+by_tick P m k f s es r h =
+    (tick_keeps P m k (λ t fs x g rt p own alerting group. f t fs _ (returns x g own alerting group) rt p) (λ t fs a rt p own works. f t fs _ (rests a own works) rt p) s es r h).1
+
+-- the service leads from P to Q, and rounds keep Q
+pub by_parts : (P Q : Rows → List Event → Type 0) (m k : ℕ) → DeedLeads P Q m k → ((s : Rows) (es : List Event) → P s es → Q s es) → RoundKeeps Q m k
+    → (s : Rows) (es : List Event) (c : Command) → Rules s → P s es → Kept Q m s es (step_moves s m (serve s m k c))
+by_parts P Q m k f g rounds s es c r h =
+    let ms : List Move = moves_of (serve s m k c) in
+    let t : Rows = moved s ms in
+    kept-append Q m s es ms (distribution t m) (by_rounds Q m k rounds t (es ++ events_of m ms) (rules_serve s m k c r) served)
+  where
+    served : Kept Q m s es (moves_of (serve s m k c))
+    served = elim (deed_of_serve s m k c) [
+      | inl d ↦ f s es _ d r h
+      | inr e ↦ subst (Kept Q m s es) (sym e) (by_tick Q m k rounds s es r (g s es h))
+    ]
+
+-- both keep P
+pub by_deeds : (P : Rows → List Event → Type 0) (m k : ℕ) → DeedLeads P P m k → RoundKeeps P m k → (s : Rows) (es : List Event) (c : Command) → Rules s → P s es → Kept P m s es (step_moves s m (serve s m k c))
+by_deeds P m k f rounds = by_parts P P m k f (λ s es h. h) rounds

@@ -1,38 +1,25 @@
 -- What moves tell, balance and keep in order, all three together.
-use Rattle.std.proofs.Common.{◌≡◌, ℕ, ◌+◌, ◌<◌, ◌≤◌, Bool, true, false, not, ◌&&◌, ◌||◌, cond, List, [], ◌∷◌, ◌++◌, Option, Some, None, refl, sym, ◌∙◌, ap, subst, arith}
-use Rattle.std.specs.Prelude.{◌==◌}
-use Rattle.std.proofs.lemmas.Bool.{and_right, and_from}
-use Rattle.acd_terms.specs.Lists.{Among, find_by}
-use Rattle.acd_terms.specs.Scans.{at_connection, connection_of, agent_of, agent_at, is_group, is_planned, is_idle, is_distributed}
-use Rattle.acd_terms.specs.Writes.{with_group, with_station, with_agent, with_call, with_monitor, without_call, without_monitor}
-use Rattle.acd_terms.specs.Moves.{no_move, silent, reported, changed, moved}
-use Rattle.acd_terms.specs.CallMoves.{plain, queueing, met_at, arriving, arrival, arrive, destination_of}
-use Rattle.acd_terms.specs.AgentMoves.{in_state, state_report, go_to, go_from, become_busy, wait_for}
-use Rattle.acd_terms.specs.Release.{release, release_agent, released, release_of}
-use Rattle.acd_terms.specs.Services.Talking.{busy_agent, occupy}
+use Rattle.std.proofs.Common.{◌≡◌, ℕ, ◌≤◌, List, [], ◌∷◌, ◌++◌, Option, Some, None, refl, sym, ◌∙◌, ap, subst, arith, ◌+◌, ◌<◌, Bool, true, false, not, ◌&&◌, ◌||◌, cond, eq-eqb}
+use Rattle.acd_laws.proofs.Words.{Rows, ConnectionRecord, ConnectionState, AgentState, Cause, Change, Move, Report, put_by, remove_by, count, Among, IsAscending, is_alerting, is_queued, at_connection, agent_of, connection_of, is_group, is_station, is_planned, has, with_connection, without_connection, silent, reported, changed, moved, connection_order, is_open, open_of}
 use Rattle.acd_terms.specs.Columns.{columns_of}
-use Rattle.acd_terms.specs.Figures.{is_entry, is_no_answer}
-use Rattle.acd_terms.specs.Told.{seat_by}
-use Rattle.acd_terms.specs.Watched.{is_held_by, seat_of}
-use Rattle.acd_terms.specs.declared.rows.Rows.{Rows}
-use Rattle.acd_terms.specs.declared.record.AgentRecord.{AgentRecord}
-use Rattle.acd_terms.specs.declared.record.ConnectionRecord.{ConnectionRecord}
-use Rattle.acd_terms.specs.declared.state.AgentState.{AgentState}
 use Rattle.acd_terms.specs.declared.state.AgentState.TheVariants as A
+use Rattle.acd_model.specs.AgentMoves.{kept_in, state_report}
+use Rattle.acd_model.specs.Told.{Seat, seat_by}
+use Rattle.acd_model.specs.Watched.{seat_of, is_held_by}
+use Rattle.acd_model.specs.declared.moves.Change.TheVariants.{Nothing, PutAgent, PutConnection, RemoveConnection}
+use Rattle.acd_laws.proofs.MoveKinds.{LeavesConnections, left_connections, LeavesAgents, AgentMove, stays as nothing, waits, tells, Recorded, Arrival, queues, alerts, fails}
+use Rattle.acd_laws.proofs.Told.{Truthful, AllTruthful, truthful-append, truthful_unseen, truthful_agent, truthful_silent_agent, truthful_put}
+use Rattle.acd_laws.proofs.Order.{Balances, balances-append, holding, entry_by, gone_by, held, holding_new, holding_old, holding_less, OrderKept, stays, order-append, order_later, held_within, held_put, comes}
+use Rattle.std.specs.Prelude.{◌==◌}
+use Rattle.std.proofs.lemmas.Bool.{and_right, or_left, or_right}
+use Rattle.acd_terms.specs.declared.event.Report.TheVariants as report
 use Rattle.acd_terms.specs.declared.state.ConnectionState.TheVariants as S
-use Rattle.acd_terms.specs.declared.state.Pending.{Pending}
-use Rattle.acd_terms.specs.declared.event.Cause.{Cause}
-use Rattle.acd_terms.specs.declared.moves.Move.{Move}
-use Rattle.acd_terms.specs.declared.moves.Ending.{Ending}
-use Rattle.acd_terms.specs.declared.moves.Release.{Release}
-use Rattle.acd_terms.specs.declared.moves.Release.TheVariants.{Stays, Goes}
-use Rattle.acd_terms.specs.declared.moves.Change.{Change}
-use Rattle.acd_terms.specs.declared.moves.Change.TheVariants.{Nothing, PutGroup, PutStation, PutAgent, PutCall, PutConnection, PutMonitor, RemoveCall, RemoveConnection, RemoveMonitor}
-use Rattle.acd_laws.specs.Counts.{is_open}
-use Rattle.acd_laws.proofs.Lists.{one}
-use Rattle.acd_laws.proofs.Told.{Truthful, AllTruthful, truthful-append, truthful_put, truthful_nothing, truthful_agent, truthful_silent_agent}
-use Rattle.acd_laws.proofs.Balance.{Balances, balances-append, holding, held, holding_new, entry_by, gone_by}
-use Rattle.acd_laws.proofs.Order.{OrderKept, stays, order-append, order_later, held_within, comes}
+use Rattle.acd_model.specs.CallMoves.{plain, queueing, arrive}
+use Rattle.acd_model.specs.Figures.{is_entry, is_no_answer}
+use Rattle.acd_model.specs.Services.{waiting_group}
+use Rattle.acd_laws.proofs.Facts.{HasColumns}
+use Rattle.acd_laws.proofs.Lists.{one, among-remove, counted, ascending-put, ascending-remove}
+use Rattle.acd_laws.proofs.State.{connections_total, count_less}
 
 pub record Sound (m b c : ℕ) (s : Rows) (ms : List Move) : Type 0 where
   pub truthful : AllTruthful s ms
@@ -51,30 +38,6 @@ sound_later m b c s ms l f = record { truthful = f.truthful; balances = f.balanc
 
 pub sound_nothing : (m b : ℕ) (s : Rows) → Sound m b b s []
 sound_nothing m b s = record { truthful = tt; balances = λ g. refl; order = stays m b s [] (λ g. refl) (λ g c p h. h) }
-
--- what a change leaves as it is
-
-abbrev pub LeavesConnections : Change → Type 0
-LeavesConnections (PutConnection x) = ⊥
-LeavesConnections (RemoveConnection c d) = ⊥
-LeavesConnections _ = Unit {0}
-
-pub left_connections : (s : Rows) (c : Change) → LeavesConnections c → (changed s c).connections ≡ s.connections
-unfolding with_group with_station with_agent with_call with_monitor without_call without_monitor
-left_connections s Nothing h = refl
-left_connections s (PutGroup g) h = refl
-left_connections s (PutStation t) h = refl
-left_connections s (PutAgent a) h = refl
-left_connections s (PutCall c) h = refl
-left_connections s (PutConnection x) h = absurd h
-left_connections s (PutMonitor w) h = refl
-left_connections s (RemoveCall c) h = refl
-left_connections s (RemoveConnection c d) h = absurd h
-left_connections s (RemoveMonitor w) h = refl
-
-pub left_connection : (s : Rows) (c : Change) (a b : ℕ) → LeavesConnections c → connection_of (changed s c) a b ≡ connection_of s a b
-unfolding connection_of
-left_connection s c a b h = ap (λ xs. find_by (at_connection a b) xs) (left_connections s c h)
 
 -- a move that changes no connection and reports neither an entry nor what leaves
 
@@ -95,126 +58,214 @@ sound_unheard m b s x t u =
     held_same : (t v : Rows) (g : ℕ) → t.connections ≡ v.connections → holding t g ≡ holding v g
     held_same t v g e = rw e refl
 
--- moves of agents
+-- nothing is seen of the change
+pub silently : {m b : ℕ} {s : Rows} (c : Change) → Truthful s (silent c) → LeavesConnections c → Sound m b b s (silent c ∷ [])
+silently {m} {b} {s} c t h = sound_unheard m b s (silent c) t (record { leaves = h; entry = λ g. refl; gone = λ g. refl })
 
-pub unheard_state : (a : AgentRecord) (state : AgentState) (agent station : ℕ) → Unheard (reported (PutAgent a) (state_report state agent station))
-unheard_state a A.Null agent station = record { leaves = tt; entry = λ g. refl; gone = λ g. refl }
-unheard_state a A.NotReady agent station = record { leaves = tt; entry = λ g. refl; gone = λ g. refl }
-unheard_state a A.Ready agent station = record { leaves = tt; entry = λ g. refl; gone = λ g. refl }
-unheard_state a A.Busy agent station = record { leaves = tt; entry = λ g. refl; gone = λ g. refl }
-unheard_state a A.WorkingAfterCall agent station = record { leaves = tt; entry = λ g. refl; gone = λ g. refl }
+-- what an agent's move tells
 
-pub unheard_wait : (a : AgentRecord) → Unheard (silent (PutAgent a))
-unheard_wait a = record { leaves = tt; entry = λ g. refl; gone = λ g. refl }
+record StateReport (st : AgentState) (n d : ℕ) (r : Report) : Type 0 where
+  agent : (columns_of r).agent ≡ Some n
+  call : (columns_of r).call ≡ None
+  seat : (old : Seat) → record { state = st; station = kept_in st old.station } ≡ seat_by (columns_of r).kind (columns_of r).device old
+  entry : (g : ℕ) → entry_by g (Some r) ≡ 0
+  gone : (g : ℕ) → gone_by g (Some r) ≡ 0
 
-pub unheard_nothing : Unheard no_move
-unheard_nothing = record { leaves = tt; entry = λ g. refl; gone = λ g. refl }
+state_told : (st : AgentState) (n d : ℕ) → StateReport st n d (state_report st n d)
+state_told A.Null n d = record { agent = refl; call = refl; seat = λ old. refl; entry = λ g. refl; gone = λ g. refl }
+state_told st n d = record { agent = refl; call = refl; seat = λ old. refl; entry = λ g. refl; gone = λ g. refl }
 
-truthful_state : (s : Rows) (a : AgentRecord) (m k station : ℕ) (state : AgentState) → agent_of s a.agent ≡ Some a → Truthful s (go_to m k a station state)
-truthful_state s a m k station A.Null e = truthful_agent s (in_state A.Null m k a) _ refl refl refl
-truthful_state s a m k station A.NotReady e = truthful_agent s (in_state A.NotReady m k a) (state_report A.NotReady a.agent station) refl refl (ap (λ o. seat_by (columns_of (state_report A.NotReady a.agent station)).kind (Some station) (seat_of o)) (sym e))
-truthful_state s a m k station A.Ready e = truthful_agent s (in_state A.Ready m k a) (state_report A.Ready a.agent station) refl refl (ap (λ o. seat_by (columns_of (state_report A.Ready a.agent station)).kind (Some station) (seat_of o)) (sym e))
-truthful_state s a m k station A.Busy e = truthful_agent s (in_state A.Busy m k a) (state_report A.Busy a.agent station) refl refl (ap (λ o. seat_by (columns_of (state_report A.Busy a.agent station)).kind (Some station) (seat_of o)) (sym e))
-truthful_state s a m k station A.WorkingAfterCall e = truthful_agent s (in_state A.WorkingAfterCall m k a) (state_report A.WorkingAfterCall a.agent station) refl refl (ap (λ o. seat_by (columns_of (state_report A.WorkingAfterCall a.agent station)).kind (Some station) (seat_of o)) (sym e))
+pub sound_agent : {m b k : ℕ} {t : Rows} {x : Move} → AgentMove (Recorded t) m k x → Sound m b b t (x ∷ [])
+sound_agent {m} {b} {k} {t} nothing = silently Nothing (truthful_unseen t Nothing tt tt tt) tt
+sound_agent {m} {b} {k} {t} (waits a pending e) = silently (PutAgent (record a { pending = pending })) (truthful_silent_agent t (record a { pending = pending }) (ap seat_of (sym e))) tt
+sound_agent {m} {b} {k} {t} (tells a c d e h) =
+    let r : Report = state_report c.state c.agent d in
+    let w = state_told c.state c.agent d in
+    let was : agent_of t c.agent ≡ Some a = ap (agent_of t) h.agent ∙ e in
+    let told : seat_of (Some c) ≡ seat_by (columns_of r).kind (columns_of r).device (seat_of (agent_of t c.agent)) =
+    ap (λ (o : Option ℕ). let v : Seat = record { state = c.state; station = o } in v) h.station ∙ w.seat (seat_of (Some a)) ∙ ap (λ o. seat_by (columns_of r).kind (columns_of r).device (seat_of o)) (sym was) in
+    sound_unheard m b t (reported (PutAgent c) r) (truthful_agent t c r w.agent w.call told) (record { leaves = tt; entry = w.entry; gone = w.gone })
 
-pub sound_go_to : (m b k : ℕ) (s : Rows) (a : AgentRecord) (station : ℕ) (state : AgentState) → agent_of s a.agent ≡ Some a → Sound m b b s (go_to m k a station state ∷ [])
-sound_go_to m b k s a station state e = sound_unheard m b s (go_to m k a station state) (truthful_state s a m k station state e) (unheard_state (in_state state m k a) state a.agent station)
+-- the change of a connection, with a report or none
+abbrev pub put : ConnectionRecord → Option Report → Move
+put y o = record { change = PutConnection y; report = o }
 
-pub sound_go_from : (m b k : ℕ) (s : Rows) (a : AgentRecord) (o : Option ℕ) (state : AgentState) → agent_of s a.agent ≡ Some a → Sound m b b s (go_from m k a o state ∷ [])
-sound_go_from m b k s a None state e = sound_unheard m b s no_move (truthful_nothing s) unheard_nothing
-sound_go_from m b k s a (Some station) state e = sound_go_to m b k s a station state e
+abbrev pub remove : ConnectionRecord → Option Report → Move
+remove x o = record { change = RemoveConnection x.call x.device; report = o }
 
--- nothing is seen of another pending state
-pub sound_wait : (m b : ℕ) (s : Rows) (a : AgentRecord) (pending : Option Pending) → agent_of s a.agent ≡ Some a → Sound m b b s (wait_for a pending ∷ [])
-sound_wait m b s a pending e = sound_unheard m b s (wait_for a pending) (truthful_silent_agent s (record a { pending = pending }) (ap seat_of (sym e))) (unheard_wait (record a { pending = pending }))
+pub connections_put : (s : Rows) (y : ConnectionRecord) → (with_connection s y).connections ≡ put_by (connection_order y) s.connections y
+unfolding with_connection
+connections_put s y = refl
 
-sound_released : (m b k : ℕ) (s : Rows) (a : AgentRecord) (station : ℕ) (to : Release) → agent_of s a.agent ≡ Some a → Sound m b b s (released m k a station to ∷ [])
-sound_released m b k s a station Stays e = sound_wait m b s a None e
-sound_released m b k s a station (Goes state) e = sound_go_to m b k s a station state e
+pub connections_less : (s : Rows) (c d : ℕ) → (without_connection s c d).connections ≡ remove_by (at_connection c d) s.connections
+unfolding without_connection
+connections_less s c d = refl
 
-sound_release_agent : (m b k : ℕ) (s : Rows) (o : Option AgentRecord) (station : ℕ) (how : Ending) → ((a : AgentRecord) → o ≡ Some a → agent_of s a.agent ≡ Some a) → Sound m b b s (release_agent m k o station how ∷ [])
-sound_release_agent m b k s None station how h = sound_unheard m b s no_move (truthful_nothing s) unheard_nothing
-sound_release_agent m b k s (Some a) station how h = sound_released m b k s a station (release_of how a.pending) (h a refl)
+pub removed_within : (s : Rows) (c d : ℕ) (z : ConnectionRecord) → Among z (without_connection s c d).connections → Among z s.connections
+removed_within s c d z a = among-remove (at_connection c d) s.connections z (subst (Among z) (connections_less s c d) a)
 
-pub sound_if : (m b : ℕ) (s : Rows) (c : Bool) (x : Move) → Sound m b b s (x ∷ []) → Sound m b b s (cond c x no_move ∷ [])
-sound_if m b s true x h = h
-sound_if m b s false x h = sound_unheard m b s no_move (truthful_nothing s) unheard_nothing
+pub ascending_put : (s : Rows) (y : ConnectionRecord) → IsAscending connection_order s.connections → IsAscending connection_order (with_connection s y).connections
+unfolding with_connection
+ascending_put s y h = ascending-put connection_order connections_total y s.connections h
 
--- an agent is released, whose record is still as it was
-pub sound_release : (m b k : ℕ) (s t : Rows) (x : ConnectionRecord) (how : Ending) → ((a : AgentRecord) → agent_at s x.device ≡ Some a → agent_of t a.agent ≡ Some a) → Sound m b b t (release s m k x how ∷ [])
-unfolding release
-sound_release m b k s t x how h = sound_if m b t (is_distributed x) _ (sound_release_agent m b k t (agent_at s x.device) x.device how h)
+pub ascending_less : (s : Rows) (c d : ℕ) → IsAscending connection_order s.connections → IsAscending connection_order (without_connection s c d).connections
+unfolding without_connection
+ascending_less s c d h = ascending-remove connection_order (at_connection c d) s.connections h
 
-sound_busy : (m b k : ℕ) (t : Rows) (o : Option AgentRecord) (station : ℕ) → ((a : AgentRecord) → o ≡ Some a → agent_of t a.agent ≡ Some a) → Sound m b b t (busy_agent m k o station ∷ [])
-sound_busy m b k t None station h = sound_unheard m b t no_move (truthful_nothing t) unheard_nothing
-sound_busy m b k t (Some a) station h =
-    sound_unheard m b t (become_busy m k a station)
-    (truthful_agent t (record a { state = A.Busy; stamp = k; since = m }) (state_report A.Busy a.agent station) refl refl (ap (λ o. seat_by (columns_of (state_report A.Busy a.agent station)).kind (Some station) (seat_of o)) (sym (h a refl))))
-    (record { leaves = tt; entry = λ g. refl; gone = λ g. refl })
+-- what a group holds of a connection
 
-pub sound_occupy : (m b k : ℕ) (s t : Rows) (x : ConnectionRecord) → ((a : AgentRecord) → agent_at s x.device ≡ Some a → agent_of t a.agent ≡ Some a) → Sound m b b t (occupy s m k x ∷ [])
-unfolding occupy
-sound_occupy m b k s t x h = sound_if m b t (is_distributed x) _ (sound_busy m b k t (agent_at s x.device) x.device h)
+pub and_yes : (b : Bool) → (b && true) ≡ b
+and_yes true = refl
+and_yes false = refl
 
--- a call comes to a destination at which it wasn't
+pub or_no : (b : Bool) → (b || false) ≡ b
+or_no true = refl
+or_no false = refl
 
-or_false : (b : Bool) → (b || false) ≡ b
-or_false true = refl
-or_false false = refl
-
-truthful_arriving : (q i : Bool) (t : Rows) (m k call to : ℕ) (cause : Cause) → is_planned t to ≡ true → Truthful t (reported (PutConnection (arriving (met_at q i) m k call to)) (arrival (met_at q i) call to cause))
-truthful_arriving true i t m k call to cause p = truthful_put t (queueing call to (Some k) (Some m)) _ refl refl refl refl p
-truthful_arriving false true t m k call to cause p = truthful_put t (plain call to S.Alerting) _ refl refl refl refl p
-truthful_arriving false false t m k call to cause p = truthful_put t (plain call to S.Fail) _ refl refl refl refl p
-
-balances_arriving : (q i : Bool) (t : Rows) (m k call to : ℕ) (cause : Cause) → is_no_answer cause ≡ false → connection_of t call to ≡ None
-    → Balances t (reported (PutConnection (arriving (met_at q i) m k call to)) (arrival (met_at q i) call to cause) ∷ [])
-balances_arriving true i t m k call to cause e n g =
-    let x : ConnectionRecord = queueing call to (Some k) (Some m) in
-    let h = holding_new t x g n in
-    let a : held g x ≡ one (to == g) = waits (to == g) (to == g) in
-    let c : one ((to == g) && not (is_no_answer cause)) ≡ one (to == g) = ap (λ v. one ((to == g) && not v)) e ∙ ap one (and_yes (to == g)) in
-    omega (arith, h, a, c)
+-- one that isn't open is in no queue and rings from none
+pub held_shut : (g : ℕ) (x : ConnectionRecord) → is_open x.state ≡ false → held g x ≡ 0
+held_shut g x e =
+    (elim x.state as (λ st. is_open st ≡ false → held g (record x { state = st }) ≡ 0) [
+      | S.Alerting ↦ λ q. absurd (cc (q))
+      | S.Queued ↦ λ q. absurd (cc (q))
+      | S.Fail ↦ λ q. absurd (cc (q))
+      | _ ↦ λ _. none
+    ]) e
   where
-    and_yes : (b : Bool) → (b && true) ≡ b
-    and_yes true = refl
-    and_yes false = refl
+    none : one ((x.device == g) && false) + one (has x.group g && false) ≡ 0
+    none = rw (and_right (x.device == g) false refl, and_right (has x.group g) false refl) refl
 
-    waits : (b c : Bool) → one (b && true) + one (c && false) ≡ one b
-    waits true true = refl
-    waits true false = refl
-    waits false true = refl
-    waits false false = refl
-balances_arriving false true t m k call to cause e n g = let h = holding_new t (plain call to S.Alerting) g n in let a : held g (plain call to S.Alerting) ≡ 0 = ap (λ b. one b + 0) (and_right (to == g) false refl) in omega (arith, h, a)
-balances_arriving false false t m k call to cause e n g = let h = holding_new t (plain call to S.Fail) g n in let a : held g (plain call to S.Fail) ≡ 0 = ap (λ b. one b + 0) (and_right (to == g) false refl) in omega (arith, h, a)
+pub not_held : (g : ℕ) (x : ConnectionRecord) → is_open x.state ≡ false → is_held_by g x ≡ false
+not_held g x e =
+    (elim x.state as (λ st. is_open st ≡ false → is_held_by g (record x { state = st }) ≡ false) [
+      | S.Alerting ↦ λ q. absurd (cc (q))
+      | S.Queued ↦ λ q. absurd (cc (q))
+      | S.Fail ↦ λ q. absurd (cc (q))
+      | _ ↦ λ _. refl
+    ]) e
 
-queue_arriving : (q i : Bool) (m k call to : ℕ) (cause : Cause) → is_no_answer cause ≡ false → (g : ℕ) → is_held_by g (arriving (met_at q i) m k call to) ≡ true
-    → ((arriving (met_at q i) m k call to).place ≡ Some k) × (is_entry g (arrival (met_at q i) call to cause) ≡ true)
-queue_arriving true i m k call to cause n g h = (refl, and_from (to == g) (not (is_no_answer cause)) (sym (or_false (to == g)) ∙ h) (ap not n))
-queue_arriving false true m k call to cause n g h = absurd (cc (h))
-queue_arriving false false m k call to cause n g h = absurd (cc (h))
+-- one that waits or rings is held by its group, any other by none
+pub held_is : (g : ℕ) (x : ConnectionRecord) → HasColumns x x.state → held g x ≡ one (has (waiting_group x) g)
+held_is g x h = go x.state h
+  where
+    shut : one ((x.device == g) && false) + one (has x.group g && false) ≡ 0
+    shut = rw (and_right (x.device == g) false refl, and_right (has x.group g) false refl) refl
 
-call_arriving : (q i : Bool) (m k call to : ℕ) → (arriving (met_at q i) m k call to).call ≡ call
-call_arriving true i m k call to = refl
-call_arriving false true m k call to = refl
-call_arriving false false m k call to = refl
+    go : (st : ConnectionState) → HasColumns x st → one ((x.device == g) && is_queued st) + one (has x.group g && is_alerting st) ≡ one (has (cond (is_queued st || is_alerting st) x.group None) g)
+    go S.Queued c = rw (and_yes (x.device == g), and_right (has x.group g) false refl) (let e : one (x.device == g) ≡ one (has x.group g) = ap (λ o. one (has o g)) (sym c.group) in omega (arith, e))
+    go S.Alerting c = rw (and_yes (has x.group g), and_right (x.device == g) false refl) (omega arith)
+    go _ c = shut
 
-call_arrival : (q i : Bool) (call to : ℕ) (cause : Cause) → (columns_of (arrival (met_at q i) call to cause)).call ≡ Some call
-call_arrival true i call to cause = refl
-call_arrival false true call to cause = refl
-call_arrival false false call to cause = refl
+pub held_by_is : (g : ℕ) (x : ConnectionRecord) → HasColumns x x.state → is_held_by g x ≡ has (waiting_group x) g
+held_by_is g x h = go x.state h
+  where
+    go : (st : ConnectionState) → HasColumns x st → ((is_queued st && (x.device == g)) || (is_alerting st && has x.group g)) ≡ has (cond (is_queued st || is_alerting st) x.group None) g
+    go S.Queued c = or_no (x.device == g) ∙ ap (λ o. has o g) (sym c.group)
+    go S.Alerting c = refl
+    go _ c = refl
+
+pub waiting_alerting : (x : ConnectionRecord) → is_alerting x.state ≡ true → waiting_group x ≡ x.group
+waiting_alerting x e = go x.state e
+  where
+    go : (st : ConnectionState) → is_alerting st ≡ true → cond (is_queued st || is_alerting st) x.group None ≡ x.group
+    go S.Alerting e = refl
+    go S.Queued e = refl
+    go _ e = absurd (cc (e))
+
+pub waiting_open : (x : ConnectionRecord) → (is_alerting x.state || is_queued x.state) ≡ true → waiting_group x ≡ x.group
+waiting_open x e = go x.state e
+  where
+    go : (st : ConnectionState) → (is_alerting st || is_queued st) ≡ true → cond (is_queued st || is_alerting st) x.group None ≡ x.group
+    go S.Alerting e = refl
+    go S.Queued e = refl
+    go _ e = absurd (cc (e))
+
+-- one that no group holds
+pub record Unheld (y : ConnectionRecord) : Type 0 where
+  pub held : (g : ℕ) → held g y ≡ 0
+  pub not_held : (g : ℕ) → is_held_by g y ≡ false
+
+pub shut : (y : ConnectionRecord) → is_open y.state ≡ false → Unheld y
+shut y e = record { held = λ g. held_shut g y e; not_held = λ g. not_held g y e }
+
+pub ungrouped : (call device : ℕ) (st : ConnectionState) → is_queued st ≡ false → Unheld (plain call device st)
+ungrouped call device st e = record {
+  held = λ g. ap (λ b. one b + 0) (and_right (device == g) (is_queued st) e);
+  not_held = λ g. ap (λ b. (b && device == g) || (is_alerting st && false)) e ∙ and_right (is_alerting st) false refl;
+}
+
+-- puts and removals
+
+-- a connection is put where none was, which no group holds
+pub sound_put_new : (m b : ℕ) (s : Rows) (y : ConnectionRecord) (o : Option Report) → Truthful s (put y o) → connection_of s y.call y.device ≡ None → Unheld y
+    → ((g : ℕ) → entry_by g o ≡ 0) → ((g : ℕ) → gone_by g o ≡ 0) → Sound m b b s (put y o ∷ [])
+sound_put_new m b s y o t none free entry gone = record {
+  truthful = (t, tt);
+  balances = λ g. let h = holding_new s y g none in let e = free.held g in let f = entry g in let k = gone g in omega (arith, h, e, f, k);
+  order = stays m b s (put y o ∷ []) (λ g. let f = entry g in omega (arith, f)) (λ g c p h. held_put s (with_connection s y) s.connections y g c p (λ z a. a) (λ q. absurd (cc (q, free.not_held g))) (connections_put s y) h);
+}
+
+-- or in place of another, which its group lets go by the report
+pub sound_put_old : (m b : ℕ) (s : Rows) (x y : ConnectionRecord) (o : Option Report) → Truthful s (put y o) → IsAscending connection_order s.connections → connection_of s y.call y.device ≡ Some x
+    → is_open y.state ≡ false → ((g : ℕ) → entry_by g o ≡ 0) → ((g : ℕ) → gone_by g o ≡ held g x) → Sound m b b s (put y o ∷ [])
+sound_put_old m b s x y o t asc there shut entry gone = record {
+  truthful = (t, tt);
+  balances = λ g. let h = holding_old s y x g asc there in let e = held_shut g y shut in let f = entry g in let k = gone g in omega (arith, h, e, f, k);
+  order = stays m b s (put y o ∷ []) (λ g. let f = entry g in omega (arith, f)) (λ g c p h. held_put s (with_connection s y) s.connections y g c p (λ z a. a) (λ q. absurd (cc (q, not_held g y shut))) (connections_put s y) h);
+}
+
+-- a connection ends, which its group lets go by the report
+pub sound_remove : (m b : ℕ) (s : Rows) (x : ConnectionRecord) (o : Option Report) → Truthful s (remove x o) → connection_of s x.call x.device ≡ Some x
+    → ((g : ℕ) → entry_by g o ≡ 0) → ((g : ℕ) → gone_by g o ≡ held g x) → Sound m b b s (remove x o ∷ [])
+sound_remove m b s x o t there entry gone = record {
+  truthful = (t, tt);
+  balances = λ g. let h = holding_less s x.call x.device x g there in let f = entry g in let k = gone g in omega (arith, h, f, k);
+  order = stays m b s (remove x o ∷ []) (λ g. let f = entry g in omega (arith, f)) (λ g c p h. held_within s (without_connection s x.call x.device) g c p (removed_within s x.call x.device) h);
+}
+
+-- where the one open connection of a call is taken away, none is left
+pub open_gone : (s : Rows) (call : ℕ) (x : ConnectionRecord) → connection_of s x.call x.device ≡ Some x → x.call ≡ call → count (open_of call) s.connections ≤ one (is_open x.state)
+    → (z : ConnectionRecord) → Among z (without_connection s x.call x.device).connections → is_open z.state ≡ true → z.call ≡ call → ⊥
+open_gone s call x there xc most z a e q =
+    let c = count_less (open_of call) s x.call x.device x there in
+    let k = counted (open_of call) (remove_by (at_connection x.call x.device) s.connections) z (subst (Among z) (connections_less s x.call x.device) a) (both (is_open z.state) (z.call == call) e (eq-eqb z.call call q)) in
+    let f : one (open_of call x) ≡ one (is_open x.state) = ap one (first (is_open x.state) (x.call == call) (eq-eqb x.call call xc)) in
+    omega (arith, c, k, most, f)
+  where
+    both : (a b : Bool) → a ≡ true → b ≡ true → (a && b) ≡ true
+    both a b e f = rw (e, f) refl
+
+    first : (a b : Bool) → b ≡ true → (a && b) ≡ a
+    first true b e = e
+    first false b e = refl
+
+pub planned_station : (s : Rows) (d : ℕ) → is_station s d ≡ true → is_planned s d ≡ true
+planned_station s d h = or_right (is_group s d) (is_station s d) h
+
+pub planned_group : (s : Rows) (d : ℕ) → is_group s d ≡ true → is_planned s d ≡ true
+planned_group s d h = or_left (is_group s d) (is_station s d) h
+
+-- a call comes to a device
 
 -- where none of the call is open, it comes to the device with the stamp as its place
-pub sound_arrive : (m b k : ℕ) (s t : Rows) (call to : ℕ) (cause : Cause) → b < k → is_planned t to ≡ true → is_no_answer cause ≡ false → connection_of t call to ≡ None
-    → ((z : ConnectionRecord) → Among z t.connections → is_open z.state ≡ true → z.call ≡ call → ⊥) → Sound m b k t (arrive s m k call to cause ∷ [])
+pub sound_arrival : (m b k : ℕ) (s t : Rows) (call to : ℕ) (why : Cause) (x : Move) → Arrival s m k call to why x → b < k → is_planned t to ≡ true → is_no_answer why ≡ false → connection_of t call to ≡ None
+    → ((z : ConnectionRecord) → Among z t.connections → is_open z.state ≡ true → z.call ≡ call → ⊥) → Sound m b k t (x ∷ [])
+sound_arrival m b k s t call to why x (queues _) l p usual none new =
+    let y : ConnectionRecord = queueing call to (Some k) (Some m) in
+    let entry : (g : ℕ) → is_entry g (report.Queued call to why) ≡ (to == g) = λ g. ap (λ v. (to == g) && not v) usual ∙ and_yes (to == g) in
+    record {
+      truthful = (truthful_put t y (report.Queued call to why) refl refl refl refl p, tt);
+      balances = λ g. let h = holding_new t y g none in let c : one (is_entry g (report.Queued call to why)) ≡ one (to == g) = ap one (entry g) in
+          let a : held g y ≡ one (to == g) = rw (and_yes (to == g), and_right (to == g) false refl) (omega arith) in omega (arith, h, a, c);
+      order = comes m b k t y (report.Queued call to why) call l (record { new = new; call_is = refl; reported = refl; queue = λ g h. (refl, entry g ∙ sym (or_no (to == g)) ∙ h) });
+    }
+sound_arrival m b k s t call to why x alerts l p usual none new =
+    let y : ConnectionRecord = plain call to S.Alerting in let r : Report = report.Delivered call to why None in
+    sound_later m b k t (put y (Some r) ∷ []) (omega (arith, l)) (sound_put_new m b t y (Some r) (truthful_put t y r refl refl refl refl p) none (ungrouped call to S.Alerting refl) (λ g. refl) (λ g. refl))
+sound_arrival m b k s t call to why x fails l p usual none new =
+    let y : ConnectionRecord = plain call to S.Fail in let r : Report = report.Failed call to in
+    sound_later m b k t (put y (Some r) ∷ []) (omega (arith, l)) (sound_put_new m b t y (Some r) (truthful_put t y r refl refl refl refl p) none (ungrouped call to S.Fail refl) (λ g. refl) (λ g. refl))
+
+pub arrive_leaves : (s : Rows) (m k call to : ℕ) (why : Cause) → LeavesAgents (arrive s m k call to why).change
 unfolding arrive
-sound_arrive m b k s t call to cause l p n none new = record {
-  truthful = (truthful_arriving (is_group s to) (is_idle s to) t m k call to cause p, tt);
-  balances = balances_arriving (is_group s to) (is_idle s to) t m k call to cause n none;
-  order = comes m b k t (arriving (destination_of s to) m k call to) (arrival (destination_of s to) call to cause) call l (record {
-    new = new;
-    call_is = call_arriving (is_group s to) (is_idle s to) m k call to;
-    reported = call_arrival (is_group s to) (is_idle s to) call to cause;
-    queue = queue_arriving (is_group s to) (is_idle s to) m k call to cause n;
-  });
-}
+arrive_leaves s m k call to why = tt

@@ -1,32 +1,41 @@
--- What the reports tell of connections and agents: by each move.
-use Rattle.std.proofs.Common.{◌≡◌, ℕ, ◌+◌, Bool, true, false, ◌&&◌, ◌||◌, cond, List, [], ◌∷◌, ◌++◌, Option, Some, None, refl, sym, ◌∙◌, ap}
-use Rattle.std.specs.Prelude.{◌==◌, option_map}
+-- What the events tell of a state, as moves keep it: the report of a move says just what it changes, at every device.
+use Rattle.std.specs.Prelude.{if◌then◌else◌, ◌==◌, option_map}
+use Rattle.acd_laws.proofs.Words.{Rows, GroupRecord, StationRecord, AgentRecord, ConnectionRecord, ConnectionState, Change, Columns, Event, Move, Report, IsAscending, group_of, station_of, agent_of, connection_of, is_group, is_station, is_planned, has, with_group, with_station, with_connection, without_connection, silent, reported, changed, moved, with_event, events_of, connection_order}
+use Rattle.acd_model.specs.Told.{after, connection_told, Seat, no_seat, seat_told, last_entry, names, state_by, seat_by}
+use Rattle.acd_model.specs.Watched.{state_at, seat_of, IsHeldAt, InOrder}
+use Rattle.std.proofs.Common.{◌≡◌, ℕ, ◌≤◌, ◌<◌, ◌+◌, Bool, true, false, ◌&&◌, ◌||◌, cond, List, [], ◌∷◌, ◌++◌, Option, Some, None, refl, sym, ◌∙◌, ap}
 use Rattle.std.proofs.lemmas.Bool.{and_right, eqb-true}
-use Rattle.acd_terms.specs.Lists.{IsAscending}
-use Rattle.acd_terms.specs.Scans.{connection_of, agent_of, group_of, station_of, is_planned, is_group, is_station, has}
-use Rattle.acd_terms.specs.Writes.{with_group, with_station, with_agent, with_call, with_connection, with_monitor, without_call, without_connection, without_monitor}
-use Rattle.acd_terms.specs.Moves.{no_move, silent, reported, changed, moved, with_event, events_of}
 use Rattle.acd_terms.specs.Columns.{columns_of}
-use Rattle.acd_terms.specs.Told.{after, connection_told, names, state_by, seat_told, seat_by}
-use Rattle.acd_terms.specs.Watched.{state_at, seat_of}
-use Rattle.acd_terms.specs.Step.{numbered}
-use Rattle.acd_terms.specs.Rules.Plan.{connection_order}
-use Rattle.acd_terms.specs.declared.rows.Rows.{Rows}
-use Rattle.acd_terms.specs.declared.record.GroupRecord.{GroupRecord}
-use Rattle.acd_terms.specs.declared.record.StationRecord.{StationRecord}
-use Rattle.acd_terms.specs.declared.record.AgentRecord.{AgentRecord}
-use Rattle.acd_terms.specs.declared.record.CallRecord.{CallRecord}
-use Rattle.acd_terms.specs.declared.record.ConnectionRecord.{ConnectionRecord}
-use Rattle.acd_terms.specs.declared.record.MonitorRecord.{MonitorRecord}
-use Rattle.acd_terms.specs.declared.state.ConnectionState.{ConnectionState}
-use Rattle.acd_terms.specs.declared.event.Columns.{Columns}
-use Rattle.acd_terms.specs.declared.event.Event.{Event}
-use Rattle.acd_terms.specs.declared.event.Report.{Report}
 use Rattle.acd_terms.specs.declared.event.Report.TheVariants.{CallCleared}
-use Rattle.acd_terms.specs.declared.moves.Move.{Move}
-use Rattle.acd_terms.specs.declared.moves.Change.TheVariants.{PutGroup, PutStation, PutAgent, PutCall, PutConnection, PutMonitor, RemoveCall, RemoveConnection, RemoveMonitor}
-use Rattle.acd_laws.proofs.Tells.{shown, seat}
+use Rattle.acd_model.specs.Step.{numbered}
+use Rattle.acd_model.specs.declared.moves.Change.TheVariants.{PutGroup, PutStation, PutAgent, PutConnection, RemoveCall, RemoveConnection}
+use Rattle.acd_laws.proofs.MoveKinds.{LeavesConnections, left_connection, LeavesAgents, left_agent, LeavesPlan, left_plan}
 use Rattle.acd_laws.proofs.State.{is_of, is_of_true, at_put, at_remove, agent_put, group_put, station_put}
+
+-- the connection's state at a planned device: of any other device nothing is told
+abbrev pub shown : Rows → ℕ → ℕ → Option ConnectionState
+shown s call device = if is_planned s device then state_at s call device else None
+
+-- the agent's state and station
+abbrev pub seat : Rows → ℕ → Seat
+seat s agent = seat_of (agent_of s agent)
+
+-- each call that waits or rings at a place has an entry, whose number is above 0
+abbrev pub HasEntries : Rows → List Event → Type 0
+HasEntries s events = (group call place : ℕ) → IsHeldAt s group call place → 0 < last_entry group call 0 events
+
+-- no entry has a number above the last event's, and none that waits or rings a place above the last stamp
+pub record UpTo (stamp event : ℕ) (s : Rows) (events : List Event) : Type 0 where
+  pub entries : (group call : ℕ) → last_entry group call 0 events ≤ event
+  pub places : (group call place : ℕ) → IsHeldAt s group call place → place ≤ stamp
+
+-- what the events tell is what the state holds
+pub record Tells (s : Rows) (events : List Event) : Type 0 where
+  pub connections : (call device : ℕ) → shown s call device ≡ after (connection_told call device) None events
+  pub agents : (agent : ℕ) → seat s agent ≡ after (seat_told agent) no_seat events
+  pub entries : HasEntries s events
+  pub queues : InOrder s events
+  pub up_to : UpTo s.last_stamp s.last_event s events
 
 -- what is told after a report, if there is one
 abbrev pub heard : {T : Type 0} → (T → Columns → T) → T → Option Report → T
@@ -75,6 +84,12 @@ seat_after s m (x ∷ ms) h n =
 abbrev state_of : Option ConnectionRecord → Option ConnectionState
 state_of o = option_map (λ (x : ConnectionRecord). x.state) o
 
+left_seat : (s : Rows) (c : Change) (n : ℕ) → LeavesAgents c → seat (changed s c) n ≡ seat s n
+left_seat s c n h = ap seat_of (left_agent s c n h)
+
+left_shown : (s : Rows) (c : Change) (a d : ℕ) → LeavesPlan c → LeavesConnections c → shown (changed s c) a d ≡ shown s a d
+left_shown s c a d h g = ap (λ b. cond b (state_at (changed s c) a d) None) (left_plan s c d h) ∙ ap (λ o. cond (is_planned s d) (state_of o) None) (left_connection s c a d g)
+
 both_none : (b : Bool) → cond {A = Option ConnectionState} b None None ≡ None
 both_none true = refl
 both_none false = refl
@@ -85,10 +100,6 @@ named_as r a b c d e f = rw (e, f) refl
 shown_put : (s : Rows) (x : ConnectionRecord) (c d : ℕ) → shown (with_connection s x) c d ≡ cond (is_planned s d) (state_of (cond (is_of c d x) (Some x) (connection_of s c d))) None
 unfolding with_connection group_of station_of
 shown_put s x c d = ap (λ v. cond (is_planned s d) (state_of v) None) (at_put s x c d)
-
-seat_put : (s : Rows) (x : ConnectionRecord) (n : ℕ) → seat (with_connection s x) n ≡ seat s n
-unfolding with_connection agent_of
-seat_put s x n = refl
 
 seat_untold : (s : Rows) (r : Report) (n : ℕ) → (columns_of r).agent ≡ None → seat s n ≡ seat_told n (seat s n) (columns_of r)
 seat_untold s r n e = rw e refl
@@ -103,7 +114,7 @@ truthful_put s x r e f a k p = record {
         | false ↦ λ q. refl
       ]) refl
       ∙ ap (λ b. cond b (state_by (columns_of r).kind) (shown s c d)) (sym (named_as r x.call x.device c d e f));
-  agents = λ n. seat_put s x n ∙ seat_untold s r n a;
+  agents = λ n. left_seat s (PutConnection x) n tt ∙ seat_untold s r n a;
 }
 
 -- one that is outside the plan, with none
@@ -114,16 +125,12 @@ truthful_outside s x p = record {
         | true ↦ λ q. rw (← (is_of_true c d x q).1, p) refl
         | false ↦ λ q. refl
       ]) refl;
-  agents = λ n. seat_put s x n;
+  agents = λ n. left_seat s (PutConnection x) n tt;
 }
 
 shown_remove : (s : Rows) (a b c d : ℕ) → IsAscending connection_order s.connections → shown (without_connection s a b) c d ≡ cond (is_planned s d) (state_of (cond (a == c && b == d) None (connection_of s c d))) None
 unfolding without_connection group_of station_of
 shown_remove s a b c d h = ap (λ v. cond (is_planned s d) (state_of v) None) (at_remove s a b c d h)
-
-seat_remove : (s : Rows) (a b n : ℕ) → seat (without_connection s a b) n ≡ seat s n
-unfolding without_connection agent_of
-seat_remove s a b n = refl
 
 -- a connection ends
 pub truthful_remove : (s : Rows) (a b : ℕ) (r : Report) → IsAscending connection_order s.connections → (columns_of r).call ≡ Some a → (columns_of r).device ≡ Some b → (columns_of r).agent ≡ None
@@ -135,39 +142,24 @@ truthful_remove s a b r h e f n k = record {
         | false ↦ refl
       ])
       ∙ ap (λ v. cond v (state_by (columns_of r).kind) (shown s c d)) (sym (named_as r a b c d e f));
-  agents = λ m. seat_remove s a b m ∙ seat_untold s r m n;
+  agents = λ m. left_seat s (RemoveConnection a b) m tt ∙ seat_untold s r m n;
 }
 
--- moves that nobody sees
-
-pub truthful_nothing : (s : Rows) → Truthful s no_move
-truthful_nothing s = record { connections = λ c d. refl; agents = λ n. refl }
-
-pub truthful_call : (s : Rows) (c : CallRecord) → Truthful s (silent (PutCall c))
-unfolding with_call group_of station_of connection_of agent_of
-truthful_call s c = record { connections = λ a d. refl; agents = λ n. refl }
-
-pub truthful_monitor : (s : Rows) (w : MonitorRecord) → Truthful s (silent (PutMonitor w))
-unfolding with_monitor group_of station_of connection_of agent_of
-truthful_monitor s w = record { connections = λ a d. refl; agents = λ n. refl }
-
-pub truthful_stop : (s : Rows) (w : ℕ) → Truthful s (silent (RemoveMonitor w))
-unfolding without_monitor group_of station_of connection_of agent_of
-truthful_stop s w = record { connections = λ a d. refl; agents = λ n. refl }
+-- nobody sees a change that leaves the plan, the connections and the agents
+pub truthful_unseen : (s : Rows) (c : Change) → LeavesPlan c → LeavesConnections c → LeavesAgents c → Truthful s (silent c)
+truthful_unseen s c h g k = record { connections = λ a d. left_shown s c a d h g; agents = λ n. left_seat s c n k }
 
 pub truthful_end : (s : Rows) (call : ℕ) (g : Option ℕ) → Truthful s (reported (RemoveCall call) (CallCleared call g))
-unfolding without_call group_of station_of connection_of agent_of
-truthful_end s call g = record { connections = λ c d. ap (λ b. cond b (state_by (columns_of (CallCleared call g)).kind) (shown s c d)) (sym (and_right (call == c) false refl)); agents = λ n. refl }
+truthful_end s call g = record {
+  connections = λ c d. left_shown s (RemoveCall call) c d tt tt ∙ ap (λ b. cond b (state_by (columns_of (CallCleared call g)).kind) (shown s c d)) (sym (and_right (call == c) false refl));
+  agents = λ n. left_seat s (RemoveCall call) n tt;
+}
 
 -- a device is planned at which nothing stands
 
 shown_group : (s : Rows) (g : GroupRecord) (c d : ℕ) → shown (with_group s g) c d ≡ cond (is_group (with_group s g) d || is_station s d) (state_at s c d) None
 unfolding with_group station_of connection_of
 shown_group s g c d = refl
-
-seat_group : (s : Rows) (g : GroupRecord) (n : ℕ) → seat (with_group s g) n ≡ seat s n
-unfolding with_group agent_of
-seat_group s g n = refl
 
 pub truthful_group : (s : Rows) (g : GroupRecord) → ((call : ℕ) → connection_of s call g.device ≡ None) → Truthful s (silent (PutGroup g))
 truthful_group s g h = record {
@@ -176,16 +168,12 @@ truthful_group s g h = record {
         | true ↦ λ q. rw (← eqb-true g.device d q, h c) (sym (both_none (is_planned s g.device)))
         | false ↦ λ q. refl
       ]) refl;
-  agents = λ n. seat_group s g n;
+  agents = λ n. left_seat s (PutGroup g) n tt;
 }
 
 shown_station : (s : Rows) (t : StationRecord) (c d : ℕ) → shown (with_station s t) c d ≡ cond (is_group s d || is_station (with_station s t) d) (state_at s c d) None
 unfolding with_station group_of connection_of
 shown_station s t c d = refl
-
-seat_station : (s : Rows) (t : StationRecord) (n : ℕ) → seat (with_station s t) n ≡ seat s n
-unfolding with_station agent_of
-seat_station s t n = refl
 
 pub truthful_station : (s : Rows) (t : StationRecord) → ((call : ℕ) → connection_of s call t.device ≡ None) → Truthful s (silent (PutStation t))
 truthful_station s t h = record {
@@ -194,14 +182,10 @@ truthful_station s t h = record {
         | true ↦ λ q. rw (← eqb-true t.device d q, h c) (both_none (is_group s t.device || true) ∙ sym (both_none (is_planned s t.device)))
         | false ↦ λ q. refl
       ]) refl;
-  agents = λ n. seat_station s t n;
+  agents = λ n. left_seat s (PutStation t) n tt;
 }
 
 -- moves of agents
-
-shown_agent : (s : Rows) (a : AgentRecord) (c d : ℕ) → shown (with_agent s a) c d ≡ shown s c d
-unfolding with_agent group_of station_of connection_of
-shown_agent s a c d = refl
 
 shown_untold : (s : Rows) (r : Report) (c d : ℕ) → (columns_of r).call ≡ None → shown s c d ≡ connection_told c d (shown s c d) (columns_of r)
 shown_untold s r c d e = rw e refl
@@ -210,7 +194,7 @@ shown_untold s r c d e = rw e refl
 pub truthful_agent : (s : Rows) (a : AgentRecord) (r : Report) → (columns_of r).agent ≡ Some a.agent → (columns_of r).call ≡ None
     → seat_of (Some a) ≡ seat_by (columns_of r).kind (columns_of r).device (seat s a.agent) → Truthful s (reported (PutAgent a) r)
 truthful_agent s a r e f q = record {
-  connections = λ c d. shown_agent s a c d ∙ shown_untold s r c d f;
+  connections = λ c d. left_shown s (PutAgent a) c d tt tt ∙ shown_untold s r c d f;
   agents = λ n. ap seat_of (agent_put s a n) ∙
       (elim (a.agent == n) as (λ b. (a.agent == n) ≡ b → seat_of (cond b (Some a) (agent_of s n)) ≡ cond b (seat_by (columns_of r).kind (columns_of r).device (seat s n)) (seat s n)) [
         | true ↦ λ w. rw (← eqb-true a.agent n w) q
@@ -222,7 +206,7 @@ truthful_agent s a r e f q = record {
 -- or with none, where nothing is seen of the change
 pub truthful_silent_agent : (s : Rows) (a : AgentRecord) → seat_of (Some a) ≡ seat s a.agent → Truthful s (silent (PutAgent a))
 truthful_silent_agent s a q = record {
-  connections = λ c d. shown_agent s a c d;
+  connections = λ c d. left_shown s (PutAgent a) c d tt tt;
   agents = λ n. ap seat_of (agent_put s a n) ∙
       (elim (a.agent == n) as (λ b. (a.agent == n) ≡ b → seat_of (cond b (Some a) (agent_of s n)) ≡ seat s n) [
         | true ↦ λ w. rw (← eqb-true a.agent n w) q

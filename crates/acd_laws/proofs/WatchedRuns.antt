@@ -1,109 +1,151 @@
--- The reports of every run tell its state; every run is balanced, and leaves no offer.
-use Rattle.std.proofs.Common.{◌≡◌, ℕ, ◌+◌, inl, inr, Bool, true, false, not, ◌&&◌, ◌||◌, cond, List, [], ◌++◌, Option, Some, None, refl, sym, ◌∙◌, ap, subst, length, arith, eq-eqb}
-use Rattle.std.specs.Prelude.{option_map}
-use Rattle.std.proofs.lemmas.Bool.{and_parts, not-true, or_left, or_right}
-use Rattle.acd_terms.specs.Scans.{connection_of, agent_of, call_of, group_of, station_of, is_group, is_station, is_planned, is_occupied, is_taken, is_eligible, waiting_in, eligible_in}
-use Rattle.acd_terms.specs.Writes.{empty_rows, with_last}
-use Rattle.acd_terms.specs.Moves.{moved, events_of}
-use Rattle.acd_terms.specs.Figures.{figures_of, sum_of_figures, counting, with_figures}
-use Rattle.acd_terms.specs.Offers.{HasNoOffer}
-use Rattle.acd_terms.specs.Told.{after, connection_told, seat_told}
-use Rattle.acd_terms.specs.Watched.{state_at, is_caller, is_external_caller, IsHeldAt, IsWatched}
-use Rattle.acd_terms.specs.Services.Serve.{serve}
-use Rattle.acd_terms.specs.Distribution.{distribution}
-use Rattle.acd_terms.specs.Served.{moves_of}
-use Rattle.acd_terms.specs.Step.{numbered, executed_moment, next_stamp, step_moves, step}
-use Rattle.acd_terms.specs.declared.rows.Rows.{Rows}
-use Rattle.acd_terms.specs.declared.rows.Limits.{Limits}
-use Rattle.acd_terms.specs.declared.record.Figures.{Figures}
-use Rattle.acd_terms.specs.declared.record.GroupRecord.{GroupRecord}
-use Rattle.acd_terms.specs.declared.record.CallRecord.{CallRecord}
-use Rattle.acd_terms.specs.declared.record.ConnectionRecord.{ConnectionRecord}
-use Rattle.acd_terms.specs.declared.state.ConnectionState.{ConnectionState}
-use Rattle.acd_terms.specs.declared.state.ConnectionState.TheVariants as S
-use Rattle.acd_terms.specs.declared.event.Event.{Event}
-use Rattle.acd_terms.specs.declared.command.Command.{Command}
-use Rattle.acd_terms.specs.declared.moves.Move.{Move}
-use Rattle.acd_laws.specs.Counts.{Rules, IsCaller, StandsAt}
-use Rattle.acd_laws.specs.WatchedLaws.{TellsNoMore, StepKeepsWatched, RunIsWatched, RunTellsNoMore}
-use Rattle.acd_laws.specs.BalanceLaws.{IsBalanced, StepBalances, RunIsBalanced}
-use Rattle.acd_laws.specs.OfferLaws.{LeavesNoOffer, StepLeavesNoOffer, RunLeavesNoOffer}
-use Rattle.acd_laws.proofs.Lists.{none_from}
-use Rattle.acd_laws.proofs.Members.{mapped_among}
-use Rattle.acd_laws.proofs.State.{found_key}
-use Rattle.acd_laws.proofs.Serving.{moved-append}
-use Rattle.acd_laws.proofs.Found.{connection_rule}
+-- What follows of a state and of the events since, over a whole step: the reports of every run tell its state; every run is balanced, and leaves no offer.
+use Rattle.std.proofs.Common.{◌≡◌, ℕ, ◌+◌, ◌<◌, ◌≤◌, List, [], ◌++◌, refl, sym, ◌∙◌, ap, subst, length, arith, append-nil, ◌⊎◌, inl, inr, true, false, ◌&&◌, ◌||◌, cond, ◌∷◌, Option, Some, None, Bool, not, eq-eqb}
+use Rattle.acd_laws.proofs.Words.{Rows, Limits, GroupRecord, CallRecord, ConnectionRecord, Figures, ConnectionState, Command, Event, Move, Among, is_alerting, is_queued, agent_of, call_of, connection_of, is_group, is_station, is_planned, has, is_taken, is_occupied, waiting_in, is_eligible, eligible_in, empty_rows, with_last, moved, events_of}
+use Rattle.acd_model.specs.Figures.{figures_of, sum_of_figures, counting, with_figures}
+use Rattle.acd_model.specs.Told.{after, connection_told, seat_told, enters, last_entry}
+use Rattle.acd_model.specs.Services.Serve.{serve}
+use Rattle.acd_model.specs.Step.{numbered, step_moves, executed_moment, next_stamp, step}
+use Rattle.acd_laws.proofs.Facts.{Rules, AlertingColumns, HasColumns, ConnectionRule, IsCaller, StandsAt}
+use Rattle.acd_laws.proofs.Told.{shown, seat, after-append, shown_after, seat_after, HasEntries, Tells, after-numbered}
 use Rattle.acd_laws.proofs.CountedEvents.{figures_joined, figures_numbered}
-use Rattle.acd_laws.proofs.Tells.{shown, seat, UpTo, Tells}
-use Rattle.acd_laws.proofs.Told.{after-append, after-numbered}
-use Rattle.acd_laws.proofs.Balance.{holding}
-use Rattle.acd_laws.proofs.Order.{Ordered}
-use Rattle.acd_laws.proofs.Entries.{entry_number, entered_by}
+use Rattle.acd_laws.proofs.Order.{holding, balanced_events, Ordered, ordered_on}
+use Rattle.acd_laws.proofs.SoundMoves.{Sound}
+use Rattle.acd_laws.proofs.SoundDeeds.{sound_deed, sound_round}
+use Rattle.acd_laws.proofs.RulesKept.{by_parts, rules_serve}
+use Rattle.std.specs.Prelude.{◌==◌, is_some, option_map}
+use Rattle.acd_terms.specs.declared.state.ConnectionState.TheVariants as S
+use Rattle.acd_model.specs.Watched.{is_held_by, HasEntered, state_at, is_caller, is_external_caller, IsHeldAt, IsWatched}
+use Rattle.acd_laws.proofs.Lists.{every_among, some_from, none_from, mapped_among}
+use Rattle.std.proofs.lemmas.Bool.{and_parts, not-true, or_left, or_right}
+use Rattle.acd_model.specs.Offers.{HasNoOffer}
+use Rattle.acd_model.specs.Distribution.{distribution}
+use Rattle.acd_model.specs.Served.{moves_of}
+use Rattle.acd_laws.specs.WatchedLaws.{TellsNoMore, RunIsWatched, RunTellsNoMore}
+use Rattle.acd_laws.specs.BalanceLaws.{IsBalanced, RunIsBalanced}
+use Rattle.acd_laws.specs.OfferLaws.{LeavesNoOffer, RunLeavesNoOffer}
+use Rattle.acd_laws.proofs.State.{found_key, connection_rule}
+use Rattle.acd_model.proofs.MoveLemmas.{moved_append}
 use Rattle.acd_laws.proofs.Distributing.{nothing_left}
-use Rattle.acd_laws.proofs.RulesKept.{rules_serve}
-use Rattle.acd_laws.proofs.RulesStep.{is_group_counting, rules_step}
-use Rattle.acd_laws.proofs.Following.{Follows, follows_step}
-use Rattle.acd_laws.proofs.Runs.{kept_by_run, rules_first}
+use Rattle.acd_laws.proofs.Ended.{ended, planned_ended, rules_step, kept_by_run, rules_first, KeptByRules}
 
--- the end of a step sets figures and counters: nothing else of the state after its moves changes
-abbrev ended : Rows → List Event → ℕ → ℕ → ℕ → Rows
-ended t es k m n = with_last (with_figures t es) k m n
+-- t is the state after s and these events; places are up to b in s, and up to c in t
+pub record Follows (s : Rows) (b c : ℕ) (t : Rows) (es : List Event) : Type 0 where
+  pub connections : (call device : ℕ) → shown t call device ≡ after (connection_told call device) (shown s call device) es
+  pub agents : (agent : ℕ) → seat t agent ≡ after (seat_told agent) (seat s agent) es
+  pub balances : (g : ℕ) → holding t g + ((figures_of g es).answered + (figures_of g es).abandoned + (figures_of g es).moved) ≡ holding s g + (figures_of g es).entered
+  pub order : (events : List Event) (n : ℕ) → Ordered b n s events → Ordered c (n + length es) t (events ++ numbered n es)
 
-planned_ended : (t : Rows) (es : List Event) (k m n d : ℕ) → is_planned (ended t es k m n) d ≡ is_planned t d
-unfolding with_last with_figures group_of station_of
-planned_ended t es k m n d = ap (λ b. b || is_station t d) (is_group_counting t es d)
+nothing_counted : (s : Rows) (g : ℕ) → holding s g + ((figures_of g []).answered + (figures_of g []).abandoned + (figures_of g []).moved) ≡ holding s g + (figures_of g []).entered
+unfolding figures_of
+nothing_counted s g = omega arith
 
-state_ended : (t : Rows) (es : List Event) (k m n c d : ℕ) → state_at (ended t es k m n) c d ≡ state_at t c d
-unfolding with_last with_figures connection_of
-state_ended t es k m n c d = refl
-
-shown_ended : (t : Rows) (es : List Event) (k m n c d : ℕ) → shown (ended t es k m n) c d ≡ shown t c d
-shown_ended t es k m n c d = ap (λ b. cond b (state_at (ended t es k m n) c d) None) (planned_ended t es k m n d) ∙ ap (λ v. cond (is_planned t d) v None) (state_ended t es k m n c d)
-
-seat_ended : (t : Rows) (es : List Event) (k m n a : ℕ) → seat (ended t es k m n) a ≡ seat t a
-unfolding with_last with_figures agent_of
-seat_ended t es k m n a = refl
-
-ordered_ended : (t : Rows) (es : List Event) (k m n : ℕ) (events : List Event) → Ordered k n t events → Ordered k n (ended t es k m n) events
-unfolding with_last with_figures
-ordered_ended t es k m n events o = record {
-  in_order = λ g c d p q a b. o.in_order g c d p q (back g c p a) (back g d q b);
-  entered = λ g c p a. o.entered g c p (back g c p a);
-  up_to = record { entries = o.up_to.entries; places = λ g c p a. o.up_to.places g c p (back g c p a) };
+pub follows_nothing : (s : Rows) (b : ℕ) → Follows s b b s []
+follows_nothing s b = record {
+  connections = λ c d. refl;
+  agents = λ n. refl;
+  balances = λ g. nothing_counted s g;
+  order = λ events n o. subst (λ (j : ℕ). Ordered b j s (events ++ [])) (omega arith) (subst (Ordered b n s) (sym (append-nil events)) o);
 }
-  where
-    back : (g c p : ℕ) → IsHeldAt (ended t es k m n) g c p → IsHeldAt t g c p
-    back g c p h = record { connection = h.connection; there = h.there; held = h.held; of_call = h.of_call; at_place = h.at_place }
 
-counters_ended : (t : Rows) (es : List Event) (k m n : ℕ) → (k ≡ (ended t es k m n).last_stamp) × (n ≡ (ended t es k m n).last_event)
-unfolding with_last
-counters_ended t es k m n = (refl, refl)
+-- sound moves lead on
+pub follows_moves : (s : Rows) (b c d m : ℕ) (t : Rows) (es : List Event) (ms : List Move) → Follows s b c t es → Sound m c d t ms → Follows s b d (moved t ms) (es ++ events_of m ms)
+follows_moves s b c d m t es ms f g = record {
+  connections = λ call device. shown_after t m ms g.truthful call device ∙ ap (λ v. after (connection_told call device) v (events_of m ms)) (f.connections call device)
+      ∙ sym (after-append (connection_told call device) (shown s call device) es (events_of m ms));
+  agents = λ agent. seat_after t m ms g.truthful agent ∙ ap (λ v. after (seat_told agent) v (events_of m ms)) (f.agents agent)
+      ∙ sym (after-append (seat_told agent) (seat s agent) es (events_of m ms));
+  balances = λ x.
+      let a = f.balances x in
+      let e = balanced_events t m ms g.balances x in
+      let j : figures_of x (es ++ events_of m ms) ≡ _ = figures_joined x es (events_of m ms) in
+      let j1 : (figures_of x (es ++ events_of m ms)).entered ≡ (figures_of x es).entered + (figures_of x (events_of m ms)).entered = ap (λ (w : Figures). w.entered) j in
+      let j2 : (figures_of x (es ++ events_of m ms)).answered ≡ (figures_of x es).answered + (figures_of x (events_of m ms)).answered = ap (λ (w : Figures). w.answered) j in
+      let j3 : (figures_of x (es ++ events_of m ms)).abandoned ≡ (figures_of x es).abandoned + (figures_of x (events_of m ms)).abandoned = ap (λ (w : Figures). w.abandoned) j in
+      let j4 : (figures_of x (es ++ events_of m ms)).moved ≡ (figures_of x es).moved + (figures_of x (events_of m ms)).moved = ap (λ (w : Figures). w.moved) j in
+      omega (arith, a, e, j1, j2, j3, j4);
+  order = λ events n o. ordered_on d n (moved t ms) events es (events_of m ms) (g.order (events ++ numbered n es) (n + length es) (f.order events n o));
+}
 
-holding_ended : (t : Rows) (es : List Event) (k m n g : ℕ) → holding (ended t es k m n) g ≡ holding t g
-unfolding with_last with_figures
-holding_ended t es k m n g = refl
+follows_later : (s : Rows) (b c d : ℕ) (t : Rows) (es : List Event) → c ≤ d → Follows s b c t es → Follows s b d t es
+follows_later s b c d t es l f = record {
+  connections = f.connections;
+  agents = f.agents;
+  balances = f.balances;
+  order = λ events n o. let w = f.order events n o in record { in_order = w.in_order; entered = w.entered; up_to = record { entries = w.up_to.entries; places = λ g x p h. let e = w.up_to.places g x p h in omega (arith, e, l) } };
+}
+
+-- a step: the service leads from one stamp to the next, and rounds keep it
+pub follows_step : (s : Rows) (m k b : ℕ) (c : Command) → Rules s → b < k → Follows s b k (moved s (step_moves s m (serve s m k c))) (events_of m (step_moves s m (serve s m k c)))
+follows_step s m k b c r l =
+    by_parts (Follows s b b) (Follows s b k) m k (λ t es ms d rt f. follows_moves s b b k m t es ms f (sound_deed t m k b ms d rt l)) (λ t es f. follows_later s b b k t es (omega (arith, l)) f)
+    (λ t es ms d rt f. follows_moves s b k k m t es ms f (sound_round t m k k ms d rt)) s [] c r (follows_nothing s b)
+
+-- an entry among events, whose number is the last one
+abbrev EntryIn : ℕ → ℕ → List Event → ℕ → Type 0
+EntryIn group call events last = (e : Event) × (Among e events) × (enters group call e ≡ true) × (e.number ≡ last)
+
+-- what is known from before is the last entry, or one of the events is
+last_found : (g c known : ℕ) (es : List Event) → (last_entry g c known es ≡ known) ⊎ EntryIn g c es (last_entry g c known es)
+last_found g c known [] = inl refl
+last_found g c known (e ∷ es) =
+    (elim (enters g c e) as (λ b. enters g c e ≡ b → (last_entry g c (cond b e.number known) es ≡ known) ⊎ EntryIn g c (e ∷ es) (last_entry g c (cond b e.number known) es)) [
+      | true ↦ λ q. elim (last_found g c e.number es) [
+        | inl same ↦ inr (e, inl refl, q, sym same)
+        | inr w ↦ inr (w.0, inr w.1, w.2, w.3)
+      ]
+      | false ↦ λ q. elim (last_found g c known es) [
+        | inl same ↦ inl same
+        | inr w ↦ inr (w.0, inr w.1, w.2, w.3)
+      ]
+    ]) refl
+
+pub entered_from : (g c : ℕ) (es : List Event) → 0 < last_entry g c 0 es → HasEntered es g c
+entered_from g c es l =
+    elim (last_found g c 0 es) [
+      | inl none ↦ absurd (omega (arith, l, none))
+      | inr w ↦ (let same = w.3 in record { entry = w.0; reported = w.1; is_entry = w.2; last = same; numbered = omega (arith, l, same) })
+    ]
+
+-- one that waits or rings has a place
+
+alerting_place : (x : ConnectionRecord) (g : ℕ) (o : Option ℕ) → AlertingColumns x o → has o g ≡ true → is_some x.place ≡ true
+alerting_place x g None h e = absurd (cc (e))
+alerting_place x g (Some n) h e = h.place
+
+place_in : (x : ConnectionRecord) (g : ℕ) (st : ConnectionState) → HasColumns x st → ((is_queued st && x.device == g) || (is_alerting st && has x.group g)) ≡ true → is_some x.place ≡ true
+place_in x g S.Queued h e = h.place
+place_in x g S.Alerting h e = alerting_place x g x.group h e
+place_in x g _ h e = absurd (cc (e))
+
+-- the number of its entry is above 0
+pub entry_number : (g c : ℕ) (x : ConnectionRecord) (events : List Event) → x.call ≡ c → HasEntered events g x.call → 0 < last_entry g c 0 events
+entry_number g c x events e h = subst (λ v. 0 < last_entry g v 0 events) e (let n = h.numbered in let l = h.last in omega (arith, n, l))
+
+pub entered_by : (s : Rows) (events : List Event) (g : ℕ) (x : ConnectionRecord) → Rules s → HasEntries s events → Among x s.connections → is_held_by g x ≡ true → HasEntered events g x.call
+entered_by s events g x r h a e =
+    let rule = every_among (ConnectionRule s) s.connections x r.connections a in
+    let place = some_from x.place (place_in x g x.state rule.0 e) in
+    entered_from g x.call events (h g x.call place.0 (record { connection = x; there = a; held = e; of_call = refl; at_place = place.1 }))
 
 -- what a step tells
 
 tells_ended : (s t : Rows) (events es : List Event) (k m : ℕ) → Tells s events → Follows s s.last_stamp k t es → Tells (ended t es k m (s.last_event + length es)) (events ++ numbered s.last_event es)
+unfolding with_last with_figures connection_of agent_of
 tells_ended s t events es k m told f =
     let n : ℕ = s.last_event + length es in
-    let e : Rows = ended t es k m n in
-    let o : Ordered s.last_stamp s.last_event s events = record { in_order = told.queues; entered = told.entries; up_to = told.up_to } in
-    let w : Ordered k n e (events ++ numbered s.last_event es) = ordered_ended t es k m n (events ++ numbered s.last_event es) (f.order events s.last_event o) in
-    let c = counters_ended t es k m n in
+    let w : Ordered k n t (events ++ numbered s.last_event es) = f.order events s.last_event (record { in_order = told.queues; entered = told.entries; up_to = told.up_to }) in
+    let back : (g c p : ℕ) → IsHeldAt (ended t es k m n) g c p → IsHeldAt t g c p = λ g c p h. record { connection = h.connection; there = h.there; held = h.held; of_call = h.of_call; at_place = h.at_place } in
     record {
-      connections = λ call device. shown_ended t es k m n call device ∙ f.connections call device ∙ ap (λ v. after (connection_told call device) v es) (told.connections call device)
+      connections = λ call device. ap (λ b. cond b (state_at t call device) None) (planned_ended t es k m n device) ∙ f.connections call device ∙ ap (λ v. after (connection_told call device) v es) (told.connections call device)
           ∙ sym (after-append (connection_told call device) None events (numbered s.last_event es) ∙ after-numbered (connection_told call device) _ s.last_event es);
-      agents = λ agent. seat_ended t es k m n agent ∙ f.agents agent ∙ ap (λ v. after (seat_told agent) v es) (told.agents agent)
+      agents = λ agent. f.agents agent ∙ ap (λ v. after (seat_told agent) v es) (told.agents agent)
           ∙ sym (after-append (seat_told agent) _ events (numbered s.last_event es) ∙ after-numbered (seat_told agent) _ s.last_event es);
-      entries = w.entered;
-      queues = w.in_order;
-      up_to = subst (λ v. UpTo v e.last_event e (events ++ numbered s.last_event es)) c.0 (subst (λ v. UpTo k v e (events ++ numbered s.last_event es)) c.1 w.up_to);
+      entries = λ g c p h. w.entered g c p (back g c p h);
+      queues = λ g c d p q x y. w.in_order g c d p q (back g c p x) (back g d q y);
+      up_to = record { entries = w.up_to.entries; places = λ g c p h. w.up_to.places g c p (back g c p h) };
     }
 
-step_tells : (s : Rows) (events : List Event) (moment : ℕ) (command : Command) → Rules s → Tells s events
-    → Tells (step s moment command).rows (events ++ (step s moment command).events)
+step_tells : KeptByRules Tells
 unfolding step
 step_tells s events moment command r told =
     let m : ℕ = executed_moment s moment in
@@ -113,18 +155,16 @@ step_tells s events moment command r told =
 
 -- what the reports tell of a state that keeps the rules
 
+not_caller : (o : Option CallRecord) (d : ℕ) → is_caller o d ≡ false → IsCaller o d → ⊥
+not_caller None d e i = i
+not_caller (Some c) d e i = cc (e, eq-eqb c.caller d i)
+
 not_standing : (s : Rows) (x : ConnectionRecord) (st : ConnectionState) → is_planned s x.device ≡ false → is_caller (call_of s x.call) x.device ≡ false → StandsAt s x st → ⊥
 not_standing s x S.Queued p c h = cc (p, or_left (is_group s x.device) (is_station s x.device) h)
 not_standing s x S.Initiated p c h = cc (p, or_right (is_group s x.device) (is_station s x.device) h.0)
-not_standing s x S.Alerting p c h = cc (p, or_right (is_group s x.device) (is_station s x.device) h)
-not_standing s x S.Hold p c h = cc (p, or_right (is_group s x.device) (is_station s x.device) h)
-not_standing s x S.Fail p c h = cc (p, or_right (is_group s x.device) (is_station s x.device) h)
 not_standing s x S.Connected p c (inl h) = cc (p, or_right (is_group s x.device) (is_station s x.device) h)
-not_standing s x S.Connected p c (inr h) = calls (call_of s x.call) c h.1
-  where
-    calls : (o : Option CallRecord) → is_caller o x.device ≡ false → IsCaller o x.device → ⊥
-    calls None e i = i
-    calls (Some k) e i = cc (e, eq-eqb k.caller x.device i)
+not_standing s x S.Connected p c (inr h) = not_caller (call_of s x.call) x.device c h.1
+not_standing s x _ p c h = cc (p, or_right (is_group s x.device) (is_station s x.device) h)
 
 -- neither at a planned device nor at the caller of its call a connection stands
 none_outside : (s : Rows) (c d : ℕ) → Rules s → is_planned s d ≡ false → is_caller (call_of s c) d ≡ false → connection_of s c d ≡ None
@@ -171,15 +211,16 @@ told_by s events r w n = record {
   up_to = record { entries = n.entries; places = n.places };
 }
 
-pub step_keeps_watched : StepKeepsWatched
+pub step_keeps_watched : (s : Rows) (events : List Event) (moment : ℕ) (command : Command) → Rules s → IsWatched s events → TellsNoMore s events
+    → IsWatched (step s moment command).rows (events ++ (step s moment command).events) × TellsNoMore (step s moment command).rows (events ++ (step s moment command).events)
 step_keeps_watched s events moment command r w n =
     let told = step_tells s events moment command r (told_by s events r w n) in
     (watched_by _ _ (rules_step s moment command r) told, no_more_by _ _ told)
 
 -- balance
 
-pub step_balances : StepBalances
-unfolding step
+pub step_balances : KeptByRules IsBalanced
+unfolding step with_last with_figures
 step_balances s events moment command r h g =
     let m : ℕ = executed_moment s moment in
     let k : ℕ = next_stamp s in
@@ -188,7 +229,7 @@ step_balances s events moment command r h g =
     let f = follows_step s m k s.last_stamp command r (omega arith) in
     let a = h g in
     let b = f.balances g in
-    let c = holding_ended (moved s ms) es k m (s.last_event + length es) g in
+    let c : holding (ended (moved s ms) es k m (s.last_event + length es)) g ≡ holding (moved s ms) g = refl in
     let j = figures_joined g events (numbered s.last_event es) ∙ ap (λ v. sum_of_figures (figures_of g events) v) (figures_numbered g s.last_event es) in
     let j1 : (figures_of g (events ++ numbered s.last_event es)).entered ≡ (figures_of g events).entered + (figures_of g es).entered = ap (λ (w : Figures). w.entered) j in
     let j2 : (figures_of g (events ++ numbered s.last_event es)).answered ≡ (figures_of g events).answered + (figures_of g es).answered = ap (λ (w : Figures). w.answered) j in
@@ -202,7 +243,7 @@ no_offer_ended : (t : Rows) (es : List Event) (k m n : ℕ) → LeavesNoOffer t 
 unfolding with_last with_figures waiting_in eligible_in is_eligible is_occupied is_taken
 no_offer_ended t es k m n h g a = let w = mapped_among (counting es) t.groups g a in subst (λ d. HasNoOffer (ended t es k m n) d) (ap (λ (z : GroupRecord). z.device) (sym w.1.1)) (h w.0 w.1.0)
 
-pub step_leaves_no_offer : StepLeavesNoOffer
+pub step_leaves_no_offer : (s : Rows) (moment : ℕ) (command : Command) → Rules s → LeavesNoOffer (step s moment command).rows
 unfolding step
 step_leaves_no_offer s moment command r =
     let m : ℕ = executed_moment s moment in
@@ -210,7 +251,7 @@ step_leaves_no_offer s moment command r =
     let ms : List Move = moves_of (serve s m k command) in
     let all : List Move = step_moves s m (serve s m k command) in
     no_offer_ended (moved s all) (events_of m all) k m (s.last_event + length (events_of m all))
-    (subst LeavesNoOffer (sym (moved-append s ms (distribution (moved s ms) m))) (λ g a. nothing_left (moved s ms) m g (rules_serve s m k command r) a))
+    (subst LeavesNoOffer (sym (moved_append s ms (distribution (moved s ms) m))) (λ g a. nothing_left (moved s ms) m g (rules_serve s m k command r) a))
 
 -- runs
 
@@ -221,14 +262,10 @@ record Holds (s : Rows) (events : List Event) : Type 0 where
   balanced : IsBalanced s events
   no_offer : LeavesNoOffer s
 
-both_none : (b : Bool) → cond {A = Option ConnectionState} b None None ≡ None
-both_none true = refl
-both_none false = refl
-
 nothing_told : (limits : Limits) → Tells (empty_rows limits) []
 unfolding connection_of agent_of
 nothing_told limits = record {
-  connections = λ c d. both_none (is_planned (empty_rows limits) d);
+  connections = λ c d. elim (is_planned (empty_rows limits) d) as (λ b. cond {A = Option ConnectionState} b None None ≡ None) [ true ↦ refl | false ↦ refl ];
   agents = λ a. refl;
   entries = λ g c p a. absurd a.there;
   queues = λ g c d p q a b. absurd a.there;

@@ -1,17 +1,17 @@
 -- All laws of a state and of the events up to it, together.
 use Rattle.std.specs.Prelude.{◌≡◌, ℕ, ◌<◌, ◌≤◌, true, List, ◌++◌, length}
 use Rattle.acd_terms.specs.Limits.{limits_fit}
-use Rattle.acd_terms.specs.Writes.{empty_rows}
-use Rattle.acd_terms.specs.Placed.{IsPlaced}
-use Rattle.acd_terms.specs.OneOffer.{HasOneOffer}
-use Rattle.acd_terms.specs.Watched.{IsWatched}
-use Rattle.acd_terms.specs.Rules.First.{BreaksNoRule}
-use Rattle.acd_terms.specs.Step.{step}
-use Rattle.acd_terms.specs.Run.{Asked, run}
+use Rattle.acd_terms.specs.Rows.{empty_rows}
 use Rattle.acd_terms.specs.declared.rows.Rows.{Rows}
 use Rattle.acd_terms.specs.declared.rows.Limits.{Limits}
 use Rattle.acd_terms.specs.declared.command.Command.{Command}
 use Rattle.acd_terms.specs.declared.event.Event.{Event}
+use Rattle.acd_model.specs.Placed.{IsPlaced}
+use Rattle.acd_model.specs.OneOffer.{HasOneOffer}
+use Rattle.acd_model.specs.Watched.{IsWatched}
+use Rattle.acd_model.specs.Rules.First.{BreaksNoRule}
+use Rattle.acd_model.specs.Step.{step}
+use Rattle.acd_model.specs.Run.{Asked, run}
 use Rattle.acd_laws.specs.PlacedLaws.{NamesNoLaterCall}
 use Rattle.acd_laws.specs.BalanceLaws.{IsBalanced}
 use Rattle.acd_laws.specs.OfferLaws.{LeavesNoOffer}

@@ -1,10 +1,10 @@
 -- The changes of a step, made on the rows before it, give the rows after it.
 use Rattle.std.specs.Prelude.{◌≡◌, ℕ, length}
-use Rattle.acd_terms.specs.Step.{step, executed_moment, next_stamp}
-use Rattle.acd_terms.specs.Changes.{step_changes, rows_made}
-use Rattle.acd_terms.specs.Rules.First.{BreaksNoRule}
 use Rattle.acd_terms.specs.declared.rows.Rows.{Rows}
 use Rattle.acd_terms.specs.declared.command.Command.{Command}
+use Rattle.acd_model.specs.Step.{step, executed_moment, next_stamp}
+use Rattle.acd_model.specs.Changes.{step_changes, rows_made}
+use Rattle.acd_model.specs.Rules.First.{BreaksNoRule}
 
 -- of rows that break no rule, with the counters of the executed request and its events
 abbrev pub StepMakesItsChanges : Type 0

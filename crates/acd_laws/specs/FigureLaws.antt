@@ -1,19 +1,20 @@
 -- The figures that a group keeps are those counted from all events.
 use Rattle.std.specs.Prelude.{◌≡◌, ℕ, true, false, List, ◌++◌, Some}
 use Rattle.acd_terms.specs.Lists.{Among}
-use Rattle.acd_terms.specs.Scans.{group_of, is_group}
-use Rattle.acd_terms.specs.Writes.{empty_rows}
-use Rattle.acd_terms.specs.Figures.{figures_of, counting}
-use Rattle.acd_terms.specs.Services.Plan.{no_figures}
-use Rattle.acd_terms.specs.Step.{step}
-use Rattle.acd_terms.specs.Run.{Asked, run}
-use Rattle.acd_terms.specs.Rules.Calls.{is_group_or_none}
+use Rattle.acd_terms.specs.Rows.{empty_rows}
 use Rattle.acd_terms.specs.declared.rows.Rows.{Rows}
 use Rattle.acd_terms.specs.declared.rows.Limits.{Limits}
 use Rattle.acd_terms.specs.declared.record.GroupRecord.{GroupRecord}
 use Rattle.acd_terms.specs.declared.record.ConnectionRecord.{ConnectionRecord}
 use Rattle.acd_terms.specs.declared.command.Command.{Command}
 use Rattle.acd_terms.specs.declared.event.Event.{Event}
+use Rattle.acd_model.specs.Scans.{group_of, is_group}
+use Rattle.acd_model.specs.Figures.{figures_of, counting}
+use Rattle.acd_model.specs.Services.{no_figures}
+use Rattle.acd_model.specs.Step.{step}
+use Rattle.acd_model.specs.Run.{Asked, run}
+use Rattle.acd_model.specs.Rules.Calls.{is_group_or_none}
+use Rattle.acd_model.specs.Rules.First.{BreaksNoRule}
 
 -- the figures of each group are those that all events count, which count nothing for what is no group
 pub record KeepsFigures (s : Rows) (events : List Event) : Type 0 where
@@ -21,9 +22,9 @@ pub record KeepsFigures (s : Rows) (events : List Event) : Type 0 where
   pub others : (d : ℕ) → is_group s d ≡ false → figures_of d events ≡ no_figures
   pub offered_by : (x : ConnectionRecord) → Among x s.connections → is_group_or_none s x.group ≡ true
 
--- a step keeps this, with its events added to those before
+-- a step of rows that break no rule keeps this, with its events added to those before
 abbrev pub StepKeepsFigures : Type 0
-StepKeepsFigures = (s : Rows) (events : List Event) (moment : ℕ) (command : Command) → KeepsFigures s events
+StepKeepsFigures = (s : Rows) (events : List Event) (moment : ℕ) (command : Command) → BreaksNoRule s → KeepsFigures s events
     → KeepsFigures (step s moment command).rows (events ++ (step s moment command).events)
 
 -- after every run each group has the figures of all its events
@@ -31,7 +32,7 @@ abbrev pub RunKeepsFigures : Type 0
 RunKeepsFigures = (limits : Limits) (asked : List Asked) (g : GroupRecord) → Among g (run (empty_rows limits) asked).rows.groups
     → g.figures ≡ figures_of g.device (run (empty_rows limits) asked).events
 
--- of a planned group's record a step changes the figures alone, by what its events count
+-- of a planned group's record a step of rows that break no rule changes the figures alone, by what its events count
 abbrev pub StepAddsFigures : Type 0
-StepAddsFigures = (s : Rows) (moment : ℕ) (command : Command) (d : ℕ) (g : GroupRecord) → group_of s d ≡ Some g
+StepAddsFigures = (s : Rows) (moment : ℕ) (command : Command) (d : ℕ) (g : GroupRecord) → BreaksNoRule s → group_of s d ≡ Some g
     → group_of (step s moment command).rows d ≡ Some (counting (step s moment command).events g)

@@ -1,19 +1,24 @@
 -- Distribution makes the offers that are to be made, and after every step no group has both a waiting call and an eligible agent.
-use Rattle.std.specs.Prelude.{◌≡◌, ◌↔◌, ℕ, List, [], ◌++◌}
+use Rattle.std.specs.Prelude.{◌≡◌, ◌↔◌, ℕ, true, List, [], ◌++◌}
 use Rattle.acd_terms.specs.Lists.{Among}
-use Rattle.acd_terms.specs.Writes.{empty_rows}
-use Rattle.acd_terms.specs.Offers.{IsOffer, HasNoOffer}
-use Rattle.acd_terms.specs.Moves.{moved}
-use Rattle.acd_terms.specs.Distribution.{offer_moves, distribution}
-use Rattle.acd_terms.specs.Step.{step}
-use Rattle.acd_terms.specs.Run.{Asked, run}
+use Rattle.acd_terms.specs.Rows.{empty_rows}
 use Rattle.acd_terms.specs.declared.rows.Rows.{Rows}
 use Rattle.acd_terms.specs.declared.rows.Limits.{Limits}
 use Rattle.acd_terms.specs.declared.record.GroupRecord.{GroupRecord}
 use Rattle.acd_terms.specs.declared.command.Command.{Command}
-use Rattle.acd_terms.specs.declared.moves.Move.{Move}
-use Rattle.acd_terms.specs.declared.moves.Offer.{Offer}
-use Rattle.acd_laws.specs.Counts.{Rules}
+use Rattle.acd_model.specs.Offers.{IsOffer, HasNoOffer}
+use Rattle.acd_model.specs.Moves.{moved}
+use Rattle.acd_model.specs.Distribution.{offer_moves, distribution}
+use Rattle.acd_model.specs.Served.{moves_of}
+use Rattle.acd_model.specs.Services.Serve.{serve}
+use Rattle.acd_model.specs.Step.{step, executed_moment, next_stamp}
+use Rattle.acd_model.specs.Run.{Asked, run}
+use Rattle.acd_model.specs.Rules.Plan.{keeps_order, keeps_device, keeps_agent}
+use Rattle.acd_model.specs.Rules.Calls.{keeps_call, keeps_connection, keeps_parties, keeps_live}
+use Rattle.acd_model.specs.Rules.Occupied.{keeps_occupied}
+use Rattle.acd_model.specs.Rules.First.{BreaksNoRule}
+use Rattle.acd_model.specs.declared.moves.Move.{Move}
+use Rattle.acd_model.specs.declared.moves.Offer.{Offer}
 
 -- each group has no waiting call, or no eligible agent
 abbrev pub LeavesNoOffer : Rows → Type 0
@@ -24,12 +29,28 @@ pub data IsDistribution (m : ℕ) : Rows → List Move → Type 0 where
   ends : (s : Rows) → LeavesNoOffer s → IsDistribution m s []
   goes_on : (s : Rows) (o : Offer) (more : List Move) → IsOffer s o → IsDistribution m (moved s (offer_moves s m o)) more → IsDistribution m s (offer_moves s m o ++ more)
 
+-- the rules that are kept within a step too: those of sizes, counters, offers, monitors and figures hold again at its end
+pub record KeepsWithin (s : Rows) : Type 0 where
+  pub order : keeps_order s ≡ true
+  pub device : keeps_device s ≡ true
+  pub agent : keeps_agent s ≡ true
+  pub call : keeps_call s ≡ true
+  pub connection : keeps_connection s ≡ true
+  pub parties : keeps_parties s ≡ true
+  pub live : keeps_live s ≡ true
+  pub occupied : keeps_occupied s ≡ true
+
+-- of rows that break no rule, where a step distributes: after the moves of its service
+abbrev pub RulesAreKeptWithin : Type 0
+RulesAreKeptWithin = (s : Rows) (moment : ℕ) (command : Command) → BreaksNoRule s
+    → KeepsWithin (moved s (moves_of (serve s (executed_moment s moment) (next_stamp s) command)))
+
 -- the moves of a distribution are these, and no others
 abbrev pub FindsTheDistribution : Type 0
-FindsTheDistribution = (s : Rows) (m : ℕ) (moves : List Move) → Rules s → (moves ≡ distribution s m) ↔ IsDistribution m s moves
+FindsTheDistribution = (s : Rows) (m : ℕ) (moves : List Move) → KeepsWithin s → (moves ≡ distribution s m) ↔ IsDistribution m s moves
 
 abbrev pub StepLeavesNoOffer : Type 0
-StepLeavesNoOffer = (s : Rows) (moment : ℕ) (command : Command) → Rules s → LeavesNoOffer (step s moment command).rows
+StepLeavesNoOffer = (s : Rows) (moment : ℕ) (command : Command) → BreaksNoRule s → LeavesNoOffer (step s moment command).rows
 
 abbrev pub RunLeavesNoOffer : Type 0
 RunLeavesNoOffer = (limits : Limits) (asked : List Asked) → LeavesNoOffer (run (empty_rows limits) asked).rows

@@ -1,21 +1,21 @@
 -- No agent has two distributed calls, and each distributed connection stands where its agent is logged on.
 use Rattle.std.specs.Prelude.{ℕ, List}
-use Rattle.acd_terms.specs.Writes.{empty_rows}
-use Rattle.acd_terms.specs.OneOffer.{HasOneOffer}
-use Rattle.acd_terms.specs.Step.{step}
-use Rattle.acd_terms.specs.Run.{Asked, run}
+use Rattle.acd_terms.specs.Rows.{empty_rows}
 use Rattle.acd_terms.specs.declared.rows.Rows.{Rows}
 use Rattle.acd_terms.specs.declared.rows.Limits.{Limits}
 use Rattle.acd_terms.specs.declared.command.Command.{Command}
-use Rattle.acd_laws.specs.Counts.{Rules}
+use Rattle.acd_model.specs.OneOffer.{HasOneOffer}
+use Rattle.acd_model.specs.Step.{step}
+use Rattle.acd_model.specs.Run.{Asked, run}
+use Rattle.acd_model.specs.Rules.First.{BreaksNoRule}
 
--- where the rules are kept
+-- where no rule is broken
 abbrev pub RulesGiveOneOffer : Type 0
-RulesGiveOneOffer = (s : Rows) → Rules s → HasOneOffer s
+RulesGiveOneOffer = (s : Rows) → BreaksNoRule s → HasOneOffer s
 
--- a state that keeps the rules goes to one where it holds
+-- and after each step from there
 abbrev pub StepKeepsOneOffer : Type 0
-StepKeepsOneOffer = (s : Rows) (moment : ℕ) (command : Command) → Rules s → HasOneOffer (step s moment command).rows
+StepKeepsOneOffer = (s : Rows) (moment : ℕ) (command : Command) → BreaksNoRule s → HasOneOffer (step s moment command).rows
 
 abbrev pub RunHasOneOffer : Type 0
 RunHasOneOffer = (limits : Limits) (asked : List Asked) → HasOneOffer (run (empty_rows limits) asked).rows

@@ -1,17 +1,17 @@
 -- Where each call stands, how often it was cleared, and which calls events name.
 use Rattle.std.specs.Prelude.{◌≡◌, ℕ, ◌<◌, ◌≤◌, ◌&&◌, nat_le, List, ◌++◌, Option, Some, None, is_none, if◌then◌else◌}
 use Rattle.acd_terms.specs.Lists.{Every}
-use Rattle.acd_terms.specs.Scans.{call_of}
-use Rattle.acd_terms.specs.Writes.{empty_rows}
+use Rattle.acd_terms.specs.Rows.{empty_rows}
 use Rattle.acd_terms.specs.Columns.{columns_of}
-use Rattle.acd_terms.specs.Placed.{cleared_by, IsCleared, IsWaiting, IsAtDevices, IsPlaced}
-use Rattle.acd_terms.specs.Step.{step}
-use Rattle.acd_terms.specs.Run.{Asked, run}
 use Rattle.acd_terms.specs.declared.rows.Rows.{Rows}
 use Rattle.acd_terms.specs.declared.rows.Limits.{Limits}
 use Rattle.acd_terms.specs.declared.command.Command.{Command}
 use Rattle.acd_terms.specs.declared.event.Event.{Event}
-use Rattle.acd_laws.specs.Counts.{Rules}
+use Rattle.acd_model.specs.Scans.{call_of}
+use Rattle.acd_model.specs.Placed.{cleared_by, IsCleared, IsWaiting, IsAtDevices, IsPlaced}
+use Rattle.acd_model.specs.Step.{step}
+use Rattle.acd_model.specs.Run.{Asked, run}
+use Rattle.acd_model.specs.Rules.First.{BreaksNoRule}
 
 -- the call that may be named isn't above the last
 abbrev pub IsUpTo : ℕ → Option ℕ → Type 0
@@ -31,24 +31,24 @@ abbrev pub KeepsClearings : Rows → List Event → Type 0
 KeepsClearings s events = (call : ℕ) → 0 < call → cleared_by call events ≡ clearings s call
 
 abbrev pub StepNamesNoLaterCall : Type 0
-StepNamesNoLaterCall = (s : Rows) (events : List Event) (moment : ℕ) (command : Command) → Rules s → NamesNoLaterCall s events
+StepNamesNoLaterCall = (s : Rows) (events : List Event) (moment : ℕ) (command : Command) → BreaksNoRule s → NamesNoLaterCall s events
     → NamesNoLaterCall (step s moment command).rows (events ++ (step s moment command).events)
 
 abbrev pub RunNamesNoLaterCall : Type 0
 RunNamesNoLaterCall = (limits : Limits) (asked : List Asked) → NamesNoLaterCall (run (empty_rows limits) asked).rows (run (empty_rows limits) asked).events
 
 abbrev pub StepKeepsClearings : Type 0
-StepKeepsClearings = (s : Rows) (events : List Event) (moment : ℕ) (command : Command) → Rules s → KeepsClearings s events
+StepKeepsClearings = (s : Rows) (events : List Event) (moment : ℕ) (command : Command) → BreaksNoRule s → KeepsClearings s events
     → KeepsClearings (step s moment command).rows (events ++ (step s moment command).events)
 
--- from a state that keeps the rules, where each call was cleared as often as it has ended
+-- from rows that break no rule, where each call was cleared as often as it has ended
 abbrev pub StepPlaces : Type 0
-StepPlaces = (s : Rows) (events : List Event) (moment : ℕ) (command : Command) → Rules s → KeepsClearings s events
+StepPlaces = (s : Rows) (events : List Event) (moment : ℕ) (command : Command) → BreaksNoRule s → KeepsClearings s events
     → IsPlaced (step s moment command).rows (events ++ (step s moment command).events)
 
 -- where each call stands in one of the three ways, and no event names a later call, each stands in one of them after a step, with its events added
 abbrev pub StepKeepsPlaces : Type 0
-StepKeepsPlaces = (s : Rows) (events : List Event) (moment : ℕ) (command : Command) → Rules s → NamesNoLaterCall s events → IsPlaced s events
+StepKeepsPlaces = (s : Rows) (events : List Event) (moment : ℕ) (command : Command) → BreaksNoRule s → NamesNoLaterCall s events → IsPlaced s events
     → IsPlaced (step s moment command).rows (events ++ (step s moment command).events)
 
 abbrev pub RunIsPlaced : Type 0

@@ -1,12 +1,12 @@
 -- A refused request takes a stamp and a moment, and changes nothing else.
 use Rattle.std.specs.Prelude.{◌≡◌, ℕ, []}
-use Rattle.acd_terms.specs.Writes.{with_last}
-use Rattle.acd_terms.specs.Step.{step, executed_moment, next_stamp}
-use Rattle.acd_terms.specs.Rules.First.{BreaksNoRule}
 use Rattle.acd_terms.specs.declared.rows.Rows.{Rows}
 use Rattle.acd_terms.specs.declared.command.Command.{Command}
 use Rattle.acd_terms.specs.declared.answer.Refusal.{Refusal}
 use Rattle.acd_terms.specs.declared.answer.Outcome.TheVariants.{Refused}
+use Rattle.acd_model.specs.Writes.{with_last}
+use Rattle.acd_model.specs.Step.{step, executed_moment, next_stamp}
+use Rattle.acd_model.specs.Rules.First.{BreaksNoRule}
 
 -- no event is reported, and but for the last stamp and moment the rows are as before
 pub record ChangesNothing (s : Rows) (moment : ℕ) (command : Command) : Type 0 where

@@ -1,25 +1,15 @@
 -- Rows that break no rule break none after a step.
-use Rattle.std.specs.Prelude.{◌≡◌, ◌↔◌, ℕ, ◌*◌, ◌^◌, ◌<◌, ◌≤◌, true, List, length}
+use Rattle.std.specs.Prelude.{◌≡◌, ℕ, ◌*◌, ◌^◌, ◌<◌, ◌≤◌, true, List, length}
 use Rattle.acd_terms.specs.Lists.{Among}
 use Rattle.acd_terms.specs.Limits.{limits_fit}
-use Rattle.acd_terms.specs.Writes.{empty_rows}
-use Rattle.acd_terms.specs.Rules.First.{BreaksNoRule}
-use Rattle.acd_terms.specs.Step.{step}
-use Rattle.acd_terms.specs.Run.{Asked, run}
+use Rattle.acd_terms.specs.Rows.{empty_rows}
 use Rattle.acd_terms.specs.declared.rows.Rows.{Rows}
 use Rattle.acd_terms.specs.declared.rows.Limits.{Limits}
 use Rattle.acd_terms.specs.declared.record.GroupRecord.{GroupRecord}
 use Rattle.acd_terms.specs.declared.command.Command.{Command}
-use Rattle.acd_laws.specs.Counts.{Rules}
-use Rattle.acd_laws.specs.Bounds.{KeepsRules}
-
--- the thirteen tests of rows in their order are the facts that the laws use, with the last stamp within the limit of requests
-abbrev pub RulesAreFacts : Type 0
-RulesAreFacts = (s : Rows) → BreaksNoRule s ↔ (KeepsRules s × (s.last_stamp ≤ s.limits.requests))
-
--- rows that break no rule keep the rules that the laws of a step presuppose
-abbrev pub RulesAreKept : Type 0
-RulesAreKept = (s : Rows) → BreaksNoRule s → Rules s
+use Rattle.acd_model.specs.Rules.First.{BreaksNoRule}
+use Rattle.acd_model.specs.Step.{step}
+use Rattle.acd_model.specs.Run.{Asked, run}
 
 -- all thirteen rules, while one more request is allowed
 abbrev pub StepKeepsRules : Type 0

@@ -1,18 +1,18 @@
 //! Laws over the abstract switch: what holds after every step, and after every run from the empty state.
 //!
 //! Each law is the contract of a function with an empty body. The laws are stated in `specs/`, over the
-//! definitions of `acd_terms` that the switch itself is proved by. What a law of a step presupposes of the state
-//! before, rows that break no rule keep (`rules_are_kept`), and after the step no rule is broken (`step_keeps_rules`).
+//! definitions of `acd_terms` that the switch itself is proved by. A law of a step is one of rows that break no rule,
+//! and after the step no rule is broken (`step_keeps_rules`).
 #![tactic(auto)]
 
-ghost use Rattle.acd_terms.specs.Offers.{FindsFirstWaiting, FindsFirstEligible, FindsTheOffer};
+ghost use Rattle.acd_model.specs.Offers.{FindsFirstWaiting, FindsFirstEligible, FindsTheOffer};
 ghost use Rattle.acd_laws.specs.RefusalLaws.{RefusalChangesNothing};
 ghost use Rattle.acd_laws.specs.FigureLaws.{StepKeepsFigures, RunKeepsFigures, StepAddsFigures};
 ghost use Rattle.acd_laws.specs.WatchedLaws.{StepKeepsWatched, RunIsWatched, RunTellsNoMore};
 ghost use Rattle.acd_laws.specs.BalanceLaws.{StepBalances, RunIsBalanced};
-ghost use Rattle.acd_laws.specs.OfferLaws.{FindsTheDistribution, StepLeavesNoOffer, RunLeavesNoOffer};
+ghost use Rattle.acd_laws.specs.OfferLaws.{FindsTheDistribution, RulesAreKeptWithin, StepLeavesNoOffer, RunLeavesNoOffer};
 ghost use Rattle.acd_laws.specs.PlacedLaws.{StepNamesNoLaterCall, RunNamesNoLaterCall, StepKeepsClearings, StepPlaces, StepKeepsPlaces, RunIsPlaced, PlacesExclude};
-ghost use Rattle.acd_laws.specs.RuleLaws.{RulesAreFacts, RulesAreKept, StepKeepsRules, RunKeepsRules, RulesBound, RulesLeaveRoom};
+ghost use Rattle.acd_laws.specs.RuleLaws.{StepKeepsRules, RunKeepsRules, RulesBound, RulesLeaveRoom};
 ghost use Rattle.acd_laws.specs.ChangeLaws.{StepMakesItsChanges};
 ghost use Rattle.acd_laws.specs.AllLaws.{StepKeepsLaws, RunKeepsLaws};
 ghost use Rattle.acd_laws.specs.OneOfferLaws.{RulesGiveOneOffer, StepKeepsOneOffer, RunHasOneOffer};
@@ -39,7 +39,7 @@ pub fn finds_the_distribution()
     ensures { FindsTheDistribution }
 {}
 
-/// Where the figures of the groups are those of all events before a step, they are those of all events after it.
+/// Where rows break no rule, and the figures of the groups are those of all events before a step, they are those of all events after it.
 pub fn step_keeps_figures()
     ensures { StepKeepsFigures }
 {}
@@ -49,7 +49,7 @@ pub fn run_keeps_figures()
     ensures { RunKeepsFigures }
 {}
 
-/// Of a planned group a step changes the figures alone, by what its events count.
+/// Where rows break no rule, a step changes of a planned group the figures alone, by what its events count.
 pub fn step_adds_figures()
     ensures { StepAddsFigures }
 {}
@@ -59,7 +59,7 @@ pub fn refusal_changes_nothing()
     ensures { RefusalChangesNothing }
 {}
 
-/// What the reports tell a watcher of a state that keeps the rules, and no more, they tell of the next one with the reports of the step.
+/// What the reports tell a watcher of rows that break no rule, and no more, they tell of the next state with the reports of the step.
 pub fn step_keeps_watched()
     ensures { StepKeepsWatched }
 {}
@@ -75,7 +75,7 @@ pub fn run_tells_no_more()
     ensures { RunTellsNoMore }
 {}
 
-/// Where a state keeps the rules, and each group's figures add up, they add up after the step.
+/// Where rows break no rule, and each group's figures add up, they add up after the step.
 pub fn step_balances()
     ensures { StepBalances }
 {}
@@ -95,13 +95,13 @@ pub fn run_leaves_no_offer()
     ensures { RunLeavesNoOffer }
 {}
 
-/// Where a state keeps the rules, a station has one distributed connection at most, with an agent logged on there who
+/// Where rows break no rule, a station has one distributed connection at most, with an agent logged on there who
 /// is ready or busy with it, and no other agent is busy.
 pub fn rules_give_one_offer()
     ensures { RulesGiveOneOffer }
 {}
 
-/// A state that keeps the rules goes to one in which each distributed connection is the one at its station, with its
+/// Rows that break no rule go on to ones in which each distributed connection is the one at its station, with its
 /// agent, and no other agent is busy.
 pub fn step_keeps_one_offer()
     ensures { StepKeepsOneOffer }
@@ -112,7 +112,7 @@ pub fn run_has_one_offer()
     ensures { RunHasOneOffer }
 {}
 
-/// Where a state keeps the rules, and no event up to it names a call above the last, none does after a step.
+/// Where rows break no rule, and no event up to them names a call above the last, none does after a step.
 pub fn step_names_no_later_call()
     ensures { StepNamesNoLaterCall }
 {}
@@ -122,7 +122,7 @@ pub fn run_names_no_later_call()
     ensures { RunNamesNoLaterCall }
 {}
 
-/// Where a state keeps the rules, and each call up to the last that isn't live was cleared once and any other never, so it is after a step.
+/// Where rows break no rule, and each call up to the last that isn't live was cleared once and any other never, so it is after a step.
 pub fn step_keeps_clearings()
     ensures { StepKeepsClearings }
 {}
@@ -147,14 +147,9 @@ pub fn places_exclude()
     ensures { PlacesExclude }
 {}
 
-/// Rows pass the thirteen tests exactly where they keep the rules as facts, and the last stamp is within the limit of requests.
-pub fn rules_are_facts()
-    ensures { RulesAreFacts }
-{}
-
-/// Rows that break no rule keep the rules that the laws of a step presuppose.
-pub fn rules_are_kept()
-    ensures { RulesAreKept }
+/// Where rows break no rule, those rules that hold within a step too hold where it distributes: after the moves of its service.
+pub fn rules_are_kept_within()
+    ensures { RulesAreKeptWithin }
 {}
 
 /// Rows that break no rule break none after a step, while a request more is allowed.

@@ -2,8 +2,8 @@
 use Rattle.std.proofs.Common.{◌≡◌, ℕ, ◌≤◌, Bool, true, List, Option, take, sym, subst, ◌∙◌, inl, inr, true≢false}
 use Rattle.std.specs.List.{Contains}
 use Rattle.sqlite.specs.State.{State}
-use Rattle.acd_terms.specs.Rules.First.{BreaksNoRule}
 use Rattle.acd_terms.specs.declared.command.Arrival.{Arrival}
+use Rattle.acd_model.specs.Rules.First.{BreaksNoRule}
 use Rattle.acd_book.specs.Content.{Content, HasRisen}
 use Rattle.acd_book.specs.State.{BookState}
 use Rattle.acd_sqlbook.specs.State.{book_state}

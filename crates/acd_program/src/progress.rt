@@ -1,7 +1,8 @@
 //! What is shown of long work, where standard error is a terminal.
 
 use acd_book::{Book, BookFault, Kept};
-use acd_terms::{Change, Event, Invoke, Limits, Requester, Rows};
+use acd_model::Change;
+use acd_terms::{Event, Invoke, Limits, Requester, Rows};
 use std::io::IsTerminal;
 use std::time::Instant;
 

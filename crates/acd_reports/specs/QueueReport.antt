@@ -2,12 +2,12 @@
 use Rattle.std.specs.Prelude.{ℕ, ◌-◌, ◌/◌, ◌==◌, List, [], ◌∷◌, ◌++◌, length, map, filter, min, codes, decimal, if◌then◌else◌, Option, Some, None, option_map}
 use Rattle.std.specs.List.{concat, filter_map, reduce}
 use Rattle.acd_terms.specs.Forms.{digits_of}
-use Rattle.acd_terms.specs.Scans.{waiting_in}
-use Rattle.acd_terms.specs.Rules.Occupied.{rings_from}
 use Rattle.acd_terms.specs.declared.rows.Rows.{Rows}
 use Rattle.acd_terms.specs.declared.record.Figures.{Figures}
 use Rattle.acd_terms.specs.declared.record.GroupRecord.{GroupRecord}
 use Rattle.acd_terms.specs.declared.record.ConnectionRecord.{ConnectionRecord}
+use Rattle.acd_model.specs.Scans.{waiting_in}
+use Rattle.acd_model.specs.Rules.Occupied.{rings_from}
 use Rattle.acd_reports.specs.Layout.{left, number_or_hyphen, columns_text}
 
 -- for how long an answered call had waited on average, whole seconds downwards

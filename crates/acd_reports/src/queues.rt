@@ -1,7 +1,7 @@
 //! The queue report.
 
 ghost use Rattle.std.specs.Prelude.{◌≡◌, ◌++◌, length, IfOk, OnOk, string_bytes};
-ghost use Rattle.acd_terms.specs.Scans.{waiting_in};
+ghost use Rattle.acd_model.specs.Scans.{waiting_in};
 ghost use Rattle.acd_reports.specs.QueueReport.{average_wait, first_queued, longest_wait, ringing_from, group_line, queue_report};
 
 use crate::columns::{push_left, push_numbers};
@@ -11,7 +11,7 @@ use std::alloc::{AllocError, Global};
 const HEADER: &str =
     "group           waiting ringing    entered   answered  abandoned      moved    average    longest name\n";
 
-#[tactic(auto, unfolding(acd_terms::specs::Scans::waiting_in))]
+#[tactic(auto, unfolding(acd_model::specs::Scans::waiting_in))]
 fn waiting_in(rows: &Rows, group: DeviceId) -> usize
     ensures { result ≡ length (waiting_in rows.now group) }
 {
@@ -42,7 +42,7 @@ fn average_wait(figures: Figures) -> Option<u64>
 }
 
 // The least moment at which a call that waits in the group entered.
-#[tactic(auto, unfolding(crate::specs::QueueReport::first_queued, acd_terms::specs::Scans::waiting_in))]
+#[tactic(auto, unfolding(crate::specs::QueueReport::first_queued, acd_model::specs::Scans::waiting_in))]
 fn first_queued(rows: &Rows, group: DeviceId) -> Option<u32>
     ensures { result ≡ first_queued rows.now group }
 {

@@ -3,7 +3,7 @@ use Rattle.std.proofs.Common.{◌≡◌, ℕ, ◌+◌, Bool, true, false, cond, 
 use Rattle.std.specs.Prelude.{filter, if◌then◌else◌, not, ◌||◌}
 use Rattle.std.specs.List.{list_any}
 use Rattle.acd_terms.specs.Lists.{count}
-use Rattle.acd_terms.specs.Rules.Occupied.{is_empty}
+use Rattle.acd_model.specs.Rules.Occupied.{is_empty}
 
 counted : {T : Type 0} (b : Bool) (x : T) (xs : List T) (n : ℕ) → n ≡ length xs → (if b then 1 else 0) + n ≡ length (cond b (x ∷ xs) xs)
 counted b x xs n e = elim b as (λ v. (if v then 1 else 0) + n ≡ length (cond v (x ∷ xs) xs)) [ true ↦ omega arith | false ↦ omega arith ]

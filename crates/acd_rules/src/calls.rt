@@ -2,15 +2,15 @@
 
 ghost use Rattle.std.specs.Prelude.{◌≡◌, ◌&&◌, ◌||◌, ◌==◌, nat_le, length, filter};
 ghost use Rattle.acd_terms.specs.Lists.{count};
-ghost use Rattle.acd_terms.specs.Watched.{is_caller};
-ghost use Rattle.acd_terms.specs.Rules.Calls.{keeps_call, is_bare, is_placed, has_columns, is_group_or_none, may_stand, keeps_connection, is_open, parties_of, initiated_of, initiated_at, open_of, is_being_made, has_two_parties, keeps_parties, live_at, alerting_at, hold_at, keeps_live};
+ghost use Rattle.acd_model.specs.Watched.{is_caller};
+ghost use Rattle.acd_model.specs.Rules.Calls.{keeps_call, is_bare, is_placed, has_columns, is_group_or_none, may_stand, keeps_connection, is_open, parties_of, initiated_of, initiated_at, open_of, is_being_made, has_two_parties, keeps_parties, live_at, alerting_at, hold_at, keeps_live};
 
-use acd_terms::scans::{call_of, is_group, is_planned, is_station};
+use acd_model::scans::{call_of, is_group, is_planned, is_station};
 use acd_terms::{CallRecord, ConnectionRecord, ConnectionState, DeviceId, Rows};
 
 /// A call's called device is planned and not its caller, who is a station or not planned; its
 /// identifier is not above the last.
-#[tactic(auto, unfolding(acd_terms::specs::Rules::Calls::keeps_call))]
+#[tactic(auto, unfolding(acd_model::specs::Rules::Calls::keeps_call))]
 pub fn keeps_call(rows: &Rows) -> bool
     ensures { result ≡ keeps_call rows.now }
 {
@@ -85,7 +85,7 @@ fn is_caller(call: Option<CallRecord>, device: DeviceId) -> bool
 
 /// A connection is of a live call, at its caller or at a planned device, with its columns, in a
 /// state that may stand there.
-#[tactic(auto, unfolding(acd_terms::specs::Rules::Calls::keeps_connection))]
+#[tactic(auto, unfolding(acd_model::specs::Rules::Calls::keeps_connection))]
 pub fn keeps_connection(rows: &Rows) -> bool
     ensures { result ≡ keeps_connection rows.now }
 {
@@ -117,7 +117,7 @@ fn initiated_of(rows: &Rows, call: u64) -> usize
 {
     rows.connections
         .iter()
-        .filter(|x| x.call == call && x.state.is_initiated())
+        .filter(|x| x.state.is_initiated() && x.call == call)
         .count()
 }
 
@@ -126,7 +126,7 @@ fn initiated_at(rows: &Rows, call: u64, device: DeviceId) -> usize
 {
     rows.connections
         .iter()
-        .filter(|x| x.call == call && x.state.is_initiated() && x.device == device)
+        .filter(|x| x.state.is_initiated() && x.call == call && x.device == device)
         .count()
 }
 
@@ -135,7 +135,7 @@ fn open_of(rows: &Rows, call: u64) -> usize
 {
     rows.connections
         .iter()
-        .filter(|x| x.call == call && is_open(x.state))
+        .filter(|x| is_open(x.state) && x.call == call)
         .count()
 }
 
@@ -159,7 +159,7 @@ fn has_two_parties(rows: &Rows, call: &CallRecord) -> bool
 
 /// A call has one connection, initiated at its caller, or two, none initiated and at most one
 /// alerting, queued or fail.
-#[tactic(auto, unfolding(acd_terms::specs::Rules::Calls::keeps_parties))]
+#[tactic(auto, unfolding(acd_model::specs::Rules::Calls::keeps_parties))]
 pub fn keeps_parties(rows: &Rows) -> bool
     ensures { result ≡ keeps_parties rows.now }
 {
@@ -173,7 +173,7 @@ fn live_at(rows: &Rows, device: DeviceId) -> usize
 {
     rows.connections
         .iter()
-        .filter(|x| x.device == device && x.state.is_live())
+        .filter(|x| x.state.is_live() && x.device == device)
         .count()
 }
 
@@ -182,7 +182,7 @@ fn alerting_at(rows: &Rows, device: DeviceId) -> usize
 {
     rows.connections
         .iter()
-        .filter(|x| x.device == device && x.state.is_alerting())
+        .filter(|x| x.state.is_alerting() && x.device == device)
         .count()
 }
 
@@ -191,7 +191,7 @@ fn hold_at(rows: &Rows, device: DeviceId) -> usize
 {
     rows.connections
         .iter()
-        .filter(|x| x.device == device && x.state.is_hold())
+        .filter(|x| x.state.is_hold() && x.device == device)
         .count()
 }
 
@@ -204,7 +204,7 @@ fn has_one_live(rows: &Rows, station: DeviceId) -> bool
 }
 
 /// A station has at most one live connection, and none on hold beside an alerting one.
-#[tactic(auto, unfolding(acd_terms::specs::Rules::Calls::keeps_live))]
+#[tactic(auto, unfolding(acd_model::specs::Rules::Calls::keeps_live))]
 pub fn keeps_live(rows: &Rows) -> bool
     ensures { result ≡ keeps_live rows.now }
 {

@@ -2,11 +2,11 @@
 
 ghost use Rattle.std.specs.Prelude.{◌≡◌, ◌&&◌, nat_le, length, filter};
 ghost use Rattle.std.specs.List.{list_all};
-ghost use Rattle.acd_terms.specs.Scans.{has};
-ghost use Rattle.acd_terms.specs.Rules.Counters.{is_stamp, is_moment_or_none, is_own_place, is_offered_after, is_timed, is_countable, keeps_counters};
 ghost use Rattle.acd_terms.specs.declared.record.AgentRecord.{AgentRecord};
 ghost use Rattle.acd_terms.specs.declared.record.CallRecord.{CallRecord};
 ghost use Rattle.acd_terms.specs.declared.record.ConnectionRecord.{ConnectionRecord};
+ghost use Rattle.acd_model.specs.Scans.{has};
+ghost use Rattle.acd_model.specs.Rules.Counters.{is_stamp, is_moment_or_none, is_own_place, is_offered_after, is_timed, is_countable, keeps_counters};
 
 use acd_terms::{ConnectionRecord, GroupRecord, Rows};
 
@@ -100,7 +100,7 @@ fn are_groups_countable(rows: &Rows) -> bool
 
 /// Stamps and places are from 1 to the last stamp, moments up to the last, figures and events
 /// within bounds.
-#[tactic(auto, unfolding(acd_terms::specs::Rules::Counters::keeps_counters))]
+#[tactic(auto, unfolding(acd_model::specs::Rules::Counters::keeps_counters))]
 pub fn keeps_counters(rows: &Rows) -> bool
     ensures { result ≡ keeps_counters rows.now }
 {

@@ -1,7 +1,7 @@
 //! The first broken rule.
 
 ghost use Rattle.std.specs.Prelude.{◌≡◌};
-ghost use Rattle.acd_terms.specs.Rules.First.{first_broken};
+ghost use Rattle.acd_model.specs.Rules.First.{first_broken};
 
 use crate::calls::{keeps_call, keeps_connection, keeps_live, keeps_parties};
 use crate::counters::keeps_counters;
@@ -10,7 +10,7 @@ use crate::plan::{keeps_agent, keeps_device, keeps_limits, keeps_monitor, keeps_
 use acd_terms::{Rows, Rule};
 
 /// The first rule that the rows break, in the order of [`Rule`].
-#[tactic(auto, unfolding(acd_terms::specs::Rules::First::first_broken))]
+#[tactic(auto, unfolding(acd_model::specs::Rules::First::first_broken))]
 pub fn first_broken(rows: &Rows) -> Option<Rule>
     ensures { result ≡ first_broken rows.now }
 {

@@ -2,11 +2,11 @@
 
 ghost use Rattle.std.specs.Prelude.{◌≡◌, ◌<◌, ◌+◌, ◌^◌, ◌||◌, length, filter};
 ghost use Rattle.std.specs.List.{list_all};
-ghost use Rattle.acd_terms.specs.Scans.{waiting_in, eligible_in};
-ghost use Rattle.acd_terms.specs.OneOffer.{is_distributed_at};
-ghost use Rattle.acd_terms.specs.Rules.Occupied.{attends, is_attended, is_talking, is_busy_only_talking, keeps_occupied, is_empty, keeps_offer, waits_in, rings_from, is_balanced, keeps_balance};
+ghost use Rattle.acd_model.specs.Scans.{waiting_in, eligible_in};
+ghost use Rattle.acd_model.specs.OneOffer.{is_distributed_at};
+ghost use Rattle.acd_model.specs.Rules.Occupied.{attends, is_attended, is_talking, is_busy_only_talking, keeps_occupied, is_empty, keeps_offer, waits_in, rings_from, is_balanced, keeps_balance};
 
-use acd_terms::scans::{agent_at, has_eligible, has_waiting, is_occupied};
+use acd_model::scans::{agent_at, has_eligible, has_waiting, is_occupied};
 use acd_terms::{AgentRecord, ConnectionRecord, DeviceId, Figures, GroupRecord, Rows};
 
 fn distributed_at(rows: &Rows, device: DeviceId) -> usize
@@ -14,7 +14,7 @@ fn distributed_at(rows: &Rows, device: DeviceId) -> usize
 {
     rows.connections
         .iter()
-        .filter(|x| x.device == device && x.is_distributed())
+        .filter(|x| x.is_distributed() && x.device == device)
         .count()
 }
 
@@ -72,7 +72,7 @@ fn are_busy_only_talking(rows: &Rows) -> bool
 
 /// A station has at most one distributed connection, and with it an agent, ready or busy; no other
 /// agent is busy or has a pending state.
-#[tactic(auto, unfolding(acd_terms::specs::Rules::Occupied::keeps_occupied))]
+#[tactic(auto, unfolding(acd_model::specs::Rules::Occupied::keeps_occupied))]
 pub fn keeps_occupied(rows: &Rows) -> bool
     ensures { result ≡ keeps_occupied rows.now }
 {
@@ -80,7 +80,7 @@ pub fn keeps_occupied(rows: &Rows) -> bool
 }
 
 // No call waits in the group, or no agent of it is eligible.
-#[tactic(auto, using(crate::proofs::RuleLists::none_left), unfolding(acd_terms::specs::Scans::waiting_in, acd_terms::specs::Scans::eligible_in))]
+#[tactic(auto, using(crate::proofs::RuleLists::none_left), unfolding(acd_model::specs::Scans::waiting_in, acd_model::specs::Scans::eligible_in))]
 fn has_no_offer(rows: &Rows, group: DeviceId) -> bool
     ensures { result ≡ (is_empty (waiting_in rows.now group) || is_empty (eligible_in rows.now group)) }
 {
@@ -88,7 +88,7 @@ fn has_no_offer(rows: &Rows, group: DeviceId) -> bool
 }
 
 /// No group has both a waiting call and an eligible agent.
-#[tactic(auto, unfolding(acd_terms::specs::Rules::Occupied::keeps_offer))]
+#[tactic(auto, unfolding(acd_model::specs::Rules::Occupied::keeps_offer))]
 pub fn keeps_offer(rows: &Rows) -> bool
     ensures { result ≡ keeps_offer rows.now }
 {
@@ -132,7 +132,7 @@ fn is_balanced(rows: &Rows, group: &GroupRecord) -> bool
 }
 
 /// For each group, the calls that entered wait, ring, were answered, abandoned or moved.
-#[tactic(auto, unfolding(acd_terms::specs::Rules::Occupied::keeps_balance))]
+#[tactic(auto, unfolding(acd_model::specs::Rules::Occupied::keeps_balance))]
 pub fn keeps_balance(rows: &Rows) -> bool
     ensures { result ≡ keeps_balance rows.now }
 {

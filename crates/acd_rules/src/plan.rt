@@ -1,15 +1,15 @@
 //! The rules limits, order, device, agent and monitor.
 
 ghost use Rattle.std.specs.Prelude.{◌≡◌, length, filter};
-ghost use Rattle.acd_terms.specs.Scans.{has};
 ghost use Rattle.acd_terms.specs.declared.record.AgentRecord.{AgentRecord};
-ghost use Rattle.acd_terms.specs.Rules.Plan.{keeps_limits, keeps_order, keeps_device, keeps_agent, keeps_monitor, is_station_there, is_group_there, is_alone_at, is_seated};
+ghost use Rattle.acd_model.specs.Scans.{has};
+ghost use Rattle.acd_model.specs.Rules.Plan.{keeps_limits, keeps_order, keeps_device, keeps_agent, keeps_monitor, is_station_there, is_group_there, is_alone_at, is_seated};
 
-use acd_terms::scans::{is_group, is_planned, is_station};
+use acd_model::scans::{is_group, is_planned, is_station};
 use acd_terms::{AgentRecord, DeviceId, Rows, ascends};
 
 /// No limit is above the greatest and no list above its limit; no last number is above its bound.
-#[tactic(auto, unfolding(acd_terms::specs::Rules::Plan::keeps_limits))]
+#[tactic(auto, unfolding(acd_model::specs::Rules::Plan::keeps_limits))]
 pub fn keeps_limits(rows: &Rows) -> bool
     ensures { result ≡ keeps_limits rows.now }
 {
@@ -26,7 +26,7 @@ pub fn keeps_limits(rows: &Rows) -> bool
 }
 
 /// Each list is strictly ascending in its key.
-#[tactic(auto, unfolding(acd_terms::specs::Rules::Plan::keeps_order))]
+#[tactic(auto, unfolding(acd_model::specs::Rules::Plan::keeps_order))]
 pub fn keeps_order(rows: &Rows) -> bool
     ensures { result ≡ keeps_order rows.now }
 {
@@ -39,7 +39,7 @@ pub fn keeps_order(rows: &Rows) -> bool
 }
 
 /// No device is both group and station.
-#[tactic(auto, unfolding(acd_terms::specs::Rules::Plan::keeps_device))]
+#[tactic(auto, unfolding(acd_model::specs::Rules::Plan::keeps_device))]
 pub fn keeps_device(rows: &Rows) -> bool
     ensures { result ≡ keeps_device rows.now }
 {
@@ -94,7 +94,7 @@ fn is_seated(rows: &Rows, agent: &AgentRecord) -> bool
 }
 
 /// Each agent is where its state says, and no two are at one station.
-#[tactic(auto, unfolding(acd_terms::specs::Rules::Plan::keeps_agent))]
+#[tactic(auto, unfolding(acd_model::specs::Rules::Plan::keeps_agent))]
 pub fn keeps_agent(rows: &Rows) -> bool
     ensures { result ≡ keeps_agent rows.now }
 {
@@ -102,7 +102,7 @@ pub fn keeps_agent(rows: &Rows) -> bool
 }
 
 /// A monitor's device is planned, and its identifier and event are not above the last.
-#[tactic(auto, unfolding(acd_terms::specs::Rules::Plan::keeps_monitor))]
+#[tactic(auto, unfolding(acd_model::specs::Rules::Plan::keeps_monitor))]
 pub fn keeps_monitor(rows: &Rows) -> bool
     ensures { result ≡ keeps_monitor rows.now }
 {

@@ -1,8 +1,9 @@
 //! Each look-up of the switch's tables is the scan of the rows, after each request of the scenes.
 
+use acd_model::scans;
 use acd_switch::Switch;
 use acd_tables::Tables;
-use acd_terms::{AgentRecord, CallRecord, ConnectionRecord, DeviceId, Rows, scans};
+use acd_terms::{AgentRecord, CallRecord, ConnectionRecord, DeviceId, Rows};
 use std::fmt::Debug;
 use std::process::Abort;
 

@@ -1,6 +1,6 @@
 //! A switch that executes what a desk does.
 
-ghost use Rattle.acd_terms.specs.Rules.First.{BreaksNoRule};
+ghost use Rattle.acd_model.specs.Rules.First.{BreaksNoRule};
 
 use crate::look_ups::{self, same};
 use acd_codec::{outcome_status, reply_text};

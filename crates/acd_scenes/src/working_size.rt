@@ -10,11 +10,12 @@ use crate::reports::ALL;
 use crate::script::database;
 use acd_book::{Book, BookFault, Kept, MemoryBook, Text};
 use acd_desk::{Desk, Taken};
+use acd_model::scans;
 use acd_sqlbook::SqlBook;
 use acd_tables::{Records, Tables};
 use acd_terms::{
     AgentId, Arrival, Command, DeviceId, Event, Figures, Invoke, Limits, Name, Pending, Request,
-    Requested, Requester, Rows, Seconds, scans,
+    Requested, Requester, Rows, Seconds,
 };
 use sqlite::MemStore;
 use std::alloc::Global;

@@ -1,13 +1,13 @@
 //! The moves of calls and connections.
 
 ghost use Rattle.std.specs.Prelude.{◌≡◌};
-ghost use Rattle.acd_terms.specs.Moves.{no_move, silent, reported};
-ghost use Rattle.acd_terms.specs.CallMoves.{plain, queueing, begin, connect_caller, initiate, originate, destination_of, arriving, arrival, arrive, waited_by, answer, hold, retrieve, offer, go_back, divert, transfer, clear, end_call};
+ghost use Rattle.acd_model.specs.Moves.{no_move, silent, reported};
+ghost use Rattle.acd_model.specs.CallMoves.{plain, queueing, begin, connect_caller, initiate, originate, destination_of, arriving, arrival, arrive, waited_by, answer, hold, retrieve, offer, go_back, divert, transfer, clear, end_call};
 
+use acd_model::{Change, Destination, Move};
 use acd_tables::Tables;
 use acd_terms::{
-    CallRecord, Cause, Change, ConnectionRecord, ConnectionState, Destination, DeviceId, Move,
-    Report, Waited,
+    CallRecord, Cause, ConnectionRecord, ConnectionState, DeviceId, Report, Turn, Waited,
 };
 
 /// No change and no report.
@@ -122,17 +122,11 @@ fn destination_of(tables: &Tables, to: DeviceId) -> Destination
     }
 }
 
-fn arriving(
-    destination: Destination,
-    moment: u32,
-    stamp: u64,
-    call: u64,
-    to: DeviceId,
-) -> ConnectionRecord
-    ensures { result ≡ arriving destination moment stamp call to }
+fn arriving(destination: Destination, at: Turn, call: u64, to: DeviceId) -> ConnectionRecord
+    ensures { result ≡ arriving destination at.moment at.stamp call to }
 {
     match destination {
-        Destination::Queue => queueing(call, to, Some(stamp), Some(moment)),
+        Destination::Queue => queueing(call, to, Some(at.stamp), Some(at.moment)),
         Destination::Idle => plain(call, to, ConnectionState::Alerting),
         Destination::Busy => plain(call, to, ConnectionState::Fail),
     }
@@ -158,20 +152,13 @@ fn arrival(destination: Destination, call: u64, to: DeviceId, cause: Cause) -> R
 }
 
 /// The call comes to a destination: it enters a queue, alerts, or fails.
-#[tactic(auto, unfolding(acd_terms::specs::CallMoves::arrive))]
-pub fn arrive(
-    tables: &Tables,
-    moment: u32,
-    stamp: u64,
-    call: u64,
-    to: DeviceId,
-    cause: Cause,
-) -> Move
-    ensures { result ≡ arrive tables.now moment stamp call to cause }
+#[tactic(auto, unfolding(acd_model::specs::CallMoves::arrive))]
+pub fn arrive(tables: &Tables, at: Turn, call: u64, to: DeviceId, cause: Cause) -> Move
+    ensures { result ≡ arrive tables.now at.moment at.stamp call to cause }
 {
     let destination = destination_of(tables, to);
     reported(
-        Change::PutConnection(arriving(destination, moment, stamp, call, to)),
+        Change::PutConnection(arriving(destination, at, call, to)),
         arrival(destination, call, to, cause),
     )
 }

@@ -1,26 +1,35 @@
 //! The services of the switch on its tables.
 //!
-//! [`serve`] runs one service. Each service is a decision over the tables that changes nothing:
-//! a refusal, or an answer and the moves that it makes ([`acd_terms::Served`]), which [`decide`] gives.
-//! The module `make` alone writes tables and reports events.
+//! [`serve`] runs one service. Each service, in the file of its name, is a decision over the tables
+//! that changes nothing: a refusal, or an answer and the moves that it makes ([`acd_model::Served`]).
+//! [`decide`] gives it. The module `make` alone writes tables and reports events.
 //!
 //! ```ignore
-//! let outcome = serve(&mut tables, moment, stamp, &command, &mut events)?;
+//! let outcome = serve(&mut tables, at, &command, &mut events)?;
 //! ```
 #![tactic(auto)]
 
+mod add_agent;
+mod add_group;
+mod add_station;
 mod agent_moves;
-mod agents;
+mod answer_call;
+mod arrive_call;
 mod call_moves;
-mod clearing;
-mod giving_away;
+mod clear_connection;
+mod deflect_call;
+mod destinations;
+mod hold_call;
 mod make;
-mod monitors;
-mod new_calls;
-mod plan;
+mod make_call;
+mod monitor_start;
+mod monitor_stop;
+mod phone_off_hook;
 mod releasing;
+mod retrieve_call;
 mod serving;
-mod talking;
+mod set_agent_state;
+mod single_step_transfer;
 
 pub use agent_moves::go_from;
 pub use call_moves::{divert, go_back, offer};

@@ -1,10 +1,11 @@
 //! Moves made on the tables. Nothing else writes them.
 
 ghost use Rattle.std.specs.Prelude.{◌≡◌, ◌++◌, [], OnOk};
-ghost use Rattle.acd_terms.specs.Moves.{changed, moved, with_event, events_of};
+ghost use Rattle.acd_model.specs.Moves.{changed, moved, with_event, events_of};
 
+use acd_model::{Change, Move};
 use acd_tables::Tables;
-use acd_terms::{Change, Event, Move};
+use acd_terms::Event;
 use std::alloc::AllocError;
 
 /// Makes one change. After an error the tables are only to be dropped.

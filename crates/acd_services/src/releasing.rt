@@ -1,14 +1,13 @@
 //! What becomes of an agent whose distributed connection ends.
 
 ghost use Rattle.std.specs.Prelude.{◌≡◌};
-ghost use Rattle.acd_terms.specs.Release.{release_of, released, ending_of, release};
+ghost use Rattle.acd_model.specs.Release.{release_of, released, ending_of, release};
 
 use crate::agent_moves::{go_to, wait_for};
 use crate::call_moves::no_move;
+use acd_model::{Ending, Move, Release};
 use acd_tables::Tables;
-use acd_terms::{
-    AgentRecord, AgentState, ConnectionRecord, DeviceId, Ending, Move, Pending, Release,
-};
+use acd_terms::{AgentRecord, AgentState, ConnectionRecord, DeviceId, Pending, Turn};
 
 // The table of release.
 fn release_of(how: Ending, pending: Option<Pending>) -> Release
@@ -22,18 +21,12 @@ fn release_of(how: Ending, pending: Option<Pending>) -> Release
     }
 }
 
-fn released(
-    moment: u32,
-    stamp: u64,
-    agent: &AgentRecord,
-    station: DeviceId,
-    release: Release,
-) -> Move
-    ensures { result ≡ released moment stamp agent.now station release }
+fn released(at: Turn, agent: &AgentRecord, station: DeviceId, release: Release) -> Move
+    ensures { result ≡ released at.moment at.stamp agent.now station release }
 {
     match release {
         Release::Stays => wait_for(agent, None),
-        Release::Goes(state) => go_to(moment, stamp, agent, station, state),
+        Release::Goes(state) => go_to(at, agent, station, state),
     }
 }
 
@@ -49,15 +42,9 @@ pub fn ending_of(connection: &ConnectionRecord) -> Ending
 }
 
 /// Where a distributed connection ends, the agent at its station is released.
-#[tactic(auto, unfolding(acd_terms::specs::Release::release))]
-pub fn release(
-    tables: &Tables,
-    moment: u32,
-    stamp: u64,
-    connection: &ConnectionRecord,
-    how: Ending,
-) -> Move
-    ensures { result ≡ release tables.now moment stamp connection.now how }
+#[tactic(auto, unfolding(acd_model::specs::Release::release))]
+pub fn release(tables: &Tables, at: Turn, connection: &ConnectionRecord, how: Ending) -> Move
+    ensures { result ≡ release tables.now at.moment at.stamp connection.now how }
 {
     if !connection.is_distributed() {
         return no_move();
@@ -66,7 +53,7 @@ pub fn release(
         None => no_move(),
         Some(agent) => {
             let next = release_of(how, agent.pending);
-            released(moment, stamp, &agent, connection.device, next)
+            released(at, &agent, connection.device, next)
         }
     }
 }

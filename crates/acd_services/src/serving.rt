@@ -1,29 +1,38 @@
 //! One service on the tables.
 
 ghost use Rattle.std.specs.Prelude.{◌≡◌, ◌++◌, ◌<◌, ◌^◌, ◌-◌, IfOk, OnOk};
-ghost use Rattle.acd_terms.specs.Moves.{moved, events_of};
-ghost use Rattle.acd_terms.specs.Served.{outcome_of, moves_of};
-ghost use Rattle.acd_terms.specs.Services.Serve.{serve};
+ghost use Rattle.acd_model.specs.Moves.{moved, events_of};
+ghost use Rattle.acd_model.specs.Served.{outcome_of, moves_of};
+ghost use Rattle.acd_model.specs.Services.Serve.{serve};
 ghost use Rattle.acd_services.specs.Asked.{IsNoTick};
 
-use crate::agents::set_agent_state;
-use crate::clearing::clear_connection;
-use crate::giving_away::{deflect_call, single_step_transfer};
+use crate::add_agent::add_agent;
+use crate::add_group::add_group;
+use crate::add_station::add_station;
+use crate::answer_call::answer_call;
+use crate::arrive_call::arrive_call;
+use crate::clear_connection::clear_connection;
+use crate::deflect_call::deflect_call;
+use crate::hold_call::hold_call;
 use crate::make::make_all;
-use crate::monitors::{monitor_start, monitor_stop};
-use crate::new_calls::{arrive_call, make_call, phone_off_hook};
-use crate::plan::{add_agent, add_group, add_station};
-use crate::talking::{answer_call, hold_call, retrieve_call};
+use crate::make_call::make_call;
+use crate::monitor_start::monitor_start;
+use crate::monitor_stop::monitor_stop;
+use crate::phone_off_hook::phone_off_hook;
+use crate::retrieve_call::retrieve_call;
+use crate::set_agent_state::set_agent_state;
+use crate::single_step_transfer::single_step_transfer;
+use acd_model::Served;
 use acd_tables::Tables;
-use acd_terms::{Command, Event, Outcome, Served};
+use acd_terms::{Command, Event, Outcome, Turn};
 use std::alloc::AllocError;
 
 /// What the service does. It changes nothing.
-pub fn decide(tables: &Tables, moment: u32, stamp: u64, command: &Command) -> Served
+pub fn decide(tables: &Tables, at: Turn, command: &Command) -> Served
     requires calls { tables.now.last_call < 2 ^ 64 - 1 }
     requires monitors { tables.now.last_monitor < 2 ^ 64 - 1 }
     requires no_tick { IsNoTick command.now }
-    ensures { result ≡ serve tables.now moment stamp command.now }
+    ensures { result ≡ serve tables.now at.moment at.stamp command.now }
 {
     match *command {
         Command::AddGroup {
@@ -33,30 +42,24 @@ pub fn decide(tables: &Tables, moment: u32, stamp: u64, command: &Command) -> Se
             wrap,
         } => add_group(tables, device, name, ring, wrap),
         Command::AddStation { device } => add_station(tables, device),
-        Command::AddAgent { agent, name } => add_agent(tables, moment, stamp, agent, name),
-        Command::ArriveCall { caller, called } => {
-            arrive_call(tables, moment, stamp, caller, called)
-        }
-        Command::MakeCall { device, called } => make_call(tables, moment, device, called),
-        Command::PhoneOffHook { call, device } => {
-            phone_off_hook(tables, moment, stamp, call.number(), device)
-        }
-        Command::AnswerCall { call, device } => {
-            answer_call(tables, moment, stamp, call.number(), device)
-        }
+        Command::AddAgent { agent, name } => add_agent(tables, at, agent, name),
+        Command::ArriveCall { caller, called } => arrive_call(tables, at, caller, called),
+        Command::MakeCall { device, called } => make_call(tables, at.moment, device, called),
+        Command::PhoneOffHook { call, device } => phone_off_hook(tables, at, call.number(), device),
+        Command::AnswerCall { call, device } => answer_call(tables, at, call.number(), device),
         Command::HoldCall { call, device } => hold_call(tables, call.number(), device),
         Command::RetrieveCall { call, device } => retrieve_call(tables, call.number(), device),
         Command::ClearConnection { call, device } => {
-            clear_connection(tables, moment, stamp, call.number(), device)
+            clear_connection(tables, at, call.number(), device)
         }
         Command::DeflectCall { call, device, to } => {
-            deflect_call(tables, moment, stamp, call.number(), device, to)
+            deflect_call(tables, at, call.number(), device, to)
         }
         Command::SingleStepTransfer { call, device, to } => {
-            single_step_transfer(tables, moment, stamp, call.number(), device, to)
+            single_step_transfer(tables, at, call.number(), device, to)
         }
         Command::SetAgentState { agent, requested } => {
-            set_agent_state(tables, moment, stamp, agent, requested)
+            set_agent_state(tables, at, agent, requested)
         }
         Command::MonitorStart { device } => monitor_start(tables, device),
         Command::MonitorStop { monitor } => monitor_stop(tables, monitor.number()),
@@ -69,23 +72,22 @@ pub fn decide(tables: &Tables, moment: u32, stamp: u64, command: &Command) -> Se
 /// are only to be dropped.
 pub fn serve(
     tables: &mut Tables,
-    moment: u32,
-    stamp: u64,
+    at: Turn,
     command: &Command,
     events: &mut Vec<Event>,
 ) -> Result<Outcome, AllocError>
     requires calls { tables.old.last_call < 2 ^ 64 - 1 }
     requires monitors { tables.old.last_monitor < 2 ^ 64 - 1 }
     requires no_tick { IsNoTick command.now }
-    ensures outcome { IfOk result (λ o. o ≡ outcome_of (serve tables.old moment stamp command.now)) }
-    ensures rows { OnOk result (tables.new ≡ moved tables.old (moves_of (serve tables.old moment stamp command.now))) }
-    ensures events { OnOk result (events.new.items ≡ events.old.items ++ events_of moment (moves_of (serve tables.old moment stamp command.now))) }
+    ensures outcome { IfOk result (λ o. o ≡ outcome_of (serve tables.old at.moment at.stamp command.now)) }
+    ensures rows { OnOk result (tables.new ≡ moved tables.old (moves_of (serve tables.old at.moment at.stamp command.now))) }
+    ensures events { OnOk result (events.new.items ≡ events.old.items ++ events_of at.moment (moves_of (serve tables.old at.moment at.stamp command.now))) }
 {
-    match decide(tables, moment, stamp, command) {
-        Served::Refused(refusal) => Ok(Outcome::Refused(refusal)),
-        Served::Done(answer, moves) => {
-            make_all(tables, moment, moves.as_slice(), events)?;
-            Ok(Outcome::Done(answer))
+    match decide(tables, at, command) {
+        Err(refusal) => Ok(Outcome::Refused(refusal)),
+        Ok(done) => {
+            make_all(tables, at.moment, done.moves.as_slice(), events)?;
+            Ok(Outcome::Done(done.answer))
         }
     }
 }

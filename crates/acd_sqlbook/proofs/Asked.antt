@@ -26,7 +26,7 @@ use Rattle.acd_terms.specs.declared.record.AgentRecord.{AgentRecord}
 use Rattle.acd_terms.specs.declared.record.CallRecord.{CallRecord}
 use Rattle.acd_terms.specs.declared.record.MonitorRecord.{MonitorRecord}
 use Rattle.acd_terms.specs.Columns.{columns_of}
-use Rattle.acd_terms.specs.Scans.{monitor_of, has}
+use Rattle.acd_model.specs.Scans.{monitor_of, has}
 use Rattle.sqlite.specs.Values.{or_null}
 use Rattle.acd_laws.proofs.State.{monitor_find}
 use Rattle.acd_book.specs.Content.{Content, kept_of, is_key, is_told, events_behind}

@@ -8,7 +8,7 @@ use Rattle.sqlite.specs.State.{State, HasCleanDisk}
 use Rattle.acd_terms.specs.declared.rows.Limits.{Limits}
 use Rattle.acd_terms.specs.declared.rows.Rows.{Rows}
 use Rattle.acd_terms.specs.declared.event.Event.{Event}
-use Rattle.acd_terms.specs.declared.moves.Change.{Change}
+use Rattle.acd_model.specs.declared.moves.Change.{Change}
 use Rattle.acd_book.specs.declared.kept.Kept.{Kept}
 use Rattle.acd_book.specs.Content.{Content, HasRisen, empty_content, Follows, committed, FollowsBy, committed_by}
 use Rattle.acd_book.specs.State.{Reads, Commits}

@@ -3,14 +3,14 @@ use Rattle.std.proofs.Common.{◌≡◌, ℕ, ◌+◌, ◌<◌, ◌≤◌, List,
 use Rattle.std.proofs.lemmas.Bool.Decides.{nat_tests}
 use Rattle.std.specs.Ordering.{nat_cmp}
 use Rattle.std.specs.declared.cmp.Ordering.TheVariants.{Greater}
-use Rattle.acd_terms.specs.Changes.{changed_by}
 use Rattle.acd_terms.specs.Lists.{Every, put_by}
-use Rattle.acd_terms.specs.Moves.{changed}
-use Rattle.acd_terms.specs.Writes.{with_group, with_station, with_agent, with_call, with_connection, with_monitor, without_call, without_connection, without_monitor, with_last}
 use Rattle.acd_terms.specs.declared.event.Event.{Event}
-use Rattle.acd_terms.specs.declared.moves.Change.{Change}
-use Rattle.acd_terms.specs.declared.moves.Change.TheVariants.{Nothing, PutGroup, PutStation, PutAgent, PutCall, PutConnection, PutMonitor, RemoveCall, RemoveConnection, RemoveMonitor}
 use Rattle.acd_terms.specs.declared.rows.Rows.{Rows}
+use Rattle.acd_model.specs.Changes.{changed_by}
+use Rattle.acd_model.specs.Moves.{changed}
+use Rattle.acd_model.specs.Writes.{with_group, with_station, with_agent, with_call, with_connection, with_monitor, without_call, without_connection, without_monitor, with_last}
+use Rattle.acd_model.specs.declared.moves.Change.{Change}
+use Rattle.acd_model.specs.declared.moves.Change.TheVariants.{Nothing, PutGroup, PutStation, PutAgent, PutCall, PutConnection, PutMonitor, RemoveCall, RemoveConnection, RemoveMonitor}
 use Rattle.acd_book.specs.Content.{Content, GoOn, Follows, committed, FollowsBy, committed_by, rows_by}
 use Rattle.acd_book.specs.declared.kept.Kept.{Kept}
 use Rattle.acd_sqlbook.specs.declared.meta.Meta.{Meta}

@@ -24,8 +24,8 @@ use Rattle.sqlite.specs.State.{State, Shown}
 use Rattle.sqlite.proofs.Callers.{IsPlain, reads_as}
 use Rattle.sqlite_tied.specs.Compute.{everything}
 use Rattle.acd_terms.specs.Lists.{Among, AllAfter, IsAscending}
-use Rattle.acd_terms.specs.Rules.Plan.{connection_order}
 use Rattle.acd_terms.specs.declared.record.ConnectionRecord.{ConnectionRecord}
+use Rattle.acd_model.specs.Rules.Plan.{connection_order}
 use Rattle.acd_laws.proofs.State.{connections_total}
 use Rattle.acd_book.specs.Content.{Content}
 use Rattle.acd_sqlbook.specs.declared.fault.Table.TheVariants as table

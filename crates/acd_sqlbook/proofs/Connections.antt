@@ -36,13 +36,13 @@ use Rattle.sqlite.specs.State.{State, Executes}
 use Rattle.sqlite.proofs.Callers.{one_permutation}
 use Rattle.sqlite_tied.specs.Compute.{everything}
 use Rattle.acd_terms.specs.Lists.{put_by, remove_by}
-use Rattle.acd_terms.specs.Scans.{at_connection}
+use Rattle.acd_model.specs.Scans.{at_connection}
 use Rattle.acd_book.specs.Content.{Content}
 use Rattle.acd_laws.proofs.Lists.{is_eq_of}
 use Rattle.acd_laws.proofs.State.{is_of_true, is_of_self}
 use Rattle.acd_sqlbook.specs.declared.fault.Table.TheVariants as table
-use Rattle.acd_terms.specs.Rules.Plan.{connection_order}
 use Rattle.acd_terms.specs.declared.record.ConnectionRecord.{ConnectionRecord}
+use Rattle.acd_model.specs.Rules.Plan.{connection_order}
 use Rattle.acd_sqlbook.specs.Rows.{id_value, connection_code, connection_values, connection_row}
 use Rattle.acd_sqlbook.specs.Content.{AreConnections, with_part}
 use Rattle.acd_sqlbook.specs.Draft.{Drafts}
@@ -52,11 +52,10 @@ use Rattle.acd_sqlbook.proofs.Frames.{drafted}
 use Rattle.acd_sqlbook.proofs.KeyedRows.{id_tied}
 use Rattle.acd_sqlbook.proofs.Puts.{truth_back}
 use Rattle.acd_sqlbook.proofs.Scans.{showing, passing, filter_like, all_out}
-use Rattle.acd_sqlbook.proofs.Statements.{Deletion, deletion_edit, deleted, Replaces, replaces}
+use Rattle.acd_sqlbook.proofs.Statements.{Deletion, deletion_edit, deleted, Replaces, replaces, inert_works}
 use Rattle.acd_sqlbook.proofs.Texts as text
 use Rattle.acd_sqlbook.proofs.Upserts.{Upsertion, Way, put, changed, upserted}
 use Rattle.acd_sqlbook.proofs.Writes.{run, inert, either, cast_id, cast_null, cast_maybe}
-use Rattle.acd_sqlbook.proofs.Statements.{inert_works}
 
 -- ---- rows that are put beside others
 

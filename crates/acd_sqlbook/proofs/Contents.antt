@@ -28,7 +28,6 @@ use Rattle.sqlite_schema.specs.declared.schema.Constraint.TheVariants as rule
 use Rattle.sqlite_schema.specs.Rules.{Keeps, passes, passes_checks, are_typed, has_computed, agree, differ, clashes}
 use Rattle.sqlite.specs.Effect.{Database, IsDatabase}
 use Rattle.acd_terms.specs.Lists.{Among, Every}
-use Rattle.acd_terms.specs.Rules.Plan.{connection_order}
 use Rattle.acd_terms.specs.declared.event.Event.{Event}
 use Rattle.acd_terms.specs.declared.record.GroupRecord.{GroupRecord}
 use Rattle.acd_terms.specs.declared.record.StationRecord.{StationRecord}
@@ -36,6 +35,7 @@ use Rattle.acd_terms.specs.declared.record.AgentRecord.{AgentRecord}
 use Rattle.acd_terms.specs.declared.record.CallRecord.{CallRecord}
 use Rattle.acd_terms.specs.declared.record.ConnectionRecord.{ConnectionRecord}
 use Rattle.acd_terms.specs.declared.record.MonitorRecord.{MonitorRecord}
+use Rattle.acd_model.specs.Rules.Plan.{connection_order}
 use Rattle.acd_book.specs.Content.{Content}
 use Rattle.acd_book.specs.declared.kept.Kept.{Kept}
 use Rattle.acd_sqlbook.specs.declared.meta.Meta.{Meta}

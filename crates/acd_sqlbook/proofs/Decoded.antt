@@ -10,7 +10,6 @@ use Rattle.sqlite_rules.specs.Lists.{Has}
 use Rattle.sqlite.specs.Values.{or_null}
 use Rattle.acd_terms.specs.Columns.{columns_of}
 use Rattle.acd_terms.specs.Lists.{Among, Every, IsAscending, put_by}
-use Rattle.acd_terms.specs.Rules.Plan.{connection_order}
 use Rattle.acd_terms.specs.declared.event.EventKind.{EventKind}
 use Rattle.acd_terms.specs.declared.event.EventKind.TheVariants as kind
 use Rattle.acd_terms.specs.declared.event.Cause.{Cause}
@@ -31,10 +30,10 @@ use Rattle.acd_terms.specs.declared.record.AgentRecord.{AgentRecord}
 use Rattle.acd_terms.specs.declared.record.CallRecord.{CallRecord}
 use Rattle.acd_terms.specs.declared.record.ConnectionRecord.{ConnectionRecord}
 use Rattle.acd_terms.specs.declared.record.MonitorRecord.{MonitorRecord}
+use Rattle.acd_model.specs.Rules.Plan.{connection_order}
 use Rattle.acd_book.specs.Content.{Content}
 use Rattle.acd_book.specs.declared.kept.Kept.{Kept}
-use Rattle.acd_laws.proofs.Lists.{after_among, among-put, among-put_other, ascending-put}
-use Rattle.acd_laws.proofs.Members.{among_put}
+use Rattle.acd_laws.proofs.Lists.{after_among, among-put, among-put_other, ascending-put, among_put}
 use Rattle.acd_laws.proofs.State.{connections_total}
 use Rattle.acd_sqlbook.specs.declared.fault.Table.TheVariants as table
 use Rattle.acd_sqlbook.specs.declared.meta.Meta.{Meta}

@@ -9,9 +9,9 @@ use Rattle.sqlite_value.specs.Order.{Row}
 use Rattle.sqlite.specs.declared.error.Error.{Error}
 use Rattle.sqlite.specs.State.{State}
 use Rattle.acd_terms.specs.Lists.{Every, AllAfter, IsAscending, find_by}
-use Rattle.acd_terms.specs.Scans.{at_monitor, monitor_of}
 use Rattle.acd_terms.specs.declared.event.Event.{Event}
 use Rattle.acd_terms.specs.declared.record.MonitorRecord.{MonitorRecord}
+use Rattle.acd_model.specs.Scans.{at_monitor, monitor_of}
 use Rattle.acd_book.specs.Content.{Content, IsKeptAfter, is_told, watched_by, events_of_monitor}
 use Rattle.acd_book.specs.declared.kept.Kept.{Kept}
 use Rattle.acd_sqlbook.specs.declared.fault.Table.TheVariants as table

@@ -8,11 +8,10 @@ use Rattle.sqlite_value.specs.Order.{Row, column}
 use Rattle.sqlite_trees.specs.Tree.{IsTable}
 use Rattle.sqlite_rules.specs.Lists.{Has}
 use Rattle.acd_terms.specs.Lists.{Among, IsAscending, put_by, remove_by}
-use Rattle.acd_terms.specs.Rules.Plan.{connection_order}
-use Rattle.acd_terms.specs.Scans.{at_connection}
 use Rattle.acd_terms.specs.declared.record.ConnectionRecord.{ConnectionRecord}
-use Rattle.acd_laws.proofs.Lists.{after_among, among-put, among-put_other, among-remove, among-remove_other, ascending-put, ascending-remove, remove_is, filter_among, eq_is}
-use Rattle.acd_laws.proofs.Members.{among_put}
+use Rattle.acd_model.specs.Rules.Plan.{connection_order}
+use Rattle.acd_model.specs.Scans.{at_connection}
+use Rattle.acd_laws.proofs.Lists.{after_among, among-put, among-put_other, among-remove, among-remove_other, ascending-put, ascending-remove, remove_is, filter_among, eq_is, among_put}
 use Rattle.acd_laws.proofs.State.{connections_total, connection_key, is_of_true, is_of_self}
 use Rattle.acd_sqlbook.specs.Rows.{id_value, connection_row}
 use Rattle.acd_sqlbook.specs.Content.{AreConnections}

@@ -4,14 +4,14 @@ use Rattle.std.specs.Prelude.{Vec}
 use Rattle.std.specs.declared.alloc.Global.{Global}
 use Rattle.sqlite.specs.declared.error.Error.{Error}
 use Rattle.sqlite.specs.State.{State, HasCleanDisk}
-use Rattle.acd_terms.specs.Changes.{changed_by}
 use Rattle.acd_terms.specs.declared.event.Event.{Event}
-use Rattle.acd_terms.specs.declared.moves.Change.{Change}
 use Rattle.acd_terms.specs.declared.rows.Rows.{Rows}
+use Rattle.acd_model.specs.Changes.{changed_by}
+use Rattle.acd_model.specs.declared.moves.Change.{Change}
 use Rattle.acd_book.specs.Content.{Content, Follows, committed}
 use Rattle.acd_book.specs.declared.kept.Kept.{Kept}
-use Rattle.acd_laws.specs.Counts.{Orders}
-use Rattle.acd_laws.proofs.RulesRead.{orders_read}
+use Rattle.acd_laws.specs.Orders.{Orders}
+use Rattle.acd_laws.proofs.Decided.{orders_decided}
 use Rattle.acd_sqlbook.specs.declared.meta.Meta.{Meta}
 use Rattle.acd_sqlbook.specs.declared.fault.Table.TheVariants as table
 use Rattle.acd_sqlbook.specs.Calls.{HasRead, HasReplaced}
@@ -77,7 +77,7 @@ replaces old mid new r changes all meta rows events kept same counters read clea
       written = written;
       commits = commits_behind old mid new r written written changes (LeadsTo rows) read (λ c leads. refl) clean up was done undone stops;
       same = λ k c held follows.
-          let t = read.value (clean k) c held (orders_read rows follows.ordered) in
+          let t = read.value (clean k) c held ((orders_decided rows).0 follows.ordered) in
           ap₂ (λ l m. made_by l events kept m c) same counters
           ∙ rows_made changes.items events kept rows c follows t.groups t.stations t.agents t.calls t.connections t.monitors;
     }

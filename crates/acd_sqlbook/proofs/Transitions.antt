@@ -5,27 +5,27 @@ use Rattle.std.specs.declared.cmp.Ordering.{Ordering}
 use Rattle.std.proofs.lemmas.List.{map-append}
 use Rattle.std.proofs.lemmas.Grind.{common_steps}
 use Rattle.acd_terms.specs.Lists.{AllAfter, IsAscending, put_by, remove_by}
-use Rattle.acd_terms.specs.Moves.{changed}
-use Rattle.acd_terms.specs.Changes.{changed_by}
-use Rattle.acd_terms.specs.Writes.{with_group, with_station, with_agent, with_call, with_connection, with_monitor, without_call, without_connection, without_monitor}
-use Rattle.acd_terms.specs.Rules.Plan.{group_order, station_order, agent_order, call_order, connection_order, monitor_order}
 use Rattle.acd_terms.specs.declared.rows.Rows.{Rows}
-use Rattle.acd_terms.specs.declared.moves.Change.{Change}
-use Rattle.acd_terms.specs.declared.moves.Change.TheVariants.{Nothing, PutGroup, PutStation, PutAgent, PutCall, PutConnection, PutMonitor, RemoveCall, RemoveConnection, RemoveMonitor}
 use Rattle.acd_terms.specs.declared.record.GroupRecord.{GroupRecord}
 use Rattle.acd_terms.specs.declared.record.StationRecord.{StationRecord}
 use Rattle.acd_terms.specs.declared.record.AgentRecord.{AgentRecord}
 use Rattle.acd_terms.specs.declared.record.CallRecord.{CallRecord}
 use Rattle.acd_terms.specs.declared.record.ConnectionRecord.{ConnectionRecord}
 use Rattle.acd_terms.specs.declared.record.MonitorRecord.{MonitorRecord}
-use Rattle.acd_terms.proofs.ChangeLemmas.{changed_by_append}
 use Rattle.acd_terms.specs.contracts.record.GroupRecordPartialEq.TheImpl as groups_eq
 use Rattle.acd_terms.specs.contracts.record.StationRecordPartialEq.TheImpl as stations_eq
 use Rattle.acd_terms.specs.contracts.record.AgentRecordPartialEq.TheImpl as agents_eq
 use Rattle.acd_terms.specs.contracts.record.CallRecordPartialEq.TheImpl as calls_eq
 use Rattle.acd_terms.specs.contracts.record.ConnectionRecordPartialEq.TheImpl as connections_eq
 use Rattle.acd_terms.specs.contracts.record.MonitorRecordPartialEq.TheImpl as monitors_eq
-use Rattle.acd_laws.specs.Counts.{Orders}
+use Rattle.acd_model.specs.Moves.{changed}
+use Rattle.acd_model.specs.Changes.{changed_by}
+use Rattle.acd_model.specs.Writes.{with_group, with_station, with_agent, with_call, with_connection, with_monitor, without_call, without_connection, without_monitor}
+use Rattle.acd_model.specs.Rules.Plan.{group_order, station_order, agent_order, call_order, connection_order, monitor_order}
+use Rattle.acd_model.specs.declared.moves.Change.{Change}
+use Rattle.acd_model.specs.declared.moves.Change.TheVariants.{Nothing, PutGroup, PutStation, PutAgent, PutCall, PutConnection, PutMonitor, RemoveCall, RemoveConnection, RemoveMonitor}
+use Rattle.acd_model.proofs.ChangeLemmas.{changed_by_append}
+use Rattle.acd_laws.specs.Orders.{Orders}
 use Rattle.acd_sqlbook.proofs.SameRecords.{same_group, same_station, same_agent, same_call, same_connection, same_monitor}
 use Rattle.acd_sqlbook.specs.Differing.{Step, gone, put, change_by, stepped, LeadTo}
 use Rattle.acd_sqlbook.specs.Transition.{HasTables, AreWhole, Lead, AddsSteps, with_plan}

@@ -6,7 +6,6 @@ use Rattle.sqlite_value.specs.declared.value.Value.TheVariants.{Int, Text}
 use Rattle.sqlite_value.specs.Order.{Row, column}
 use Rattle.sqlite_trees.specs.Tree.{Trees}
 use Rattle.acd_terms.specs.Lists.{put_by}
-use Rattle.acd_terms.specs.Rules.Plan.{connection_order}
 use Rattle.acd_terms.specs.declared.command.Request.{Request}
 use Rattle.acd_terms.specs.declared.command.Command.TheVariants.{Tick}
 use Rattle.acd_terms.specs.declared.event.EventKind.{EventKind}
@@ -29,6 +28,7 @@ use Rattle.acd_terms.specs.declared.record.AgentRecord.{AgentRecord}
 use Rattle.acd_terms.specs.declared.record.CallRecord.{CallRecord}
 use Rattle.acd_terms.specs.declared.record.ConnectionRecord.{ConnectionRecord}
 use Rattle.acd_terms.specs.declared.record.MonitorRecord.{MonitorRecord}
+use Rattle.acd_model.specs.Rules.Plan.{connection_order}
 use Rattle.acd_codec.specs.declared.member.Member.{Member}
 use Rattle.acd_codec.specs.Reading.{reads_as}
 use Rattle.acd_book.specs.Content.{Content}

@@ -4,7 +4,7 @@ use Rattle.std.specs.declared.cmp.Ordering.{Ordering}
 use Rattle.std.specs.declared.cmp.Ordering.TheVariants.{Equal}
 use Rattle.std.specs.Ordering.{match_ordering}
 use Rattle.acd_terms.specs.Lists.{Among, Every, IsAscending, put_by, remove_by}
-use Rattle.acd_terms.specs.declared.moves.Change.{Change}
+use Rattle.acd_model.specs.declared.moves.Change.{Change}
 
 -- a record is gone, or is put
 pub data Step (T : Type 0) : Type 0 where

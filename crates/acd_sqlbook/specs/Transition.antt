@@ -2,11 +2,11 @@
 use Rattle.std.specs.Prelude.{◌≡◌, ◌++◌, Bool, List}
 use Rattle.std.specs.declared.cmp.Ordering.{Ordering}
 use Rattle.acd_terms.specs.Lists.{Every}
-use Rattle.acd_terms.specs.Changes.{changed_by}
 use Rattle.acd_terms.specs.declared.rows.Rows.{Rows}
-use Rattle.acd_terms.specs.declared.moves.Change.{Change}
-use Rattle.acd_terms.specs.declared.moves.Change.TheVariants.{Nothing}
-use Rattle.acd_laws.specs.Counts.{Orders}
+use Rattle.acd_model.specs.Changes.{changed_by}
+use Rattle.acd_model.specs.declared.moves.Change.{Change}
+use Rattle.acd_model.specs.declared.moves.Change.TheVariants.{Nothing}
+use Rattle.acd_laws.specs.Orders.{Orders}
 use Rattle.acd_sqlbook.specs.Differing.{LeadTo}
 
 -- the lists of one are those of the other; the limits and the counters are not asked for

@@ -18,7 +18,8 @@ use crate::ready::{
 use crate::transition::commit_rows_ready;
 use crate::write::put_meta;
 use acd_book::{Book, BookFault, Kept};
-use acd_terms::{Change, Event, Invoke, Limits, Requester, Rows};
+use acd_model::Change;
+use acd_terms::{Event, Invoke, Limits, Requester, Rows};
 use sqlite::{Alter, Connection, Error, ErrorCode};
 use std::alloc::Global;
 

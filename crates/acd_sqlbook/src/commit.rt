@@ -14,7 +14,8 @@ use crate::write::{
     put_group, put_kept, put_meta, put_monitor, put_station,
 };
 use acd_book::Kept;
-use acd_terms::{Change, Event, Figures};
+use acd_model::Change;
+use acd_terms::{Event, Figures};
 use sqlite::{Alter, Connection, Error, ErrorCode, Transaction};
 
 // Whether an INTEGER column can hold the number.

@@ -1,13 +1,13 @@
 //! What leads from the records that are held to new ones.
 
 ghost use Rattle.std.specs.Prelude.{◌≡◌, ◌<◌, ◌+◌, ◌++◌, ◌∷◌, [], None, length, option_to_list, IfSome, IfOk, OnOk};
-ghost use Rattle.acd_terms.specs.declared.moves.Change.{Change as Made};
-ghost use Rattle.acd_terms.specs.declared.moves.Change.TheVariants.{Nothing as NoChange, PutGroup as GroupPut, PutStation as StationPut, PutAgent as AgentPut, PutCall as CallPut, PutConnection as ConnectionPut, PutMonitor as MonitorPut, RemoveCall as CallGone, RemoveConnection as ConnectionGone, RemoveMonitor as MonitorGone};
+ghost use Rattle.acd_model.specs.declared.moves.Change.{Change as Made};
+ghost use Rattle.acd_model.specs.declared.moves.Change.TheVariants.{Nothing as NoChange, PutGroup as GroupPut, PutStation as StationPut, PutAgent as AgentPut, PutCall as CallPut, PutConnection as ConnectionPut, PutMonitor as MonitorPut, RemoveCall as CallGone, RemoveConnection as ConnectionGone, RemoveMonitor as MonitorGone};
 ghost use Rattle.acd_sqlbook.specs.Differing.{LeadTo, differences};
 
+use acd_model::Change;
 use acd_terms::{
-    AgentRecord, CallRecord, Change, ConnectionRecord, GroupRecord, Keyed, MonitorRecord,
-    StationRecord,
+    AgentRecord, CallRecord, ConnectionRecord, GroupRecord, Keyed, MonitorRecord, StationRecord,
 };
 use std::alloc::{AllocError, Global};
 use std::cmp::Ordering;

@@ -5,7 +5,7 @@
 
 ghost use Rattle.std.specs.Prelude.{◌≡◌, ◌-◌, ◌^◌, ◌<◌, [], false, length, map, take, filter, Some, IfOk, OnOk};
 ghost use Rattle.sqlite.specs.Held.{state};
-ghost use Rattle.acd_terms.specs.Scans.{monitor_of};
+ghost use Rattle.acd_model.specs.Scans.{monitor_of};
 ghost use Rattle.acd_book.specs.Content.{IsKeptAfter, events_behind, events_of_monitor, is_told, kept_of};
 ghost use Rattle.acd_sqlbook.specs.Rows.{event_values, kept_values};
 ghost use Rattle.acd_sqlbook.specs.Draft.{Fits};

@@ -3,7 +3,7 @@
 ghost use Rattle.std.specs.Prelude.{◌≡◌, Some, false, map, take, filter, option_to_list, IsPermutation};
 ghost use Rattle.sqlite.specs.Effect.{Database};
 ghost use Rattle.sqlite.specs.Held.{state};
-ghost use Rattle.acd_terms.specs.Scans.{monitor_of};
+ghost use Rattle.acd_model.specs.Scans.{monitor_of};
 ghost use Rattle.acd_book.specs.Content.{events_behind, is_told, kept_of};
 ghost use Rattle.acd_sqlbook.specs.Rows.{group_values, station_values, agent_values, call_values, connection_values, monitor_values, event_values, kept_values};
 ghost use Rattle.acd_sqlbook.specs.declared.adopt.Log.TheVariants as log;

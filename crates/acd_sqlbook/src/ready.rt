@@ -20,7 +20,8 @@ use crate::read::{meta_in, meta_rows, probe};
 use crate::reads::rows;
 use acd_book::Kept;
 use acd_codec::request_text;
-use acd_terms::{Change, Event, Invoke, Limits, Requester, Rows};
+use acd_model::Change;
+use acd_terms::{Event, Invoke, Limits, Requester, Rows};
 use sqlite::{Alter, Connection, Error, Row};
 use std::alloc::Global;
 

@@ -4,12 +4,12 @@
 ghost use Rattle.std.specs.Prelude.{◌≡◌, ◌++◌, map, false, IfOk, OnOk, IsTrue};
 ghost use Rattle.sqlite.specs.State.{HasCleanDisk};
 ghost use Rattle.sqlite.specs.Held.{state};
-ghost use Rattle.acd_terms.specs.Changes.{changed_by};
 ghost use Rattle.acd_terms.specs.Lists.{IsAscending};
-ghost use Rattle.acd_terms.specs.Rules.Plan.{connection_order};
 ghost use Rattle.acd_terms.specs.declared.record.AgentRecord.{AgentRecord as Agent};
+ghost use Rattle.acd_model.specs.Changes.{changed_by};
+ghost use Rattle.acd_model.specs.Rules.Plan.{connection_order};
 ghost use Rattle.acd_book.specs.Content.{Follows, committed};
-ghost use Rattle.acd_laws.specs.Counts.{Orders};
+ghost use Rattle.acd_laws.specs.Orders.{Orders};
 ghost use Rattle.acd_sqlbook.specs.Calls.{HasRead, HasReplaced};
 ghost use Rattle.acd_sqlbook.specs.Content.{meta_of};
 ghost use Rattle.acd_sqlbook.specs.Draft.{Fits, MetaFits};
@@ -21,7 +21,8 @@ use crate::meta::Meta;
 use crate::ready::{meta_fits, rows_ready};
 use acd_book::Kept;
 use acd_codec::request_text;
-use acd_terms::{AgentRecord, Change, ConnectionRecord, Event, Rows, find};
+use acd_model::Change;
+use acd_terms::{AgentRecord, ConnectionRecord, Event, Rows, find};
 use sqlite::{Alter, Connection, Constraint, Error, ErrorCode};
 use std::alloc::{AllocError, Global};
 

@@ -8,7 +8,7 @@ ghost use Rattle.sqlite.specs.Held.{state};
 ghost use Rattle.sqlite.specs.Values.{bound};
 ghost use Rattle.acd_terms.specs.Columns.{columns_of};
 ghost use Rattle.acd_terms.specs.Lists.{put_by, remove_by};
-ghost use Rattle.acd_terms.specs.Scans.{at_group, at_station, at_agent, at_call, at_connection, at_monitor};
+ghost use Rattle.acd_model.specs.Scans.{at_group, at_station, at_agent, at_call, at_connection, at_monitor};
 ghost use Rattle.acd_codec.specs.RequestTexts.{request_text};
 ghost use Rattle.acd_book.specs.Content.{Content, empty_content};
 ghost use Rattle.acd_sqlbook.specs.Schema.{book_schema};

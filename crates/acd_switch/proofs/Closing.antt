@@ -2,23 +2,22 @@
 use Rattle.std.proofs.Common.{◌≡◌, ℕ, [], ◌++◌, List, refl, sym, ap, subst, ◌∙◌}
 use Rattle.acd_terms.specs.declared.rows.Rows.{Rows}
 use Rattle.acd_terms.specs.declared.event.Event.{Event}
-use Rattle.acd_terms.specs.declared.moves.Move.{Move}
-use Rattle.acd_terms.specs.declared.moves.Served.{Served}
-use Rattle.acd_terms.specs.Moves.{moved, events_of}
-use Rattle.acd_terms.specs.Served.{moves_of, outcome_of}
-use Rattle.acd_terms.specs.Distribution.{distribution}
-use Rattle.acd_terms.specs.Step.{Stepped, step, step_at, step_moves, numbered, executed_moment, next_stamp}
-use Rattle.acd_terms.specs.Services.Serve.{serve}
 use Rattle.acd_terms.specs.declared.command.Command.{Command}
+use Rattle.acd_model.specs.declared.moves.Move.{Move}
+use Rattle.acd_model.specs.Served.{Served, moves_of, outcome_of}
+use Rattle.acd_model.specs.Moves.{moved, events_of}
+use Rattle.acd_model.specs.Distribution.{distribution}
+use Rattle.acd_model.specs.Step.{Stepped, step, step_at, step_moves, numbered, executed_moment, next_stamp}
+use Rattle.acd_model.specs.Services.Serve.{serve}
 use Rattle.acd_switch.specs.Room.{closed}
 use Rattle.acd_terms.specs.Lists.{IsAscending}
-use Rattle.acd_terms.specs.Changes.{changes_of, growth, step_changes_by, step_changes}
-use Rattle.acd_terms.specs.Rules.Plan.{group_order}
-use Rattle.acd_terms.specs.Rules.First.{BreaksNoRule}
-use Rattle.acd_terms.specs.declared.moves.Change.{Change}
-use Rattle.acd_terms.proofs.MoveLemmas.{moved_append, events_of_append}
-use Rattle.acd_terms.proofs.ChangeLemmas.{changes_of_append}
-use Rattle.acd_laws.proofs.BoundsRead.{keeps_read}
+use Rattle.acd_model.specs.Changes.{changes_of, growth, step_changes_by, step_changes}
+use Rattle.acd_model.specs.Rules.Plan.{group_order}
+use Rattle.acd_model.specs.Rules.First.{BreaksNoRule}
+use Rattle.acd_model.specs.declared.moves.Change.{Change}
+use Rattle.acd_model.proofs.MoveLemmas.{moved_append, events_of_append}
+use Rattle.acd_model.proofs.ChangeLemmas.{changes_of_append}
+use Rattle.acd_laws.proofs.DecidedAll.{keeps_read}
 use Rattle.acd_laws.proofs.ChangesMade.{ascending_moved}
 
 -- the state after the service and the distribution

@@ -1,17 +1,15 @@
 -- Figures that grow event by event have room, where all events together leave it.
 use Rattle.std.proofs.Common.{◌≡◌, ℕ, List, [], ◌∷◌, Some, sym, ◌∙◌, subst, map, arith}
-use Rattle.acd_terms.specs.Lists.{Every, Among}
-use Rattle.acd_terms.specs.Scans.{at_group, group_of}
-use Rattle.acd_terms.specs.Changes.{changed_by, growth_by}
-use Rattle.acd_terms.specs.Figures.{figures_of, sum_of_figures, counting, with_figures}
-use Rattle.acd_terms.specs.Rules.Plan.{group_order}
-use Rattle.acd_terms.specs.Lists.{IsAscending}
+use Rattle.acd_terms.specs.Lists.{Every, Among, IsAscending}
 use Rattle.acd_terms.specs.declared.rows.Rows.{Rows}
 use Rattle.acd_terms.specs.declared.record.Figures.{Figures}
 use Rattle.acd_terms.specs.declared.record.GroupRecord.{GroupRecord}
 use Rattle.acd_terms.specs.declared.event.Event.{Event}
-use Rattle.acd_laws.proofs.Lists.{every_among}
-use Rattle.acd_laws.proofs.Members.{found_among}
+use Rattle.acd_model.specs.Scans.{at_group, group_of}
+use Rattle.acd_model.specs.Changes.{changed_by, growth_by}
+use Rattle.acd_model.specs.Figures.{figures_of, sum_of_figures, counting, with_figures}
+use Rattle.acd_model.specs.Rules.Plan.{group_order}
+use Rattle.acd_laws.proofs.Lists.{every_among, found_among}
 use Rattle.acd_laws.proofs.ChangesMade.{one_grown, counting_more, counting_both}
 use Rattle.acd_laws.proofs.CountedEvents.{no_events, sum_nothing}
 use Rattle.acd_switch.specs.Counting.{figures_in, AreFitting, AllFit, FiguresFit}

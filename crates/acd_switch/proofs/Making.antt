@@ -1,11 +1,11 @@
 -- The changes of an executed request make its rows.
 use Rattle.std.proofs.Common.{◌≡◌, ℕ, length, IfOk, OnOk, Ok, Err, sym, ap, ◌∙◌}
 use Rattle.std.specs.Prelude.{Result}
-use Rattle.acd_terms.specs.Step.{step, executed_moment, next_stamp}
-use Rattle.acd_terms.specs.Changes.{step_changes, rows_made}
-use Rattle.acd_terms.specs.Rules.First.{BreaksNoRule}
 use Rattle.acd_terms.specs.declared.rows.Rows.{Rows}
 use Rattle.acd_terms.specs.declared.command.Command.{Command}
+use Rattle.acd_model.specs.Step.{step, executed_moment, next_stamp}
+use Rattle.acd_model.specs.Changes.{step_changes, rows_made}
+use Rattle.acd_model.specs.Rules.First.{BreaksNoRule}
 use Rattle.acd_laws.proofs.ChangesMade.{step_makes_its_changes}
 use Rattle.acd_switch.specs.declared.switch.Executed.{Executed}
 

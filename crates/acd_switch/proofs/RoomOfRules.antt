@@ -4,16 +4,16 @@ use Rattle.std.proofs.lemmas.Bool.Decides.{nat_tests}
 use Rattle.std.proofs.Math.Nat.{mul-le-mul_right}
 use Rattle.acd_terms.specs.Lists.{Every}
 use Rattle.acd_terms.specs.Limits.{limits_fit}
-use Rattle.acd_terms.specs.Writes.{with_last}
-use Rattle.acd_terms.specs.Step.{step, executed_moment, next_stamp}
-use Rattle.acd_terms.specs.Rules.First.{BreaksNoRule}
 use Rattle.acd_terms.specs.declared.rows.Rows.{Rows}
 use Rattle.acd_terms.specs.declared.rows.Limits.{Limits}
 use Rattle.acd_terms.specs.declared.record.GroupRecord.{GroupRecord}
 use Rattle.acd_terms.specs.declared.command.Command.{Command}
+use Rattle.acd_model.specs.Writes.{with_last}
+use Rattle.acd_model.specs.Step.{step, executed_moment, next_stamp}
+use Rattle.acd_model.specs.Rules.First.{BreaksNoRule}
 use Rattle.acd_switch.specs.Counting.{AreFitting, AllFit}
-use Rattle.acd_laws.specs.Bounds.{IsCountedUpTo, IsBalanced}
-use Rattle.acd_laws.proofs.BoundsRead.{keeps_read}
+use Rattle.acd_laws.proofs.Facts.{IsCountedUpTo, AddsUp}
+use Rattle.acd_laws.proofs.DecidedAll.{keeps_read}
 use Rattle.acd_switch.specs.Room.{HasRoom, Fits}
 
 requests_few : (l : Limits) → limits_fit l ≡ true → l.requests ≤ 1000000000
@@ -32,7 +32,7 @@ has_room s h room =
     }
 
 -- the figures of a group: entered bounds what was answered, abandoned and moved, and these what was waited
-fitting : (s : Rows) (m : ℕ) (g : GroupRecord) → s.last_stamp ≤ 1000000000 → m < 2 ^ 32 → IsCountedUpTo s.last_stamp m g → IsBalanced s g → AreFitting g.figures
+fitting : (s : Rows) (m : ℕ) (g : GroupRecord) → s.last_stamp ≤ 1000000000 → m < 2 ^ 32 → IsCountedUpTo s.last_stamp m g → AddsUp s g → AreFitting g.figures
 fitting s m g few small h b =
     let answered : g.figures.answered ≤ 1000000000 = omega (arith, h.0, b) in
     let product : g.figures.answered * m ≤ 1000000000 * m = mul-le-mul_right m answered in
@@ -44,7 +44,7 @@ fitting s m g few small h b =
       waited = omega (arith, h.1, product);
     }
 
-all_fitting : (s : Rows) (m : ℕ) (gs : List GroupRecord) → s.last_stamp ≤ 1000000000 → m < 2 ^ 32 → Every (IsCountedUpTo s.last_stamp m) gs → Every (IsBalanced s) gs → AllFit gs
+all_fitting : (s : Rows) (m : ℕ) (gs : List GroupRecord) → s.last_stamp ≤ 1000000000 → m < 2 ^ 32 → Every (IsCountedUpTo s.last_stamp m) gs → Every (AddsUp s) gs → AllFit gs
 all_fitting s m [] few small h b = tt
 all_fitting s m (g ∷ gs) few small h b = (fitting s m g few small h.0 b.0, all_fitting s m gs few small h.1 b.1)
 

@@ -1,13 +1,13 @@
 -- Rounds of offers, and the moves for each of a list in turn.
 use Rattle.std.proofs.Common.{◌≡◌, ℕ, zero, suc, [], ◌∷◌, ◌++◌, List, Some, None, refl, sym, ap, ◌∙◌, append_assoc}
 use Rattle.acd_terms.specs.declared.rows.Rows.{Rows}
-use Rattle.acd_terms.specs.declared.moves.Move.{Move}
-use Rattle.acd_terms.specs.declared.moves.Offer.{Offer}
-use Rattle.acd_terms.specs.Choice.{offer_of}
-use Rattle.acd_terms.specs.Moves.{moved}
-use Rattle.acd_terms.specs.Distribution.{offer_moves, offers}
-use Rattle.acd_terms.specs.Tick.{each}
-use Rattle.acd_terms.proofs.MoveLemmas.{moved_append}
+use Rattle.acd_model.specs.declared.moves.Move.{Move}
+use Rattle.acd_model.specs.declared.moves.Offer.{Offer}
+use Rattle.acd_model.specs.Choice.{offer_of}
+use Rattle.acd_model.specs.Moves.{moved}
+use Rattle.acd_model.specs.Distribution.{offer_moves, offers}
+use Rattle.acd_model.specs.Tick.{each}
+use Rattle.acd_model.proofs.MoveLemmas.{moved_append}
 
 pub offers-none : (n : ℕ) (s : Rows) (m : ℕ) → offer_of s ≡ None → offers n s m ≡ []
 offers-none zero s m h = refl

@@ -4,8 +4,8 @@ use Rattle.std.proofs.lemmas.List.{drop_all, append-nil}
 use Rattle.std.specs.Prelude.{filter}
 use Rattle.std.proofs.lemmas.Bool.{and_parts, and_from}
 use Rattle.acd_terms.specs.States.{is_alerting, is_working_after_call}
-use Rattle.acd_terms.specs.Tick.{is_overdue, is_overdue_offer, overdue_in, is_rested, is_over_in, rested_in}
 use Rattle.acd_terms.specs.declared.rows.Rows.{Rows}
+use Rattle.acd_model.specs.Tick.{is_overdue, is_overdue_offer, overdue_in, is_rested, is_over_in, rested_in}
 use Rattle.acd_tables.specs.Indexed.{is_ringing, is_working}
 use Rattle.acd_tables.proofs.NearLemmas.{filter-filter}
 

@@ -1,12 +1,12 @@
 -- Figures that grow by the reports of a request.
 use Rattle.std.specs.Prelude.{ℕ, ◌^◌, ◌<◌, List, map, if◌then◌else◌}
 use Rattle.acd_terms.specs.Lists.{Every}
-use Rattle.acd_terms.specs.Figures.{is_entry, is_answer, is_abandonment, is_moving_away, waited_there, counting}
 use Rattle.acd_terms.specs.declared.rows.Rows.{Rows}
 use Rattle.acd_terms.specs.declared.record.Figures.{Figures}
 use Rattle.acd_terms.specs.declared.record.GroupRecord.{GroupRecord}
 use Rattle.acd_terms.specs.declared.event.Event.{Event}
 use Rattle.acd_terms.specs.declared.event.Report.{Report}
+use Rattle.acd_model.specs.Figures.{is_entry, is_answer, is_abandonment, is_moving_away, waited_there, counting}
 
 -- what one report counts for a group
 unfoldable pub figures_in : ℕ → Report → Figures

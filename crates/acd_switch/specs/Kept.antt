@@ -1,11 +1,11 @@
 -- What the switch tells of a group and of an outcome.
 use Rattle.std.specs.Prelude.{ℕ, Option, option_map}
-use Rattle.acd_terms.specs.Scans.{group_of}
 use Rattle.acd_terms.specs.declared.rows.Rows.{Rows}
 use Rattle.acd_terms.specs.declared.record.Figures.{Figures}
 use Rattle.acd_terms.specs.declared.record.GroupRecord.{GroupRecord}
 use Rattle.acd_terms.specs.declared.answer.Outcome.{Outcome}
 use Rattle.acd_terms.specs.declared.answer.Outcome.TheVariants.{Done, Refused}
+use Rattle.acd_model.specs.Scans.{group_of}
 
 -- the figures of a planned group, and none of any other device
 abbrev pub figures_at : Rows → ℕ → Option Figures

@@ -1,10 +1,10 @@
 -- Where the counters of a state have room in their types.
 use Rattle.std.specs.Prelude.{ℕ, ◌<◌, ◌-◌, ◌+◌, ◌^◌, List, length}
 use Rattle.acd_switch.specs.Counting.{AllFit}
-use Rattle.acd_terms.specs.Writes.{with_last}
-use Rattle.acd_terms.specs.Figures.{with_figures}
 use Rattle.acd_terms.specs.declared.rows.Rows.{Rows}
 use Rattle.acd_terms.specs.declared.event.Event.{Event}
+use Rattle.acd_model.specs.Writes.{with_last}
+use Rattle.acd_model.specs.Figures.{with_figures}
 
 -- one more request, call and monitor can be numbered
 pub record HasRoom (s : Rows) : Type 0 where

@@ -1,7 +1,7 @@
 -- Why rows make no switch.
 use Rattle.std.specs.Prelude.{◌≡◌, Some}
-use Rattle.acd_terms.specs.Rules.First.{first_broken, BreaksNoRule}
 use Rattle.acd_terms.specs.declared.rows.Rows.{Rows}
+use Rattle.acd_model.specs.Rules.First.{first_broken, BreaksNoRule}
 use Rattle.acd_switch.specs.declared.row_fault.RowFault.{RowFault}
 use Rattle.acd_switch.specs.declared.row_fault.RowFault.TheVariants.{Broken, NoMemory}
 

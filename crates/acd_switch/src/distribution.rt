@@ -1,18 +1,19 @@
 //! Offers of waiting calls to ready agents.
 
 ghost use Rattle.std.specs.Prelude.{◌≡◌, ◌++◌, OnOk};
-ghost use Rattle.acd_terms.specs.Moves.{moved, events_of};
-ghost use Rattle.acd_terms.specs.Changes.{changes_of};
-ghost use Rattle.acd_terms.specs.Distribution.{offer_moves, distribution};
+ghost use Rattle.acd_model.specs.Moves.{moved, events_of};
+ghost use Rattle.acd_model.specs.Changes.{changes_of};
+ghost use Rattle.acd_model.specs.Distribution.{offer_moves, distribution};
 
 use crate::journal::Journal;
+use acd_model::Offer;
 use acd_services::{divert, offer};
 use acd_tables::Tables;
-use acd_terms::{Cause, Offer};
+use acd_terms::Cause;
 use std::alloc::AllocError;
 
 // Makes the offer.
-#[tactic(auto, unfolding(acd_terms::specs::Distribution::offer_moves))]
+#[tactic(auto, unfolding(acd_model::specs::Distribution::offer_moves))]
 fn make_offer(
     tables: &mut Tables,
     moment: u32,
@@ -40,7 +41,7 @@ fn make_offer(
 }
 
 /// Makes offers until there is none. After an error tables and journal are only to be dropped.
-#[tactic(auto, unfolding(acd_terms::specs::Distribution::distribution))]
+#[tactic(auto, unfolding(acd_model::specs::Distribution::distribution))]
 pub fn distribute(tables: &mut Tables, moment: u32, journal: &mut Journal) -> Result<(), AllocError>
     ensures rows { OnOk result (tables.new ≡ moved tables.old (distribution tables.old moment)) }
     ensures events { OnOk result (journal.new.events.items ≡ journal.old.events.items ++ events_of moment (distribution tables.old moment)) }

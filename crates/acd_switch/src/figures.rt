@@ -1,8 +1,8 @@
 //! What an event counts for a group.
 
 ghost use Rattle.std.specs.Prelude.{◌≡◌, ◌∷◌, []};
-ghost use Rattle.acd_terms.specs.Figures.{sum_of_figures, counting};
-ghost use Rattle.acd_terms.specs.Changes.{counted_group};
+ghost use Rattle.acd_model.specs.Figures.{sum_of_figures, counting};
+ghost use Rattle.acd_model.specs.Changes.{counted_group};
 ghost use Rattle.acd_switch.specs.Counting.{figures_in, AreFitting};
 
 use acd_terms::{Cause, DeviceId, Event, Figures, GroupRecord, Report};

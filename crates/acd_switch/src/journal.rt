@@ -1,17 +1,18 @@
 //! The journal of a step: what it does to the tables, with the events and the changes noted.
 
 ghost use Rattle.std.specs.Prelude.{◌≡◌, ◌++◌, ◌∷◌, [], IfOk, OnOk};
-ghost use Rattle.acd_terms.specs.Moves.{changed, moved, with_event, events_of};
-ghost use Rattle.acd_terms.specs.Changes.{with_change, changes_of, changed_by, growth_by, growth};
-ghost use Rattle.acd_terms.specs.Figures.{with_figures};
 ghost use Rattle.acd_terms.specs.Lists.{IsAscending};
-ghost use Rattle.acd_terms.specs.Rules.Plan.{group_order};
+ghost use Rattle.acd_model.specs.Moves.{changed, moved, with_event, events_of};
+ghost use Rattle.acd_model.specs.Changes.{with_change, changes_of, changed_by, growth_by, growth};
+ghost use Rattle.acd_model.specs.Figures.{with_figures};
+ghost use Rattle.acd_model.specs.Rules.Plan.{group_order};
 ghost use Rattle.acd_switch.specs.Counting.{FiguresFit};
 
 use crate::figures::{counted_group, counting};
+use acd_model::{Change, Move};
 use acd_services::change;
 use acd_tables::Tables;
-use acd_terms::{Change, Event, Move};
+use acd_terms::Event;
 use std::alloc::{AllocError, Global};
 
 // Few steps make more events or changes, so most journals never grow.

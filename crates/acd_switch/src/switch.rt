@@ -1,16 +1,16 @@
 //! The switch.
 
 ghost use Rattle.std.specs.Prelude.{◌≡◌, ◌<◌, ◌+◌, ◌-◌, ◌^◌, ◌++◌, length, true, nat_le, IfOk, IfErr, OnOk};
-ghost use Rattle.acd_terms.specs.Writes.{empty_rows};
+ghost use Rattle.acd_terms.specs.Rows.{empty_rows};
 ghost use Rattle.acd_terms.specs.Limits.{limits_fit};
-ghost use Rattle.acd_terms.specs.Moves.{moved, events_of};
-ghost use Rattle.acd_terms.specs.Served.{outcome_of, moves_of};
-ghost use Rattle.acd_terms.specs.Services.Serve.{serve};
-ghost use Rattle.acd_terms.specs.Step.{step, numbered, executed_moment, next_stamp};
-ghost use Rattle.acd_terms.specs.Changes.{changes_of, growth, step_changes, rows_made};
-ghost use Rattle.acd_terms.specs.Rules.First.{BreaksNoRule};
 ghost use Rattle.acd_terms.specs.Lists.{IsAscending};
-ghost use Rattle.acd_terms.specs.Rules.Plan.{group_order};
+ghost use Rattle.acd_model.specs.Moves.{moved, events_of};
+ghost use Rattle.acd_model.specs.Served.{outcome_of, moves_of};
+ghost use Rattle.acd_model.specs.Services.Serve.{serve};
+ghost use Rattle.acd_model.specs.Step.{step, numbered, executed_moment, next_stamp};
+ghost use Rattle.acd_model.specs.Changes.{changes_of, growth, step_changes, rows_made};
+ghost use Rattle.acd_model.specs.Rules.First.{BreaksNoRule};
+ghost use Rattle.acd_model.specs.Rules.Plan.{group_order};
 ghost use Rattle.acd_services.specs.Asked.{IsNoTick};
 ghost use Rattle.acd_switch.specs.RowFaults.{IsFaultOf};
 ghost use Rattle.acd_switch.specs.Room.{HasRoom, Fits, closed};
@@ -21,10 +21,11 @@ use crate::distribution::distribute;
 use crate::journal::Journal;
 use crate::row_fault::RowFault;
 use crate::tick::tick;
+use acd_model::Change;
 use acd_rules::first_broken;
 use acd_services::decide;
 use acd_tables::Tables;
-use acd_terms::{Answer, Change, Command, DeviceId, Event, Figures, Limits, Outcome, Rows, Served};
+use acd_terms::{Answer, Command, DeviceId, Event, Figures, Limits, Outcome, Rows, Turn};
 use std::alloc::{AllocError, Global};
 use std::marker::Model;
 
@@ -181,11 +182,12 @@ fn execute(
 {
     let moment = moment.max(tables.last_moment());
     let stamp = tables.last_stamp() + 1;
+    let at = Turn { moment, stamp };
     let last = tables.last_event();
     let mut journal = Journal::new(alloc)?;
-    let outcome = run_command(alloc, tables, moment, stamp, command, &mut journal)?;
+    let outcome = run_command(alloc, tables, at, command, &mut journal)?;
     distribute(tables, moment, &mut journal)?;
-    close(tables, moment, stamp, last, &mut journal)?;
+    close(tables, at, last, &mut journal)?;
     let Journal { events, changes } = journal;
     Ok(Executed {
         outcome,
@@ -195,23 +197,17 @@ fn execute(
 }
 
 // Counts the events in the figures, numbers them on from the last one, and sets the counters.
-fn close(
-    tables: &mut Tables,
-    moment: u32,
-    stamp: u64,
-    last: u64,
-    journal: &mut Journal,
-) -> Result<(), AllocError>
+fn close(tables: &mut Tables, at: Turn, last: u64, journal: &mut Journal) -> Result<(), AllocError>
     requires order { IsAscending group_order tables.old.groups }
-    requires room { Fits (closed tables.old moment stamp last journal.old.events.items) }
-    ensures rows { OnOk result (tables.new ≡ closed tables.old moment stamp last journal.old.events.items) }
+    requires room { Fits (closed tables.old at.moment at.stamp last journal.old.events.items) }
+    ensures rows { OnOk result (tables.new ≡ closed tables.old at.moment at.stamp last journal.old.events.items) }
     ensures events { OnOk result (journal.new.events.items ≡ numbered last journal.old.events.items) }
     ensures changes { OnOk result (journal.new.changes.items ≡ journal.old.changes.items ++ growth tables.old journal.old.events.items) }
 {
     journal.grow(tables)?;
     let count = journal.events.len() as u64;
     number(&mut journal.events, last);
-    tables.set_last(stamp, moment, last + count);
+    tables.set_last(at.stamp, at.moment, last + count);
     Ok(())
 }
 
@@ -219,45 +215,43 @@ fn close(
 fn run_command(
     alloc: Global,
     tables: &mut Tables,
-    moment: u32,
-    stamp: u64,
+    at: Turn,
     command: &Command,
     journal: &mut Journal,
 ) -> Result<Outcome, AllocError>
     requires { HasRoom tables.old }
-    ensures outcome { IfOk result (λ o. o ≡ outcome_of (serve tables.old moment stamp command.now)) }
-    ensures rows { OnOk result (tables.new ≡ moved tables.old (moves_of (serve tables.old moment stamp command.now))) }
-    ensures events { OnOk result (journal.new.events.items ≡ journal.old.events.items ++ events_of moment (moves_of (serve tables.old moment stamp command.now))) }
-    ensures changes { OnOk result (journal.new.changes.items ≡ journal.old.changes.items ++ changes_of (moves_of (serve tables.old moment stamp command.now))) }
+    ensures outcome { IfOk result (λ o. o ≡ outcome_of (serve tables.old at.moment at.stamp command.now)) }
+    ensures rows { OnOk result (tables.new ≡ moved tables.old (moves_of (serve tables.old at.moment at.stamp command.now))) }
+    ensures events { OnOk result (journal.new.events.items ≡ journal.old.events.items ++ events_of at.moment (moves_of (serve tables.old at.moment at.stamp command.now))) }
+    ensures changes { OnOk result (journal.new.changes.items ≡ journal.old.changes.items ++ changes_of (moves_of (serve tables.old at.moment at.stamp command.now))) }
 {
     match command {
         Command::Tick => {
-            tick(alloc, tables, moment, stamp, journal)?;
+            tick(alloc, tables, at, journal)?;
             Ok(Outcome::Done(Answer::Nothing))
         }
-        _ => run_service(tables, moment, stamp, command, journal),
+        _ => run_service(tables, at, command, journal),
     }
 }
 
 fn run_service(
     tables: &mut Tables,
-    moment: u32,
-    stamp: u64,
+    at: Turn,
     command: &Command,
     journal: &mut Journal,
 ) -> Result<Outcome, AllocError>
     requires room { HasRoom tables.old }
     requires no_tick { IsNoTick command.now }
-    ensures outcome { IfOk result (λ o. o ≡ outcome_of (serve tables.old moment stamp command.now)) }
-    ensures rows { OnOk result (tables.new ≡ moved tables.old (moves_of (serve tables.old moment stamp command.now))) }
-    ensures events { OnOk result (journal.new.events.items ≡ journal.old.events.items ++ events_of moment (moves_of (serve tables.old moment stamp command.now))) }
-    ensures changes { OnOk result (journal.new.changes.items ≡ journal.old.changes.items ++ changes_of (moves_of (serve tables.old moment stamp command.now))) }
+    ensures outcome { IfOk result (λ o. o ≡ outcome_of (serve tables.old at.moment at.stamp command.now)) }
+    ensures rows { OnOk result (tables.new ≡ moved tables.old (moves_of (serve tables.old at.moment at.stamp command.now))) }
+    ensures events { OnOk result (journal.new.events.items ≡ journal.old.events.items ++ events_of at.moment (moves_of (serve tables.old at.moment at.stamp command.now))) }
+    ensures changes { OnOk result (journal.new.changes.items ≡ journal.old.changes.items ++ changes_of (moves_of (serve tables.old at.moment at.stamp command.now))) }
 {
-    match decide(tables, moment, stamp, command) {
-        Served::Refused(refusal) => Ok(Outcome::Refused(refusal)),
-        Served::Done(answer, moves) => {
-            journal.make_all(tables, moment, moves.as_slice())?;
-            Ok(Outcome::Done(answer))
+    match decide(tables, at, command) {
+        Err(refusal) => Ok(Outcome::Refused(refusal)),
+        Ok(done) => {
+            journal.make_all(tables, at.moment, done.moves.as_slice())?;
+            Ok(Outcome::Done(done.answer))
         }
     }
 }

@@ -1,15 +1,16 @@
 //! tick: offers that rang too long go back, and after-call work that lasted long enough ends.
 
 ghost use Rattle.std.specs.Prelude.{◌≡◌, ◌++◌, OnOk, IfOk};
-ghost use Rattle.acd_terms.specs.Moves.{moved, events_of};
-ghost use Rattle.acd_terms.specs.Changes.{changes_of};
-ghost use Rattle.acd_terms.specs.Scans.{group_of};
-ghost use Rattle.acd_terms.specs.Tick.{is_over, ring_of, wrap_of, is_overdue, overdue_in, return_moves, is_rested, rested_in, rest_moves, returns, rests, tick};
+ghost use Rattle.acd_model.specs.Moves.{moved, events_of};
+ghost use Rattle.acd_model.specs.Changes.{changes_of};
+ghost use Rattle.acd_model.specs.Scans.{group_of};
+ghost use Rattle.acd_model.specs.Tick.{is_over, ring_of, wrap_of, is_overdue, overdue_in, return_moves, is_rested, rested_in, rest_moves, returns, rests, tick};
 
 use crate::journal::Journal;
+use acd_model::Ending;
 use acd_services::{divert, go_back, go_from, release};
 use acd_tables::Tables;
-use acd_terms::{AgentRecord, AgentState, Cause, ConnectionRecord, DeviceId, Ending};
+use acd_terms::{AgentRecord, AgentState, Cause, ConnectionRecord, DeviceId, Turn};
 use std::alloc::{AllocError, Global};
 
 // So many seconds have passed since then. 0 seconds mean never.
@@ -37,7 +38,7 @@ fn wrap_of(tables: &Tables, group: DeviceId) -> u16
     }
 }
 
-#[tactic(auto, unfolding(acd_terms::specs::Tick::is_overdue))]
+#[tactic(auto, unfolding(acd_model::specs::Tick::is_overdue))]
 fn is_overdue(tables: &Tables, moment: u32, connection: &ConnectionRecord) -> bool
     ensures { result ≡ is_overdue tables.now moment connection.now }
 {
@@ -53,7 +54,7 @@ fn is_overdue(tables: &Tables, moment: u32, connection: &ConnectionRecord) -> bo
     }
 }
 
-#[tactic(auto, unfolding(acd_terms::specs::Tick::is_rested))]
+#[tactic(auto, unfolding(acd_model::specs::Tick::is_rested))]
 fn is_rested(tables: &Tables, moment: u32, agent: &AgentRecord) -> bool
     ensures { result ≡ is_rested tables.now moment agent.now }
 {
@@ -67,7 +68,7 @@ fn is_rested(tables: &Tables, moment: u32, agent: &AgentRecord) -> bool
 }
 
 // The offers that rang too long, in ascending call number.
-#[tactic(auto, unfolding(acd_terms::specs::Tick::overdue_in))]
+#[tactic(auto, unfolding(acd_model::specs::Tick::overdue_in))]
 fn overdue_in(
     alloc: Global,
     tables: &Tables,
@@ -86,7 +87,7 @@ fn overdue_in(
 }
 
 // The agents whose after-call work lasted long enough, in ascending number.
-#[tactic(auto, unfolding(acd_terms::specs::Tick::rested_in))]
+#[tactic(auto, unfolding(acd_model::specs::Tick::rested_in))]
 fn rested_in(alloc: Global, tables: &Tables, moment: u32) -> Result<Vec<AgentRecord>, AllocError>
     ensures { IfOk result (λ v. v.items ≡ rested_in tables.now moment) }
 {
@@ -103,14 +104,13 @@ fn rested_in(alloc: Global, tables: &Tables, moment: u32) -> Result<Vec<AgentRec
 // The call goes back to the group that offered it, and the agent is released.
 fn take_back(
     tables: &mut Tables,
-    moment: u32,
-    stamp: u64,
+    at: Turn,
     connection: &ConnectionRecord,
     journal: &mut Journal,
 ) -> Result<(), AllocError>
-    ensures rows { OnOk result (tables.new ≡ moved tables.old (return_moves tables.old moment stamp connection.now)) }
-    ensures events { OnOk result (journal.new.events.items ≡ journal.old.events.items ++ events_of moment (return_moves tables.old moment stamp connection.now)) }
-    ensures changes { OnOk result (journal.new.changes.items ≡ journal.old.changes.items ++ changes_of (return_moves tables.old moment stamp connection.now)) }
+    ensures rows { OnOk result (tables.new ≡ moved tables.old (return_moves tables.old at.moment at.stamp connection.now)) }
+    ensures events { OnOk result (journal.new.events.items ≡ journal.old.events.items ++ events_of at.moment (return_moves tables.old at.moment at.stamp connection.now)) }
+    ensures changes { OnOk result (journal.new.changes.items ≡ journal.old.changes.items ++ changes_of (return_moves tables.old at.moment at.stamp connection.now)) }
 {
     let Some(group) = connection.group else {
         return Ok(());
@@ -118,79 +118,75 @@ fn take_back(
     let moves = [
         divert(connection, group, Cause::NoAnswer),
         go_back(connection, group),
-        release(tables, moment, stamp, connection, Ending::NoAnswer),
+        release(tables, at, connection, Ending::NoAnswer),
     ];
-    journal.make_all(tables, moment, &moves)
+    journal.make_all(tables, at.moment, &moves)
 }
 
 // The agent's after-call work ends.
 fn end_work(
     tables: &mut Tables,
-    moment: u32,
-    stamp: u64,
+    at: Turn,
     agent: &AgentRecord,
     journal: &mut Journal,
 ) -> Result<(), AllocError>
-    ensures rows { OnOk result (tables.new ≡ moved tables.old (rest_moves moment stamp agent.now)) }
-    ensures events { OnOk result (journal.new.events.items ≡ journal.old.events.items ++ events_of moment (rest_moves moment stamp agent.now)) }
-    ensures changes { OnOk result (journal.new.changes.items ≡ journal.old.changes.items ++ changes_of (rest_moves moment stamp agent.now)) }
+    ensures rows { OnOk result (tables.new ≡ moved tables.old (rest_moves at.moment at.stamp agent.now)) }
+    ensures events { OnOk result (journal.new.events.items ≡ journal.old.events.items ++ events_of at.moment (rest_moves at.moment at.stamp agent.now)) }
+    ensures changes { OnOk result (journal.new.changes.items ≡ journal.old.changes.items ++ changes_of (rest_moves at.moment at.stamp agent.now)) }
 {
-    let moves = [go_from(moment, stamp, agent, AgentState::Ready)];
-    journal.make_all(tables, moment, &moves)
+    let moves = [go_from(at, agent, AgentState::Ready)];
+    journal.make_all(tables, at.moment, &moves)
 }
 
-#[tactic(auto, using(acd_terms::proofs::MoveLemmas::moved_append, acd_terms::proofs::MoveLemmas::events_of_append, acd_terms::proofs::ChangeLemmas::changes_of_append, std::proofs::lemmas::Grind::common_steps), unfolding(acd_terms::specs::Tick::returns))]
+#[tactic(auto, using(acd_model::proofs::MoveLemmas::moved_append, acd_model::proofs::MoveLemmas::events_of_append, acd_model::proofs::ChangeLemmas::changes_of_append, std::proofs::lemmas::Grind::common_steps), unfolding(acd_model::specs::Tick::returns))]
 fn return_overdue(
     alloc: Global,
     tables: &mut Tables,
-    moment: u32,
-    stamp: u64,
+    at: Turn,
     journal: &mut Journal,
 ) -> Result<(), AllocError>
-    ensures rows { OnOk result (tables.new ≡ moved tables.old (returns tables.old moment stamp)) }
-    ensures events { OnOk result (journal.new.events.items ≡ journal.old.events.items ++ events_of moment (returns tables.old moment stamp)) }
-    ensures changes { OnOk result (journal.new.changes.items ≡ journal.old.changes.items ++ changes_of (returns tables.old moment stamp)) }
+    ensures rows { OnOk result (tables.new ≡ moved tables.old (returns tables.old at.moment at.stamp)) }
+    ensures events { OnOk result (journal.new.events.items ≡ journal.old.events.items ++ events_of at.moment (returns tables.old at.moment at.stamp)) }
+    ensures changes { OnOk result (journal.new.changes.items ≡ journal.old.changes.items ++ changes_of (returns tables.old at.moment at.stamp)) }
 {
-    let overdue = overdue_in(alloc, tables, moment)?;
+    let overdue = overdue_in(alloc, tables, at.moment)?;
     for connection in overdue.as_slice() {
-        take_back(tables, moment, stamp, connection, journal)?;
+        take_back(tables, at, connection, journal)?;
     }
     Ok(())
 }
 
-#[tactic(auto, unfolding(acd_terms::specs::Tick::rests))]
+#[tactic(auto, unfolding(acd_model::specs::Tick::rests))]
 fn end_rested(
     alloc: Global,
     tables: &mut Tables,
-    moment: u32,
-    stamp: u64,
+    at: Turn,
     journal: &mut Journal,
 ) -> Result<(), AllocError>
-    ensures rows { OnOk result (tables.new ≡ moved tables.old (rests tables.old moment stamp)) }
-    ensures events { OnOk result (journal.new.events.items ≡ journal.old.events.items ++ events_of moment (rests tables.old moment stamp)) }
-    ensures changes { OnOk result (journal.new.changes.items ≡ journal.old.changes.items ++ changes_of (rests tables.old moment stamp)) }
+    ensures rows { OnOk result (tables.new ≡ moved tables.old (rests tables.old at.moment at.stamp)) }
+    ensures events { OnOk result (journal.new.events.items ≡ journal.old.events.items ++ events_of at.moment (rests tables.old at.moment at.stamp)) }
+    ensures changes { OnOk result (journal.new.changes.items ≡ journal.old.changes.items ++ changes_of (rests tables.old at.moment at.stamp)) }
 {
-    let rested = rested_in(alloc, tables, moment)?;
+    let rested = rested_in(alloc, tables, at.moment)?;
     for agent in rested.as_slice() {
-        end_work(tables, moment, stamp, agent, journal)?;
+        end_work(tables, at, agent, journal)?;
     }
     Ok(())
 }
 
 /// Takes overdue offers back, one call after the other, then ends after-call work. After an error
 /// tables and journal are only to be dropped.
-#[tactic(auto, using(acd_terms::proofs::MoveLemmas::moved_append, acd_terms::proofs::MoveLemmas::events_of_append, acd_terms::proofs::ChangeLemmas::changes_of_append, std::proofs::lemmas::Grind::common_steps), unfolding(acd_terms::specs::Tick::tick))]
+#[tactic(auto, using(acd_model::proofs::MoveLemmas::moved_append, acd_model::proofs::MoveLemmas::events_of_append, acd_model::proofs::ChangeLemmas::changes_of_append, std::proofs::lemmas::Grind::common_steps), unfolding(acd_model::specs::Tick::tick))]
 pub fn tick(
     alloc: Global,
     tables: &mut Tables,
-    moment: u32,
-    stamp: u64,
+    at: Turn,
     journal: &mut Journal,
 ) -> Result<(), AllocError>
-    ensures rows { OnOk result (tables.new ≡ moved tables.old (tick tables.old moment stamp)) }
-    ensures events { OnOk result (journal.new.events.items ≡ journal.old.events.items ++ events_of moment (tick tables.old moment stamp)) }
-    ensures changes { OnOk result (journal.new.changes.items ≡ journal.old.changes.items ++ changes_of (tick tables.old moment stamp)) }
+    ensures rows { OnOk result (tables.new ≡ moved tables.old (tick tables.old at.moment at.stamp)) }
+    ensures events { OnOk result (journal.new.events.items ≡ journal.old.events.items ++ events_of at.moment (tick tables.old at.moment at.stamp)) }
+    ensures changes { OnOk result (journal.new.changes.items ≡ journal.old.changes.items ++ changes_of (tick tables.old at.moment at.stamp)) }
 {
-    return_overdue(alloc, tables, moment, stamp, journal)?;
-    end_rested(alloc, tables, moment, stamp, journal)
+    return_overdue(alloc, tables, at, journal)?;
+    end_rested(alloc, tables, at, journal)
 }

@@ -1,14 +1,14 @@
 -- Rows filled by puts in ascending key.
 use Rattle.std.proofs.Common.{◌≡◌, ℕ, ◌+◌, ◌<◌, true, List, length, take, get_or, ap, sym, subst}
-use Rattle.acd_terms.specs.Lists.{put_by}
-use Rattle.acd_terms.specs.Rules.Plan.{ascends, group_order, agent_order, connection_order}
-use Rattle.acd_terms.specs.Writes.{with_group, with_agent, with_connection}
+use Rattle.acd_terms.specs.Lists.{put_by, ascends}
 use Rattle.acd_terms.specs.declared.rows.Rows.{Rows}
 use Rattle.acd_terms.specs.declared.record.GroupRecord.{GroupRecord}
 use Rattle.acd_terms.specs.declared.record.AgentRecord.{AgentRecord}
 use Rattle.acd_terms.specs.declared.record.ConnectionRecord.{ConnectionRecord}
+use Rattle.acd_model.specs.Rules.Plan.{group_order, agent_order, connection_order}
+use Rattle.acd_model.specs.Writes.{with_group, with_agent, with_connection}
 use Rattle.acd_laws.proofs.State.{groups_total, agents_total, connections_total}
-use Rattle.acd_laws.proofs.RulesRead.{ascending_from}
+use Rattle.acd_laws.proofs.Decided.{ascending_from}
 use Rattle.acd_tables.proofs.ListLemmas.{put_by-next}
 
 pub filled_group : (s : Rows) (xs : List GroupRecord) (i : ℕ) (r : GroupRecord) → ascends group_order xs ≡ true → i < length xs → r ≡ get_or xs i r → with_group (record s { groups = take i xs }) r ≡ record s { groups = take (i + 1) xs }

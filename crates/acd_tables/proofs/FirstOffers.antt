@@ -10,13 +10,13 @@ use Rattle.std.specs.BTreeSet.{contains}
 use Rattle.std.proofs.lemmas.Bool.{eqb-true, eq-eqb}
 use Rattle.std.proofs.lemmas.Bool.Decides.{nat_tests}
 use Rattle.acd_terms.specs.Lists.{Among, IsAscending}
-use Rattle.acd_terms.specs.Rules.Plan.{group_order}
-use Rattle.acd_terms.specs.Scans.{is_group}
-use Rattle.acd_terms.specs.Choice.{first_waiting, first_eligible, offer_or, offer_in, offer_of}
 use Rattle.acd_terms.specs.declared.rows.Rows.{Rows}
 use Rattle.acd_terms.specs.declared.record.GroupRecord.{GroupRecord}
-use Rattle.acd_terms.specs.declared.moves.Offer.{Offer}
-use Rattle.acd_laws.proofs.Least.{least_is}
+use Rattle.acd_model.specs.Rules.Plan.{group_order}
+use Rattle.acd_model.specs.Scans.{is_group}
+use Rattle.acd_model.specs.Choice.{first_waiting, first_eligible, offer_or, offer_in, offer_of}
+use Rattle.acd_model.specs.declared.moves.Offer.{Offer}
+use Rattle.acd_laws.proofs.OfferFound.{least_is}
 use Rattle.acd_laws.proofs.Lists.{any_found, any_some, find_passes, find_among, some_from, none_from, after_among}
 use Rattle.acd_laws.proofs.State.{is_group_any}
 use Rattle.acd_tables.specs.Indexed.{IsIndexed}

@@ -11,16 +11,15 @@ use Rattle.std.specs.BTreeSet.{BTreeSet, contains}
 use Rattle.std.proofs.lemmas.Bool.{and_parts, and_from, eqb-true, eq-eqb}
 use Rattle.std.proofs.lemmas.Bool.Decides.{nat_tests}
 use Rattle.acd_terms.specs.Lists.{Among, IsAscending}
-use Rattle.acd_terms.specs.Rules.Plan.{agent_order, connection_order}
-use Rattle.acd_terms.specs.Scans.{agent_of, connection_of, has, is_eligible, is_occupied, is_taken, is_idle_there, waiting_in, eligible_in, is_distributed}
-use Rattle.acd_terms.specs.States.{is_queued, is_ready, is_occupying}
-use Rattle.acd_terms.specs.Choice.{waiting_pair, ready_pair, least_from, first_waiting, first_eligible}
+use Rattle.acd_terms.specs.States.{is_distributed, is_queued, is_ready, is_occupying}
 use Rattle.acd_terms.specs.declared.rows.Rows.{Rows}
 use Rattle.acd_terms.specs.declared.record.AgentRecord.{AgentRecord}
 use Rattle.acd_terms.specs.declared.record.ConnectionRecord.{ConnectionRecord}
-use Rattle.acd_laws.proofs.Lists.{among-filter, filter_among}
-use Rattle.acd_laws.proofs.Least.{least_found}
-use Rattle.acd_laws.proofs.Members.{mapped_among}
+use Rattle.acd_model.specs.Rules.Plan.{agent_order, connection_order}
+use Rattle.acd_model.specs.Scans.{agent_of, connection_of, has, is_eligible, is_occupied, is_taken, is_idle_there, waiting_in, eligible_in}
+use Rattle.acd_model.specs.Choice.{waiting_pair, ready_pair, least_from, first_waiting, first_eligible}
+use Rattle.acd_laws.proofs.Lists.{among-filter, filter_among, mapped_among}
+use Rattle.acd_laws.proofs.OfferFound.{least_found}
 use Rattle.acd_laws.proofs.State.{connection_among, connection_found, found_key, agent_among, agent_found, agent_key}
 use Rattle.acd_tables.specs.Sets.{holds, holds_in, has_set}
 use Rattle.acd_tables.specs.Indexed.{PairSets, pair_cmp, lists, waits_at, is_busying, is_busy_at, is_free, is_able, is_able_since, IsFirstIn}

@@ -9,10 +9,8 @@ use Rattle.std.specs.Map.{lookup}
 use Rattle.std.specs.BTreeSet.{BTreeSet, contains}
 use Rattle.std.proofs.lemmas.Bool.{and_from, and_left, and_right, or_left, or_right, eqb-true, eq-eqb}
 use Rattle.acd_terms.specs.Lists.{IsAscending, find_by, put_by, remove_by}
-use Rattle.acd_terms.specs.Rules.Plan.{group_order, agent_order, connection_order}
-use Rattle.acd_terms.specs.Scans.{is_group, group_of, agent_of, connection_of, at_group, at_agent, at_connection, queued_in_all, has}
 use Rattle.acd_terms.specs.States.{is_queued, is_ready}
-use Rattle.acd_terms.specs.Writes.{with_group, with_station, with_agent, with_call, with_connection, with_monitor, without_call, without_connection, without_monitor, with_last, with_last_ids, empty_rows}
+use Rattle.acd_terms.specs.Rows.{empty_rows}
 use Rattle.acd_terms.specs.declared.rows.Rows.{Rows}
 use Rattle.acd_terms.specs.declared.rows.Limits.{Limits}
 use Rattle.acd_terms.specs.declared.record.GroupRecord.{GroupRecord}
@@ -21,6 +19,9 @@ use Rattle.acd_terms.specs.declared.record.AgentRecord.{AgentRecord}
 use Rattle.acd_terms.specs.declared.record.CallRecord.{CallRecord}
 use Rattle.acd_terms.specs.declared.record.MonitorRecord.{MonitorRecord}
 use Rattle.acd_terms.specs.declared.record.ConnectionRecord.{ConnectionRecord}
+use Rattle.acd_model.specs.Rules.Plan.{group_order, agent_order, connection_order}
+use Rattle.acd_model.specs.Scans.{is_group, group_of, agent_of, connection_of, at_group, at_agent, at_connection, queued_in_all, has}
+use Rattle.acd_model.specs.Writes.{with_group, with_station, with_agent, with_call, with_connection, with_monitor, without_call, without_connection, without_monitor, with_last, with_last_ids}
 use Rattle.acd_tables.specs.Sets.{holds, holds_in, has_set, is_at_key, Stays, SameMembers, HasSet, Noted, Forgotten}
 use Rattle.acd_tables.specs.Indexed.{PairSets, pair_cmp, lists, joins, waits_at, is_busying, is_busy_at, is_free, is_able_since, rings, works, Seats, Lines, Ringing, Working, IsIndexed}
 use Rattle.acd_tables.specs.Turns.{is_entry, Entered, Undone, Untouched, TakenOut, TurnsTo, IsAt, IsFreeFor, with_or_without, one_queued, stays, IsBlank}
@@ -28,8 +29,7 @@ use Rattle.acd_tables.specs.declared.indexes.Indexes.{Indexes}
 use Rattle.acd_tables.specs.declared.indexes.Entries.{Entries}
 use Rattle.acd_tables.specs.declared.indexes.Turn.{Turn}
 use Rattle.acd_laws.proofs.Lists.{some_is, count_length, ascending-put}
-use Rattle.acd_laws.proofs.State.{agent_put, agent_key, agents_total, groups_total, group_put}
-use Rattle.acd_laws.proofs.Found.{has_is, count_new, count_old, count_less}
+use Rattle.acd_laws.proofs.State.{agent_put, agent_key, agents_total, groups_total, group_put, has_is, count_new, count_old, count_less}
 use Rattle.acd_laws.proofs.Numbers.{filter_length}
 use Rattle.acd_tables.proofs.OfferLemmas.{undone, offers-same}
 use Rattle.acd_tables.proofs.TurnLemmas.{Replaces, Replaces-put, Replaces-removed, eq_key, pair_key}

@@ -5,11 +5,11 @@ use Rattle.std.specs.declared.cmp.Ordering.{Ordering}
 use Rattle.std.specs.Ordering.{is_eq, nat_cmp}
 use Rattle.std.specs.BTreeSet.{BTreeSet, contains}
 use Rattle.std.proofs.lemmas.Bool.{and_parts, and_from, or_left, or_right}
-use Rattle.acd_terms.specs.Scans.{agent_of, connection_of}
-use Rattle.acd_terms.specs.Writes.{with_agent}
 use Rattle.acd_terms.specs.declared.rows.Rows.{Rows}
 use Rattle.acd_terms.specs.declared.record.AgentRecord.{AgentRecord}
 use Rattle.acd_terms.specs.declared.record.ConnectionRecord.{ConnectionRecord}
+use Rattle.acd_model.specs.Scans.{agent_of, connection_of}
+use Rattle.acd_model.specs.Writes.{with_agent}
 use Rattle.acd_laws.proofs.State.{agent_put}
 use Rattle.acd_tables.specs.Sets.{Notes, Noted, Forgotten}
 use Rattle.acd_tables.specs.Indexed.{pair_cmp, rings, works, Ringing, Working}

@@ -13,13 +13,14 @@ use Rattle.std.proofs.lemmas.Bool.{and_parts, eqb-true, eq-eqb}
 use Rattle.std.proofs.lemmas.Cmp.{nat_cmp_total, on_total, then_total}
 use Rattle.std.proofs.lemmas.Map.Lookups.{exact_unsigned}
 use Rattle.acd_terms.specs.Lists.{Among, AllAfter, IsAscending}
-use Rattle.acd_terms.specs.Rules.Plan.{agent_order, connection_order}
-use Rattle.acd_terms.specs.Scans.{agent_of, connection_of}
 use Rattle.acd_terms.specs.declared.rows.Rows.{Rows}
 use Rattle.acd_terms.specs.declared.record.AgentRecord.{AgentRecord}
 use Rattle.acd_terms.specs.declared.record.ConnectionRecord.{ConnectionRecord}
+use Rattle.acd_model.specs.Rules.Plan.{agent_order, connection_order}
+use Rattle.acd_model.specs.Scans.{agent_of, connection_of}
 use Rattle.acd_laws.proofs.Lists.{eq_is, after_among, any_found, find_passes, find_among, some_from, filter_among, among-filter, ascending-filter}
-use Rattle.acd_laws.proofs.State.{cmp_self, connections_total, agents_total, connection_among, connection_found, found_key, agent_among, agent_found, agent_key}
+use Rattle.acd_laws.proofs.Keyed.{cmp_self}
+use Rattle.acd_laws.proofs.State.{connections_total, agents_total, connection_among, connection_found, found_key, agent_among, agent_found, agent_key}
 use Rattle.acd_tables.specs.AtDevice.{is_at_device, connections_at, line_at}
 use Rattle.acd_tables.specs.Sets.{holds, holds_in}
 use Rattle.acd_tables.specs.Indexed.{pair_cmp, is_ringing, is_working, rings, works, Ringing, Working, Lines}

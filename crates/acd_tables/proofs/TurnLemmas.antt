@@ -9,16 +9,16 @@ use Rattle.std.specs.Ordering.{is_eq, nat_cmp, ordering_then}
 use Rattle.std.specs.BTreeMap.{BTreeMap}
 use Rattle.std.proofs.lemmas.Bool.{and_parts, and_from, and_left, and_right, or_cases, or_left, or_right, eqb-true, eq-eqb, false_from_ne_true, not-true}
 use Rattle.acd_terms.specs.Lists.{IsAscending}
-use Rattle.acd_terms.specs.Rules.Plan.{agent_order, connection_order}
-use Rattle.acd_terms.specs.Scans.{agent_of, agent_at, connection_of, has}
 use Rattle.acd_terms.specs.States.{is_queued, is_ready}
-use Rattle.acd_terms.specs.Writes.{with_agent, with_connection, without_connection}
 use Rattle.acd_terms.specs.declared.rows.Rows.{Rows}
 use Rattle.acd_terms.specs.declared.record.AgentRecord.{AgentRecord}
 use Rattle.acd_terms.specs.declared.record.ConnectionRecord.{ConnectionRecord}
+use Rattle.acd_model.specs.Rules.Plan.{agent_order, connection_order}
+use Rattle.acd_model.specs.Scans.{agent_of, agent_at, connection_of, has}
+use Rattle.acd_model.specs.Writes.{with_agent, with_connection, without_connection}
 use Rattle.acd_laws.proofs.Lists.{eq_is, is_eq_of, some_is, ascending-put, ascending-remove}
-use Rattle.acd_laws.proofs.State.{cmp_equal, cmp_self, connections_total, at_put, at_remove, agent_put, agent_key, found_key}
-use Rattle.acd_laws.proofs.Found.{agent_seat, agent_there}
+use Rattle.acd_laws.proofs.Keyed.{cmp_equal, cmp_self}
+use Rattle.acd_laws.proofs.State.{connections_total, at_put, at_remove, agent_put, agent_key, found_key, agent_seat, agent_there}
 use Rattle.acd_tables.specs.Indexed.{pair_cmp, waits_at, is_busying, is_busy_at, is_free, is_able_since, Seats}
 use Rattle.acd_tables.specs.Uses.{is_used, is_in_use}
 use Rattle.acd_tables.specs.declared.uses.Use.TheVariants.{Busying}

@@ -1,8 +1,8 @@
 -- The connections at a device.
 use Rattle.std.specs.Prelude.{ℕ, Bool, ◌==◌, List, filter, Option, None, if◌then◌else◌}
-use Rattle.acd_terms.specs.Scans.{connection_of}
 use Rattle.acd_terms.specs.declared.rows.Rows.{Rows}
 use Rattle.acd_terms.specs.declared.record.ConnectionRecord.{ConnectionRecord}
+use Rattle.acd_model.specs.Scans.{connection_of}
 
 abbrev pub is_at_device : ℕ → ConnectionRecord → Bool
 is_at_device device c = c.device == device

@@ -1,10 +1,10 @@
 -- The offer of one group, and the first of several.
 use Rattle.std.specs.Prelude.{ℕ, List, [], ◌∷◌, Option, None, if◌then◌else◌}
 use Rattle.std.specs.Option.{option_or}
-use Rattle.acd_terms.specs.Scans.{is_group}
-use Rattle.acd_terms.specs.Choice.{first_waiting, first_eligible, offer_or}
 use Rattle.acd_terms.specs.declared.rows.Rows.{Rows}
-use Rattle.acd_terms.specs.declared.moves.Offer.{Offer}
+use Rattle.acd_model.specs.Scans.{is_group}
+use Rattle.acd_model.specs.Choice.{first_waiting, first_eligible, offer_or}
+use Rattle.acd_model.specs.declared.moves.Offer.{Offer}
 
 -- the offer in the group, if it is planned and has both
 abbrev pub offer_in_group : Rows → ℕ → Option Offer

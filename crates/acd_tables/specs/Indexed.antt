@@ -6,12 +6,12 @@ use Rattle.std.specs.Ordering.{nat_cmp, ordering_then, is_gt}
 use Rattle.std.specs.BTreeMap.{BTreeMap, get}
 use Rattle.std.specs.BTreeSet.{BTreeSet, contains}
 use Rattle.acd_terms.specs.Lists.{IsAscending}
-use Rattle.acd_terms.specs.Rules.Plan.{group_order, agent_order, connection_order}
-use Rattle.acd_terms.specs.Scans.{is_group, agent_of, connection_of, queued_in_all, has, is_distributed}
-use Rattle.acd_terms.specs.States.{is_queued, is_alerting, is_ready, is_working_after_call, is_occupying}
+use Rattle.acd_terms.specs.States.{is_distributed, is_queued, is_alerting, is_ready, is_working_after_call, is_occupying}
 use Rattle.acd_terms.specs.declared.rows.Rows.{Rows}
 use Rattle.acd_terms.specs.declared.record.AgentRecord.{AgentRecord}
 use Rattle.acd_terms.specs.declared.record.ConnectionRecord.{ConnectionRecord}
+use Rattle.acd_model.specs.Rules.Plan.{group_order, agent_order, connection_order}
+use Rattle.acd_model.specs.Scans.{is_group, agent_of, connection_of, queued_in_all, has}
 use Rattle.acd_tables.specs.Sets.{holds, has_set, Notes}
 use Rattle.acd_tables.specs.declared.indexes.Indexes.{Indexes}
 

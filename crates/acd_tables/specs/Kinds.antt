@@ -1,7 +1,7 @@
 -- What is planned at a device.
 use Rattle.std.specs.Prelude.{ℕ, Option, Some, None, if◌then◌else◌}
-use Rattle.acd_terms.specs.Scans.{is_group, is_station}
 use Rattle.acd_terms.specs.declared.rows.Rows.{Rows}
+use Rattle.acd_model.specs.Scans.{is_group, is_station}
 use Rattle.acd_tables.specs.declared.tables.DeviceKind.{DeviceKind}
 use Rattle.acd_tables.specs.declared.tables.DeviceKind.TheVariants.{Group, Station}
 

@@ -4,13 +4,13 @@ use Rattle.std.specs.declared.cmp.Ordering.{Ordering}
 use Rattle.std.specs.Ordering.{nat_cmp, is_eq}
 use Rattle.std.specs.BTreeMap.{BTreeMap}
 use Rattle.std.specs.BTreeSet.{BTreeSet}
-use Rattle.acd_terms.specs.Scans.{agent_of, agent_at, connection_of, has}
-use Rattle.acd_terms.specs.Choice.{waiting_pair, ready_pair}
 use Rattle.acd_terms.specs.States.{is_queued, is_ready}
-use Rattle.acd_terms.specs.Writes.{with_connection, without_connection}
 use Rattle.acd_terms.specs.declared.rows.Rows.{Rows}
 use Rattle.acd_terms.specs.declared.record.AgentRecord.{AgentRecord}
 use Rattle.acd_terms.specs.declared.record.ConnectionRecord.{ConnectionRecord}
+use Rattle.acd_model.specs.Scans.{agent_of, agent_at, connection_of, has}
+use Rattle.acd_model.specs.Choice.{waiting_pair, ready_pair}
+use Rattle.acd_model.specs.Writes.{with_connection, without_connection}
 use Rattle.acd_tables.specs.Sets.{holds, has_set, is_at_key, Stays}
 use Rattle.acd_tables.specs.Indexed.{pair_cmp, waits_at, is_able_since, ListsOffers}
 use Rattle.acd_tables.specs.declared.indexes.Indexes.{Indexes}

@@ -3,11 +3,11 @@ use Rattle.std.specs.Prelude.{ℕ, ◌+◌, ◌-◌, ◌^◌, Bool, false, not, 
 use Rattle.std.specs.List.{list_any}
 use Rattle.std.specs.declared.ops.Bound.{Bound}
 use Rattle.std.specs.declared.ops.Bound.TheVariants.{Included, Excluded, Unbounded}
-use Rattle.acd_terms.specs.Scans.{has, is_distributed}
-use Rattle.acd_terms.specs.States.{is_live, is_occupying}
+use Rattle.acd_terms.specs.States.{is_distributed, is_live, is_occupying}
 use Rattle.acd_terms.specs.declared.rows.Rows.{Rows}
 use Rattle.acd_terms.specs.declared.record.AgentRecord.{AgentRecord}
 use Rattle.acd_terms.specs.declared.record.ConnectionRecord.{ConnectionRecord}
+use Rattle.acd_model.specs.Scans.{has}
 use Rattle.acd_tables.specs.Indexed.{is_busying}
 use Rattle.acd_tables.specs.declared.uses.Use.{Use}
 use Rattle.acd_tables.specs.declared.uses.Use.TheVariants.{Live, Occupying, Distributed, Busying}

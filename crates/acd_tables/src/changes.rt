@@ -4,9 +4,9 @@ ghost use Rattle.std.specs.Prelude.{◌≡◌, ℕ, Some, true, not, ◌&&◌, l
 ghost use Rattle.std.specs.Ordering.{nat_cmp};
 ghost use Rattle.std.specs.BTreeMap.{get};
 ghost use Rattle.acd_terms.specs.Lists.{IsAscending};
-ghost use Rattle.acd_terms.specs.Rules.Plan.{agent_order};
-ghost use Rattle.acd_terms.specs.Scans.{agent_of, agent_at, connection_of, queued_in_all, has};
-ghost use Rattle.acd_terms.specs.Writes.{with_group, with_agent, with_connection, without_connection};
+ghost use Rattle.acd_model.specs.Rules.Plan.{agent_order};
+ghost use Rattle.acd_model.specs.Scans.{agent_of, agent_at, connection_of, queued_in_all, has};
+ghost use Rattle.acd_model.specs.Writes.{with_group, with_agent, with_connection, without_connection};
 ghost use Rattle.acd_tables.specs.Indexed.{IsIndexed, Seats, rings, works};
 ghost use Rattle.acd_tables.specs.Turns.{IsAt, with_or_without, one_queued, stays, IsFreeFor};
 

@@ -1,7 +1,8 @@
 //! Tables filled from rows.
 
 ghost use Rattle.std.specs.Prelude.{◌≡◌, [], true, OnOk};
-ghost use Rattle.acd_terms.specs.Rules.Plan.{ascends, group_order, agent_order, connection_order};
+ghost use Rattle.acd_terms.specs.Lists.{ascends};
+ghost use Rattle.acd_model.specs.Rules.Plan.{group_order, agent_order, connection_order};
 
 use crate::tables::Tables;
 use acd_terms::{AgentRecord, ConnectionRecord, GroupRecord, Rows, ascends};
@@ -28,7 +29,7 @@ impl Tables {
     }
 
     /// Puts the groups into tables that have none.
-    #[tactic(auto, unfolding(acd_terms::specs::Writes::with_group))]
+    #[tactic(auto, unfolding(acd_model::specs::Writes::with_group))]
     pub(crate) fn put_groups(&mut self, groups: &[GroupRecord]) -> Result<(), AllocError>
         requires none { self.old.groups ≡ [] }
         requires order { ascends group_order groups.now ≡ true }
@@ -41,7 +42,7 @@ impl Tables {
     }
 
     /// Puts the agents into tables that have none.
-    #[tactic(auto, unfolding(acd_terms::specs::Writes::with_agent))]
+    #[tactic(auto, unfolding(acd_model::specs::Writes::with_agent))]
     pub(crate) fn put_agents(&mut self, agents: &[AgentRecord]) -> Result<(), AllocError>
         requires none { self.old.agents ≡ [] }
         requires order { ascends agent_order agents.now ≡ true }
@@ -54,7 +55,7 @@ impl Tables {
     }
 
     /// Puts the connections into tables that have none.
-    #[tactic(auto, unfolding(acd_terms::specs::Writes::with_connection))]
+    #[tactic(auto, unfolding(acd_model::specs::Writes::with_connection))]
     pub(crate) fn put_connections(
         &mut self,
         connections: &[ConnectionRecord],

@@ -4,8 +4,8 @@ mod parties;
 pub mod writes;
 
 ghost use Rattle.std.specs.Prelude.{◌≡◌, ◌<◌, ◌^◌, [], length, not, nat_le, IfOk};
-ghost use Rattle.acd_terms.specs.Scans.{group_of, station_of, agent_of, call_of, connection_of, monitor_of};
-ghost use Rattle.acd_terms.specs.Writes.{empty_rows};
+ghost use Rattle.acd_terms.specs.Rows.{empty_rows};
+ghost use Rattle.acd_model.specs.Scans.{group_of, station_of, agent_of, call_of, connection_of, monitor_of};
 
 use crate::table::Table;
 use acd_terms::{
@@ -136,42 +136,42 @@ impl Records {
         })
     }
 
-    #[tactic(auto, unfolding(acd_terms::specs::Scans::group_of))]
+    #[tactic(auto, unfolding(acd_model::specs::Scans::group_of))]
     pub fn group(&self, device: DeviceId) -> Option<GroupRecord>
         ensures { result ≡ group_of self.now device }
     {
         self.groups.find(device)
     }
 
-    #[tactic(auto, unfolding(acd_terms::specs::Scans::station_of))]
+    #[tactic(auto, unfolding(acd_model::specs::Scans::station_of))]
     pub fn station(&self, device: DeviceId) -> Option<StationRecord>
         ensures { result ≡ station_of self.now device }
     {
         self.stations.find(device)
     }
 
-    #[tactic(auto, unfolding(acd_terms::specs::Scans::agent_of))]
+    #[tactic(auto, unfolding(acd_model::specs::Scans::agent_of))]
     pub fn agent(&self, agent: AgentId) -> Option<AgentRecord>
         ensures { result ≡ agent_of self.now agent }
     {
         self.agents.find(agent)
     }
 
-    #[tactic(auto, unfolding(acd_terms::specs::Scans::call_of))]
+    #[tactic(auto, unfolding(acd_model::specs::Scans::call_of))]
     pub fn call(&self, call: u64) -> Option<CallRecord>
         ensures { result ≡ call_of self.now call }
     {
         self.calls.find(call)
     }
 
-    #[tactic(auto, unfolding(acd_terms::specs::Scans::connection_of))]
+    #[tactic(auto, unfolding(acd_model::specs::Scans::connection_of))]
     pub fn connection(&self, call: u64, device: DeviceId) -> Option<ConnectionRecord>
         ensures { result ≡ connection_of self.now call device }
     {
         self.connections.find((call, device))
     }
 
-    #[tactic(auto, unfolding(acd_terms::specs::Scans::monitor_of))]
+    #[tactic(auto, unfolding(acd_model::specs::Scans::monitor_of))]
     pub fn monitor(&self, monitor: u64) -> Option<MonitorRecord>
         ensures { result ≡ monitor_of self.now monitor }
     {

@@ -3,12 +3,10 @@
 ghost use Rattle.std.specs.Prelude.{◌≡◌, ◌↔◌, ℕ, true, [], ◌∷◌, None, length, map, filter, slice_get, is_some, IfSome, IfOk};
 ghost use Rattle.std.specs.BTreeSet.{contains};
 ghost use Rattle.acd_terms.specs.Lists.{Among};
-ghost use Rattle.acd_terms.specs.Scans.{is_group, agent_of, agent_at, connection_of, connections_of, other_of, is_live_at, is_taken, is_idle, is_idle_there, is_occupied, is_eligible, is_calling, waiting_in, eligible_in, queued_in_all};
-ghost use Rattle.acd_terms.specs.Services.Plan.{is_used};
-ghost use Rattle.acd_terms.specs.Choice.{first_waiting, first_eligible, waiting_pair, ready_pair, offer_of};
+ghost use Rattle.acd_model.specs.Scans.{is_group, agent_of, agent_at, connection_of, connections_of, other_of, is_live_at, is_taken, is_idle, is_idle_there, is_occupied, is_eligible, is_calling, is_used, waiting_in, eligible_in, queued_in_all};
+ghost use Rattle.acd_model.specs.Choice.{first_waiting, first_eligible, waiting_pair, ready_pair, offer_of};
 ghost use Rattle.acd_tables.specs.Indexed.{pair_cmp, is_ringing, is_working};
-ghost use Rattle.acd_tables.specs.Uses.{kept};
-ghost use Rattle.acd_tables.specs.Uses.{is_in_use};
+ghost use Rattle.acd_tables.specs.Uses.{kept, is_in_use};
 ghost use Rattle.acd_tables.specs.FirstOffer.{offer_in_group};
 ghost use Rattle.acd_tables.specs.AtDevice.{line_at, connections_at};
 ghost use Rattle.std.specs.List.{filter_map};
@@ -17,7 +15,8 @@ use crate::lines::lines_at;
 use crate::sets::first_in;
 use crate::tables::Tables;
 use crate::uses::{Use, agent_at, is_in_use, is_ringing};
-use acd_terms::{AgentId, AgentRecord, ConnectionRecord, DeviceId, Offer};
+use acd_model::Offer;
+use acd_terms::{AgentId, AgentRecord, ConnectionRecord, DeviceId};
 use std::alloc::AllocError;
 use std::collections::BTreeSet;
 use std::collections::btree_set::Range;
@@ -88,7 +87,7 @@ impl Tables {
     }
 
     /// A connection at the station is initiated, alerting or connected.
-    #[tactic(auto, unfolding(acd_terms::specs::Scans::is_live_at))]
+    #[tactic(auto, unfolding(acd_model::specs::Scans::is_live_at))]
     pub fn is_live_at(&self, station: DeviceId) -> bool
         ensures { result ≡ is_live_at self.now station }
     {
@@ -96,7 +95,7 @@ impl Tables {
     }
 
     // A connection at the station is live or on hold.
-    #[tactic(auto, unfolding(acd_terms::specs::Scans::is_taken))]
+    #[tactic(auto, unfolding(acd_model::specs::Scans::is_taken))]
     fn is_taken(&self, station: DeviceId) -> bool
         ensures { result ≡ is_taken self.now station }
     {
@@ -111,7 +110,7 @@ impl Tables {
     }
 
     /// A distributed connection is at the agent's station.
-    #[tactic(auto, unfolding(acd_terms::specs::Scans::is_occupied))]
+    #[tactic(auto, unfolding(acd_model::specs::Scans::is_occupied))]
     pub fn is_occupied(&self, agent: &AgentRecord) -> bool
         ensures { result ≡ is_occupied self.now agent.now }
     {
@@ -122,7 +121,7 @@ impl Tables {
     }
 
     /// The caller of a live call has the number. It goes through the live calls.
-    #[tactic(auto, unfolding(acd_terms::specs::Scans::is_calling))]
+    #[tactic(auto, unfolding(acd_model::specs::Scans::is_calling))]
     pub fn is_calling(&self, device: DeviceId) -> bool
         ensures { result ≡ is_calling self.now device }
     {
@@ -135,7 +134,7 @@ impl Tables {
     }
 
     /// The number is planned, or that of an external caller of a live call.
-    #[tactic(auto, unfolding(acd_terms::specs::Services::Plan::is_used))]
+    #[tactic(auto, unfolding(acd_model::specs::Scans::is_used))]
     pub fn is_used(&self, device: DeviceId) -> bool
         ensures { result ≡ is_used self.now device }
     {
@@ -143,7 +142,7 @@ impl Tables {
     }
 
     /// The agent is of the group, ready and unoccupied, at an idle station.
-    #[tactic(auto, unfolding(acd_terms::specs::Scans::is_eligible))]
+    #[tactic(auto, unfolding(acd_model::specs::Scans::is_eligible))]
     pub fn is_eligible(&self, group: DeviceId, agent: &AgentRecord) -> bool
         ensures { result ≡ is_eligible self.now group agent.now }
     {

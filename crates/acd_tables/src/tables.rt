@@ -1,8 +1,8 @@
 //! The tables, seen as rows.
 
 ghost use Rattle.std.specs.Prelude.{◌≡◌, length, not, nat_le, IfOk};
-ghost use Rattle.acd_terms.specs.Scans.{group_of, station_of, agent_of, call_of, connection_of, monitor_of, is_group, is_station, is_planned};
-ghost use Rattle.acd_terms.specs.Writes.{empty_rows};
+ghost use Rattle.acd_terms.specs.Rows.{empty_rows};
+ghost use Rattle.acd_model.specs.Scans.{group_of, station_of, agent_of, call_of, connection_of, monitor_of, is_group, is_station, is_planned};
 ghost use Rattle.acd_tables.specs.Kinds.{kind_of};
 
 use crate::indexes::Indexes;

@@ -1,8 +1,8 @@
 //! What a change of one record takes into the exact sets, and out of them.
 
 ghost use Rattle.std.specs.Prelude.{◌≡◌, ◌&&◌, ◌||◌, Some, None, is_some, if◌then◌else◌};
-ghost use Rattle.acd_terms.specs.Scans.{agent_of, agent_at, connection_of};
-ghost use Rattle.acd_terms.specs.Writes.{with_agent};
+ghost use Rattle.acd_model.specs.Scans.{agent_of, agent_at, connection_of};
+ghost use Rattle.acd_model.specs.Writes.{with_agent};
 ghost use Rattle.acd_tables.specs.Indexed.{IsIndexed, is_free, is_busying};
 ghost use Rattle.acd_tables.specs.Uses.{is_used, is_in_use};
 ghost use Rattle.acd_tables.specs.declared.uses.Use.TheVariants.{Busying};

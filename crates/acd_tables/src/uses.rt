@@ -3,8 +3,8 @@
 ghost use Rattle.std.specs.Prelude.{◌≡◌, ◌&&◌, not};
 ghost use Rattle.std.specs.List.{list_any};
 ghost use Rattle.acd_terms.specs.Lists.{IsAscending};
-ghost use Rattle.acd_terms.specs.Rules.Plan.{agent_order, connection_order};
-ghost use Rattle.acd_terms.specs.Scans.{agent_at, connection_of, has};
+ghost use Rattle.acd_model.specs.Rules.Plan.{agent_order, connection_order};
+ghost use Rattle.acd_model.specs.Scans.{agent_at, connection_of, has};
 ghost use Rattle.acd_tables.specs.Uses.{uses, is_used, is_in_use, if_at};
 ghost use Rattle.acd_tables.specs.Indexed.{is_ringing, Lines, Seats};
 

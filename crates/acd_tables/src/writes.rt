@@ -1,7 +1,7 @@
 //! The writes of the tables. Each changes the one record or the numbers that it names, and keeps the indexes.
 
 ghost use Rattle.std.specs.Prelude.{◌≡◌, OnOk, OnErr};
-ghost use Rattle.acd_terms.specs.Writes.{with_group, with_station, with_agent, with_call, with_connection, with_monitor, without_call, without_connection, without_monitor, with_last, with_last_ids};
+ghost use Rattle.acd_model.specs.Writes.{with_group, with_station, with_agent, with_call, with_connection, with_monitor, without_call, without_connection, without_monitor, with_last, with_last_ids};
 
 use crate::changes::{put_agent, put_connection, put_group, remove_connection};
 use crate::tables::Tables;

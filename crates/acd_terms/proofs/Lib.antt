@@ -1,7 +1,3 @@
 pub mod Texts
 pub mod Identifiers
-pub mod OnLiterals
-pub mod MoveLemmas
 pub mod ReadBack
-pub mod OptionLists
-pub mod ChangeLemmas

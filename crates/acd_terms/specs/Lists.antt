@@ -1,5 +1,5 @@
 -- Lists of records in ascending key. `at x` compares the key that is meant with the key of x.
-use Rattle.std.specs.Prelude.{◌≡◌, ◌⊎◌, ℕ, ◌+◌, Bool, List, [], ◌∷◌, Option, Some, None, if◌then◌else◌}
+use Rattle.std.specs.Prelude.{◌≡◌, ◌⊎◌, ℕ, ◌+◌, Bool, true, false, ◌&&◌, List, [], ◌∷◌, Option, Some, None, if◌then◌else◌}
 use Rattle.std.specs.declared.cmp.Ordering.{Ordering}
 use Rattle.std.specs.declared.cmp.Ordering.TheVariants.{Less}
 use Rattle.std.specs.Ordering.{is_eq, match_ordering}
@@ -18,6 +18,16 @@ put_by at (x ∷ xs) r = match_ordering (at x) (r ∷ x ∷ xs) (r ∷ xs) (x �
 abbrev pub remove_by : {T : Type 0} → (T → Ordering) → List T → List T
 remove_by at [] = []
 remove_by at (x ∷ xs) = if is_eq (at x) then xs else x ∷ remove_by at xs
+
+abbrev pub is_less : Ordering → Bool
+is_less Less = true
+is_less _ = false
+
+-- each stands before the next
+abbrev pub ascends : {T : Type 0} → (T → T → Ordering) → List T → Bool
+ascends cmp [] = true
+ascends cmp (x ∷ []) = true
+ascends cmp (x ∷ y ∷ ys) = is_less (cmp x y) && ascends cmp (y ∷ ys)
 
 -- how many pass
 abbrev pub count : {T : Type 0} → (T → Bool) → List T → ℕ

@@ -1,11 +1,12 @@
--- Tests on states, and their names.
-use Rattle.std.specs.Prelude.{ℕ, List, codes, Bool, true, false, ◌||◌}
+-- Tests on states and on the record of a connection, and the names of states.
+use Rattle.std.specs.Prelude.{ℕ, List, codes, Bool, true, false, not, ◌&&◌, ◌||◌, is_some}
 use Rattle.acd_terms.specs.declared.state.AgentState.{AgentState}
 use Rattle.acd_terms.specs.declared.state.AgentState.TheVariants.{Null, NotReady, Ready, Busy, WorkingAfterCall}
 use Rattle.acd_terms.specs.declared.state.Pending.{Pending}
 use Rattle.acd_terms.specs.declared.state.Pending.TheVariants as pending
 use Rattle.acd_terms.specs.declared.state.ConnectionState.{ConnectionState}
 use Rattle.acd_terms.specs.declared.state.ConnectionState.TheVariants.{Initiated, Alerting, Connected, Hold, Queued, Fail}
+use Rattle.acd_terms.specs.declared.record.ConnectionRecord.{ConnectionRecord}
 
 abbrev pub is_null : AgentState → Bool
 is_null Null = true
@@ -86,3 +87,7 @@ is_live state = is_initiated state || is_alerting state || is_connected state
 -- with one of these a station isn't idle
 abbrev pub is_occupying : ConnectionState → Bool
 is_occupying state = is_live state || is_hold state
+
+-- a connection that distribution offered, until it ends
+abbrev pub is_distributed : ConnectionRecord → Bool
+is_distributed x = is_some x.group && not (is_queued x.state)

@@ -98,3 +98,11 @@ pub struct Arrival {
     pub moment: u32,
     pub request: Request,
 }
+
+/// The turn at which a request is executed: the moment, in seconds, and the stamp, which numbers the
+/// executed requests from 1 on.
+#[derive(Clone, Copy, Debug)]
+pub struct Turn {
+    pub moment: u32,
+    pub stamp: u64,
+}

@@ -1,8 +1,7 @@
 //! Records with a key, the one at a key, and lists in the order of keys.
 
 ghost use Rattle.std.specs.Prelude.{◌≡◌};
-ghost use Rattle.acd_terms.specs.Lists.{find_by};
-ghost use Rattle.acd_terms.specs.Rules.Plan.{ascends};
+ghost use Rattle.acd_terms.specs.Lists.{find_by, ascends};
 
 use crate::id::{AgentId, DeviceId};
 use crate::record::{

@@ -3,7 +3,7 @@
 //! A command names devices and agents by [`DeviceId`] and [`AgentId`], which hold only well
 //! formed numbers; [`Command`] has one variant a service. What a service answers is an
 //! [`Outcome`], and what it reports is a [`Report`]. [`Rows`] is the whole state
-//! of a switch as lists, and [`scans`] has its look-ups, each a scan of those lists.
+//! of a switch as lists. What a switch does is defined over these, in `acd_model`.
 //!
 //! ```ignore
 //! let caller = DeviceId::read(b"0301234")?;
@@ -15,26 +15,22 @@
 mod answer;
 mod command;
 mod event;
-pub mod examples;
 mod id;
 mod keyed;
 mod listed;
-mod moves;
 mod name;
 mod number;
 mod record;
 mod rows;
-pub mod scans;
 mod short_text;
 mod state;
 
 pub use answer::{Answer, Outcome, Refusal};
-pub use command::{Arrival, Command, Request, Requested};
+pub use command::{Arrival, Command, Request, Requested, Turn};
 pub use event::{Cause, Columns, Event, EventKind, Report, Waited};
 pub use id::{AgentId, DeviceId, IdFault};
 pub use keyed::{Keyed, ascends, find};
 pub use listed::Listed;
-pub use moves::{Change, Destination, Ending, Move, Moves, Offer, Release, Served};
 pub use name::{Name, NameFault, Requester};
 pub use number::{Invoke, Seconds, Serial};
 pub use record::{

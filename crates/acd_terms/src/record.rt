@@ -5,7 +5,7 @@
 //! refused.
 
 ghost use Rattle.std.specs.Prelude.{◌≡◌};
-ghost use Rattle.acd_terms.specs.Scans.{is_distributed};
+ghost use Rattle.acd_terms.specs.States.{is_distributed};
 
 use crate::id::{AgentId, DeviceId};
 use crate::name::Name;

@@ -2,7 +2,7 @@
 
 ghost use Rattle.std.specs.Prelude.{◌≡◌};
 ghost use Rattle.acd_terms.specs.Limits.{limits_fit};
-ghost use Rattle.acd_terms.specs.Writes.{empty_rows};
+ghost use Rattle.acd_terms.specs.Rows.{empty_rows};
 
 use crate::listed::Listed;
 use crate::record::{

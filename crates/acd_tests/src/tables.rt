@@ -1,9 +1,10 @@
 //! Each write and each look-up once, on values.
 
+use acd_model::Offer;
 use acd_tables::{DeviceKind, Tables};
 use acd_terms::{
     AgentId, AgentRecord, AgentState, CallRecord, ConnectionRecord, ConnectionState, DeviceId,
-    Figures, GroupRecord, Limits, MonitorRecord, Name, Offer, Seconds, StationRecord,
+    Figures, GroupRecord, Limits, MonitorRecord, Name, Seconds, StationRecord,
 };
 use std::alloc::AllocError;
 use std::process::Abort;

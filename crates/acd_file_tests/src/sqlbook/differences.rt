@@ -1,8 +1,8 @@
 //! The changes between two lists: what is gone, what is changed and what is new, and nothing of the rest.
 
 use super::records::{call, station};
+use acd_model::Change;
 use acd_sqlbook::row_changes;
-use acd_terms::Change;
 use std::process::Abort;
 
 fn same(rt: &impl Abort, found: &[Change], wanted: &[Change]) {

@@ -1,6 +1,7 @@
 -- The law of what a distribution is.
-use Rattle.acd_laws.proofs.DistributionFound.{finds_the_distribution}
+use Rattle.acd_laws.proofs.DecidedAll.{within_read}
+use Rattle.acd_laws.proofs.Distributing.{finds_the_distribution}
 use Rattle.acd_laws.proofs.finds_the_distribution.Goals as goal
 
 pub returns : goal.returns
-returns c = finds_the_distribution
+returns c = λ s m moves kept. finds_the_distribution s m moves (within_read s kept)

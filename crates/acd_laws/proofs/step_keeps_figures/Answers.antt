@@ -1,6 +1,7 @@
 -- The law of figures, by a step.
+use Rattle.acd_laws.proofs.DecidedAll.{rules_are_kept}
 use Rattle.acd_laws.proofs.FiguresCounted.{step_keeps_figures}
 use Rattle.acd_laws.proofs.step_keeps_figures.Goals as goal
 
 pub returns : goal.returns
-returns c = step_keeps_figures
+returns c = λ s events moment command kept. step_keeps_figures s events moment command (rules_are_kept s kept)

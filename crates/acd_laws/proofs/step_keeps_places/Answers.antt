@@ -1,6 +1,7 @@
 -- The law of where each call stands, from before a step to after it.
-use Rattle.acd_laws.proofs.PlacedOn.{step_keeps_places}
+use Rattle.acd_laws.proofs.DecidedAll.{rules_are_kept}
+use Rattle.acd_laws.proofs.PlacedRuns.{step_keeps_places}
 use Rattle.acd_laws.proofs.step_keeps_places.Goals as goal
 
 pub returns : goal.returns
-returns c = step_keeps_places
+returns c = λ s events moment command kept. step_keeps_places s events moment command (rules_are_kept s kept)

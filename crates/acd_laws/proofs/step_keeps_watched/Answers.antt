@@ -1,6 +1,7 @@
 -- The law of what reports tell, by a step.
+use Rattle.acd_laws.proofs.DecidedAll.{rules_are_kept}
 use Rattle.acd_laws.proofs.WatchedRuns.{step_keeps_watched}
 use Rattle.acd_laws.proofs.step_keeps_watched.Goals as goal
 
 pub returns : goal.returns
-returns c = step_keeps_watched
+returns c = λ s events moment command kept. step_keeps_watched s events moment command (rules_are_kept s kept)

@@ -1,6 +1,7 @@
 -- The law of where each call stands, by a step.
+use Rattle.acd_laws.proofs.DecidedAll.{rules_are_kept}
 use Rattle.acd_laws.proofs.PlacedRuns.{step_places}
 use Rattle.acd_laws.proofs.step_places.Goals as goal
 
 pub returns : goal.returns
-returns c = step_places
+returns c = λ s events moment command kept. step_places s events moment command (rules_are_kept s kept)

@@ -2,7 +2,7 @@
 
 ghost use Rattle.std.specs.Prelude.{◌≡◌, ◌==◌, [], ◌∷◌, filter, slice_get};
 ghost use Rattle.std.specs.Map.{values_of};
-ghost use Rattle.acd_terms.specs.Scans.{connections_of, other_of};
+ghost use Rattle.acd_model.specs.Scans.{connections_of, other_of};
 ghost use Rattle.acd_tables.specs.Near.{start, end, is_near};
 
 use super::Records;
@@ -64,7 +64,7 @@ impl Records {
     }
 
     /// The first two connections of the call. A call has no more.
-    #[tactic(auto, unfolding(acd_terms::specs::Scans::connections_of))]
+    #[tactic(auto, unfolding(acd_model::specs::Scans::connections_of))]
     pub fn connections_of(&self, call: u64) -> [Option<ConnectionRecord>; 2]
         ensures { result ≡ slice_get (connections_of self.now call) 0 ∷ slice_get (connections_of self.now call) 1 ∷ [] }
     {
@@ -76,7 +76,7 @@ impl Records {
     }
 
     /// The other party of the connection's call.
-    #[tactic(auto, unfolding(acd_terms::specs::Scans::other_of))]
+    #[tactic(auto, unfolding(acd_model::specs::Scans::other_of))]
     pub fn other_of(&self, connection: &ConnectionRecord) -> Option<ConnectionRecord>
         ensures { result ≡ other_of self.now connection.now }
     {

@@ -5,7 +5,8 @@ use super::{
     record, requester, rows_with, stamp_after, watched,
 };
 use acd_book::{Book, BookFault, MemoryBook};
-use acd_terms::{Change, Event, Limits, Listed, MonitorRecord, Rows, StationRecord};
+use acd_model::Change;
+use acd_terms::{Event, Limits, Listed, MonitorRecord, Rows, StationRecord};
 use std::alloc::Global;
 use std::process::Abort;
 

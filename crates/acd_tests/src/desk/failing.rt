@@ -4,7 +4,8 @@ ghost use Rattle.std.specs.Prelude.{◌≡◌, ◌≤◌, ⊤, refl, IsErrOf};
 ghost use Rattle.acd_book.specs.Content.{HasRisen};
 
 use acd_book::{Book, BookFault, Kept, MemoryBook};
-use acd_terms::{Change, Event, Invoke, Limits, Requester, Rows};
+use acd_model::Change;
+use acd_terms::{Event, Invoke, Limits, Requester, Rows};
 
 /// The number of a call, from 1, and its fault.
 pub type Failing = (u32, BookFault);

@@ -4,7 +4,8 @@ ghost use Rattle.std.specs.Prelude.{◌≡◌, ◌≤◌, false, ⊤, refl, OnOk
 ghost use Rattle.acd_book.specs.Content.{HasRisen};
 
 use acd_book::{Book, BookFault, Kept, MemoryBook};
-use acd_terms::{Change, Event, Invoke, Limits, Requester, Rows};
+use acd_model::Change;
+use acd_terms::{Event, Invoke, Limits, Requester, Rows};
 
 /// Where a store stops: at the commit of changes with this number, from 1, before it is made or behind
 /// it.

@@ -1,10 +1,11 @@
 //! The changes of a request: one that counts, a refused one, and a tick that takes two offers back.
 
 use super::{Parts, answered_call, device, plain, rows_of, waiting};
+use acd_model::Change;
 use acd_switch::{Executed, Switch};
 use acd_terms::{
-    AgentRecord, AgentState, CallRecord, Change, Command, ConnectionRecord, ConnectionState,
-    DeviceId, Figures, GroupRecord,
+    AgentRecord, AgentState, CallRecord, Command, ConnectionRecord, ConnectionState, DeviceId,
+    Figures, GroupRecord,
 };
 use std::alloc::Global;
 use std::process::Abort;

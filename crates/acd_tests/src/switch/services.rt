@@ -8,7 +8,7 @@ ghost use Rattle.acd_services.specs.Asked.{IsNoTick};
 use acd_services::serve;
 use acd_tables::Tables;
 use acd_terms::{
-    AgentId, Command, ConnectionState, DeviceId, Event, Limits, Name, Outcome, Seconds,
+    AgentId, Command, ConnectionState, DeviceId, Event, Limits, Name, Outcome, Seconds, Turn,
 };
 use std::alloc::Global;
 use std::process::Abort;
@@ -50,7 +50,11 @@ impl Office {
         assert!(rt; self.tables.last_call() < u64::MAX);
         assert!(rt; self.tables.last_monitor() < u64::MAX);
         self.stamp = self.stamp.saturating_add(1);
-        let outcome = serve(&mut self.tables, 10, self.stamp, command, &mut self.events);
+        let at = Turn {
+            moment: 10,
+            stamp: self.stamp,
+        };
+        let outcome = serve(&mut self.tables, at, command, &mut self.events);
         let outcome = outcome.expect(rt, "memory");
         assert!(rt; matches!(outcome, Outcome::Done(_)));
     }

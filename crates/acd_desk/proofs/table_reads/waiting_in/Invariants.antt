@@ -1,6 +1,6 @@
 use Rattle.std.proofs.Common.{◌≡◌, ◌++◌}
 use Rattle.std.specs.List.{filter_map}
-use Rattle.acd_terms.specs.Scans.{connection_of}
+use Rattle.acd_model.specs.Scans.{connection_of}
 use Rattle.acd_desk.proofs.table_reads.waiting_in.Given as goal
 
 abbrev pub invariant-loop-call : goal.invariant-loop-call

@@ -2,9 +2,9 @@ use Rattle.std.proofs.Common.{rules, tests, ◌∙◌, sym, ◌==◌, ◌&&◌}
 use Rattle.std.proofs.lemmas.Iterator.Adapters.{option_map_id}
 use Rattle.std.proofs.lemmas.Iterator.{YieldsList-from_slice}
 use Rattle.std.proofs.lemmas.Iterator.Consumers.{min_from_yields_List, YieldsList-at, YieldsList-from_filter, YieldsList-from_filter_map}
-use Rattle.acd_terms.specs.Scans.{waiting_in}
 use Rattle.acd_terms.specs.States.{is_queued}
 use Rattle.acd_terms.specs.declared.record.ConnectionRecord.{ConnectionRecord}
+use Rattle.acd_model.specs.Scans.{waiting_in}
 use Rattle.acd_reports.specs.QueueReport.{first_queued}
 use Rattle.acd_reports.proofs.queues.first_queued.Goals as goal
 

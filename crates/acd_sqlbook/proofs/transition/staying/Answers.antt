@@ -1,8 +1,8 @@
 use Rattle.std.proofs.Common.{ap, ◌∙◌}
 use Rattle.std.specs.Prelude.{Vec}
 use Rattle.std.specs.declared.alloc.Global.{Global}
-use Rattle.acd_terms.specs.Rules.Plan.{connection_order}
 use Rattle.acd_terms.specs.declared.record.ConnectionRecord.{ConnectionRecord}
+use Rattle.acd_model.specs.Rules.Plan.{connection_order}
 use Rattle.acd_sqlbook.proofs.Transitions.{next_kept, next_left}
 use Rattle.acd_sqlbook.proofs.transition.staying.Goals as goal
 use Rattle.acd_sqlbook.proofs.transition.staying.Goals.{then-is_some+in_ok-extend, else-is_some}

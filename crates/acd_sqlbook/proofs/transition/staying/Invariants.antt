@@ -1,6 +1,6 @@
 use Rattle.std.proofs.Common.{◌++◌, drop}
 use Rattle.acd_terms.specs.Lists.{IsAscending}
-use Rattle.acd_terms.specs.Rules.Plan.{connection_order}
+use Rattle.acd_model.specs.Rules.Plan.{connection_order}
 use Rattle.acd_sqlbook.proofs.transition.staying.Given as goal
 
 abbrev pub invariant-loop-connection : goal.invariant-loop-connection

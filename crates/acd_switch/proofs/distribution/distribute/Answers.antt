@@ -1,10 +1,10 @@
 use Rattle.std.proofs.Common.{rules, arith, ◌≡◌, ◌-◌, ◌+◌, suc, Some, None}
 use Rattle.std.proofs.lemmas.Grind.{common_steps}
-use Rattle.acd_terms.specs.Choice.{offer_of}
-use Rattle.acd_terms.specs.Distribution.{distribution}
+use Rattle.acd_model.specs.Choice.{offer_of}
+use Rattle.acd_model.specs.Distribution.{distribution}
 use Rattle.acd_switch.proofs.Rounds.{offers-none, offers-some}
-use Rattle.acd_terms.proofs.MoveLemmas.{moved_append, events_of_append}
-use Rattle.acd_terms.proofs.ChangeLemmas.{changes_of_append}
+use Rattle.acd_model.proofs.MoveLemmas.{moved_append, events_of_append}
+use Rattle.acd_model.proofs.ChangeLemmas.{changes_of_append}
 use Rattle.acd_switch.proofs.distribution.distribute.Goals as goal
 
 pub returns-in_default-clause-rows : goal.returns-in_default-clause-rows

@@ -1,8 +1,8 @@
 use Rattle.std.proofs.Common.{◌≡◌, ◌-◌, ◌++◌, length}
-use Rattle.acd_terms.specs.Moves.{moved, events_of}
-use Rattle.acd_terms.specs.Changes.{changes_of}
-use Rattle.acd_terms.specs.Distribution.{offers}
-use Rattle.acd_terms.specs.Scans.{queued_in_all}
+use Rattle.acd_model.specs.Moves.{moved, events_of}
+use Rattle.acd_model.specs.Changes.{changes_of}
+use Rattle.acd_model.specs.Distribution.{offers}
+use Rattle.acd_model.specs.Scans.{queued_in_all}
 use Rattle.acd_switch.proofs.distribution.distribute.Given as goal
 
 abbrev pub invariant-loop-round : goal.invariant-loop-round

@@ -4,9 +4,9 @@ use Rattle.std.proofs.lemmas.List.{drop_all}
 use Rattle.acd_terms.specs.declared.rows.Rows.{Rows}
 use Rattle.acd_terms.specs.declared.event.Event.{Event}
 use Rattle.acd_terms.specs.Lists.{IsAscending}
-use Rattle.acd_terms.specs.Figures.{with_figures}
-use Rattle.acd_terms.specs.Changes.{changed_by, growth_by, growth}
-use Rattle.acd_terms.specs.Rules.Plan.{group_order}
+use Rattle.acd_model.specs.Figures.{with_figures}
+use Rattle.acd_model.specs.Changes.{changed_by, growth_by, growth}
+use Rattle.acd_model.specs.Rules.Plan.{group_order}
 use Rattle.acd_laws.proofs.ChangesMade.{one_grown, figures_more, figures_none, ascending_grown}
 use Rattle.acd_switch.specs.Counting.{FiguresFit}
 use Rattle.acd_switch.proofs.Growing.{one_fits, others_fit}

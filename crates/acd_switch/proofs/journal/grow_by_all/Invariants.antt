@@ -1,8 +1,8 @@
 use Rattle.std.proofs.Common.{◌≡◌, drop, ◌++◌}
-use Rattle.acd_terms.specs.Changes.{growth}
-use Rattle.acd_terms.specs.Figures.{with_figures}
 use Rattle.acd_terms.specs.Lists.{IsAscending}
-use Rattle.acd_terms.specs.Rules.Plan.{group_order}
+use Rattle.acd_model.specs.Changes.{growth}
+use Rattle.acd_model.specs.Figures.{with_figures}
+use Rattle.acd_model.specs.Rules.Plan.{group_order}
 use Rattle.acd_switch.specs.Counting.{FiguresFit}
 use Rattle.acd_switch.proofs.journal.grow_by_all.Given as goal
 

@@ -1,6 +1,6 @@
 use Rattle.std.proofs.Common.{length, arith, ap}
-use Rattle.acd_terms.specs.Writes.{with_last}
-use Rattle.acd_terms.specs.Figures.{with_figures}
+use Rattle.acd_model.specs.Writes.{with_last}
+use Rattle.acd_model.specs.Figures.{with_figures}
 use Rattle.acd_switch.proofs.switch.close.Goals as goal
 
 pub grow-requires-clause-room : goal.grow-requires-clause-room

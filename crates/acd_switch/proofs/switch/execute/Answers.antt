@@ -1,6 +1,6 @@
 use Rattle.std.proofs.Common.{◌≡◌, ◌+◌, sym, ap, subst, arith, ◌∙◌, max, ◌<◌, ◌^◌}
-use Rattle.acd_terms.specs.Step.{executed_moment, next_stamp}
-use Rattle.acd_terms.specs.Services.Serve.{serve}
+use Rattle.acd_model.specs.Step.{executed_moment, next_stamp}
+use Rattle.acd_model.specs.Services.Serve.{serve}
 use Rattle.acd_switch.specs.Room.{Fits}
 use Rattle.acd_switch.proofs.Closing.{rows_is, events_is, outcome_is, changes_are, groups_ascend}
 use Rattle.acd_switch.proofs.RoomOfRules.{has_room, fits_after}

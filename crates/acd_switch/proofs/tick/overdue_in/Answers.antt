@@ -1,6 +1,6 @@
 use Rattle.std.proofs.Common.{◌≤◌, length, ap, ◌∙◌, arith}
 use Rattle.std.specs.Prelude.{filter}
-use Rattle.acd_terms.specs.Tick.{is_overdue}
+use Rattle.acd_model.specs.Tick.{is_overdue}
 use Rattle.acd_switch.proofs.TickLemmas.{overdue-ringing, gone_through}
 use Rattle.acd_switch.proofs.tick.overdue_in.Goals as goal
 

@@ -1,6 +1,6 @@
 use Rattle.std.proofs.Common.{◌≡◌, ◌++◌, drop}
 use Rattle.std.specs.Prelude.{filter}
-use Rattle.acd_terms.specs.Tick.{is_overdue}
+use Rattle.acd_model.specs.Tick.{is_overdue}
 use Rattle.acd_tables.specs.Indexed.{is_ringing}
 use Rattle.acd_switch.proofs.tick.overdue_in.Given as goal
 

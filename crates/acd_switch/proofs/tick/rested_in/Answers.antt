@@ -1,6 +1,6 @@
 use Rattle.std.proofs.Common.{◌≤◌, length, ap, ◌∙◌, arith}
 use Rattle.std.specs.Prelude.{filter}
-use Rattle.acd_terms.specs.Tick.{is_rested}
+use Rattle.acd_model.specs.Tick.{is_rested}
 use Rattle.acd_switch.proofs.TickLemmas.{rested-working, gone_through}
 use Rattle.acd_switch.proofs.tick.rested_in.Goals as goal
 

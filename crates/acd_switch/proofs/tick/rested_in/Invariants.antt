@@ -1,6 +1,6 @@
 use Rattle.std.proofs.Common.{◌≡◌, ◌++◌, drop}
 use Rattle.std.specs.Prelude.{filter}
-use Rattle.acd_terms.specs.Tick.{is_rested}
+use Rattle.acd_model.specs.Tick.{is_rested}
 use Rattle.acd_tables.specs.Indexed.{is_working}
 use Rattle.acd_switch.proofs.tick.rested_in.Given as goal
 

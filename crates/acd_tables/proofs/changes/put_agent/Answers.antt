@@ -1,6 +1,6 @@
 use Rattle.std.proofs.Common.{sym, ◌∙◌}
 use Rattle.std.specs.Ordering.{nat_cmp}
-use Rattle.acd_terms.specs.Scans.{agent_of}
+use Rattle.acd_model.specs.Scans.{agent_of}
 use Rattle.acd_tables.specs.Indexed.{works}
 use Rattle.acd_tables.proofs.NoteLemmas.{notes-more, notes-same, Working-put, Working-left, left_only}
 use Rattle.acd_tables.proofs.IndexLemmas.{IsIndexed-seats, IsIndexed-seated, IsIndexed-working, IsIndexed-untouched, IsIndexed-agent, Untouched-undone}

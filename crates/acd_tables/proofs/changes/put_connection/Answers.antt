@@ -1,5 +1,5 @@
 use Rattle.std.proofs.Common.{sym, ap, not, is_some, ◌∙◌}
-use Rattle.acd_terms.specs.Scans.{connection_of}
+use Rattle.acd_model.specs.Scans.{connection_of}
 use Rattle.acd_tables.specs.Indexed.{pair_cmp, rings, Lines, Ringing}
 use Rattle.acd_tables.proofs.NoteLemmas.{notes-more, notes-same, Ringing-put, Ringing-left, left_only}
 use Rattle.acd_tables.proofs.IndexLemmas.{IsIndexed-lines, IsIndexed-ringing, IsIndexed-noted, IsIndexed-untouched, IsIndexed-put, Untouched-undone, Lines-more, Lines-same, Lines-put}

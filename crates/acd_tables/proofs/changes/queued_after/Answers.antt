@@ -1,7 +1,7 @@
 use Rattle.std.proofs.Common.{◌≡◌, ℕ, ◌≤◌, Bool, true, false, cond, Option, Some, None, ap, ◌∙◌, arith}
-use Rattle.acd_terms.specs.Scans.{connection_of}
 use Rattle.acd_terms.specs.States.{is_queued}
 use Rattle.acd_terms.specs.declared.record.ConnectionRecord.{ConnectionRecord}
+use Rattle.acd_model.specs.Scans.{connection_of}
 use Rattle.acd_tables.specs.Turns.{one_queued}
 use Rattle.acd_tables.proofs.IndexLemmas.{queued-turned, queued_most, queued_least}
 use Rattle.acd_tables.proofs.changes.queued_after.Goals as goal

@@ -1,7 +1,7 @@
 use Rattle.std.proofs.Common.{◌≡◌}
 use Rattle.std.specs.Prelude.{not, ◌&&◌}
 use Rattle.std.specs.List.{list_any}
-use Rattle.acd_terms.specs.Scans.{connection_of, has}
+use Rattle.acd_model.specs.Scans.{connection_of, has}
 use Rattle.acd_tables.specs.Uses.{uses, is_used}
 use Rattle.acd_tables.proofs.uses.any_call_uses.Given as goal
 

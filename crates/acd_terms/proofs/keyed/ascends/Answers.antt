@@ -1,6 +1,6 @@
 use Rattle.std.proofs.Common.{◌≡◌, ℕ, ◌+◌, ◌-◌, ◌≤◌, true, List, [], ◌∷◌, length, drop, length-drop, refl, sym, ◌∙◌, arith}
 use Rattle.std.specs.declared.cmp.Ordering.{Ordering}
-use Rattle.acd_terms.specs.Rules.Plan.{ascends}
+use Rattle.acd_terms.specs.Lists.{ascends}
 use Rattle.acd_terms.proofs.keyed.ascends.Goals as goal
 
 short_ascends : {T : Type 0} (cmp : T → T → Ordering) (xs : List T) → length xs ≤ 1 → ascends cmp xs ≡ true

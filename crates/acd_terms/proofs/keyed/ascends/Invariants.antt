@@ -1,5 +1,5 @@
 use Rattle.std.proofs.Common.{◌≡◌, ◌-◌, drop}
-use Rattle.acd_terms.specs.Rules.Plan.{ascends}
+use Rattle.acd_terms.specs.Lists.{ascends}
 use Rattle.acd_terms.proofs.keyed.ascends.Given as goal
 
 abbrev pub invariant-loop-i : goal.invariant-loop-i

@@ -1,6 +1,6 @@
 use Rattle.std.proofs.Common.{◌≡◌, drop, ◌++◌}
-use Rattle.acd_terms.specs.Moves.{moved, events_of}
-use Rattle.acd_terms.specs.Changes.{changes_of}
+use Rattle.acd_model.specs.Moves.{moved, events_of}
+use Rattle.acd_model.specs.Changes.{changes_of}
 use Rattle.acd_switch.proofs.journal.Journal.make_all.Given as goal
 
 abbrev pub invariant-loop-one : goal.invariant-loop-one

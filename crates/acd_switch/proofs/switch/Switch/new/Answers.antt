@@ -1,5 +1,5 @@
 use Rattle.std.proofs.Common.{sym, subst}
-use Rattle.acd_terms.specs.Rules.First.{BreaksNoRule}
+use Rattle.acd_model.specs.Rules.First.{BreaksNoRule}
 use Rattle.acd_switch.proofs.Beginning.{empty_breaks_none}
 use Rattle.acd_switch.proofs.switch.Switch.new.Goals as goal
 

@@ -1,7 +1,7 @@
 use Rattle.std.proofs.Common.{◌∙◌, ap, ◌∷◌, [], slice_get}
 use Rattle.std.specs.Prelude.{filter, ◌==◌}
 use Rattle.acd_terms.specs.declared.record.ConnectionRecord.{ConnectionRecord}
-use Rattle.acd_terms.specs.Scans.{connections_of}
+use Rattle.acd_model.specs.Scans.{connections_of}
 use Rattle.acd_tables.proofs.NearLemmas.{filter-near}
 use Rattle.acd_tables.proofs.records.Records.connections_of.Goals as goal
 

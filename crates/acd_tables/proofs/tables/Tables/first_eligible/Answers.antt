@@ -1,5 +1,5 @@
 use Rattle.std.proofs.Common.{ap, ◌∙◌}
-use Rattle.acd_terms.specs.Choice.{first_eligible}
+use Rattle.acd_model.specs.Choice.{first_eligible}
 use Rattle.acd_tables.proofs.Firsts.{eligible-first}
 use Rattle.acd_tables.proofs.tables.Tables.first_eligible.Goals as goal
 

@@ -1,5 +1,5 @@
 use Rattle.std.proofs.Common.{◌≡◌}
-use Rattle.acd_terms.specs.Choice.{offer_of}
+use Rattle.acd_model.specs.Choice.{offer_of}
 use Rattle.acd_tables.specs.FirstOffer.{offer_in_group, first_given}
 use Rattle.acd_tables.proofs.tables.Tables.first_offer.Given as goal
 

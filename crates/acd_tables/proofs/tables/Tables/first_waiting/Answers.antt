@@ -1,5 +1,5 @@
 use Rattle.std.proofs.Common.{ap, ◌∙◌}
-use Rattle.acd_terms.specs.Choice.{first_waiting}
+use Rattle.acd_model.specs.Choice.{first_waiting}
 use Rattle.acd_tables.proofs.Firsts.{waiting-first}
 use Rattle.acd_tables.proofs.tables.Tables.first_waiting.Goals as goal
 

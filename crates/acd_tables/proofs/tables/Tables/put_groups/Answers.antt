@@ -1,6 +1,6 @@
 use Rattle.std.proofs.Common.{◌<◌, ◌≤◌, length, ap, ◌∙◌, arith}
 use Rattle.std.proofs.lemmas.List.{take_all}
-use Rattle.acd_terms.specs.Writes.{with_group}
+use Rattle.acd_model.specs.Writes.{with_group}
 use Rattle.acd_tables.proofs.FillLemmas.{filled_group}
 use Rattle.acd_tables.proofs.tables.Tables.put_groups.Goals as goal
 

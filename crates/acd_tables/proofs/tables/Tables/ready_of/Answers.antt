@@ -1,5 +1,5 @@
 use Rattle.std.proofs.Common.{sym, ap, ◌∙◌}
-use Rattle.acd_terms.specs.Scans.{is_group}
+use Rattle.acd_model.specs.Scans.{is_group}
 use Rattle.acd_tables.proofs.Firsts.{lent-there, lent-members, eligible-among}
 use Rattle.acd_tables.proofs.tables.Tables.ready_of.Goals as goal
 

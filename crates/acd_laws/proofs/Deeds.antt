@@ -1,0 +1,212 @@
+-- What a service does, as deeds: the one walk over refusals; and the rounds of a step.
+use Rattle.std.proofs.Common.{◌≡◌, Bool, true, false, Option, Some, None, refl, ℕ, ◌⊎◌, inl, inr, not, ◌&&◌, ◌||◌, cond, List, [], ◌∷◌, length, ◌∙◌, ap, subst, Err}
+use Rattle.std.specs.Option.{ok_or}
+use Rattle.acd_laws.proofs.Words.{Rows, AgentRecord, CallRecord, ConnectionRecord, Pending, Command, Move, Offer, Refusal, Requested, Served, is_null, is_working_after_call, state_wanted, is_in, is_initiated, is_alerting, is_connected, is_hold, is_queued, agent_of, call_of, connection_of, is_group, is_station, is_planned, agent_at, other_of, is_live_at, is_occupied, silent}
+use Rattle.acd_model.specs.Scans.{is_used}
+use Rattle.acd_model.specs.Served.{refuse_if, if_ok, ◌>>=◌, ◌>>◌, moves_of}
+use Rattle.std.specs.Prelude.{◌==◌, is_some, nat_le}
+use Rattle.std.proofs.lemmas.Bool.{not-false, and_parts}
+use Rattle.acd_terms.specs.declared.command.Command.TheVariants.{AddGroup, AddStation, AddAgent, ArriveCall, MakeCall, PhoneOffHook, AnswerCall, HoldCall, RetrieveCall, ClearConnection, DeflectCall, SingleStepTransfer, SetAgentState, MonitorStart, MonitorStop, Tick}
+use Rattle.acd_terms.specs.declared.command.Requested.TheVariants as requested
+use Rattle.acd_terms.specs.declared.event.Cause.TheVariants.{NewCall, Deflected, Transferred}
+use Rattle.acd_model.specs.CallMoves.{begin, connect_caller, initiate, originate, arrive, answer, hold, retrieve, divert, transfer}
+use Rattle.acd_model.specs.AgentMoves.{go_from, log_on_at, wait_for}
+use Rattle.acd_model.specs.Release.{release, ending_of}
+use Rattle.acd_model.specs.Services.{add_group, add_station, add_agent, new_group, new_agent, arrive_call, make_call, phone_off_hook, has_no_call_left, next_call, occupy, answer_call, hold_call, retrieve_call, clearing, clear_connection, is_in_call, is_answered_by, deflect_call, single_step_transfer, log_on, change_state, set_agent_state, monitor_start, monitor_stop, next_monitor}
+use Rattle.acd_model.specs.Services.Serve.{serve}
+use Rattle.acd_model.specs.Distribution.{offer_at}
+use Rattle.acd_model.specs.Tick.{return_to, rest_moves, tick}
+use Rattle.acd_model.specs.declared.moves.Change.TheVariants.{PutGroup, PutStation, PutAgent, PutMonitor, RemoveMonitor}
+use Rattle.acd_laws.proofs.Lists.{none_from}
+use Rattle.acd_laws.proofs.State.{found_key, own_key, agent_own}
+use Rattle.acd_laws.proofs.Distributing.{Offering}
+
+pub by_refusal : (P : Served → Type 0) (b : Bool) (r : Refusal) (rest : Served) → ((r : Refusal) → P (Err r)) → (b ≡ false → P rest) → P (refuse_if b r >> rest)
+unfolding refuse_if if_ok
+by_refusal P true r rest f h = f r
+by_refusal P false r rest f h = h refl
+
+pub by_found : {T : Type 0} (P : Served → Type 0) (o : Option T) (r : Refusal) (rest : T → Served) → ((r : Refusal) → P (Err r)) → ((x : T) → o ≡ Some x → P (rest x)) → P (ok_or o r >>= rest)
+unfolding if_ok
+by_found P None r rest f h = f r
+by_found P (Some x) r rest f h = h x refl
+
+-- the call with the next identifier
+abbrev pub new_call : Rows → ℕ → ℕ → ℕ → CallRecord
+new_call s m caller called = record { call = next_call s; caller = caller; called = called; since = m }
+
+-- a connection of a live call
+pub record Party (s : Rows) : Type 0 where
+  pub about : CallRecord
+  pub x : ConnectionRecord
+  pub live : call_of s x.call ≡ Some about
+  pub found : connection_of s x.call x.device ≡ Some x
+
+-- the connection's call can go to the device
+pub record Free (s : Rows) (x : ConnectionRecord) (to : ℕ) : Type 0 where
+  pub planned : is_planned s to ≡ true
+  pub apart : connection_of s x.call to ≡ None
+
+-- what distribution and tick do, once or more in a step
+pub data Round (s : Rows) (m k : ℕ) : List Move → Type 0 where
+  offers : (o : Offer) (x : ConnectionRecord) (a : AgentRecord) (d : ℕ) → Offering s o x a d → Round s m k (offer_at m (Some x) (Some d))
+  returns : (x : ConnectionRecord) (g : ℕ) → connection_of s x.call x.device ≡ Some x → is_alerting x.state ≡ true → x.group ≡ Some g → Round s m k (return_to s m k x (Some g))
+  rests : (a : AgentRecord) → agent_of s a.agent ≡ Some a → is_working_after_call a.state ≡ true → Round s m k (rest_moves m k a)
+
+-- what a service does, with what its tests established
+pub data Deed (s : Rows) (m k : ℕ) : List Move → Type 0 where
+  nothing : Deed s m k []
+  adds_group : (device : ℕ) (name : List ℕ) (ring wrap : ℕ) → is_used s device ≡ false → nat_le s.limits.groups (length s.groups) ≡ false → Deed s m k (silent (PutGroup (new_group device name ring wrap)) ∷ [])
+  adds_station : (device : ℕ) → is_used s device ≡ false → nat_le s.limits.stations (length s.stations) ≡ false → Deed s m k (silent (PutStation (record { device = device })) ∷ [])
+  adds_agent : (agent : ℕ) (name : List ℕ) → agent_of s agent ≡ None → nat_le s.limits.agents (length s.agents) ≡ false → Deed s m k (silent (PutAgent (new_agent m k agent name)) ∷ [])
+  watches : (device : ℕ) → is_planned s device ≡ true → nat_le s.limits.monitors (length s.monitors) ≡ false
+      → Deed s m k (silent (PutMonitor (record { monitor = next_monitor s; device = device; after_event = s.last_event })) ∷ [])
+  unwatches : (monitor : ℕ) → Deed s m k (silent (RemoveMonitor monitor) ∷ [])
+  arrives : (caller called : ℕ) → is_planned s caller ≡ false → is_planned s called ≡ true → has_no_call_left s ≡ false
+      → Deed s m k (begin (new_call s m caller called) ∷ connect_caller (next_call s) caller ∷ arrive s m k (next_call s) called NewCall ∷ [])
+  makes : (device called : ℕ) → is_planned s device ≡ true → is_station s device ≡ true → is_planned s called ≡ true → (called == device) ≡ false → is_live_at s device ≡ false → has_no_call_left s ≡ false
+      → Deed s m k (begin (new_call s m device called) ∷ initiate (next_call s) device ∷ [])
+  goes_out : (p : Party s) → is_initiated p.x.state ≡ true → Deed s m k (originate p.x p.about.called ∷ arrive s m k p.x.call p.about.called NewCall ∷ [])
+  answers : (p : Party s) → is_alerting p.x.state ≡ true → Deed s m k (answer m p.x ∷ occupy s m k p.x ∷ [])
+  holds : (p : Party s) → is_station s p.x.device ≡ true → is_connected p.x.state ≡ true → Deed s m k (hold p.x ∷ [])
+  retrieves : (p : Party s) → is_hold p.x.state ≡ true → is_live_at s p.x.device ≡ false → Deed s m k (retrieve p.x ∷ [])
+  clears : (p : Party s) → Deed s m k (clearing s m k p.x (other_of s p.x))
+  deflects : (p : Party s) (to : ℕ) → (is_alerting p.x.state || is_queued p.x.state) ≡ true → Free s p.x to
+      → Deed s m k (divert p.x to Deflected ∷ arrive s m k p.x.call to Deflected ∷ release s m k p.x (ending_of p.x) ∷ [])
+  transfers : (p : Party s) (to : ℕ) → is_connected p.x.state ≡ true → is_answered_by (other_of s p.x) ≡ true → Free s p.x to
+      → Deed s m k (transfer p.x to ∷ arrive s m k p.x.call to Transferred ∷ release s m k p.x (ending_of p.x) ∷ [])
+  logs_on : (a : AgentRecord) (device group : ℕ) → agent_of s a.agent ≡ Some a → is_null a.state ≡ true → is_station s device ≡ true → agent_at s device ≡ None → is_group s group ≡ true → Deed s m k (log_on_at m k a device group ∷ [])
+  waits : (a : AgentRecord) (wanted : Pending) → agent_of s a.agent ≡ Some a → is_null a.state ≡ false → is_occupied s a ≡ true → Deed s m k (wait_for a (Some wanted) ∷ [])
+  goes : (a : AgentRecord) (wanted : Pending) → agent_of s a.agent ≡ Some a → is_null a.state ≡ false → is_occupied s a ≡ false → Deed s m k (go_from m k a a.station (state_wanted wanted) ∷ [])
+
+-- the walk over refusals
+
+abbrev pub DeedBy : Rows → ℕ → ℕ → Served → Type 0
+DeedBy s m k v = Deed s m k (moves_of v)
+
+unless : {s : Rows} {m k : ℕ} {b : Bool} (r : Refusal) (rest : Served) → (b ≡ false → DeedBy s m k rest) → DeedBy s m k (refuse_if b r >> rest)
+unless {s} {m} {k} {b} r rest h = by_refusal (DeedBy s m k) b r rest (λ _. nothing) h
+
+with : {T : Type 0} {s : Rows} {m k : ℕ} {o : Option T} (r : Refusal) (rest : T → Served) → ((x : T) → o ≡ Some x → DeedBy s m k (rest x)) → DeedBy s m k (ok_or o r >>= rest)
+with {T} {s} {m} {k} {o} r rest h = by_found (DeedBy s m k) o r rest (λ _. nothing) h
+
+-- a connection of a live call
+party : {s : Rows} {m k call device : ℕ} (r q : Refusal) (rest : CallRecord → ConnectionRecord → Served)
+    → ((p : Party s) → p.x.call ≡ call → p.x.device ≡ device → DeedBy s m k (rest p.about p.x)) → DeedBy s m k (ok_or (call_of s call) r >>= (λ c. ok_or (connection_of s call device) q >>= rest c))
+party {s} {m} {k} {call} {device} r q rest h = with _ _ (λ c ec. with _ _ (λ x ex.
+    let key = found_key s call device x ex in
+    h (record { about = c; x = x; live = ap (call_of s) key.0 ∙ ec; found = own_key s call device x ex }) key.0 key.1))
+
+apart_if : {T : Type 0} (o : Option T) → is_some o ≡ false → o ≡ None
+apart_if o new = none_from o (λ z e. cc (new, ap is_some e))
+
+deed_add_group : (s : Rows) (m k device : ℕ) (name : List ℕ) (ring wrap : ℕ) → DeedBy s m k (add_group s device name ring wrap)
+unfolding add_group
+deed_add_group s m k device name ring wrap = unless _ _ (λ free. unless _ _ (λ room. adds_group device name ring wrap free room))
+
+deed_add_station : (s : Rows) (m k device : ℕ) → DeedBy s m k (add_station s device)
+unfolding add_station
+deed_add_station s m k device = unless _ _ (λ free. unless _ _ (λ room. adds_station device free room))
+
+deed_add_agent : (s : Rows) (m k agent : ℕ) (name : List ℕ) → DeedBy s m k (add_agent s m k agent name)
+unfolding add_agent
+deed_add_agent s m k agent name = unless _ _ (λ new. unless _ _ (λ room. adds_agent agent name (apart_if (agent_of s agent) new) room))
+
+deed_arrive_call : (s : Rows) (m k caller called : ℕ) → DeedBy s m k (arrive_call s m k caller called)
+unfolding arrive_call
+deed_arrive_call s m k caller called = unless _ _ (λ outside. unless _ _ (λ known. unless _ _ (λ room. arrives caller called outside (not-false (is_planned s called) known) room)))
+
+deed_make_call : (s : Rows) (m k device called : ℕ) → DeedBy s m k (make_call s m device called)
+unfolding make_call
+deed_make_call s m k device called =
+    unless _ _ (λ planned. unless _ _ (λ station. unless _ _ (λ known. unless _ _ (λ differ. unless _ _ (λ free. unless _ _ (λ room.
+    makes device called (not-false (is_planned s device) planned) (not-false (is_station s device) station) (not-false (is_planned s called) known) differ free room))))))
+
+deed_phone_off_hook : (s : Rows) (m k call device : ℕ) → DeedBy s m k (phone_off_hook s m k call device)
+unfolding phone_off_hook
+deed_phone_off_hook s m k call device = party _ _ _ (λ p same _. unless _ _ (λ state.
+    subst (λ n. Deed s m k (originate p.x p.about.called ∷ arrive s m k n p.about.called NewCall ∷ [])) same (goes_out p (not-false (is_initiated p.x.state) state))))
+
+deed_answer_call : (s : Rows) (m k call device : ℕ) → DeedBy s m k (answer_call s m k call device)
+unfolding answer_call
+deed_answer_call s m k call device = party _ _ _ (λ p _ _. unless _ _ (λ state. answers p (not-false (is_alerting p.x.state) state)))
+
+deed_hold_call : (s : Rows) (m k call device : ℕ) → DeedBy s m k (hold_call s call device)
+unfolding hold_call
+deed_hold_call s m k call device =
+    party _ _ _ (λ p _ at. unless _ _ (λ station. unless _ _ (λ state.
+    holds p (ap (is_station s) at ∙ not-false (is_station s device) station) (not-false (is_connected p.x.state) state))))
+
+deed_retrieve_call : (s : Rows) (m k call device : ℕ) → DeedBy s m k (retrieve_call s call device)
+unfolding retrieve_call
+deed_retrieve_call s m k call device = party _ _ _ (λ p _ at. unless _ _ (λ state. unless _ _ (λ free. retrieves p (not-false (is_hold p.x.state) state) (ap (is_live_at s) at ∙ free))))
+
+deed_clear_connection : (s : Rows) (m k call device : ℕ) → DeedBy s m k (clear_connection s m k call device)
+unfolding clear_connection
+deed_clear_connection s m k call device = party _ _ _ (λ p _ _. clears p)
+
+-- the call can go to a planned device at which it has no connection
+free : (s : Rows) (call to : ℕ) (x : ConnectionRecord) → x.call ≡ call → not (is_planned s to) ≡ false → is_in_call s call to ≡ false → Free s x to
+free s call to x same known new = record { planned = not-false (is_planned s to) known; apart = ap (λ n. connection_of s n to) same ∙ apart_if (connection_of s call to) new }
+
+deed_deflect_call : (s : Rows) (m k call device to : ℕ) → DeedBy s m k (deflect_call s m k call device to)
+unfolding deflect_call
+deed_deflect_call s m k call device to =
+    party _ _ _ (λ p same _. unless _ _ (λ state. unless _ _ (λ known. unless _ _ (λ new. unless _ _ (λ _.
+    subst (λ n. Deed s m k (divert p.x to Deflected ∷ arrive s m k n to Deflected ∷ release s m k p.x (ending_of p.x) ∷ [])) same
+    (deflects p to (not-false (is_alerting p.x.state || is_queued p.x.state) state) (free s call to p.x same known new)))))))
+
+deed_single_step_transfer : (s : Rows) (m k call device to : ℕ) → DeedBy s m k (single_step_transfer s m k call device to)
+unfolding single_step_transfer
+deed_single_step_transfer s m k call device to =
+    party _ _ _ (λ p same _. unless _ _ (λ _. unless _ _ (λ state. unless _ _ (λ known. unless _ _ (λ new. unless _ _ (λ _.
+    let both = and_parts (is_connected p.x.state) (is_answered_by (other_of s p.x)) (not-false (is_connected p.x.state && is_answered_by (other_of s p.x)) state) in
+    subst (λ n. Deed s m k (transfer p.x to ∷ arrive s m k n to Transferred ∷ release s m k p.x (ending_of p.x) ∷ [])) same
+    (transfers p to both.0 both.1 (free s call to p.x same known new))))))))
+
+deed_log_on : (s : Rows) (m k agent device group : ℕ) → DeedBy s m k (log_on s m k agent device group)
+unfolding log_on
+deed_log_on s m k agent device group =
+    with _ _ (λ a ea. unless _ _ (λ null. unless _ _ (λ _. unless _ _ (λ station. unless _ _ (λ taken. unless _ _ (λ _. unless _ _ (λ no_group.
+    logs_on a device group (agent_own s agent a ea) (not-false (is_null a.state) null) (not-false (is_station s device) station) (apart_if (agent_at s device) taken) (not-false (is_group s group) no_group))))))))
+
+either : {s : Rows} {m k : ℕ} (b : Bool) (v w : Served) → (b ≡ true → DeedBy s m k v) → (b ≡ false → DeedBy s m k w) → DeedBy s m k (cond b v w)
+either true v w h g = h refl
+either false v w h g = g refl
+
+deed_change_state : (s : Rows) (m k agent : ℕ) (wanted : Pending) → DeedBy s m k (change_state s m k agent wanted)
+unfolding change_state
+deed_change_state s m k agent wanted =
+    with _ _ (λ a ea. unless _ _ (λ seated.
+    either (is_occupied s a) _ _ (λ busy. waits a wanted (agent_own s agent a ea) seated busy) (λ free.
+    either (is_in a.state wanted) _ _ (λ _. nothing) (λ _. goes a wanted (agent_own s agent a ea) seated free))))
+
+deed_set_agent_state : (s : Rows) (m k agent : ℕ) (q : Requested) → DeedBy s m k (set_agent_state s m k agent q)
+deed_set_agent_state s m k agent (requested.LoggedOn device group) = deed_log_on s m k agent device group
+deed_set_agent_state s m k agent (requested.State wanted) = deed_change_state s m k agent wanted
+
+deed_monitor_start : (s : Rows) (m k device : ℕ) → DeedBy s m k (monitor_start s device)
+unfolding monitor_start
+deed_monitor_start s m k device = unless _ _ (λ known. unless _ _ (λ room. watches device (not-false (is_planned s device) known) room))
+
+deed_monitor_stop : (s : Rows) (m k monitor : ℕ) → DeedBy s m k (monitor_stop s monitor)
+unfolding monitor_stop
+deed_monitor_stop s m k monitor = with _ _ (λ w _. unwatches monitor)
+
+pub deed_of_serve : (s : Rows) (m k : ℕ) (c : Command) → DeedBy s m k (serve s m k c) ⊎ (moves_of (serve s m k c) ≡ tick s m k)
+deed_of_serve s m k (AddGroup device name ring wrap) = inl (deed_add_group s m k device name ring wrap)
+deed_of_serve s m k (AddStation device) = inl (deed_add_station s m k device)
+deed_of_serve s m k (AddAgent agent name) = inl (deed_add_agent s m k agent name)
+deed_of_serve s m k (ArriveCall caller called) = inl (deed_arrive_call s m k caller called)
+deed_of_serve s m k (MakeCall device called) = inl (deed_make_call s m k device called)
+deed_of_serve s m k (PhoneOffHook call device) = inl (deed_phone_off_hook s m k call device)
+deed_of_serve s m k (AnswerCall call device) = inl (deed_answer_call s m k call device)
+deed_of_serve s m k (HoldCall call device) = inl (deed_hold_call s m k call device)
+deed_of_serve s m k (RetrieveCall call device) = inl (deed_retrieve_call s m k call device)
+deed_of_serve s m k (ClearConnection call device) = inl (deed_clear_connection s m k call device)
+deed_of_serve s m k (DeflectCall call device to) = inl (deed_deflect_call s m k call device to)
+deed_of_serve s m k (SingleStepTransfer call device to) = inl (deed_single_step_transfer s m k call device to)
+deed_of_serve s m k (SetAgentState agent q) = inl (deed_set_agent_state s m k agent q)
+deed_of_serve s m k (MonitorStart device) = inl (deed_monitor_start s m k device)
+deed_of_serve s m k (MonitorStop monitor) = inl (deed_monitor_stop s m k monitor)
+deed_of_serve s m k Tick = inr refl

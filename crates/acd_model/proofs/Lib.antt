@@ -1,0 +1,4 @@
+pub mod OnLiterals
+pub mod MoveLemmas
+pub mod ChangeLemmas
+pub mod OptionLists

@@ -1,0 +1,107 @@
+-- The moves of calls and connections.
+use Rattle.std.specs.Prelude.{ℕ, ◌-◌, Bool, true, false, Option, Some, None, unwrap_or}
+use Rattle.acd_terms.specs.declared.rows.Rows.{Rows}
+use Rattle.acd_terms.specs.declared.record.CallRecord.{CallRecord}
+use Rattle.acd_terms.specs.declared.record.ConnectionRecord.{ConnectionRecord}
+use Rattle.acd_terms.specs.declared.state.ConnectionState.{ConnectionState}
+use Rattle.acd_terms.specs.declared.state.ConnectionState.TheVariants.{Initiated, Alerting, Connected, Hold, Queued, Fail}
+use Rattle.acd_terms.specs.declared.event.Cause.{Cause}
+use Rattle.acd_terms.specs.declared.event.Cause.TheVariants.{Distributed, NoAnswer}
+use Rattle.acd_terms.specs.declared.event.Waited.{Waited}
+use Rattle.acd_terms.specs.declared.event.Report.{Report}
+use Rattle.acd_terms.specs.declared.event.Report.TheVariants as report
+use Rattle.acd_model.specs.Scans.{is_group, is_idle}
+use Rattle.acd_model.specs.Moves.{silent, reported}
+use Rattle.acd_model.specs.declared.moves.Move.{Move}
+use Rattle.acd_model.specs.declared.moves.Change.TheVariants.{PutCall, PutConnection, RemoveCall, RemoveConnection}
+use Rattle.acd_model.specs.declared.moves.Destination.{Destination}
+use Rattle.acd_model.specs.declared.moves.Destination.TheVariants.{Queue, Idle, Busy}
+
+-- a connection that no group offered
+abbrev pub plain : ℕ → ℕ → ConnectionState → ConnectionRecord
+plain call device state = record { call = call; device = device; state = state; group = None; place = None; queued = None; offered = None }
+
+-- a call in the queue of a group, at a place and since a moment
+abbrev pub queueing : ℕ → ℕ → Option ℕ → Option ℕ → ConnectionRecord
+queueing call group place since = record { call = call; device = group; state = Queued; group = Some group; place = place; queued = since; offered = None }
+
+-- a call begins
+abbrev pub begin : CallRecord → Move
+begin c = silent (PutCall c)
+
+-- the side of an external caller
+abbrev pub connect_caller : ℕ → ℕ → Move
+connect_caller call caller = silent (PutConnection (plain call caller Connected))
+
+abbrev pub initiate : ℕ → ℕ → Move
+initiate call station = reported (PutConnection (plain call station Initiated)) (report.ServiceInitiated call station)
+
+abbrev pub originate : ConnectionRecord → ℕ → Move
+originate x called = reported (PutConnection (record x { state = Connected })) (report.Originated x.call x.device called)
+
+-- what a call meets at a device
+abbrev pub met_at : Bool → Bool → Destination
+met_at true idle = Queue
+met_at false true = Idle
+met_at false false = Busy
+
+abbrev pub destination_of : Rows → ℕ → Destination
+destination_of s to = met_at (is_group s to) (is_idle s to)
+
+-- the connection there: it enters the queue with the stamp as its place, alerts, or fails
+abbrev pub arriving : Destination → ℕ → ℕ → ℕ → ℕ → ConnectionRecord
+arriving Queue m k call to = queueing call to (Some k) (Some m)
+arriving Idle m k call to = plain call to Alerting
+arriving Busy m k call to = plain call to Fail
+
+abbrev pub arrival : Destination → ℕ → ℕ → Cause → Report
+arrival Queue call to cause = report.Queued call to cause
+arrival Idle call to cause = report.Delivered call to cause None
+arrival Busy call to cause = report.Failed call to
+
+-- the call comes to a destination
+unfoldable pub arrive : Rows → ℕ → ℕ → ℕ → ℕ → Cause → Move
+arrive s m k call to cause = reported (PutConnection (arriving (destination_of s to) m k call to)) (arrival (destination_of s to) call to cause)
+
+-- a connection once it is answered keeps its group alone
+abbrev pub talking : ConnectionRecord → ConnectionRecord
+talking x = record x { state = Connected; place = None; queued = None; offered = None }
+
+-- the moment less the moment at which the call was queued, where it was distributed
+abbrev pub waited_by : ℕ → Option ℕ → Option ℕ → Option Waited
+waited_by m queued None = None
+waited_by m queued (Some group) = Some (record { group = group; seconds = m - unwrap_or queued 0 })
+
+abbrev pub answer : ℕ → ConnectionRecord → Move
+answer m x = reported (PutConnection (talking x)) (report.Established x.call x.device (waited_by m x.queued x.group))
+
+abbrev pub hold : ConnectionRecord → Move
+hold x = reported (PutConnection (record x { state = Hold })) (report.Held x.call x.device)
+
+abbrev pub retrieve : ConnectionRecord → Move
+retrieve x = reported (PutConnection (record x { state = Connected })) (report.Retrieved x.call x.device)
+
+-- the queued connection offered at a station, with its place and queued moment
+abbrev pub ringing : ℕ → ConnectionRecord → ℕ → ConnectionRecord
+ringing m x station = record x { device = station; state = Alerting; offered = Some m }
+
+abbrev pub offer : ℕ → ConnectionRecord → ℕ → Move
+offer m x station = reported (PutConnection (ringing m x station)) (report.Delivered x.call station Distributed x.group)
+
+-- the offered call goes back to its group, at its old place and queued moment
+abbrev pub go_back : ConnectionRecord → ℕ → Move
+go_back x group = reported (PutConnection (queueing x.call group x.place x.queued)) (report.Queued x.call group NoAnswer)
+
+-- the connection ends, and its call goes elsewhere
+abbrev pub divert : ConnectionRecord → ℕ → Cause → Move
+divert x to cause = reported (RemoveConnection x.call x.device) (report.Diverted x.call x.device to cause x.group)
+
+abbrev pub transfer : ConnectionRecord → ℕ → Move
+transfer x to = reported (RemoveConnection x.call x.device) (report.Transferred x.call x.device to)
+
+-- the connection ends
+abbrev pub clear : ConnectionRecord → Move
+clear x = reported (RemoveConnection x.call x.device) (report.ConnectionCleared x.call x.device)
+
+abbrev pub end_call : ℕ → Option ℕ → Move
+end_call call group = reported (RemoveCall call) (report.CallCleared call group)

@@ -1,0 +1,132 @@
+-- The words of the worked examples: a plan, who calls whom, and what is asked at which moment.
+use Rattle.std.specs.Prelude.{◌≡◌, ℕ, List, [], ◌∷◌, ◌++◌, codes, Option, Some, None, option_map, Ok}
+use Rattle.acd_terms.specs.Forms.{read_id}
+use Rattle.acd_terms.specs.Limits.{greatest_limits}
+use Rattle.acd_terms.specs.Rows.{empty_rows}
+use Rattle.acd_terms.specs.declared.rows.Rows.{Rows}
+use Rattle.acd_terms.specs.declared.record.Figures.{Figures}
+use Rattle.acd_terms.specs.declared.record.GroupRecord.{GroupRecord}
+use Rattle.acd_terms.specs.declared.record.AgentRecord.{AgentRecord}
+use Rattle.acd_terms.specs.declared.record.ConnectionRecord.{ConnectionRecord}
+use Rattle.acd_terms.specs.declared.event.Event.{Event}
+use Rattle.acd_terms.specs.declared.event.Report.{Report}
+use Rattle.acd_terms.specs.declared.command.Command.{Command}
+use Rattle.acd_terms.specs.declared.command.Command.TheVariants.{AddGroup, AddStation, AddAgent, ArriveCall, AnswerCall, SetAgentState}
+use Rattle.acd_terms.specs.declared.command.Requested.TheVariants.{LoggedOn, State}
+use Rattle.acd_terms.specs.declared.state.AgentState.{AgentState}
+use Rattle.acd_terms.specs.declared.state.AgentState.TheVariants.{Null}
+use Rattle.acd_terms.specs.declared.state.ConnectionState.TheVariants.{Alerting, Connected}
+use Rattle.acd_terms.specs.declared.state.Pending.{Pending}
+use Rattle.acd_terms.specs.declared.state.Pending.TheVariants as pending
+use Rattle.acd_model.specs.Scans.{group_of}
+use Rattle.acd_model.specs.Run.{Asked, Ran, run}
+
+-- the groups 100 and 110, the stations 201 to 203, the agents 7 and 8, and the callers 0301234, 0309999, 0305555 and 0401
+abbrev pub billing : ℕ
+billing = 1100
+
+abbrev pub claims : ℕ
+claims = 1110
+
+abbrev pub first_station : ℕ
+first_station = 1201
+
+abbrev pub second_station : ℕ
+second_station = 1202
+
+abbrev pub third_station : ℕ
+third_station = 1203
+
+abbrev pub ana : ℕ
+ana = 17
+
+abbrev pub ben : ℕ
+ben = 18
+
+abbrev pub caller : ℕ
+caller = 10301234
+
+abbrev pub second_caller : ℕ
+second_caller = 10309999
+
+abbrev pub third_caller : ℕ
+third_caller = 10305555
+
+abbrev pub late_caller : ℕ
+late_caller = 10401
+
+-- the numbers are those of the digits
+abbrev pub NumbersOfDigits : Type 0
+NumbersOfDigits =
+    (read_id 15 (codes "100") ≡ Ok billing) × (read_id 15 (codes "110") ≡ Ok claims)
+    × (read_id 15 (codes "201") ≡ Ok first_station) × (read_id 15 (codes "202") ≡ Ok second_station) × (read_id 15 (codes "203") ≡ Ok third_station)
+    × (read_id 9 (codes "7") ≡ Ok ana) × (read_id 9 (codes "8") ≡ Ok ben) × (read_id 15 (codes "0301234") ≡ Ok caller)
+    × (read_id 15 (codes "0309999") ≡ Ok second_caller) × (read_id 15 (codes "0305555") ≡ Ok third_caller) × (read_id 15 (codes "0401") ≡ Ok late_caller)
+
+abbrev pub at : ℕ → Command → Asked
+at moment command = record { moment = moment; command = command }
+
+-- an agent logs on at a station in a group, and asks for another state
+abbrev pub logs_on : ℕ → ℕ → ℕ → ℕ → Asked
+logs_on moment agent station group = at moment (SetAgentState agent (LoggedOn station group))
+
+abbrev pub asks_for : ℕ → ℕ → Pending → Asked
+asks_for moment agent wanted = at moment (SetAgentState agent (State wanted))
+
+-- Billing rings for 20 seconds and wraps up for 30; Ana and Ben are its agents to be
+abbrev pub plan : List Asked
+plan =
+    at 0 (AddGroup billing (codes "Billing") 20 30)
+    ∷ at 0 (AddStation first_station) ∷ at 0 (AddStation second_station)
+    ∷ at 0 (AddAgent ana (codes "Ana")) ∷ at 0 (AddAgent ben (codes "Ben")) ∷ []
+
+-- what is asked after others was asked
+abbrev pub asked_after : List Asked → List Asked → Ran
+asked_after before asked = run (run (empty_rows greatest_limits) before).rows asked
+
+abbrev pub event : ℕ → ℕ → Report → Event
+event number moment report = record { number = number; moment = moment; report = report }
+
+abbrev pub figures_in : Rows → ℕ → Option Figures
+figures_in s group = option_map (λ (g : GroupRecord). g.figures) (group_of s group)
+
+abbrev pub counts : ℕ → ℕ → ℕ → ℕ → ℕ → Option Figures
+counts entered answered abandoned moved waited = Some (record { entered = entered; answered = answered; abandoned = abandoned; moved = moved; waited = waited })
+
+-- Ana at the first station and Ben at the second, in a group: the state, what is pending, and the stamp and moment of the state
+abbrev pub ana_in : ℕ → AgentState → Option Pending → ℕ → ℕ → Option AgentRecord
+ana_in group state pending stamp since =
+    Some (record { agent = ana; name = codes "Ana"; state = state; pending = pending; station = Some first_station; group = Some group; stamp = stamp; since = since })
+
+abbrev pub ben_in : ℕ → AgentState → Option Pending → ℕ → ℕ → Option AgentRecord
+ben_in group state pending stamp since =
+    Some (record { agent = ben; name = codes "Ben"; state = state; pending = pending; station = Some second_station; group = Some group; stamp = stamp; since = since })
+
+-- Ana is logged on nowhere
+abbrev pub ana_logged_off : ℕ → ℕ → Option AgentRecord
+ana_logged_off stamp since =
+    Some (record { agent = ana; name = codes "Ana"; state = Null; pending = None; station = None; group = None; stamp = stamp; since = since })
+
+-- a call that rings at a station, offered from a group at a moment, with the place and the moment at which it entered the queue there
+abbrev pub ringing_from : ℕ → ℕ → ℕ → ℕ → ℕ → ℕ → ConnectionRecord
+ringing_from group call station place queued offered =
+    record { call = call; device = station; state = Alerting; group = Some group; place = Some place; queued = Some queued; offered = Some offered }
+
+-- a call of a group that was answered at a station
+abbrev pub talking_from : ℕ → ℕ → ℕ → ConnectionRecord
+talking_from group call station = record { call = call; device = station; state = Connected; group = Some group; place = None; queued = None; offered = None }
+
+-- the first call arrives at the group
+abbrev pub call_arrives : List Asked
+call_arrives = at 10 (ArriveCall caller billing) ∷ []
+
+-- Ana logs on and becomes ready
+abbrev pub ana_becomes_ready : List Asked
+ana_becomes_ready = at 15 (SetAgentState ana (LoggedOn first_station billing)) ∷ at 18 (SetAgentState ana (State pending.Ready)) ∷ []
+
+-- up to the offer, and up to the answer
+abbrev pub offered : List Asked
+offered = plan ++ call_arrives ++ ana_becomes_ready
+
+abbrev pub answered : List Asked
+answered = offered ++ at 25 (AnswerCall 1 first_station) ∷ []

@@ -1,0 +1,46 @@
+-- The rule counters.
+use Rattle.std.specs.Prelude.{ℕ, ◌*◌, Bool, true, ◌&&◌, Option, Some, None, nat_le}
+use Rattle.std.specs.List.{list_all}
+use Rattle.acd_terms.specs.Lists.{count}
+use Rattle.acd_terms.specs.declared.rows.Rows.{Rows}
+use Rattle.acd_terms.specs.declared.record.AgentRecord.{AgentRecord}
+use Rattle.acd_terms.specs.declared.record.CallRecord.{CallRecord}
+use Rattle.acd_terms.specs.declared.record.GroupRecord.{GroupRecord}
+use Rattle.acd_terms.specs.declared.record.ConnectionRecord.{ConnectionRecord}
+use Rattle.acd_model.specs.Scans.{has}
+
+abbrev pub is_stamp : Rows → ℕ → Bool
+is_stamp s k = nat_le 1 k && nat_le k s.last_stamp
+
+abbrev pub is_moment_or_none : Rows → Option ℕ → Bool
+is_moment_or_none s None = true
+is_moment_or_none s (Some m) = nat_le m s.last_moment
+
+-- the place is a stamp, and no other connection has it
+abbrev pub is_own_place : Rows → Option ℕ → Bool
+is_own_place s None = true
+is_own_place s (Some p) = is_stamp s p && nat_le (count (λ (x : ConnectionRecord). has x.place p) s.connections) 1
+
+abbrev pub is_offered_after : Option ℕ → Option ℕ → Bool
+is_offered_after (Some queued) (Some offered) = nat_le queued offered
+is_offered_after _ _ = true
+
+abbrev pub is_timed : Rows → ConnectionRecord → Bool
+is_timed s x =
+    is_own_place s x.place && is_moment_or_none s x.queued && is_moment_or_none s x.offered && is_offered_after x.queued x.offered
+
+-- what a group counted is no more than can have been
+abbrev pub is_countable : Rows → GroupRecord → Bool
+is_countable s g =
+    nat_le g.figures.entered s.last_stamp && nat_le g.figures.answered g.figures.entered
+    && nat_le g.figures.abandoned g.figures.entered && nat_le g.figures.moved g.figures.entered
+    && nat_le g.figures.waited (g.figures.answered * s.last_moment)
+
+-- stamps and places from 1 to the last stamp, moments up to the last, figures and events within bounds
+unfoldable pub keeps_counters : Rows → Bool
+keeps_counters s =
+    list_all (λ (a : AgentRecord). is_stamp s a.stamp && nat_le a.since s.last_moment) s.agents
+    && list_all (λ (c : CallRecord). nat_le c.since s.last_moment) s.calls
+    && list_all (is_timed s) s.connections
+    && list_all (is_countable s) s.groups
+    && nat_le s.last_event (100000 * s.last_stamp)

@@ -1,0 +1,80 @@
+-- The rules limits, order, device, agent and monitor.
+use Rattle.std.specs.Prelude.{ℕ, Bool, true, false, not, ◌&&◌, Option, Some, None, is_none, length, nat_le, if◌then◌else◌}
+use Rattle.std.specs.List.{list_all}
+use Rattle.std.specs.Ordering.{nat_cmp, ordering_then}
+use Rattle.std.specs.declared.cmp.Ordering.{Ordering}
+use Rattle.acd_terms.specs.Lists.{count, ascends}
+use Rattle.acd_terms.specs.States.{is_null}
+use Rattle.acd_terms.specs.Limits.{limits_fit}
+use Rattle.acd_terms.specs.declared.rows.Rows.{Rows}
+use Rattle.acd_terms.specs.declared.record.GroupRecord.{GroupRecord}
+use Rattle.acd_terms.specs.declared.record.StationRecord.{StationRecord}
+use Rattle.acd_terms.specs.declared.record.AgentRecord.{AgentRecord}
+use Rattle.acd_terms.specs.declared.record.CallRecord.{CallRecord}
+use Rattle.acd_terms.specs.declared.record.ConnectionRecord.{ConnectionRecord}
+use Rattle.acd_terms.specs.declared.record.MonitorRecord.{MonitorRecord}
+use Rattle.acd_model.specs.Scans.{is_group, is_station, is_planned, has}
+
+-- no limit above its greatest, no list above its limit, the last stamp within the limit, no last call or monitor above it
+unfoldable pub keeps_limits : Rows → Bool
+keeps_limits s =
+    limits_fit s.limits
+    && nat_le (length s.groups) s.limits.groups && nat_le (length s.stations) s.limits.stations
+    && nat_le (length s.agents) s.limits.agents && nat_le (length s.calls) s.limits.calls
+    && nat_le (length s.monitors) s.limits.monitors && nat_le s.last_stamp s.limits.requests
+    && nat_le s.last_call s.last_stamp && nat_le s.last_monitor s.last_stamp
+
+abbrev pub group_order : GroupRecord → GroupRecord → Ordering
+group_order x y = nat_cmp x.device y.device
+
+abbrev pub station_order : StationRecord → StationRecord → Ordering
+station_order x y = nat_cmp x.device y.device
+
+abbrev pub agent_order : AgentRecord → AgentRecord → Ordering
+agent_order x y = nat_cmp x.agent y.agent
+
+abbrev pub call_order : CallRecord → CallRecord → Ordering
+call_order x y = nat_cmp x.call y.call
+
+abbrev pub connection_order : ConnectionRecord → ConnectionRecord → Ordering
+connection_order x y = ordering_then (nat_cmp x.call y.call) (nat_cmp x.device y.device)
+
+abbrev pub monitor_order : MonitorRecord → MonitorRecord → Ordering
+monitor_order x y = nat_cmp x.monitor y.monitor
+
+-- each list strictly ascending in its key
+unfoldable pub keeps_order : Rows → Bool
+keeps_order s =
+    ascends group_order s.groups && ascends station_order s.stations && ascends agent_order s.agents
+    && ascends call_order s.calls && ascends connection_order s.connections && ascends monitor_order s.monitors
+
+-- no device both group and station
+unfoldable pub keeps_device : Rows → Bool
+keeps_device s = list_all (λ (g : GroupRecord). not (is_station s g.device)) s.groups
+
+abbrev pub is_station_there : Rows → Option ℕ → Bool
+is_station_there s None = false
+is_station_there s (Some d) = is_station s d
+
+abbrev pub is_group_there : Rows → Option ℕ → Bool
+is_group_there s None = false
+is_group_there s (Some d) = is_group s d
+
+-- no other agent is logged on there
+abbrev pub is_alone_at : Rows → Option ℕ → Bool
+is_alone_at s None = true
+is_alone_at s (Some d) = nat_le (count (λ (b : AgentRecord). has b.station d) s.agents) 1
+
+-- an agent in null has no station, group or pending state, any other a planned station, its own, and a planned group
+abbrev pub is_seated : Rows → AgentRecord → Bool
+is_seated s a =
+    (if is_null a.state then is_none a.station && is_none a.group && is_none a.pending
+    else is_station_there s a.station && is_group_there s a.group)
+    && is_alone_at s a.station
+
+unfoldable pub keeps_agent : Rows → Bool
+keeps_agent s = list_all (is_seated s) s.agents
+
+-- a monitor's device is planned, and its identifier and event aren't above the last
+unfoldable pub keeps_monitor : Rows → Bool
+keeps_monitor s = list_all (λ (w : MonitorRecord). is_planned s w.device && nat_le w.monitor s.last_monitor && nat_le w.after_event s.last_event) s.monitors

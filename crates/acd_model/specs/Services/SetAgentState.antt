@@ -1,0 +1,43 @@
+-- setAgentState, for loggedOn and for the other values.
+use Rattle.std.specs.Prelude.{ℕ, not, [], ◌∷◌, is_some, Some, if◌then◌else◌}
+use Rattle.std.specs.Option.{ok_or}
+use Rattle.acd_terms.specs.States.{is_null, is_in, state_wanted}
+use Rattle.acd_terms.specs.declared.rows.Rows.{Rows}
+use Rattle.acd_terms.specs.declared.record.AgentRecord.{AgentRecord}
+use Rattle.acd_terms.specs.declared.state.AgentState.TheVariants.{NotReady}
+use Rattle.acd_terms.specs.declared.state.Pending.{Pending}
+use Rattle.acd_terms.specs.declared.command.Requested.{Requested}
+use Rattle.acd_terms.specs.declared.command.Requested.TheVariants as requested
+use Rattle.acd_terms.specs.declared.answer.Answer.TheVariants as answer
+use Rattle.acd_terms.specs.declared.answer.Refusal.TheVariants.{UnknownAgent, WrongAgentState, UnknownDevice, NotStation, StationTaken, NotGroup}
+use Rattle.acd_model.specs.Scans.{agent_of, agent_at, is_group, is_station, is_planned, is_occupied}
+use Rattle.acd_model.specs.AgentMoves.{go_from, log_on_at, wait_for}
+use Rattle.acd_model.specs.Served.{Served, refuse_if, ◌>>=◌, ◌>>◌, gives}
+
+unfoldable pub log_on : Rows → ℕ → ℕ → ℕ → ℕ → ℕ → Served
+log_on s m k agent device group = do
+  a ← ok_or (agent_of s agent) UnknownAgent
+  refuse_if (not (is_null a.state)) WrongAgentState
+  refuse_if (not (is_planned s device)) UnknownDevice
+  refuse_if (not (is_station s device)) NotStation
+  refuse_if (is_some (agent_at s device)) StationTaken
+  refuse_if (not (is_planned s group)) UnknownDevice
+  refuse_if (not (is_group s group)) NotGroup
+  gives (answer.State NotReady) (log_on_at m k a device group ∷ [])
+
+-- an occupied agent waits for the state, any other goes to it; asking for the present state changes nothing
+abbrev pub go_or_wait : Rows → ℕ → ℕ → AgentRecord → Pending → Served
+go_or_wait s m k a wanted =
+    if is_occupied s a then gives (answer.Pending a.state wanted) (wait_for a (Some wanted) ∷ [])
+    else (if is_in a.state wanted then gives (answer.State a.state) []
+    else gives (answer.State (state_wanted wanted)) (go_from m k a a.station (state_wanted wanted) ∷ []))
+
+unfoldable pub change_state : Rows → ℕ → ℕ → ℕ → Pending → Served
+change_state s m k agent wanted = do
+  a ← ok_or (agent_of s agent) UnknownAgent
+  refuse_if (is_null a.state) WrongAgentState
+  go_or_wait s m k a wanted
+
+abbrev pub set_agent_state : Rows → ℕ → ℕ → ℕ → Requested → Served
+set_agent_state s m k agent (requested.LoggedOn device group) = log_on s m k agent device group
+set_agent_state s m k agent (requested.State wanted) = change_state s m k agent wanted

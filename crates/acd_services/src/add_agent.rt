@@ -1,0 +1,31 @@
+//! addAgent.
+
+ghost use Rattle.std.specs.Prelude.{◌≡◌};
+ghost use Rattle.acd_model.specs.Services.AddAgent.{add_agent};
+
+use crate::call_moves::silent;
+use acd_model::{Change, Moves, Served, gives, refuse_if};
+use acd_tables::Tables;
+use acd_terms::Refusal::{AgentExists, PlanFull};
+use acd_terms::{AgentId, AgentRecord, AgentState, Answer, Name, Turn};
+
+/// An agent is planned, who is logged on nowhere.
+#[tactic(auto, unfolding(acd_model::specs::Services::AddAgent::add_agent, acd_model::specs::Served::if_ok))]
+pub fn add_agent(tables: &Tables, at: Turn, agent: AgentId, name: Name) -> Served
+    ensures { result ≡ add_agent tables.now at.moment at.stamp agent name }
+{
+    refuse_if(tables.agent(agent).is_some(), AgentExists)?;
+    refuse_if(!tables.has_room_for_agent(), PlanFull)?;
+    let planned = AgentRecord {
+        agent,
+        name,
+        state: AgentState::Null,
+        pending: None,
+        station: None,
+        group: None,
+        stamp: at.stamp,
+        since: at.moment,
+    };
+    let moves = Moves::one(silent(Change::PutAgent(planned)));
+    gives(Answer::Nothing, moves)
+}

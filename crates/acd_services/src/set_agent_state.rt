@@ -1,0 +1,81 @@
+//! setAgentState.
+
+ghost use Rattle.std.specs.Prelude.{◌≡◌};
+ghost use Rattle.acd_terms.specs.States.{is_in};
+ghost use Rattle.acd_model.specs.Services.SetAgentState.{log_on, go_or_wait, change_state, set_agent_state};
+
+use crate::agent_moves::{go_from, log_on_at, wait_for};
+use acd_model::{Moves, Served, gives, refuse_if};
+use acd_tables::Tables;
+use acd_terms::Refusal::{
+    NotGroup, NotStation, StationTaken, UnknownAgent, UnknownDevice, WrongAgentState,
+};
+use acd_terms::{AgentId, AgentRecord, AgentState, Answer, DeviceId, Pending, Requested, Turn};
+
+// The agent is in the state that is asked for.
+fn is_in(state: AgentState, asked: Pending) -> bool
+    ensures { result ≡ is_in state asked }
+{
+    match (state, asked) {
+        (AgentState::Null, Pending::LoggedOff) => true,
+        (AgentState::NotReady, Pending::NotReady) => true,
+        (AgentState::Ready, Pending::Ready) => true,
+        (AgentState::WorkingAfterCall, Pending::WorkingAfterCall) => true,
+        _ => false,
+    }
+}
+
+// An agent in null logs on at a station, in a group.
+#[tactic(auto, unfolding(acd_model::specs::Services::SetAgentState::log_on, acd_model::specs::Served::if_ok))]
+fn log_on(tables: &Tables, at: Turn, agent: AgentId, device: DeviceId, group: DeviceId) -> Served
+    ensures { result ≡ log_on tables.now at.moment at.stamp agent device group }
+{
+    let agent = tables.agent(agent).ok_or(UnknownAgent)?;
+    refuse_if(!agent.state.is_null(), WrongAgentState)?;
+    refuse_if(!tables.is_planned(device), UnknownDevice)?;
+    refuse_if(!tables.is_station(device), NotStation)?;
+    refuse_if(tables.agent_at(device).is_some(), StationTaken)?;
+    refuse_if(!tables.is_planned(group), UnknownDevice)?;
+    refuse_if(!tables.is_group(group), NotGroup)?;
+    let moves = Moves::one(log_on_at(at, &agent, device, group));
+    gives(Answer::State(AgentState::NotReady), moves)
+}
+
+// An occupied agent waits for the state, any other goes to it.
+fn go_or_wait(tables: &Tables, at: Turn, agent: &AgentRecord, asked: Pending) -> Served
+    ensures { result ≡ go_or_wait tables.now at.moment at.stamp agent.now asked }
+{
+    let state = agent.state;
+    if tables.is_occupied(agent) {
+        let answer = Answer::Pending {
+            state,
+            pending: asked,
+        };
+        return gives(answer, Moves::one(wait_for(agent, Some(asked))));
+    }
+    if is_in(state, asked) {
+        return gives(Answer::State(state), Moves::none());
+    }
+    let next = asked.state();
+    gives(Answer::State(next), Moves::one(go_from(at, agent, next)))
+}
+
+// An agent who is logged on asks for another state.
+#[tactic(auto, unfolding(acd_model::specs::Services::SetAgentState::change_state, acd_model::specs::Served::if_ok))]
+fn change_state(tables: &Tables, at: Turn, agent: AgentId, asked: Pending) -> Served
+    ensures { result ≡ change_state tables.now at.moment at.stamp agent asked }
+{
+    let agent = tables.agent(agent).ok_or(UnknownAgent)?;
+    refuse_if(agent.state.is_null(), WrongAgentState)?;
+    go_or_wait(tables, at, &agent, asked)
+}
+
+/// Set Agent State of ECMA-269.
+pub fn set_agent_state(tables: &Tables, at: Turn, agent: AgentId, requested: Requested) -> Served
+    ensures { result ≡ set_agent_state tables.now at.moment at.stamp agent requested }
+{
+    match requested {
+        Requested::LoggedOn { device, group } => log_on(tables, at, agent, device, group),
+        Requested::State(asked) => change_state(tables, at, agent, asked),
+    }
+}
