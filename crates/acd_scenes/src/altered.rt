@@ -2,6 +2,7 @@
 
 use crate::player::{session, written};
 use crate::script::database;
+use crate::store::adopted;
 use acd_book::Book;
 use acd_desk::{Audit, Desk, OpenFault};
 use acd_sqlbook::SqlBook;
@@ -38,13 +39,7 @@ fn changed(
 ) -> SqlBook<MemStore> {
     let mut conn = book.into_connection();
     conn.execute_batch(sql).expect(rt, "a change");
-    if !conn.is_autocommit() {
-        panic!(rt; "a transaction");
-    }
-    match SqlBook::adopt(alloc, conn) {
-        Ok(book) => book,
-        Err((fault, _)) => panic!(rt; "{fault:?}: {sql}"),
-    }
+    adopted(rt, alloc, conn)
 }
 
 // The place in the kept list that an audit tells, or `sound`; or the rule that the rows break.

@@ -1,13 +1,14 @@
 //! A session over two files, one of which stops at each of its calls in turn; and the desk that is opened again.
 
-use crate::files::{adopted, new_files};
+use crate::files::{connected, new_files};
 use crate::player::{opened, session, written};
+use crate::store::adopted;
 use acd_book::Book;
 use acd_codec::read_request;
 use acd_desk::{Audit, Desk, Taken};
 use acd_sqlbook::SqlBook;
 use acd_terms::Arrival;
-use sqlite::{Connection, FileStore, Files, Options};
+use sqlite::{Alter, Connection, FileStore, Files, Options};
 use sqlite_disk::{Disk, Fuse, Memory};
 use std::alloc::Global;
 use std::process::Abort;
@@ -73,11 +74,22 @@ fn replied(rt: &impl Abort, answers: &[Taken]) -> u64 {
     replied
 }
 
-// How many requests a session over the book answers 200, and the book.
-fn run<B: Book + Drop>(rt: &impl Abort, alloc: Global, book: B, scene: &Scene) -> (u64, B) {
-    match Desk::session(alloc, book, &scene.arrivals) {
-        Ok((answers, book)) => (replied(rt, &answers), book),
-        Err((_, book)) => (0, book),
+// How many requests a session over the book answers 200, and its connection.
+fn run<S: Alter + Drop>(
+    rt: &impl Abort,
+    alloc: Global,
+    conn: Connection<S>,
+    arrivals: &[Arrival],
+) -> (u64, Connection<S>) {
+    if !conn.is_autocommit() {
+        panic!(rt; "a transaction");
+    }
+    match SqlBook::adopt(alloc, conn) {
+        Ok(book) => match Desk::session(alloc, book, arrivals) {
+            Ok((answers, book)) => (replied(rt, &answers), book.into_connection()),
+            Err((_, book)) => (0, book.into_connection()),
+        },
+        Err((_, conn)) => (0, conn),
     }
 }
 
@@ -110,13 +122,10 @@ fn run_fused(rt: &impl Abort, alloc: Global, files: Files<Fuse<Memory>>, scene: 
         return unopened(files);
     }
     match Connection::open_files(alloc, files, Options::new(9)) {
-        Ok(conn) => match SqlBook::adopt(alloc, conn) {
-            Ok(book) => {
-                let (replied, book) = run(rt, alloc, book, scene);
-                closed_after(replied, book.into_connection())
-            }
-            Err((_, conn)) => closed_after(0, conn),
-        },
+        Ok(conn) => {
+            let (replied, conn) = run(rt, alloc, conn, &scene.arrivals);
+            closed_after(replied, conn)
+        }
         Err((_, left)) => unopened(left.into_files()),
     }
 }
@@ -132,14 +141,14 @@ fn count_kept<B: Book>(rt: &impl Abort, book: &mut B) -> u64 {
 
 // What the book holds is sound, and all that was answered, or one request more. Sent again, all are answered as
 // where nothing stops.
-fn expect_answered<B: Book + Drop>(
+fn expect_answered<S: Alter + Drop>(
     rt: &impl Abort,
     alloc: Global,
-    book: B,
+    conn: Connection<S>,
     replied: u64,
     scene: &Scene,
 ) {
-    let mut desk = opened(rt, alloc, book);
+    let mut desk = opened(rt, alloc, adopted(rt, alloc, conn));
     assert_eq!(rt; desk.audit(), Ok(Audit::Sound));
     let mut book = desk.close();
     let kept = count_kept(rt, &mut book);
@@ -174,6 +183,14 @@ fn with_a_fuse(
     }
 }
 
+// What a session has left in its files.
+fn left_in(rt: &impl Abort, alloc: Global, files: &Files<Fuse<Memory>>) -> Files<Memory> {
+    Files {
+        log: copied(rt, alloc, files.log.inner()),
+        db: copied(rt, alloc, files.db.inner()),
+    }
+}
+
 // Whether the session ends without a stop, where the file stops behind so many calls.
 fn ends_whole(
     rt: &impl Abort,
@@ -184,11 +201,8 @@ fn ends_whole(
     scene: &Scene,
 ) -> bool {
     let ended = run_fused(rt, alloc, with_a_fuse(rt, alloc, new, which, calls), scene);
-    let left = Files {
-        log: copied(rt, alloc, ended.files.log.inner()),
-        db: copied(rt, alloc, ended.files.db.inner()),
-    };
-    expect_answered(rt, alloc, adopted(rt, alloc, left), ended.replied, scene);
+    let conn = connected(rt, alloc, left_in(rt, alloc, &ended.files));
+    expect_answered(rt, alloc, conn, ended.replied, scene);
     ended.replied == scene.arrivals.len() as u64 && ended.is_closed
 }
 

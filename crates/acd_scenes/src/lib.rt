@@ -25,6 +25,8 @@ mod scenes;
 #[cfg(test)]
 mod script;
 #[cfg(test)]
+mod store;
+#[cfg(test)]
 mod tests;
 #[cfg(test)]
 mod working_size;

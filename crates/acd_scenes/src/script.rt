@@ -13,6 +13,7 @@
 
 use crate::altered::Unseen;
 use crate::player::{Mismatch, play};
+use crate::store::created;
 use crate::{altered, files, fused, working_size};
 use acd_book::MemoryBook;
 use acd_sqlbook::SqlBook;
@@ -31,10 +32,7 @@ struct Part<'a> {
 /// A new book in a database in memory.
 pub fn database(rt: &impl Abort, alloc: Global, limits: Limits) -> SqlBook<MemStore> {
     match Connection::open_in_memory(alloc) {
-        Ok(conn) => match SqlBook::create(alloc, conn, limits) {
-            Ok(book) => book,
-            Err((fault, _)) => panic!(rt; "{fault:?}"),
-        },
+        Ok(conn) => created(rt, alloc, conn, limits),
         Err(_) => panic!(rt; "memory"),
     }
 }

@@ -23,6 +23,10 @@ part of_a_call_that_waits
 . group           waiting ringing    entered   answered  abandoned      moved    average    longest name
 . 100                   1       0          1          0          0          0          -         60 Billing
 
+part of_a_call_that_is_offered
+? call 1
+. {"call":1,"called":"100","caller":"0301234","connections":[{"device":"201","group":"100","state":"alerting"},{"device":"0301234","state":"connected"}],"since":10}
+
 part of_a_call_that_was_answered
 # Agent 7 has answered it at 201.
 ? device 201
@@ -40,12 +44,32 @@ part of_a_call_that_was_answered
 . 6,25,established,1,201,,100,,,15
 . 7,25,agentBusy,,201,7,,,,
 
+part of_a_busy_station
+# Its agent holds the first call and initiates a second, and a third has failed there. Another agent isn't logged on.
+> 30 {"call":1,"device":"201","invoke":4,"requester":"desk","service":"holdCall"}
+< 200 {"invoke":4,"requester":"desk","result":{}}
+! {"call":1,"device":"201","event":"held","moment":30,"number":8}
+> 31 {"called":"202","device":"201","invoke":5,"requester":"desk","service":"makeCall"}
+< 200 {"invoke":5,"requester":"desk","result":{"call":2}}
+! {"call":2,"device":"201","event":"serviceInitiated","moment":31,"number":9}
+> 32 {"called":"201","caller":"0305678","invoke":2,"requester":"pbx","service":"arriveCall"}
+< 200 {"invoke":2,"requester":"pbx","result":{"call":3}}
+! {"call":3,"cause":"busy","device":"201","event":"failed","moment":32,"number":10}
+? device 201
+. {"agent":"7","connections":[{"call":1,"state":"hold"},{"call":2,"state":"initiated"},{"call":3,"state":"fail"}],"device":"201","kind":"station"}
+> 33 {"agent":"9","invoke":10,"name":"A \"B\" \\","requester":"plan","service":"addAgent"}
+< 200 {"invoke":10,"requester":"plan","result":{}}
+? agent 9
+. {"agent":"9","name":"A \"B\" \\","since":33,"state":"null"}
+
 part of_a_monitor
 # A monitor was started at 201 before its agent logged off with the end of the call.
 > 26 {"device":"201","invoke":1,"requester":"sup","service":"monitorStart"}
 < 200 {"invoke":1,"requester":"sup","result":{"monitor":1}}
 > 30 {"agent":"7","invoke":4,"requested":"loggedOff","requester":"desk","service":"setAgentState"}
 < 200 {"invoke":4,"requester":"desk","result":{"pending":"loggedOff","state":"busy"}}
+? agent 7
+. {"agent":"7","device":"201","group":"100","name":"Ana","pending":"loggedOff","since":25,"state":"busy"}
 > 40 {"call":1,"device":"0301234","invoke":2,"requester":"pbx","service":"clearConnection"}
 < 200 {"invoke":2,"requester":"pbx","result":{}}
 ! {"call":1,"device":"0301234","event":"connectionCleared","moment":40,"number":8}
@@ -86,7 +110,7 @@ part of_ready_agents
 ? queue 100
 . {"calls":[],"group":"100","ready":["8","7"]}
 
-scene what_is_told_of_calls: plan call_arrives of_a_call_that_waits ana_becomes_ready ana_answers of_a_call_that_was_answered
+scene what_is_told_of_calls: plan call_arrives of_a_call_that_waits ana_becomes_ready of_a_call_that_is_offered ana_answers of_a_call_that_was_answered of_a_busy_station
 scene events_of_a_monitor: plan call_arrives ana_becomes_ready ana_answers of_a_monitor
 scene head_of_queue: plan no_answer of_a_queue
 scene ready_agents_in_order: plan of_ready_agents

@@ -1,6 +1,6 @@
 //! What the faults say where they are shown.
 
-use acd_codec::{Member, ReadFault};
+use acd_codec::{FixedAnswer, Member, ReadFault};
 use acd_terms::{IdFault, NameFault};
 use std::alloc::Global;
 use std::fmt::Display;
@@ -28,4 +28,10 @@ fn messages_of_faults(rt: HostRuntime) {
     let malformed = ReadFault::Malformed(Member::Invoke);
     expect_message(&rt, alloc, malformed, "malformed: invoke");
     expect_message(&rt, alloc, ReadFault::NoMemory, "out of memory");
+}
+
+#[test]
+fn fixed_answers(rt: HostRuntime) {
+    assert_eq!(rt; FixedAnswer::NoMemory.text(), r#"{"error":{"code":33,"name":"noMemory"}}"#);
+    assert_eq!(rt; FixedAnswer::StoreFault.text(), r#"{"error":{"code":34,"name":"storeFault"}}"#);
 }

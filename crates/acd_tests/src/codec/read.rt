@@ -1,179 +1,81 @@
 //! Bytes that are a request, with the one text of that request.
 
-use super::expect_texts;
+use super::expect_text;
 
-static PLAN: [(&str, &str); 5] = [
-    (
-        "{\"device\":\"100\",\"invoke\":1,\"name\":\"Billing\",\"requester\":\"plan\",\"ring\":20,\"service\":\"addGroup\",\"wrap\":30}",
-        "{\"device\":\"100\",\"invoke\":1,\"name\":\"Billing\",\"requester\":\"plan\",\"ring\":20,\"service\":\"addGroup\",\"wrap\":30}",
-    ),
-    (
-        "{\"device\":\"201\",\"invoke\":2,\"requester\":\"plan\",\"service\":\"addStation\"}",
-        "{\"device\":\"201\",\"invoke\":2,\"requester\":\"plan\",\"service\":\"addStation\"}",
-    ),
-    (
-        "{\"agent\":\"7\",\"invoke\":4,\"name\":\"Ana\",\"requester\":\"plan\",\"service\":\"addAgent\"}",
-        "{\"agent\":\"7\",\"invoke\":4,\"name\":\"Ana\",\"requester\":\"plan\",\"service\":\"addAgent\"}",
-    ),
-    (
-        "{\"called\":\"100\",\"caller\":\"0301234\",\"invoke\":1,\"requester\":\"pbx\",\"service\":\"arriveCall\"}",
-        "{\"called\":\"100\",\"caller\":\"0301234\",\"invoke\":1,\"requester\":\"pbx\",\"service\":\"arriveCall\"}",
-    ),
-    (
-        "{\"called\":\"202\",\"device\":\"201\",\"invoke\":3,\"requester\":\"desk\",\"service\":\"makeCall\"}",
-        "{\"called\":\"202\",\"device\":\"201\",\"invoke\":3,\"requester\":\"desk\",\"service\":\"makeCall\"}",
-    ),
-];
+// Requests that are their own text, and behind `>` others, with their text behind `<`.
+fn requests() -> &'static str {
+    r##"
+{"device":"100","invoke":1,"name":"Billing","requester":"plan","ring":20,"service":"addGroup","wrap":30}
+{"device":"201","invoke":2,"requester":"plan","service":"addStation"}
+{"agent":"7","invoke":4,"name":"Ana","requester":"plan","service":"addAgent"}
+{"called":"100","caller":"0301234","invoke":1,"requester":"pbx","service":"arriveCall"}
+{"called":"202","device":"201","invoke":3,"requester":"desk","service":"makeCall"}
+{"call":1,"device":"201","invoke":4,"requester":"desk","service":"phoneOffHook"}
+{"call":1,"device":"201","invoke":3,"requester":"desk","service":"answerCall"}
+{"call":1,"device":"201","invoke":4,"requester":"desk","service":"holdCall"}
+{"call":1,"device":"201","invoke":8,"requester":"desk","service":"retrieveCall"}
+{"call":1,"device":"0301234","invoke":2,"requester":"pbx","service":"clearConnection"}
+{"call":1,"device":"201","invoke":3,"requester":"desk","service":"deflectCall","to":"202"}
+{"call":1,"device":"201","invoke":4,"requester":"desk","service":"singleStepTransfer","to":"202"}
+{"agent":"7","device":"201","group":"100","invoke":1,"requested":"loggedOn","requester":"desk","service":"setAgentState"}
+{"agent":"7","invoke":2,"requested":"ready","requester":"desk","service":"setAgentState"}
+{"agent":"7","invoke":2,"requested":"notReady","requester":"desk","service":"setAgentState"}
+{"agent":"7","invoke":2,"requested":"workingAfterCall","requester":"desk","service":"setAgentState"}
+{"agent":"7","invoke":4,"requested":"loggedOff","requester":"desk","service":"setAgentState"}
+{"device":"100","invoke":9,"requester":"desk","service":"monitorStart"}
+{"invoke":9,"monitor":1,"requester":"desk","service":"monitorStop"}
+{"invoke":2,"requester":"clock","service":"tick"}
+{"device":"999999999999999","invoke":999999999,"name":"~~~~~~~~~~~~~~~~~~~~~~~~~~~~~~~~~~~~~~~~","requester":"a-9a-9a-9a-9a-9a-9a-9a-9a-9a-9zz","ring":3600,"service":"addGroup","wrap":0}
+{"agent":"000000000","invoke":1,"name":"   ","requester":"-","service":"addAgent"}
+{"agent":"7","invoke":1,"name":"\"Ana\\","requester":"plan","service":"addAgent"}
+{"call":1000000000,"device":"000000000000000","invoke":1,"requester":"pbx","service":"holdCall"}
+> { "wrap":30, "ring":20, "name":"Billing", "device":"100", "service":"addGroup", "invoke":1, "requester":"plan" }
+< {"device":"100","invoke":1,"name":"Billing","requester":"plan","ring":20,"service":"addGroup","wrap":30}
+> {"requester":"pbx","invoke":1,"service":"tick","device":"","x":null,"y":[1.5,-2e3,{"z":"\u0000"}]}
+< {"invoke":1,"requester":"pbx","service":"tick"}
+> {"requester":"","service":"tock","invoke":"1","requester":"pbx","invoke":1,"service":"tick"}
+< {"invoke":1,"requester":"pbx","service":"tick"}
+> {"r\u0065quester":"p\u0062x","\u0069nvoke":1,"service":"\u0074ick"}
+< {"invoke":1,"requester":"pbx","service":"tick"}
+> {"":0,"\ud83d\ude00":1e300,"requester":"pbx","invoke":1,"service":"tick"}
+< {"invoke":1,"requester":"pbx","service":"tick"}
+> {"requester":"pbx","invoke":1,"service":"tick","x":123456789012345678901234567890}
+< {"invoke":1,"requester":"pbx","service":"tick"}
+> {"requester":"desk","invoke":2,"service":"setAgentState","agent":"7","requested":"ready","device":"x","group":1}
+< {"agent":"7","invoke":2,"requested":"ready","requester":"desk","service":"setAgentState"}
+> {"requester":"plan","invoke":1,"service":"addAgent","agent":"7","name":"\u0022Ana\u005c"}
+< {"agent":"7","invoke":1,"name":"\"Ana\\","requester":"plan","service":"addAgent"}
+> {"requester":"plan","invoke":2,"service":"addStation","device":"202","device":"201"}
+< {"device":"201","invoke":2,"requester":"plan","service":"addStation"}
+> {"requester":"pbx","invoke":1,"invoke":2,"service":"tick"}
+< {"invoke":2,"requester":"pbx","service":"tick"}
+> {"requester":"plan","invoke":1,"service":"addGroup","device":"100","name":"Sales","ring":20,"wrap":30}
+< {"device":"100","invoke":1,"name":"Sales","requester":"plan","ring":20,"service":"addGroup","wrap":30}
+"##
+}
 
-static CONNECTIONS: [(&str, &str); 7] = [
-    (
-        "{\"call\":1,\"device\":\"201\",\"invoke\":4,\"requester\":\"desk\",\"service\":\"phoneOffHook\"}",
-        "{\"call\":1,\"device\":\"201\",\"invoke\":4,\"requester\":\"desk\",\"service\":\"phoneOffHook\"}",
-    ),
-    (
-        "{\"call\":1,\"device\":\"201\",\"invoke\":3,\"requester\":\"desk\",\"service\":\"answerCall\"}",
-        "{\"call\":1,\"device\":\"201\",\"invoke\":3,\"requester\":\"desk\",\"service\":\"answerCall\"}",
-    ),
-    (
-        "{\"call\":1,\"device\":\"201\",\"invoke\":4,\"requester\":\"desk\",\"service\":\"holdCall\"}",
-        "{\"call\":1,\"device\":\"201\",\"invoke\":4,\"requester\":\"desk\",\"service\":\"holdCall\"}",
-    ),
-    (
-        "{\"call\":1,\"device\":\"201\",\"invoke\":8,\"requester\":\"desk\",\"service\":\"retrieveCall\"}",
-        "{\"call\":1,\"device\":\"201\",\"invoke\":8,\"requester\":\"desk\",\"service\":\"retrieveCall\"}",
-    ),
-    (
-        "{\"call\":1,\"device\":\"0301234\",\"invoke\":2,\"requester\":\"pbx\",\"service\":\"clearConnection\"}",
-        "{\"call\":1,\"device\":\"0301234\",\"invoke\":2,\"requester\":\"pbx\",\"service\":\"clearConnection\"}",
-    ),
-    (
-        "{\"call\":1,\"device\":\"201\",\"invoke\":3,\"requester\":\"desk\",\"service\":\"deflectCall\",\"to\":\"202\"}",
-        "{\"call\":1,\"device\":\"201\",\"invoke\":3,\"requester\":\"desk\",\"service\":\"deflectCall\",\"to\":\"202\"}",
-    ),
-    (
-        "{\"call\":1,\"device\":\"201\",\"invoke\":4,\"requester\":\"desk\",\"service\":\"singleStepTransfer\",\"to\":\"202\"}",
-        "{\"call\":1,\"device\":\"201\",\"invoke\":4,\"requester\":\"desk\",\"service\":\"singleStepTransfer\",\"to\":\"202\"}",
-    ),
-];
+#[test]
+fn texts_of_requests(rt: HostRuntime) {
+    let mut asked = "";
+    for line in requests().lines() {
+        if line.starts_with("{") {
+            expect_text(&rt, rt.alloc(), line, line);
+        } else if let Some(text) = line.strip_prefix("< ") {
+            expect_text(&rt, rt.alloc(), asked, text);
+        } else if let Some(text) = line.strip_prefix("> ") {
+            asked = text;
+        } else {
+            assert!(rt; line.is_empty());
+        }
+    }
+}
 
-static AGENTS: [(&str, &str); 8] = [
-    (
-        "{\"agent\":\"7\",\"device\":\"201\",\"group\":\"100\",\"invoke\":1,\"requested\":\"loggedOn\",\"requester\":\"desk\",\"service\":\"setAgentState\"}",
-        "{\"agent\":\"7\",\"device\":\"201\",\"group\":\"100\",\"invoke\":1,\"requested\":\"loggedOn\",\"requester\":\"desk\",\"service\":\"setAgentState\"}",
-    ),
-    (
-        "{\"agent\":\"7\",\"invoke\":2,\"requested\":\"ready\",\"requester\":\"desk\",\"service\":\"setAgentState\"}",
-        "{\"agent\":\"7\",\"invoke\":2,\"requested\":\"ready\",\"requester\":\"desk\",\"service\":\"setAgentState\"}",
-    ),
-    (
-        "{\"agent\":\"7\",\"invoke\":2,\"requested\":\"notReady\",\"requester\":\"desk\",\"service\":\"setAgentState\"}",
-        "{\"agent\":\"7\",\"invoke\":2,\"requested\":\"notReady\",\"requester\":\"desk\",\"service\":\"setAgentState\"}",
-    ),
-    (
-        "{\"agent\":\"7\",\"invoke\":2,\"requested\":\"workingAfterCall\",\"requester\":\"desk\",\"service\":\"setAgentState\"}",
-        "{\"agent\":\"7\",\"invoke\":2,\"requested\":\"workingAfterCall\",\"requester\":\"desk\",\"service\":\"setAgentState\"}",
-    ),
-    (
-        "{\"agent\":\"7\",\"invoke\":4,\"requested\":\"loggedOff\",\"requester\":\"desk\",\"service\":\"setAgentState\"}",
-        "{\"agent\":\"7\",\"invoke\":4,\"requested\":\"loggedOff\",\"requester\":\"desk\",\"service\":\"setAgentState\"}",
-    ),
-    (
-        "{\"device\":\"100\",\"invoke\":9,\"requester\":\"desk\",\"service\":\"monitorStart\"}",
-        "{\"device\":\"100\",\"invoke\":9,\"requester\":\"desk\",\"service\":\"monitorStart\"}",
-    ),
-    (
-        "{\"invoke\":9,\"monitor\":1,\"requester\":\"desk\",\"service\":\"monitorStop\"}",
-        "{\"invoke\":9,\"monitor\":1,\"requester\":\"desk\",\"service\":\"monitorStop\"}",
-    ),
-    (
-        "{\"invoke\":2,\"requester\":\"clock\",\"service\":\"tick\"}",
-        "{\"invoke\":2,\"requester\":\"clock\",\"service\":\"tick\"}",
-    ),
-];
-
-static BOUNDS: [(&str, &str); 4] = [
-    (
-        "{\"device\":\"999999999999999\",\"invoke\":999999999,\"name\":\"~~~~~~~~~~~~~~~~~~~~~~~~~~~~~~~~~~~~~~~~\",\"requester\":\"a-9a-9a-9a-9a-9a-9a-9a-9a-9a-9zz\",\"ring\":3600,\"service\":\"addGroup\",\"wrap\":0}",
-        "{\"device\":\"999999999999999\",\"invoke\":999999999,\"name\":\"~~~~~~~~~~~~~~~~~~~~~~~~~~~~~~~~~~~~~~~~\",\"requester\":\"a-9a-9a-9a-9a-9a-9a-9a-9a-9a-9zz\",\"ring\":3600,\"service\":\"addGroup\",\"wrap\":0}",
-    ),
-    (
-        "{\"agent\":\"000000000\",\"invoke\":1,\"name\":\"   \",\"requester\":\"-\",\"service\":\"addAgent\"}",
-        "{\"agent\":\"000000000\",\"invoke\":1,\"name\":\"   \",\"requester\":\"-\",\"service\":\"addAgent\"}",
-    ),
-    (
-        "{\"agent\":\"7\",\"invoke\":1,\"name\":\"\\\"Ana\\\\\",\"requester\":\"plan\",\"service\":\"addAgent\"}",
-        "{\"agent\":\"7\",\"invoke\":1,\"name\":\"\\\"Ana\\\\\",\"requester\":\"plan\",\"service\":\"addAgent\"}",
-    ),
-    (
-        "{\"call\":1000000000,\"device\":\"000000000000000\",\"invoke\":1,\"requester\":\"pbx\",\"service\":\"holdCall\"}",
-        "{\"call\":1000000000,\"device\":\"000000000000000\",\"invoke\":1,\"requester\":\"pbx\",\"service\":\"holdCall\"}",
-    ),
-];
-
-static OTHER_TEXTS: [(&str, &str); 10] = [
-    (
-        "{ \"wrap\":30, \"ring\":20, \"name\":\"Billing\", \"device\":\"100\", \"service\":\"addGroup\", \"invoke\":1, \"requester\":\"plan\" }",
-        "{\"device\":\"100\",\"invoke\":1,\"name\":\"Billing\",\"requester\":\"plan\",\"ring\":20,\"service\":\"addGroup\",\"wrap\":30}",
-    ),
-    (
+#[test]
+fn blanks_of_json(rt: HostRuntime) {
+    expect_text(
+        &rt,
+        rt.alloc(),
         "\r\n\t {\"requester\":\"pbx\",\n\"invoke\":1,\t\"service\":\"tick\"} \r\n",
         "{\"invoke\":1,\"requester\":\"pbx\",\"service\":\"tick\"}",
-    ),
-    (
-        "{\"requester\":\"pbx\",\"invoke\":1,\"service\":\"tick\",\"device\":\"\",\"x\":null,\"y\":[1.5,-2e3,{\"z\":\"\\u0000\"}]}",
-        "{\"invoke\":1,\"requester\":\"pbx\",\"service\":\"tick\"}",
-    ),
-    (
-        "{\"requester\":\"\",\"service\":\"tock\",\"invoke\":\"1\",\"requester\":\"pbx\",\"invoke\":1,\"service\":\"tick\"}",
-        "{\"invoke\":1,\"requester\":\"pbx\",\"service\":\"tick\"}",
-    ),
-    (
-        "{\"r\\u0065quester\":\"p\\u0062x\",\"\\u0069nvoke\":1,\"service\":\"\\u0074ick\"}",
-        "{\"invoke\":1,\"requester\":\"pbx\",\"service\":\"tick\"}",
-    ),
-    (
-        "{\"\":0,\"\\ud83d\\ude00\":1e300,\"requester\":\"pbx\",\"invoke\":1,\"service\":\"tick\"}",
-        "{\"invoke\":1,\"requester\":\"pbx\",\"service\":\"tick\"}",
-    ),
-    (
-        "{\"requester\":\"pbx\",\"invoke\":1,\"service\":\"tick\",\"x\":123456789012345678901234567890}",
-        "{\"invoke\":1,\"requester\":\"pbx\",\"service\":\"tick\"}",
-    ),
-    (
-        "{\"requester\":\"desk\",\"invoke\":2,\"service\":\"setAgentState\",\"agent\":\"7\",\"requested\":\"ready\",\"device\":\"x\",\"group\":1}",
-        "{\"agent\":\"7\",\"invoke\":2,\"requested\":\"ready\",\"requester\":\"desk\",\"service\":\"setAgentState\"}",
-    ),
-    (
-        "{\"requester\":\"plan\",\"invoke\":1,\"service\":\"addAgent\",\"agent\":\"7\",\"name\":\"\\u0022Ana\\u005c\"}",
-        "{\"agent\":\"7\",\"invoke\":1,\"name\":\"\\\"Ana\\\\\",\"requester\":\"plan\",\"service\":\"addAgent\"}",
-    ),
-    (
-        "{\"requester\":\"plan\",\"invoke\":2,\"service\":\"addStation\",\"device\":\"202\",\"device\":\"201\"}",
-        "{\"device\":\"201\",\"invoke\":2,\"requester\":\"plan\",\"service\":\"addStation\"}",
-    ),
-];
-
-#[test]
-fn plans_and_arrivals(rt: HostRuntime) {
-    expect_texts(&rt, rt.alloc(), &PLAN);
-}
-
-#[test]
-fn connections(rt: HostRuntime) {
-    expect_texts(&rt, rt.alloc(), &CONNECTIONS);
-}
-
-#[test]
-fn agents_and_monitors(rt: HostRuntime) {
-    expect_texts(&rt, rt.alloc(), &AGENTS);
-}
-
-#[test]
-fn bounds(rt: HostRuntime) {
-    expect_texts(&rt, rt.alloc(), &BOUNDS);
-}
-
-#[test]
-fn other_texts(rt: HostRuntime) {
-    expect_texts(&rt, rt.alloc(), &OTHER_TEXTS);
+    );
 }
