@@ -24,11 +24,7 @@ pub fn created<S: Alter + Drop>(
 }
 
 /// The book that a database holds.
-pub fn adopted<S: Alter + Drop>(
-    rt: &impl Abort,
-    alloc: Global,
-    conn: Connection<S>,
-) -> SqlBook<S> {
+pub fn adopted<S: Alter + Drop>(rt: &impl Abort, alloc: Global, conn: Connection<S>) -> SqlBook<S> {
     if !conn.is_autocommit() {
         panic!(rt; "a transaction");
     }

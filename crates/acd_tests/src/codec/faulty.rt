@@ -166,9 +166,18 @@ static FAULTY_BYTES: [(&[u8], Member); 19] = [
     (b"{\"requester\":\"p\nbx\"}", Member::Json),
     (b"{\"requester\":\"p\x00bx\"}", Member::Json),
     (b"{\"requester\":\"p\tbx\"}", Member::Json),
-    (b"{\"requester\":\"pbx\",\"invoke\":1,\"service\":\"tick\"}\x00", Member::Json),
-    (b"\xc2\xa0{\"requester\":\"pbx\",\"invoke\":1,\"service\":\"tick\"}", Member::Json),
-    (b"\x0c{\"requester\":\"pbx\",\"invoke\":1,\"service\":\"tick\"}", Member::Json),
+    (
+        b"{\"requester\":\"pbx\",\"invoke\":1,\"service\":\"tick\"}\x00",
+        Member::Json,
+    ),
+    (
+        b"\xc2\xa0{\"requester\":\"pbx\",\"invoke\":1,\"service\":\"tick\"}",
+        Member::Json,
+    ),
+    (
+        b"\x0c{\"requester\":\"pbx\",\"invoke\":1,\"service\":\"tick\"}",
+        Member::Json,
+    ),
     (b"{\"requester\":\"caf\xc3\xa9\"}", Member::Requester),
     (
         b"{\"requester\":\"pbx\",\"invoke\":1,\"service\":\"addStation\",\"device\":\"\xef\xbc\x92\"}",

@@ -32,6 +32,12 @@ fn messages_of_faults(rt: HostRuntime) {
 
 #[test]
 fn fixed_answers(rt: HostRuntime) {
-    assert_eq!(rt; FixedAnswer::NoMemory.text(), r#"{"error":{"code":33,"name":"noMemory"}}"#);
-    assert_eq!(rt; FixedAnswer::StoreFault.text(), r#"{"error":{"code":34,"name":"storeFault"}}"#);
+    assert_eq!(rt;
+        FixedAnswer::NoMemory.text(),
+        r#"{"error":{"code":33,"name":"noMemory"}}"#
+    );
+    assert_eq!(rt;
+        FixedAnswer::StoreFault.text(),
+        r#"{"error":{"code":34,"name":"storeFault"}}"#
+    );
 }
