@@ -9,7 +9,7 @@ use std::process::Abort;
 
 mod audits;
 mod failing;
-mod kept;
+mod runs;
 pub mod stopping;
 mod stops;
 mod store;
@@ -61,8 +61,8 @@ fn opened<B: Book + Drop>(rt: &impl Abort, alloc: Global, book: B) -> Desk<B> {
 }
 
 // A desk over a new book in memory.
-fn new_desk(rt: &impl Abort, alloc: Global, limits: Limits) -> Desk<MemoryBook> {
-    opened(rt, alloc, MemoryBook::new(alloc, limits))
+fn new_desk(rt: &impl Abort, alloc: Global) -> Desk<MemoryBook> {
+    opened(rt, alloc, MemoryBook::new(alloc, Limits::GREATEST))
 }
 
 // The status and the text, or what stands for them.

@@ -85,7 +85,7 @@ fn expect_audit(
 }
 
 fn book_after_call(rt: &impl Abort, alloc: Global) -> MemoryBook {
-    let mut desk = new_desk(rt, alloc, Limits::GREATEST);
+    let mut desk = new_desk(rt, alloc);
     ask_all(rt, alloc, &mut desk, CALL);
     assert_eq!(rt; desk.audit(), Ok(Audit::Sound));
     assert_eq!(rt; desk.executed(), Ok(3));
