@@ -108,20 +108,11 @@ pub with_connections : (loose : ℕ → Bool) (s : Rows) (xs : List ConnectionRe
 unfolding call_of group_of station_of
 with_connections loose s xs r h = record {
   orders = record { groups = r.orders.groups; stations = r.orders.stations; agents = r.orders.agents; calls = r.orders.calls; connections = h.sorted; monitors = r.orders.monitors };
-  kinds = r.kinds;
-  agents = r.agents;
-  calls = r.calls;
+  kinds = r.kinds; agents = r.agents; calls = r.calls;
   connections = h.rules;
-  parties = h.parties;
-  one_open = h.one_open;
-  one_live = h.one_live;
-  no_hold = h.no_hold;
-  one_offer = h.one_offer;
+  parties = h.parties; one_open = h.one_open; one_live = h.one_live; no_hold = h.no_hold; one_offer = h.one_offer;
   one_agent = r.one_agent;
-  ready = h.ready;
-  busy = h.busy;
-  pending = h.pending;
-  free = h.free;
+  ready = h.ready; busy = h.busy; pending = h.pending; free = h.free;
 }
 
 -- what new agents must keep
@@ -139,17 +130,9 @@ with_agents p q s agents r f h = record {
   orders = record { groups = r.orders.groups; stations = r.orders.stations; agents = h.sorted; calls = r.orders.calls; connections = r.orders.connections; monitors = r.orders.monitors };
   kinds = r.kinds;
   agents = h.rules;
-  calls = r.calls;
-  connections = r.connections;
-  parties = r.parties;
-  one_open = r.one_open;
-  one_live = r.one_live;
-  no_hold = r.no_hold;
+  calls = r.calls; connections = r.connections; parties = r.parties; one_open = r.one_open; one_live = r.one_live; no_hold = r.no_hold;
   one_offer = r.one_offer;
-  one_agent = h.one_agent;
-  ready = h.ready;
-  busy = h.busy;
-  pending = h.pending;
+  one_agent = h.one_agent; ready = h.ready; busy = h.busy; pending = h.pending;
   free = λ d e. r.free d (f d e);
 }
 

@@ -249,10 +249,7 @@ after_service s k m ms b h = record {
   places = λ p. (let a = steps_place p h.steps in let c = at_most h.comes (one (k == p)) in omega (arith, a, c));
   sizes = h.settled.sizes b.sizes;
   monitors = h.settled.monitors b.monitors;
-  groups = h.settled.groups;
-  limits = h.settled.limits;
-  last_call = h.settled.last_call;
-  last_monitor = h.settled.last_monitor;
+  groups = h.settled.groups; limits = h.settled.limits; last_call = h.settled.last_call; last_monitor = h.settled.last_monitor;
   last_event = h.settled.last_event;
   entries = λ g. (let a = steps_entered g h.steps in let c = at_most h.comes 1 in omega (arith, a, c));
   waits = steps_wait h.steps;

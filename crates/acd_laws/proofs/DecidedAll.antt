@@ -441,13 +441,8 @@ keeps_read s e =
     let c = (counters_decided s b).0 t.counters in
     record {
       rules = within_read s t.within;
-      sizes = l.sizes;
-      last_call = l.last_call;
-      last_monitor = l.last_monitor;
-      timed = c.timed;
-      places = c.places;
-      figures = c.figures;
-      last_event = c.last_event;
+      sizes = l.sizes; last_call = l.last_call; last_monitor = l.last_monitor;
+      timed = c.timed; places = c.places; figures = c.figures; last_event = c.last_event;
       offers = (offers_decided s).0 t.offer;
       monitors = (monitors_decided s).0 t.monitor;
       balance = b;

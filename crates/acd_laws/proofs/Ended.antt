@@ -62,12 +62,7 @@ rules_ended t es k m n r =
       one_open = r.one_open;
       one_live = λ d h. r.one_live d (sym (f d) ∙ h);
       no_hold = λ d h l. r.no_hold d (sym (f d) ∙ h) l;
-      one_offer = r.one_offer;
-      one_agent = r.one_agent;
-      ready = r.ready;
-      busy = r.busy;
-      pending = r.pending;
-      free = r.free;
+      one_offer = r.one_offer; one_agent = r.one_agent; ready = r.ready; busy = r.busy; pending = r.pending; free = r.free;
     }
 
 pub rules_step : (s : Rows) (moment : ℕ) (c : Command) → Rules s → Rules (step s moment c).rows

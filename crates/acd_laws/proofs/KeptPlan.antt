@@ -78,16 +78,8 @@ kept_group s g r free =
       ));
       connections = every_from (ConnectionRule t) s.connections (λ z i.
           rule_more s t (λ d w. w) more z (λ k. k) (λ w. ap (λ b. b || is_station s z.device) (other z.device (nobody_at s g.device r free z i)) ∙ w) (every_among (ConnectionRule s) s.connections z r.connections i));
-      parties = r.parties;
-      one_open = r.one_open;
-      one_live = r.one_live;
-      no_hold = r.no_hold;
-      one_offer = r.one_offer;
-      one_agent = r.one_agent;
-      ready = r.ready;
-      busy = r.busy;
-      pending = r.pending;
-      free = r.free;
+      parties = r.parties; one_open = r.one_open; one_live = r.one_live; no_hold = r.no_hold; one_offer = r.one_offer; one_agent = r.one_agent;
+      ready = r.ready; busy = r.busy; pending = r.pending; free = r.free;
     }
 
 -- a station is planned
@@ -113,12 +105,7 @@ kept_station s g r free =
       one_open = r.one_open;
       one_live = λ d h. elim (or_cases (g.device == d) (is_station s d) (sym (station_put s g d) ∙ h)) [ inl e ↦ (let z = empty is_live d e in omega (arith, z)) | inr w ↦ r.one_live d w ];
       no_hold = λ d h l. elim (or_cases (g.device == d) (is_station s d) (sym (station_put s g d) ∙ h)) [ inl e ↦ empty is_hold d e | inr w ↦ r.no_hold d w l ];
-      one_offer = r.one_offer;
-      one_agent = r.one_agent;
-      ready = r.ready;
-      busy = r.busy;
-      pending = r.pending;
-      free = r.free;
+      one_offer = r.one_offer; one_agent = r.one_agent; ready = r.ready; busy = r.busy; pending = r.pending; free = r.free;
     }
 
 -- an agent is planned, in null
@@ -142,20 +129,8 @@ pub with_monitors : (s : Rows) (ws : List MonitorRecord) (n : ℕ) → Rules s �
 unfolding call_of connection_of agent_of group_of station_of
 with_monitors s ws n r h = record {
   orders = record { monitors = h; agents = r.orders.agents; groups = r.orders.groups; stations = r.orders.stations; calls = r.orders.calls; connections = r.orders.connections };
-  kinds = r.kinds;
-  agents = r.agents;
-  calls = r.calls;
-  connections = r.connections;
-  parties = r.parties;
-  one_open = r.one_open;
-  one_live = r.one_live;
-  no_hold = r.no_hold;
-  one_offer = r.one_offer;
-  one_agent = r.one_agent;
-  ready = r.ready;
-  busy = r.busy;
-  pending = r.pending;
-  free = r.free;
+  kinds = r.kinds; agents = r.agents; calls = r.calls; connections = r.connections; parties = r.parties; one_open = r.one_open; one_live = r.one_live;
+  no_hold = r.no_hold; one_offer = r.one_offer; one_agent = r.one_agent; ready = r.ready; busy = r.busy; pending = r.pending; free = r.free;
 }
 
 pub started : (s : Rows) (w : MonitorRecord) → Rules s → Rules (changed s (PutMonitor w))

@@ -128,11 +128,7 @@ one_more : (s : Rows) (g : GroupRecord) (gs : List GroupRecord) (o : Offer) → 
 one_more s g gs o n h = record {
   group = h.group;
   planned = inr h.planned;
-  named = h.named;
-  place = h.place;
-  call = h.call;
-  stamp = h.stamp;
-  agent = h.agent;
+  named = h.named; place = h.place; call = h.call; stamp = h.stamp; agent = h.agent;
   first = λ k a l. elim a [ inl e ↦ subst (λ (z : GroupRecord). HasNoOffer s z.device) (sym e) n | inr b ↦ h.first k b l ];
 }
 
@@ -191,11 +187,7 @@ is_found s (g ∷ gs) o asc h =
           let rest : IsOfferIn s gs o = record {
             group = h.group;
             planned = m;
-            named = h.named;
-            place = h.place;
-            call = h.call;
-            stamp = h.stamp;
-            agent = h.agent;
+            named = h.named; place = h.place; call = h.call; stamp = h.stamp; agent = h.agent;
             first = λ k a l. h.first k (inr a) l;
           } in
           passed s g.device (offer_in s gs) (h.first g (inl refl) late) ∙ is_found s gs o asc.1 rest)
@@ -203,26 +195,12 @@ is_found s (g ∷ gs) o asc h =
 
 to_offer : (s : Rows) (o : Offer) → IsOfferIn s s.groups o → IsOffer s o
 to_offer s o h = record {
-  group = h.group;
-  planned = h.planned;
-  named = h.named;
-  place = h.place;
-  call = h.call;
-  stamp = h.stamp;
-  agent = h.agent;
-  first = h.first;
+  group = h.group; planned = h.planned; named = h.named; place = h.place; call = h.call; stamp = h.stamp; agent = h.agent; first = h.first;
 }
 
 from_offer : (s : Rows) (o : Offer) → IsOffer s o → IsOfferIn s s.groups o
 from_offer s o h = record {
-  group = h.group;
-  planned = h.planned;
-  named = h.named;
-  place = h.place;
-  call = h.call;
-  stamp = h.stamp;
-  agent = h.agent;
-  first = h.first;
+  group = h.group; planned = h.planned; named = h.named; place = h.place; call = h.call; stamp = h.stamp; agent = h.agent; first = h.first;
 }
 
 pub finds_the_offer : FindsTheOffer

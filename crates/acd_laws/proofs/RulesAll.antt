@@ -195,9 +195,7 @@ rules_bound s e =
     record {
       requests = g.requests;
       last_stamp = requests_read s e;
-      last_call = h.last_call;
-      last_monitor = h.last_monitor;
-      last_event = h.last_event;
+      last_call = h.last_call; last_monitor = h.last_monitor; last_event = h.last_event;
       figures = λ x i. let a = every_among (IsCountedUpTo s.last_stamp s.last_moment) s.groups x h.figures i in let b = every_among (AddsUp s) s.groups x h.balance i in
           record { entered = a.0; answered = omega (arith, b); abandoned = omega (arith, b); moved = omega (arith, b); waited = a.1 };
     }

@@ -68,9 +68,7 @@ follows_moves s b c d m t es ms f g = record {
 
 follows_later : (s : Rows) (b c d : ℕ) (t : Rows) (es : List Event) → c ≤ d → Follows s b c t es → Follows s b d t es
 follows_later s b c d t es l f = record {
-  connections = f.connections;
-  agents = f.agents;
-  balances = f.balances;
+  connections = f.connections; agents = f.agents; balances = f.balances;
   order = λ events n o. let w = f.order events n o in record { in_order = w.in_order; entered = w.entered; up_to = record { entries = w.up_to.entries; places = λ g x p h. let e = w.up_to.places g x p h in omega (arith, e, l) } };
 }
 
