@@ -3,8 +3,7 @@
 ghost use Rattle.std.specs.Prelude.{◌≡◌};
 ghost use Rattle.acd_model.specs.AgentMoves.{kept_in, in_state, state_report, go_to, go_from, log_on_at, become_busy, wait_for};
 
-use crate::call_moves::{no_move, reported, silent};
-use acd_model::{Change, Move};
+use acd_model::{Change, Move, no_move, reported, silent};
 use acd_terms::{AgentId, AgentRecord, AgentState, DeviceId, Pending, Report, Turn};
 
 fn kept_in(state: AgentState, place: Option<DeviceId>) -> Option<DeviceId>
