@@ -2,7 +2,7 @@
 
 use super::expect_text;
 
-// Requests that are their own text, and behind `>` others, with their text behind `<`.
+// Requests that are their own text, and others with their text behind `=>`.
 fn requests() -> &'static str {
     r##"
 {"device":"100","invoke":1,"name":"Billing","requester":"plan","ring":20,"service":"addGroup","wrap":30}
@@ -29,43 +29,27 @@ fn requests() -> &'static str {
 {"agent":"000000000","invoke":1,"name":"   ","requester":"-","service":"addAgent"}
 {"agent":"7","invoke":1,"name":"\"Ana\\","requester":"plan","service":"addAgent"}
 {"call":1000000000,"device":"000000000000000","invoke":1,"requester":"pbx","service":"holdCall"}
-> { "wrap":30, "ring":20, "name":"Billing", "device":"100", "service":"addGroup", "invoke":1, "requester":"plan" }
-< {"device":"100","invoke":1,"name":"Billing","requester":"plan","ring":20,"service":"addGroup","wrap":30}
-> {"requester":"pbx","invoke":1,"service":"tick","device":"","x":null,"y":[1.5,-2e3,{"z":"\u0000"}]}
-< {"invoke":1,"requester":"pbx","service":"tick"}
-> {"requester":"","service":"tock","invoke":"1","requester":"pbx","invoke":1,"service":"tick"}
-< {"invoke":1,"requester":"pbx","service":"tick"}
-> {"r\u0065quester":"p\u0062x","\u0069nvoke":1,"service":"\u0074ick"}
-< {"invoke":1,"requester":"pbx","service":"tick"}
-> {"":0,"\ud83d\ude00":1e300,"requester":"pbx","invoke":1,"service":"tick"}
-< {"invoke":1,"requester":"pbx","service":"tick"}
-> {"requester":"pbx","invoke":1,"service":"tick","x":123456789012345678901234567890}
-< {"invoke":1,"requester":"pbx","service":"tick"}
-> {"requester":"desk","invoke":2,"service":"setAgentState","agent":"7","requested":"ready","device":"x","group":1}
-< {"agent":"7","invoke":2,"requested":"ready","requester":"desk","service":"setAgentState"}
-> {"requester":"plan","invoke":1,"service":"addAgent","agent":"7","name":"\u0022Ana\u005c"}
-< {"agent":"7","invoke":1,"name":"\"Ana\\","requester":"plan","service":"addAgent"}
-> {"requester":"plan","invoke":2,"service":"addStation","device":"202","device":"201"}
-< {"device":"201","invoke":2,"requester":"plan","service":"addStation"}
-> {"requester":"pbx","invoke":1,"invoke":2,"service":"tick"}
-< {"invoke":2,"requester":"pbx","service":"tick"}
-> {"requester":"plan","invoke":1,"service":"addGroup","device":"100","name":"Sales","ring":20,"wrap":30}
-< {"device":"100","invoke":1,"name":"Sales","requester":"plan","ring":20,"service":"addGroup","wrap":30}
+{ "wrap":30, "ring":20, "name":"Billing", "device":"100", "service":"addGroup", "invoke":1, "requester":"plan" } => {"device":"100","invoke":1,"name":"Billing","requester":"plan","ring":20,"service":"addGroup","wrap":30}
+{"requester":"pbx","invoke":1,"service":"tick","device":"","x":null,"y":[1.5,-2e3,{"z":"\u0000"}]} => {"invoke":1,"requester":"pbx","service":"tick"}
+{"requester":"","service":"tock","invoke":"1","requester":"pbx","invoke":1,"service":"tick"} => {"invoke":1,"requester":"pbx","service":"tick"}
+{"r\u0065quester":"p\u0062x","\u0069nvoke":1,"service":"\u0074ick"} => {"invoke":1,"requester":"pbx","service":"tick"}
+{"":0,"\ud83d\ude00":1e300,"requester":"pbx","invoke":1,"service":"tick"} => {"invoke":1,"requester":"pbx","service":"tick"}
+{"requester":"pbx","invoke":1,"service":"tick","x":123456789012345678901234567890} => {"invoke":1,"requester":"pbx","service":"tick"}
+{"requester":"desk","invoke":2,"service":"setAgentState","agent":"7","requested":"ready","device":"x","group":1} => {"agent":"7","invoke":2,"requested":"ready","requester":"desk","service":"setAgentState"}
+{"requester":"plan","invoke":1,"service":"addAgent","agent":"7","name":"\u0022Ana\u005c"} => {"agent":"7","invoke":1,"name":"\"Ana\\","requester":"plan","service":"addAgent"}
+{"requester":"plan","invoke":2,"service":"addStation","device":"202","device":"201"} => {"device":"201","invoke":2,"requester":"plan","service":"addStation"}
+{"requester":"pbx","invoke":1,"invoke":2,"service":"tick"} => {"invoke":2,"requester":"pbx","service":"tick"}
+{"requester":"plan","invoke":1,"service":"addGroup","device":"100","name":"Sales","ring":20,"wrap":30} => {"device":"100","invoke":1,"name":"Sales","requester":"plan","ring":20,"service":"addGroup","wrap":30}
 "##
 }
 
 #[test]
 fn texts_of_requests(rt: HostRuntime) {
-    let mut asked = "";
     for line in requests().lines() {
-        if line.starts_with("{") {
-            expect_text(&rt, rt.alloc(), line, line);
-        } else if let Some(text) = line.strip_prefix("< ") {
-            expect_text(&rt, rt.alloc(), asked, text);
-        } else if let Some(text) = line.strip_prefix("> ") {
-            asked = text;
-        } else {
-            assert!(rt; line.is_empty());
+        match line.split_once(" => ") {
+            Some((asked, text)) => expect_text(&rt, rt.alloc(), asked, text),
+            None if line.is_empty() => {}
+            None => expect_text(&rt, rt.alloc(), line, line),
         }
     }
 }
