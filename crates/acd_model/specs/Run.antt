@@ -6,6 +6,7 @@ use Rattle.acd_terms.specs.declared.event.Event.{Event}
 use Rattle.acd_terms.specs.declared.answer.Outcome.{Outcome}
 use Rattle.acd_model.specs.Step.{Stepped, step}
 
+-- a command at its moment
 pub record TimedCommand : Type 0 where
   pub moment : ℕ
   pub command : Command
