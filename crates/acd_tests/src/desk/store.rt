@@ -16,7 +16,12 @@ fn failing_book(alloc: Global, failing: &'static [Failing]) -> FailingBook {
 }
 
 // A desk over the book is asked, and gives it back.
-fn book_after(rt: &impl Abort, alloc: Global, book: FailingBook, scene: &[SceneLine]) -> FailingBook {
+fn book_after(
+    rt: &impl Abort,
+    alloc: Global,
+    book: FailingBook,
+    scene: &[SceneLine],
+) -> FailingBook {
     let mut desk = opened(rt, alloc, book);
     ask_all(rt, alloc, &mut desk, scene);
     desk.close()
@@ -160,7 +165,12 @@ fn loads_once_for_the_next_new_request(rt: HostRuntime) {
 }
 
 // The desk is unloaded by call 5. Call 6 is the key of the next request, call 7 its load.
-fn unloaded_session(rt: &impl Abort, alloc: Global, failing: &'static [Failing], scene: &[SceneLine]) {
+fn unloaded_session(
+    rt: &impl Abort,
+    alloc: Global,
+    failing: &'static [Failing],
+    scene: &[SceneLine],
+) {
     let mut desk = opened(rt, alloc, failing_book(alloc, failing));
     ask_all(rt, alloc, &mut desk, UNTIL_UNLOADED);
     ask_all(rt, alloc, &mut desk, scene);
