@@ -2,7 +2,7 @@
 
 ghost use Rattle.std.specs.Prelude.{◌≡◌, [], ◌∷◌, length, slice_get};
 ghost use Rattle.std.specs.List.{list_any};
-ghost use Rattle.acd_model.specs.Scans.{group_of, station_of, agent_of, call_of, connection_of, monitor_of, is_group, is_station, is_planned, agent_at, connections_of, other_of, is_live_at, is_taken, is_idle, is_occupied, is_eligible, is_calling, is_used, queued_in_all};
+ghost use Rattle.acd_model.specs.Scans.{group_of, station_of, agent_of, call_of, connection_of, monitor_of, is_group, is_station, is_planned, agent_at, connections_of, other_of, is_live_at, is_idle, is_occupied, is_eligible, is_calling, is_used, queued_in_all};
 ghost use Rattle.acd_model.specs.Choice.{first_waiting, first_eligible, lesser};
 ghost use Rattle.acd_model.specs.Rules.Occupied.{waits_in};
 
@@ -140,21 +140,15 @@ pub fn is_live_at(rows: &Rows, station: DeviceId) -> bool
         .any(|c| c.device == station && c.state.is_live())
 }
 
-/// A connection at the station is live or on hold.
-#[tactic(auto, unfolding(crate::specs::Scans::is_taken))]
-pub fn is_taken(rows: &Rows, station: DeviceId) -> bool
-    ensures { result ≡ is_taken rows.now station }
-{
-    rows.connections
-        .iter()
-        .any(|c| c.device == station && c.state.is_occupying())
-}
-
 /// No connection at the station is live or on hold.
+#[tactic(auto, unfolding(crate::specs::Scans::is_idle))]
 pub fn is_idle(rows: &Rows, station: DeviceId) -> bool
     ensures { result ≡ is_idle rows.now station }
 {
-    !is_taken(rows, station)
+    !rows
+        .connections
+        .iter()
+        .any(|c| c.device == station && c.state.is_occupying())
 }
 
 /// A distributed connection is at the agent's station.

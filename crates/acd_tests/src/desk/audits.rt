@@ -9,7 +9,7 @@ const ARRIVE: &[u8] =
     br#"{"requester":"pbx","invoke":1,"service":"arriveCall","caller":"0301234","called":"100"}"#;
 
 // A group, a station and a waiting call, whose entry is the one event.
-const CALL: &[Asked] = &[
+const CALL: &[SceneLine] = &[
     (0, BILLING, 200, BILLING_REPLY),
     (0, STATION, 200, STATION_REPLY),
     (

@@ -1,4 +1,4 @@
--- What may be asked of a service.
+-- The commands that are a service.
 use Rattle.acd_terms.specs.declared.command.Command.{Command}
 use Rattle.acd_terms.specs.declared.command.Command.TheVariants.{Tick}
 
