@@ -11,13 +11,13 @@ ghost use Rattle.acd_model.specs.Rules.Plan.{connection_order};
 ghost use Rattle.acd_book.specs.Content.{Follows, committed};
 ghost use Rattle.acd_laws.specs.Orders.{Orders};
 ghost use Rattle.acd_sqlbook.specs.Calls.{HasRead, HasReplaced};
-ghost use Rattle.acd_sqlbook.specs.Content.{meta_of};
-ghost use Rattle.acd_sqlbook.specs.Draft.{Fits, MetaFits};
+ghost use Rattle.acd_statements.specs.Content.{meta_of};
+ghost use Rattle.acd_statements.specs.Draft.{Fits, MetaFits};
 ghost use Rattle.acd_sqlbook.specs.Transition.{HasTables, AreWhole, Lead, AddsSteps, with_plan};
 
 use crate::commit::{commit_all, fits, too_large};
 use crate::difference::{Filed, row_changes};
-use crate::meta::Meta;
+use acd_statements::Meta;
 use crate::ready::{meta_fits, rows_ready};
 use acd_book::Kept;
 use acd_codec::request_text;
