@@ -13,16 +13,15 @@ ghost use Rattle.acd_sqlbook.specs.State.{book_state};
 
 use crate::book::{SqlBook, set_up};
 use crate::commit::{fits, too_large};
+use crate::fault::AdoptFault;
 use acd_statements::decode::{
     agent_in, call_in, connection_in, counters_in, event_in, group_in, kept_in, monitor_in,
     station_in,
 };
-use crate::fault::AdoptFault;
 use acd_statements::look::{has_meta, version_rows};
 use acd_statements::read::probe;
 use acd_statements::same::{is_same_first, is_same_schema};
-use acd_statements::values;
-use acd_statements::{Log, Table, Whole};
+use acd_statements::{Log, Table, Whole, values};
 use acd_terms::Limits;
 use sqlite::{Alter, Connection, Error, ErrorCode, MemStore, Row};
 use sqlite_schema::schema::Schema;

@@ -10,15 +10,15 @@ ghost use Rattle.acd_statements.specs.Draft.{Holds, LimitsFit};
 ghost use Rattle.acd_sqlbook.specs.State.{book_state, IsNew, MayMake, fault_of, answered, failures_after};
 
 use crate::create::make_tables;
-use acd_statements::Meta;
 use crate::ready::{
     commit_ready, events_ready, kept_after_ready, kept_ready, limits_fit, limits_ready, rows_ready,
     watched_ready,
 };
 use crate::transition::commit_rows_ready;
-use acd_statements::write::put_meta;
 use acd_book::{Book, BookFault, Kept};
 use acd_model::Change;
+use acd_statements::Meta;
+use acd_statements::write::put_meta;
 use acd_terms::{Event, Invoke, Limits, Requester, Rows};
 use sqlite::{Alter, Connection, Error, ErrorCode};
 use std::alloc::Global;

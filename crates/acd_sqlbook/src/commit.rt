@@ -8,13 +8,13 @@ ghost use Rattle.acd_book.specs.Content.{Content};
 ghost use Rattle.acd_sqlbook.specs.Commit.{ChangeFits, EventFits, filed, all_filed, with_event, with_events, made_by, top_call, top_monitor, last_call, last_monitor, counted};
 ghost use Rattle.acd_statements.specs.Draft.{Drafts, Works, Holds, AddsStop, Fits, FiguresFit, MetaFits};
 
+use acd_book::Kept;
+use acd_model::Change;
 use acd_statements::Meta;
 use acd_statements::write::{
     drop_call, drop_connection, drop_monitor, put_agent, put_call, put_connection, put_event,
     put_group, put_kept, put_meta, put_monitor, put_station,
 };
-use acd_book::Kept;
-use acd_model::Change;
 use acd_terms::{Event, Figures};
 use sqlite::{Alter, Connection, Error, ErrorCode, Transaction};
 

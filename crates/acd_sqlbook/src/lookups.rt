@@ -12,9 +12,9 @@ ghost use Rattle.acd_statements.specs.Draft.{Fits};
 ghost use Rattle.acd_statements.specs.Finding.{Finds, kept_behind};
 
 use crate::commit::fits;
-use acd_statements::query::{event_rows, event_rows_at, kept_row, kept_rows, monitor_row};
 use crate::reads::{first, monitors, records};
 use acd_book::Kept;
+use acd_statements::query::{event_rows, event_rows_at, kept_row, kept_rows, monitor_row};
 use acd_terms::{DeviceId, Event, Invoke, MonitorRecord, Requester, find};
 use sqlite::{Alter, Connection, Error, ErrorCode, Row};
 use std::alloc::Global;

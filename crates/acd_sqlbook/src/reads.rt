@@ -6,13 +6,12 @@ ghost use Rattle.sqlite_value.specs.Order.{Row as Values};
 ghost use Rattle.acd_statements.specs.Finding.{Finds, joined_rows};
 ghost use Rattle.acd_statements.specs.Ranges.{group_in, station_in, agent_in, call_in, connection_in, monitor_in, event_in, kept_in};
 
-use acd_statements::decode;
-use acd_statements::Meta;
+use crate::ready::read_meta;
+use acd_book::Kept;
 use acd_statements::query::{
     agent_rows, call_rows, connection_rows, group_rows, monitor_rows, station_rows,
 };
-use crate::ready::read_meta;
-use acd_book::Kept;
+use acd_statements::{Meta, decode};
 use acd_terms::{
     AgentRecord, CallRecord, ConnectionRecord, Event, GroupRecord, Listed, MonitorRecord, Rows,
     StationRecord,

@@ -15,12 +15,12 @@ ghost use Rattle.acd_statements.specs.declared.meta.Meta.{Meta as MetaRow};
 
 use crate::commit::{commit_all, counted, fits, too_large};
 use crate::lookups::{events_behind, events_watched, kept_behind, kept_under};
-use acd_statements::Meta;
-use acd_statements::read::{meta_in, meta_rows, probe};
 use crate::reads::rows;
 use acd_book::Kept;
 use acd_codec::request_text;
 use acd_model::Change;
+use acd_statements::Meta;
+use acd_statements::read::{meta_in, meta_rows, probe};
 use acd_terms::{Event, Invoke, Limits, Requester, Rows};
 use sqlite::{Alter, Connection, Error, Row};
 use std::alloc::Global;

@@ -17,11 +17,11 @@ ghost use Rattle.acd_sqlbook.specs.Transition.{HasTables, AreWhole, Lead, AddsSt
 
 use crate::commit::{commit_all, fits, too_large};
 use crate::difference::{Filed, row_changes};
-use acd_statements::Meta;
 use crate::ready::{meta_fits, rows_ready};
 use acd_book::Kept;
 use acd_codec::request_text;
 use acd_model::Change;
+use acd_statements::Meta;
 use acd_terms::{AgentRecord, ConnectionRecord, Event, Rows, find};
 use sqlite::{Alter, Connection, Constraint, Error, ErrorCode};
 use std::alloc::{AllocError, Global};

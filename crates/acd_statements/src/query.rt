@@ -81,10 +81,7 @@ pub fn monitor_rows<S: Alter>(conn: &mut Connection<S>) -> Result<Vec<Row>, Erro
 }
 
 /// The row of a monitor, if it is running.
-pub fn monitor_row<S: Alter>(
-    conn: &mut Connection<S>,
-    monitor: u64,
-) -> Result<Vec<Row>, Error>
+pub fn monitor_row<S: Alter>(conn: &mut Connection<S>, monitor: u64) -> Result<Vec<Row>, Error>
     requires idle { conn.old.in_transaction ≡ false }
     requires number { Fits monitor }
     ensures idle { conn.new.in_transaction ≡ false }

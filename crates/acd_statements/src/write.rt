@@ -18,8 +18,8 @@ ghost use Rattle.acd_statements.specs.Draft.{Drafts, Works, Ran, Fits, FiguresFi
 
 use crate::bind;
 use crate::codes::{agent_code, connection_code, kind_code};
-use crate::tables::Table;
 use crate::meta::Meta;
+use crate::tables::Table;
 use acd_book::Kept;
 use acd_codec::reads_back;
 use acd_terms::{
@@ -43,10 +43,7 @@ pub fn write<S: Alter>(
     Ok(())
 }
 
-pub fn put_group<S: Alter>(
-    tx: &mut Transaction<'_, S>,
-    group: &GroupRecord,
-) -> Result<(), Error>
+pub fn put_group<S: Alter>(tx: &mut Transaction<'_, S>, group: &GroupRecord) -> Result<(), Error>
     requires { FiguresFit group.now.figures }
     ensures same { tx.new.conn.ghost_name ≡ tx.old.conn.ghost_name }
     ensures works { Works (state S.Store tx.old.conn.now) (state S.Store tx.new.conn.now) }
@@ -87,10 +84,7 @@ pub fn put_station<S: Alter>(
     )
 }
 
-pub fn put_agent<S: Alter>(
-    tx: &mut Transaction<'_, S>,
-    agent: &AgentRecord,
-) -> Result<(), Error>
+pub fn put_agent<S: Alter>(tx: &mut Transaction<'_, S>, agent: &AgentRecord) -> Result<(), Error>
     requires { Fits agent.now.stamp }
     ensures same { tx.new.conn.ghost_name ≡ tx.old.conn.ghost_name }
     ensures works { Works (state S.Store tx.old.conn.now) (state S.Store tx.new.conn.now) }
@@ -113,10 +107,7 @@ pub fn put_agent<S: Alter>(
     )
 }
 
-pub fn put_call<S: Alter>(
-    tx: &mut Transaction<'_, S>,
-    call: &CallRecord,
-) -> Result<(), Error>
+pub fn put_call<S: Alter>(tx: &mut Transaction<'_, S>, call: &CallRecord) -> Result<(), Error>
     requires { Fits call.now.call }
     ensures same { tx.new.conn.ghost_name ≡ tx.old.conn.ghost_name }
     ensures works { Works (state S.Store tx.old.conn.now) (state S.Store tx.new.conn.now) }
