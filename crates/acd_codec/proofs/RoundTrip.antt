@@ -18,9 +18,9 @@ use Rattle.acd_terms.proofs.Identifiers.{ascii_name, ascii_requester, digits_asc
 use Rattle.acd_terms.proofs.Texts.{utf8_ascii}
 use Rattle.acd_terms.proofs.ReadBack.{id_again, text_again, number_again}
 use Rattle.acd_codec.specs.declared.member.Member.{Member}
-use Rattle.acd_codec.specs.declared.service.Asked.TheVariants as asked
-use Rattle.acd_codec.specs.Services.{asked_of}
-use Rattle.acd_codec.specs.MemberReading.{device_in, agent_in, name_in, requester_in, invoke_in, seconds_in, serial_in, service_in, asked_in}
+use Rattle.acd_codec.specs.declared.service.RequestedState.TheVariants as requested_state
+use Rattle.acd_codec.specs.Services.{requested_state_of}
+use Rattle.acd_codec.specs.MemberReading.{device_in, agent_in, name_in, requester_in, invoke_in, seconds_in, serial_in, service_in, requested_state_in}
 use Rattle.acd_codec.specs.Reading.{reads_as, request_in, command_in, add_group_in, add_agent_in, two_devices_in, connection_in, requested_in, set_agent_state_in}
 use Rattle.acd_codec.specs.RequestTexts.{request_members, request_data, request_text}
 use Rattle.acd_codec.specs.Formed.{IsCommand, IsRequest}
@@ -106,15 +106,15 @@ shallow q i (MonitorStart device) = lit≤ tt
 shallow q i (MonitorStop monitor) = lit≤ tt
 shallow q i Tick = lit≤ tt
 
-asked_again : (p : Pending) → asked_of (pending_name p) ≡ Some (asked.State p)
-asked_again pending.LoggedOff = refl
-asked_again pending.NotReady = refl
-asked_again pending.Ready = refl
-asked_again pending.WorkingAfterCall = refl
+state_again : (p : Pending) → requested_state_of (pending_name p) ≡ Some (requested_state.State p)
+state_again pending.LoggedOff = refl
+state_again pending.NotReady = refl
+state_again pending.Ready = refl
+state_again pending.WorkingAfterCall = refl
 
 -- reading the members of the value
 taken : (q : List ℕ) (i : ℕ) (c : Command) → IsRequester q → IsBetween 1 999999999 i → IsCommand c → request_in (object (request_members q i c)) ≡ Ok (record { requester = q; invoke = i; command = c })
-unfolding request_in requester_in invoke_in service_in command_in device_in agent_in name_in seconds_in serial_in asked_in add_group_in add_agent_in two_devices_in connection_in requested_in set_agent_state_in
+unfolding request_in requester_in invoke_in service_in command_in device_in agent_in name_in seconds_in serial_in requested_state_in add_group_in add_agent_in two_devices_in connection_in requested_in set_agent_state_in
 taken q i (AddGroup device name ring wrap) hq hi hc = rw (text_again is_requester_byte 32 q hq, number_again 1 999999999 i hi, id_again 15 device hc.0, text_again is_name_byte 40 name hc.1, number_again 0 3600 ring hc.2, number_again 0 3600 wrap hc.3) refl
 taken q i (AddStation device) hq hi hc = rw (text_again is_requester_byte 32 q hq, number_again 1 999999999 i hi, id_again 15 device hc) refl
 taken q i (AddAgent agent name) hq hi hc = rw (text_again is_requester_byte 32 q hq, number_again 1 999999999 i hi, id_again 9 agent hc.0, text_again is_name_byte 40 name hc.1) refl
@@ -128,7 +128,7 @@ taken q i (ClearConnection call device) hq hi hc = rw (text_again is_requester_b
 taken q i (DeflectCall call device to) hq hi hc = rw (text_again is_requester_byte 32 q hq, number_again 1 999999999 i hi, number_again 1 1000000000 call hc.0, id_again 15 device hc.1, id_again 15 to hc.2) refl
 taken q i (SingleStepTransfer call device to) hq hi hc = rw (text_again is_requester_byte 32 q hq, number_again 1 999999999 i hi, number_again 1 1000000000 call hc.0, id_again 15 device hc.1, id_again 15 to hc.2) refl
 taken q i (SetAgentState agent (requested.LoggedOn device group)) hq hi hc = rw (text_again is_requester_byte 32 q hq, number_again 1 999999999 i hi, id_again 9 agent hc.0, id_again 15 device hc.1.0, id_again 15 group hc.1.1) refl
-taken q i (SetAgentState agent (requested.State state)) hq hi hc = rw (text_again is_requester_byte 32 q hq, number_again 1 999999999 i hi, id_again 9 agent hc.0, asked_again state) refl
+taken q i (SetAgentState agent (requested.State state)) hq hi hc = rw (text_again is_requester_byte 32 q hq, number_again 1 999999999 i hi, id_again 9 agent hc.0, state_again state) refl
 taken q i (MonitorStart device) hq hi hc = rw (text_again is_requester_byte 32 q hq, number_again 1 999999999 i hi, id_again 15 device hc) refl
 taken q i (MonitorStop monitor) hq hi hc = rw (text_again is_requester_byte 32 q hq, number_again 1 999999999 i hi, number_again 1 1000000000 monitor hc) refl
 taken q i Tick hq hi hc = rw (text_again is_requester_byte 32 q hq, number_again 1 999999999 i hi) refl

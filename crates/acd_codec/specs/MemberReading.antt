@@ -7,10 +7,10 @@ use Rattle.serde_json.specs.Find.{get, as_str, as_number, as_u64}
 use Rattle.acd_terms.specs.Forms.{device_digits, agent_digits, read_id, read_text, is_name_byte, is_requester_byte, number_between}
 use Rattle.acd_codec.specs.declared.member.Member.{Member}
 use Rattle.acd_codec.specs.declared.member.Member.TheVariants as member
-use Rattle.acd_codec.specs.declared.service.Asked.{Asked}
+use Rattle.acd_codec.specs.declared.service.RequestedState.{RequestedState}
 use Rattle.acd_codec.specs.declared.service.Service.{Service}
 use Rattle.acd_codec.specs.Members.{member_name}
-use Rattle.acd_codec.specs.Services.{service_of, asked_of}
+use Rattle.acd_codec.specs.Services.{service_of, requested_state_of}
 
 -- a member that is a text
 abbrev pub text_in : Member → Data → Option (List ℕ)
@@ -61,5 +61,5 @@ unfoldable pub service_in : Data → Result Service Member
 service_in d = read_in service_of member.Service d
 
 -- what is asked for is loggedOn or one of four states
-unfoldable pub asked_in : Data → Result Asked Member
-asked_in d = read_in asked_of member.Requested d
+unfoldable pub requested_state_in : Data → Result RequestedState Member
+requested_state_in d = read_in requested_state_of member.Requested d

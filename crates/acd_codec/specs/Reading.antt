@@ -14,11 +14,11 @@ use Rattle.acd_codec.specs.declared.member.Member.{Member}
 use Rattle.acd_codec.specs.declared.member.Member.TheVariants as member
 use Rattle.acd_codec.specs.declared.fault.ReadFault.{ReadFault}
 use Rattle.acd_codec.specs.declared.fault.ReadFault.TheVariants.{Malformed, NoMemory}
-use Rattle.acd_codec.specs.declared.service.Asked.{Asked}
-use Rattle.acd_codec.specs.declared.service.Asked.TheVariants as asked
+use Rattle.acd_codec.specs.declared.service.RequestedState.{RequestedState}
+use Rattle.acd_codec.specs.declared.service.RequestedState.TheVariants as requested_state
 use Rattle.acd_codec.specs.declared.service.Service.{Service}
 use Rattle.acd_codec.specs.declared.service.Service.TheVariants as service
-use Rattle.acd_codec.specs.MemberReading.{device_in, agent_in, name_in, requester_in, invoke_in, seconds_in, serial_in, service_in, asked_in}
+use Rattle.acd_codec.specs.MemberReading.{device_in, agent_in, name_in, requester_in, invoke_in, seconds_in, serial_in, service_in, requested_state_in}
 
 -- the first faulty member ends the reading
 infixl 10 ◌>>=◌
@@ -50,18 +50,18 @@ connection_in d = do
   Ok (call, device)
 
 -- only loggedOn has a device and a group
-unfoldable pub requested_in : Data → Asked → Result Requested Member
-requested_in d asked.LoggedOn = do
+unfoldable pub requested_in : Data → RequestedState → Result Requested Member
+requested_in d requested_state.LoggedOn = do
   place ← two_devices_in member.Device member.Group d
   Ok (requested.LoggedOn place.0 place.1)
-requested_in d (asked.State state) = Ok (requested.State state)
+requested_in d (requested_state.State state) = Ok (requested.State state)
 
 -- an agent, then what is asked for, then what only loggedOn has
 unfoldable pub set_agent_state_in : Data → Result Command Member
 set_agent_state_in d = do
   agent ← agent_in d
-  asked ← asked_in d
-  requested ← requested_in d asked
+  state ← requested_state_in d
+  requested ← requested_in d state
   Ok (SetAgentState agent requested)
 
 -- a service on a connection

@@ -11,11 +11,11 @@ use Rattle.acd_terms.specs.declared.command.Command.{Command}
 use Rattle.acd_terms.specs.declared.command.Command.TheVariants.{AddGroup, AddStation, AddAgent, ArriveCall, MakeCall, PhoneOffHook, AnswerCall, HoldCall, RetrieveCall, ClearConnection, DeflectCall, SingleStepTransfer, SetAgentState, MonitorStart, MonitorStop, Tick}
 use Rattle.acd_codec.specs.declared.member.Member.{Member}
 use Rattle.acd_codec.specs.declared.member.Member.TheVariants as m
-use Rattle.acd_codec.specs.declared.service.Asked.TheVariants as asked
+use Rattle.acd_codec.specs.declared.service.RequestedState.TheVariants as requested_state
 use Rattle.acd_codec.specs.declared.service.Service.{Service}
 use Rattle.acd_codec.specs.declared.service.Service.TheVariants as service
 use Rattle.acd_codec.specs.Members.{member_name}
-use Rattle.acd_codec.specs.Services.{service_name, asked_name}
+use Rattle.acd_codec.specs.Services.{service_name, requested_state_name}
 
 -- a member that is a text, before the others
 abbrev pub text : Member → List ℕ → Members → Members
@@ -63,7 +63,7 @@ monitor_stop requester invoke monitor =
 -- only loggedOn has a device and a group
 abbrev pub set_agent_state : List ℕ → ℕ → ℕ → Requested → Members
 set_agent_state requester invoke agent (requested.LoggedOn device group) =
-    digits m.Agent agent (digits m.Device device (digits m.Group group (whole m.Invoke invoke (text m.Requested (asked_name asked.LoggedOn) (text m.Requester requester (text m.Service (service_name service.SetAgentState) no_members))))))
+    digits m.Agent agent (digits m.Device device (digits m.Group group (whole m.Invoke invoke (text m.Requested (requested_state_name requested_state.LoggedOn) (text m.Requester requester (text m.Service (service_name service.SetAgentState) no_members))))))
 set_agent_state requester invoke agent (requested.State state) =
     digits m.Agent agent (whole m.Invoke invoke (text m.Requested (pending_name state) (text m.Requester requester (text m.Service (service_name service.SetAgentState) no_members))))
 

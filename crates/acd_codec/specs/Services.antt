@@ -6,8 +6,8 @@ use Rattle.acd_terms.specs.States.{pending_name}
 use Rattle.acd_terms.specs.declared.command.Command.{Command}
 use Rattle.acd_terms.specs.declared.command.Command.TheVariants as command
 use Rattle.acd_terms.specs.declared.state.Pending.TheVariants as pending
-use Rattle.acd_codec.specs.declared.service.Asked.{Asked}
-use Rattle.acd_codec.specs.declared.service.Asked.TheVariants as asked
+use Rattle.acd_codec.specs.declared.service.RequestedState.{RequestedState}
+use Rattle.acd_codec.specs.declared.service.RequestedState.TheVariants as requested_state
 use Rattle.acd_codec.specs.declared.service.Service.{Service}
 use Rattle.acd_codec.specs.declared.service.Service.TheVariants.{AddGroup, AddStation, AddAgent, ArriveCall, MakeCall, PhoneOffHook, AnswerCall, HoldCall, RetrieveCall, ClearConnection, DeflectCall, SingleStepTransfer, SetAgentState, MonitorStart, MonitorStop, Tick}
 
@@ -58,16 +58,16 @@ service_of_command (command.MonitorStart device) = MonitorStart
 service_of_command (command.MonitorStop monitor) = MonitorStop
 service_of_command command.Tick = Tick
 
-abbrev pub asked_name : Asked → List ℕ
-asked_name asked.LoggedOn = codes "loggedOn"
-asked_name (asked.State state) = pending_name state
+abbrev pub requested_state_name : RequestedState → List ℕ
+requested_state_name requested_state.LoggedOn = codes "loggedOn"
+requested_state_name (requested_state.State state) = pending_name state
 
 -- busy can't be asked for
-abbrev pub states_to_ask : List Asked
-states_to_ask =
-    asked.LoggedOn ∷ asked.State pending.LoggedOff ∷ asked.State pending.NotReady
-    ∷ asked.State pending.Ready ∷ asked.State pending.WorkingAfterCall ∷ []
+abbrev pub requested_states : List RequestedState
+requested_states =
+    requested_state.LoggedOn ∷ requested_state.State pending.LoggedOff ∷ requested_state.State pending.NotReady
+    ∷ requested_state.State pending.Ready ∷ requested_state.State pending.WorkingAfterCall ∷ []
 
 -- what this name asks for
-abbrev pub asked_of : List ℕ → Option Asked
-asked_of text = find (λ a. bytes_eq text (asked_name a)) states_to_ask
+abbrev pub requested_state_of : List ℕ → Option RequestedState
+requested_state_of text = find (λ a. bytes_eq text (requested_state_name a)) requested_states

@@ -2,12 +2,12 @@
 
 ghost use Rattle.std.specs.Prelude.{◌≡◌, Some, option_map, IfOk, IfErr};
 ghost use Rattle.serde_json.specs.View.{view};
-ghost use Rattle.acd_codec.specs.MemberReading.{text_in, number_in, device_in, agent_in, name_in, requester_in, invoke_in, seconds_in, serial_in, service_in, asked_in};
+ghost use Rattle.acd_codec.specs.MemberReading.{text_in, number_in, device_in, agent_in, name_in, requester_in, invoke_in, seconds_in, serial_in, service_in, requested_state_in};
 ghost use Rattle.acd_codec.specs.Reading.{Gives, IsFault, at_connection, at_device, at_devices, to_device, add_group_in, add_agent_in, monitor_stop_in, two_devices_in, connection_in, requested_in, set_agent_state_in, command_in, request_in, request_from, reads_as};
 
 use crate::fault::ReadFault;
 use crate::member::Member;
-use crate::service::{Asked, Service};
+use crate::service::{RequestedState, Service};
 use acd_terms::{
     AgentId, Command, DeviceId, Invoke, Name, Request, Requested, Requester, Seconds, Serial,
 };
@@ -108,13 +108,13 @@ fn service_in(value: &Value) -> Result<Service, Member>
     }
 }
 
-#[tactic(auto, unfolding(crate::specs::MemberReading::asked_in))]
-fn asked_in(value: &Value) -> Result<Asked, Member>
-    ensures { result ≡ asked_in (view value.now) }
+#[tactic(auto, unfolding(crate::specs::MemberReading::requested_state_in))]
+fn requested_state_in(value: &Value) -> Result<RequestedState, Member>
+    ensures { result ≡ requested_state_in (view value.now) }
 {
     match text_in(value, Member::Requested) {
         None => Err(Member::Requested),
-        Some(text) => Asked::named(text).ok_or(Member::Requested),
+        Some(text) => RequestedState::named(text).ok_or(Member::Requested),
     }
 }
 
@@ -168,15 +168,15 @@ fn connection_in(value: &Value) -> Result<(Serial, DeviceId), Member>
 }
 
 #[tactic(auto, unfolding(crate::specs::Reading::requested_in))]
-fn requested_in(value: &Value, asked: Asked) -> Result<Requested, Member>
-    ensures { result ≡ requested_in (view value.now) asked }
+fn requested_in(value: &Value, state: RequestedState) -> Result<Requested, Member>
+    ensures { result ≡ requested_in (view value.now) state }
 {
-    match asked {
-        Asked::LoggedOn => {
+    match state {
+        RequestedState::LoggedOn => {
             let (device, group) = two_devices_in(value, Member::Device, Member::Group)?;
             Ok(Requested::LoggedOn { device, group })
         }
-        Asked::State(state) => Ok(Requested::State(state)),
+        RequestedState::State(state) => Ok(Requested::State(state)),
     }
 }
 
@@ -185,8 +185,8 @@ fn set_agent_state_in(value: &Value) -> Result<Command, Member>
     ensures { result ≡ set_agent_state_in (view value.now) }
 {
     let agent = agent_in(value)?;
-    let asked = asked_in(value)?;
-    let requested = requested_in(value, asked)?;
+    let state = requested_state_in(value)?;
+    let requested = requested_in(value, state)?;
     Ok(Command::SetAgentState { agent, requested })
 }
 

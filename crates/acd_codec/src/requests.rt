@@ -5,11 +5,11 @@ ghost use Rattle.serde_json.specs.View.{view, members_view};
 ghost use Rattle.serde_json.specs.Data.{string, number, unsigned, object, no_members, put};
 ghost use Rattle.acd_terms.specs.Forms.{digits_of};
 ghost use Rattle.acd_codec.specs.Members.{member_name};
-ghost use Rattle.acd_codec.specs.Services.{asked_name};
+ghost use Rattle.acd_codec.specs.Services.{requested_state_name};
 ghost use Rattle.acd_codec.specs.RequestTexts.{add_group, add_agent, arrive_call, make_call, at_device, at_connection, to_device, set_agent_state, monitor_stop, sent, request_data, request_text};
 
 use crate::member::Member;
-use crate::service::{Asked, Service};
+use crate::service::{RequestedState, Service};
 use acd_terms::{AgentId, Command, DeviceId, Name, Request, Requested, Seconds, Serial};
 use serde_json::{Map, Value};
 use std::alloc::{AllocError, Global};
@@ -172,14 +172,14 @@ fn asking(
     alloc: Global,
     request: &Request,
     agent: &AgentId,
-    asked: Asked,
+    state: RequestedState,
 ) -> Result<Members, AllocError>
     ensures { let r = request.now in
-        IfOk result (λ m. members_view m.entries ≡ put (member_name Member.Requested) (string (asked_name asked)) (put (member_name Member.Agent) (string (digits_of agent.now)) (sent r.requester r.invoke Service.SetAgentState no_members))) }
+        IfOk result (λ m. members_view m.entries ≡ put (member_name Member.Requested) (string (requested_state_name state)) (put (member_name Member.Agent) (string (digits_of agent.now)) (sent r.requester r.invoke Service.SetAgentState no_members))) }
 {
     let mut members = sent(alloc, request, Service::SetAgentState)?;
     put_text(alloc, &mut members, Member::Agent, agent.text().as_str())?;
-    put_text(alloc, &mut members, Member::Requested, asked.name())?;
+    put_text(alloc, &mut members, Member::Requested, state.name())?;
     Ok(members)
 }
 
@@ -193,7 +193,7 @@ fn log_on(
     ensures { let r = request.now in
         IfOk result (λ m. members_view m.entries ≡ set_agent_state r.requester r.invoke agent.now (Requested.LoggedOn device.now group.now)) }
 {
-    let mut members = asking(alloc, request, agent, Asked::LoggedOn)?;
+    let mut members = asking(alloc, request, agent, RequestedState::LoggedOn)?;
     put_text(alloc, &mut members, Member::Device, device.text().as_str())?;
     put_text(alloc, &mut members, Member::Group, group.text().as_str())?;
     Ok(members)
@@ -210,7 +210,7 @@ fn set_agent_state(
 {
     match requested {
         Requested::LoggedOn { device, group } => log_on(alloc, request, agent, device, group),
-        Requested::State(state) => asking(alloc, request, agent, Asked::State(*state)),
+        Requested::State(state) => asking(alloc, request, agent, RequestedState::State(*state)),
     }
 }
 

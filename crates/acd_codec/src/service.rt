@@ -1,7 +1,7 @@
 //! The names of services, and of the states that can be asked for.
 
 ghost use Rattle.std.specs.Prelude.{◌≡◌};
-ghost use Rattle.acd_codec.specs.Services.{service_name, service_of, service_of_command, asked_name, asked_of};
+ghost use Rattle.acd_codec.specs.Services.{service_name, service_of, service_of_command, requested_state_name, requested_state_of};
 
 use acd_terms::{Command, Pending};
 
@@ -103,33 +103,33 @@ impl Service {
 
 /// What Set Agent State asks for, without the members that only loggedOn has.
 #[derive(Clone, Copy, Debug, PartialEq, Eq)]
-pub enum Asked {
+pub enum RequestedState {
     LoggedOn,
     State(Pending),
 }
 
-impl Asked {
+impl RequestedState {
     /// What this name asks for.
-    pub fn named(text: &str) -> Option<Asked>
-        ensures { result ≡ asked_of text.now }
+    pub fn named(text: &str) -> Option<RequestedState>
+        ensures { result ≡ requested_state_of text.now }
     {
         match text {
-            "loggedOn" => Some(Asked::LoggedOn),
-            "loggedOff" => Some(Asked::State(Pending::LoggedOff)),
-            "notReady" => Some(Asked::State(Pending::NotReady)),
-            "ready" => Some(Asked::State(Pending::Ready)),
-            "workingAfterCall" => Some(Asked::State(Pending::WorkingAfterCall)),
+            "loggedOn" => Some(RequestedState::LoggedOn),
+            "loggedOff" => Some(RequestedState::State(Pending::LoggedOff)),
+            "notReady" => Some(RequestedState::State(Pending::NotReady)),
+            "ready" => Some(RequestedState::State(Pending::Ready)),
+            "workingAfterCall" => Some(RequestedState::State(Pending::WorkingAfterCall)),
             _ => None,
         }
     }
 
     /// The name as it is written.
     pub fn name(self) -> &'static str
-        ensures { result.now ≡ asked_name self }
+        ensures { result.now ≡ requested_state_name self }
     {
         match self {
-            Asked::LoggedOn => "loggedOn",
-            Asked::State(state) => state.name(),
+            RequestedState::LoggedOn => "loggedOn",
+            RequestedState::State(state) => state.name(),
         }
     }
 }

@@ -9,7 +9,7 @@ use Rattle.acd_terms.specs.declared.command.Arrival.{Arrival}
 use Rattle.acd_terms.specs.declared.event.Event.{Event}
 use Rattle.acd_terms.specs.declared.record.GroupRecord.{GroupRecord}
 use Rattle.acd_model.specs.Step.{step}
-use Rattle.acd_model.specs.Run.{Asked, Ran}
+use Rattle.acd_model.specs.Run.{TimedCommand, AfterRun}
 use Rattle.acd_model.specs.Run as terms
 use Rattle.acd_model.specs.Rules.First.{BreaksNoRule}
 use Rattle.acd_model.specs.Figures.{figures_of}
@@ -26,7 +26,7 @@ use Rattle.acd_laws.proofs.RulesAll.{run_keeps_rules}
 use Rattle.acd_book.specs.declared.kept.Kept.{Kept}
 use Rattle.acd_book.specs.Content.{Content, empty_content, IsCounted}
 use Rattle.acd_desk.specs.Firsts.{executed, record_of, run_from}
-use Rattle.acd_desk.specs.Stands.{arrivals_of, IsSound, asked_of}
+use Rattle.acd_desk.specs.Stands.{arrivals_of, IsSound, commands_of}
 use Rattle.acd_desk.specs.Laws.{KeepsLaws}
 use Rattle.acd_desk.specs.Replies.{after}
 use Rattle.acd_desk.proofs.Sound.{sound_list, ran_sound}
@@ -38,22 +38,22 @@ over : (P : Rows → List Event → Type 0) {s t : Rows} {es fs : List Event} �
 over P {s = s} {fs = fs} e f h = subst (λ (x : Rows). P x fs) e (subst (λ (x : List Event). P s x) f h)
 
 -- the tables and events of a run of contents are those of the switch's run
-rows_of_run : (l : List Arrival) (c : Content) → (run_from c l).rows ≡ (terms.run c.rows (asked_of l)).rows
+rows_of_run : (l : List Arrival) (c : Content) → (run_from c l).rows ≡ (terms.run c.rows (commands_of l)).rows
 unfolding terms.run
 rows_of_run [] c = refl
 rows_of_run (a ∷ l) c = rows_of_run l (executed c a)
 
-events_of_run : (l : List Arrival) (c : Content) → (run_from c l).events ≡ c.events ++ (terms.run c.rows (asked_of l)).events
+events_of_run : (l : List Arrival) (c : Content) → (run_from c l).events ≡ c.events ++ (terms.run c.rows (commands_of l)).events
 unfolding terms.run
 events_of_run [] c = sym (append-nil c.events)
 events_of_run (a ∷ l) c =
     let one = step c.rows a.moment a.request.command in
-    events_of_run l (executed c a) ∙ append_assoc c.events one.events (terms.run one.rows (asked_of l)).events
+    events_of_run l (executed c a) ∙ append_assoc c.events one.events (terms.run one.rows (commands_of l)).events
 
-pub sound_rows : (c : Content) → IsSound c → c.rows ≡ (terms.run (empty_rows c.rows.limits) (asked_of (arrivals_of c.kept))).rows
+pub sound_rows : (c : Content) → IsSound c → c.rows ≡ (terms.run (empty_rows c.rows.limits) (commands_of (arrivals_of c.kept))).rows
 sound_rows c sound = ap (λ (x : Content). x.rows) (sound_list c sound) ∙ rows_of_run (arrivals_of c.kept) (empty_content c.rows.limits)
 
-pub sound_events : (c : Content) → IsSound c → c.events ≡ (terms.run (empty_rows c.rows.limits) (asked_of (arrivals_of c.kept))).events
+pub sound_events : (c : Content) → IsSound c → c.events ≡ (terms.run (empty_rows c.rows.limits) (commands_of (arrivals_of c.kept))).events
 sound_events c sound = ap (λ (x : Content). x.events) (sound_list c sound) ∙ events_of_run (arrivals_of c.kept) (empty_content c.rows.limits)
 
 -- a run from the empty state has kept one record for each stamp
@@ -68,31 +68,31 @@ pub sound_count : (c : Content) → IsSound c → c.rows.last_stamp ≡ length c
 sound_count c sound =
     sym (subst (λ (x : Content). length x.kept ≡ x.rows.last_stamp) (sym (sound_list c sound)) (one_each (arrivals_of c.kept) (empty_content c.rows.limits) refl))
 
-length-asked : (ks : List Kept) → length (asked_of (arrivals_of ks)) ≡ length ks
-length-asked [] = refl
-length-asked (k ∷ ks) = let e = length-asked ks in omega (arith, e)
+length-commands : (ks : List Kept) → length (commands_of (arrivals_of ks)) ≡ length ks
+length-commands [] = refl
+length-commands (k ∷ ks) = let e = length-commands ks in omega (arith, e)
 
 pub sound_rules : (c : Content) → IsSound c → BreaksNoRule c.rows
 sound_rules c sound =
-    let size = length-asked c.kept in
+    let size = length-commands c.kept in
     subst BreaksNoRule (sym (sound_rows c sound))
-    (run_keeps_rules c.rows.limits (asked_of (arrivals_of c.kept)) sound.fits (omega (arith, size, sound.few)))
+    (run_keeps_rules c.rows.limits (commands_of (arrivals_of c.kept)) sound.fits (omega (arith, size, sound.few)))
 
 -- a sound content keeps all laws of runs
 pub sound_keeps_laws : (c : Content) → IsSound c → KeepsLaws c
 sound_keeps_laws c sound =
-    let asked : List Asked = asked_of (arrivals_of c.kept) in
-    let ran : Ran = terms.run (empty_rows c.rows.limits) asked in
+    let commands : List TimedCommand = commands_of (arrivals_of c.kept) in
+    let ran : AfterRun = terms.run (empty_rows c.rows.limits) commands in
     let rows : ran.rows ≡ c.rows = sym (sound_rows c sound) in
     let events : ran.events ≡ c.events = sym (sound_events c sound) in
     record {
-      placed = over IsPlaced rows events (run_is_placed c.rows.limits asked);
-      one_offer = subst HasOneOffer rows (run_has_one_offer c.rows.limits asked);
-      balanced = over IsBalanced rows events (run_is_balanced c.rows.limits asked);
-      no_offer = subst LeavesNoOffer rows (run_leaves_no_offer c.rows.limits asked);
-      figures = over (λ (s : Rows) (es : List Event). (g : GroupRecord) → Among g s.groups → g.figures ≡ figures_of g.device es) rows events (run_keeps_figures c.rows.limits asked);
+      placed = over IsPlaced rows events (run_is_placed c.rows.limits commands);
+      one_offer = subst HasOneOffer rows (run_has_one_offer c.rows.limits commands);
+      balanced = over IsBalanced rows events (run_is_balanced c.rows.limits commands);
+      no_offer = subst LeavesNoOffer rows (run_leaves_no_offer c.rows.limits commands);
+      figures = over (λ (s : Rows) (es : List Event). (g : GroupRecord) → Among g s.groups → g.figures ≡ figures_of g.device es) rows events (run_keeps_figures c.rows.limits commands);
       rules = sound_rules c sound;
-      watched = over IsWatched rows events (run_is_watched c.rows.limits asked);
+      watched = over IsWatched rows events (run_is_watched c.rows.limits commands);
     }
 
 pub sound_counted : (c : Content) → IsSound c → IsCounted c

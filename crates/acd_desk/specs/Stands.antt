@@ -8,7 +8,7 @@ use Rattle.acd_terms.specs.declared.command.Request.{Request}
 use Rattle.acd_book.specs.Content.{Content, kept_of}
 use Rattle.acd_desk.specs.declared.taken.Taken.{Taken}
 use Rattle.acd_model.specs.Step.{executed_moment}
-use Rattle.acd_model.specs.Run.{Asked}
+use Rattle.acd_model.specs.Run.{TimedCommand}
 use Rattle.acd_desk.specs.Firsts.{distinct_from, executed, run}
 use Rattle.acd_desk.specs.Replies.{reply_to}
 
@@ -45,5 +45,5 @@ raised_from c [] = []
 raised_from c (a ∷ rest) = record { moment = executed_moment c.rows a.moment; request = a.request } ∷ raised_from (executed c a) rest
 
 -- the commands of arrivals at their moments
-abbrev pub asked_of : List Arrival → List Asked
-asked_of list = map (λ (a : Arrival). record { moment = a.moment; command = a.request.command }) list
+abbrev pub commands_of : List Arrival → List TimedCommand
+commands_of list = map (λ (a : Arrival). record { moment = a.moment; command = a.request.command }) list

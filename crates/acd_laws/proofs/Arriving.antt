@@ -2,7 +2,7 @@
 use Rattle.std.proofs.Common.{◌≡◌, ℕ, inl, inr, Bool, true, false, ◌&&◌, ◌||◌, Option, Some, None, refl, ◌∙◌, arith, ◌+◌, ◌≤◌, not, List, sym, ap, subst}
 use Rattle.std.specs.Prelude.{◌==◌, is_some}
 use Rattle.std.proofs.lemmas.Bool.{and_parts, and_from, not-true, or_right, or_left, and_right, eqb-true}
-use Rattle.acd_laws.proofs.Words.{Rows, AgentRecord, ConnectionRecord, ConnectionState, count, Among, Every, IsAscending, is_initiated, is_alerting, is_hold, is_answered, is_live, group_of, station_of, call_of, is_group, is_station, is_planned, is_distributed, is_taken, is_idle, agent_order, connection_order, is_open, parties_of, initiated_of, open_of, live_at, alerting_at, hold_at, is_distributed_at}
+use Rattle.acd_laws.proofs.Words.{Rows, AgentRecord, ConnectionRecord, ConnectionState, count, Among, Every, IsAscending, is_initiated, is_alerting, is_hold, is_answered, is_live, group_of, station_of, call_of, is_group, is_station, is_planned, is_distributed, is_idle, agent_order, connection_order, is_open, parties_of, initiated_of, open_of, live_at, alerting_at, hold_at, is_distributed_at}
 use Rattle.acd_terms.specs.declared.state.ConnectionState.TheVariants as S
 use Rattle.acd_model.specs.CallMoves.{plain, met_at, destination_of, arriving}
 use Rattle.acd_laws.proofs.Facts.{Bare, GroupColumn, IsCaller, StandsAt, ConnectionRule, RulesBut, Rules, AgentRule, ringing_at, talking_at, seated_at, ready_at, busy_at, pending_at, two_if}
@@ -40,7 +40,7 @@ is_at : ℕ → ConnectionRecord → Bool
 is_at d x = x.device == d && (is_live x.state || is_hold x.state)
 
 none_at : (s : Rows) (d : ℕ) → is_idle s d ≡ true → count (is_at d) s.connections ≡ 0
-unfolding is_at is_taken
+unfolding is_at is_idle
 none_at s d e = none_counted (λ x. x.device == d && (is_live x.state || is_hold x.state)) s.connections (not-true _ e)
 
 live_is_at : (d : ℕ) (x : ConnectionRecord) → live_at d x ≡ true → is_at d x ≡ true

@@ -10,7 +10,7 @@ use Rattle.acd_model.specs.Step.{step, executed_moment, next_stamp}
 use Rattle.acd_laws.proofs.State.{group_counted_found, is_some_mapped}
 use Rattle.acd_laws.proofs.Arriving.{rule_same}
 use Rattle.acd_laws.proofs.RulesKept.{rules_moves}
-use Rattle.acd_model.specs.Run.{Asked, run}
+use Rattle.acd_model.specs.Run.{TimedCommand, run}
 
 abbrev pub ended : Rows → List Event → ℕ → ℕ → ℕ → Rows
 ended t es k m n = with_last (with_figures t es) k m n
@@ -82,15 +82,15 @@ KeptByStep P = (s : Rows) (events : List Event) (moment : ℕ) (command : Comman
 abbrev pub KeptByRules : (Rows → List Event → Type 0) → Type 0
 KeptByRules P = (s : Rows) (events : List Event) (moment : ℕ) (command : Command) → Rules s → P s events → P (step s moment command).rows (events ++ (step s moment command).events)
 
-kept_on : (P : Rows → List Event → Type 0) → KeptByStep P → (asked : List Asked) (s : Rows) (events : List Event) → P s events → P (run s asked).rows (events ++ (run s asked).events)
+kept_on : (P : Rows → List Event → Type 0) → KeptByStep P → (commands : List TimedCommand) (s : Rows) (events : List Event) → P s events → P (run s commands).rows (events ++ (run s commands).events)
 unfolding run
 kept_on P f [] s events h = subst (P s) (sym (append-nil events)) h
 kept_on P f (q ∷ more) s events h =
     let one = step s q.moment q.command in
     subst (P (run one.rows more).rows) (append_assoc events one.events (run one.rows more).events) (kept_on P f more one.rows (events ++ one.events) (f s events q.moment q.command h))
 
-pub kept_by_run : (P : Rows → List Event → Type 0) → KeptByStep P → (limits : Limits) → P (empty_rows limits) [] → (asked : List Asked) → P (run (empty_rows limits) asked).rows (run (empty_rows limits) asked).events
-kept_by_run P f limits h asked = kept_on P f asked (empty_rows limits) [] h
+pub kept_by_run : (P : Rows → List Event → Type 0) → KeptByStep P → (limits : Limits) → P (empty_rows limits) [] → (commands : List TimedCommand) → P (run (empty_rows limits) commands).rows (run (empty_rows limits) commands).events
+kept_by_run P f limits h commands = kept_on P f commands (empty_rows limits) [] h
 
 -- the empty state keeps the rules
 pub rules_first : (limits : Limits) → Rules (empty_rows limits)

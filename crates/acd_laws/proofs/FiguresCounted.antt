@@ -19,7 +19,7 @@ use Rattle.acd_laws.proofs.CountedEvents.{group_counted, quiet, figures_joined, 
 use Rattle.acd_laws.proofs.Deeds.{Party, Round, offers, returns, rests, Deed, nothing, adds_group, adds_station, adds_agent, watches, unwatches, arrives, makes, goes_out, answers, holds, retrieves, clears, deflects, transfers, logs_on, waits, goes}
 use Rattle.acd_model.specs.Figures.{figures_of, sum_of_figures, counting, with_figures}
 use Rattle.acd_model.specs.Services.Serve.{serve}
-use Rattle.acd_model.specs.Run.{Asked, run}
+use Rattle.acd_model.specs.Run.{TimedCommand, run}
 use Rattle.acd_model.specs.Step.{numbered, executed_moment, next_stamp, step_moves, step}
 use Rattle.acd_laws.specs.FigureLaws.{KeepsFigures, RunKeepsFigures}
 use Rattle.acd_laws.proofs.Ended.{rules_step, rules_first, kept_by_run, KeptByRules}
@@ -235,14 +235,14 @@ record Counted (s : Rows) (events : List Event) : Type 0 where
 keeps_at_first : (limits : Limits) → KeepsFigures (empty_rows limits) []
 keeps_at_first limits = record { groups = λ g a. absurd a; others = λ d e. no_events d; offered_by = λ x a. absurd a }
 
-pub figures_kept : (limits : Limits) (asked : List Asked) → KeepsFigures (run (empty_rows limits) asked).rows (run (empty_rows limits) asked).events
-figures_kept limits asked =
+pub figures_kept : (limits : Limits) (commands : List TimedCommand) → KeepsFigures (run (empty_rows limits) commands).rows (run (empty_rows limits) commands).events
+figures_kept limits commands =
     (kept_by_run Counted
     (λ s events moment command h. record { rules = rules_step s moment command h.rules; figures = step_keeps_figures s events moment command h.rules h.figures })
-    limits (record { rules = rules_first limits; figures = keeps_at_first limits }) asked).figures
+    limits (record { rules = rules_first limits; figures = keeps_at_first limits }) commands).figures
 
 pub run_keeps_figures : RunKeepsFigures
-run_keeps_figures limits asked g a = (figures_kept limits asked).groups g a
+run_keeps_figures limits commands g a = (figures_kept limits commands).groups g a
 
 -- of a planned group a step changes the figures alone
 

@@ -2,7 +2,7 @@
 use Rattle.std.proofs.Common.{◌≡◌, ℕ, ◌+◌, ◌≤◌, Bool, true, false, not, ◌&&◌, ◌||◌, Some, None, refl, sym, ◌∙◌, ap, subst, arith, eq-eqb}
 use Rattle.std.specs.Prelude.{◌==◌, IsTrue, is_some}
 use Rattle.std.proofs.lemmas.Bool.{and_parts, and_from, eqb-true, and_left, and_right, not-true}
-use Rattle.acd_laws.proofs.Words.{Rows, AgentRecord, ConnectionRecord, count, Among, is_ready, is_alerting, is_hold, is_queued, is_answered, is_live, group_of, station_of, call_of, connection_of, is_group, is_station, has, is_distributed, is_taken, is_idle, is_occupied, with_connection, without_connection, changed, moved, connection_order, is_open, parties_of, initiated_of, open_of, live_at, alerting_at, hold_at, is_distributed_at}
+use Rattle.acd_laws.proofs.Words.{Rows, AgentRecord, ConnectionRecord, count, Among, is_ready, is_alerting, is_hold, is_queued, is_answered, is_live, group_of, station_of, call_of, connection_of, is_group, is_station, has, is_distributed, is_idle, is_occupied, with_connection, without_connection, changed, moved, connection_order, is_open, parties_of, initiated_of, open_of, live_at, alerting_at, hold_at, is_distributed_at}
 use Rattle.acd_terms.specs.declared.state.ConnectionState.TheVariants as S
 use Rattle.acd_model.specs.declared.moves.Change.TheVariants.{PutConnection, RemoveConnection}
 use Rattle.acd_model.specs.CallMoves.{ringing}
@@ -32,7 +32,7 @@ talking_is d x e =
 
 -- a connection at an idle station is open
 open_when_idle : (s : Rows) (z : ConnectionRecord) → Among z s.connections → is_idle s z.device ≡ true → is_open z.state ≡ true
-unfolding is_taken
+unfolding is_idle
 open_when_idle s z a e =
     (elim z.state as (λ st. z.state ≡ st → is_open st ≡ true) [
       | S.Initiated ↦ λ q. absurd (busy (rw q (and_from _ _ (eqb_self z.device) refl)))

@@ -4,7 +4,7 @@ use Rattle.std.specs.Prelude.{◌==◌}
 use Rattle.std.proofs.lemmas.Bool.{cond-false}
 use Rattle.acd_laws.proofs.Words.{Rows, AgentRecord, ConnectionRecord, AgentState, Pending, Cause, Change, Ending, Move, Release, find_by, Every, IsAscending, at_connection, group_of, station_of, agent_of, connection_of, is_group, is_planned, agent_at, is_distributed, is_idle, with_group, with_station, with_agent, with_call, with_connection, with_monitor, without_call, without_connection, without_monitor, no_move, reported, changed, moved, agent_order}
 use Rattle.acd_terms.specs.declared.state.AgentState.TheVariants as A
-use Rattle.acd_model.specs.AgentMoves.{kept_in, in_state, state_report, go_from, wait_for}
+use Rattle.acd_model.specs.AgentMoves.{while_logged_on, in_state, state_report, go_from, wait_for}
 use Rattle.acd_model.specs.Release.{release_of, released, release_agent, release}
 use Rattle.acd_model.specs.Services.{busy_agent, occupy}
 use Rattle.acd_model.specs.declared.moves.Change.TheVariants.{PutAgent, PutConnection, PutGroup, PutStation, RemoveConnection}
@@ -17,7 +17,7 @@ use Rattle.acd_model.specs.CallMoves.{plain, queueing, met_at, arriving, arrival
 -- the agent in another state, at the same station unless it is null
 pub record Reseated (m k : ℕ) (a b : AgentRecord) : Type 0 where
   pub agent : b.agent ≡ a.agent
-  pub station : b.station ≡ kept_in b.state a.station
+  pub station : b.station ≡ while_logged_on b.state a.station
   pub stamp : b.stamp ≡ k
   pub since : b.since ≡ m
 

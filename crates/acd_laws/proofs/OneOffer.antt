@@ -63,4 +63,4 @@ pub step_keeps_one_offer : (s : Rows) (moment : ℕ) (command : Command) → Rul
 step_keeps_one_offer s moment command r = rules_give_one_offer _ (rules_step s moment command r)
 
 pub run_has_one_offer : RunHasOneOffer
-run_has_one_offer limits asked = rules_give_one_offer _ (kept_by_run (λ s events. Rules s) (λ s events moment command r. rules_step s moment command r) limits (rules_first limits) asked)
+run_has_one_offer limits commands = rules_give_one_offer _ (kept_by_run (λ s events. Rules s) (λ s events moment command r. rules_step s moment command r) limits (rules_first limits) commands)

@@ -12,7 +12,7 @@ use Rattle.std.proofs.lemmas.Bool.{and_left, and_right, and_from, eqb-true, fals
 use Rattle.acd_terms.specs.Columns.{columns_of}
 use Rattle.acd_terms.specs.declared.state.ConnectionState.TheVariants as S
 use Rattle.acd_model.specs.Told.{enters, last_entry}
-use Rattle.acd_model.specs.Watched.{is_held_by, IsHeldAt, InOrder}
+use Rattle.acd_model.specs.Watched.{waits_or_rings, HasPlace, InOrder}
 use Rattle.acd_model.specs.Step.{numbered}
 use Rattle.acd_laws.proofs.Told.{HasEntries, UpTo}
 use Rattle.acd_laws.proofs.CountedEvents.{numbered-append}
@@ -138,7 +138,7 @@ no_entry g c k n m [] z = refl
 no_entry g c k n m (x ∷ ms) z = last_event g c k n m x.report (events_of m ms) (omega (arith, z)) (λ j. no_entry g c k j m ms (omega (arith, z)))
 
 -- order stays where no call enters, and each that is held was held at its place
-pub stays : (m b : ℕ) (s : Rows) (ms : List Move) → ((g : ℕ) → entries g ms ≡ 0) → ((g c p : ℕ) → IsHeldAt (moved s ms) g c p → IsHeldAt s g c p) → OrderKept m b b s ms
+pub stays : (m b : ℕ) (s : Rows) (ms : List Move) → ((g : ℕ) → entries g ms ≡ 0) → ((g c p : ℕ) → HasPlace (moved s ms) g c p → HasPlace s g c p) → OrderKept m b b s ms
 stays m b s ms z h events n o =
     let same : (g c : ℕ) → last_entry g c 0 (events ++ numbered n (events_of m ms)) ≡ last_entry g c 0 events =
     λ g c. last-append g c 0 events (numbered n (events_of m ms)) ∙ no_entry g c (last_entry g c 0 events) n m ms (z g) in
@@ -176,23 +176,23 @@ order-append m a b c s ms ns f g events n o =
 
 -- what is held after a change of connections
 
-pub held_within : (s t : Rows) (g c p : ℕ) → ((z : ConnectionRecord) → Among z t.connections → Among z s.connections) → IsHeldAt t g c p → IsHeldAt s g c p
-held_within s t g c p f h = record { connection = h.connection; there = f h.connection h.there; held = h.held; of_call = h.of_call; at_place = h.at_place }
+pub placed_within : (s t : Rows) (g c p : ℕ) → ((z : ConnectionRecord) → Among z t.connections → Among z s.connections) → HasPlace t g c p → HasPlace s g c p
+placed_within s t g c p f h = record { connection = h.connection; there = f h.connection h.there; of_group = h.of_group; of_call = h.of_call; at_place = h.at_place }
 
 -- one that is put is not held, or was held at its place under its call
-pub held_put : (s t : Rows) (l : List ConnectionRecord) (y : ConnectionRecord) (g c p : ℕ) → ((z : ConnectionRecord) → Among z l → Among z s.connections)
-    → (is_held_by g y ≡ true → (x : ConnectionRecord) × (Among x s.connections) × (is_held_by g x ≡ true) × (x.call ≡ y.call) × (x.place ≡ y.place))
-    → t.connections ≡ put_by (connection_order y) l y → IsHeldAt t g c p → IsHeldAt s g c p
-held_put s t l y g c p within was same h =
+pub placed_put : (s t : Rows) (l : List ConnectionRecord) (y : ConnectionRecord) (g c p : ℕ) → ((z : ConnectionRecord) → Among z l → Among z s.connections)
+    → (waits_or_rings g y ≡ true → (x : ConnectionRecord) × (Among x s.connections) × (waits_or_rings g x ≡ true) × (x.call ≡ y.call) × (x.place ≡ y.place))
+    → t.connections ≡ put_by (connection_order y) l y → HasPlace t g c p → HasPlace s g c p
+placed_put s t l y g c p within was same h =
     elim (among_put (connection_order y) y l h.connection (subst (Among h.connection) same h.there)) [
-      | inr a ↦ record { connection = h.connection; there = within h.connection a; held = h.held; of_call = h.of_call; at_place = h.at_place }
-      | inl e ↦ (let w = was (subst (λ z. is_held_by g z ≡ true) e h.held) in
-          record { connection = w.0; there = w.1; held = w.2; of_call = w.3 ∙ sym (ap (λ (z : ConnectionRecord). z.call) e) ∙ h.of_call; at_place = w.4 ∙ sym (ap (λ (z : ConnectionRecord). z.place) e) ∙ h.at_place })
+      | inr a ↦ record { connection = h.connection; there = within h.connection a; of_group = h.of_group; of_call = h.of_call; at_place = h.at_place }
+      | inl e ↦ (let w = was (subst (λ z. waits_or_rings g z ≡ true) e h.of_group) in
+          record { connection = w.0; there = w.1; of_group = w.2; of_call = w.3 ∙ sym (ap (λ (z : ConnectionRecord). z.call) e) ∙ h.of_call; at_place = w.4 ∙ sym (ap (λ (z : ConnectionRecord). z.place) e) ∙ h.at_place })
     ]
 
-pub held_open : (g : ℕ) (z : ConnectionRecord) → is_held_by g z ≡ true → is_open z.state ≡ true
-held_open g z h =
-    (elim z.state as (λ st. is_held_by g (record z { state = st }) ≡ true → is_open st ≡ true) [
+pub open_in_state : (g : ℕ) (z : ConnectionRecord) → waits_or_rings g z ≡ true → is_open z.state ≡ true
+open_in_state g z h =
+    (elim z.state as (λ st. waits_or_rings g (record z { state = st }) ≡ true → is_open st ≡ true) [
       | S.Initiated ↦ λ q. absurd (cc (q))
       | S.Connected ↦ λ q. absurd (cc (q))
       | S.Hold ↦ λ q. absurd (cc (q))
@@ -206,18 +206,18 @@ pub record Enters (t : Rows) (y : ConnectionRecord) (r : Report) (call stamp : �
   pub new : (z : ConnectionRecord) → Among z t.connections → is_open z.state ≡ true → z.call ≡ call → ⊥
   pub call_is : y.call ≡ call
   pub reported : (columns_of r).call ≡ Some call
-  pub queue : (g : ℕ) → is_held_by g y ≡ true → (y.place ≡ Some stamp) × (is_entry g r ≡ true)
+  pub queue : (g : ℕ) → waits_or_rings g y ≡ true → (y.place ≡ Some stamp) × (is_entry g r ≡ true)
 
-held_after : (t : Rows) (y : ConnectionRecord) (r : Report) (call stamp : ℕ) → Enters t y r call stamp → (g c p : ℕ) → IsHeldAt (with_connection t y) g c p
-    → ((c ≡ call) × (p ≡ stamp) × (is_entry g r ≡ true)) ⊎ (IsHeldAt t g c p × (c ≡ call → ⊥))
+placed_after : (t : Rows) (y : ConnectionRecord) (r : Report) (call stamp : ℕ) → Enters t y r call stamp → (g c p : ℕ) → HasPlace (with_connection t y) g c p
+    → ((c ≡ call) × (p ≡ stamp) × (is_entry g r ≡ true)) ⊎ (HasPlace t g c p × (c ≡ call → ⊥))
 unfolding with_connection
-held_after t y r call stamp n g c p h =
+placed_after t y r call stamp n g c p h =
     elim (among_put (connection_order y) y t.connections h.connection h.there) [
-      | inl e ↦ (let k = n.queue g (subst (λ z. is_held_by g z ≡ true) e h.held) in
+      | inl e ↦ (let k = n.queue g (subst (λ z. waits_or_rings g z ≡ true) e h.of_group) in
           inl (sym h.of_call ∙ ap (λ (z : ConnectionRecord). z.call) e ∙ n.call_is, some_is p stamp (sym h.at_place ∙ ap (λ (z : ConnectionRecord). z.place) e ∙ k.0), k.1))
       | inr a ↦ inr (
-        record { connection = h.connection; there = a; held = h.held; of_call = h.of_call; at_place = h.at_place },
-        λ q. n.new h.connection a (held_open g h.connection h.held) (h.of_call ∙ q),
+        record { connection = h.connection; there = a; of_group = h.of_group; of_call = h.of_call; at_place = h.at_place },
+        λ q. n.new h.connection a (open_in_state g h.connection h.of_group) (h.of_call ∙ q),
       )
     ]
 
@@ -233,28 +233,28 @@ comes m b k t y r call lt w events n o =
     ap (λ x. cond x (n + 1) (last_entry g v 0 events)) (and_from (is_entry g r) (has (columns_of r).call v) f (rw w.reported (eq-eqb call v (sym e)))) in
     record {
       in_order = λ g c d p q a e.
-          elim (held_after t y r call k w g c p a) [
-            | inl x ↦ elim (held_after t y r call k w g d q e) [
+          elim (placed_after t y r call k w g c p a) [
+            | inl x ↦ elim (placed_after t y r call k w g d q e) [
               | inl z ↦ (let xp = x.1 in let zp = z.1 in let s1 = same g c x.0 x.2 in let s2 = same g d z.0 z.2 in
                   (λ l. absurd (omega (arith, l, xp, zp)), λ l. absurd (omega (arith, l, s1, s2))))
               | inr z ↦ (let xp = x.1 in let zb = o.up_to.places g d q z.0 in let s1 = same g c x.0 x.2 in let u = o.up_to.entries g d in let v = other g d z.1 in
                   (λ l. absurd (omega (arith, l, xp, zb, lt)), λ l. absurd (omega (arith, l, s1, u, v))))
             ]
-            | inr x ↦ elim (held_after t y r call k w g d q e) [
+            | inr x ↦ elim (placed_after t y r call k w g d q e) [
               | inl z ↦ (let zp = z.1 in let xb = o.up_to.places g c p x.0 in let u = o.up_to.entries g c in let v = other g c x.1 in let s1 = same g d z.0 z.2 in
                   (λ l. omega (arith, u, v, s1), λ l. omega (arith, zp, xb, lt)))
               | inr z ↦ (let old = o.in_order g c d p q x.0 z.0 in let v = other g c x.1 in let s1 = other g d z.1 in
                   (λ l. let u = old.0 l in omega (arith, u, v, s1), λ l. old.1 (omega (arith, l, v, s1))))
             ]
           ];
-      entered = λ g c p h. elim (held_after t y r call k w g c p h) [
+      entered = λ g c p h. elim (placed_after t y r call k w g c p h) [
         | inl x ↦ (let e = same g c x.0 x.2 in omega (arith, e))
         | inr x ↦ (let e = other g c x.1 in let u = o.entered g c p x.0 in omega (arith, e, u))
       ];
       up_to = record {
         entries = λ g c. let e = entry_one g c n m events r in let u = o.up_to.entries g c in
             let f : cond (is_entry g r && has (columns_of r).call c) (n + 1) (last_entry g c 0 events) ≤ n + 1 = upper (is_entry g r && has (columns_of r).call c) n (last_entry g c 0 events) u in omega (arith, e, f);
-        places = λ g c p h. elim (held_after t y r call k w g c p h) [
+        places = λ g c p h. elim (placed_after t y r call k w g c p h) [
           | inl x ↦ (let e = x.1 in omega (arith, e))
           | inr x ↦ (let e = o.up_to.places g c p x.0 in omega (arith, e, lt))
         ];

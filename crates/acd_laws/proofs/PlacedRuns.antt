@@ -149,10 +149,10 @@ history_step s events moment command h = record {
 }
 
 pub run_names_no_later_call : RunNamesNoLaterCall
-run_names_no_later_call limits asked = (kept_by_run History history_step limits (history_first limits) asked).names
+run_names_no_later_call limits commands = (kept_by_run History history_step limits (history_first limits) commands).names
 
 pub run_is_placed : RunIsPlaced
-run_is_placed limits asked = let h = kept_by_run History history_step limits (history_first limits) asked in placed_from _ _ h.rules h.cleared
+run_is_placed limits commands = let h = kept_by_run History history_step limits (history_first limits) commands in placed_from _ _ h.rules h.cleared
 
 -- a report that names no call above the last clears none there
 clears_none : (last c : ℕ) (r : Report) → last < c → IsUpTo last (columns_of r).call → clears c r ≡ false

@@ -15,7 +15,7 @@ use Rattle.acd_model.specs.Services.{no_figures}
 use Rattle.acd_model.specs.Rules.Occupied.{waits_in, rings_from}
 use Rattle.acd_model.specs.Rules.First.{BreaksNoRule}
 use Rattle.acd_model.specs.Step.{step, executed_moment, next_stamp}
-use Rattle.acd_model.specs.Run.{Asked, run}
+use Rattle.acd_model.specs.Run.{TimedCommand, run}
 use Rattle.acd_laws.specs.RuleLaws.{StepKeepsRules, RunKeepsRules, RulesBound, RulesLeaveRoom}
 use Rattle.acd_laws.proofs.Order.{holding}
 use Rattle.acd_laws.proofs.WatchedRuns.{follows_step, step_leaves_no_offer, step_keeps_watched, step_balances, run_is_watched, run_tells_no_more, run_is_balanced, run_leaves_no_offer}
@@ -175,7 +175,7 @@ keeps_first limits e = record {
   balance = tt;
 }
 
-run_on : (asked : List Asked) (s : Rows) → BreaksNoRule s → s.last_stamp + length asked ≤ s.limits.requests → BreaksNoRule (run s asked).rows
+run_on : (commands : List TimedCommand) (s : Rows) → BreaksNoRule s → s.last_stamp + length commands ≤ s.limits.requests → BreaksNoRule (run s commands).rows
 unfolding run
 run_on [] s e l = e
 run_on (q ∷ more) s e l =
@@ -184,7 +184,7 @@ run_on (q ∷ more) s e l =
     run_on more (step s q.moment q.command).rows (step_keeps_rules s q.moment q.command e (omega (arith, l))) (omega (arith, a, b, l))
 
 pub run_keeps_rules : RunKeepsRules
-run_keeps_rules limits asked e l = run_on asked (empty_rows limits) (keeps_written (empty_rows limits) (keeps_first limits e) (omega arith)) (omega (arith, l))
+run_keeps_rules limits commands e l = run_on commands (empty_rows limits) (keeps_written (empty_rows limits) (keeps_first limits e) (omega arith)) (omega (arith, l))
 
 -- bounds
 
@@ -230,14 +230,14 @@ step_keeps_laws s events moment command left h =
     }
 
 pub run_keeps_laws : RunKeepsLaws
-run_keeps_laws limits asked fit few = record {
-  rules = run_keeps_rules limits asked fit few;
-  placed = run_is_placed limits asked;
-  names = run_names_no_later_call limits asked;
-  one_offer = run_has_one_offer limits asked;
-  no_offer = run_leaves_no_offer limits asked;
-  balanced = run_is_balanced limits asked;
-  figures = figures_kept limits asked;
-  watched = run_is_watched limits asked;
-  no_more = run_tells_no_more limits asked;
+run_keeps_laws limits commands fit few = record {
+  rules = run_keeps_rules limits commands fit few;
+  placed = run_is_placed limits commands;
+  names = run_names_no_later_call limits commands;
+  one_offer = run_has_one_offer limits commands;
+  no_offer = run_leaves_no_offer limits commands;
+  balanced = run_is_balanced limits commands;
+  figures = figures_kept limits commands;
+  watched = run_is_watched limits commands;
+  no_more = run_tells_no_more limits commands;
 }

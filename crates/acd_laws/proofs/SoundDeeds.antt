@@ -32,8 +32,8 @@ use Rattle.acd_laws.proofs.KeptOut.{initiated_alone, outgoing}
 use Rattle.acd_laws.proofs.KeptEnds.{open_cases, closed_call, return_new}
 use Rattle.acd_laws.proofs.KeptOffer.{offer_station, offer_new}
 use Rattle.acd_laws.proofs.Told.{truthful_put, truthful_remove, truthful_outside, truthful_unseen, truthful_group, truthful_station, truthful_end, truthful_agent, truthful_silent_agent}
-use Rattle.acd_laws.proofs.Order.{holding, held, gone, holding_less, holding_new, stays, held_put, held_within}
-use Rattle.acd_laws.proofs.SoundMoves.{Sound, sound-append, sound_later, sound_nothing, sound_unheard, silently, sound_agent, and_yes, or_no, put, remove, ungrouped, connections_put, removed_within, ascending_less, held_shut, held_is, held_by_is, waiting_alerting, waiting_open, sound_put_new, sound_put_old, sound_remove, sound_arrival, arrive_leaves, open_gone, planned_station, planned_group}
+use Rattle.acd_laws.proofs.Order.{holding, held, gone, holding_less, holding_new, stays, placed_put, placed_within}
+use Rattle.acd_laws.proofs.SoundMoves.{Sound, sound-append, sound_later, sound_nothing, sound_unheard, silently, sound_agent, and_yes, or_no, put, remove, ungrouped, connections_put, removed_within, ascending_less, held_shut, held_is, waits_or_rings_is, waiting_alerting, waiting_open, sound_put_new, sound_put_old, sound_remove, sound_arrival, arrive_leaves, open_gone, planned_station, planned_group}
 use Rattle.acd_laws.proofs.Deeds.{new_call, Party, Free, Round, offers, returns, rests, Deed, nothing, adds_group, adds_station, adds_agent, watches, unwatches, arrives, makes, goes_out, answers, holds, retrieves, clears, deflects, transfers, logs_on, waits, goes}
 
 later : {m b k : ℕ} {s : Rows} {ms : List Move} → b < k → Sound m b b s ms → Sound m b k s ms
@@ -191,7 +191,7 @@ sound_clear_one s m b x r there =
           let d : holding t g ≡ holding u g = holding_same t u g same in
           omega (arith, a, c, d);
       order = stays m b s (clear x ∷ no_move ∷ end_call x.call (waiting_group x) ∷ []) (λ g. refl)
-          (λ g c p h. held_within s t g c p (λ z a. removed_within s x.call x.device z (subst (Among z) same a)) h);
+          (λ g c p h. placed_within s t g c p (λ z a. removed_within s x.call x.device z (subst (Among z) same a)) h);
     }
   where
     holding_same : (t v : Rows) (g : ℕ) → t.connections ≡ v.connections → holding t g ≡ holding v g
@@ -220,7 +220,7 @@ sound_clear_two s m b x y r there also same_call apart =
           let h : holding t g ≡ holding v g = holding_same t v g same in
           omega (arith, a, c, d, e, f, h);
       order = stays m b s (clear x ∷ clear y ∷ end_call x.call (first_group (waiting_group x) (waiting_group y)) ∷ []) (λ g. refl)
-          (λ g c p h. held_within s t g c p (λ z a. removed_within s x.call x.device z (removed_within u y.call y.device z (subst (Among z) same a))) h);
+          (λ g c p h. placed_within s t g c p (λ z a. removed_within s x.call x.device z (removed_within u y.call y.device z (subst (Among z) same a))) h);
     }
   where
     holding_same : (t v : Rows) (g : ℕ) → t.connections ≡ v.connections → holding t g ≡ holding v g
@@ -334,8 +334,8 @@ sound_offer_at s m b d x r there queued planned none =
           let f = held_ringing g m d x in
           omega (arith, a, c, e, f);
       order = stays m b s (offer_at m (Some x) (Some d)) (λ g. refl) (λ g c p h.
-          held_put s t u.connections y g c p (removed_within s x.call x.device)
-          (λ w. (x, connection_among s x.call x.device x there, held_by_is g x columns ∙ ap (λ o. has o g) (queued_group x queued) ∙ w, refl, refl)) (connections_put u y) h);
+          placed_put s t u.connections y g c p (removed_within s x.call x.device)
+          (λ w. (x, connection_among s x.call x.device x there, waits_or_rings_is g x columns ∙ ap (λ o. has o g) (queued_group x queued) ∙ w, refl, refl)) (connections_put u y) h);
     }
 
 -- an offer goes back to its group
@@ -365,8 +365,8 @@ sound_return s m k b g x r there alerting group =
           let i = no_entry f in
           omega (arith, a, c, e, h, i);
       order = stays m b s (divert x g cause.NoAnswer ∷ go_back x g ∷ []) (λ f. let i = no_entry f in omega (arith, i)) (λ f c p h.
-          held_put s t u.connections y f c p (removed_within s x.call x.device)
-          (λ w. (x, connection_among s x.call x.device x there, held_by_is f x rule.0 ∙ ap (λ o. has o f) (waiting_alerting x alerting ∙ group) ∙ sym (or_no (g == f)) ∙ w, refl, refl)) (connections_put u y) h);
+          placed_put s t u.connections y f c p (removed_within s x.call x.device)
+          (λ w. (x, connection_among s x.call x.device x there, waits_or_rings_is f x rule.0 ∙ ap (λ o. has o f) (waiting_alerting x alerting ∙ group) ∙ sym (or_no (g == f)) ∙ w, refl, refl)) (connections_put u y) h);
     })
     (sound_released s m k b (divert x g cause.NoAnswer ∷ go_back x g ∷ []) x NoAnswer r (tt, (tt, tt)))
 

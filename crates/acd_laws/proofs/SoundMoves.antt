@@ -3,13 +3,13 @@ use Rattle.std.proofs.Common.{◌≡◌, ℕ, ◌≤◌, List, [], ◌∷◌, �
 use Rattle.acd_laws.proofs.Words.{Rows, ConnectionRecord, ConnectionState, AgentState, Cause, Change, Move, Report, put_by, remove_by, count, Among, IsAscending, is_alerting, is_queued, at_connection, agent_of, connection_of, is_group, is_station, is_planned, has, with_connection, without_connection, silent, reported, changed, moved, connection_order, is_open, open_of}
 use Rattle.acd_terms.specs.Columns.{columns_of}
 use Rattle.acd_terms.specs.declared.state.AgentState.TheVariants as A
-use Rattle.acd_model.specs.AgentMoves.{kept_in, state_report}
+use Rattle.acd_model.specs.AgentMoves.{while_logged_on, state_report}
 use Rattle.acd_model.specs.Told.{Seat, seat_by}
-use Rattle.acd_model.specs.Watched.{seat_of, is_held_by}
+use Rattle.acd_model.specs.Watched.{seat_of, waits_or_rings}
 use Rattle.acd_model.specs.declared.moves.Change.TheVariants.{Nothing, PutAgent, PutConnection, RemoveConnection}
 use Rattle.acd_laws.proofs.MoveKinds.{LeavesConnections, left_connections, LeavesAgents, AgentMove, stays as nothing, waits, tells, Recorded, Arrival, queues, alerts, fails}
 use Rattle.acd_laws.proofs.Told.{Truthful, AllTruthful, truthful-append, truthful_unseen, truthful_agent, truthful_silent_agent, truthful_put}
-use Rattle.acd_laws.proofs.Order.{Balances, balances-append, holding, entry_by, gone_by, held, holding_new, holding_old, holding_less, OrderKept, stays, order-append, order_later, held_within, held_put, comes}
+use Rattle.acd_laws.proofs.Order.{Balances, balances-append, holding, entry_by, gone_by, held, holding_new, holding_old, holding_less, OrderKept, stays, order-append, order_later, placed_within, placed_put, comes}
 use Rattle.std.specs.Prelude.{◌==◌}
 use Rattle.std.proofs.lemmas.Bool.{and_right, or_left, or_right}
 use Rattle.acd_terms.specs.declared.event.Report.TheVariants as report
@@ -52,7 +52,7 @@ sound_unheard m b s x t u =
     record {
       truthful = (t, tt);
       balances = λ g. let e = u.entry g in let f = u.gone g in let h : holding (changed s x.change) g ≡ holding s g = held_same (changed s x.change) s g same in omega (arith, e, f, h);
-      order = stays m b s (x ∷ []) (λ g. let e = u.entry g in omega (arith, e)) (λ g c p h. held_within s (changed s x.change) g c p (λ z a. subst (Among z) same a) h);
+      order = stays m b s (x ∷ []) (λ g. let e = u.entry g in omega (arith, e)) (λ g c p h. placed_within s (changed s x.change) g c p (λ z a. subst (Among z) same a) h);
     }
   where
     held_same : (t v : Rows) (g : ℕ) → t.connections ≡ v.connections → holding t g ≡ holding v g
@@ -67,7 +67,7 @@ silently {m} {b} {s} c t h = sound_unheard m b s (silent c) t (record { leaves =
 record StateReport (st : AgentState) (n d : ℕ) (r : Report) : Type 0 where
   agent : (columns_of r).agent ≡ Some n
   call : (columns_of r).call ≡ None
-  seat : (old : Seat) → record { state = st; station = kept_in st old.station } ≡ seat_by (columns_of r).kind (columns_of r).device old
+  seat : (old : Seat) → record { state = st; station = while_logged_on st old.station } ≡ seat_by (columns_of r).kind (columns_of r).device old
   entry : (g : ℕ) → entry_by g (Some r) ≡ 0
   gone : (g : ℕ) → gone_by g (Some r) ≡ 0
 
@@ -135,9 +135,9 @@ held_shut g x e =
     none : one ((x.device == g) && false) + one (has x.group g && false) ≡ 0
     none = rw (and_right (x.device == g) false refl, and_right (has x.group g) false refl) refl
 
-pub not_held : (g : ℕ) (x : ConnectionRecord) → is_open x.state ≡ false → is_held_by g x ≡ false
-not_held g x e =
-    (elim x.state as (λ st. is_open st ≡ false → is_held_by g (record x { state = st }) ≡ false) [
+pub waits_nowhere : (g : ℕ) (x : ConnectionRecord) → is_open x.state ≡ false → waits_or_rings g x ≡ false
+waits_nowhere g x e =
+    (elim x.state as (λ st. is_open st ≡ false → waits_or_rings g (record x { state = st }) ≡ false) [
       | S.Alerting ↦ λ q. absurd (cc (q))
       | S.Queued ↦ λ q. absurd (cc (q))
       | S.Fail ↦ λ q. absurd (cc (q))
@@ -156,8 +156,8 @@ held_is g x h = go x.state h
     go S.Alerting c = rw (and_yes (has x.group g), and_right (x.device == g) false refl) (omega arith)
     go _ c = shut
 
-pub held_by_is : (g : ℕ) (x : ConnectionRecord) → HasColumns x x.state → is_held_by g x ≡ has (waiting_group x) g
-held_by_is g x h = go x.state h
+pub waits_or_rings_is : (g : ℕ) (x : ConnectionRecord) → HasColumns x x.state → waits_or_rings g x ≡ has (waiting_group x) g
+waits_or_rings_is g x h = go x.state h
   where
     go : (st : ConnectionState) → HasColumns x st → ((is_queued st && (x.device == g)) || (is_alerting st && has x.group g)) ≡ has (cond (is_queued st || is_alerting st) x.group None) g
     go S.Queued c = or_no (x.device == g) ∙ ap (λ o. has o g) (sym c.group)
@@ -183,15 +183,15 @@ waiting_open x e = go x.state e
 -- one that no group holds
 pub record Unheld (y : ConnectionRecord) : Type 0 where
   pub held : (g : ℕ) → held g y ≡ 0
-  pub not_held : (g : ℕ) → is_held_by g y ≡ false
+  pub waits_nowhere : (g : ℕ) → waits_or_rings g y ≡ false
 
 pub shut : (y : ConnectionRecord) → is_open y.state ≡ false → Unheld y
-shut y e = record { held = λ g. held_shut g y e; not_held = λ g. not_held g y e }
+shut y e = record { held = λ g. held_shut g y e; waits_nowhere = λ g. waits_nowhere g y e }
 
 pub ungrouped : (call device : ℕ) (st : ConnectionState) → is_queued st ≡ false → Unheld (plain call device st)
 ungrouped call device st e = record {
   held = λ g. ap (λ b. one b + 0) (and_right (device == g) (is_queued st) e);
-  not_held = λ g. ap (λ b. (b && device == g) || (is_alerting st && false)) e ∙ and_right (is_alerting st) false refl;
+  waits_nowhere = λ g. ap (λ b. (b && device == g) || (is_alerting st && false)) e ∙ and_right (is_alerting st) false refl;
 }
 
 -- puts and removals
@@ -202,7 +202,7 @@ pub sound_put_new : (m b : ℕ) (s : Rows) (y : ConnectionRecord) (o : Option Re
 sound_put_new m b s y o t none free entry gone = record {
   truthful = (t, tt);
   balances = λ g. let h = holding_new s y g none in let e = free.held g in let f = entry g in let k = gone g in omega (arith, h, e, f, k);
-  order = stays m b s (put y o ∷ []) (λ g. let f = entry g in omega (arith, f)) (λ g c p h. held_put s (with_connection s y) s.connections y g c p (λ z a. a) (λ q. absurd (cc (q, free.not_held g))) (connections_put s y) h);
+  order = stays m b s (put y o ∷ []) (λ g. let f = entry g in omega (arith, f)) (λ g c p h. placed_put s (with_connection s y) s.connections y g c p (λ z a. a) (λ q. absurd (cc (q, free.waits_nowhere g))) (connections_put s y) h);
 }
 
 -- or in place of another, which its group lets go by the report
@@ -211,7 +211,7 @@ pub sound_put_old : (m b : ℕ) (s : Rows) (x y : ConnectionRecord) (o : Option 
 sound_put_old m b s x y o t asc there shut entry gone = record {
   truthful = (t, tt);
   balances = λ g. let h = holding_old s y x g asc there in let e = held_shut g y shut in let f = entry g in let k = gone g in omega (arith, h, e, f, k);
-  order = stays m b s (put y o ∷ []) (λ g. let f = entry g in omega (arith, f)) (λ g c p h. held_put s (with_connection s y) s.connections y g c p (λ z a. a) (λ q. absurd (cc (q, not_held g y shut))) (connections_put s y) h);
+  order = stays m b s (put y o ∷ []) (λ g. let f = entry g in omega (arith, f)) (λ g c p h. placed_put s (with_connection s y) s.connections y g c p (λ z a. a) (λ q. absurd (cc (q, waits_nowhere g y shut))) (connections_put s y) h);
 }
 
 -- a connection ends, which its group lets go by the report
@@ -220,7 +220,7 @@ pub sound_remove : (m b : ℕ) (s : Rows) (x : ConnectionRecord) (o : Option Rep
 sound_remove m b s x o t there entry gone = record {
   truthful = (t, tt);
   balances = λ g. let h = holding_less s x.call x.device x g there in let f = entry g in let k = gone g in omega (arith, h, f, k);
-  order = stays m b s (remove x o ∷ []) (λ g. let f = entry g in omega (arith, f)) (λ g c p h. held_within s (without_connection s x.call x.device) g c p (removed_within s x.call x.device) h);
+  order = stays m b s (remove x o ∷ []) (λ g. let f = entry g in omega (arith, f)) (λ g c p h. placed_within s (without_connection s x.call x.device) g c p (removed_within s x.call x.device) h);
 }
 
 -- where the one open connection of a call is taken away, none is left

@@ -2,7 +2,7 @@
 use Rattle.std.specs.Prelude.{if◌then◌else◌, ◌==◌, option_map}
 use Rattle.acd_laws.proofs.Words.{Rows, GroupRecord, StationRecord, AgentRecord, ConnectionRecord, ConnectionState, Change, Columns, Event, Move, Report, IsAscending, group_of, station_of, agent_of, connection_of, is_group, is_station, is_planned, has, with_group, with_station, with_connection, without_connection, silent, reported, changed, moved, with_event, events_of, connection_order}
 use Rattle.acd_model.specs.Told.{after, connection_told, Seat, no_seat, seat_told, last_entry, names, state_by, seat_by}
-use Rattle.acd_model.specs.Watched.{state_at, seat_of, IsHeldAt, InOrder}
+use Rattle.acd_model.specs.Watched.{state_at, seat_of, HasPlace, InOrder}
 use Rattle.std.proofs.Common.{◌≡◌, ℕ, ◌≤◌, ◌<◌, ◌+◌, Bool, true, false, ◌&&◌, ◌||◌, cond, List, [], ◌∷◌, ◌++◌, Option, Some, None, refl, sym, ◌∙◌, ap}
 use Rattle.std.proofs.lemmas.Bool.{and_right, eqb-true}
 use Rattle.acd_terms.specs.Columns.{columns_of}
@@ -22,12 +22,12 @@ seat s agent = seat_of (agent_of s agent)
 
 -- each call that waits or rings at a place has an entry, whose number is above 0
 abbrev pub HasEntries : Rows → List Event → Type 0
-HasEntries s events = (group call place : ℕ) → IsHeldAt s group call place → 0 < last_entry group call 0 events
+HasEntries s events = (group call place : ℕ) → HasPlace s group call place → 0 < last_entry group call 0 events
 
 -- no entry has a number above the last event's, and none that waits or rings a place above the last stamp
 pub record UpTo (stamp event : ℕ) (s : Rows) (events : List Event) : Type 0 where
   pub entries : (group call : ℕ) → last_entry group call 0 events ≤ event
-  pub places : (group call place : ℕ) → IsHeldAt s group call place → place ≤ stamp
+  pub places : (group call place : ℕ) → HasPlace s group call place → place ≤ stamp
 
 -- what the events tell is what the state holds
 pub record Tells (s : Rows) (events : List Event) : Type 0 where

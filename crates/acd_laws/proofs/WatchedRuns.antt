@@ -1,6 +1,6 @@
 -- What follows of a state and of the events since, over a whole step: the reports of every run tell its state; every run is balanced, and leaves no offer.
 use Rattle.std.proofs.Common.{◌≡◌, ℕ, ◌+◌, ◌<◌, ◌≤◌, List, [], ◌++◌, refl, sym, ◌∙◌, ap, subst, length, arith, append-nil, ◌⊎◌, inl, inr, true, false, ◌&&◌, ◌||◌, cond, ◌∷◌, Option, Some, None, Bool, not, eq-eqb}
-use Rattle.acd_laws.proofs.Words.{Rows, Limits, GroupRecord, CallRecord, ConnectionRecord, Figures, ConnectionState, Command, Event, Move, Among, is_alerting, is_queued, agent_of, call_of, connection_of, is_group, is_station, is_planned, has, is_taken, is_occupied, waiting_in, is_eligible, eligible_in, empty_rows, with_last, moved, events_of}
+use Rattle.acd_laws.proofs.Words.{Rows, Limits, GroupRecord, CallRecord, ConnectionRecord, Figures, ConnectionState, Command, Event, Move, Among, is_alerting, is_queued, agent_of, call_of, connection_of, is_group, is_station, is_planned, has, is_idle, is_occupied, waiting_in, is_eligible, eligible_in, empty_rows, with_last, moved, events_of}
 use Rattle.acd_model.specs.Figures.{figures_of, sum_of_figures, counting, with_figures}
 use Rattle.acd_model.specs.Told.{after, connection_told, seat_told, enters, last_entry}
 use Rattle.acd_model.specs.Services.Serve.{serve}
@@ -14,7 +14,7 @@ use Rattle.acd_laws.proofs.SoundDeeds.{sound_deed, sound_round}
 use Rattle.acd_laws.proofs.RulesKept.{by_parts, rules_serve}
 use Rattle.std.specs.Prelude.{◌==◌, is_some, option_map}
 use Rattle.acd_terms.specs.declared.state.ConnectionState.TheVariants as S
-use Rattle.acd_model.specs.Watched.{is_held_by, HasEntered, state_at, is_caller, is_external_caller, IsHeldAt, IsWatched}
+use Rattle.acd_model.specs.Watched.{waits_or_rings, HasEntered, state_at, is_caller, is_external_caller, HasPlace, IsWatched}
 use Rattle.acd_laws.proofs.Lists.{every_among, some_from, none_from, mapped_among}
 use Rattle.std.proofs.lemmas.Bool.{and_parts, not-true, or_left, or_right}
 use Rattle.acd_model.specs.Offers.{HasNoOffer}
@@ -121,11 +121,11 @@ place_in x g _ h e = absurd (cc (e))
 pub entry_number : (g c : ℕ) (x : ConnectionRecord) (events : List Event) → x.call ≡ c → HasEntered events g x.call → 0 < last_entry g c 0 events
 entry_number g c x events e h = subst (λ v. 0 < last_entry g v 0 events) e (let n = h.numbered in let l = h.last in omega (arith, n, l))
 
-pub entered_by : (s : Rows) (events : List Event) (g : ℕ) (x : ConnectionRecord) → Rules s → HasEntries s events → Among x s.connections → is_held_by g x ≡ true → HasEntered events g x.call
+pub entered_by : (s : Rows) (events : List Event) (g : ℕ) (x : ConnectionRecord) → Rules s → HasEntries s events → Among x s.connections → waits_or_rings g x ≡ true → HasEntered events g x.call
 entered_by s events g x r h a e =
     let rule = every_among (ConnectionRule s) s.connections x r.connections a in
     let place = some_from x.place (place_in x g x.state rule.0 e) in
-    entered_from g x.call events (h g x.call place.0 (record { connection = x; there = a; held = e; of_call = refl; at_place = place.1 }))
+    entered_from g x.call events (h g x.call place.0 (record { connection = x; there = a; of_group = e; of_call = refl; at_place = place.1 }))
 
 -- what a step tells
 
@@ -134,7 +134,7 @@ unfolding with_last with_figures connection_of agent_of
 tells_ended s t events es k m told f =
     let n : ℕ = s.last_event + length es in
     let w : Ordered k n t (events ++ numbered s.last_event es) = f.order events s.last_event (record { in_order = told.queues; entered = told.entries; up_to = told.up_to }) in
-    let back : (g c p : ℕ) → IsHeldAt (ended t es k m n) g c p → IsHeldAt t g c p = λ g c p h. record { connection = h.connection; there = h.there; held = h.held; of_call = h.of_call; at_place = h.at_place } in
+    let back : (g c p : ℕ) → HasPlace (ended t es k m n) g c p → HasPlace t g c p = λ g c p h. record { connection = h.connection; there = h.there; of_group = h.of_group; of_call = h.of_call; at_place = h.at_place } in
     record {
       connections = λ call device. ap (λ b. cond b (state_at t call device) None) (planned_ended t es k m n device) ∙ f.connections call device ∙ ap (λ v. after (connection_told call device) v es) (told.connections call device)
           ∙ sym (after-append (connection_told call device) None events (numbered s.last_event es) ∙ after-numbered (connection_told call device) _ s.last_event es);
@@ -206,7 +206,7 @@ told_by s events r w n = record {
     | false ↦ λ e. sym (shown_inside s c d r e) ∙ w.connections c d e
   ]) refl;
   agents = w.agents;
-  entries = λ g c p h. entry_number g c h.connection events h.of_call (w.entries g h.connection h.there h.held);
+  entries = λ g c p h. entry_number g c h.connection events h.of_call (w.entries g h.connection h.there h.of_group);
   queues = w.queues;
   up_to = record { entries = n.entries; places = n.places };
 }
@@ -240,7 +240,7 @@ step_balances s events moment command r h g =
 -- no offer
 
 no_offer_ended : (t : Rows) (es : List Event) (k m n : ℕ) → LeavesNoOffer t → LeavesNoOffer (ended t es k m n)
-unfolding with_last with_figures waiting_in eligible_in is_eligible is_occupied is_taken
+unfolding with_last with_figures waiting_in eligible_in is_eligible is_occupied is_idle
 no_offer_ended t es k m n h g a = let w = mapped_among (counting es) t.groups g a in subst (λ d. HasNoOffer (ended t es k m n) d) (ap (λ (z : GroupRecord). z.device) (sym w.1.1)) (h w.0 w.1.0)
 
 pub step_leaves_no_offer : (s : Rows) (moment : ℕ) (command : Command) → Rules s → LeavesNoOffer (step s moment command).rows
@@ -288,13 +288,13 @@ holds_step s events moment command h = record {
 }
 
 pub run_is_watched : RunIsWatched
-run_is_watched limits asked = let h = kept_by_run Holds holds_step limits (holds_first limits) asked in watched_by _ _ h.rules h.tells
+run_is_watched limits commands = let h = kept_by_run Holds holds_step limits (holds_first limits) commands in watched_by _ _ h.rules h.tells
 
 pub run_tells_no_more : RunTellsNoMore
-run_tells_no_more limits asked = no_more_by _ _ (kept_by_run Holds holds_step limits (holds_first limits) asked).tells
+run_tells_no_more limits commands = no_more_by _ _ (kept_by_run Holds holds_step limits (holds_first limits) commands).tells
 
 pub run_is_balanced : RunIsBalanced
-run_is_balanced limits asked = (kept_by_run Holds holds_step limits (holds_first limits) asked).balanced
+run_is_balanced limits commands = (kept_by_run Holds holds_step limits (holds_first limits) commands).balanced
 
 pub run_leaves_no_offer : RunLeavesNoOffer
-run_leaves_no_offer limits asked = (kept_by_run Holds holds_step limits (holds_first limits) asked).no_offer
+run_leaves_no_offer limits commands = (kept_by_run Holds holds_step limits (holds_first limits) commands).no_offer

@@ -11,7 +11,7 @@ use Rattle.acd_model.specs.OneOffer.{HasOneOffer}
 use Rattle.acd_model.specs.Watched.{IsWatched}
 use Rattle.acd_model.specs.Rules.First.{BreaksNoRule}
 use Rattle.acd_model.specs.Step.{step}
-use Rattle.acd_model.specs.Run.{Asked, run}
+use Rattle.acd_model.specs.Run.{TimedCommand, run}
 use Rattle.acd_laws.specs.PlacedLaws.{NamesNoLaterCall}
 use Rattle.acd_laws.specs.BalanceLaws.{IsBalanced}
 use Rattle.acd_laws.specs.OfferLaws.{LeavesNoOffer}
@@ -42,5 +42,5 @@ StepKeepsLaws = (s : Rows) (events : List Event) (moment : ℕ) (command : Comma
 
 -- they all hold of every run of no more requests than are allowed
 abbrev pub RunKeepsLaws : Type 0
-RunKeepsLaws = (limits : Limits) (asked : List Asked) → limits_fit limits ≡ true → length asked ≤ limits.requests
-    → LawsHold (run (empty_rows limits) asked).rows (run (empty_rows limits) asked).events
+RunKeepsLaws = (limits : Limits) (commands : List TimedCommand) → limits_fit limits ≡ true → length commands ≤ limits.requests
+    → LawsHold (run (empty_rows limits) commands).rows (run (empty_rows limits) commands).events

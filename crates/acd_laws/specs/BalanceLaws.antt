@@ -8,7 +8,7 @@ use Rattle.acd_terms.specs.declared.command.Command.{Command}
 use Rattle.acd_terms.specs.declared.event.Event.{Event}
 use Rattle.acd_model.specs.Figures.{figures_of}
 use Rattle.acd_model.specs.Step.{step}
-use Rattle.acd_model.specs.Run.{Asked, run}
+use Rattle.acd_model.specs.Run.{TimedCommand, run}
 use Rattle.acd_model.specs.Rules.Occupied.{waits_in, rings_from}
 use Rattle.acd_model.specs.Rules.First.{BreaksNoRule}
 
@@ -25,4 +25,4 @@ StepBalances = (s : Rows) (events : List Event) (moment : ℕ) (command : Comman
 
 -- every run is balanced
 abbrev pub RunIsBalanced : Type 0
-RunIsBalanced = (limits : Limits) (asked : List Asked) → IsBalanced (run (empty_rows limits) asked).rows (run (empty_rows limits) asked).events
+RunIsBalanced = (limits : Limits) (commands : List TimedCommand) → IsBalanced (run (empty_rows limits) commands).rows (run (empty_rows limits) commands).events

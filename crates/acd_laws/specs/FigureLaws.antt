@@ -12,7 +12,7 @@ use Rattle.acd_model.specs.Scans.{group_of, is_group}
 use Rattle.acd_model.specs.Figures.{figures_of, counting}
 use Rattle.acd_model.specs.Services.{no_figures}
 use Rattle.acd_model.specs.Step.{step}
-use Rattle.acd_model.specs.Run.{Asked, run}
+use Rattle.acd_model.specs.Run.{TimedCommand, run}
 use Rattle.acd_model.specs.Rules.Calls.{is_group_or_none}
 use Rattle.acd_model.specs.Rules.First.{BreaksNoRule}
 
@@ -29,8 +29,8 @@ StepKeepsFigures = (s : Rows) (events : List Event) (moment : ℕ) (command : Co
 
 -- after every run each group has the figures of all its events
 abbrev pub RunKeepsFigures : Type 0
-RunKeepsFigures = (limits : Limits) (asked : List Asked) (g : GroupRecord) → Among g (run (empty_rows limits) asked).rows.groups
-    → g.figures ≡ figures_of g.device (run (empty_rows limits) asked).events
+RunKeepsFigures = (limits : Limits) (commands : List TimedCommand) (g : GroupRecord) → Among g (run (empty_rows limits) commands).rows.groups
+    → g.figures ≡ figures_of g.device (run (empty_rows limits) commands).events
 
 -- of a planned group's record a step of rows that break no rule changes the figures alone, by what its events count
 abbrev pub StepAddsFigures : Type 0

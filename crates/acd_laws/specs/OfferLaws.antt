@@ -12,7 +12,7 @@ use Rattle.acd_model.specs.Distribution.{offer_moves, distribution}
 use Rattle.acd_model.specs.Served.{moves_of}
 use Rattle.acd_model.specs.Services.Serve.{serve}
 use Rattle.acd_model.specs.Step.{step, executed_moment, next_stamp}
-use Rattle.acd_model.specs.Run.{Asked, run}
+use Rattle.acd_model.specs.Run.{TimedCommand, run}
 use Rattle.acd_model.specs.Rules.Plan.{keeps_order, keeps_device, keeps_agent}
 use Rattle.acd_model.specs.Rules.Calls.{keeps_call, keeps_connection, keeps_parties, keeps_live}
 use Rattle.acd_model.specs.Rules.Occupied.{keeps_occupied}
@@ -53,4 +53,4 @@ abbrev pub StepLeavesNoOffer : Type 0
 StepLeavesNoOffer = (s : Rows) (moment : ℕ) (command : Command) → BreaksNoRule s → LeavesNoOffer (step s moment command).rows
 
 abbrev pub RunLeavesNoOffer : Type 0
-RunLeavesNoOffer = (limits : Limits) (asked : List Asked) → LeavesNoOffer (run (empty_rows limits) asked).rows
+RunLeavesNoOffer = (limits : Limits) (commands : List TimedCommand) → LeavesNoOffer (run (empty_rows limits) commands).rows

@@ -6,7 +6,7 @@ use Rattle.acd_terms.specs.declared.rows.Limits.{Limits}
 use Rattle.acd_terms.specs.declared.command.Command.{Command}
 use Rattle.acd_model.specs.OneOffer.{HasOneOffer}
 use Rattle.acd_model.specs.Step.{step}
-use Rattle.acd_model.specs.Run.{Asked, run}
+use Rattle.acd_model.specs.Run.{TimedCommand, run}
 use Rattle.acd_model.specs.Rules.First.{BreaksNoRule}
 
 -- where no rule is broken
@@ -18,4 +18,4 @@ abbrev pub StepKeepsOneOffer : Type 0
 StepKeepsOneOffer = (s : Rows) (moment : ℕ) (command : Command) → BreaksNoRule s → HasOneOffer (step s moment command).rows
 
 abbrev pub RunHasOneOffer : Type 0
-RunHasOneOffer = (limits : Limits) (asked : List Asked) → HasOneOffer (run (empty_rows limits) asked).rows
+RunHasOneOffer = (limits : Limits) (commands : List TimedCommand) → HasOneOffer (run (empty_rows limits) commands).rows

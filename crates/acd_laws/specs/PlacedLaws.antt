@@ -10,7 +10,7 @@ use Rattle.acd_terms.specs.declared.event.Event.{Event}
 use Rattle.acd_model.specs.Scans.{call_of}
 use Rattle.acd_model.specs.Placed.{cleared_by, IsCleared, IsWaiting, IsAtDevices, IsPlaced}
 use Rattle.acd_model.specs.Step.{step}
-use Rattle.acd_model.specs.Run.{Asked, run}
+use Rattle.acd_model.specs.Run.{TimedCommand, run}
 use Rattle.acd_model.specs.Rules.First.{BreaksNoRule}
 
 -- the call that may be named isn't above the last
@@ -35,7 +35,7 @@ StepNamesNoLaterCall = (s : Rows) (events : List Event) (moment : ℕ) (command 
     → NamesNoLaterCall (step s moment command).rows (events ++ (step s moment command).events)
 
 abbrev pub RunNamesNoLaterCall : Type 0
-RunNamesNoLaterCall = (limits : Limits) (asked : List Asked) → NamesNoLaterCall (run (empty_rows limits) asked).rows (run (empty_rows limits) asked).events
+RunNamesNoLaterCall = (limits : Limits) (commands : List TimedCommand) → NamesNoLaterCall (run (empty_rows limits) commands).rows (run (empty_rows limits) commands).events
 
 abbrev pub StepKeepsClearings : Type 0
 StepKeepsClearings = (s : Rows) (events : List Event) (moment : ℕ) (command : Command) → BreaksNoRule s → KeepsClearings s events
@@ -52,7 +52,7 @@ StepKeepsPlaces = (s : Rows) (events : List Event) (moment : ℕ) (command : Com
     → IsPlaced (step s moment command).rows (events ++ (step s moment command).events)
 
 abbrev pub RunIsPlaced : Type 0
-RunIsPlaced = (limits : Limits) (asked : List Asked) → IsPlaced (run (empty_rows limits) asked).rows (run (empty_rows limits) asked).events
+RunIsPlaced = (limits : Limits) (commands : List TimedCommand) → IsPlaced (run (empty_rows limits) commands).rows (run (empty_rows limits) commands).events
 
 -- the three ways in which a call may stand exclude one another, so that just one of them holds
 abbrev pub PlacesExclude : Type 0

@@ -9,7 +9,7 @@ use Rattle.acd_terms.specs.declared.record.GroupRecord.{GroupRecord}
 use Rattle.acd_terms.specs.declared.command.Command.{Command}
 use Rattle.acd_model.specs.Rules.First.{BreaksNoRule}
 use Rattle.acd_model.specs.Step.{step}
-use Rattle.acd_model.specs.Run.{Asked, run}
+use Rattle.acd_model.specs.Run.{TimedCommand, run}
 
 -- all thirteen rules, while one more request is allowed
 abbrev pub StepKeepsRules : Type 0
@@ -17,7 +17,7 @@ StepKeepsRules = (s : Rows) (moment : ℕ) (command : Command) → BreaksNoRule 
 
 -- every run of no more requests than are allowed
 abbrev pub RunKeepsRules : Type 0
-RunKeepsRules = (limits : Limits) (asked : List Asked) → limits_fit limits ≡ true → length asked ≤ limits.requests → BreaksNoRule (run (empty_rows limits) asked).rows
+RunKeepsRules = (limits : Limits) (commands : List TimedCommand) → limits_fit limits ≡ true → length commands ≤ limits.requests → BreaksNoRule (run (empty_rows limits) commands).rows
 
 -- the figures of a group: at most as many calls as requests, and each waited no longer than to the last moment
 pub record FiguresWithin (s : Rows) (g : GroupRecord) : Type 0 where

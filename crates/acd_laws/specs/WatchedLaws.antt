@@ -6,16 +6,16 @@ use Rattle.acd_terms.specs.declared.rows.Limits.{Limits}
 use Rattle.acd_terms.specs.declared.command.Command.{Command}
 use Rattle.acd_terms.specs.declared.event.Event.{Event}
 use Rattle.acd_model.specs.Told.{after, connection_told, last_entry}
-use Rattle.acd_model.specs.Watched.{is_external_caller, IsHeldAt, IsWatched}
+use Rattle.acd_model.specs.Watched.{is_external_caller, HasPlace, IsWatched}
 use Rattle.acd_model.specs.Step.{step}
-use Rattle.acd_model.specs.Run.{Asked, run}
+use Rattle.acd_model.specs.Run.{TimedCommand, run}
 use Rattle.acd_model.specs.Rules.First.{BreaksNoRule}
 
 -- nothing is told of an external caller, no entry has a number above the last event's, and none that waits or rings a place above the last stamp
 pub record TellsNoMore (s : Rows) (events : List Event) : Type 0 where
   pub outside : (call device : ℕ) → is_external_caller s call device ≡ true → after (connection_told call device) None events ≡ None
   pub entries : (group call : ℕ) → last_entry group call 0 events ≤ s.last_event
-  pub places : (group call place : ℕ) → IsHeldAt s group call place → place ≤ s.last_stamp
+  pub places : (group call place : ℕ) → HasPlace s group call place → place ≤ s.last_stamp
 
 -- what is watched of rows that break no rule goes on to the next state, by the new events
 abbrev pub StepKeepsWatched : Type 0
@@ -25,8 +25,8 @@ StepKeepsWatched = (s : Rows) (events : List Event) (moment : ℕ) (command : Co
 
 -- the reports of every run tell its state
 abbrev pub RunIsWatched : Type 0
-RunIsWatched = (limits : Limits) (asked : List Asked) → IsWatched (run (empty_rows limits) asked).rows (run (empty_rows limits) asked).events
+RunIsWatched = (limits : Limits) (commands : List TimedCommand) → IsWatched (run (empty_rows limits) commands).rows (run (empty_rows limits) commands).events
 
 -- and no more
 abbrev pub RunTellsNoMore : Type 0
-RunTellsNoMore = (limits : Limits) (asked : List Asked) → TellsNoMore (run (empty_rows limits) asked).rows (run (empty_rows limits) asked).events
+RunTellsNoMore = (limits : Limits) (commands : List TimedCommand) → TellsNoMore (run (empty_rows limits) commands).rows (run (empty_rows limits) commands).events

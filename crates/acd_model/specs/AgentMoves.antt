@@ -10,14 +10,14 @@ use Rattle.acd_model.specs.Moves.{no_move, silent, reported}
 use Rattle.acd_model.specs.declared.moves.Move.{Move}
 use Rattle.acd_model.specs.declared.moves.Change.TheVariants.{PutAgent}
 
--- where an agent stays in a state; null has no place
-abbrev pub kept_in : AgentState → Option ℕ → Option ℕ
-kept_in Null place = None
-kept_in _ place = place
+-- the station or the group that an agent has in a state: none in null
+abbrev pub while_logged_on : AgentState → Option ℕ → Option ℕ
+while_logged_on Null device = None
+while_logged_on _ device = device
 
 -- the agent in a state, with nothing pending; in null it has no station and no group
 abbrev pub in_state : AgentState → ℕ → ℕ → AgentRecord → AgentRecord
-in_state state m k a = record a { state = state; pending = None; station = kept_in state a.station; group = kept_in state a.group; stamp = k; since = m }
+in_state state m k a = record a { state = state; pending = None; station = while_logged_on state a.station; group = while_logged_on state a.group; stamp = k; since = m }
 
 -- the report of an agent's new state
 abbrev pub state_report : AgentState → ℕ → ℕ → Report

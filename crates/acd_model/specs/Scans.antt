@@ -81,12 +81,9 @@ other_of s x = find (λ y. y.call == x.call && not (y.device == x.device)) s.con
 unfoldable pub is_live_at : Rows → ℕ → Bool
 is_live_at s station = list_any (λ c. c.device == station && is_live c.state) s.connections
 
--- a connection at the station is one of these or on hold
-unfoldable pub is_taken : Rows → ℕ → Bool
-is_taken s station = list_any (λ c. c.device == station && is_occupying c.state) s.connections
-
-abbrev pub is_idle : Rows → ℕ → Bool
-is_idle s station = not (is_taken s station)
+-- no connection at the station is one of these or on hold
+unfoldable pub is_idle : Rows → ℕ → Bool
+is_idle s station = not (list_any (λ c. c.device == station && is_occupying c.state) s.connections)
 
 -- a distributed connection is at the agent's station
 unfoldable pub is_occupied : Rows → AgentRecord → Bool

@@ -28,20 +28,20 @@ seat_of None = no_seat
 seat_of (Some a) = record { state = a.state; station = a.station }
 
 -- it waits in the group, or rings from it
-abbrev pub is_held_by : ℕ → ConnectionRecord → Bool
-is_held_by group x = (is_queued x.state && x.device == group) || (is_alerting x.state && has x.group group)
+abbrev pub waits_or_rings : ℕ → ConnectionRecord → Bool
+waits_or_rings group x = (is_queued x.state && x.device == group) || (is_alerting x.state && has x.group group)
 
 -- the call waits in the group or rings from it, at the place
-pub record IsHeldAt (s : Rows) (group call place : ℕ) : Type 0 where
+pub record HasPlace (s : Rows) (group call place : ℕ) : Type 0 where
   pub connection : ConnectionRecord
   pub there : Among connection s.connections
-  pub held : is_held_by group connection ≡ true
+  pub of_group : waits_or_rings group connection ≡ true
   pub of_call : connection.call ≡ call
   pub at_place : connection.place ≡ Some place
 
 -- an earlier place is an earlier entry, and an earlier entry an earlier place
 abbrev pub InOrder : Rows → List Event → Type 0
-InOrder s events = (group c d p q : ℕ) → IsHeldAt s group c p → IsHeldAt s group d q → (p < q) ↔ (last_entry group c 0 events < last_entry group d 0 events)
+InOrder s events = (group c d p q : ℕ) → HasPlace s group c p → HasPlace s group d q → (p < q) ↔ (last_entry group c 0 events < last_entry group d 0 events)
 
 -- an event reported that the call entered the group's queue, and it is the last that did
 pub record HasEntered (events : List Event) (group call : ℕ) : Type 0 where
@@ -53,7 +53,7 @@ pub record HasEntered (events : List Event) (group call : ℕ) : Type 0 where
 
 -- each call that waits in a group or rings from it has entered there
 abbrev pub EachHasEntered : Rows → List Event → Type 0
-EachHasEntered s events = (group : ℕ) (x : ConnectionRecord) → Among x s.connections → is_held_by group x ≡ true → HasEntered events group x.call
+EachHasEntered s events = (group : ℕ) (x : ConnectionRecord) → Among x s.connections → waits_or_rings group x ≡ true → HasEntered events group x.call
 
 pub record IsWatched (s : Rows) (events : List Event) : Type 0 where
   pub connections : (call device : ℕ) → is_external_caller s call device ≡ false → state_at s call device ≡ after (connection_told call device) None events

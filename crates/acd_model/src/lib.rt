@@ -17,5 +17,6 @@ mod moves;
 pub mod scans;
 
 pub use moves::{
-    Change, Destination, Done, Ending, Move, Moves, Offer, Release, Served, gives, refuse_if,
+    Change, Destination, Done, Ending, Move, Moves, Offer, Release, Served, gives, no_move,
+    refuse_if, reported, silent,
 };

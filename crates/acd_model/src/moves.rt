@@ -1,6 +1,7 @@
 //! What a service does: a refusal, or an answer and the moves that it makes.
 
 ghost use Rattle.std.specs.Prelude.{◌≡◌, [], ◌∷◌};
+ghost use Rattle.acd_model.specs.Moves.{no_move, silent, reported};
 ghost use Rattle.acd_model.specs.Served.{refuse_if, gives};
 
 use acd_terms::{
@@ -35,6 +36,36 @@ const NO_MOVE: Move = Move {
     change: Change::Nothing,
     report: None,
 };
+
+/// No change and no report.
+pub fn no_move() -> Move
+    ensures { result ≡ no_move }
+{
+    Move {
+        change: Change::Nothing,
+        report: None,
+    }
+}
+
+/// A change that is not reported.
+pub fn silent(change: Change) -> Move
+    ensures { result ≡ silent change }
+{
+    Move {
+        change,
+        report: None,
+    }
+}
+
+/// A change and its report.
+pub fn reported(change: Change, report: Report) -> Move
+    ensures { result ≡ reported change report }
+{
+    Move {
+        change,
+        report: Some(report),
+    }
+}
 
 /// Up to five moves, held in place and seen as a list.
 #[derive(Debug, Drop)]

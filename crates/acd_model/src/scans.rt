@@ -1,8 +1,9 @@
 //! Look-ups and scans of rows, whose lists may stand in any order. They take no memory.
 
-ghost use Rattle.std.specs.Prelude.{◌≡◌, [], ◌∷◌, length, slice_get};
+ghost use Rattle.std.specs.Prelude.{◌≡◌, [], ◌∷◌, length, slice_get, ◌==◌, ◌&&◌};
 ghost use Rattle.std.specs.List.{list_any};
-ghost use Rattle.acd_model.specs.Scans.{group_of, station_of, agent_of, call_of, connection_of, monitor_of, is_group, is_station, is_planned, agent_at, connections_of, other_of, is_live_at, is_taken, is_idle, is_occupied, is_eligible, is_calling, is_used, queued_in_all};
+ghost use Rattle.acd_terms.specs.States.{is_occupying};
+ghost use Rattle.acd_model.specs.Scans.{group_of, station_of, agent_of, call_of, connection_of, monitor_of, is_group, is_station, is_planned, agent_at, connections_of, other_of, is_live_at, is_idle, is_occupied, is_eligible, is_calling, is_used, queued_in_all};
 ghost use Rattle.acd_model.specs.Choice.{first_waiting, first_eligible, lesser};
 ghost use Rattle.acd_model.specs.Rules.Occupied.{waits_in};
 
@@ -140,21 +141,20 @@ pub fn is_live_at(rows: &Rows, station: DeviceId) -> bool
         .any(|c| c.device == station && c.state.is_live())
 }
 
-/// A connection at the station is live or on hold.
-#[tactic(auto, unfolding(crate::specs::Scans::is_taken))]
-pub fn is_taken(rows: &Rows, station: DeviceId) -> bool
-    ensures { result ≡ is_taken rows.now station }
+/// No connection at the station is live or on hold.
+#[tactic(auto, unfolding(crate::specs::Scans::is_idle))]
+pub fn is_idle(rows: &Rows, station: DeviceId) -> bool
+    ensures { result ≡ is_idle rows.now station }
+{
+    !has_occupying(rows, station)
+}
+
+fn has_occupying(rows: &Rows, station: DeviceId) -> bool
+    ensures { result ≡ list_any (λ c. c.device == station && is_occupying c.state) rows.now.connections }
 {
     rows.connections
         .iter()
         .any(|c| c.device == station && c.state.is_occupying())
-}
-
-/// No connection at the station is live or on hold.
-pub fn is_idle(rows: &Rows, station: DeviceId) -> bool
-    ensures { result ≡ is_idle rows.now station }
-{
-    !is_taken(rows, station)
 }
 
 /// A distributed connection is at the agent's station.

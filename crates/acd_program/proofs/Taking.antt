@@ -4,7 +4,7 @@ use Rattle.sqlite.specs.State.{State, HasCleanDisk}
 use Rattle.acd_terms.specs.Limits.{greatest_limits}
 use Rattle.acd_book.specs.State.{BookState}
 use Rattle.acd_sqlbook.specs.Adopting.{IsAdopted}
-use Rattle.acd_sqlbook.specs.Schema.{no_schema}
+use Rattle.acd_statements.specs.Schema.{no_schema}
 use Rattle.acd_sqlbook.specs.State.{book_state, IsNew}
 use Rattle.acd_program.specs.Over.{held, unmade}
 use Rattle.acd_program.specs.Taking.{IsOf, IsTaken}

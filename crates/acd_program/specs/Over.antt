@@ -5,9 +5,9 @@ use Rattle.std.specs.Io.KnownBytes.{Appends}
 use Rattle.sqlite_trees.specs.Tree.{Trees}
 use Rattle.sqlite.specs.State.{State, HasCleanDisk}
 use Rattle.acd_book.specs.State.{BookState}
-use Rattle.acd_sqlbook.specs.Adopting.{IsFiled}
-use Rattle.acd_sqlbook.specs.Decoding.{content_of}
-use Rattle.acd_sqlbook.specs.Schema.{no_schema}
+use Rattle.acd_statements.specs.Lying.{IsFiled}
+use Rattle.acd_statements.specs.Decoding.{content_of}
+use Rattle.acd_statements.specs.Schema.{no_schema}
 use Rattle.acd_sqlbook.specs.State.{book_state}
 use Rattle.acd_desk.specs.declared.open_fault.OpenFault.{OpenFault}
 use Rattle.acd_desk.specs.declared.taken.Taken.{Taken}

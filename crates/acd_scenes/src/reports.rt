@@ -145,7 +145,7 @@ fn compare_agents(rt: &impl Abort, events: &[Event], rows: &Rows) {
 }
 
 // It waits in the group, or rings from it.
-fn is_held_by(connection: &ConnectionRecord, group: DeviceId) -> bool {
+fn waits_or_rings(connection: &ConnectionRecord, group: DeviceId) -> bool {
     (connection.state.is_queued() && connection.device == group)
         || (connection.state.is_alerting() && connection.group == Some(group))
 }
@@ -154,7 +154,7 @@ fn is_held_by(connection: &ConnectionRecord, group: DeviceId) -> bool {
 fn compare_queue(rt: &impl Abort, events: &[Event], rows: &Rows, group: DeviceId) {
     for first in rows.connections.as_slice() {
         for second in rows.connections.as_slice() {
-            if is_held_by(first, group) && is_held_by(second, group) {
+            if waits_or_rings(first, group) && waits_or_rings(second, group) {
                 let entry = last_entry(events, group, first.call);
                 let other = last_entry(events, group, second.call);
                 assert!(rt; entry > 0);

@@ -72,6 +72,11 @@ refusals_of_an_offered_call
 refusals_of_agents
 last_places
 last_request
+first_group
+repeat_gets_the_kept_reply
+same_key_other_request
+refusal_is_kept
+full_desk
 what_is_told_of_calls
 events_of_a_monitor
 head_of_queue

@@ -3,8 +3,11 @@
 //! | line | what it is |
 //! |---|---|
 //! | `part NAME` | the lines of a transcript follow ([`player`](crate::player)), up to the next line of this table |
+//! | `- MOMENT CODE NAME JSON` | in a transcript: a request that is refused with this code and name, and its answer |
 //! | `scene NAME: PART PART` | these parts, one behind the other, are played over a new book in memory and over one in a database |
 //! | `scene NAME within R C G S A M: PART` | the same with these limits on requests, calls, groups, stations, agents and monitors |
+//! | `table NAME: PART PART` | the lines of a transcript follow, with the places `$1`, `$2` and so on in them and in the name |
+//! | `row VALUE VALUE` | with these values in its places the table's transcript, behind the parts, is a scene of that name |
 //! | `wrong NAME: PART` | isn't what happens, and the player says where |
 //! | `files NAME: PART` | is played over files that are closed and opened between any two requests |
 //! | `stops NAME: PART` | is played over files of which one stops at each of its calls in turn ([`fused`](crate::fused)) |
@@ -16,6 +19,7 @@ use crate::player::{Mismatch, play};
 use crate::store::created;
 use crate::{altered, files, fused, working_size};
 use acd_book::MemoryBook;
+use acd_codec::read_request;
 use acd_sqlbook::SqlBook;
 use acd_terms::Limits;
 use sqlite::{Connection, MemStore};
@@ -85,6 +89,32 @@ fn limits_of(rt: &impl Abort, alloc: Global, numbers: &str) -> Limits {
     }
 }
 
+// The lines of a refusal.
+fn refusal(rt: &impl Abort, alloc: Global, said: &str) -> String {
+    let (moment, said) = said.split_once(' ').expect(rt, "a moment");
+    let (code, said) = said.split_once(' ').expect(rt, "a code");
+    let (name, json) = said.split_once(' ').expect(rt, "a name");
+    let request = read_request(alloc, json.as_bytes()).expect(rt, "a request");
+    let (invoke, requester) = (request.invoke.number(), request.requester.as_str());
+    let lines = format!(in alloc;
+        "> {moment} {json}\n< 409 {{\"error\":{{\"code\":{code},\"name\":\"{name}\"}},\"invoke\":{invoke},\"requester\":\"{requester}\"}}\n"
+    );
+    lines.expect(rt, "memory")
+}
+
+// The text with these values in its places.
+fn filled(rt: &impl Abort, alloc: Global, text: &str, values: &str) -> String {
+    let mut filled = String::new(alloc);
+    filled.push_str(text).expect(rt, "memory");
+    for (place, value) in ["$1", "$2", "$3", "$4"].iter().zip(values.split(' ')) {
+        filled = filled
+            .as_str()
+            .replace(alloc, *place, value)
+            .expect(rt, "memory");
+    }
+    filled
+}
+
 // What is said of a scene and its parts: the name, behind it the limits where they aren't the greatest, and
 // the parts' names.
 fn read_scene<'a>(rt: &impl Abort, alloc: Global, said: &'a str) -> (&'a str, Limits, &'a str) {
@@ -117,6 +147,19 @@ impl<'a> Script<'a> {
             Ok(()) => name,
             Err(Mismatch { line, what }) => panic!(rt; "{name}, line {line}: {what}"),
         }
+    }
+
+    // So is what a row makes of the table that was begun last: the name and the parts.
+    fn row(&self, rt: &impl Abort, values: &str) -> String {
+        let table = self.parts.last().expect(rt, "a table");
+        let said = filled(rt, self.alloc, table.name, values);
+        let text = filled(rt, self.alloc, table.text.as_str(), values);
+        let (name, mut texts) = self.parts(rt, said.as_str());
+        texts.push(text.as_str()).expect(rt, "memory");
+        if let Err(Mismatch { line, what }) = played(rt, self.alloc, Limits::GREATEST, &texts) {
+            panic!(rt; "{name}, line {line}: {what}");
+        }
+        said
     }
 
     // It isn't: its name, and where it is wrong.
@@ -161,21 +204,40 @@ impl<'a> Script<'a> {
         }
     }
 
-    // A line of the part that was begun last.
+    // A part or a table begins.
+    fn begin(&mut self, rt: &impl Abort, name: &'a str) {
+        let text = String::new(self.alloc);
+        self.parts.push(Part { name, text }).expect(rt, "memory");
+    }
+
+    // A line of what was begun last.
     fn add(&mut self, rt: &impl Abort, line: &str) {
-        match self.parts.last_mut() {
-            Some(part) => {
+        let alloc = self.alloc;
+        let Some(part) = self.parts.last_mut() else {
+            assert!(rt; line.is_empty() || line.starts_with("# "));
+            return;
+        };
+        match line.strip_prefix("- ") {
+            Some(said) => {
+                let lines = refusal(rt, alloc, said);
+                part.text.push_str(lines.as_str()).expect(rt, "memory");
+            }
+            None => {
                 part.text.push_str(line).expect(rt, "memory");
                 part.text.push_str("\n").expect(rt, "memory");
             }
-            None => assert!(rt; line.is_empty() || line.starts_with("# ")),
         }
     }
 
     fn play_line(&mut self, rt: &impl Abort, line: &'a str) {
         if let Some(name) = line.strip_prefix("part ") {
-            let text = String::new(self.alloc);
-            self.parts.push(Part { name, text }).expect(rt, "memory");
+            self.begin(rt, name);
+        } else if let Some(name) = line.strip_prefix("table ") {
+            self.begin(rt, name);
+        } else if let Some(values) = line.strip_prefix("row ") {
+            let said = self.row(rt, values);
+            let (name, _) = said.as_str().split_once(": ").expect(rt, "parts");
+            self.tell(rt, name);
         } else if let Some(said) = line.strip_prefix("scene ") {
             let name = self.scene(rt, said);
             self.tell(rt, name);

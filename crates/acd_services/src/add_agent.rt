@@ -3,8 +3,7 @@
 ghost use Rattle.std.specs.Prelude.{◌≡◌};
 ghost use Rattle.acd_model.specs.Services.AddAgent.{add_agent};
 
-use crate::call_moves::silent;
-use acd_model::{Change, Moves, Served, gives, refuse_if};
+use acd_model::{Change, Moves, Served, gives, refuse_if, silent};
 use acd_tables::Tables;
 use acd_terms::Refusal::{AgentExists, PlanFull};
 use acd_terms::{AgentId, AgentRecord, AgentState, Answer, Name, Turn};

@@ -3,8 +3,7 @@
 ghost use Rattle.std.specs.Prelude.{◌≡◌};
 ghost use Rattle.acd_model.specs.Services.AddGroup.{add_group};
 
-use crate::call_moves::silent;
-use acd_model::{Change, Moves, Served, gives, refuse_if};
+use acd_model::{Change, Moves, Served, gives, refuse_if, silent};
 use acd_tables::Tables;
 use acd_terms::Refusal::{DeviceExists, PlanFull};
 use acd_terms::{Answer, DeviceId, Figures, GroupRecord, Name, Seconds};

@@ -1,18 +1,17 @@
 //! The moves of agents.
 
 ghost use Rattle.std.specs.Prelude.{◌≡◌};
-ghost use Rattle.acd_model.specs.AgentMoves.{kept_in, in_state, state_report, go_to, go_from, log_on_at, become_busy, wait_for};
+ghost use Rattle.acd_model.specs.AgentMoves.{while_logged_on, in_state, state_report, go_to, go_from, log_on_at, become_busy, wait_for};
 
-use crate::call_moves::{no_move, reported, silent};
-use acd_model::{Change, Move};
+use acd_model::{Change, Move, no_move, reported, silent};
 use acd_terms::{AgentId, AgentRecord, AgentState, DeviceId, Pending, Report, Turn};
 
-fn kept_in(state: AgentState, place: Option<DeviceId>) -> Option<DeviceId>
-    ensures { result ≡ kept_in state place }
+fn while_logged_on(state: AgentState, device: Option<DeviceId>) -> Option<DeviceId>
+    ensures { result ≡ while_logged_on state device }
 {
     match state {
         AgentState::Null => None,
-        _ => place,
+        _ => device,
     }
 }
 
@@ -22,8 +21,8 @@ fn in_state(state: AgentState, at: Turn, agent: &AgentRecord) -> AgentRecord
     AgentRecord {
         state,
         pending: None,
-        station: kept_in(state, agent.station),
-        group: kept_in(state, agent.group),
+        station: while_logged_on(state, agent.station),
+        group: while_logged_on(state, agent.group),
         stamp: at.stamp,
         since: at.moment,
         ..*agent

@@ -4,8 +4,8 @@ ghost use Rattle.std.specs.Prelude.{◌≡◌};
 ghost use Rattle.acd_model.specs.Services.AnswerCall.{occupy, answer_call};
 
 use crate::agent_moves::become_busy;
-use crate::call_moves::{answer, no_move};
-use acd_model::{Move, Moves, Served, gives, refuse_if};
+use crate::call_moves::answer;
+use acd_model::{Move, Moves, Served, gives, no_move, refuse_if};
 use acd_tables::Tables;
 use acd_terms::Refusal::{UnknownCall, UnknownConnection, WrongConnectionState};
 use acd_terms::{Answer, ConnectionRecord, DeviceId, Turn};

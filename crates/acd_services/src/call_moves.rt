@@ -1,44 +1,13 @@
 //! The moves of calls and connections.
 
 ghost use Rattle.std.specs.Prelude.{◌≡◌};
-ghost use Rattle.acd_model.specs.Moves.{no_move, silent, reported};
 ghost use Rattle.acd_model.specs.CallMoves.{plain, queueing, begin, connect_caller, initiate, originate, destination_of, arriving, arrival, arrive, waited_by, answer, hold, retrieve, offer, go_back, divert, transfer, clear, end_call};
 
-use acd_model::{Change, Destination, Move};
+use acd_model::{Change, Destination, Move, reported, silent};
 use acd_tables::Tables;
 use acd_terms::{
     CallRecord, Cause, ConnectionRecord, ConnectionState, DeviceId, Report, Turn, Waited,
 };
-
-/// No change and no report.
-pub fn no_move() -> Move
-    ensures { result ≡ no_move }
-{
-    Move {
-        change: Change::Nothing,
-        report: None,
-    }
-}
-
-/// A change that is not reported.
-pub fn silent(change: Change) -> Move
-    ensures { result ≡ silent change }
-{
-    Move {
-        change,
-        report: None,
-    }
-}
-
-/// A change and its report.
-pub fn reported(change: Change, report: Report) -> Move
-    ensures { result ≡ reported change report }
-{
-    Move {
-        change,
-        report: Some(report),
-    }
-}
 
 fn plain(call: u64, device: DeviceId, state: ConnectionState) -> ConnectionRecord
     ensures { result ≡ plain call device state }

@@ -3,9 +3,9 @@
 ghost use Rattle.std.specs.Prelude.{◌≡◌};
 ghost use Rattle.acd_model.specs.Services.ClearConnection.{waiting_group, cleared_group, clear_other, release_other, clear_connection};
 
-use crate::call_moves::{clear, end_call, no_move};
+use crate::call_moves::{clear, end_call};
 use crate::releasing::{ending_of, release};
-use acd_model::{Move, Moves, Served, gives};
+use acd_model::{Move, Moves, Served, gives, no_move};
 use acd_tables::Tables;
 use acd_terms::Refusal::{UnknownCall, UnknownConnection};
 use acd_terms::{Answer, ConnectionRecord, DeviceId, Turn};

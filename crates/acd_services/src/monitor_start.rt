@@ -3,8 +3,7 @@
 ghost use Rattle.std.specs.Prelude.{◌≡◌, ◌<◌, ◌^◌, ◌-◌};
 ghost use Rattle.acd_model.specs.Services.MonitorStart.{monitor_start};
 
-use crate::call_moves::silent;
-use acd_model::{Change, Moves, Served, gives, refuse_if};
+use acd_model::{Change, Moves, Served, gives, refuse_if, silent};
 use acd_tables::Tables;
 use acd_terms::Refusal::{PlanFull, UnknownDevice};
 use acd_terms::{Answer, DeviceId, MonitorRecord};

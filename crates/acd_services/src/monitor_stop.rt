@@ -3,8 +3,7 @@
 ghost use Rattle.std.specs.Prelude.{◌≡◌};
 ghost use Rattle.acd_model.specs.Services.MonitorStop.{monitor_stop};
 
-use crate::call_moves::silent;
-use acd_model::{Change, Moves, Served, gives};
+use acd_model::{Change, Moves, Served, gives, silent};
 use acd_tables::Tables;
 use acd_terms::Answer;
 use acd_terms::Refusal::UnknownMonitor;

@@ -4,8 +4,7 @@ ghost use Rattle.std.specs.Prelude.{◌≡◌};
 ghost use Rattle.acd_model.specs.Release.{release_of, released, ending_of, release};
 
 use crate::agent_moves::{go_to, wait_for};
-use crate::call_moves::no_move;
-use acd_model::{Ending, Move, Release};
+use acd_model::{Ending, Move, Release, no_move};
 use acd_tables::Tables;
 use acd_terms::{AgentRecord, AgentState, ConnectionRecord, DeviceId, Pending, Turn};
 

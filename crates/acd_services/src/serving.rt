@@ -4,7 +4,7 @@ ghost use Rattle.std.specs.Prelude.{◌≡◌, ◌++◌, ◌<◌, ◌^◌, ◌-�
 ghost use Rattle.acd_model.specs.Moves.{moved, events_of};
 ghost use Rattle.acd_model.specs.Served.{outcome_of, moves_of};
 ghost use Rattle.acd_model.specs.Services.Serve.{serve};
-ghost use Rattle.acd_services.specs.Asked.{IsNoTick};
+ghost use Rattle.acd_services.specs.NoTick.{IsNoTick};
 
 use crate::add_agent::add_agent;
 use crate::add_group::add_group;

@@ -12,11 +12,11 @@ use acd_terms::Refusal::{
 };
 use acd_terms::{AgentId, AgentRecord, AgentState, Answer, DeviceId, Pending, Requested, Turn};
 
-// The agent is in the state that is asked for.
-fn is_in(state: AgentState, asked: Pending) -> bool
-    ensures { result ≡ is_in state asked }
+// The agent is in the state that is wanted for.
+fn is_in(state: AgentState, wanted: Pending) -> bool
+    ensures { result ≡ is_in state wanted }
 {
-    match (state, asked) {
+    match (state, wanted) {
         (AgentState::Null, Pending::LoggedOff) => true,
         (AgentState::NotReady, Pending::NotReady) => true,
         (AgentState::Ready, Pending::Ready) => true,
@@ -42,32 +42,32 @@ fn log_on(tables: &Tables, at: Turn, agent: AgentId, device: DeviceId, group: De
 }
 
 // An occupied agent waits for the state, any other goes to it.
-fn go_or_wait(tables: &Tables, at: Turn, agent: &AgentRecord, asked: Pending) -> Served
-    ensures { result ≡ go_or_wait tables.now at.moment at.stamp agent.now asked }
+fn go_or_wait(tables: &Tables, at: Turn, agent: &AgentRecord, wanted: Pending) -> Served
+    ensures { result ≡ go_or_wait tables.now at.moment at.stamp agent.now wanted }
 {
     let state = agent.state;
     if tables.is_occupied(agent) {
         let answer = Answer::Pending {
             state,
-            pending: asked,
+            pending: wanted,
         };
-        return gives(answer, Moves::one(wait_for(agent, Some(asked))));
+        return gives(answer, Moves::one(wait_for(agent, Some(wanted))));
     }
-    if is_in(state, asked) {
+    if is_in(state, wanted) {
         return gives(Answer::State(state), Moves::none());
     }
-    let next = asked.state();
+    let next = wanted.state();
     gives(Answer::State(next), Moves::one(go_from(at, agent, next)))
 }
 
 // An agent who is logged on asks for another state.
 #[tactic(auto, unfolding(acd_model::specs::Services::SetAgentState::change_state, acd_model::specs::Served::if_ok))]
-fn change_state(tables: &Tables, at: Turn, agent: AgentId, asked: Pending) -> Served
-    ensures { result ≡ change_state tables.now at.moment at.stamp agent asked }
+fn change_state(tables: &Tables, at: Turn, agent: AgentId, wanted: Pending) -> Served
+    ensures { result ≡ change_state tables.now at.moment at.stamp agent wanted }
 {
     let agent = tables.agent(agent).ok_or(UnknownAgent)?;
     refuse_if(agent.state.is_null(), WrongAgentState)?;
-    go_or_wait(tables, at, &agent, asked)
+    go_or_wait(tables, at, &agent, wanted)
 }
 
 /// Set Agent State of ECMA-269.
@@ -76,6 +76,6 @@ pub fn set_agent_state(tables: &Tables, at: Turn, agent: AgentId, requested: Req
 {
     match requested {
         Requested::LoggedOn { device, group } => log_on(tables, at, agent, device, group),
-        Requested::State(asked) => change_state(tables, at, agent, asked),
+        Requested::State(wanted) => change_state(tables, at, agent, wanted),
     }
 }

@@ -20,31 +20,32 @@ use Rattle.sqlite.specs.State.{State, HasCleanDisk}
 use Rattle.acd_terms.specs.Lists.{Every}
 use Rattle.acd_book.specs.Content.{Content}
 use Rattle.acd_book.specs.Order.{IsOrdered as IsInOrder}
-use Rattle.acd_sqlbook.specs.declared.fault.Table.{Table}
-use Rattle.acd_sqlbook.specs.declared.fault.Table.TheVariants as table
+use Rattle.acd_statements.specs.declared.tables.Table.{Table}
+use Rattle.acd_statements.specs.declared.tables.Table.TheVariants as table
 use Rattle.acd_sqlbook.specs.declared.fault.AdoptFault.{AdoptFault}
 use Rattle.acd_sqlbook.specs.declared.fault.AdoptFault.TheVariants.{WrongVersion, BadRow, NoMemory, Store}
-use Rattle.acd_sqlbook.specs.declared.adopt.Whole.{Whole}
-use Rattle.acd_sqlbook.specs.declared.adopt.Log.{Log}
+use Rattle.acd_statements.specs.declared.tables.Whole.{Whole}
+use Rattle.acd_statements.specs.declared.tables.Log.{Log}
 use Rattle.acd_sqlbook.specs.declared.adopt.Page.{Page}
 use Rattle.acd_sqlbook.specs.declared.adopt.Page.TheVariants.{Bad, Last, More}
-use Rattle.acd_sqlbook.specs.Adopting.{is_good, is_good_in, is_good_behind, are_good, lying, table_of, table_of_log, version_fault, fault_of_version, has_meta, all_tables, Numbered, AreNumbered, AreSameFirst, BeginsAsBook, IsFiled, AreWhole, TellsGood, TellsLow, TellsBehind, IsPageRows, IsBadOf, IsPage, IsPageOf, IsVersionFound, IsRowFound, IsFound, IsFaultOf, IsStoreFault, IsInRange, IsAdopted, IsHandedBack}
-use Rattle.acd_sqlbook.specs.Content.{Encodes}
-use Rattle.acd_sqlbook.specs.Decoding.{content_of}
-use Rattle.acd_sqlbook.specs.Draft.{NoStop}
-use Rattle.acd_sqlbook.specs.Ranges.{whole_at}
-use Rattle.acd_sqlbook.specs.Schema.{book_schema}
-use Rattle.acd_sqlbook.specs.Schema as schema
-use Rattle.acd_sqlbook.specs.Seeing.{Lies, Sees, HasLooked}
+use Rattle.acd_statements.specs.Lying.{is_good, is_good_in, are_good, lying, table_of, table_of_log, has_meta, Numbered, AreNumbered, AreSameFirst, BeginsAsBook, IsFiled, AreWhole, TellsGood, TellsLow, IsPageRows}
+use Rattle.acd_sqlbook.specs.Adopting.{is_good_behind, version_fault, fault_of_version, all_tables, TellsBehind, IsBadOf, IsPage, IsPageOf, IsVersionFound, IsRowFound, IsFound, IsFaultOf, IsStoreFault, IsInRange, IsAdopted, IsHandedBack}
+use Rattle.acd_statements.specs.Content.{Encodes}
+use Rattle.acd_statements.specs.Decoding.{content_of}
+use Rattle.acd_statements.specs.Draft.{NoStop}
+use Rattle.acd_statements.specs.Ranges.{whole_at}
+use Rattle.acd_statements.specs.Schema.{book_schema}
+use Rattle.acd_statements.specs.Schema as schema
+use Rattle.acd_statements.specs.Seeing.{Lies, Sees, HasLooked}
 use Rattle.acd_sqlbook.specs.State.{IsSound, book_state}
 use Rattle.acd_sqlbook.proofs.BookStates.{Settles, Stays}
-use Rattle.acd_sqlbook.proofs.Decoded.{decoded}
+use Rattle.acd_statements.proofs.Decoded.{decoded}
 use Rattle.acd_sqlbook.proofs.Contents.{content_in, filed_in, filed_by_store}
 use Rattle.acd_sqlbook.proofs.Rising.{stored_ordered}
-use Rattle.acd_sqlbook.proofs.KeyedRows.{apart, same_number}
-use Rattle.acd_sqlbook.proofs.Looked.{mapped_all, moved_all}
+use Rattle.acd_statements.proofs.KeyedRows.{apart, same_number}
+use Rattle.acd_statements.proofs.Looked.{mapped_all, moved_all}
 use Rattle.acd_sqlbook.proofs.Paged.{page_is, log_told}
-use Rattle.acd_sqlbook.proofs.Seen.{sees_on, sees_fail, sees_then, sees_here}
+use Rattle.acd_statements.proofs.Seen.{sees_on, sees_fail, sees_then, sees_here}
 
 -- ---- rows
 

@@ -10,10 +10,10 @@ use Rattle.acd_terms.specs.declared.record.CallRecord.{CallRecord}
 use Rattle.acd_terms.specs.declared.record.ConnectionRecord.{ConnectionRecord}
 use Rattle.acd_terms.specs.declared.record.MonitorRecord.{MonitorRecord}
 use Rattle.acd_book.specs.Content.{Content}
-use Rattle.acd_sqlbook.specs.Content.{meta_of}
-use Rattle.acd_sqlbook.specs.declared.meta.Meta.{Meta}
-use Rattle.acd_sqlbook.specs.Draft.{Holds}
-use Rattle.acd_sqlbook.specs.Finding.{Finds, joined_rows}
+use Rattle.acd_statements.specs.Content.{meta_of}
+use Rattle.acd_statements.specs.declared.meta.Meta.{Meta}
+use Rattle.acd_statements.specs.Draft.{Holds}
+use Rattle.acd_statements.specs.Finding.{Finds, joined_rows}
 use Rattle.acd_sqlbook.proofs.Standing.{quiet_on}
 
 module _ {A B : Type 0} (old mid new : State) (a : A) (P : Content → A → Type 0) (Q : Content → B → Type 0) (first : Finds {E = Error} old mid (Ok a) P) where

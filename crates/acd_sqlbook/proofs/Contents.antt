@@ -38,23 +38,24 @@ use Rattle.acd_terms.specs.declared.record.MonitorRecord.{MonitorRecord}
 use Rattle.acd_model.specs.Rules.Plan.{connection_order}
 use Rattle.acd_book.specs.Content.{Content}
 use Rattle.acd_book.specs.declared.kept.Kept.{Kept}
-use Rattle.acd_sqlbook.specs.declared.meta.Meta.{Meta}
-use Rattle.acd_sqlbook.specs.declared.fault.Table.{Table}
-use Rattle.acd_sqlbook.specs.declared.fault.Table.TheVariants as table
-use Rattle.acd_sqlbook.specs.Adopting.{is_good, are_good, is_good_in, is_good_table, values_in, lying, IsOfBook, IsFiled, AreWhole, IsInRange}
-use Rattle.acd_sqlbook.specs.Content.{AreRows, AreConnections, IsReadable, Encodes, tree_of}
-use Rattle.acd_sqlbook.specs.Decoding.{as_connection, in_order}
-use Rattle.acd_sqlbook.specs.Ranges.{group_in, station_in, agent_in, call_in, connection_in, monitor_in, counters_in, event_in, kept_in}
-use Rattle.acd_sqlbook.specs.Reading.{meta_shown}
-use Rattle.acd_sqlbook.specs.Rows.{id_value, keyed_row, meta_row, group_values, station_values, agent_values, call_values, connection_values, connection_row, monitor_values, event_values, kept_values, group_row, station_row, agent_row, call_row, monitor_row, event_row, kept_row}
-use Rattle.acd_sqlbook.specs.Schema.{book_schema}
-use Rattle.acd_sqlbook.specs.Schema as schema
-use Rattle.acd_sqlbook.proofs.Decoded.{with_all, connection_back, ordered, from_order, to_order}
-use Rattle.acd_sqlbook.proofs.Heaps.{at_each, each_has, key_same}
-use Rattle.acd_sqlbook.proofs.KeyedRows.{id_cmp, id_tied, same_number, own_number}
-use Rattle.acd_sqlbook.proofs.Looked.{all_so, ascending_of, rising_of}
-use Rattle.acd_sqlbook.proofs.Ranged.{row_is, cells, whole_stored, group_stored, station_stored, agent_stored, call_stored, connection_stored, monitor_stored, counters_stored}
-use Rattle.acd_sqlbook.proofs.Reported.{event_stored, kept_stored}
+use Rattle.acd_statements.specs.declared.meta.Meta.{Meta}
+use Rattle.acd_statements.specs.declared.tables.Table.{Table}
+use Rattle.acd_statements.specs.declared.tables.Table.TheVariants as table
+use Rattle.acd_statements.specs.Lying.{is_good, are_good, is_good_in, values_in, lying, IsFiled, AreWhole}
+use Rattle.acd_sqlbook.specs.Adopting.{is_good_table, IsOfBook, IsInRange}
+use Rattle.acd_statements.specs.Content.{AreRows, AreConnections, IsReadable, Encodes, tree_of}
+use Rattle.acd_statements.specs.Decoding.{as_connection, in_order}
+use Rattle.acd_statements.specs.Ranges.{group_in, station_in, agent_in, call_in, connection_in, monitor_in, counters_in, event_in, kept_in}
+use Rattle.acd_statements.specs.Reading.{meta_shown}
+use Rattle.acd_statements.specs.Rows.{id_value, keyed_row, meta_row, group_values, station_values, agent_values, call_values, connection_values, connection_row, monitor_values, event_values, kept_values, group_row, station_row, agent_row, call_row, monitor_row, event_row, kept_row}
+use Rattle.acd_statements.specs.Schema.{book_schema}
+use Rattle.acd_statements.specs.Schema as schema
+use Rattle.acd_statements.proofs.Decoded.{with_all, connection_back, ordered, from_order, to_order}
+use Rattle.acd_statements.proofs.Heaps.{at_each, each_has, key_same}
+use Rattle.acd_statements.proofs.KeyedRows.{id_cmp, id_tied, same_number, own_number}
+use Rattle.acd_statements.proofs.Looked.{all_so, ascending_of, rising_of}
+use Rattle.acd_statements.proofs.Ranged.{row_is, cells, whole_stored, group_stored, station_stored, agent_stored, call_stored, connection_stored, monitor_stored, counters_stored}
+use Rattle.acd_statements.proofs.Reported.{event_stored, kept_stored}
 
 -- how many values a row has: its number, and one for each column
 abbrev pub width_of : Table → ℕ

@@ -1,8 +1,6 @@
 -- A log that is read page by page: what is left behind a page tells of all.
-use Rattle.std.proofs.Common.{◌≡◌, ℕ, ◌+◌, ◌<◌, ◌≤◌, suc, length, drop, get_or, drop-cons, ap₂, zero, take, filter, nat_lt, List, [], ◌∷◌, map, cond, Option, Some, None, Bool, true, false, IsTrue, refl, sym, ap, subst, ◌∙◌, inl, inr, arith}
-use Rattle.std.specs.Prelude.{codes}
+use Rattle.std.proofs.Common.{◌≡◌, ℕ, ◌+◌, ◌<◌, ◌≤◌, suc, length, drop, get_or, zero, take, filter, nat_lt, List, [], ◌∷◌, map, cond, Option, Some, None, Bool, true, false, IsTrue, refl, sym, ap, subst, ◌∙◌, inl, inr, arith}
 use Rattle.std.specs.List.{AllByRecursion}
-use Rattle.std.specs.Str.{bytes_eq}
 use Rattle.std.specs.Option.{is_some}
 use Rattle.std.specs.Ordering.{nat_cmp}
 use Rattle.std.specs.declared.cmp.Ordering.TheVariants.{Less}
@@ -14,24 +12,25 @@ use Rattle.sqlite_trees.specs.View.{is_int}
 use Rattle.sqlite_rules.specs.Lists.{Has}
 use Rattle.sqlite_keyed.proofs.ListLemmas.{map-map}
 use Rattle.sqlite.specs.Effect.{Database}
-use Rattle.sqlite_schema.specs.declared.schema.Table.{Table as Made}
 use Rattle.acd_terms.specs.Lists.{Among, IsAscending}
 use Rattle.acd_terms.specs.declared.event.Event.{Event}
 use Rattle.acd_laws.proofs.Lists.{after_among, filter_all, filter_among, ascending-filter}
 use Rattle.acd_book.specs.declared.kept.Kept.{Kept}
-use Rattle.acd_sqlbook.specs.declared.fault.Table.{Table}
-use Rattle.acd_sqlbook.specs.declared.adopt.Log.{Log}
-use Rattle.acd_sqlbook.specs.declared.adopt.Log.TheVariants as log
+use Rattle.acd_statements.specs.declared.tables.Table.{Table}
+use Rattle.acd_statements.specs.declared.tables.Log.{Log}
+use Rattle.acd_statements.specs.declared.tables.Log.TheVariants as log
 use Rattle.acd_sqlbook.specs.declared.adopt.Page.{Page}
 use Rattle.acd_sqlbook.specs.declared.adopt.Page.TheVariants.{Bad, Last, More}
-use Rattle.acd_sqlbook.specs.Adopting.{is_good, are_good, is_good_in, is_good_behind, lying, values_in, table_of_log, number_if_good, last_good, has_meta, Numbered, AreNumbered, FromOne, TellsGood, TellsBehind, IsPageRows, IsPageOf, IsPage}
-use Rattle.acd_sqlbook.specs.Content.{tree_of}
-use Rattle.acd_sqlbook.specs.Decoding.{option_in}
-use Rattle.acd_sqlbook.specs.Ranges.{◌>>=◌, whole_at, event_in, kept_in}
-use Rattle.acd_sqlbook.proofs.Heaps.{at_each}
-use Rattle.acd_sqlbook.proofs.KeyedRows.{by_key}
-use Rattle.acd_sqlbook.proofs.Looked.{bad_among, numbers_ascend}
-use Rattle.acd_sqlbook.proofs.Reported.{event_stored, kept_stored}
+use Rattle.acd_statements.specs.Lying.{is_good, are_good, is_good_in, lying, values_in, table_of_log, Numbered, AreNumbered, FromOne, TellsGood, IsPageRows}
+use Rattle.acd_sqlbook.specs.Adopting.{is_good_behind, number_if_good, last_good, TellsBehind, IsPageOf, IsPage}
+use Rattle.acd_statements.specs.Content.{tree_of}
+use Rattle.acd_statements.specs.Decoding.{option_in}
+use Rattle.acd_statements.specs.Ranges.{◌>>=◌, whole_at, event_in, kept_in}
+use Rattle.acd_statements.proofs.Heaps.{at_each}
+use Rattle.acd_statements.proofs.KeyedRows.{by_key}
+use Rattle.acd_statements.proofs.Looked.{bad_among, numbers_ascend}
+use Rattle.acd_statements.proofs.Named.{at}
+use Rattle.acd_statements.proofs.Reported.{event_stored, kept_stored}
 
 above : (m n : ℕ) → nat_cmp m n ≡ Less → nat_lt m n ≡ true
 above m n h = grind (arith, nat_tests)
@@ -194,9 +193,6 @@ log_told l db true low h = record {
 
 -- ---- rows, one after the other
 
-at : {X : Type 0} (xs : List X) (i : ℕ) (x d : X) → x ≡ get_or xs i d → i < length xs → drop i xs ≡ x ∷ drop (i + 1) xs
-at xs i x d is low = let more : suc i ≡ i + 1 = omega arith in drop-cons xs i d low ∙ ap₂ (λ y n. y ∷ drop n xs) (sym is) more
-
 good_one : (t : Table) (row : Row) (rest : List Row) → is_good t row ≡ true → are_good t (row ∷ rest) ≡ are_good t rest
 unfolding are_good
 good_one t row rest good = rw good refl
@@ -230,22 +226,3 @@ module _ (l : Log) (n last : ℕ) (rows : List Row) (i : ℕ) (left : last_good 
   pub last_end : length rows ≤ i → Some last ≡ last_good l n rows
   unfolding last_good
   last_end all = sym (ap (last_good l last) (drop_all i rows all)) ∙ left
-
-other_first : (t : Made) (rest : List Made) → bytes_eq t.name (codes "meta") ≡ false → has_meta (t ∷ rest) ≡ has_meta rest
-unfolding has_meta
-other_first t rest other = rw other refl
-
-own_first : (t : Made) (rest : List Made) → bytes_eq t.name (codes "meta") ≡ true → has_meta (t ∷ rest) ≡ true
-unfolding has_meta
-own_first t rest own = rw own refl
-
-module _ (tables : List Made) (i : ℕ) (left : has_meta (drop i tables) ≡ has_meta tables) where
-  pub meta_step : (t d : Made) → t ≡ get_or tables i d → i < length tables → bytes_eq t.name (codes "meta") ≡ false → has_meta (drop (i + 1) tables) ≡ has_meta tables
-  meta_step t d is low other = sym (ap has_meta (at tables i t d is low) ∙ other_first t (drop (i + 1) tables) other) ∙ left
-
-  pub meta_stop : (t d : Made) → t ≡ get_or tables i d → i < length tables → bytes_eq t.name (codes "meta") ≡ true → true ≡ has_meta tables
-  meta_stop t d is low own = sym (ap has_meta (at tables i t d is low) ∙ own_first t (drop (i + 1) tables) own) ∙ left
-
-  pub meta_end : length tables ≤ i → false ≡ has_meta tables
-  unfolding has_meta
-  meta_end all = sym (ap has_meta (drop_all i tables all)) ∙ left

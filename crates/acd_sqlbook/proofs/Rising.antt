@@ -12,15 +12,16 @@ use Rattle.acd_book.specs.Content.{Content}
 use Rattle.acd_book.specs.Memory.{stamp_of, number_of}
 use Rattle.acd_book.specs.Order.{Rises, IsOrdered}
 use Rattle.acd_book.specs.declared.kept.Kept.{Kept}
-use Rattle.acd_sqlbook.specs.declared.fault.Table.TheVariants as table
-use Rattle.acd_sqlbook.specs.Adopting.{is_good, is_good_table, IsInRange}
-use Rattle.acd_sqlbook.specs.Content.{Encodes}
-use Rattle.acd_sqlbook.specs.Ranges.{◌>>=◌, at_least, whole_at, stamp_at, event_in, kept_in}
-use Rattle.acd_sqlbook.specs.Rows.{event_values, kept_values}
+use Rattle.acd_statements.specs.declared.tables.Table.TheVariants as table
+use Rattle.acd_statements.specs.Lying.{is_good}
+use Rattle.acd_sqlbook.specs.Adopting.{is_good_table, IsInRange}
+use Rattle.acd_statements.specs.Content.{Encodes}
+use Rattle.acd_statements.specs.Ranges.{◌>>=◌, at_least, whole_at, stamp_at, event_in, kept_in}
+use Rattle.acd_statements.specs.Rows.{event_values, kept_values}
 use Rattle.acd_sqlbook.proofs.Contents.{there, each_good, of_mapped}
-use Rattle.acd_sqlbook.proofs.KeyedRows.{by_key}
-use Rattle.acd_sqlbook.proofs.Looked.{all_so}
-use Rattle.acd_sqlbook.proofs.Ranged.{bound, guarded, some_same}
+use Rattle.acd_statements.proofs.KeyedRows.{by_key}
+use Rattle.acd_statements.proofs.Looked.{all_so}
+use Rattle.acd_statements.proofs.Ranged.{bound, guarded, some_same}
 
 -- ---- from 1 on
 

@@ -7,13 +7,13 @@ use Rattle.acd_terms.specs.declared.event.Event.{Event}
 use Rattle.acd_model.specs.declared.moves.Change.{Change}
 use Rattle.acd_book.specs.Content.{Content}
 use Rattle.acd_book.specs.declared.kept.Kept.{Kept}
-use Rattle.acd_sqlbook.specs.declared.meta.Meta.{Meta}
+use Rattle.acd_statements.specs.declared.meta.Meta.{Meta}
 use Rattle.acd_sqlbook.specs.Commit.{counted, made_by, written_by}
-use Rattle.acd_sqlbook.specs.Content.{Encodes, meta_of}
-use Rattle.acd_sqlbook.specs.Reading.{meta_shown}
+use Rattle.acd_statements.specs.Content.{Encodes, meta_of}
+use Rattle.acd_statements.specs.Reading.{meta_shown}
 use Rattle.acd_sqlbook.specs.Calls.{HasRead, HasCommitted}
-use Rattle.acd_sqlbook.specs.Draft.{Holds, Quiet, NoStop, AddsStop}
-use Rattle.acd_sqlbook.specs.Finding.{Finds}
+use Rattle.acd_statements.specs.Draft.{Holds, Quiet, NoStop, AddsStop}
+use Rattle.acd_statements.specs.Finding.{Finds}
 
 pub quiet_still : (s : State) → Quiet s s
 quiet_still s = record { clean = λ k. k; was_open = λ k up. up; same = λ k c h up. h }

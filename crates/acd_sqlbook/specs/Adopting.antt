@@ -1,13 +1,8 @@
 -- When a connection is taken for a book: its version is that of these tables, and each value is in its range.
-use Rattle.std.specs.Prelude.{◌≡◌, ◌≢◌, ◌⊎◌, ℕ, ◌==◌, Bool, true, false, List, [], ◌∷◌, length, map, take, filter, nat_lt, codes, Option, None, Some, if◌then◌else◌, IsTrue, ⊤}
-use Rattle.std.specs.List.{AllByRecursion}
-use Rattle.std.specs.Option.{is_some}
-use Rattle.std.specs.Str.{bytes_eq}
-use Rattle.sqlite_value.specs.Order.{Row, column}
-use Rattle.sqlite_trees.specs.Tree.{Trees, IsTable, rowid}
-use Rattle.sqlite_trees.specs.View.{is_int}
+use Rattle.std.specs.Prelude.{◌≡◌, ◌≢◌, ◌⊎◌, ℕ, ◌==◌, Bool, true, false, List, [], ◌∷◌, map, Option, None, Some, if◌then◌else◌, ⊤}
+use Rattle.sqlite_value.specs.Order.{Row}
+use Rattle.sqlite_trees.specs.Tree.{Trees}
 use Rattle.sqlite_rules.specs.Lists.{Has}
-use Rattle.sqlite_schema.specs.declared.schema.Table.{Table as Made}
 use Rattle.sqlite_schema.specs.declared.schema.Schema.{Schema}
 use Rattle.sqlite.specs.Effect.{Database}
 use Rattle.sqlite.specs.declared.error.Error.{Error}
@@ -17,43 +12,25 @@ use Rattle.acd_terms.specs.Lists.{Every}
 use Rattle.acd_book.specs.Content.{Content, Within}
 use Rattle.acd_book.specs.Order.{IsOrdered}
 use Rattle.acd_book.specs.State.{BookState}
-use Rattle.acd_sqlbook.specs.declared.fault.Table.{Table}
-use Rattle.acd_sqlbook.specs.declared.fault.Table.TheVariants as table
+use Rattle.acd_statements.specs.declared.tables.Table.{Table}
+use Rattle.acd_statements.specs.declared.tables.Table.TheVariants as table
 use Rattle.acd_sqlbook.specs.declared.fault.AdoptFault.{AdoptFault}
 use Rattle.acd_sqlbook.specs.declared.fault.AdoptFault.TheVariants.{WrongVersion, BadRow, NoMemory, Store}
-use Rattle.acd_sqlbook.specs.declared.adopt.Whole.{Whole as Small}
-use Rattle.acd_sqlbook.specs.declared.adopt.Whole.TheVariants as whole
-use Rattle.acd_sqlbook.specs.declared.adopt.Log.{Log}
-use Rattle.acd_sqlbook.specs.declared.adopt.Log.TheVariants as log
+use Rattle.acd_statements.specs.declared.tables.Log.{Log}
 use Rattle.acd_sqlbook.specs.declared.adopt.Likeness.{Likeness}
 use Rattle.acd_sqlbook.specs.declared.adopt.Likeness.TheVariants.{Whole, First, Other}
 use Rattle.acd_sqlbook.specs.declared.adopt.Page.{Page}
 use Rattle.acd_sqlbook.specs.declared.adopt.Page.TheVariants.{Bad, Last, More}
-use Rattle.acd_sqlbook.specs.Content.{meta_of, tree_of}
-use Rattle.acd_sqlbook.specs.Draft.{Fits}
-use Rattle.acd_sqlbook.specs.Reading.{meta_shown}
-use Rattle.acd_sqlbook.specs.Rows.{id_value, group_values, station_values, agent_values, call_values, connection_values, monitor_values, event_values, kept_values}
-use Rattle.acd_sqlbook.specs.Schema as schema
-use Rattle.acd_sqlbook.specs.Schema.{book_schema}
-use Rattle.acd_sqlbook.specs.Ranges.{◌>>=◌, whole_at, group_in, station_in, agent_in, call_in, connection_in, monitor_in, counters_in, event_in, kept_in}
+use Rattle.acd_statements.specs.Content.{meta_of}
+use Rattle.acd_statements.specs.Draft.{Fits}
+use Rattle.acd_statements.specs.Lying.{is_good, are_good, is_good_in, IsFiled, table_of_log, Numbered, AreNumbered, values_behind, has_meta, BeginsAsBook}
+use Rattle.acd_statements.specs.Reading.{meta_shown}
+use Rattle.acd_statements.specs.Rows.{group_values, station_values, agent_values, call_values, connection_values, monitor_values, event_values, kept_values}
+use Rattle.acd_statements.specs.Schema as schema
+use Rattle.acd_statements.specs.Schema.{book_schema}
+use Rattle.acd_statements.specs.Ranges.{◌>>=◌, whole_at}
 
 -- ---- ranges
-
--- each value of the row is in its range
-abbrev pub is_good : Table → Row → Bool
-is_good table.Meta r = is_some (counters_in r)
-is_good table.Groups r = is_some (group_in r)
-is_good table.Stations r = is_some (station_in r)
-is_good table.Agents r = is_some (agent_in r)
-is_good table.Calls r = is_some (call_in r)
-is_good table.Connections r = is_some (connection_in r)
-is_good table.Monitors r = is_some (monitor_in r)
-is_good table.Events r = is_some (event_in r)
-is_good table.Kept r = is_some (kept_in r)
-
-unfoldable pub are_good : Table → List Row → Bool
-are_good t [] = true
-are_good t (row ∷ rows) = if is_good t row then are_good t rows else false
 
 -- the values of the rows of a table
 abbrev pub values_of : Table → Content → List Row
@@ -74,48 +51,6 @@ is_good_table t c = are_good t (values_of t c)
 abbrev pub IsInRange : Content → Type 0
 IsInRange c = (t : Table) → is_good_table t c ≡ true
 
--- ---- rows as they lie in a database
-
--- the values of a row that are looked at
-abbrev pub values_in : Table → Row → Row
-values_in table.Meta r =
-    column r 3 ∷ column r 4 ∷ column r 5 ∷ column r 6 ∷ column r 7 ∷ column r 8 ∷ column r 9 ∷ column r 10 ∷ column r 11 ∷ column r 12 ∷ column r 13 ∷ []
-values_in table.Groups r = column r 0 ∷ column r 2 ∷ column r 3 ∷ column r 4 ∷ column r 5 ∷ column r 6 ∷ column r 7 ∷ column r 8 ∷ column r 9 ∷ []
-values_in table.Stations r = column r 0 ∷ []
-values_in table.Agents r = column r 0 ∷ column r 2 ∷ column r 3 ∷ column r 4 ∷ column r 5 ∷ column r 6 ∷ column r 7 ∷ column r 8 ∷ []
-values_in table.Calls r = column r 0 ∷ column r 2 ∷ column r 3 ∷ column r 4 ∷ []
-values_in table.Connections r = column r 1 ∷ column r 2 ∷ column r 3 ∷ column r 4 ∷ column r 5 ∷ column r 6 ∷ column r 7 ∷ []
-values_in table.Monitors r = column r 0 ∷ column r 2 ∷ column r 3 ∷ []
-values_in table.Events r =
-    column r 0 ∷ column r 2 ∷ column r 3 ∷ column r 4 ∷ column r 5 ∷ column r 6 ∷ column r 7 ∷ column r 8 ∷ column r 9 ∷ column r 10 ∷ []
-values_in table.Kept r = column r 0 ∷ column r 2 ∷ column r 3 ∷ column r 4 ∷ column r 5 ∷ column r 6 ∷ column r 7 ∷ []
-
--- of all rows of the table
-abbrev pub lying : Table → Trees → List Row
-lying t db = map (values_in t) (db (tree_of t))
-
--- each of them is in its range
-unfoldable pub is_good_in : Table → Trees → Bool
-is_good_in t db = are_good t (lying t db)
-
--- Each row has a value for each column. One from before a column was added may lack the last ones, where these may hold NULL.
-abbrev pub AreWhole : Trees → Type 0
-AreWhole db =
-    AllByRecursion (λ r. length r ≡ 2) (db (tree_of table.Stations))
-    × AllByRecursion (λ r. length r ≡ 8) (db (tree_of table.Connections))
-    × AllByRecursion (λ r. length r ≡ 11) (db (tree_of table.Events))
-
--- as a store keeps the rows of its tables: they have integers as numbers, which rise
-pub record IsFiled (db : Trees) : Type 0 where
-  pub rising : (t : Table) → IsTable (db (tree_of t))
-  pub numbered : (t : Table) → AllByRecursion (λ r. IsTrue (is_int (rowid r))) (db (tree_of t))
-  pub whole : AreWhole db
-
--- a bad one is there; and where the rows are filed it is told whether there is one
-pub record TellsGood (t : Table) (db : Trees) (good : Bool) : Type 0 where
-  pub bad : good ≡ false → is_good_in t db ≡ false
-  pub filed : IsFiled db → good ≡ is_good_in t db
-
 -- the tables, in the order in which they are looked at
 abbrev pub all_tables : List Table
 all_tables = table.Meta ∷ table.Groups ∷ table.Stations ∷ table.Agents ∷ table.Calls ∷ table.Connections ∷ table.Monitors ∷ table.Events ∷ table.Kept ∷ []
@@ -124,51 +59,6 @@ all_tables = table.Meta ∷ table.Groups ∷ table.Stations ∷ table.Agents ∷
 abbrev pub IsBadOf : List Table → Trees → Option Table → Type 0
 IsBadOf tables db None = IsFiled db → Every (λ t. is_good_in t db ≡ true) tables
 IsBadOf tables db (Some t) = is_good_in t db ≡ false
-
--- ---- the tables that are read whole
-
-abbrev pub table_of : Small → Table
-table_of whole.Meta = table.Meta
-table_of whole.Groups = table.Groups
-table_of whole.Stations = table.Stations
-table_of whole.Agents = table.Agents
-table_of whole.Calls = table.Calls
-table_of whole.Connections = table.Connections
-table_of whole.Monitors = table.Monitors
-
--- ---- the tables that are read in pages
-
-abbrev pub table_of_log : Log → Table
-table_of_log log.Events = table.Events
-table_of_log log.Kept = table.Kept
-
--- a row whose number is no less than 0
-pub record Numbered : Type 0 where
-  pub key : ℕ
-  pub row : Row
-  pub is : rowid row ≡ id_value key
-
--- these are the rows of the log, in order
-pub record AreNumbered (l : Log) (db : Trees) (xs : List Numbered) : Type 0 where
-  pub rising : IsTable (db (tree_of (table_of_log l)))
-  pub rows : db (tree_of (table_of_log l)) ≡ map (λ (x : Numbered). x.row) xs
-
-abbrev pub values_behind : Log → ℕ → List Numbered → List Row
-values_behind l n xs = map (λ (x : Numbered). values_in (table_of_log l) x.row) (filter (λ (x : Numbered). nat_lt n x.key) xs)
-
--- its number is one from 1 on
-abbrev pub FromOne : Row → Type 0
-FromOne r = (n : ℕ) × (rowid r ≡ id_value n) × (nat_lt n 1 ≡ false)
-
--- whether a number is below 1
-pub record TellsLow (l : Log) (db : Trees) (low : List Row) : Type 0 where
-  pub none : low ≡ [] → AllByRecursion (λ r. IsTrue (is_int (rowid r)) → FromOne r) (db (tree_of (table_of_log l)))
-  pub some : (low ≡ [] → ⊥) → is_good_in (table_of_log l) db ≡ false
-
--- the first rows above a number
-pub record IsPageRows (l : Log) (n limit : ℕ) (db : Trees) (rows : List Row) : Type 0 where
-  pub known : AllByRecursion (λ r. Has (lying (table_of_log l) db) r) rows
-  pub paged : (xs : List Numbered) → AreNumbered l db xs → rows ≡ take limit (values_behind l n xs)
 
 unfoldable pub is_good_behind : Log → ℕ → List Numbered → Bool
 is_good_behind l n xs = are_good (table_of_log l) (values_behind l n xs)
@@ -205,18 +95,6 @@ PageFits Last = ⊤
 PageFits (More m) = Fits m
 
 -- ---- versions
-
-unfoldable pub has_meta : List Made → Bool
-has_meta [] = false
-has_meta (t ∷ tables) = if bytes_eq t.name (codes "meta") then true else has_meta tables
-
--- its first table is `meta` as a book has it
-abbrev pub BeginsAsBook : Schema → Type 0
-BeginsAsBook s = (rest : List Made) × (s.tables ≡ schema.table_of schema.meta ∷ rest)
-
-abbrev pub AreSameFirst : List Made → List Made → Type 0
-AreSameFirst (x ∷ xs) (y ∷ ys) = x ≡ y
-AreSameFirst _ _ = ⊥
 
 -- how far the tables are those of a book
 abbrev pub IsLike : Schema → Likeness → Type 0

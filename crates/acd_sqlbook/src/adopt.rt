@@ -1,53 +1,31 @@
 //! Takes a connection over a book of version 1, where each value is in its range.
 
-ghost use Rattle.std.specs.Prelude.{◌≡◌, false, None, IfOk, IfErr, IsPermutation};
+ghost use Rattle.std.specs.Prelude.{◌≡◌, false, None, IfOk, IfErr};
 ghost use Rattle.sqlite.specs.Effect.{Database};
 ghost use Rattle.sqlite.specs.State.{HasCleanDisk};
 ghost use Rattle.sqlite.specs.Held.{state};
-ghost use Rattle.acd_sqlbook.specs.Adopting.{table_of, table_of_log, lying, is_good, are_good, is_good_in, number_if_good, last_good, BeginsAsBook, IsLike, TellsGood, TellsLow, TellsBehind, IsPageRows, IsBadOf, IsPage, IsPageOf, PageFits, IsFound, IsRowFound, IsVersionFound, IsStoreFault, AreWhole, IsFiled, IsAdopted, IsHandedBack, version_fault, adopt_fault_of};
-ghost use Rattle.acd_sqlbook.specs.Draft.{Fits};
-ghost use Rattle.acd_sqlbook.specs.Schema.{book_schema};
-ghost use Rattle.acd_sqlbook.specs.Seeing.{Sees, HasLooked};
+ghost use Rattle.acd_statements.specs.Lying.{table_of, table_of_log, is_good, are_good, BeginsAsBook, TellsGood, AreWhole, IsFiled};
+ghost use Rattle.acd_sqlbook.specs.Adopting.{number_if_good, last_good, IsLike, TellsBehind, IsBadOf, IsPage, IsPageOf, PageFits, IsFound, IsRowFound, IsVersionFound, IsStoreFault, IsAdopted, IsHandedBack, version_fault, adopt_fault_of};
+ghost use Rattle.acd_statements.specs.Draft.{Fits};
+ghost use Rattle.acd_statements.specs.Schema.{book_schema};
+ghost use Rattle.acd_statements.specs.Seeing.{Sees, HasLooked};
 ghost use Rattle.acd_sqlbook.specs.State.{book_state};
 
 use crate::book::{SqlBook, set_up};
 use crate::commit::{fits, too_large};
-use crate::decode::{
+use crate::fault::AdoptFault;
+use acd_statements::decode::{
     agent_in, call_in, connection_in, counters_in, event_in, group_in, kept_in, monitor_in,
     station_in,
 };
-use crate::fault::{AdoptFault, Table};
-use crate::look::{counter_rows, has_meta, low_event_rows, low_kept_rows, version_rows};
-use crate::query::{
-    agent_rows, call_rows, connection_rows, event_rows, group_rows, kept_rows, monitor_rows,
-    station_rows,
-};
-use crate::read::probe;
-use crate::same::{is_same_first, is_same_schema};
-use crate::values;
+use acd_statements::look::{has_meta, version_rows};
+use acd_statements::read::probe;
+use acd_statements::same::{is_same_first, is_same_schema};
+use acd_statements::{Log, Table, Whole, values};
 use acd_terms::Limits;
 use sqlite::{Alter, Connection, Error, ErrorCode, MemStore, Row};
 use sqlite_schema::schema::Schema;
 use std::alloc::Global;
-
-// A table that is read whole.
-#[derive(Clone, Copy)]
-pub(crate) enum Whole {
-    Meta,
-    Groups,
-    Stations,
-    Agents,
-    Calls,
-    Connections,
-    Monitors,
-}
-
-// A table that grows with the history, and is read in pages.
-#[derive(Clone, Copy)]
-pub(crate) enum Log {
-    Events,
-    Kept,
-}
 
 // How far the tables of a database are those of a book.
 #[derive(Clone, Copy)]
@@ -101,38 +79,6 @@ fn are_good(alloc: Global, table: Table, rows: &[Row]) -> Result<bool, Error>
     Ok(true)
 }
 
-impl Whole {
-    fn table(self) -> Table
-        ensures { result ≡ table_of self }
-    {
-        match self {
-            Whole::Meta => Table::Meta,
-            Whole::Groups => Table::Groups,
-            Whole::Stations => Table::Stations,
-            Whole::Agents => Table::Agents,
-            Whole::Calls => Table::Calls,
-            Whole::Connections => Table::Connections,
-            Whole::Monitors => Table::Monitors,
-        }
-    }
-
-    fn rows<S: Alter>(self, conn: &mut Connection<S>) -> Result<Vec<Row>, Error>
-        requires { conn.old.in_transaction ≡ false }
-        ensures idle { conn.new.in_transaction ≡ false }
-        ensures seen { (d : Database) → d.schema ≡ book_schema → Sees d (state S.Store conn.old) (state S.Store conn.new) result (λ rows. IsPermutation (lying (table_of self) d.trees) rows.items) }
-    {
-        match self {
-            Whole::Meta => counter_rows(conn),
-            Whole::Groups => group_rows(conn),
-            Whole::Stations => station_rows(conn),
-            Whole::Agents => agent_rows(conn),
-            Whole::Calls => call_rows(conn),
-            Whole::Connections => connection_rows(conn),
-            Whole::Monitors => monitor_rows(conn),
-        }
-    }
-}
-
 // Whether each value of a table that is read whole is in its range.
 #[tactic(auto, unfolding(crate::specs::Adopting::is_good_table))]
 fn is_good_whole<S: Alter>(
@@ -147,41 +93,6 @@ fn is_good_whole<S: Alter>(
     match table.rows(conn) {
         Ok(rows) => are_good(alloc, table.table(), &rows),
         Err(error) => Err(error),
-    }
-}
-
-impl Log {
-    fn table(self) -> Table
-        ensures { result ≡ table_of_log self }
-    {
-        match self {
-            Log::Events => Table::Events,
-            Log::Kept => Table::Kept,
-        }
-    }
-
-    fn low_rows<S: Alter>(self, conn: &mut Connection<S>) -> Result<Vec<Row>, Error>
-        requires { conn.old.in_transaction ≡ false }
-        ensures idle { conn.new.in_transaction ≡ false }
-        ensures seen { (d : Database) → d.schema ≡ book_schema → Sees d (state S.Store conn.old) (state S.Store conn.new) result (λ rows. TellsLow self d.trees rows.items) }
-    {
-        match self {
-            Log::Events => low_event_rows(conn),
-            Log::Kept => low_kept_rows(conn),
-        }
-    }
-
-    // The first thousand rows above a number.
-    fn rows<S: Alter>(self, conn: &mut Connection<S>, number: u64) -> Result<Vec<Row>, Error>
-        requires idle { conn.old.in_transaction ≡ false }
-        requires number { Fits number }
-        ensures idle { conn.new.in_transaction ≡ false }
-        ensures seen { (d : Database) → d.schema ≡ book_schema → Sees d (state S.Store conn.old) (state S.Store conn.new) result (λ rows. IsPageRows self number 1000 d.trees rows.items) }
-    {
-        match self {
-            Log::Events => event_rows(conn, number, 1000),
-            Log::Kept => kept_rows(conn, number, 1000),
-        }
     }
 }
 

@@ -5,20 +5,20 @@ ghost use Rattle.sqlite.specs.State.{HasCleanDisk};
 ghost use Rattle.sqlite.specs.Held.{state};
 ghost use Rattle.acd_book.specs.Content.{empty_content};
 ghost use Rattle.acd_sqlbook.specs.Calls.{HasRead};
-ghost use Rattle.acd_sqlbook.specs.Schema.{no_schema};
-ghost use Rattle.acd_sqlbook.specs.Draft.{Holds, LimitsFit};
+ghost use Rattle.acd_statements.specs.Schema.{no_schema};
+ghost use Rattle.acd_statements.specs.Draft.{Holds, LimitsFit};
 ghost use Rattle.acd_sqlbook.specs.State.{book_state, IsNew, MayMake, fault_of, answered, failures_after};
 
 use crate::create::make_tables;
-use crate::meta::Meta;
 use crate::ready::{
     commit_ready, events_ready, kept_after_ready, kept_ready, limits_fit, limits_ready, rows_ready,
     watched_ready,
 };
 use crate::transition::commit_rows_ready;
-use crate::write::put_meta;
 use acd_book::{Book, BookFault, Kept};
 use acd_model::Change;
+use acd_statements::Meta;
+use acd_statements::write::put_meta;
 use acd_terms::{Event, Invoke, Limits, Requester, Rows};
 use sqlite::{Alter, Connection, Error, ErrorCode};
 use std::alloc::Global;
@@ -144,7 +144,7 @@ impl<S: Alter> Book for SqlBook<S> {
     ghost use Rattle.std.specs.Prelude.{refl};
     ghost use Rattle.std.proofs.Common.{ap, ◌∙◌};
     ghost use Rattle.std.proofs.Math.Logic.{∥∥₁_map};
-    ghost use Rattle.acd_sqlbook.specs.Decoding.{content_of};
+    ghost use Rattle.acd_statements.specs.Decoding.{content_of};
 
     ghost state = { λ b. book_state (state S.Store b.conn) b.failures };
 

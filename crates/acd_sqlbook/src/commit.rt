@@ -6,15 +6,15 @@ ghost use Rattle.sqlite.specs.Held.{state};
 ghost use Rattle.acd_codec.specs.RequestTexts.{request_text};
 ghost use Rattle.acd_book.specs.Content.{Content};
 ghost use Rattle.acd_sqlbook.specs.Commit.{ChangeFits, EventFits, filed, all_filed, with_event, with_events, made_by, top_call, top_monitor, last_call, last_monitor, counted};
-ghost use Rattle.acd_sqlbook.specs.Draft.{Drafts, Works, Holds, AddsStop, Fits, FiguresFit, MetaFits};
+ghost use Rattle.acd_statements.specs.Draft.{Drafts, Works, Holds, AddsStop, Fits, FiguresFit, MetaFits};
 
-use crate::meta::Meta;
-use crate::write::{
+use acd_book::Kept;
+use acd_model::Change;
+use acd_statements::Meta;
+use acd_statements::write::{
     drop_call, drop_connection, drop_monitor, put_agent, put_call, put_connection, put_event,
     put_group, put_kept, put_meta, put_monitor, put_station,
 };
-use acd_book::Kept;
-use acd_model::Change;
 use acd_terms::{Event, Figures};
 use sqlite::{Alter, Connection, Error, ErrorCode, Transaction};
 

@@ -6,11 +6,11 @@ ghost use Rattle.sqlite_schema.specs.declared.schema.Schema.{Schema};
 ghost use Rattle.sqlite.specs.Change.{created};
 ghost use Rattle.sqlite.specs.State.{HasCleanDisk};
 ghost use Rattle.sqlite.specs.Held.{state};
-ghost use Rattle.acd_sqlbook.specs.Schema.{no_schema, book_schema};
-ghost use Rattle.acd_sqlbook.specs.Making.{Makes, Builds, plan_schema, state_schema};
-ghost use Rattle.acd_sqlbook.specs.Draft.{Works};
+ghost use Rattle.acd_statements.specs.Schema.{no_schema, book_schema};
+ghost use Rattle.acd_statements.specs.Making.{Makes, Builds, plan_schema, state_schema};
+ghost use Rattle.acd_statements.specs.Draft.{Works};
 
-use crate::write::write;
+use acd_statements::write::write;
 use sqlite::{Alter, Error, Transaction};
 
 // Makes one table.

@@ -1,20 +1,7 @@
-//! The tables of the book, and why a connection was not adopted.
+//! Why a connection was not adopted.
 
+use acd_statements::Table;
 use thiserror::Error;
-
-/// A table of the book.
-#[derive(Clone, Copy, Debug, PartialEq, Eq)]
-pub enum Table {
-    Meta,
-    Groups,
-    Stations,
-    Agents,
-    Calls,
-    Connections,
-    Monitors,
-    Events,
-    Kept,
-}
 
 /// Why a connection was not adopted.
 #[derive(Clone, Copy, Debug, PartialEq, Eq, Error)]

@@ -5,8 +5,8 @@
 //! [`Book`](acd_book::Book) that keeps nothing but its connection, whether its last call succeeded and how
 //! often its store has failed: each read asks the database.
 //!
-//! Each statement has a function of its own, which works inside a transaction and adds no stop; the end of
-//! the transaction alone adds the commit.
+//! Each statement is a function of `acd_statements`, which works inside a transaction and adds no stop; the end
+//! of the transaction alone adds the commit.
 //!
 //! ```ignore
 //! let mut book = SqlBook::create(alloc, conn, Limits::GREATEST)?;
@@ -16,28 +16,18 @@
 #![tactic(auto)]
 
 mod adopt;
-mod bind;
 mod book;
-mod codes;
 mod commit;
 mod create;
-mod decode;
 mod difference;
 mod fault;
 pub mod laws;
-mod look;
 mod lookups;
-mod meta;
-mod query;
-mod read;
 mod reads;
 mod ready;
-mod same;
-mod shape;
 mod transition;
-mod values;
-mod write;
 
+pub use acd_statements::Table;
 pub use book::SqlBook;
 pub use difference::{Filed, row_changes};
-pub use fault::{AdoptFault, Table};
+pub use fault::AdoptFault;

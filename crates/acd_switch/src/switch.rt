@@ -11,7 +11,7 @@ ghost use Rattle.acd_model.specs.Step.{step, numbered, executed_moment, next_sta
 ghost use Rattle.acd_model.specs.Changes.{changes_of, growth, step_changes, rows_made};
 ghost use Rattle.acd_model.specs.Rules.First.{BreaksNoRule};
 ghost use Rattle.acd_model.specs.Rules.Plan.{group_order};
-ghost use Rattle.acd_services.specs.Asked.{IsNoTick};
+ghost use Rattle.acd_services.specs.NoTick.{IsNoTick};
 ghost use Rattle.acd_switch.specs.RowFaults.{IsFaultOf};
 ghost use Rattle.acd_switch.specs.Room.{HasRoom, Fits, closed};
 ghost use Rattle.acd_switch.specs.Kept.{figures_at, IsRefused};

@@ -16,7 +16,7 @@ use Rattle.acd_terms.specs.declared.rows.Rows.{Rows}
 use Rattle.acd_terms.specs.declared.record.AgentRecord.{AgentRecord}
 use Rattle.acd_terms.specs.declared.record.ConnectionRecord.{ConnectionRecord}
 use Rattle.acd_model.specs.Rules.Plan.{agent_order, connection_order}
-use Rattle.acd_model.specs.Scans.{agent_of, connection_of, has, is_eligible, is_occupied, is_taken, is_idle_there, waiting_in, eligible_in}
+use Rattle.acd_model.specs.Scans.{agent_of, connection_of, has, is_eligible, is_occupied, is_idle, is_idle_there, waiting_in, eligible_in}
 use Rattle.acd_model.specs.Choice.{waiting_pair, ready_pair, least_from, first_waiting, first_eligible}
 use Rattle.acd_laws.proofs.Lists.{among-filter, filter_among, mapped_among}
 use Rattle.acd_laws.proofs.OfferFound.{least_found}
@@ -85,7 +85,7 @@ none_at [] = refl
 none_at (x ∷ xs) = none_at xs
 
 pub able-eligible : (s : Rows) (g : ℕ) (a : AgentRecord) → is_able s g a ≡ is_eligible s g a
-unfolding is_eligible is_occupied is_taken is_busy_at
+unfolding is_eligible is_occupied is_idle is_busy_at
 able-eligible s g a = by a.station refl
   where
     ends : (x y : Bool) → (x && (y && false)) ≡ ((((x && y) && true)) && false)

@@ -15,7 +15,7 @@ use Rattle.acd_model.specs.Scans.{agent_of, agent_at, connection_of, has}
 use Rattle.acd_laws.proofs.Lists.{any_found, any_some, find_passes, find_among, some_from, some_found, none_from, some_is}
 use Rattle.acd_laws.proofs.State.{connection_among, connection_found, found_key, agent_among, agent_at_find, agent_seat, agent_there, has_is}
 use Rattle.acd_tables.specs.Indexed.{Seats}
-use Rattle.acd_tables.specs.Uses.{is_used, if_at}
+use Rattle.acd_tables.specs.Uses.{is_there_and, if_at}
 
 -- a connection at the device that passes
 abbrev pub Standing : Rows → (ConnectionRecord → Bool) → ℕ → Type 0
@@ -32,33 +32,33 @@ any-there s u d ascending e =
     let own = connection_found s ascending f.0 (find_among p s.connections f.0 f.1) in
     (f.0, subst (λ z. connection_of s f.0.call z ≡ Some f.0) (eqb-true f.0.device d passes.0) own, passes.1)
 
-pub used_some : (u : ConnectionRecord → Bool) (o : Option ConnectionRecord) → is_used u o ≡ true → (c : ConnectionRecord) × (o ≡ Some c) × (u c ≡ true)
+pub used_some : (u : ConnectionRecord → Bool) (o : Option ConnectionRecord) → is_there_and u o ≡ true → (c : ConnectionRecord) × (o ≡ Some c) × (u c ≡ true)
 used_some u None e = absurd cc
 used_some u (Some c) e = (c, refl, e)
 
 -- among the keys that are listed are all calls that have a connection at the device
 pub any-listed : (s : Rows) (u : ConnectionRecord → Bool) (d : ℕ) (but : Option ℕ) (ks : List (ℕ × ℕ)) → IsAscending connection_order s.connections
     → ((c : ℕ) → is_some (connection_of s c d) ≡ true → Among (d, c) ks)
-    → list_any (λ k. not (has but k.1) && is_used u (connection_of s k.1 d)) ks ≡ list_any (λ (z : ConnectionRecord). z.device == d && (not (has but z.call) && u z)) s.connections
+    → list_any (λ k. not (has but k.1) && is_there_and u (connection_of s k.1 d)) ks ≡ list_any (λ (z : ConnectionRecord). z.device == d && (not (has but z.call) && u z)) s.connections
 any-listed s u d but ks ascending listed = both_ways _ _ to from
   where
-    to : list_any (λ k. not (has but k.1) && is_used u (connection_of s k.1 d)) ks ≡ true → list_any (λ (z : ConnectionRecord). z.device == d && (not (has but z.call) && u z)) s.connections ≡ true
+    to : list_any (λ k. not (has but k.1) && is_there_and u (connection_of s k.1 d)) ks ≡ true → list_any (λ (z : ConnectionRecord). z.device == d && (not (has but z.call) && u z)) s.connections ≡ true
     to e =
-        let p : ℕ × ℕ → Bool = λ k. not (has but k.1) && is_used u (connection_of s k.1 d) in
+        let p : ℕ × ℕ → Bool = λ k. not (has but k.1) && is_there_and u (connection_of s k.1 d) in
         let w : ConnectionRecord → Bool = λ z. not (has but z.call) && u z in
         let k = some_from (find p ks) (any_found p ks e) in
-        let parts = and_parts (not (has but k.0.1)) (is_used u (connection_of s k.0.1 d)) (find_passes p ks k.0 k.1) in
+        let parts = and_parts (not (has but k.0.1)) (is_there_and u (connection_of s k.0.1 d)) (find_passes p ks k.0 k.1) in
         let c = used_some u (connection_of s k.0.1 d) parts.1 in
         let call : c.0.call ≡ k.0.1 = (found_key s k.0.1 d c.0 c.1).0 in
         there-any s w k.0.1 d c.0 c.1 (and_from (not (has but c.0.call)) (u c.0) (ap (λ n. not (has but n)) call ∙ parts.0) c.2)
 
-    from : list_any (λ (z : ConnectionRecord). z.device == d && (not (has but z.call) && u z)) s.connections ≡ true → list_any (λ k. not (has but k.1) && is_used u (connection_of s k.1 d)) ks ≡ true
+    from : list_any (λ (z : ConnectionRecord). z.device == d && (not (has but z.call) && u z)) s.connections ≡ true → list_any (λ k. not (has but k.1) && is_there_and u (connection_of s k.1 d)) ks ≡ true
     from e =
-        let p : ℕ × ℕ → Bool = λ k. not (has but k.1) && is_used u (connection_of s k.1 d) in
+        let p : ℕ × ℕ → Bool = λ k. not (has but k.1) && is_there_and u (connection_of s k.1 d) in
         let w : ConnectionRecord → Bool = λ z. not (has but z.call) && u z in
         let c = any-there s w d ascending e in
         let parts = and_parts (not (has but c.0.call)) (u c.0) c.2 in
-        any_some p ks (d, c.0.call) (listed c.0.call (ap is_some c.1)) (and_from (not (has but c.0.call)) (is_used u (connection_of s c.0.call d)) parts.0 (ap (is_used u) c.1 ∙ parts.1))
+        any_some p ks (d, c.0.call) (listed c.0.call (ap is_some c.1)) (and_from (not (has but c.0.call)) (is_there_and u (connection_of s c.0.call d)) parts.0 (ap (is_there_and u) c.1 ∙ parts.1))
 
 module _ (s : Rows) (seats : BTreeMap ℕ ℕ) (ascending : IsAscending agent_order s.agents) (listed : Seats s seats) where
   -- an agent with the station is the one that a scan finds

@@ -20,7 +20,7 @@ use Rattle.acd_laws.proofs.Lists.{eq_is, is_eq_of, some_is, ascending-put, ascen
 use Rattle.acd_laws.proofs.Keyed.{cmp_equal, cmp_self}
 use Rattle.acd_laws.proofs.State.{connections_total, at_put, at_remove, agent_put, agent_key, found_key, agent_seat, agent_there}
 use Rattle.acd_tables.specs.Indexed.{pair_cmp, waits_at, is_busying, is_busy_at, is_free, is_able_since, Seats}
-use Rattle.acd_tables.specs.Uses.{is_used, is_in_use}
+use Rattle.acd_tables.specs.Uses.{is_there_and, is_in_use}
 use Rattle.acd_tables.specs.declared.uses.Use.TheVariants.{Busying}
 use Rattle.acd_tables.specs.Turns.{TurnsTo, differ, is_entry, IsAt, queue_entry, entry_in, ready_entry, with_or_without, LeavesBut}
 use Rattle.acd_tables.specs.declared.indexes.Turn.{Turn}
@@ -82,27 +82,27 @@ module _ (s t : Rows) (call device : ℕ) (new : Option ConnectionRecord) (ascen
   found_apart k d e = r.found k d ∙ ap (λ b. cond b new (connection_of s k d)) (and_right (call == k) (device == d) e)
 
   -- the station is busy by the new connection or by another one
-  pub busy-here : (is_used is_busying new || is_in_use s device (Some call) Busying) ≡ is_busy_at t device
+  pub busy-here : (is_there_and is_busying new || is_in_use s device (Some call) Busying) ≡ is_busy_at t device
   unfolding is_busy_at
   busy-here = both_ways _ _ to from
     where
-      to : (is_used is_busying new || is_in_use s device (Some call) Busying) ≡ true → list_any (λ (c : ConnectionRecord). c.device == device && is_busying c) t.connections ≡ true
-      to e = elim (or_cases (is_used is_busying new) (is_in_use s device (Some call) Busying) e) [
+      to : (is_there_and is_busying new || is_in_use s device (Some call) Busying) ≡ true → list_any (λ (c : ConnectionRecord). c.device == device && is_busying c) t.connections ≡ true
+      to e = elim (or_cases (is_there_and is_busying new) (is_in_use s device (Some call) Busying) e) [
         | inl h ↦ (let c = used_some is_busying new h in there-any t is_busying call device c.0 (found_here ∙ c.1) c.2)
         | inr h ↦ (let c = any-there s (λ z. not (call == z.call) && is_busying z) device ascending h in
             let parts = and_parts (not (call == c.0.call)) (is_busying c.0) c.2 in
             there-any t is_busying c.0.call device c.0 (found_besides c.0.call device (not-true (call == c.0.call) parts.0) ∙ c.1) parts.1)
       ]
 
-      from : list_any (λ (c : ConnectionRecord). c.device == device && is_busying c) t.connections ≡ true → (is_used is_busying new || is_in_use s device (Some call) Busying) ≡ true
+      from : list_any (λ (c : ConnectionRecord). c.device == device && is_busying c) t.connections ≡ true → (is_there_and is_busying new || is_in_use s device (Some call) Busying) ≡ true
       from e = let c = any-there t is_busying device r.ascending e in by c.0 c.1 c.2 (call == c.0.call) refl
         where
-          by : (c : ConnectionRecord) → connection_of t c.call device ≡ Some c → is_busying c ≡ true → (b : Bool) → (call == c.call) ≡ b → (is_used is_busying new || is_in_use s device (Some call) Busying) ≡ true
+          by : (c : ConnectionRecord) → connection_of t c.call device ≡ Some c → is_busying c ≡ true → (b : Bool) → (call == c.call) ≡ b → (is_there_and is_busying new || is_in_use s device (Some call) Busying) ≡ true
           by c e u true h =
               let same : new ≡ Some c = sym found_here ∙ ap (λ k. connection_of t k device) (eqb-true call c.call h) ∙ e in
-              or_left (is_used is_busying new) (is_in_use s device (Some call) Busying) (ap (is_used is_busying) same ∙ u)
+              or_left (is_there_and is_busying new) (is_in_use s device (Some call) Busying) (ap (is_there_and is_busying) same ∙ u)
           by c e u false h =
-              or_right (is_used is_busying new) (is_in_use s device (Some call) Busying)
+              or_right (is_there_and is_busying new) (is_in_use s device (Some call) Busying)
               (there-any s (λ z. not (call == z.call) && is_busying z) c.call device c (sym (found_besides c.call device h) ∙ e) (and_from (not (call == c.call)) (is_busying c) (ap not h) u))
 
   -- no other station changes
@@ -129,11 +129,11 @@ alike false false e = refl
 
 -- a connection that keeps the station as busy as it was changes nobody's turn
 module _ (s t : Rows) (call device : ℕ) (new : Option ConnectionRecord) (ascending : IsAscending connection_order s.connections) (at : IsAt call device new) (r : Replaces s t call device new)
-    (same : differ (is_used is_busying (connection_of s call device)) (is_used is_busying new) ≡ false) where
+    (same : differ (is_there_and is_busying (connection_of s call device)) (is_there_and is_busying new) ≡ false) where
   busy-still : is_busy_at t device ≡ is_busy_at s device
   busy-still =
       sym (busy-here s t call device new ascending at r)
-      ∙ ap (λ b. b || is_in_use s device (Some call) Busying) (sym (alike (is_used is_busying (connection_of s call device)) (is_used is_busying new) same))
+      ∙ ap (λ b. b || is_in_use s device (Some call) Busying) (sym (alike (is_there_and is_busying (connection_of s call device)) (is_there_and is_busying new) same))
       ∙ busy-here s s call device (connection_of s call device) ascending (at_own_key s call device (connection_of s call device) refl) (Replaces-self s call device ascending)
 
   free-still : (o : Option ℕ) → is_free t o ≡ is_free s o
@@ -401,8 +401,8 @@ none_leaves (Some k) b = refl
 pub connection-turn : (s : Rows) (seats : BTreeMap ℕ ℕ) (call device : ℕ) (old new : Option ConnectionRecord) (turn : Turn) (before seat : Option (ℕ × (ℕ × ℕ))) (busy : Bool)
     → IsAscending connection_order s.connections → IsAscending agent_order s.agents → Seats s seats → IsAt call device new → old ≡ connection_of s call device
     → before ≡ queue_entry old → turn.entering.queue ≡ queue_entry new → LeavesBut pair_cmp before turn.entering.queue turn.leaving.queue
-    → seat ≡ cond (differ (is_used is_busying old) (is_used is_busying new)) (ready_entry (agent_at s device)) None
-    → busy ≡ (is_some seat && (is_used is_busying new || is_in_use s device (Some call) Busying))
+    → seat ≡ cond (differ (is_there_and is_busying old) (is_there_and is_busying new)) (ready_entry (agent_at s device)) None
+    → busy ≡ (is_some seat && (is_there_and is_busying new || is_in_use s device (Some call) Busying))
     → turn.entering.ready ≡ cond busy None seat → turn.leaving.ready ≡ cond busy seat None → TurnsTo s (with_or_without s call device new) turn
 connection-turn s seats call device old new turn before seat busy ascending agents listed at found b after out f u e l =
     let t : Rows = with_or_without s call device new in
@@ -411,13 +411,13 @@ connection-turn s seats call device old new turn before seat busy ascending agen
     λ g p. out g p
     ∙ ap (λ o. is_entry pair_cmp o g p && not (is_entry pair_cmp turn.entering.queue g p)) (b ∙ ap queue_entry found)
     ∙ ap (λ o. is_entry pair_cmp (queue_entry (connection_of s call device)) g p && not (is_entry pair_cmp o g p)) after in
-    let now : Bool = is_used is_busying new || is_in_use s device (Some call) Busying in
+    let now : Bool = is_there_and is_busying new || is_in_use s device (Some call) Busying in
     let enters : turn.entering.ready ≡ cond now None seat = e ∙ ap (λ b. cond b None seat) u ∙ none_enters seat now in
     let exits : turn.leaving.ready ≡ cond now seat None = l ∙ ap (λ b. cond b seat None) u ∙ none_leaves seat now in
     record {
       waiting = λ g p. waiting-turned s t call device new at r turn.leaving.queue leaves g p
           ∙ ap (λ o. not (is_entry pair_cmp turn.leaving.queue g p) && (is_entry pair_cmp o g p || waits_at p.0 (connection_of s p.1 g))) (sym after);
-      able = λ g p. by (differ (is_used is_busying old) (is_used is_busying new)) refl f g p
+      able = λ g p. by (differ (is_there_and is_busying old) (is_there_and is_busying new)) refl f g p
           ∙ ap (λ o. not (is_entry pair_cmp o g p) && (is_entry pair_cmp (cond now None seat) g p || is_able_since s g p.0 (agent_of s p.1))) (sym exits)
           ∙ ap (λ o. not (is_entry pair_cmp turn.leaving.ready g p) && (is_entry pair_cmp o g p || is_able_since s g p.0 (agent_of s p.1))) (sym enters);
     }
@@ -426,21 +426,21 @@ connection-turn s seats call device old new turn before seat busy ascending agen
     t = with_or_without s call device new
 
     now : Bool
-    now = is_used is_busying new || is_in_use s device (Some call) Busying
+    now = is_there_and is_busying new || is_in_use s device (Some call) Busying
 
     -- nobody enters or leaves
     nobody : (b : Bool) (g : ℕ) (p : ℕ × ℕ) (x : Bool) → x ≡ (not (is_entry pair_cmp (cond b None None) g p) && (is_entry pair_cmp (cond b None None) g p || x))
     nobody true g p x = refl
     nobody false g p x = refl
 
-    by : (d : Bool) → differ (is_used is_busying old) (is_used is_busying new) ≡ d → seat ≡ cond d (ready_entry (agent_at s device)) None → (g : ℕ) (p : ℕ × ℕ) → is_able_since t g p.0 (agent_of t p.1)
+    by : (d : Bool) → differ (is_there_and is_busying old) (is_there_and is_busying new) ≡ d → seat ≡ cond d (ready_entry (agent_at s device)) None → (g : ℕ) (p : ℕ × ℕ) → is_able_since t g p.0 (agent_of t p.1)
         ≡ (not (is_entry pair_cmp (cond now seat None) g p) && (is_entry pair_cmp (cond now None seat) g p || is_able_since s g p.0 (agent_of s p.1)))
     by true d k g p =
         let r = Replaces-either s call device new ascending at in
         able-turned s t call device new seats ascending agents listed at r now (busy-here s t call device new ascending at r) g p
         ∙ ap (λ o. not (is_entry pair_cmp (cond now o None) g p) && (is_entry pair_cmp (cond now None o) g p || is_able_since s g p.0 (agent_of s p.1))) (sym k)
     by false d k g p =
-        able-still s t call device new ascending at (Replaces-either s call device new ascending at) (ap (λ o. differ (is_used is_busying o) (is_used is_busying new)) (sym found) ∙ d) g p
+        able-still s t call device new ascending at (Replaces-either s call device new ascending at) (ap (λ o. differ (is_there_and is_busying o) (is_there_and is_busying new)) (sym found) ∙ d) g p
         ∙ nobody now g p (is_able_since s g p.0 (agent_of s p.1))
         ∙ ap (λ o. not (is_entry pair_cmp (cond now o None) g p) && (is_entry pair_cmp (cond now None o) g p || is_able_since s g p.0 (agent_of s p.1))) (sym k)
 

@@ -18,10 +18,10 @@ uses Occupying c = is_occupying c.state
 uses Distributed c = is_distributed c
 uses Busying c = is_busying c
 
--- a connection that may be there passes
-abbrev pub is_used : (ConnectionRecord → Bool) → Option ConnectionRecord → Bool
-is_used u None = false
-is_used u (Some c) = u c
+-- a connection is there, and passes
+abbrev pub is_there_and : (ConnectionRecord → Bool) → Option ConnectionRecord → Bool
+is_there_and u None = false
+is_there_and u (Some c) = u c
 
 -- a connection at the device, but for one of the call, uses it so
 abbrev pub is_in_use : Rows → ℕ → Option ℕ → Use → Bool

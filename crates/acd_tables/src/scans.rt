@@ -3,7 +3,7 @@
 ghost use Rattle.std.specs.Prelude.{◌≡◌, ◌↔◌, ℕ, true, [], ◌∷◌, None, length, map, filter, slice_get, is_some, IfSome, IfOk};
 ghost use Rattle.std.specs.BTreeSet.{contains};
 ghost use Rattle.acd_terms.specs.Lists.{Among};
-ghost use Rattle.acd_model.specs.Scans.{is_group, agent_of, agent_at, connection_of, connections_of, other_of, is_live_at, is_taken, is_idle, is_idle_there, is_occupied, is_eligible, is_calling, is_used, waiting_in, eligible_in, queued_in_all};
+ghost use Rattle.acd_model.specs.Scans.{is_group, agent_of, agent_at, connection_of, connections_of, other_of, is_live_at, is_idle, is_idle_there, is_occupied, is_eligible, is_calling, is_used, waiting_in, eligible_in, queued_in_all};
 ghost use Rattle.acd_model.specs.Choice.{first_waiting, first_eligible, waiting_pair, ready_pair, offer_of};
 ghost use Rattle.acd_tables.specs.Indexed.{pair_cmp, is_ringing, is_working};
 ghost use Rattle.acd_tables.specs.Uses.{kept, is_in_use};
@@ -94,19 +94,12 @@ impl Tables {
         self.is_in_use(station, Use::Live)
     }
 
-    // A connection at the station is live or on hold.
-    #[tactic(auto, unfolding(acd_model::specs::Scans::is_taken))]
-    fn is_taken(&self, station: DeviceId) -> bool
-        ensures { result ≡ is_taken self.now station }
-    {
-        self.is_in_use(station, Use::Occupying)
-    }
-
     /// No connection at the station is live or on hold.
+    #[tactic(auto, unfolding(acd_model::specs::Scans::is_idle))]
     pub fn is_idle(&self, station: DeviceId) -> bool
         ensures { result ≡ is_idle self.now station }
     {
-        !self.is_taken(station)
+        !self.is_in_use(station, Use::Occupying)
     }
 
     /// A distributed connection is at the agent's station.

@@ -4,7 +4,7 @@ ghost use Rattle.std.specs.Prelude.{◌≡◌, ◌&&◌, ◌||◌, Some, None, i
 ghost use Rattle.acd_model.specs.Scans.{agent_of, agent_at, connection_of};
 ghost use Rattle.acd_model.specs.Writes.{with_agent};
 ghost use Rattle.acd_tables.specs.Indexed.{IsIndexed, is_free, is_busying};
-ghost use Rattle.acd_tables.specs.Uses.{is_used, is_in_use};
+ghost use Rattle.acd_tables.specs.Uses.{is_there_and, is_in_use};
 ghost use Rattle.acd_tables.specs.declared.uses.Use.TheVariants.{Busying};
 ghost use Rattle.acd_tables.specs.Turns.{TurnsTo, differ, IsAt, queue_entry, entry_in, ready_entry, with_or_without};
 
@@ -71,7 +71,7 @@ fn only_not<E: Copy>(entry: &Option<E>, taken: bool) -> Option<E>
 }
 
 fn is_busying(connection: &Option<ConnectionRecord>) -> bool
-    ensures { result ≡ is_used is_busying connection.now }
+    ensures { result ≡ is_there_and is_busying connection.now }
 {
     match connection {
         None => false,
@@ -88,7 +88,7 @@ fn is_busy_with(
     new: &Option<ConnectionRecord>,
 ) -> bool
     requires { IsIndexed records.now indexes.now }
-    ensures { result ≡ (is_used is_busying new.now || is_in_use records.now device (Some call) Busying) }
+    ensures { result ≡ (is_there_and is_busying new.now || is_in_use records.now device (Some call) Busying) }
 {
     is_busying(new) || is_in_use(records, &indexes.lines, device, Some(call), Use::Busying)
 }
@@ -104,7 +104,7 @@ fn is_kept(
     seat: &Option<(DeviceId, (u64, AgentId))>,
 ) -> bool
     requires { IsIndexed records.now indexes.now }
-    ensures { result ≡ (is_some seat.now && (is_used is_busying new.now || is_in_use records.now device (Some call) Busying)) }
+    ensures { result ≡ (is_some seat.now && (is_there_and is_busying new.now || is_in_use records.now device (Some call) Busying)) }
 {
     seat.is_some() && is_busy_with(records, indexes, call, device, new)
 }
@@ -125,7 +125,7 @@ fn turning_seat(
     new: &Option<ConnectionRecord>,
 ) -> Option<(DeviceId, (u64, AgentId))>
     requires { IsIndexed records.now indexes.now }
-    ensures { result ≡ (if differ (is_used is_busying old.now) (is_used is_busying new.now) then ready_entry (agent_at records.now device) else None) }
+    ensures { result ≡ (if differ (is_there_and is_busying old.now) (is_there_and is_busying new.now) then ready_entry (agent_at records.now device) else None) }
 {
     if is_other(is_busying(old), is_busying(new)) {
         ready_entry(&agent_at(records, &indexes.seats, device))

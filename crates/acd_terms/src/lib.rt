@@ -32,7 +32,7 @@ pub use id::{AgentId, DeviceId, IdFault};
 pub use keyed::{Keyed, ascends, find};
 pub use listed::Listed;
 pub use name::{Name, NameFault, Requester};
-pub use number::{Invoke, Seconds, Serial};
+pub use number::{Between, Invoke, Seconds, Serial};
 pub use record::{
     AgentRecord, CallRecord, ConnectionRecord, Figures, GroupRecord, MonitorRecord, StationRecord,
 };

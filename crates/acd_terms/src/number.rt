@@ -5,40 +5,45 @@ ghost use Rattle.acd_terms.specs.Forms.{number_between, IsBetween};
 
 use std::marker::Model;
 
-/// The number of a request among those of its requester: 1 to 999999999.
+/// A whole number from `LEAST` to `GREATEST`.
 #[derive(Clone, Copy, Debug, PartialEq, Eq, PartialOrd, Ord, Hash)]
-pub struct Invoke {
+pub struct Between<const LEAST: u32, const GREATEST: u32> {
     number: u32,
 }
 
-impl Model for Invoke {
+impl<const LEAST: u32, const GREATEST: u32> Model for Between<LEAST, GREATEST> {
     ghost use Rattle.std.specs.Prelude.{ℕ};
     ghost use Rattle.acd_terms.specs.Forms.{IsBetween};
 
     ghost Value = { ℕ };
 
-    ghost view = { λ i. i.number };
+    ghost view = { λ b. b.number };
 
-    ghost invariant = { λ i. IsBetween 1 999999999 i.number };
+    ghost invariant = { λ b. IsBetween LEAST GREATEST b.number };
 
     ghost inverse = { λ n. record { number = n } };
 }
 
-impl Invoke {
-    /// The invoke number, where it is in range.
+impl<const LEAST: u32, const GREATEST: u32> Between<LEAST, GREATEST> {
+    /// The number, where it is in range.
     #[tactic(auto, unfolding(crate::specs::Forms::number_between))]
-    pub fn new(number: u64) -> Option<Invoke>
-        ensures { result ≡ number_between 1 999999999 number }
+    pub fn new(number: u64) -> Option<Self>
+        ensures { result ≡ number_between LEAST GREATEST number }
     {
-        if number >= 1 && number <= 999999999 {
-            Some(Invoke {
+        if number >= u64::from(LEAST) && number <= u64::from(GREATEST) {
+            Some(Between {
                 number: number as u32,
             })
         } else {
             None
         }
     }
+}
 
+/// The number of a request among those of its requester: 1 to 999999999.
+pub type Invoke = Between<1, 999_999_999>;
+
+impl Invoke {
     pub fn number(self) -> u32
         ensures value { result ≡ self }
         ensures formed { IsBetween 1 999999999 self }
@@ -48,81 +53,21 @@ impl Invoke {
 }
 
 /// A time of a group in seconds: 0 to 3600, where 0 means never.
-#[derive(Clone, Copy, Debug, PartialEq, Eq)]
-pub struct Seconds {
-    number: u16,
-}
-
-impl Model for Seconds {
-    ghost use Rattle.std.specs.Prelude.{ℕ};
-    ghost use Rattle.acd_terms.specs.Forms.{IsBetween};
-
-    ghost Value = { ℕ };
-
-    ghost view = { λ s. s.number };
-
-    ghost invariant = { λ s. IsBetween 0 3600 s.number };
-
-    ghost inverse = { λ n. record { number = n } };
-}
+pub type Seconds = Between<0, 3600>;
 
 impl Seconds {
-    /// The time, where it is in range.
-    #[tactic(auto, unfolding(crate::specs::Forms::number_between))]
-    pub fn new(number: u64) -> Option<Seconds>
-        ensures { result ≡ number_between 0 3600 number }
-    {
-        if number <= 3600 {
-            Some(Seconds {
-                number: number as u16,
-            })
-        } else {
-            None
-        }
-    }
-
     pub fn number(self) -> u16
         ensures value { result ≡ self }
         ensures formed { IsBetween 0 3600 self }
     {
-        self.number
+        self.number as u16
     }
 }
 
 /// A call or a monitor as a request names it: 1 to 1000000000.
-#[derive(Clone, Copy, Debug, PartialEq, Eq)]
-pub struct Serial {
-    number: u32,
-}
-
-impl Model for Serial {
-    ghost use Rattle.std.specs.Prelude.{ℕ};
-    ghost use Rattle.acd_terms.specs.Forms.{IsBetween};
-
-    ghost Value = { ℕ };
-
-    ghost view = { λ s. s.number };
-
-    ghost invariant = { λ s. IsBetween 1 1000000000 s.number };
-
-    ghost inverse = { λ n. record { number = n } };
-}
+pub type Serial = Between<1, 1_000_000_000>;
 
 impl Serial {
-    /// The number, where it is in range.
-    #[tactic(auto, unfolding(crate::specs::Forms::number_between))]
-    pub fn new(number: u64) -> Option<Serial>
-        ensures { result ≡ number_between 1 1000000000 number }
-    {
-        if number >= 1 && number <= 1000000000 {
-            Some(Serial {
-                number: number as u32,
-            })
-        } else {
-            None
-        }
-    }
-
     pub fn number(self) -> u64
         ensures value { result ≡ self }
         ensures formed { IsBetween 1 1000000000 self }

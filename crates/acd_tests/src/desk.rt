@@ -9,13 +9,13 @@ use std::process::Abort;
 
 mod audits;
 mod failing;
-mod kept;
+mod runs;
 pub mod stopping;
 mod stops;
 mod store;
 
 // A moment, a request, and what is told of its answer.
-type Asked = (u32, &'static [u8], u16, &'static str);
+type SceneLine = (u32, &'static [u8], u16, &'static str);
 
 const BILLING: &[u8] =
     br#"{"requester":"plan","invoke":1,"service":"addGroup","device":"100","name":"Billing","ring":20,"wrap":30}"#;
@@ -30,7 +30,7 @@ const SECOND_STATION: &[u8] =
     br#"{"requester":"plan","invoke":3,"service":"addStation","device":"202"}"#;
 
 // Group 100, stations 201 and 202, agents 7 and 8.
-const PLAN: &[Asked] = &[
+const PLAN: &[SceneLine] = &[
     (0, BILLING, 200, BILLING_REPLY),
     (0, STATION, 200, STATION_REPLY),
     (
@@ -61,8 +61,8 @@ fn opened<B: Book + Drop>(rt: &impl Abort, alloc: Global, book: B) -> Desk<B> {
 }
 
 // A desk over a new book in memory.
-fn new_desk(rt: &impl Abort, alloc: Global, limits: Limits) -> Desk<MemoryBook> {
-    opened(rt, alloc, MemoryBook::new(alloc, limits))
+fn new_desk(rt: &impl Abort, alloc: Global) -> Desk<MemoryBook> {
+    opened(rt, alloc, MemoryBook::new(alloc, Limits::GREATEST))
 }
 
 // The status and the text, or what stands for them.
@@ -76,7 +76,7 @@ fn told(taken: &Taken) -> (u16, &str) {
     }
 }
 
-fn ask<B: Book>(rt: &impl Abort, alloc: Global, desk: &mut Desk<B>, asked: &Asked) {
+fn ask<B: Book>(rt: &impl Abort, alloc: Global, desk: &mut Desk<B>, asked: &SceneLine) {
     let (moment, json, status, text) = *asked;
     let request = read_request(alloc, json).expect(rt, "a request");
     let taken = desk.take(moment, &request);
@@ -84,7 +84,7 @@ fn ask<B: Book>(rt: &impl Abort, alloc: Global, desk: &mut Desk<B>, asked: &Aske
 }
 
 // Asks one request after the other.
-fn ask_all<B: Book>(rt: &impl Abort, alloc: Global, desk: &mut Desk<B>, scene: &[Asked]) {
+fn ask_all<B: Book>(rt: &impl Abort, alloc: Global, desk: &mut Desk<B>, scene: &[SceneLine]) {
     for asked in scene {
         ask(rt, alloc, desk, asked);
     }

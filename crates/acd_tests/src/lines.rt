@@ -18,9 +18,6 @@ const GROUP: &str =
 const STATION: &str =
     "0 {\"requester\":\"plan\",\"invoke\":2,\"service\":\"addStation\",\"device\":\"201\"}\n";
 
-const SECOND_STATION: &str =
-    "0 {\"requester\":\"plan\",\"invoke\":3,\"service\":\"addStation\",\"device\":\"202\"}\n";
-
 const CALL: &str =
     "10 {\"requester\":\"pbx\",\"invoke\":1,\"service\":\"arriveCall\",\"caller\":\"0301234\",\"called\":\"100\"}\n";
 
@@ -105,15 +102,6 @@ fn first_faulty_member(rt: HostRuntime) -> Result<(), Fail> {
 }
 
 #[test]
-fn lines_repeated_before_replies_are_kept(rt: HostRuntime) -> Result<(), Fail> {
-    gives(
-        &rt,
-        &[GROUP, STATION, CALL, CALL],
-        &[GROUP_ANSWER, STATION_ANSWER, CALL_ANSWER, CALL_ANSWER],
-    )
-}
-
-#[test]
 fn faulty_moment(rt: HostRuntime) -> Result<(), Fail> {
     gives(&rt, &["x {}"], &[MOMENT_ANSWER])
 }
@@ -169,52 +157,6 @@ fn carriage_return_before_line_feed(rt: HostRuntime) -> Result<(), Fail> {
     let written = answered(rt.alloc(), line.as_slice())?;
     assert_eq!(rt; written.as_slice(), wanted.as_slice());
     Ok(())
-}
-
-/// Executed requests are as many as the limit: the next one is not executed, and the desk says so. A
-/// repeat gets its kept reply.
-#[test]
-fn full_desk(rt: HostRuntime) -> Result<(), Fail> {
-    let limits = Limits {
-        requests: 2,
-        ..Limits::GREATEST
-    };
-    let mut desk = opened(rt.alloc(), limits)?;
-    let mut input = Vec::new(rt.alloc());
-    for text in [GROUP, STATION, SECOND_STATION, STATION] {
-        input.extend_from_slice(text.as_bytes())?;
-    }
-    let mut written = Vec::new(rt.alloc());
-    let mut wanted = Vec::new(rt.alloc());
-    let full =
-        "507 {\"error\":{\"code\":32,\"name\":\"deskFull\"},\"invoke\":3,\"requester\":\"plan\"}\n";
-    for text in [GROUP_ANSWER, STATION_ANSWER, full, STATION_ANSWER] {
-        wanted.extend_from_slice(text.as_bytes())?;
-    }
-    let mut reader = input.as_slice();
-    lines(rt.alloc(), &mut desk, &mut reader, &mut written)?;
-    assert_eq!(rt; written.as_slice(), wanted.as_slice());
-    assert_eq!(rt; executed(desk), 2);
-    Ok(())
-}
-
-/// A repeat, in another order of its members and at a later moment, and then another request under
-/// its key.
-#[test]
-fn same_key_other_request(rt: HostRuntime) -> Result<(), Fail> {
-    gives(
-        &rt,
-        &[
-            GROUP,
-            "900 { \"wrap\":30, \"ring\":20, \"name\":\"Billing\", \"device\":\"100\", \"service\":\"addGroup\", \"invoke\":1, \"requester\":\"plan\" }\n",
-            "900 {\"requester\":\"plan\",\"invoke\":1,\"service\":\"addGroup\",\"device\":\"100\",\"name\":\"Sales\",\"ring\":20,\"wrap\":30}\n",
-        ],
-        &[
-            GROUP_ANSWER,
-            GROUP_ANSWER,
-            "422 {\"error\":{\"code\":31,\"name\":\"invokeReused\"},\"invoke\":1,\"requester\":\"plan\"}\n",
-        ],
-    )
 }
 
 /// Gives its bytes one at a time, and then fails for good.

@@ -11,12 +11,12 @@ use Rattle.acd_terms.specs.declared.answer.Refusal.TheVariants.{WrongConnectionS
 use Rattle.acd_terms.specs.declared.answer.Answer.TheVariants as answer
 use Rattle.acd_model.specs.Scans.{waiting_in, connections_of, call_of, agent_of}
 use Rattle.acd_model.specs.CallMoves.{plain, queueing}
-use Rattle.acd_model.specs.Examples.Words.{billing, first_station, second_station, ana, caller, at, asks_for, asked_after, event, figures_in, counts, ana_in, ana_logged_off, talking_from, offered, answered}
+use Rattle.acd_model.specs.Examples.Words.{billing, first_station, second_station, ana, caller, at, asks_for, run_after, event, figures_in, counts, ana_in, ana_logged_off, talking_from, offered, answered}
 
 -- a busy agent who asks to log off is logged off when the call ends
 abbrev pub PendingLogOff : Type 0
 PendingLogOff =
-    let r = asked_after answered (asks_for 30 ana pending.LoggedOff ∷ at 40 (ClearConnection 1 caller) ∷ []) in
+    let r = run_after answered (asks_for 30 ana pending.LoggedOff ∷ at 40 (ClearConnection 1 caller) ∷ []) in
     (r.outcomes ≡ Done (answer.Pending Busy pending.LoggedOff) ∷ Done answer.Nothing ∷ [])
     × (r.events ≡ event 8 40 (ConnectionCleared 1 caller) ∷ event 9 40 (ConnectionCleared 1 first_station)
     ∷ event 10 40 (CallCleared 1 None) ∷ event 11 40 (AgentLoggedOff ana first_station) ∷ [])
@@ -26,7 +26,7 @@ PendingLogOff =
 -- an occupied agent waits for the present state too, and nothing else changes
 abbrev pub PresentStatePending : Type 0
 PresentStatePending =
-    let r = asked_after offered (asks_for 30 ana pending.Ready ∷ []) in
+    let r = run_after offered (asks_for 30 ana pending.Ready ∷ []) in
     (r.outcomes ≡ Done (answer.Pending Ready pending.Ready) ∷ [])
     × (r.events ≡ [])
     × (agent_of r.rows ana ≡ ana_in billing Ready (Some pending.Ready) 8 18)
@@ -34,7 +34,7 @@ PresentStatePending =
 -- a later pending state takes the place of an earlier one; what is held can't be held
 abbrev pub HoldAndPending : Type 0
 HoldAndPending =
-    let r = asked_after answered (at 30 (HoldCall 1 first_station) ∷ asks_for 31 ana pending.Ready ∷ asks_for 32 ana pending.NotReady
+    let r = run_after answered (at 30 (HoldCall 1 first_station) ∷ asks_for 31 ana pending.Ready ∷ asks_for 32 ana pending.NotReady
     ∷ at 33 (HoldCall 1 first_station) ∷ at 34 (RetrieveCall 1 first_station) ∷ at 40 (ClearConnection 1 first_station) ∷ []) in
     (r.outcomes ≡ Done answer.Nothing ∷ Done (answer.Pending Busy pending.Ready) ∷ Done (answer.Pending Busy pending.NotReady)
     ∷ Refused WrongConnectionState ∷ Done answer.Nothing ∷ Done answer.Nothing ∷ [])
@@ -47,7 +47,7 @@ HoldAndPending =
 -- a transfer to a station: the transferring agent has after-call work
 abbrev pub TransferToStation : Type 0
 TransferToStation =
-    let r = asked_after answered (at 33 (SingleStepTransfer 1 first_station second_station) ∷ []) in
+    let r = run_after answered (at 33 (SingleStepTransfer 1 first_station second_station) ∷ []) in
     (r.outcomes ≡ Done answer.Nothing ∷ [])
     × (r.events ≡ event 8 33 (Transferred 1 first_station second_station)
     ∷ event 9 33 (Delivered 1 second_station cause.Transferred None) ∷ event 10 33 (AgentWorkingAfterCall ana first_station) ∷ [])
@@ -59,7 +59,7 @@ TransferToStation =
 -- a transfer to a group: the call enters the queue anew
 abbrev pub TransferToGroup : Type 0
 TransferToGroup =
-    let r = asked_after answered (at 33 (SingleStepTransfer 1 first_station billing) ∷ []) in
+    let r = run_after answered (at 33 (SingleStepTransfer 1 first_station billing) ∷ []) in
     (r.outcomes ≡ Done answer.Nothing ∷ [])
     × (r.events ≡ event 8 33 (Transferred 1 first_station billing)
     ∷ event 9 33 (Queued 1 billing cause.Transferred) ∷ event 10 33 (AgentWorkingAfterCall ana first_station) ∷ [])
@@ -70,7 +70,7 @@ TransferToGroup =
 -- a ringing call that is deflected leaves the agent ready, and without an event
 abbrev pub DeflectedToStation : Type 0
 DeflectedToStation =
-    let r = asked_after offered (at 20 (DeflectCall 1 first_station second_station) ∷ []) in
+    let r = run_after offered (at 20 (DeflectCall 1 first_station second_station) ∷ []) in
     (r.outcomes ≡ Done answer.Nothing ∷ [])
     × (r.events ≡ event 6 20 (Diverted 1 first_station second_station cause.Deflected (Some billing))
     ∷ event 7 20 (Delivered 1 second_station cause.Deflected None) ∷ [])
@@ -81,7 +81,7 @@ DeflectedToStation =
 -- with a second call begun, the held one can't be retrieved
 abbrev pub SecondCallWhileHolding : Type 0
 SecondCallWhileHolding =
-    let r = asked_after answered (at 30 (HoldCall 1 first_station) ∷ at 31 (MakeCall first_station second_station) ∷ at 32 (RetrieveCall 1 first_station)
+    let r = run_after answered (at 30 (HoldCall 1 first_station) ∷ at 31 (MakeCall first_station second_station) ∷ at 32 (RetrieveCall 1 first_station)
     ∷ at 33 (ClearConnection 2 first_station) ∷ at 34 (RetrieveCall 1 first_station) ∷ []) in
     (r.outcomes ≡ Done answer.Nothing ∷ Done (answer.Call 2) ∷ Refused StationBusy ∷ Done answer.Nothing ∷ Done answer.Nothing ∷ [])
     × (r.events ≡ event 8 30 (Held 1 first_station) ∷ event 9 31 (ServiceInitiated 2 first_station)

@@ -11,17 +11,17 @@ use Rattle.acd_terms.specs.declared.answer.Refusal.TheVariants.{NotStation}
 use Rattle.acd_terms.specs.declared.answer.Answer.TheVariants as answer
 use Rattle.acd_model.specs.Scans.{connections_of, call_of, connection_of, agent_of}
 use Rattle.acd_model.specs.CallMoves.{plain, queueing}
-use Rattle.acd_model.specs.Run.{Asked}
-use Rattle.acd_model.specs.Examples.Words.{billing, claims, first_station, second_station, third_station, ana, ben, caller, at, logs_on, asks_for, plan, asked_after, event, figures_in, counts, ana_in, ben_in, ringing_from, talking_from}
+use Rattle.acd_model.specs.Run.{TimedCommand}
+use Rattle.acd_model.specs.Examples.Words.{billing, claims, first_station, second_station, third_station, ana, ben, caller, at, logs_on, asks_for, plan, run_after, event, figures_in, counts, ana_in, ben_in, ringing_from, talking_from}
 
-abbrev pub to_another_queue : List Asked
+abbrev pub to_another_queue : List TimedCommand
 to_another_queue =
     at 3 (AddGroup claims (codes "Claims") 20 30) ∷ at 10 (ArriveCall caller billing) ∷ at 20 (DeflectCall 1 billing claims) ∷ []
 
 -- a call that waits is deflected to another group: it enters the queue there anew
 abbrev pub DeflectedToAnotherQueue : Type 0
 DeflectedToAnotherQueue =
-    let r = asked_after plan to_another_queue in
+    let r = run_after plan to_another_queue in
     (r.outcomes ≡ Done answer.Nothing ∷ Done (answer.Call 1) ∷ Done answer.Nothing ∷ [])
     × (r.events ≡ event 1 10 (Queued 1 billing cause.NewCall)
     ∷ event 2 20 (Diverted 1 billing claims cause.Deflected (Some billing)) ∷ event 3 20 (Queued 1 claims cause.Deflected) ∷ [])
@@ -32,7 +32,7 @@ DeflectedToAnotherQueue =
 -- the call goes on to a station and back to its first group, where there is nothing to hold or transfer
 abbrev pub DeflectedFromQueueToStationAndBack : Type 0
 DeflectedFromQueueToStationAndBack =
-    let r = asked_after (plan ++ to_another_queue) (at 21 (DeflectCall 1 claims second_station) ∷ at 22 (DeflectCall 1 second_station billing)
+    let r = run_after (plan ++ to_another_queue) (at 21 (DeflectCall 1 claims second_station) ∷ at 22 (DeflectCall 1 second_station billing)
     ∷ at 23 (HoldCall 1 billing) ∷ at 24 (SingleStepTransfer 1 billing second_station) ∷ []) in
     (r.outcomes ≡ Done answer.Nothing ∷ Done answer.Nothing ∷ Refused NotStation ∷ Refused NotStation ∷ [])
     × (r.events ≡ event 4 21 (Diverted 1 claims second_station cause.Deflected (Some claims))
@@ -43,7 +43,7 @@ DeflectedFromQueueToStationAndBack =
     × (figures_in r.rows billing ≡ counts 2 0 0 1 0)
     × (figures_in r.rows claims ≡ counts 1 0 0 1 0)
 
-abbrev pub to_its_own_group : List Asked
+abbrev pub to_its_own_group : List TimedCommand
 to_its_own_group =
     logs_on 5 ana first_station billing ∷ asks_for 6 ana pending.Ready ∷ at 10 (ArriveCall caller billing)
     ∷ at 11 (DeflectCall 1 first_station billing) ∷ []
@@ -51,7 +51,7 @@ to_its_own_group =
 -- an offer that is deflected to its own group comes back to the same agent, who has been ready all the time
 abbrev pub DeflectedToItsOwnGroup : Type 0
 DeflectedToItsOwnGroup =
-    let r = asked_after plan to_its_own_group in
+    let r = run_after plan to_its_own_group in
     (r.outcomes ≡ Done (answer.State NotReady) ∷ Done (answer.State Ready) ∷ Done (answer.Call 1) ∷ Done answer.Nothing ∷ [])
     × (r.events ≡ event 1 5 (AgentLoggedOn ana first_station billing) ∷ event 2 6 (AgentReady ana first_station)
     ∷ event 3 10 (Queued 1 billing cause.NewCall)
@@ -67,7 +67,7 @@ DeflectedToItsOwnGroup =
 -- then it is deflected to a station, with a state pending: the release is the last event
 abbrev pub DeflectedWithAStatePending : Type 0
 DeflectedWithAStatePending =
-    let r = asked_after (plan ++ to_its_own_group) (asks_for 12 ana pending.NotReady ∷ at 13 (DeflectCall 1 first_station second_station) ∷ []) in
+    let r = run_after (plan ++ to_its_own_group) (asks_for 12 ana pending.NotReady ∷ at 13 (DeflectCall 1 first_station second_station) ∷ []) in
     (r.outcomes ≡ Done (answer.Pending Ready pending.NotReady) ∷ Done answer.Nothing ∷ [])
     × (r.events ≡ event 10 13 (Diverted 1 first_station second_station cause.Deflected (Some billing))
     ∷ event 11 13 (Delivered 1 second_station cause.Deflected None) ∷ event 12 13 (AgentNotReady ana first_station) ∷ [])
@@ -75,7 +75,7 @@ DeflectedWithAStatePending =
     × (agent_of r.rows ana ≡ ana_in billing NotReady None 11 13)
     × (figures_in r.rows billing ≡ counts 2 0 0 2 0)
 
-abbrev pub between_two_agents : List Asked
+abbrev pub between_two_agents : List TimedCommand
 between_two_agents =
     at 4 (AddStation third_station) ∷ logs_on 5 ana first_station billing ∷ logs_on 5 ben second_station billing
     ∷ asks_for 6 ana pending.Ready ∷ asks_for 7 ben pending.Ready
@@ -85,7 +85,7 @@ between_two_agents =
 -- a station calls the group and transfers the held call to it again: the call enters the queue with the phoneOffHook, and anew with the transfer
 abbrev pub TransferredWhileHeld : Type 0
 TransferredWhileHeld =
-    let r = asked_after plan between_two_agents in
+    let r = run_after plan between_two_agents in
     (r.outcomes ≡ Done answer.Nothing ∷ Done (answer.State NotReady) ∷ Done (answer.State NotReady) ∷ Done (answer.State Ready) ∷ Done (answer.State Ready)
     ∷ Done (answer.Call 1) ∷ Done answer.Nothing ∷ Done answer.Nothing ∷ Done answer.Nothing ∷ Done answer.Nothing ∷ [])
     × (r.events ≡ event 1 5 (AgentLoggedOn ana first_station billing) ∷ event 2 5 (AgentLoggedOn ben second_station billing)
@@ -105,7 +105,7 @@ TransferredWhileHeld =
 -- a call between two agents ends: the one at the named station is released first
 abbrev pub TwoAgentsReleased : Type 0
 TwoAgentsReleased =
-    let r = asked_after (plan ++ between_two_agents) (at 25 (AnswerCall 1 second_station) ∷ at 30 (ClearConnection 1 second_station) ∷ []) in
+    let r = run_after (plan ++ between_two_agents) (at 25 (AnswerCall 1 second_station) ∷ at 30 (ClearConnection 1 second_station) ∷ []) in
     (r.outcomes ≡ Done answer.Nothing ∷ Done answer.Nothing ∷ [])
     × (r.events ≡ event 17 25 (Established 1 second_station (Some (record { group = billing; seconds = 3 }))) ∷ event 18 25 (AgentBusy ben second_station)
     ∷ event 19 30 (ConnectionCleared 1 second_station) ∷ event 20 30 (ConnectionCleared 1 first_station) ∷ event 21 30 (CallCleared 1 None)
@@ -118,7 +118,7 @@ TwoAgentsReleased =
 -- a call is transferred, and transferred back to the station that made it
 abbrev pub TransferredBack : Type 0
 TransferredBack =
-    let r = asked_after plan (at 3 (AddStation third_station)
+    let r = run_after plan (at 3 (AddStation third_station)
     ∷ at 4 (MakeCall first_station second_station) ∷ at 5 (PhoneOffHook 1 first_station) ∷ at 6 (AnswerCall 1 second_station)
     ∷ at 7 (SingleStepTransfer 1 first_station third_station) ∷ at 8 (AnswerCall 1 third_station) ∷ at 9 (SingleStepTransfer 1 third_station first_station) ∷ []) in
     (r.outcomes ≡ Done answer.Nothing ∷ Done (answer.Call 1) ∷ Done answer.Nothing ∷ Done answer.Nothing

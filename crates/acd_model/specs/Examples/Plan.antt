@@ -6,12 +6,12 @@ use Rattle.acd_terms.specs.declared.command.Command.TheVariants.{AddStation, Add
 use Rattle.acd_terms.specs.declared.answer.Outcome.TheVariants.{Done}
 use Rattle.acd_terms.specs.declared.answer.Answer.TheVariants as answer
 use Rattle.acd_model.specs.Scans.{agent_of}
-use Rattle.acd_model.specs.Examples.Words.{billing, first_station, ana, ana_logged_off, caller, at, plan, asked_after, event}
+use Rattle.acd_model.specs.Examples.Words.{billing, first_station, ana, ana_logged_off, caller, at, plan, run_after, event}
 
 -- an agent is new since the request that added it, and is logged on nowhere
 abbrev pub RecordsOfTheEmptyState : Type 0
 RecordsOfTheEmptyState =
-    let r = asked_after [] (at 50 (AddStation first_station) ∷ at 60 (AddAgent ana (codes "Ana")) ∷ []) in
+    let r = run_after [] (at 50 (AddStation first_station) ∷ at 60 (AddAgent ana (codes "Ana")) ∷ []) in
     (r.outcomes ≡ Done answer.Nothing ∷ Done answer.Nothing ∷ [])
     × (r.events ≡ [])
     × (r.rows.stations ≡ record { device = first_station } ∷ [])
@@ -20,7 +20,7 @@ RecordsOfTheEmptyState =
 -- a monitor of a group or a station tells what comes after its start; a number of a monitor isn't used again
 abbrev pub Monitors : Type 0
 Monitors =
-    let r = asked_after plan (at 5 (MonitorStart billing) ∷ at 6 (MonitorStop 1) ∷ at 7 (ArriveCall caller billing) ∷ at 8 (MonitorStart first_station) ∷ []) in
+    let r = run_after plan (at 5 (MonitorStart billing) ∷ at 6 (MonitorStop 1) ∷ at 7 (ArriveCall caller billing) ∷ at 8 (MonitorStart first_station) ∷ []) in
     (r.outcomes ≡ Done (answer.Monitor 1) ∷ Done answer.Nothing ∷ Done (answer.Call 1) ∷ Done (answer.Monitor 2) ∷ [])
     × (r.events ≡ event 1 7 (Queued 1 billing cause.NewCall) ∷ [])
     × (r.rows.monitors ≡ record { monitor = 2; device = first_station; after_event = 1 } ∷ [])

@@ -11,13 +11,13 @@ use Rattle.acd_terms.specs.declared.answer.Refusal.TheVariants.{DeviceExists, Un
 use Rattle.acd_terms.specs.declared.answer.Answer.TheVariants as answer
 use Rattle.acd_model.specs.Scans.{waiting_in, connections_of, connection_of, call_of, agent_of}
 use Rattle.acd_model.specs.CallMoves.{plain, queueing}
-use Rattle.acd_model.specs.Run.{Asked}
-use Rattle.acd_model.specs.Examples.Words.{billing, first_station, second_station, ana, ben, caller, second_caller, third_caller, at, logs_on, asks_for, plan, asked_after, event, figures_in, counts, ana_in, ben_in, ringing_from, talking_from, call_arrives, ana_becomes_ready, offered}
+use Rattle.acd_model.specs.Run.{TimedCommand}
+use Rattle.acd_model.specs.Examples.Words.{billing, first_station, second_station, ana, ben, caller, second_caller, third_caller, at, logs_on, asks_for, plan, run_after, event, figures_in, counts, ana_in, ben_in, ringing_from, talking_from, call_arrives, ana_becomes_ready, offered}
 
 -- a call that arrives with no agent ready waits in the queue
 abbrev pub CallWaits : Type 0
 CallWaits =
-    let r = asked_after plan call_arrives in
+    let r = run_after plan call_arrives in
     (r.outcomes ≡ Done (answer.Call 1) ∷ [])
     × (r.events ≡ event 1 10 (Queued 1 billing cause.NewCall) ∷ [])
     × (connections_of r.rows 1 ≡ queueing 1 billing (Some 6) (Some 10) ∷ plain 1 caller Connected ∷ [])
@@ -26,7 +26,7 @@ CallWaits =
 -- it is offered to the agent who becomes ready
 abbrev pub OfferedToTheReadyAgent : Type 0
 OfferedToTheReadyAgent =
-    let r = asked_after (plan ++ call_arrives) ana_becomes_ready in
+    let r = run_after (plan ++ call_arrives) ana_becomes_ready in
     (r.outcomes ≡ Done (answer.State NotReady) ∷ Done (answer.State Ready) ∷ [])
     × (r.events ≡ event 2 15 (AgentLoggedOn ana first_station billing) ∷ event 3 18 (AgentReady ana first_station)
     ∷ event 4 18 (Diverted 1 billing first_station cause.Distributed (Some billing))
@@ -38,14 +38,14 @@ OfferedToTheReadyAgent =
 -- and answered
 abbrev pub AnsweredCall : Type 0
 AnsweredCall =
-    let r = asked_after offered (at 25 (AnswerCall 1 first_station) ∷ []) in
+    let r = run_after offered (at 25 (AnswerCall 1 first_station) ∷ []) in
     (r.outcomes ≡ Done answer.Nothing ∷ [])
     × (r.events ≡ event 6 25 (Established 1 first_station (Some (record { group = billing; seconds = 15 }))) ∷ event 7 25 (AgentBusy ana first_station) ∷ [])
     × (connections_of r.rows 1 ≡ talking_from billing 1 first_station ∷ plain 1 caller Connected ∷ [])
     × (agent_of r.rows ana ≡ ana_in billing Busy None 9 25)
     × (figures_in r.rows billing ≡ counts 1 1 0 0 15)
 
-abbrev pub two_ready : List Asked
+abbrev pub two_ready : List TimedCommand
 two_ready =
     logs_on 5 ana first_station billing ∷ logs_on 5 ben second_station billing
     ∷ asks_for 6 ben pending.Ready ∷ asks_for 7 ana pending.Ready ∷ at 10 (ArriveCall caller billing) ∷ []
@@ -53,7 +53,7 @@ two_ready =
 -- of two ready agents the one who is ready longest gets the call
 abbrev pub LongestReadyFirst : Type 0
 LongestReadyFirst =
-    let r = asked_after plan two_ready in
+    let r = run_after plan two_ready in
     (r.outcomes ≡ Done (answer.State NotReady) ∷ Done (answer.State NotReady) ∷ Done (answer.State Ready) ∷ Done (answer.State Ready) ∷ Done (answer.Call 1) ∷ [])
     × (r.events ≡ event 1 5 (AgentLoggedOn ana first_station billing) ∷ event 2 5 (AgentLoggedOn ben second_station billing)
     ∷ event 3 6 (AgentReady ben second_station) ∷ event 4 7 (AgentReady ana first_station)
@@ -64,7 +64,7 @@ LongestReadyFirst =
     × (agent_of r.rows ana ≡ ana_in billing Ready None 9 7)
     × (agent_of r.rows ben ≡ ben_in billing Ready None 8 6)
 
-abbrev pub two_calls : List Asked
+abbrev pub two_calls : List TimedCommand
 two_calls =
     at 11 (ArriveCall second_caller billing) ∷ at 12 (AnswerCall 1 second_station) ∷ at 13 (AnswerCall 2 first_station)
     ∷ at 50 (ClearConnection 1 caller) ∷ at 52 (ClearConnection 2 second_caller) ∷ []
@@ -72,7 +72,7 @@ two_calls =
 -- after-call work ends by a tick, with one stamp for both agents, and of agents ready at once the least number is first
 abbrev pub WrapUpAndTick : Type 0
 WrapUpAndTick =
-    let r = asked_after (plan ++ two_ready ++ two_calls) (at 82 Tick ∷ at 83 (ArriveCall third_caller billing) ∷ []) in
+    let r = run_after (plan ++ two_ready ++ two_calls) (at 82 Tick ∷ at 83 (ArriveCall third_caller billing) ∷ []) in
     (r.outcomes ≡ Done answer.Nothing ∷ Done (answer.Call 3) ∷ [])
     × (r.events ≡ event 23 82 (AgentReady ana first_station) ∷ event 24 82 (AgentReady ben second_station)
     ∷ event 25 83 (Queued 3 billing cause.NewCall)
@@ -86,7 +86,7 @@ WrapUpAndTick =
 -- the two calls before it
 abbrev pub TwoCallsAnswered : Type 0
 TwoCallsAnswered =
-    let r = asked_after (plan ++ two_ready) two_calls in
+    let r = run_after (plan ++ two_ready) two_calls in
     (r.outcomes ≡ Done (answer.Call 2) ∷ Done answer.Nothing ∷ Done answer.Nothing ∷ Done answer.Nothing ∷ Done answer.Nothing ∷ [])
     × (r.events ≡ event 8 11 (Queued 2 billing cause.NewCall)
     ∷ event 9 11 (Diverted 2 billing first_station cause.Distributed (Some billing))
@@ -106,7 +106,7 @@ TwoCallsAnswered =
 abbrev pub NoAnswerReturnsToItsPlace : Type 0
 NoAnswerReturnsToItsPlace =
     let before = plan ++ logs_on 90 ana first_station billing ∷ asks_for 91 ana pending.Ready ∷ at 100 (ArriveCall caller billing) ∷ [] in
-    let r = asked_after before (at 119 Tick ∷ at 120 Tick ∷ []) in
+    let r = run_after before (at 119 Tick ∷ at 120 Tick ∷ []) in
     (r.outcomes ≡ Done answer.Nothing ∷ Done answer.Nothing ∷ [])
     × (r.events ≡ event 6 120 (Diverted 1 first_station billing cause.NoAnswer (Some billing))
     ∷ event 7 120 (Queued 1 billing cause.NoAnswer) ∷ event 8 120 (AgentNotReady ana first_station) ∷ [])
@@ -117,7 +117,7 @@ NoAnswerReturnsToItsPlace =
 -- a moment that goes back is taken as the last one
 abbrev pub MomentNeverGoesBack : Type 0
 MomentNeverGoesBack =
-    let r = asked_after plan (at 100 (ArriveCall caller billing) ∷ at 50 (ArriveCall second_caller billing) ∷ []) in
+    let r = run_after plan (at 100 (ArriveCall caller billing) ∷ at 50 (ArriveCall second_caller billing) ∷ []) in
     (r.outcomes ≡ Done (answer.Call 1) ∷ Done (answer.Call 2) ∷ [])
     × (r.events ≡ event 1 100 (Queued 1 billing cause.NewCall) ∷ event 2 100 (Queued 2 billing cause.NewCall) ∷ [])
     × (waiting_in r.rows billing ≡ queueing 1 billing (Some 6) (Some 100) ∷ queueing 2 billing (Some 7) (Some 100) ∷ [])
@@ -127,17 +127,17 @@ MomentNeverGoesBack =
 -- a refused request takes a stamp and a moment, and changes nothing else
 abbrev pub RefusalTakesAStamp : Type 0
 RefusalTakesAStamp =
-    let r = asked_after plan (at 10 (ClearConnection 1 caller) ∷ []) in
-    let later = asked_after (plan ++ at 10 (ClearConnection 1 caller) ∷ []) (at 11 (ArriveCall caller billing) ∷ []) in
+    let r = run_after plan (at 10 (ClearConnection 1 caller) ∷ []) in
+    let later = run_after (plan ++ at 10 (ClearConnection 1 caller) ∷ []) (at 11 (ArriveCall caller billing) ∷ []) in
     (r.outcomes ≡ Refused UnknownCall ∷ []) × (r.events ≡ [])
-    × (r.rows ≡ record (asked_after [] plan).rows { last_stamp = 6; last_moment = 10 })
+    × (r.rows ≡ record (run_after [] plan).rows { last_stamp = 6; last_moment = 10 })
     × (later.outcomes ≡ Done (answer.Call 1) ∷ [])
     × (waiting_in later.rows billing ≡ queueing 1 billing (Some 7) (Some 11) ∷ [])
 
 -- the number of an external caller of a live call is taken
 abbrev pub CallerNumberTaken : Type 0
 CallerNumberTaken =
-    let r = asked_after (plan ++ call_arrives) (at 11 (AddStation caller) ∷ []) in
+    let r = run_after (plan ++ call_arrives) (at 11 (AddStation caller) ∷ []) in
     (r.outcomes ≡ Refused DeviceExists ∷ []) × (r.events ≡ [])
     × (r.rows.stations ≡ record { device = first_station } ∷ record { device = second_station } ∷ [])
     × (connections_of r.rows 1 ≡ queueing 1 billing (Some 6) (Some 10) ∷ plain 1 caller Connected ∷ [])
@@ -146,7 +146,7 @@ CallerNumberTaken =
 -- two live calls may come from one number, which is taken until both are cleared
 abbrev pub CallerNumberShared : Type 0
 CallerNumberShared =
-    let r = asked_after plan (at 10 (ArriveCall caller billing) ∷ at 11 (ArriveCall caller billing) ∷ at 12 (ClearConnection 1 caller)
+    let r = run_after plan (at 10 (ArriveCall caller billing) ∷ at 11 (ArriveCall caller billing) ∷ at 12 (ClearConnection 1 caller)
     ∷ at 13 (AddStation caller) ∷ at 14 (ClearConnection 2 caller) ∷ at 15 (AddStation caller) ∷ []) in
     (r.outcomes ≡ Done (answer.Call 1) ∷ Done (answer.Call 2) ∷ Done answer.Nothing ∷ Refused DeviceExists ∷ Done answer.Nothing ∷ Done answer.Nothing ∷ [])
     × (r.events ≡ event 1 10 (Queued 1 billing cause.NewCall) ∷ event 2 11 (Queued 2 billing cause.NewCall)
@@ -158,7 +158,7 @@ CallerNumberShared =
 -- a call that comes back to its group by a deflection waits behind one that came in the meantime
 abbrev pub LeastPlaceFirst : Type 0
 LeastPlaceFirst =
-    let r = asked_after plan (at 10 (ArriveCall caller billing) ∷ at 11 (ArriveCall second_caller billing)
+    let r = run_after plan (at 10 (ArriveCall caller billing) ∷ at 11 (ArriveCall second_caller billing)
     ∷ at 12 (DeflectCall 1 billing first_station) ∷ at 13 (DeflectCall 1 first_station billing)
     ∷ logs_on 14 ana first_station billing ∷ asks_for 15 ana pending.Ready ∷ []) in
     (r.outcomes ≡ Done (answer.Call 1) ∷ Done (answer.Call 2) ∷ Done answer.Nothing ∷ Done answer.Nothing
@@ -175,7 +175,7 @@ LeastPlaceFirst =
 -- a call that is cleared in the queue is abandoned
 abbrev pub AbandonedInQueue : Type 0
 AbandonedInQueue =
-    let r = asked_after (plan ++ call_arrives) (at 12 (ClearConnection 1 caller) ∷ []) in
+    let r = run_after (plan ++ call_arrives) (at 12 (ClearConnection 1 caller) ∷ []) in
     (r.outcomes ≡ Done answer.Nothing ∷ [])
     × (r.events ≡ event 2 12 (ConnectionCleared 1 caller) ∷ event 3 12 (ConnectionCleared 1 billing) ∷ event 4 12 (CallCleared 1 (Some billing)) ∷ [])
     × (figures_in r.rows billing ≡ counts 1 0 1 0 0)

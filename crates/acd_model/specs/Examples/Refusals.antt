@@ -10,16 +10,16 @@ use Rattle.acd_terms.specs.declared.state.Pending.TheVariants as pending
 use Rattle.acd_terms.specs.declared.answer.Outcome.TheVariants.{Refused}
 use Rattle.acd_terms.specs.declared.answer.Refusal.{Refusal}
 use Rattle.acd_terms.specs.declared.answer.Refusal.TheVariants.{UnknownDevice, UnknownAgent, UnknownCall, UnknownConnection, WrongConnectionState, WrongAgentState, DeviceExists, AgentExists, NotStation, NotGroup, DestinationBusy, SameDevice, StationTaken, StationBusy, TooManyCalls, PlanFull, UnknownMonitor, CallerPlanned}
-use Rattle.acd_model.specs.Run.{Asked, run}
-use Rattle.acd_model.specs.Examples.Words.{billing, claims, first_station, second_station, third_station, ana, ben, caller, second_caller, late_caller, at, plan, asked_after, offered, answered}
+use Rattle.acd_model.specs.Run.{TimedCommand, run}
+use Rattle.acd_model.specs.Examples.Words.{billing, claims, first_station, second_station, third_station, ana, ben, caller, second_caller, late_caller, at, plan, run_after, offered, answered}
 
 -- commands, one after the other, with the refusal of each
 abbrev pub Refuses : Rows → List (Command × Refusal) → Type 0
 Refuses s cases =
     (run s (map (λ (c : Command × Refusal). at 50 c.0) cases)).outcomes ≡ map (λ (c : Command × Refusal). Refused c.1) cases
 
-abbrev pub after : List Asked → Rows
-after asked = (asked_after [] asked).rows
+abbrev pub after : List TimedCommand → Rows
+after commands = (run_after [] commands).rows
 
 -- a number that isn't planned, and an agent that isn't
 abbrev pub nowhere : ℕ

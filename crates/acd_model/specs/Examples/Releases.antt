@@ -8,22 +8,22 @@ use Rattle.acd_terms.specs.declared.state.Pending.{Pending}
 use Rattle.acd_terms.specs.declared.state.Pending.TheVariants as pending
 use Rattle.acd_terms.specs.declared.state.AgentState.TheVariants.{NotReady, Ready, WorkingAfterCall}
 use Rattle.acd_model.specs.Scans.{agent_of}
-use Rattle.acd_model.specs.Run.{Asked, Ran}
-use Rattle.acd_model.specs.Examples.Words.{billing, first_station, ana, caller, at, asks_for, asked_after, event, ana_in, ana_logged_off, offered, answered}
+use Rattle.acd_model.specs.Run.{TimedCommand, AfterRun}
+use Rattle.acd_model.specs.Examples.Words.{billing, first_station, ana, caller, at, asks_for, run_after, event, ana_in, ana_logged_off, offered, answered}
 
 -- what is told of Ana behind the events of her call, and what becomes of her
-abbrev pub Released : ℕ → Ran → List Event → Option AgentRecord → Type 0
+abbrev pub Released : ℕ → AfterRun → List Event → Option AgentRecord → Type 0
 Released told r more agent = (drop told r.events ≡ more) × (agent_of r.rows ana ≡ agent)
 
 -- Ana asks for a state
-abbrev pub and_asks : List Asked → Pending → List Asked
+abbrev pub and_asks : List TimedCommand → Pending → List TimedCommand
 and_asks before wanted = before ++ asks_for 30 ana wanted ∷ []
 
-abbrev pub cleared_after : List Asked → Ran
-cleared_after before = asked_after before (at 40 (ClearConnection 1 caller) ∷ [])
+abbrev pub cleared_after : List TimedCommand → AfterRun
+cleared_after before = run_after before (at 40 (ClearConnection 1 caller) ∷ [])
 
-abbrev pub tick_after : List Asked → Ran
-tick_after before = asked_after before (at 40 Tick ∷ [])
+abbrev pub tick_after : List TimedCommand → AfterRun
+tick_after before = run_after before (at 40 Tick ∷ [])
 
 -- the call was answered, and is cleared
 abbrev pub ReleasedAfterAnAnswer : Type 0

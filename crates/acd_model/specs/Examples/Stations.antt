@@ -10,13 +10,13 @@ use Rattle.acd_terms.specs.declared.answer.Outcome.TheVariants.{Done}
 use Rattle.acd_terms.specs.declared.answer.Answer.TheVariants as answer
 use Rattle.acd_model.specs.Scans.{connections_of, call_of, connection_of, agent_of}
 use Rattle.acd_model.specs.CallMoves.{plain}
-use Rattle.acd_model.specs.Run.{Asked}
-use Rattle.acd_model.specs.Examples.Words.{billing, first_station, second_station, third_station, ana, caller, late_caller, at, logs_on, asks_for, plan, asked_after, event, answered, figures_in, counts, ana_in, ana_logged_off, ringing_from, talking_from}
+use Rattle.acd_model.specs.Run.{TimedCommand}
+use Rattle.acd_model.specs.Examples.Words.{billing, first_station, second_station, third_station, ana, caller, late_caller, at, logs_on, asks_for, plan, run_after, event, answered, figures_in, counts, ana_in, ana_logged_off, ringing_from, talking_from}
 
 -- a call to a busy station fails, and when it is cleared the agent there is still busy
 abbrev pub BusyStationFails : Type 0
 BusyStationFails =
-    let r = asked_after answered (at 26 (ArriveCall late_caller first_station) ∷ at 27 (ClearConnection 2 late_caller) ∷ []) in
+    let r = run_after answered (at 26 (ArriveCall late_caller first_station) ∷ at 27 (ClearConnection 2 late_caller) ∷ []) in
     (r.outcomes ≡ Done (answer.Call 2) ∷ Done answer.Nothing ∷ [])
     × (r.events ≡ event 8 26 (Failed 2 first_station)
     ∷ event 9 27 (ConnectionCleared 2 late_caller) ∷ event 10 27 (ConnectionCleared 2 first_station) ∷ event 11 27 (CallCleared 2 None) ∷ [])
@@ -26,7 +26,7 @@ BusyStationFails =
 -- while an agent's station has a private call no call is offered there
 abbrev pub PrivateCallThenDistribution : Type 0
 PrivateCallThenDistribution =
-    let r = asked_after plan (logs_on 5 ana first_station billing ∷ asks_for 6 ana pending.Ready
+    let r = run_after plan (logs_on 5 ana first_station billing ∷ asks_for 6 ana pending.Ready
     ∷ at 7 (MakeCall first_station second_station) ∷ at 8 (PhoneOffHook 1 first_station) ∷ at 9 (ArriveCall caller billing) ∷ at 20 (ClearConnection 1 first_station) ∷ []) in
     (r.outcomes ≡ Done (answer.State NotReady) ∷ Done (answer.State Ready) ∷ Done (answer.Call 1) ∷ Done answer.Nothing ∷ Done (answer.Call 2) ∷ Done answer.Nothing ∷ [])
     × (r.events ≡ event 1 5 (AgentLoggedOn ana first_station billing) ∷ event 2 6 (AgentReady ana first_station)
@@ -40,7 +40,7 @@ PrivateCallThenDistribution =
 -- an agent who isn't occupied logs off at once, a private call or not, and gets no call any more
 abbrev pub LoggedOffWithAPrivateCall : Type 0
 LoggedOffWithAPrivateCall =
-    let r = asked_after plan (logs_on 5 ana first_station billing ∷ asks_for 6 ana pending.Ready
+    let r = run_after plan (logs_on 5 ana first_station billing ∷ asks_for 6 ana pending.Ready
     ∷ at 7 (MakeCall first_station second_station) ∷ asks_for 8 ana pending.LoggedOff
     ∷ at 9 (ClearConnection 1 first_station) ∷ at 10 (ArriveCall caller billing) ∷ []) in
     (r.outcomes ≡ Done (answer.State NotReady) ∷ Done (answer.State Ready) ∷ Done (answer.Call 1) ∷ Done (answer.State Null)
@@ -53,7 +53,7 @@ LoggedOffWithAPrivateCall =
 -- a call on hold keeps its station from being idle: another call to it fails, and none is offered there
 abbrev pub HeldPrivateCall : Type 0
 HeldPrivateCall =
-    let r = asked_after plan (logs_on 5 ana first_station billing ∷ asks_for 6 ana pending.Ready
+    let r = run_after plan (logs_on 5 ana first_station billing ∷ asks_for 6 ana pending.Ready
     ∷ at 7 (MakeCall second_station first_station) ∷ at 8 (PhoneOffHook 1 second_station) ∷ at 9 (AnswerCall 1 first_station) ∷ at 10 (HoldCall 1 first_station)
     ∷ at 11 (ArriveCall caller billing) ∷ at 12 (ArriveCall late_caller first_station) ∷ at 13 (ClearConnection 1 second_station) ∷ []) in
     (r.outcomes ≡ Done (answer.State NotReady) ∷ Done (answer.State Ready) ∷ Done (answer.Call 1) ∷ Done answer.Nothing ∷ Done answer.Nothing
@@ -67,7 +67,7 @@ HeldPrivateCall =
     × (connection_of r.rows 2 first_station ≡ Some (ringing_from billing 2 first_station 12 11 13))
     × (agent_of r.rows ana ≡ ana_in billing Ready None 7 6)
 
-abbrev pub two_private_calls : List Asked
+abbrev pub two_private_calls : List TimedCommand
 two_private_calls =
     at 3 (AddStation third_station) ∷ at 4 (MakeCall first_station second_station)
     ∷ logs_on 5 ana first_station billing ∷ asks_for 6 ana pending.Ready
@@ -76,7 +76,7 @@ two_private_calls =
 -- an agent may log on at a station that has a call; a second call to it fails
 abbrev pub CallToABusyAgentStation : Type 0
 CallToABusyAgentStation =
-    let r = asked_after plan two_private_calls in
+    let r = run_after plan two_private_calls in
     (r.outcomes ≡ Done answer.Nothing ∷ Done (answer.Call 1) ∷ Done (answer.State NotReady) ∷ Done (answer.State Ready)
     ∷ Done (answer.Call 2) ∷ Done answer.Nothing ∷ [])
     × (r.events ≡ event 1 4 (ServiceInitiated 1 first_station)
@@ -89,7 +89,7 @@ CallToABusyAgentStation =
 -- private calls change no agent: the one whose private call is transferred stays ready and gets it from the group, and stays busy where the other one ends
 abbrev pub PrivateCalls : Type 0
 PrivateCalls =
-    let r = asked_after (plan ++ two_private_calls) (at 9 (PhoneOffHook 1 first_station) ∷ at 10 (AnswerCall 1 second_station) ∷ at 11 (HoldCall 1 second_station)
+    let r = run_after (plan ++ two_private_calls) (at 9 (PhoneOffHook 1 first_station) ∷ at 10 (AnswerCall 1 second_station) ∷ at 11 (HoldCall 1 second_station)
     ∷ at 12 (SingleStepTransfer 1 first_station billing) ∷ at 13 (AnswerCall 1 first_station) ∷ at 14 (ClearConnection 2 first_station) ∷ []) in
     (r.outcomes ≡ Done answer.Nothing ∷ Done answer.Nothing ∷ Done answer.Nothing ∷ Done answer.Nothing ∷ Done answer.Nothing ∷ Done answer.Nothing ∷ [])
     × (r.events ≡ event 7 9 (Originated 1 first_station second_station) ∷ event 8 9 (Delivered 1 second_station cause.NewCall None)

@@ -9,10 +9,10 @@ use Rattle.acd_terms.specs.declared.answer.Outcome.TheVariants.{Done}
 use Rattle.acd_terms.specs.declared.answer.Answer.TheVariants as answer
 use Rattle.acd_model.specs.Scans.{waiting_in, connection_of, agent_of}
 use Rattle.acd_model.specs.CallMoves.{queueing}
-use Rattle.acd_model.specs.Run.{Asked}
-use Rattle.acd_model.specs.Examples.Words.{billing, claims, first_station, second_station, ana, ben, caller, second_caller, at, logs_on, asks_for, plan, asked_after, event, figures_in, counts, ana_in, ben_in, ringing_from}
+use Rattle.acd_model.specs.Run.{TimedCommand}
+use Rattle.acd_model.specs.Examples.Words.{billing, claims, first_station, second_station, ana, ben, caller, second_caller, at, logs_on, asks_for, plan, run_after, event, figures_in, counts, ana_in, ben_in, ringing_from}
 
-abbrev pub two_offers_in_vain : List Asked
+abbrev pub two_offers_in_vain : List TimedCommand
 two_offers_in_vain =
     logs_on 5 ana first_station billing ∷ logs_on 5 ben second_station billing
     ∷ at 10 (ArriveCall caller billing) ∷ at 11 (ArriveCall second_caller billing)
@@ -21,7 +21,7 @@ two_offers_in_vain =
 -- two offers ring too long, and go back at one tick, one after the other
 abbrev pub OffersGoBack : Type 0
 OffersGoBack =
-    let r = asked_after plan two_offers_in_vain in
+    let r = run_after plan two_offers_in_vain in
     (r.outcomes ≡ Done (answer.State NotReady) ∷ Done (answer.State NotReady) ∷ Done (answer.Call 1) ∷ Done (answer.Call 2)
     ∷ Done (answer.State Ready) ∷ Done answer.Nothing ∷ Done (answer.State Ready) ∷ Done answer.Nothing ∷ [])
     × (r.events ≡ event 1 5 (AgentLoggedOn ana first_station billing) ∷ event 2 5 (AgentLoggedOn ben second_station billing)
@@ -42,7 +42,7 @@ OffersGoBack =
 -- offers and after-call work end when their time is over and not before; at one tick the offers go back first, and a call that went back is offered again
 abbrev pub Ticks : Type 0
 Ticks =
-    let r = asked_after (plan ++ two_offers_in_vain) (asks_for 70 ana pending.Ready ∷ at 75 (AnswerCall 1 first_station) ∷ at 80 (ClearConnection 1 caller)
+    let r = run_after (plan ++ two_offers_in_vain) (asks_for 70 ana pending.Ready ∷ at 75 (AnswerCall 1 first_station) ∷ at 80 (ClearConnection 1 caller)
     ∷ asks_for 85 ben pending.Ready ∷ at 104 Tick ∷ at 105 Tick ∷ asks_for 106 ben pending.Ready ∷ at 126 Tick ∷ []) in
     (r.outcomes ≡ Done (answer.State Ready) ∷ Done answer.Nothing ∷ Done answer.Nothing
     ∷ Done (answer.State Ready) ∷ Done answer.Nothing ∷ Done answer.Nothing ∷ Done (answer.State Ready) ∷ Done answer.Nothing ∷ [])
@@ -68,7 +68,7 @@ Ticks =
 -- with no ring time and no wrap time nothing ends by itself
 abbrev pub Never : Type 0
 Never =
-    let r = asked_after plan (at 1 (AddGroup claims (codes "Claims") 0 0) ∷ logs_on 2 ana first_station claims ∷ asks_for 3 ana pending.Ready
+    let r = run_after plan (at 1 (AddGroup claims (codes "Claims") 0 0) ∷ logs_on 2 ana first_station claims ∷ asks_for 3 ana pending.Ready
     ∷ at 10 (ArriveCall caller claims) ∷ at 9000 Tick ∷ at 9001 (AnswerCall 1 first_station) ∷ at 9002 (ClearConnection 1 first_station) ∷ at 19000 Tick ∷ []) in
     (r.outcomes ≡ Done answer.Nothing ∷ Done (answer.State NotReady) ∷ Done (answer.State Ready)
     ∷ Done (answer.Call 1) ∷ Done answer.Nothing ∷ Done answer.Nothing ∷ Done answer.Nothing ∷ Done answer.Nothing ∷ [])
@@ -85,7 +85,7 @@ Never =
 -- neither asking for the present state nor an offer that ends unanswered takes an agent's turn; what is pending waits until the call ends
 abbrev pub WhoIsReadyLongest : Type 0
 WhoIsReadyLongest =
-    let r = asked_after plan (logs_on 5 ana first_station billing ∷ logs_on 5 ben second_station billing
+    let r = run_after plan (logs_on 5 ana first_station billing ∷ logs_on 5 ben second_station billing
     ∷ asks_for 6 ana pending.Ready ∷ asks_for 7 ben pending.Ready ∷ asks_for 8 ana pending.Ready
     ∷ at 10 (ArriveCall caller billing) ∷ at 11 (ClearConnection 1 caller) ∷ at 12 (ArriveCall second_caller billing)
     ∷ asks_for 13 ana pending.NotReady ∷ at 14 (AnswerCall 2 first_station) ∷ at 15 (ClearConnection 2 first_station) ∷ []) in
@@ -109,7 +109,7 @@ WhoIsReadyLongest =
 -- after-call work ends in two groups at one tick: all agents become ready, and then the group of least number is served first
 abbrev pub TwoGroupsAtOnce : Type 0
 TwoGroupsAtOnce =
-    let r = asked_after plan (at 1 (AddGroup claims (codes "Claims") 20 30) ∷ logs_on 2 ana first_station claims ∷ logs_on 3 ben second_station billing
+    let r = run_after plan (at 1 (AddGroup claims (codes "Claims") 20 30) ∷ logs_on 2 ana first_station claims ∷ logs_on 3 ben second_station billing
     ∷ asks_for 6 ana pending.WorkingAfterCall ∷ asks_for 6 ben pending.WorkingAfterCall
     ∷ at 10 (ArriveCall caller claims) ∷ at 11 (ArriveCall second_caller billing) ∷ at 36 Tick ∷ []) in
     (r.outcomes ≡ Done answer.Nothing ∷ Done (answer.State NotReady) ∷ Done (answer.State NotReady)

@@ -19,7 +19,7 @@ use Rattle.acd_terms.specs.declared.state.ConnectionState.TheVariants.{Alerting,
 use Rattle.acd_terms.specs.declared.state.Pending.{Pending}
 use Rattle.acd_terms.specs.declared.state.Pending.TheVariants as pending
 use Rattle.acd_model.specs.Scans.{group_of}
-use Rattle.acd_model.specs.Run.{Asked, Ran, run}
+use Rattle.acd_model.specs.Run.{TimedCommand, AfterRun, run}
 
 -- the groups 100 and 110, the stations 201 to 203, the agents 7 and 8, and the callers 0301234, 0309999, 0305555 and 0401
 abbrev pub billing : ℕ
@@ -63,26 +63,26 @@ NumbersOfDigits =
     × (read_id 9 (codes "7") ≡ Ok ana) × (read_id 9 (codes "8") ≡ Ok ben) × (read_id 15 (codes "0301234") ≡ Ok caller)
     × (read_id 15 (codes "0309999") ≡ Ok second_caller) × (read_id 15 (codes "0305555") ≡ Ok third_caller) × (read_id 15 (codes "0401") ≡ Ok late_caller)
 
-abbrev pub at : ℕ → Command → Asked
+abbrev pub at : ℕ → Command → TimedCommand
 at moment command = record { moment = moment; command = command }
 
 -- an agent logs on at a station in a group, and asks for another state
-abbrev pub logs_on : ℕ → ℕ → ℕ → ℕ → Asked
+abbrev pub logs_on : ℕ → ℕ → ℕ → ℕ → TimedCommand
 logs_on moment agent station group = at moment (SetAgentState agent (LoggedOn station group))
 
-abbrev pub asks_for : ℕ → ℕ → Pending → Asked
+abbrev pub asks_for : ℕ → ℕ → Pending → TimedCommand
 asks_for moment agent wanted = at moment (SetAgentState agent (State wanted))
 
 -- Billing rings for 20 seconds and wraps up for 30; Ana and Ben are its agents to be
-abbrev pub plan : List Asked
+abbrev pub plan : List TimedCommand
 plan =
     at 0 (AddGroup billing (codes "Billing") 20 30)
     ∷ at 0 (AddStation first_station) ∷ at 0 (AddStation second_station)
     ∷ at 0 (AddAgent ana (codes "Ana")) ∷ at 0 (AddAgent ben (codes "Ben")) ∷ []
 
--- what is asked after others was asked
-abbrev pub asked_after : List Asked → List Asked → Ran
-asked_after before asked = run (run (empty_rows greatest_limits) before).rows asked
+-- what a run leaves after another run
+abbrev pub run_after : List TimedCommand → List TimedCommand → AfterRun
+run_after before commands = run (run (empty_rows greatest_limits) before).rows commands
 
 abbrev pub event : ℕ → ℕ → Report → Event
 event number moment report = record { number = number; moment = moment; report = report }
@@ -117,16 +117,16 @@ abbrev pub talking_from : ℕ → ℕ → ℕ → ConnectionRecord
 talking_from group call station = record { call = call; device = station; state = Connected; group = Some group; place = None; queued = None; offered = None }
 
 -- the first call arrives at the group
-abbrev pub call_arrives : List Asked
+abbrev pub call_arrives : List TimedCommand
 call_arrives = at 10 (ArriveCall caller billing) ∷ []
 
 -- Ana logs on and becomes ready
-abbrev pub ana_becomes_ready : List Asked
+abbrev pub ana_becomes_ready : List TimedCommand
 ana_becomes_ready = at 15 (SetAgentState ana (LoggedOn first_station billing)) ∷ at 18 (SetAgentState ana (State pending.Ready)) ∷ []
 
 -- up to the offer, and up to the answer
-abbrev pub offered : List Asked
+abbrev pub offered : List TimedCommand
 offered = plan ++ call_arrives ++ ana_becomes_ready
 
-abbrev pub answered : List Asked
+abbrev pub answered : List TimedCommand
 answered = offered ++ at 25 (AnswerCall 1 first_station) ∷ []

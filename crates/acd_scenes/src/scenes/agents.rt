@@ -97,7 +97,7 @@ scene moments_of_states_and_calls: plan logged_on is_ready is_not_ready
 
 # Each way in which an occupied agent is released, with each state that may be pending.
 
-part after_an_answer_with_nothing_pending
+part caller_clears_when_answered
 > 40 {"call":1,"device":"0301234","invoke":2,"requester":"pbx","service":"clearConnection"}
 < 200 {"invoke":2,"requester":"pbx","result":{}}
 ! {"call":1,"device":"0301234","event":"connectionCleared","moment":40,"number":8}
@@ -106,51 +106,24 @@ part after_an_answer_with_nothing_pending
 ! {"agent":"7","device":"201","event":"agentWorkingAfterCall","moment":40,"number":11}
 = agent 7 workingAfterCall, stamp 10, since 40
 
-part after_an_answer_with_ready_pending
-> 30 {"agent":"7","invoke":4,"requested":"ready","requester":"desk","service":"setAgentState"}
-< 200 {"invoke":4,"requester":"desk","result":{"pending":"ready","state":"busy"}}
+scene after_an_answer_with_nothing_pending: plan call_arrives ana_becomes_ready ana_answers caller_clears_when_answered
+
+table after_an_answer_with_$1_pending: plan call_arrives ana_becomes_ready ana_answers
+> 30 {"agent":"7","invoke":4,"requested":"$2","requester":"desk","service":"setAgentState"}
+< 200 {"invoke":4,"requester":"desk","result":{"pending":"$2","state":"busy"}}
 > 40 {"call":1,"device":"0301234","invoke":2,"requester":"pbx","service":"clearConnection"}
 < 200 {"invoke":2,"requester":"pbx","result":{}}
 ! {"call":1,"device":"0301234","event":"connectionCleared","moment":40,"number":8}
 ! {"call":1,"device":"201","event":"connectionCleared","moment":40,"number":9}
 ! {"call":1,"event":"callCleared","moment":40,"number":10}
-! {"agent":"7","device":"201","event":"agentReady","moment":40,"number":11}
-= agent 7 ready, stamp 11, since 40
+! {"agent":"7","device":"201","event":"$3","moment":40,"number":11}
+= agent 7 $4, stamp 11, since 40
+row ready ready agentReady ready
+row not_ready notReady agentNotReady notReady
+row working_after_call workingAfterCall agentWorkingAfterCall workingAfterCall
+row logged_off loggedOff agentLoggedOff null
 
-part after_an_answer_with_not_ready_pending
-> 30 {"agent":"7","invoke":4,"requested":"notReady","requester":"desk","service":"setAgentState"}
-< 200 {"invoke":4,"requester":"desk","result":{"pending":"notReady","state":"busy"}}
-> 40 {"call":1,"device":"0301234","invoke":2,"requester":"pbx","service":"clearConnection"}
-< 200 {"invoke":2,"requester":"pbx","result":{}}
-! {"call":1,"device":"0301234","event":"connectionCleared","moment":40,"number":8}
-! {"call":1,"device":"201","event":"connectionCleared","moment":40,"number":9}
-! {"call":1,"event":"callCleared","moment":40,"number":10}
-! {"agent":"7","device":"201","event":"agentNotReady","moment":40,"number":11}
-= agent 7 notReady, stamp 11, since 40
-
-part after_an_answer_with_working_after_call_pending
-> 30 {"agent":"7","invoke":4,"requested":"workingAfterCall","requester":"desk","service":"setAgentState"}
-< 200 {"invoke":4,"requester":"desk","result":{"pending":"workingAfterCall","state":"busy"}}
-> 40 {"call":1,"device":"0301234","invoke":2,"requester":"pbx","service":"clearConnection"}
-< 200 {"invoke":2,"requester":"pbx","result":{}}
-! {"call":1,"device":"0301234","event":"connectionCleared","moment":40,"number":8}
-! {"call":1,"device":"201","event":"connectionCleared","moment":40,"number":9}
-! {"call":1,"event":"callCleared","moment":40,"number":10}
-! {"agent":"7","device":"201","event":"agentWorkingAfterCall","moment":40,"number":11}
-= agent 7 workingAfterCall, stamp 11, since 40
-
-part after_an_answer_with_logged_off_pending
-> 30 {"agent":"7","invoke":4,"requested":"loggedOff","requester":"desk","service":"setAgentState"}
-< 200 {"invoke":4,"requester":"desk","result":{"pending":"loggedOff","state":"busy"}}
-> 40 {"call":1,"device":"0301234","invoke":2,"requester":"pbx","service":"clearConnection"}
-< 200 {"invoke":2,"requester":"pbx","result":{}}
-! {"call":1,"device":"0301234","event":"connectionCleared","moment":40,"number":8}
-! {"call":1,"device":"201","event":"connectionCleared","moment":40,"number":9}
-! {"call":1,"event":"callCleared","moment":40,"number":10}
-! {"agent":"7","device":"201","event":"agentLoggedOff","moment":40,"number":11}
-= agent 7 null, stamp 11, since 40
-
-part unanswered_with_nothing_pending
+part caller_clears_unanswered
 > 40 {"call":1,"device":"0301234","invoke":2,"requester":"pbx","service":"clearConnection"}
 < 200 {"invoke":2,"requester":"pbx","result":{}}
 ! {"call":1,"device":"0301234","event":"connectionCleared","moment":40,"number":6}
@@ -158,50 +131,28 @@ part unanswered_with_nothing_pending
 ! {"call":1,"event":"callCleared","group":"100","moment":40,"number":8}
 = agent 7 ready, stamp 8, since 18
 
-part unanswered_with_ready_pending
+part ready_when_offered
 > 30 {"agent":"7","invoke":4,"requested":"ready","requester":"desk","service":"setAgentState"}
 < 200 {"invoke":4,"requester":"desk","result":{"pending":"ready","state":"ready"}}
+
+scene unanswered_with_nothing_pending: plan call_arrives ana_becomes_ready caller_clears_unanswered
+scene unanswered_with_ready_pending: plan call_arrives ana_becomes_ready ready_when_offered caller_clears_unanswered
+
+table unanswered_with_$1_pending: plan call_arrives ana_becomes_ready
+> 30 {"agent":"7","invoke":4,"requested":"$2","requester":"desk","service":"setAgentState"}
+< 200 {"invoke":4,"requester":"desk","result":{"pending":"$2","state":"ready"}}
 > 40 {"call":1,"device":"0301234","invoke":2,"requester":"pbx","service":"clearConnection"}
 < 200 {"invoke":2,"requester":"pbx","result":{}}
 ! {"call":1,"device":"0301234","event":"connectionCleared","moment":40,"number":6}
 ! {"call":1,"device":"201","event":"connectionCleared","moment":40,"number":7}
 ! {"call":1,"event":"callCleared","group":"100","moment":40,"number":8}
-= agent 7 ready, stamp 8, since 18
+! {"agent":"7","device":"201","event":"$3","moment":40,"number":9}
+= agent 7 $4, stamp 10, since 40
+row not_ready notReady agentNotReady notReady
+row working_after_call workingAfterCall agentWorkingAfterCall workingAfterCall
+row logged_off loggedOff agentLoggedOff null
 
-part unanswered_with_not_ready_pending
-> 30 {"agent":"7","invoke":4,"requested":"notReady","requester":"desk","service":"setAgentState"}
-< 200 {"invoke":4,"requester":"desk","result":{"pending":"notReady","state":"ready"}}
-> 40 {"call":1,"device":"0301234","invoke":2,"requester":"pbx","service":"clearConnection"}
-< 200 {"invoke":2,"requester":"pbx","result":{}}
-! {"call":1,"device":"0301234","event":"connectionCleared","moment":40,"number":6}
-! {"call":1,"device":"201","event":"connectionCleared","moment":40,"number":7}
-! {"call":1,"event":"callCleared","group":"100","moment":40,"number":8}
-! {"agent":"7","device":"201","event":"agentNotReady","moment":40,"number":9}
-= agent 7 notReady, stamp 10, since 40
-
-part unanswered_with_working_after_call_pending
-> 30 {"agent":"7","invoke":4,"requested":"workingAfterCall","requester":"desk","service":"setAgentState"}
-< 200 {"invoke":4,"requester":"desk","result":{"pending":"workingAfterCall","state":"ready"}}
-> 40 {"call":1,"device":"0301234","invoke":2,"requester":"pbx","service":"clearConnection"}
-< 200 {"invoke":2,"requester":"pbx","result":{}}
-! {"call":1,"device":"0301234","event":"connectionCleared","moment":40,"number":6}
-! {"call":1,"device":"201","event":"connectionCleared","moment":40,"number":7}
-! {"call":1,"event":"callCleared","group":"100","moment":40,"number":8}
-! {"agent":"7","device":"201","event":"agentWorkingAfterCall","moment":40,"number":9}
-= agent 7 workingAfterCall, stamp 10, since 40
-
-part unanswered_with_logged_off_pending
-> 30 {"agent":"7","invoke":4,"requested":"loggedOff","requester":"desk","service":"setAgentState"}
-< 200 {"invoke":4,"requester":"desk","result":{"pending":"loggedOff","state":"ready"}}
-> 40 {"call":1,"device":"0301234","invoke":2,"requester":"pbx","service":"clearConnection"}
-< 200 {"invoke":2,"requester":"pbx","result":{}}
-! {"call":1,"device":"0301234","event":"connectionCleared","moment":40,"number":6}
-! {"call":1,"device":"201","event":"connectionCleared","moment":40,"number":7}
-! {"call":1,"event":"callCleared","group":"100","moment":40,"number":8}
-! {"agent":"7","device":"201","event":"agentLoggedOff","moment":40,"number":9}
-= agent 7 null, stamp 10, since 40
-
-part no_answer_with_nothing_pending
+part rings_too_long
 > 40 {"invoke":1,"requester":"clock","service":"tick"}
 < 200 {"invoke":1,"requester":"clock","result":{}}
 ! {"call":1,"cause":"noAnswer","device":"201","event":"diverted","group":"100","moment":40,"number":6,"to":"100"}
@@ -209,61 +160,21 @@ part no_answer_with_nothing_pending
 ! {"agent":"7","device":"201","event":"agentNotReady","moment":40,"number":8}
 = agent 7 notReady, stamp 9, since 40
 
-part no_answer_with_ready_pending
-> 30 {"agent":"7","invoke":4,"requested":"ready","requester":"desk","service":"setAgentState"}
-< 200 {"invoke":4,"requester":"desk","result":{"pending":"ready","state":"ready"}}
+scene no_answer_with_nothing_pending: plan call_arrives ana_becomes_ready rings_too_long
+
+table no_answer_with_$1_pending: plan call_arrives ana_becomes_ready
+> 30 {"agent":"7","invoke":4,"requested":"$2","requester":"desk","service":"setAgentState"}
+< 200 {"invoke":4,"requester":"desk","result":{"pending":"$2","state":"ready"}}
 > 40 {"invoke":1,"requester":"clock","service":"tick"}
 < 200 {"invoke":1,"requester":"clock","result":{}}
 ! {"call":1,"cause":"noAnswer","device":"201","event":"diverted","group":"100","moment":40,"number":6,"to":"100"}
 ! {"call":1,"cause":"noAnswer","device":"100","event":"queued","moment":40,"number":7}
-! {"agent":"7","device":"201","event":"agentNotReady","moment":40,"number":8}
-= agent 7 notReady, stamp 10, since 40
-
-part no_answer_with_not_ready_pending
-> 30 {"agent":"7","invoke":4,"requested":"notReady","requester":"desk","service":"setAgentState"}
-< 200 {"invoke":4,"requester":"desk","result":{"pending":"notReady","state":"ready"}}
-> 40 {"invoke":1,"requester":"clock","service":"tick"}
-< 200 {"invoke":1,"requester":"clock","result":{}}
-! {"call":1,"cause":"noAnswer","device":"201","event":"diverted","group":"100","moment":40,"number":6,"to":"100"}
-! {"call":1,"cause":"noAnswer","device":"100","event":"queued","moment":40,"number":7}
-! {"agent":"7","device":"201","event":"agentNotReady","moment":40,"number":8}
-= agent 7 notReady, stamp 10, since 40
-
-part no_answer_with_working_after_call_pending
-> 30 {"agent":"7","invoke":4,"requested":"workingAfterCall","requester":"desk","service":"setAgentState"}
-< 200 {"invoke":4,"requester":"desk","result":{"pending":"workingAfterCall","state":"ready"}}
-> 40 {"invoke":1,"requester":"clock","service":"tick"}
-< 200 {"invoke":1,"requester":"clock","result":{}}
-! {"call":1,"cause":"noAnswer","device":"201","event":"diverted","group":"100","moment":40,"number":6,"to":"100"}
-! {"call":1,"cause":"noAnswer","device":"100","event":"queued","moment":40,"number":7}
-! {"agent":"7","device":"201","event":"agentWorkingAfterCall","moment":40,"number":8}
-= agent 7 workingAfterCall, stamp 10, since 40
-
-part no_answer_with_logged_off_pending
-> 30 {"agent":"7","invoke":4,"requested":"loggedOff","requester":"desk","service":"setAgentState"}
-< 200 {"invoke":4,"requester":"desk","result":{"pending":"loggedOff","state":"ready"}}
-> 40 {"invoke":1,"requester":"clock","service":"tick"}
-< 200 {"invoke":1,"requester":"clock","result":{}}
-! {"call":1,"cause":"noAnswer","device":"201","event":"diverted","group":"100","moment":40,"number":6,"to":"100"}
-! {"call":1,"cause":"noAnswer","device":"100","event":"queued","moment":40,"number":7}
-! {"agent":"7","device":"201","event":"agentLoggedOff","moment":40,"number":8}
-= agent 7 null, stamp 10, since 40
-
-scene after_an_answer_with_nothing_pending: plan call_arrives ana_becomes_ready ana_answers after_an_answer_with_nothing_pending
-scene after_an_answer_with_ready_pending: plan call_arrives ana_becomes_ready ana_answers after_an_answer_with_ready_pending
-scene after_an_answer_with_not_ready_pending: plan call_arrives ana_becomes_ready ana_answers after_an_answer_with_not_ready_pending
-scene after_an_answer_with_working_after_call_pending: plan call_arrives ana_becomes_ready ana_answers after_an_answer_with_working_after_call_pending
-scene after_an_answer_with_logged_off_pending: plan call_arrives ana_becomes_ready ana_answers after_an_answer_with_logged_off_pending
-scene unanswered_with_nothing_pending: plan call_arrives ana_becomes_ready unanswered_with_nothing_pending
-scene unanswered_with_ready_pending: plan call_arrives ana_becomes_ready unanswered_with_ready_pending
-scene unanswered_with_not_ready_pending: plan call_arrives ana_becomes_ready unanswered_with_not_ready_pending
-scene unanswered_with_working_after_call_pending: plan call_arrives ana_becomes_ready unanswered_with_working_after_call_pending
-scene unanswered_with_logged_off_pending: plan call_arrives ana_becomes_ready unanswered_with_logged_off_pending
-scene no_answer_with_nothing_pending: plan call_arrives ana_becomes_ready no_answer_with_nothing_pending
-scene no_answer_with_ready_pending: plan call_arrives ana_becomes_ready no_answer_with_ready_pending
-scene no_answer_with_not_ready_pending: plan call_arrives ana_becomes_ready no_answer_with_not_ready_pending
-scene no_answer_with_working_after_call_pending: plan call_arrives ana_becomes_ready no_answer_with_working_after_call_pending
-scene no_answer_with_logged_off_pending: plan call_arrives ana_becomes_ready no_answer_with_logged_off_pending
+! {"agent":"7","device":"201","event":"$3","moment":40,"number":8}
+= agent 7 $4, stamp 10, since 40
+row ready ready agentNotReady notReady
+row not_ready notReady agentNotReady notReady
+row working_after_call workingAfterCall agentWorkingAfterCall workingAfterCall
+row logged_off loggedOff agentLoggedOff null
 
 "#
 }

@@ -9,7 +9,7 @@ const ARRIVE: &[u8] =
     br#"{"requester":"pbx","invoke":1,"service":"arriveCall","caller":"0301234","called":"100"}"#;
 
 // A group, a station and a waiting call, whose entry is the one event.
-const CALL: &[Asked] = &[
+const CALL: &[SceneLine] = &[
     (0, BILLING, 200, BILLING_REPLY),
     (0, STATION, 200, STATION_REPLY),
     (
@@ -85,7 +85,7 @@ fn expect_audit(
 }
 
 fn book_after_call(rt: &impl Abort, alloc: Global) -> MemoryBook {
-    let mut desk = new_desk(rt, alloc, Limits::GREATEST);
+    let mut desk = new_desk(rt, alloc);
     ask_all(rt, alloc, &mut desk, CALL);
     assert_eq!(rt; desk.audit(), Ok(Audit::Sound));
     assert_eq!(rt; desk.executed(), Ok(3));

@@ -16,7 +16,12 @@ fn failing_book(alloc: Global, failing: &'static [Failing]) -> FailingBook {
 }
 
 // A desk over the book is asked, and gives it back.
-fn book_after(rt: &impl Abort, alloc: Global, book: FailingBook, scene: &[Asked]) -> FailingBook {
+fn book_after(
+    rt: &impl Abort,
+    alloc: Global,
+    book: FailingBook,
+    scene: &[SceneLine],
+) -> FailingBook {
     let mut desk = opened(rt, alloc, book);
     ask_all(rt, alloc, &mut desk, scene);
     desk.close()
@@ -34,7 +39,7 @@ fn session(
     failures: u64,
 ) {
     let [first, second, again] = answers;
-    let scene: &[Asked] = &[
+    let scene: &[SceneLine] = &[
         (0, BILLING, first.0, first.1),
         (0, STATION, second.0, second.1),
         (0, BILLING, again.0, again.1),
@@ -125,21 +130,21 @@ fn fails_at_the_opening(rt: HostRuntime) {
 // The second commit, call 5, finds no memory.
 const UNLOADS: &[Failing] = &[(5, NoMemory)];
 
-const UNTIL_UNLOADED: &[Asked] = &[
+const UNTIL_UNLOADED: &[SceneLine] = &[
     (0, BILLING, 200, BILLING_REPLY),
     (0, STATION, 503, "noMemory"),
 ];
 
-const REPEAT: &[Asked] = &[(0, BILLING, 200, BILLING_REPLY)];
+const REPEAT: &[SceneLine] = &[(0, BILLING, 200, BILLING_REPLY)];
 
-const NEW_REQUESTS: &[Asked] = &[
+const NEW_REQUESTS: &[SceneLine] = &[
     (0, SECOND_STATION, 200, SECOND_STATION_REPLY),
     (0, STATION, 200, STATION_REPLY),
     (0, THIRD_STATION, 200, THIRD_STATION_REPLY),
 ];
 
 // How often the rows were read, where the scenes are asked of one desk.
-fn row_reads(rt: &impl Abort, alloc: Global, scenes: &[&[Asked]]) -> u32 {
+fn row_reads(rt: &impl Abort, alloc: Global, scenes: &[&[SceneLine]]) -> u32 {
     let mut desk = opened(rt, alloc, failing_book(alloc, UNLOADS));
     for scene in scenes {
         ask_all(rt, alloc, &mut desk, scene);
@@ -160,7 +165,12 @@ fn loads_once_for_the_next_new_request(rt: HostRuntime) {
 }
 
 // The desk is unloaded by call 5. Call 6 is the key of the next request, call 7 its load.
-fn unloaded_session(rt: &impl Abort, alloc: Global, failing: &'static [Failing], scene: &[Asked]) {
+fn unloaded_session(
+    rt: &impl Abort,
+    alloc: Global,
+    failing: &'static [Failing],
+    scene: &[SceneLine],
+) {
     let mut desk = opened(rt, alloc, failing_book(alloc, failing));
     ask_all(rt, alloc, &mut desk, UNTIL_UNLOADED);
     ask_all(rt, alloc, &mut desk, scene);
@@ -168,7 +178,7 @@ fn unloaded_session(rt: &impl Abort, alloc: Global, failing: &'static [Failing],
 
 #[test]
 fn no_memory_to_load(rt: HostRuntime) {
-    let scene: &[Asked] = &[
+    let scene: &[SceneLine] = &[
         (0, STATION, 503, "noMemory"),
         (0, BILLING, 200, BILLING_REPLY),
         (0, STATION, 200, STATION_REPLY),
@@ -178,7 +188,7 @@ fn no_memory_to_load(rt: HostRuntime) {
 
 #[test]
 fn store_fails_to_load(rt: HostRuntime) {
-    let scene: &[Asked] = &[
+    let scene: &[SceneLine] = &[
         (0, STATION, 503, "storeFault"),
         (0, BILLING, 503, "storeFault"),
         (0, STATION, 503, "storeFault"),
@@ -188,7 +198,7 @@ fn store_fails_to_load(rt: HostRuntime) {
 
 #[test]
 fn opens_again_after_a_store_fault(rt: HostRuntime) {
-    let scene: &[Asked] = &[
+    let scene: &[SceneLine] = &[
         (0, BILLING, 200, BILLING_REPLY),
         (0, STATION, 503, "storeFault"),
         (0, BILLING, 503, "storeFault"),
@@ -200,7 +210,7 @@ fn opens_again_after_a_store_fault(rt: HostRuntime) {
         scene,
     );
     assert_eq!(rt; failed.failures(), 1);
-    let repeat: &[Asked] = &[(0, BILLING, 200, BILLING_REPLY)];
+    let repeat: &[SceneLine] = &[(0, BILLING, 200, BILLING_REPLY)];
     let _ = book_after(&rt, rt.alloc(), failed, repeat);
 }
 

@@ -3,7 +3,7 @@
 //! Twelve groups, forty stations and agents, a monitor of each group, and sixty calls, five to each
 //! group. The services alone make no offer and set no figure, so that all calls wait.
 
-ghost use Rattle.acd_services.specs.Asked.{IsNoTick};
+ghost use Rattle.acd_services.specs.NoTick.{IsNoTick};
 
 use acd_services::serve;
 use acd_tables::Tables;

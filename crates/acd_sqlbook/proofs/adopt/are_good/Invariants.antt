@@ -1,5 +1,5 @@
 use Rattle.std.proofs.Common.{◌≡◌, drop}
-use Rattle.acd_sqlbook.specs.Adopting.{are_good}
+use Rattle.acd_statements.specs.Lying.{are_good}
 use Rattle.acd_sqlbook.proofs.adopt.are_good.Given as goal
 
 abbrev pub invariant-loop-row : goal.invariant-loop-row

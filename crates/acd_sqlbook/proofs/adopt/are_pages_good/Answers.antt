@@ -1,9 +1,9 @@
 use Rattle.std.proofs.Common.{◌≡◌, Err, arith, refl, rules, subst, sym}
 use Rattle.sqlite.specs.Held.{state}
 use Rattle.acd_sqlbook.specs.Adopting.{TellsBehind}
-use Rattle.acd_sqlbook.specs.Seeing.{Sees}
+use Rattle.acd_statements.specs.Seeing.{Sees}
 use Rattle.acd_sqlbook.proofs.Adopted.{Left, pages_bad, pages_last, pages_more, pages_fail, pages_end}
-use Rattle.acd_sqlbook.proofs.Seen.{sees_here}
+use Rattle.acd_statements.proofs.Seen.{sees_here}
 use Rattle.acd_sqlbook.proofs.adopt.are_pages_good.Goals as goal
 
 pub loop-init : goal.loop-init

@@ -1,10 +1,10 @@
 use Rattle.std.proofs.Common.{◌≡◌, Err, rules, subst, sym}
 use Rattle.sqlite.specs.Held.{state}
 use Rattle.acd_sqlbook.specs.Adopting.{IsFound}
-use Rattle.acd_sqlbook.specs.Seeing.{Sees}
+use Rattle.acd_statements.specs.Seeing.{Sees}
 use Rattle.acd_sqlbook.proofs.Adopted.{version_fault_found, rows_behind}
-use Rattle.acd_sqlbook.proofs.Looked.{book_begins}
-use Rattle.acd_sqlbook.proofs.Seen.{sees_fail}
+use Rattle.acd_statements.proofs.Looked.{book_begins}
+use Rattle.acd_statements.proofs.Seen.{sees_fail}
 use Rattle.acd_sqlbook.proofs.adopt.fault_of_whole.Goals as goal
 
 pub returns-in_err-wrong-clause-seen : goal.returns-in_err-wrong-clause-seen

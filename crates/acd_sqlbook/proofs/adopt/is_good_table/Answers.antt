@@ -1,7 +1,7 @@
 use Rattle.std.proofs.Common.{sym, subst}
 use Rattle.sqlite.specs.Held.{state}
-use Rattle.acd_sqlbook.specs.Adopting.{TellsGood}
-use Rattle.acd_sqlbook.specs.Seeing.{Sees}
+use Rattle.acd_statements.specs.Lying.{TellsGood}
+use Rattle.acd_statements.specs.Seeing.{Sees}
 use Rattle.acd_sqlbook.proofs.adopt.is_good_table.Goals as goal
 
 pub returns-in-Meta-clause-seen : goal.returns-in-Meta-clause-seen

@@ -1,7 +1,7 @@
 use Rattle.sqlite.specs.Held.{state}
-use Rattle.acd_sqlbook.specs.Adopting.{table_of, TellsGood}
+use Rattle.acd_statements.specs.Lying.{table_of, TellsGood}
 use Rattle.acd_sqlbook.proofs.Adopted.{whole_told}
-use Rattle.acd_sqlbook.proofs.Seen.{sees_fail}
+use Rattle.acd_statements.proofs.Seen.{sees_fail}
 use Rattle.acd_sqlbook.proofs.adopt.is_good_whole.Goals as goal
 
 pub returns-in-Err-clause-seen : goal.returns-in-Err-clause-seen

@@ -1,7 +1,7 @@
 use Rattle.std.proofs.Common.{◌≡◌, Err, rules, subst, sym}
 use Rattle.sqlite.specs.Held.{state}
 use Rattle.acd_sqlbook.specs.Adopting.{IsFound}
-use Rattle.acd_sqlbook.specs.Seeing.{HasLooked}
+use Rattle.acd_statements.specs.Seeing.{HasLooked}
 use Rattle.acd_sqlbook.proofs.Adopted.{looked, looked_not, was_idle}
 use Rattle.acd_sqlbook.proofs.adopt.look_over.Goals as goal
 

@@ -1,7 +1,7 @@
 use Rattle.sqlite.specs.Held.{state}
 use Rattle.acd_sqlbook.specs.Adopting.{IsPage}
 use Rattle.acd_sqlbook.proofs.Adopted.{page_told}
-use Rattle.acd_sqlbook.proofs.Seen.{sees_fail}
+use Rattle.acd_statements.proofs.Seen.{sees_fail}
 use Rattle.acd_sqlbook.proofs.adopt.page_behind.Goals as goal
 
 pub returns-in-Err-clause-seen : goal.returns-in-Err-clause-seen

@@ -1,7 +1,7 @@
 use Rattle.std.proofs.Common.{arith, subst}
 use Rattle.sqlite.specs.State.{HasCleanDisk}
 use Rattle.sqlite.specs.Held.{state}
-use Rattle.acd_sqlbook.specs.Making.{Builds}
+use Rattle.acd_statements.specs.Making.{Builds}
 use Rattle.acd_sqlbook.proofs.Making.{whole, makes_events, makes_kept}
 use Rattle.acd_sqlbook.proofs.create.make_log.Goals as goal
 

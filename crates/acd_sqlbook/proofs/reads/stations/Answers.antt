@@ -4,10 +4,10 @@ use Rattle.std.specs.declared.alloc.Global.{Global}
 use Rattle.sqlite.specs.Held.{state}
 use Rattle.acd_terms.specs.declared.record.StationRecord.{StationRecord}
 use Rattle.acd_book.specs.Content.{Content}
-use Rattle.acd_sqlbook.specs.Ranges.{station_in}
-use Rattle.acd_sqlbook.specs.Rows.{station_values}
+use Rattle.acd_statements.specs.Ranges.{station_in}
+use Rattle.acd_statements.specs.Rows.{station_values}
 use Rattle.acd_sqlbook.proofs.Recorded.{found_none, recorded, station_exact}
-use Rattle.acd_sqlbook.specs.Finding.{Finds}
+use Rattle.acd_statements.specs.Finding.{Finds}
 use Rattle.acd_sqlbook.proofs.reads.stations.Goals as goal
 
 pub returns-in_err-rows-clause-found : goal.returns-in_err-rows-clause-found

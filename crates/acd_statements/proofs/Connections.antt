@@ -1,0 +1,303 @@
+-- The statements that put connections and take them out.
+use Rattle.std.proofs.Common.{◌≡◌, ◌⊎◌, inl, inr, ℕ, ℤ, List, [], ◌∷◌, ◌++◌, map, filter, drop, Bool, true, false, not, ◌==◌, ◌&&◌, ◌||◌, Some, Option, Ok, refl, sym, ap, subst, ◌∙◌}
+use Rattle.std.specs.List.{list_any, list_all}
+use Rattle.std.specs.List.Sorted.{IsPermutation}
+use Rattle.std.specs.Ordering.{is_eq, is_lt, ordering_reverse}
+use Rattle.std.specs.declared.cmp.Ordering.TheVariants.{Less}
+use Rattle.std.proofs.lemmas.Bool.{false_from_ne_true}
+use Rattle.std.proofs.lemmas.List.Sorted.{IsPermutation-map, list_any-IsPermutation}
+use Rattle.sqlite_value.specs.declared.value.Value.{Value}
+use Rattle.sqlite_value.specs.declared.value.Value.TheVariants.{Null, Int}
+use Rattle.sqlite_value.specs.declared.keys.Collation.TheVariants.{Binary}
+use Rattle.sqlite_value.specs.Order.{Row, value_cmp}
+use Rattle.sqlite_value.specs.Keys.{first_key}
+use Rattle.sqlite_value.proofs.OrderLemmas.{value_cmp_total}
+use Rattle.std.proofs.lemmas.Cmp.{tied_itself}
+use Rattle.sqlite_trees.proofs.ListLemmas.{ascending-filter, filter_none}
+use Rattle.sqlite_trees.specs.Tree.{Trees, IsTable, rowid, has_rowid, without_rowid}
+use Rattle.sqlite_trees.proofs.TreeLemmas.{IsTable-put_row, later_rowids}
+use Rattle.sqlite_sql.specs.Ops.{unary, binary, is_true, from_truth}
+use Rattle.sqlite_sql.specs.Term.{Term, lit, col, op2, holds}
+use Rattle.sqlite_sql.specs.declared.ops.BinaryOp.TheVariants.{Compare}
+use Rattle.sqlite_sql.specs.declared.ops.CompareOp.TheVariants.{Eq}
+use Rattle.sqlite_schema.specs.declared.schema.Table.{Table}
+use Rattle.sqlite_schema.specs.declared.schema.Kind.TheVariants.{Integer}
+use Rattle.sqlite_rules.specs.Cast.{cast, cast_row}
+use Rattle.sqlite_rules.specs.Edit.{Edit, edited, edit_of, id_in, left_by, are_fresh, put_all, without_all, with_rowid, next_rowid}
+use Rattle.sqlite_rules.specs.Calls.{ids_of}
+use Rattle.sqlite_rules.specs.declared.error.Rowids.TheVariants.{Chosen, Given}
+use Rattle.sqlite_rules.specs.Keys.{conflicts}
+use Rattle.sqlite_rules.specs.Lists.{Has}
+use Rattle.sqlite_rules.proofs.TableLemmas.{put_all_has, put_all_keeps, put_all_adds}
+use Rattle.sqlite_rules.proofs.ListLemmas.{has_filtered, has_kept, some_has, some_from}
+use Rattle.sqlite.specs.Listing.{understood}
+use Rattle.sqlite.specs.Rows.{shown}
+use Rattle.sqlite.specs.State.{State, Executes}
+use Rattle.sqlite.proofs.Callers.{one_permutation}
+use Rattle.sqlite_tied.specs.Compute.{everything}
+use Rattle.acd_terms.specs.Lists.{put_by, remove_by}
+use Rattle.acd_model.specs.Scans.{at_connection}
+use Rattle.acd_book.specs.Content.{Content}
+use Rattle.acd_laws.proofs.Lists.{is_eq_of}
+use Rattle.acd_laws.proofs.State.{is_of_true, is_of_self}
+use Rattle.acd_statements.specs.declared.tables.Table.TheVariants as table
+use Rattle.acd_terms.specs.declared.record.ConnectionRecord.{ConnectionRecord}
+use Rattle.acd_model.specs.Rules.Plan.{connection_order}
+use Rattle.acd_statements.specs.Rows.{id_value, connection_code, connection_values, connection_row}
+use Rattle.acd_statements.specs.Content.{AreConnections, with_part}
+use Rattle.acd_statements.specs.Draft.{Drafts}
+use Rattle.acd_statements.specs.Schema.{table_of, book_schema, connections}
+use Rattle.acd_statements.proofs.Heaps.{HasKey, heap_put, heap_dropped, keyed, key_of, at_each, each_has}
+use Rattle.acd_statements.proofs.Frames.{drafted}
+use Rattle.acd_statements.proofs.KeyedRows.{id_tied}
+use Rattle.acd_statements.proofs.Puts.{truth_back}
+use Rattle.acd_statements.proofs.Scans.{showing, passing, filter_like, all_out}
+use Rattle.acd_statements.proofs.Statements.{Deletion, deletion_edit, deleted, Replaces, replaces, inert_works}
+use Rattle.acd_statements.proofs.Texts as text
+use Rattle.acd_statements.proofs.Upserts.{Upsertion, Way, put, changed, upserted}
+use Rattle.acd_statements.proofs.Writes.{run, inert, either, cast_id, cast_null, cast_maybe}
+
+-- ---- rows that are put beside others
+
+module _ (rows left : List Row) (records : List ConnectionRecord) (are : AreConnections rows records) (ordered : IsTable left) (id : ℤ) (r : ConnectionRecord)
+    (fresh : are_fresh left (connection_row id r ∷ []) ≡ true)
+    (left_only : (row : Row) → Has left row → Has rows row × ¬ HasKey r.call r.device row) (left_all : (row : Row) → Has rows row → ¬ HasKey r.call r.device row → Has left row) where
+  abbrev new : List Row
+  new = put_all left (connection_row id r ∷ [])
+
+  only : (row : Row) → Has (connection_row id r ∷ []) row ⊎ Has left row → (row ≡ connection_row id r) ⊎ (Has rows row × ¬ HasKey r.call r.device row)
+  only row (inl (inl e)) = inl e
+  only row (inl (inr none)) = absurd none
+  only row (inr there) = inr (left_only row there)
+
+  pub placed : AreConnections new (put_by (connection_order r) records r)
+  placed = heap_put rows new records are (IsTable-put_row (connection_row id r) left ordered) id r (put_all_adds (connection_row id r ∷ []) left (connection_row id r) fresh (inl refl))
+      (λ row was other. put_all_keeps (connection_row id r ∷ []) left row fresh (left_all row was other))
+      (λ row there. only row (put_all_has (connection_row id r ∷ []) left row there))
+
+-- ---- rows of one number
+
+abbrev later_row : Row → Row → Type 0
+later_row a b = value_cmp (rowid a) (rowid b) ≡ Less
+
+-- of rows whose numbers rise, two of one number are one
+same_row : (rows : List Row) (a b : Row) → IsTable rows → Has rows a → Has rows b → is_eq (value_cmp (rowid a) (rowid b)) ≡ true → a ≡ b
+same_row [] a b up h k e = absurd h
+same_row (r ∷ rows) a b up (inl p) (inl q) e = p ∙ sym q
+same_row (r ∷ rows) a b up (inl p) (inr k) e = absurd (let low : value_cmp (rowid a) (rowid b) ≡ Less = subst (λ x. value_cmp (rowid x) (rowid b) ≡ Less) (sym p) (at_each (later_row r) rows b up.0 k) in cc (ap is_eq low, e))
+same_row (r ∷ rows) a b up (inr h) (inl q) e = absurd (let low : value_cmp (rowid b) (rowid a) ≡ Less = subst (λ x. value_cmp (rowid x) (rowid a) ≡ Less) (sym q) (at_each (later_row r) rows a up.0 h) in cc (ap is_eq (value_cmp_total.antisymm (rowid a) (rowid b) ∙ ap ordering_reverse low), e))
+same_row (r ∷ rows) a b up (inr h) (inr k) e = same_row rows a b up.1 h k e
+
+own_number : (i : ℤ) → is_eq (value_cmp (Int i) (Int i)) ≡ true
+own_number i = is_eq_of (value_cmp (Int i) (Int i)) (tied_itself value_cmp_total (Int i))
+
+only_row : (rows : List Row) (w : Row) (i : ℤ) → IsTable rows → Has rows w → rowid w ≡ Int i → filter (has_rowid i) rows ≡ w ∷ []
+only_row [] w i up h e = absurd h
+only_row (r ∷ rows) w i up (inl p) e =
+    let own : rowid r ≡ Int i = ap rowid (sym p) ∙ e in
+    let here : has_rowid i r ≡ true = rw own (own_number i) in
+    let low : is_lt (value_cmp (rowid r) (Int i)) ≡ false = rw own (ap is_lt (tied_itself value_cmp_total (Int i))) in
+    rw (here, filter_none (has_rowid i) rows (later_rowids (Int i) r rows low up.0)) (ap (λ x. x ∷ []) (sym p))
+only_row (r ∷ rows) w i up (inr h) e =
+    let low : value_cmp (rowid r) (Int i) ≡ Less = subst (λ v. value_cmp (rowid r) v ≡ Less) e (at_each (later_row r) rows w up.0 h) in
+    rw (ap is_eq low) (only_row rows w i up.1 h e)
+
+-- ---- the columns of a connection
+
+cast_whole : (n : ℤ) → cast Integer (Int n) ≡ Int n
+unfolding unary
+cast_whole n = either _ (Int n)
+
+cast_values : (v : Value) (r : ConnectionRecord) → cast Integer v ≡ v → cast_row (table_of connections) (v ∷ connection_values r) ≡ v ∷ connection_values r
+cast_values v r e = rw (e, cast_id r.call, cast_id r.device, cast_id (connection_code r.state), cast_maybe (λ n. n) r.group, cast_maybe (λ n. n) r.place, cast_maybe (λ n. n) r.queued, cast_maybe (λ n. n) r.offered) refl
+
+two : (a b : Bool) → (is_true (from_truth (Some a)) && (is_true (from_truth (Some b)) && true)) ≡ (a && b)
+two true true = refl
+two true false = refl
+two false true = refl
+two false false = refl
+
+both_ids : (m n p q : ℕ) → (is_eq (value_cmp (id_value m) (id_value p)) && is_eq (value_cmp (id_value n) (id_value q))) ≡ ((m == p) && (n == q))
+both_ids m n p q = rw (id_tied m p, id_tied n q) refl
+
+or_nothing : (a : Bool) → (a || false) ≡ a
+or_nothing true = refl
+or_nothing false = refl
+
+conflict_is : (n i : ℤ) (r x : ConnectionRecord)
+    → conflicts (Some (1 ∷ 2 ∷ [])) book_schema.indexes (table_of connections) (connection_row n r) (connection_row i x) ≡ ((x.call == r.call) && (x.device == r.device))
+unfolding binary first_key value_cmp
+conflict_is n i r x = or_nothing _ ∙ two (is_eq (value_cmp (id_value x.call) (id_value r.call))) (is_eq (value_cmp (id_value x.device) (id_value r.device))) ∙ both_ids x.call x.device r.call r.device
+
+-- ---- a connection put
+
+connections_text : Upsertion book_schema text.put_connection
+unfolding understood everything
+connections_text = record {
+  at = 5;
+  layout = connections;
+  terms = lit Null ∷ run 0 7;
+  width = 8;
+  target = 1 ∷ 2 ∷ [];
+  tests = op2 (Compare Eq Binary) (col 1 0) (col 0 7) ∷ [];
+  project = col 1 0 ∷ col 1 0 ∷ col 1 1 ∷ col 1 2 ∷ run 11 5;
+  place = refl;
+  command = refl;
+  plain = (refl, refl);
+  inert = inert_works book_schema inert connections.tree;
+}
+
+abbrev tests : List Term
+tests = op2 (Compare Eq Binary) (col 1 0) (col 0 7) ∷ []
+
+abbrev project : List Term
+project = col 1 0 ∷ col 1 0 ∷ col 1 1 ∷ col 1 2 ∷ run 11 5
+
+-- what the change sees: the parameters, the number of the row that is there, and the new row
+abbrev given : ℤ → ℤ → ConnectionRecord → Row
+given n i r = connection_values r ++ Int i ∷ shown (table_of connections) (connection_row n r)
+
+test_is : (n i j : ℤ) (r z : ConnectionRecord) (y : Row) → y ≡ connection_row j z → list_all (holds (given n i r ∷ y ∷ [])) tests ≡ has_rowid i y
+unfolding binary
+test_is n i j r z y e = subst (λ k. list_all (holds (given n i r ∷ k ∷ [])) tests ≡ has_rowid i k) (sym e) (truth_back (is_eq (value_cmp (Int j) (Int i))))
+
+shows : (n i : ℤ) (r x : ConnectionRecord) → x.call ≡ r.call → x.device ≡ r.device → showing (given n i r) project (connection_row i x) ≡ Int i ∷ connection_row i r
+shows n i r x e f =
+    ap (λ k. Int i ∷ Int i ∷ id_value k ∷ id_value x.device ∷ drop 2 (connection_values r)) e
+    ∙ ap (λ k. Int i ∷ Int i ∷ id_value r.call ∷ id_value k ∷ drop 2 (connection_values r)) f
+
+abbrev put_edit : Trees → List Row → Edit
+put_edit db rows = edit_of db (table_of connections) (ids_of rows) Given 1 rows
+
+module _ (db : Trees) (records : List ConnectionRecord) (are : AreConnections (db connections.tree) records) (r : ConnectionRecord) where
+  changed_one : (i : ℤ) (x : ConnectionRecord) → Has (db connections.tree) (connection_row i x) → x.call ≡ r.call → x.device ≡ r.device
+      → are_fresh (left_by db (put_edit db ((Int i ∷ connection_row i r) ∷ []))) (put_edit db ((Int i ∷ connection_row i r) ∷ [])).news ≡ true
+      → AreConnections (edited db (put_edit db ((Int i ∷ connection_row i r) ∷ []))) (put_by (connection_order r) records r)
+  changed_one i x here e f fresh =
+      let rows = db connections.tree in
+      let casts = cast_values (Int i) r (cast_whole i) in
+      let left = without_rowid i rows in
+      subst (λ k. AreConnections (put_all left (k ∷ [])) (put_by (connection_order r) records r)) (sym casts)
+      (placed rows left records are (ascending-filter _ (λ y. not (has_rowid i y)) rows are.rising) i r (subst (λ k. are_fresh left (k ∷ []) ≡ true) casts fresh)
+      (λ row there.
+      let was = has_filtered (λ y. not (has_rowid i y)) rows row there in (
+        was.0,
+        λ key. let same = are.apart row (connection_row i x) was.0 here (key.call_is ∙ ap id_value (sym e)) (key.device_is ∙ ap id_value (sym f)) in
+            let met : has_rowid i row ≡ true = rw same (own_number i) in cc (ap not met, was.1),
+      ))
+      (λ row was other.
+      has_kept (λ y. not (has_rowid i y)) rows row was (ap not (false_from_ne_true (has_rowid i row) (λ met.
+      let same = same_row rows row (connection_row i x) are.rising was here met in
+      other (subst (HasKey r.call r.device) (sym same) (record { call_is = ap id_value e; device_is = ap id_value f })))))))
+
+  ways : (n : ℤ) (limit : Option ℕ) (edit : Edit) → Way book_schema connections limit (connection_values r) (1 ∷ 2 ∷ []) tests project db (connection_row n r) edit
+      → are_fresh (left_by db edit) edit.news ≡ true → AreConnections (edited db edit) (put_by (connection_order r) records r)
+  ways n limit edit (put none e) fresh =
+      let rows = db connections.tree in
+      let casts = cast_values (Int n) r (cast_whole n) in
+      let free = subst (λ k. are_fresh rows (k ∷ []) ≡ true) casts (subst (λ d. are_fresh (left_by db d) d.news ≡ true) e fresh) in
+      subst (λ d. AreConnections (edited db d) (put_by (connection_order r) records r)) (sym e)
+      (subst (λ k. AreConnections (put_all rows (k ∷ [])) (put_by (connection_order r) records r)) (sym casts)
+      (placed rows rows records are are.rising n r free
+      (λ row there. (
+        there,
+        λ key.
+            let known = are.known row there in
+            let same = key_of known.0 known.1 r.call r.device (subst (HasKey r.call r.device) known.2 key) in
+            none.complete row there (subst (λ k. conflicts (Some (1 ∷ 2 ∷ [])) book_schema.indexes (table_of connections) (connection_row n r) k ≡ true) (sym known.2)
+            (conflict_is n known.0 r known.1 ∙ is_of_self r.call r.device known.1 same.0 same.1)),
+      ))
+      (λ row there other. there)))
+  ways n limit edit (changed there more rows conflict found e) fresh =
+      let met = conflict.sound there (inl refl) in
+      let known = are.known met.0 met.1 in
+      let i = known.0 in
+      let x = known.1 in
+      let same = is_of_true r.call r.device x (sym (conflict_is n i r x) ∙ subst (λ k. conflicts (Some (1 ∷ 2 ∷ [])) book_schema.indexes (table_of connections) (connection_row n r) k ≡ true) known.2 met.2) in
+      let here = subst (Has (db connections.tree)) known.2 met.1 in
+      let number : rowid there ≡ Int i = ap rowid met.3 ∙ ap rowid known.2 in
+      let seen = subst (λ v. IsPermutation (map (showing (connection_values r ++ v ∷ shown (table_of connections) (connection_row n r)) project) (passing (connection_values r ++ v ∷ shown (table_of connections) (connection_row n r)) tests (db connections.tree))) rows) number found in
+      let one = filter_like _ (has_rowid i) (db connections.tree) (each_has _ (db connections.tree) (λ y h. let k = are.known y h in test_is n i k.0 r k.1 y k.2)) ∙ only_row (db connections.tree) (connection_row i x) i are.rising here refl in
+      let rows_are = one_permutation _ rows (subst (λ l. IsPermutation l rows) (ap (map (showing (given n i r) project)) one ∙ ap (λ k. k ∷ []) (shows n i r x same.0 same.1)) seen) in
+      let edit_is : edit ≡ put_edit db ((Int i ∷ connection_row i r) ∷ []) = e ∙ ap (put_edit db) rows_are in
+      subst (λ d. AreConnections (edited db d) (put_by (connection_order r) records r)) (sym edit_is)
+      (changed_one i x here same.0 same.1 (subst (λ d. are_fresh (left_by db d) d.news ≡ true) edit_is fresh))
+
+pub puts_connection : (r : ConnectionRecord) (c : Content) (old new : State) (count : ℕ) → Drafts old c → Executes text.put_connection (connection_values r) old new (Ok count)
+    → Drafts new (with_part table.Connections (put_by (at_connection r.call r.device) c.rows.connections r) c)
+unfolding connections_text
+puts_connection r c old new count d ran =
+    let db = old.now.trees in
+    let done = upserted book_schema text.put_connection connections_text (connection_values r) (Null ∷ connection_values r) old new count d.schema refl ran in
+    let own = ap (with_rowid Chosen (db connections.tree)) (cast_values Null r cast_null) in
+    let way = subst (λ k. Way book_schema connections old.step_limit (connection_values r) (1 ∷ 2 ∷ []) tests project db k done.0) own done.1 in
+    let are = ways db c.rows.connections (d.encodes table.Connections) r (next_rowid (db connections.tree)) old.step_limit done.0 way done.3.applies.fresh in
+    drafted table.Connections _ (edited db done.0) old new c are
+    (subst (λ (t : Table). Replaces book_schema t.tree (edited db done.0) old new) done.2 (replaces book_schema old new done.0 (edited db done.0) done.3 refl)) d
+
+-- ---- a connection taken out
+
+abbrev key_tests : List Term
+key_tests = op2 (Compare Eq Binary) (col 1 1) (col 0 0) ∷ op2 (Compare Eq Binary) (col 1 2) (col 0 1) ∷ []
+
+no_connection : Deletion book_schema text.drop_connection
+unfolding understood everything
+no_connection = record { at = 5; layout = connections; terms = key_tests; place = refl; command = refl; plain = (refl, refl); inert = inert_works book_schema inert connections.tree }
+
+abbrev passes : ℕ → ℕ → Row → Bool
+passes call device y = list_all (holds ((id_value call ∷ id_value device ∷ []) ∷ y ∷ [])) key_tests
+
+passes_is : (call device : ℕ) (j : ℤ) (z : ConnectionRecord) → passes call device (connection_row j z) ≡ ((z.call == call) && (z.device == device))
+unfolding binary
+passes_is call device j z = two (is_eq (value_cmp (id_value z.call) (id_value call))) (is_eq (value_cmp (id_value z.device) (id_value device))) ∙ both_ids z.call z.device call device
+
+any_mapped : {X Y : Type 0} (p : Y → Bool) (f : X → Y) (xs : List X) → list_any p (map f xs) ≡ list_any (λ x. p (f x)) xs
+any_mapped p f [] = refl
+any_mapped p f (x ∷ xs) = ap (λ b. p (f x) || b) (any_mapped p f xs)
+
+module _ (db : Trees) (records : List ConnectionRecord) (are : AreConnections (db connections.tree) records) (call device : ℕ) (found : List Row)
+    (same : IsPermutation (map (showing (id_value call ∷ id_value device ∷ []) (col 1 0 ∷ [])) (passing (id_value call ∷ id_value device ∷ []) key_tests (db connections.tree))) found) where
+  abbrev rows : List Row
+  rows = db connections.tree
+
+  abbrev hit : Row → Bool
+  hit y = list_any (λ id. has_rowid id y) (ids_of found)
+
+  -- a row whose number was found has the number of a row that passes
+  hit_is : (y : Row) → hit y ≡ list_any (λ w. has_rowid (id_in (rowid w)) y) (filter (passes call device) rows)
+  hit_is y =
+      sym (list_any-IsPermutation (λ id. has_rowid id y) _ (ids_of found) (IsPermutation-map (λ w. id_in (rowid w)) _ found same))
+      ∙ any_mapped (λ id. has_rowid id y) (λ w. id_in (rowid w)) (map (showing (id_value call ∷ id_value device ∷ []) (col 1 0 ∷ [])) (filter (passes call device) rows))
+      ∙ any_mapped (λ w. has_rowid (id_in (rowid w)) y) (showing (id_value call ∷ id_value device ∷ []) (col 1 0 ∷ [])) (filter (passes call device) rows)
+
+  left_out : (y : Row) → Has rows y → HasKey call device y → hit y ≡ true
+  left_out y h key =
+      let k = are.known y h in
+      let own = key_of k.0 k.1 call device (subst (HasKey call device) k.2 key) in
+      let pass : passes call device y ≡ true = subst (λ w. passes call device w ≡ true) (sym k.2) (passes_is call device k.0 k.1 ∙ is_of_self call device k.1 own.0 own.1) in
+      hit_is y ∙ some_from (λ w. has_rowid (id_in (rowid w)) y) (filter (passes call device) rows) y (has_kept (passes call device) rows y h pass)
+      (subst (λ w. has_rowid (id_in (rowid w)) w ≡ true) (sym k.2) (own_number k.0))
+
+  stays : (y : Row) → Has rows y → ¬ HasKey call device y → hit y ≡ false
+  stays y h other = false_from_ne_true (hit y) (λ met.
+      let w = some_has (λ w. has_rowid (id_in (rowid w)) y) (filter (passes call device) rows) (sym (hit_is y) ∙ met) in
+      let was = has_filtered (passes call device) rows w.0 w.1 in
+      let k = are.known w.0 was.0 in
+      let key = is_of_true call device k.1 (sym (passes_is call device k.0 k.1) ∙ subst (λ v. passes call device v ≡ true) k.2 was.1) in
+      let one = same_row rows y w.0 are.rising h was.0 (subst (λ v. is_eq (value_cmp (rowid y) (rowid v)) ≡ true) (sym k.2) (subst (λ v. has_rowid (id_in (rowid v)) y ≡ true) k.2 w.2)) in
+      other (subst (HasKey call device) (sym (one ∙ k.2)) (keyed k.0 k.1 call device key.0 key.1)))
+
+  pub taken : AreConnections (without_all rows (ids_of found)) (remove_by (at_connection call device) records)
+  taken = subst (λ l. AreConnections l (remove_by (at_connection call device) records)) (sym (all_out (ids_of found) rows))
+      (heap_dropped rows (filter (λ y. not (hit y)) rows) records are (ascending-filter _ (λ y. not (hit y)) rows are.rising) call device
+      (λ row was other. has_kept (λ y. not (hit y)) rows row was (ap not (stays row was other)))
+      (λ row there. let was = has_filtered (λ y. not (hit y)) rows row there in (was.0, λ key. let out = left_out row was.0 key in cc (ap not out, was.1))))
+
+pub drops_connection : (call device : ℕ) (c : Content) (old new : State) (count : ℕ) → Drafts old c → Executes text.drop_connection (id_value call ∷ id_value device ∷ []) old new (Ok count)
+    → Drafts new (with_part table.Connections (remove_by (at_connection call device) c.rows.connections) c)
+unfolding no_connection
+drops_connection call device c old new count d ran =
+    let db = old.now.trees in
+    let made = deleted book_schema text.drop_connection no_connection (id_value call ∷ id_value device ∷ []) old new count d.schema ran in
+    drafted table.Connections _ (without_all (db connections.tree) (ids_of made.rows)) old new c (taken db c.rows.connections (d.encodes table.Connections) call device made.rows made.found)
+    (replaces book_schema old new (deletion_edit no_connection made.rows db) _ made.changed refl) d

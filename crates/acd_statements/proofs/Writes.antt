@@ -1,0 +1,385 @@
+-- The statements that put records.
+use Rattle.std.proofs.Common.{◌≡◌, ℕ, zero, suc, ◌+◌, List, [], ◌∷◌, ◌==◌, ◌&&◌, Some, None, Option, Bool, true, false, cond, Ok, Err, Result, OnOk, refl, ◌∙◌, slice_get}
+use Rattle.sqlite_value.specs.declared.value.Value.{Value}
+use Rattle.sqlite_value.specs.declared.value.Value.TheVariants.{Null}
+use Rattle.sqlite_value.specs.declared.keys.Collation.TheVariants.{Binary}
+use Rattle.sqlite_value.specs.Order.{Row, value_cmp}
+use Rattle.std.specs.Prelude.{bytes_eq}
+use Rattle.std.specs.List.{AllByRecursion}
+use Rattle.std.specs.Ordering.{nat_cmp, is_eq}
+use Rattle.sqlite_sql.specs.Term.{Term, lit, col, op2}
+use Rattle.sqlite_sql.specs.Ops.{unary, binary, is_true, from_truth}
+use Rattle.sqlite_sql.specs.declared.ops.BinaryOp.TheVariants.{Compare}
+use Rattle.sqlite_sql.specs.declared.ops.CompareOp.TheVariants.{Eq}
+use Rattle.sqlite_schema.specs.declared.schema.Kind.TheVariants.{Integer}
+use Rattle.sqlite_schema.specs.declared.command.Conflict.TheVariants.{Abort}
+use Rattle.sqlite_schema.specs.declared.command.Source.TheVariants.{Values}
+use Rattle.sqlite_schema.specs.declared.command.Command.TheVariants.{Insert, InsertOr, Delete}
+use Rattle.sqlite_rules.specs.Cast.{cast, cast_row}
+use Rattle.sqlite.specs.declared.error.Error.{Error}
+use Rattle.sqlite.specs.Listing.{understood}
+use Rattle.sqlite.specs.State.{State, Executes}
+use Rattle.sqlite.specs.Values.{or_null}
+use Rattle.sqlite.proofs.Callers.{IsPlain, command_of}
+use Rattle.sqlite_tied.specs.Compute.{everything}
+use Rattle.acd_terms.specs.Lists.{put_by, remove_by}
+use Rattle.acd_terms.specs.Columns.{columns_of}
+use Rattle.acd_terms.specs.declared.event.Columns.{Columns}
+use Rattle.acd_terms.specs.declared.event.Event.{Event}
+use Rattle.acd_terms.specs.declared.record.GroupRecord.{GroupRecord}
+use Rattle.acd_terms.specs.declared.record.StationRecord.{StationRecord}
+use Rattle.acd_terms.specs.declared.record.AgentRecord.{AgentRecord}
+use Rattle.acd_terms.specs.declared.record.CallRecord.{CallRecord}
+use Rattle.acd_terms.specs.declared.record.MonitorRecord.{MonitorRecord}
+use Rattle.acd_model.specs.Scans.{at_group, at_station, at_agent, at_call, at_monitor}
+use Rattle.acd_laws.proofs.Lists.{every-put}
+use Rattle.acd_book.specs.declared.kept.Kept.{Kept}
+use Rattle.acd_statements.specs.declared.meta.Meta.{Meta}
+use Rattle.acd_book.specs.Content.{Content, empty_content}
+use Rattle.acd_statements.specs.declared.tables.Table.TheVariants as table
+use Rattle.acd_statements.specs.Schema.{Layout, table_of, book_schema}
+use Rattle.acd_statements.specs.Schema as schema
+use Rattle.acd_statements.specs.Rows.{id_value, agent_code, pending_code, kind_code, cause_code, meta_values, meta_row, group_values, group_row, station_values, station_row, agent_values, agent_row, call_values, call_row, monitor_values, monitor_row, report_values, event_values, event_row, kept_values, kept_row, keyed_row}
+use Rattle.acd_statements.specs.Content.{with_part, meta_of, AreRows, IsReadable}
+use Rattle.acd_statements.specs.Making.{Builds}
+use Rattle.acd_statements.specs.Draft.{Drafts, Ran}
+use Rattle.acd_statements.proofs.Texts as text
+use Rattle.acd_statements.proofs.Frames.{drafted, only_meta}
+use Rattle.acd_statements.proofs.Removals.{Removes, removed_row}
+use Rattle.acd_statements.proofs.Scans.{scan}
+use Rattle.acd_statements.proofs.KeyedRows.{id_tied}
+use Rattle.acd_statements.proofs.Puts.{Inserts, Upserts, truth_back, inserted_row, upserted_row}
+use Rattle.acd_statements.proofs.Statements.{Deletion, Insertion, IsInert, inert_works}
+use Rattle.acd_statements.proofs.Upserts.{Upsertion, clause_of}
+
+-- ---- what the texts of a put say, for a table of so many columns whose first is its key
+
+abbrev pub run : ℕ → ℕ → List Term
+run start zero = []
+run start (suc more) = col 0 start ∷ run (start + 1) more
+
+-- the parameters, and NULL in the column that is the number of the row
+abbrev sources : ℕ → List Term
+sources width = col 0 0 ∷ lit Null ∷ run 1 width
+
+-- the row that has the number, which stands behind the parameters
+abbrev by_number : ℕ → List Term
+by_number width = op2 (Compare Eq Binary) (col 1 0) (col 0 (width + 1)) ∷ []
+
+-- its number and key, and the columns of the new row
+abbrev changes : ℕ → List Term
+changes width = col 1 0 ∷ col 1 0 ∷ lit Null ∷ run (width + 4) width
+
+pub inert : IsInert book_schema
+inert = (tt, (tt, (tt, (((refl, refl), ((refl, refl), tt)), (tt, (((refl, refl), ((refl, refl), tt)), (tt, (tt, (tt, tt)))))))))
+
+-- `width` columns behind the key
+abbrev upsertion : (text : List ℕ) (at width : ℕ) (layout : Layout) → slice_get book_schema.tables at ≡ Some (table_of layout)
+    → command_of (understood book_schema text) ≡ InsertOr at Abort (Values (sources width) (width + 2)) (clause_of (0 ∷ []) layout.tree (by_number width) (changes width) ∷ [])
+    → IsPlain (understood book_schema text) → Upsertion book_schema text
+upsertion text at width layout place command plain = record {
+  at = at;
+  layout = layout;
+  terms = sources width;
+  width = width + 2;
+  target = 0 ∷ [];
+  tests = by_number width;
+  project = changes width;
+  place = place;
+  command = command;
+  plain = plain;
+  inert = inert_works book_schema inert layout.tree;
+}
+
+abbrev insertion : (text : List ℕ) (at width : ℕ) (layout : Layout) → slice_get book_schema.tables at ≡ Some (table_of layout)
+    → command_of (understood book_schema text) ≡ Insert at (Values (sources width) (width + 2)) → IsPlain (understood book_schema text) → Insertion book_schema text
+insertion text at width layout place command plain =
+    record { at = at; layout = layout; terms = sources width; width = width + 2; place = place; command = command; plain = plain; inert = inert_works book_schema inert layout.tree }
+
+-- no index is on the number of a row alone
+no_index : AllByRecursion (λ i. bytes_eq (0 ∷ []) i.columns ≡ false) book_schema.indexes
+no_index = (refl, (refl, (refl, tt)))
+
+by_id : (m n : ℕ) → (is_true (from_truth (Some (is_eq (value_cmp (id_value m) (id_value n))))) && true) ≡ (m == n)
+by_id m n = truth_back (is_eq (value_cmp (id_value m) (id_value n))) ∙ id_tied m n
+
+-- ---- columns take the values as they are
+
+pub either : (b : Bool) (x : Value) → cond b x x ≡ x
+either true x = refl
+either false x = refl
+
+pub cast_id : (n : ℕ) → cast Integer (id_value n) ≡ id_value n
+unfolding unary
+cast_id n = either _ (id_value n)
+
+pub cast_null : cast Integer Null ≡ Null
+unfolding unary
+cast_null = either _ Null
+
+pub cast_maybe : {X : Type 0} (f : X → ℕ) (o : Option X) → cast Integer (or_null (λ x. id_value (f x)) o) ≡ or_null (λ x. id_value (f x)) o
+cast_maybe f None = cast_null
+cast_maybe f (Some x) = cast_id (f x)
+
+-- ---- inside a transaction
+
+pub drafts : (sql : List ℕ) (params : Row) (change : Content → Content) (old new : State) (r : Result (Unit {0}) Error)
+    → ((c : Content) (count : ℕ) → Drafts old c → Executes sql params old new (Ok count) → Drafts new (change c))
+    → OnOk r (Ran sql params old new) → OnOk r ((c : Content) → Drafts old c → Drafts new (change c))
+drafts sql params change old new (Err e) law ran = tt
+drafts sql params change old new (Ok x) law ran = λ (c : Content) (d : Drafts old c). law c ran.0 d ran.1
+
+-- ---- groups
+
+groups_text : Upsertion book_schema text.put_group
+unfolding understood everything
+groups_text = upsertion text.put_group 1 8 schema.groups refl refl (refl, refl)
+
+groups_put : Upserts book_schema text.put_group (λ (g : GroupRecord). g.device) group_row group_values
+unfolding groups_text binary
+groups_put = record {
+  it = groups_text;
+  files = record {
+    headed = λ g. refl;
+    casts = λ g. rw (cast_id g.device, cast_null, cast_id g.ring, cast_id g.wrap, cast_id g.figures.entered, cast_id g.figures.answered, cast_id g.figures.abandoned, cast_id g.figures.moved, cast_id g.figures.waited) refl;
+  };
+  source = λ g. refl;
+  by_number = refl;
+  no_index = no_index;
+  finds = λ new g n. by_id g.device n;
+  shows = λ new g n. refl;
+}
+
+pub puts_group : (g : GroupRecord) (c : Content) (old new : State) (count : ℕ) → Drafts old c → Executes text.put_group (group_values g) old new (Ok count)
+    → Drafts new (with_part table.Groups (put_by (at_group g.device) c.rows.groups g) c)
+unfolding groups_put groups_text
+puts_group g c old new count d ran =
+    let made = upserted_row book_schema text.put_group (λ (g : GroupRecord). g.device) group_row group_values groups_put g c.rows.groups old new count d.schema (d.encodes table.Groups) ran in
+    drafted table.Groups _ _ old new c made.are_rows made.replaces d
+
+-- ---- agents
+
+agents_text : Upsertion book_schema text.put_agent
+unfolding understood everything
+agents_text = upsertion text.put_agent 3 7 schema.agents refl refl (refl, refl)
+
+agents_put : Upserts book_schema text.put_agent (λ (a : AgentRecord). a.agent) agent_row agent_values
+unfolding agents_text binary
+agents_put = record {
+  it = agents_text;
+  files = record {
+    headed = λ a. refl;
+    casts = λ a. rw (cast_id a.agent, cast_null, cast_id (agent_code a.state), cast_maybe pending_code a.pending, cast_maybe (λ n. n) a.station, cast_maybe (λ n. n) a.group, cast_id a.stamp, cast_id a.since) refl;
+  };
+  source = λ a. refl;
+  by_number = refl;
+  no_index = no_index;
+  finds = λ new a n. by_id a.agent n;
+  shows = λ new a n. refl;
+}
+
+pub puts_agent : (a : AgentRecord) (c : Content) (old new : State) (count : ℕ) → Drafts old c → Executes text.put_agent (agent_values a) old new (Ok count)
+    → Drafts new (with_part table.Agents (put_by (at_agent a.agent) c.rows.agents a) c)
+unfolding agents_put agents_text
+puts_agent a c old new count d ran =
+    let made = upserted_row book_schema text.put_agent (λ (a : AgentRecord). a.agent) agent_row agent_values agents_put a c.rows.agents old new count d.schema (d.encodes table.Agents) ran in
+    drafted table.Agents _ _ old new c made.are_rows made.replaces d
+
+-- ---- calls
+
+calls_text : Upsertion book_schema text.put_call
+unfolding understood everything
+calls_text = upsertion text.put_call 4 3 schema.calls refl refl (refl, refl)
+
+calls_put : Upserts book_schema text.put_call (λ (k : CallRecord). k.call) call_row call_values
+unfolding calls_text binary
+calls_put = record {
+  it = calls_text;
+  files = record { headed = λ k. refl; casts = λ k. rw (cast_id k.call, cast_null, cast_id k.caller, cast_id k.called, cast_id k.since) refl };
+  source = λ k. refl;
+  by_number = refl;
+  no_index = no_index;
+  finds = λ new k n. by_id k.call n;
+  shows = λ new k n. refl;
+}
+
+pub puts_call : (k : CallRecord) (c : Content) (old new : State) (count : ℕ) → Drafts old c → Executes text.put_call (call_values k) old new (Ok count)
+    → Drafts new (with_part table.Calls (put_by (at_call k.call) c.rows.calls k) c)
+unfolding calls_put calls_text
+puts_call k c old new count d ran =
+    let made = upserted_row book_schema text.put_call (λ (k : CallRecord). k.call) call_row call_values calls_put k c.rows.calls old new count d.schema (d.encodes table.Calls) ran in
+    drafted table.Calls _ _ old new c made.are_rows made.replaces d
+
+-- ---- monitors
+
+monitors_text : Upsertion book_schema text.put_monitor
+unfolding understood everything
+monitors_text = upsertion text.put_monitor 6 2 schema.monitors refl refl (refl, refl)
+
+monitors_put : Upserts book_schema text.put_monitor (λ (w : MonitorRecord). w.monitor) monitor_row monitor_values
+unfolding monitors_text binary
+monitors_put = record {
+  it = monitors_text;
+  files = record { headed = λ w. refl; casts = λ w. rw (cast_id w.monitor, cast_null, cast_id w.device, cast_id w.after_event) refl };
+  source = λ w. refl;
+  by_number = refl;
+  no_index = no_index;
+  finds = λ new w n. by_id w.monitor n;
+  shows = λ new w n. refl;
+}
+
+pub puts_monitor : (w : MonitorRecord) (c : Content) (old new : State) (count : ℕ) → Drafts old c → Executes text.put_monitor (monitor_values w) old new (Ok count)
+    → Drafts new (with_part table.Monitors (put_by (at_monitor w.monitor) c.rows.monitors w) c)
+unfolding monitors_put monitors_text
+puts_monitor w c old new count d ran =
+    let made = upserted_row book_schema text.put_monitor (λ (w : MonitorRecord). w.monitor) monitor_row monitor_values monitors_put w c.rows.monitors old new count d.schema (d.encodes table.Monitors) ran in
+    drafted table.Monitors _ _ old new c made.are_rows made.replaces d
+
+-- ---- stations, events and kept records, which are never put again
+
+stations_text : Insertion book_schema text.put_station
+unfolding understood everything
+stations_text = insertion text.put_station 2 0 schema.stations refl refl (refl, refl)
+
+stations_put : Inserts book_schema text.put_station (λ (s : StationRecord). s.device) station_row station_values
+unfolding stations_text
+stations_put = record { it = stations_text; files = record { headed = λ s. refl; casts = λ s. rw (cast_id s.device, cast_null) refl }; source = λ s. refl }
+
+pub puts_station : (s : StationRecord) (c : Content) (old new : State) (count : ℕ) → Drafts old c → Executes text.put_station (station_values s) old new (Ok count)
+    → Drafts new (with_part table.Stations (put_by (at_station s.device) c.rows.stations s) c)
+unfolding stations_put stations_text
+puts_station s c old new count d ran =
+    let made = inserted_row book_schema text.put_station (λ (s : StationRecord). s.device) station_row station_values stations_put s c.rows.stations old new count d.schema (d.encodes table.Stations) ran in
+    drafted table.Stations _ _ old new c made.are_rows made.replaces d
+
+events_text : Insertion book_schema text.put_event
+unfolding understood everything
+events_text = insertion text.put_event 7 9 schema.events refl refl (refl, refl)
+
+event_casts : (n m : ℕ) (k : Columns) → cast_row (table_of schema.events) (keyed_row (id_value n ∷ id_value m ∷ report_values k)) ≡ keyed_row (id_value n ∷ id_value m ∷ report_values k)
+event_casts n m k = rw (cast_id n, cast_null, cast_id m, cast_id (kind_code k.kind), cast_maybe (λ x. x) k.device, cast_maybe (λ x. x) k.call, cast_maybe (λ x. x) k.agent, cast_maybe (λ x. x) k.group, cast_maybe (λ x. x) k.to, cast_maybe cause_code k.cause, cast_maybe (λ x. x) k.waited) refl
+
+events_put : Inserts book_schema text.put_event (λ (e : Event). e.number) event_row event_values
+unfolding events_text
+events_put = record { it = events_text; files = record { headed = λ e. refl; casts = λ e. event_casts e.number e.moment (columns_of e.report) }; source = λ e. refl }
+
+pub puts_event : (e : Event) (c : Content) (old new : State) (count : ℕ) → Drafts old c → Executes text.put_event (event_values e) old new (Ok count)
+    → Drafts new (with_part table.Events (put_by (λ (x : Event). nat_cmp e.number x.number) c.events e) c)
+unfolding events_put events_text
+puts_event e c old new count d ran =
+    let made = inserted_row book_schema text.put_event (λ (e : Event). e.number) event_row event_values events_put e c.events old new count d.schema (d.encodes table.Events) ran in
+    drafted table.Events _ _ old new c made.are_rows made.replaces d
+
+kept_text : Insertion book_schema text.put_kept
+unfolding understood everything
+kept_text = insertion text.put_kept 8 6 schema.kept refl refl (refl, refl)
+
+kept_put : Inserts book_schema text.put_kept (λ (k : Kept). k.stamp) kept_row kept_values
+unfolding kept_text
+kept_put = record {
+  it = kept_text;
+  files = record { headed = λ k. refl; casts = λ k. rw (cast_id k.stamp, cast_null, cast_id k.request.invoke, cast_id k.moment, cast_id k.status) refl };
+  source = λ k. refl;
+}
+
+pub puts_kept : (k : Kept) → IsReadable k → (c : Content) (old new : State) (count : ℕ) → Drafts old c → Executes text.put_kept (kept_values k) old new (Ok count)
+    → Drafts new (with_part table.Kept (put_by (λ (x : Kept). nat_cmp k.stamp x.stamp) c.kept k) c)
+unfolding kept_put kept_text
+puts_kept k readable c old new count d ran =
+    let was = d.encodes table.Kept in
+    let made = inserted_row book_schema text.put_kept (λ (k : Kept). k.stamp) kept_row kept_values kept_put k c.kept old new count d.schema was.0 ran in
+    drafted table.Kept _ _ old new c (made.are_rows, every-put (λ (x : Kept). nat_cmp k.stamp x.stamp) IsReadable k readable c.kept was.1) made.replaces d
+
+-- ---- the limits and the counters
+
+meta_text : Upsertion book_schema text.put_meta
+unfolding understood everything
+meta_text = upsertion text.put_meta 0 12 schema.meta refl refl (refl, refl)
+
+meta_put : Upserts book_schema text.put_meta (λ (m : Meta). 1) meta_row meta_values
+unfolding meta_text binary
+meta_put = record {
+  it = meta_text;
+  files = record {
+    headed = λ m. refl;
+    casts = λ m. rw (
+      cast_id 1,
+      cast_null,
+      cast_id m.limits.requests,
+      cast_id m.limits.calls,
+      cast_id m.limits.groups,
+      cast_id m.limits.stations,
+      cast_id m.limits.agents,
+      cast_id m.limits.monitors,
+      cast_id m.last_stamp,
+      cast_id m.last_moment,
+      cast_id m.last_call,
+      cast_id m.last_monitor,
+      cast_id m.last_event,
+    ) refl;
+  };
+  source = λ m. refl;
+  by_number = refl;
+  no_index = no_index;
+  finds = λ new m n. by_id 1 n;
+  shows = λ new m n. refl;
+}
+
+pub puts_meta : (m : Meta) (c : Content) (old new : State) (count : ℕ) → Drafts old c → Executes text.put_meta (meta_values m) old new (Ok count) → Drafts new (with_part table.Meta m c)
+unfolding meta_put meta_text
+puts_meta m c old new count d ran =
+    let was : AreRows (λ (m : Meta). 1) meta_row (old.now.trees schema.meta.tree) (meta_of c.rows ∷ []) = record { rows_are = d.encodes table.Meta; ascending = (tt, tt) } in
+    let made = upserted_row book_schema text.put_meta (λ (m : Meta). 1) meta_row meta_values meta_put m (meta_of c.rows ∷ []) old new count d.schema was ran in
+    drafted table.Meta _ _ old new c refl made.replaces d
+
+-- ---- records taken out
+
+-- of a text with the key as its parameter
+abbrev deletion : (text : List ℕ) (at : ℕ) (layout : Layout) → slice_get book_schema.tables at ≡ Some (table_of layout)
+    → command_of (understood book_schema text) ≡ Delete at (record { lets = []; body = scan layout.tree (op2 (Compare Eq Binary) (col 1 0) (col 0 0) ∷ []) (col 1 0 ∷ []) [] })
+    → IsPlain (understood book_schema text) → Deletion book_schema text
+deletion text at layout place command plain =
+    record { at = at; layout = layout; terms = op2 (Compare Eq Binary) (col 1 0) (col 0 0) ∷ []; place = place; command = command; plain = plain; inert = inert_works book_schema inert layout.tree }
+
+no_call : Deletion book_schema text.drop_call
+unfolding understood everything
+no_call = deletion text.drop_call 4 schema.calls refl refl (refl, refl)
+
+call_drop : Removes book_schema text.drop_call (λ (k : CallRecord). k.call) call_row
+unfolding no_call calls_put calls_text binary
+call_drop = record { it = no_call; files = calls_put.files; finds = λ k n. by_id k.call n }
+
+pub drops_call : (n : ℕ) (c : Content) (old new : State) (count : ℕ) → Drafts old c → Executes text.drop_call (id_value n ∷ []) old new (Ok count)
+    → Drafts new (with_part table.Calls (remove_by (at_call n) c.rows.calls) c)
+unfolding call_drop no_call
+drops_call n c old new count d ran =
+    let made = removed_row book_schema text.drop_call (λ (k : CallRecord). k.call) call_row call_drop n c.rows.calls old new count d.schema (d.encodes table.Calls) ran in
+    drafted table.Calls _ _ old new c made.are_rows made.replaces d
+
+no_monitor : Deletion book_schema text.drop_monitor
+unfolding understood everything
+no_monitor = deletion text.drop_monitor 6 schema.monitors refl refl (refl, refl)
+
+monitor_drop : Removes book_schema text.drop_monitor (λ (w : MonitorRecord). w.monitor) monitor_row
+unfolding no_monitor monitors_put monitors_text binary
+monitor_drop = record { it = no_monitor; files = monitors_put.files; finds = λ w n. by_id w.monitor n }
+
+pub drops_monitor : (n : ℕ) (c : Content) (old new : State) (count : ℕ) → Drafts old c → Executes text.drop_monitor (id_value n ∷ []) old new (Ok count)
+    → Drafts new (with_part table.Monitors (remove_by (at_monitor n) c.rows.monitors) c)
+unfolding monitor_drop no_monitor
+drops_monitor n c old new count d ran =
+    let made = removed_row book_schema text.drop_monitor (λ (w : MonitorRecord). w.monitor) monitor_row monitor_drop n c.rows.monitors old new count d.schema (d.encodes table.Monitors) ran in
+    drafted table.Monitors _ _ old new c made.are_rows made.replaces d
+
+-- ---- the first row of a new book
+
+pub starts_meta : (m : Meta) (old new : State) (count : ℕ) → Builds old book_schema → Executes text.put_meta (meta_values m) old new (Ok count) → Drafts new (with_part table.Meta m (empty_content m.limits))
+unfolding meta_put meta_text
+starts_meta m old new count b ran =
+    let none : AreRows (λ (m : Meta). 1) meta_row (old.now.trees schema.meta.tree) [] = record { rows_are = b.empty.0; ascending = tt } in
+    let made = (upserted_row book_schema text.put_meta (λ (m : Meta). 1) meta_row meta_values meta_put m [] old new count b.schema_is none ran).replaces in
+    record { inside = made.mode ∙ b.inside; schema = made.schema_is; encodes = only_meta m old.now.trees new.now.trees b.empty made.rows_are made.others }
+
+pub starts : (m : Meta) (old new : State) (r : Result (Unit {0}) Error) → OnOk r (Ran text.put_meta (meta_values m) old new) → OnOk r (Builds old book_schema → Drafts new (with_part table.Meta m (empty_content m.limits)))
+starts m old new (Err e) ran = tt
+starts m old new (Ok x) ran = λ (b : Builds old book_schema). starts_meta m old new ran.0 b ran.1

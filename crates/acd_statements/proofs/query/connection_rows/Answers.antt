@@ -1,0 +1,16 @@
+use Rattle.sqlite.specs.Held.{state}
+use Rattle.acd_statements.proofs.Listings.{finds}
+use Rattle.acd_statements.proofs.ConnectionRows.{connections_plain, shows_connections}
+use Rattle.acd_statements.specs.declared.tables.Table.TheVariants as table
+use Rattle.acd_statements.proofs.ConnectionRows.{connections_listing}
+use Rattle.acd_statements.proofs.Looked.{asks_connections, plain_of, sees_all}
+use Rattle.acd_statements.proofs.QueryTexts.{read_connections}
+use Rattle.acd_statements.proofs.query.connection_rows.Goals as goal
+
+pub returns-clause-found : goal.returns-clause-found
+returns-clause-found g c =
+    let e = c.read.ensures in
+    finds _ _ (state g.S.Store c.args.conn.now) (state g.S.Store c.read.new.conn) c.read.result connections_plain _ e.up e.quiet e.stops e.shown (shows_connections _ _)
+
+pub returns-clause-seen : goal.returns-clause-seen
+returns-clause-seen g c d is = sees_all d (state g.S.Store c.args.conn.now) (state g.S.Store c.read.new.conn) c.read.result is table.Connections read_connections connections_listing asks_connections (c.read.ensures.seen d (plain_of read_connections d is connections_plain))

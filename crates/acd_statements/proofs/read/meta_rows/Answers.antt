@@ -1,0 +1,17 @@
+use Rattle.sqlite.specs.Held.{state}
+use Rattle.acd_statements.proofs.Selections.{meta_plain, reads_meta_if}
+use Rattle.acd_statements.proofs.Looked.{plain_of, sees_meta}
+use Rattle.acd_statements.proofs.Texts.{read_meta}
+use Rattle.acd_statements.proofs.read.meta_rows.Goals as goal
+
+pub returns-clause-quiet : goal.returns-clause-quiet
+returns-clause-quiet g c = c.read.ensures.quiet meta_plain
+
+pub returns-clause-stops : goal.returns-clause-stops
+returns-clause-stops g c clean x held = c.read.ensures.stops clean meta_plain x held
+
+pub returns-clause-rows : goal.returns-clause-rows
+returns-clause-rows g c clean = reads_meta_if (state g.S.Store c.args.conn.now) (state g.S.Store c.read.new.conn) c.read.result (c.read.ensures.shown clean)
+
+pub returns-clause-seen : goal.returns-clause-seen
+returns-clause-seen g c d is = sees_meta d (state g.S.Store c.args.conn.now) (state g.S.Store c.read.new.conn) c.read.result is (c.read.ensures.seen d (plain_of read_meta d is meta_plain))

@@ -1,0 +1,20 @@
+use Rattle.std.proofs.Common.{ap}
+use Rattle.sqlite.specs.Held.{state}
+use Rattle.sqlite.specs.Values.{bound}
+use Rattle.acd_statements.proofs.Statements.{ran_inside, works_inside}
+use Rattle.acd_statements.proofs.write.write.Goals as goal
+
+pub returns-clause-ran : goal.returns-clause-ran
+returns-clause-ran g c clean =
+    ran_inside c.args.sql.now (bound c.args.params.now) (state g.S.Store c.args.tx.now.conn.now) (state g.S.Store c.execute.new.self.conn.now) _ c.in_ok-execute.field-0
+    (λ out. (c.in_ok-execute.ensures.ended out).0) (λ inside. c.in_ok-execute.ensures.runs clean inside)
+
+pub returns-clause-works : goal.returns-clause-works
+returns-clause-works g c =
+    works_inside c.args.sql.now (bound c.args.params.now) (state g.S.Store c.args.tx.now.conn.now) (state g.S.Store c.execute.new.self.conn.now) c.execute.result
+    c.execute.ensures.survives (λ clean inside. c.execute.ensures.runs clean inside) (λ out. ap (state g.S.Store) (c.execute.ensures.ended out).1)
+
+pub returns-in_err-execute-clause-works : goal.returns-in_err-execute-clause-works
+returns-in_err-execute-clause-works g c =
+    works_inside c.args.sql.now (bound c.args.params.now) (state g.S.Store c.args.tx.now.conn.now) (state g.S.Store c.execute.new.self.conn.now) c.execute.result
+    c.execute.ensures.survives (λ clean inside. c.execute.ensures.runs clean inside) (λ out. ap (state g.S.Store) (c.execute.ensures.ended out).1)

@@ -1,0 +1,80 @@
+//! The queries by which a connection is looked at before it is taken for a book.
+
+ghost use Rattle.std.specs.Prelude.{◌≡◌, ◌∷◌, [], false, map, codes, IsPermutation};
+ghost use Rattle.std.specs.Str.{bytes_eq};
+ghost use Rattle.sqlite_value.specs.Order.{column};
+ghost use Rattle.sqlite.specs.Effect.{Database};
+ghost use Rattle.sqlite.specs.Held.{state};
+ghost use Rattle.acd_statements.specs.declared.tables.Log.TheVariants as log;
+ghost use Rattle.acd_statements.specs.declared.tables.Table.TheVariants as table;
+ghost use Rattle.acd_statements.specs.Lying.{has_meta, lying, BeginsAsBook, TellsLow};
+ghost use Rattle.acd_statements.specs.Content.{tree_of};
+ghost use Rattle.acd_statements.specs.Schema.{book_schema};
+ghost use Rattle.acd_statements.specs.Seeing.{Sees};
+
+use crate::read::{meta_rows, read};
+use sqlite::{Alter, Connection, Error, Row};
+use sqlite_schema::schema::{Schema, Table};
+
+fn is_meta(table: &Table) -> bool
+    ensures { result ≡ bytes_eq table.now.name (codes "meta") }
+{
+    table.name.as_slice() == b"meta".as_slice()
+}
+
+/// Whether there is a table of the limits and the counters.
+pub fn has_meta(schema: &Schema) -> bool
+    ensures { result ≡ has_meta schema.now.tables }
+{
+    let tables = schema.tables.as_slice();
+    for table in tables {
+        if is_meta(table) {
+            return true;
+        }
+    }
+    false
+}
+
+/// The versions that the table tells.
+pub fn version_rows<S: Alter>(conn: &mut Connection<S>) -> Result<Vec<Row>, Error>
+    requires { conn.old.in_transaction ≡ false }
+    ensures idle { conn.new.in_transaction ≡ false }
+    ensures seen { (d : Database) → BeginsAsBook d.schema → Sees d (state S.Store conn.old) (state S.Store conn.new) result (λ rows. IsPermutation (map (λ r. column r 2 ∷ []) (d.trees (tree_of table.Meta))) rows.items) }
+{
+    read(conn, "SELECT version FROM meta", &[])
+}
+
+/// The row of the limits and the counters.
+pub(crate) fn counter_rows<S: Alter>(conn: &mut Connection<S>) -> Result<Vec<Row>, Error>
+    requires { conn.old.in_transaction ≡ false }
+    ensures idle { conn.new.in_transaction ≡ false }
+    ensures seen { (d : Database) → d.schema ≡ book_schema → Sees d (state S.Store conn.old) (state S.Store conn.new) result (λ rows. IsPermutation (lying table.Meta d.trees) rows.items) }
+{
+    meta_rows(conn)
+}
+
+/// An event whose number is below 1.
+pub(crate) fn low_event_rows<S: Alter>(conn: &mut Connection<S>) -> Result<Vec<Row>, Error>
+    requires { conn.old.in_transaction ≡ false }
+    ensures idle { conn.new.in_transaction ≡ false }
+    ensures seen { (d : Database) → d.schema ≡ book_schema → Sees d (state S.Store conn.old) (state S.Store conn.new) result (λ rows. TellsLow log.Events d.trees rows.items) }
+{
+    read(
+        conn,
+        "SELECT number FROM events WHERE number < 1 ORDER BY number LIMIT 1",
+        &[],
+    )
+}
+
+/// A kept record whose stamp is below 1.
+pub(crate) fn low_kept_rows<S: Alter>(conn: &mut Connection<S>) -> Result<Vec<Row>, Error>
+    requires { conn.old.in_transaction ≡ false }
+    ensures idle { conn.new.in_transaction ≡ false }
+    ensures seen { (d : Database) → d.schema ≡ book_schema → Sees d (state S.Store conn.old) (state S.Store conn.new) result (λ rows. TellsLow log.Kept d.trees rows.items) }
+{
+    read(
+        conn,
+        "SELECT stamp FROM kept WHERE stamp < 1 ORDER BY stamp LIMIT 1",
+        &[],
+    )
+}

@@ -1,0 +1,192 @@
+//! The queries between transactions, one a function: rows of one table, in the order of its key.
+
+ghost use Rattle.std.specs.Prelude.{◌≡◌, Some, false, map, take, filter, option_to_list, IsPermutation};
+ghost use Rattle.sqlite.specs.Effect.{Database};
+ghost use Rattle.sqlite.specs.Held.{state};
+ghost use Rattle.acd_model.specs.Scans.{monitor_of};
+ghost use Rattle.acd_book.specs.Content.{events_behind, is_told, kept_of};
+ghost use Rattle.acd_statements.specs.Rows.{group_values, station_values, agent_values, call_values, connection_values, monitor_values, event_values, kept_values};
+ghost use Rattle.acd_statements.specs.declared.tables.Log.TheVariants as log;
+ghost use Rattle.acd_statements.specs.declared.tables.Table.TheVariants as table;
+ghost use Rattle.acd_statements.specs.Lying.{lying, IsPageRows};
+ghost use Rattle.acd_statements.specs.Draft.{Fits};
+ghost use Rattle.acd_statements.specs.Finding.{Finds, kept_behind};
+ghost use Rattle.acd_statements.specs.Schema.{book_schema};
+ghost use Rattle.acd_statements.specs.Seeing.{Sees};
+
+use crate::bind;
+use crate::read::read;
+use acd_terms::{DeviceId, Invoke, Requester};
+use sqlite::{Alter, Connection, Error, Row};
+
+pub fn group_rows<S: Alter>(conn: &mut Connection<S>) -> Result<Vec<Row>, Error>
+    requires { conn.old.in_transaction ≡ false }
+    ensures idle { conn.new.in_transaction ≡ false }
+    ensures found { Finds (state S.Store conn.old) (state S.Store conn.new) result (λ c rows. rows.items ≡ map group_values c.rows.groups) }
+    ensures seen { (d : Database) → d.schema ≡ book_schema → Sees d (state S.Store conn.old) (state S.Store conn.new) result (λ rows. IsPermutation (lying table.Groups d.trees) rows.items) }
+{
+    read(
+        conn,
+        "SELECT device, name, ring, wrap, entered, answered, abandoned, moved, waited FROM acd_groups ORDER BY device",
+        &[],
+    )
+}
+
+pub fn station_rows<S: Alter>(conn: &mut Connection<S>) -> Result<Vec<Row>, Error>
+    requires { conn.old.in_transaction ≡ false }
+    ensures idle { conn.new.in_transaction ≡ false }
+    ensures found { Finds (state S.Store conn.old) (state S.Store conn.new) result (λ c rows. rows.items ≡ map station_values c.rows.stations) }
+    ensures seen { (d : Database) → d.schema ≡ book_schema → Sees d (state S.Store conn.old) (state S.Store conn.new) result (λ rows. IsPermutation (lying table.Stations d.trees) rows.items) }
+{
+    read(conn, "SELECT device FROM stations ORDER BY device", &[])
+}
+
+pub fn agent_rows<S: Alter>(conn: &mut Connection<S>) -> Result<Vec<Row>, Error>
+    requires { conn.old.in_transaction ≡ false }
+    ensures idle { conn.new.in_transaction ≡ false }
+    ensures found { Finds (state S.Store conn.old) (state S.Store conn.new) result (λ c rows. rows.items ≡ map agent_values c.rows.agents) }
+    ensures seen { (d : Database) → d.schema ≡ book_schema → Sees d (state S.Store conn.old) (state S.Store conn.new) result (λ rows. IsPermutation (lying table.Agents d.trees) rows.items) }
+{
+    read(
+        conn,
+        "SELECT agent, name, state, pending, station, grp, stamp, since FROM agents ORDER BY agent",
+        &[],
+    )
+}
+
+pub fn call_rows<S: Alter>(conn: &mut Connection<S>) -> Result<Vec<Row>, Error>
+    requires { conn.old.in_transaction ≡ false }
+    ensures idle { conn.new.in_transaction ≡ false }
+    ensures found { Finds (state S.Store conn.old) (state S.Store conn.new) result (λ c rows. rows.items ≡ map call_values c.rows.calls) }
+    ensures seen { (d : Database) → d.schema ≡ book_schema → Sees d (state S.Store conn.old) (state S.Store conn.new) result (λ rows. IsPermutation (lying table.Calls d.trees) rows.items) }
+{
+    read(
+        conn,
+        "SELECT call, caller, called, since FROM calls ORDER BY call",
+        &[],
+    )
+}
+
+pub fn monitor_rows<S: Alter>(conn: &mut Connection<S>) -> Result<Vec<Row>, Error>
+    requires { conn.old.in_transaction ≡ false }
+    ensures idle { conn.new.in_transaction ≡ false }
+    ensures found { Finds (state S.Store conn.old) (state S.Store conn.new) result (λ c rows. rows.items ≡ map monitor_values c.rows.monitors) }
+    ensures seen { (d : Database) → d.schema ≡ book_schema → Sees d (state S.Store conn.old) (state S.Store conn.new) result (λ rows. IsPermutation (lying table.Monitors d.trees) rows.items) }
+{
+    read(
+        conn,
+        "SELECT monitor, device, after_event FROM monitors ORDER BY monitor",
+        &[],
+    )
+}
+
+/// The row of a monitor, if it is running.
+pub fn monitor_row<S: Alter>(conn: &mut Connection<S>, monitor: u64) -> Result<Vec<Row>, Error>
+    requires idle { conn.old.in_transaction ≡ false }
+    requires number { Fits monitor }
+    ensures idle { conn.new.in_transaction ≡ false }
+    ensures found { Finds (state S.Store conn.old) (state S.Store conn.new) result (λ c rows. rows.items ≡ map monitor_values (option_to_list (monitor_of c.rows monitor))) }
+{
+    read(
+        conn,
+        "SELECT monitor, device, after_event FROM monitors WHERE monitor = ?1 ORDER BY monitor LIMIT 1",
+        &[bind::integer(monitor)],
+    )
+}
+
+/// The first rows of events above a number.
+pub fn event_rows<S: Alter>(
+    conn: &mut Connection<S>,
+    number: u64,
+    limit: u64,
+) -> Result<Vec<Row>, Error>
+    requires idle { conn.old.in_transaction ≡ false }
+    requires number { Fits number }
+    requires limit { Fits limit }
+    ensures idle { conn.new.in_transaction ≡ false }
+    ensures found { Finds (state S.Store conn.old) (state S.Store conn.new) result (λ c rows. rows.items ≡ map event_values (events_behind c.events number limit)) }
+    ensures seen { (d : Database) → d.schema ≡ book_schema → Sees d (state S.Store conn.old) (state S.Store conn.new) result (λ rows. IsPageRows log.Events number limit d.trees rows.items) }
+{
+    read(
+        conn,
+        "SELECT number, moment, kind, device, call, agent, grp, target, cause, waited FROM events WHERE number > ?1 ORDER BY number LIMIT ?2",
+        &[bind::integer(number), bind::integer(limit)],
+    )
+}
+
+/// The first rows of kept records above a stamp.
+pub fn kept_rows<S: Alter>(
+    conn: &mut Connection<S>,
+    stamp: u64,
+    limit: u64,
+) -> Result<Vec<Row>, Error>
+    requires idle { conn.old.in_transaction ≡ false }
+    requires stamp { Fits stamp }
+    requires limit { Fits limit }
+    ensures idle { conn.new.in_transaction ≡ false }
+    ensures found { Finds (state S.Store conn.old) (state S.Store conn.new) result (λ c rows. rows.items ≡ map kept_values (kept_behind c.kept stamp limit)) }
+    ensures seen { (d : Database) → d.schema ≡ book_schema → Sees d (state S.Store conn.old) (state S.Store conn.new) result (λ rows. IsPageRows log.Kept stamp limit d.trees rows.items) }
+{
+    read(
+        conn,
+        "SELECT stamp, requester, invoke, moment, request, status, body FROM kept WHERE stamp > ?1 ORDER BY stamp LIMIT ?2",
+        &[bind::integer(stamp), bind::integer(limit)],
+    )
+}
+
+/// The row of what is kept under a key.
+pub fn kept_row<S: Alter>(
+    conn: &mut Connection<S>,
+    requester: &Requester,
+    invoke: Invoke,
+) -> Result<Vec<Row>, Error>
+    requires idle { conn.old.in_transaction ≡ false }
+    ensures idle { conn.new.in_transaction ≡ false }
+    ensures found { Finds (state S.Store conn.old) (state S.Store conn.new) result (λ c rows. rows.items ≡ map kept_values (option_to_list (kept_of c.kept requester.now invoke))) }
+{
+    read(
+        conn,
+        "SELECT stamp, requester, invoke, moment, request, status, body FROM kept WHERE requester = ?1 AND invoke = ?2 ORDER BY stamp LIMIT 1",
+        &[
+            bind::text(requester.as_bytes()),
+            bind::small(invoke.number()),
+        ],
+    )
+}
+
+pub fn connection_rows<S: Alter>(conn: &mut Connection<S>) -> Result<Vec<Row>, Error>
+    requires { conn.old.in_transaction ≡ false }
+    ensures idle { conn.new.in_transaction ≡ false }
+    ensures found { Finds (state S.Store conn.old) (state S.Store conn.new) result (λ c rows. rows.items ≡ map connection_values c.rows.connections) }
+    ensures seen { (d : Database) → d.schema ≡ book_schema → Sees d (state S.Store conn.old) (state S.Store conn.new) result (λ rows. IsPermutation (lying table.Connections d.trees) rows.items) }
+{
+    read(
+        conn,
+        "SELECT call, device, state, grp, place, queued, offered FROM connections ORDER BY call, device",
+        &[],
+    )
+}
+
+/// The first rows of events at a device above a number.
+pub fn event_rows_at<S: Alter>(
+    conn: &mut Connection<S>,
+    device: DeviceId,
+    number: u64,
+    limit: u64,
+) -> Result<Vec<Row>, Error>
+    requires idle { conn.old.in_transaction ≡ false }
+    requires number { Fits number }
+    requires limit { Fits limit }
+    ensures idle { conn.new.in_transaction ≡ false }
+    ensures found { Finds (state S.Store conn.old) (state S.Store conn.new) result (λ c rows. rows.items ≡ map event_values (take limit (filter (is_told (Some device) number) c.events))) }
+{
+    read(
+        conn,
+        "SELECT number, moment, kind, device, call, agent, grp, target, cause, waited FROM events WHERE number > ?1 AND device = ?2 ORDER BY number LIMIT ?3",
+        &[
+            bind::integer(number),
+            bind::device(device),
+            bind::integer(limit),
+        ],
+    )
+}

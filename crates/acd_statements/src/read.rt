@@ -1,0 +1,109 @@
+//! Reads between transactions: they change nothing, but that a failure may shut the connection.
+
+ghost use Rattle.std.specs.Prelude.{◌≡◌, ◌∷◌, [], false, OnOk, IfOk, IsTrue, IsPermutation, ⊤};
+ghost use Rattle.sqlite.specs.Given.{IsPlain};
+ghost use Rattle.sqlite.specs.Listing.{understood};
+ghost use Rattle.sqlite.specs.Effect.{Database};
+ghost use Rattle.sqlite.specs.State.{HasCleanDisk, Shown};
+ghost use Rattle.sqlite.specs.Held.{state};
+ghost use Rattle.sqlite.specs.Values.{bound};
+ghost use Rattle.acd_book.specs.Content.{Content};
+ghost use Rattle.acd_statements.specs.Schema.{book_schema};
+ghost use Rattle.acd_statements.specs.Content.{meta_of};
+ghost use Rattle.acd_statements.specs.Reading.{meta_shown, limits_in, meta_in};
+ghost use Rattle.acd_statements.specs.Lying.{lying};
+ghost use Rattle.acd_statements.specs.declared.tables.Table.TheVariants as table;
+ghost use Rattle.acd_statements.specs.Draft.{Holds, Quiet, NoStop};
+ghost use Rattle.acd_statements.specs.Seeing.{Sees};
+
+use crate::meta::Meta;
+use acd_terms::Limits;
+use sqlite::types::ValueRef;
+use sqlite::{Alter, Connection, Error, Row};
+
+/// Tells whether the store still serves.
+pub fn probe<S: Alter>(conn: &mut Connection<S>) -> Result<(), Error>
+    requires { conn.old.in_transaction ≡ false }
+    ensures idle { conn.new.in_transaction ≡ false }
+    ensures up { HasCleanDisk (state S.Store conn.new) → OnOk result (IsTrue (state S.Store conn.new).is_open) }
+    ensures quiet { Quiet (state S.Store conn.old) (state S.Store conn.new) }
+    ensures stops { HasCleanDisk (state S.Store conn.new) → NoStop (state S.Store conn.old) (state S.Store conn.new) }
+    ensures seen { (d : Database) → Sees d (state S.Store conn.old) (state S.Store conn.new) result (λ _. ⊤) }
+{
+    conn.query_row("SELECT 1", &[])?;
+    Ok(())
+}
+
+/// The rows of a query whose text is a plain one of the book's tables.
+pub(crate) fn read<S: Alter>(
+    conn: &mut Connection<S>,
+    sql: &str,
+    params: &[ValueRef<'_>],
+) -> Result<Vec<Row>, Error>
+    requires { conn.old.in_transaction ≡ false }
+    ensures idle { conn.new.in_transaction ≡ false }
+    ensures up { HasCleanDisk (state S.Store conn.new) → OnOk result (IsTrue (state S.Store conn.new).is_open) }
+    ensures quiet { IsPlain (understood book_schema sql.now) → Quiet (state S.Store conn.old) (state S.Store conn.new) }
+    ensures stops { HasCleanDisk (state S.Store conn.new) → IsPlain (understood book_schema sql.now) → (c : Content) → Holds (state S.Store conn.old) c
+        → NoStop (state S.Store conn.old) (state S.Store conn.new) }
+    ensures shown { HasCleanDisk (state S.Store conn.new) → IfOk result (λ rows. Shown sql.now (bound params.now) (state S.Store conn.old) (state S.Store conn.new) rows.items) }
+    ensures seen { (d : Database) → IsPlain (understood d.schema sql.now) → Sees d (state S.Store conn.old) (state S.Store conn.new) result (λ rows. Shown sql.now (bound params.now) (state S.Store conn.old) (state S.Store conn.new) rows.items) }
+{
+    conn.query_all(sql, params)
+}
+
+/// The row of the limits and the counters.
+pub fn meta_rows<S: Alter>(conn: &mut Connection<S>) -> Result<Vec<Row>, Error>
+    requires { conn.old.in_transaction ≡ false }
+    ensures idle { conn.new.in_transaction ≡ false }
+    ensures up { HasCleanDisk (state S.Store conn.new) → OnOk result (IsTrue (state S.Store conn.new).is_open) }
+    ensures quiet { Quiet (state S.Store conn.old) (state S.Store conn.new) }
+    ensures stops { HasCleanDisk (state S.Store conn.new) → (c : Content) → Holds (state S.Store conn.old) c → NoStop (state S.Store conn.old) (state S.Store conn.new) }
+    ensures rows { HasCleanDisk (state S.Store conn.new) → IfOk result (λ rows. (c : Content) → Holds (state S.Store conn.old) c → rows.items ≡ meta_shown (meta_of c.rows) ∷ []) }
+    ensures seen { (d : Database) → d.schema ≡ book_schema → Sees d (state S.Store conn.old) (state S.Store conn.new) result (λ rows. IsPermutation (lying table.Meta d.trees) rows.items) }
+{
+    read(
+        conn,
+        "SELECT max_requests, max_calls, max_groups, max_stations, max_agents, max_monitors, last_stamp, last_moment, last_call, last_monitor, last_event FROM meta",
+        &[],
+    )
+}
+
+fn limits_in(row: &Row) -> Result<Limits, Error>
+    ensures { IfOk result (λ limits. limits ≡ limits_in row.now) }
+{
+    let requests = row.get(0)?;
+    let calls = row.get(1)?;
+    let groups = row.get(2)?;
+    let stations = row.get(3)?;
+    let agents = row.get(4)?;
+    let monitors = row.get(5)?;
+    Ok(Limits {
+        requests,
+        calls,
+        groups,
+        stations,
+        agents,
+        monitors,
+    })
+}
+
+/// The limits and the counters that a row stands for.
+pub fn meta_in(row: &Row) -> Result<Meta, Error>
+    ensures { IfOk result (λ meta. meta ≡ meta_in row.now) }
+{
+    let limits = limits_in(row)?;
+    let last_stamp = row.get(6)?;
+    let last_moment = row.get(7)?;
+    let last_call = row.get(8)?;
+    let last_monitor = row.get(9)?;
+    let last_event = row.get(10)?;
+    Ok(Meta {
+        limits,
+        last_stamp,
+        last_moment,
+        last_call,
+        last_monitor,
+        last_event,
+    })
+}

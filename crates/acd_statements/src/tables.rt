@@ -1,0 +1,118 @@
+//! The tables of the book, and the query that reads each.
+
+ghost use Rattle.std.specs.Prelude.{◌≡◌, false, IsPermutation};
+ghost use Rattle.sqlite.specs.Effect.{Database};
+ghost use Rattle.sqlite.specs.Held.{state};
+ghost use Rattle.acd_statements.specs.Draft.{Fits};
+ghost use Rattle.acd_statements.specs.Lying.{table_of, table_of_log, lying, TellsLow, IsPageRows};
+ghost use Rattle.acd_statements.specs.Schema.{book_schema};
+ghost use Rattle.acd_statements.specs.Seeing.{Sees};
+
+use crate::look::{counter_rows, low_event_rows, low_kept_rows};
+use crate::query::{
+    agent_rows, call_rows, connection_rows, event_rows, group_rows, kept_rows, monitor_rows,
+    station_rows,
+};
+use sqlite::{Alter, Connection, Error, Row};
+
+/// A table of the book.
+#[derive(Clone, Copy, Debug, PartialEq, Eq)]
+pub enum Table {
+    Meta,
+    Groups,
+    Stations,
+    Agents,
+    Calls,
+    Connections,
+    Monitors,
+    Events,
+    Kept,
+}
+
+/// A table that is read whole.
+#[derive(Clone, Copy)]
+pub enum Whole {
+    Meta,
+    Groups,
+    Stations,
+    Agents,
+    Calls,
+    Connections,
+    Monitors,
+}
+
+/// A table that grows with the history, and is read in pages.
+#[derive(Clone, Copy)]
+pub enum Log {
+    Events,
+    Kept,
+}
+
+impl Whole {
+    pub fn table(self) -> Table
+        ensures { result ≡ table_of self }
+    {
+        match self {
+            Whole::Meta => Table::Meta,
+            Whole::Groups => Table::Groups,
+            Whole::Stations => Table::Stations,
+            Whole::Agents => Table::Agents,
+            Whole::Calls => Table::Calls,
+            Whole::Connections => Table::Connections,
+            Whole::Monitors => Table::Monitors,
+        }
+    }
+
+    /// All its rows.
+    pub fn rows<S: Alter>(self, conn: &mut Connection<S>) -> Result<Vec<Row>, Error>
+        requires { conn.old.in_transaction ≡ false }
+        ensures idle { conn.new.in_transaction ≡ false }
+        ensures seen { (d : Database) → d.schema ≡ book_schema → Sees d (state S.Store conn.old) (state S.Store conn.new) result (λ rows. IsPermutation (lying (table_of self) d.trees) rows.items) }
+    {
+        match self {
+            Whole::Meta => counter_rows(conn),
+            Whole::Groups => group_rows(conn),
+            Whole::Stations => station_rows(conn),
+            Whole::Agents => agent_rows(conn),
+            Whole::Calls => call_rows(conn),
+            Whole::Connections => connection_rows(conn),
+            Whole::Monitors => monitor_rows(conn),
+        }
+    }
+}
+
+impl Log {
+    pub fn table(self) -> Table
+        ensures { result ≡ table_of_log self }
+    {
+        match self {
+            Log::Events => Table::Events,
+            Log::Kept => Table::Kept,
+        }
+    }
+
+    /// A row whose number is below 1.
+    pub fn low_rows<S: Alter>(self, conn: &mut Connection<S>) -> Result<Vec<Row>, Error>
+        requires { conn.old.in_transaction ≡ false }
+        ensures idle { conn.new.in_transaction ≡ false }
+        ensures seen { (d : Database) → d.schema ≡ book_schema → Sees d (state S.Store conn.old) (state S.Store conn.new) result (λ rows. TellsLow self d.trees rows.items) }
+    {
+        match self {
+            Log::Events => low_event_rows(conn),
+            Log::Kept => low_kept_rows(conn),
+        }
+    }
+
+    /// The first thousand rows above a number.
+    pub fn rows<S: Alter>(self, conn: &mut Connection<S>, number: u64) -> Result<Vec<Row>, Error>
+        requires idle { conn.old.in_transaction ≡ false }
+        requires number { Fits number }
+        ensures idle { conn.new.in_transaction ≡ false }
+        ensures seen { (d : Database) → d.schema ≡ book_schema → Sees d (state S.Store conn.old) (state S.Store conn.new) result (λ rows. IsPageRows self number 1000 d.trees rows.items) }
+    {
+        match self {
+            Log::Events => event_rows(conn, number, 1000),
+            Log::Kept => kept_rows(conn, number, 1000),
+        }
+    }
+}

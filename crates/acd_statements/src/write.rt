@@ -1,0 +1,306 @@
+//! The statements that put records and take them out, one a function. Each works inside a transaction:
+//! what it writes is there, and no stop is added.
+
+ghost use Rattle.std.specs.Prelude.{◌≡◌, IfSome, OnOk};
+ghost use Rattle.std.specs.Ordering.{nat_cmp};
+ghost use Rattle.sqlite.specs.State.{HasCleanDisk};
+ghost use Rattle.sqlite.specs.Held.{state};
+ghost use Rattle.sqlite.specs.Values.{bound};
+ghost use Rattle.acd_terms.specs.Columns.{columns_of};
+ghost use Rattle.acd_terms.specs.Lists.{put_by, remove_by};
+ghost use Rattle.acd_model.specs.Scans.{at_group, at_station, at_agent, at_call, at_connection, at_monitor};
+ghost use Rattle.acd_codec.specs.RequestTexts.{request_text};
+ghost use Rattle.acd_book.specs.Content.{Content, empty_content};
+ghost use Rattle.acd_statements.specs.Schema.{book_schema};
+ghost use Rattle.acd_statements.specs.Making.{Builds};
+ghost use Rattle.acd_statements.specs.Content.{with_part};
+ghost use Rattle.acd_statements.specs.Draft.{Drafts, Works, Ran, Fits, FiguresFit, MetaFits};
+
+use crate::bind;
+use crate::codes::{agent_code, connection_code, kind_code};
+use crate::meta::Meta;
+use crate::tables::Table;
+use acd_book::Kept;
+use acd_codec::reads_back;
+use acd_terms::{
+    AgentRecord, CallRecord, ConnectionRecord, DeviceId, Event, GroupRecord, MonitorRecord,
+    StationRecord,
+};
+use sqlite::types::ValueRef;
+use sqlite::{Alter, Error, Transaction};
+
+/// Runs a statement.
+pub fn write<S: Alter>(
+    tx: &mut Transaction<'_, S>,
+    sql: &str,
+    params: &[ValueRef<'_>],
+) -> Result<(), Error>
+    ensures same { tx.new.conn.ghost_name ≡ tx.old.conn.ghost_name }
+    ensures works { Works (state S.Store tx.old.conn.now) (state S.Store tx.new.conn.now) }
+    ensures ran { HasCleanDisk (state S.Store tx.new.conn.now) → OnOk result (Ran sql.now (bound params.now) (state S.Store tx.old.conn.now) (state S.Store tx.new.conn.now)) }
+{
+    tx.execute(sql, params)?;
+    Ok(())
+}
+
+pub fn put_group<S: Alter>(tx: &mut Transaction<'_, S>, group: &GroupRecord) -> Result<(), Error>
+    requires { FiguresFit group.now.figures }
+    ensures same { tx.new.conn.ghost_name ≡ tx.old.conn.ghost_name }
+    ensures works { Works (state S.Store tx.old.conn.now) (state S.Store tx.new.conn.now) }
+    ensures put { HasCleanDisk (state S.Store tx.new.conn.now) → OnOk result ((c : Content) → Drafts (state S.Store tx.old.conn.now) c
+        → Drafts (state S.Store tx.new.conn.now) (with_part Table.Groups (put_by (at_group group.now.device) c.rows.groups group.now) c)) }
+{
+    let figures = &group.figures;
+    write(
+        tx,
+        "INSERT INTO acd_groups (device, name, ring, wrap, entered, answered, abandoned, moved, waited) VALUES (?1, ?2, ?3, ?4, ?5, ?6, ?7, ?8, ?9) ON CONFLICT (device) DO UPDATE SET name = excluded.name, ring = excluded.ring, wrap = excluded.wrap, entered = excluded.entered, answered = excluded.answered, abandoned = excluded.abandoned, moved = excluded.moved, waited = excluded.waited",
+        &[
+            bind::device(group.device),
+            bind::name(&group.name),
+            bind::seconds(group.ring),
+            bind::seconds(group.wrap),
+            bind::integer(figures.entered),
+            bind::integer(figures.answered),
+            bind::integer(figures.abandoned),
+            bind::integer(figures.moved),
+            bind::integer(figures.waited),
+        ],
+    )
+}
+
+pub fn put_station<S: Alter>(
+    tx: &mut Transaction<'_, S>,
+    station: &StationRecord,
+) -> Result<(), Error>
+    ensures same { tx.new.conn.ghost_name ≡ tx.old.conn.ghost_name }
+    ensures works { Works (state S.Store tx.old.conn.now) (state S.Store tx.new.conn.now) }
+    ensures put { HasCleanDisk (state S.Store tx.new.conn.now) → OnOk result ((c : Content) → Drafts (state S.Store tx.old.conn.now) c
+        → Drafts (state S.Store tx.new.conn.now) (with_part Table.Stations (put_by (at_station station.now.device) c.rows.stations station.now) c)) }
+{
+    write(
+        tx,
+        "INSERT INTO stations (device) VALUES (?1)",
+        &[bind::device(station.device)],
+    )
+}
+
+pub fn put_agent<S: Alter>(tx: &mut Transaction<'_, S>, agent: &AgentRecord) -> Result<(), Error>
+    requires { Fits agent.now.stamp }
+    ensures same { tx.new.conn.ghost_name ≡ tx.old.conn.ghost_name }
+    ensures works { Works (state S.Store tx.old.conn.now) (state S.Store tx.new.conn.now) }
+    ensures put { HasCleanDisk (state S.Store tx.new.conn.now) → OnOk result ((c : Content) → Drafts (state S.Store tx.old.conn.now) c
+        → Drafts (state S.Store tx.new.conn.now) (with_part Table.Agents (put_by (at_agent agent.now.agent) c.rows.agents agent.now) c)) }
+{
+    write(
+        tx,
+        "INSERT INTO agents (agent, name, state, pending, station, grp, stamp, since) VALUES (?1, ?2, ?3, ?4, ?5, ?6, ?7, ?8) ON CONFLICT (agent) DO UPDATE SET name = excluded.name, state = excluded.state, pending = excluded.pending, station = excluded.station, grp = excluded.grp, stamp = excluded.stamp, since = excluded.since",
+        &[
+            bind::agent(agent.agent),
+            bind::name(&agent.name),
+            bind::small(agent_code(agent.state)),
+            bind::pending_or_null(agent.pending),
+            bind::device_or_null(agent.station),
+            bind::device_or_null(agent.group),
+            bind::integer(agent.stamp),
+            bind::small(agent.since),
+        ],
+    )
+}
+
+pub fn put_call<S: Alter>(tx: &mut Transaction<'_, S>, call: &CallRecord) -> Result<(), Error>
+    requires { Fits call.now.call }
+    ensures same { tx.new.conn.ghost_name ≡ tx.old.conn.ghost_name }
+    ensures works { Works (state S.Store tx.old.conn.now) (state S.Store tx.new.conn.now) }
+    ensures put { HasCleanDisk (state S.Store tx.new.conn.now) → OnOk result ((c : Content) → Drafts (state S.Store tx.old.conn.now) c
+        → Drafts (state S.Store tx.new.conn.now) (with_part Table.Calls (put_by (at_call call.now.call) c.rows.calls call.now) c)) }
+{
+    write(
+        tx,
+        "INSERT INTO calls (call, caller, called, since) VALUES (?1, ?2, ?3, ?4) ON CONFLICT (call) DO UPDATE SET caller = excluded.caller, called = excluded.called, since = excluded.since",
+        &[
+            bind::integer(call.call),
+            bind::device(call.caller),
+            bind::device(call.called),
+            bind::small(call.since),
+        ],
+    )
+}
+
+pub fn put_monitor<S: Alter>(
+    tx: &mut Transaction<'_, S>,
+    monitor: &MonitorRecord,
+) -> Result<(), Error>
+    requires monitor { Fits monitor.now.monitor }
+    requires after { Fits monitor.now.after_event }
+    ensures same { tx.new.conn.ghost_name ≡ tx.old.conn.ghost_name }
+    ensures works { Works (state S.Store tx.old.conn.now) (state S.Store tx.new.conn.now) }
+    ensures put { HasCleanDisk (state S.Store tx.new.conn.now) → OnOk result ((c : Content) → Drafts (state S.Store tx.old.conn.now) c
+        → Drafts (state S.Store tx.new.conn.now) (with_part Table.Monitors (put_by (at_monitor monitor.now.monitor) c.rows.monitors monitor.now) c)) }
+{
+    write(
+        tx,
+        "INSERT INTO monitors (monitor, device, after_event) VALUES (?1, ?2, ?3) ON CONFLICT (monitor) DO UPDATE SET device = excluded.device, after_event = excluded.after_event",
+        &[
+            bind::integer(monitor.monitor),
+            bind::device(monitor.device),
+            bind::integer(monitor.after_event),
+        ],
+    )
+}
+
+pub fn put_event<S: Alter>(tx: &mut Transaction<'_, S>, event: &Event) -> Result<(), Error>
+    requires number { Fits event.now.number }
+    requires call { IfSome (columns_of event.now.report).call Fits }
+    ensures same { tx.new.conn.ghost_name ≡ tx.old.conn.ghost_name }
+    ensures works { Works (state S.Store tx.old.conn.now) (state S.Store tx.new.conn.now) }
+    ensures put { HasCleanDisk (state S.Store tx.new.conn.now) → OnOk result ((c : Content) → Drafts (state S.Store tx.old.conn.now) c
+        → Drafts (state S.Store tx.new.conn.now) (with_part Table.Events (put_by (λ x. nat_cmp event.now.number x.number) c.events event.now) c)) }
+{
+    let columns = event.report.columns();
+    write(
+        tx,
+        "INSERT INTO events (number, moment, kind, device, call, agent, grp, target, cause, waited) VALUES (?1, ?2, ?3, ?4, ?5, ?6, ?7, ?8, ?9, ?10)",
+        &[
+            bind::integer(event.number),
+            bind::small(event.moment),
+            bind::small(kind_code(columns.kind)),
+            bind::device_or_null(columns.device),
+            bind::integer_or_null(columns.call),
+            bind::agent_or_null(columns.agent),
+            bind::device_or_null(columns.group),
+            bind::device_or_null(columns.to),
+            bind::cause_or_null(columns.cause),
+            bind::small_or_null(columns.waited),
+        ],
+    )
+}
+
+pub fn put_kept<S: Alter>(
+    tx: &mut Transaction<'_, S>,
+    kept: &Kept,
+    request: &str,
+) -> Result<(), Error>
+    requires stamp { Fits kept.now.stamp }
+    requires request { request.now ≡ request_text kept.now.request }
+    ensures same { tx.new.conn.ghost_name ≡ tx.old.conn.ghost_name }
+    ensures works { Works (state S.Store tx.old.conn.now) (state S.Store tx.new.conn.now) }
+    ensures put { HasCleanDisk (state S.Store tx.new.conn.now) → OnOk result ((c : Content) → Drafts (state S.Store tx.old.conn.now) c
+        → Drafts (state S.Store tx.new.conn.now) (with_part Table.Kept (put_by (λ x. nat_cmp kept.now.stamp x.stamp) c.kept kept.now) c)) }
+{
+    reads_back(&kept.request);
+    write(
+        tx,
+        "INSERT INTO kept (stamp, requester, invoke, moment, request, status, body) VALUES (?1, ?2, ?3, ?4, ?5, ?6, ?7)",
+        &[
+            bind::integer(kept.stamp),
+            bind::text(kept.request.requester.as_bytes()),
+            bind::small(kept.request.invoke.number()),
+            bind::small(kept.moment),
+            bind::text(request.as_bytes()),
+            bind::small(u32::from(kept.status)),
+            bind::text(kept.body.as_str().as_bytes()),
+        ],
+    )
+}
+
+pub fn put_meta<S: Alter>(tx: &mut Transaction<'_, S>, meta: &Meta) -> Result<(), Error>
+    requires { MetaFits meta.now }
+    ensures same { tx.new.conn.ghost_name ≡ tx.old.conn.ghost_name }
+    ensures works { Works (state S.Store tx.old.conn.now) (state S.Store tx.new.conn.now) }
+    ensures put { HasCleanDisk (state S.Store tx.new.conn.now) → OnOk result ((c : Content) → Drafts (state S.Store tx.old.conn.now) c
+        → Drafts (state S.Store tx.new.conn.now) (with_part Table.Meta meta.now c)) }
+    ensures start { HasCleanDisk (state S.Store tx.new.conn.now) → OnOk result (Builds (state S.Store tx.old.conn.now) book_schema
+        → Drafts (state S.Store tx.new.conn.now) (with_part Table.Meta meta.now (empty_content meta.now.limits))) }
+{
+    write(
+        tx,
+        "INSERT INTO meta (id, version, max_requests, max_calls, max_groups, max_stations, max_agents, max_monitors, last_stamp, last_moment, last_call, last_monitor, last_event) VALUES (?1, ?2, ?3, ?4, ?5, ?6, ?7, ?8, ?9, ?10, ?11, ?12, ?13) ON CONFLICT (id) DO UPDATE SET version = excluded.version, max_requests = excluded.max_requests, max_calls = excluded.max_calls, max_groups = excluded.max_groups, max_stations = excluded.max_stations, max_agents = excluded.max_agents, max_monitors = excluded.max_monitors, last_stamp = excluded.last_stamp, last_moment = excluded.last_moment, last_call = excluded.last_call, last_monitor = excluded.last_monitor, last_event = excluded.last_event",
+        &[
+            bind::integer(1),
+            bind::integer(1),
+            bind::integer(meta.limits.requests),
+            bind::integer(meta.limits.calls),
+            bind::integer(meta.limits.groups),
+            bind::integer(meta.limits.stations),
+            bind::integer(meta.limits.agents),
+            bind::integer(meta.limits.monitors),
+            bind::integer(meta.last_stamp),
+            bind::small(meta.last_moment),
+            bind::integer(meta.last_call),
+            bind::integer(meta.last_monitor),
+            bind::integer(meta.last_event),
+        ],
+    )
+}
+
+pub fn drop_call<S: Alter>(tx: &mut Transaction<'_, S>, call: u64) -> Result<(), Error>
+    requires { Fits call }
+    ensures same { tx.new.conn.ghost_name ≡ tx.old.conn.ghost_name }
+    ensures works { Works (state S.Store tx.old.conn.now) (state S.Store tx.new.conn.now) }
+    ensures put { HasCleanDisk (state S.Store tx.new.conn.now) → OnOk result ((c : Content) → Drafts (state S.Store tx.old.conn.now) c
+        → Drafts (state S.Store tx.new.conn.now) (with_part Table.Calls (remove_by (at_call call) c.rows.calls) c)) }
+{
+    write(
+        tx,
+        "DELETE FROM calls WHERE call = ?1",
+        &[bind::integer(call)],
+    )
+}
+
+pub fn drop_monitor<S: Alter>(tx: &mut Transaction<'_, S>, monitor: u64) -> Result<(), Error>
+    requires { Fits monitor }
+    ensures same { tx.new.conn.ghost_name ≡ tx.old.conn.ghost_name }
+    ensures works { Works (state S.Store tx.old.conn.now) (state S.Store tx.new.conn.now) }
+    ensures put { HasCleanDisk (state S.Store tx.new.conn.now) → OnOk result ((c : Content) → Drafts (state S.Store tx.old.conn.now) c
+        → Drafts (state S.Store tx.new.conn.now) (with_part Table.Monitors (remove_by (at_monitor monitor) c.rows.monitors) c)) }
+{
+    write(
+        tx,
+        "DELETE FROM monitors WHERE monitor = ?1",
+        &[bind::integer(monitor)],
+    )
+}
+
+pub fn put_connection<S: Alter>(
+    tx: &mut Transaction<'_, S>,
+    connection: &ConnectionRecord,
+) -> Result<(), Error>
+    requires call { Fits connection.now.call }
+    requires place { IfSome connection.now.place Fits }
+    ensures same { tx.new.conn.ghost_name ≡ tx.old.conn.ghost_name }
+    ensures works { Works (state S.Store tx.old.conn.now) (state S.Store tx.new.conn.now) }
+    ensures put { HasCleanDisk (state S.Store tx.new.conn.now) → OnOk result ((c : Content) → Drafts (state S.Store tx.old.conn.now) c
+        → Drafts (state S.Store tx.new.conn.now) (with_part Table.Connections (put_by (at_connection connection.now.call connection.now.device) c.rows.connections connection.now) c)) }
+{
+    write(
+        tx,
+        "INSERT INTO connections (call, device, state, grp, place, queued, offered) VALUES (?1, ?2, ?3, ?4, ?5, ?6, ?7) ON CONFLICT (call, device) DO UPDATE SET state = excluded.state, grp = excluded.grp, place = excluded.place, queued = excluded.queued, offered = excluded.offered",
+        &[
+            bind::integer(connection.call),
+            bind::device(connection.device),
+            bind::small(connection_code(connection.state)),
+            bind::device_or_null(connection.group),
+            bind::integer_or_null(connection.place),
+            bind::small_or_null(connection.queued),
+            bind::small_or_null(connection.offered),
+        ],
+    )
+}
+
+pub fn drop_connection<S: Alter>(
+    tx: &mut Transaction<'_, S>,
+    call: u64,
+    device: DeviceId,
+) -> Result<(), Error>
+    requires { Fits call }
+    ensures same { tx.new.conn.ghost_name ≡ tx.old.conn.ghost_name }
+    ensures works { Works (state S.Store tx.old.conn.now) (state S.Store tx.new.conn.now) }
+    ensures put { HasCleanDisk (state S.Store tx.new.conn.now) → OnOk result ((c : Content) → Drafts (state S.Store tx.old.conn.now) c
+        → Drafts (state S.Store tx.new.conn.now) (with_part Table.Connections (remove_by (at_connection call device) c.rows.connections) c)) }
+{
+    write(
+        tx,
+        "DELETE FROM connections WHERE call = ?1 AND device = ?2",
+        &[bind::integer(call), bind::device(device)],
+    )
+}
