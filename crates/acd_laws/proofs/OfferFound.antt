@@ -1,47 +1,31 @@
 -- The least pair of a list, and the offer that is found: the one that is to be made.
-use Rattle.std.proofs.Common.{◌≡◌, ℕ, inl, inr, true, false, ◌&&◌, ◌||◌, cond, List, [], ◌∷◌, Some, None, refl, sym, ◌∙◌, ap, subst, arith, map, ◌<◌, Option, zero, suc}
+use Rattle.std.proofs.Common.{◌≡◌, ℕ, inl, inr, true, false, ◌&&◌, ◌||◌, cond, List, [], ◌∷◌, Some, None, refl, sym, ◌∙◌, ap, ap₂, subst, arith, map, ◌<◌, Option, zero, suc}
 use Rattle.std.specs.Prelude.{nat_lt, ◌==◌}
 use Rattle.std.proofs.lemmas.Bool.Decides.{nat_tests}
 use Rattle.acd_model.specs.Choice.{pair_lt, lesser, least_from, waiting_pair, ready_pair, first_waiting, first_eligible, offer_or, offer_in, offer_of}
 use Rattle.acd_model.specs.Offers.{IsLeast, FindsLeast, HasNoOffer, IsOffer, FindsTheOffer}
+use Rattle.acd_model.specs.Scans.{is_eligible, is_occupied, is_idle}
 use Rattle.acd_laws.proofs.Lists.{some_is}
 use Rattle.std.specs.Ordering.{nat_cmp}
 use Rattle.std.specs.declared.cmp.Ordering.TheVariants.{Less}
 use Rattle.acd_laws.proofs.Words.{Rows, GroupRecord, Offer, Among, AllAfter, IsAscending, waiting_in, eligible_in}
 use Rattle.acd_model.specs.Distribution.{offers}
 
-itself : (a b : ℕ) → (nat_lt a a || (a == a && nat_lt b b)) ≡ false
-itself a b = grind (arith, nat_tests)
-
-one_way : (s a t b : ℕ) → (nat_lt s t || (s == t && nat_lt a b)) ≡ true → (nat_lt t s || (t == s && nat_lt b a)) ≡ false
-one_way s a t b e = grind (arith, nat_tests)
-
-chain : (s a t b u c : ℕ) → (nat_lt s t || (s == t && nat_lt a b)) ≡ false → (nat_lt t u || (t == u && nat_lt b c)) ≡ false → (nat_lt s u || (s == u && nat_lt a c)) ≡ false
-chain s a t b u c e f = grind (arith, nat_tests)
-
-first_equal : (s a t b : ℕ) → (nat_lt s t || (s == t && nat_lt a b)) ≡ false → (nat_lt t s || (t == s && nat_lt b a)) ≡ false → s ≡ t
-first_equal s a t b e f = grind (arith, nat_tests)
-
-second_equal : (s a t b : ℕ) → (nat_lt s t || (s == t && nat_lt a b)) ≡ false → (nat_lt t s || (t == s && nat_lt b a)) ≡ false → a ≡ b
-second_equal s a t b e f = grind (arith, nat_tests)
-
 pair_itself : (p : ℕ × ℕ) → pair_lt p p ≡ false
-pair_itself p = itself p.0 p.1
+pair_itself p = grind (arith, nat_tests)
 
 pair_one_way : (p q : ℕ × ℕ) → pair_lt p q ≡ true → pair_lt q p ≡ false
-pair_one_way p q e = one_way p.0 p.1 q.0 q.1 e
+pair_one_way p q e = grind (arith, nat_tests)
 
 pair_chain : (p q r : ℕ × ℕ) → pair_lt p q ≡ false → pair_lt q r ≡ false → pair_lt p r ≡ false
-pair_chain p q r e f = chain p.0 p.1 q.0 q.1 r.0 r.1 e f
+pair_chain p q r e f = grind (arith, nat_tests)
 
 -- two pairs of which neither is less are one
 pair_same : (p q : ℕ × ℕ) → pair_lt p q ≡ false → pair_lt q p ≡ false → p ≡ q
 pair_same p q e f =
-    let a : p.0 ≡ q.0 = first_equal p.0 p.1 q.0 q.1 e f in
-    let b : p.1 ≡ q.1 = second_equal p.0 p.1 q.0 q.1 e f in
-    let c : (p.0, p.1) ≡ (q.0, p.1) = ap (λ (n : ℕ). (n, p.1)) a in
-    let d : (q.0, p.1) ≡ (q.0, q.1) = ap (λ (n : ℕ). (q.0, n)) b in
-    c ∙ d
+    let first : p.0 ≡ q.0 = grind (arith, nat_tests) in
+    let second : p.1 ≡ q.1 = grind (arith, nat_tests) in
+    ap₂ (λ a b. (a, b)) first second
 
 -- what is least of a list with one of two before it, the lesser, is least of the list with both
 least_with : (b p q : ℕ × ℕ) (ps : List (ℕ × ℕ)) → IsLeast q (lesser (Some b) p ∷ ps) → IsLeast q (b ∷ p ∷ ps)
@@ -101,16 +85,9 @@ finds_least ps = record {
 
 -- the offer that is found
 
--- what an offer is, over some of the groups
-pub record IsOfferIn (s : Rows) (gs : List GroupRecord) (o : Offer) : Type 0 where
-  pub group : GroupRecord
-  pub planned : Among group gs
-  pub named : group.device ≡ o.group
-  pub place : ℕ
-  pub call : IsLeast (place, o.call) (map waiting_pair (waiting_in s o.group))
-  pub stamp : ℕ
-  pub agent : IsLeast (stamp, o.agent) (map ready_pair (eligible_in s o.group))
-  pub first : (g : GroupRecord) → Among g gs → g.device < o.group → HasNoOffer s g.device
+-- an offer, over some of the groups
+abbrev IsOfferIn : Rows → List GroupRecord → Offer → Type 0
+IsOfferIn s gs o = IsOffer (record s { groups = gs }) o
 
 abbrev Ascends : List GroupRecord → Type 0
 Ascends gs = IsAscending (λ (g h : GroupRecord). nat_cmp g.device h.device) gs
@@ -123,23 +100,21 @@ later_device g h [] a b = absurd b
 later_device g h (k ∷ gs) a (inl e) = less_is g.device h.device (subst (λ (z : GroupRecord). nat_cmp g.device z.device ≡ Less) (sym e) a.0)
 later_device g h (k ∷ gs) a (inr b) = later_device g h gs a.1 b
 
+-- an offer is one over other groups, where its group is among them and none before it has one
+over : (s : Rows) (gs hs : List GroupRecord) (o : Offer) (h : IsOfferIn s gs o) → Among h.group hs
+    → ((k : GroupRecord) → Among k hs → k.device < o.group → HasNoOffer (record s { groups = gs }) k.device) → IsOfferIn s hs o
+unfolding waiting_in eligible_in is_eligible is_occupied is_idle
+over s gs hs o h planned first = record { group = h.group; planned = planned; named = h.named; place = h.place; call = h.call; stamp = h.stamp; agent = h.agent; first = first }
+
 -- one more group, without an offer, before the others
 one_more : (s : Rows) (g : GroupRecord) (gs : List GroupRecord) (o : Offer) → HasNoOffer s g.device → IsOfferIn s gs o → IsOfferIn s (g ∷ gs) o
-one_more s g gs o n h = record {
-  group = h.group;
-  planned = inr h.planned;
-  named = h.named;
-  place = h.place;
-  call = h.call;
-  stamp = h.stamp;
-  agent = h.agent;
-  first = λ k a l. elim a [ inl e ↦ subst (λ (z : GroupRecord). HasNoOffer s z.device) (sym e) n | inr b ↦ h.first k b l ];
-}
+unfolding waiting_in eligible_in is_eligible is_occupied is_idle
+one_more s g gs o n h = over s gs (g ∷ gs) o h (inr h.planned) (λ k a l. elim a [ inl e ↦ subst (λ (z : GroupRecord). HasNoOffer s z.device) (sym e) n | inr b ↦ h.first k b l ])
 
 -- the offer of the first group
 of_first : (s : Rows) (g : GroupRecord) (gs : List GroupRecord) (w r : ℕ × ℕ) → Ascends (g ∷ gs)
     → first_waiting s g.device ≡ Some w → first_eligible s g.device ≡ Some r → IsOfferIn s (g ∷ gs) (record { group = g.device; call = w.1; agent = r.1 })
-unfolding first_waiting first_eligible
+unfolding first_waiting first_eligible waiting_in eligible_in is_eligible is_occupied is_idle
 of_first s g gs w r asc e f = record {
   group = g;
   planned = inl refl;
@@ -178,7 +153,7 @@ passed s g rest (inl e) = rw e refl
 passed s g rest (inr e) = rw e (second_none g _ rest)
 
 is_found : (s : Rows) (gs : List GroupRecord) (o : Offer) → Ascends gs → IsOfferIn s gs o → offer_in s gs ≡ Some o
-unfolding first_waiting first_eligible
+unfolding first_waiting first_eligible waiting_in eligible_in is_eligible is_occupied is_idle
 is_found s [] o asc h = absurd h.planned
 is_found s (g ∷ gs) o asc h =
     elim h.planned [
@@ -188,46 +163,13 @@ is_found s (g ∷ gs) o asc h =
           let c : offer_in s (g ∷ gs) ≡ Some (record { group = g.device; call = o.call; agent = o.agent }) = rw (a, b) refl in
           c ∙ ap (λ (d : ℕ). let p : Offer = record { group = d; call = o.call; agent = o.agent } in Some p) (sym same))
       | inr m ↦ (let late : g.device < o.group = subst (λ d. g.device < d) h.named (later_device g h.group gs asc.0 m) in
-          let rest : IsOfferIn s gs o = record {
-            group = h.group;
-            planned = m;
-            named = h.named;
-            place = h.place;
-            call = h.call;
-            stamp = h.stamp;
-            agent = h.agent;
-            first = λ k a l. h.first k (inr a) l;
-          } in
+          let rest = over s (g ∷ gs) gs o h m (λ k a l. h.first k (inr a) l) in
           passed s g.device (offer_in s gs) (h.first g (inl refl) late) ∙ is_found s gs o asc.1 rest)
     ]
 
-to_offer : (s : Rows) (o : Offer) → IsOfferIn s s.groups o → IsOffer s o
-to_offer s o h = record {
-  group = h.group;
-  planned = h.planned;
-  named = h.named;
-  place = h.place;
-  call = h.call;
-  stamp = h.stamp;
-  agent = h.agent;
-  first = h.first;
-}
-
-from_offer : (s : Rows) (o : Offer) → IsOffer s o → IsOfferIn s s.groups o
-from_offer s o h = record {
-  group = h.group;
-  planned = h.planned;
-  named = h.named;
-  place = h.place;
-  call = h.call;
-  stamp = h.stamp;
-  agent = h.agent;
-  first = h.first;
-}
-
 pub finds_the_offer : FindsTheOffer
 unfolding offer_of
-finds_the_offer s o asc = (λ e. to_offer s o (found_is s s.groups o asc e), λ h. is_found s s.groups o asc (from_offer s o h))
+finds_the_offer s o asc = (found_is s s.groups o asc, is_found s s.groups o asc)
 
 -- where no offer is found, no group has one
 none_in : (s : Rows) (gs : List GroupRecord) (g : GroupRecord) → offer_in s gs ≡ None → Among g gs → HasNoOffer s g.device

@@ -181,23 +181,14 @@ released_agent loose v (Some z) a x how m k r e there station vacant idle =
     rw same (subst (λ c. RulesBut (λ e. loose e && not (x.device == e)) (changed v c)) (sym l.1) (left_keeps loose v a l.0 x.device r there station vacant l.2))
 
 pub loosen : (p q : ℕ → Bool) (v : Rows) → ((e : ℕ) → q e ≡ true → p e ≡ true) → ((e : ℕ) → q e ≡ false → p e ≡ false) → RulesBut p v → RulesBut q v
-loosen p q v f g r = record {
-  orders = r.orders;
-  kinds = r.kinds;
-  agents = r.agents;
-  calls = r.calls;
-  connections = r.connections;
-  parties = r.parties;
-  one_open = r.one_open;
-  one_live = r.one_live;
-  no_hold = r.no_hold;
-  one_offer = r.one_offer;
+loosen p q v f g r = with_agents p q v v.agents r f (record {
+  sorted = r.orders.agents;
+  rules = r.agents;
   one_agent = r.one_agent;
   ready = λ d h. r.ready d (g d h);
   busy = λ d h. r.busy d (g d h);
   pending = λ d h. r.pending d (g d h);
-  free = λ d h. r.free d (f d h);
-}
+})
 
 not_and : (a : Bool) → a ≡ (a && not false)
 not_and true = refl
