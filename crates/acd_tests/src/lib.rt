@@ -1,9 +1,7 @@
-//! Tests of the crates below by their public calls: what no contract says of them. Each module is named as its
-//! crate. They stand here so that no crate is proved a second time for its tests.
+//! Tests of values, of the codec and of the desk with its lines and exchanges, by their public calls: what no contract
+//! says of them. Each module is named as its crate. They stand here so that no crate is proved a second time for its tests.
 #![tactic(auto)]
 
-#[cfg(test)]
-mod book;
 #[cfg(test)]
 mod codec;
 #[cfg(test)]
@@ -14,11 +12,5 @@ mod desk;
 mod http;
 #[cfg(test)]
 mod lines;
-#[cfg(test)]
-mod reports;
-#[cfg(test)]
-mod switch;
-#[cfg(test)]
-mod tables;
 #[cfg(test)]
 mod terms;
