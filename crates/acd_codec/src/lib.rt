@@ -3,6 +3,7 @@
 //! All that is written is compact JSON, the members of each object in the order of their names.
 #![tactic(auto)]
 
+mod document;
 mod events;
 mod fault;
 mod laws;

@@ -1,0 +1,14 @@
+use Rattle.std.proofs.Common.{◌≡◌, option_and_then, sym, ap, ◌∙◌}
+use Rattle.json.specs.Find as found
+use Rattle.json.specs.Value.{value_view}
+use Rattle.serde_json.specs.Read.{of_json}
+use Rattle.acd_codec.specs.Members.{member_name}
+use Rattle.acd_codec.specs.Documents.{data_of}
+use Rattle.acd_codec.proofs.Documents.{get_of}
+use Rattle.acd_codec.proofs.document.Document.find.Goals as goal
+
+pub returns : goal.returns
+returns c =
+    let j = value_view c.self.inside.value in
+    let m = member_name c.args.member in
+    ap (option_and_then of_json) (c.get.ensures ∙ ap (λ n. found.get n j) c.name.ensures) ∙ sym (get_of m j (data_of c.self.inside.text.now) c.self.invariant)
