@@ -1,3 +1,4 @@
+pub mod Documents
 pub mod Readings
 pub mod Adding
 pub mod Printed

@@ -1,6 +1,7 @@
 pub mod Members
 pub mod Services
 pub mod MemberReading
+pub mod Documents
 pub mod Reading
 pub mod RequestTexts
 pub mod ReplyTexts

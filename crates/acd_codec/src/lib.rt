@@ -3,6 +3,7 @@
 //! All that is written is compact JSON, the members of each object in the order of their names.
 #![tactic(auto)]
 
+mod document;
 mod events;
 mod fault;
 mod laws;
@@ -19,6 +20,6 @@ pub use fault::{FixedAnswer, ReadFault};
 pub use laws::{reads_back, request_formed, same_text};
 pub use member::{MALFORMED_STATUS, Member};
 pub use read_texts::{PlannedDevice, agent_text, call_text, device_text, queue_text};
-pub use reading::read_request;
+pub use reading::{RequestReader, read_request};
 pub use replies::{Rejected, outcome_status, rejected_text, reply_text};
 pub use requests::request_text;

@@ -11,7 +11,7 @@ use crate::answer_line::AnswerLine;
 use crate::moment::moment_of;
 use acd_book::{Book, Text};
 use acd_codec::{
-    FixedAnswer, MALFORMED_STATUS, Member, ReadFault, Rejected, read_request, rejected_text,
+    FixedAnswer, MALFORMED_STATUS, Member, ReadFault, Rejected, RequestReader, rejected_text,
 };
 use acd_desk::{Desk, Taken};
 use acd_terms::Request;
@@ -87,10 +87,16 @@ pub(crate) fn execute<B: Book>(
     written(alloc, request, taken)
 }
 
-fn read<B: Book>(alloc: Global, desk: &mut Desk<B>, moment: u32, json: &[u8]) -> AnswerLine
+fn read<B: Book>(
+    alloc: Global,
+    requests: &mut RequestReader,
+    desk: &mut Desk<B>,
+    moment: u32,
+    json: &[u8],
+) -> AnswerLine
     ensures { Answers (standing B.Book) desk.old (line_read moment (reads_as json.now)) (answered_text result) desk.new }
 {
-    match read_request(alloc, json) {
+    match requests.read(json) {
         Ok(request) => execute(alloc, desk, moment, &request),
         Err(fault) => unread(fault),
     }
@@ -98,7 +104,12 @@ fn read<B: Book>(alloc: Global, desk: &mut Desk<B>, moment: u32, json: &[u8]) ->
 
 /// The answer to a line, whose line end is left out.
 #[tactic(auto, unfolding(crate::specs::Input::line_of))]
-pub(crate) fn answer<B: Book>(alloc: Global, desk: &mut Desk<B>, text: &[u8]) -> AnswerLine
+pub(crate) fn answer<B: Book>(
+    alloc: Global,
+    requests: &mut RequestReader,
+    desk: &mut Desk<B>,
+    text: &[u8],
+) -> AnswerLine
     ensures { Answers (standing B.Book) desk.old (line_of text.now) (answered_text result) desk.new }
 {
     let Some((moment, json)) = moment_of(text) else {
@@ -107,5 +118,5 @@ pub(crate) fn answer<B: Book>(alloc: Global, desk: &mut Desk<B>, text: &[u8]) ->
     if json.len() > LONGEST {
         return fixed(FixedAnswer::BodyTooLarge);
     }
-    read(alloc, desk, moment, json)
+    read(alloc, requests, desk, moment, json)
 }

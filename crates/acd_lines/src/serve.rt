@@ -15,6 +15,7 @@ use crate::partial::Partial;
 use crate::sending::Stopped;
 use crate::split::split_once;
 use acd_book::Book;
+use acd_codec::RequestReader;
 use acd_desk::Desk;
 use itoa::Buffer;
 use std::alloc::Global;
@@ -39,6 +40,7 @@ pub(crate) fn push_answer<W: Write>(
 // Answers a line.
 fn serve<B: Book, W: Write>(
     alloc: Global,
+    requests: &mut RequestReader,
     desk: &mut Desk<B>,
     outbox: &mut Outbox,
     writer: &mut W,
@@ -47,7 +49,7 @@ fn serve<B: Book, W: Write>(
     ensures ok { OnOk result (LineDone (Answers (standing B.Book)) desk.old (line_of text.now) desk.new (W.contents writer.old) (W.contents writer.new) outbox.old.waiting.items outbox.new.waiting.items) }
     ensures err { OnErr result (LineStops (Answers (standing B.Book)) desk.old (line_of text.now) desk.new (W.contents writer.old) (W.contents writer.new) outbox.old.waiting.items) }
 {
-    let answered = answer(alloc, desk, text);
+    let answered = answer(alloc, requests, desk, text);
     push_answer(outbox, writer, &answered)
 }
 
@@ -63,6 +65,7 @@ fn without_return(text: &[u8]) -> &[u8]
 // Answers the line that ends in these bytes. A line that lies in them whole is not copied.
 fn end_line<B: Book, W: Write>(
     alloc: Global,
+    requests: &mut RequestReader,
     desk: &mut Desk<B>,
     partial: &mut Partial,
     outbox: &mut Outbox,
@@ -74,11 +77,12 @@ fn end_line<B: Book, W: Write>(
     ensures err { OnErr result (LineStops (Answers (standing B.Book)) desk.old (line_of (strip_last 13 (take 4109 (partial.old ++ end.now)))) desk.new (W.contents writer.old) (W.contents writer.new) outbox.old.waiting.items) }
 {
     if partial.is_empty() {
-        return serve(alloc, desk, outbox, writer, without_return(end));
+        return serve(alloc, requests, desk, outbox, writer, without_return(end));
     }
     partial.extend(end);
     serve(
         alloc,
+        requests,
         desk,
         outbox,
         writer,
@@ -91,6 +95,7 @@ fn end_line<B: Book, W: Write>(
 /// Takes what was read: the lines that end in it are answered, and their answers are written.
 pub(crate) fn feed<B: Book, W: Write>(
     alloc: Global,
+    requests: &mut RequestReader,
     desk: &mut Desk<B>,
     partial: &mut Partial,
     outbox: &mut Outbox,
@@ -103,7 +108,7 @@ pub(crate) fn feed<B: Book, W: Write>(
 {
     let mut rest = chunk;
     while let Some((end, behind)) = split_once(rest, b'\n') {
-        end_line(alloc, desk, partial, outbox, writer, end)?;
+        end_line(alloc, requests, desk, partial, outbox, writer, end)?;
         rest = behind;
     }
     partial.extend(rest);
@@ -113,6 +118,7 @@ pub(crate) fn feed<B: Book, W: Write>(
 /// Answers the last line, where the input does not end in a line feed.
 pub(crate) fn finish<B: Book, W: Write>(
     alloc: Global,
+    requests: &mut RequestReader,
     desk: &mut Desk<B>,
     partial: &Partial,
     outbox: &mut Outbox,
@@ -124,6 +130,6 @@ pub(crate) fn finish<B: Book, W: Write>(
     if partial.is_empty() {
         return outbox.flush(writer);
     }
-    serve(alloc, desk, outbox, writer, partial.as_slice())?;
+    serve(alloc, requests, desk, outbox, writer, partial.as_slice())?;
     outbox.flush(writer)
 }

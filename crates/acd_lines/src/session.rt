@@ -10,6 +10,7 @@ use crate::retry::retried;
 use crate::sending::Stopped;
 use crate::serve::{feed, finish};
 use acd_book::Book;
+use acd_codec::RequestReader;
 use acd_desk::Desk;
 use std::alloc::{AllocError, Global};
 use std::io::{Read, Write};
@@ -71,6 +72,7 @@ fn answer_lines<B: Book, R: Read, W: Write>(
     ensures stopped { OnErr result (AnsweredSome (standing B.Book desk.old) (R.remaining reader.old) (W.contents writer.old) (W.contents writer.new) (standing B.Book desk.new)) }
     ensures memory { IfErr result (λ fault. fault ≡ LinesFault.NoMemory → (reader.new ≡ reader.old) × (writer.new ≡ writer.old) × (desk.new ≡ desk.old)) }
 {
+    let mut requests = RequestReader::new(alloc);
     let mut chunk = vec![in alloc; 0u8; CHUNK]?;
     let mut partial = Partial::new(alloc)?;
     let mut outbox = Outbox::new(alloc)?;
@@ -80,10 +82,18 @@ fn answer_lines<B: Book, R: Read, W: Write>(
         }
         match reader.read(chunk.as_mut_slice()) {
             Ok(0) => {
-                finish(alloc, desk, &partial, &mut outbox, writer)?;
+                finish(alloc, &mut requests, desk, &partial, &mut outbox, writer)?;
                 return Ok(());
             }
-            Ok(n) => feed(alloc, desk, &mut partial, &mut outbox, writer, &chunk[..n])?,
+            Ok(n) => feed(
+                alloc,
+                &mut requests,
+                desk,
+                &mut partial,
+                &mut outbox,
+                writer,
+                &chunk[..n],
+            )?,
             Err(e) => retried(e, LinesFault::Read)?,
         }
     }
