@@ -1,5 +1,5 @@
 -- A look-up in JSON as it was read, and in the data that it is.
-use Rattle.std.proofs.Common.{◌&&◌, ◌==◌, ◌<◌, ◌+◌, ◌^◌, [], ◌∷◌, length, drop, slice_index, slice_index_or, nat_lt, nat_le, Bor, ◌≡◌, ℕ, List, Bool, true, false, cond, Option, Some, None, option_map, option_and_then, is_some, refl, sym, ap, subst, ◌∙◌, true≢false}
+use Rattle.std.proofs.Common.{◌&&◌, ◌==◌, ◌<◌, ◌+◌, ◌^◌, ◌∷◌, length, drop, slice_index, slice_index_or, nat_lt, nat_le, Bor, ◌≡◌, ℕ, List, Bool, true, false, cond, Option, Some, None, option_map, option_and_then, is_some, refl, sym, ap, subst, ◌∙◌, true≢false}
 use Rattle.std.specs.Str.{bytes_eq}
 use Rattle.std.proofs.lemmas.Slice.Eq.{bytes_eq-Decides}
 use Rattle.std.proofs.lemmas.List.{at_drop_more}
@@ -10,7 +10,7 @@ use Rattle.json.specs.Value.{value_view, items_view, members_view}
 use Rattle.json.specs.Json as json
 use Rattle.json.specs.Find as found
 use Rattle.serde_json.specs.Data.{Num, Data, item, Members, no_members, number, array, object, put}
-use Rattle.serde_json.specs.Find.{get, get_member, as_str, as_number, as_u64, as_object}
+use Rattle.serde_json.specs.Find.{get, get_member, as_str, as_number, as_u64}
 use Rattle.serde_json.specs.Read.{of_json, of_items, of_members, number_of, number_from, is_integer}
 use Rattle.serde_json.proofs.Views.{get_member-put, get_member-put_other}
 

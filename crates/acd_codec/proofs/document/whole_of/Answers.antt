@@ -1,4 +1,4 @@
-use Rattle.std.proofs.Common.{◌≡◌, false, drop, option_and_then, sym, ap, ◌∙◌}
+use Rattle.std.proofs.Common.{false, drop, option_and_then, sym, ap, ◌∙◌}
 use Rattle.fast_float.specs.Text.{scan}
 use Rattle.serde_json.specs.Find.{as_u64}
 use Rattle.serde_json.specs.Read.{number_of, number_from}
