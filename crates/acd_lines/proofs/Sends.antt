@@ -101,6 +101,11 @@ pub if_fault : {T E : Type 0} (r : Result T E) (fault : E) (P : Type 0) → P �
 if_fault (Ok x) fault P p = tt
 if_fault (Err e) fault P p = λ is. p
 
+-- it is this fault, and not the other
+pub other_fault : {T E : Type 0} (r : Result T E) (x given fault : E) (P : Type 0) → IsErrAnd r (λ e. e ≡ x) → x ≡ given → (given ≡ fault → P) → IfErr r (λ (e : E). e ≡ fault → P)
+other_fault (Ok y) x given fault P h told other = tt
+other_fault (Err e) x given fault P h told other = λ is. other (sym told ∙ sym h ∙ is)
+
 pub OnErr-weaker : {T E : Type 0} (r : Result T E) (P Q : Type 0) → (P → Q) → OnErr r P → OnErr r Q
 OnErr-weaker (Ok x) P Q f h = tt
 OnErr-weaker (Err e) P Q f h = f h

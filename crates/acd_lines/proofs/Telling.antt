@@ -7,10 +7,9 @@ use Rattle.acd_desk.specs.declared.taken.Taken.TheVariants as taken
 use Rattle.acd_desk.specs.Arrived.{at}
 use Rattle.acd_desk.specs.Ran.{Standing, Took, Ran}
 use Rattle.acd_desk.proofs.Many.{Settles, ran_nothing, ran_more, forgets}
-use Rattle.std.specs.Io.KnownBytes.{Appends, Consumes}
 use Rattle.acd_lines.specs.Input.{cut, Line, no_moment, too_long, faulty, arrival, line_of, text_of, lines_of, arrivals_in}
 use Rattle.acd_lines.specs.Answers.{Answers, IsWritten}
-use Rattle.acd_lines.specs.Output.{AnswerLines, IsInput, IsOutput, IsBegun, whole_lines}
+use Rattle.acd_lines.specs.Output.{AnswerLines, whole_lines}
 use Rattle.acd_lines.specs.Parts.{Serves}
 use Rattle.acd_lines.specs.Lines.{AnsweredAll, AnsweredRead, AnsweredFirst, AnsweredSome}
 use Rattle.acd_lines.proofs.Turns.{AllDone, ReadDone, FirstDone, SomeDone}

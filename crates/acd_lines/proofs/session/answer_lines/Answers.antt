@@ -3,9 +3,10 @@ use Rattle.std.specs.Io.KnownBytes.{Consumes}
 use Rattle.std.proofs.KnownBytes.{Consumes-nil, Consumes-kept, Consumes-trans}
 use Rattle.acd_desk.specs.Ran.{standing}
 use Rattle.acd_lines.specs.Answers.{Answers}
-use Rattle.acd_lines.proofs.Sends.{on_err, if_fault}
+use Rattle.acd_lines.proofs.Sends.{on_err, if_fault, other_fault}
 use Rattle.acd_lines.proofs.Turns.{chunk_read, starts, stands_same, input_ended, fed, all_done, all_first, first_done, end_stopped, feed_stopped, read_done, read_stopped, nothing_read}
 use Rattle.acd_lines.proofs.Telling.{all_told, read_told, first_told, some_told}
+use Rattle.acd_lines.specs.declared.session.LinesFault.{LinesFault}
 use Rattle.acd_lines.proofs.session.answer_lines.Goals as goal
 use Rattle.acd_lines.proofs.session.answer_lines.Goals.{in-Ok+in_ok-feed-in-Ok, in-Err+in_ok-retried-in-Err}
 
@@ -139,3 +140,8 @@ returns-clause-read g c = λ _.
     let loop = c.loop.invariant in
     read_told (standing g.B.Book) (λ d x clean sound opened stop. g.met.B.Book.settled d.book x clean sound opened stop) (g.R.Read.remaining c.args.reader.now) (g.R.Read.remaining c.loop.reader) c.args.desk.now c.loop.desk (g.W.Write.contents c.args.writer.now) (g.W.Write.contents c.loop.writer)
     (read_done (Answers (standing g.B.Book)) 4109 c.args.desk.now loop.1 c.loop.partial c.loop.outbox.waiting.items c.loop.desk (g.W.Write.contents c.args.writer.now) (g.W.Write.contents c.loop.writer) (g.R.Read.remaining c.args.reader.now) (g.R.Read.remaining c.loop.reader) loop.4 loop.3 loop.2)
+
+pub returns-in_err-retried-in-Err-clause-memory : goal.returns-in_err-retried-in-Err-clause-memory
+returns-in_err-retried-in-Err-clause-memory g c =
+    let failed = c.in_err-retried-in-Err in
+    other_fault c.from_residual-in_err-retried-in-Err.result failed.field-0.0 LinesFault.Read LinesFault.NoMemory _ c.from_residual-in_err-retried-in-Err.ensures.1 failed.ensures.told (λ same. absurd (cc (same)))
