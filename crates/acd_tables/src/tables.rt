@@ -12,7 +12,6 @@ use acd_terms::{
     MonitorRecord, Rows, StationRecord,
 };
 use std::alloc::{AllocError, Global};
-use std::collections::btree_map::Values;
 use std::marker::Model;
 
 /// What is planned at a device.
@@ -112,27 +111,6 @@ impl Tables {
         ensures { result ≡ monitor_of self.now monitor }
     {
         self.records.monitor(monitor)
-    }
-
-    /// The groups in ascending device.
-    pub fn groups(&self) -> Values<'_, DeviceId, GroupRecord>
-        ensures { result ≡ self.now.groups }
-    {
-        self.records.groups()
-    }
-
-    /// The agents in ascending number.
-    pub fn agents(&self) -> Values<'_, AgentId, AgentRecord>
-        ensures { result ≡ self.now.agents }
-    {
-        self.records.agents()
-    }
-
-    /// The connections in ascending call and device.
-    pub fn connections(&self) -> Values<'_, (u64, DeviceId), ConnectionRecord>
-        ensures { result ≡ self.now.connections }
-    {
-        self.records.connections()
     }
 
     pub fn is_group(&self, device: DeviceId) -> bool
