@@ -25,7 +25,6 @@ pub enum DeviceKind {
 ///
 /// A write that would give two agents one station, or let a call wait or an agent be ready in a group
 /// that isn't planned, is refused as if there were no memory.
-#[derive(Drop)]
 pub struct Tables {
     pub(crate) alloc: Global,
     pub(crate) records: Records,
@@ -42,6 +41,19 @@ impl Model for Tables {
     ghost view = { λ t. t.records };
 
     ghost invariant = { λ t. IsIndexed t.records t.indexes };
+}
+
+// Written out, so that a caller that lets tables go sees one call and not each map of them.
+impl Drop for Tables {
+    fn drop(self) {
+        let Tables {
+            alloc: _,
+            records,
+            indexes,
+        } = self;
+        drop(records);
+        drop(indexes);
+    }
 }
 
 impl Tables {
