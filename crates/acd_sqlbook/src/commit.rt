@@ -1,9 +1,11 @@
 //! All writes of a commit, in one transaction.
 
-ghost use Rattle.std.specs.Prelude.{◌≡◌, ◌↔◌, false, IfSome, OnOk, OnErr, IsTrue, take};
+ghost use Rattle.std.specs.Prelude.{◌≡◌, ◌↔◌, ◌<◌, [], length, false, None, IfSome, OnOk, OnErr, IsTrue, take};
 ghost use Rattle.sqlite.specs.State.{HasCleanDisk};
 ghost use Rattle.sqlite.specs.Held.{state};
 ghost use Rattle.acd_codec.specs.RequestTexts.{request_text};
+ghost use Rattle.acd_terms.specs.Lists.{IsAscending};
+ghost use Rattle.acd_model.specs.Rules.Plan.{connection_order};
 ghost use Rattle.acd_book.specs.Content.{Content};
 ghost use Rattle.acd_sqlbook.specs.Commit.{ChangeFits, EventFits, filed, all_filed, with_event, with_events, made_by, top_call, top_monitor, last_call, last_monitor, counted};
 ghost use Rattle.acd_statements.specs.Draft.{Drafts, Works, Holds, AddsStop, Fits, FiguresFit, MetaFits};
@@ -104,13 +106,39 @@ fn write_change<S: Alter>(tx: &mut Transaction<'_, S>, change: &Change) -> Resul
     make_change(tx, change)
 }
 
+// Whether the second change takes away the connection that the first one puts.
+fn is_taken_away(first: &Change, second: &Change) -> bool
+    ensures { IsTrue result → (c : Content) → IsAscending connection_order c.rows.connections → filed (filed c first.now) second.now ≡ filed c second.now }
+{
+    match (first, second) {
+        (Change::PutConnection(connection), Change::RemoveConnection(call, device)) => {
+            connection.call == *call && connection.device == *device
+        }
+        _ => false,
+    }
+}
+
+// The change that is written next, and those behind it: a connection that the very next change takes away isn't put.
+fn next_written(changes: &[Change]) -> Option<(&Change, &[Change])>
+    ensures some { IfSome result (λ p. (length p.1.now < length changes.now) × ((c : Content) → IsAscending connection_order c.rows.connections → all_filed c changes.now ≡ all_filed (filed c p.0.now) p.1.now)) }
+    ensures none { result ≡ None → changes.now ≡ [] }
+{
+    match changes {
+        [first, second, behind @ ..] if is_taken_away(first, second) => Some((second, behind)),
+        [first, behind @ ..] => Some((first, behind)),
+        [] => None,
+    }
+}
+
 fn write_changes<S: Alter>(tx: &mut Transaction<'_, S>, changes: &[Change]) -> Result<(), Error>
     ensures same { tx.new.conn.ghost_name ≡ tx.old.conn.ghost_name }
     ensures works { Works (state S.Store tx.old.conn.now) (state S.Store tx.new.conn.now) }
     ensures put { HasCleanDisk (state S.Store tx.new.conn.now) → OnOk result ((c : Content) → Drafts (state S.Store tx.old.conn.now) c → Drafts (state S.Store tx.new.conn.now) (all_filed c changes.now)) }
 {
-    for change in changes {
+    let mut rest = changes;
+    while let Some((change, behind)) = next_written(rest) {
         write_change(tx, change)?;
+        rest = behind;
     }
     Ok(())
 }
