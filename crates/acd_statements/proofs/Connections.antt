@@ -2,15 +2,16 @@
 use Rattle.std.proofs.Common.{◌≡◌, ◌⊎◌, inl, inr, ℕ, ℤ, List, [], ◌∷◌, ◌++◌, map, filter, drop, Bool, true, false, not, ◌==◌, ◌&&◌, ◌||◌, Some, Option, Ok, refl, sym, ap, subst, ◌∙◌}
 use Rattle.std.specs.List.{list_any, list_all}
 use Rattle.std.specs.List.Sorted.{IsPermutation}
-use Rattle.std.specs.Ordering.{is_eq, is_lt, ordering_reverse}
-use Rattle.std.specs.declared.cmp.Ordering.TheVariants.{Less}
-use Rattle.std.proofs.lemmas.Bool.{false_from_ne_true}
+use Rattle.std.specs.Ordering.{is_eq, is_lt, is_ne, ordering_reverse}
+use Rattle.std.specs.declared.cmp.Ordering.{Ordering}
+use Rattle.std.specs.declared.cmp.Ordering.TheVariants.{Less, Equal, Greater}
+use Rattle.std.proofs.lemmas.Bool.{false_from_ne_true, not-true, and_parts, and_from}
 use Rattle.std.proofs.lemmas.List.Sorted.{IsPermutation-map, list_any-IsPermutation}
 use Rattle.sqlite_value.specs.declared.value.Value.{Value}
 use Rattle.sqlite_value.specs.declared.value.Value.TheVariants.{Null, Int}
 use Rattle.sqlite_value.specs.declared.keys.Collation.TheVariants.{Binary}
 use Rattle.sqlite_value.specs.Order.{Row, value_cmp}
-use Rattle.sqlite_value.specs.Keys.{first_key}
+use Rattle.sqlite_value.specs.Keys.{first_key, plain}
 use Rattle.sqlite_value.proofs.OrderLemmas.{value_cmp_total}
 use Rattle.std.proofs.lemmas.Cmp.{tied_itself}
 use Rattle.sqlite_trees.proofs.ListLemmas.{ascending-filter, filter_none}
@@ -22,6 +23,8 @@ use Rattle.sqlite_sql.specs.declared.ops.BinaryOp.TheVariants.{Compare}
 use Rattle.sqlite_sql.specs.declared.ops.CompareOp.TheVariants.{Eq}
 use Rattle.sqlite_schema.specs.declared.schema.Table.{Table}
 use Rattle.sqlite_schema.specs.declared.schema.Kind.TheVariants.{Integer}
+use Rattle.sqlite_schema.specs.declared.schema.Constraint.TheVariants.{Unique}
+use Rattle.sqlite_schema.specs.Rules as rule
 use Rattle.sqlite_rules.specs.Cast.{cast, cast_row}
 use Rattle.sqlite_rules.specs.Edit.{Edit, edited, edit_of, id_in, left_by, are_fresh, put_all, without_all, with_rowid, next_rowid}
 use Rattle.sqlite_rules.specs.Calls.{ids_of}
@@ -52,7 +55,7 @@ use Rattle.acd_statements.proofs.Frames.{drafted}
 use Rattle.acd_statements.proofs.KeyedRows.{id_tied}
 use Rattle.acd_statements.proofs.Puts.{truth_back}
 use Rattle.acd_statements.proofs.Scans.{showing, passing, filter_like, all_out}
-use Rattle.acd_statements.proofs.Statements.{Deletion, deletion_edit, deleted, Replaces, replaces, inert_works}
+use Rattle.acd_statements.proofs.Statements.{Insertion, insertion_edit, inserted, Deletion, deletion_edit, deleted, Replaces, replaces, inert_works}
 use Rattle.acd_statements.proofs.Texts as text
 use Rattle.acd_statements.proofs.Upserts.{Upsertion, Way, put, changed, upserted}
 use Rattle.acd_statements.proofs.Writes.{run, inert, either, cast_id, cast_null, cast_maybe}
@@ -234,6 +237,74 @@ puts_connection r c old new count d ran =
     let are = ways db c.rows.connections (d.encodes table.Connections) r (next_rowid (db connections.tree)) old.step_limit done.0 way done.3.applies.fresh in
     drafted table.Connections _ (edited db done.0) old new c are
     (subst (λ (t : Table). Replaces book_schema t.tree (edited db done.0) old new) done.2 (replaces book_schema old new done.0 (edited db done.0) done.3 refl)) d
+
+-- ---- a connection inserted
+
+new_connection : Insertion book_schema text.insert_connection
+unfolding understood everything
+new_connection = record { at = 5; layout = connections; terms = lit Null ∷ run 0 7; width = 8; place = refl; command = refl; plain = (refl, refl); inert = inert_works book_schema inert connections.tree }
+
+no_clash : (b : Bool) → (not b && true) ≡ true → b ≡ true → ⊥
+no_clash true h e = cc (h)
+no_clash false h e = cc (e)
+
+apart_is : (o : Ordering) → is_eq o ≡ false → is_true (from_truth (Some (is_ne o))) ≡ true
+apart_is Less h = refl
+apart_is Equal h = absurd (cc (h))
+apart_is Greater h = refl
+
+differs : (n i : ℤ) → is_eq (value_cmp (Int i) (Int n)) ≡ false → rule.differ (Int i) (Int n) ≡ true
+unfolding binary
+differs n i h = apart_is (value_cmp (Int i) (Int n)) h
+
+clash_is : (n i : ℤ) (r x : ConnectionRecord) → rule.agree plain (1 ∷ 2 ∷ []) (connection_row i x) (1 ∷ 2 ∷ []) (connection_row n r) ≡ ((x.call == r.call) && (x.device == r.device))
+unfolding binary first_key value_cmp
+clash_is n i r x = two (is_eq (value_cmp (id_value x.call) (id_value r.call))) (is_eq (value_cmp (id_value x.device) (id_value r.device))) ∙ both_ids x.call x.device r.call r.device
+
+module _ (rows : List Row) (next : Trees) (records : List ConnectionRecord) (are : AreConnections rows records) (n : ℤ) (r : ConnectionRecord)
+    (fresh : are_fresh rows (connection_row n r ∷ []) ≡ true) (is : next connections.tree ≡ put_all rows (connection_row n r ∷ [])) (fits : rule.Fits book_schema next) where
+  abbrev own : Row
+  own = connection_row n r
+
+  abbrev clash : Row → Bool
+  clash y = rule.agree plain (1 ∷ 2 ∷ []) y (1 ∷ 2 ∷ []) own && rule.differ (rowid y) (rowid own)
+
+  -- the rows behind an INSERT have no key twice
+  unique : list_any clash (next connections.tree) ≡ true → ⊥
+  unique = no_clash (list_any clash (next connections.tree)) (at_each (λ row. rule.passes Unique book_schema next (table_of connections) row ≡ true) (next connections.tree) own
+      (fits.rules Unique (λ e. cc (e))).1.1.1.1.1.0 (subst (λ l. Has l own) (sym is) (put_all_adds (own ∷ []) rows own fresh (inl refl))))
+
+  abbrev tied : Row → Bool
+  tied y = is_eq (value_cmp (rowid y) (rowid own))
+
+  other_number : (row : Row) → Has rows row → tied row ≡ false
+  other_number row there =
+      let none : list_any tied rows ≡ false = not-true (list_any tied rows) (and_parts (not (list_any tied rows)) true fresh).0 in
+      false_from_ne_true (tied row) (λ met. let some = some_from tied rows row there met in cc)
+
+  free : (row : Row) → Has rows row → ¬ HasKey r.call r.device row
+  free row there key =
+      let known = are.known row there in
+      let same = key_of known.0 known.1 r.call r.device (subst (HasKey r.call r.device) known.2 key) in
+      let both : clash (connection_row known.0 known.1) ≡ true = and_from _ _ (clash_is n known.0 r known.1 ∙ is_of_self r.call r.device known.1 same.0 same.1)
+      (differs n known.0 (subst (λ y. tied y ≡ false) known.2 (other_number row there))) in
+      unique (some_from clash (next connections.tree) row (subst (λ l. Has l row) (sym is) (put_all_keeps (own ∷ []) rows row fresh there)) (subst (λ y. clash y ≡ true) (sym known.2) both))
+
+  pub inserted_beside : AreConnections (put_all rows (own ∷ [])) (put_by (connection_order r) records r)
+  inserted_beside = placed rows rows records are are.rising n r fresh (λ row there. (there, free row there)) (λ row there other. there)
+
+pub inserts_connection : (r : ConnectionRecord) (c : Content) (old new : State) (count : ℕ) → Drafts old c → Executes text.insert_connection (connection_values r) old new (Ok count)
+    → Drafts new (with_part table.Connections (put_by (at_connection r.call r.device) c.rows.connections r) c)
+unfolding new_connection
+inserts_connection r c old new count d ran =
+    let rows = old.now.trees connections.tree in
+    let made = inserted book_schema text.insert_connection new_connection (connection_values r) old new count d.schema ran in
+    let own = ap (with_rowid Chosen rows) (cast_values Null r cast_null) in
+    let fresh = subst (λ k. are_fresh rows (k ∷ []) ≡ true) own made.applies.fresh in
+    let is = made.applies.rows ∙ ap (λ k. put_all rows (k ∷ [])) own in
+    let are = inserted_beside rows new.now.trees c.rows.connections (d.encodes table.Connections) (next_rowid rows) r fresh is made.applies.fits in
+    drafted table.Connections _ (put_all rows (connection_row (next_rowid rows) r ∷ [])) old new c are
+    (replaces book_schema old new (insertion_edit new_connection (connection_values r) old.now.trees) _ made (ap (λ k. put_all rows (k ∷ [])) own)) d
 
 -- ---- a connection taken out
 

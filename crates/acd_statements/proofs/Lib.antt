@@ -13,6 +13,7 @@ mod ConnectionRows
 mod Selections
 pub mod Statements
 mod Upserts
+mod Updates
 mod Puts
 mod Removals
 mod Frames

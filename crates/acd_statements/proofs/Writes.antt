@@ -1,11 +1,12 @@
 -- The statements that put records.
-use Rattle.std.proofs.Common.{◌≡◌, ℕ, zero, suc, ◌+◌, List, [], ◌∷◌, ◌==◌, ◌&&◌, Some, None, Option, Bool, true, false, cond, Ok, Err, Result, OnOk, refl, ◌∙◌, slice_get}
+use Rattle.std.proofs.Common.{◌≡◌, ℕ, pos, zero, suc, ◌+◌, List, [], ◌∷◌, ◌==◌, ◌&&◌, Some, None, Option, Bool, true, false, not, cond, drop, map, Ok, Err, Result, OnOk, refl, ap, subst, ◌∙◌, slice_get}
 use Rattle.sqlite_value.specs.declared.value.Value.{Value}
 use Rattle.sqlite_value.specs.declared.value.Value.TheVariants.{Null}
 use Rattle.sqlite_value.specs.declared.keys.Collation.TheVariants.{Binary}
 use Rattle.sqlite_value.specs.Order.{Row, value_cmp}
 use Rattle.std.specs.Prelude.{bytes_eq}
 use Rattle.std.specs.List.{AllByRecursion}
+use Rattle.std.specs.List.Sorted.{IsPermutation}
 use Rattle.std.specs.Ordering.{nat_cmp, is_eq}
 use Rattle.sqlite_sql.specs.Term.{Term, lit, col, op2}
 use Rattle.sqlite_sql.specs.Ops.{unary, binary, is_true, from_truth}
@@ -16,11 +17,13 @@ use Rattle.sqlite_schema.specs.declared.command.Conflict.TheVariants.{Abort}
 use Rattle.sqlite_schema.specs.declared.command.Source.TheVariants.{Values}
 use Rattle.sqlite_schema.specs.declared.command.Command.TheVariants.{Insert, InsertOr, Delete}
 use Rattle.sqlite_rules.specs.Cast.{cast, cast_row}
+use Rattle.sqlite_rules.specs.Edit.{edited, without_all}
+use Rattle.sqlite_trees.specs.Tree.{Trees, put_row}
 use Rattle.sqlite.specs.declared.error.Error.{Error}
 use Rattle.sqlite.specs.Listing.{understood}
 use Rattle.sqlite.specs.State.{State, Executes}
 use Rattle.sqlite.specs.Values.{or_null}
-use Rattle.sqlite.proofs.Callers.{IsPlain, command_of}
+use Rattle.sqlite.proofs.Callers.{IsPlain, command_of, one_permutation}
 use Rattle.sqlite_tied.specs.Compute.{everything}
 use Rattle.acd_terms.specs.Lists.{put_by, remove_by}
 use Rattle.acd_terms.specs.Columns.{columns_of}
@@ -46,11 +49,12 @@ use Rattle.acd_statements.specs.Draft.{Drafts, Ran}
 use Rattle.acd_statements.proofs.Texts as text
 use Rattle.acd_statements.proofs.Frames.{drafted, only_meta}
 use Rattle.acd_statements.proofs.Removals.{Removes, removed_row}
-use Rattle.acd_statements.proofs.Scans.{scan}
+use Rattle.acd_statements.proofs.Scans.{scan, showing, passing}
 use Rattle.acd_statements.proofs.KeyedRows.{id_tied}
 use Rattle.acd_statements.proofs.Puts.{Inserts, Upserts, truth_back, inserted_row, upserted_row}
-use Rattle.acd_statements.proofs.Statements.{Deletion, Insertion, IsInert, inert_works}
+use Rattle.acd_statements.proofs.Statements.{Deletion, Insertion, IsInert, inert_works, replaces}
 use Rattle.acd_statements.proofs.Upserts.{Upsertion, clause_of}
+use Rattle.acd_statements.proofs.Updates.{Updating, updating_edit, updated}
 
 -- ---- what the texts of a put say, for a table of so many columns whose first is its key
 
@@ -210,6 +214,21 @@ puts_call k c old new count d ran =
     let made = upserted_row book_schema text.put_call (λ (k : CallRecord). k.call) call_row call_values calls_put k c.rows.calls old new count d.schema (d.encodes table.Calls) ran in
     drafted table.Calls _ _ old new c made.are_rows made.replaces d
 
+new_call_text : Insertion book_schema text.insert_call
+unfolding understood everything
+new_call_text = insertion text.insert_call 4 3 schema.calls refl refl (refl, refl)
+
+new_call_put : Inserts book_schema text.insert_call (λ (k : CallRecord). k.call) call_row call_values
+unfolding new_call_text calls_put calls_text
+new_call_put = record { it = new_call_text; files = calls_put.files; source = λ k. refl }
+
+pub inserts_call : (k : CallRecord) (c : Content) (old new : State) (count : ℕ) → Drafts old c → Executes text.insert_call (call_values k) old new (Ok count)
+    → Drafts new (with_part table.Calls (put_by (at_call k.call) c.rows.calls k) c)
+unfolding new_call_put new_call_text
+inserts_call k c old new count d ran =
+    let made = inserted_row book_schema text.insert_call (λ (k : CallRecord). k.call) call_row call_values new_call_put k c.rows.calls old new count d.schema (d.encodes table.Calls) ran in
+    drafted table.Calls _ _ old new c made.are_rows made.replaces d
+
 -- ---- monitors
 
 monitors_text : Upsertion book_schema text.put_monitor
@@ -331,6 +350,39 @@ puts_meta m c old new count d ran =
     let was : AreRows (λ (m : Meta). 1) meta_row (old.now.trees schema.meta.tree) (meta_of c.rows ∷ []) = record { rows_are = d.encodes table.Meta; ascending = (tt, tt) } in
     let made = upserted_row book_schema text.put_meta (λ (m : Meta). 1) meta_row meta_values meta_put m (meta_of c.rows ∷ []) old new count d.schema was ran in
     drafted table.Meta _ _ old new c refl made.replaces d
+
+-- what an UPDATE binds: the limits and the counters, without the key and the version, which stay
+abbrev pub set_values : Meta → Row
+set_values m = drop 2 (meta_values m)
+
+abbrev own_row : List Term
+own_row = op2 (Compare Eq Binary) (col 1 0) (lit (id_value 1)) ∷ []
+
+abbrev reset : List Term
+reset = col 1 0 ∷ col 1 0 ∷ lit Null ∷ col 1 2 ∷ run 0 11
+
+meta_set : Updating book_schema text.set_meta
+unfolding understood everything
+meta_set = record { at = 0; layout = schema.meta; terms = own_row; project = reset; place = refl; command = refl; plain = (refl, refl); inert = inert_works book_schema inert schema.meta.tree }
+
+-- the one row passes, and the row that it becomes takes its place
+one_set : (m was : Meta) (db : Trees) (rows : List Row) → db schema.meta.tree ≡ meta_row was ∷ []
+    → IsPermutation (map (showing (set_values m) reset) (passing (set_values m) own_row (db schema.meta.tree))) rows → edited db (updating_edit db schema.meta rows) ≡ meta_row m ∷ []
+unfolding binary meta_put meta_text
+one_set m was db rows is found =
+    let one = ap (passing (set_values m) own_row) is ∙ ap (λ b. cond b (meta_row was ∷ []) []) (by_id 1 1) in
+    let rows_are : rows ≡ (id_value 1 ∷ meta_row m) ∷ [] = one_permutation _ rows (subst (λ l. IsPermutation l rows) (ap (map (showing (set_values m) reset)) one) found) in
+    let left : without_all (db schema.meta.tree) (pos 1 ∷ []) ≡ [] = ap (λ l. without_all l (pos 1 ∷ [])) is ∙ ap (λ b. cond (not b) (meta_row was ∷ []) []) (id_tied 1 1) in
+    ap (λ l. edited db (updating_edit db schema.meta l)) rows_are
+    ∙ ap (λ k. put_row k (without_all (db schema.meta.tree) (pos 1 ∷ []))) (meta_put.files.casts m)
+    ∙ ap (put_row (meta_row m)) left
+
+pub sets_meta : (m : Meta) (c : Content) (old new : State) (count : ℕ) → Drafts old c → Executes text.set_meta (set_values m) old new (Ok count) → Drafts new (with_part table.Meta m c)
+unfolding meta_set
+sets_meta m c old new count d ran =
+    let made = updated book_schema text.set_meta meta_set (set_values m) old new count d.schema ran in
+    let rows_are = one_set m (meta_of c.rows) old.now.trees made.rows (d.encodes table.Meta) made.found in
+    drafted table.Meta m (meta_row m ∷ []) old new c refl (replaces book_schema old new (updating_edit old.now.trees schema.meta made.rows) (meta_row m ∷ []) made.changed rows_are) d
 
 -- ---- records taken out
 

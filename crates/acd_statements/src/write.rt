@@ -126,6 +126,26 @@ pub fn put_call<S: Alter>(tx: &mut Transaction<'_, S>, call: &CallRecord) -> Res
     )
 }
 
+/// Puts a call that has no row. One that has a row is the store's to refuse.
+pub fn insert_call<S: Alter>(tx: &mut Transaction<'_, S>, call: &CallRecord) -> Result<(), Error>
+    requires { Fits call.now.call }
+    ensures same { tx.new.conn.ghost_name ≡ tx.old.conn.ghost_name }
+    ensures works { Works (state S.Store tx.old.conn.now) (state S.Store tx.new.conn.now) }
+    ensures put { HasCleanDisk (state S.Store tx.new.conn.now) → OnOk result ((c : Content) → Drafts (state S.Store tx.old.conn.now) c
+        → Drafts (state S.Store tx.new.conn.now) (with_part Table.Calls (put_by (at_call call.now.call) c.rows.calls call.now) c)) }
+{
+    write(
+        tx,
+        "INSERT INTO calls (call, caller, called, since) VALUES (?1, ?2, ?3, ?4)",
+        &[
+            bind::integer(call.call),
+            bind::device(call.caller),
+            bind::device(call.called),
+            bind::small(call.since),
+        ],
+    )
+}
+
 pub fn put_monitor<S: Alter>(
     tx: &mut Transaction<'_, S>,
     monitor: &MonitorRecord,
@@ -233,6 +253,33 @@ pub fn put_meta<S: Alter>(tx: &mut Transaction<'_, S>, meta: &Meta) -> Result<()
     )
 }
 
+/// Writes the limits and the counters over those that are there.
+pub fn set_meta<S: Alter>(tx: &mut Transaction<'_, S>, meta: &Meta) -> Result<(), Error>
+    requires { MetaFits meta.now }
+    ensures same { tx.new.conn.ghost_name ≡ tx.old.conn.ghost_name }
+    ensures works { Works (state S.Store tx.old.conn.now) (state S.Store tx.new.conn.now) }
+    ensures put { HasCleanDisk (state S.Store tx.new.conn.now) → OnOk result ((c : Content) → Drafts (state S.Store tx.old.conn.now) c
+        → Drafts (state S.Store tx.new.conn.now) (with_part Table.Meta meta.now c)) }
+{
+    write(
+        tx,
+        "UPDATE meta SET max_requests = ?1, max_calls = ?2, max_groups = ?3, max_stations = ?4, max_agents = ?5, max_monitors = ?6, last_stamp = ?7, last_moment = ?8, last_call = ?9, last_monitor = ?10, last_event = ?11 WHERE id = 1",
+        &[
+            bind::integer(meta.limits.requests),
+            bind::integer(meta.limits.calls),
+            bind::integer(meta.limits.groups),
+            bind::integer(meta.limits.stations),
+            bind::integer(meta.limits.agents),
+            bind::integer(meta.limits.monitors),
+            bind::integer(meta.last_stamp),
+            bind::small(meta.last_moment),
+            bind::integer(meta.last_call),
+            bind::integer(meta.last_monitor),
+            bind::integer(meta.last_event),
+        ],
+    )
+}
+
 pub fn drop_call<S: Alter>(tx: &mut Transaction<'_, S>, call: u64) -> Result<(), Error>
     requires { Fits call }
     ensures same { tx.new.conn.ghost_name ≡ tx.old.conn.ghost_name }
@@ -275,6 +322,33 @@ pub fn put_connection<S: Alter>(
     write(
         tx,
         "INSERT INTO connections (call, device, state, grp, place, queued, offered) VALUES (?1, ?2, ?3, ?4, ?5, ?6, ?7) ON CONFLICT (call, device) DO UPDATE SET state = excluded.state, grp = excluded.grp, place = excluded.place, queued = excluded.queued, offered = excluded.offered",
+        &[
+            bind::integer(connection.call),
+            bind::device(connection.device),
+            bind::small(connection_code(connection.state)),
+            bind::device_or_null(connection.group),
+            bind::integer_or_null(connection.place),
+            bind::small_or_null(connection.queued),
+            bind::small_or_null(connection.offered),
+        ],
+    )
+}
+
+/// Puts a connection that has no row. One that has a row is the store's to refuse.
+pub fn insert_connection<S: Alter>(
+    tx: &mut Transaction<'_, S>,
+    connection: &ConnectionRecord,
+) -> Result<(), Error>
+    requires call { Fits connection.now.call }
+    requires place { IfSome connection.now.place Fits }
+    ensures same { tx.new.conn.ghost_name ≡ tx.old.conn.ghost_name }
+    ensures works { Works (state S.Store tx.old.conn.now) (state S.Store tx.new.conn.now) }
+    ensures put { HasCleanDisk (state S.Store tx.new.conn.now) → OnOk result ((c : Content) → Drafts (state S.Store tx.old.conn.now) c
+        → Drafts (state S.Store tx.new.conn.now) (with_part Table.Connections (put_by (at_connection connection.now.call connection.now.device) c.rows.connections connection.now) c)) }
+{
+    write(
+        tx,
+        "INSERT INTO connections (call, device, state, grp, place, queued, offered) VALUES (?1, ?2, ?3, ?4, ?5, ?6, ?7)",
         &[
             bind::integer(connection.call),
             bind::device(connection.device),
