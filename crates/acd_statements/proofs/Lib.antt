@@ -15,6 +15,7 @@ pub mod Statements
 mod Upserts
 mod Updates
 mod Puts
+mod Sets
 mod Removals
 mod Frames
 pub mod Texts

@@ -1,8 +1,8 @@
 -- UPDATE of the rows of a table that pass its tests.
-use Rattle.std.proofs.Common.{◌≡◌, ℕ, List, [], map, slice_get, Some, None, Ok, sym, ap, subst, ◌∙◌}
+use Rattle.std.proofs.Common.{◌≡◌, ℕ, List, [], ◌∷◌, length, map, slice_get, suc, Some, None, Option, unwrap_or, Ok, refl, sym, ap, subst, ◌∙◌}
 use Rattle.std.specs.List.Sorted.{IsPermutation}
 use Rattle.sqlite_value.specs.Order.{Row}
-use Rattle.sqlite_trees.specs.Tree.{Trees}
+use Rattle.sqlite_trees.specs.Tree.{Trees, put_row}
 use Rattle.sqlite_sql.specs.Term.{Term}
 use Rattle.sqlite_schema.specs.declared.program.Program.{Program}
 use Rattle.sqlite_schema.specs.declared.schema.Table.{Table}
@@ -11,7 +11,8 @@ use Rattle.sqlite_schema.specs.declared.schema.Keys.TheVariants.{Enforced}
 use Rattle.sqlite_schema.specs.declared.command.Command.TheVariants.{Update}
 use Rattle.sqlite_rules.specs.Calls.{ids_of}
 use Rattle.sqlite_rules.specs.declared.error.Rowids.TheVariants.{Given}
-use Rattle.sqlite_rules.specs.Edit.{Edit, edit_of, taken_by, Applies}
+use Rattle.sqlite_rules.specs.declared.error.Rowids.{Rowids}
+use Rattle.sqlite_rules.specs.Edit.{Edit, edit_of, numbered, with_rowid, taken_by, Applies}
 use Rattle.sqlite_rules.specs.Action as action
 use Rattle.sqlite.specs.Does.{Tally, Does, OnRows}
 use Rattle.sqlite.specs.Rows.{Written}
@@ -37,13 +38,18 @@ pub record Updating (schema : Schema) (text : List ℕ) : Type 0 where
 abbrev pub updating_edit : Trees → Layout → List Row → Edit
 updating_edit db layout rows = edit_of db (table_of layout) (ids_of rows) Given 1 rows
 
-pub record Updated {schema : Schema} {text : List ℕ} (it : Updating schema text) (params : Row) (old new : State) : Type 0 where
+numbered_many : (rowids : Rowids) (f : Row → Row) (rows sources : List Row) → length (numbered rowids rows (map f sources)) ≡ length sources
+numbered_many rowids f rows [] = refl
+numbered_many rowids f rows (s ∷ more) = ap suc (numbered_many rowids f (put_row (with_rowid rowids rows (f s)) rows) more)
+
+pub record Updated {schema : Schema} {text : List ℕ} (it : Updating schema text) (params : Row) (count : ℕ) (old new : State) : Type 0 where
   pub rows : List Row
+  pub counted : count ≡ length rows
   pub found : IsPermutation (map (showing params it.project) (passing params it.terms (old.now.trees it.layout.tree))) rows
   pub changed : Changed schema old new (updating_edit old.now.trees it.layout rows)
 
 pub updated : (schema : Schema) (text : List ℕ) (it : Updating schema text) (params : Row) (old new : State) (count : ℕ) → old.now.schema ≡ schema
-    → Executes text params old new (Ok count) → Updated it params old new
+    → Executes text params old new (Ok count) → Updated it params count old new
 updated schema text it params old new count has h =
     let db = old.now.trees in
     let q : Program = record { lets = []; body = scan it.layout.tree it.terms it.project [] } in
@@ -57,8 +63,11 @@ updated schema text it params old new count has h =
     let edit = updating_edit db it.layout read.0 in
     let next = went read.2 in
     let trees : done.0.trees ≡ next.0 = ap (λ (it : Written). it.trees) (same_value next.2) in
+    let tally : w.tally.rows ≡ Some (length done.0.rows) = ap (λ (p : Tally × Database). p.0.rows) (same_value (went (went done.2).2).2) in
+    let many : length done.0.rows ≡ length edit.news = ap (λ (it : Written). length it.rows) (same_value next.2) in
     record {
       rows = read.0;
+      counted = w.counted ∙ ap (λ (o : Option ℕ). unwrap_or o 0) tally ∙ many ∙ numbered_many Given _ _ read.0;
       found = scanned it.layout.tree it.terms it.project [] db params read.0 read.1.answer;
       changed = record {
         shown = w.shown;

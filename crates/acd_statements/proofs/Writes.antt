@@ -15,7 +15,7 @@ use Rattle.sqlite_sql.specs.declared.ops.CompareOp.TheVariants.{Eq}
 use Rattle.sqlite_schema.specs.declared.schema.Kind.TheVariants.{Integer}
 use Rattle.sqlite_schema.specs.declared.command.Conflict.TheVariants.{Abort}
 use Rattle.sqlite_schema.specs.declared.command.Source.TheVariants.{Values}
-use Rattle.sqlite_schema.specs.declared.command.Command.TheVariants.{Insert, InsertOr, Delete}
+use Rattle.sqlite_schema.specs.declared.command.Command.TheVariants.{Insert, InsertOr, Update, Delete}
 use Rattle.sqlite_rules.specs.Cast.{cast, cast_row}
 use Rattle.sqlite_rules.specs.Edit.{edited, without_all}
 use Rattle.sqlite_trees.specs.Tree.{Trees, put_row}
@@ -55,6 +55,7 @@ use Rattle.acd_statements.proofs.Puts.{Inserts, Upserts, truth_back, inserted_ro
 use Rattle.acd_statements.proofs.Statements.{Deletion, Insertion, IsInert, inert_works, replaces}
 use Rattle.acd_statements.proofs.Upserts.{Upsertion, clause_of}
 use Rattle.acd_statements.proofs.Updates.{Updating, updating_edit, updated}
+use Rattle.acd_statements.proofs.Sets.{Sets, set_none, set_row}
 
 -- ---- what the texts of a put say, for a table of so many columns whose first is its key
 
@@ -100,6 +101,19 @@ abbrev insertion : (text : List ℕ) (at width : ℕ) (layout : Layout) → slic
 insertion text at width layout place command plain =
     record { at = at; layout = layout; terms = sources width; width = width + 2; place = place; command = command; plain = plain; inert = inert_works book_schema inert layout.tree }
 
+-- the tests of a text with the key as its first parameter
+abbrev by_first : List Term
+by_first = op2 (Compare Eq Binary) (col 1 0) (col 0 0) ∷ []
+
+-- the number and key of the row that is there, and the parameters behind the key
+abbrev columns_given : ℕ → List Term
+columns_given width = col 1 0 ∷ col 1 0 ∷ lit Null ∷ run 1 width
+
+abbrev updating : (text : List ℕ) (at width : ℕ) (layout : Layout) → slice_get book_schema.tables at ≡ Some (table_of layout)
+    → command_of (understood book_schema text) ≡ Update at (record { lets = []; body = scan layout.tree by_first (columns_given width) [] }) → IsPlain (understood book_schema text) → Updating book_schema text
+updating text at width layout place command plain =
+    record { at = at; layout = layout; terms = by_first; project = columns_given width; place = place; command = command; plain = plain; inert = inert_works book_schema inert layout.tree }
+
 -- no index is on the number of a row alone
 no_index : AllByRecursion (λ i. bytes_eq (0 ∷ []) i.columns ≡ false) book_schema.indexes
 no_index = (refl, (refl, (refl, tt)))
@@ -127,20 +141,25 @@ cast_maybe f (Some x) = cast_id (f x)
 
 -- ---- inside a transaction
 
+pub drafts_behind : (sql : List ℕ) (params : Row) (change : Content → Content) (old mid new : State) (r : Result (Unit {0}) Error)
+    → ((c : Content) (count : ℕ) → Drafts old c → Executes sql params mid new (Ok count) → Drafts new (change c))
+    → OnOk r (Ran sql params mid new) → OnOk r ((c : Content) → Drafts old c → Drafts new (change c))
+drafts_behind sql params change old mid new (Err e) law ran = tt
+drafts_behind sql params change old mid new (Ok x) law ran = λ (c : Content) (d : Drafts old c). law c ran.0 d ran.1
+
 pub drafts : (sql : List ℕ) (params : Row) (change : Content → Content) (old new : State) (r : Result (Unit {0}) Error)
     → ((c : Content) (count : ℕ) → Drafts old c → Executes sql params old new (Ok count) → Drafts new (change c))
     → OnOk r (Ran sql params old new) → OnOk r ((c : Content) → Drafts old c → Drafts new (change c))
-drafts sql params change old new (Err e) law ran = tt
-drafts sql params change old new (Ok x) law ran = λ (c : Content) (d : Drafts old c). law c ran.0 d ran.1
+drafts sql params change old new = drafts_behind sql params change old old new
 
 -- ---- groups
 
-groups_text : Upsertion book_schema text.put_group
+groups_text : Insertion book_schema text.insert_group
 unfolding understood everything
-groups_text = upsertion text.put_group 1 8 schema.groups refl refl (refl, refl)
+groups_text = insertion text.insert_group 1 8 schema.groups refl refl (refl, refl)
 
-groups_put : Upserts book_schema text.put_group (λ (g : GroupRecord). g.device) group_row group_values
-unfolding groups_text binary
+groups_put : Inserts book_schema text.insert_group (λ (g : GroupRecord). g.device) group_row group_values
+unfolding groups_text
 groups_put = record {
   it = groups_text;
   files = record {
@@ -148,27 +167,42 @@ groups_put = record {
     casts = λ g. rw (cast_id g.device, cast_null, cast_id g.ring, cast_id g.wrap, cast_id g.figures.entered, cast_id g.figures.answered, cast_id g.figures.abandoned, cast_id g.figures.moved, cast_id g.figures.waited) refl;
   };
   source = λ g. refl;
-  by_number = refl;
-  no_index = no_index;
-  finds = λ new g n. by_id g.device n;
-  shows = λ new g n. refl;
 }
 
-pub puts_group : (g : GroupRecord) (c : Content) (old new : State) (count : ℕ) → Drafts old c → Executes text.put_group (group_values g) old new (Ok count)
+groups_change : Updating book_schema text.update_group
+unfolding understood everything
+groups_change = updating text.update_group 1 8 schema.groups refl refl (refl, refl)
+
+groups_set : Sets book_schema text.update_group (λ (g : GroupRecord). g.device) group_row group_values
+unfolding groups_change groups_put groups_text binary
+groups_set = record { it = groups_change; files = groups_put.files; finds = λ new g. by_id g.device new.device; shows = λ new g. refl }
+
+-- of a group that has a row
+pub sets_group : (g : GroupRecord) (c : Content) (old new : State) (count : ℕ) → Drafts old c → Executes text.update_group (group_values g) old new (Ok count) → (count ≡ 0 → ⊥)
     → Drafts new (with_part table.Groups (put_by (at_group g.device) c.rows.groups g) c)
-unfolding groups_put groups_text
-puts_group g c old new count d ran =
-    let made = upserted_row book_schema text.put_group (λ (g : GroupRecord). g.device) group_row group_values groups_put g c.rows.groups old new count d.schema (d.encodes table.Groups) ran in
+unfolding groups_set groups_change
+sets_group g c old new count d ran some =
+    let made = set_row book_schema text.update_group (λ (g : GroupRecord). g.device) group_row group_values groups_set g c.rows.groups old new count d.schema (d.encodes table.Groups) ran some in
     drafted table.Groups _ _ old new c made.are_rows made.replaces d
+
+-- of a group that has none
+pub puts_group : (g : GroupRecord) (c : Content) (old mid new : State) (none count : ℕ) → Drafts old c → Executes text.update_group (group_values g) old mid (Ok none) → none ≡ 0
+    → Executes text.insert_group (group_values g) mid new (Ok count) → Drafts new (with_part table.Groups (put_by (at_group g.device) c.rows.groups g) c)
+unfolding groups_put groups_text groups_change
+puts_group g c old mid new none count d first missed ran =
+    let still = set_none book_schema text.update_group groups_change (group_values g) old mid none d.schema first missed in
+    let between = drafted table.Groups c.rows.groups (old.now.trees schema.groups.tree) old mid c (d.encodes table.Groups) still d in
+    let made = inserted_row book_schema text.insert_group (λ (g : GroupRecord). g.device) group_row group_values groups_put g c.rows.groups mid new count between.schema (between.encodes table.Groups) ran in
+    drafted table.Groups _ _ mid new (with_part table.Groups c.rows.groups c) made.are_rows made.replaces between
 
 -- ---- agents
 
-agents_text : Upsertion book_schema text.put_agent
+agents_text : Insertion book_schema text.insert_agent
 unfolding understood everything
-agents_text = upsertion text.put_agent 3 7 schema.agents refl refl (refl, refl)
+agents_text = insertion text.insert_agent 3 7 schema.agents refl refl (refl, refl)
 
-agents_put : Upserts book_schema text.put_agent (λ (a : AgentRecord). a.agent) agent_row agent_values
-unfolding agents_text binary
+agents_put : Inserts book_schema text.insert_agent (λ (a : AgentRecord). a.agent) agent_row agent_values
+unfolding agents_text
 agents_put = record {
   it = agents_text;
   files = record {
@@ -176,18 +210,33 @@ agents_put = record {
     casts = λ a. rw (cast_id a.agent, cast_null, cast_id (agent_code a.state), cast_maybe pending_code a.pending, cast_maybe (λ n. n) a.station, cast_maybe (λ n. n) a.group, cast_id a.stamp, cast_id a.since) refl;
   };
   source = λ a. refl;
-  by_number = refl;
-  no_index = no_index;
-  finds = λ new a n. by_id a.agent n;
-  shows = λ new a n. refl;
 }
 
-pub puts_agent : (a : AgentRecord) (c : Content) (old new : State) (count : ℕ) → Drafts old c → Executes text.put_agent (agent_values a) old new (Ok count)
+agents_change : Updating book_schema text.update_agent
+unfolding understood everything
+agents_change = updating text.update_agent 3 7 schema.agents refl refl (refl, refl)
+
+agents_set : Sets book_schema text.update_agent (λ (a : AgentRecord). a.agent) agent_row agent_values
+unfolding agents_change agents_put agents_text binary
+agents_set = record { it = agents_change; files = agents_put.files; finds = λ new a. by_id a.agent new.agent; shows = λ new a. refl }
+
+-- of a agent that has a row
+pub sets_agent : (a : AgentRecord) (c : Content) (old new : State) (count : ℕ) → Drafts old c → Executes text.update_agent (agent_values a) old new (Ok count) → (count ≡ 0 → ⊥)
     → Drafts new (with_part table.Agents (put_by (at_agent a.agent) c.rows.agents a) c)
-unfolding agents_put agents_text
-puts_agent a c old new count d ran =
-    let made = upserted_row book_schema text.put_agent (λ (a : AgentRecord). a.agent) agent_row agent_values agents_put a c.rows.agents old new count d.schema (d.encodes table.Agents) ran in
+unfolding agents_set agents_change
+sets_agent a c old new count d ran some =
+    let made = set_row book_schema text.update_agent (λ (a : AgentRecord). a.agent) agent_row agent_values agents_set a c.rows.agents old new count d.schema (d.encodes table.Agents) ran some in
     drafted table.Agents _ _ old new c made.are_rows made.replaces d
+
+-- of a agent that has none
+pub puts_agent : (a : AgentRecord) (c : Content) (old mid new : State) (none count : ℕ) → Drafts old c → Executes text.update_agent (agent_values a) old mid (Ok none) → none ≡ 0
+    → Executes text.insert_agent (agent_values a) mid new (Ok count) → Drafts new (with_part table.Agents (put_by (at_agent a.agent) c.rows.agents a) c)
+unfolding agents_put agents_text agents_change
+puts_agent a c old mid new none count d first missed ran =
+    let still = set_none book_schema text.update_agent agents_change (agent_values a) old mid none d.schema first missed in
+    let between = drafted table.Agents c.rows.agents (old.now.trees schema.agents.tree) old mid c (d.encodes table.Agents) still d in
+    let made = inserted_row book_schema text.insert_agent (λ (a : AgentRecord). a.agent) agent_row agent_values agents_put a c.rows.agents mid new count between.schema (between.encodes table.Agents) ran in
+    drafted table.Agents _ _ mid new (with_part table.Agents c.rows.agents c) made.are_rows made.replaces between
 
 -- ---- calls
 
