@@ -121,10 +121,6 @@ two false false = refl
 both_ids : (m n p q : ℕ) → (is_eq (value_cmp (id_value m) (id_value p)) && is_eq (value_cmp (id_value n) (id_value q))) ≡ ((m == p) && (n == q))
 both_ids m n p q = rw (id_tied m p, id_tied n q) refl
 
-or_nothing : (a : Bool) → (a || false) ≡ a
-or_nothing true = refl
-or_nothing false = refl
-
 -- ---- a connection that has a row
 
 abbrev key_tests : List Term
@@ -141,9 +137,13 @@ connection_change = record { at = 5; layout = connections; terms = key_tests; pr
 abbrev is_own : ConnectionRecord → Row → Bool
 is_own r y = list_all (holds (connection_values r ∷ y ∷ [])) key_tests
 
-own_is : (i : ℤ) (r x : ConnectionRecord) → is_own r (connection_row i x) ≡ ((x.call == r.call) && (x.device == r.device))
+-- the key stands first in the parameters
+key_is : (call device : ℕ) (more : Row) (i : ℤ) (x : ConnectionRecord) → list_all (holds ((id_value call ∷ id_value device ∷ more) ∷ connection_row i x ∷ [])) key_tests ≡ ((x.call == call) && (x.device == device))
 unfolding binary
-own_is i r x = two (is_eq (value_cmp (id_value x.call) (id_value r.call))) (is_eq (value_cmp (id_value x.device) (id_value r.device))) ∙ both_ids x.call x.device r.call r.device
+key_is call device more i x = two (is_eq (value_cmp (id_value x.call) (id_value call))) (is_eq (value_cmp (id_value x.device) (id_value device))) ∙ both_ids x.call x.device call device
+
+own_is : (i : ℤ) (r x : ConnectionRecord) → is_own r (connection_row i x) ≡ ((x.call == r.call) && (x.device == r.device))
+own_is i r x = key_is r.call r.device (drop 2 (connection_values r)) i x
 
 shows : (i : ℤ) (r x : ConnectionRecord) → x.call ≡ r.call → x.device ≡ r.device → showing (connection_values r) project (connection_row i x) ≡ Int i ∷ connection_row i r
 shows i r x e f =
@@ -309,8 +309,7 @@ abbrev passes : ℕ → ℕ → Row → Bool
 passes call device y = list_all (holds ((id_value call ∷ id_value device ∷ []) ∷ y ∷ [])) key_tests
 
 passes_is : (call device : ℕ) (j : ℤ) (z : ConnectionRecord) → passes call device (connection_row j z) ≡ ((z.call == call) && (z.device == device))
-unfolding binary
-passes_is call device j z = two (is_eq (value_cmp (id_value z.call) (id_value call))) (is_eq (value_cmp (id_value z.device) (id_value device))) ∙ both_ids z.call z.device call device
+passes_is call device j z = key_is call device [] j z
 
 any_mapped : {X Y : Type 0} (p : Y → Bool) (f : X → Y) (xs : List X) → list_any p (map f xs) ≡ list_any (λ x. p (f x)) xs
 any_mapped p f [] = refl

@@ -25,7 +25,7 @@ pub record Sets {R : Type 0} (schema : Schema) (text : List ℕ) (key : R → �
   pub finds : (new r : R) → list_all (holds (params new ∷ row r ∷ [])) it.terms ≡ (key r == key new)
   pub shows : (new r : R) → showing (params new) it.project (row r) ≡ id_value (key r) ∷ id_value (key r) ∷ drop 1 (row new)
 
-pub no_rows : {X : Type 0} (rows : List X) → length rows ≡ 0 → rows ≡ []
+no_rows : {X : Type 0} (rows : List X) → length rows ≡ 0 → rows ≡ []
 no_rows [] e = refl
 no_rows (x ∷ rows) e = absurd (omega (arith, e))
 
