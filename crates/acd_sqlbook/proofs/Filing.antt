@@ -19,7 +19,7 @@ use Rattle.acd_book.specs.Content.{Content}
 use Rattle.acd_statements.specs.declared.tables.Table.TheVariants as table
 use Rattle.acd_statements.specs.Content.{with_part}
 use Rattle.acd_statements.specs.Draft.{Drafts}
-use Rattle.acd_sqlbook.specs.Commit.{filed, all_filed, with_event, with_events}
+use Rattle.acd_sqlbook.specs.Commit.{filed, with_event, with_events}
 
 -- a fold that takes the first of the list first takes the last one last
 module _ {X C : Type 0} (all : C → List X → C) (one : C → X → C) (none : (c : C) → all c [] ≡ c) (more : (c : C) (x : X) (xs : List X) → all c (x ∷ xs) ≡ all (one c x) xs) where
@@ -35,9 +35,6 @@ module _ {X C : Type 0} (all : C → List X → C) (one : C → X → C) (none :
 
 pub all_taken : {X : Type 0} (i : ℕ) (xs : List X) → length xs ≤ i → take i xs ≡ xs
 all_taken i xs h = grind (arith, common_steps)
-
-pub filed_next : (c : Content) (i : ℕ) (changes : List Change) (x d : Change) → x ≡ get_or changes i d → i < length changes → all_filed c (take (i + 1) changes) ≡ filed (all_filed c (take i changes)) x
-filed_next = next all_filed filed (λ c. refl) (λ c x xs. refl)
 
 pub events_next : (c : Content) (i : ℕ) (events : List Event) (x d : Event) → x ≡ get_or events i d → i < length events → with_events c (take (i + 1) events) ≡ with_event (with_events c (take i events)) x
 events_next = next with_events with_event (λ c. refl) (λ c x xs. refl)

@@ -8,6 +8,7 @@ mod Chained
 mod Pages
 mod FirstFound
 mod Filing
+mod Skipping
 mod Committing
 mod Standing
 mod Replacing

@@ -16,7 +16,7 @@ use Rattle.acd_statements.specs.declared.tables.Table.TheVariants as table
 use Rattle.acd_statements.specs.Lying.{is_good}
 use Rattle.acd_sqlbook.specs.Adopting.{is_good_table, IsInRange}
 use Rattle.acd_statements.specs.Content.{Encodes}
-use Rattle.acd_statements.specs.Ranges.{◌>>=◌, at_least, whole_at, stamp_at, event_in, kept_in}
+use Rattle.acd_statements.specs.Ranges.{at_least, whole_at, stamp_at, event_in, kept_in}
 use Rattle.acd_statements.specs.Rows.{event_values, kept_values}
 use Rattle.acd_sqlbook.proofs.Contents.{there, each_good, of_mapped}
 use Rattle.acd_statements.proofs.KeyedRows.{by_key}

@@ -67,11 +67,11 @@ finds_meta old new rows (Err e) read up quiet stops are = record { up = λ k. tt
 pub finds_none : {A : Type 0} (old new : State) (e : Error) (IsAnswer : Content → A → Type 0) → Quiet old new → (HasCleanDisk new → (c : Content) → Holds old c → NoStop old new) → Finds old new (Err e) IsAnswer
 finds_none old new e IsAnswer quiet stops = record { up = λ k. tt; quiet = quiet; stops = stops; answer = λ k. tt }
 
-pub reads_counters : (old new : State) (meta : Meta) (r : Result Meta Error) (changes : List Change) (events : ℕ) (kept : Kept) → HasRead old new (Ok meta) (λ c found. found ≡ meta_of c.rows)
-    → IfOk r (λ next. next ≡ counted meta changes events kept) → HasRead old new r (λ c next. next ≡ counted (meta_of c.rows) changes events kept)
+pub reads_counters : (old new : State) (meta : Meta) (r : Result (ℕ × Meta) Error) (changes : List Change) (events : ℕ) (kept : Kept) → HasRead old new (Ok meta) (λ c found. found ≡ meta_of c.rows)
+    → IfOk r (λ next. next.1 ≡ counted meta changes events kept) → HasRead old new r (λ c next. next.1 ≡ counted (meta_of c.rows) changes events kept)
 reads_counters old new meta r changes events kept h is =
-    reads_on old new meta r (λ c found. found ≡ meta_of c.rows) (λ c next. next ≡ counted (meta_of c.rows) changes events kept) h
-    (ok_map (λ next. next ≡ counted meta changes events kept) (λ next. (c : Content) → meta ≡ meta_of c.rows → next ≡ counted (meta_of c.rows) changes events kept) r
+    reads_on old new meta r (λ c found. found ≡ meta_of c.rows) (λ c next. next.1 ≡ counted (meta_of c.rows) changes events kept) h
+    (ok_map (λ (next : ℕ × Meta). next.1 ≡ counted meta changes events kept) (λ (next : ℕ × Meta). (c : Content) → meta ≡ meta_of c.rows → next.1 ≡ counted (meta_of c.rows) changes events kept) r
     (λ next e c same. e ∙ ap (λ m. counted m changes events kept) same) is)
 
 -- ---- commits
@@ -132,12 +132,12 @@ module _ (old mid new : State) (r : Result (Unit {0}) Error) (made after : Conte
         ];
   }
 
-pub commits_counted : (old mid new : State) (r : Result (Unit {0}) Error) (next : Meta) (changes : List Change) (events : List Event) (kept : Kept)
-    → HasRead old mid (Ok next) (λ c found. found ≡ counted (meta_of c.rows) changes (length events) kept)
+pub commits_counted : (old mid new : State) (r : Result (Unit {0}) Error) (last : ℕ) (next : Meta) (changes : List Change) (events : List Event) (kept : Kept)
+    → HasRead {A = ℕ × Meta} old mid (Ok (last, next)) (λ c found. found.1 ≡ counted (meta_of c.rows) changes (length events) kept)
     → (HasCleanDisk new → HasCleanDisk mid) → (HasCleanDisk new → OnOk r (IsTrue mid.is_open × IsTrue new.is_open)) → (HasCleanDisk new → IsTrue new.is_open → IsTrue mid.is_open)
     → (HasCleanDisk new → OnOk r ((c : Content) → Holds mid c → Holds new (made_by changes events kept next c)))
     → (HasCleanDisk new → OnErr r ((c : Content) → Holds mid c → IsTrue new.is_open → Holds new c))
     → (HasCleanDisk new → AddsStop mid new (made_by changes events kept next)) → HasCommitted old new r (written_by changes events kept)
-commits_counted old mid new r next changes events kept read =
-    commits_behind old mid new r (made_by changes events kept next) (written_by changes events kept) next (λ c found. found ≡ counted (meta_of c.rows) changes (length events) kept) read
+commits_counted old mid new r last next changes events kept read =
+    commits_behind old mid new r (made_by changes events kept next) (written_by changes events kept) (last, next) (λ c found. found.1 ≡ counted (meta_of c.rows) changes (length events) kept) read
     (λ c is. ap (λ m. made_by changes events kept m c) is)

@@ -1,9 +1,11 @@
 //! All writes of a commit, in one transaction.
 
-ghost use Rattle.std.specs.Prelude.{◌≡◌, ◌↔◌, false, IfSome, OnOk, OnErr, IsTrue, take};
+ghost use Rattle.std.specs.Prelude.{◌≡◌, ◌↔◌, ◌<◌, [], length, false, None, IfSome, OnOk, OnErr, IsTrue, take};
 ghost use Rattle.sqlite.specs.State.{HasCleanDisk};
 ghost use Rattle.sqlite.specs.Held.{state};
 ghost use Rattle.acd_codec.specs.RequestTexts.{request_text};
+ghost use Rattle.acd_terms.specs.Lists.{IsAscending};
+ghost use Rattle.acd_model.specs.Rules.Plan.{connection_order};
 ghost use Rattle.acd_book.specs.Content.{Content};
 ghost use Rattle.acd_sqlbook.specs.Commit.{ChangeFits, EventFits, filed, all_filed, with_event, with_events, made_by, top_call, top_monitor, last_call, last_monitor, counted};
 ghost use Rattle.acd_statements.specs.Draft.{Drafts, Works, Holds, AddsStop, Fits, FiguresFit, MetaFits};
@@ -12,8 +14,8 @@ use acd_book::Kept;
 use acd_model::Change;
 use acd_statements::Meta;
 use acd_statements::write::{
-    drop_call, drop_connection, drop_monitor, put_agent, put_call, put_connection, put_event,
-    put_group, put_kept, put_meta, put_monitor, put_station,
+    drop_call, drop_connection, drop_monitor, insert_call, insert_connection, put_agent, put_call,
+    put_connection, put_event, put_group, put_kept, put_monitor, put_station, set_meta,
 };
 use acd_terms::{Event, Figures};
 use sqlite::{Alter, Connection, Error, ErrorCode, Transaction};
@@ -72,8 +74,12 @@ pub(crate) fn too_large() -> Error {
     Error::SqliteFailure(ErrorCode::TooBig)
 }
 
-// Makes a change in its table.
-fn make_change<S: Alter>(tx: &mut Transaction<'_, S>, change: &Change) -> Result<(), Error>
+// Makes a change in its table. What is new has no row there yet, and is inserted.
+fn make_change<S: Alter>(
+    tx: &mut Transaction<'_, S>,
+    change: &Change,
+    is_new: bool,
+) -> Result<(), Error>
     requires { ChangeFits change.now }
     ensures same { tx.new.conn.ghost_name ≡ tx.old.conn.ghost_name }
     ensures works { Works (state S.Store tx.old.conn.now) (state S.Store tx.new.conn.now) }
@@ -84,7 +90,9 @@ fn make_change<S: Alter>(tx: &mut Transaction<'_, S>, change: &Change) -> Result
         Change::PutGroup(group) => put_group(tx, group),
         Change::PutStation(station) => put_station(tx, station),
         Change::PutAgent(agent) => put_agent(tx, agent),
+        Change::PutCall(call) if is_new => insert_call(tx, call),
         Change::PutCall(call) => put_call(tx, call),
+        Change::PutConnection(connection) if is_new => insert_connection(tx, connection),
         Change::PutConnection(connection) => put_connection(tx, connection),
         Change::PutMonitor(monitor) => put_monitor(tx, monitor),
         Change::RemoveCall(call) => drop_call(tx, *call),
@@ -93,7 +101,11 @@ fn make_change<S: Alter>(tx: &mut Transaction<'_, S>, change: &Change) -> Result
     }
 }
 
-fn write_change<S: Alter>(tx: &mut Transaction<'_, S>, change: &Change) -> Result<(), Error>
+fn write_change<S: Alter>(
+    tx: &mut Transaction<'_, S>,
+    change: &Change,
+    is_new: bool,
+) -> Result<(), Error>
     ensures same { tx.new.conn.ghost_name ≡ tx.old.conn.ghost_name }
     ensures works { Works (state S.Store tx.old.conn.now) (state S.Store tx.new.conn.now) }
     ensures put { HasCleanDisk (state S.Store tx.new.conn.now) → OnOk result ((c : Content) → Drafts (state S.Store tx.old.conn.now) c → Drafts (state S.Store tx.new.conn.now) (filed c change.now)) }
@@ -101,16 +113,91 @@ fn write_change<S: Alter>(tx: &mut Transaction<'_, S>, change: &Change) -> Resul
     if !change_fits(change) {
         return Err(too_large());
     }
-    make_change(tx, change)
+    make_change(tx, change, is_new)
 }
 
-fn write_changes<S: Alter>(tx: &mut Transaction<'_, S>, changes: &[Change]) -> Result<(), Error>
+// Whether both put the same call, or the same connection.
+fn put_the_same(one: &Change, other: &Change) -> bool {
+    match (one, other) {
+        (Change::PutCall(one), Change::PutCall(other)) => one.call == other.call,
+        (Change::PutConnection(one), Change::PutConnection(other)) => {
+            one.call == other.call && one.device == other.device
+        }
+        _ => false,
+    }
+}
+
+// Whether just one of the changes puts what this one puts.
+fn is_put_once(changes: &[Change], change: &Change) -> bool {
+    let mut found = false;
+    for other in changes {
+        if put_the_same(change, other) {
+            if found {
+                return false;
+            }
+            found = true;
+        }
+    }
+    found
+}
+
+// Whether the change puts a call above the last one, or a connection of such a call, and no other of the
+// changes puts the same: then no row has its key.
+fn is_new(last: u64, changes: &[Change], change: &Change) -> bool {
+    match change {
+        Change::PutCall(call) => call.call > last && is_put_once(changes, change),
+        Change::PutConnection(connection) => {
+            connection.call > last && is_put_once(changes, change)
+        }
+        Change::Nothing
+        | Change::PutGroup(_)
+        | Change::PutStation(_)
+        | Change::PutAgent(_)
+        | Change::PutMonitor(_)
+        | Change::RemoveCall(_)
+        | Change::RemoveConnection(_, _)
+        | Change::RemoveMonitor(_) => false,
+    }
+}
+
+// Whether the second change takes away the connection that the first one puts.
+fn is_taken_away(first: &Change, second: &Change) -> bool
+    ensures { IsTrue result → (c : Content) → IsAscending connection_order c.rows.connections → filed (filed c first.now) second.now ≡ filed c second.now }
+{
+    match (first, second) {
+        (Change::PutConnection(connection), Change::RemoveConnection(call, device)) => {
+            connection.call == *call && connection.device == *device
+        }
+        _ => false,
+    }
+}
+
+// The change that is written next, and those behind it: a connection that the very next change takes away isn't put.
+fn next_written(changes: &[Change]) -> Option<(&Change, &[Change])>
+    ensures some { IfSome result (λ p. (length p.1.now < length changes.now) × ((c : Content) → IsAscending connection_order c.rows.connections → all_filed c changes.now ≡ all_filed (filed c p.0.now) p.1.now)) }
+    ensures none { result ≡ None → changes.now ≡ [] }
+{
+    match changes {
+        [first, second, behind @ ..] if is_taken_away(first, second) => Some((second, behind)),
+        [first, behind @ ..] => Some((first, behind)),
+        [] => None,
+    }
+}
+
+// No call above the last one has a row when the first change is written.
+fn write_changes<S: Alter>(
+    tx: &mut Transaction<'_, S>,
+    last: u64,
+    changes: &[Change],
+) -> Result<(), Error>
     ensures same { tx.new.conn.ghost_name ≡ tx.old.conn.ghost_name }
     ensures works { Works (state S.Store tx.old.conn.now) (state S.Store tx.new.conn.now) }
     ensures put { HasCleanDisk (state S.Store tx.new.conn.now) → OnOk result ((c : Content) → Drafts (state S.Store tx.old.conn.now) c → Drafts (state S.Store tx.new.conn.now) (all_filed c changes.now)) }
 {
-    for change in changes {
-        write_change(tx, change)?;
+    let mut rest = changes;
+    while let Some((change, behind)) = next_written(rest) {
+        write_change(tx, change, is_new(last, changes, change))?;
+        rest = behind;
     }
     Ok(())
 }
@@ -210,6 +297,7 @@ pub(crate) fn counted(meta: &Meta, changes: &[Change], events: u64, kept: &Kept)
 
 fn write_all<S: Alter>(
     tx: &mut Transaction<'_, S>,
+    last: u64,
     changes: &[Change],
     events: &[Event],
     kept: &Kept,
@@ -224,16 +312,18 @@ fn write_all<S: Alter>(
     ensures put { HasCleanDisk (state S.Store tx.new.conn.now) → OnOk result ((c : Content) → Drafts (state S.Store tx.old.conn.now) c
         → Drafts (state S.Store tx.new.conn.now) (made_by changes.now events.now kept.now meta.now c)) }
 {
-    write_changes(tx, changes)?;
+    write_changes(tx, last, changes)?;
     write_events(tx, events)?;
     put_kept(tx, kept, request)?;
-    put_meta(tx, meta)?;
+    set_meta(tx, meta)?;
     Ok(())
 }
 
-/// Writes all of it in one transaction, whose end alone adds to the stops.
+/// Writes all of it in one transaction, whose end alone adds to the stops. No call above the last one has
+/// a row yet: where one has, the store refuses it.
 pub(crate) fn commit_all<S: Alter>(
     conn: &mut Connection<S>,
+    last: u64,
     changes: &[Change],
     events: &[Event],
     kept: &Kept,
@@ -255,6 +345,6 @@ pub(crate) fn commit_all<S: Alter>(
     ensures stops { HasCleanDisk (state S.Store conn.new) → AddsStop (state S.Store conn.old) (state S.Store conn.new) (made_by changes.now events.now kept.now meta.now) }
 {
     let mut tx = conn.transaction();
-    write_all(&mut tx, changes, events, kept, request, meta)?;
+    write_all(&mut tx, last, changes, events, kept, request, meta)?;
     tx.commit()
 }

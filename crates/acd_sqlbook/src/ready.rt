@@ -202,23 +202,26 @@ fn next_meta(meta: &Meta, changes: &[Change], events: u64, kept: &Kept) -> Resul
     }
 }
 
-// The counters that a commit writes.
+// The last call's number, and the counters that a commit writes.
 fn counters<S: Alter>(
     conn: &mut Connection<S>,
     fresh: bool,
     changes: &[Change],
     events: u64,
     kept: &Kept,
-) -> Result<Meta, Error>
+) -> Result<(u64, Meta), Error>
     requires idle { conn.old.in_transaction ≡ false }
     requires fresh { IsTrue fresh → HasCleanDisk (state S.Store conn.old) → IsTrue (state S.Store conn.old).is_open }
     ensures idle { conn.new.in_transaction ≡ false }
-    ensures read { HasRead (state S.Store conn.old) (state S.Store conn.new) result (λ c next. next ≡ counted (meta_of c.rows) changes.now events kept.now) }
-    ensures fits { IfOk result (λ next. MetaFits next) }
+    ensures read { HasRead (state S.Store conn.old) (state S.Store conn.new) result (λ c found. found.1 ≡ counted (meta_of c.rows) changes.now events kept.now) }
+    ensures fits { IfOk result (λ found. MetaFits found.1) }
     ensures stamp { OnOk result (Fits kept.now.stamp) }
 {
     let meta = meta_ready(conn, fresh)?;
-    next_meta(&meta, changes, events, kept)
+    match next_meta(&meta, changes, events, kept) {
+        Ok(next) => Ok((meta.last_call, next)),
+        Err(error) => Err(error),
+    }
 }
 
 /// Commits the changes, the events and the kept record, all or none.
@@ -237,7 +240,7 @@ pub(crate) fn commit_ready<S: Alter>(
 {
     let request = request_text(alloc, &kept.request)?;
     match counters(conn, fresh, changes, events.len() as u64, kept) {
-        Ok(meta) => commit_all(conn, changes, events, kept, request.as_str(), &meta),
+        Ok((last, meta)) => commit_all(conn, last, changes, events, kept, request.as_str(), &meta),
         Err(error) => Err(error),
     }
 }

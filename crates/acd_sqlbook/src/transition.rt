@@ -254,7 +254,16 @@ pub(crate) fn commit_rows_ready<S: Alter>(
     let request = request_text(alloc, &kept.request)?;
     let meta = meta_of(rows, kept)?;
     match changes_to(alloc, conn, fresh, rows) {
-        Ok(changes) => commit_all(conn, &changes, events, kept, request.as_str(), &meta),
+        // Calls of any number may have rows.
+        Ok(changes) => commit_all(
+            conn,
+            u64::MAX,
+            &changes,
+            events,
+            kept,
+            request.as_str(),
+            &meta,
+        ),
         Err(error) => Err(error),
     }
 }

@@ -1,16 +1,17 @@
 -- The statements that put connections and take them out.
-use Rattle.std.proofs.Common.{◌≡◌, ◌⊎◌, inl, inr, ℕ, ℤ, List, [], ◌∷◌, ◌++◌, map, filter, drop, Bool, true, false, not, ◌==◌, ◌&&◌, ◌||◌, Some, Option, Ok, refl, sym, ap, subst, ◌∙◌}
+use Rattle.std.proofs.Common.{◌≡◌, ◌⊎◌, inl, inr, ℕ, ℤ, List, [], ◌∷◌, length, map, filter, drop, Bool, true, false, not, ◌==◌, ◌&&◌, ◌||◌, Some, Ok, Err, Result, OnOk, refl, sym, ap, subst, ◌∙◌}
 use Rattle.std.specs.List.{list_any, list_all}
 use Rattle.std.specs.List.Sorted.{IsPermutation}
-use Rattle.std.specs.Ordering.{is_eq, is_lt, ordering_reverse}
-use Rattle.std.specs.declared.cmp.Ordering.TheVariants.{Less}
-use Rattle.std.proofs.lemmas.Bool.{false_from_ne_true}
-use Rattle.std.proofs.lemmas.List.Sorted.{IsPermutation-map, list_any-IsPermutation}
+use Rattle.std.specs.Ordering.{is_eq, is_lt, is_ne, ordering_reverse}
+use Rattle.std.specs.declared.cmp.Ordering.{Ordering}
+use Rattle.std.specs.declared.cmp.Ordering.TheVariants.{Less, Equal, Greater}
+use Rattle.std.proofs.lemmas.Bool.{false_from_ne_true, not-true, and_parts, and_from}
+use Rattle.std.proofs.lemmas.List.Sorted.{IsPermutation-map, list_any-IsPermutation, length_permutation}
 use Rattle.sqlite_value.specs.declared.value.Value.{Value}
 use Rattle.sqlite_value.specs.declared.value.Value.TheVariants.{Null, Int}
 use Rattle.sqlite_value.specs.declared.keys.Collation.TheVariants.{Binary}
-use Rattle.sqlite_value.specs.Order.{Row, value_cmp}
-use Rattle.sqlite_value.specs.Keys.{first_key}
+use Rattle.sqlite_value.specs.Order.{Row, column, value_cmp}
+use Rattle.sqlite_value.specs.Keys.{first_key, plain}
 use Rattle.sqlite_value.proofs.OrderLemmas.{value_cmp_total}
 use Rattle.std.proofs.lemmas.Cmp.{tied_itself}
 use Rattle.sqlite_trees.proofs.ListLemmas.{ascending-filter, filter_none}
@@ -20,18 +21,18 @@ use Rattle.sqlite_sql.specs.Ops.{unary, binary, is_true, from_truth}
 use Rattle.sqlite_sql.specs.Term.{Term, lit, col, op2, holds}
 use Rattle.sqlite_sql.specs.declared.ops.BinaryOp.TheVariants.{Compare}
 use Rattle.sqlite_sql.specs.declared.ops.CompareOp.TheVariants.{Eq}
-use Rattle.sqlite_schema.specs.declared.schema.Table.{Table}
 use Rattle.sqlite_schema.specs.declared.schema.Kind.TheVariants.{Integer}
+use Rattle.sqlite_schema.specs.declared.schema.Constraint.TheVariants.{Unique}
+use Rattle.sqlite_schema.specs.Rules as rule
 use Rattle.sqlite_rules.specs.Cast.{cast, cast_row}
 use Rattle.sqlite_rules.specs.Edit.{Edit, edited, edit_of, id_in, left_by, are_fresh, put_all, without_all, with_rowid, next_rowid}
 use Rattle.sqlite_rules.specs.Calls.{ids_of}
 use Rattle.sqlite_rules.specs.declared.error.Rowids.TheVariants.{Chosen, Given}
-use Rattle.sqlite_rules.specs.Keys.{conflicts}
 use Rattle.sqlite_rules.specs.Lists.{Has}
 use Rattle.sqlite_rules.proofs.TableLemmas.{put_all_has, put_all_keeps, put_all_adds}
 use Rattle.sqlite_rules.proofs.ListLemmas.{has_filtered, has_kept, some_has, some_from}
+use Rattle.sqlite.specs.declared.error.Error.{Error}
 use Rattle.sqlite.specs.Listing.{understood}
-use Rattle.sqlite.specs.Rows.{shown}
 use Rattle.sqlite.specs.State.{State, Executes}
 use Rattle.sqlite.proofs.Callers.{one_permutation}
 use Rattle.sqlite_tied.specs.Compute.{everything}
@@ -50,11 +51,11 @@ use Rattle.acd_statements.specs.Schema.{table_of, book_schema, connections}
 use Rattle.acd_statements.proofs.Heaps.{HasKey, heap_put, heap_dropped, keyed, key_of, at_each, each_has}
 use Rattle.acd_statements.proofs.Frames.{drafted}
 use Rattle.acd_statements.proofs.KeyedRows.{id_tied}
-use Rattle.acd_statements.proofs.Puts.{truth_back}
 use Rattle.acd_statements.proofs.Scans.{showing, passing, filter_like, all_out}
-use Rattle.acd_statements.proofs.Statements.{Deletion, deletion_edit, deleted, Replaces, replaces, inert_works}
+use Rattle.acd_statements.proofs.Statements.{Insertion, insertion_edit, inserted, Deletion, deletion_edit, deleted, replaces, inert_works}
 use Rattle.acd_statements.proofs.Texts as text
-use Rattle.acd_statements.proofs.Upserts.{Upsertion, Way, put, changed, upserted}
+use Rattle.acd_statements.proofs.Updates.{Updating, updated}
+use Rattle.acd_statements.proofs.Sets.{set_none}
 use Rattle.acd_statements.proofs.Writes.{run, inert, either, cast_id, cast_null, cast_maybe}
 
 -- ---- rows that are put beside others
@@ -120,51 +121,47 @@ two false false = refl
 both_ids : (m n p q : ℕ) → (is_eq (value_cmp (id_value m) (id_value p)) && is_eq (value_cmp (id_value n) (id_value q))) ≡ ((m == p) && (n == q))
 both_ids m n p q = rw (id_tied m p, id_tied n q) refl
 
-or_nothing : (a : Bool) → (a || false) ≡ a
-or_nothing true = refl
-or_nothing false = refl
+-- ---- a connection that has a row
 
-conflict_is : (n i : ℤ) (r x : ConnectionRecord)
-    → conflicts (Some (1 ∷ 2 ∷ [])) book_schema.indexes (table_of connections) (connection_row n r) (connection_row i x) ≡ ((x.call == r.call) && (x.device == r.device))
-unfolding binary first_key value_cmp
-conflict_is n i r x = or_nothing _ ∙ two (is_eq (value_cmp (id_value x.call) (id_value r.call))) (is_eq (value_cmp (id_value x.device) (id_value r.device))) ∙ both_ids x.call x.device r.call r.device
+abbrev key_tests : List Term
+key_tests = op2 (Compare Eq Binary) (col 1 1) (col 0 0) ∷ op2 (Compare Eq Binary) (col 1 2) (col 0 1) ∷ []
 
--- ---- a connection put
-
-connections_text : Upsertion book_schema text.put_connection
-unfolding understood everything
-connections_text = record {
-  at = 5;
-  layout = connections;
-  terms = lit Null ∷ run 0 7;
-  width = 8;
-  target = 1 ∷ 2 ∷ [];
-  tests = op2 (Compare Eq Binary) (col 1 0) (col 0 7) ∷ [];
-  project = col 1 0 ∷ col 1 0 ∷ col 1 1 ∷ col 1 2 ∷ run 11 5;
-  place = refl;
-  command = refl;
-  plain = (refl, refl);
-  inert = inert_works book_schema inert connections.tree;
-}
-
-abbrev tests : List Term
-tests = op2 (Compare Eq Binary) (col 1 0) (col 0 7) ∷ []
-
+-- the number of the row that is there, its number and key, and the parameters behind the key
 abbrev project : List Term
-project = col 1 0 ∷ col 1 0 ∷ col 1 1 ∷ col 1 2 ∷ run 11 5
+project = col 1 0 ∷ col 1 0 ∷ col 1 1 ∷ col 1 2 ∷ run 2 5
 
--- what the change sees: the parameters, the number of the row that is there, and the new row
-abbrev given : ℤ → ℤ → ConnectionRecord → Row
-given n i r = connection_values r ++ Int i ∷ shown (table_of connections) (connection_row n r)
+connection_change : Updating book_schema text.update_connection
+unfolding understood everything
+connection_change = record { at = 5; layout = connections; terms = key_tests; project = project; place = refl; command = refl; plain = (refl, refl); inert = inert_works book_schema inert connections.tree }
 
-test_is : (n i j : ℤ) (r z : ConnectionRecord) (y : Row) → y ≡ connection_row j z → list_all (holds (given n i r ∷ y ∷ [])) tests ≡ has_rowid i y
+abbrev is_own : ConnectionRecord → Row → Bool
+is_own r y = list_all (holds (connection_values r ∷ y ∷ [])) key_tests
+
+-- the key stands first in the parameters
+key_is : (call device : ℕ) (more : Row) (i : ℤ) (x : ConnectionRecord) → list_all (holds ((id_value call ∷ id_value device ∷ more) ∷ connection_row i x ∷ [])) key_tests ≡ ((x.call == call) && (x.device == device))
 unfolding binary
-test_is n i j r z y e = subst (λ k. list_all (holds (given n i r ∷ k ∷ [])) tests ≡ has_rowid i k) (sym e) (truth_back (is_eq (value_cmp (Int j) (Int i))))
+key_is call device more i x = two (is_eq (value_cmp (id_value x.call) (id_value call))) (is_eq (value_cmp (id_value x.device) (id_value device))) ∙ both_ids x.call x.device call device
 
-shows : (n i : ℤ) (r x : ConnectionRecord) → x.call ≡ r.call → x.device ≡ r.device → showing (given n i r) project (connection_row i x) ≡ Int i ∷ connection_row i r
-shows n i r x e f =
+own_is : (i : ℤ) (r x : ConnectionRecord) → is_own r (connection_row i x) ≡ ((x.call == r.call) && (x.device == r.device))
+own_is i r x = key_is r.call r.device (drop 2 (connection_values r)) i x
+
+shows : (i : ℤ) (r x : ConnectionRecord) → x.call ≡ r.call → x.device ≡ r.device → showing (connection_values r) project (connection_row i x) ≡ Int i ∷ connection_row i r
+shows i r x e f =
     ap (λ k. Int i ∷ Int i ∷ id_value k ∷ id_value x.device ∷ drop 2 (connection_values r)) e
     ∙ ap (λ k. Int i ∷ Int i ∷ id_value r.call ∷ id_value k ∷ drop 2 (connection_values r)) f
+
+alike : (a b : Bool) → (a ≡ true → b ≡ true) → (b ≡ true → a ≡ true) → a ≡ b
+alike true b f g = sym (f refl)
+alike false true f g = g refl
+alike false false f g = refl
+
+-- where a row was shown, one is that of the connection
+some_own : (r : ConnectionRecord) (rows found shown : List Row) (count : ℕ) → filter (is_own r) rows ≡ found → IsPermutation (map (showing (connection_values r) project) found) shown → count ≡ length shown
+    → (count ≡ 0 → ⊥) → (y : Row) × Has rows y × (is_own r y ≡ true)
+some_own r rows [] shown count is same counted some = absurd (some (counted ∙ length_permutation [] shown same))
+some_own r rows (y ∷ more) shown count is same counted some =
+    let met = has_filtered (is_own r) rows y (subst (λ l. Has l y) (sym is) (inl refl)) in
+    (y, met.0, met.1)
 
 abbrev put_edit : Trees → List Row → Edit
 put_edit db rows = edit_of db (table_of connections) (ids_of rows) Given 1 rows
@@ -190,55 +187,119 @@ module _ (db : Trees) (records : List ConnectionRecord) (are : AreConnections (d
       let same = same_row rows row (connection_row i x) are.rising was here met in
       other (subst (HasKey r.call r.device) (sym same) (record { call_is = ap id_value e; device_is = ap id_value f })))))))
 
-  ways : (n : ℤ) (limit : Option ℕ) (edit : Edit) → Way book_schema connections limit (connection_values r) (1 ∷ 2 ∷ []) tests project db (connection_row n r) edit
-      → are_fresh (left_by db edit) edit.news ≡ true → AreConnections (edited db edit) (put_by (connection_order r) records r)
-  ways n limit edit (put none e) fresh =
-      let rows = db connections.tree in
-      let casts = cast_values (Int n) r (cast_whole n) in
-      let free = subst (λ k. are_fresh rows (k ∷ []) ≡ true) casts (subst (λ d. are_fresh (left_by db d) d.news ≡ true) e fresh) in
-      subst (λ d. AreConnections (edited db d) (put_by (connection_order r) records r)) (sym e)
-      (subst (λ k. AreConnections (put_all rows (k ∷ [])) (put_by (connection_order r) records r)) (sym casts)
-      (placed rows rows records are are.rising n r free
-      (λ row there. (
-        there,
-        λ key.
-            let known = are.known row there in
-            let same = key_of known.0 known.1 r.call r.device (subst (HasKey r.call r.device) known.2 key) in
-            none.complete row there (subst (λ k. conflicts (Some (1 ∷ 2 ∷ [])) book_schema.indexes (table_of connections) (connection_row n r) k ≡ true) (sym known.2)
-            (conflict_is n known.0 r known.1 ∙ is_of_self r.call r.device known.1 same.0 same.1)),
-      ))
-      (λ row there other. there)))
-  ways n limit edit (changed there more rows conflict found e) fresh =
-      let met = conflict.sound there (inl refl) in
-      let known = are.known met.0 met.1 in
+  same_rows : (i : ℤ) (x : ConnectionRecord) → Has (db connections.tree) (connection_row i x) → x.call ≡ r.call → x.device ≡ r.device → (y : Row) → Has (db connections.tree) y → is_own r y ≡ has_rowid i y
+  same_rows i x here e f y there = alike (is_own r y) (has_rowid i y)
+      (λ own.
+      let known = are.known y there in
+      let key = is_of_true r.call r.device known.1 (sym (own_is known.0 r known.1) ∙ subst (λ w. is_own r w ≡ true) known.2 own) in
+      let one = are.apart y (connection_row i x) there here (ap (λ w. column w 1) known.2 ∙ ap id_value (key.0 ∙ sym e)) (ap (λ w. column w 2) known.2 ∙ ap id_value (key.1 ∙ sym f)) in
+      subst (λ w. has_rowid i w ≡ true) (sym one) (own_number i))
+      (λ met.
+      let one = same_row (db connections.tree) y (connection_row i x) are.rising there here met in
+      subst (λ w. is_own r w ≡ true) (sym one) (own_is i r x ∙ is_of_self r.call r.device x e f))
+
+  changed_some : (rows : List Row) (count : ℕ) → IsPermutation (map (showing (connection_values r) project) (passing (connection_values r) key_tests (db connections.tree))) rows → count ≡ length rows → (count ≡ 0 → ⊥)
+      → are_fresh (left_by db (put_edit db rows)) (put_edit db rows).news ≡ true → AreConnections (edited db (put_edit db rows)) (put_by (connection_order r) records r)
+  changed_some rows count found counted some fresh =
+      let own = some_own r (db connections.tree) (filter (is_own r) (db connections.tree)) rows count refl found counted some in
+      let known = are.known own.0 own.1 in
       let i = known.0 in
       let x = known.1 in
-      let same = is_of_true r.call r.device x (sym (conflict_is n i r x) ∙ subst (λ k. conflicts (Some (1 ∷ 2 ∷ [])) book_schema.indexes (table_of connections) (connection_row n r) k ≡ true) known.2 met.2) in
-      let here = subst (Has (db connections.tree)) known.2 met.1 in
-      let number : rowid there ≡ Int i = ap rowid met.3 ∙ ap rowid known.2 in
-      let seen = subst (λ v. IsPermutation (map (showing (connection_values r ++ v ∷ shown (table_of connections) (connection_row n r)) project) (passing (connection_values r ++ v ∷ shown (table_of connections) (connection_row n r)) tests (db connections.tree))) rows) number found in
-      let one = filter_like _ (has_rowid i) (db connections.tree) (each_has _ (db connections.tree) (λ y h. let k = are.known y h in test_is n i k.0 r k.1 y k.2)) ∙ only_row (db connections.tree) (connection_row i x) i are.rising here refl in
-      let rows_are = one_permutation _ rows (subst (λ l. IsPermutation l rows) (ap (map (showing (given n i r) project)) one ∙ ap (λ k. k ∷ []) (shows n i r x same.0 same.1)) seen) in
-      let edit_is : edit ≡ put_edit db ((Int i ∷ connection_row i r) ∷ []) = e ∙ ap (put_edit db) rows_are in
+      let same = is_of_true r.call r.device x (sym (own_is i r x) ∙ subst (λ w. is_own r w ≡ true) known.2 own.2) in
+      let here = subst (Has (db connections.tree)) known.2 own.1 in
+      let one = filter_like _ (has_rowid i) (db connections.tree) (each_has _ (db connections.tree) (same_rows i x here same.0 same.1)) ∙ only_row (db connections.tree) (connection_row i x) i are.rising here refl in
+      let rows_are = one_permutation _ rows (subst (λ l. IsPermutation l rows) (ap (map (showing (connection_values r) project)) one ∙ ap (λ k. k ∷ []) (shows i r x same.0 same.1)) found) in
+      let edit_is : put_edit db rows ≡ put_edit db ((Int i ∷ connection_row i r) ∷ []) = ap (put_edit db) rows_are in
       subst (λ d. AreConnections (edited db d) (put_by (connection_order r) records r)) (sym edit_is)
       (changed_one i x here same.0 same.1 (subst (λ d. are_fresh (left_by db d) d.news ≡ true) edit_is fresh))
 
-pub puts_connection : (r : ConnectionRecord) (c : Content) (old new : State) (count : ℕ) → Drafts old c → Executes text.put_connection (connection_values r) old new (Ok count)
+pub sets_connection : (r : ConnectionRecord) (c : Content) (old new : State) (count : ℕ) → Drafts old c → Executes text.update_connection (connection_values r) old new (Ok count) → (count ≡ 0 → ⊥)
     → Drafts new (with_part table.Connections (put_by (at_connection r.call r.device) c.rows.connections r) c)
-unfolding connections_text
-puts_connection r c old new count d ran =
+unfolding connection_change
+sets_connection r c old new count d ran some =
     let db = old.now.trees in
-    let done = upserted book_schema text.put_connection connections_text (connection_values r) (Null ∷ connection_values r) old new count d.schema refl ran in
-    let own = ap (with_rowid Chosen (db connections.tree)) (cast_values Null r cast_null) in
-    let way = subst (λ k. Way book_schema connections old.step_limit (connection_values r) (1 ∷ 2 ∷ []) tests project db k done.0) own done.1 in
-    let are = ways db c.rows.connections (d.encodes table.Connections) r (next_rowid (db connections.tree)) old.step_limit done.0 way done.3.applies.fresh in
-    drafted table.Connections _ (edited db done.0) old new c are
-    (subst (λ (t : Table). Replaces book_schema t.tree (edited db done.0) old new) done.2 (replaces book_schema old new done.0 (edited db done.0) done.3 refl)) d
+    let made = updated book_schema text.update_connection connection_change (connection_values r) old new count d.schema ran in
+    let are = changed_some db c.rows.connections (d.encodes table.Connections) r made.rows count made.found made.counted some made.changed.applies.fresh in
+    drafted table.Connections _ (edited db (put_edit db made.rows)) old new c are (replaces book_schema old new (put_edit db made.rows) (edited db (put_edit db made.rows)) made.changed refl) d
+
+-- where the UPDATE changed no row, what an INSERT behind it makes is made of what was there
+pub behind_none : (r : ConnectionRecord) (change : Content → Content) (old mid new : State) (none : ℕ) (result : Result (Unit {0}) Error) → Executes text.update_connection (connection_values r) old mid (Ok none) → none ≡ 0
+    → OnOk result ((c : Content) → Drafts mid c → Drafts new (change c)) → OnOk result ((c : Content) → Drafts old c → Drafts new (change (with_part table.Connections c.rows.connections c)))
+unfolding connection_change
+behind_none r change old mid late none (Err e) ran missed put = tt
+behind_none r change old mid late none (Ok x) ran missed put = λ (c : Content) (d : Drafts old c).
+    put (with_part table.Connections c.rows.connections c)
+    (drafted table.Connections c.rows.connections (old.now.trees connections.tree) old mid c (d.encodes table.Connections) (set_none book_schema text.update_connection connection_change (connection_values r) old mid none d.schema ran missed) d)
+
+-- ---- a connection inserted
+
+new_connection : Insertion book_schema text.insert_connection
+unfolding understood everything
+new_connection = record { at = 5; layout = connections; terms = lit Null ∷ run 0 7; width = 8; place = refl; command = refl; plain = (refl, refl); inert = inert_works book_schema inert connections.tree }
+
+no_clash : (b : Bool) → (not b && true) ≡ true → b ≡ true → ⊥
+no_clash true h e = cc (h)
+no_clash false h e = cc (e)
+
+apart_is : (o : Ordering) → is_eq o ≡ false → is_true (from_truth (Some (is_ne o))) ≡ true
+apart_is Less h = refl
+apart_is Equal h = absurd (cc (h))
+apart_is Greater h = refl
+
+differs : (n i : ℤ) → is_eq (value_cmp (Int i) (Int n)) ≡ false → rule.differ (Int i) (Int n) ≡ true
+unfolding binary
+differs n i h = apart_is (value_cmp (Int i) (Int n)) h
+
+clash_is : (n i : ℤ) (r x : ConnectionRecord) → rule.agree plain (1 ∷ 2 ∷ []) (connection_row i x) (1 ∷ 2 ∷ []) (connection_row n r) ≡ ((x.call == r.call) && (x.device == r.device))
+unfolding binary first_key value_cmp
+clash_is n i r x = two (is_eq (value_cmp (id_value x.call) (id_value r.call))) (is_eq (value_cmp (id_value x.device) (id_value r.device))) ∙ both_ids x.call x.device r.call r.device
+
+module _ (rows : List Row) (next : Trees) (records : List ConnectionRecord) (are : AreConnections rows records) (n : ℤ) (r : ConnectionRecord)
+    (fresh : are_fresh rows (connection_row n r ∷ []) ≡ true) (is : next connections.tree ≡ put_all rows (connection_row n r ∷ [])) (fits : rule.Fits book_schema next) where
+  abbrev own : Row
+  own = connection_row n r
+
+  abbrev clash : Row → Bool
+  clash y = rule.agree plain (1 ∷ 2 ∷ []) y (1 ∷ 2 ∷ []) own && rule.differ (rowid y) (rowid own)
+
+  -- the rows behind an INSERT have no key twice
+  unique : list_any clash (next connections.tree) ≡ true → ⊥
+  unique = no_clash (list_any clash (next connections.tree)) (at_each (λ row. rule.passes Unique book_schema next (table_of connections) row ≡ true) (next connections.tree) own
+      (fits.rules Unique (λ e. cc (e))).1.1.1.1.1.0 (subst (λ l. Has l own) (sym is) (put_all_adds (own ∷ []) rows own fresh (inl refl))))
+
+  abbrev tied : Row → Bool
+  tied y = is_eq (value_cmp (rowid y) (rowid own))
+
+  other_number : (row : Row) → Has rows row → tied row ≡ false
+  other_number row there =
+      let none : list_any tied rows ≡ false = not-true (list_any tied rows) (and_parts (not (list_any tied rows)) true fresh).0 in
+      false_from_ne_true (tied row) (λ met. let some = some_from tied rows row there met in cc)
+
+  free : (row : Row) → Has rows row → ¬ HasKey r.call r.device row
+  free row there key =
+      let known = are.known row there in
+      let same = key_of known.0 known.1 r.call r.device (subst (HasKey r.call r.device) known.2 key) in
+      let both : clash (connection_row known.0 known.1) ≡ true = and_from _ _ (clash_is n known.0 r known.1 ∙ is_of_self r.call r.device known.1 same.0 same.1)
+      (differs n known.0 (subst (λ y. tied y ≡ false) known.2 (other_number row there))) in
+      unique (some_from clash (next connections.tree) row (subst (λ l. Has l row) (sym is) (put_all_keeps (own ∷ []) rows row fresh there)) (subst (λ y. clash y ≡ true) (sym known.2) both))
+
+  pub inserted_beside : AreConnections (put_all rows (own ∷ [])) (put_by (connection_order r) records r)
+  inserted_beside = placed rows rows records are are.rising n r fresh (λ row there. (there, free row there)) (λ row there other. there)
+
+pub inserts_connection : (r : ConnectionRecord) (c : Content) (old new : State) (count : ℕ) → Drafts old c → Executes text.insert_connection (connection_values r) old new (Ok count)
+    → Drafts new (with_part table.Connections (put_by (at_connection r.call r.device) c.rows.connections r) c)
+unfolding new_connection
+inserts_connection r c old new count d ran =
+    let rows = old.now.trees connections.tree in
+    let made = inserted book_schema text.insert_connection new_connection (connection_values r) old new count d.schema ran in
+    let own = ap (with_rowid Chosen rows) (cast_values Null r cast_null) in
+    let fresh = subst (λ k. are_fresh rows (k ∷ []) ≡ true) own made.applies.fresh in
+    let is = made.applies.rows ∙ ap (λ k. put_all rows (k ∷ [])) own in
+    let are = inserted_beside rows new.now.trees c.rows.connections (d.encodes table.Connections) (next_rowid rows) r fresh is made.applies.fits in
+    drafted table.Connections _ (put_all rows (connection_row (next_rowid rows) r ∷ [])) old new c are
+    (replaces book_schema old new (insertion_edit new_connection (connection_values r) old.now.trees) _ made (ap (λ k. put_all rows (k ∷ [])) own)) d
 
 -- ---- a connection taken out
-
-abbrev key_tests : List Term
-key_tests = op2 (Compare Eq Binary) (col 1 1) (col 0 0) ∷ op2 (Compare Eq Binary) (col 1 2) (col 0 1) ∷ []
 
 no_connection : Deletion book_schema text.drop_connection
 unfolding understood everything
@@ -248,8 +309,7 @@ abbrev passes : ℕ → ℕ → Row → Bool
 passes call device y = list_all (holds ((id_value call ∷ id_value device ∷ []) ∷ y ∷ [])) key_tests
 
 passes_is : (call device : ℕ) (j : ℤ) (z : ConnectionRecord) → passes call device (connection_row j z) ≡ ((z.call == call) && (z.device == device))
-unfolding binary
-passes_is call device j z = two (is_eq (value_cmp (id_value z.call) (id_value call))) (is_eq (value_cmp (id_value z.device) (id_value device))) ∙ both_ids z.call z.device call device
+passes_is call device j z = key_is call device [] j z
 
 any_mapped : {X Y : Type 0} (p : Y → Bool) (f : X → Y) (xs : List X) → list_any p (map f xs) ≡ list_any (λ x. p (f x)) xs
 any_mapped p f [] = refl

@@ -13,7 +13,9 @@ mod ConnectionRows
 mod Selections
 pub mod Statements
 mod Upserts
+mod Updates
 mod Puts
+mod Sets
 mod Removals
 mod Frames
 pub mod Texts

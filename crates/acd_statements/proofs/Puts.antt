@@ -10,7 +10,7 @@ use Rattle.sqlite_schema.specs.declared.schema.Table.{Table}
 use Rattle.sqlite_schema.specs.Rules.{agree}
 use Rattle.sqlite_trees.specs.Tree.{Trees, rowid, put_row}
 use Rattle.sqlite_sql.specs.Ops.{binary, is_true, from_truth}
-use Rattle.sqlite_sql.specs.Term.{holds}
+use Rattle.sqlite_sql.specs.Term.{Term, holds}
 use Rattle.sqlite_schema.specs.declared.schema.Index.{Index}
 use Rattle.sqlite_schema.specs.declared.schema.Schema.{Schema}
 use Rattle.sqlite_rules.specs.declared.error.Rowids.TheVariants.{Chosen, Given}
@@ -57,7 +57,7 @@ module _ {R : Type 0} (schema : Schema) (text : List ℕ) (key : R → ℕ) (row
     pub finds : (new r : R) (n : ℕ) → list_all (holds ((params new ++ id_value n ∷ shown (table_of it.layout) (row new)) ∷ row r ∷ [])) it.tests ≡ (key r == n)
     pub shows : (new r : R) (n : ℕ) → showing (params new ++ id_value n ∷ shown (table_of it.layout) (row new)) it.project (row r) ≡ id_value (key r) ∷ id_value (key r) ∷ drop 1 (row new)
 
-keyed_by : {R : Type 0} (layout : Layout) (key : R → ℕ) (row : R → Row) → Files layout key row → (r : R) → rowid (row r) ≡ id_value (key r)
+pub keyed_by : {R : Type 0} (layout : Layout) (key : R → ℕ) (row : R → Row) → Files layout key row → (r : R) → rowid (row r) ≡ id_value (key r)
 keyed_by layout key row f r = ap rowid (f.headed r)
 
 number_kept : (rows : List Row) (row : Row) (n : ℕ) → row ≡ id_value n ∷ drop 1 row → with_rowid Chosen rows row ≡ row
@@ -77,6 +77,25 @@ inserts schema text key row params i r rs old new count has is ran =
     let number = ap (λ k. put_row k (db i.it.layout.tree)) (number_kept (db i.it.layout.tree) (row r) (key r) (i.files.headed r)) in
     replaces schema old new (insertion_edit i.it (params r) db) _ made
     (source ∙ cast ∙ number ∙ ap (put_row (row r)) is ∙ puts key row (keyed_by i.it.layout key row i.files) r rs)
+
+-- ---- the row that has a record's key, changed into the record's
+
+module _ {R : Type 0} (layout : Layout) (key : R → ℕ) (row : R → Row) (files : Files layout key row) (given : Row) (tests project : List Term) (r : R)
+    (finds : (y : R) → list_all (holds (given ∷ row y ∷ [])) tests ≡ (key y == key r)) (shows : (y : R) → showing given project (row y) ≡ id_value (key y) ∷ id_value (key y) ∷ drop 1 (row r)) where
+  numbered : (y : R) → rowid (row y) ≡ id_value (key y)
+  numbered = keyed_by layout key row files
+
+  pub one_changed : (x : R) (rs : List R) (db : Trees) (rows : List Row) → db layout.tree ≡ map row rs → IsAscending (by_key key) rs → Among x rs → key x ≡ key r
+      → IsPermutation (map (showing given project) (passing given tests (db layout.tree))) rows
+      → edited db (edit_of db (table_of layout) (ids_of rows) Given 1 rows) ≡ map row (put_by (by_key key r) rs r)
+  one_changed x rs db rows is up at same found =
+      let one = ap (passing given tests) is ∙ found_rows key row numbered (λ y. key y == key r) (λ a b e. ap (λ k. k == key r) e) given tests finds rs ∙ ap (map row) (only_one key r x rs up at same) in
+      let shown_one : showing given project (row x) ≡ id_value (key x) ∷ row r = shows x ∙ ap (λ k. id_value (key x) ∷ id_value k ∷ drop 1 (row r)) same ∙ ap (λ k. id_value (key x) ∷ k) (sym (files.headed r)) in
+      let rows_are : rows ≡ (id_value (key x) ∷ row r) ∷ [] = one_permutation _ rows (subst (λ l. IsPermutation l rows) (ap (map (showing given project)) one ∙ ap (λ k. k ∷ []) shown_one) found) in
+      let out = taken_out key row numbered (λ y. key y == key r) (λ a b e. ap (λ k. k == key r) e) given tests finds project (λ y. ap rowid (shows y)) rs (db layout.tree) rows is found in
+      let news = ap (λ l. put_all (without_all (db layout.tree) (ids_of rows)) (numbered_by Given (without_all (db layout.tree) (ids_of rows)) (map (λ s. cast_row (table_of layout) (drop 1 s)) l))) rows_are in
+      let cast = ap (λ k. put_row k (without_all (db layout.tree) (ids_of rows))) (files.casts r) in
+      news ∙ cast ∙ ap (put_row (row r)) out ∙ puts key row numbered r (filter (λ y. not (key y == key r)) rs) ∙ ap (map row) (put_left key r rs up)
 
 -- ---- upserts
 
@@ -119,16 +138,7 @@ module _ {R : Type 0} (schema : Schema) (text : List ℕ) (key : R → ℕ) (row
   changes : (r x : R) (rs : List R) (db : Trees) (rows : List Row) → db u.it.layout.tree ≡ map row rs → IsAscending (by_key key) rs → Among x rs → key x ≡ key r
       → IsPermutation (map (showing (given r) u.it.project) (passing (given r) u.it.tests (db u.it.layout.tree))) rows
       → edited db (edit_of db table (ids_of rows) Given 1 rows) ≡ map row (put_by (by_key key r) rs r)
-  changes r x rs db rows is up at same found =
-      let tests = λ (y : R). u.finds r y (key r) in
-      let numbered = λ (y : R). ap rowid (u.shows r y (key r)) in
-      let one = ap (passing (given r) u.it.tests) is ∙ found_rows key row keyed (λ y. key y == key r) (λ a b e. ap (λ k. k == key r) e) (given r) u.it.tests tests rs ∙ ap (map row) (only_one key r x rs up at same) in
-      let shown_one : showing (given r) u.it.project (row x) ≡ id_value (key x) ∷ row r = u.shows r x (key r) ∙ ap (λ k. id_value (key x) ∷ id_value k ∷ drop 1 (row r)) same ∙ ap (λ k. id_value (key x) ∷ k) (sym (u.files.headed r)) in
-      let rows_are : rows ≡ (id_value (key x) ∷ row r) ∷ [] = one_permutation _ rows (subst (λ l. IsPermutation l rows) (ap (map (showing (given r) u.it.project)) one ∙ ap (λ k. k ∷ []) shown_one) found) in
-      let out = taken_out key row keyed (λ y. key y == key r) (λ a b e. ap (λ k. k == key r) e) (given r) u.it.tests tests u.it.project numbered rs (db u.it.layout.tree) rows is found in
-      let news = ap (λ l. put_all (without_all (db u.it.layout.tree) (ids_of rows)) (numbered_by Given (without_all (db u.it.layout.tree) (ids_of rows)) (map (λ s. cast_row table (drop 1 s)) l))) rows_are in
-      let cast = ap (λ k. put_row k (without_all (db u.it.layout.tree) (ids_of rows))) (u.files.casts r) in
-      news ∙ cast ∙ ap (put_row (row r)) out ∙ puts key row keyed r (filter (λ y. not (key y == key r)) rs) ∙ ap (map row) (put_left key r rs up)
+  changes r = one_changed u.it.layout key row u.files (given r) u.it.tests u.it.project r (λ y. u.finds r y (key r)) (λ y. u.shows r y (key r))
 
   ways : (r : R) (rs : List R) (limit : Option ℕ) (db : Trees) (edit : Edit) → db u.it.layout.tree ≡ map row rs → IsAscending (by_key key) rs
       → Way schema u.it.layout limit (params r) (0 ∷ []) u.it.tests u.it.project db (row r) edit → edited db edit ≡ map row (put_by (by_key key r) rs r)
@@ -158,7 +168,7 @@ pub record Put {R : Type 0} (schema : Schema) (tree : ℕ) (key : R → ℕ) (ro
   pub replaces : Replaces schema tree (map row (put_by (by_key key r) rs r)) old new
   pub are_rows : AreRows key row (map row (put_by (by_key key r) rs r)) (put_by (by_key key r) rs r)
 
-are_put : {R : Type 0} (key : R → ℕ) (row : R → Row) (r : R) (rs : List R) → IsAscending (by_key key) rs → AreRows key row (map row (put_by (by_key key r) rs r)) (put_by (by_key key r) rs r)
+pub are_put : {R : Type 0} (key : R → ℕ) (row : R → Row) (r : R) (rs : List R) → IsAscending (by_key key) rs → AreRows key row (map row (put_by (by_key key r) rs r)) (put_by (by_key key r) rs r)
 are_put key row r rs up = record { rows_are = refl; ascending = ascending-put (by_key key) (by_key_total key) r rs up }
 
 pub inserted_row : {R : Type 0} (schema : Schema) (text : List ℕ) (key : R → ℕ) (row params : R → Row) (i : Inserts schema text key row params) (r : R) (rs : List R) (old new : State) (count : ℕ)

@@ -1,5 +1,5 @@
 -- What a statement does to the state of a connection, of any schema.
-use Rattle.std.proofs.Common.{◌≡◌, ◌≢◌, ◌⊎◌, inl, inr, ℕ, ◌/◌, List, [], ◌∷◌, length, map, slice_get, Bool, true, false, Some, None, Option, Ok, Err, Result, IsTrue, refl, sym, ap, subst, subst₂, ◌∙◌, append-nil, if◌then◌else◌, ◌==◌}
+use Rattle.std.proofs.Common.{◌≡◌, ◌≢◌, ◌⊎◌, inl, inr, ℕ, ◌/◌, List, [], ◌∷◌, length, map, slice_get, Bool, true, false, Some, None, Option, Ok, Err, Result, IsTrue, IfOk, refl, sym, ap, subst, subst₂, ◌∙◌, append-nil, if◌then◌else◌, ◌==◌}
 use Rattle.sqlite_value.specs.Order.{Row}
 use Rattle.sqlite_trees.specs.Tree.{Trees}
 use Rattle.sqlite_sql.specs.Term.{Term, col}
@@ -127,12 +127,21 @@ inert_works schema h tree olds news = no_works schema tree olds news schema.tabl
 
 -- ---- inside a transaction
 
-pub ran_inside : (text : List ℕ) (params : Row) (old new : State) (e : Error) (count : ℕ) → (old.in_transaction ≡ false → Ok count ≡ Err e) → (IsTrue old.in_transaction → ExecutesInside 0 text params old new (Ok count))
-    → Ran text params old new
-ran_inside text params old new e count ended runs = elim (cases_Bool old.in_transaction) [
-  | inl inside ↦ (count, (runs inside).0)
+pub counted_inside : (text : List ℕ) (params : Row) (old new : State) (e : Error) (count : ℕ) → (old.in_transaction ≡ false → Ok count ≡ Err e) → (IsTrue old.in_transaction → ExecutesInside 0 text params old new (Ok count))
+    → Executes text params old new (Ok count)
+counted_inside text params old new e count ended runs = elim (cases_Bool old.in_transaction) [
+  | inl inside ↦ (runs inside).0
   | inr outside ↦ absurd (let k = ended outside in cc)
 ]
+
+pub ran_inside : (text : List ℕ) (params : Row) (old new : State) (e : Error) (count : ℕ) → (old.in_transaction ≡ false → Ok count ≡ Err e) → (IsTrue old.in_transaction → ExecutesInside 0 text params old new (Ok count))
+    → Ran text params old new
+ran_inside text params old new e count ended runs = (count, counted_inside text params old new e count ended runs)
+
+pub counts_inside : (text : List ℕ) (params : Row) (old new : State) (e : Error) (r : Result ℕ Error) → (old.in_transaction ≡ false → r ≡ Err e) → (IsTrue old.in_transaction → ExecutesInside 0 text params old new r)
+    → IfOk r (λ count. Executes text params old new (Ok count))
+counts_inside text params old new e (Err f) ended runs = tt
+counts_inside text params old new e (Ok count) ended runs = counted_inside text params old new e count ended runs
 
 kept_inside : (text : List ℕ) (params : Row) (old new : State) (r : Result ℕ Error) → ExecutesInside 0 text params old new r → KeepsCommit old new
 kept_inside text params old new (Ok count) h = record { was_open = λ up. h.1.was_open; committed = λ up. h.1.committed_is }

@@ -28,17 +28,26 @@ make_events = codes "CREATE TABLE events (number INTEGER NOT NULL PRIMARY KEY, m
 abbrev pub make_kept : List ℕ
 make_kept = codes "CREATE TABLE kept (stamp INTEGER NOT NULL PRIMARY KEY, requester TEXT NOT NULL, invoke INTEGER NOT NULL, moment INTEGER NOT NULL, request TEXT NOT NULL, status INTEGER NOT NULL, body TEXT NOT NULL, UNIQUE (requester, invoke)) STRICT"
 
-abbrev pub put_group : List ℕ
-put_group = codes "INSERT INTO acd_groups (device, name, ring, wrap, entered, answered, abandoned, moved, waited) VALUES (?1, ?2, ?3, ?4, ?5, ?6, ?7, ?8, ?9) ON CONFLICT (device) DO UPDATE SET name = excluded.name, ring = excluded.ring, wrap = excluded.wrap, entered = excluded.entered, answered = excluded.answered, abandoned = excluded.abandoned, moved = excluded.moved, waited = excluded.waited"
+abbrev pub update_group : List ℕ
+update_group = codes "UPDATE acd_groups SET name = ?2, ring = ?3, wrap = ?4, entered = ?5, answered = ?6, abandoned = ?7, moved = ?8, waited = ?9 WHERE device = ?1"
+
+abbrev pub insert_group : List ℕ
+insert_group = codes "INSERT INTO acd_groups (device, name, ring, wrap, entered, answered, abandoned, moved, waited) VALUES (?1, ?2, ?3, ?4, ?5, ?6, ?7, ?8, ?9)"
 
 abbrev pub put_station : List ℕ
 put_station = codes "INSERT INTO stations (device) VALUES (?1)"
 
-abbrev pub put_agent : List ℕ
-put_agent = codes "INSERT INTO agents (agent, name, state, pending, station, grp, stamp, since) VALUES (?1, ?2, ?3, ?4, ?5, ?6, ?7, ?8) ON CONFLICT (agent) DO UPDATE SET name = excluded.name, state = excluded.state, pending = excluded.pending, station = excluded.station, grp = excluded.grp, stamp = excluded.stamp, since = excluded.since"
+abbrev pub update_agent : List ℕ
+update_agent = codes "UPDATE agents SET name = ?2, state = ?3, pending = ?4, station = ?5, grp = ?6, stamp = ?7, since = ?8 WHERE agent = ?1"
+
+abbrev pub insert_agent : List ℕ
+insert_agent = codes "INSERT INTO agents (agent, name, state, pending, station, grp, stamp, since) VALUES (?1, ?2, ?3, ?4, ?5, ?6, ?7, ?8)"
 
 abbrev pub put_call : List ℕ
 put_call = codes "INSERT INTO calls (call, caller, called, since) VALUES (?1, ?2, ?3, ?4) ON CONFLICT (call) DO UPDATE SET caller = excluded.caller, called = excluded.called, since = excluded.since"
+
+abbrev pub insert_call : List ℕ
+insert_call = codes "INSERT INTO calls (call, caller, called, since) VALUES (?1, ?2, ?3, ?4)"
 
 abbrev pub put_monitor : List ℕ
 put_monitor = codes "INSERT INTO monitors (monitor, device, after_event) VALUES (?1, ?2, ?3) ON CONFLICT (monitor) DO UPDATE SET device = excluded.device, after_event = excluded.after_event"
@@ -52,14 +61,20 @@ put_kept = codes "INSERT INTO kept (stamp, requester, invoke, moment, request, s
 abbrev pub put_meta : List ℕ
 put_meta = codes "INSERT INTO meta (id, version, max_requests, max_calls, max_groups, max_stations, max_agents, max_monitors, last_stamp, last_moment, last_call, last_monitor, last_event) VALUES (?1, ?2, ?3, ?4, ?5, ?6, ?7, ?8, ?9, ?10, ?11, ?12, ?13) ON CONFLICT (id) DO UPDATE SET version = excluded.version, max_requests = excluded.max_requests, max_calls = excluded.max_calls, max_groups = excluded.max_groups, max_stations = excluded.max_stations, max_agents = excluded.max_agents, max_monitors = excluded.max_monitors, last_stamp = excluded.last_stamp, last_moment = excluded.last_moment, last_call = excluded.last_call, last_monitor = excluded.last_monitor, last_event = excluded.last_event"
 
+abbrev pub set_meta : List ℕ
+set_meta = codes "UPDATE meta SET max_requests = ?1, max_calls = ?2, max_groups = ?3, max_stations = ?4, max_agents = ?5, max_monitors = ?6, last_stamp = ?7, last_moment = ?8, last_call = ?9, last_monitor = ?10, last_event = ?11 WHERE id = 1"
+
 abbrev pub drop_call : List ℕ
 drop_call = codes "DELETE FROM calls WHERE call = ?1"
 
 abbrev pub drop_monitor : List ℕ
 drop_monitor = codes "DELETE FROM monitors WHERE monitor = ?1"
 
-abbrev pub put_connection : List ℕ
-put_connection = codes "INSERT INTO connections (call, device, state, grp, place, queued, offered) VALUES (?1, ?2, ?3, ?4, ?5, ?6, ?7) ON CONFLICT (call, device) DO UPDATE SET state = excluded.state, grp = excluded.grp, place = excluded.place, queued = excluded.queued, offered = excluded.offered"
+abbrev pub update_connection : List ℕ
+update_connection = codes "UPDATE connections SET state = ?3, grp = ?4, place = ?5, queued = ?6, offered = ?7 WHERE call = ?1 AND device = ?2"
+
+abbrev pub insert_connection : List ℕ
+insert_connection = codes "INSERT INTO connections (call, device, state, grp, place, queued, offered) VALUES (?1, ?2, ?3, ?4, ?5, ?6, ?7)"
 
 abbrev pub drop_connection : List ℕ
 drop_connection = codes "DELETE FROM connections WHERE call = ?1 AND device = ?2"

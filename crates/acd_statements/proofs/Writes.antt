@@ -1,11 +1,12 @@
 -- The statements that put records.
-use Rattle.std.proofs.Common.{◌≡◌, ℕ, zero, suc, ◌+◌, List, [], ◌∷◌, ◌==◌, ◌&&◌, Some, None, Option, Bool, true, false, cond, Ok, Err, Result, OnOk, refl, ◌∙◌, slice_get}
+use Rattle.std.proofs.Common.{◌≡◌, ℕ, pos, zero, suc, ◌+◌, List, [], ◌∷◌, ◌==◌, ◌&&◌, Some, None, Option, Bool, true, false, not, cond, drop, map, Ok, Err, Result, OnOk, refl, ap, subst, ◌∙◌, slice_get}
 use Rattle.sqlite_value.specs.declared.value.Value.{Value}
 use Rattle.sqlite_value.specs.declared.value.Value.TheVariants.{Null}
 use Rattle.sqlite_value.specs.declared.keys.Collation.TheVariants.{Binary}
 use Rattle.sqlite_value.specs.Order.{Row, value_cmp}
 use Rattle.std.specs.Prelude.{bytes_eq}
 use Rattle.std.specs.List.{AllByRecursion}
+use Rattle.std.specs.List.Sorted.{IsPermutation}
 use Rattle.std.specs.Ordering.{nat_cmp, is_eq}
 use Rattle.sqlite_sql.specs.Term.{Term, lit, col, op2}
 use Rattle.sqlite_sql.specs.Ops.{unary, binary, is_true, from_truth}
@@ -14,13 +15,15 @@ use Rattle.sqlite_sql.specs.declared.ops.CompareOp.TheVariants.{Eq}
 use Rattle.sqlite_schema.specs.declared.schema.Kind.TheVariants.{Integer}
 use Rattle.sqlite_schema.specs.declared.command.Conflict.TheVariants.{Abort}
 use Rattle.sqlite_schema.specs.declared.command.Source.TheVariants.{Values}
-use Rattle.sqlite_schema.specs.declared.command.Command.TheVariants.{Insert, InsertOr, Delete}
+use Rattle.sqlite_schema.specs.declared.command.Command.TheVariants.{Insert, InsertOr, Update, Delete}
 use Rattle.sqlite_rules.specs.Cast.{cast, cast_row}
+use Rattle.sqlite_rules.specs.Edit.{edited, without_all}
+use Rattle.sqlite_trees.specs.Tree.{Trees, put_row}
 use Rattle.sqlite.specs.declared.error.Error.{Error}
 use Rattle.sqlite.specs.Listing.{understood}
 use Rattle.sqlite.specs.State.{State, Executes}
 use Rattle.sqlite.specs.Values.{or_null}
-use Rattle.sqlite.proofs.Callers.{IsPlain, command_of}
+use Rattle.sqlite.proofs.Callers.{IsPlain, command_of, one_permutation}
 use Rattle.sqlite_tied.specs.Compute.{everything}
 use Rattle.acd_terms.specs.Lists.{put_by, remove_by}
 use Rattle.acd_terms.specs.Columns.{columns_of}
@@ -46,11 +49,13 @@ use Rattle.acd_statements.specs.Draft.{Drafts, Ran}
 use Rattle.acd_statements.proofs.Texts as text
 use Rattle.acd_statements.proofs.Frames.{drafted, only_meta}
 use Rattle.acd_statements.proofs.Removals.{Removes, removed_row}
-use Rattle.acd_statements.proofs.Scans.{scan}
+use Rattle.acd_statements.proofs.Scans.{scan, showing, passing}
 use Rattle.acd_statements.proofs.KeyedRows.{id_tied}
 use Rattle.acd_statements.proofs.Puts.{Inserts, Upserts, truth_back, inserted_row, upserted_row}
-use Rattle.acd_statements.proofs.Statements.{Deletion, Insertion, IsInert, inert_works}
+use Rattle.acd_statements.proofs.Statements.{Deletion, Insertion, IsInert, inert_works, replaces}
 use Rattle.acd_statements.proofs.Upserts.{Upsertion, clause_of}
+use Rattle.acd_statements.proofs.Updates.{Updating, updating_edit, updated}
+use Rattle.acd_statements.proofs.Sets.{Sets, set_none, set_row}
 
 -- ---- what the texts of a put say, for a table of so many columns whose first is its key
 
@@ -96,6 +101,19 @@ abbrev insertion : (text : List ℕ) (at width : ℕ) (layout : Layout) → slic
 insertion text at width layout place command plain =
     record { at = at; layout = layout; terms = sources width; width = width + 2; place = place; command = command; plain = plain; inert = inert_works book_schema inert layout.tree }
 
+-- the tests of a text with the key as its first parameter
+abbrev by_first : List Term
+by_first = op2 (Compare Eq Binary) (col 1 0) (col 0 0) ∷ []
+
+-- the number and key of the row that is there, and the parameters behind the key
+abbrev columns_given : ℕ → List Term
+columns_given width = col 1 0 ∷ col 1 0 ∷ lit Null ∷ run 1 width
+
+abbrev updating : (text : List ℕ) (at width : ℕ) (layout : Layout) → slice_get book_schema.tables at ≡ Some (table_of layout)
+    → command_of (understood book_schema text) ≡ Update at (record { lets = []; body = scan layout.tree by_first (columns_given width) [] }) → IsPlain (understood book_schema text) → Updating book_schema text
+updating text at width layout place command plain =
+    record { at = at; layout = layout; terms = by_first; project = columns_given width; place = place; command = command; plain = plain; inert = inert_works book_schema inert layout.tree }
+
 -- no index is on the number of a row alone
 no_index : AllByRecursion (λ i. bytes_eq (0 ∷ []) i.columns ≡ false) book_schema.indexes
 no_index = (refl, (refl, (refl, tt)))
@@ -123,20 +141,25 @@ cast_maybe f (Some x) = cast_id (f x)
 
 -- ---- inside a transaction
 
+pub drafts_behind : (sql : List ℕ) (params : Row) (change : Content → Content) (old mid new : State) (r : Result (Unit {0}) Error)
+    → ((c : Content) (count : ℕ) → Drafts old c → Executes sql params mid new (Ok count) → Drafts new (change c))
+    → OnOk r (Ran sql params mid new) → OnOk r ((c : Content) → Drafts old c → Drafts new (change c))
+drafts_behind sql params change old mid new (Err e) law ran = tt
+drafts_behind sql params change old mid new (Ok x) law ran = λ (c : Content) (d : Drafts old c). law c ran.0 d ran.1
+
 pub drafts : (sql : List ℕ) (params : Row) (change : Content → Content) (old new : State) (r : Result (Unit {0}) Error)
     → ((c : Content) (count : ℕ) → Drafts old c → Executes sql params old new (Ok count) → Drafts new (change c))
     → OnOk r (Ran sql params old new) → OnOk r ((c : Content) → Drafts old c → Drafts new (change c))
-drafts sql params change old new (Err e) law ran = tt
-drafts sql params change old new (Ok x) law ran = λ (c : Content) (d : Drafts old c). law c ran.0 d ran.1
+drafts sql params change old new = drafts_behind sql params change old old new
 
 -- ---- groups
 
-groups_text : Upsertion book_schema text.put_group
+groups_text : Insertion book_schema text.insert_group
 unfolding understood everything
-groups_text = upsertion text.put_group 1 8 schema.groups refl refl (refl, refl)
+groups_text = insertion text.insert_group 1 8 schema.groups refl refl (refl, refl)
 
-groups_put : Upserts book_schema text.put_group (λ (g : GroupRecord). g.device) group_row group_values
-unfolding groups_text binary
+groups_put : Inserts book_schema text.insert_group (λ (g : GroupRecord). g.device) group_row group_values
+unfolding groups_text
 groups_put = record {
   it = groups_text;
   files = record {
@@ -144,27 +167,42 @@ groups_put = record {
     casts = λ g. rw (cast_id g.device, cast_null, cast_id g.ring, cast_id g.wrap, cast_id g.figures.entered, cast_id g.figures.answered, cast_id g.figures.abandoned, cast_id g.figures.moved, cast_id g.figures.waited) refl;
   };
   source = λ g. refl;
-  by_number = refl;
-  no_index = no_index;
-  finds = λ new g n. by_id g.device n;
-  shows = λ new g n. refl;
 }
 
-pub puts_group : (g : GroupRecord) (c : Content) (old new : State) (count : ℕ) → Drafts old c → Executes text.put_group (group_values g) old new (Ok count)
+groups_change : Updating book_schema text.update_group
+unfolding understood everything
+groups_change = updating text.update_group 1 8 schema.groups refl refl (refl, refl)
+
+groups_set : Sets book_schema text.update_group (λ (g : GroupRecord). g.device) group_row group_values
+unfolding groups_change groups_put groups_text binary
+groups_set = record { it = groups_change; files = groups_put.files; finds = λ new g. by_id g.device new.device; shows = λ new g. refl }
+
+-- of a group that has a row
+pub sets_group : (g : GroupRecord) (c : Content) (old new : State) (count : ℕ) → Drafts old c → Executes text.update_group (group_values g) old new (Ok count) → (count ≡ 0 → ⊥)
     → Drafts new (with_part table.Groups (put_by (at_group g.device) c.rows.groups g) c)
-unfolding groups_put groups_text
-puts_group g c old new count d ran =
-    let made = upserted_row book_schema text.put_group (λ (g : GroupRecord). g.device) group_row group_values groups_put g c.rows.groups old new count d.schema (d.encodes table.Groups) ran in
+unfolding groups_set groups_change
+sets_group g c old new count d ran some =
+    let made = set_row book_schema text.update_group (λ (g : GroupRecord). g.device) group_row group_values groups_set g c.rows.groups old new count d.schema (d.encodes table.Groups) ran some in
     drafted table.Groups _ _ old new c made.are_rows made.replaces d
+
+-- of a group that has none
+pub puts_group : (g : GroupRecord) (c : Content) (old mid new : State) (none count : ℕ) → Drafts old c → Executes text.update_group (group_values g) old mid (Ok none) → none ≡ 0
+    → Executes text.insert_group (group_values g) mid new (Ok count) → Drafts new (with_part table.Groups (put_by (at_group g.device) c.rows.groups g) c)
+unfolding groups_put groups_text groups_change
+puts_group g c old mid new none count d first missed ran =
+    let still = set_none book_schema text.update_group groups_change (group_values g) old mid none d.schema first missed in
+    let between = drafted table.Groups c.rows.groups (old.now.trees schema.groups.tree) old mid c (d.encodes table.Groups) still d in
+    let made = inserted_row book_schema text.insert_group (λ (g : GroupRecord). g.device) group_row group_values groups_put g c.rows.groups mid new count between.schema (between.encodes table.Groups) ran in
+    drafted table.Groups _ _ mid new (with_part table.Groups c.rows.groups c) made.are_rows made.replaces between
 
 -- ---- agents
 
-agents_text : Upsertion book_schema text.put_agent
+agents_text : Insertion book_schema text.insert_agent
 unfolding understood everything
-agents_text = upsertion text.put_agent 3 7 schema.agents refl refl (refl, refl)
+agents_text = insertion text.insert_agent 3 7 schema.agents refl refl (refl, refl)
 
-agents_put : Upserts book_schema text.put_agent (λ (a : AgentRecord). a.agent) agent_row agent_values
-unfolding agents_text binary
+agents_put : Inserts book_schema text.insert_agent (λ (a : AgentRecord). a.agent) agent_row agent_values
+unfolding agents_text
 agents_put = record {
   it = agents_text;
   files = record {
@@ -172,18 +210,33 @@ agents_put = record {
     casts = λ a. rw (cast_id a.agent, cast_null, cast_id (agent_code a.state), cast_maybe pending_code a.pending, cast_maybe (λ n. n) a.station, cast_maybe (λ n. n) a.group, cast_id a.stamp, cast_id a.since) refl;
   };
   source = λ a. refl;
-  by_number = refl;
-  no_index = no_index;
-  finds = λ new a n. by_id a.agent n;
-  shows = λ new a n. refl;
 }
 
-pub puts_agent : (a : AgentRecord) (c : Content) (old new : State) (count : ℕ) → Drafts old c → Executes text.put_agent (agent_values a) old new (Ok count)
+agents_change : Updating book_schema text.update_agent
+unfolding understood everything
+agents_change = updating text.update_agent 3 7 schema.agents refl refl (refl, refl)
+
+agents_set : Sets book_schema text.update_agent (λ (a : AgentRecord). a.agent) agent_row agent_values
+unfolding agents_change agents_put agents_text binary
+agents_set = record { it = agents_change; files = agents_put.files; finds = λ new a. by_id a.agent new.agent; shows = λ new a. refl }
+
+-- of a agent that has a row
+pub sets_agent : (a : AgentRecord) (c : Content) (old new : State) (count : ℕ) → Drafts old c → Executes text.update_agent (agent_values a) old new (Ok count) → (count ≡ 0 → ⊥)
     → Drafts new (with_part table.Agents (put_by (at_agent a.agent) c.rows.agents a) c)
-unfolding agents_put agents_text
-puts_agent a c old new count d ran =
-    let made = upserted_row book_schema text.put_agent (λ (a : AgentRecord). a.agent) agent_row agent_values agents_put a c.rows.agents old new count d.schema (d.encodes table.Agents) ran in
+unfolding agents_set agents_change
+sets_agent a c old new count d ran some =
+    let made = set_row book_schema text.update_agent (λ (a : AgentRecord). a.agent) agent_row agent_values agents_set a c.rows.agents old new count d.schema (d.encodes table.Agents) ran some in
     drafted table.Agents _ _ old new c made.are_rows made.replaces d
+
+-- of a agent that has none
+pub puts_agent : (a : AgentRecord) (c : Content) (old mid new : State) (none count : ℕ) → Drafts old c → Executes text.update_agent (agent_values a) old mid (Ok none) → none ≡ 0
+    → Executes text.insert_agent (agent_values a) mid new (Ok count) → Drafts new (with_part table.Agents (put_by (at_agent a.agent) c.rows.agents a) c)
+unfolding agents_put agents_text agents_change
+puts_agent a c old mid new none count d first missed ran =
+    let still = set_none book_schema text.update_agent agents_change (agent_values a) old mid none d.schema first missed in
+    let between = drafted table.Agents c.rows.agents (old.now.trees schema.agents.tree) old mid c (d.encodes table.Agents) still d in
+    let made = inserted_row book_schema text.insert_agent (λ (a : AgentRecord). a.agent) agent_row agent_values agents_put a c.rows.agents mid new count between.schema (between.encodes table.Agents) ran in
+    drafted table.Agents _ _ mid new (with_part table.Agents c.rows.agents c) made.are_rows made.replaces between
 
 -- ---- calls
 
@@ -208,6 +261,21 @@ pub puts_call : (k : CallRecord) (c : Content) (old new : State) (count : ℕ) �
 unfolding calls_put calls_text
 puts_call k c old new count d ran =
     let made = upserted_row book_schema text.put_call (λ (k : CallRecord). k.call) call_row call_values calls_put k c.rows.calls old new count d.schema (d.encodes table.Calls) ran in
+    drafted table.Calls _ _ old new c made.are_rows made.replaces d
+
+new_call_text : Insertion book_schema text.insert_call
+unfolding understood everything
+new_call_text = insertion text.insert_call 4 3 schema.calls refl refl (refl, refl)
+
+new_call_put : Inserts book_schema text.insert_call (λ (k : CallRecord). k.call) call_row call_values
+unfolding new_call_text calls_put calls_text
+new_call_put = record { it = new_call_text; files = calls_put.files; source = λ k. refl }
+
+pub inserts_call : (k : CallRecord) (c : Content) (old new : State) (count : ℕ) → Drafts old c → Executes text.insert_call (call_values k) old new (Ok count)
+    → Drafts new (with_part table.Calls (put_by (at_call k.call) c.rows.calls k) c)
+unfolding new_call_put new_call_text
+inserts_call k c old new count d ran =
+    let made = inserted_row book_schema text.insert_call (λ (k : CallRecord). k.call) call_row call_values new_call_put k c.rows.calls old new count d.schema (d.encodes table.Calls) ran in
     drafted table.Calls _ _ old new c made.are_rows made.replaces d
 
 -- ---- monitors
@@ -331,6 +399,39 @@ puts_meta m c old new count d ran =
     let was : AreRows (λ (m : Meta). 1) meta_row (old.now.trees schema.meta.tree) (meta_of c.rows ∷ []) = record { rows_are = d.encodes table.Meta; ascending = (tt, tt) } in
     let made = upserted_row book_schema text.put_meta (λ (m : Meta). 1) meta_row meta_values meta_put m (meta_of c.rows ∷ []) old new count d.schema was ran in
     drafted table.Meta _ _ old new c refl made.replaces d
+
+-- what an UPDATE binds: the limits and the counters, without the key and the version, which stay
+abbrev pub set_values : Meta → Row
+set_values m = drop 2 (meta_values m)
+
+abbrev own_row : List Term
+own_row = op2 (Compare Eq Binary) (col 1 0) (lit (id_value 1)) ∷ []
+
+abbrev reset : List Term
+reset = col 1 0 ∷ col 1 0 ∷ lit Null ∷ col 1 2 ∷ run 0 11
+
+meta_set : Updating book_schema text.set_meta
+unfolding understood everything
+meta_set = record { at = 0; layout = schema.meta; terms = own_row; project = reset; place = refl; command = refl; plain = (refl, refl); inert = inert_works book_schema inert schema.meta.tree }
+
+-- the one row passes, and the row that it becomes takes its place
+one_set : (m was : Meta) (db : Trees) (rows : List Row) → db schema.meta.tree ≡ meta_row was ∷ []
+    → IsPermutation (map (showing (set_values m) reset) (passing (set_values m) own_row (db schema.meta.tree))) rows → edited db (updating_edit db schema.meta rows) ≡ meta_row m ∷ []
+unfolding binary meta_put meta_text
+one_set m was db rows is found =
+    let one = ap (passing (set_values m) own_row) is ∙ ap (λ b. cond b (meta_row was ∷ []) []) (by_id 1 1) in
+    let rows_are : rows ≡ (id_value 1 ∷ meta_row m) ∷ [] = one_permutation _ rows (subst (λ l. IsPermutation l rows) (ap (map (showing (set_values m) reset)) one) found) in
+    let left : without_all (db schema.meta.tree) (pos 1 ∷ []) ≡ [] = ap (λ l. without_all l (pos 1 ∷ [])) is ∙ ap (λ b. cond (not b) (meta_row was ∷ []) []) (id_tied 1 1) in
+    ap (λ l. edited db (updating_edit db schema.meta l)) rows_are
+    ∙ ap (λ k. put_row k (without_all (db schema.meta.tree) (pos 1 ∷ []))) (meta_put.files.casts m)
+    ∙ ap (put_row (meta_row m)) left
+
+pub sets_meta : (m : Meta) (c : Content) (old new : State) (count : ℕ) → Drafts old c → Executes text.set_meta (set_values m) old new (Ok count) → Drafts new (with_part table.Meta m c)
+unfolding meta_set
+sets_meta m c old new count d ran =
+    let made = updated book_schema text.set_meta meta_set (set_values m) old new count d.schema ran in
+    let rows_are = one_set m (meta_of c.rows) old.now.trees made.rows (d.encodes table.Meta) made.found in
+    drafted table.Meta m (meta_row m ∷ []) old new c refl (replaces book_schema old new (updating_edit old.now.trees schema.meta made.rows) (meta_row m ∷ []) made.changed rows_are) d
 
 -- ---- records taken out
 

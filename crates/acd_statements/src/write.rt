@@ -1,9 +1,9 @@
 //! The statements that put records and take them out, one a function. Each works inside a transaction:
 //! what it writes is there, and no stop is added.
 
-ghost use Rattle.std.specs.Prelude.{◌≡◌, IfSome, OnOk};
+ghost use Rattle.std.specs.Prelude.{◌≡◌, Ok, IfSome, IfOk, OnOk};
 ghost use Rattle.std.specs.Ordering.{nat_cmp};
-ghost use Rattle.sqlite.specs.State.{HasCleanDisk};
+ghost use Rattle.sqlite.specs.State.{HasCleanDisk, Executes};
 ghost use Rattle.sqlite.specs.Held.{state};
 ghost use Rattle.sqlite.specs.Values.{bound};
 ghost use Rattle.acd_terms.specs.Columns.{columns_of};
@@ -43,6 +43,20 @@ pub fn write<S: Alter>(
     Ok(())
 }
 
+/// As `write`, and says how many rows it changed.
+pub fn changed_rows<S: Alter>(
+    tx: &mut Transaction<'_, S>,
+    sql: &str,
+    params: &[ValueRef<'_>],
+) -> Result<usize, Error>
+    ensures same { tx.new.conn.ghost_name ≡ tx.old.conn.ghost_name }
+    ensures works { Works (state S.Store tx.old.conn.now) (state S.Store tx.new.conn.now) }
+    ensures ran { HasCleanDisk (state S.Store tx.new.conn.now) → IfOk result (λ count. Executes sql.now (bound params.now) (state S.Store tx.old.conn.now) (state S.Store tx.new.conn.now) (Ok count)) }
+{
+    tx.execute(sql, params)
+}
+
+/// Changes the row of the group, and inserts one where there is none.
 pub fn put_group<S: Alter>(tx: &mut Transaction<'_, S>, group: &GroupRecord) -> Result<(), Error>
     requires { FiguresFit group.now.figures }
     ensures same { tx.new.conn.ghost_name ≡ tx.old.conn.ghost_name }
@@ -51,20 +65,29 @@ pub fn put_group<S: Alter>(tx: &mut Transaction<'_, S>, group: &GroupRecord) -> 
         → Drafts (state S.Store tx.new.conn.now) (with_part Table.Groups (put_by (at_group group.now.device) c.rows.groups group.now) c)) }
 {
     let figures = &group.figures;
+    let values = [
+        bind::device(group.device),
+        bind::name(&group.name),
+        bind::seconds(group.ring),
+        bind::seconds(group.wrap),
+        bind::integer(figures.entered),
+        bind::integer(figures.answered),
+        bind::integer(figures.abandoned),
+        bind::integer(figures.moved),
+        bind::integer(figures.waited),
+    ];
+    let changed = changed_rows(
+        tx,
+        "UPDATE acd_groups SET name = ?2, ring = ?3, wrap = ?4, entered = ?5, answered = ?6, abandoned = ?7, moved = ?8, waited = ?9 WHERE device = ?1",
+        &values,
+    )?;
+    if changed > 0 {
+        return Ok(());
+    }
     write(
         tx,
-        "INSERT INTO acd_groups (device, name, ring, wrap, entered, answered, abandoned, moved, waited) VALUES (?1, ?2, ?3, ?4, ?5, ?6, ?7, ?8, ?9) ON CONFLICT (device) DO UPDATE SET name = excluded.name, ring = excluded.ring, wrap = excluded.wrap, entered = excluded.entered, answered = excluded.answered, abandoned = excluded.abandoned, moved = excluded.moved, waited = excluded.waited",
-        &[
-            bind::device(group.device),
-            bind::name(&group.name),
-            bind::seconds(group.ring),
-            bind::seconds(group.wrap),
-            bind::integer(figures.entered),
-            bind::integer(figures.answered),
-            bind::integer(figures.abandoned),
-            bind::integer(figures.moved),
-            bind::integer(figures.waited),
-        ],
+        "INSERT INTO acd_groups (device, name, ring, wrap, entered, answered, abandoned, moved, waited) VALUES (?1, ?2, ?3, ?4, ?5, ?6, ?7, ?8, ?9)",
+        &values,
     )
 }
 
@@ -84,6 +107,7 @@ pub fn put_station<S: Alter>(
     )
 }
 
+/// Changes the row of the agent, and inserts one where there is none.
 pub fn put_agent<S: Alter>(tx: &mut Transaction<'_, S>, agent: &AgentRecord) -> Result<(), Error>
     requires { Fits agent.now.stamp }
     ensures same { tx.new.conn.ghost_name ≡ tx.old.conn.ghost_name }
@@ -91,19 +115,28 @@ pub fn put_agent<S: Alter>(tx: &mut Transaction<'_, S>, agent: &AgentRecord) -> 
     ensures put { HasCleanDisk (state S.Store tx.new.conn.now) → OnOk result ((c : Content) → Drafts (state S.Store tx.old.conn.now) c
         → Drafts (state S.Store tx.new.conn.now) (with_part Table.Agents (put_by (at_agent agent.now.agent) c.rows.agents agent.now) c)) }
 {
+    let values = [
+        bind::agent(agent.agent),
+        bind::name(&agent.name),
+        bind::small(agent_code(agent.state)),
+        bind::pending_or_null(agent.pending),
+        bind::device_or_null(agent.station),
+        bind::device_or_null(agent.group),
+        bind::integer(agent.stamp),
+        bind::small(agent.since),
+    ];
+    let changed = changed_rows(
+        tx,
+        "UPDATE agents SET name = ?2, state = ?3, pending = ?4, station = ?5, grp = ?6, stamp = ?7, since = ?8 WHERE agent = ?1",
+        &values,
+    )?;
+    if changed > 0 {
+        return Ok(());
+    }
     write(
         tx,
-        "INSERT INTO agents (agent, name, state, pending, station, grp, stamp, since) VALUES (?1, ?2, ?3, ?4, ?5, ?6, ?7, ?8) ON CONFLICT (agent) DO UPDATE SET name = excluded.name, state = excluded.state, pending = excluded.pending, station = excluded.station, grp = excluded.grp, stamp = excluded.stamp, since = excluded.since",
-        &[
-            bind::agent(agent.agent),
-            bind::name(&agent.name),
-            bind::small(agent_code(agent.state)),
-            bind::pending_or_null(agent.pending),
-            bind::device_or_null(agent.station),
-            bind::device_or_null(agent.group),
-            bind::integer(agent.stamp),
-            bind::small(agent.since),
-        ],
+        "INSERT INTO agents (agent, name, state, pending, station, grp, stamp, since) VALUES (?1, ?2, ?3, ?4, ?5, ?6, ?7, ?8)",
+        &values,
     )
 }
 
@@ -117,6 +150,26 @@ pub fn put_call<S: Alter>(tx: &mut Transaction<'_, S>, call: &CallRecord) -> Res
     write(
         tx,
         "INSERT INTO calls (call, caller, called, since) VALUES (?1, ?2, ?3, ?4) ON CONFLICT (call) DO UPDATE SET caller = excluded.caller, called = excluded.called, since = excluded.since",
+        &[
+            bind::integer(call.call),
+            bind::device(call.caller),
+            bind::device(call.called),
+            bind::small(call.since),
+        ],
+    )
+}
+
+/// Puts a call that has no row. One that has a row is the store's to refuse.
+pub fn insert_call<S: Alter>(tx: &mut Transaction<'_, S>, call: &CallRecord) -> Result<(), Error>
+    requires { Fits call.now.call }
+    ensures same { tx.new.conn.ghost_name ≡ tx.old.conn.ghost_name }
+    ensures works { Works (state S.Store tx.old.conn.now) (state S.Store tx.new.conn.now) }
+    ensures put { HasCleanDisk (state S.Store tx.new.conn.now) → OnOk result ((c : Content) → Drafts (state S.Store tx.old.conn.now) c
+        → Drafts (state S.Store tx.new.conn.now) (with_part Table.Calls (put_by (at_call call.now.call) c.rows.calls call.now) c)) }
+{
+    write(
+        tx,
+        "INSERT INTO calls (call, caller, called, since) VALUES (?1, ?2, ?3, ?4)",
         &[
             bind::integer(call.call),
             bind::device(call.caller),
@@ -233,6 +286,33 @@ pub fn put_meta<S: Alter>(tx: &mut Transaction<'_, S>, meta: &Meta) -> Result<()
     )
 }
 
+/// Writes the limits and the counters over those that are there.
+pub fn set_meta<S: Alter>(tx: &mut Transaction<'_, S>, meta: &Meta) -> Result<(), Error>
+    requires { MetaFits meta.now }
+    ensures same { tx.new.conn.ghost_name ≡ tx.old.conn.ghost_name }
+    ensures works { Works (state S.Store tx.old.conn.now) (state S.Store tx.new.conn.now) }
+    ensures put { HasCleanDisk (state S.Store tx.new.conn.now) → OnOk result ((c : Content) → Drafts (state S.Store tx.old.conn.now) c
+        → Drafts (state S.Store tx.new.conn.now) (with_part Table.Meta meta.now c)) }
+{
+    write(
+        tx,
+        "UPDATE meta SET max_requests = ?1, max_calls = ?2, max_groups = ?3, max_stations = ?4, max_agents = ?5, max_monitors = ?6, last_stamp = ?7, last_moment = ?8, last_call = ?9, last_monitor = ?10, last_event = ?11 WHERE id = 1",
+        &[
+            bind::integer(meta.limits.requests),
+            bind::integer(meta.limits.calls),
+            bind::integer(meta.limits.groups),
+            bind::integer(meta.limits.stations),
+            bind::integer(meta.limits.agents),
+            bind::integer(meta.limits.monitors),
+            bind::integer(meta.last_stamp),
+            bind::small(meta.last_moment),
+            bind::integer(meta.last_call),
+            bind::integer(meta.last_monitor),
+            bind::integer(meta.last_event),
+        ],
+    )
+}
+
 pub fn drop_call<S: Alter>(tx: &mut Transaction<'_, S>, call: u64) -> Result<(), Error>
     requires { Fits call }
     ensures same { tx.new.conn.ghost_name ≡ tx.old.conn.ghost_name }
@@ -261,7 +341,39 @@ pub fn drop_monitor<S: Alter>(tx: &mut Transaction<'_, S>, monitor: u64) -> Resu
     )
 }
 
+/// Changes the row of the connection, and inserts one where there is none.
 pub fn put_connection<S: Alter>(
+    tx: &mut Transaction<'_, S>,
+    connection: &ConnectionRecord,
+) -> Result<(), Error>
+    requires call { Fits connection.now.call }
+    requires place { IfSome connection.now.place Fits }
+    ensures same { tx.new.conn.ghost_name ≡ tx.old.conn.ghost_name }
+    ensures works { Works (state S.Store tx.old.conn.now) (state S.Store tx.new.conn.now) }
+    ensures put { HasCleanDisk (state S.Store tx.new.conn.now) → OnOk result ((c : Content) → Drafts (state S.Store tx.old.conn.now) c
+        → Drafts (state S.Store tx.new.conn.now) (with_part Table.Connections (put_by (at_connection connection.now.call connection.now.device) c.rows.connections connection.now) c)) }
+{
+    let changed = changed_rows(
+        tx,
+        "UPDATE connections SET state = ?3, grp = ?4, place = ?5, queued = ?6, offered = ?7 WHERE call = ?1 AND device = ?2",
+        &[
+            bind::integer(connection.call),
+            bind::device(connection.device),
+            bind::small(connection_code(connection.state)),
+            bind::device_or_null(connection.group),
+            bind::integer_or_null(connection.place),
+            bind::small_or_null(connection.queued),
+            bind::small_or_null(connection.offered),
+        ],
+    )?;
+    if changed > 0 {
+        return Ok(());
+    }
+    insert_connection(tx, connection)
+}
+
+/// Puts a connection that has no row. One that has a row is the store's to refuse.
+pub fn insert_connection<S: Alter>(
     tx: &mut Transaction<'_, S>,
     connection: &ConnectionRecord,
 ) -> Result<(), Error>
@@ -274,7 +386,7 @@ pub fn put_connection<S: Alter>(
 {
     write(
         tx,
-        "INSERT INTO connections (call, device, state, grp, place, queued, offered) VALUES (?1, ?2, ?3, ?4, ?5, ?6, ?7) ON CONFLICT (call, device) DO UPDATE SET state = excluded.state, grp = excluded.grp, place = excluded.place, queued = excluded.queued, offered = excluded.offered",
+        "INSERT INTO connections (call, device, state, grp, place, queued, offered) VALUES (?1, ?2, ?3, ?4, ?5, ?6, ?7)",
         &[
             bind::integer(connection.call),
             bind::device(connection.device),

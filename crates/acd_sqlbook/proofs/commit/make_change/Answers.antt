@@ -16,11 +16,19 @@ returns-in-PutAgent-clause-put g c clean =
 
 pub returns-in-PutCall-clause-put : goal.returns-in-PutCall-clause-put
 returns-in-PutCall-clause-put g c clean =
-    filing (state g.S.Store c.args.tx.now.conn.now) (state g.S.Store c.put_call.new.tx.conn.now) c.put_call.result c.args.change.now _ _ c.in-PutCall.is (call_filed c.in-PutCall.call) (c.put_call.ensures.put clean)
+    filing (state g.S.Store c.args.tx.now.conn.now) (state g.S.Store c.insert_call.new.tx.conn.now) c.insert_call.result c.args.change.now _ _ c.in-PutCall.is (call_filed c.in-PutCall.call) (c.insert_call.ensures.put clean)
+
+pub returns-in-PutCall-2-clause-put : goal.returns-in-PutCall-2-clause-put
+returns-in-PutCall-2-clause-put g c clean =
+    filing (state g.S.Store c.args.tx.now.conn.now) (state g.S.Store c.put_call.new.tx.conn.now) c.put_call.result c.args.change.now _ _ c.in-PutCall-2.is (call_filed c.in-PutCall-2.call) (c.put_call.ensures.put clean)
 
 pub returns-in-PutConnection-clause-put : goal.returns-in-PutConnection-clause-put
 returns-in-PutConnection-clause-put g c clean =
-    filing (state g.S.Store c.args.tx.now.conn.now) (state g.S.Store c.put_connection.new.tx.conn.now) c.put_connection.result c.args.change.now _ _ c.in-PutConnection.is (connection_filed c.in-PutConnection.connection) (c.put_connection.ensures.put clean)
+    filing (state g.S.Store c.args.tx.now.conn.now) (state g.S.Store c.insert_connection.new.tx.conn.now) c.insert_connection.result c.args.change.now _ _ c.in-PutConnection.is (connection_filed c.in-PutConnection.connection) (c.insert_connection.ensures.put clean)
+
+pub returns-in-PutConnection-2-clause-put : goal.returns-in-PutConnection-2-clause-put
+returns-in-PutConnection-2-clause-put g c clean =
+    filing (state g.S.Store c.args.tx.now.conn.now) (state g.S.Store c.put_connection.new.tx.conn.now) c.put_connection.result c.args.change.now _ _ c.in-PutConnection-2.is (connection_filed c.in-PutConnection-2.connection) (c.put_connection.ensures.put clean)
 
 pub returns-in-PutMonitor-clause-put : goal.returns-in-PutMonitor-clause-put
 returns-in-PutMonitor-clause-put g c clean =

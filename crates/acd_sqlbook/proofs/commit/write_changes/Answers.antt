@@ -1,10 +1,8 @@
-use Rattle.std.proofs.Common.{sym, subst, ◌∙◌, arith}
+use Rattle.std.proofs.Common.{◌∙◌, arith}
 use Rattle.sqlite.specs.State.{HasCleanDisk}
 use Rattle.sqlite.specs.Held.{state}
-use Rattle.acd_sqlbook.specs.Commit.{all_filed}
-use Rattle.acd_statements.specs.Draft.{Drafts}
 use Rattle.acd_statements.proofs.Endings.{works_on}
-use Rattle.acd_sqlbook.proofs.Filing.{filed_next, all_taken}
+use Rattle.acd_sqlbook.proofs.Skipping.{next_filed, none_left}
 use Rattle.acd_sqlbook.proofs.commit.write_changes.Goals as goal
 
 pub loop-change-preserved : goal.loop-change-preserved
@@ -16,10 +14,8 @@ loop-change-preserved g c =
       works = works_on _ _ _ inv.works e.works;
       put = λ clean x d.
           let before : HasCleanDisk (state g.S.Store c.loop-change.tx.conn.now) = omega (arith, e.works.survives.clean) in
-          subst (Drafts (state g.S.Store c.write_change.new.tx.conn.now)) (sym (filed_next x c.loop-change.change-index c.args.changes.now _ _ c.change-item.is c.loop-change-test.true))
-          (c.in_ok-write_change.ensures.put clean _ (inv.put before x d));
+          next_filed _ _ c.in-Some.change.now c.loop-change.rest.now c.in-Some.behind.now c.args.changes.now x c.in-Some.ensures.some.1 (c.in_ok-write_change.ensures.put clean) (inv.put before x d);
     }
 
 pub returns-clause-put : goal.returns-clause-put
-returns-clause-put g c clean x d =
-    subst (λ l. Drafts (state g.S.Store c.loop-change.tx.conn.now) (all_filed x l)) (all_taken c.loop-change.change-index c.args.changes.now c.loop-change-test.false) (c.loop-change.invariant.put clean x d)
+returns-clause-put g c clean x d = none_left (state g.S.Store c.loop-change.tx.conn.now) c.loop-change.rest.now c.args.changes.now x (c.next_written.ensures.none c.in_default.is) (c.loop-change.invariant.put clean x d)

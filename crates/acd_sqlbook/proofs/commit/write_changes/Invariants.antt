@@ -1,4 +1,4 @@
-use Rattle.std.proofs.Common.{◌≡◌, take}
+use Rattle.std.proofs.Common.{◌≡◌, length}
 use Rattle.sqlite.specs.State.{HasCleanDisk}
 use Rattle.sqlite.specs.Held.{state}
 use Rattle.acd_book.specs.Content.{Content}
@@ -10,5 +10,8 @@ abbrev pub invariant-loop-change : goal.invariant-loop-change
 invariant-loop-change g l = record {
   same : l.tx.conn.ghost_name ≡ l.fn.tx.conn.ghost_name;
   works : Works (state g.S.Store l.fn.tx.conn.now) (state g.S.Store l.tx.conn.now);
-  put : HasCleanDisk (state g.S.Store l.tx.conn.now) → (c : Content) → Drafts (state g.S.Store l.fn.tx.conn.now) c → Drafts (state g.S.Store l.tx.conn.now) (all_filed c (take l.change-index l.changes));
+  put : HasCleanDisk (state g.S.Store l.tx.conn.now) → (c : Content) → Drafts (state g.S.Store l.fn.tx.conn.now) c → (x : Content) × Drafts (state g.S.Store l.tx.conn.now) x × (all_filed x l.rest ≡ all_filed c l.changes);
 }
+
+abbrev pub decreases-loop-change : goal.decreases-loop-change
+decreases-loop-change g l = length l.rest

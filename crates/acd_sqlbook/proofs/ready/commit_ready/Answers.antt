@@ -1,17 +1,18 @@
-use Rattle.std.proofs.Common.{◌≡◌, length}
+use Rattle.std.proofs.Common.{◌≡◌, ℕ, length}
 use Rattle.sqlite.specs.Held.{state}
 use Rattle.acd_sqlbook.specs.Commit.{counted, written_by}
 use Rattle.acd_statements.specs.Content.{meta_of}
+use Rattle.acd_statements.specs.declared.meta.Meta.{Meta}
 use Rattle.acd_sqlbook.proofs.Standing.{commits_not, commits_counted}
 use Rattle.acd_sqlbook.proofs.ready.commit_ready.Goals as goal
 
 pub returns-clause-commits : goal.returns-clause-commits
 returns-clause-commits g c =
-    commits_not (state g.S.Store c.args.conn.now) (state g.S.Store c.counters.new.conn) c.in-Err.error (λ c' next. next ≡ counted (meta_of c'.rows) c.args.changes.now (length c.args.events.now) c.args.kept.now)
+    commits_not (state g.S.Store c.args.conn.now) (state g.S.Store c.counters.new.conn) c.in-Err.error (λ c' (found : ℕ × Meta). found.1 ≡ counted (meta_of c'.rows) c.args.changes.now (length c.args.events.now) c.args.kept.now)
     (written_by c.args.changes.now c.args.events.now c.args.kept.now) c.in-Err.ensures.read
 
 pub returns-in-Ok-clause-commits : goal.returns-in-Ok-clause-commits
 returns-in-Ok-clause-commits g c =
     let e = c.commit_all.ensures in
-    commits_counted (state g.S.Store c.args.conn.now) (state g.S.Store c.counters.new.conn) (state g.S.Store c.commit_all.new.conn) c.commit_all.result c.in-Ok.meta
+    commits_counted (state g.S.Store c.args.conn.now) (state g.S.Store c.counters.new.conn) (state g.S.Store c.commit_all.new.conn) c.commit_all.result c.in-Ok.last c.in-Ok.meta
     c.args.changes.now c.args.events.now c.args.kept.now c.in-Ok.ensures.read e.clean e.up e.was e.done e.undone e.stops

@@ -1,0 +1,55 @@
+-- A connection that the very next change takes away needs no statement.
+use Rattle.std.proofs.Common.{◌≡◌, ℕ, not, cond, List, [], ◌∷◌, refl, sym, subst, ap, ap₂, ◌∙◌}
+use Rattle.std.specs.Prelude.{filter}
+use Rattle.std.specs.Ordering.{match_ordering}
+use Rattle.std.specs.declared.cmp.Ordering.TheVariants.{Less, Equal, Greater}
+use Rattle.sqlite.specs.State.{State}
+use Rattle.acd_terms.specs.Lists.{put_by, remove_by, IsAscending}
+use Rattle.acd_terms.specs.declared.record.ConnectionRecord.{ConnectionRecord}
+use Rattle.acd_model.specs.Rules.Plan.{connection_order}
+use Rattle.acd_model.specs.Writes.{with_connection, without_connection}
+use Rattle.acd_model.specs.declared.moves.Change.{Change}
+use Rattle.acd_model.specs.declared.moves.Change.TheVariants.{PutConnection, RemoveConnection}
+use Rattle.acd_laws.proofs.Lists.{ascending-put}
+use Rattle.acd_laws.proofs.Keyed.{Keyed, others_left}
+use Rattle.acd_laws.proofs.State.{by_connection}
+use Rattle.acd_book.specs.Content.{Content}
+use Rattle.acd_statements.specs.declared.tables.Table.TheVariants as table
+use Rattle.acd_statements.specs.Draft.{Drafts}
+use Rattle.acd_sqlbook.specs.Commit.{filed, all_filed}
+
+module _ {T K : Type 0} (r : Keyed T K) (x : T) where
+  others_stay : (xs : List T) → filter (λ y. not (r.has (r.key x) y)) (put_by (r.order x) xs x) ≡ filter (λ y. not (r.has (r.key x) y)) xs
+  others_stay [] = ap (λ b. cond (not b) (x ∷ []) []) (r.own x)
+  others_stay (y ∷ ys) =
+      let p = λ (z : T). not (r.has (r.key x) z) in
+      (elim (r.order x y) as (λ o. r.order x y ≡ o → filter p (match_ordering o (x ∷ y ∷ ys) (x ∷ ys) (y ∷ put_by (r.order x) ys x)) ≡ filter p (y ∷ ys)) [
+        | Less ↦ λ e. ap (λ b. cond (not b) (x ∷ filter p (y ∷ ys)) (filter p (y ∷ ys))) (r.own x)
+        | Equal ↦ λ e. ap (λ b. cond (not b) (x ∷ filter p ys) (filter p ys)) (r.own x) ∙ sym (ap (λ b. cond (not b) (y ∷ filter p ys) (filter p ys)) (r.same (r.key x) x y e ∙ r.own x))
+        | Greater ↦ λ e. ap (λ l. cond (p y) (y ∷ l) l) (others_stay ys)
+      ]) refl
+
+  removed_put : (xs : List T) → IsAscending r.order xs → remove_by (r.at (r.key x)) (put_by (r.order x) xs x) ≡ remove_by (r.at (r.key x)) xs
+  removed_put xs h = others_left r (put_by (r.order x) xs x) (ascending-put r.order r.total x xs h) (r.key x) ∙ others_stay xs ∙ sym (others_left r xs h (r.key x))
+
+pub put_in_vain : (x : ConnectionRecord) (c : Content) → IsAscending connection_order c.rows.connections → filed (filed c (PutConnection x)) (RemoveConnection x.call x.device) ≡ filed c (RemoveConnection x.call x.device)
+unfolding with_connection without_connection
+put_in_vain x c h = ap (λ l. record c { rows = record c.rows { connections = l } }) (removed_put by_connection x c.rows.connections h)
+
+pub in_vain : (first second : Change) (x : ConnectionRecord) (call device : ℕ) → first ≡ PutConnection x → second ≡ RemoveConnection call device → x.call ≡ call → x.device ≡ device
+    → (c : Content) → IsAscending connection_order c.rows.connections → filed (filed c first) second ≡ filed c second
+in_vain first second x call device is_put is_gone same_call same_device c up =
+    let gone : second ≡ RemoveConnection x.call x.device = is_gone ∙ sym (ap₂ RemoveConnection same_call same_device) in
+    subst (λ s. filed (filed c first) s ≡ filed c s) (sym gone)
+    (subst (λ f. filed (filed c f) (RemoveConnection x.call x.device) ≡ filed c (RemoveConnection x.call x.device)) (sym is_put) (put_in_vain x c up))
+
+-- the one that is written next, and the last of them
+pub next_filed : (old new : State) (first : Change) (rest behind changes : List Change) (c : Content)
+    → ((x : Content) → IsAscending connection_order x.rows.connections → all_filed x rest ≡ all_filed (filed x first) behind)
+    → ((x : Content) → Drafts old x → Drafts new (filed x first))
+    → (x : Content) × Drafts old x × (all_filed x rest ≡ all_filed c changes) → (x : Content) × Drafts new x × (all_filed x behind ≡ all_filed c changes)
+next_filed old new first rest behind changes c step put held =
+    (filed held.0 first, put held.0 held.1, sym (step held.0 (held.1.encodes table.Connections).ascending) ∙ held.2)
+
+pub none_left : (s : State) (rest changes : List Change) (c : Content) → rest ≡ [] → (x : Content) × Drafts s x × (all_filed x rest ≡ all_filed c changes) → Drafts s (all_filed c changes)
+none_left s rest changes c none held = subst (Drafts s) (ap (all_filed held.0) (sym none) ∙ held.2) held.1
