@@ -1,4 +1,9 @@
+use Rattle.std.proofs.Common.{rules}
 use Rattle.acd_desk.proofs.AuditSteps.{step_last, step_replayed, step_differs, counts_one}
+use Rattle.acd_book.specs.Content.{Content}
+use Rattle.acd_desk.specs.declared.replay.Step.{Step}
+use Rattle.acd_desk.specs.Replay.{IsStep}
+use Rattle.acd_desk.proofs.Reading.{then_fault}
 use Rattle.acd_desk.proofs.replay.next_step.Goals as goal
 
 pub returns-in_default-clause-told : goal.returns-in_default-clause-told
@@ -18,3 +23,13 @@ pub returns-clause-told : goal.returns-clause-told
 returns-clause-told g c =
     step_differs (g.B.Book.state c.args.book.now) (g.B.Book.state c.kept_after.new.self) (g.B.Book.state c.replayed.new.book) c.args.replay.switch c.last_stamp.result c.in_ok-kept.field-0 c.in-Some.kept c.in_ok-next.field-0
     c.last_stamp.ensures c.in-Some.is c.in-None.is c.in_ok-kept.ensures c.in_ok-next.ensures.told
+
+pub returns-in_err-is_whole-clause-told : goal.returns-in_err-is_whole-clause-told
+returns-in_err-is_whole-clause-told g c =
+    then_fault (λ (k : Content) (found : Step). IsStep k c.args.replay.switch found) (g.B.Book.state c.args.book.now) (g.B.Book.state c.kept_after.new.self) (g.B.Book.state c.is_whole.new.book)
+    c.in_ok-kept.field-0 c.in_err-is_whole.field-0.0 c.from_residual-in_err-is_whole.result c.in_ok-kept.ensures c.in_err-is_whole.ensures (search rules)
+
+pub returns-in_err-next-clause-told : goal.returns-in_err-next-clause-told
+returns-in_err-next-clause-told g c =
+    then_fault (λ (k : Content) (found : Step). IsStep k c.args.replay.switch found) (g.B.Book.state c.args.book.now) (g.B.Book.state c.kept_after.new.self) (g.B.Book.state c.replayed.new.book)
+    c.in_ok-kept.field-0 c.in_err-next.field-0.0 c.from_residual-in_err-next.result c.in_ok-kept.ensures c.in_err-next.ensures.told (search rules)
