@@ -14,5 +14,5 @@ returns-in-Err g c =
 
 pub returns-in-Ok : goal.returns-in-Ok
 returns-in-Ok g c =
-    again_new (standing g.B.Book c.args.self.now) (holding (standing g.B.Book c.switch_out.new.self) c.in-Ok.loaded.switch) (standing g.B.Book c.execute_on.new.self) c.args.request.now
+    again_new (standing g.B.Book c.args.self.now) (holding (standing g.B.Book c.switch_out.new.self) c.in-Ok.loaded.switch.value) (standing g.B.Book c.execute_on.new.self) c.args.request.now
     (at c.args.moment c.args.request.now) c.execute_on.result c.in-Ok.ensures.loaded c.execute_on.ensures
