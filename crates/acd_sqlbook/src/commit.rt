@@ -1,6 +1,6 @@
 //! All writes of a commit, in one transaction.
 
-ghost use Rattle.std.specs.Prelude.{◌≡◌, ◌↔◌, ◌<◌, [], length, false, None, IfSome, OnOk, OnErr, IsTrue, take};
+ghost use Rattle.std.specs.Prelude.{◌≡◌, ◌↔◌, ◌<◌, [], length, filter, false, None, IfSome, OnOk, OnErr, IsTrue, take};
 ghost use Rattle.sqlite.specs.State.{HasCleanDisk};
 ghost use Rattle.sqlite.specs.Held.{state};
 ghost use Rattle.acd_codec.specs.RequestTexts.{request_text};
@@ -129,12 +129,21 @@ fn puts_the_same(one: &Change, other: &Change) -> bool
     }
 }
 
+// How many of the changes put what this one puts.
+fn puts_of(changes: &[Change], change: &Change) -> usize
+    ensures { result ≡ length (filter (puts_the_same change.now) changes.now) }
+{
+    changes
+        .iter()
+        .filter(|other| puts_the_same(change, other))
+        .count()
+}
+
 // Whether just one of the changes puts what this one puts.
 fn is_put_once(changes: &[Change], change: &Change) -> bool
     ensures { result ≡ is_put_once changes.now change.now }
 {
-    let same = changes.iter().filter(|other| puts_the_same(change, other));
-    same.count() == 1
+    puts_of(changes, change) == 1
 }
 
 // Whether the change puts a call above the last one, or a connection of such a call, and no other of the
