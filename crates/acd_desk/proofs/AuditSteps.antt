@@ -35,7 +35,7 @@ next_at c n m found known behind is next = subst (λ (o : Option Kept). IsNext m
 
 -- the switch behind a replayed record
 abbrev GoesOn : Rows → Kept → Option LoadedSwitch → Type 0
-GoesOn s k played = IfSome played (λ (l : LoadedSwitch). l.switch ≡ (stepped s (again k)).rows)
+GoesOn s k played = IfSome played (λ (l : LoadedSwitch). l.switch.value ≡ (stepped s (again k)).rows)
 
 pub step_replayed : (a b d : BookState) (s : Rows) (n : ℕ) (found : Option Kept) (k : Kept) (played : Option LoadedSwitch) (next : LoadedSwitch) → n ≡ s.last_stamp → found ≡ Some k → played ≡ Some next
     → Reads a b (Ok found) (IsNext n) → Reads b d (Ok played) (λ (c : Content) (found : Option LoadedSwitch). IsReplayed c s k found) → GoesOn s k played → s.last_stamp < s.limits.requests
@@ -69,7 +69,7 @@ step_last a b d s n found whole last behind is_next one two is =
 
 pub counts_one : (s : Rows) (k : Kept) (played : Option LoadedSwitch) (next : LoadedSwitch) → played ≡ Some next → GoesOn s k played → CountsOne s (step.Replayed next)
 counts_one s k played next is_played goes =
-    let is : next.switch ≡ (stepped s (again k)).rows = subst (GoesOn s k) is_played goes in (
+    let is : next.switch.value ≡ (stepped s (again k)).rows = subst (GoesOn s k) is_played goes in (
       ap (λ (r : Rows). r.limits) is ∙ step_limits s (again k).moment (again k).request.command,
       ap (λ (r : Rows). r.last_stamp) is ∙ step_stamp s (again k).moment (again k).request.command,
     )
@@ -89,7 +89,7 @@ all_whole a b d s n found whole behind is_next one two =
 
 -- ---- the beginning ----
 
-pub begins_fitting : (a b : BookState) (limits : Limits) (first : LoadedSwitch) → Reads a b (Ok limits) (λ (c : Content) (found : Limits). found ≡ c.rows.limits) → limits_fit limits ≡ true → first.switch ≡ empty_rows limits
+pub begins_fitting : (a b : BookState) (limits : Limits) (first : LoadedSwitch) → Reads a b (Ok limits) (λ (c : Content) (found : Limits). found ≡ c.rows.limits) → limits_fit limits ≡ true → first.switch.value ≡ empty_rows limits
     → Reads a b (Ok (Some first)) (λ (c : Content) (found : Option LoadedSwitch). Begins c found)
 begins_fitting a b limits first r fits is =
     then_ok (λ (c : Content) (found : Option LoadedSwitch). Begins c found) a b limits (Some first) r
@@ -111,5 +111,5 @@ begins_empty limits s fits is = subst (λ (r : Rows). (r.last_stamp ≡ 0) × (r
 -- ---- step by step ----
 
 pub seen_more : (a b d : BookState) (s : Rows) (taken : Step) (next : LoadedSwitch) → taken ≡ step.Replayed next → Reads a b (Ok tt) (Seen s) → Reads b d (Ok taken) (λ (c : Content) (found : Step). IsStep c s found)
-    → Reads a d (Ok tt) (Seen next.switch)
-seen_more a b d s taken next is seen r = then_told (Seen next.switch) a b d tt taken tt seen r (λ c before goes_on ordered. subst (IsStep c s) is goes_on (before ordered))
+    → Reads a d (Ok tt) (Seen next.switch.value)
+seen_more a b d s taken next is seen r = then_told (Seen next.switch.value) a b d tt taken tt seen r (λ c before goes_on ordered. subst (IsStep c s) is goes_on (before ordered))

@@ -11,6 +11,7 @@ use Rattle.acd_desk.specs.Replies.{answer_in, after}
 use Rattle.acd_desk.specs.Standing.{Standing, with_new_key}
 use Rattle.acd_desk.specs.Ran.{Took}
 use Rattle.acd_desk.specs.Reread.{Reread}
+use Rattle.acd_desk.specs.Stands.{IsNew}
 
 -- ---- behind a read ----
 
@@ -106,3 +107,21 @@ also_new s new q a t took =
       quiet = refl;
     } in
     behind (with_new_key s q) s new a t same took
+
+-- a desk that holds what it read again, as long as the key is new
+pub again_new : (old mid new : Standing) (q : Request) (a : Arrival) (t : Taken) → Reread old mid → Took (with_new_key mid q) a t new → Took (with_new_key old q) a t new
+again_new old mid new q a t r took = behind (with_new_key old q) (with_new_key mid q) new a t still took
+  where
+    still : Reread (with_new_key old q) (with_new_key mid q)
+    still = record {
+      clean = r.clean;
+      sound = λ clean sound. (r.sound clean sound.0, r.stays clean sound.0 sound.1, subst (λ (c : Content). IsNew c q) (sym (r.same clean sound.0)) sound.2);
+      opened = λ clean sound. r.opened clean sound.0;
+      stays = λ clean sound. r.stays clean sound.0;
+      same = λ clean sound. r.same clean sound.0;
+      stops = λ clean sound. r.stops clean sound.0;
+      in_step = λ clean sound. r.in_step clean sound.0;
+      failed = r.failed;
+      loaded = r.loaded;
+      quiet = r.quiet;
+    }

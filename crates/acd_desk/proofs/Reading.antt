@@ -1,5 +1,5 @@
 -- Reads of a book, one after the other.
-use Rattle.std.proofs.Common.{◌≡◌, ◌≤◌, ℕ, Result, Ok, Err, IfOk, subst, ◌∙◌}
+use Rattle.std.proofs.Common.{◌≡◌, ◌≤◌, ℕ, Result, Ok, Err, IfOk, ap, sym, subst, ◌∙◌}
 use Rattle.acd_book.specs.Content.{Content, HasRisen}
 use Rattle.acd_book.specs.State.{BookState, Reads}
 use Rattle.acd_book.specs.declared.fault.BookFault.{BookFault}
@@ -57,6 +57,30 @@ then_read {A = A} {C = C} {Q = Q} R a b d x r one two tells =
     stays_behind : (r : Result C BookFault) → IfOk r (λ _. d.is_clean → b.is_sound → d.is_open) → (b.is_clean → a.is_sound → b.is_sound) → (d.is_clean → b.is_clean) → IfOk r (λ _. d.is_clean → a.is_sound → d.is_open)
     stays_behind (Ok y) h sound clean = λ is_clean is_sound. h is_clean (sound (clean is_clean) is_sound)
     stays_behind (Err f) h sound clean = tt
+
+-- a fault tells as little of one thing as of another
+fault_alone : {A C : Type 0} {P : Content → A → Type 0} (Q : Content → C → Type 0) (a b : BookState) (f : BookFault) → Reads {A = A} a b (Err f) P → Reads {A = C} a b (Err f) Q
+fault_alone {A = A} {C = C} Q a b f r = record {
+  clean = r.clean;
+  sound = r.sound;
+  value = λ clean sound. tt;
+  same = r.same;
+  stays = tt;
+  stops = r.stops;
+  keeps = r.keeps;
+  cause = λ is. r.cause (ap Err (the_fault is));
+  quiet = λ none. r.quiet (λ is. none (ap Err (the_fault is)));
+  counts = r.counts;
+}
+  where
+    the_fault : {B : Type 0} {g : BookFault} → ◌≡◌ {A = Result B BookFault} (Err f) (Err g) → f ≡ g
+    the_fault h = cc (h)
+
+-- a read that fails behind a read
+pub then_fault : {A C D : Type 0} {P : Content → A → Type 0} {Q : Content → C → Type 0} (R : Content → D → Type 0) (a b d : BookState) (x : A) (f : BookFault) (r : Result D BookFault)
+    → Reads a b (Ok x) P → Reads {A = C} b d (Err f) Q → r ≡ Err f → Reads a d r R
+then_fault {D = D} {Q = Q} R a b d x f r one two is =
+    subst (λ (r : Result D BookFault). Reads a d r R) (sym is) (fault_alone R a d f (then_read Q a b d x (Err f) one two (λ c p y q. q)))
 
 -- two reads tell what follows from both
 pub then_told : {A C D : Type 0} {P : Content → A → Type 0} {Q : Content → C → Type 0} (R : Content → D → Type 0) (a b d : BookState) (x : A) (y : C) (z : D)

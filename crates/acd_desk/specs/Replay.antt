@@ -59,7 +59,7 @@ IsEnd c s = (events_behind c.events s.last_event 1 ≡ []) × (c.rows ≡ s)
 -- a replay begins with no record, or at limits that don't fit
 abbrev pub Begins : Content → Option LoadedSwitch → Type 0
 Begins c None = IsFirstDifference c 1
-Begins c (Some first) = IsOrdered c → Replays c first.switch
+Begins c (Some first) = IsOrdered c → Replays c first.switch.value
 
 -- a record is replayed, or it isn't what its request gives
 abbrev pub IsReplayed : Content → Rows → Kept → Option LoadedSwitch → Type 0
@@ -68,13 +68,13 @@ IsReplayed c s k (Some next) = Matches c s k
 
 -- what a step of the replay from these rows comes to
 abbrev pub IsStep : Content → Rows → Step → Type 0
-IsStep c s (Replayed next) = Replays c s → Replays c next.switch
+IsStep c s (Replayed next) = Replays c s → Replays c next.switch.value
 IsStep c s Differs = Replays c s → IsFirstDifference c (s.last_stamp + 1)
 IsStep c s Ended = Replays c s → IsSound c
 
 -- it replays one record
 abbrev pub CountsOne : Rows → Step → Type 0
-CountsOne s (Replayed next) = (next.switch.limits ≡ s.limits) × (next.switch.last_stamp ≡ s.last_stamp + 1)
+CountsOne s (Replayed next) = (next.switch.value.limits ≡ s.limits) × (next.switch.value.last_stamp ≡ s.last_stamp + 1)
 CountsOne s Differs = Unit {0}
 CountsOne s Ended = Unit {0}
 

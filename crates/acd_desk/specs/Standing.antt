@@ -19,7 +19,7 @@ pub record Standing : Type 1 where
   pub failed : Bool
 
 abbrev pub switch_of : Working → Option Rows
-switch_of (Loaded w) = Some w.switch
+switch_of (Loaded w) = Some w.switch.value
 switch_of Unloaded = None
 switch_of Failed = None
 

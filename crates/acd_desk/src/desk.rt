@@ -18,7 +18,6 @@ use crate::requests::is_same;
 use crate::taken::Taken;
 use crate::working::{LoadedSwitch, Working};
 use acd_book::{Book, BookFault, Kept};
-use acd_switch::Switch;
 use acd_terms::{Arrival, Request};
 use std::alloc::{AllocError, Global};
 use std::mem;
@@ -59,7 +58,7 @@ impl<B: Book> Desk<B> {
         requires { self.old.working ≡ Working.Unloaded }
         ensures out { OnOk result (self.new.working ≡ Working.Unloaded) }
         ensures loaded { MatchResult result
-            (λ taken. Reread (standing B.Book self.old) (holding (standing B.Book self.new) taken.switch))
+            (λ taken. Reread (standing B.Book self.old) (holding (standing B.Book self.new) taken.switch.value))
             (λ fault. TellsNothing (standing B.Book self.old) fault (standing B.Book self.new)) }
     {
         let rows = match self.book.rows() {
@@ -76,7 +75,7 @@ impl<B: Book> Desk<B> {
     pub(crate) fn switch_out(&mut self) -> Result<LoadedSwitch, DeskFault>
         ensures out { OnOk result (self.new.working ≡ Working.Unloaded) }
         ensures loaded { MatchResult result
-            (λ taken. Reread (standing B.Book self.old) (holding (standing B.Book self.new) taken.switch))
+            (λ taken. Reread (standing B.Book self.old) (holding (standing B.Book self.new) taken.switch.value))
             (λ fault. TellsNothing (standing B.Book self.old) fault (standing B.Book self.new)) }
     {
         match mem::replace(&mut self.working, Working::Unloaded) {
@@ -89,14 +88,14 @@ impl<B: Book> Desk<B> {
     // The key isn't kept, and the switch is out of the desk.
     fn execute_on(&mut self, loaded: LoadedSwitch, moment: u32, request: &Request) -> Taken
         requires { self.old.working ≡ Working.Unloaded }
-        ensures { Took (with_new_key (holding (standing B.Book self.old) loaded.switch) request.now) (at moment request.now) result (standing B.Book self.new) }
+        ensures { Took (with_new_key (holding (standing B.Book self.old) loaded.switch.value) request.now) (at moment request.now) result (standing B.Book self.new) }
     {
         let LoadedSwitch { mut switch } = loaded;
         if switch.is_full() {
             self.working = Working::Loaded(LoadedSwitch { switch });
             return Taken::DeskFull;
         }
-        let Ok((done, kept)) = executed(self.alloc, &mut switch, moment, request) else {
+        let Ok((done, kept)) = executed(self.alloc, &mut *switch, moment, request) else {
             return Taken::NoMemory;
         };
         match self.book.commit_changes(&done.changes, &done.events, &kept) {
@@ -171,11 +170,11 @@ impl<B: Book> Desk<B> {
             Ok(rows) => rows,
             Err(fault) => return Err((OpenFault::from(fault), book)),
         };
-        match Switch::from_rows(alloc, &rows) {
-            Ok(switch) => Ok(Desk {
+        match LoadedSwitch::from_rows(alloc, &rows) {
+            Ok(loaded) => Ok(Desk {
                 alloc,
                 book,
-                working: Working::Loaded(LoadedSwitch { switch }),
+                working: Working::Loaded(loaded),
             }),
             Err(fault) => Err((OpenFault::from(fault), book)),
         }

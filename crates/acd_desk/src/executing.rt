@@ -15,11 +15,11 @@ use std::alloc::{AllocError, Global};
 
 /// A switch of the rows of a book. No honest book has rows that break a rule: that is a failure of the store.
 pub(crate) fn loaded(alloc: Global, rows: &Rows) -> Result<LoadedSwitch, BookFault>
-    ensures ok { IfOk result (λ loaded. loaded.switch ≡ rows.now) }
+    ensures ok { IfOk result (λ loaded. loaded.switch.value ≡ rows.now) }
     ensures err { IfErr result (λ fault. fault ≡ BookFault.Store → ¬ BreaksNoRule rows.now) }
 {
-    match Switch::from_rows(alloc, rows) {
-        Ok(switch) => Ok(LoadedSwitch { switch }),
+    match LoadedSwitch::from_rows(alloc, rows) {
+        Ok(loaded) => Ok(loaded),
         Err(RowFault::Broken(_)) => Err(BookFault::Store),
         Err(RowFault::NoMemory) => Err(BookFault::NoMemory),
     }

@@ -20,7 +20,7 @@ use crate::working::LoadedSwitch;
 use acd_book::{Book, BookFault, Kept};
 use acd_switch::Switch;
 use acd_terms::{Event, Limits};
-use std::alloc::Global;
+use std::alloc::{AllocError, Global};
 
 /// What a step of a replay comes to.
 #[derive(Drop)]
@@ -103,12 +103,12 @@ fn replayed<B: Book>(
     replay: LoadedSwitch,
     kept: &Kept,
 ) -> Result<Option<LoadedSwitch>, BookFault>
-    requires { replay.switch.last_stamp < replay.switch.limits.requests }
-    ensures told { Reads (B.state book.old) (B.state book.new) result (λ c found. IsReplayed c replay.switch kept.now found) }
-    ensures stepped { IfOk result (λ found. IfSome found (λ next. next.switch ≡ (stepped replay.switch (again kept.now)).rows)) }
+    requires { replay.switch.value.last_stamp < replay.switch.value.limits.requests }
+    ensures told { Reads (B.state book.old) (B.state book.new) result (λ c found. IsReplayed c replay.switch.value kept.now found) }
+    ensures stepped { IfOk result (λ found. IfSome found (λ next. next.switch.value ≡ (stepped replay.switch.value (again kept.now)).rows)) }
 {
     let LoadedSwitch { mut switch } = replay;
-    if replays_as_kept(alloc, book, &mut switch, kept)? {
+    if replays_as_kept(alloc, book, &mut *switch, kept)? {
         Ok(Some(LoadedSwitch { switch }))
     } else {
         Ok(None)
@@ -152,9 +152,9 @@ fn last_step(is_whole: bool) -> Step
 
 // Replays the next record, where one is left.
 fn next_step<B: Book>(alloc: Global, book: &mut B, replay: LoadedSwitch) -> Result<Step, BookFault>
-    requires { replay.switch.last_stamp < replay.switch.limits.requests }
-    ensures told { Reads (B.state book.old) (B.state book.new) result (λ c found. IsStep c replay.switch found) }
-    ensures counts { IfOk result (CountsOne replay.switch) }
+    requires { replay.switch.value.last_stamp < replay.switch.value.limits.requests }
+    ensures told { Reads (B.state book.old) (B.state book.new) result (λ c found. IsStep c replay.switch.value found) }
+    ensures counts { IfOk result (CountsOne replay.switch.value) }
 {
     let Some(kept) = book.kept_after(replay.switch.last_stamp())? else {
         return Ok(last_step(is_whole(book, &replay.switch)?));
@@ -177,23 +177,22 @@ fn is_all<B: Book>(book: &mut B, switch: &Switch) -> Result<bool, BookFault>
 }
 
 // A switch that has replayed nothing yet.
-fn unplayed(alloc: Global, limits: Limits) -> LoadedSwitch
+fn unplayed(alloc: Global, limits: Limits) -> Result<LoadedSwitch, AllocError>
     requires { limits_fit limits ≡ true }
-    ensures { result.switch ≡ empty_rows limits }
+    ensures { IfOk result (λ loaded. loaded.switch.value ≡ empty_rows limits) }
 {
-    LoadedSwitch {
-        switch: Switch::new(alloc, limits),
-    }
+    let switch = Box::new(alloc, Switch::new(alloc, limits))?;
+    Ok(LoadedSwitch { switch })
 }
 
 // A switch under the limits of the book, where they fit.
 fn begun<B: Book>(alloc: Global, book: &mut B) -> Result<Option<LoadedSwitch>, BookFault>
     ensures told { Reads (B.state book.old) (B.state book.new) result (λ c found. Begins c found) }
-    ensures empty { IfOk result (λ found. IfSome found (λ first. (first.switch.last_stamp ≡ 0) × (first.switch.limits.requests ≤ 1000000000))) }
+    ensures empty { IfOk result (λ found. IfSome found (λ first. (first.switch.value.last_stamp ≡ 0) × (first.switch.value.limits.requests ≤ 1000000000))) }
 {
     let limits = book.limits()?;
     if limits.fits() {
-        Ok(Some(unplayed(alloc, limits)))
+        Ok(Some(unplayed(alloc, limits)?))
     } else {
         Ok(None)
     }

@@ -177,11 +177,14 @@ pub at_put : (s : Rows) (x : ConnectionRecord) (c d : ℕ) → connection_of (wi
 unfolding with_connection connection_of
 at_put s x c d = found_put by_connection s.connections x (c, d)
 
-pub at_remove : (s : Rows) (a b c d : ℕ) → IsAscending connection_order s.connections → connection_of (without_connection s a b) c d ≡ cond (a == c && b == d) None (connection_of s c d)
-unfolding without_connection connection_of
-at_remove s a b c d h = found_left by_connection s.connections h (a, b) (c, d) (a == c && b == d) (λ y q. let g = is_of_true c d y q in both_ways (is_of a b y) (a == c && b == d)
+pub left_at : (cs : List ConnectionRecord) → IsAscending connection_order cs → (a b c d : ℕ) → find_by (at_connection c d) (remove_by (at_connection a b) cs) ≡ cond (a == c && b == d) None (find_by (at_connection c d) cs)
+left_at cs h a b c d = found_left by_connection cs h (a, b) (c, d) (a == c && b == d) (λ y q. let g = is_of_true c d y q in both_ways (is_of a b y) (a == c && b == d)
     (λ e. let f = is_of_true a b y e in and_from _ _ (eq-eqb a c (sym f.0 ∙ g.0)) (eq-eqb b d (sym f.1 ∙ g.1)))
     (λ e. let f = and_parts (a == c) (b == d) e in is_of_self a b y (g.0 ∙ sym (eqb-true a c f.0)) (g.1 ∙ sym (eqb-true b d f.1))))
+
+pub at_remove : (s : Rows) (a b c d : ℕ) → IsAscending connection_order s.connections → connection_of (without_connection s a b) c d ≡ cond (a == c && b == d) None (connection_of s c d)
+unfolding without_connection connection_of
+at_remove s a b c d h = left_at s.connections h a b c d
 
 -- the key under which a connection is found is its own
 pub found_key : (s : Rows) (c d : ℕ) (x : ConnectionRecord) → connection_of s c d ≡ Some x → (x.call ≡ c) × (x.device ≡ d)

@@ -1,13 +1,13 @@
 //! All writes of a commit, in one transaction.
 
-ghost use Rattle.std.specs.Prelude.{◌≡◌, ◌↔◌, ◌<◌, [], length, false, None, IfSome, OnOk, OnErr, IsTrue, take};
+ghost use Rattle.std.specs.Prelude.{◌≡◌, ◌↔◌, ◌<◌, [], length, filter, false, None, IfSome, OnOk, OnErr, IsTrue, take};
 ghost use Rattle.sqlite.specs.State.{HasCleanDisk};
 ghost use Rattle.sqlite.specs.Held.{state};
 ghost use Rattle.acd_codec.specs.RequestTexts.{request_text};
 ghost use Rattle.acd_terms.specs.Lists.{IsAscending};
 ghost use Rattle.acd_model.specs.Rules.Plan.{connection_order};
 ghost use Rattle.acd_book.specs.Content.{Content};
-ghost use Rattle.acd_sqlbook.specs.Commit.{ChangeFits, EventFits, filed, all_filed, with_event, with_events, made_by, top_call, top_monitor, last_call, last_monitor, counted};
+ghost use Rattle.acd_sqlbook.specs.Commit.{ChangeFits, EventFits, filed, all_filed, with_event, with_events, made_by, puts_the_same, is_put_once, is_new, top_call, top_monitor, last_call, last_monitor, counted};
 ghost use Rattle.acd_statements.specs.Draft.{Drafts, Works, Holds, AddsStop, Fits, FiguresFit, MetaFits};
 
 use acd_book::Kept;
@@ -117,7 +117,9 @@ fn write_change<S: Alter>(
 }
 
 // Whether both put the same call, or the same connection.
-fn put_the_same(one: &Change, other: &Change) -> bool {
+fn puts_the_same(one: &Change, other: &Change) -> bool
+    ensures { result ≡ puts_the_same one.now other.now }
+{
     match (one, other) {
         (Change::PutCall(one), Change::PutCall(other)) => one.call == other.call,
         (Change::PutConnection(one), Change::PutConnection(other)) => {
@@ -127,23 +129,28 @@ fn put_the_same(one: &Change, other: &Change) -> bool {
     }
 }
 
+// How many of the changes put what this one puts.
+fn puts_of(changes: &[Change], change: &Change) -> usize
+    ensures { result ≡ length (filter (puts_the_same change.now) changes.now) }
+{
+    changes
+        .iter()
+        .filter(|other| puts_the_same(change, other))
+        .count()
+}
+
 // Whether just one of the changes puts what this one puts.
-fn is_put_once(changes: &[Change], change: &Change) -> bool {
-    let mut found = false;
-    for other in changes {
-        if put_the_same(change, other) {
-            if found {
-                return false;
-            }
-            found = true;
-        }
-    }
-    found
+fn is_put_once(changes: &[Change], change: &Change) -> bool
+    ensures { result ≡ is_put_once changes.now change.now }
+{
+    puts_of(changes, change) == 1
 }
 
 // Whether the change puts a call above the last one, or a connection of such a call, and no other of the
 // changes puts the same: then no row has its key.
-fn is_new(last: u64, changes: &[Change], change: &Change) -> bool {
+fn is_new(last: u64, changes: &[Change], change: &Change) -> bool
+    ensures { result ≡ is_new last changes.now change.now }
+{
     match change {
         Change::PutCall(call) => call.call > last && is_put_once(changes, change),
         Change::PutConnection(connection) => {

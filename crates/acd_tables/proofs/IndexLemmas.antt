@@ -23,7 +23,7 @@ use Rattle.acd_model.specs.Rules.Plan.{group_order, agent_order, connection_orde
 use Rattle.acd_model.specs.Scans.{is_group, group_of, agent_of, connection_of, at_group, at_agent, at_connection, queued_in_all, has}
 use Rattle.acd_model.specs.Writes.{with_group, with_station, with_agent, with_call, with_connection, with_monitor, without_call, without_connection, without_monitor, with_last, with_last_ids}
 use Rattle.acd_tables.specs.Sets.{holds, holds_in, has_set, is_at_key, Stays, SameMembers, HasSet, Noted, Forgotten}
-use Rattle.acd_tables.specs.Indexed.{PairSets, pair_cmp, lists, joins, waits_at, is_busying, is_busy_at, is_free, is_able_since, rings, works, Seats, Lines, Ringing, Working, IsIndexed}
+use Rattle.acd_tables.specs.Indexed.{PairSets, pair_cmp, lists, joins, waits_at, is_busying, is_busy_at, is_free, is_able_since, rings, works, Seats, Lines, Ringing, Working, IsIndexed, SeatMap, seat_of}
 use Rattle.acd_tables.specs.Turns.{is_entry, Entered, Undone, Untouched, TakenOut, TurnsTo, IsAt, IsFreeFor, with_or_without, one_queued, stays, IsBlank}
 use Rattle.acd_tables.specs.declared.indexes.Indexes.{Indexes}
 use Rattle.acd_tables.specs.declared.indexes.Entries.{Entries}
@@ -47,7 +47,7 @@ IsIndexed-untouched s x y h u = record {
   waiting = λ g p. u.queues.members g p ∙ h.waiting g p;
   able = λ g p. u.ready.members g p ∙ h.able g p;
   offers = u.offers;
-  seats = λ n d a e f. ap (λ m. get nat_cmp m d) u.rest.seats ∙ h.seats n d a e f;
+  seats = λ n d a e f. ap (λ m. seat_of m d) u.rest.seats ∙ h.seats n d a e f;
   lines = λ c d e. ap (λ m. joins m d c) u.rest.lines ∙ h.lines c d e;
   ringing = subst (Ringing s) (sym u.rest.ringing) h.ringing;
   working = subst (Working s) (sym u.rest.working) h.working;
@@ -84,7 +84,7 @@ IsIndexed-turned s t x y z turn n h e o w groups agents connections seats lines 
       ∙ ap (λ b. not (is_entry pair_cmp turn.leaving.ready g p) && b) (e.ready.members g p ∙ ap (λ b. is_entry pair_cmp turn.entering.ready g p || b) (h.able g p))
       ∙ sym (w.able g p);
   offers = o.offers;
-  seats = λ n d a f k. ap (λ m. get nat_cmp m d) (o.rest.seats ∙ e.rest.seats) ∙ seats n d a f k;
+  seats = λ n d a f k. ap (λ m. seat_of m d) (o.rest.seats ∙ e.rest.seats) ∙ seats n d a f k;
   lines = λ c d f. ap (λ m. joins m d c) (o.rest.lines ∙ e.rest.lines) ∙ lines c d f;
   ringing = subst (Ringing t) (sym (o.rest.ringing ∙ e.rest.ringing)) ringing;
   working = subst (Working t) (sym (o.rest.working ∙ e.rest.working)) working;
@@ -139,22 +139,22 @@ pub Lines-kept : (s t : Rows) (lines : BTreeSet (ℕ × ℕ)) → ((c d : ℕ) �
 Lines-kept s t lines f h c d e = h c d (f c d e)
 
 -- the agent takes a station that no other has
-pub Seats-taken : (s : Rows) (old new : BTreeMap ℕ ℕ) (item : AgentRecord) → IsAscending agent_order s.agents → Seats s old → IsFreeFor s item
-    → ((d : ℕ) → get nat_cmp new d ≡ cond (has item.station d) (Some item.agent) (get nat_cmp old d)) → Seats s new
+pub Seats-taken : (s : Rows) (old new : SeatMap) (item : AgentRecord) → IsAscending agent_order s.agents → Seats s old → IsFreeFor s item
+    → ((d : ℕ) → seat_of new d ≡ cond (has item.station d) (Some item.agent) (seat_of old d)) → Seats s new
 Seats-taken s old new item ascending h free w n d a e f = w d ∙ by (has item.station d) refl
   where
-    by : (b : Bool) → has item.station d ≡ b → cond b (Some item.agent) (get nat_cmp old d) ≡ Some n
+    by : (b : Bool) → has item.station d ≡ b → cond b (Some item.agent) (seat_of old d) ≡ Some n
     by true p = ap Some (sym (free d a (has_is item.station d p) (seated s old ascending h n d a e f)) ∙ agent_key s n a e)
     by false p = h n d a e f
 
-pub Seats-put : (s : Rows) (old new : BTreeMap ℕ ℕ) (item : AgentRecord) → ((d : ℕ) → get nat_cmp new d ≡ cond (has item.station d) (Some item.agent) (get nat_cmp old d)) → Seats s new → Seats (with_agent s item) new
+pub Seats-put : (s : Rows) (old new : SeatMap) (item : AgentRecord) → ((d : ℕ) → seat_of new d ≡ cond (has item.station d) (Some item.agent) (seat_of old d)) → Seats s new → Seats (with_agent s item) new
 Seats-put s old new item w h n d a e f = by (item.agent == n) refl
   where
-    by : (b : Bool) → (item.agent == n) ≡ b → get nat_cmp new d ≡ Some n
+    by : (b : Bool) → (item.agent == n) ≡ b → seat_of new d ≡ Some n
     by true p =
         let same : item ≡ a = some_is item a (sym (ap (λ b. cond b (Some item) (agent_of s n)) p) ∙ sym (agent_put s item n) ∙ e) in
         let station : item.station ≡ Some d = ap (λ (z : AgentRecord). z.station) same ∙ f in
-        w d ∙ ap (λ b. cond b (Some item.agent) (get nat_cmp old d)) (ap (λ o. has o d) station ∙ eq-eqb d d refl) ∙ ap Some (eqb-true item.agent n p)
+        w d ∙ ap (λ b. cond b (Some item.agent) (seat_of old d)) (ap (λ o. has o d) station ∙ eq-eqb d d refl) ∙ ap Some (eqb-true item.agent n p)
     by false p = h n d a (sym (ap (λ b. cond b (Some item) (agent_of s n)) p) ∙ sym (agent_put s item n) ∙ e) f
 
 stayed : (o : Option AgentRecord) (station : Option ℕ) → stays o station ≡ true → (a : AgentRecord) × (o ≡ Some a) × ((d : ℕ) → station ≡ Some d → a.station ≡ Some d)
@@ -163,20 +163,20 @@ stayed None (Some d) e = absurd (cc (e))
 stayed (Some a) (Some d) e = (a, refl, λ k f. has_is a.station d e ∙ f)
 
 -- the agent is at its station already
-pub Seats-stay : (s : Rows) (seats : BTreeMap ℕ ℕ) (item : AgentRecord) (old : Option AgentRecord) → old ≡ agent_of s item.agent → stays old item.station ≡ true → Seats s seats → Seats (with_agent s item) seats
+pub Seats-stay : (s : Rows) (seats : SeatMap) (item : AgentRecord) (old : Option AgentRecord) → old ≡ agent_of s item.agent → stays old item.station ≡ true → Seats s seats → Seats (with_agent s item) seats
 Seats-stay s seats item old found stay h n d a e f = by (item.agent == n) refl
   where
-    by : (b : Bool) → (item.agent == n) ≡ b → get nat_cmp seats d ≡ Some n
+    by : (b : Bool) → (item.agent == n) ≡ b → seat_of seats d ≡ Some n
     by true p =
         let same : item ≡ a = some_is item a (sym (ap (λ b. cond b (Some item) (agent_of s n)) p) ∙ sym (agent_put s item n) ∙ e) in
         let was = stayed old item.station stay in
         h item.agent d was.0 (sym found ∙ was.1) (was.2 d (ap (λ (z : AgentRecord). z.station) same ∙ f)) ∙ ap Some (eqb-true item.agent n p)
     by false p = h n d a (sym (ap (λ b. cond b (Some item) (agent_of s n)) p) ∙ sym (agent_put s item n) ∙ e) f
 
-pub Seats-same : (s : Rows) (old new : BTreeMap ℕ ℕ) → ((d : ℕ) → get nat_cmp new d ≡ get nat_cmp old d) → Seats s old → Seats s new
+pub Seats-same : (s : Rows) (old new : SeatMap) → ((d : ℕ) → seat_of new d ≡ seat_of old d) → Seats s old → Seats s new
 Seats-same s old new w h n d a e f = w d ∙ h n d a e f
 
-pub Seats-kept : (s t : Rows) (seats : BTreeMap ℕ ℕ) → ((n : ℕ) → agent_of t n ≡ agent_of s n) → Seats s seats → Seats t seats
+pub Seats-kept : (s t : Rows) (seats : SeatMap) → ((n : ℕ) → agent_of t n ≡ agent_of s n) → Seats s seats → Seats t seats
 Seats-kept s t seats f h n d a e g = h n d a (sym (f n) ∙ e) g
 
 -- how many are queued after a change of one connection
@@ -330,7 +330,7 @@ pub IsIndexed-stays : (s : Rows) (x : Indexes) (queues : PairSets) → IsIndexed
 IsIndexed-stays s x queues h hq = IsIndexed-lists s s refl refl x queues x.ready h h.groups hq.members (λ g p. refl) (λ g e. hq.sets g ∙ h.queues g e) h.readies
 
 -- what may be listed besides
-IsIndexed-besides : (s : Rows) (x : Indexes) (seats : BTreeMap ℕ ℕ) (lines : BTreeSet (ℕ × ℕ)) (ringing : BTreeSet (ℕ × ℕ)) (working : BTreeSet ℕ) → IsIndexed s x → Seats s seats → Lines s lines → Ringing s ringing → Working s working
+IsIndexed-besides : (s : Rows) (x : Indexes) (seats : SeatMap) (lines : BTreeSet (ℕ × ℕ)) (ringing : BTreeSet (ℕ × ℕ)) (working : BTreeSet ℕ) → IsIndexed s x → Seats s seats → Lines s lines → Ringing s ringing → Working s working
     → IsIndexed s (record x { seats = seats; lines = lines; ringing = ringing; working = working })
 IsIndexed-besides s x seats lines ringing working h d l r w = record {
   groups = h.groups;
@@ -348,7 +348,7 @@ IsIndexed-besides s x seats lines ringing working h d l r w = record {
   queued = h.queued;
 }
 
-pub IsIndexed-seats : (s : Rows) (x : Indexes) (seats : BTreeMap ℕ ℕ) → IsIndexed s x → Seats s seats → IsIndexed s (record x { seats = seats })
+pub IsIndexed-seats : (s : Rows) (x : Indexes) (seats : SeatMap) → IsIndexed s x → Seats s seats → IsIndexed s (record x { seats = seats })
 IsIndexed-seats s x seats h l = IsIndexed-besides s x seats x.lines x.ringing x.working h l h.lines h.ringing h.working
 
 pub IsIndexed-lines : (s : Rows) (x : Indexes) (lines : BTreeSet (ℕ × ℕ)) → IsIndexed s x → Lines s lines → IsIndexed s (record x { lines = lines })
@@ -365,7 +365,7 @@ pub IsIndexed-noted : (s : Rows) (x : Indexes) (lines : BTreeSet (ℕ × ℕ)) (
 IsIndexed-noted s x lines ringing h l r = IsIndexed-besides s x x.seats lines ringing x.working h h.seats l r h.working
 
 -- an agent is listed before it is put
-pub IsIndexed-seated : (s : Rows) (x : Indexes) (seats : BTreeMap ℕ ℕ) (working : BTreeSet ℕ) → IsIndexed s x → Seats s seats → Working s working → IsIndexed s (record x { seats = seats; working = working })
+pub IsIndexed-seated : (s : Rows) (x : Indexes) (seats : SeatMap) (working : BTreeSet ℕ) → IsIndexed s x → Seats s seats → Working s working → IsIndexed s (record x { seats = seats; working = working })
 IsIndexed-seated s x seats working h d w = IsIndexed-besides s x seats x.lines x.ringing working h d h.lines h.ringing w
 
 -- an agent's record is put

@@ -14,7 +14,7 @@ use Rattle.acd_model.specs.Rules.Plan.{agent_order, connection_order}
 use Rattle.acd_model.specs.Scans.{agent_of, agent_at, connection_of, has}
 use Rattle.acd_laws.proofs.Lists.{any_found, any_some, find_passes, find_among, some_from, some_found, none_from, some_is}
 use Rattle.acd_laws.proofs.State.{connection_among, connection_found, found_key, agent_among, agent_at_find, agent_seat, agent_there, has_is}
-use Rattle.acd_tables.specs.Indexed.{Seats}
+use Rattle.acd_tables.specs.Indexed.{Seats, SeatMap, seat_of}
 use Rattle.acd_tables.specs.Uses.{is_there_and, if_at}
 
 -- a connection at the device that passes
@@ -60,7 +60,7 @@ any-listed s u d but ks ascending listed = both_ways _ _ to from
         let parts = and_parts (not (has but c.0.call)) (u c.0) c.2 in
         any_some p ks (d, c.0.call) (listed c.0.call (ap is_some c.1)) (and_from (not (has but c.0.call)) (is_there_and u (connection_of s c.0.call d)) parts.0 (ap (is_there_and u) c.1 ∙ parts.1))
 
-module _ (s : Rows) (seats : BTreeMap ℕ ℕ) (ascending : IsAscending agent_order s.agents) (listed : Seats s seats) where
+module _ (s : Rows) (seats : SeatMap) (ascending : IsAscending agent_order s.agents) (listed : Seats s seats) where
   -- an agent with the station is the one that a scan finds
   pub seated : (n d : ℕ) (a : AgentRecord) → agent_of s n ≡ Some a → a.station ≡ Some d → agent_at s d ≡ Some a
   seated n d a e f =
@@ -74,16 +74,16 @@ module _ (s : Rows) (seats : BTreeMap ℕ ℕ) (ascending : IsAscending agent_or
       found ∙ ap Some same
 
   -- nobody has a station that stands for no agent, or for one who isn't there
-  pub unseated : (d : ℕ) → ((b : AgentRecord) → get nat_cmp seats d ≡ Some b.agent → agent_of s b.agent ≡ Some b → b.station ≡ Some d → ⊥) → agent_at s d ≡ None
+  pub unseated : (d : ℕ) → ((b : AgentRecord) → seat_of seats d ≡ Some b.agent → agent_of s b.agent ≡ Some b → b.station ≡ Some d → ⊥) → agent_at s d ≡ None
   unseated d none = none_from (agent_at s d) (λ b e.
       let there = agent_there s ascending d b e in
       let station = (agent_seat s d b e).1 in
       none b (listed b.agent d b there station) there station)
 
-  pub seat-none : (d : ℕ) → get nat_cmp seats d ≡ None → agent_at s d ≡ None
+  pub seat-none : (d : ℕ) → seat_of seats d ≡ None → agent_at s d ≡ None
   seat-none d none = unseated d (λ b e there station. cc (e, none))
 
-  pub seat-some : (d n : ℕ) → get nat_cmp seats d ≡ Some n → agent_at s d ≡ if_at (agent_of s n) d
+  pub seat-some : (d n : ℕ) → seat_of seats d ≡ Some n → agent_at s d ≡ if_at (agent_of s n) d
   seat-some d n there = by (agent_of s n) refl
     where
       by : (o : Option AgentRecord) → agent_of s n ≡ o → agent_at s d ≡ if_at o d

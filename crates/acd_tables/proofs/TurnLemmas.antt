@@ -19,7 +19,7 @@ use Rattle.acd_model.specs.Writes.{with_agent, with_connection, without_connecti
 use Rattle.acd_laws.proofs.Lists.{eq_is, is_eq_of, some_is, ascending-put, ascending-remove}
 use Rattle.acd_laws.proofs.Keyed.{cmp_equal, cmp_self}
 use Rattle.acd_laws.proofs.State.{connections_total, at_put, at_remove, agent_put, agent_key, found_key, agent_seat, agent_there}
-use Rattle.acd_tables.specs.Indexed.{pair_cmp, waits_at, is_busying, is_busy_at, is_free, is_able_since, Seats}
+use Rattle.acd_tables.specs.Indexed.{pair_cmp, waits_at, is_busying, is_busy_at, is_free, is_able_since, Seats, SeatMap}
 use Rattle.acd_tables.specs.Uses.{is_there_and, is_in_use}
 use Rattle.acd_tables.specs.declared.uses.Use.TheVariants.{Busying}
 use Rattle.acd_tables.specs.Turns.{TurnsTo, differ, is_entry, IsAt, queue_entry, entry_in, ready_entry, with_or_without, LeavesBut}
@@ -247,7 +247,7 @@ becomes_free true true false d = refl
 becomes_free true false c d = refl
 becomes_free false b c d = refl
 
-pub able-turned : (s t : Rows) (call device : ℕ) (new : Option ConnectionRecord) (seats : BTreeMap ℕ ℕ) → IsAscending connection_order s.connections → IsAscending agent_order s.agents → Seats s seats → IsAt call device new → Replaces s t call device new
+pub able-turned : (s t : Rows) (call device : ℕ) (new : Option ConnectionRecord) (seats : SeatMap) → IsAscending connection_order s.connections → IsAscending agent_order s.agents → Seats s seats → IsAt call device new → Replaces s t call device new
     → (busy : Bool) → busy ≡ is_busy_at t device
     → (g : ℕ) (p : ℕ × ℕ) → is_able_since t g p.0 (agent_of t p.1)
     ≡ (not (is_entry pair_cmp (cond busy (ready_entry (agent_at s device)) None) g p) && (is_entry pair_cmp (cond busy None (ready_entry (agent_at s device))) g p || is_able_since s g p.0 (agent_of s p.1)))
@@ -398,7 +398,7 @@ none_leaves None false = refl
 none_leaves (Some k) b = refl
 
 -- the turn of a connection, by its parts
-pub connection-turn : (s : Rows) (seats : BTreeMap ℕ ℕ) (call device : ℕ) (old new : Option ConnectionRecord) (turn : Turn) (before seat : Option (ℕ × (ℕ × ℕ))) (busy : Bool)
+pub connection-turn : (s : Rows) (seats : SeatMap) (call device : ℕ) (old new : Option ConnectionRecord) (turn : Turn) (before seat : Option (ℕ × (ℕ × ℕ))) (busy : Bool)
     → IsAscending connection_order s.connections → IsAscending agent_order s.agents → Seats s seats → IsAt call device new → old ≡ connection_of s call device
     → before ≡ queue_entry old → turn.entering.queue ≡ queue_entry new → LeavesBut pair_cmp before turn.entering.queue turn.leaving.queue
     → seat ≡ cond (differ (is_there_and is_busying old) (is_there_and is_busying new)) (ready_entry (agent_at s device)) None

@@ -3,7 +3,10 @@ use Rattle.std.specs.Prelude.{◌≡◌, ℕ, Bool, true, false, not, ◌&&◌, 
 use Rattle.std.specs.List.{list_any}
 use Rattle.std.specs.declared.cmp.Ordering.{Ordering}
 use Rattle.std.specs.Ordering.{nat_cmp, ordering_then, is_gt}
-use Rattle.std.specs.BTreeMap.{BTreeMap, get}
+use Rattle.std.specs.BTreeMap.{BTreeMap}
+use Rattle.std.specs.HashMap.{HashMap, get_by}
+use Rattle.std.specs.declared.hash.FoldHasher.{FoldHasher}
+use Rattle.std.specs.declared.hash.BuildHasherDefault.{BuildHasherDefault}
 use Rattle.std.specs.BTreeSet.{BTreeSet, contains}
 use Rattle.acd_terms.specs.Lists.{IsAscending}
 use Rattle.acd_terms.specs.States.{is_distributed, is_queued, is_alerting, is_ready, is_working_after_call, is_occupying}
@@ -64,8 +67,16 @@ abbrev pub ListsOffers : PairSets → PairSets → BTreeSet ℕ → Type 0
 ListsOffers queues ready offering = (g : ℕ) (p q : ℕ × ℕ) → lists queues g p ≡ true → lists ready g q ≡ true → contains nat_cmp offering g ≡ true
 
 -- each agent at a station has its number there
-abbrev pub Seats : Rows → BTreeMap ℕ ℕ → Type 0
-Seats s seats = (n d : ℕ) (a : AgentRecord) → agent_of s n ≡ Some a → a.station ≡ Some d → get nat_cmp seats d ≡ Some n
+-- stations and the agents there
+abbrev pub SeatMap : Type 0
+SeatMap = HashMap ℕ ℕ (BuildHasherDefault FoldHasher)
+
+-- the agent at the station
+abbrev pub seat_of : SeatMap → ℕ → Option ℕ
+seat_of seats d = get_by (λ e. d == e) seats
+
+abbrev pub Seats : Rows → SeatMap → Type 0
+Seats s seats = (n d : ℕ) (a : AgentRecord) → agent_of s n ≡ Some a → a.station ≡ Some d → seat_of seats d ≡ Some n
 
 -- each connection has its call at the device
 abbrev pub Lines : Rows → BTreeSet (ℕ × ℕ) → Type 0

@@ -1,13 +1,11 @@
 //! Changes of one record that keep the indexes.
 
 ghost use Rattle.std.specs.Prelude.{◌≡◌, ℕ, Some, true, not, ◌&&◌, length, OnOk, OnErr, if◌then◌else◌};
-ghost use Rattle.std.specs.Ordering.{nat_cmp};
-ghost use Rattle.std.specs.BTreeMap.{get};
 ghost use Rattle.acd_terms.specs.Lists.{IsAscending};
 ghost use Rattle.acd_model.specs.Rules.Plan.{agent_order};
 ghost use Rattle.acd_model.specs.Scans.{agent_of, agent_at, connection_of, queued_in_all, has};
 ghost use Rattle.acd_model.specs.Writes.{with_group, with_agent, with_connection, without_connection};
-ghost use Rattle.acd_tables.specs.Indexed.{IsIndexed, Seats, rings, works};
+ghost use Rattle.acd_tables.specs.Indexed.{IsIndexed, seat_of, Seats, rings, works};
 ghost use Rattle.acd_tables.specs.Turns.{IsAt, with_or_without, one_queued, stays, IsFreeFor};
 
 use crate::indexes::Indexes;
@@ -18,7 +16,7 @@ use crate::turns::{agent_turn, connection_turn};
 use crate::uses::{agent_at, is_at, is_ringing};
 use acd_terms::{AgentId, AgentRecord, ConnectionRecord, DeviceId, GroupRecord};
 use std::alloc::{AllocError, Global};
-use std::collections::BTreeMap;
+use std::collections::HashMap;
 
 /// Puts the group. A new one gets its two sets before.
 pub(crate) fn put_group(
@@ -38,7 +36,7 @@ pub(crate) fn put_group(
 }
 
 // No other agent has the station of this one.
-fn is_free_for(records: &Records, seats: &BTreeMap<DeviceId, AgentId>, item: &AgentRecord) -> bool
+fn is_free_for(records: &Records, seats: &HashMap<DeviceId, AgentId>, item: &AgentRecord) -> bool
     requires ascending { IsAscending agent_order records.now.agents }
     requires listed { Seats records.now seats.now }
     ensures { result ≡ true → IsFreeFor records.now item.now }
@@ -54,12 +52,12 @@ fn is_free_for(records: &Records, seats: &BTreeMap<DeviceId, AgentId>, item: &Ag
 
 // The agent takes the station, if it is at one.
 fn take_seat(
-    seats: &mut BTreeMap<DeviceId, AgentId>,
+    seats: &mut HashMap<DeviceId, AgentId>,
     station: Option<DeviceId>,
     agent: AgentId,
 ) -> Result<(), AllocError>
-    ensures ok { OnOk result ((d : ℕ) → get nat_cmp seats.new d ≡ (if has station d then Some agent else get nat_cmp seats.old d)) }
-    ensures err { OnErr result ((d : ℕ) → get nat_cmp seats.new d ≡ get nat_cmp seats.old d) }
+    ensures ok { OnOk result ((d : ℕ) → seat_of seats.new d ≡ (if has station d then Some agent else seat_of seats.old d)) }
+    ensures err { OnErr result ((d : ℕ) → seat_of seats.new d ≡ seat_of seats.old d) }
 {
     if let Some(station) = station {
         seats.insert(station, agent)?;
@@ -99,7 +97,7 @@ fn was_at(old: &Option<AgentRecord>, station: DeviceId) -> bool
 // The agent has its station. One that another agent has is refused as if there were no memory.
 fn sit(
     records: &Records,
-    seats: &mut BTreeMap<DeviceId, AgentId>,
+    seats: &mut HashMap<DeviceId, AgentId>,
     old: &Option<AgentRecord>,
     item: &AgentRecord,
 ) -> Result<(), AllocError>

@@ -11,7 +11,7 @@ ghost use Rattle.acd_tables.specs.Turns.{Enters, Leaves, Undoes, LeavesBut, is_e
 use crate::sets::{enter, leave};
 use acd_terms::{AgentId, DeviceId};
 use std::alloc::{AllocError, Global};
-use std::collections::{BTreeMap, BTreeSet};
+use std::collections::{BTreeMap, BTreeSet, HashMap};
 
 /// What is kept beside the records, so that look-ups needn't go through them.
 #[derive(Drop)]
@@ -23,7 +23,7 @@ pub struct Indexes {
     /// The groups that have both; there may be more.
     pub(crate) offering: BTreeSet<DeviceId>,
     /// The agent at a station. One that has left may still stand there.
-    pub(crate) seats: BTreeMap<DeviceId, AgentId>,
+    pub(crate) seats: HashMap<DeviceId, AgentId>,
     /// Number of the device, and call, of the connections; there may be more.
     pub(crate) lines: BTreeSet<(u64, u64)>,
     /// Call and device of the offers that ring; there may be more.
@@ -56,7 +56,7 @@ impl Indexes {
             queues: BTreeMap::new(alloc),
             ready: BTreeMap::new(alloc),
             offering: BTreeSet::new(alloc),
-            seats: BTreeMap::new(alloc),
+            seats: HashMap::new(alloc),
             lines: BTreeSet::new(alloc),
             ringing: BTreeSet::new(alloc),
             working: BTreeSet::new(alloc),

@@ -13,6 +13,7 @@
 #![tactic(auto)]
 
 mod changes;
+mod connections;
 mod filling;
 mod indexes;
 mod lines;

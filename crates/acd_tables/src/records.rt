@@ -1,19 +1,21 @@
 //! The records of the switch and its counters, seen as rows.
 
-mod parties;
 pub mod writes;
 
-ghost use Rattle.std.specs.Prelude.{◌≡◌, ◌<◌, ◌^◌, [], length, not, nat_le, IfOk};
+ghost use Rattle.std.specs.Prelude.{◌≡◌, ◌<◌, ◌^◌, ◌↔◌, [], ◌∷◌, length, not, nat_le, slice_get, IfOk};
+ghost use Rattle.acd_terms.specs.Lists.{Among};
 ghost use Rattle.acd_terms.specs.Rows.{empty_rows};
-ghost use Rattle.acd_model.specs.Scans.{group_of, station_of, agent_of, call_of, connection_of, monitor_of};
+ghost use Rattle.acd_terms.specs.declared.record.CallRecord.{CallRecord};
+ghost use Rattle.acd_model.specs.Scans.{group_of, station_of, agent_of, call_of, connection_of, connections_of, other_of, monitor_of};
 
+use crate::connections::Connections;
 use crate::table::Table;
 use acd_terms::{
     AgentId, AgentRecord, CallRecord, ConnectionRecord, DeviceId, GroupRecord, Limits,
     MonitorRecord, Rows, StationRecord,
 };
 use std::alloc::{AllocError, Global};
-use std::collections::btree_map::Values;
+use std::collections::hash_map::Values;
 use std::marker::Model;
 
 /// The records by key, the limits and the counters.
@@ -24,7 +26,7 @@ pub struct Records {
     stations: Table<StationRecord>,
     agents: Table<AgentRecord>,
     calls: Table<CallRecord>,
-    connections: Table<ConnectionRecord>,
+    connections: Connections,
     monitors: Table<MonitorRecord>,
     last_stamp: u64,
     last_moment: u32,
@@ -65,7 +67,7 @@ impl Records {
             stations: Table::new(alloc),
             agents: Table::new(alloc),
             calls: Table::new(alloc),
-            connections: Table::new(alloc),
+            connections: Connections::new(alloc),
             monitors: Table::new(alloc),
             last_stamp: 0,
             last_moment: 0,
@@ -86,7 +88,7 @@ impl Records {
             stations: Table::from_slice(alloc, rows.stations.as_slice())?,
             agents: Table::from_slice(alloc, rows.agents.as_slice())?,
             calls: Table::from_slice(alloc, rows.calls.as_slice())?,
-            connections: Table::from_slice(alloc, rows.connections.as_slice())?,
+            connections: Connections::from_slice(alloc, rows.connections.as_slice())?,
             monitors: Table::from_slice(alloc, rows.monitors.as_slice())?,
             last_stamp: rows.last_stamp,
             last_moment: rows.last_moment,
@@ -106,7 +108,7 @@ impl Records {
             stations: Table::from_slice(alloc, rows.stations.as_slice())?,
             agents: Table::new(alloc),
             calls: Table::from_slice(alloc, rows.calls.as_slice())?,
-            connections: Table::new(alloc),
+            connections: Connections::new(alloc),
             monitors: Table::from_slice(alloc, rows.monitors.as_slice())?,
             last_stamp: rows.last_stamp,
             last_moment: rows.last_moment,
@@ -168,7 +170,7 @@ impl Records {
     pub fn connection(&self, call: u64, device: DeviceId) -> Option<ConnectionRecord>
         ensures { result ≡ connection_of self.now call device }
     {
-        self.connections.find((call, device))
+        self.connections.find(call, device)
     }
 
     #[tactic(auto, unfolding(acd_model::specs::Scans::monitor_of))]
@@ -178,32 +180,27 @@ impl Records {
         self.monitors.find(monitor)
     }
 
-    /// The groups in ascending device.
-    pub fn groups(&self) -> Values<'_, DeviceId, GroupRecord>
-        ensures { result ≡ self.now.groups }
-    {
-        self.groups.values()
-    }
-
-    /// The agents in ascending number.
-    pub fn agents(&self) -> Values<'_, AgentId, AgentRecord>
-        ensures { result ≡ self.now.agents }
-    {
-        self.agents.values()
-    }
-
-    /// The calls in ascending number.
+    /// The calls, in no order.
     pub fn calls(&self) -> Values<'_, u64, CallRecord>
-        ensures { result ≡ self.now.calls }
+        ensures { (c : CallRecord) → Among c self.now.calls ↔ Among c result }
     {
         self.calls.values()
     }
 
-    /// The connections in ascending call and device.
-    pub fn connections(&self) -> Values<'_, (u64, DeviceId), ConnectionRecord>
-        ensures { result ≡ self.now.connections }
+    /// The first two connections of the call. A call has no more.
+    #[tactic(auto, unfolding(acd_model::specs::Scans::connections_of))]
+    pub fn connections_of(&self, call: u64) -> [Option<ConnectionRecord>; 2]
+        ensures { result ≡ slice_get (connections_of self.now call) 0 ∷ slice_get (connections_of self.now call) 1 ∷ [] }
     {
-        self.connections.values()
+        self.connections.of_call(call)
+    }
+
+    /// The other party of the connection's call.
+    #[tactic(auto, unfolding(acd_model::specs::Scans::other_of))]
+    pub fn other_of(&self, connection: &ConnectionRecord) -> Option<ConnectionRecord>
+        ensures { result ≡ other_of self.now connection.now }
+    {
+        self.connections.other_of(connection)
     }
 
     pub fn connection_count(&self) -> usize

@@ -1,34 +1,30 @@
-//! Records in ascending key.
+//! Records found by the hash of their keys.
 
-ghost use Rattle.std.specs.Prelude.{◌≡◌, ◌<◌, ◌^◌, [], length, filter, OnOk, OnErr, IfOk};
-ghost use Rattle.std.specs.Map.{values_of};
-ghost use Rattle.std.specs.Range.Bound.{IsForward};
-ghost use Rattle.std.specs.BTreeMap.Range.{IsLeBy, IsLtBy, range_contains};
-ghost use Rattle.acd_terms.specs.Lists.{find_by, put_by, remove_by};
+ghost use Rattle.std.specs.Prelude.{◌≡◌, ◌<◌, ◌^◌, ◌↔◌, [], length, OnOk, OnErr, IfOk};
+ghost use Rattle.acd_terms.specs.Lists.{Among, find_by, put_by, remove_by};
 
 use acd_terms::{Keyed, Listed, ascends};
 use std::alloc::{AllocError, Global};
-use std::collections::BTreeMap;
-use std::collections::btree_map::{Range, Values};
+use std::collections::hash_map::Values;
+use std::collections::{BTreeMap, HashMap};
 use std::marker::Model;
-use std::ops::Bound;
 
-/// Records by key, seen as a list in ascending key.
+/// Records found by the hash of their keys, seen as a list in ascending key.
 #[derive(Drop)]
 pub struct Table<R: Keyed> {
-    map: BTreeMap<R::Key, R>,
+    map: HashMap<R::Key, R>,
 }
 
 impl<R: Keyed> Model for Table<R> {
-    ghost use Rattle.std.specs.Prelude.{◌≡◌, List};
-    ghost use Rattle.std.specs.BTreeMap.{values};
-    ghost use Rattle.acd_tables.specs.KeyedMaps.{keyed};
+    ghost use Rattle.std.specs.Prelude.{[], List};
+    ghost use Rattle.std.specs.HashMap.{values};
+    ghost use Rattle.acd_tables.specs.KeyedMaps.{placed, IsKeyed};
 
     ghost Value = { List R };
 
-    ghost view = { λ t. values t.map };
+    ghost view = { λ t. placed R.Key.cmp R.key_of [] (values t.map) };
 
-    ghost invariant = { λ t. t.map.entries ≡ keyed R.key_of (values t.map) };
+    ghost invariant = { λ t. IsKeyed R.Key.eq R.key_of t.map.entries };
 }
 
 impl<R: Keyed> Table<R> {
@@ -36,11 +32,11 @@ impl<R: Keyed> Table<R> {
         ensures { result ≡ [] }
     {
         Table {
-            map: BTreeMap::new(alloc),
+            map: HashMap::new(alloc),
         }
     }
 
-    /// A table of these records. Records that don't stand in ascending key are refused as if there were no memory.
+    /// These records. Records that don't stand in ascending key are refused as if there were no memory.
     pub fn from_slice(alloc: Global, records: &[R]) -> Result<Self, AllocError>
         ensures { IfOk result (λ t. t ≡ records.now) }
     {
@@ -54,19 +50,11 @@ impl<R: Keyed> Table<R> {
         Ok(table)
     }
 
-    /// The records in ascending key.
+    /// The records, in no order.
     pub fn values(&self) -> Values<'_, R::Key, R>
-        ensures { result ≡ self.now }
+        ensures { (r : R) → Among r self.now ↔ Among r result }
     {
         self.map.values()
-    }
-
-    /// The records with a key between the two bounds.
-    pub fn range(&self, start: Bound<R::Key>, end: Bound<R::Key>) -> Range<'_, R::Key, R>
-        requires { IsForward (IsLeBy R.Key.cmp) (IsLtBy R.Key.cmp) start end }
-        ensures { values_of result ≡ filter (λ r. range_contains R.Key.cmp start end (R.key_of r)) self.now }
-    {
-        self.map.range((start, end))
     }
 
     pub fn len(&self) -> usize
@@ -103,6 +91,10 @@ impl<R: Keyed> Table<R> {
     pub fn copied(&self, alloc: Global) -> Result<Listed<R>, AllocError>
         ensures { IfOk result (λ l. l ≡ self.now) }
     {
-        Ok(Listed::new(self.map.values().copied().collect(alloc)?))
+        let mut sorted = BTreeMap::new(alloc);
+        for record in self.map.values() {
+            sorted.insert(record.key(), *record)?;
+        }
+        Ok(Listed::new(sorted.values().copied().collect(alloc)?))
     }
 }

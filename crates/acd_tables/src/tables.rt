@@ -12,7 +12,6 @@ use acd_terms::{
     MonitorRecord, Rows, StationRecord,
 };
 use std::alloc::{AllocError, Global};
-use std::collections::btree_map::Values;
 use std::marker::Model;
 
 /// What is planned at a device.
@@ -26,7 +25,6 @@ pub enum DeviceKind {
 ///
 /// A write that would give two agents one station, or let a call wait or an agent be ready in a group
 /// that isn't planned, is refused as if there were no memory.
-#[derive(Drop)]
 pub struct Tables {
     pub(crate) alloc: Global,
     pub(crate) records: Records,
@@ -43,6 +41,19 @@ impl Model for Tables {
     ghost view = { λ t. t.records };
 
     ghost invariant = { λ t. IsIndexed t.records t.indexes };
+}
+
+// Written out, so that a caller that lets tables go sees one call and not each map of them.
+impl Drop for Tables {
+    fn drop(self) {
+        let Tables {
+            alloc: _,
+            records,
+            indexes,
+        } = self;
+        drop(records);
+        drop(indexes);
+    }
 }
 
 impl Tables {
@@ -112,27 +123,6 @@ impl Tables {
         ensures { result ≡ monitor_of self.now monitor }
     {
         self.records.monitor(monitor)
-    }
-
-    /// The groups in ascending device.
-    pub fn groups(&self) -> Values<'_, DeviceId, GroupRecord>
-        ensures { result ≡ self.now.groups }
-    {
-        self.records.groups()
-    }
-
-    /// The agents in ascending number.
-    pub fn agents(&self) -> Values<'_, AgentId, AgentRecord>
-        ensures { result ≡ self.now.agents }
-    {
-        self.records.agents()
-    }
-
-    /// The connections in ascending call and device.
-    pub fn connections(&self) -> Values<'_, (u64, DeviceId), ConnectionRecord>
-        ensures { result ≡ self.now.connections }
-    {
-        self.records.connections()
     }
 
     pub fn is_group(&self, device: DeviceId) -> bool

@@ -12,7 +12,7 @@ use crate::lines::lines_at;
 use crate::records::Records;
 use acd_terms::{AgentId, AgentRecord, ConnectionRecord, DeviceId};
 use std::collections::btree_set::Range;
-use std::collections::{BTreeMap, BTreeSet};
+use std::collections::{BTreeSet, HashMap};
 
 /// How a connection uses its station.
 #[derive(Clone, Copy)]
@@ -101,7 +101,7 @@ pub(crate) fn is_at(agent: &AgentRecord, station: DeviceId) -> bool
 /// The agent logged on at the station.
 pub(crate) fn agent_at(
     records: &Records,
-    seats: &BTreeMap<DeviceId, AgentId>,
+    seats: &HashMap<DeviceId, AgentId>,
     station: DeviceId,
 ) -> Option<AgentRecord>
     requires ascending { IsAscending agent_order records.now.agents }

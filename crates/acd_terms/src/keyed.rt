@@ -7,10 +7,11 @@ use crate::id::{AgentId, DeviceId};
 use crate::record::{
     AgentRecord, CallRecord, ConnectionRecord, GroupRecord, MonitorRecord, StationRecord,
 };
+use std::hash::Hash;
 
 /// A record with a key. Keys that compare equal are equal.
 pub trait Keyed: Copy {
-    type Key: Ord + Copy;
+    type Key: Ord + Hash + Copy;
 
     ghost key_of: { Self → Self.Key };
 

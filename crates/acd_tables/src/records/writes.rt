@@ -79,7 +79,7 @@ impl Records {
     pub fn remove_connection(&mut self, call: u64, device: DeviceId)
         ensures { self.new ≡ without_connection self.old call device }
     {
-        self.connections.remove((call, device));
+        self.connections.remove(call, device);
     }
 
     #[tactic(auto, unfolding(acd_model::specs::Writes::without_monitor))]

@@ -15,9 +15,9 @@ returns-in-Err-clause-loaded g c =
 
 pub returns-in-Ok-loaded-clause-loaded : goal.returns-in-Ok-loaded-clause-loaded
 returns-in-Ok-loaded-clause-loaded g c =
-    subst (λ (w : Working). Reread (record { book = g.B.Book.state c.args.self.now.book; switch = switch_of w; failed = is_failed w }) (holding (record { book = g.B.Book.state c.rows.new.self; switch = switch_of w; failed = is_failed w }) c.in-Ok-loaded.loaded.switch))
+    subst (λ (w : Working). Reread (record { book = g.B.Book.state c.args.self.now.book; switch = switch_of w; failed = is_failed w }) (holding (record { book = g.B.Book.state c.rows.new.self; switch = switch_of w; failed = is_failed w }) c.in-Ok-loaded.loaded.switch.value))
     (sym c.requires)
-    (loaded_rows (g.B.Book.state c.args.self.now.book) (g.B.Book.state c.rows.new.self) c.in-Ok.rows c.in-Ok-loaded.loaded.switch c.in-Ok.ensures c.in-Ok-loaded.ensures.ok)
+    (loaded_rows (g.B.Book.state c.args.self.now.book) (g.B.Book.state c.rows.new.self) c.in-Ok.rows c.in-Ok-loaded.loaded.switch.value c.in-Ok.ensures c.in-Ok-loaded.ensures.ok)
 
 pub returns-clause-loaded : goal.returns-clause-loaded
 returns-clause-loaded g c =

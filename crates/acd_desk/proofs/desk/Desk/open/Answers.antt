@@ -2,7 +2,7 @@ use Rattle.acd_desk.proofs.Opens.{opens, rows_refused}
 use Rattle.acd_desk.proofs.desk.Desk.open.Goals as goal
 
 pub returns-in-Ok-from_rows : goal.returns-in-Ok-from_rows
-returns-in-Ok-from_rows g c = opens (g.B.Book.state c.args.book) (g.B.Book.state c.rows.new.self) c.in-Ok.rows c.in-Ok-from_rows.switch c.in-Ok.ensures c.in-Ok-from_rows.ensures.ok c.in-Ok-from_rows.ensures.sound
+returns-in-Ok-from_rows g c = opens (g.B.Book.state c.args.book) (g.B.Book.state c.rows.new.self) c.in-Ok.rows c.in-Ok-from_rows.loaded.switch.value c.in-Ok.ensures c.in-Ok-from_rows.ensures.ok c.in-Ok-from_rows.ensures.sound
 
 pub returns : goal.returns
 returns g c =

@@ -8,6 +8,6 @@ use Rattle.acd_desk.proofs.desk.Desk.switch_out.Goals as goal
 pub returns-in-Unloaded-clause-loaded : goal.returns-in-Unloaded-clause-loaded
 returns-in-Unloaded-clause-loaded g c =
     subst (λ (w : Working). MatchResult c.load.result
-    (λ taken. Reread (record { book = g.B.Book.state c.args.self.now.book; switch = switch_of w; failed = is_failed w }) (holding (standing g.B.Book c.load.new.self) taken.switch))
+    (λ taken. Reread (record { book = g.B.Book.state c.args.self.now.book; switch = switch_of w; failed = is_failed w }) (holding (standing g.B.Book c.load.new.self) taken.switch.value))
     (λ fault. TellsNothing (record { book = g.B.Book.state c.args.self.now.book; switch = switch_of w; failed = is_failed w }) fault (standing g.B.Book c.load.new.self)))
     (c.replace.ensures.after ∙ sym c.in-Unloaded.is ∙ c.replace.ensures.value) c.load.ensures.loaded

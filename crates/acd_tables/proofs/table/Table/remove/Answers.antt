@@ -1,16 +1,13 @@
 use Rattle.std.proofs.Common.{◌∙◌, ap}
-use Rattle.std.specs.BTreeMap.{values}
 use Rattle.acd_terms.specs.Lists.{remove_by}
-use Rattle.acd_tables.proofs.MapLemmas.{keyed-after_remove, values-from_keyed, keyed-from_keyed}
+use Rattle.acd_tables.proofs.TableLemmas.{keyed-remove, list-remove}
 use Rattle.acd_tables.proofs.table.Table.remove.Goals as goal
 
 pub invariant_of-self : goal.invariant_of-self
 invariant_of-self g c =
-    let after = keyed-after_remove g.R.Key.Ord.cmp g.R.Keyed.key_of c.self.inside.map.entries c.remove.new.self.entries (values c.self.inside.map) c.args.key c.self.invariant c.remove.ensures.entries in
-    keyed-from_keyed g.R.Key.Ord.cmp g.R.Keyed.key_of _ _ after
+    keyed-remove g.R.Key.Ord.cmp g.R.Key.PartialEq.eq g.R.Keyed.key_of g.met.R.Key.Ord.total g.met.R.Keyed.exact g.met.R.Key.Ord.matches_eq c.self.inside.map.entries c.remove.new.self.entries c.self.invariant c.remove.ensures.unique c.args.key c.remove.ensures.updates.0
 
 pub returns : goal.returns
 returns g c =
-    let after = keyed-after_remove g.R.Key.Ord.cmp g.R.Keyed.key_of c.self.inside.map.entries c.remove.new.self.entries (values c.self.inside.map) c.args.key c.self.invariant c.remove.ensures.entries in
-    values-from_keyed g.R.Key.Ord.cmp g.R.Keyed.key_of _ _ after
+    list-remove g.R.Key.Ord.cmp g.R.Key.PartialEq.eq g.R.Keyed.key_of g.met.R.Key.Ord.total g.met.R.Keyed.exact g.met.R.Key.Ord.matches_eq c.self.inside.map.entries c.remove.new.self.entries c.self.invariant c.remove.ensures.unique c.args.key c.remove.ensures.updates.0
     ∙ ap (λ rs. remove_by (λ x. g.R.Key.Ord.cmp c.args.key (g.R.Keyed.key_of x)) rs) c.self.view_is

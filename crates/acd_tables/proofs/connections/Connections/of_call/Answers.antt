@@ -1,0 +1,10 @@
+use Rattle.std.proofs.Common.{◌∙◌, ap, sym, ◌∷◌, [], slice_get}
+use Rattle.std.specs.Prelude.{filter, ◌==◌}
+use Rattle.acd_terms.specs.declared.record.ConnectionRecord.{ConnectionRecord}
+use Rattle.acd_tables.proofs.KeyLemmas.{none-there, no_keys}
+use Rattle.acd_tables.proofs.connections.Connections.of_call.Goals as goal
+
+pub returns-in-None : goal.returns-in-None
+returns-in-None c =
+    let none = none-there c.self.inside.records c.self.inside.keys c.self.invariant (no_keys c.self.inside.keys.keys c.in-None.ensures.variant.1) in
+    ap (λ cs. slice_get (filter (λ (x : ConnectionRecord). x.call == c.args.call) cs) 0 ∷ slice_get (filter (λ (x : ConnectionRecord). x.call == c.args.call) cs) 1 ∷ []) (sym none ∙ c.self.view_is)
