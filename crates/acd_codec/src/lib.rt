@@ -1,6 +1,17 @@
-//! JSON in and out: requests are read and written, replies, event reports and what is read of a desk are written.
+//! JSON in and out: requests are read and written; replies, event reports and what is read of a desk are written.
 //!
-//! All that is written is compact JSON, the members of each object in the order of their names.
+//! [`RequestReader`] reads requests, and [`read_request`] one alone, or says what is wrong: a [`ReadFault`], with the
+//! first faulty [`Member`]. [`request_text`] writes the one text of a request, and that text reads as it
+//! ([`reads_back`], [`same_text`]). [`reply_text`] is the reply to an executed request; [`Rejected`] says why one is not
+//! executed, and a [`FixedAnswer`] names no request. [`event_text`] and [`page_text`] write event reports, and
+//! [`agent_text`], [`call_text`], [`device_text`] (of a [`PlannedDevice`]) and [`queue_text`] what is read of a desk. All
+//! that is written is compact JSON, the members of each object in the order of their names.
+//!
+//! ```ignore
+//! let request = read_request(alloc, bytes)?;
+//! let kept = request_text(alloc, &request)?;
+//! let reply = reply_text(alloc, &request.requester, request.invoke, outcome)?;
+//! ```
 #![tactic(auto)]
 
 mod document;
