@@ -5,11 +5,11 @@ use Rattle.json.specs.Print.{print}
 use Rattle.json.specs.Token.{Token, key, begin_object, end_object, begin_array, end_array}
 use Rattle.json.specs.Tree.{json_tokens, items_tokens, members_tokens}
 use Rattle.json.specs.Written.{Written, Writes}
-use Rattle.serde_json.specs.Data.{Data}
+use Rattle.serde_json.specs.Data.{Data, object, Members, no_members, member}
 use Rattle.serde_json.specs.Written.{outline, items_outline, members_outline, compact_text}
 use Rattle.serde_json.proofs.Texts.{print-outline}
 use Rattle.acd_codec.specs.Parts.{Part, part, list_part, written, object_of, items_of}
-use Rattle.acd_codec.specs.Tokens.{data_tokens, part_tokens, parts_tokens, each_tokens, Added, Adds, Begun}
+use Rattle.acd_codec.specs.Tokens.{data_tokens, tokens_of, part_tokens, parts_tokens, each_tokens, Added, Adds, Begun}
 
 pub wrote : {E : Type 0} (r : Result (Unit {0}) E) (old new : Written) (t : Token) → Writes r old new t → Adds r old new (t ∷ [])
 wrote {E} r old new t w = on_ok_weaker r (λ e. (w.room.0, e)) w.ok
@@ -29,11 +29,15 @@ printed d start out empty added = ap print (added.1 ∙ ap (λ (ts : List Token)
 
 -- ---- objects and lists
 
-members_closed : (ps : List Part) → members_tokens (members_outline (written ps)) ≡ parts_tokens ps ++ end_object ∷ []
-members_closed [] = refl
-members_closed (part k None ∷ ps) = members_closed ps
-members_closed (part k (Some d) ∷ ps) =
-    ap (λ (ts : List Token). key k ∷ (data_tokens d ++ ts)) (members_closed ps) ∙ sym (append_assoc (key k ∷ data_tokens d) (parts_tokens ps) (end_object ∷ []))
+members_closed : (ms : Members) → members_tokens (members_outline ms) ≡ tokens_of ms ++ end_object ∷ []
+members_closed no_members = refl
+members_closed (member k d ms) =
+    ap (λ (ts : List Token). key k ∷ (data_tokens d ++ ts)) (members_closed ms) ∙ sym (append_assoc (key k ∷ data_tokens d) (tokens_of ms) (end_object ∷ []))
+
+parts_written : (ps : List Part) → tokens_of (written ps) ≡ parts_tokens ps
+parts_written [] = refl
+parts_written (part k None ∷ ps) = parts_written ps
+parts_written (part k (Some d) ∷ ps) = ap (λ (ts : List Token). key k ∷ (data_tokens d ++ ts)) (parts_written ps)
 
 items_closed : {T : Type 0} (f : T → Data) (xs : List T) → items_tokens (items_outline (items_of f xs)) ≡ each_tokens f xs ++ end_array ∷ []
 items_closed {T} f [] = refl
@@ -44,7 +48,7 @@ items_closed {T} f (x ∷ xs) =
 pub object_added : {E : Type 0} (r : Result (Unit {0}) E) (old begun filled new : Written) (ps : List Part)
     → Added old begun (begin_object ∷ []) → Added begun filled (parts_tokens ps) → Adds r filled new (end_object ∷ []) → Adds r old new (data_tokens (object_of ps))
 object_added {E} r old begun filled new ps a b c =
-    rw (members_closed ps) (adds_then r old filled new (begin_object ∷ parts_tokens ps) (end_object ∷ []) (and_then old begun filled (begin_object ∷ []) (parts_tokens ps) a b) c)
+    rw (members_closed (written ps), parts_written ps) (adds_then r old filled new (begin_object ∷ parts_tokens ps) (end_object ∷ []) (and_then old begun filled (begin_object ∷ []) (parts_tokens ps) a b) c)
 
 -- a list is its items between brackets
 pub list_added : {E : Type 0} {T : Type 0} (r : Result (Unit {0}) E) (old named begun filled new : Written) (k : List ℕ) (f : T → Data) (xs : List T)
@@ -54,7 +58,11 @@ list_added {E} {T} r old named begun filled new k f xs a b c d =
     let opened = and_then old named begun (key k ∷ []) (begin_array ∷ []) a b in
     rw (items_closed f xs) (adds_then r old filled new (key k ∷ begin_array ∷ each_tokens f xs) (end_array ∷ []) (and_then old begun filled (key k ∷ begin_array ∷ []) (each_tokens f xs) opened c) d)
 
+-- members that were written where an object begins, and then closed, are its text
+pub printed_members : (begun filled : Written) (ms : Members) → Begun begun → Added begun filled (tokens_of ms) → print (filled.tokens ++ end_object ∷ []) ≡ compact_text (object ms)
+printed_members begun filled ms b a =
+    ap (λ (ts : List Token). print (ts ++ end_object ∷ [])) (a.1 ∙ ap (λ (ts : List Token). ts ++ tokens_of ms) b.1)
+    ∙ ap (λ (ts : List Token). print (begin_object ∷ ts)) (sym (members_closed ms)) ∙ print-outline (object ms)
+
 pub printed_object : (begun filled : Written) (ps : List Part) → Begun begun → Added begun filled (parts_tokens ps) → print (filled.tokens ++ end_object ∷ []) ≡ compact_text (object_of ps)
-printed_object begun filled ps b a =
-    ap (λ (ts : List Token). print (ts ++ end_object ∷ [])) (a.1 ∙ ap (λ (ts : List Token). ts ++ parts_tokens ps) b.1)
-    ∙ ap (λ (ts : List Token). print (begin_object ∷ ts)) (sym (members_closed ps)) ∙ print-outline (object_of ps)
+printed_object begun filled ps b a = printed_members begun filled (written ps) b (a.0, a.1 ∙ ap (λ (ts : List Token). begun.tokens ++ ts) (sym (parts_written ps)))

@@ -3,7 +3,6 @@ use Rattle.std.specs.Prelude.{ℕ, List}
 use Rattle.serde_json.specs.Data.{Data, string, number, object, unsigned, Members, member, no_members}
 use Rattle.serde_json.specs.Written.{compact_text}
 use Rattle.acd_terms.specs.Forms.{digits_of}
-use Rattle.acd_terms.specs.States.{pending_name}
 use Rattle.acd_terms.specs.declared.command.Request.{Request}
 use Rattle.acd_terms.specs.declared.command.Requested.{Requested}
 use Rattle.acd_terms.specs.declared.command.Requested.TheVariants as requested
@@ -11,6 +10,7 @@ use Rattle.acd_terms.specs.declared.command.Command.{Command}
 use Rattle.acd_terms.specs.declared.command.Command.TheVariants.{AddGroup, AddStation, AddAgent, ArriveCall, MakeCall, PhoneOffHook, AnswerCall, HoldCall, RetrieveCall, ClearConnection, DeflectCall, SingleStepTransfer, SetAgentState, MonitorStart, MonitorStop, Tick}
 use Rattle.acd_codec.specs.declared.member.Member.{Member}
 use Rattle.acd_codec.specs.declared.member.Member.TheVariants as m
+use Rattle.acd_codec.specs.declared.service.RequestedState.{RequestedState}
 use Rattle.acd_codec.specs.declared.service.RequestedState.TheVariants as requested_state
 use Rattle.acd_codec.specs.declared.service.Service.{Service}
 use Rattle.acd_codec.specs.declared.service.Service.TheVariants as service
@@ -33,13 +33,16 @@ digits m n more = text m (digits_of n) more
 abbrev pub sent : List ℕ → ℕ → Service → Members → Members
 sent requester invoke s more = whole m.Invoke invoke (text m.Requester requester (text m.Service (service_name s) more))
 
+-- the key, with a name between
+abbrev pub named : List ℕ → ℕ → List ℕ → Members → Members
+named requester invoke name more = whole m.Invoke invoke (text m.Name name (text m.Requester requester more))
+
 abbrev pub add_group : List ℕ → ℕ → ℕ → List ℕ → ℕ → ℕ → Members
 add_group requester invoke device name ring wrap =
-    digits m.Device device (whole m.Invoke invoke (text m.Name name (text m.Requester requester (whole m.Ring ring (text m.Service (service_name service.AddGroup) (whole m.Wrap wrap no_members))))))
+    digits m.Device device (named requester invoke name (whole m.Ring ring (text m.Service (service_name service.AddGroup) (whole m.Wrap wrap no_members))))
 
 abbrev pub add_agent : List ℕ → ℕ → ℕ → List ℕ → Members
-add_agent requester invoke agent name =
-    digits m.Agent agent (whole m.Invoke invoke (text m.Name name (text m.Requester requester (text m.Service (service_name service.AddAgent) no_members))))
+add_agent requester invoke agent name = digits m.Agent agent (named requester invoke name (text m.Service (service_name service.AddAgent) no_members))
 
 abbrev pub at_device : List ℕ → ℕ → Service → ℕ → Members
 at_device requester invoke s device = digits m.Device device (sent requester invoke s no_members)
@@ -60,12 +63,16 @@ abbrev pub monitor_stop : List ℕ → ℕ → ℕ → Members
 monitor_stop requester invoke monitor =
     whole m.Invoke invoke (whole m.Monitor monitor (text m.Requester requester (text m.Service (service_name service.MonitorStop) no_members)))
 
+-- the key, with what is asked for between, and the service
+abbrev pub asked : List ℕ → ℕ → RequestedState → Members
+asked requester invoke state =
+    whole m.Invoke invoke (text m.Requested (requested_state_name state) (text m.Requester requester (text m.Service (service_name service.SetAgentState) no_members)))
+
 -- only loggedOn has a device and a group
 abbrev pub set_agent_state : List ℕ → ℕ → ℕ → Requested → Members
 set_agent_state requester invoke agent (requested.LoggedOn device group) =
-    digits m.Agent agent (digits m.Device device (digits m.Group group (whole m.Invoke invoke (text m.Requested (requested_state_name requested_state.LoggedOn) (text m.Requester requester (text m.Service (service_name service.SetAgentState) no_members))))))
-set_agent_state requester invoke agent (requested.State state) =
-    digits m.Agent agent (whole m.Invoke invoke (text m.Requested (pending_name state) (text m.Requester requester (text m.Service (service_name service.SetAgentState) no_members))))
+    digits m.Agent agent (digits m.Device device (digits m.Group group (asked requester invoke requested_state.LoggedOn)))
+set_agent_state requester invoke agent (requested.State state) = digits m.Agent agent (asked requester invoke (requested_state.State state))
 
 abbrev pub request_members : List ℕ → ℕ → Command → Members
 request_members q i (AddGroup device name ring wrap) = add_group q i device name ring wrap

@@ -4,10 +4,10 @@ ghost use Rattle.std.specs.Prelude.{◌≡◌, codes, IfOk, string_bytes};
 ghost use Rattle.json.specs.Tree.{json_tokens};
 ghost use Rattle.serde_json.specs.Data.{object, member, no_members};
 ghost use Rattle.serde_json.specs.Written.{outline};
-ghost use Rattle.acd_codec.specs.ReplyTexts.{outcome_status, rejected_code, rejected_name, rejected_status, result_of, to_whom, error_of, error_data, reply_data, reply_text, rejected_text};
+ghost use Rattle.acd_codec.specs.ReplyTexts.{outcome_status, rejected_code, rejected_name, rejected_status, result_of, error_of, error_data, reply_data, reply_text, rejected_text};
 ghost use Rattle.acd_codec.specs.Tokens.{tokens_of, Adds};
 
-use crate::writing::{put_number, put_text, text_of};
+use crate::writing::{put_number, put_text, put_whom, text_of};
 use acd_terms::{Answer, Invoke, Outcome, Requester};
 use json::Writer;
 use std::alloc::{AllocError, Global};
@@ -63,14 +63,6 @@ pub fn outcome_status(outcome: Outcome) -> u16
 
 // Every reply fits, so it never grows.
 const ROOM: usize = 128;
-
-// Writes whose request is answered.
-fn put_whom(out: &mut Writer, requester: &Requester, invoke: Invoke) -> Result<(), AllocError>
-    ensures { Adds result out.old out.new (tokens_of (to_whom requester.now invoke no_members)) }
-{
-    put_number(out, "invoke", u64::from(invoke.number()))?;
-    put_text(out, "requester", requester.as_str())
-}
 
 // Writes what a service answers.
 fn put_answer(out: &mut Writer, answer: Answer) -> Result<(), AllocError>

@@ -1,231 +1,194 @@
 //! Requests as JSON.
 
-ghost use Rattle.std.specs.Prelude.{◌≡◌, IfOk, OnOk, string_bytes};
-ghost use Rattle.serde_json.specs.View.{view, members_view};
-ghost use Rattle.serde_json.specs.Data.{string, number, unsigned, object, no_members, put};
-ghost use Rattle.acd_terms.specs.Forms.{digits_of};
-ghost use Rattle.acd_codec.specs.Members.{member_name};
-ghost use Rattle.acd_codec.specs.Services.{requested_state_name};
-ghost use Rattle.acd_codec.specs.RequestTexts.{add_group, add_agent, arrive_call, make_call, at_device, at_connection, to_device, set_agent_state, monitor_stop, sent, request_data, request_text};
+ghost use Rattle.std.specs.Prelude.{◌≡◌, codes, IfOk, string_bytes};
+ghost use Rattle.serde_json.specs.Data.{string, member, no_members};
+ghost use Rattle.acd_codec.specs.Services.{service_name};
+ghost use Rattle.acd_codec.specs.RequestTexts.{named, asked, add_group, add_agent, arrive_call, make_call, at_device, at_connection, to_device, set_agent_state, monitor_stop, sent, request_members, request_text};
+ghost use Rattle.acd_codec.specs.Tokens.{tokens_of, Adds};
 
-use crate::member::Member;
 use crate::service::{RequestedState, Service};
+use crate::writing::{
+    begun, ended, put_agent, put_device, put_invoke, put_requester, put_seconds, put_serial,
+    put_text, put_whom,
+};
 use acd_terms::{AgentId, Command, DeviceId, Name, Request, Requested, Seconds, Serial};
-use serde_json::{Map, Value};
+use json::Writer;
 use std::alloc::{AllocError, Global};
 
-// The members of a request; they stand in the order of their names.
-type Members = Map<String, Value>;
+// Every request fits, so it never grows.
+const ROOM: usize = 256;
 
-// Adds a member that is a text.
-fn put_text(
-    alloc: Global,
-    members: &mut Members,
-    member: Member,
-    text: &str,
-) -> Result<(), AllocError>
-    ensures { OnOk result (members_view members.new.entries ≡ put (member_name member) (string text.now) (members_view members.old.entries)) }
+// Writes which service is asked for.
+fn put_service(out: &mut Writer, service: Service) -> Result<(), AllocError>
+    ensures { Adds result out.old out.new (tokens_of (member (codes "service") (string (service_name service)) no_members)) }
 {
-    let value = Value::try_from_str(alloc, text)?;
-    serde_json::put(members, alloc, member.name(), value)
+    put_text(out, "service", service.name())
 }
 
-// Adds a member that is a number.
-fn put_number(
-    alloc: Global,
-    members: &mut Members,
-    member: Member,
-    value: u64,
-) -> Result<(), AllocError>
-    ensures { OnOk result (members_view members.new.entries ≡ put (member_name member) (number (unsigned value)) (members_view members.old.entries)) }
-{
-    serde_json::put(members, alloc, member.name(), Value::from(value))
-}
-
-// What every request has.
-fn sent(alloc: Global, request: &Request, service: Service) -> Result<Members, AllocError>
+// Writes what every request has, where no other member stands between.
+fn put_sent(out: &mut Writer, request: &Request, service: Service) -> Result<(), AllocError>
     ensures { let r = request.now in
-        IfOk result (λ m. members_view m.entries ≡ sent r.requester r.invoke service no_members) }
+        Adds result out.old out.new (tokens_of (sent r.requester r.invoke service no_members)) }
 {
-    let mut members = Map::new(alloc);
-    let invoke = u64::from(request.invoke.number());
-    put_number(alloc, &mut members, Member::Invoke, invoke)?;
-    put_text(
-        alloc,
-        &mut members,
-        Member::Requester,
-        request.requester.as_str(),
-    )?;
-    put_text(alloc, &mut members, Member::Service, service.name())?;
-    Ok(members)
+    put_whom(out, &request.requester, request.invoke)?;
+    put_service(out, service)
 }
 
-fn add_group(
-    alloc: Global,
+// Writes whose request it is, and the name between.
+fn put_named(out: &mut Writer, request: &Request, name: &Name) -> Result<(), AllocError>
+    ensures { let r = request.now in
+        Adds result out.old out.new (tokens_of (named r.requester r.invoke name.now no_members)) }
+{
+    put_invoke(out, request.invoke)?;
+    put_text(out, "name", name.as_str())?;
+    put_requester(out, &request.requester)
+}
+
+fn put_add_group(
+    out: &mut Writer,
     request: &Request,
-    device: &DeviceId,
+    device: DeviceId,
     name: &Name,
-    ring: &Seconds,
-    wrap: &Seconds,
-) -> Result<Members, AllocError>
+    ring: Seconds,
+    wrap: Seconds,
+) -> Result<(), AllocError>
     ensures { let r = request.now in
-        IfOk result (λ m. members_view m.entries ≡ add_group r.requester r.invoke device.now name.now ring.now wrap.now) }
+        Adds result out.old out.new (tokens_of (add_group r.requester r.invoke device name.now ring wrap)) }
 {
-    let mut members = at_device(alloc, request, Service::AddGroup, device)?;
-    put_text(alloc, &mut members, Member::Name, name.as_str())?;
-    put_number(alloc, &mut members, Member::Ring, u64::from(ring.number()))?;
-    put_number(alloc, &mut members, Member::Wrap, u64::from(wrap.number()))?;
-    Ok(members)
+    put_device(out, "device", Some(device))?;
+    put_named(out, request, name)?;
+    put_seconds(out, "ring", ring)?;
+    put_service(out, Service::AddGroup)?;
+    put_seconds(out, "wrap", wrap)
 }
 
-fn add_agent(
-    alloc: Global,
+fn put_add_agent(
+    out: &mut Writer,
     request: &Request,
-    agent: &AgentId,
+    agent: AgentId,
     name: &Name,
-) -> Result<Members, AllocError>
+) -> Result<(), AllocError>
     ensures { let r = request.now in
-        IfOk result (λ m. members_view m.entries ≡ add_agent r.requester r.invoke agent.now name.now) }
+        Adds result out.old out.new (tokens_of (add_agent r.requester r.invoke agent name.now)) }
 {
-    let mut members = sent(alloc, request, Service::AddAgent)?;
-    put_text(alloc, &mut members, Member::Agent, agent.text().as_str())?;
-    put_text(alloc, &mut members, Member::Name, name.as_str())?;
-    Ok(members)
+    put_agent(out, "agent", Some(agent))?;
+    put_named(out, request, name)?;
+    put_service(out, Service::AddAgent)
 }
 
-fn at_device(
-    alloc: Global,
+fn put_at_device(
+    out: &mut Writer,
     request: &Request,
     service: Service,
-    device: &DeviceId,
-) -> Result<Members, AllocError>
+    device: DeviceId,
+) -> Result<(), AllocError>
     ensures { let r = request.now in
-        IfOk result (λ m. members_view m.entries ≡ at_device r.requester r.invoke service device.now) }
+        Adds result out.old out.new (tokens_of (at_device r.requester r.invoke service device)) }
 {
-    let mut members = sent(alloc, request, service)?;
-    put_text(alloc, &mut members, Member::Device, device.text().as_str())?;
-    Ok(members)
+    put_device(out, "device", Some(device))?;
+    put_sent(out, request, service)
 }
 
-fn at_connection(
-    alloc: Global,
+fn put_at_connection(
+    out: &mut Writer,
     request: &Request,
     service: Service,
-    call: &Serial,
-    device: &DeviceId,
-) -> Result<Members, AllocError>
+    call: Serial,
+    device: DeviceId,
+) -> Result<(), AllocError>
     ensures { let r = request.now in
-        IfOk result (λ m. members_view m.entries ≡ at_connection r.requester r.invoke service call.now device.now) }
+        Adds result out.old out.new (tokens_of (at_connection r.requester r.invoke service call device)) }
 {
-    let mut members = at_device(alloc, request, service, device)?;
-    put_number(alloc, &mut members, Member::Call, call.number())?;
-    Ok(members)
+    put_serial(out, "call", call)?;
+    put_at_device(out, request, service, device)
 }
 
-fn to_device(
-    alloc: Global,
+fn put_to_device(
+    out: &mut Writer,
     request: &Request,
     service: Service,
-    call: &Serial,
-    device: &DeviceId,
-    to: &DeviceId,
-) -> Result<Members, AllocError>
+    call: Serial,
+    device: DeviceId,
+    to: DeviceId,
+) -> Result<(), AllocError>
     ensures { let r = request.now in
-        IfOk result (λ m. members_view m.entries ≡ to_device r.requester r.invoke service call.now device.now to.now) }
+        Adds result out.old out.new (tokens_of (to_device r.requester r.invoke service call device to)) }
 {
-    let mut members = at_connection(alloc, request, service, call, device)?;
-    put_text(alloc, &mut members, Member::To, to.text().as_str())?;
-    Ok(members)
+    put_at_connection(out, request, service, call, device)?;
+    put_device(out, "to", Some(to))
 }
 
-fn arrive_call(
-    alloc: Global,
+fn put_arrive_call(
+    out: &mut Writer,
     request: &Request,
-    caller: &DeviceId,
-    called: &DeviceId,
-) -> Result<Members, AllocError>
+    caller: DeviceId,
+    called: DeviceId,
+) -> Result<(), AllocError>
     ensures { let r = request.now in
-        IfOk result (λ m. members_view m.entries ≡ arrive_call r.requester r.invoke caller.now called.now) }
+        Adds result out.old out.new (tokens_of (arrive_call r.requester r.invoke caller called)) }
 {
-    let mut members = sent(alloc, request, Service::ArriveCall)?;
-    put_text(alloc, &mut members, Member::Caller, caller.text().as_str())?;
-    put_text(alloc, &mut members, Member::Called, called.text().as_str())?;
-    Ok(members)
+    put_device(out, "called", Some(called))?;
+    put_device(out, "caller", Some(caller))?;
+    put_sent(out, request, Service::ArriveCall)
 }
 
-fn make_call(
-    alloc: Global,
+fn put_make_call(
+    out: &mut Writer,
     request: &Request,
-    device: &DeviceId,
-    called: &DeviceId,
-) -> Result<Members, AllocError>
+    device: DeviceId,
+    called: DeviceId,
+) -> Result<(), AllocError>
     ensures { let r = request.now in
-        IfOk result (λ m. members_view m.entries ≡ make_call r.requester r.invoke device.now called.now) }
+        Adds result out.old out.new (tokens_of (make_call r.requester r.invoke device called)) }
 {
-    let mut members = at_device(alloc, request, Service::MakeCall, device)?;
-    put_text(alloc, &mut members, Member::Called, called.text().as_str())?;
-    Ok(members)
+    put_device(out, "called", Some(called))?;
+    put_at_device(out, request, Service::MakeCall, device)
 }
 
-// What an agent is asked for, without the place of a logged-on one.
-fn asking(
-    alloc: Global,
-    request: &Request,
-    agent: &AgentId,
-    state: RequestedState,
-) -> Result<Members, AllocError>
+// Writes whose request it is, what the agent is asked for between, and the service.
+fn put_asked(out: &mut Writer, request: &Request, state: RequestedState) -> Result<(), AllocError>
     ensures { let r = request.now in
-        IfOk result (λ m. members_view m.entries ≡ put (member_name Member.Requested) (string (requested_state_name state)) (put (member_name Member.Agent) (string (digits_of agent.now)) (sent r.requester r.invoke Service.SetAgentState no_members))) }
+        Adds result out.old out.new (tokens_of (asked r.requester r.invoke state)) }
 {
-    let mut members = sent(alloc, request, Service::SetAgentState)?;
-    put_text(alloc, &mut members, Member::Agent, agent.text().as_str())?;
-    put_text(alloc, &mut members, Member::Requested, state.name())?;
-    Ok(members)
+    put_invoke(out, request.invoke)?;
+    put_text(out, "requested", state.name())?;
+    put_requester(out, &request.requester)?;
+    put_service(out, Service::SetAgentState)
 }
 
-fn log_on(
-    alloc: Global,
+fn put_set_agent_state(
+    out: &mut Writer,
     request: &Request,
-    agent: &AgentId,
-    device: &DeviceId,
-    group: &DeviceId,
-) -> Result<Members, AllocError>
+    agent: AgentId,
+    requested: Requested,
+) -> Result<(), AllocError>
     ensures { let r = request.now in
-        IfOk result (λ m. members_view m.entries ≡ set_agent_state r.requester r.invoke agent.now (Requested.LoggedOn device.now group.now)) }
+        Adds result out.old out.new (tokens_of (set_agent_state r.requester r.invoke agent requested)) }
 {
-    let mut members = asking(alloc, request, agent, RequestedState::LoggedOn)?;
-    put_text(alloc, &mut members, Member::Device, device.text().as_str())?;
-    put_text(alloc, &mut members, Member::Group, group.text().as_str())?;
-    Ok(members)
-}
-
-fn set_agent_state(
-    alloc: Global,
-    request: &Request,
-    agent: &AgentId,
-    requested: &Requested,
-) -> Result<Members, AllocError>
-    ensures { let r = request.now in
-        IfOk result (λ m. members_view m.entries ≡ set_agent_state r.requester r.invoke agent.now requested.now) }
-{
+    put_agent(out, "agent", Some(agent))?;
     match requested {
-        Requested::LoggedOn { device, group } => log_on(alloc, request, agent, device, group),
-        Requested::State(state) => asking(alloc, request, agent, RequestedState::State(*state)),
+        Requested::LoggedOn { device, group } => {
+            put_device(out, "device", Some(device))?;
+            put_device(out, "group", Some(group))?;
+            put_asked(out, request, RequestedState::LoggedOn)
+        }
+        Requested::State(state) => put_asked(out, request, RequestedState::State(state)),
     }
 }
 
-fn monitor_stop(alloc: Global, request: &Request, monitor: &Serial) -> Result<Members, AllocError>
+fn put_monitor_stop(out: &mut Writer, request: &Request, monitor: Serial) -> Result<(), AllocError>
     ensures { let r = request.now in
-        IfOk result (λ m. members_view m.entries ≡ monitor_stop r.requester r.invoke monitor.now) }
+        Adds result out.old out.new (tokens_of (monitor_stop r.requester r.invoke monitor)) }
 {
-    let mut members = sent(alloc, request, Service::MonitorStop)?;
-    put_number(alloc, &mut members, Member::Monitor, monitor.number())?;
-    Ok(members)
+    put_invoke(out, request.invoke)?;
+    put_serial(out, "monitor", monitor)?;
+    put_requester(out, &request.requester)?;
+    put_service(out, Service::MonitorStop)
 }
 
-#[tactic(auto, unfolding(crate::specs::RequestTexts::request_data))]
-fn members_of(alloc: Global, request: &Request) -> Result<Members, AllocError>
-    ensures { IfOk result (λ m. object (members_view m.entries) ≡ request_data request.now) }
+fn put_request(out: &mut Writer, request: &Request) -> Result<(), AllocError>
+    ensures { let r = request.now in
+        Adds result out.old out.new (tokens_of (request_members r.requester r.invoke r.command)) }
 {
     let service = Service::of(&request.command);
     match &request.command {
@@ -234,44 +197,37 @@ fn members_of(alloc: Global, request: &Request) -> Result<Members, AllocError>
             name,
             ring,
             wrap,
-        } => add_group(alloc, request, device, name, ring, wrap),
-        Command::AddAgent { agent, name } => add_agent(alloc, request, agent, name),
+        } => put_add_group(out, request, *device, name, *ring, *wrap),
+        Command::AddAgent { agent, name } => put_add_agent(out, request, *agent, name),
         Command::AddStation { device } | Command::MonitorStart { device } => {
-            at_device(alloc, request, service, device)
+            put_at_device(out, request, service, *device)
         }
-        Command::ArriveCall { caller, called } => arrive_call(alloc, request, caller, called),
-        Command::MakeCall { device, called } => make_call(alloc, request, device, called),
+        Command::ArriveCall { caller, called } => put_arrive_call(out, request, *caller, *called),
+        Command::MakeCall { device, called } => put_make_call(out, request, *device, *called),
         Command::PhoneOffHook { call, device }
         | Command::AnswerCall { call, device }
         | Command::HoldCall { call, device }
         | Command::RetrieveCall { call, device }
         | Command::ClearConnection { call, device } => {
-            at_connection(alloc, request, service, call, device)
+            put_at_connection(out, request, service, *call, *device)
         }
         Command::DeflectCall { call, device, to }
         | Command::SingleStepTransfer { call, device, to } => {
-            to_device(alloc, request, service, call, device, to)
+            put_to_device(out, request, service, *call, *device, *to)
         }
         Command::SetAgentState { agent, requested } => {
-            set_agent_state(alloc, request, agent, requested)
+            put_set_agent_state(out, request, *agent, *requested)
         }
-        Command::MonitorStop { monitor } => monitor_stop(alloc, request, monitor),
-        Command::Tick => sent(alloc, request, service),
+        Command::MonitorStop { monitor } => put_monitor_stop(out, request, *monitor),
+        Command::Tick => put_sent(out, request, service),
     }
 }
 
-fn value_of(alloc: Global, request: &Request) -> Result<Value, AllocError>
-    ensures { IfOk result (λ v. view v ≡ request_data request.now) }
-{
-    let members = members_of(alloc, request)?;
-    Ok(Value::Object(members))
-}
-
 /// The one text of a request: compact JSON, its members in the order of their names.
-#[tactic(auto, unfolding(crate::specs::RequestTexts::request_text))]
 pub fn request_text(alloc: Global, request: &Request) -> Result<String, AllocError>
     ensures { IfOk result (λ s. string_bytes s ≡ request_text request.now) }
 {
-    let value = value_of(alloc, request)?;
-    value.to_string(alloc)
+    let mut out = begun(alloc, ROOM)?;
+    put_request(&mut out, request)?;
+    ended(out)
 }

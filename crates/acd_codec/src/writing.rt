@@ -1,14 +1,15 @@
 //! Values that are written token by token.
 
-ghost use Rattle.std.specs.Prelude.{◌≡◌, [], ◌∷◌, ◌++◌, IfOk, option_map, string_bytes};
+ghost use Rattle.std.specs.Prelude.{◌≡◌, [], ◌∷◌, ◌++◌, codes, IfOk, option_map, string_bytes};
 ghost use Rattle.json.specs.Print.{print};
 ghost use Rattle.json.specs.Token.{end_object};
 ghost use Rattle.serde_json.specs.Data.{Data, string, number, unsigned, member, no_members};
 ghost use Rattle.acd_terms.specs.Forms.{digits_of};
 ghost use Rattle.acd_codec.specs.Parts.{text_part, number_part, list_part, items_of};
+ghost use Rattle.acd_codec.specs.ReplyTexts.{to_whom};
 ghost use Rattle.acd_codec.specs.Tokens.{Begun, data_tokens, tokens_of, part_tokens, each_tokens, Adds};
 
-use acd_terms::{AgentId, DeviceId, Seconds};
+use acd_terms::{AgentId, DeviceId, Invoke, Requester, Seconds, Serial};
 use json::Writer;
 use std::alloc::{AllocError, Global};
 
@@ -39,11 +40,44 @@ pub(crate) fn put_number(out: &mut Writer, name: &str, value: u64) -> Result<(),
     out.u64(value)
 }
 
+/// Writes the number of a request among those of its requester.
+pub(crate) fn put_invoke(out: &mut Writer, invoke: Invoke) -> Result<(), AllocError>
+    ensures { Adds result out.old out.new (tokens_of (member (codes "invoke") (number (unsigned invoke)) no_members)) }
+{
+    put_number(out, "invoke", u64::from(invoke.number()))
+}
+
+/// Writes who sends a request.
+pub(crate) fn put_requester(out: &mut Writer, requester: &Requester) -> Result<(), AllocError>
+    ensures { Adds result out.old out.new (tokens_of (member (codes "requester") (string requester.now) no_members)) }
+{
+    put_text(out, "requester", requester.as_str())
+}
+
+/// Writes whose request it is, where no other member stands between.
+pub(crate) fn put_whom(
+    out: &mut Writer,
+    requester: &Requester,
+    invoke: Invoke,
+) -> Result<(), AllocError>
+    ensures { Adds result out.old out.new (tokens_of (to_whom requester.now invoke no_members)) }
+{
+    put_invoke(out, invoke)?;
+    put_requester(out, requester)
+}
+
 /// Writes a time of a group.
 pub(crate) fn put_seconds(out: &mut Writer, name: &str, value: Seconds) -> Result<(), AllocError>
     ensures { Adds result out.old out.new (tokens_of (member name.now (number (unsigned value)) no_members)) }
 {
     put_number(out, name, u64::from(value.number()))
+}
+
+/// Writes a call or a monitor as a request names it.
+pub(crate) fn put_serial(out: &mut Writer, name: &str, value: Serial) -> Result<(), AllocError>
+    ensures { Adds result out.old out.new (tokens_of (member name.now (number (unsigned value)) no_members)) }
+{
+    put_number(out, name, value.number())
 }
 
 /// Writes a text, where there is one.

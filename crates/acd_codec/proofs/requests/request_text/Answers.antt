@@ -1,8 +1,12 @@
-use Rattle.std.proofs.Common.{string_bytes}
+use Rattle.std.proofs.Common.{◌∙◌}
 use Rattle.std.proofs.lemmas.Result.{IfOk-weaker}
-use Rattle.serde_json.specs.View.{view}
-use Rattle.acd_codec.proofs.Floatless.{text_of}
+use Rattle.acd_codec.specs.RequestTexts.{request_members, request_data, request_text}
+use Rattle.acd_codec.proofs.Adding.{printed_members}
 use Rattle.acd_codec.proofs.requests.request_text.Goals as goal
 
 pub returns : goal.returns
-returns c = IfOk-weaker c.to_string.result _ _ (λ s h. text_of c.args.request.now (view c.in_ok-value.value) (string_bytes s) c.in_ok-value.ensures h) c.to_string.ensures.text
+unfolding request_data request_text
+returns c =
+    let r = c.args.request.now in
+    let printed = printed_members c.in_ok-out.out c.put_request.new.out (request_members r.requester r.invoke r.command) c.in_ok-out.ensures c.in_ok-put_request.ensures in
+    IfOk-weaker c.ended.result _ _ (λ s h. h ∙ printed) c.ended.ensures

@@ -1,0 +1,11 @@
+use Rattle.std.proofs.Common.{sym}
+use Rattle.acd_codec.proofs.Adding.{adds_then}
+use Rattle.acd_codec.proofs.requests.put_asked.Goals as goal
+
+pub returns : goal.returns
+returns c =
+    let r = c.put_service.result in
+    let end = c.put_service.new.out in
+    let requester = adds_then r c.put_text.new.out c.put_requester.new.out end _ _ c.in_ok-put_requester.ensures c.put_service.ensures in
+    let asked = adds_then r c.put_invoke.new.out c.put_text.new.out end _ _ c.in_ok-put_text.ensures requester in
+    rw (sym c.name.ensures) (adds_then r c.args.out.now c.put_invoke.new.out end _ _ c.in_ok-put_invoke.ensures asked)

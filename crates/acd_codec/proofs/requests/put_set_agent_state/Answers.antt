@@ -1,0 +1,14 @@
+use Rattle.acd_codec.proofs.Adding.{adds_then}
+use Rattle.acd_codec.proofs.requests.put_set_agent_state.Goals as goal
+
+pub returns-in_ok-put_device-in-LoggedOn-2 : goal.returns-in_ok-put_device-in-LoggedOn-2
+returns-in_ok-put_device-in-LoggedOn-2 c =
+    let r = c.put_asked.result in
+    let end = c.put_asked.new.out in
+    let group = adds_then r c.put_device.new.out c.put_device-in-LoggedOn.new.out end _ _ c.in_ok-put_device-in-LoggedOn-2.ensures c.put_asked.ensures in
+    let device = adds_then r c.put_agent.new.out c.put_device.new.out end _ _ c.in_ok-put_device-in-LoggedOn.ensures group in
+    rw c.in-LoggedOn.is (adds_then r c.args.out.now c.put_agent.new.out end _ _ c.in_ok-put_agent.ensures device)
+
+pub returns-in-State : goal.returns-in-State
+returns-in-State c =
+    rw c.in-State.is (adds_then c.put_asked-in-State.result c.args.out.now c.put_agent.new.out c.put_asked-in-State.new.out _ _ c.in_ok-put_agent.ensures c.put_asked-in-State.ensures)
