@@ -5,20 +5,20 @@ ghost use Rattle.acd_terms.specs.Lists.{count};
 ghost use Rattle.acd_model.specs.Watched.{is_caller};
 ghost use Rattle.acd_model.specs.Rules.Calls.{keeps_call, is_bare, is_placed, has_columns, is_group_or_none, may_stand, keeps_connection, is_open, parties_of, initiated_of, initiated_at, open_of, is_being_made, has_two_parties, keeps_parties, live_at, alerting_at, hold_at, keeps_live};
 
-use acd_model::scans::{call_of, is_group, is_planned, is_station};
-use acd_terms::{CallRecord, ConnectionRecord, ConnectionState, DeviceId, Rows};
+use crate::lookups::Lookups;
+use acd_terms::{CallRecord, ConnectionRecord, ConnectionState, DeviceId};
 
 /// A call's called device is planned and not its caller, who is a station or not planned; its
 /// identifier is not above the last.
 #[tactic(auto, unfolding(acd_model::specs::Rules::Calls::keeps_call))]
-pub fn keeps_call(rows: &Rows) -> bool
-    ensures { result ≡ keeps_call rows.now }
+pub fn keeps_call(lookups: &Lookups) -> bool
+    ensures { result ≡ keeps_call lookups.now.rows.now }
 {
-    rows.calls.iter().all(|c| {
-        is_planned(rows, c.called)
+    lookups.rows.calls.iter().all(|c| {
+        lookups.is_planned(c.called)
             && c.called != c.caller
-            && !is_group(rows, c.caller)
-            && c.call <= rows.last_call
+            && !lookups.is_group(c.caller)
+            && c.call <= lookups.rows.last_call
     })
 }
 
@@ -57,23 +57,27 @@ fn has_columns(connection: &ConnectionRecord) -> bool
     }
 }
 
-fn is_group_or_none(rows: &Rows, group: Option<DeviceId>) -> bool
-    ensures { result ≡ is_group_or_none rows.now group }
+fn is_group_or_none(lookups: &Lookups, group: Option<DeviceId>) -> bool
+    ensures { result ≡ is_group_or_none lookups.now.rows.now group }
 {
-    group.is_none_or(|g| is_group(rows, g))
+    match group {
+        None => true,
+        Some(g) => lookups.is_group(g),
+    }
 }
 
 // The device may have a connection in the state. That of an external caller was never distributed.
-fn may_stand(rows: &Rows, connection: &ConnectionRecord) -> bool
-    ensures { result ≡ may_stand rows.now connection.now.state connection.now }
+fn may_stand(lookups: &Lookups, connection: &ConnectionRecord) -> bool
+    ensures { result ≡ may_stand lookups.now.rows.now connection.now.state connection.now }
 {
     let device = connection.device;
     match connection.state {
-        ConnectionState::Queued => is_group(rows, device),
+        ConnectionState::Queued => lookups.is_group(device),
         ConnectionState::Connected => {
-            is_station(rows, device) || (!is_planned(rows, device) && connection.group.is_none())
+            lookups.is_station(device)
+                || (!lookups.is_planned(device) && connection.group.is_none())
         }
-        _ => is_station(rows, device),
+        _ => lookups.is_station(device),
     }
 }
 
@@ -86,16 +90,16 @@ fn is_caller(call: Option<CallRecord>, device: DeviceId) -> bool
 /// A connection is of a live call, at its caller or at a planned device, with its columns, in a
 /// state that may stand there.
 #[tactic(auto, unfolding(acd_model::specs::Rules::Calls::keeps_connection))]
-pub fn keeps_connection(rows: &Rows) -> bool
-    ensures { result ≡ keeps_connection rows.now }
+pub fn keeps_connection(lookups: &Lookups) -> bool
+    ensures { result ≡ keeps_connection lookups.now.rows.now }
 {
-    rows.connections.iter().all(|x| {
-        let call = call_of(rows, x.call);
+    lookups.rows.connections.iter().all(|x| {
+        let call = lookups.call(x.call);
         call.is_some()
-            && (is_caller(call, x.device) || is_planned(rows, x.device))
+            && (is_caller(call, x.device) || lookups.is_planned(x.device))
             && has_columns(x)
-            && is_group_or_none(rows, x.group)
-            && may_stand(rows, x)
+            && is_group_or_none(lookups, x.group)
+            && may_stand(lookups, x)
     })
 }
 
@@ -106,107 +110,149 @@ fn is_open(state: ConnectionState) -> bool
     state.is_alerting() || state.is_queued() || state.is_fail()
 }
 
-fn parties_of(rows: &Rows, call: u64) -> usize
-    ensures { result ≡ length (filter (parties_of call) rows.now.connections) }
+fn parties_among(connections: &[ConnectionRecord], call: u64) -> usize
+    ensures { result ≡ length (filter (parties_of call) connections.now) }
 {
-    rows.connections.iter().filter(|x| x.call == call).count()
+    connections.iter().filter(|x| x.call == call).count()
 }
 
-fn initiated_of(rows: &Rows, call: u64) -> usize
-    ensures { result ≡ length (filter (initiated_of call) rows.now.connections) }
+fn parties_of(lookups: &Lookups, call: u64) -> usize
+    ensures { result ≡ count (parties_of call) lookups.now.rows.now.connections }
 {
-    rows.connections
+    parties_among(lookups.of_call(call), call)
+}
+
+fn initiated_among(connections: &[ConnectionRecord], call: u64) -> usize
+    ensures { result ≡ length (filter (initiated_of call) connections.now) }
+{
+    connections
         .iter()
         .filter(|x| x.state.is_initiated() && x.call == call)
         .count()
 }
 
-fn initiated_at(rows: &Rows, call: u64, device: DeviceId) -> usize
-    ensures { result ≡ length (filter (initiated_at call device) rows.now.connections) }
+fn initiated_of(lookups: &Lookups, call: u64) -> usize
+    ensures { result ≡ count (initiated_of call) lookups.now.rows.now.connections }
 {
-    rows.connections
+    initiated_among(lookups.of_call(call), call)
+}
+
+fn initiated_at_among(connections: &[ConnectionRecord], call: u64, device: DeviceId) -> usize
+    ensures { result ≡ length (filter (initiated_at call device) connections.now) }
+{
+    connections
         .iter()
         .filter(|x| x.state.is_initiated() && x.call == call && x.device == device)
         .count()
 }
 
-fn open_of(rows: &Rows, call: u64) -> usize
-    ensures { result ≡ length (filter (open_of call) rows.now.connections) }
+fn initiated_at(lookups: &Lookups, call: u64, device: DeviceId) -> usize
+    ensures { result ≡ count (initiated_at call device) lookups.now.rows.now.connections }
 {
-    rows.connections
+    initiated_at_among(lookups.of_call(call), call, device)
+}
+
+fn open_among(connections: &[ConnectionRecord], call: u64) -> usize
+    ensures { result ≡ length (filter (open_of call) connections.now) }
+{
+    connections
         .iter()
         .filter(|x| is_open(x.state) && x.call == call)
         .count()
 }
 
-// One connection, initiated at the caller.
-#[tactic(auto, using(crate::proofs::RuleLists::count_is_length))]
-fn is_being_made(rows: &Rows, call: &CallRecord) -> bool
-    ensures { result ≡ is_being_made rows.now call.now }
+fn open_of(lookups: &Lookups, call: u64) -> usize
+    ensures { result ≡ count (open_of call) lookups.now.rows.now.connections }
 {
-    parties_of(rows, call.call) == 1 && initiated_at(rows, call.call, call.caller) == 1
+    open_among(lookups.of_call(call), call)
+}
+
+// One connection, initiated at the caller.
+fn is_being_made(lookups: &Lookups, call: &CallRecord) -> bool
+    ensures { result ≡ is_being_made lookups.now.rows.now call.now }
+{
+    parties_of(lookups, call.call) == 1 && initiated_at(lookups, call.call, call.caller) == 1
 }
 
 // Two connections, none initiated, and one at most alerting, queued or fail.
-#[tactic(auto, using(crate::proofs::RuleLists::count_is_length))]
-fn has_two_parties(rows: &Rows, call: &CallRecord) -> bool
-    ensures { result ≡ has_two_parties rows.now call.now }
+fn has_two_parties(lookups: &Lookups, call: &CallRecord) -> bool
+    ensures { result ≡ has_two_parties lookups.now.rows.now call.now }
 {
-    parties_of(rows, call.call) == 2
-        && initiated_of(rows, call.call) == 0
-        && open_of(rows, call.call) <= 1
+    parties_of(lookups, call.call) == 2
+        && initiated_of(lookups, call.call) == 0
+        && open_of(lookups, call.call) <= 1
 }
 
 /// A call has one connection, initiated at its caller, or two, none initiated and at most one
 /// alerting, queued or fail.
 #[tactic(auto, unfolding(acd_model::specs::Rules::Calls::keeps_parties))]
-pub fn keeps_parties(rows: &Rows) -> bool
-    ensures { result ≡ keeps_parties rows.now }
+pub fn keeps_parties(lookups: &Lookups) -> bool
+    ensures { result ≡ keeps_parties lookups.now.rows.now }
 {
-    rows.calls
-        .iter()
-        .all(|c| is_being_made(rows, c) || has_two_parties(rows, c))
+    lookups.rows.calls.iter().all(|c| is_being_made(lookups, c) || has_two_parties(lookups, c))
 }
 
-fn live_at(rows: &Rows, device: DeviceId) -> usize
-    ensures { result ≡ length (filter (live_at device) rows.now.connections) }
+fn live_among(connections: &[ConnectionRecord], device: DeviceId) -> usize
+    ensures { result ≡ length (filter (live_at device) connections.now) }
 {
-    rows.connections
+    connections
         .iter()
         .filter(|x| x.state.is_live() && x.device == device)
         .count()
 }
 
-fn alerting_at(rows: &Rows, device: DeviceId) -> usize
-    ensures { result ≡ length (filter (alerting_at device) rows.now.connections) }
+fn live_at(lookups: &Lookups, device: DeviceId) -> usize
+    ensures { result ≡ count (live_at device) lookups.now.rows.now.connections }
 {
-    rows.connections
+    live_among(lookups.at_device(device), device)
+}
+
+fn alerting_among(connections: &[ConnectionRecord], device: DeviceId) -> usize
+    ensures { result ≡ length (filter (alerting_at device) connections.now) }
+{
+    connections
         .iter()
         .filter(|x| x.state.is_alerting() && x.device == device)
         .count()
 }
 
-fn hold_at(rows: &Rows, device: DeviceId) -> usize
-    ensures { result ≡ length (filter (hold_at device) rows.now.connections) }
+fn alerting_at(lookups: &Lookups, device: DeviceId) -> usize
+    ensures { result ≡ count (alerting_at device) lookups.now.rows.now.connections }
 {
-    rows.connections
+    alerting_among(lookups.at_device(device), device)
+}
+
+fn held_among(connections: &[ConnectionRecord], device: DeviceId) -> usize
+    ensures { result ≡ length (filter (hold_at device) connections.now) }
+{
+    connections
         .iter()
         .filter(|x| x.state.is_hold() && x.device == device)
         .count()
 }
 
-// At most one live connection at the station, and none on hold beside an alerting one.
-#[tactic(auto, using(crate::proofs::RuleLists::count_is_length))]
-fn has_one_live(rows: &Rows, station: DeviceId) -> bool
-    ensures { result ≡ (nat_le (count (live_at station) rows.now.connections) 1 && (count (alerting_at station) rows.now.connections == 0 || count (hold_at station) rows.now.connections == 0)) }
+fn hold_at(lookups: &Lookups, device: DeviceId) -> usize
+    ensures { result ≡ count (hold_at device) lookups.now.rows.now.connections }
 {
-    live_at(rows, station) <= 1 && (alerting_at(rows, station) == 0 || hold_at(rows, station) == 0)
+    held_among(lookups.at_device(device), device)
+}
+
+// At most one live connection at the station, and none on hold beside an alerting one.
+fn has_one_live(lookups: &Lookups, station: DeviceId) -> bool
+    ensures { result ≡ (nat_le (count (live_at station) lookups.now.rows.now.connections) 1 && (count (alerting_at station) lookups.now.rows.now.connections == 0 || count (hold_at station) lookups.now.rows.now.connections == 0)) }
+{
+    live_at(lookups, station) <= 1
+        && (alerting_at(lookups, station) == 0 || hold_at(lookups, station) == 0)
 }
 
 /// A station has at most one live connection, and none on hold beside an alerting one.
 #[tactic(auto, unfolding(acd_model::specs::Rules::Calls::keeps_live))]
-pub fn keeps_live(rows: &Rows) -> bool
-    ensures { result ≡ keeps_live rows.now }
+pub fn keeps_live(lookups: &Lookups) -> bool
+    ensures { result ≡ keeps_live lookups.now.rows.now }
 {
-    rows.stations.iter().all(|t| has_one_live(rows, t.device))
+    lookups
+        .rows
+        .stations
+        .iter()
+        .all(|t| has_one_live(lookups, t.device))
 }

@@ -2,12 +2,14 @@
 
 ghost use Rattle.std.specs.Prelude.{◌≡◌, ◌&&◌, nat_le, length, filter};
 ghost use Rattle.std.specs.List.{list_all};
+ghost use Rattle.acd_terms.specs.Lists.{count};
 ghost use Rattle.acd_terms.specs.declared.record.AgentRecord.{AgentRecord};
 ghost use Rattle.acd_terms.specs.declared.record.CallRecord.{CallRecord};
 ghost use Rattle.acd_terms.specs.declared.record.ConnectionRecord.{ConnectionRecord};
 ghost use Rattle.acd_model.specs.Scans.{has};
 ghost use Rattle.acd_model.specs.Rules.Counters.{is_stamp, is_moment_or_none, is_own_place, is_offered_after, is_timed, is_countable, keeps_counters};
 
+use crate::lookups::Lookups;
 use acd_terms::{ConnectionRecord, GroupRecord, Rows};
 
 fn is_stamp(rows: &Rows, stamp: u64) -> bool
@@ -22,23 +24,28 @@ fn is_moment_or_none(rows: &Rows, moment: Option<u32>) -> bool
     moment.is_none_or(|m| m <= rows.last_moment)
 }
 
-fn connections_with(rows: &Rows, place: u64) -> usize
-    ensures { result ≡ length (filter (λ (x : ConnectionRecord). has x.place place) rows.now.connections) }
+fn placed_among(connections: &[ConnectionRecord], place: u64) -> usize
+    ensures { result ≡ length (filter (λ (x : ConnectionRecord). has x.place place) connections.now) }
 {
-    rows.connections
+    connections
         .iter()
         .filter(|x| x.place == Some(place))
         .count()
 }
 
+fn connections_with(lookups: &Lookups, place: u64) -> usize
+    ensures { result ≡ count (λ (x : ConnectionRecord). has x.place place) lookups.now.rows.now.connections }
+{
+    placed_among(lookups.with_place(place), place)
+}
+
 // The place is a stamp, and no other connection has it.
-#[tactic(auto, using(crate::proofs::RuleLists::count_is_length))]
-fn is_own_place(rows: &Rows, place: Option<u64>) -> bool
-    ensures { result ≡ is_own_place rows.now place }
+fn is_own_place(lookups: &Lookups, place: Option<u64>) -> bool
+    ensures { result ≡ is_own_place lookups.now.rows.now place }
 {
     match place {
         None => true,
-        Some(p) => is_stamp(rows, p) && connections_with(rows, p) <= 1,
+        Some(p) => is_stamp(lookups.rows, p) && connections_with(lookups, p) <= 1,
     }
 }
 
@@ -51,12 +58,12 @@ fn is_offered_after(queued: Option<u32>, offered: Option<u32>) -> bool
     }
 }
 
-fn is_timed(rows: &Rows, connection: &ConnectionRecord) -> bool
-    ensures { result ≡ is_timed rows.now connection.now }
+fn is_timed(lookups: &Lookups, connection: &ConnectionRecord) -> bool
+    ensures { result ≡ is_timed lookups.now.rows.now connection.now }
 {
-    is_own_place(rows, connection.place)
-        && is_moment_or_none(rows, connection.queued)
-        && is_moment_or_none(rows, connection.offered)
+    is_own_place(lookups, connection.place)
+        && is_moment_or_none(lookups.rows, connection.queued)
+        && is_moment_or_none(lookups.rows, connection.offered)
         && is_offered_after(connection.queued, connection.offered)
 }
 
@@ -86,10 +93,14 @@ fn are_calls_timed(rows: &Rows) -> bool
     rows.calls.iter().all(|c| c.since <= rows.last_moment)
 }
 
-fn are_connections_timed(rows: &Rows) -> bool
-    ensures { result ≡ list_all (is_timed rows.now) rows.now.connections }
+fn are_connections_timed(lookups: &Lookups) -> bool
+    ensures { result ≡ list_all (is_timed lookups.now.rows.now) lookups.now.rows.now.connections }
 {
-    rows.connections.iter().all(|x| is_timed(rows, x))
+    lookups
+        .rows
+        .connections
+        .iter()
+        .all(|x| is_timed(lookups, x))
 }
 
 fn are_groups_countable(rows: &Rows) -> bool
@@ -101,12 +112,13 @@ fn are_groups_countable(rows: &Rows) -> bool
 /// Stamps and places are from 1 to the last stamp, moments up to the last, figures and events
 /// within bounds.
 #[tactic(auto, unfolding(acd_model::specs::Rules::Counters::keeps_counters))]
-pub fn keeps_counters(rows: &Rows) -> bool
-    ensures { result ≡ keeps_counters rows.now }
+pub fn keeps_counters(lookups: &Lookups) -> bool
+    ensures { result ≡ keeps_counters lookups.now.rows.now }
 {
+    let rows = lookups.rows;
     are_agents_timed(rows)
         && are_calls_timed(rows)
-        && are_connections_timed(rows)
+        && are_connections_timed(lookups)
         && are_groups_countable(rows)
         && u128::from(rows.last_event) <= 100000 * u128::from(rows.last_stamp)
 }

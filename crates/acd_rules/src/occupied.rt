@@ -1,21 +1,30 @@
 //! The rules occupied, offer and balance.
 
-ghost use Rattle.std.specs.Prelude.{◌≡◌, ◌<◌, ◌+◌, ◌^◌, ◌||◌, length, filter};
-ghost use Rattle.std.specs.List.{list_all};
-ghost use Rattle.acd_model.specs.Scans.{waiting_in, eligible_in};
+ghost use Rattle.std.specs.Prelude.{◌≡◌, ◌<◌, ◌+◌, ◌^◌, ◌&&◌, ◌||◌, ◌==◌, length, filter};
+ghost use Rattle.acd_terms.specs.Lists.{count};
+ghost use Rattle.acd_terms.specs.States.{is_occupying, is_distributed, is_answered};
+ghost use Rattle.acd_terms.specs.declared.record.ConnectionRecord.{ConnectionRecord};
+ghost use Rattle.std.specs.List.{list_all, list_any};
+ghost use Rattle.acd_model.specs.Scans.{waiting_in, eligible_in, is_idle, is_occupied, is_eligible, has};
 ghost use Rattle.acd_model.specs.OneOffer.{is_distributed_at};
 ghost use Rattle.acd_model.specs.Rules.Occupied.{attends, is_attended, is_talking, is_busy_only_talking, keeps_occupied, is_empty, keeps_offer, waits_in, rings_from, is_balanced, keeps_balance};
 
-use acd_model::scans::{agent_at, has_eligible, has_waiting, is_occupied};
-use acd_terms::{AgentRecord, ConnectionRecord, DeviceId, Figures, GroupRecord, Rows};
+use crate::lookups::Lookups;
+use acd_terms::{AgentRecord, ConnectionRecord, DeviceId, Figures, GroupRecord};
 
-fn distributed_at(rows: &Rows, device: DeviceId) -> usize
-    ensures { result ≡ length (filter (is_distributed_at device) rows.now.connections) }
+fn distributed_among(connections: &[ConnectionRecord], device: DeviceId) -> usize
+    ensures { result ≡ length (filter (is_distributed_at device) connections.now) }
 {
-    rows.connections
+    connections
         .iter()
         .filter(|x| x.is_distributed() && x.device == device)
         .count()
+}
+
+fn distributed_at(lookups: &Lookups, device: DeviceId) -> usize
+    ensures { result ≡ count (is_distributed_at device) lookups.now.rows.now.connections }
+{
+    distributed_among(lookups.at_device(device), device)
 }
 
 // An agent is there, ready where the connection alerts and busy where it is answered.
@@ -32,85 +41,196 @@ fn attends(connection: &ConnectionRecord, agent: Option<AgentRecord>) -> bool
 }
 
 // A distributed connection is the one at its station, and its agent is there.
-#[tactic(auto, using(crate::proofs::RuleLists::count_is_length))]
-fn is_attended(rows: &Rows, connection: &ConnectionRecord) -> bool
-    ensures { result ≡ is_attended rows.now connection.now }
+fn is_attended(lookups: &Lookups, connection: &ConnectionRecord) -> bool
+    ensures { result ≡ is_attended lookups.now.rows.now connection.now }
 {
     !connection.is_distributed()
-        || (distributed_at(rows, connection.device) <= 1
-            && attends(connection, agent_at(rows, connection.device)))
+        || (distributed_at(lookups, connection.device) <= 1
+            && attends(connection, lookups.agent_at(connection.device)))
+}
+
+fn is_talking_among(connections: &[ConnectionRecord], agent: &AgentRecord) -> bool
+    ensures { result ≡ list_any (λ (x : ConnectionRecord). has agent.now.station x.device && is_distributed x && is_answered x.state) connections.now }
+{
+    connections.iter().any(|x| agent.station == Some(x.device)
+        && x.is_distributed()
+        && x.state.is_answered())
 }
 
 // An answered distributed connection is at the agent's station.
-fn is_talking(rows: &Rows, agent: &AgentRecord) -> bool
-    ensures { result ≡ is_talking rows.now agent.now }
+fn is_talking(lookups: &Lookups, agent: &AgentRecord) -> bool
+    ensures { result ≡ is_talking lookups.now.rows.now agent.now }
 {
-    rows.connections.iter().any(|x| {
-        agent.station == Some(x.device) && x.is_distributed() && x.state.is_answered()
-    })
+    let Some(station) = agent.station else {
+        return false;
+    };
+    is_talking_among(lookups.at_device(station), agent)
+}
+
+fn is_occupied_among(connections: &[ConnectionRecord], agent: &AgentRecord) -> bool
+    ensures { result ≡ list_any (λ (x : ConnectionRecord). has agent.now.station x.device && is_distributed x) connections.now }
+{
+    connections
+        .iter()
+        .any(|x| agent.station == Some(x.device) && x.is_distributed())
+}
+
+// A distributed connection is at the agent's station.
+#[tactic(auto, unfolding(acd_model::specs::Scans::is_occupied))]
+fn is_occupied(lookups: &Lookups, agent: &AgentRecord) -> bool
+    ensures { result ≡ is_occupied lookups.now.rows.now agent.now }
+{
+    let Some(station) = agent.station else {
+        return false;
+    };
+    is_occupied_among(lookups.at_device(station), agent)
 }
 
 // A busy agent talks, and a state is pending only for an occupied one.
-fn is_busy_only_talking(rows: &Rows, agent: &AgentRecord) -> bool
-    ensures { result ≡ is_busy_only_talking rows.now agent.now }
+fn is_busy_only_talking(lookups: &Lookups, agent: &AgentRecord) -> bool
+    ensures { result ≡ is_busy_only_talking lookups.now.rows.now agent.now }
 {
-    (!agent.state.is_busy() || is_talking(rows, agent))
-        && (agent.pending.is_none() || is_occupied(rows, agent))
+    (!agent.state.is_busy() || is_talking(lookups, agent))
+        && (agent.pending.is_none() || is_occupied(lookups, agent))
 }
 
-fn are_all_attended(rows: &Rows) -> bool
-    ensures { result ≡ list_all (is_attended rows.now) rows.now.connections }
+fn are_all_attended(lookups: &Lookups) -> bool
+    ensures { result ≡ list_all (is_attended lookups.now.rows.now) lookups.now.rows.now.connections }
 {
-    rows.connections.iter().all(|x| is_attended(rows, x))
+    lookups
+        .rows
+        .connections
+        .iter()
+        .all(|x| is_attended(lookups, x))
 }
 
-fn are_busy_only_talking(rows: &Rows) -> bool
-    ensures { result ≡ list_all (is_busy_only_talking rows.now) rows.now.agents }
+fn are_busy_only_talking(lookups: &Lookups) -> bool
+    ensures { result ≡ list_all (is_busy_only_talking lookups.now.rows.now) lookups.now.rows.now.agents }
 {
-    rows.agents.iter().all(|a| is_busy_only_talking(rows, a))
+    lookups
+        .rows
+        .agents
+        .iter()
+        .all(|a| is_busy_only_talking(lookups, a))
 }
 
 /// A station has at most one distributed connection, and with it an agent, ready or busy; no other
 /// agent is busy or has a pending state.
 #[tactic(auto, unfolding(acd_model::specs::Rules::Occupied::keeps_occupied))]
-pub fn keeps_occupied(rows: &Rows) -> bool
-    ensures { result ≡ keeps_occupied rows.now }
+pub fn keeps_occupied(lookups: &Lookups) -> bool
+    ensures { result ≡ keeps_occupied lookups.now.rows.now }
 {
-    are_all_attended(rows) && are_busy_only_talking(rows)
+    are_all_attended(lookups) && are_busy_only_talking(lookups)
+}
+
+fn has_occupying_among(connections: &[ConnectionRecord], station: DeviceId) -> bool
+    ensures { result ≡ list_any (λ (x : ConnectionRecord). x.device == station && is_occupying x.state) connections.now }
+{
+    connections
+        .iter()
+        .any(|x| x.device == station && x.state.is_occupying())
+}
+
+fn has_occupying(lookups: &Lookups, station: DeviceId) -> bool
+    ensures { result ≡ list_any (λ (x : ConnectionRecord). x.device == station && is_occupying x.state) lookups.now.rows.now.connections }
+{
+    has_occupying_among(lookups.at_device(station), station)
+}
+
+// No connection at the station is live or on hold.
+#[tactic(auto, unfolding(acd_model::specs::Scans::is_idle))]
+fn is_idle(lookups: &Lookups, station: DeviceId) -> bool
+    ensures { result ≡ is_idle lookups.now.rows.now station }
+{
+    !has_occupying(lookups, station)
+}
+
+// The agent is of the group, ready and unoccupied, at an idle station.
+#[tactic(auto, unfolding(acd_model::specs::Scans::is_eligible))]
+fn is_eligible(lookups: &Lookups, group: DeviceId, agent: &AgentRecord) -> bool
+    ensures { result ≡ is_eligible lookups.now.rows.now group agent.now }
+{
+    let Some(station) = agent.station else {
+        return false;
+    };
+    agent.group == Some(group)
+        && agent.state.is_ready()
+        && !is_occupied(lookups, agent)
+        && is_idle(lookups, station)
+}
+
+fn has_eligible(lookups: &Lookups, group: DeviceId) -> bool
+    ensures { result ≡ list_any (is_eligible lookups.now.rows.now group) lookups.now.rows.now.agents }
+{
+    lookups
+        .rows
+        .agents
+        .iter()
+        .any(|a| is_eligible(lookups, group, a))
+}
+
+fn has_waiting_among(connections: &[ConnectionRecord], group: DeviceId) -> bool
+    ensures { result ≡ list_any (waits_in group) connections.now }
+{
+    connections
+        .iter()
+        .any(|x| x.device == group && x.state.is_queued())
+}
+
+fn has_waiting(lookups: &Lookups, group: DeviceId) -> bool
+    ensures { result ≡ list_any (waits_in group) lookups.now.rows.now.connections }
+{
+    has_waiting_among(lookups.at_device(group), group)
 }
 
 // No call waits in the group, or no agent of it is eligible.
 #[tactic(auto, using(crate::proofs::RuleLists::none_left), unfolding(acd_model::specs::Scans::waiting_in, acd_model::specs::Scans::eligible_in))]
-fn has_no_offer(rows: &Rows, group: DeviceId) -> bool
-    ensures { result ≡ (is_empty (waiting_in rows.now group) || is_empty (eligible_in rows.now group)) }
+fn has_no_offer(lookups: &Lookups, group: DeviceId) -> bool
+    ensures { result ≡ (is_empty (waiting_in lookups.now.rows.now group) || is_empty (eligible_in lookups.now.rows.now group)) }
 {
-    !has_waiting(rows, group) || !has_eligible(rows, group)
+    !has_waiting(lookups, group) || !has_eligible(lookups, group)
 }
 
 /// No group has both a waiting call and an eligible agent.
 #[tactic(auto, unfolding(acd_model::specs::Rules::Occupied::keeps_offer))]
-pub fn keeps_offer(rows: &Rows) -> bool
-    ensures { result ≡ keeps_offer rows.now }
+pub fn keeps_offer(lookups: &Lookups) -> bool
+    ensures { result ≡ keeps_offer lookups.now.rows.now }
 {
-    rows.groups.iter().all(|g| has_no_offer(rows, g.device))
+    lookups
+        .rows
+        .groups
+        .iter()
+        .all(|g| has_no_offer(lookups, g.device))
 }
 
-fn waiting_count(rows: &Rows, group: DeviceId) -> usize
-    ensures { result ≡ length (filter (waits_in group) rows.now.connections) }
+fn waiting_among(connections: &[ConnectionRecord], group: DeviceId) -> usize
+    ensures { result ≡ length (filter (waits_in group) connections.now) }
 {
-    rows.connections
+    connections
         .iter()
         .filter(|x| x.device == group && x.state.is_queued())
         .count()
 }
 
-fn ringing_count(rows: &Rows, group: DeviceId) -> usize
-    ensures { result ≡ length (filter (rings_from group) rows.now.connections) }
+fn waiting_count(lookups: &Lookups, group: DeviceId) -> usize
+    ensures { result ≡ count (waits_in group) lookups.now.rows.now.connections }
 {
-    rows.connections
+    waiting_among(lookups.at_device(group), group)
+}
+
+fn ringing_among(connections: &[ConnectionRecord], group: DeviceId) -> usize
+    ensures { result ≡ length (filter (rings_from group) connections.now) }
+{
+    connections
         .iter()
         .filter(|x| x.group == Some(group) && x.state.is_alerting())
         .count()
+}
+
+fn ringing_count(lookups: &Lookups, group: DeviceId) -> usize
+    ensures { result ≡ count (rings_from group) lookups.now.rows.now.connections }
+{
+    ringing_among(lookups.of_group(group), group)
 }
 
 // How many neither wait nor ring any more.
@@ -122,19 +242,18 @@ fn count_of_gone(figures: Figures) -> u128
 }
 
 // What entered waits, rings, was answered, was abandoned or was moved.
-#[tactic(auto, using(crate::proofs::RuleLists::count_is_length))]
-fn is_balanced(rows: &Rows, group: &GroupRecord) -> bool
-    ensures { result ≡ is_balanced rows.now group.now }
+fn is_balanced(lookups: &Lookups, group: &GroupRecord) -> bool
+    ensures { result ≡ is_balanced lookups.now.rows.now group.now }
 {
-    let waiting = waiting_count(rows, group.device) as u128;
-    let ringing = ringing_count(rows, group.device) as u128;
+    let waiting = waiting_count(lookups, group.device) as u128;
+    let ringing = ringing_count(lookups, group.device) as u128;
     u128::from(group.figures.entered) == waiting + ringing + count_of_gone(group.figures)
 }
 
 /// For each group, the calls that entered wait, ring, were answered, abandoned or moved.
 #[tactic(auto, unfolding(acd_model::specs::Rules::Occupied::keeps_balance))]
-pub fn keeps_balance(rows: &Rows) -> bool
-    ensures { result ≡ keeps_balance rows.now }
+pub fn keeps_balance(lookups: &Lookups) -> bool
+    ensures { result ≡ keeps_balance lookups.now.rows.now }
 {
-    rows.groups.iter().all(|g| is_balanced(rows, g))
+    lookups.rows.groups.iter().all(|g| is_balanced(lookups, g))
 }

@@ -1,11 +1,12 @@
 //! The rules limits, order, device, agent and monitor.
 
 ghost use Rattle.std.specs.Prelude.{◌≡◌, length, filter};
+ghost use Rattle.acd_terms.specs.Lists.{count};
 ghost use Rattle.acd_terms.specs.declared.record.AgentRecord.{AgentRecord};
 ghost use Rattle.acd_model.specs.Scans.{has};
 ghost use Rattle.acd_model.specs.Rules.Plan.{keeps_limits, keeps_order, keeps_device, keeps_agent, keeps_monitor, is_station_there, is_group_there, is_alone_at, is_seated};
 
-use acd_model::scans::{is_group, is_planned, is_station};
+use crate::lookups::Lookups;
 use acd_terms::{AgentRecord, DeviceId, Rows, ascends};
 
 /// No limit is above the greatest and no list above its limit; no last number is above its bound.
@@ -40,75 +41,87 @@ pub fn keeps_order(rows: &Rows) -> bool
 
 /// No device is both group and station.
 #[tactic(auto, unfolding(acd_model::specs::Rules::Plan::keeps_device))]
-pub fn keeps_device(rows: &Rows) -> bool
-    ensures { result ≡ keeps_device rows.now }
+pub fn keeps_device(lookups: &Lookups) -> bool
+    ensures { result ≡ keeps_device lookups.now.rows.now }
 {
-    rows.groups.iter().all(|g| !is_station(rows, g.device))
+    lookups
+        .rows
+        .groups
+        .iter()
+        .all(|g| !lookups.is_station(g.device))
 }
 
 // The station, which has to be there, is planned.
-fn is_station_there(rows: &Rows, station: Option<DeviceId>) -> bool
-    ensures { result ≡ is_station_there rows.now station }
+fn is_station_there(lookups: &Lookups, station: Option<DeviceId>) -> bool
+    ensures { result ≡ is_station_there lookups.now.rows.now station }
 {
-    station.is_some_and(|d| is_station(rows, d))
+    match station {
+        None => false,
+        Some(d) => lookups.is_station(d),
+    }
 }
 
 // The group, which has to be there, is planned.
-fn is_group_there(rows: &Rows, group: Option<DeviceId>) -> bool
-    ensures { result ≡ is_group_there rows.now group }
+fn is_group_there(lookups: &Lookups, group: Option<DeviceId>) -> bool
+    ensures { result ≡ is_group_there lookups.now.rows.now group }
 {
-    group.is_some_and(|d| is_group(rows, d))
+    match group {
+        None => false,
+        Some(d) => lookups.is_group(d),
+    }
+}
+
+fn logged_on_among(agents: &[AgentRecord], station: DeviceId) -> usize
+    ensures { result ≡ length (filter (λ (b : AgentRecord). has b.station station) agents.now) }
+{
+    agents.iter().filter(|b| b.station == Some(station)).count()
 }
 
 // How many agents are logged on at the station.
-fn agents_at(rows: &Rows, station: DeviceId) -> usize
-    ensures { result ≡ length (filter (λ (b : AgentRecord). has b.station station) rows.now.agents) }
+fn agents_at(lookups: &Lookups, station: DeviceId) -> usize
+    ensures { result ≡ count (λ (b : AgentRecord). has b.station station) lookups.now.rows.now.agents }
 {
-    rows.agents
-        .iter()
-        .filter(|b| b.station == Some(station))
-        .count()
+    logged_on_among(lookups.agents_at(station), station)
 }
 
 // No other agent is logged on there.
-#[tactic(auto, using(crate::proofs::RuleLists::count_is_length))]
-fn is_alone_at(rows: &Rows, station: Option<DeviceId>) -> bool
-    ensures { result ≡ is_alone_at rows.now station }
+fn is_alone_at(lookups: &Lookups, station: Option<DeviceId>) -> bool
+    ensures { result ≡ is_alone_at lookups.now.rows.now station }
 {
     match station {
         None => true,
-        Some(d) => agents_at(rows, d) <= 1,
+        Some(d) => agents_at(lookups, d) <= 1,
     }
 }
 
 // An agent in null has no station, group or pending state, any other a planned station and group.
-fn is_seated(rows: &Rows, agent: &AgentRecord) -> bool
-    ensures { result ≡ is_seated rows.now agent.now }
+fn is_seated(lookups: &Lookups, agent: &AgentRecord) -> bool
+    ensures { result ≡ is_seated lookups.now.rows.now agent.now }
 {
     let at_its_place = if agent.state.is_null() {
         agent.station.is_none() && agent.group.is_none() && agent.pending.is_none()
     } else {
-        is_station_there(rows, agent.station) && is_group_there(rows, agent.group)
+        is_station_there(lookups, agent.station) && is_group_there(lookups, agent.group)
     };
-    at_its_place && is_alone_at(rows, agent.station)
+    at_its_place && is_alone_at(lookups, agent.station)
 }
 
 /// Each agent is where its state says, and no two are at one station.
 #[tactic(auto, unfolding(acd_model::specs::Rules::Plan::keeps_agent))]
-pub fn keeps_agent(rows: &Rows) -> bool
-    ensures { result ≡ keeps_agent rows.now }
+pub fn keeps_agent(lookups: &Lookups) -> bool
+    ensures { result ≡ keeps_agent lookups.now.rows.now }
 {
-    rows.agents.iter().all(|a| is_seated(rows, a))
+    lookups.rows.agents.iter().all(|a| is_seated(lookups, a))
 }
 
 /// A monitor's device is planned, and its identifier and event are not above the last.
 #[tactic(auto, unfolding(acd_model::specs::Rules::Plan::keeps_monitor))]
-pub fn keeps_monitor(rows: &Rows) -> bool
-    ensures { result ≡ keeps_monitor rows.now }
+pub fn keeps_monitor(lookups: &Lookups) -> bool
+    ensures { result ≡ keeps_monitor lookups.now.rows.now }
 {
-    rows.monitors.iter().all(|m| {
-        is_planned(rows, m.device)
-            && m.monitor <= rows.last_monitor
-            && m.after_event <= rows.last_event
+    lookups.rows.monitors.iter().all(|m| {
+        lookups.is_planned(m.device)
+            && m.monitor <= lookups.rows.last_monitor
+            && m.after_event <= lookups.rows.last_event
     })
 }

@@ -74,7 +74,7 @@ impl Switch {
         ensures sound { OnOk result (BreaksNoRule rows.now) }
         ensures err { IfErr result (IsFaultOf rows.now) }
     {
-        if let Some(rule) = first_broken(rows) {
+        if let Some(rule) = first_broken(alloc, rows) {
             return Err(RowFault::Broken(rule));
         }
         let tables = Tables::from_rows(alloc, rows)?;

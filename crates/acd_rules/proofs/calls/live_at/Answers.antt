@@ -1,0 +1,9 @@
+use Rattle.std.proofs.Common.{◌==◌}
+use Rattle.acd_terms.specs.declared.record.ConnectionRecord.{ConnectionRecord}
+use Rattle.acd_model.specs.Rules.Calls.{live_at}
+use Rattle.acd_rules.proofs.RuleLists.{tallied, and_right}
+use Rattle.acd_rules.proofs.calls.live_at.Goals as goal
+
+pub returns : goal.returns
+returns c =
+    tallied (live_at c.args.device) (λ (x : ConnectionRecord). x.device == c.args.device) (λ x is. and_right _ _ is) _ _ _ c.live_among.ensures c.at_device.ensures

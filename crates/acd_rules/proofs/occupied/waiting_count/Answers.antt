@@ -1,0 +1,9 @@
+use Rattle.std.proofs.Common.{◌==◌}
+use Rattle.acd_terms.specs.declared.record.ConnectionRecord.{ConnectionRecord}
+use Rattle.acd_model.specs.Rules.Occupied.{waits_in}
+use Rattle.acd_rules.proofs.RuleLists.{tallied, and_left}
+use Rattle.acd_rules.proofs.occupied.waiting_count.Goals as goal
+
+pub returns : goal.returns
+returns c =
+    tallied (waits_in c.args.group) (λ (x : ConnectionRecord). x.device == c.args.group) (λ x is. and_left _ _ is) _ _ _ c.waiting_among.ensures c.at_device.ensures

@@ -1,0 +1,44 @@
+-- Records by a number of theirs.
+use Rattle.std.specs.Prelude.{◌≡◌, ℕ, ◌==◌, List, Option, Some, None, filter}
+use Rattle.acd_terms.specs.declared.record.GroupRecord.{GroupRecord}
+use Rattle.acd_terms.specs.declared.record.StationRecord.{StationRecord}
+use Rattle.acd_terms.specs.declared.record.CallRecord.{CallRecord}
+use Rattle.acd_terms.specs.declared.record.AgentRecord.{AgentRecord}
+use Rattle.acd_terms.specs.declared.record.ConnectionRecord.{ConnectionRecord}
+
+-- those of the list whose number it is, in their order
+abbrev pub those_with : {T : Type 0} → (T → ℕ) → ℕ → List T → List T
+those_with number n xs = filter (λ x. number x == n) xs
+
+-- at each number the two lists have the same records, in the same order
+abbrev pub AreGrouped : {T : Type 0} → (T → ℕ) → List T → List T → Type 0
+AreGrouped number sorted xs = (n : ℕ) → those_with number n sorted ≡ those_with number n xs
+
+-- the number that may be there, else 0
+abbrev pub number_or_none : Option ℕ → ℕ
+number_or_none None = 0
+number_or_none (Some n) = n
+
+abbrev pub group_number : GroupRecord → ℕ
+group_number g = g.device
+
+abbrev pub station_number : StationRecord → ℕ
+station_number t = t.device
+
+abbrev pub call_number : CallRecord → ℕ
+call_number c = c.call
+
+abbrev pub seat_number : AgentRecord → ℕ
+seat_number a = number_or_none a.station
+
+abbrev pub party_call : ConnectionRecord → ℕ
+party_call x = x.call
+
+abbrev pub party_device : ConnectionRecord → ℕ
+party_device x = x.device
+
+abbrev pub party_place : ConnectionRecord → ℕ
+party_place x = number_or_none x.place
+
+abbrev pub party_group : ConnectionRecord → ℕ
+party_group x = number_or_none x.group
