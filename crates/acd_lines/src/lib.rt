@@ -1,5 +1,11 @@
 //! Requests in lines, replies in lines: [`lines`] answers each line that it reads over a desk,
-//! [`lines_until_failed`] does so until the desk fails, and [`import`] takes the requests of a plan.
+//! [`lines_until_failed`] does so until the desk fails, and [`import`] takes the requests of a plan. A
+//! [`LinesFault`] says why not all were answered.
+//!
+//! ```ignore
+//! let mut desk = Desk::open(alloc, book)?;
+//! lines(alloc, &mut desk, &mut input, &mut output)?;
+//! ```
 #![tactic(auto)]
 
 mod answer;

@@ -6,9 +6,11 @@ ghost use Rattle.acd_lines.specs.Sent.{Begins};
 
 use crate::retry::retried;
 use std::io::Write;
+use thiserror::Error;
 
 /// The writer failed, or was called as often as it may be.
-#[derive(Clone, Copy, Debug)]
+#[derive(Clone, Copy, Debug, PartialEq, Eq, Error)]
+#[error("cannot write")]
 pub struct Stopped;
 
 /// Writes all of the bytes. Each call of the writer takes one off `calls`; a call that is interrupted is made
