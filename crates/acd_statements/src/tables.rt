@@ -4,7 +4,7 @@ ghost use Rattle.std.specs.Prelude.{◌≡◌, false, IsPermutation};
 ghost use Rattle.sqlite.specs.Effect.{Database};
 ghost use Rattle.sqlite.specs.Held.{state};
 ghost use Rattle.acd_statements.specs.Draft.{Fits};
-ghost use Rattle.acd_statements.specs.Lying.{table_of, table_of_log, lying, TellsLow, IsPageRows};
+ghost use Rattle.acd_statements.specs.Lying.{table_of, lying, TellsLow, IsPageRows};
 ghost use Rattle.acd_statements.specs.Schema.{book_schema};
 ghost use Rattle.acd_statements.specs.Seeing.{Sees};
 
@@ -49,20 +49,6 @@ pub enum Log {
 }
 
 impl Whole {
-    pub fn table(self) -> Table
-        ensures { result ≡ table_of self }
-    {
-        match self {
-            Whole::Meta => Table::Meta,
-            Whole::Groups => Table::Groups,
-            Whole::Stations => Table::Stations,
-            Whole::Agents => Table::Agents,
-            Whole::Calls => Table::Calls,
-            Whole::Connections => Table::Connections,
-            Whole::Monitors => Table::Monitors,
-        }
-    }
-
     /// All its rows.
     pub fn rows<S: Alter>(self, conn: &mut Connection<S>) -> Result<Vec<Row>, Error>
         requires { conn.old.in_transaction ≡ false }
@@ -82,15 +68,6 @@ impl Whole {
 }
 
 impl Log {
-    pub fn table(self) -> Table
-        ensures { result ≡ table_of_log self }
-    {
-        match self {
-            Log::Events => Table::Events,
-            Log::Kept => Table::Kept,
-        }
-    }
-
     /// A row whose number is below 1.
     pub fn low_rows<S: Alter>(self, conn: &mut Connection<S>) -> Result<Vec<Row>, Error>
         requires { conn.old.in_transaction ≡ false }
