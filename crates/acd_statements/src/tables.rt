@@ -8,10 +8,9 @@ ghost use Rattle.acd_statements.specs.Lying.{table_of, lying, TellsLow, IsPageRo
 ghost use Rattle.acd_statements.specs.Schema.{book_schema};
 ghost use Rattle.acd_statements.specs.Seeing.{Sees};
 
-use crate::look::{counter_rows, low_event_rows, low_kept_rows};
+use crate::look::{counter_rows, low_event_rows, low_kept_rows, lying_connection_rows};
 use crate::query::{
-    agent_rows, call_rows, connection_rows, event_rows, group_rows, kept_rows, monitor_rows,
-    station_rows,
+    agent_rows, call_rows, event_rows, group_rows, kept_rows, monitor_rows, station_rows,
 };
 use sqlite::{Alter, Connection, Error, Row};
 
@@ -49,7 +48,7 @@ pub enum Log {
 }
 
 impl Whole {
-    /// All its rows.
+    /// All its rows, in any order.
     pub fn rows<S: Alter>(self, conn: &mut Connection<S>) -> Result<Vec<Row>, Error>
         requires { conn.old.in_transaction ≡ false }
         ensures idle { conn.new.in_transaction ≡ false }
@@ -61,7 +60,7 @@ impl Whole {
             Whole::Stations => station_rows(conn),
             Whole::Agents => agent_rows(conn),
             Whole::Calls => call_rows(conn),
-            Whole::Connections => connection_rows(conn),
+            Whole::Connections => lying_connection_rows(conn),
             Whole::Monitors => monitor_rows(conn),
         }
     }
