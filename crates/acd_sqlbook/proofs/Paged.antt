@@ -1,5 +1,6 @@
 -- A log that is read page by page: what is left behind a page tells of all.
 use Rattle.std.proofs.Common.{◌≡◌, ℕ, ◌+◌, ◌<◌, ◌≤◌, suc, length, drop, get_or, zero, take, filter, nat_lt, List, [], ◌∷◌, map, cond, Option, Some, None, Bool, true, false, IsTrue, refl, sym, ap, subst, ◌∙◌, inl, inr, arith}
+use Rattle.std.specs.Prelude.{option_map}
 use Rattle.std.specs.List.{AllByRecursion}
 use Rattle.std.specs.Option.{is_some}
 use Rattle.std.specs.Ordering.{nat_cmp}
@@ -25,7 +26,7 @@ use Rattle.acd_statements.specs.Lying.{is_good, are_good, is_good_in, lying, val
 use Rattle.acd_sqlbook.specs.Adopting.{is_good_behind, number_if_good, last_good, TellsBehind, IsPageOf, IsPage}
 use Rattle.acd_statements.specs.Content.{tree_of}
 use Rattle.acd_statements.specs.Decoding.{option_in}
-use Rattle.acd_statements.specs.Ranges.{◌>>=◌, whole_at, event_in, kept_in}
+use Rattle.acd_statements.specs.Ranges.{◌>>=◌, whole_at, event_in, event_number, kept_in, kept_stamp}
 use Rattle.acd_statements.proofs.Heaps.{at_each}
 use Rattle.acd_statements.proofs.KeyedRows.{by_key}
 use Rattle.acd_statements.proofs.Looked.{bad_among, numbers_ascend}
@@ -119,10 +120,27 @@ stamp_there : (o : Option Kept) → is_some o ≡ true → (k : Kept) × (o ≡ 
 stamp_there None h = absurd (cc h)
 stamp_there (Some k) h = (k, refl)
 
+number_stored : (r : Row) (e : Event) → event_in r ≡ Some e → whole_at r 0 ≡ Some e.number
+number_stored r e is = ap (λ x. whole_at x 0) (event_stored r e is)
+
+stamp_stored : (r : Row) (k : Kept) → kept_in r ≡ Some k → whole_at r 0 ≡ Some k.stamp
+stamp_stored r k is = ap (λ x. whole_at x 0) (kept_stored r k is).0
+
 -- a good row tells its number
 good_number : (l : Log) (r : Row) → is_good (table_of_log l) r ≡ true → (n : ℕ) × (whole_at r 0 ≡ Some n)
-good_number log.Events r h = let e = number_there (event_in r) h in (e.0.number, ap (λ x. whole_at x 0) (event_stored r e.0 e.1))
-good_number log.Kept r h = let k = stamp_there (kept_in r) h in (k.0.stamp, ap (λ x. whole_at x 0) (kept_stored r k.0 k.1).0)
+good_number log.Events r h = let e = number_there (event_in r) h in (e.0.number, number_stored r e.0 e.1)
+good_number log.Kept r h = let k = stamp_there (kept_in r) h in (k.0.stamp, stamp_stored r k.0 k.1)
+
+-- the number of a record is that of its row
+own_number : {R : Type 0} (number : R → ℕ) (o : Option R) (n : Option ℕ) → ((x : R) → o ≡ Some x → n ≡ Some (number x)) → option_map number o ≡ cond (is_some o) n None
+own_number number None n stored = refl
+own_number number (Some x) n stored = sym (stored x refl)
+
+pub event_numbered : (r : Row) → event_number r ≡ number_if_good log.Events r
+event_numbered r = own_number (λ (e : Event). e.number) (event_in r) (whole_at r 0) (number_stored r)
+
+pub kept_numbered : (r : Row) → kept_stamp r ≡ number_if_good log.Kept r
+kept_numbered r = own_number (λ (k : Kept). k.stamp) (kept_in r) (whole_at r 0) (stamp_stored r)
 
 bad_row_in : (l : Log) (n : ℕ) (rows : List Row) → last_good l n rows ≡ None → (r : Row) × Has rows r × (is_good (table_of_log l) r ≡ false)
 unfolding last_good

@@ -15,7 +15,7 @@ use crate::book::{SqlBook, set_up};
 use crate::commit::{fits, too_large};
 use crate::fault::AdoptFault;
 use acd_statements::decode::{
-    agent_in, call_in, connection_in, counters_in, event_in, group_in, kept_in, monitor_in,
+    KeptReader, agent_in, call_in, connection_in, counters_in, event_number, group_in, monitor_in,
     station_in,
 };
 use acd_statements::look::{has_meta, version_rows};
@@ -48,72 +48,69 @@ pub(crate) enum Page {
     More(u64),
 }
 
-fn is_good(alloc: Global, table: Table, row: &Row) -> Result<bool, Error>
-    ensures { IfOk result (λ good. good ≡ is_good table row.now) }
+fn is_good(table: Whole, row: &Row) -> bool
+    ensures { result ≡ is_good (table_of table) row.now }
 {
     match table {
-        Table::Meta => Ok(counters_in(row).is_some()),
-        Table::Groups => Ok(group_in(row).is_some()),
-        Table::Stations => Ok(station_in(row).is_some()),
-        Table::Agents => Ok(agent_in(row).is_some()),
-        Table::Calls => Ok(call_in(row).is_some()),
-        Table::Connections => Ok(connection_in(row).is_some()),
-        Table::Monitors => Ok(monitor_in(row).is_some()),
-        Table::Events => Ok(event_in(row).is_some()),
-        Table::Kept => match kept_in(alloc, row) {
-            Ok(kept) => Ok(kept.is_some()),
-            Err(_) => Err(Error::SqliteFailure(ErrorCode::OutOfMemory)),
-        },
+        Whole::Meta => counters_in(row).is_some(),
+        Whole::Groups => group_in(row).is_some(),
+        Whole::Stations => station_in(row).is_some(),
+        Whole::Agents => agent_in(row).is_some(),
+        Whole::Calls => call_in(row).is_some(),
+        Whole::Connections => connection_in(row).is_some(),
+        Whole::Monitors => monitor_in(row).is_some(),
     }
 }
 
-fn are_good(alloc: Global, table: Table, rows: &[Row]) -> Result<bool, Error>
-    ensures { IfOk result (λ good. good ≡ are_good table rows.now) }
+fn are_good(table: Whole, rows: &[Row]) -> bool
+    ensures { result ≡ are_good (table_of table) rows.now }
 {
     for row in rows {
-        let good = is_good(alloc, table, row)?;
-        if !good {
-            return Ok(false);
+        if !is_good(table, row) {
+            return false;
         }
     }
-    Ok(true)
+    true
 }
 
 // Whether each value of a table that is read whole is in its range.
 #[tactic(auto, unfolding(crate::specs::Adopting::is_good_table))]
-fn is_good_whole<S: Alter>(
-    alloc: Global,
-    conn: &mut Connection<S>,
-    table: Whole,
-) -> Result<bool, Error>
+fn is_good_whole<S: Alter>(conn: &mut Connection<S>, table: Whole) -> Result<bool, Error>
     requires { conn.old.in_transaction ≡ false }
     ensures idle { conn.new.in_transaction ≡ false }
     ensures seen { (d : Database) → d.schema ≡ book_schema → Sees d (state S.Store conn.old) (state S.Store conn.new) result (λ good. TellsGood (table_of table) d.trees good) }
 {
     match table.rows(conn) {
-        Ok(rows) => are_good(alloc, table.table(), &rows),
+        Ok(rows) => Ok(are_good(table, &rows)),
         Err(error) => Err(error),
     }
 }
 
 // The number of a row where each of its values is in its range.
-fn number_if_good(alloc: Global, log: Log, row: &Row) -> Result<Option<u64>, Error>
+fn number_if_good(kept: &mut KeptReader, log: Log, row: &Row) -> Result<Option<u64>, Error>
     ensures { IfOk result (λ number. number ≡ number_if_good log row.now) }
 {
-    if is_good(alloc, log.table(), row)? {
-        Ok(values::whole(row, 0))
-    } else {
-        Ok(None)
+    match log {
+        Log::Events => Ok(event_number(row)),
+        Log::Kept => match kept.stamp(row) {
+            Ok(stamp) => Ok(stamp),
+            Err(_) => Err(Error::SqliteFailure(ErrorCode::OutOfMemory)),
+        },
     }
 }
 
 // The number of the last row where all are good.
-fn last_good(alloc: Global, log: Log, number: u64, rows: &[Row]) -> Result<Option<u64>, Error>
+fn last_good(
+    kept: &mut KeptReader,
+    log: Log,
+    number: u64,
+    rows: &[Row],
+) -> Result<Option<u64>, Error>
     ensures { IfOk result (λ last. last ≡ last_good log number rows.now) }
 {
     let mut last = number;
     for row in rows {
-        let next = number_if_good(alloc, log, row)?;
+        let next = number_if_good(kept, log, row)?;
         match next {
             Some(next) => last = next,
             None => return Ok(None),
@@ -123,14 +120,14 @@ fn last_good(alloc: Global, log: Log, number: u64, rows: &[Row]) -> Result<Optio
 }
 
 // What the rows above a number tell.
-fn page_of(alloc: Global, log: Log, number: u64, rows: &[Row]) -> Result<Page, Error>
+fn page_of(kept: &mut KeptReader, log: Log, number: u64, rows: &[Row]) -> Result<Page, Error>
     ensures tells { IfOk result (λ page. IsPageOf log number rows.now page) }
     ensures fits { IfOk result (λ page. PageFits page) }
 {
     if rows.is_empty() {
         return Ok(Page::Last);
     }
-    let last = last_good(alloc, log, number, rows)?;
+    let last = last_good(kept, log, number, rows)?;
     match last {
         Some(last) if fits(last) => Ok(Page::More(last)),
         Some(_) => Err(too_large()),
@@ -140,7 +137,7 @@ fn page_of(alloc: Global, log: Log, number: u64, rows: &[Row]) -> Result<Page, E
 
 // The page of a log above a number.
 fn page_behind<S: Alter>(
-    alloc: Global,
+    kept: &mut KeptReader,
     conn: &mut Connection<S>,
     log: Log,
     number: u64,
@@ -152,14 +149,14 @@ fn page_behind<S: Alter>(
     ensures fits { IfOk result (λ page. PageFits page) }
 {
     match log.rows(conn, number) {
-        Ok(rows) => page_of(alloc, log, number, &rows),
+        Ok(rows) => page_of(kept, log, number, &rows),
         Err(error) => Err(error),
     }
 }
 
 // Whether each value of a row from 1 on is in its range.
 fn are_pages_good<S: Alter>(
-    alloc: Global,
+    kept: &mut KeptReader,
     conn: &mut Connection<S>,
     log: Log,
 ) -> Result<bool, Error>
@@ -169,7 +166,7 @@ fn are_pages_good<S: Alter>(
 {
     let mut number = 0;
     for _ in 0..u64::MAX {
-        let page = page_behind(alloc, conn, log, number)?;
+        let page = page_behind(kept, conn, log, number)?;
         match page {
             Page::Bad => return Ok(false),
             Page::Last => return Ok(true),
@@ -180,14 +177,18 @@ fn are_pages_good<S: Alter>(
 }
 
 // Whether each value of the log is in its range.
-fn is_good_log<S: Alter>(alloc: Global, conn: &mut Connection<S>, log: Log) -> Result<bool, Error>
+fn is_good_log<S: Alter>(
+    kept: &mut KeptReader,
+    conn: &mut Connection<S>,
+    log: Log,
+) -> Result<bool, Error>
     requires { conn.old.in_transaction ≡ false }
     ensures idle { conn.new.in_transaction ≡ false }
     ensures seen { (d : Database) → d.schema ≡ book_schema → Sees d (state S.Store conn.old) (state S.Store conn.new) result (λ good. TellsGood (table_of_log log) d.trees good) }
 {
     let low = log.low_rows(conn)?;
     if low.is_empty() {
-        are_pages_good(alloc, conn, log)
+        are_pages_good(kept, conn, log)
     } else {
         Ok(false)
     }
@@ -195,7 +196,7 @@ fn is_good_log<S: Alter>(alloc: Global, conn: &mut Connection<S>, log: Log) -> R
 
 // Whether each value of the table is in its range.
 fn is_good_table<S: Alter>(
-    alloc: Global,
+    kept: &mut KeptReader,
     conn: &mut Connection<S>,
     table: Table,
 ) -> Result<bool, Error>
@@ -204,21 +205,21 @@ fn is_good_table<S: Alter>(
     ensures seen { (d : Database) → d.schema ≡ book_schema → Sees d (state S.Store conn.old) (state S.Store conn.new) result (λ good. TellsGood table d.trees good) }
 {
     match table {
-        Table::Meta => is_good_whole(alloc, conn, Whole::Meta),
-        Table::Groups => is_good_whole(alloc, conn, Whole::Groups),
-        Table::Stations => is_good_whole(alloc, conn, Whole::Stations),
-        Table::Agents => is_good_whole(alloc, conn, Whole::Agents),
-        Table::Calls => is_good_whole(alloc, conn, Whole::Calls),
-        Table::Connections => is_good_whole(alloc, conn, Whole::Connections),
-        Table::Monitors => is_good_whole(alloc, conn, Whole::Monitors),
-        Table::Events => is_good_log(alloc, conn, Log::Events),
-        Table::Kept => is_good_log(alloc, conn, Log::Kept),
+        Table::Meta => is_good_whole(conn, Whole::Meta),
+        Table::Groups => is_good_whole(conn, Whole::Groups),
+        Table::Stations => is_good_whole(conn, Whole::Stations),
+        Table::Agents => is_good_whole(conn, Whole::Agents),
+        Table::Calls => is_good_whole(conn, Whole::Calls),
+        Table::Connections => is_good_whole(conn, Whole::Connections),
+        Table::Monitors => is_good_whole(conn, Whole::Monitors),
+        Table::Events => is_good_log(kept, conn, Log::Events),
+        Table::Kept => is_good_log(kept, conn, Log::Kept),
     }
 }
 
 // The first of the tables that has a value out of its range.
 fn bad_table<S: Alter>(
-    alloc: Global,
+    kept: &mut KeptReader,
     conn: &mut Connection<S>,
     tables: &[Table],
 ) -> Result<Option<Table>, Error>
@@ -227,7 +228,7 @@ fn bad_table<S: Alter>(
     ensures seen { (d : Database) → d.schema ≡ book_schema → Sees d (state S.Store conn.old) (state S.Store conn.new) result (λ bad. IsBadOf tables.now d.trees bad) }
 {
     for table in tables {
-        let good = is_good_table(alloc, conn, *table)?;
+        let good = is_good_table(kept, conn, *table)?;
         if !good {
             return Ok(Some(*table));
         }
@@ -252,7 +253,8 @@ fn bad_row<S: Alter>(alloc: Global, conn: &mut Connection<S>) -> Result<Option<A
         Table::Events,
         Table::Kept,
     ];
-    let bad = bad_table(alloc, conn, &tables)?;
+    let mut kept = KeptReader::new(alloc);
+    let bad = bad_table(&mut kept, conn, &tables)?;
     match bad {
         Some(table) => Ok(Some(AdoptFault::BadRow(table))),
         None => Ok(None),

@@ -49,7 +49,7 @@ use Rattle.acd_statements.specs.Rows.{id_value}
 use Rattle.acd_statements.specs.Schema.{book_schema}
 use Rattle.acd_statements.specs.Schema as schema
 use Rattle.acd_statements.specs.Seeing.{Lies, Sees}
-use Rattle.acd_statements.proofs.Asked.{no_limit, by_number, above_parameter, above, groups_listing, stations_listing, agents_listing, calls_listing, monitors_listing, events_listing, kept_listing}
+use Rattle.acd_statements.proofs.Asked.{columns, no_limit, by_number, above_parameter, above, groups_listing, stations_listing, agents_listing, calls_listing, monitors_listing, events_listing, kept_listing}
 use Rattle.acd_statements.proofs.ConnectionRows.{connections_listing}
 use Rattle.acd_statements.proofs.KeyedRows.{id_cmp, by_key}
 use Rattle.acd_statements.proofs.Listings.{Listing, Lists, query_of, listed}
@@ -196,6 +196,14 @@ asks_calls = record { tree = refl; all = refl; unlimited = refl; shows = λ r. r
 pub asks_connections : AsksAll table.Connections text.read_connections connections_listing
 unfolding connections_listing
 asks_connections = record { tree = refl; all = refl; unlimited = refl; shows = λ r. refl }
+
+pub lying_connections : Listing text.read_lying_connections
+unfolding understood everything
+lying_connections = record { tree = schema.connections.tree; terms = []; project = columns 1 7; order = []; limit = no_limit; names = _; command = refl; plain = (refl, refl); unlisted = refl }
+
+pub asks_lying_connections : AsksAll table.Connections text.read_lying_connections lying_connections
+unfolding lying_connections
+asks_lying_connections = record { tree = refl; all = refl; unlimited = refl; shows = λ r. refl }
 
 pub asks_monitors : AsksAll table.Monitors text.read_monitors monitors_listing
 unfolding monitors_listing
@@ -401,6 +409,9 @@ unfolding kept_listing
 asks_kept n limit = record { tree = refl; lists = record { keyed = λ x. x.is; ranks = λ x y. refl; tests = number_tests n limit; shows = λ x. refl }; shows = λ r. refl; limited_by = refl }
 
 -- ---- plain texts
+
+pub lying_connections_plain : IsPlain (understood book_schema text.read_lying_connections)
+lying_connections_plain = lying_connections.plain
 
 pub low_events_plain : IsPlain (understood book_schema text.read_low_events)
 low_events_plain = low_events.plain

@@ -26,6 +26,8 @@ use Rattle.acd_codec.specs.Reading.{reads_as}
 use Rattle.acd_codec.specs.RequestTexts.{request_text}
 use Rattle.acd_book.specs.declared.kept.Kept.{Kept}
 use Rattle.acd_statements.specs.declared.meta.Meta.{Meta}
+use Rattle.acd_statements.specs.declared.decode.EventValues.{EventValues}
+use Rattle.acd_statements.specs.declared.decode.KeptHead.{KeptHead}
 use Rattle.acd_statements.specs.Codes.{agent_state_of, pending_of, connection_state_of, kind_of, cause_of}
 use Rattle.acd_statements.specs.Reports.{report_in}
 use Rattle.acd_statements.specs.Decoding.{option_in}
@@ -205,13 +207,21 @@ columns_at r = do
   waited ← or_none moment_at r 9
   Some (record { kind = kind; device = device; call = call; agent = agent; group = group; to = to; cause = cause; waited = waited })
 
+-- the event that has these values, if there is one
+abbrev pub event_from : EventValues → Option Event
+event_from v = do
+  report ← report_in v.columns
+  Some (record { number = v.number; moment = v.moment; report = report })
+
 unfoldable pub event_in : Row → Option Event
 event_in r = if length r == 10 then (do
   number ← stamp_at r 0
   moment ← moment_at r 1
   columns ← columns_at r
-  report ← report_in columns
-  Some (record { number = number; moment = moment; report = report })) else None
+  event_from (record { number = number; moment = moment; columns = columns })) else None
+
+abbrev pub event_number : Row → Option ℕ
+event_number r = option_map (λ (e : Event). e.number) (event_in r)
 
 -- the request that the text stands for, where the text is its own, and the key that of its columns
 unfoldable pub request_at : Row → Option Request
@@ -222,11 +232,19 @@ request_at r = do
   request ← result_ok (reads_as text)
   if bytes_eq requester request.requester && invoke == request.invoke && bytes_eq text (request_text request) then Some request else None
 
+-- the kept record of the row that has these values before its body, if the body is a text
+abbrev pub kept_from : Row → KeptHead → Option Kept
+kept_from r head = do
+  body ← body_at r 6
+  Some (record { stamp = head.stamp; moment = head.moment; request = head.request; status = head.status; body = body })
+
 unfoldable pub kept_in : Row → Option Kept
 kept_in r = if length r == 7 then (do
   stamp ← stamp_at r 0
   moment ← moment_at r 3
   request ← request_at r
   status ← status_at r 5
-  body ← body_at r 6
-  Some (record { stamp = stamp; moment = moment; request = request; status = status; body = body })) else None
+  kept_from r (record { stamp = stamp; moment = moment; request = request; status = status })) else None
+
+abbrev pub kept_stamp : Row → Option ℕ
+kept_stamp r = option_map (λ (k : Kept). k.stamp) (kept_in r)

@@ -1,17 +1,20 @@
 //! The records of rows, where each value is in its range.
+//!
+//! Of an event and of a kept record the number alone can be asked for, where a look at the row is all that is wanted: no record is
+//! made then.
 
-ghost use Rattle.std.specs.Prelude.{◌≡◌, IfOk};
+ghost use Rattle.std.specs.Prelude.{◌≡◌, option_map, option_and_then, IfOk};
 ghost use Rattle.std.specs.Str.{bytes_eq};
 ghost use Rattle.std.specs.Result.{result_ok};
 ghost use Rattle.acd_codec.specs.Reading.{reads_as};
 ghost use Rattle.acd_codec.specs.RequestTexts.{request_text};
-ghost use Rattle.acd_statements.specs.Ranges.{figures_at, group_in, station_in, agent_in, call_in, connection_in, monitor_in, limits_at, counters_in, columns_at, event_in, request_at, kept_in};
+ghost use Rattle.acd_statements.specs.Ranges.{figures_at, group_in, station_in, agent_in, call_in, connection_in, monitor_in, limits_at, counters_in, columns_at, event_from, event_in, event_number, body_at, request_at, kept_from, kept_in, kept_stamp};
 
 use crate::meta::Meta;
-use crate::shape::report_in;
+use crate::shape::{is_formed, report_in};
 use crate::values;
 use acd_book::{Kept, Text};
-use acd_codec::{ReadFault, read_request, request_text};
+use acd_codec::{ReadFault, RequestReader, request_text};
 use acd_terms::{
     AgentRecord, CallRecord, Columns, ConnectionRecord, Event, Figures, GroupRecord, Limits,
     MonitorRecord, Request, StationRecord,
@@ -225,9 +228,18 @@ fn columns_in(row: &Row) -> Option<Columns>
     })
 }
 
+// The values of the row of an event.
+#[derive(Clone, Copy)]
+struct EventValues {
+    number: u64,
+    moment: u32,
+    columns: Columns,
+}
+
+// None where a value is out of its range; what the columns say together isn't asked.
 #[tactic(auto, unfolding(crate::specs::Ranges::event_in))]
-pub fn event_in(row: &Row) -> Option<Event>
-    ensures { result ≡ event_in row.now }
+fn event_values(row: &Row) -> Option<EventValues>
+    ensures { option_and_then event_from result ≡ event_in row.now }
 {
     if row.column_count() != 10 {
         return None;
@@ -235,12 +247,36 @@ pub fn event_in(row: &Row) -> Option<Event>
     let number = values::stamp(row, 0)?;
     let moment = values::moment(row, 1)?;
     let columns = columns_in(row)?;
-    let report = report_in(&columns)?;
-    Some(Event {
+    Some(EventValues {
         number,
         moment,
+        columns,
+    })
+}
+
+pub fn event_in(row: &Row) -> Option<Event>
+    ensures { result ≡ event_in row.now }
+{
+    let values = event_values(row)?;
+    let report = report_in(&values.columns)?;
+    Some(Event {
+        number: values.number,
+        moment: values.moment,
         report,
     })
+}
+
+/// The number of the event that the row stands for.
+#[tactic(auto, unfolding(crate::specs::Reports::report_in))]
+pub fn event_number(row: &Row) -> Option<u64>
+    ensures { result ≡ event_number row.now }
+{
+    let values = event_values(row)?;
+    if is_formed(&values.columns) {
+        Some(values.number)
+    } else {
+        None
+    }
 }
 
 // Whether the bytes are the request's own text.
@@ -251,72 +287,139 @@ fn is_own_text(alloc: Global, request: &Request, bytes: &[u8]) -> Result<bool, A
     Ok(bytes == text.as_bytes())
 }
 
-// The request that bytes stand for, if they do.
-fn request_of(alloc: Global, bytes: &[u8]) -> Result<Option<Request>, AllocError>
-    ensures { IfOk result (λ request. request ≡ result_ok (reads_as bytes.now)) }
+// The values of the row of a kept record, but for its body.
+#[derive(Clone, Copy)]
+struct KeptHead {
+    stamp: u64,
+    moment: u32,
+    request: Request,
+    status: u16,
+}
+
+fn body_in(row: &Row) -> Option<&str>
+    ensures { option_map (λ t. t.now) result ≡ body_at row.now 6 }
 {
-    match read_request(alloc, bytes) {
-        Ok(request) => Ok(Some(request)),
-        Err(ReadFault::Malformed(_)) => Ok(None),
-        Err(ReadFault::NoMemory) => Err(AllocError),
+    values::body(row, 6)
+}
+
+/// Reads the rows of kept records, one after another. It keeps from one to the next the room in which texts are read.
+#[derive(Drop)]
+pub struct KeptReader {
+    alloc: Global,
+    requests: RequestReader,
+}
+
+impl KeptReader {
+    pub fn new(alloc: Global) -> KeptReader {
+        KeptReader {
+            alloc,
+            requests: RequestReader::new(alloc),
+        }
+    }
+
+    // The request that bytes stand for, if they do.
+    fn request_of(&mut self, bytes: &[u8]) -> Result<Option<Request>, AllocError>
+        ensures { IfOk result (λ request. request ≡ result_ok (reads_as bytes.now)) }
+    {
+        match self.requests.read(bytes) {
+            Ok(request) => Ok(Some(request)),
+            Err(ReadFault::Malformed(_)) => Ok(None),
+            Err(ReadFault::NoMemory) => Err(AllocError),
+        }
+    }
+
+    #[tactic(auto, unfolding(crate::specs::Ranges::request_at))]
+    fn request_in(&mut self, row: &Row) -> Result<Option<Request>, AllocError>
+        ensures { IfOk result (λ request. request ≡ request_at row.now) }
+    {
+        let Some(requester) = values::text(row, 1) else {
+            return Ok(None);
+        };
+        let Some(invoke) = values::whole(row, 2) else {
+            return Ok(None);
+        };
+        let Some(text) = values::text(row, 4) else {
+            return Ok(None);
+        };
+        let Some(request) = self.request_of(text)? else {
+            return Ok(None);
+        };
+        let is_key = requester == request.requester.as_bytes()
+            && invoke == u64::from(request.invoke.number());
+        if is_key && is_own_text(self.alloc, &request, text)? {
+            Ok(Some(request))
+        } else {
+            Ok(None)
+        }
+    }
+
+    // None where a value is out of its range, the text isn't its request's own, or the key isn't that of the columns.
+    #[tactic(auto, unfolding(crate::specs::Ranges::kept_in))]
+    fn head_in(&mut self, row: &Row) -> Result<Option<KeptHead>, AllocError>
+        ensures { IfOk result (λ head. option_and_then (kept_from row.now) head ≡ kept_in row.now) }
+    {
+        if row.column_count() != 7 {
+            return Ok(None);
+        }
+        let Some(stamp) = values::stamp(row, 0) else {
+            return Ok(None);
+        };
+        let Some(moment) = values::moment(row, 3) else {
+            return Ok(None);
+        };
+        let Some(request) = self.request_in(row)? else {
+            return Ok(None);
+        };
+        let Some(status) = values::status(row, 5) else {
+            return Ok(None);
+        };
+        Ok(Some(KeptHead {
+            stamp,
+            moment,
+            request,
+            status,
+        }))
+    }
+
+    /// The stamp of the kept record that the row stands for. Its body isn't copied.
+    pub fn stamp(&mut self, row: &Row) -> Result<Option<u64>, AllocError>
+        ensures { IfOk result (λ stamp. stamp ≡ kept_stamp row.now) }
+    {
+        let Some(KeptHead { stamp, .. }) = self.head_in(row)? else {
+            return Ok(None);
+        };
+        if body_in(row).is_some() {
+            Ok(Some(stamp))
+        } else {
+            Ok(None)
+        }
+    }
+
+    /// None where a value is out of its range, the text isn't its request's own, or the key isn't that of the
+    /// columns.
+    pub fn read(&mut self, row: &Row) -> Result<Option<Kept>, AllocError>
+        ensures { IfOk result (λ kept. kept ≡ kept_in row.now) }
+    {
+        let Some(head) = self.head_in(row)? else {
+            return Ok(None);
+        };
+        let Some(body) = body_in(row) else {
+            return Ok(None);
+        };
+        let body = Text::new(String::from_str(self.alloc, body)?);
+        Ok(Some(Kept {
+            stamp: head.stamp,
+            moment: head.moment,
+            request: head.request,
+            status: head.status,
+            body,
+        }))
     }
 }
 
-#[tactic(auto, unfolding(crate::specs::Ranges::request_at))]
-fn request_in(alloc: Global, row: &Row) -> Result<Option<Request>, AllocError>
-    ensures { IfOk result (λ request. request ≡ request_at row.now) }
-{
-    let Some(requester) = values::text(row, 1) else {
-        return Ok(None);
-    };
-    let Some(invoke) = values::whole(row, 2) else {
-        return Ok(None);
-    };
-    let Some(text) = values::text(row, 4) else {
-        return Ok(None);
-    };
-    let Some(request) = request_of(alloc, text)? else {
-        return Ok(None);
-    };
-    let is_key = requester == request.requester.as_bytes()
-        && invoke == u64::from(request.invoke.number());
-    if is_key && is_own_text(alloc, &request, text)? {
-        Ok(Some(request))
-    } else {
-        Ok(None)
-    }
-}
-
-/// None where a value is out of its range, the text isn't its request's own, or the key isn't that of the
-/// columns.
-#[tactic(auto, unfolding(crate::specs::Ranges::kept_in))]
+/// The same for one row alone.
 pub fn kept_in(alloc: Global, row: &Row) -> Result<Option<Kept>, AllocError>
     ensures { IfOk result (λ kept. kept ≡ kept_in row.now) }
 {
-    if row.column_count() != 7 {
-        return Ok(None);
-    }
-    let Some(stamp) = values::stamp(row, 0) else {
-        return Ok(None);
-    };
-    let Some(moment) = values::moment(row, 3) else {
-        return Ok(None);
-    };
-    let Some(request) = request_in(alloc, row)? else {
-        return Ok(None);
-    };
-    let Some(status) = values::status(row, 5) else {
-        return Ok(None);
-    };
-    let Some(body) = values::body(row, 6) else {
-        return Ok(None);
-    };
-    let body = Text::new(String::from_str(alloc, body)?);
-    Ok(Some(Kept {
-        stamp,
-        moment,
-        request,
-        status,
-        body,
-    }))
+    KeptReader::new(alloc).read(row)
 }

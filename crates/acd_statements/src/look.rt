@@ -53,6 +53,19 @@ pub(crate) fn counter_rows<S: Alter>(conn: &mut Connection<S>) -> Result<Vec<Row
     meta_rows(conn)
 }
 
+/// The rows of connections as they lie. Their key isn't the number of a row, so that to put them in its order takes longer than to read them.
+pub(crate) fn lying_connection_rows<S: Alter>(conn: &mut Connection<S>) -> Result<Vec<Row>, Error>
+    requires { conn.old.in_transaction ≡ false }
+    ensures idle { conn.new.in_transaction ≡ false }
+    ensures seen { (d : Database) → d.schema ≡ book_schema → Sees d (state S.Store conn.old) (state S.Store conn.new) result (λ rows. IsPermutation (lying table.Connections d.trees) rows.items) }
+{
+    read(
+        conn,
+        "SELECT call, device, state, grp, place, queued, offered FROM connections",
+        &[],
+    )
+}
+
 /// An event whose number is below 1.
 pub(crate) fn low_event_rows<S: Alter>(conn: &mut Connection<S>) -> Result<Vec<Row>, Error>
     requires { conn.old.in_transaction ≡ false }

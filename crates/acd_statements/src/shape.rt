@@ -141,9 +141,9 @@ fn are_together(kind: EventKind, group: bool, waited: bool) -> bool
     }
 }
 
-// Whether the columns are those of a report of their kind.
+/// Whether the columns are those of a report of their kind.
 #[tactic(auto, unfolding(crate::specs::Reports::is_formed))]
-fn is_formed(columns: &Columns) -> bool
+pub(crate) fn is_formed(columns: &Columns) -> bool
     ensures { result ≡ is_formed columns.now }
 {
     let kind = columns.kind;

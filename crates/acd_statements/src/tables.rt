@@ -4,14 +4,13 @@ ghost use Rattle.std.specs.Prelude.{◌≡◌, false, IsPermutation};
 ghost use Rattle.sqlite.specs.Effect.{Database};
 ghost use Rattle.sqlite.specs.Held.{state};
 ghost use Rattle.acd_statements.specs.Draft.{Fits};
-ghost use Rattle.acd_statements.specs.Lying.{table_of, table_of_log, lying, TellsLow, IsPageRows};
+ghost use Rattle.acd_statements.specs.Lying.{table_of, lying, TellsLow, IsPageRows};
 ghost use Rattle.acd_statements.specs.Schema.{book_schema};
 ghost use Rattle.acd_statements.specs.Seeing.{Sees};
 
-use crate::look::{counter_rows, low_event_rows, low_kept_rows};
+use crate::look::{counter_rows, low_event_rows, low_kept_rows, lying_connection_rows};
 use crate::query::{
-    agent_rows, call_rows, connection_rows, event_rows, group_rows, kept_rows, monitor_rows,
-    station_rows,
+    agent_rows, call_rows, event_rows, group_rows, kept_rows, monitor_rows, station_rows,
 };
 use sqlite::{Alter, Connection, Error, Row};
 
@@ -49,21 +48,7 @@ pub enum Log {
 }
 
 impl Whole {
-    pub fn table(self) -> Table
-        ensures { result ≡ table_of self }
-    {
-        match self {
-            Whole::Meta => Table::Meta,
-            Whole::Groups => Table::Groups,
-            Whole::Stations => Table::Stations,
-            Whole::Agents => Table::Agents,
-            Whole::Calls => Table::Calls,
-            Whole::Connections => Table::Connections,
-            Whole::Monitors => Table::Monitors,
-        }
-    }
-
-    /// All its rows.
+    /// All its rows, in any order.
     pub fn rows<S: Alter>(self, conn: &mut Connection<S>) -> Result<Vec<Row>, Error>
         requires { conn.old.in_transaction ≡ false }
         ensures idle { conn.new.in_transaction ≡ false }
@@ -75,22 +60,13 @@ impl Whole {
             Whole::Stations => station_rows(conn),
             Whole::Agents => agent_rows(conn),
             Whole::Calls => call_rows(conn),
-            Whole::Connections => connection_rows(conn),
+            Whole::Connections => lying_connection_rows(conn),
             Whole::Monitors => monitor_rows(conn),
         }
     }
 }
 
 impl Log {
-    pub fn table(self) -> Table
-        ensures { result ≡ table_of_log self }
-    {
-        match self {
-            Log::Events => Table::Events,
-            Log::Kept => Table::Kept,
-        }
-    }
-
     /// A row whose number is below 1.
     pub fn low_rows<S: Alter>(self, conn: &mut Connection<S>) -> Result<Vec<Row>, Error>
         requires { conn.old.in_transaction ≡ false }

@@ -14,5 +14,5 @@ returns-in_err-bad-clause-seen g c d same =
 pub returns-in-Some-clause-seen : goal.returns-in-Some-clause-seen
 returns-in-Some-clause-seen g c d is = bad_told d (state g.S.Store c.args.conn.now) (state g.S.Store c.bad_table.new.conn) c.in-Some.table is (rw c.in-Some.is at (c.in_ok-bad.ensures.seen d is))
 
-pub returns-in-None-clause-seen : goal.returns-in-None-clause-seen
-returns-in-None-clause-seen g c d is = good_told d (state g.S.Store c.args.conn.now) (state g.S.Store c.bad_table.new.conn) (rw c.in-None.is at (c.in_ok-bad.ensures.seen d is))
+pub returns-clause-seen : goal.returns-clause-seen
+returns-clause-seen g c d is = good_told d (state g.S.Store c.args.conn.now) (state g.S.Store c.bad_table.new.conn) (rw c.in-None.is at (c.in_ok-bad.ensures.seen d is))

@@ -1,3 +1,4 @@
+use Rattle.std.proofs.Common.{Ok}
 use Rattle.sqlite.specs.Held.{state}
 use Rattle.acd_statements.specs.Lying.{table_of, TellsGood}
 use Rattle.acd_sqlbook.proofs.Adopted.{whole_told}
@@ -9,4 +10,4 @@ returns-in-Err-clause-seen g c d is = sees_fail d (state g.S.Store c.args.conn.n
 
 pub returns-in-Ok-clause-seen : goal.returns-in-Ok-clause-seen
 returns-in-Ok-clause-seen g c d is =
-    whole_told d (state g.S.Store c.args.conn.now) (state g.S.Store c.rows.new.conn) c.args.table c.in-Ok.rows c.are_good.result (rw (c.table.ensures, c.deref.ensures.value) at c.are_good.ensures) (c.in-Ok.ensures.seen d is)
+    whole_told d (state g.S.Store c.args.conn.now) (state g.S.Store c.rows.new.conn) c.args.table c.in-Ok.rows (Ok c.are_good.result) (rw c.deref.ensures.value at c.are_good.ensures) (c.in-Ok.ensures.seen d is)

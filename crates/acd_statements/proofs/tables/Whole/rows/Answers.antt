@@ -21,7 +21,7 @@ pub returns-in-Calls-clause-seen : goal.returns-in-Calls-clause-seen
 returns-in-Calls-clause-seen g c d is = subst (λ w. Sees d (state g.S.Store c.args.conn.now) (state g.S.Store c.call_rows.new.conn) c.call_rows.result (λ rows. IsPermutation (lying (table_of w) d.trees) rows.items)) (sym c.in-Calls.is) (c.call_rows.ensures.seen d is)
 
 pub returns-in-Connections-clause-seen : goal.returns-in-Connections-clause-seen
-returns-in-Connections-clause-seen g c d is = subst (λ w. Sees d (state g.S.Store c.args.conn.now) (state g.S.Store c.connection_rows.new.conn) c.connection_rows.result (λ rows. IsPermutation (lying (table_of w) d.trees) rows.items)) (sym c.in-Connections.is) (c.connection_rows.ensures.seen d is)
+returns-in-Connections-clause-seen g c d is = subst (λ w. Sees d (state g.S.Store c.args.conn.now) (state g.S.Store c.lying_connection_rows.new.conn) c.lying_connection_rows.result (λ rows. IsPermutation (lying (table_of w) d.trees) rows.items)) (sym c.in-Connections.is) (c.lying_connection_rows.ensures.seen d is)
 
 pub returns-in-Monitors-clause-seen : goal.returns-in-Monitors-clause-seen
 returns-in-Monitors-clause-seen g c d is = subst (λ w. Sees d (state g.S.Store c.args.conn.now) (state g.S.Store c.monitor_rows.new.conn) c.monitor_rows.result (λ rows. IsPermutation (lying (table_of w) d.trees) rows.items)) (sym c.in-Monitors.is) (c.monitor_rows.ensures.seen d is)
