@@ -12,5 +12,5 @@ returns g c =
     let old = standing g.B.Book c.args.self.now in
     let new = holding (standing g.B.Book c.switch_out.new.self) rows in
     let is : (k : Content) → c.tables-tables.result.now ≡ k.rows → c.if-is_some.last ≡ (if is_some (monitor_of k.rows c.args.monitor) then Some k.rows.last_event else None)
-        = λ k e. subst (λ (r : Rows). c.if-is_some.last ≡ (if is_some (monitor_of r c.args.monitor) then Some r.last_event else None)) e (search rules) in
+    = λ k e. subst (λ (r : Rows). c.if-is_some.last ≡ (if is_some (monitor_of r c.args.monitor) then Some r.last_event else None)) e (search rules) in
     told_so old new tt c.if-is_some.last (λ (k : Content) u. k.rows ≡ rows) _ (λ k p. is k (c.tables-tables.ensures ∙ c.deref.ensures ∙ sym p)) (told_rows old new rows c.in_ok-loaded.ensures.loaded refl refl)
