@@ -170,16 +170,25 @@ fn audit_command<'a>(alloc: Global) -> Result<Command<'a>, AllocError> {
         ))
 }
 
-fn all_commands<'a>(alloc: Global) -> Result<Command<'a>, AllocError> {
-    Command::new(alloc, "acd")
-        .about("The desk of a help line: an automatic call distributor")
-        .subcommand_required(true)
-        .subcommand(lines_command(alloc)?)?
+// The commands that execute requests.
+fn executing_commands<'a>(alloc: Global, acd: Command<'a>) -> Result<Command<'a>, AllocError> {
+    acd.subcommand(lines_command(alloc)?)?
         .subcommand(serve_command(alloc)?)?
-        .subcommand(import_command(alloc)?)?
-        .subcommand(report_command(alloc)?)?
+        .subcommand(import_command(alloc)?)
+}
+
+// The commands that read a file.
+fn reading_commands<'a>(alloc: Global, acd: Command<'a>) -> Result<Command<'a>, AllocError> {
+    acd.subcommand(report_command(alloc)?)?
         .subcommand(export_command(alloc)?)?
         .subcommand(audit_command(alloc)?)
+}
+
+fn all_commands<'a>(alloc: Global) -> Result<Command<'a>, AllocError> {
+    let acd = Command::new(alloc, "acd")
+        .about("The desk of a help line: an automatic call distributor")
+        .subcommand_required(true);
+    reading_commands(alloc, executing_commands(alloc, acd)?)
 }
 
 fn lines_of<'a>(options: &ArgMatches<'a>) -> Task<'a> {

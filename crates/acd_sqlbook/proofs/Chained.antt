@@ -11,7 +11,7 @@ use Rattle.acd_terms.specs.declared.record.ConnectionRecord.{ConnectionRecord}
 use Rattle.acd_terms.specs.declared.record.MonitorRecord.{MonitorRecord}
 use Rattle.acd_book.specs.Content.{Content}
 use Rattle.acd_statements.specs.Content.{meta_of}
-use Rattle.acd_statements.specs.declared.meta.Meta.{Meta}
+use Rattle.acd_columns.specs.declared.meta.Meta.{Meta}
 use Rattle.acd_statements.specs.Draft.{Holds}
 use Rattle.acd_statements.specs.Finding.{Finds, joined_rows}
 use Rattle.acd_sqlbook.proofs.Standing.{quiet_on}

@@ -1,8 +1,3 @@
-mod Making
-mod Building
-mod Differences
-mod SameRecords
-mod Transitions
 mod Recorded
 mod Chained
 mod Pages
@@ -13,7 +8,5 @@ mod Committing
 mod Standing
 mod Replacing
 mod BookStates
-mod Paged
-mod Contents
 mod Rising
 mod Adopted

@@ -15,14 +15,13 @@ use Rattle.acd_terms.specs.declared.record.MonitorRecord.{MonitorRecord}
 use Rattle.acd_terms.specs.declared.event.Event.{Event}
 use Rattle.acd_book.specs.Content.{Content}
 use Rattle.acd_book.specs.declared.kept.Kept.{Kept}
-use Rattle.acd_statements.specs.Content.{IsReadable}
-use Rattle.acd_statements.specs.Decoding.{as_group, as_station, as_agent, as_call, as_connection, as_monitor, as_event, as_kept}
+use Rattle.acd_columns.specs.Rows.{IsReadable, group_values, station_values, agent_values, call_values, connection_values, monitor_values, event_values, kept_values}
+use Rattle.acd_columns.specs.Decoding.{as_group, as_station, as_agent, as_call, as_connection, as_monitor, as_event, as_kept}
 use Rattle.acd_statements.specs.Finding.{Finds}
-use Rattle.acd_statements.specs.Ranges.{group_in, station_in, agent_in, call_in, connection_in, monitor_in, event_in, kept_in}
-use Rattle.acd_statements.specs.Rows.{group_values, station_values, agent_values, call_values, connection_values, monitor_values, event_values, kept_values}
+use Rattle.acd_columns.specs.Ranges.{group_in, station_in, agent_in, call_in, connection_in, monitor_in, event_in, kept_in}
 use Rattle.acd_statements.proofs.Decoded.{agent_back, connection_back, event_back, kept_back}
-use Rattle.acd_statements.proofs.Ranged.{group_stored, station_stored, agent_stored, call_stored, connection_stored, monitor_stored}
-use Rattle.acd_statements.proofs.Reported.{event_stored, kept_stored}
+use Rattle.acd_columns.proofs.Ranged.{group_stored, station_stored, agent_stored, call_stored, connection_stored, monitor_stored}
+use Rattle.acd_columns.proofs.Reported.{event_stored, kept_stored}
 
 -- ---- rows, one after the other
 

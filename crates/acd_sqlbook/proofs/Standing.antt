@@ -7,10 +7,10 @@ use Rattle.acd_terms.specs.declared.event.Event.{Event}
 use Rattle.acd_model.specs.declared.moves.Change.{Change}
 use Rattle.acd_book.specs.Content.{Content}
 use Rattle.acd_book.specs.declared.kept.Kept.{Kept}
-use Rattle.acd_statements.specs.declared.meta.Meta.{Meta}
+use Rattle.acd_columns.specs.declared.meta.Meta.{Meta}
 use Rattle.acd_sqlbook.specs.Commit.{counted, made_by, written_by}
 use Rattle.acd_statements.specs.Content.{Encodes, meta_of}
-use Rattle.acd_statements.specs.Reading.{meta_shown}
+use Rattle.acd_columns.specs.Reading.{meta_shown}
 use Rattle.acd_sqlbook.specs.Calls.{HasRead, HasCommitted}
 use Rattle.acd_statements.specs.Draft.{Holds, Quiet, NoStop, AddsStop}
 use Rattle.acd_statements.specs.Finding.{Finds}

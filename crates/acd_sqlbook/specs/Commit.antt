@@ -10,7 +10,7 @@ use Rattle.acd_model.specs.declared.moves.Change.TheVariants.{Nothing, PutGroup,
 use Rattle.acd_book.specs.Content.{Content}
 use Rattle.acd_book.specs.declared.kept.Kept.{Kept}
 use Rattle.acd_statements.specs.declared.tables.Table.TheVariants as table
-use Rattle.acd_statements.specs.declared.meta.Meta.{Meta}
+use Rattle.acd_columns.specs.declared.meta.Meta.{Meta}
 use Rattle.acd_statements.specs.Content.{meta_of, with_part}
 use Rattle.acd_statements.specs.Draft.{Fits, FiguresFit}
 

@@ -1,5 +1,5 @@
 -- A book over a connection, as it stands.
-use Rattle.std.specs.Prelude.{◌≡◌, ◌⊎◌, ℕ, ◌+◌, ◌-◌, ◌^◌, min, Result, Ok, Err, IsTrue}
+use Rattle.std.specs.Prelude.{◌≡◌, ℕ, ◌+◌, ◌-◌, ◌^◌, min, Result, Ok, Err, IsTrue}
 use Rattle.sqlite_trees.specs.Tree.{Trees}
 use Rattle.sqlite.specs.declared.error.Error.{Error}
 use Rattle.sqlite.specs.declared.error.Error.TheVariants.{SqliteFailure}
@@ -12,7 +12,6 @@ use Rattle.acd_book.specs.declared.fault.BookFault.{BookFault}
 use Rattle.acd_book.specs.declared.fault.BookFault.TheVariants.{NoMemory, Store}
 use Rattle.acd_statements.specs.Content.{Encodes}
 use Rattle.acd_statements.specs.Decoding.{content_of}
-use Rattle.acd_statements.specs.Schema.{no_schema}
 use Rattle.acd_sqlbook.specs.Calls.{Stands}
 
 -- whatever a crash may leave is the tables of a content, and so is what the connection sees while it is open
@@ -37,10 +36,6 @@ pub record IsNew (b : BookState) (limits : Limits) : Type 0 where
   pub content : b.content ≡ empty_content limits
   pub stop : b.stops (empty_content limits)
   pub only : (c : Content) → b.stops c → c ≡ empty_content limits
-
--- a crash leaves what it left before or, over a database with no tables, a book with the limits and nothing else
-abbrev pub MayMake : State → State → Limits → Type 0
-MayMake old new limits = (db : Trees) → new.may_leave db → old.may_leave db ⊎ (old.now.schema ≡ no_schema → Encodes db (empty_content limits))
 
 -- ---- faults
 

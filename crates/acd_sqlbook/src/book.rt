@@ -1,15 +1,13 @@
 //! A book over a connection.
 
-ghost use Rattle.std.specs.Prelude.{◌≡◌, ◌≤◌, false, Err, is_ok, IsTrue, IfOk, IfErr, OnOk};
+ghost use Rattle.std.specs.Prelude.{◌≡◌, ◌≤◌, false, Err, is_ok, IsTrue, IfOk, IfErr};
 ghost use Rattle.sqlite.specs.State.{HasCleanDisk};
 ghost use Rattle.sqlite.specs.Held.{state};
-ghost use Rattle.acd_book.specs.Content.{empty_content};
-ghost use Rattle.acd_sqlbook.specs.Calls.{HasRead};
 ghost use Rattle.acd_statements.specs.Schema.{no_schema};
-ghost use Rattle.acd_statements.specs.Draft.{Holds, LimitsFit};
-ghost use Rattle.acd_sqlbook.specs.State.{book_state, IsNew, MayMake, fault_of, answered, failures_after};
+ghost use Rattle.acd_statements.specs.Draft.{LimitsFit};
+ghost use Rattle.acd_sqlbook.specs.State.{book_state, IsNew, fault_of, answered, failures_after};
+ghost use Rattle.acd_schema.specs.SettingUp.{MayMake};
 
-use crate::create::make_tables;
 use crate::ready::{
     commit_ready, events_ready, kept_after_ready, kept_ready, limits_fit, limits_ready, rows_ready,
     watched_ready,
@@ -17,8 +15,7 @@ use crate::ready::{
 use crate::transition::commit_rows_ready;
 use acd_book::{Book, BookFault, Kept};
 use acd_model::Change;
-use acd_statements::Meta;
-use acd_statements::write::put_meta;
+use acd_schema::set_up;
 use acd_terms::{Event, Invoke, Limits, Requester, Rows};
 use sqlite::{Alter, Connection, Error, ErrorCode};
 use std::alloc::Global;
@@ -66,30 +63,6 @@ fn noted<T>(found: Result<T, Error>, fresh: &mut bool, failures: &mut u64) -> Re
             Err(fault)
         }
     }
-}
-
-/// Makes the tables, and the row of the limits.
-pub(crate) fn set_up<S: Alter>(conn: &mut Connection<S>, limits: Limits) -> Result<(), Error>
-    requires idle { conn.old.in_transaction ≡ false }
-    requires fit { LimitsFit limits }
-    ensures idle { conn.new.in_transaction ≡ false }
-    ensures clean { HasCleanDisk (state S.Store conn.new) → HasCleanDisk (state S.Store conn.old) }
-    ensures made { HasCleanDisk (state S.Store conn.new) → OnOk result ((state S.Store conn.old).now.schema ≡ no_schema → Holds (state S.Store conn.new) (empty_content limits)) }
-    ensures up { HasCleanDisk (state S.Store conn.new) → OnOk result (IsTrue (state S.Store conn.new).is_open) }
-    ensures stops { HasCleanDisk (state S.Store conn.new) → MayMake (state S.Store conn.old) (state S.Store conn.new) limits }
-{
-    let meta = Meta {
-        limits,
-        last_stamp: 0,
-        last_moment: 0,
-        last_call: 0,
-        last_monitor: 0,
-        last_event: 0,
-    };
-    let mut tx = conn.transaction();
-    make_tables(&mut tx)?;
-    put_meta(&mut tx, &meta)?;
-    tx.commit()
 }
 
 impl<S: Alter> SqlBook<S> {

@@ -1,6 +1,6 @@
 //! All writes of a commit, in one transaction.
 
-ghost use Rattle.std.specs.Prelude.{◌≡◌, ◌↔◌, ◌<◌, [], length, filter, false, None, IfSome, OnOk, OnErr, IsTrue, take};
+ghost use Rattle.std.specs.Prelude.{◌≡◌, ◌<◌, [], length, filter, false, None, IfSome, OnOk, OnErr, IsTrue};
 ghost use Rattle.sqlite.specs.State.{HasCleanDisk};
 ghost use Rattle.sqlite.specs.Held.{state};
 ghost use Rattle.acd_codec.specs.RequestTexts.{request_text};
@@ -11,21 +11,15 @@ ghost use Rattle.acd_sqlbook.specs.Commit.{ChangeFits, EventFits, filed, all_fil
 ghost use Rattle.acd_statements.specs.Draft.{Drafts, Works, Holds, AddsStop, Fits, FiguresFit, MetaFits};
 
 use acd_book::Kept;
+use acd_columns::Meta;
 use acd_model::Change;
-use acd_statements::Meta;
+use acd_statements::fitting::{fits, too_large};
 use acd_statements::write::{
     drop_call, drop_connection, drop_monitor, insert_call, insert_connection, put_agent, put_call,
     put_connection, put_event, put_group, put_kept, put_monitor, put_station, set_meta,
 };
 use acd_terms::{Event, Figures};
-use sqlite::{Alter, Connection, Error, ErrorCode, Transaction};
-
-// Whether an INTEGER column can hold the number.
-pub(crate) fn fits(number: u64) -> bool
-    ensures { IsTrue result ↔ Fits number }
-{
-    number <= i64::MAX as u64
-}
+use sqlite::{Alter, Connection, Error, Transaction};
 
 fn figures_fit(figures: &Figures) -> bool
     ensures { IsTrue result → FiguresFit figures.now }
@@ -67,11 +61,6 @@ fn event_fits(event: &Event) -> bool
     ensures { IsTrue result → EventFits event.now }
 {
     fits(event.number) && place_fits(event.report.columns().call)
-}
-
-// A number is too large for its column.
-pub(crate) fn too_large() -> Error {
-    Error::SqliteFailure(ErrorCode::TooBig)
 }
 
 // Makes a change in its table. What is new has no row there yet, and is inserted.

@@ -18,16 +18,13 @@
 mod adopt;
 mod book;
 mod commit;
-mod create;
-mod difference;
-mod fault;
 pub mod laws;
 mod lookups;
 mod reads;
 mod ready;
 mod transition;
 
+pub use acd_differences::{Filed, row_changes};
+pub use acd_schema::AdoptFault;
 pub use acd_statements::Table;
 pub use book::SqlBook;
-pub use difference::{Filed, row_changes};
-pub use fault::AdoptFault;

@@ -7,13 +7,13 @@ ghost use Rattle.std.specs.Prelude.{◌≡◌, ◌-◌, ◌^◌, ◌<◌, [], fa
 ghost use Rattle.sqlite.specs.Held.{state};
 ghost use Rattle.acd_model.specs.Scans.{monitor_of};
 ghost use Rattle.acd_book.specs.Content.{IsKeptAfter, events_behind, events_of_monitor, is_told, kept_of};
-ghost use Rattle.acd_statements.specs.Rows.{event_values, kept_values};
+ghost use Rattle.acd_columns.specs.Rows.{event_values, kept_values};
 ghost use Rattle.acd_statements.specs.Draft.{Fits};
 ghost use Rattle.acd_statements.specs.Finding.{Finds, kept_behind};
 
-use crate::commit::fits;
 use crate::reads::{first, monitors, records};
 use acd_book::Kept;
+use acd_statements::fitting::fits;
 use acd_statements::query::{event_rows, event_rows_at, kept_row, kept_rows, monitor_row};
 use acd_terms::{DeviceId, Event, Invoke, MonitorRecord, Requester, find};
 use sqlite::{Alter, Connection, Error, ErrorCode, Row};

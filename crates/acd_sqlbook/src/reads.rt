@@ -1,17 +1,17 @@
 //! Reads between transactions, as records. A row with a value out of its range is a failure of the store.
 
-ghost use Rattle.std.specs.Prelude.{◌≡◌, ◌++◌, ◌∷◌, [], List, Option, Some, false, map, take, option_to_list, IfOk, OnOk};
+ghost use Rattle.std.specs.Prelude.{◌≡◌, ◌++◌, ◌∷◌, [], Option, Some, false, map, take, option_to_list, IfOk, OnOk};
 ghost use Rattle.sqlite.specs.Held.{state};
 ghost use Rattle.sqlite_value.specs.Order.{Row as Values};
 ghost use Rattle.acd_statements.specs.Finding.{Finds, joined_rows};
-ghost use Rattle.acd_statements.specs.Ranges.{group_in, station_in, agent_in, call_in, connection_in, monitor_in, event_in, kept_in};
+ghost use Rattle.acd_columns.specs.Ranges.{group_in, station_in, agent_in, call_in, connection_in, monitor_in, event_in, kept_in};
 
 use crate::ready::read_meta;
 use acd_book::Kept;
+use acd_columns::{Meta, decode};
 use acd_statements::query::{
     agent_rows, call_rows, connection_rows, group_rows, monitor_rows, station_rows,
 };
-use acd_statements::{Meta, decode};
 use acd_terms::{
     AgentRecord, CallRecord, ConnectionRecord, Event, GroupRecord, Listed, MonitorRecord, Rows,
     StationRecord,

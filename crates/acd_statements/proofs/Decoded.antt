@@ -36,11 +36,12 @@ use Rattle.acd_book.specs.declared.kept.Kept.{Kept}
 use Rattle.acd_laws.proofs.Lists.{after_among, among-put, among-put_other, ascending-put, among_put}
 use Rattle.acd_laws.proofs.State.{connections_total}
 use Rattle.acd_statements.specs.declared.tables.Table.TheVariants as table
-use Rattle.acd_statements.specs.declared.meta.Meta.{Meta}
-use Rattle.acd_statements.specs.Codes.{agent_state_of, pending_of, connection_state_of, kind_of, cause_of}
-use Rattle.acd_statements.specs.Content.{AreRows, AreConnections, IsReadable, Encodes, tree_of, meta_of}
-use Rattle.acd_statements.specs.Decoding.{option_in, as_group, as_station, as_agent, as_call, as_connection, as_monitor, as_columns, as_event, as_kept, as_pending, as_cause, report_of, unkeyed, records_in, in_order, connections_in, meta_stored, content_of}
-use Rattle.acd_statements.specs.Rows.{id_value, agent_code, pending_code, connection_code, kind_code, cause_code, report_values, agent_values, connection_values, kept_values, event_values, group_row, station_row, agent_row, call_row, connection_row, monitor_row, event_row, kept_row}
+use Rattle.acd_columns.specs.declared.meta.Meta.{Meta}
+use Rattle.acd_columns.specs.Codes.{agent_state_of, pending_of, connection_state_of, kind_of, cause_of}
+use Rattle.acd_statements.specs.Content.{AreRows, AreConnections, Encodes, tree_of, meta_of}
+use Rattle.acd_columns.specs.Rows.{IsReadable, id_value, agent_code, pending_code, connection_code, kind_code, cause_code, report_values, agent_values, connection_values, kept_values, event_values, group_row, station_row, agent_row, call_row, connection_row, monitor_row, event_row, kept_row}
+use Rattle.acd_columns.specs.Decoding.{option_in, as_group, as_station, as_agent, as_call, as_connection, as_monitor, as_columns, as_event, as_kept, as_pending, as_cause, report_of}
+use Rattle.acd_statements.specs.Decoding.{unkeyed, records_in, in_order, connections_in, meta_stored, content_of}
 use Rattle.acd_tables.proofs.Picked.{ascending-same}
 
 -- ---- codes

@@ -22,8 +22,6 @@ pub mod Texts
 mod Writes
 mod Bounds
 pub mod Decoded
-pub mod Ranged
-pub mod Reported
 pub mod Seen
 pub mod Looked
 pub mod Named

@@ -4,7 +4,6 @@ use Rattle.std.specs.Prelude.{Vec, pos, negsuc, codes}
 use Rattle.std.specs.declared.alloc.Global.{Global}
 use Rattle.std.specs.List.{AllByRecursion, list_all}
 use Rattle.std.specs.declared.cmp.Ordering.TheVariants.{Less}
-use Rattle.std.specs.Option.{is_some}
 use Rattle.std.specs.Ordering.{nat_cmp, is_lt}
 use Rattle.std.specs.List.Sorted.{IsPermutation}
 use Rattle.std.proofs.lemmas.Bool.Decides.{nat_tests}
@@ -43,9 +42,9 @@ use Rattle.acd_statements.specs.declared.tables.Table.{Table}
 use Rattle.acd_statements.specs.declared.tables.Table.TheVariants as table
 use Rattle.acd_statements.specs.Lying.{values_in, lying, is_good, are_good, is_good_in, table_of_log, values_behind, BeginsAsBook, Numbered, AreNumbered, FromOne, TellsLow, IsPageRows}
 use Rattle.acd_statements.specs.Content.{tree_of}
-use Rattle.acd_statements.specs.Decoding.{option_in}
-use Rattle.acd_statements.specs.Ranges.{◌>>=◌, at_least, stamp_at, event_in, kept_in}
-use Rattle.acd_statements.specs.Rows.{id_value}
+use Rattle.acd_columns.specs.Decoding.{option_in}
+use Rattle.acd_columns.specs.Ranges.{◌>>=◌, at_least, stamp_at, event_in, kept_in}
+use Rattle.acd_columns.specs.Rows.{id_value}
 use Rattle.acd_statements.specs.Schema.{book_schema}
 use Rattle.acd_statements.specs.Schema as schema
 use Rattle.acd_statements.specs.Seeing.{Lies, Sees}

@@ -37,13 +37,13 @@ use Rattle.acd_terms.specs.declared.record.MonitorRecord.{MonitorRecord}
 use Rattle.acd_model.specs.Scans.{at_group, at_station, at_agent, at_call, at_monitor}
 use Rattle.acd_laws.proofs.Lists.{every-put}
 use Rattle.acd_book.specs.declared.kept.Kept.{Kept}
-use Rattle.acd_statements.specs.declared.meta.Meta.{Meta}
+use Rattle.acd_columns.specs.declared.meta.Meta.{Meta}
 use Rattle.acd_book.specs.Content.{Content, empty_content}
 use Rattle.acd_statements.specs.declared.tables.Table.TheVariants as table
 use Rattle.acd_statements.specs.Schema.{Layout, table_of, book_schema}
 use Rattle.acd_statements.specs.Schema as schema
-use Rattle.acd_statements.specs.Rows.{id_value, agent_code, pending_code, kind_code, cause_code, meta_values, meta_row, group_values, group_row, station_values, station_row, agent_values, agent_row, call_values, call_row, monitor_values, monitor_row, report_values, event_values, event_row, kept_values, kept_row, keyed_row}
-use Rattle.acd_statements.specs.Content.{with_part, meta_of, AreRows, IsReadable}
+use Rattle.acd_columns.specs.Rows.{id_value, agent_code, pending_code, kind_code, cause_code, meta_values, meta_row, group_values, group_row, station_values, station_row, agent_values, agent_row, call_values, call_row, monitor_values, monitor_row, report_values, event_values, event_row, kept_values, kept_row, keyed_row, IsReadable}
+use Rattle.acd_statements.specs.Content.{with_part, meta_of, AreRows}
 use Rattle.acd_statements.specs.Making.{Builds}
 use Rattle.acd_statements.specs.Draft.{Drafts, Ran}
 use Rattle.acd_statements.proofs.Texts as text

@@ -1,5 +1,5 @@
 -- What the trees of a database hold of a content.
-use Rattle.std.specs.Prelude.{◌≡◌, ℕ, ℤ, List, [], ◌∷◌, map, Ok}
+use Rattle.std.specs.Prelude.{◌≡◌, ℕ, ℤ, List, [], ◌∷◌, map}
 use Rattle.std.specs.Ordering.{nat_cmp}
 use Rattle.sqlite_value.specs.Order.{Row, column}
 use Rattle.sqlite_trees.specs.Tree.{Trees, IsTable}
@@ -14,15 +14,13 @@ use Rattle.acd_terms.specs.declared.record.CallRecord.{CallRecord}
 use Rattle.acd_terms.specs.declared.record.ConnectionRecord.{ConnectionRecord}
 use Rattle.acd_terms.specs.declared.record.MonitorRecord.{MonitorRecord}
 use Rattle.acd_model.specs.Rules.Plan.{connection_order}
-use Rattle.acd_codec.specs.Reading.{reads_as}
-use Rattle.acd_codec.specs.RequestTexts.{request_text}
 use Rattle.acd_book.specs.Content.{Content}
 use Rattle.acd_book.specs.declared.kept.Kept.{Kept}
 use Rattle.acd_statements.specs.declared.tables.Table.{Table}
 use Rattle.acd_statements.specs.declared.tables.Table.TheVariants as table
-use Rattle.acd_statements.specs.declared.meta.Meta.{Meta}
+use Rattle.acd_columns.specs.declared.meta.Meta.{Meta}
 use Rattle.acd_statements.specs.Schema as schema
-use Rattle.acd_statements.specs.Rows.{meta_row, group_row, station_row, agent_row, call_row, connection_row, monitor_row, event_row, kept_row}
+use Rattle.acd_columns.specs.Rows.{IsReadable, meta_row, group_row, station_row, agent_row, call_row, connection_row, monitor_row, event_row, kept_row}
 
 -- the tree of a table
 abbrev pub tree_of : Table → ℕ
@@ -104,10 +102,6 @@ pub record AreConnections (rows : List Row) (records : List ConnectionRecord) : 
   -- no two rows have one key
   pub apart : (a b : Row) → Has rows a → Has rows b → column a 1 ≡ column b 1 → column a 2 ≡ column b 2 → a ≡ b
   pub ascending : IsAscending connection_order records
-
--- what a request is kept as reads as the request
-abbrev pub IsReadable : Kept → Type 0
-IsReadable k = reads_as (request_text k.request) ≡ Ok k.request
 
 abbrev pub Stores : (t : Table) → List Row → Part t → Type 0
 Stores table.Meta rows m = rows ≡ meta_row m ∷ []

@@ -6,7 +6,7 @@ use Rattle.sqlite.specs.State.{State, HasCleanDisk, KeepsCommit, Survives, Execu
 use Rattle.acd_terms.specs.declared.record.Figures.{Figures}
 use Rattle.acd_terms.specs.declared.rows.Limits.{Limits}
 use Rattle.acd_book.specs.Content.{Content}
-use Rattle.acd_statements.specs.declared.meta.Meta.{Meta}
+use Rattle.acd_columns.specs.declared.meta.Meta.{Meta}
 use Rattle.acd_statements.specs.Schema.{book_schema}
 use Rattle.acd_statements.specs.Content.{Encodes}
 

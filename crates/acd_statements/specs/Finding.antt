@@ -10,7 +10,7 @@ use Rattle.acd_terms.specs.declared.record.ConnectionRecord.{ConnectionRecord}
 use Rattle.acd_terms.specs.declared.record.MonitorRecord.{MonitorRecord}
 use Rattle.acd_book.specs.Content.{Content}
 use Rattle.acd_book.specs.declared.kept.Kept.{Kept}
-use Rattle.acd_statements.specs.declared.meta.Meta.{Meta}
+use Rattle.acd_columns.specs.declared.meta.Meta.{Meta}
 use Rattle.acd_statements.specs.Draft.{Holds, Quiet, NoStop}
 
 -- it changes nothing, but that a failure may shut the connection, and finds what `IsAnswer` says of the content

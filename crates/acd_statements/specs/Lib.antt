@@ -1,13 +1,8 @@
 pub mod Schema
 pub mod Making
-pub mod Rows
 pub mod Content
 pub mod Draft
-pub mod Reading
 pub mod Finding
-pub mod Codes
 pub mod Decoding
-pub mod Reports
-pub mod Ranges
 pub mod Seeing
 pub mod Lying

@@ -5,7 +5,7 @@ ghost use Rattle.sqlite.specs.Effect.{Database};
 ghost use Rattle.sqlite.specs.Held.{state};
 ghost use Rattle.acd_model.specs.Scans.{monitor_of};
 ghost use Rattle.acd_book.specs.Content.{events_behind, is_told, kept_of};
-ghost use Rattle.acd_statements.specs.Rows.{group_values, station_values, agent_values, call_values, connection_values, monitor_values, event_values, kept_values};
+ghost use Rattle.acd_columns.specs.Rows.{group_values, station_values, agent_values, call_values, connection_values, monitor_values, event_values, kept_values};
 ghost use Rattle.acd_statements.specs.declared.tables.Log.TheVariants as log;
 ghost use Rattle.acd_statements.specs.declared.tables.Table.TheVariants as table;
 ghost use Rattle.acd_statements.specs.Lying.{lying, IsPageRows};

@@ -10,13 +10,13 @@ ghost use Rattle.sqlite.specs.Values.{bound};
 ghost use Rattle.acd_book.specs.Content.{Content};
 ghost use Rattle.acd_statements.specs.Schema.{book_schema};
 ghost use Rattle.acd_statements.specs.Content.{meta_of};
-ghost use Rattle.acd_statements.specs.Reading.{meta_shown, limits_in, meta_in};
+ghost use Rattle.acd_columns.specs.Reading.{meta_shown, limits_in, meta_in};
 ghost use Rattle.acd_statements.specs.Lying.{lying};
 ghost use Rattle.acd_statements.specs.declared.tables.Table.TheVariants as table;
 ghost use Rattle.acd_statements.specs.Draft.{Holds, Quiet, NoStop};
 ghost use Rattle.acd_statements.specs.Seeing.{Sees};
 
-use crate::meta::Meta;
+use acd_columns::Meta;
 use acd_terms::Limits;
 use sqlite::types::ValueRef;
 use sqlite::{Alter, Connection, Error, Row};

@@ -17,11 +17,11 @@ ghost use Rattle.acd_statements.specs.Content.{with_part};
 ghost use Rattle.acd_statements.specs.Draft.{Drafts, Works, Ran, Fits, FiguresFit, MetaFits};
 
 use crate::bind;
-use crate::codes::{agent_code, connection_code, kind_code};
-use crate::meta::Meta;
 use crate::tables::Table;
 use acd_book::Kept;
 use acd_codec::reads_back;
+use acd_columns::Meta;
+use acd_columns::codes::{agent_code, connection_code, kind_code};
 use acd_terms::{
     AgentRecord, CallRecord, ConnectionRecord, DeviceId, Event, GroupRecord, MonitorRecord,
     StationRecord,

@@ -2,7 +2,7 @@ use Rattle.std.proofs.Common.{ℕ, nat_lt}
 use Rattle.sqlite.specs.Held.{state}
 use Rattle.acd_terms.specs.declared.event.Event.{Event}
 use Rattle.acd_book.specs.Content.{Content}
-use Rattle.acd_statements.specs.Rows.{event_values}
+use Rattle.acd_columns.specs.Rows.{event_values}
 use Rattle.acd_sqlbook.proofs.Pages.{paged, falls_number}
 use Rattle.acd_sqlbook.proofs.lookups.event_page.Goals as goal
 

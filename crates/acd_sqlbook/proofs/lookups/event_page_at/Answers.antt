@@ -1,7 +1,7 @@
 use Rattle.std.proofs.Common.{Some}
 use Rattle.sqlite.specs.Held.{state}
 use Rattle.acd_book.specs.Content.{Content, is_told}
-use Rattle.acd_statements.specs.Rows.{event_values}
+use Rattle.acd_columns.specs.Rows.{event_values}
 use Rattle.acd_sqlbook.proofs.Pages.{paged, falls_told}
 use Rattle.acd_sqlbook.proofs.lookups.event_page_at.Goals as goal
 

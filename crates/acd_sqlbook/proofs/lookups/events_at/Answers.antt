@@ -1,8 +1,8 @@
 use Rattle.std.proofs.Common.{filter, take, Some}
 use Rattle.sqlite.specs.Held.{state}
 use Rattle.acd_book.specs.Content.{Content, is_told}
-use Rattle.acd_statements.specs.Ranges.{event_in}
-use Rattle.acd_statements.specs.Rows.{event_values}
+use Rattle.acd_columns.specs.Ranges.{event_in}
+use Rattle.acd_columns.specs.Rows.{event_values}
 use Rattle.acd_sqlbook.proofs.Recorded.{recorded, event_exact}
 use Rattle.acd_sqlbook.proofs.lookups.events_at.Goals as goal
 

@@ -1,7 +1,7 @@
 use Rattle.sqlite.specs.Held.{state}
 use Rattle.acd_book.specs.Content.{Content, events_behind}
-use Rattle.acd_statements.specs.Ranges.{event_in}
-use Rattle.acd_statements.specs.Rows.{event_values}
+use Rattle.acd_columns.specs.Ranges.{event_in}
+use Rattle.acd_columns.specs.Rows.{event_values}
 use Rattle.acd_sqlbook.proofs.Recorded.{recorded, event_exact}
 use Rattle.acd_sqlbook.proofs.lookups.events_behind.Goals as goal
 

@@ -2,7 +2,7 @@ use Rattle.std.proofs.Common.{ℕ, nat_lt, refl}
 use Rattle.sqlite.specs.Held.{state}
 use Rattle.acd_book.specs.Content.{Content}
 use Rattle.acd_book.specs.declared.kept.Kept.{Kept}
-use Rattle.acd_statements.specs.Rows.{kept_values}
+use Rattle.acd_columns.specs.Rows.{kept_values}
 use Rattle.acd_sqlbook.proofs.Pages.{paged, falls_number}
 use Rattle.acd_sqlbook.proofs.lookups.kept_page.Goals as goal
 

@@ -1,9 +1,8 @@
 use Rattle.sqlite.specs.Held.{state}
 use Rattle.acd_book.specs.Content.{Content, kept_of, is_key}
 use Rattle.acd_book.specs.declared.kept.Kept.{Kept}
-use Rattle.acd_statements.specs.Content.{IsReadable}
-use Rattle.acd_statements.specs.Ranges.{kept_in}
-use Rattle.acd_statements.specs.Rows.{kept_values}
+use Rattle.acd_columns.specs.Rows.{IsReadable, kept_values}
+use Rattle.acd_columns.specs.Ranges.{kept_in}
 use Rattle.acd_sqlbook.proofs.FirstFound.{first_recorded, found_readable}
 use Rattle.acd_sqlbook.proofs.Recorded.{kept_exact}
 use Rattle.acd_sqlbook.proofs.lookups.kept_under.Goals as goal

@@ -4,8 +4,8 @@ use Rattle.std.specs.declared.alloc.Global.{Global}
 use Rattle.sqlite.specs.Held.{state}
 use Rattle.acd_terms.specs.declared.record.CallRecord.{CallRecord}
 use Rattle.acd_book.specs.Content.{Content}
-use Rattle.acd_statements.specs.Ranges.{call_in}
-use Rattle.acd_statements.specs.Rows.{call_values}
+use Rattle.acd_columns.specs.Ranges.{call_in}
+use Rattle.acd_columns.specs.Rows.{call_values}
 use Rattle.acd_sqlbook.proofs.Recorded.{found_none, recorded, call_exact}
 use Rattle.acd_statements.specs.Finding.{Finds}
 use Rattle.acd_sqlbook.proofs.reads.calls.Goals as goal

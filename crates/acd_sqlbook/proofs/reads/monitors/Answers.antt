@@ -4,8 +4,8 @@ use Rattle.std.specs.declared.alloc.Global.{Global}
 use Rattle.sqlite.specs.Held.{state}
 use Rattle.acd_terms.specs.declared.record.MonitorRecord.{MonitorRecord}
 use Rattle.acd_book.specs.Content.{Content}
-use Rattle.acd_statements.specs.Ranges.{monitor_in}
-use Rattle.acd_statements.specs.Rows.{monitor_values}
+use Rattle.acd_columns.specs.Ranges.{monitor_in}
+use Rattle.acd_columns.specs.Rows.{monitor_values}
 use Rattle.acd_sqlbook.proofs.Recorded.{found_none, recorded, monitor_exact}
 use Rattle.acd_statements.specs.Finding.{Finds}
 use Rattle.acd_sqlbook.proofs.reads.monitors.Goals as goal

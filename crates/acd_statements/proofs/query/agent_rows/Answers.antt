@@ -1,8 +1,7 @@
 use Rattle.sqlite.specs.Held.{state}
 use Rattle.acd_statements.proofs.Listings.{finds}
-use Rattle.acd_statements.proofs.Asked.{agents_plain, shows_agents}
+use Rattle.acd_statements.proofs.Asked.{agents_plain, shows_agents, agents_listing}
 use Rattle.acd_statements.specs.declared.tables.Table.TheVariants as table
-use Rattle.acd_statements.proofs.Asked.{agents_listing}
 use Rattle.acd_statements.proofs.Looked.{asks_agents, plain_of, sees_all}
 use Rattle.acd_statements.proofs.QueryTexts.{read_agents}
 use Rattle.acd_statements.proofs.query.agent_rows.Goals as goal

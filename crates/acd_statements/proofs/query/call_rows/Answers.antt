@@ -1,8 +1,7 @@
 use Rattle.sqlite.specs.Held.{state}
 use Rattle.acd_statements.proofs.Listings.{finds}
-use Rattle.acd_statements.proofs.Asked.{calls_plain, shows_calls}
+use Rattle.acd_statements.proofs.Asked.{calls_plain, shows_calls, calls_listing}
 use Rattle.acd_statements.specs.declared.tables.Table.TheVariants as table
-use Rattle.acd_statements.proofs.Asked.{calls_listing}
 use Rattle.acd_statements.proofs.Looked.{asks_calls, plain_of, sees_all}
 use Rattle.acd_statements.proofs.QueryTexts.{read_calls}
 use Rattle.acd_statements.proofs.query.call_rows.Goals as goal

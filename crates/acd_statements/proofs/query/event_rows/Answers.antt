@@ -1,11 +1,10 @@
 use Rattle.std.proofs.Common.{[], ◌∷◌}
 use Rattle.sqlite.specs.Held.{state}
-use Rattle.acd_statements.specs.Rows.{id_value}
+use Rattle.acd_columns.specs.Rows.{id_value}
 use Rattle.acd_statements.proofs.Listings.{finds}
-use Rattle.acd_statements.proofs.Asked.{events_plain, shows_events_after}
+use Rattle.acd_statements.proofs.Asked.{events_plain, shows_events_after, events_listing}
 use Rattle.acd_statements.proofs.QueryTexts.{read_events_after}
 use Rattle.acd_statements.specs.declared.tables.Log.TheVariants as log
-use Rattle.acd_statements.proofs.Asked.{events_listing}
 use Rattle.acd_statements.proofs.Looked.{asks_events, plain_of, sees_page}
 use Rattle.acd_statements.proofs.query.event_rows.Goals as goal
 

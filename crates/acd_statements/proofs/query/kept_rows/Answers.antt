@@ -1,11 +1,10 @@
 use Rattle.std.proofs.Common.{[], ◌∷◌}
 use Rattle.sqlite.specs.Held.{state}
-use Rattle.acd_statements.specs.Rows.{id_value}
+use Rattle.acd_columns.specs.Rows.{id_value}
 use Rattle.acd_statements.proofs.Listings.{finds}
-use Rattle.acd_statements.proofs.Asked.{kept_plain, shows_kept_after}
+use Rattle.acd_statements.proofs.Asked.{kept_plain, shows_kept_after, kept_listing}
 use Rattle.acd_statements.proofs.QueryTexts.{read_kept_after}
 use Rattle.acd_statements.specs.declared.tables.Log.TheVariants as log
-use Rattle.acd_statements.proofs.Asked.{kept_listing}
 use Rattle.acd_statements.proofs.Looked.{asks_kept, plain_of, sees_page}
 use Rattle.acd_statements.proofs.query.kept_rows.Goals as goal
 

@@ -1,5 +1,5 @@
 use Rattle.sqlite.specs.Held.{state}
-use Rattle.acd_statements.specs.Rows.{call_values}
+use Rattle.acd_columns.specs.Rows.{call_values}
 use Rattle.acd_statements.proofs.Texts.{insert_call}
 use Rattle.acd_statements.proofs.Writes.{drafts, inserts_call}
 use Rattle.acd_statements.proofs.write.insert_call.Goals as goal

@@ -1,5 +1,5 @@
 use Rattle.sqlite.specs.Held.{state}
-use Rattle.acd_statements.specs.Rows.{connection_values}
+use Rattle.acd_columns.specs.Rows.{connection_values}
 use Rattle.acd_statements.proofs.Texts.{insert_connection}
 use Rattle.acd_statements.proofs.Connections.{inserts_connection}
 use Rattle.acd_statements.proofs.Writes.{drafts}

@@ -1,5 +1,5 @@
 use Rattle.sqlite.specs.Held.{state}
-use Rattle.acd_statements.specs.Rows.{event_values}
+use Rattle.acd_columns.specs.Rows.{event_values}
 use Rattle.acd_statements.proofs.Texts.{put_event}
 use Rattle.acd_statements.proofs.Writes.{drafts, puts_event}
 use Rattle.acd_statements.proofs.write.put_event.Goals as goal

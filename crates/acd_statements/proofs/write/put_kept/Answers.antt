@@ -1,5 +1,5 @@
 use Rattle.sqlite.specs.Held.{state}
-use Rattle.acd_statements.specs.Rows.{kept_values}
+use Rattle.acd_columns.specs.Rows.{kept_values}
 use Rattle.acd_statements.proofs.Texts.{put_kept}
 use Rattle.acd_statements.proofs.Writes.{drafts, puts_kept}
 use Rattle.acd_statements.proofs.write.put_kept.Goals as goal

@@ -1,5 +1,5 @@
 use Rattle.sqlite.specs.Held.{state}
-use Rattle.acd_statements.specs.Rows.{meta_values}
+use Rattle.acd_columns.specs.Rows.{meta_values}
 use Rattle.acd_statements.proofs.Texts.{put_meta}
 use Rattle.acd_statements.proofs.Writes.{drafts, puts_meta, starts}
 use Rattle.acd_statements.proofs.write.put_meta.Goals as goal

@@ -1,5 +1,5 @@
 use Rattle.sqlite.specs.Held.{state}
-use Rattle.acd_statements.specs.Rows.{monitor_values}
+use Rattle.acd_columns.specs.Rows.{monitor_values}
 use Rattle.acd_statements.proofs.Texts.{put_monitor}
 use Rattle.acd_statements.proofs.Writes.{drafts, puts_monitor}
 use Rattle.acd_statements.proofs.write.put_monitor.Goals as goal

@@ -1,5 +1,5 @@
 use Rattle.sqlite.specs.Held.{state}
-use Rattle.acd_statements.specs.Rows.{station_values}
+use Rattle.acd_columns.specs.Rows.{station_values}
 use Rattle.acd_statements.proofs.Texts.{put_station}
 use Rattle.acd_statements.proofs.Writes.{drafts, puts_station}
 use Rattle.acd_statements.proofs.write.put_station.Goals as goal

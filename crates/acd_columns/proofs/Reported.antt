@@ -1,0 +1,211 @@
+-- A row that is read as an event or as a kept record is that of the record.
+use Rattle.std.proofs.Common.{◌≡◌, ℕ, ◌==◌, length, List, [], ◌∷◌, Bool, true, false, not, cond, ◌&&◌, Option, Some, None, Result, Ok, Err, refl, sym, ap, subst, ◌∙◌}
+use Rattle.std.specs.Option.{is_some, unwrap_or}
+use Rattle.sqlite_value.specs.Order.{Row, column}
+use Rattle.std.specs.Str.{bytes_eq, is_utf8}
+use Rattle.std.specs.Result.{result_ok}
+use Rattle.std.specs.Cmp.{unsigned_Decides}
+use Rattle.std.proofs.lemmas.Slice.Eq.{bytes_eq-Decides}
+use Rattle.sqlite_value.specs.declared.value.Value.TheVariants.{Text}
+use Rattle.acd_codec.specs.Reading.{reads_as}
+use Rattle.acd_codec.specs.RequestTexts.{request_text}
+use Rattle.acd_terms.specs.declared.command.Request.{Request}
+use Rattle.acd_terms.specs.Columns.{columns_of, group_waited, seconds_waited}
+use Rattle.acd_terms.specs.declared.event.EventKind.{EventKind}
+use Rattle.acd_terms.specs.declared.event.EventKind.TheVariants as kind
+use Rattle.acd_terms.specs.declared.event.Cause.{Cause}
+use Rattle.acd_terms.specs.declared.event.Cause.TheVariants as cause
+use Rattle.acd_terms.specs.declared.event.Columns.{Columns}
+use Rattle.acd_terms.specs.declared.event.Report.{Report}
+use Rattle.acd_terms.specs.declared.event.Event.{Event}
+use Rattle.acd_book.specs.declared.kept.Kept.{Kept}
+use Rattle.acd_columns.specs.Rows.{IsReadable, id_value, cause_code, report_values, event_values, kept_values}
+use Rattle.acd_columns.specs.Decoding.{report_of, waited_of}
+use Rattle.acd_columns.specs.Reports.{admits_cause, is_formed, report_in}
+use Rattle.acd_columns.specs.Ranges.{device_at, serial_at, agent_at, moment_at, cause_at, columns_at, event_in, request_at, whole_at, text_at, status_at, utf8_of, body_at, kept_in}
+use Rattle.acd_columns.proofs.Ranged.{text_stored, whole_stored, bound, guarded, some_same, row_is, beside, or_none_stored, stamp_stored, serial_stored, moment_stored, device_stored, agent_id_stored, kind_stored, cause_stored}
+
+-- ---- columns that are there, and columns that aren't
+
+there : {A : Type 0} (o : Option A) (x : A) → is_some o ≡ true → Some (unwrap_or o x) ≡ o
+there None x h = absurd (cc h)
+there (Some y) x h = refl
+
+absent : {A : Type 0} (o : Option A) → not (is_some o) ≡ true → None ≡ o
+absent None h = refl
+absent (Some y) h = absurd (cc h)
+
+parts : (a b c d e f g h i : Bool) → (a && b && c && d && e && f && g && h && i) ≡ true
+    → (a ≡ true) × (b ≡ true) × (c ≡ true) × (d ≡ true) × (e ≡ true) × (f ≡ true) × (g ≡ true) × (h ≡ true) × (i ≡ true)
+parts true true true true true true true true true q = (refl, refl, refl, refl, refl, refl, refl, refl, refl)
+parts true true true true true true true true false q = absurd (cc q)
+parts true true true true true true true false i q = absurd (cc q)
+parts true true true true true true false h i q = absurd (cc q)
+parts true true true true true false g h i q = absurd (cc q)
+parts true true true true false f g h i q = absurd (cc q)
+parts true true true false e f g h i q = absurd (cc q)
+parts true true false d e f g h i q = absurd (cc q)
+parts true false c d e f g h i q = absurd (cc q)
+parts false b c d e f g h i q = absurd (cc q)
+
+both_group : (g s : Option ℕ) → cond (is_some g) (is_some s) (not (is_some s)) ≡ true → group_waited (waited_of g s) ≡ g
+both_group None None h = refl
+both_group None (Some s) h = refl
+both_group (Some g) None h = absurd (cc h)
+both_group (Some g) (Some s) h = refl
+
+both_seconds : (g s : Option ℕ) → cond (is_some g) (is_some s) (not (is_some s)) ≡ true → seconds_waited (waited_of g s) ≡ s
+both_seconds None None h = refl
+both_seconds None (Some s) h = absurd (cc h)
+both_seconds (Some g) None h = absurd (cc h)
+both_seconds (Some g) (Some s) h = refl
+
+busy_is : (w : Option Cause) → is_some w ≡ true → admits_cause kind.Failed w ≡ true → Some cause.Busy ≡ w
+busy_is None h k = absurd (cc h)
+busy_is (Some cause.NewCall) h k = absurd (cc k)
+busy_is (Some cause.Distributed) h k = absurd (cc k)
+busy_is (Some cause.Deflected) h k = absurd (cc k)
+busy_is (Some cause.Transferred) h k = absurd (cc k)
+busy_is (Some cause.NoAnswer) h k = absurd (cc k)
+busy_is (Some cause.Busy) h k = refl
+
+abbrev with_columns : EventKind → (d c a g t : Option ℕ) → Option Cause → Option ℕ → Columns
+with_columns k d c a g t w s = record { kind = k; device = d; call = c; agent = a; group = g; to = t; cause = w; waited = s }
+
+same : (k : EventKind) {d d' c c' a a' g g' t t' : Option ℕ} {w w' : Option Cause} {s s' : Option ℕ} → d ≡ d' → c ≡ c' → a ≡ a' → g ≡ g' → t ≡ t' → w ≡ w' → s ≡ s'
+    → with_columns k d c a g t w s ≡ with_columns k d' c' a' g' t' w' s'
+same k e1 e2 e3 e4 e5 e6 e7 = rw (e1, e2, e3, e4, e5, e6, e7) refl
+
+formed : (k : EventKind) (d c a g t : Option ℕ) (w : Option Cause) (s : Option ℕ) → is_formed (with_columns k d c a g t w s) ≡ true
+    → columns_of (report_of (with_columns k d c a g t w s)) ≡ with_columns k d c a g t w s
+unfolding is_formed
+formed kind.ServiceInitiated d c a g t w s h = let p = parts _ _ _ _ _ _ _ _ _ h in same kind.ServiceInitiated (there d 0 p.0) (there c 0 p.1) (absent a p.2) (absent g p.3) (absent t p.4) (absent w p.5) (absent s p.6)
+formed kind.Originated d c a g t w s h = let p = parts _ _ _ _ _ _ _ _ _ h in same kind.Originated (there d 0 p.0) (there c 0 p.1) (absent a p.2) (absent g p.3) (there t 0 p.4) (absent w p.5) (absent s p.6)
+formed kind.Queued d c a g t w s h = let p = parts _ _ _ _ _ _ _ _ _ h in same kind.Queued (there d 0 p.0) (there c 0 p.1) (absent a p.2) (absent g p.3) (absent t p.4) (there w cause.NewCall p.5) (absent s p.6)
+formed kind.Delivered d c a g t w s h = let p = parts _ _ _ _ _ _ _ _ _ h in same kind.Delivered (there d 0 p.0) (there c 0 p.1) (absent a p.2) refl (absent t p.4) (there w cause.NewCall p.5) (absent s p.6)
+formed kind.Diverted d c a g t w s h = let p = parts _ _ _ _ _ _ _ _ _ h in same kind.Diverted (there d 0 p.0) (there c 0 p.1) (absent a p.2) refl (there t 0 p.4) (there w cause.NewCall p.5) (absent s p.6)
+formed kind.Established d c a g t w s h = let p = parts _ _ _ _ _ _ _ _ _ h in same kind.Established (there d 0 p.0) (there c 0 p.1) (absent a p.2) (both_group g s p.8) (absent t p.4) (absent w p.5) (both_seconds g s p.8)
+formed kind.Held d c a g t w s h = let p = parts _ _ _ _ _ _ _ _ _ h in same kind.Held (there d 0 p.0) (there c 0 p.1) (absent a p.2) (absent g p.3) (absent t p.4) (absent w p.5) (absent s p.6)
+formed kind.Retrieved d c a g t w s h = let p = parts _ _ _ _ _ _ _ _ _ h in same kind.Retrieved (there d 0 p.0) (there c 0 p.1) (absent a p.2) (absent g p.3) (absent t p.4) (absent w p.5) (absent s p.6)
+formed kind.Transferred d c a g t w s h = let p = parts _ _ _ _ _ _ _ _ _ h in same kind.Transferred (there d 0 p.0) (there c 0 p.1) (absent a p.2) (absent g p.3) (there t 0 p.4) (absent w p.5) (absent s p.6)
+formed kind.Failed d c a g t w s h = let p = parts _ _ _ _ _ _ _ _ _ h in same kind.Failed (there d 0 p.0) (there c 0 p.1) (absent a p.2) (absent g p.3) (absent t p.4) (busy_is w p.5 p.7) (absent s p.6)
+formed kind.ConnectionCleared d c a g t w s h = let p = parts _ _ _ _ _ _ _ _ _ h in same kind.ConnectionCleared (there d 0 p.0) (there c 0 p.1) (absent a p.2) (absent g p.3) (absent t p.4) (absent w p.5) (absent s p.6)
+formed kind.CallCleared d c a g t w s h = let p = parts _ _ _ _ _ _ _ _ _ h in same kind.CallCleared (absent d p.0) (there c 0 p.1) (absent a p.2) refl (absent t p.4) (absent w p.5) (absent s p.6)
+formed kind.AgentLoggedOn d c a g t w s h = let p = parts _ _ _ _ _ _ _ _ _ h in same kind.AgentLoggedOn (there d 0 p.0) (absent c p.1) (there a 0 p.2) (there g 0 p.3) (absent t p.4) (absent w p.5) (absent s p.6)
+formed kind.AgentLoggedOff d c a g t w s h = let p = parts _ _ _ _ _ _ _ _ _ h in same kind.AgentLoggedOff (there d 0 p.0) (absent c p.1) (there a 0 p.2) (absent g p.3) (absent t p.4) (absent w p.5) (absent s p.6)
+formed kind.AgentNotReady d c a g t w s h = let p = parts _ _ _ _ _ _ _ _ _ h in same kind.AgentNotReady (there d 0 p.0) (absent c p.1) (there a 0 p.2) (absent g p.3) (absent t p.4) (absent w p.5) (absent s p.6)
+formed kind.AgentReady d c a g t w s h = let p = parts _ _ _ _ _ _ _ _ _ h in same kind.AgentReady (there d 0 p.0) (absent c p.1) (there a 0 p.2) (absent g p.3) (absent t p.4) (absent w p.5) (absent s p.6)
+formed kind.AgentBusy d c a g t w s h = let p = parts _ _ _ _ _ _ _ _ _ h in same kind.AgentBusy (there d 0 p.0) (absent c p.1) (there a 0 p.2) (absent g p.3) (absent t p.4) (absent w p.5) (absent s p.6)
+formed kind.AgentWorkingAfterCall d c a g t w s h = let p = parts _ _ _ _ _ _ _ _ _ h in same kind.AgentWorkingAfterCall (there d 0 p.0) (absent c p.1) (there a 0 p.2) (absent g p.3) (absent t p.4) (absent w p.5) (absent s p.6)
+
+-- a report's columns are those that it was read from
+pub report_formed : (c : Columns) (r : Report) → report_in c ≡ Some r → columns_of r ≡ c
+unfolding report_in
+report_formed c r h =
+    let p = guarded (is_formed c) (Some (report_of c)) r h in
+    ap columns_of (sym (some_same (report_of c) r p.1)) ∙ formed c.kind c.device c.call c.agent c.group c.to c.cause c.waited p.0
+
+-- ---- events
+
+pub columns_stored : (r : Row) (c : Columns) → columns_at r ≡ Some c
+    → (column r 2 ∷ column r 3 ∷ column r 4 ∷ column r 5 ∷ column r 6 ∷ column r 7 ∷ column r 8 ∷ column r 9 ∷ []) ≡ report_values c
+unfolding columns_at
+columns_stored r c h =
+    let what = bound _ _ c h in
+    let device = bound _ _ c what.2 in
+    let call = bound _ _ c device.2 in
+    let agent = bound _ _ c call.2 in
+    let group = bound _ _ c agent.2 in
+    let to = bound _ _ c group.2 in
+    let why = bound _ _ c to.2 in
+    let waited = bound _ _ c why.2 in
+    beside _ _ _ _ (kind_stored r 2 _ what.1) (beside _ _ _ _ (or_none_stored r 3 device_at id_value (device_stored r 3) _ device.1)
+    (beside _ _ _ _ (or_none_stored r 4 serial_at id_value (serial_stored r 4) _ call.1) (beside _ _ _ _ (or_none_stored r 5 agent_at id_value (agent_id_stored r 5) _ agent.1)
+    (beside _ _ _ _ (or_none_stored r 6 device_at id_value (device_stored r 6) _ group.1) (beside _ _ _ _ (or_none_stored r 7 device_at id_value (device_stored r 7) _ to.1)
+    (beside _ _ _ _ (or_none_stored r 8 cause_at (λ w. id_value (cause_code w)) (cause_stored r 8) _ why.1)
+    (beside _ _ _ _ (or_none_stored r 9 moment_at id_value (moment_stored r 9) _ waited.1) refl)))))))
+    ∙ ap report_values (some_same _ c waited.2)
+
+pub event_stored : (r : Row) (e : Event) → event_in r ≡ Some e → r ≡ event_values e
+unfolding event_in
+event_stored r e h =
+    let w = guarded (length r == 10) _ e h in
+    let number = bound _ _ e w.1 in
+    let moment = bound _ _ e number.2 in
+    let columns = bound _ _ e moment.2 in
+    let report = bound _ _ e columns.2 in
+    row_is 10 r w.0
+    ∙ beside _ _ _ _ (stamp_stored r 0 _ number.1) (beside _ _ _ _ (moment_stored r 1 _ moment.1) (columns_stored r columns.0 columns.1 ∙ ap report_values (sym (report_formed columns.0 report.0 report.1))))
+    ∙ ap event_values (some_same _ e report.2)
+
+-- ---- kept records
+
+all_three : (a b c : Bool) → (a && b && c) ≡ true → (a ≡ true) × (b ≡ true) × (c ≡ true)
+all_three true true true e = (refl, refl, refl)
+all_three true true false e = absurd (cc e)
+all_three true false c e = absurd (cc e)
+all_three false b c e = absurd (cc e)
+
+ok_same : {E : Type 0} (r : Result Request E) (q : Request) → result_ok r ≡ Some q → r ≡ Ok q
+ok_same (Ok x) q h = ap Ok (some_same x q h)
+ok_same (Err e) q h = absurd (cc h)
+
+-- the columns of the key and the text are those of the request, which is read from its text
+pub record IsOwn (r : Row) (q : Request) : Type 0 where
+  pub requester : column r 1 ≡ Text q.requester
+  pub invoke : column r 2 ≡ id_value q.invoke
+  pub text : column r 4 ≡ Text (request_text q)
+  pub reads : reads_as (request_text q) ≡ Ok q
+
+own : (r : Row) (q : Request) (name : List ℕ) (n : ℕ) (t : List ℕ) → column r 1 ≡ Text name → column r 2 ≡ id_value n → column r 4 ≡ Text t → reads_as t ≡ Ok q
+    → (bytes_eq name q.requester && (n == q.invoke) && bytes_eq t (request_text q)) ≡ true → IsOwn r q
+own r q name n t e f g h test =
+    let all = all_three (bytes_eq name q.requester) (n == q.invoke) (bytes_eq t (request_text q)) test in
+    let same : t ≡ request_text q = (bytes_eq-Decides t (request_text q)).0 all.2 in
+    record {
+      requester = e ∙ ap Text ((bytes_eq-Decides name q.requester).0 all.0);
+      invoke = f ∙ ap id_value ((unsigned_Decides n q.invoke).0 all.1);
+      text = g ∙ ap Text same;
+      reads = ap reads_as (sym same) ∙ h;
+    }
+
+pub request_stored : (r : Row) (q : Request) → request_at r ≡ Some q → IsOwn r q
+unfolding request_at
+request_stored r q h =
+    let requester = bound _ _ q h in
+    let invoke = bound _ _ q requester.2 in
+    let text = bound _ _ q invoke.2 in
+    let request = bound _ _ q text.2 in
+    let test = guarded _ (Some request.0) q request.2 in
+    subst (IsOwn r) (some_same request.0 q test.1)
+    (own r request.0 requester.0 invoke.0 text.0 (text_stored r 1 _ requester.1) (whole_stored r 2 _ invoke.1) (text_stored r 4 _ text.1) (ok_same (reads_as text.0) request.0 request.1) test.0)
+
+status_stored : (r : Row) (at n : ℕ) → status_at r at ≡ Some n → column r at ≡ id_value n
+unfolding status_at
+status_stored r at n h =
+    let b = bound (whole_at r at) _ n h in
+    whole_stored r at b.0 b.1 ∙ ap id_value (some_same b.0 n (guarded _ (Some b.0) n b.2).1)
+
+body_stored : (r : Row) (at : ℕ) (t : List ℕ) → body_at r at ≡ Some t → column r at ≡ Text t
+unfolding body_at
+body_stored r at t h =
+    let b = bound (text_at r at) utf8_of t h in
+    text_stored r at b.0 b.1 ∙ ap Text (some_same b.0 t (guarded (is_utf8 b.0) (Some b.0) t b.2).1)
+
+pub kept_stored : (r : Row) (k : Kept) → kept_in r ≡ Some k → (r ≡ kept_values k) × IsReadable k
+unfolding kept_in
+kept_stored r k h =
+    let w = guarded (length r == 7) _ k h in
+    let stamp = bound _ _ k w.1 in
+    let moment = bound _ _ k stamp.2 in
+    let request = bound _ _ k moment.2 in
+    let status = bound _ _ k request.2 in
+    let body = bound _ _ k status.2 in
+    let o = request_stored r request.0 request.1 in
+    let same = some_same _ k body.2 in (
+      row_is 7 r w.0
+          ∙ beside _ _ _ _ (stamp_stored r 0 _ stamp.1) (beside _ _ _ _ o.requester (beside _ _ _ _ o.invoke (beside _ _ _ _ (moment_stored r 3 _ moment.1)
+          (beside _ _ _ _ o.text (beside _ _ _ _ (status_stored r 5 _ status.1) (beside _ _ _ _ (body_stored r 6 _ body.1) refl))))))
+          ∙ ap kept_values same,
+      subst IsReadable same o.reads,
+    )

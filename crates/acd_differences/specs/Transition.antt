@@ -1,0 +1,35 @@
+-- What leads from the tables of one state to those of another.
+use Rattle.std.specs.Prelude.{◌≡◌, ◌++◌, Bool, List}
+use Rattle.std.specs.declared.cmp.Ordering.{Ordering}
+use Rattle.acd_terms.specs.Lists.{Every}
+use Rattle.acd_terms.specs.declared.rows.Rows.{Rows}
+use Rattle.acd_model.specs.Changes.{changed_by}
+use Rattle.acd_model.specs.declared.moves.Change.{Change}
+use Rattle.acd_model.specs.declared.moves.Change.TheVariants.{Nothing}
+use Rattle.acd_laws.specs.Orders.{Orders}
+use Rattle.acd_differences.specs.Differing.{LeadTo}
+
+-- the lists of one are those of the other; the limits and the counters are not asked for
+pub record HasTables (s t : Rows) : Type 0 where
+  pub groups : s.groups ≡ t.groups
+  pub stations : s.stations ≡ t.stations
+  pub agents : s.agents ≡ t.agents
+  pub calls : s.calls ≡ t.calls
+  pub connections : s.connections ≡ t.connections
+  pub monitors : s.monitors ≡ t.monitors
+
+-- none of the changes stands for a group, a station or an agent that is gone
+abbrev pub AreWhole : List Change → Type 0
+AreWhole = Every (λ (c : Change). c ≡ Nothing → ⊥)
+
+-- the changes, made one after the other over the tables of one state, lead to those of another, where both are in order
+abbrev pub Lead : Rows → Rows → List Change → Type 0
+Lead held new changes = (s : Rows) → HasTables s held → Orders held → Orders new → AreWhole changes → HasTables (changed_by s changes) new
+
+-- the groups, the stations and the agents of one with the rest of another
+abbrev pub with_plan : Rows → Rows → Rows
+with_plan held new = record held { groups = new.groups; stations = new.stations; agents = new.agents }
+
+-- changes that lead from one list to another are added
+abbrev pub AddsSteps : {T : Type 0} → (T → T → Ordering) → (T → T → Bool) → (T → Change) → (T → Change) → List T → List T → List Change → List Change → Type 0
+AddsSteps cmp same off on held new old now = (more : List Change) × (now ≡ old ++ more) × LeadTo cmp same off on held new more

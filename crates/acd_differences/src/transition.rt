@@ -1,0 +1,166 @@
+//! What leads from the tables of one state to those of another, in an order in which each change leaves
+//! all references and keys as the schema wants them.
+
+ghost use Rattle.std.specs.Prelude.{◌≡◌, ◌++◌, map, IfOk, OnOk, IsTrue};
+ghost use Rattle.acd_terms.specs.Lists.{IsAscending};
+ghost use Rattle.acd_terms.specs.declared.record.AgentRecord.{AgentRecord as Agent};
+ghost use Rattle.acd_model.specs.Rules.Plan.{connection_order};
+ghost use Rattle.acd_differences.specs.Transition.{AreWhole, Lead, AddsSteps, with_plan};
+
+use crate::difference::{Filed, row_changes};
+use acd_model::Change;
+use acd_terms::{AgentRecord, ConnectionRecord, Rows, find};
+use std::alloc::{AllocError, Global};
+
+// A push of its own, for any type.
+fn extend<T: Copy + Drop>(noted: &mut Vec<T>, more: &[T]) -> Result<(), AllocError>
+    ensures { OnOk result (noted.new.items ≡ noted.old.items ++ more.now) }
+{
+    noted.extend_from_slice(more)
+}
+
+// Adds the changes from one list to another.
+fn add_changes<R: Filed>(
+    alloc: Global,
+    changes: &mut Vec<Change>,
+    held: &[R],
+    new: &[R],
+) -> Result<(), AllocError>
+    ensures { OnOk result (AddsSteps (λ x y. R.Key.cmp (R.key_of x) (R.key_of y)) R.eq R.gone_of R.put_of held.now new.now changes.old.items changes.new.items) }
+{
+    let more = row_changes(alloc, held, new)?;
+    extend(changes, &more)
+}
+
+// The agent as it is held, but without a station that is to be another's, or nobody's.
+fn unseated(agent: &AgentRecord, next: Option<AgentRecord>) -> AgentRecord
+    ensures { result.agent ≡ agent.now.agent }
+{
+    match next {
+        Some(next) if next.station == agent.station => *agent,
+        _ => AgentRecord {
+            station: None,
+            ..*agent
+        },
+    }
+}
+
+// The agents that are held, each without a station that it gives up.
+fn all_unseated(
+    alloc: Global,
+    held: &[AgentRecord],
+    new: &[AgentRecord],
+) -> Result<Vec<AgentRecord>, AllocError>
+    ensures { IfOk result (λ agents. map (λ (a : Agent). a.agent) agents.items ≡ map (λ (a : Agent). a.agent) held.now) }
+{
+    let mut agents = Vec::new(alloc);
+    for agent in held {
+        let next = find(new, agent.agent);
+        extend(&mut agents, &[unseated(agent, next)])?;
+    }
+    Ok(agents)
+}
+
+// The connections that are held and whose keys stay.
+fn staying(
+    alloc: Global,
+    held: &[ConnectionRecord],
+    new: &[ConnectionRecord],
+) -> Result<Vec<ConnectionRecord>, AllocError>
+    ensures { IfOk result (λ connections. IsAscending connection_order held.now → IsAscending connection_order connections.items) }
+{
+    let mut connections = Vec::new(alloc);
+    for connection in held {
+        if find(new, (connection.call, connection.device)).is_some() {
+            extend(&mut connections, &[*connection])?;
+        }
+    }
+    Ok(connections)
+}
+
+// Groups and stations before agents, who give their stations up before others take them.
+fn plan_changes(alloc: Global, held: &Rows, new: &Rows) -> Result<Vec<Change>, AllocError>
+    ensures { IfOk result (λ changes. Lead held.now (with_plan held.now new.now) changes.items) }
+{
+    let agents = all_unseated(alloc, held.agents.as_slice(), new.agents.as_slice())?;
+    let mut changes = Vec::new(alloc);
+    add_changes(
+        alloc,
+        &mut changes,
+        held.groups.as_slice(),
+        new.groups.as_slice(),
+    )?;
+    add_changes(
+        alloc,
+        &mut changes,
+        held.stations.as_slice(),
+        new.stations.as_slice(),
+    )?;
+    add_changes(alloc, &mut changes, held.agents.as_slice(), &agents)?;
+    add_changes(alloc, &mut changes, &agents, new.agents.as_slice())?;
+    Ok(changes)
+}
+
+// Connections go before their calls, and calls are put before their connections.
+fn traffic_changes(alloc: Global, held: &Rows, new: &Rows) -> Result<Vec<Change>, AllocError>
+    ensures { IfOk result (λ changes. Lead (with_plan held.now new.now) new.now changes.items) }
+{
+    let connections = staying(
+        alloc,
+        held.connections.as_slice(),
+        new.connections.as_slice(),
+    )?;
+    let mut changes = Vec::new(alloc);
+    add_changes(
+        alloc,
+        &mut changes,
+        held.connections.as_slice(),
+        &connections,
+    )?;
+    add_changes(
+        alloc,
+        &mut changes,
+        held.calls.as_slice(),
+        new.calls.as_slice(),
+    )?;
+    add_changes(
+        alloc,
+        &mut changes,
+        &connections,
+        new.connections.as_slice(),
+    )?;
+    add_changes(
+        alloc,
+        &mut changes,
+        held.monitors.as_slice(),
+        new.monitors.as_slice(),
+    )?;
+    Ok(changes)
+}
+
+/// The changes from the tables that are held to new ones, in an order that keeps each reference and each
+/// key at each step, where both states keep them.
+///
+/// Groups and stations come before agents, and agents give their stations up before others take them.
+/// Connections go before their calls, and calls come before their connections. A group, a station or an
+/// agent that is gone is named by [`Change::Nothing`].
+pub fn rows_changes(alloc: Global, held: &Rows, new: &Rows) -> Result<Vec<Change>, AllocError>
+    ensures { IfOk result (λ changes. Lead held.now new.now changes.items) }
+{
+    let mut changes = plan_changes(alloc, held, new)?;
+    let more = traffic_changes(alloc, held, new)?;
+    extend(&mut changes, &more)?;
+    Ok(changes)
+}
+
+/// Whether no record is gone that is never taken out.
+pub fn are_whole(changes: &[Change]) -> bool
+    ensures { IsTrue result → AreWhole changes.now }
+{
+    for change in changes {
+        if matches!(change, Change::Nothing) {
+            return false;
+        }
+    }
+    true
+}

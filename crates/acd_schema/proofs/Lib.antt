@@ -1,0 +1,5 @@
+mod Making
+mod Building
+pub mod Contents
+mod Paged
+mod Looks

@@ -1,0 +1,165 @@
+-- When a connection is taken for a book: its version is that of these tables, and each value is in its range.
+use Rattle.std.specs.Prelude.{◌≡◌, ◌≢◌, ◌⊎◌, ℕ, ◌==◌, Bool, true, false, List, [], ◌∷◌, map, Option, None, Some, if◌then◌else◌, ⊤}
+use Rattle.sqlite_value.specs.Order.{Row}
+use Rattle.sqlite_trees.specs.Tree.{Trees}
+use Rattle.sqlite_rules.specs.Lists.{Has}
+use Rattle.sqlite_schema.specs.declared.schema.Schema.{Schema}
+use Rattle.sqlite.specs.Effect.{Database}
+use Rattle.sqlite.specs.declared.error.Error.{Error}
+use Rattle.sqlite.specs.declared.error.Error.TheVariants.{SqliteFailure}
+use Rattle.sqlite.specs.declared.error.ErrorCode.TheVariants.{OutOfMemory}
+use Rattle.acd_terms.specs.Lists.{Every}
+use Rattle.acd_book.specs.Content.{Content}
+use Rattle.acd_statements.specs.declared.tables.Table.{Table}
+use Rattle.acd_statements.specs.declared.tables.Table.TheVariants as table
+use Rattle.acd_schema.specs.declared.fault.AdoptFault.{AdoptFault}
+use Rattle.acd_schema.specs.declared.fault.AdoptFault.TheVariants.{WrongVersion, BadRow, NoMemory, Store}
+use Rattle.acd_statements.specs.declared.tables.Log.{Log}
+use Rattle.acd_schema.specs.declared.inspection.Likeness.{Likeness}
+use Rattle.acd_schema.specs.declared.inspection.Likeness.TheVariants.{Whole, First, Other}
+use Rattle.acd_schema.specs.declared.inspection.Page.{Page}
+use Rattle.acd_schema.specs.declared.inspection.Page.TheVariants.{Bad, Last, More}
+use Rattle.acd_statements.specs.Content.{meta_of}
+use Rattle.acd_statements.specs.Draft.{Fits}
+use Rattle.acd_statements.specs.Lying.{is_good, are_good, is_good_in, IsFiled, table_of_log, Numbered, AreNumbered, values_behind, has_meta, BeginsAsBook}
+use Rattle.acd_columns.specs.Reading.{meta_shown}
+use Rattle.acd_columns.specs.Rows.{group_values, station_values, agent_values, call_values, connection_values, monitor_values, event_values, kept_values}
+use Rattle.acd_statements.specs.Schema as schema
+use Rattle.acd_statements.specs.Schema.{book_schema}
+use Rattle.acd_columns.specs.Ranges.{◌>>=◌, whole_at}
+
+-- ---- ranges
+
+-- the values of the rows of a table
+abbrev pub values_of : Table → Content → List Row
+values_of table.Meta c = meta_shown (meta_of c.rows) ∷ []
+values_of table.Groups c = map group_values c.rows.groups
+values_of table.Stations c = map station_values c.rows.stations
+values_of table.Agents c = map agent_values c.rows.agents
+values_of table.Calls c = map call_values c.rows.calls
+values_of table.Connections c = map connection_values c.rows.connections
+values_of table.Monitors c = map monitor_values c.rows.monitors
+values_of table.Events c = map event_values c.events
+values_of table.Kept c = map kept_values c.kept
+
+-- each value of the table is in its range
+unfoldable pub is_good_table : Table → Content → Bool
+is_good_table t c = are_good t (values_of t c)
+
+abbrev pub IsInRange : Content → Type 0
+IsInRange c = (t : Table) → is_good_table t c ≡ true
+
+-- the tables, in the order in which they are looked at
+abbrev pub all_tables : List Table
+all_tables = table.Meta ∷ table.Groups ∷ table.Stations ∷ table.Agents ∷ table.Calls ∷ table.Connections ∷ table.Monitors ∷ table.Events ∷ table.Kept ∷ []
+
+-- one that isn't good or, of rows that are filed, none
+abbrev pub IsBadOf : List Table → Trees → Option Table → Type 0
+IsBadOf tables db None = IsFiled db → Every (λ t. is_good_in t db ≡ true) tables
+IsBadOf tables db (Some t) = is_good_in t db ≡ false
+
+unfoldable pub is_good_behind : Log → ℕ → List Numbered → Bool
+is_good_behind l n xs = are_good (table_of_log l) (values_behind l n xs)
+
+abbrev pub number_if_good : Log → Row → Option ℕ
+number_if_good l r = if is_good (table_of_log l) r then whole_at r 0 else None
+
+-- the number of the last row, where all are good
+unfoldable pub last_good : Log → ℕ → List Row → Option ℕ
+last_good l n [] = Some n
+last_good l n (row ∷ rows) = number_if_good l row >>= (λ m. last_good l m rows)
+
+-- what the rows of a page tell
+abbrev pub IsPageOf : Log → ℕ → List Row → Page → Type 0
+IsPageOf l n rows Bad = last_good l n rows ≡ None
+IsPageOf l n rows Last = rows ≡ []
+IsPageOf l n rows (More m) = last_good l n rows ≡ Some m
+
+-- what is left behind a page
+abbrev pub IsPage : Log → ℕ → Trees → Page → Type 0
+IsPage l n db Bad = is_good_in (table_of_log l) db ≡ false
+IsPage l n db Last = (xs : List Numbered) → AreNumbered l db xs → is_good_behind l n xs ≡ true
+IsPage l n db (More m) = (xs : List Numbered) → AreNumbered l db xs → is_good_behind l n xs ≡ is_good_behind l m xs
+
+-- of the rows above 0
+pub record TellsBehind (l : Log) (db : Trees) (good : Bool) : Type 0 where
+  pub bad : good ≡ false → is_good_in (table_of_log l) db ≡ false
+  pub filed : good ≡ true → (xs : List Numbered) → AreNumbered l db xs → is_good_behind l 0 xs ≡ true
+
+-- its number can be asked for
+abbrev pub PageFits : Page → Type 0
+PageFits Bad = ⊤
+PageFits Last = ⊤
+PageFits (More m) = Fits m
+
+-- ---- versions
+
+-- how far the tables are those of a book
+abbrev pub IsLike : Schema → Likeness → Type 0
+IsLike s Whole = s ≡ book_schema
+IsLike s First = BeginsAsBook s
+IsLike s Other = ⊤
+
+-- a row of the first table tells this version
+abbrev pub IsToldIn : Trees → Option ℕ → Type 0
+IsToldIn db version = (r : Row) × Has (db schema.meta.tree) r × (whole_at r 2 ≡ version)
+
+-- the version of a database: 0 where it has no table `meta`, or no row in it
+abbrev pub IsVersion : Database → ℕ → Type 0
+IsVersion d n =
+    ((has_meta d.schema.tables ≡ false) × (n ≡ 0))
+    ⊎ (BeginsAsBook d.schema × (((d.trees schema.meta.tree ≡ []) × (n ≡ 0)) ⊎ IsToldIn d.trees (Some n)))
+
+-- a value of the table is out of its range
+abbrev pub IsBadIn : Table → Database → Type 0
+IsBadIn t d = ((d.schema ≡ book_schema) × (is_good_in t d.trees ≡ false)) ⊎ ((t ≡ table.Meta) × BeginsAsBook d.schema × IsToldIn d.trees None)
+
+abbrev pub fault_of_version : Option ℕ → Option AdoptFault
+fault_of_version None = Some (BadRow table.Meta)
+fault_of_version (Some n) = if n == 1 then None else Some (WrongVersion n)
+
+-- what the rows of versions tell against a book
+abbrev pub version_fault : List Row → Option AdoptFault
+version_fault [] = Some (WrongVersion 0)
+version_fault (r ∷ rows) = fault_of_version (whole_at r 0)
+
+-- ---- faults
+
+-- the store refused
+abbrev pub IsStoreFault : AdoptFault → Type 0
+IsStoreFault (WrongVersion n) = ⊥
+IsStoreFault (BadRow t) = ⊥
+IsStoreFault NoMemory = ⊤
+IsStoreFault Store = ⊤
+
+-- a version that is told is that of the database, and isn't 1; a table that is told has a value out of its range
+abbrev pub IsFaultOf : Database → AdoptFault → Type 0
+IsFaultOf d (WrongVersion n) = (n ≢ 1) × IsVersion d n
+IsFaultOf d (BadRow t) = IsBadIn t d
+IsFaultOf d NoMemory = ⊤
+IsFaultOf d Store = ⊤
+
+-- the tables are those of a book of version 1, and where their rows are filed, each value is in its range
+pub record IsOfBook (d : Database) : Type 0 where
+  pub schema_is : d.schema ≡ book_schema
+  pub version : IsToldIn d.trees (Some 1)
+  pub in_range : IsFiled d.trees → (t : Table) → is_good_in t d.trees ≡ true
+
+-- what the rows tell of tables that are a book's
+abbrev pub IsRowFound : Database → Option AdoptFault → Type 0
+IsRowFound d None = IsFiled d.trees → (t : Table) → is_good_in t d.trees ≡ true
+IsRowFound d (Some f) = IsFaultOf d f
+
+abbrev pub IsFound : Database → Option AdoptFault → Type 0
+IsFound d None = IsOfBook d
+IsFound d (Some f) = IsFaultOf d f
+
+-- the version is 1, or a fault
+abbrev pub IsVersionFound : Database → Option AdoptFault → Type 0
+IsVersionFound d None = IsToldIn d.trees (Some 1)
+IsVersionFound d (Some f) = IsFaultOf d f
+
+-- want of memory is no failure of the store
+abbrev pub adopt_fault_of : Error → AdoptFault
+adopt_fault_of (SqliteFailure OutOfMemory) = NoMemory
+adopt_fault_of _ = Store

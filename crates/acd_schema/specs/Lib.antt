@@ -1,0 +1,2 @@
+pub mod SettingUp
+pub mod Inspecting
