@@ -1,7 +1,7 @@
 //! What leads from the tables of one state to those of another, in an order in which each change leaves
 //! all references and keys as the schema wants them.
 
-ghost use Rattle.std.specs.Prelude.{◌≡◌, ◌++◌, map, IfOk, OnOk, IsTrue};
+ghost use Rattle.std.specs.Prelude.{◌≡◌, ◌↔◌, ◌++◌, map, IfOk, OnOk, IsTrue};
 ghost use Rattle.acd_terms.specs.Lists.{IsAscending};
 ghost use Rattle.acd_terms.specs.declared.record.AgentRecord.{AgentRecord as Agent};
 ghost use Rattle.acd_model.specs.Rules.Plan.{connection_order};
@@ -155,7 +155,7 @@ pub fn rows_changes(alloc: Global, held: &Rows, new: &Rows) -> Result<Vec<Change
 
 /// Whether no record is gone that is never taken out.
 pub fn are_whole(changes: &[Change]) -> bool
-    ensures { IsTrue result → AreWhole changes.now }
+    ensures { IsTrue result ↔ AreWhole changes.now }
 {
     for change in changes {
         if matches!(change, Change::Nothing) {

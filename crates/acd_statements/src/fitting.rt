@@ -1,6 +1,6 @@
 //! Which numbers an INTEGER column can hold.
 
-ghost use Rattle.std.specs.Prelude.{◌↔◌, IsTrue};
+ghost use Rattle.std.specs.Prelude.{◌≡◌, ◌↔◌, IsTrue};
 ghost use Rattle.acd_statements.specs.Draft.{Fits};
 
 use sqlite::{Error, ErrorCode};
@@ -13,6 +13,8 @@ pub fn fits(number: u64) -> bool
 }
 
 /// A number is too large for its column.
-pub fn too_large() -> Error {
+pub fn too_large() -> Error
+    ensures { result ≡ Error.SqliteFailure ErrorCode.TooBig }
+{
     Error::SqliteFailure(ErrorCode::TooBig)
 }
