@@ -1,7 +1,3 @@
-mod Recorded
-mod Chained
-mod Pages
-mod FirstFound
 mod Filing
 mod Skipping
 mod Committing

@@ -1,6 +1,5 @@
 -- Calls over a connection that was tried first.
-use Rattle.std.proofs.Common.{◌≡◌, inl, inr, ℕ, List, [], ◌∷◌, length, Result, Ok, Err, IsTrue, IfOk, OnOk, OnErr, ap, subst, ◌∙◌}
-use Rattle.sqlite_value.specs.Order.{Row}
+use Rattle.std.proofs.Common.{◌≡◌, inl, inr, ℕ, List, length, Result, Ok, Err, IsTrue, IfOk, OnOk, OnErr, ap, subst, ◌∙◌}
 use Rattle.sqlite.specs.declared.error.Error.{Error}
 use Rattle.sqlite.specs.State.{State, HasCleanDisk}
 use Rattle.acd_terms.specs.declared.event.Event.{Event}
@@ -10,20 +9,13 @@ use Rattle.acd_book.specs.declared.kept.Kept.{Kept}
 use Rattle.acd_columns.specs.declared.meta.Meta.{Meta}
 use Rattle.acd_sqlbook.specs.Commit.{counted, made_by, written_by}
 use Rattle.acd_statements.specs.Content.{Encodes, meta_of}
-use Rattle.acd_columns.specs.Reading.{meta_shown}
 use Rattle.acd_sqlbook.specs.Calls.{HasRead, HasCommitted}
 use Rattle.acd_statements.specs.Draft.{Holds, Quiet, NoStop, AddsStop}
 use Rattle.acd_statements.specs.Finding.{Finds}
+use Rattle.acd_reads.proofs.Chained.{quiet_on}
 
 pub quiet_still : (s : State) → Quiet s s
 quiet_still s = record { clean = λ k. k; was_open = λ k up. up; same = λ k c h up. h }
-
-pub quiet_on : (a b c : State) → Quiet a b → Quiet b c → Quiet a c
-quiet_on a b c p q = record {
-  clean = λ k. p.clean (q.clean k);
-  was_open = λ k up. p.was_open (q.clean k) (q.was_open k up);
-  same = λ k x h up. q.same k x (p.same (q.clean k) x h (q.was_open k up)) up;
-}
 
 ok_map : {A : Type 0} (P Q : A → Type 0) (r : Result A Error) → ((a : A) → P a → Q a) → IfOk r P → IfOk r Q
 ok_map P Q (Ok a) f h = f a h
@@ -56,16 +48,6 @@ reads_on old new a (Err e) P Q h on = record { quiet = h.quiet; up = λ k. tt; s
 
 pub reads_fail : {A B : Type 0} (old new : State) (e : Error) (P : Content → A → Type 0) (Q : Content → B → Type 0) → HasRead old new (Err e) P → HasRead old new (Err e) Q
 reads_fail old new e P Q h = record { quiet = h.quiet; up = λ k. tt; stops = h.stops; value = λ k. tt }
-
--- the one row that is read is that of the content
-pub finds_meta : (old new : State) (rows : List Row) (r : Result Meta Error) → IfOk r (λ meta. (m : Meta) → rows ≡ meta_shown m ∷ [] → meta ≡ m)
-    → (HasCleanDisk new → IsTrue new.is_open) → Quiet old new → (HasCleanDisk new → (c : Content) → Holds old c → NoStop old new)
-    → (HasCleanDisk new → (c : Content) → Holds old c → rows ≡ meta_shown (meta_of c.rows) ∷ []) → Finds old new r (λ c meta. meta ≡ meta_of c.rows)
-finds_meta old new rows (Ok meta) read up quiet stops are = record { up = up; quiet = quiet; stops = stops; answer = λ k c held. read (meta_of c.rows) (are k c held) }
-finds_meta old new rows (Err e) read up quiet stops are = record { up = λ k. tt; quiet = quiet; stops = stops; answer = λ k. tt }
-
-pub finds_none : {A : Type 0} (old new : State) (e : Error) (IsAnswer : Content → A → Type 0) → Quiet old new → (HasCleanDisk new → (c : Content) → Holds old c → NoStop old new) → Finds old new (Err e) IsAnswer
-finds_none old new e IsAnswer quiet stops = record { up = λ k. tt; quiet = quiet; stops = stops; answer = λ k. tt }
 
 pub reads_counters : (old new : State) (meta : Meta) (r : Result (ℕ × Meta) Error) (changes : List Change) (events : ℕ) (kept : Kept) → HasRead old new (Ok meta) (λ c found. found ≡ meta_of c.rows)
     → IfOk r (λ next. next.1 ≡ counted meta changes events kept) → HasRead old new r (λ c next. next.1 ≡ counted (meta_of c.rows) changes events kept)

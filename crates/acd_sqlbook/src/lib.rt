@@ -19,8 +19,6 @@ mod adopt;
 mod book;
 mod commit;
 pub mod laws;
-mod lookups;
-mod reads;
 mod ready;
 mod transition;
 

@@ -1,7 +1,7 @@
 //! Calls over a connection that may have failed before. It is tried first where it isn't known to serve,
 //! since a failure may have shut it.
 
-ghost use Rattle.std.specs.Prelude.{◌≡◌, ◌↔◌, ◌∷◌, [], false, IsTrue, IfOk, OnOk};
+ghost use Rattle.std.specs.Prelude.{◌≡◌, ◌↔◌, false, IsTrue, IfOk, OnOk};
 ghost use Rattle.sqlite.specs.State.{HasCleanDisk};
 ghost use Rattle.sqlite.specs.Held.{state};
 ghost use Rattle.acd_book.specs.Content.{IsKeptAfter, events_behind, events_of_monitor, kept_of};
@@ -9,21 +9,17 @@ ghost use Rattle.acd_sqlbook.specs.Calls.{HasRead, HasCommitted};
 ghost use Rattle.acd_sqlbook.specs.Commit.{counted, written_by};
 ghost use Rattle.acd_statements.specs.Content.{meta_of};
 ghost use Rattle.acd_statements.specs.Draft.{Quiet, NoStop, Fits, LimitsFit, MetaFits};
-ghost use Rattle.acd_statements.specs.Finding.{Finds};
-ghost use Rattle.acd_columns.specs.Reading.{meta_shown};
-ghost use Rattle.acd_columns.specs.declared.meta.Meta.{Meta as MetaRow};
 
 use crate::commit::{commit_all, counted};
-use crate::lookups::{events_behind, events_watched, kept_behind, kept_under};
-use crate::reads::rows;
 use acd_book::Kept;
 use acd_codec::request_text;
 use acd_columns::Meta;
 use acd_model::Change;
+use acd_reads::{events_behind, events_watched, kept_behind, kept_under, read_meta, rows};
 use acd_statements::fitting::{fits, too_large};
-use acd_statements::read::{meta_in, meta_rows, probe};
+use acd_statements::read::probe;
 use acd_terms::{Event, Invoke, Limits, Requester, Rows};
-use sqlite::{Alter, Connection, Error, Row};
+use sqlite::{Alter, Connection, Error};
 use std::alloc::Global;
 
 /// Tries the store where it isn't known to serve.
@@ -61,28 +57,6 @@ pub(crate) fn meta_fits(meta: &Meta) -> bool
         && fits(meta.last_call)
         && fits(meta.last_monitor)
         && fits(meta.last_event)
-}
-
-// What the one row of the table holds. A table of another number of rows is not the book's.
-fn only_meta(rows: &[Row]) -> Result<Meta, Error>
-    ensures { IfOk result (λ meta. (m : MetaRow) → rows.now ≡ meta_shown m ∷ [] → meta ≡ m) }
-{
-    if rows.len() != 1 {
-        return Err(Error::QueryReturnedNoRows);
-    }
-    meta_in(&rows[0])
-}
-
-// The limits and the counters.
-pub(crate) fn read_meta<S: Alter>(conn: &mut Connection<S>) -> Result<Meta, Error>
-    requires { conn.old.in_transaction ≡ false }
-    ensures idle { conn.new.in_transaction ≡ false }
-    ensures found { Finds (state S.Store conn.old) (state S.Store conn.new) result (λ c meta. meta ≡ meta_of c.rows) }
-{
-    match meta_rows(conn) {
-        Ok(rows) => only_meta(&rows),
-        Err(error) => Err(error),
-    }
 }
 
 // The limits and the counters.

@@ -1,0 +1,4 @@
+mod Recorded
+pub mod Chained
+mod Pages
+mod FirstFound

@@ -1,0 +1,22 @@
+use Rattle.std.proofs.Common.{◌≡◌, Err, rules, subst, sym}
+use Rattle.std.specs.Prelude.{Vec}
+use Rattle.std.specs.declared.alloc.Global.{Global}
+use Rattle.sqlite.specs.Held.{state}
+use Rattle.acd_terms.specs.declared.record.CallRecord.{CallRecord}
+use Rattle.acd_book.specs.Content.{Content}
+use Rattle.acd_columns.specs.Ranges.{call_in}
+use Rattle.acd_columns.specs.Rows.{call_values}
+use Rattle.acd_reads.proofs.Recorded.{found_none, recorded, call_exact}
+use Rattle.acd_statements.specs.Finding.{Finds}
+use Rattle.acd_reads.proofs.reads.calls.Goals as goal
+
+pub returns-in_err-rows-clause-found : goal.returns-in_err-rows-clause-found
+returns-in_err-rows-clause-found g c =
+    let is : c.from_residual.result ≡ Err c.in_err-rows.field-0.0 = search rules in
+    subst (λ r. Finds (state g.S.Store c.args.conn.now) (state g.S.Store c.call_rows.new.conn) r (λ (x : Content) (found : Vec CallRecord Global). found.items ≡ x.rows.calls)) (sym is)
+    (found_none (state g.S.Store c.args.conn.now) (state g.S.Store c.call_rows.new.conn) c.in_err-rows.field-0.0 _ (λ (x : Content) (found : Vec CallRecord Global). found.items ≡ x.rows.calls) c.in_err-rows.ensures.found)
+
+pub returns-clause-found : goal.returns-clause-found
+returns-clause-found g c =
+    recorded call_in call_values call_exact (state g.S.Store c.args.conn.now) (state g.S.Store c.call_rows.new.conn) c.in_ok-rows.rows c.records.result (λ (x : Content). x.rows.calls) c.in_ok-rows.ensures.found
+    (rw c.deref.ensures.value at c.records.ensures)
