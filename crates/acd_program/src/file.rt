@@ -1,10 +1,15 @@
 //! The file of a desk.
 
-ghost use Rattle.std.specs.Prelude.{◌≡◌, false, IfOk};
+ghost use Rattle.std.specs.Prelude.{◌≡◌, ◌≤◌, false, IsTrue, IfOk};
+ghost use Rattle.sqlite_std_file.specs.File.{file_is_usable};
 
 use crate::fault::Fault;
 use crate::progress::announce;
 use sqlite::{Connection, Error, ErrorCode, File, FileStore};
+use sqlite_disk::{Files, Start, Unknown};
+use sqlite_pager::Options;
+use sqlite_std_file::{FileFrom, OpenError};
+use std::hash::{BuildHasher, RandomState};
 use std::{fs, io};
 
 /// The store of a file.
@@ -32,6 +37,62 @@ fn look<'a>(rt: &HostRuntime, path: &'a str) -> Result<Found, Fault<'a>> {
     }
 }
 
+// The bytes of a page of the store.
+const PAGE: u64 = 4096;
+
+// The store's own choice, 8 MiB; a smaller cache would make a new file's requests slower.
+const LEAST_PAGES: u64 = 2000;
+
+const MOST_PAGES: u64 = 16000;
+
+impl Found {
+    // How many pages the store keeps in memory: as many as the file has, within bounds. An opening goes through the file three times, and
+    // a page that isn't kept is read and digested anew.
+    fn cache_pages(self) -> usize
+        ensures least { 2000 ≤ result }
+        ensures most { result ≤ 16000 }
+    {
+        let pages = match self {
+            Found::Bytes(len) => len / PAGE,
+            Found::Nothing | Found::NoBytes => 0,
+        };
+        pages.clamp(LEAST_PAGES, MOST_PAGES) as usize
+    }
+}
+
+// The files at a path. What the store takes for another thing than a file is none.
+fn open_pair<'a, S: Start>(
+    rt: &HostRuntime,
+    path: &'a str,
+    start: S,
+) -> Result<Files<FileFrom<S>>, Fault<'a>>
+    ensures log { IfOk result (λ files. IsTrue (file_is_usable S.Start files.log)) }
+    ensures db { IfOk result (λ files. IsTrue (file_is_usable S.Start files.db)) }
+{
+    if path == ":memory:" || path.starts_with("file:") {
+        return Err(Fault::CannotOpen(path));
+    }
+    match sqlite_std_file::open(rt, path, start) {
+        Ok(files) => Ok(files),
+        Err(OpenError::OutOfMemory) => Err(Fault::NoMemory),
+        Err(OpenError::Busy) => Err(Fault::OpenElsewhere(path)),
+        Err(OpenError::Io(error)) if error.kind() == io::ErrorKind::OutOfMemory => {
+            Err(Fault::NoMemory)
+        }
+        Err(_) => Err(Fault::CannotOpen(path)),
+    }
+}
+
+fn options<'a>(rt: &HostRuntime, path: &'a str, found: Found) -> Result<Options, Fault<'a>> {
+    let Ok(state) = RandomState::new(rt) else {
+        return Err(Fault::CannotOpen(path));
+    };
+    Ok(Options {
+        cache_pages: found.cache_pages(),
+        ..Options::new(state.hash_one(&0u8))
+    })
+}
+
 fn connect<'a>(
     rt: &HostRuntime,
     path: &'a str,
@@ -42,10 +103,11 @@ fn connect<'a>(
     if let Found::Bytes(len) = found {
         announce(rt, path, len);
     }
-    match Connection::open(rt, path) {
+    let options = options(rt, path, found)?;
+    let files = open_pair(rt, path, Unknown)?;
+    match Connection::open_files(rt.alloc(), files, options) {
         Ok(conn) => Ok(conn),
-        Err(Error::SqliteFailure(ErrorCode::OutOfMemory)) => Err(Fault::NoMemory),
-        Err(Error::SqliteFailure(ErrorCode::DatabaseBusy)) => Err(Fault::OpenElsewhere(path)),
+        Err((Error::SqliteFailure(ErrorCode::OutOfMemory), _)) => Err(Fault::NoMemory),
         Err(_) => Err(Fault::CannotOpen(path)),
     }
 }
