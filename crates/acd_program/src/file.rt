@@ -1,13 +1,13 @@
 //! The file of a desk.
 
-ghost use Rattle.std.specs.Prelude.{◌≡◌, ◌≤◌, false, IsTrue, IfOk};
+ghost use Rattle.std.specs.Prelude.{◌≡◌, false, IsTrue, IfOk};
 ghost use Rattle.sqlite_std_file.specs.File.{file_is_usable};
 
 use crate::fault::Fault;
+use crate::paging::{begun, options};
 use crate::progress::announce;
 use sqlite::{Connection, Error, ErrorCode, File, FileStore};
 use sqlite_disk::{Files, Start, Unknown};
-use sqlite_pager::Options;
 use sqlite_std_file::{FileFrom, OpenError};
 use std::hash::{BuildHasher, RandomState};
 use std::{fs, io};
@@ -37,29 +37,6 @@ fn look<'a>(rt: &HostRuntime, path: &'a str) -> Result<Found, Fault<'a>> {
     }
 }
 
-// The bytes of a page of the store.
-const PAGE: u64 = 4096;
-
-// The store's own choice, 8 MiB; a smaller cache would make a new file's requests slower.
-const LEAST_PAGES: u64 = 2000;
-
-const MOST_PAGES: u64 = 16000;
-
-impl Found {
-    // How many pages the store keeps in memory: as many as the file has, within bounds. An opening goes through the file three times, and
-    // a page that isn't kept is read and digested anew.
-    fn cache_pages(self) -> usize
-        ensures least { 2000 ≤ result }
-        ensures most { result ≤ 16000 }
-    {
-        let pages = match self {
-            Found::Bytes(len) => len / PAGE,
-            Found::Nothing | Found::NoBytes => 0,
-        };
-        pages.clamp(LEAST_PAGES, MOST_PAGES) as usize
-    }
-}
-
 // The files at a path. What the store takes for another thing than a file is none.
 fn open_pair<'a, S: Start>(
     rt: &HostRuntime,
@@ -83,14 +60,12 @@ fn open_pair<'a, S: Start>(
     }
 }
 
-fn options<'a>(rt: &HostRuntime, path: &'a str, found: Found) -> Result<Options, Fault<'a>> {
-    let Ok(state) = RandomState::new(rt) else {
-        return Err(Fault::CannotOpen(path));
-    };
-    Ok(Options {
-        cache_pages: found.cache_pages(),
-        ..Options::new(state.hash_one(&0u8))
-    })
+// A number that nobody foresees, for what the store draws by chance.
+fn seed<'a>(rt: &HostRuntime, path: &'a str) -> Result<u64, Fault<'a>> {
+    match RandomState::new(rt) {
+        Ok(state) => Ok(state.hash_one(&0u8)),
+        Err(_) => Err(Fault::CannotOpen(path)),
+    }
 }
 
 fn connect<'a>(
@@ -103,8 +78,9 @@ fn connect<'a>(
     if let Found::Bytes(len) = found {
         announce(rt, path, len);
     }
-    let options = options(rt, path, found)?;
     let files = open_pair(rt, path, Unknown)?;
+    let mut files = begun(rt.alloc(), files, seed(rt, path)?, path)?;
+    let options = options(&mut files, seed(rt, path)?, path)?;
     match Connection::open_files(rt.alloc(), files, options) {
         Ok(conn) => Ok(conn),
         Err((Error::SqliteFailure(ErrorCode::OutOfMemory), _)) => Err(Fault::NoMemory),

@@ -12,6 +12,7 @@ mod desk;
 mod fault;
 mod file;
 mod memory;
+mod paging;
 mod plan;
 mod progress;
 mod running;

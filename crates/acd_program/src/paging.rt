@@ -1,0 +1,137 @@
+//! The pages of a file: how long they are in a new one, and how many of them the store keeps in memory.
+
+ghost use Rattle.std.specs.Prelude.{◌≤◌, IsTrue, IfOk};
+
+use crate::fault::Fault;
+use sqlite_disk::{Disk, Files};
+use sqlite_pager::{Options, PageSize, Pager};
+use sqlite_store::{OpenError, Unopened};
+use sqlite_wal::probe_page_size;
+use std::alloc::Global;
+use std::io;
+
+// The bytes of a page of a new file. A request changes a row or two in each of a dozen pages, and each of these is digested and
+// written whole, so it takes half as long again with the store's own choice, 4,096. Not much less pays: few rows then lie in a page.
+const NEW_PAGE: usize = 1024;
+
+// The bytes of the pages that the store keeps in memory, at least: with fewer the requests of a new file take longer.
+const LEAST_CACHE: usize = 8_192_000;
+
+const MOST_CACHE: usize = 65_536_000;
+
+// What it takes to lay the first page.
+const ONE_PAGE: usize = 1;
+
+fn disk_fault<'a>(error: io::Error, path: &'a str) -> Fault<'a> {
+    match error.kind() {
+        io::ErrorKind::OutOfMemory => Fault::NoMemory,
+        _ => Fault::CannotOpen(path),
+    }
+}
+
+// Whether neither of the files has a byte. After a power cut all of a desk may lie in the log.
+fn are_empty<D: Disk>(files: &mut Files<D>) -> io::Result<bool>
+    requires log { IsTrue (D.Disk.is_usable files.old.log) }
+    requires db { IsTrue (D.Disk.is_usable files.old.db) }
+    ensures log { IsTrue (D.Disk.is_usable files.new.log) }
+    ensures db { IsTrue (D.Disk.is_usable files.new.db) }
+{
+    Ok(files.log.len()? == 0 && files.db.len()? == 0)
+}
+
+// A database with no tables in these files, of which a stop leaves none, or all.
+fn created<'a, D: Disk + Drop>(
+    alloc: Global,
+    files: Files<D>,
+    seed: u64,
+    path: &'a str,
+) -> Result<Files<D>, Fault<'a>>
+    requires log { IsTrue (D.Disk.is_usable files.log) }
+    requires db { IsTrue (D.Disk.is_usable files.db) }
+{
+    let Some(size) = PageSize::new(NEW_PAGE) else {
+        return Err(Fault::CannotOpen(path));
+    };
+    let options = Options {
+        cache_pages: ONE_PAGE,
+        ..Options::new(seed)
+    };
+    let Ok(pager) = Pager::new(alloc, files, size, options) else {
+        return Err(Fault::NoMemory);
+    };
+    let Ok(unopened) = Unopened::new(alloc, pager, &[]) else {
+        return Err(Fault::NoMemory);
+    };
+    match unopened.create() {
+        Ok(store) => Ok(store.close()),
+        Err((OpenError::OutOfMemory, _)) => Err(Fault::NoMemory),
+        Err(_) => Err(Fault::CannotOpen(path)),
+    }
+}
+
+/// The files, with a database of no tables in them where neither had a byte. The store would take a greater page.
+pub(crate) fn begun<'a, D: Disk + Drop>(
+    alloc: Global,
+    mut files: Files<D>,
+    seed: u64,
+    path: &'a str,
+) -> Result<Files<D>, Fault<'a>>
+    requires log { IsTrue (D.Disk.is_usable files.log) }
+    requires db { IsTrue (D.Disk.is_usable files.db) }
+    ensures log { IfOk result (λ files. IsTrue (D.Disk.is_usable files.log)) }
+    ensures db { IfOk result (λ files. IsTrue (D.Disk.is_usable files.db)) }
+{
+    match are_empty(&mut files) {
+        Ok(false) => Ok(files),
+        Ok(true) => {
+            let files = created(alloc, files, seed, path)?;
+            if files.may_be_used() {
+                Ok(files)
+            } else {
+                Err(Fault::CannotOpen(path))
+            }
+        }
+        Err(error) => Err(disk_fault(error, path)),
+    }
+}
+
+// How many pages of this size the store keeps of a file of so many bytes: all of them, within bounds. An opening goes through the file
+// three times, and a page that isn't kept is read and digested anew.
+fn kept_pages(len: usize, page: usize) -> usize
+    ensures most { result ≤ 65536000 }
+{
+    len.clamp(LEAST_CACHE, MOST_CACHE) / page.max(1)
+}
+
+fn cache_pages<D: Disk>(files: &mut Files<D>) -> io::Result<usize>
+    requires log { IsTrue (D.Disk.is_usable files.old.log) }
+    requires db { IsTrue (D.Disk.is_usable files.old.db) }
+    ensures log { IsTrue (D.Disk.is_usable files.new.log) }
+    ensures db { IsTrue (D.Disk.is_usable files.new.db) }
+{
+    let page = match probe_page_size(files)? {
+        Some(size) => size.bytes(),
+        None => NEW_PAGE,
+    };
+    Ok(kept_pages(files.db.len()?, page))
+}
+
+/// How the store treats the pages of these files.
+pub(crate) fn options<'a, D: Disk>(
+    files: &mut Files<D>,
+    seed: u64,
+    path: &'a str,
+) -> Result<Options, Fault<'a>>
+    requires log { IsTrue (D.Disk.is_usable files.old.log) }
+    requires db { IsTrue (D.Disk.is_usable files.old.db) }
+    ensures log { IsTrue (D.Disk.is_usable files.new.log) }
+    ensures db { IsTrue (D.Disk.is_usable files.new.db) }
+{
+    match cache_pages(files) {
+        Ok(cache_pages) => Ok(Options {
+            cache_pages,
+            ..Options::new(seed)
+        }),
+        Err(error) => Err(disk_fault(error, path)),
+    }
+}
