@@ -89,19 +89,23 @@ fn events(rt: &impl Abort) -> [Event; 3] {
     ]
 }
 
-// A book with one commit.
-fn committed(rt: &impl Abort, alloc: Global) -> MemoryBook {
+fn commit(rt: &impl Abort, alloc: Global, book: &mut impl Book) {
     let rows = rows_with(rt, alloc, device(rt, "201"));
     let kept = record(rt, alloc, 1, 1);
-    let mut book = MemoryBook::new(alloc, Limits::GREATEST);
     book.commit(&rows, &events(rt), &kept).expect(rt, "memory");
+}
+
+// A book with one commit.
+fn committed(rt: &impl Abort, alloc: Global) -> MemoryBook {
+    let mut book = MemoryBook::new(alloc, Limits::GREATEST);
+    commit(rt, alloc, &mut book);
     book
 }
 
 // The stamp, moment and status that are kept under a key.
 fn kept_under(
     rt: &impl Abort,
-    book: &mut MemoryBook,
+    book: &mut impl Book,
     requester: &Requester,
     invoke: Invoke,
 ) -> Option<(u64, u32, u16)> {
@@ -114,7 +118,7 @@ fn kept_under(
     }
 }
 
-fn stamp_after(rt: &impl Abort, book: &mut MemoryBook, stamp: u64) -> Option<u64> {
+fn stamp_after(rt: &impl Abort, book: &mut impl Book, stamp: u64) -> Option<u64> {
     match book.kept_after(stamp).expect(rt, "memory") {
         None => None,
         Some(kept) => Some(kept.stamp),
@@ -131,7 +135,7 @@ fn count(events: &[Event]) -> (usize, Option<u64>) {
 
 fn count_after(
     rt: &impl Abort,
-    book: &mut MemoryBook,
+    book: &mut impl Book,
     number: u64,
     limit: usize,
 ) -> (usize, Option<u64>) {
@@ -141,7 +145,7 @@ fn count_after(
 
 fn count_of_monitor(
     rt: &impl Abort,
-    book: &mut MemoryBook,
+    book: &mut impl Book,
     monitor: u64,
     number: u64,
 ) -> (usize, Option<u64>) {
@@ -152,67 +156,92 @@ fn count_of_monitor(
 }
 
 // The last stamp, moment and event number.
-fn counters(rt: &impl Abort, book: &mut MemoryBook) -> (u64, u32, u64) {
+fn counters(rt: &impl Abort, book: &mut impl Book) -> (u64, u32, u64) {
     let rows = book.rows().expect(rt, "memory");
     (rows.last_stamp, rows.last_moment, rows.last_event)
 }
 
-fn limits(rt: &impl Abort, book: &mut MemoryBook) -> Limits {
+fn limits(rt: &impl Abort, book: &mut impl Book) -> Limits {
     book.limits().expect(rt, "the limits")
+}
+
+// What a book of no commit tells.
+fn expect_empty(rt: &impl Abort, mut book: impl Book + Drop) {
+    assert_eq!(rt; limits(rt, &mut book), Limits::GREATEST);
+    assert_eq!(rt; counters(rt, &mut book), (0, 0, 0));
+    assert_eq!(rt; stamp_after(rt, &mut book, 0), None);
+    assert_eq!(rt; book.failures(), 0);
 }
 
 #[test]
 fn new_book_is_empty(rt: HostRuntime) {
-    let mut book = MemoryBook::new(rt.alloc(), Limits::GREATEST);
-    assert_eq!(rt; limits(&rt, &mut book), Limits::GREATEST);
-    assert_eq!(rt; counters(&rt, &mut book), (0, 0, 0));
-    assert_eq!(rt; stamp_after(&rt, &mut book, 0), None);
+    expect_empty(&rt, MemoryBook::new(rt.alloc(), Limits::GREATEST));
+}
+
+fn expect_counted(rt: &impl Abort, mut book: impl Book + Drop) {
+    assert_eq!(rt; counters(rt, &mut book), (1, 10, 3));
     assert_eq!(rt; book.failures(), 0);
 }
 
 #[test]
 fn commit_replaces_the_rows(rt: HostRuntime) {
-    let mut book = committed(&rt, rt.alloc());
-    assert_eq!(rt; counters(&rt, &mut book), (1, 10, 3));
-    assert_eq!(rt; book.failures(), 0);
+    expect_counted(&rt, committed(&rt, rt.alloc()));
+}
+
+// What is kept under a key of this requester.
+fn expect_kept(
+    rt: &impl Abort,
+    mut book: impl Book + Drop,
+    requester: &Requester,
+    number: u64,
+    wanted: Option<(u64, u32, u16)>,
+) {
+    let found = kept_under(rt, &mut book, requester, invoke(rt, number));
+    assert_eq!(rt; found, wanted);
 }
 
 #[test]
 fn commit_keeps_the_reply(rt: HostRuntime) {
-    let mut book = committed(&rt, rt.alloc());
     let plan = requester(&rt, "plan");
-    let found = kept_under(&rt, &mut book, &plan, invoke(&rt, 1));
-    assert_eq!(rt; found, Some((1, 10, 200)));
-    let other = kept_under(&rt, &mut book, &plan, invoke(&rt, 2));
-    assert_eq!(rt; other, None);
+    let book = committed(&rt, rt.alloc());
+    expect_kept(&rt, book, &plan, 1, Some((1, 10, 200)));
+    let book = committed(&rt, rt.alloc());
+    expect_kept(&rt, book, &plan, 2, None);
 }
 
 #[test]
 fn another_requester_has_a_key_of_its_own(rt: HostRuntime) {
-    let mut book = committed(&rt, rt.alloc());
     let pbx = requester(&rt, "pbx");
-    let found = kept_under(&rt, &mut book, &pbx, invoke(&rt, 1));
-    assert_eq!(rt; found, None);
+    expect_kept(&rt, committed(&rt, rt.alloc()), &pbx, 1, None);
+}
+
+fn expect_one_record(rt: &impl Abort, mut book: impl Book + Drop) {
+    assert_eq!(rt; stamp_after(rt, &mut book, 0), Some(1));
+    assert_eq!(rt; stamp_after(rt, &mut book, 1), None);
 }
 
 #[test]
 fn records_after_a_stamp(rt: HostRuntime) {
-    let mut book = committed(&rt, rt.alloc());
-    assert_eq!(rt; stamp_after(&rt, &mut book, 0), Some(1));
-    assert_eq!(rt; stamp_after(&rt, &mut book, 1), None);
+    expect_one_record(&rt, committed(&rt, rt.alloc()));
+}
+
+fn expect_three_events(rt: &impl Abort, mut book: impl Book + Drop) {
+    assert_eq!(rt; count_after(rt, &mut book, 1, 10), (2, Some(2)));
+    assert_eq!(rt; count_after(rt, &mut book, 0, 1), (1, Some(1)));
+    assert_eq!(rt; count_after(rt, &mut book, 3, 10), (0, None));
 }
 
 #[test]
 fn events_after_a_number(rt: HostRuntime) {
-    let mut book = committed(&rt, rt.alloc());
-    assert_eq!(rt; count_after(&rt, &mut book, 1, 10), (2, Some(2)));
-    assert_eq!(rt; count_after(&rt, &mut book, 0, 1), (1, Some(1)));
-    assert_eq!(rt; count_after(&rt, &mut book, 3, 10), (0, None));
+    expect_three_events(&rt, committed(&rt, rt.alloc()));
+}
+
+fn expect_one_watched(rt: &impl Abort, mut book: impl Book + Drop) {
+    assert_eq!(rt; count_of_monitor(rt, &mut book, 1, 0), (1, Some(2)));
+    assert_eq!(rt; count_of_monitor(rt, &mut book, 2, 0), (0, None));
 }
 
 #[test]
 fn events_of_a_running_monitor(rt: HostRuntime) {
-    let mut book = committed(&rt, rt.alloc());
-    assert_eq!(rt; count_of_monitor(&rt, &mut book, 1, 0), (1, Some(2)));
-    assert_eq!(rt; count_of_monitor(&rt, &mut book, 2, 0), (0, None));
+    expect_one_watched(&rt, committed(&rt, rt.alloc()));
 }
