@@ -96,13 +96,13 @@ fn arrival(rt: &impl Abort, alloc: Global, moment: u32, json: &[u8]) -> Arrival 
 }
 
 // The last stamp, moment and event number.
-fn counters(rt: &impl Abort, book: &mut MemoryBook) -> (u64, u32, u64) {
+fn counters(rt: &impl Abort, book: &mut impl Book) -> (u64, u32, u64) {
     let rows = book.rows().expect(rt, "memory");
     (rows.last_stamp, rows.last_moment, rows.last_event)
 }
 
 // The moment of the first event above a number.
-fn moment_after(rt: &impl Abort, book: &mut MemoryBook, number: u64) -> Option<u32> {
+fn moment_after(rt: &impl Abort, book: &mut impl Book, number: u64) -> Option<u32> {
     let events = book.events_after(number, 1).expect(rt, "memory");
     match events.first() {
         Some(event) => Some(event.moment),
@@ -111,7 +111,7 @@ fn moment_after(rt: &impl Abort, book: &mut MemoryBook, number: u64) -> Option<u
 }
 
 // The call waits in group 100, with this place since this moment.
-fn expect_waiting(rt: &impl Abort, book: &mut MemoryBook, call: u64, place: u64, queued: u32) {
+fn expect_waiting(rt: &impl Abort, book: &mut impl Book, call: u64, place: u64, queued: u32) {
     let group = DeviceId::read(b"100").expect(rt, "a device");
     let wanted = ConnectionRecord {
         call,
@@ -131,7 +131,7 @@ fn expect_waiting(rt: &impl Abort, book: &mut MemoryBook, call: u64, place: u64,
 }
 
 // The moment at which the first request after a stamp was executed.
-fn executed_after(rt: &impl Abort, book: &mut MemoryBook, stamp: u64) -> Option<u32> {
+fn executed_after(rt: &impl Abort, book: &mut impl Book, stamp: u64) -> Option<u32> {
     match book.kept_after(stamp).expect(rt, "memory") {
         Some(kept) => Some(kept.moment),
         None => None,

@@ -29,15 +29,15 @@ fn opened(rt: &(impl Abort + AllocGlobal)) -> Desk<MemoryBook> {
 }
 
 // How many requests the desk has executed.
-fn executed(rt: &(impl Abort + AllocGlobal), desk: Desk<MemoryBook>) -> u64 {
+fn executed<B: Book + Drop>(rt: &(impl Abort + AllocGlobal), desk: Desk<B>) -> u64 {
     let mut book = desk.close();
     book.rows().expect(rt, "rows").last_stamp
 }
 
 // One exchange over the desk.
-fn asked(
+fn asked<B: Book>(
     rt: &(impl Abort + AllocGlobal),
-    desk: &mut Desk<MemoryBook>,
+    desk: &mut Desk<B>,
     input: &[u8],
     output: &mut Vec<u8>,
 ) -> Result<(), ExchangeFault> {
@@ -46,13 +46,22 @@ fn asked(
     exchange(rt.alloc(), &routes, desk, 0, &mut reader, output)
 }
 
-// A new desk writes this reply to the request.
-fn gives(rt: &(impl Abort + AllocGlobal), request: &[u8], reply: &[u8]) {
-    let mut desk = opened(rt);
+// The desk writes this reply to the request.
+fn replies<B: Book + Drop>(
+    rt: &(impl Abort + AllocGlobal),
+    mut desk: Desk<B>,
+    request: &[u8],
+    reply: &[u8],
+) {
     let mut output = Vec::new(rt.alloc());
     let result = asked(rt, &mut desk, request, &mut output);
     assert!(rt; result.is_ok());
     assert_eq!(rt; output.as_slice(), reply);
+}
+
+// A new desk writes this reply to the request.
+fn gives(rt: &(impl Abort + AllocGlobal), request: &[u8], reply: &[u8]) {
+    replies(rt, opened(rt), request, reply);
 }
 
 #[test]
@@ -125,7 +134,7 @@ impl Read for Torn<'_> {
 }
 
 // The reader fails behind these bytes: nothing is written.
-fn fails_behind(rt: &(impl Abort + AllocGlobal), desk: &mut Desk<MemoryBook>, bytes: &[u8]) {
+fn fails_behind<B: Book>(rt: &(impl Abort + AllocGlobal), desk: &mut Desk<B>, bytes: &[u8]) {
     let routes = Routes::new(rt.alloc()).expect(rt, "routes");
     let mut reader = Torn { left: bytes };
     let mut output = Vec::new(rt.alloc());
@@ -169,9 +178,8 @@ impl Write for Short {
 }
 
 // The writer stops after so many bytes of the reply, and the group is there.
-fn stops_at(rt: &(impl Abort + AllocGlobal), n: usize) {
+fn stops_at<B: Book + Drop>(rt: &(impl Abort + AllocGlobal), mut desk: Desk<B>, n: usize) {
     let routes = Routes::new(rt.alloc()).expect(rt, "routes");
-    let mut desk = opened(rt);
     let mut reader = group();
     let mut writer = Short {
         left: n,
@@ -187,6 +195,6 @@ fn stops_at(rt: &(impl Abort + AllocGlobal), n: usize) {
 #[test]
 fn writer_fails_at_each_length(rt: HostRuntime) {
     for n in 0..133 {
-        stops_at(&rt, n);
+        stops_at(&rt, opened(&rt), n);
     }
 }

@@ -1,7 +1,7 @@
 //! Audits of a book in memory, and of altered copies of it.
 
 use super::*;
-use acd_book::Text;
+use acd_book::{Kept, Text};
 use acd_desk::Audit;
 use acd_terms::Event;
 
@@ -31,7 +31,7 @@ enum Altered {
 }
 
 // The events of a request: the third one has them all.
-fn events_of(rt: &impl Abort, book: &mut MemoryBook, stamp: u64, altered: Altered) -> Vec<Event> {
+fn events_of(rt: &impl Abort, book: &mut impl Book, stamp: u64, altered: Altered) -> Vec<Event> {
     let limit = if stamp == 3 { 100 } else { 0 };
     let mut events = book.events_after(0, limit).expect(rt, "memory");
     if let Altered::Moments = altered {
@@ -42,32 +42,43 @@ fn events_of(rt: &impl Abort, book: &mut MemoryBook, stamp: u64, altered: Altere
     events
 }
 
-// The first records of a book, with their events, and its tables.
-fn copied(
+// The record behind a stamp.
+fn record_of(
     rt: &impl Abort,
     alloc: Global,
-    book: &mut MemoryBook,
+    book: &mut impl Book,
+    before: u64,
+    altered: Altered,
+) -> Kept {
+    let Some(mut kept) = book.kept_after(before).expect(rt, "memory") else {
+        panic!(rt; "a record");
+    };
+    if let Altered::Text(stamp) = altered
+        && stamp == kept.stamp
+    {
+        kept.body = Text::new(String::from_str(alloc, "{}").expect(rt, "memory"));
+    }
+    kept
+}
+
+// The first records of a book, with their events, and its tables.
+fn copy_records(
+    rt: &impl Abort,
+    alloc: Global,
+    book: &mut impl Book,
     records: u64,
     altered: Altered,
-) -> MemoryBook {
+    copy: &mut impl Book,
+) {
     let rows = book.rows().expect(rt, "memory");
-    let mut copy = MemoryBook::new(alloc, Limits::GREATEST);
     for before in 0..records {
-        let Some(mut kept) = book.kept_after(before).expect(rt, "memory") else {
-            panic!(rt; "a record");
-        };
-        if let Altered::Text(stamp) = altered
-            && stamp == kept.stamp
-        {
-            kept.body = Text::new(String::from_str(alloc, "{}").expect(rt, "memory"));
-        }
+        let kept = record_of(rt, alloc, book, before, altered);
         let events = events_of(rt, book, kept.stamp, altered);
         copy.commit(&rows, &events, &kept).expect(rt, "memory");
     }
-    copy
 }
 
-fn audit_of(rt: &impl Abort, alloc: Global, book: MemoryBook) -> Audit {
+fn audit_of(rt: &impl Abort, alloc: Global, book: impl Book + Drop) -> Audit {
     opened(rt, alloc, book).audit().expect(rt, "memory")
 }
 
@@ -75,12 +86,13 @@ fn audit_of(rt: &impl Abort, alloc: Global, book: MemoryBook) -> Audit {
 fn expect_audit(
     rt: &impl Abort,
     alloc: Global,
-    book: &mut MemoryBook,
+    book: &mut impl Book,
     records: u64,
     altered: Altered,
     answer: Audit,
 ) {
-    let copy = copied(rt, alloc, book, records, altered);
+    let mut copy = MemoryBook::new(alloc, Limits::GREATEST);
+    copy_records(rt, alloc, book, records, altered, &mut copy);
     assert_eq!(rt; audit_of(rt, alloc, copy), answer);
 }
 

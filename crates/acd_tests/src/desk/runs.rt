@@ -9,12 +9,12 @@ const SECOND_ARRIVE: &[u8] =
     br#"{"requester":"pbx","invoke":2,"service":"arriveCall","caller":"0309999","called":"100"}"#;
 
 // Both calls wait since the first one's moment, at which the second request was executed too.
-fn expect_both_waiting(rt: &impl Abort, book: &mut MemoryBook) {
-    expect_waiting(rt, book, 1, 6, 100);
-    expect_waiting(rt, book, 2, 7, 100);
-    assert_eq!(rt; executed_after(rt, book, 6), Some(100));
-    assert_eq!(rt; moment_after(rt, book, 1), Some(100));
-    assert_eq!(rt; counters(rt, book), (7, 100, 2));
+fn expect_both_waiting(rt: &impl Abort, mut book: impl Book + Drop) {
+    expect_waiting(rt, &mut book, 1, 6, 100);
+    expect_waiting(rt, &mut book, 2, 7, 100);
+    assert_eq!(rt; executed_after(rt, &mut book, 6), Some(100));
+    assert_eq!(rt; moment_after(rt, &mut book, 1), Some(100));
+    assert_eq!(rt; counters(rt, &mut book), (7, 100, 2));
 }
 
 const FIRST_CALL: &str = r#"{"invoke":1,"requester":"pbx","result":{"call":1}}"#;
@@ -47,15 +47,15 @@ fn moment_never_goes_back_in_a_run(rt: HostRuntime) {
     let mut desk = planned(&rt, rt.alloc());
     let answers = desk.run(&both(&rt, rt.alloc())).expect(&rt, "memory");
     expect_both_answered(&rt, &answers);
-    expect_both_waiting(&rt, &mut desk.close());
+    expect_both_waiting(&rt, desk.close());
 }
 
 #[test]
 fn moment_never_goes_back_in_a_session(rt: HostRuntime) {
     let book = planned(&rt, rt.alloc()).close();
-    let Ok((answers, mut book)) = Desk::session(rt.alloc(), book, &both(&rt, rt.alloc())) else {
+    let Ok((answers, book)) = Desk::session(rt.alloc(), book, &both(&rt, rt.alloc())) else {
         panic!(rt; "a session");
     };
     expect_both_answered(&rt, &answers);
-    expect_both_waiting(&rt, &mut book);
+    expect_both_waiting(&rt, book);
 }

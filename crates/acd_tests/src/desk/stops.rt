@@ -61,19 +61,26 @@ fn run_session<B: Book>(rt: &impl Abort, alloc: Global, desk: &mut Desk<B>, serv
     }
 }
 
-// The session in lines, and what is written: the replies to the first requests, and then a storeFault.
-fn session(rt: &impl Abort, alloc: Global, served: usize) -> (String, String) {
+// The session in lines.
+fn asked(rt: &impl Abort, alloc: Global) -> String {
     let mut input = String::new(alloc);
-    let mut output = String::new(alloc);
-    for (i, (request, reply)) in SESSION.iter().zip(REPLIES).enumerate() {
+    for request in SESSION {
         push_line(rt, &mut input, "0", request);
+    }
+    input
+}
+
+// What is written: the replies to the first requests, and then a storeFault.
+fn replied(rt: &impl Abort, alloc: Global, served: usize) -> String {
+    let mut output = String::new(alloc);
+    for (i, reply) in REPLIES.iter().enumerate() {
         if i < served {
             push_line(rt, &mut output, "200", reply);
         } else {
             push_line(rt, &mut output, "503", STORE_FAULT);
         }
     }
-    (input, output)
+    output
 }
 
 // What the program writes to this input.
@@ -87,9 +94,8 @@ fn written<B: Book>(rt: &impl Abort, alloc: Global, desk: &mut Desk<B>, input: &
 
 // The same in lines.
 fn write_session<B: Book>(rt: &impl Abort, alloc: Global, desk: &mut Desk<B>, served: usize) {
-    let (input, output) = session(rt, alloc, served);
-    let answers = written(rt, alloc, desk, &input);
-    assert_eq!(rt; answers.as_str(), output.as_str());
+    let answers = written(rt, alloc, desk, asked(rt, alloc).as_str());
+    assert_eq!(rt; answers.as_str(), replied(rt, alloc, served).as_str());
 }
 
 fn push_line(rt: &impl Abort, text: &mut String, first: &str, rest: &str) {
@@ -99,7 +105,7 @@ fn push_line(rt: &impl Abort, text: &mut String, first: &str, rest: &str) {
 }
 
 // The first requests are executed, and no other: the first makes a group, and the others stations.
-fn expect_executed(rt: &impl Abort, book: &mut MemoryBook, requests: u64) {
+fn expect_executed(rt: &impl Abort, book: &mut impl Book, requests: u64) {
     let rows = book.rows().expect(rt, "memory");
     same(rt, &rows.last_stamp, &requests);
     same(rt, &(rows.groups.len() as u64), &requests.min(1));
@@ -125,8 +131,7 @@ fn left_by(rt: &impl Abort, book: StoppingBook, stop: Stop) -> MemoryBook {
     left
 }
 
-fn expect_whole(rt: &impl Abort, book: MemoryBook) {
-    let mut book = book;
+fn expect_whole(rt: &impl Abort, mut book: impl Book + Drop) {
     expect_executed(rt, &mut book, 3);
 }
 

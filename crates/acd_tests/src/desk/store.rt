@@ -15,16 +15,28 @@ fn failing_book(alloc: Global, failing: &'static [Failing]) -> FailingBook {
     FailingBook::new(MemoryBook::new(alloc, Limits::GREATEST), failing)
 }
 
-// A desk over the book is asked, and gives it back.
-fn book_after(
+// A desk over the book is asked one scene after the other, and gives the book back.
+fn book_after<B: Book + Drop>(
     rt: &impl Abort,
     alloc: Global,
-    book: FailingBook,
-    scene: &[SceneLine],
-) -> FailingBook {
+    book: B,
+    scenes: &[&[SceneLine]],
+) -> B {
     let mut desk = opened(rt, alloc, book);
-    ask_all(rt, alloc, &mut desk, scene);
+    for scene in scenes {
+        ask_all(rt, alloc, &mut desk, scene);
+    }
     desk.close()
+}
+
+// The same, and how often the book failed.
+fn failures_after<B: Book + Drop>(
+    rt: &impl Abort,
+    alloc: Global,
+    book: B,
+    scenes: &[&[SceneLine]],
+) -> u64 {
+    book_after(rt, alloc, book, scenes).failures()
 }
 
 // A new group, a new station, and the first request again, over a book that fails as said.
@@ -44,8 +56,8 @@ fn session(
         (0, STATION, second.0, second.1),
         (0, BILLING, again.0, again.1),
     ];
-    let book = book_after(rt, alloc, failing_book(alloc, failing), scene);
-    assert_eq!(rt; book.failures(), failures);
+    let book = failing_book(alloc, failing);
+    assert_eq!(rt; failures_after(rt, alloc, book, &[scene]), failures);
 }
 
 const GROUP_MADE: (u16, &str) = (200, BILLING_REPLY);
@@ -103,6 +115,16 @@ fn store_fails_at_the_repeat(rt: HostRuntime) {
     session(&rt, rt.alloc(), &[(6, Store)], answers, 1);
 }
 
+fn fault_over<B: Book + Drop>(rt: &impl Abort, alloc: Global, book: B, failures: u64) -> OpenFault {
+    match Desk::open(alloc, book) {
+        Ok(_) => panic!(rt; "the rows weren't read"),
+        Err((fault, book)) => {
+            assert_eq!(rt; book.failures(), failures);
+            fault
+        }
+    }
+}
+
 // The rows can't be read at the opening.
 fn opening(
     rt: &impl Abort,
@@ -110,13 +132,7 @@ fn opening(
     failing: &'static [Failing],
     failures: u64,
 ) -> OpenFault {
-    match Desk::open(alloc, failing_book(alloc, failing)) {
-        Ok(_) => panic!(rt; "the rows weren't read"),
-        Err((fault, book)) => {
-            assert_eq!(rt; book.failures(), failures);
-            fault
-        }
-    }
+    fault_over(rt, alloc, failing_book(alloc, failing), failures)
 }
 
 #[test]
@@ -145,11 +161,7 @@ const NEW_REQUESTS: &[SceneLine] = &[
 
 // How often the rows were read, where the scenes are asked of one desk.
 fn row_reads(rt: &impl Abort, alloc: Global, scenes: &[&[SceneLine]]) -> u32 {
-    let mut desk = opened(rt, alloc, failing_book(alloc, UNLOADS));
-    for scene in scenes {
-        ask_all(rt, alloc, &mut desk, scene);
-    }
-    desk.close().row_reads()
+    book_after(rt, alloc, failing_book(alloc, UNLOADS), scenes).row_reads()
 }
 
 #[test]
@@ -170,10 +182,11 @@ fn unloaded_session(
     alloc: Global,
     failing: &'static [Failing],
     scene: &[SceneLine],
+    failures: u64,
 ) {
-    let mut desk = opened(rt, alloc, failing_book(alloc, failing));
-    ask_all(rt, alloc, &mut desk, UNTIL_UNLOADED);
-    ask_all(rt, alloc, &mut desk, scene);
+    let book = failing_book(alloc, failing);
+    let found = failures_after(rt, alloc, book, &[UNTIL_UNLOADED, scene]);
+    assert_eq!(rt; found, failures);
 }
 
 #[test]
@@ -183,7 +196,7 @@ fn no_memory_to_load(rt: HostRuntime) {
         (0, BILLING, 200, BILLING_REPLY),
         (0, STATION, 200, STATION_REPLY),
     ];
-    unloaded_session(&rt, rt.alloc(), &[(5, NoMemory), (7, NoMemory)], scene);
+    unloaded_session(&rt, rt.alloc(), &[(5, NoMemory), (7, NoMemory)], scene, 0);
 }
 
 #[test]
@@ -193,7 +206,7 @@ fn store_fails_to_load(rt: HostRuntime) {
         (0, BILLING, 503, "storeFault"),
         (0, STATION, 503, "storeFault"),
     ];
-    unloaded_session(&rt, rt.alloc(), &[(5, NoMemory), (7, Store)], scene);
+    unloaded_session(&rt, rt.alloc(), &[(5, NoMemory), (7, Store)], scene, 1);
 }
 
 #[test]
@@ -207,11 +220,33 @@ fn opens_again_after_a_store_fault(rt: HostRuntime) {
         &rt,
         rt.alloc(),
         failing_book(rt.alloc(), &[(5, Store)]),
-        scene,
+        &[scene],
     );
-    assert_eq!(rt; failed.failures(), 1);
-    let repeat: &[SceneLine] = &[(0, BILLING, 200, BILLING_REPLY)];
-    let _ = book_after(&rt, rt.alloc(), failed, repeat);
+    assert_eq!(rt; failures_after(&rt, rt.alloc(), failed, &[REPEAT]), 1);
+}
+
+fn expect_answers(rt: &impl Abort, answers: &[Taken], expected: [(u16, &'static str); 3]) {
+    let [first, second, again] = expected;
+    assert_eq!(rt; answers.len(), 3);
+    assert_eq!(rt; told(&answers[0]), first);
+    assert_eq!(rt; told(&answers[1]), second);
+    assert_eq!(rt; told(&answers[2]), again);
+}
+
+fn run_over<B: Book + Drop>(
+    rt: &impl Abort,
+    alloc: Global,
+    book: B,
+    expected: [(u16, &'static str); 3],
+) {
+    let mut desk = opened(rt, alloc, book);
+    let arrivals = [
+        arrival(rt, alloc, 0, BILLING),
+        arrival(rt, alloc, 0, STATION),
+        arrival(rt, alloc, 0, BILLING),
+    ];
+    let answers = desk.run(&arrivals).expect(rt, "memory");
+    expect_answers(rt, &answers, expected);
 }
 
 // The answers of a run over a book that fails as said.
@@ -221,18 +256,7 @@ fn run_answers(
     failing: &'static [Failing],
     expected: [(u16, &'static str); 3],
 ) {
-    let mut desk = opened(rt, alloc, failing_book(alloc, failing));
-    let arrivals = [
-        arrival(rt, alloc, 0, BILLING),
-        arrival(rt, alloc, 0, STATION),
-        arrival(rt, alloc, 0, BILLING),
-    ];
-    let answers = desk.run(&arrivals).expect(rt, "memory");
-    let [first, second, again] = expected;
-    assert_eq!(rt; answers.len(), 3);
-    assert_eq!(rt; told(&answers[0]), first);
-    assert_eq!(rt; told(&answers[1]), second);
-    assert_eq!(rt; told(&answers[2]), again);
+    run_over(rt, alloc, failing_book(alloc, failing), expected);
 }
 
 #[test]

@@ -1,7 +1,7 @@
 //! Connections over the loopback address.
 
 use super::{executed, group, group_reply, opened};
-use acd_book::MemoryBook;
+use acd_book::Book;
 use acd_desk::Desk;
 use acd_http::serve_on;
 use std::io::{Read, Write};
@@ -37,10 +37,10 @@ fn reply(rt: &(impl Abort + AllocGlobal), client: &mut TcpStream) -> Vec<u8> {
 }
 
 // Serves so many connections, and then these lines were written.
-fn serves(
+fn serves<B: Book>(
     rt: &(impl Abort + AllocGlobal + Clock),
     listener: &TcpListener,
-    desk: &mut Desk<MemoryBook>,
+    desk: &mut Desk<B>,
     connections: u64,
     lines: &str,
 ) {
