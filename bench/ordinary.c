@@ -2,10 +2,10 @@
    statements, one transaction a request. No request is read, no rule is looked at and nothing is answered.
 
    cc -O2 -o ordinary bench/ordinary.c -lsqlite3
-   ./ordinary FILE COUNT
+   ./ordinary FILE COUNT [PAGE]
 
    prints the microseconds of a request of twelve changes (an old call goes, and a new one comes and is offered at once) and of an answerCall,
-   the means of COUNT requests each. FILE is made anew. */
+   the means of COUNT requests each. FILE is made anew, with pages of PAGE bytes, 4096 where none is said. */
 #include <sqlite3.h>
 #include <stdio.h>
 #include <stdlib.h>
@@ -120,16 +120,19 @@ static double timed(void (*request)(void), int count) {
 }
 
 int main(int argc, char **argv) {
-    int count = argc == 3 ? atoi(argv[2]) : 0;
-    if (count < 1) {
-        fprintf(stderr, "usage: ordinary FILE COUNT\n");
+    int count = argc == 3 || argc == 4 ? atoi(argv[2]) : 0;
+    int page = argc == 4 ? atoi(argv[3]) : 4096;
+    if (count < 1 || page < 512) {
+        fprintf(stderr, "usage: ordinary FILE COUNT [PAGE]\n");
         return 2;
     }
-    char log[4096];
+    char log[4096], size[64];
     unlink(argv[1]);
     snprintf(log, sizeof log, "%s-wal", argv[1]);
     unlink(log);
     check(sqlite3_open(argv[1], &db) == SQLITE_OK);
+    snprintf(size, sizeof size, "PRAGMA page_size = %d", page);
+    check(sqlite3_exec(db, size, 0, 0, 0) == SQLITE_OK);
     check(sqlite3_exec(db, schema, 0, 0, 0) == SQLITE_OK);
     for (int i = 0; i < STATEMENTS; i++)
         check(sqlite3_prepare_v3(db, texts[i], -1, SQLITE_PREPARE_PERSISTENT, &statements[i], 0) == SQLITE_OK);

@@ -87,3 +87,19 @@ fn desk_in_a_file(rt: HostRuntime) {
     let _ = remove(&rt, plan.as_str());
     let _ = remove(&rt, file.as_str());
 }
+
+// Whether the file's header names pages of 1,024 bytes.
+fn has_small_pages(rt: &HostRuntime, file: &str) -> bool {
+    match fs::read(rt, file) {
+        Ok(bytes) => bytes.get(16) == Some(&4) && bytes.get(17) == Some(&0),
+        Err(_) => false,
+    }
+}
+
+#[test]
+fn a_new_file_has_small_pages(rt: HostRuntime) {
+    let file = free_path(&rt, "new.db").expect(&rt, "a path");
+    assert!(rt; answers_with(&rt, "lines", file.as_str(), "", ""));
+    assert!(rt; has_small_pages(&rt, file.as_str()));
+    let _ = remove(&rt, file.as_str());
+}
