@@ -176,6 +176,19 @@ fn loads_once_for_the_next_new_request(rt: HostRuntime) {
     );
 }
 
+// How often the book failed, where the desk is asked this scene once it is unloaded.
+fn failures_unloaded<B: Book + Drop>(
+    rt: &impl Abort,
+    alloc: Global,
+    book: B,
+    scene: &[SceneLine],
+) -> u64 {
+    let mut desk = opened(rt, alloc, book);
+    ask_all(rt, alloc, &mut desk, UNTIL_UNLOADED);
+    ask_all(rt, alloc, &mut desk, scene);
+    desk.close().failures()
+}
+
 // The desk is unloaded by call 5. Call 6 is the key of the next request, call 7 its load.
 fn unloaded_session(
     rt: &impl Abort,
@@ -185,7 +198,7 @@ fn unloaded_session(
     failures: u64,
 ) {
     let book = failing_book(alloc, failing);
-    let found = failures_after(rt, alloc, book, &[UNTIL_UNLOADED, scene]);
+    let found = failures_unloaded(rt, alloc, book, scene);
     assert_eq!(rt; found, failures);
 }
 
