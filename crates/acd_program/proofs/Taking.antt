@@ -18,17 +18,16 @@ of_held s t failures adopted counted clean = record {
   failures = counted;
 }
 
-pub of_unmade : (s t : State) (failures : ℕ) → (HasCleanDisk t → s.now.schema ≡ no_schema → IsNew (book_state t failures) greatest_limits) → failures ≡ 0 → (HasCleanDisk t → HasCleanDisk s) → s.now.schema ≡ no_schema
-    → IsOf (unmade s) (book_state t failures)
-of_unmade s t failures made counted clean empty = record {
+pub of_unmade : (s t : State) (failures : ℕ) → (HasCleanDisk t → IsNew (book_state t failures) greatest_limits) → failures ≡ 0 → (HasCleanDisk t → HasCleanDisk s) → IsOf (unmade s) (book_state t failures)
+of_unmade s t failures made counted clean = record {
   clean = clean;
-  sound = λ here _. (made here empty).sound;
-  content = λ here _. (made here empty).content;
+  sound = λ here _. (made here).sound;
+  content = λ here _. (made here).content;
   opened = λ here _. tt;
   failures = counted;
 }
 
-pub made_taken : {A E : Type 0} (r : Result A E) (stand : A → BookState) (makes : Bool) (s : State) → makes ≡ true → s.now.schema ≡ no_schema → IfOk r (λ (b : A). s.now.schema ≡ no_schema → IsOf (unmade s) (stand b))
+pub made_taken : {A E : Type 0} (r : Result A E) (stand : A → BookState) (makes : Bool) (s : State) → makes ≡ true → s.now.schema ≡ no_schema → IfOk r (λ (b : A). IsOf (unmade s) (stand b))
     → IfOk r (λ (b : A). IsTaken makes s (stand b))
-made_taken (Ok b) stand makes s asked empty h = inr (asked, empty, h empty)
+made_taken (Ok b) stand makes s asked empty h = inr (asked, empty, h)
 made_taken (Err e) stand makes s asked empty h = tt

@@ -5,7 +5,7 @@ use Rattle.std.specs.Io.KnownBytes.{Appends}
 use Rattle.sqlite_trees.specs.Tree.{Trees}
 use Rattle.sqlite.specs.State.{State, HasCleanDisk}
 use Rattle.acd_book.specs.State.{BookState}
-use Rattle.acd_statements.specs.Lying.{IsFiled}
+use Rattle.acd_statements.specs.AnyRows.{IsFiled}
 use Rattle.acd_statements.specs.Decoding.{content_of}
 use Rattle.acd_statements.specs.Schema.{no_schema}
 use Rattle.acd_sqlbook.specs.State.{book_state}

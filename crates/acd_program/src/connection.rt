@@ -10,10 +10,9 @@ ghost use Rattle.acd_program.specs.Endings.{EndsLines, EndsOnStoreFault, EndsUnr
 
 use crate::session::{SessionFault, lines_over_book};
 use acd_book::BookFault;
-use acd_sqlbook::{AdoptFault, SqlBook};
+use acd_sqlbook::{AdoptFault, SqlBook, has_no_tables};
 use acd_terms::Limits;
 use sqlite::{Alter, Connection};
-use sqlite_schema::schema::Schema;
 use std::alloc::Global;
 use std::io::{Read, Write};
 use thiserror::Error;
@@ -29,19 +28,13 @@ pub enum ConnectionFault {
     Session(SessionFault),
 }
 
-fn has_no_tables(schema: &Schema) -> bool
-    ensures { result ≡ true → schema.now ≡ no_schema }
-{
-    schema.tables.is_empty() && schema.indexes.is_empty() && schema.views.is_empty()
-}
-
 // Makes the tables of a new book, with the greatest limits.
 fn create<S: Alter>(
     alloc: Global,
     conn: Connection<S>,
 ) -> Result<SqlBook<S>, (AdoptFault, Connection<S>)>
     requires { conn.in_transaction ≡ false }
-    ensures { IfOk result (λ b. (state S.Store conn).now.schema ≡ no_schema → IsOf (unmade (state S.Store conn)) (book_state (state S.Store b.conn) b.failures)) }
+    ensures { IfOk result (λ b. IsOf (unmade (state S.Store conn)) (book_state (state S.Store b.conn) b.failures)) }
 {
     match SqlBook::create(alloc, conn, Limits::GREATEST) {
         Ok(book) => Ok(book),

@@ -41,7 +41,7 @@ use Rattle.acd_book.specs.declared.kept.Kept.{Kept}
 use Rattle.acd_columns.specs.declared.meta.Meta.{Meta}
 use Rattle.acd_statements.specs.declared.tables.Table.{Table}
 use Rattle.acd_statements.specs.declared.tables.Table.TheVariants as table
-use Rattle.acd_statements.specs.Lying.{is_good, are_good, is_good_in, values_in, lying, IsFiled, AreWhole}
+use Rattle.acd_statements.specs.AnyRows.{is_good, are_good, is_good_in, values_in, rows_in, IsFiled, HaveAllColumns}
 use Rattle.acd_schema.specs.Inspecting.{is_good_table, IsOfBook, IsInRange}
 use Rattle.acd_statements.specs.Content.{AreRows, AreConnections, Encodes, tree_of}
 use Rattle.acd_columns.specs.Rows.{IsReadable, id_value, keyed_row, meta_row, group_values, station_values, agent_values, call_values, connection_values, connection_row, monitor_values, event_values, kept_values, group_row, station_row, agent_row, call_row, monitor_row, event_row, kept_row}
@@ -84,7 +84,7 @@ pub each_good : (t : Table) (rows : List Row) → are_good t rows ≡ true → A
 unfolding are_good
 each_good t [] h = tt
 each_good t (row ∷ rows) h =
-    (elim (is_good t row) as (λ b. is_good t row ≡ b → cond b (are_good t rows) false ≡ true → (is_good t row ≡ true) × AllByRecursion (λ r. is_good t r ≡ true) rows) [
+    (elim (is_good t row) as (λ b. is_good t row ≡ b → (b && are_good t rows) ≡ true → (is_good t row ≡ true) × AllByRecursion (λ r. is_good t r ≡ true) rows) [
       | true ↦ λ e k. (e, each_good t rows k)
       | false ↦ λ e k. absurd (cc k)
     ]) refl h
@@ -377,7 +377,7 @@ rules_of d is obeys rule = subst (λ s. Keeps rule s d.trees) is (obeys.obeys.ru
 
 good_rows : (t : Table) (db : Trees) → is_good_in t db ≡ true → AllByRecursion (λ r. is_good t (values_in t r) ≡ true) (db (tree_of t))
 unfolding is_good_in
-good_rows t db h = of_mapped (λ r. is_good t r ≡ true) (values_in t) (db (tree_of t)) (each_good t (lying t db) h)
+good_rows t db h = of_mapped (λ r. is_good t r ≡ true) (values_in t) (db (tree_of t)) (each_good t (rows_in t db) h)
 
 readable : (ks : List Kept) → AllByRecursion (λ k. kept_in (kept_values k) ≡ Some k) ks → Every IsReadable ks
 readable [] h = tt
@@ -554,7 +554,7 @@ each_shape shapes h table.Events = h.1.1.1.1.1.1.1.0
 each_shape shapes h table.Kept = h.1.1.1.1.1.1.1.1.0
 
 -- they have integers as numbers, which rise, whatever they hold
-pub filed_by_store : (v : View) (s : Schema) → s ≡ book_schema → IsDatabase (record { schema = s; trees = v.trees }) → IsListed (v.trees catalog_tree) v.shape v.reals → IsOrdered v.shape v.trees → AreWhole v.trees → IsFiled v.trees
+pub filed_by_store : (v : View) (s : Schema) → s ≡ book_schema → IsDatabase (record { schema = s; trees = v.trees }) → IsListed (v.trees catalog_tree) v.shape v.reals → IsOrdered v.shape v.trees → HaveAllColumns v.trees → IsFiled v.trees
 filed_by_store v s is obeys listed ordered whole =
     let laid = laid_out listed (objects_rise v listed ordered) obeys.lists.listed in
     let shapes = each_shape v.shape (subst (λ (x : Schema). AllByRecursion (λ t. v.shape t.tree ≡ shape.Table) x.tables) is laid.tables) in
