@@ -400,8 +400,8 @@ record Parts (db : Trees) : Type 0 where
   pub kept : AreOf table.Kept kept_in kept_values (λ (k : Kept). k.stamp) (λ r k h. (kept_stored r k h).0) (λ k. refl) (λ r w null. of_width 8 r w ∙ ap (λ v. column r 0 ∷ v ∷ cells 2 6 r) null) (db (tree_of table.Kept))
 
 module _ (d : Database) (book : IsOfBook d) (obeys : IsDatabase d) (filed : IsFiled d.trees) where
-  abbrev rows_in : Table → List Row
-  rows_in t = d.trees (tree_of t)
+  abbrev table_rows : Table → List Row
+  table_rows t = d.trees (tree_of t)
 
   in_range : (t : Table) → AllByRecursion (λ r. is_good t (values_in t r) ≡ true) (d.trees (tree_of t))
   in_range t = good_rows t d.trees (book.in_range filed t)
@@ -441,30 +441,30 @@ module _ (d : Database) (book : IsOfBook d) (obeys : IsDatabase d) (filed : IsFi
       let good = subst (AllByRecursion (λ r. is_some (counters_in (values_in table.Meta r)) ≡ true)) row.1 (in_range table.Meta) in
       let m = there (counters_in (values_in table.Meta row.0)) good.0 in
       let shown = counters_stored (values_in table.Meta row.0) m.0 m.1 in
-      let links = linked (rows_in table.Connections) (filed.numbered table.Connections) filed.whole.1 (in_range table.Connections) in
-      let unique = all_so (λ r. passes rule.Unique book_schema d.trees (schema.table_of schema.connections) r ≡ true) (λ r. clashes plain key_columns (d.trees (tree_of table.Connections)) r ≡ false) (λ r h. not_true _ h) (rows_in table.Connections)
+      let links = linked (table_rows table.Connections) (filed.numbered table.Connections) filed.whole.1 (in_range table.Connections) in
+      let unique = all_so (λ r. passes rule.Unique book_schema d.trees (schema.table_of schema.connections) r ≡ true) (λ r. clashes plain key_columns (d.trees (tree_of table.Connections)) r ≡ false) (λ r h. not_true _ h) (table_rows table.Connections)
       (rules_of d book.schema_is obeys rule.Unique).1.1.1.1.1.0 in
       record {
         meta = m.0;
         meta_is = row.1 ∙ ap (λ r. r ∷ []) (meta_form row.0 m.0 whole.0 row.2 null.0 row.3 shown);
         meta_good = ap (λ r. is_some (counters_in r)) (sym shown) ∙ good.0;
-        groups = are_of table.Groups group_in group_values (λ (g : GroupRecord). g.device) group_stored (λ g. refl) (λ r w null. of_width 10 r w ∙ ap (λ v. column r 0 ∷ v ∷ cells 2 8 r) null) (rows_in table.Groups)
-            (filed.rising table.Groups) wide_groups (nulls schema.groups.columns (has_computed (schema.table_of schema.groups)) 8 (rows_in table.Groups) wide_groups typed.1.0) (in_range table.Groups);
-        stations = are_of table.Stations station_in station_values (λ (s : StationRecord). s.device) station_stored (λ s. refl) (λ r w null. of_width 2 r w ∙ ap (λ v. column r 0 ∷ v ∷ cells 2 0 r) null) (rows_in table.Stations)
-            (filed.rising table.Stations) filed.whole.0 (nulls schema.stations.columns (has_computed (schema.table_of schema.stations)) 0 (rows_in table.Stations) filed.whole.0 typed.1.1.0) (in_range table.Stations);
-        agents = are_of table.Agents agent_in agent_values (λ (a : AgentRecord). a.agent) agent_stored (λ a. refl) (λ r w null. of_width 9 r w ∙ ap (λ v. column r 0 ∷ v ∷ cells 2 7 r) null) (rows_in table.Agents)
-            (filed.rising table.Agents) wide_agents (nulls schema.agents.columns (has_computed (schema.table_of schema.agents)) 7 (rows_in table.Agents) wide_agents typed.1.1.1.0) (in_range table.Agents);
-        calls = are_of table.Calls call_in call_values (λ (k : CallRecord). k.call) call_stored (λ k. refl) (λ r w null. of_width 5 r w ∙ ap (λ v. column r 0 ∷ v ∷ cells 2 3 r) null) (rows_in table.Calls)
-            (filed.rising table.Calls) wide_calls (nulls schema.calls.columns (has_computed (schema.table_of schema.calls)) 3 (rows_in table.Calls) wide_calls typed.1.1.1.1.0) (in_range table.Calls);
+        groups = are_of table.Groups group_in group_values (λ (g : GroupRecord). g.device) group_stored (λ g. refl) (λ r w null. of_width 10 r w ∙ ap (λ v. column r 0 ∷ v ∷ cells 2 8 r) null) (table_rows table.Groups)
+            (filed.rising table.Groups) wide_groups (nulls schema.groups.columns (has_computed (schema.table_of schema.groups)) 8 (table_rows table.Groups) wide_groups typed.1.0) (in_range table.Groups);
+        stations = are_of table.Stations station_in station_values (λ (s : StationRecord). s.device) station_stored (λ s. refl) (λ r w null. of_width 2 r w ∙ ap (λ v. column r 0 ∷ v ∷ cells 2 0 r) null) (table_rows table.Stations)
+            (filed.rising table.Stations) filed.whole.0 (nulls schema.stations.columns (has_computed (schema.table_of schema.stations)) 0 (table_rows table.Stations) filed.whole.0 typed.1.1.0) (in_range table.Stations);
+        agents = are_of table.Agents agent_in agent_values (λ (a : AgentRecord). a.agent) agent_stored (λ a. refl) (λ r w null. of_width 9 r w ∙ ap (λ v. column r 0 ∷ v ∷ cells 2 7 r) null) (table_rows table.Agents)
+            (filed.rising table.Agents) wide_agents (nulls schema.agents.columns (has_computed (schema.table_of schema.agents)) 7 (table_rows table.Agents) wide_agents typed.1.1.1.0) (in_range table.Agents);
+        calls = are_of table.Calls call_in call_values (λ (k : CallRecord). k.call) call_stored (λ k. refl) (λ r w null. of_width 5 r w ∙ ap (λ v. column r 0 ∷ v ∷ cells 2 3 r) null) (table_rows table.Calls)
+            (filed.rising table.Calls) wide_calls (nulls schema.calls.columns (has_computed (schema.table_of schema.calls)) 3 (table_rows table.Calls) wide_calls typed.1.1.1.1.0) (in_range table.Calls);
         connections = in_order links.0;
-        connections_is = connections_are (rows_in table.Connections) links.0 links.1 (filed.rising table.Connections) (filed.numbered table.Connections) unique;
-        connections_good = connections_back_in (rows_in table.Connections) links.0 links.1 (filed.rising table.Connections) (filed.numbered table.Connections) unique (in_order links.0) (λ y a. from_order links.0 y a);
-        monitors = are_of table.Monitors monitor_in monitor_values (λ (m : MonitorRecord). m.monitor) monitor_stored (λ m. refl) (λ r w null. of_width 4 r w ∙ ap (λ v. column r 0 ∷ v ∷ cells 2 2 r) null) (rows_in table.Monitors)
-            (filed.rising table.Monitors) wide_monitors (nulls schema.monitors.columns (has_computed (schema.table_of schema.monitors)) 2 (rows_in table.Monitors) wide_monitors typed.1.1.1.1.1.1.0) (in_range table.Monitors);
-        events = are_of table.Events event_in event_values (λ (e : Event). e.number) event_stored (λ e. refl) (λ r w null. of_width 11 r w ∙ ap (λ v. column r 0 ∷ v ∷ cells 2 9 r) null) (rows_in table.Events)
-            (filed.rising table.Events) filed.whole.2 (nulls schema.events.columns (has_computed (schema.table_of schema.events)) 9 (rows_in table.Events) filed.whole.2 typed.1.1.1.1.1.1.1.0) (in_range table.Events);
-        kept = are_of table.Kept kept_in kept_values (λ (k : Kept). k.stamp) (λ r k h. (kept_stored r k h).0) (λ k. refl) (λ r w null. of_width 8 r w ∙ ap (λ v. column r 0 ∷ v ∷ cells 2 6 r) null) (rows_in table.Kept)
-            (filed.rising table.Kept) wide_kept (nulls schema.kept.columns (has_computed (schema.table_of schema.kept)) 6 (rows_in table.Kept) wide_kept typed.1.1.1.1.1.1.1.1.0) (in_range table.Kept);
+        connections_is = connections_are (table_rows table.Connections) links.0 links.1 (filed.rising table.Connections) (filed.numbered table.Connections) unique;
+        connections_good = connections_back_in (table_rows table.Connections) links.0 links.1 (filed.rising table.Connections) (filed.numbered table.Connections) unique (in_order links.0) (λ y a. from_order links.0 y a);
+        monitors = are_of table.Monitors monitor_in monitor_values (λ (m : MonitorRecord). m.monitor) monitor_stored (λ m. refl) (λ r w null. of_width 4 r w ∙ ap (λ v. column r 0 ∷ v ∷ cells 2 2 r) null) (table_rows table.Monitors)
+            (filed.rising table.Monitors) wide_monitors (nulls schema.monitors.columns (has_computed (schema.table_of schema.monitors)) 2 (table_rows table.Monitors) wide_monitors typed.1.1.1.1.1.1.0) (in_range table.Monitors);
+        events = are_of table.Events event_in event_values (λ (e : Event). e.number) event_stored (λ e. refl) (λ r w null. of_width 11 r w ∙ ap (λ v. column r 0 ∷ v ∷ cells 2 9 r) null) (table_rows table.Events)
+            (filed.rising table.Events) filed.whole.2 (nulls schema.events.columns (has_computed (schema.table_of schema.events)) 9 (table_rows table.Events) filed.whole.2 typed.1.1.1.1.1.1.1.0) (in_range table.Events);
+        kept = are_of table.Kept kept_in kept_values (λ (k : Kept). k.stamp) (λ r k h. (kept_stored r k h).0) (λ k. refl) (λ r w null. of_width 8 r w ∙ ap (λ v. column r 0 ∷ v ∷ cells 2 6 r) null) (table_rows table.Kept)
+            (filed.rising table.Kept) wide_kept (nulls schema.kept.columns (has_computed (schema.table_of schema.kept)) 6 (table_rows table.Kept) wide_kept typed.1.1.1.1.1.1.1.1.0) (in_range table.Kept);
       }
 
 module _ (db : Trees) (p : Parts db) where
