@@ -2,7 +2,6 @@
 
 ghost use Rattle.std.specs.Prelude.{◌≡◌, true, false, IfOk, OnOk, IfErr};
 ghost use Rattle.sqlite.specs.Held.{state};
-ghost use Rattle.acd_statements.specs.Schema.{no_schema};
 ghost use Rattle.acd_sqlbook.specs.State.{book_state};
 ghost use Rattle.acd_program.specs.Over.{AnswersOver, FailsOver, BeginsOver, OverConnection, unmade};
 ghost use Rattle.acd_program.specs.Taking.{IsOf, IsTaken};

@@ -1,5 +1,5 @@
 -- Rows that are filed, and in their ranges, are those of a content.
-use Rattle.std.proofs.Common.{◌≡◌, ◌==◌, ◌&&◌, ◌||◌, ℕ, ℤ, pos, negsuc, suc, length, drop, map, cond, not, List, [], ◌∷◌, inl, inr, Option, Some, None, Bool, true, false, IsTrue, refl, sym, ap, ap₂, subst, ◌∙◌, arith, ◌+◌, ◌<◌, ◌≤◌, zero}
+use Rattle.std.proofs.Common.{◌≡◌, ◌==◌, ◌&&◌, ◌||◌, ℕ, ℤ, pos, negsuc, suc, length, drop, map, not, List, [], ◌∷◌, inl, inr, Option, Some, None, Bool, true, false, IsTrue, refl, sym, ap, ap₂, subst, ◌∙◌, arith, ◌+◌, ◌<◌, ◌≤◌, zero}
 use Rattle.std.specs.List.{AllByRecursion}
 use Rattle.std.specs.Option.{is_some}
 use Rattle.std.specs.Ordering.{int_cmp, is_eq, ordering_reverse, is_ne}

@@ -17,7 +17,6 @@ use Rattle.acd_terms.specs.Lists.{Among, IsAscending}
 use Rattle.acd_terms.specs.declared.event.Event.{Event}
 use Rattle.acd_laws.proofs.Lists.{after_among, filter_all, filter_among, ascending-filter}
 use Rattle.acd_book.specs.declared.kept.Kept.{Kept}
-use Rattle.acd_statements.specs.declared.tables.Table.{Table}
 use Rattle.acd_statements.specs.declared.tables.Log.{Log}
 use Rattle.acd_statements.specs.declared.tables.Log.TheVariants as log
 use Rattle.acd_schema.specs.declared.inspection.Page.{Page}

@@ -1,6 +1,4 @@
 use Rattle.sqlite.specs.Held.{state}
-use Rattle.acd_columns.specs.Rows.{meta_values}
-use Rattle.acd_statements.proofs.Texts.{insert_meta}
 use Rattle.acd_statements.proofs.Writes.{starts}
 use Rattle.acd_statements.proofs.write.insert_meta.Goals as goal
 
