@@ -2,6 +2,7 @@
 
 ghost use Rattle.std.specs.Prelude.{◌≡◌, false};
 
+mod pages;
 mod ranges;
 
 use super::answers::{event_after, stations, under};
