@@ -14,7 +14,7 @@ UPDATE meta SET last_stamp = 2200, last_moment = 10, last_event = 2200"#
 #[test]
 fn a_history_of_three_pages(rt: HostRuntime) {
     let alloc = rt.alloc();
-    let changes = [
+    let cases = [
         ("", None),
         (
             "UPDATE events SET moment = -1 WHERE number = 1500",
@@ -25,8 +25,9 @@ fn a_history_of_three_pages(rt: HostRuntime) {
             Some(AdoptFault::BadRow(Table::Kept)),
         ),
     ];
-    for (change, told) in changes {
-        let conn = altered(&rt, alloc, &[history(), change]);
+    for (change, told) in cases {
+        let changes = [history(), change];
+        let conn = altered(&rt, alloc, &changes);
         expect_told(&rt, alloc, conn, change, told);
     }
 }
