@@ -16,8 +16,9 @@ use acd_columns::Meta;
 use acd_model::Change;
 use acd_statements::fitting::{fits, too_large};
 use acd_statements::write::{
-    drop_call, drop_connection, drop_monitor, insert_call, insert_connection, put_agent, put_call,
-    put_connection, insert_event, put_group, insert_kept, put_monitor, insert_station, set_meta,
+    drop_call, drop_connection, drop_monitor, insert_call, insert_connection, insert_event,
+    insert_kept, insert_station, put_agent, put_call, put_connection, put_group, put_monitor,
+    set_meta,
 };
 use acd_terms::{Event, Figures};
 use sqlite::{Alter, Connection, Error, Transaction};

@@ -27,11 +27,7 @@ fn is_meta(table: &Table) -> bool
 pub fn has_meta(schema: &Schema) -> bool
     ensures { result ≡ has_meta schema.now.tables }
 {
-    schema
-        .tables
-        .as_slice()
-        .iter()
-        .any(|table| is_meta(table))
+    schema.tables.as_slice().iter().any(|table| is_meta(table))
 }
 
 /// The versions that the table tells.
@@ -44,7 +40,9 @@ pub fn version_rows<S: Alter>(conn: &mut Connection<S>) -> Result<Vec<Row>, Erro
 }
 
 /// The rows of connections in the order in which they stand. Their key isn't the number of a row, so that to put them in its order takes longer than to read them.
-pub(crate) fn unordered_connection_rows<S: Alter>(conn: &mut Connection<S>) -> Result<Vec<Row>, Error>
+pub(crate) fn unordered_connection_rows<S: Alter>(
+    conn: &mut Connection<S>,
+) -> Result<Vec<Row>, Error>
     requires { conn.old.in_transaction ≡ false }
     ensures idle { conn.new.in_transaction ≡ false }
     ensures seen { (d : Database) → d.schema ≡ book_schema → Sees d (state S.Store conn.old) (state S.Store conn.new) result (λ rows. IsPermutation (rows_in table.Connections d.trees) rows.items) }
