@@ -114,7 +114,7 @@ fn a_book_is_made_in_no_other_database(rt: HostRuntime) {
     for sql in others {
         let conn = changed(&rt, empty(&rt, rt.alloc()), &[sql]);
         match SqlBook::create(rt.alloc(), conn, Limits::GREATEST) {
-            Ok(_) => panic!(rt; "a book beside another table"),
+            Ok(_) => panic!(rt; "a book: {sql}"),
             Err((fault, conn)) => {
                 same(&rt, &fault, &BookFault::Store);
                 expect_other(&rt, conn);
