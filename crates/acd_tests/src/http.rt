@@ -10,6 +10,7 @@ use std::io::{self, ErrorKind, Read, Write};
 use std::process::Abort;
 
 mod listening;
+mod pieces;
 mod reads;
 mod refusals;
 
