@@ -1,6 +1,6 @@
 //! Reads over HTTP, with the bytes that the formats prescribe.
 
-use super::{asked, opened};
+use super::{opened, replies};
 use acd_book::MemoryBook;
 use acd_desk::Desk;
 use acd_lines::lines;
@@ -34,19 +34,6 @@ fn desk_after(rt: &(impl Abort + AllocGlobal), scene: &[u8]) -> Desk<MemoryBook>
     let mut desk = opened(rt);
     takes(rt, &mut desk, scene);
     desk
-}
-
-// The desk writes this reply to the request.
-fn replies(
-    rt: &(impl Abort + AllocGlobal),
-    desk: &mut Desk<MemoryBook>,
-    request: &[u8],
-    reply: &[u8],
-) {
-    let mut output = Vec::new(rt.alloc());
-    let result = asked(rt, desk, request, &mut output);
-    assert!(rt; result.is_ok());
-    assert_eq!(rt; output.as_slice(), reply);
 }
 
 fn get_queue() -> &'static [u8] {

@@ -1,20 +1,12 @@
 //! The tests of a request: the first failure of each, and which goes before which.
 
-use super::gives;
+use super::{answers, gives, opened};
 use std::process::Abort;
 
 // A new desk answers the request with this status and body.
 fn refuses(rt: &(impl Abort + AllocGlobal), request: &str, status: &str, body: &str) {
-    let len = body.len();
-    let kind = "Content-Type: application/json";
-    let reply = format!(in rt.alloc();
-        "HTTP/1.1 {status}\r\n{kind}\r\nContent-Length: {len}\r\nConnection: close\r\n\r\n{body}"
-    );
-    gives(
-        rt,
-        request.as_bytes(),
-        reply.expect(rt, "memory").as_bytes(),
-    );
+    let mut desk = opened(rt);
+    answers(rt, &mut desk, request.as_bytes(), status, body);
 }
 
 fn bad_request() -> &'static str {
