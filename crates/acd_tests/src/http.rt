@@ -14,6 +14,7 @@ mod listening;
 mod pieces;
 mod reads;
 mod refusals;
+mod targets;
 
 fn group() -> &'static [u8] {
     b"POST /csta HTTP/1.1\r\nHost: desk\r\nContent-Length: 104\r\n\r\n{\"requester\":\"plan\",\"invoke\":1,\"service\":\"addGroup\",\"device\":\"100\",\"name\":\"Billing\",\"ring\":20,\"wrap\":30}"

@@ -180,3 +180,25 @@ fn reads_along_a_call(rt: HostRuntime) {
         last_report(),
     );
 }
+
+// A call, a monitor or an agent, in other digits than its own.
+fn others() -> [&'static str; 7] {
+    [
+        "GET /calls/01 HTTP/1.0\r\n\r\n",
+        "GET /calls/00000000001 HTTP/1.0\r\n\r\n",
+        "GET /calls/4294967297 HTTP/1.0\r\n\r\n",
+        "GET /calls/18446744073709551617 HTTP/1.0\r\n\r\n",
+        "GET /monitors/01/events HTTP/1.0\r\n\r\n",
+        "GET /monitors/18446744073709551617/events HTTP/1.0\r\n\r\n",
+        "GET /agents/07 HTTP/1.0\r\n\r\n",
+    ]
+}
+
+#[test]
+fn digits_of_a_path(rt: HostRuntime) {
+    let mut desk = desk_after(&rt, call_waits());
+    takes(&rt, &mut desk, agent_answers());
+    for request in others() {
+        replies(&rt, &mut desk, request.as_bytes(), not_found());
+    }
+}
