@@ -1,5 +1,5 @@
 -- The book over a connection, by what making it or taking it left.
-use Rattle.std.proofs.Common.{◌≡◌, ℕ, Bool, true, Result, Ok, Err, IfOk, inl, inr, ◌∙◌}
+use Rattle.std.proofs.Common.{◌≡◌, ℕ, Bool, true, Result, Ok, Err, IfOk, IfErr, inl, inr, ◌∙◌}
 use Rattle.sqlite.specs.State.{State, HasCleanDisk}
 use Rattle.acd_terms.specs.Limits.{greatest_limits}
 use Rattle.acd_book.specs.State.{BookState}
@@ -49,10 +49,15 @@ unserved_held makes s t fault back = λ clean filed c stop. inl ((back clean).st
 -- what tables that were not made to their end may leave
 pub unserved_unmade : (makes : Bool) (s t : State) → makes ≡ true → s.now.schema ≡ no_schema → (HasCleanDisk t → MayMake s t greatest_limits) → Unserved makes s t
 unserved_unmade makes s t asked empty may = λ clean filed c stop.
-    (elim may clean stop.0 stop.1 [
+    (elim (may clean stop.0 stop.1) [
       | inl was ↦ inl (stop.0, was, stop.2)
       | inr made ↦ inr (asked, empty, stop.2 ∙ decoded stop.0 nothing made)
     ])
+
+pub none_made : {A E : Type 0} (r : Result A E) (behind : E → State) (makes : Bool) (s : State) → makes ≡ true → s.now.schema ≡ no_schema → IfErr r (λ (e : E). HasCleanDisk (behind e) → MayMake s (behind e) greatest_limits)
+    → IfErr r (λ (e : E). Unserved makes s (behind e))
+none_made (Ok b) behind makes s asked empty h = tt
+none_made (Err e) behind makes s asked empty h = unserved_unmade makes s (behind e) asked empty h
 
 -- what a book that makes no desk may leave
 pub unserved_refused : (makes : Bool) (s t : State) (mid : BookState) (failures : ℕ) (why : OpenFault) → IsTaken makes s mid → Refused mid why (book_state t failures) → Unserved makes s t
