@@ -16,8 +16,8 @@ use acd_model::scans;
 use acd_sqlbook::SqlBook;
 use acd_tables::{Records, Tables};
 use acd_terms::{
-    AgentId, Arrival, Command, DeviceId, Event, Figures, Invoke, Limits, Name, Pending, Request,
-    Requested, Requester, Rows, Seconds,
+    AgentId, Arrival, Command, DeviceId, Event, Figures, Invoke, Limits, Name, Pending, Report,
+    Request, Requested, Requester, Rows, Seconds,
 };
 use sqlite::MemStore;
 use std::alloc::Global;
@@ -433,6 +433,41 @@ fn reads_of_an_office(rt: &impl Abort, alloc: Global) {
     expect_reads(rt, alloc, office_in_memory(rt, alloc));
 }
 
+// The calls 1 to 2,500 end.
+fn many_events(rt: &impl Abort, alloc: Global) -> Vec<Event> {
+    let mut events = Vec::new(alloc);
+    for number in 1..2501 {
+        let report = Report::CallCleared {
+            call: number,
+            group: None,
+        };
+        let event = Event {
+            number,
+            moment: 0,
+            report,
+        };
+        events.push(event).expect(rt, "memory");
+    }
+    events
+}
+
+// A desk over a book that took 2,500 events by one commit exports them all.
+fn export_of_many_events(rt: &impl Abort, alloc: Global) {
+    let mut rows = Rows::empty(alloc, Limits::GREATEST);
+    rows.last_stamp = 1;
+    rows.last_event = 2500;
+    let events = many_events(rt, alloc);
+    let mut book = MemoryBook::new(alloc, Limits::GREATEST);
+    let taken = committed(&mut book, &rows, &events, &first_record(rt, alloc));
+    same(rt, &taken, &Ok(()));
+    let mut desk = opened(rt, alloc, book);
+    let export = reads::told(rt, &mut desk, "export all").expect(rt, "an export");
+    same(rt, &export.as_str().lines().count(), &2501);
+    let last = "\n2500,0,callCleared,2500,,,,,,\n";
+    assert!(rt; export.as_str().ends_with(last));
+    let _ = desk.close();
+}
+
 // The commit, without its clauses.
 fn committed<B: Book>(
     book: &mut B,
@@ -454,4 +489,5 @@ pub fn play(rt: &impl Abort, alloc: Global) {
     kept_replies_of_an_office(rt, alloc);
     commit_of_an_office(rt, alloc);
     reads_of_an_office(rt, alloc);
+    export_of_many_events(rt, alloc);
 }
