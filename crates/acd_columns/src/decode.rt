@@ -417,7 +417,7 @@ impl KeptReader {
     }
 }
 
-/// The same for one row alone.
+/// The kept record of a row, read with a reader of its own.
 pub fn kept_in(alloc: Global, row: &Row) -> Result<Option<Kept>, AllocError>
     ensures { IfOk result (λ kept. kept ≡ kept_in row.now) }
 {

@@ -12,7 +12,7 @@ use acd_model::Change;
 use acd_terms::{AgentRecord, ConnectionRecord, Rows, find};
 use std::alloc::{AllocError, Global};
 
-// A push of its own, for any type.
+// Adds them all, for any type: the goals of a function of its own are short.
 fn extend<T: Copy + Drop>(noted: &mut Vec<T>, more: &[T]) -> Result<(), AllocError>
     ensures { OnOk result (noted.new.items ≡ noted.old.items ++ more.now) }
 {

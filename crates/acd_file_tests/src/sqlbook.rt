@@ -27,6 +27,23 @@ fn empty(rt: &impl Abort, alloc: Global) -> Connection<MemStore>
     }
 }
 
+// The connection, after changes.
+fn changed(
+    rt: &impl Abort,
+    mut conn: Connection<MemStore>,
+    changes: &[&'static str],
+) -> Connection<MemStore>
+    ensures { result.in_transaction ≡ false }
+{
+    for sql in changes {
+        conn.execute_batch(sql).expect(rt, "a change");
+    }
+    if !conn.is_autocommit() {
+        panic!(rt; "a transaction");
+    }
+    conn
+}
+
 fn new_book(rt: &impl Abort, alloc: Global) -> SqlBook<MemStore> {
     match SqlBook::create(alloc, empty(rt, alloc), Limits::GREATEST) {
         Ok(book) => book,
@@ -57,6 +74,15 @@ fn expect_limits(rt: &impl Abort, book: &mut SqlBook<MemStore>) {
     same(rt, &limits, &Limits::GREATEST);
 }
 
+// The database has its one table or view, and what is in it.
+fn expect_other(rt: &impl Abort, mut conn: Connection<MemStore>) {
+    let questions = [
+        ("SELECT n FROM other", 7),
+        ("SELECT count(*) FROM sqlite_schema", 1),
+    ];
+    expect_numbers(rt, &mut conn, &questions);
+}
+
 #[test]
 fn a_new_book(rt: HostRuntime) {
     let mut conn = new_book(&rt, rt.alloc()).into_connection();
@@ -75,5 +101,24 @@ fn a_book_is_not_made_twice(rt: HostRuntime) {
     match SqlBook::create(rt.alloc(), conn, Limits::GREATEST) {
         Ok(_) => panic!(rt; "a second book"),
         Err((fault, _)) => same(&rt, &fault, &BookFault::Store),
+    }
+}
+
+// A table that isn't a book's, or a view: what is there stays, and nothing comes beside it.
+#[test]
+fn a_book_is_made_in_no_other_database(rt: HostRuntime) {
+    let others = [
+        "CREATE TABLE other (n INTEGER); INSERT INTO other VALUES (7)",
+        "CREATE VIEW other AS SELECT 7 AS n",
+    ];
+    for sql in others {
+        let conn = changed(&rt, empty(&rt, rt.alloc()), &[sql]);
+        match SqlBook::create(rt.alloc(), conn, Limits::GREATEST) {
+            Ok(_) => panic!(rt; "a book: {sql}"),
+            Err((fault, conn)) => {
+                same(&rt, &fault, &BookFault::Store);
+                expect_other(&rt, conn);
+            }
+        }
     }
 }

@@ -4,3 +4,4 @@ pub mod Over
 pub mod Taking
 pub mod Endings
 pub mod Found
+pub mod Names

@@ -4,8 +4,9 @@ use Rattle.std.specs.List.{Contains}
 use Rattle.std.specs.Io.KnownBytes.{Appends}
 use Rattle.sqlite_trees.specs.Tree.{Trees}
 use Rattle.sqlite.specs.State.{State, HasCleanDisk}
+use Rattle.acd_book.specs.Content.{Content}
 use Rattle.acd_book.specs.State.{BookState}
-use Rattle.acd_statements.specs.Lying.{IsFiled}
+use Rattle.acd_statements.specs.AnyRows.{IsFiled}
 use Rattle.acd_statements.specs.Decoding.{content_of}
 use Rattle.acd_statements.specs.Schema.{no_schema}
 use Rattle.acd_sqlbook.specs.State.{book_state}
@@ -80,6 +81,10 @@ held s = record {
 -- the new book that is made where a database has no tables
 abbrev pub unmade : State → BookState
 unmade s = record { content = nothing; stops = λ c. c ≡ nothing; is_sound = ⊤; is_clean = HasCleanDisk s; is_open = ⊤; failures = 0 }
+
+-- no desk was made: a crash leaves what it left before or, where the database had no tables and a book was to be made, a new one with nothing in it
+abbrev pub Unserved : Bool → State → State → Type 0
+Unserved makes old new = HasCleanDisk new → IsFiled old.now.trees → (c : Content) → (held new).stops c → (held old).stops c ⊎ ((makes ≡ true) × (old.now.schema ≡ no_schema) × (c ≡ nothing))
 
 -- what is said of the book that the database held or, where it had no tables and one was to be made, of the new one
 abbrev pub OverConnection : (BookState → BookState → Type 0) → Bool → State → State → Type 0

@@ -1,6 +1,7 @@
 -- For private clauses: the book over a connection, as what the database held.
 use Rattle.std.specs.Prelude.{◌≡◌, ◌⊎◌, Bool, true}
 use Rattle.sqlite.specs.State.{State}
+use Rattle.acd_book.specs.Content.{Within}
 use Rattle.acd_book.specs.State.{BookState}
 use Rattle.acd_statements.specs.Schema.{no_schema}
 use Rattle.acd_program.specs.Over.{held, unmade}
@@ -10,6 +11,7 @@ pub record IsOf (old new : BookState) : Type 0 where
   pub clean : new.is_clean → old.is_clean
   pub sound : new.is_clean → old.is_sound → new.is_sound
   pub content : new.is_clean → old.is_sound → new.content ≡ old.content
+  pub stops : new.is_clean → old.is_sound → Within new.stops old.stops
   pub opened : new.is_clean → old.is_sound → old.is_open
   pub failures : new.failures ≡ old.failures
 

@@ -2,7 +2,7 @@
 
 ghost use Rattle.std.specs.Prelude.{◌≡◌, IfOk};
 ghost use Rattle.acd_book.specs.State.{IfHonest};
-ghost use Rattle.acd_desk.specs.Standing.{standing, InStep};
+ghost use Rattle.acd_desk.specs.Standing.{standing};
 ghost use Rattle.acd_program.specs.Found.{uncounted, IsFinding};
 
 use acd_book::Book;
@@ -30,7 +30,7 @@ fn uncounted(told: Audit) -> Finding
 /// Audits what the desk's book holds.
 pub(crate) fn audited<B: Book>(desk: &mut Desk<B>, counts: bool) -> Result<Finding, DeskFault>
     ensures { IfHonest (standing B.Book desk.old).book (standing B.Book desk.new).book
-        (InStep (standing B.Book desk.old) → IfOk result (λ found. IsFinding (standing B.Book desk.old).book.content found)) }
+        (IfOk result (λ found. IsFinding (standing B.Book desk.old) found)) }
 {
     let told = match desk.audit() {
         Ok(told) => told,

@@ -2,18 +2,19 @@
 
 ghost use Rattle.std.specs.Prelude.{◌≡◌, true, false, IfOk, OnOk, IfErr};
 ghost use Rattle.sqlite.specs.Held.{state};
-ghost use Rattle.acd_statements.specs.Schema.{no_schema};
+ghost use Rattle.sqlite.specs.State.{HasCleanDisk};
+ghost use Rattle.acd_terms.specs.Limits.{greatest_limits};
+ghost use Rattle.acd_schema.specs.SettingUp.{MayMake};
 ghost use Rattle.acd_sqlbook.specs.State.{book_state};
-ghost use Rattle.acd_program.specs.Over.{AnswersOver, FailsOver, BeginsOver, OverConnection, unmade};
+ghost use Rattle.acd_program.specs.Over.{AnswersOver, FailsOver, BeginsOver, OverConnection, Unserved, unmade};
 ghost use Rattle.acd_program.specs.Taking.{IsOf, IsTaken};
 ghost use Rattle.acd_program.specs.Endings.{EndsLines, EndsOnStoreFault, EndsUnread};
 
 use crate::session::{SessionFault, lines_over_book};
 use acd_book::BookFault;
-use acd_sqlbook::{AdoptFault, SqlBook};
+use acd_sqlbook::{AdoptFault, SqlBook, has_no_tables};
 use acd_terms::Limits;
 use sqlite::{Alter, Connection};
-use sqlite_schema::schema::Schema;
 use std::alloc::Global;
 use std::io::{Read, Write};
 use thiserror::Error;
@@ -29,19 +30,15 @@ pub enum ConnectionFault {
     Session(SessionFault),
 }
 
-fn has_no_tables(schema: &Schema) -> bool
-    ensures { result ≡ true → schema.now ≡ no_schema }
-{
-    schema.tables.is_empty() && schema.indexes.is_empty() && schema.views.is_empty()
-}
-
 // Makes the tables of a new book, with the greatest limits.
 fn create<S: Alter>(
     alloc: Global,
     conn: Connection<S>,
 ) -> Result<SqlBook<S>, (AdoptFault, Connection<S>)>
     requires { conn.in_transaction ≡ false }
-    ensures { IfOk result (λ b. (state S.Store conn).now.schema ≡ no_schema → IsOf (unmade (state S.Store conn)) (book_state (state S.Store b.conn) b.failures)) }
+    ensures made { IfOk result (λ b. IsOf (unmade (state S.Store conn)) (book_state (state S.Store b.conn) b.failures)) }
+    ensures idle { IfErr result (λ e. e.1.in_transaction ≡ false) }
+    ensures stops { IfErr result (λ e. HasCleanDisk (state S.Store e.1) → MayMake (state S.Store conn) (state S.Store e.1) greatest_limits) }
 {
     match SqlBook::create(alloc, conn, Limits::GREATEST) {
         Ok(book) => Ok(book),
@@ -57,7 +54,9 @@ pub(crate) fn book_over<S: Alter>(
     makes: bool,
 ) -> Result<SqlBook<S>, (AdoptFault, Connection<S>)>
     requires { conn.in_transaction ≡ false }
-    ensures { IfOk result (λ b. IsTaken makes (state S.Store conn) (book_state (state S.Store b.conn) b.failures)) }
+    ensures taken { IfOk result (λ b. IsTaken makes (state S.Store conn) (book_state (state S.Store b.conn) b.failures)) }
+    ensures idle { IfErr result (λ e. e.1.in_transaction ≡ false) }
+    ensures unserved { IfErr result (λ e. Unserved makes (state S.Store conn) (state S.Store e.1)) }
 {
     if makes && has_no_tables(conn.schema()) {
         return create(alloc, conn);
@@ -86,8 +85,10 @@ pub fn lines_over_connection<S: Alter, R: Read, W: Write>(
     // where a storeFault ended it, which was asked for, for the first lines
     ensures failed { IfErr result.0 (λ fault. EndsOnStoreFault fault → (ends_on_store_fault ≡ true)
         × OverConnection (λ old new. FailsOver old (R.remaining reader.old) (W.contents writer.old) (W.contents writer.new) new) makes (state S.Store conn) (state S.Store result.1)) }
-    // where there is no desk nothing was read or written
+    // where there is no desk nothing was read or written, and a crash leaves what it left before or a new book
     ensures unread { IfErr result.0 (λ fault. EndsUnread fault → (reader.new ≡ reader.old) × (writer.new ≡ writer.old)) }
+    ensures unserved { IfErr result.0 (λ fault. EndsUnread fault → Unserved makes (state S.Store conn) (state S.Store result.1)) }
+    ensures idle { result.1.in_transaction ≡ false }
 {
     let book = match book_over(alloc, conn, makes) {
         Ok(book) => book,

@@ -1,5 +1,8 @@
 //! Why a command did not do what it was asked.
 
+ghost use Rattle.std.specs.Prelude.{◌≡◌};
+ghost use Rattle.acd_program.specs.Names.{table_name, rule_name};
+
 use crate::connection::ConnectionFault;
 use crate::session::SessionFault;
 use acd_book::BookFault;
@@ -45,7 +48,9 @@ pub(crate) enum Fault<'a> {
 }
 
 // The table's name in the file.
-fn table_name(table: Table) -> &'static str {
+fn table_name(table: Table) -> &'static str
+    ensures { result.now ≡ table_name table }
+{
     match table {
         Table::Meta => "meta",
         Table::Groups => "acd_groups",
@@ -59,7 +64,10 @@ fn table_name(table: Table) -> &'static str {
     }
 }
 
-fn rule_name(rule: Rule) -> &'static str {
+// The first word of the rule.
+fn rule_name(rule: Rule) -> &'static str
+    ensures { result.now ≡ rule_name rule }
+{
     match rule {
         Rule::Limits => "limits",
         Rule::Order => "order",

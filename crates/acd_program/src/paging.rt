@@ -29,17 +29,17 @@ fn disk_fault<'a>(error: io::Error, path: &'a str) -> Fault<'a> {
     }
 }
 
-// Whether neither of the files has a byte. After a power cut all of a desk may lie in the log.
-fn are_empty<D: Disk>(files: &mut Files<D>) -> io::Result<bool>
+// Whether the file has no more than a first page, which a stop may have left half made.
+fn may_be_new<D: Disk>(files: &mut Files<D>) -> io::Result<bool>
     requires log { IsTrue (D.Disk.is_usable files.old.log) }
     requires db { IsTrue (D.Disk.is_usable files.old.db) }
     ensures log { IsTrue (D.Disk.is_usable files.new.log) }
     ensures db { IsTrue (D.Disk.is_usable files.new.db) }
 {
-    Ok(files.log.len()? == 0 && files.db.len()? == 0)
+    Ok(files.db.len()? <= NEW_PAGE)
 }
 
-// A database with no tables in these files, of which a stop leaves none, or all.
+// The files, with a database of no tables in them unless they hold one. A stop leaves none, one that the next call finishes, or all of it.
 fn created<'a, D: Disk + Drop>(
     alloc: Global,
     files: Files<D>,
@@ -64,12 +64,14 @@ fn created<'a, D: Disk + Drop>(
     };
     match unopened.create() {
         Ok(store) => Ok(store.close()),
+        // They hold a database, or something else that it leaves as it is.
+        Err((OpenError::Refused, left)) => Ok(left.close()),
         Err((OpenError::OutOfMemory, _)) => Err(Fault::NoMemory),
         Err(_) => Err(Fault::CannotOpen(path)),
     }
 }
 
-/// The files, with a database of no tables in them where neither had a byte. The store would take a greater page.
+/// The files, with a database of no tables in them where they were new. The store would take a greater page.
 pub(crate) fn begun<'a, D: Disk + Drop>(
     alloc: Global,
     mut files: Files<D>,
@@ -81,7 +83,7 @@ pub(crate) fn begun<'a, D: Disk + Drop>(
     ensures log { IfOk result (λ files. IsTrue (D.Disk.is_usable files.log)) }
     ensures db { IfOk result (λ files. IsTrue (D.Disk.is_usable files.db)) }
 {
-    match are_empty(&mut files) {
+    match may_be_new(&mut files) {
         Ok(false) => Ok(files),
         Ok(true) => {
             let files = created(alloc, files, seed, path)?;

@@ -1,6 +1,6 @@
 //! The program over three streams.
 
-ghost use Rattle.std.specs.Prelude.{◌≡◌, ◌≢◌, ◌⊎◌, IfOk, OnOk};
+ghost use Rattle.std.specs.Prelude.{◌≡◌, ◌≢◌, ◌≤◌, ◌⊎◌, IfOk, OnOk};
 ghost use Rattle.acd_program.specs.Statuses.{IsDone, TellsConnections, finding_status};
 
 use crate::auditing::Finding;
@@ -224,6 +224,7 @@ fn tell<W: Write, E: Write>(alloc: Global, error: &Error, writer: &mut W, errors
     ensures success { result ≡ 0 → errors.new ≡ errors.old }
     ensures refused { result ≡ 2 → writer.new ≡ writer.old }
     ensures differs { result ≢ 3 }
+    ensures known { result ≤ 4 }
 {
     if error.kind() == ErrorKind::OutOfMemory {
         return fail(Fault::NoMemory, errors);
@@ -257,6 +258,7 @@ pub fn program<S: AsStr, R: Read, W: Write, E: Write>(
     ensures differs { result ≡ 3 → errors.new ≡ errors.old }
     // for a command line that is refused nothing is read, and nothing is written but why
     ensures refused { result ≡ 2 → (reader.new ≡ reader.old) × (writer.new ≡ writer.old) }
+    ensures known { result ≤ 4 }
 {
     let task = match parse(rt.alloc(), words) {
         Ok(task) => task,

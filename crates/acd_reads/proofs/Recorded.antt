@@ -16,11 +16,13 @@ use Rattle.acd_terms.specs.declared.event.Event.{Event}
 use Rattle.acd_book.specs.Content.{Content}
 use Rattle.acd_book.specs.declared.kept.Kept.{Kept}
 use Rattle.acd_columns.specs.Rows.{IsReadable, group_values, station_values, agent_values, call_values, connection_values, monitor_values, event_values, kept_values}
+use Rattle.acd_columns.specs.declared.meta.Meta.{Meta}
+use Rattle.acd_columns.specs.Reading.{meta_in, meta_shown}
 use Rattle.acd_columns.specs.Decoding.{as_group, as_station, as_agent, as_call, as_connection, as_monitor, as_event, as_kept}
 use Rattle.acd_statements.specs.Finding.{Finds}
-use Rattle.acd_columns.specs.Ranges.{group_in, station_in, agent_in, call_in, connection_in, monitor_in, event_in, kept_in}
+use Rattle.acd_columns.specs.Ranges.{counters_in, group_in, station_in, agent_in, call_in, connection_in, monitor_in, event_in, kept_in}
 use Rattle.acd_statements.proofs.Decoded.{agent_back, connection_back, event_back, kept_back}
-use Rattle.acd_columns.proofs.Ranged.{group_stored, station_stored, agent_stored, call_stored, connection_stored, monitor_stored}
+use Rattle.acd_columns.proofs.Ranged.{counters_stored, group_stored, station_stored, agent_stored, call_stored, connection_stored, monitor_stored}
 use Rattle.acd_columns.proofs.Reported.{event_stored, kept_stored}
 
 -- ---- rows, one after the other
@@ -71,6 +73,9 @@ found_none old new e P Q h = record { up = λ k. tt; quiet = h.quiet; stops = h.
 
 same_values : {R : Type 0} (read : Row → R) (values : R → Row) → ((x : R) → read (values x) ≡ x) → (row : Row) (x y : R) → row ≡ values x → row ≡ values y → x ≡ y
 same_values read values back row x y p q = sym (back x) ∙ ap read (sym p ∙ q) ∙ back y
+
+pub meta_exact : (row : Row) (x y : Meta) → counters_in row ≡ Some x → row ≡ meta_shown y → x ≡ y
+meta_exact row x y is stored = same_values meta_in meta_shown (λ z. refl) row x y (counters_stored row x is) stored
 
 pub group_exact : (row : Row) (x y : GroupRecord) → group_in row ≡ Some x → row ≡ group_values y → x ≡ y
 group_exact row x y is stored = same_values as_group group_values (λ z. refl) row x y (group_stored row x is) stored

@@ -14,7 +14,7 @@ use acd_columns::{Meta, decode};
 use acd_statements::query::{
     agent_rows, call_rows, connection_rows, group_rows, monitor_rows, station_rows,
 };
-use acd_statements::read::{meta_in, meta_rows};
+use acd_statements::read::meta_rows;
 use acd_terms::{
     AgentRecord, CallRecord, ConnectionRecord, Event, GroupRecord, Listed, MonitorRecord, Rows,
     StationRecord,
@@ -139,14 +139,17 @@ pub(crate) fn first<R: Decoded>(alloc: Global, rows: &[Row]) -> Result<Option<R>
     }
 }
 
-// What the one row of the table holds. A table of another number of rows is not the book's.
+// What the one row of the table holds. Neither more rows nor a value out of its range is the book's.
 fn only_meta(rows: &[Row]) -> Result<Meta, Error>
     ensures { IfOk result (λ meta. (m : MetaRow) → rows.now ≡ meta_shown m ∷ [] → meta ≡ m) }
 {
-    if rows.len() != 1 {
-        return Err(Error::QueryReturnedNoRows);
+    match rows {
+        [row] => match decode::counters_in(row) {
+            Some(meta) => Ok(meta),
+            None => Err(Error::SqliteFailure(ErrorCode::DatabaseCorrupt)),
+        },
+        _ => Err(Error::QueryReturnedNoRows),
     }
-    meta_in(&rows[0])
 }
 
 /// The limits and the counters.

@@ -5,6 +5,8 @@
 #[cfg(test)]
 mod altered;
 #[cfg(test)]
+mod exports;
+#[cfg(test)]
 mod files;
 #[cfg(test)]
 mod fused;

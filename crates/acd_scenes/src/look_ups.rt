@@ -1,4 +1,4 @@
-//! Each look-up of the switch's tables is the scan of the rows, after each request of the scenes.
+//! Look-ups of the switch's tables are the scans of the rows, after each request of the scenes.
 
 use acd_model::scans;
 use acd_switch::Switch;

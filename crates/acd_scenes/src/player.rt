@@ -15,7 +15,7 @@
 use crate::look_ups::same;
 use crate::reference::Reference;
 use crate::reports::ALL;
-use crate::{held, reads, reports};
+use crate::{exports, held, reads, reports};
 use acd_book::Book;
 use acd_codec::{event_text, read_request};
 use acd_desk::Desk;
@@ -290,13 +290,14 @@ fn held_by<B: Book>(rt: &impl Abort, book: &mut B) -> (Rows, Vec<Event>) {
 }
 
 // One desk is sent all requests again, at the moments and at the greatest one: each gets its answer, and
-// nothing changes.
+// nothing changes. It exports all events.
 fn send_again<B: Book + Drop>(rt: &impl Abort, alloc: Global, book: B, texts: &[&str]) -> B {
     let mut book = book;
     let before = held_by(rt, &mut book);
     let mut desk = opened(rt, alloc, book);
     send(rt, alloc, &mut desk, texts, None);
     send(rt, alloc, &mut desk, texts, Some(AT_LAST));
+    exports::compare(rt, alloc, &mut desk, &before.1);
     let mut book = desk.close();
     same(rt, &held_by(rt, &mut book), &before);
     book

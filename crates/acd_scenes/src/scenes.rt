@@ -23,6 +23,7 @@ pub fn names() -> &'static str {
 offered_to_the_ready_agent
 answered_call
 longest_ready_first
+earliest_request_first
 wrap_up_and_tick
 tick_before_the_wrap_is_over
 pending_log_off
@@ -37,6 +38,7 @@ deflected_to_station
 hold_and_pending
 transfer_to_group
 second_call_while_holding
+calls_beside_a_failed_and_a_held_one
 deflected_to_another_queue
 deflected_from_queue_to_station_and_back
 deflected_with_a_state_pending

@@ -5,17 +5,19 @@
 
 use crate::look_ups::same;
 use crate::player::opened;
+use crate::reads;
 use crate::reference::Reference;
 use crate::reports::ALL;
 use crate::script::database;
 use acd_book::{Book, BookFault, Kept, MemoryBook, Text};
+use acd_codec::event_text;
 use acd_desk::{Desk, Taken};
 use acd_model::scans;
 use acd_sqlbook::SqlBook;
 use acd_tables::{Records, Tables};
 use acd_terms::{
-    AgentId, Arrival, Command, DeviceId, Event, Figures, Invoke, Limits, Name, Pending, Request,
-    Requested, Requester, Rows, Seconds,
+    AgentId, Arrival, Command, DeviceId, Event, Figures, Invoke, Limits, Name, Pending, Report,
+    Request, Requested, Requester, Rows, Seconds,
 };
 use sqlite::MemStore;
 use std::alloc::Global;
@@ -359,6 +361,113 @@ fn commit_of_an_office(rt: &impl Abort, alloc: Global) {
     expect_committed(rt, alloc, &mut copy, &office, BookFault::Store);
 }
 
+// A page of these events of the office's desk.
+fn page_of(rt: &impl Abort, alloc: Global, events: &[Event]) -> String {
+    let mut page = String::from_str(alloc, "{\"events\":[").expect(rt, "memory");
+    let mut between = "";
+    for event in events {
+        let text = event_text(alloc, event).expect(rt, "memory");
+        page.push_str(between).expect(rt, "memory");
+        page.push_str(text.as_str()).expect(rt, "memory");
+        between = ",";
+    }
+    page.push_str("],\"last\":160}").expect(rt, "memory");
+    page
+}
+
+// The report of the office at the moment 40. Of the agents in the groups 101 to 108 two are ready, and in each
+// other group one: so many of its five calls ring.
+fn report_of(rt: &impl Abort, alloc: Global) -> String {
+    let header =
+        "group           waiting ringing    entered   answered  abandoned      moved    average    longest name\n";
+    let mut report = String::from_str(alloc, header).expect(rt, "memory");
+    for group in 100..112u64 {
+        let (waiting, ringing) = if group > 100 && group < 109 {
+            (3u64, 2u64)
+        } else {
+            (4, 1)
+        };
+        let line = format!(in alloc;
+            "{group}                   {waiting}       {ringing}          5          0          0          0          -         40 Office\n"
+        );
+        let line = line.expect(rt, "memory");
+        report.push_str(line.as_str()).expect(rt, "memory");
+    }
+    report
+}
+
+// To the group 100 comes every twelfth call; the first of them rings. Before the calls came 164 requests.
+const QUEUE: &str =
+    "{\"calls\":[{\"call\":24,\"place\":188,\"since\":0},{\"call\":36,\"place\":200,\"since\":0},{\"call\":48,\"place\":212,\"since\":0},{\"call\":60,\"place\":224,\"since\":0}],\"group\":\"100\",\"ready\":[]}";
+
+// The desk tells that of what is asked.
+fn expect_read<B: Book>(rt: &impl Abort, desk: &mut Desk<B>, asked: &str, wanted: &str) {
+    let told = reads::told(rt, desk, asked).expect(rt, "a read");
+    assert_eq!(rt; told.as_str(), wanted);
+}
+
+// The first page has a hundred events, and the second those that are left.
+fn expect_pages<B: Book + Drop>(rt: &impl Abort, alloc: Global, book: B) -> B {
+    let mut book = book;
+    let first = book.events_after(0, 100).expect(rt, "memory");
+    let others = book.events_after(100, ALL).expect(rt, "memory");
+    same(rt, &(first.len(), others.len()), &(100, 60));
+    let mut desk = opened(rt, alloc, book);
+    let page = page_of(rt, alloc, &first);
+    expect_read(rt, &mut desk, "events 0", page.as_str());
+    let page = page_of(rt, alloc, &others);
+    expect_read(rt, &mut desk, "events 100", page.as_str());
+    desk.close()
+}
+
+fn expect_reads<B: Book + Drop>(rt: &impl Abort, alloc: Global, book: B) {
+    let book = expect_pages(rt, alloc, book);
+    let mut desk = opened(rt, alloc, book);
+    expect_read(rt, &mut desk, "queue 100", QUEUE);
+    let report = report_of(rt, alloc);
+    expect_read(rt, &mut desk, "report 40", report.as_str());
+    let _ = desk.close();
+}
+
+fn reads_of_an_office(rt: &impl Abort, alloc: Global) {
+    expect_reads(rt, alloc, office_in_memory(rt, alloc));
+}
+
+// The calls 1 to 2,500 end.
+fn many_events(rt: &impl Abort, alloc: Global) -> Vec<Event> {
+    let mut events = Vec::new(alloc);
+    for number in 1..2501 {
+        let report = Report::CallCleared {
+            call: number,
+            group: None,
+        };
+        let event = Event {
+            number,
+            moment: 0,
+            report,
+        };
+        events.push(event).expect(rt, "memory");
+    }
+    events
+}
+
+// A desk over a book that took 2,500 events by one commit exports them all.
+fn export_of_many_events(rt: &impl Abort, alloc: Global) {
+    let mut rows = Rows::empty(alloc, Limits::GREATEST);
+    rows.last_stamp = 1;
+    rows.last_event = 2500;
+    let events = many_events(rt, alloc);
+    let mut book = MemoryBook::new(alloc, Limits::GREATEST);
+    let taken = committed(&mut book, &rows, &events, &first_record(rt, alloc));
+    same(rt, &taken, &Ok(()));
+    let mut desk = opened(rt, alloc, book);
+    let export = reads::told(rt, &mut desk, "export all").expect(rt, "an export");
+    same(rt, &export.as_str().lines().count(), &2501);
+    let last = "\n2500,0,callCleared,2500,,,,,,\n";
+    assert!(rt; export.as_str().ends_with(last));
+    let _ = desk.close();
+}
+
 // The commit, without its clauses.
 fn committed<B: Book>(
     book: &mut B,
@@ -369,7 +478,7 @@ fn committed<B: Book>(
     book.commit(rows, events, record)
 }
 
-/// With ample memory each call that may find none answers at that size.
+/// With ample memory these calls, which may find none, answer at that size.
 pub fn play(rt: &impl Abort, alloc: Global) {
     rows_of_an_office(rt, alloc);
     switch_of_an_office(rt, alloc);
@@ -379,4 +488,6 @@ pub fn play(rt: &impl Abort, alloc: Global) {
     monitors_of_an_office(rt, alloc);
     kept_replies_of_an_office(rt, alloc);
     commit_of_an_office(rt, alloc);
+    reads_of_an_office(rt, alloc);
+    export_of_many_events(rt, alloc);
 }

@@ -1,5 +1,5 @@
 -- Rows that are filed, and in their ranges, are those of a content.
-use Rattle.std.proofs.Common.{◌≡◌, ◌==◌, ◌&&◌, ◌||◌, ℕ, ℤ, pos, negsuc, suc, length, drop, map, cond, not, List, [], ◌∷◌, inl, inr, Option, Some, None, Bool, true, false, IsTrue, refl, sym, ap, ap₂, subst, ◌∙◌, arith, ◌+◌, ◌<◌, ◌≤◌, zero}
+use Rattle.std.proofs.Common.{◌≡◌, ◌==◌, ◌&&◌, ◌||◌, ℕ, ℤ, pos, negsuc, suc, length, drop, map, not, List, [], ◌∷◌, inl, inr, Option, Some, None, Bool, true, false, IsTrue, refl, sym, ap, ap₂, subst, ◌∙◌, arith, ◌+◌, ◌<◌, ◌≤◌, zero}
 use Rattle.std.specs.List.{AllByRecursion}
 use Rattle.std.specs.Option.{is_some}
 use Rattle.std.specs.Ordering.{int_cmp, is_eq, ordering_reverse, is_ne}
@@ -41,7 +41,7 @@ use Rattle.acd_book.specs.declared.kept.Kept.{Kept}
 use Rattle.acd_columns.specs.declared.meta.Meta.{Meta}
 use Rattle.acd_statements.specs.declared.tables.Table.{Table}
 use Rattle.acd_statements.specs.declared.tables.Table.TheVariants as table
-use Rattle.acd_statements.specs.Lying.{is_good, are_good, is_good_in, values_in, lying, IsFiled, AreWhole}
+use Rattle.acd_statements.specs.AnyRows.{is_good, are_good, is_good_in, values_in, rows_in, IsFiled, HaveAllColumns}
 use Rattle.acd_schema.specs.Inspecting.{is_good_table, IsOfBook, IsInRange}
 use Rattle.acd_statements.specs.Content.{AreRows, AreConnections, Encodes, tree_of}
 use Rattle.acd_columns.specs.Rows.{IsReadable, id_value, keyed_row, meta_row, group_values, station_values, agent_values, call_values, connection_values, connection_row, monitor_values, event_values, kept_values, group_row, station_row, agent_row, call_row, monitor_row, event_row, kept_row}
@@ -84,7 +84,7 @@ pub each_good : (t : Table) (rows : List Row) → are_good t rows ≡ true → A
 unfolding are_good
 each_good t [] h = tt
 each_good t (row ∷ rows) h =
-    (elim (is_good t row) as (λ b. is_good t row ≡ b → cond b (are_good t rows) false ≡ true → (is_good t row ≡ true) × AllByRecursion (λ r. is_good t r ≡ true) rows) [
+    (elim (is_good t row) as (λ b. is_good t row ≡ b → (b && are_good t rows) ≡ true → (is_good t row ≡ true) × AllByRecursion (λ r. is_good t r ≡ true) rows) [
       | true ↦ λ e k. (e, each_good t rows k)
       | false ↦ λ e k. absurd (cc k)
     ]) refl h
@@ -377,7 +377,7 @@ rules_of d is obeys rule = subst (λ s. Keeps rule s d.trees) is (obeys.obeys.ru
 
 good_rows : (t : Table) (db : Trees) → is_good_in t db ≡ true → AllByRecursion (λ r. is_good t (values_in t r) ≡ true) (db (tree_of t))
 unfolding is_good_in
-good_rows t db h = of_mapped (λ r. is_good t r ≡ true) (values_in t) (db (tree_of t)) (each_good t (lying t db) h)
+good_rows t db h = of_mapped (λ r. is_good t r ≡ true) (values_in t) (db (tree_of t)) (each_good t (rows_in t db) h)
 
 readable : (ks : List Kept) → AllByRecursion (λ k. kept_in (kept_values k) ≡ Some k) ks → Every IsReadable ks
 readable [] h = tt
@@ -400,8 +400,8 @@ record Parts (db : Trees) : Type 0 where
   pub kept : AreOf table.Kept kept_in kept_values (λ (k : Kept). k.stamp) (λ r k h. (kept_stored r k h).0) (λ k. refl) (λ r w null. of_width 8 r w ∙ ap (λ v. column r 0 ∷ v ∷ cells 2 6 r) null) (db (tree_of table.Kept))
 
 module _ (d : Database) (book : IsOfBook d) (obeys : IsDatabase d) (filed : IsFiled d.trees) where
-  abbrev rows_in : Table → List Row
-  rows_in t = d.trees (tree_of t)
+  abbrev table_rows : Table → List Row
+  table_rows t = d.trees (tree_of t)
 
   in_range : (t : Table) → AllByRecursion (λ r. is_good t (values_in t r) ≡ true) (d.trees (tree_of t))
   in_range t = good_rows t d.trees (book.in_range filed t)
@@ -441,30 +441,30 @@ module _ (d : Database) (book : IsOfBook d) (obeys : IsDatabase d) (filed : IsFi
       let good = subst (AllByRecursion (λ r. is_some (counters_in (values_in table.Meta r)) ≡ true)) row.1 (in_range table.Meta) in
       let m = there (counters_in (values_in table.Meta row.0)) good.0 in
       let shown = counters_stored (values_in table.Meta row.0) m.0 m.1 in
-      let links = linked (rows_in table.Connections) (filed.numbered table.Connections) filed.whole.1 (in_range table.Connections) in
-      let unique = all_so (λ r. passes rule.Unique book_schema d.trees (schema.table_of schema.connections) r ≡ true) (λ r. clashes plain key_columns (d.trees (tree_of table.Connections)) r ≡ false) (λ r h. not_true _ h) (rows_in table.Connections)
+      let links = linked (table_rows table.Connections) (filed.numbered table.Connections) filed.whole.1 (in_range table.Connections) in
+      let unique = all_so (λ r. passes rule.Unique book_schema d.trees (schema.table_of schema.connections) r ≡ true) (λ r. clashes plain key_columns (d.trees (tree_of table.Connections)) r ≡ false) (λ r h. not_true _ h) (table_rows table.Connections)
       (rules_of d book.schema_is obeys rule.Unique).1.1.1.1.1.0 in
       record {
         meta = m.0;
         meta_is = row.1 ∙ ap (λ r. r ∷ []) (meta_form row.0 m.0 whole.0 row.2 null.0 row.3 shown);
         meta_good = ap (λ r. is_some (counters_in r)) (sym shown) ∙ good.0;
-        groups = are_of table.Groups group_in group_values (λ (g : GroupRecord). g.device) group_stored (λ g. refl) (λ r w null. of_width 10 r w ∙ ap (λ v. column r 0 ∷ v ∷ cells 2 8 r) null) (rows_in table.Groups)
-            (filed.rising table.Groups) wide_groups (nulls schema.groups.columns (has_computed (schema.table_of schema.groups)) 8 (rows_in table.Groups) wide_groups typed.1.0) (in_range table.Groups);
-        stations = are_of table.Stations station_in station_values (λ (s : StationRecord). s.device) station_stored (λ s. refl) (λ r w null. of_width 2 r w ∙ ap (λ v. column r 0 ∷ v ∷ cells 2 0 r) null) (rows_in table.Stations)
-            (filed.rising table.Stations) filed.whole.0 (nulls schema.stations.columns (has_computed (schema.table_of schema.stations)) 0 (rows_in table.Stations) filed.whole.0 typed.1.1.0) (in_range table.Stations);
-        agents = are_of table.Agents agent_in agent_values (λ (a : AgentRecord). a.agent) agent_stored (λ a. refl) (λ r w null. of_width 9 r w ∙ ap (λ v. column r 0 ∷ v ∷ cells 2 7 r) null) (rows_in table.Agents)
-            (filed.rising table.Agents) wide_agents (nulls schema.agents.columns (has_computed (schema.table_of schema.agents)) 7 (rows_in table.Agents) wide_agents typed.1.1.1.0) (in_range table.Agents);
-        calls = are_of table.Calls call_in call_values (λ (k : CallRecord). k.call) call_stored (λ k. refl) (λ r w null. of_width 5 r w ∙ ap (λ v. column r 0 ∷ v ∷ cells 2 3 r) null) (rows_in table.Calls)
-            (filed.rising table.Calls) wide_calls (nulls schema.calls.columns (has_computed (schema.table_of schema.calls)) 3 (rows_in table.Calls) wide_calls typed.1.1.1.1.0) (in_range table.Calls);
+        groups = are_of table.Groups group_in group_values (λ (g : GroupRecord). g.device) group_stored (λ g. refl) (λ r w null. of_width 10 r w ∙ ap (λ v. column r 0 ∷ v ∷ cells 2 8 r) null) (table_rows table.Groups)
+            (filed.rising table.Groups) wide_groups (nulls schema.groups.columns (has_computed (schema.table_of schema.groups)) 8 (table_rows table.Groups) wide_groups typed.1.0) (in_range table.Groups);
+        stations = are_of table.Stations station_in station_values (λ (s : StationRecord). s.device) station_stored (λ s. refl) (λ r w null. of_width 2 r w ∙ ap (λ v. column r 0 ∷ v ∷ cells 2 0 r) null) (table_rows table.Stations)
+            (filed.rising table.Stations) filed.whole.0 (nulls schema.stations.columns (has_computed (schema.table_of schema.stations)) 0 (table_rows table.Stations) filed.whole.0 typed.1.1.0) (in_range table.Stations);
+        agents = are_of table.Agents agent_in agent_values (λ (a : AgentRecord). a.agent) agent_stored (λ a. refl) (λ r w null. of_width 9 r w ∙ ap (λ v. column r 0 ∷ v ∷ cells 2 7 r) null) (table_rows table.Agents)
+            (filed.rising table.Agents) wide_agents (nulls schema.agents.columns (has_computed (schema.table_of schema.agents)) 7 (table_rows table.Agents) wide_agents typed.1.1.1.0) (in_range table.Agents);
+        calls = are_of table.Calls call_in call_values (λ (k : CallRecord). k.call) call_stored (λ k. refl) (λ r w null. of_width 5 r w ∙ ap (λ v. column r 0 ∷ v ∷ cells 2 3 r) null) (table_rows table.Calls)
+            (filed.rising table.Calls) wide_calls (nulls schema.calls.columns (has_computed (schema.table_of schema.calls)) 3 (table_rows table.Calls) wide_calls typed.1.1.1.1.0) (in_range table.Calls);
         connections = in_order links.0;
-        connections_is = connections_are (rows_in table.Connections) links.0 links.1 (filed.rising table.Connections) (filed.numbered table.Connections) unique;
-        connections_good = connections_back_in (rows_in table.Connections) links.0 links.1 (filed.rising table.Connections) (filed.numbered table.Connections) unique (in_order links.0) (λ y a. from_order links.0 y a);
-        monitors = are_of table.Monitors monitor_in monitor_values (λ (m : MonitorRecord). m.monitor) monitor_stored (λ m. refl) (λ r w null. of_width 4 r w ∙ ap (λ v. column r 0 ∷ v ∷ cells 2 2 r) null) (rows_in table.Monitors)
-            (filed.rising table.Monitors) wide_monitors (nulls schema.monitors.columns (has_computed (schema.table_of schema.monitors)) 2 (rows_in table.Monitors) wide_monitors typed.1.1.1.1.1.1.0) (in_range table.Monitors);
-        events = are_of table.Events event_in event_values (λ (e : Event). e.number) event_stored (λ e. refl) (λ r w null. of_width 11 r w ∙ ap (λ v. column r 0 ∷ v ∷ cells 2 9 r) null) (rows_in table.Events)
-            (filed.rising table.Events) filed.whole.2 (nulls schema.events.columns (has_computed (schema.table_of schema.events)) 9 (rows_in table.Events) filed.whole.2 typed.1.1.1.1.1.1.1.0) (in_range table.Events);
-        kept = are_of table.Kept kept_in kept_values (λ (k : Kept). k.stamp) (λ r k h. (kept_stored r k h).0) (λ k. refl) (λ r w null. of_width 8 r w ∙ ap (λ v. column r 0 ∷ v ∷ cells 2 6 r) null) (rows_in table.Kept)
-            (filed.rising table.Kept) wide_kept (nulls schema.kept.columns (has_computed (schema.table_of schema.kept)) 6 (rows_in table.Kept) wide_kept typed.1.1.1.1.1.1.1.1.0) (in_range table.Kept);
+        connections_is = connections_are (table_rows table.Connections) links.0 links.1 (filed.rising table.Connections) (filed.numbered table.Connections) unique;
+        connections_good = connections_back_in (table_rows table.Connections) links.0 links.1 (filed.rising table.Connections) (filed.numbered table.Connections) unique (in_order links.0) (λ y a. from_order links.0 y a);
+        monitors = are_of table.Monitors monitor_in monitor_values (λ (m : MonitorRecord). m.monitor) monitor_stored (λ m. refl) (λ r w null. of_width 4 r w ∙ ap (λ v. column r 0 ∷ v ∷ cells 2 2 r) null) (table_rows table.Monitors)
+            (filed.rising table.Monitors) wide_monitors (nulls schema.monitors.columns (has_computed (schema.table_of schema.monitors)) 2 (table_rows table.Monitors) wide_monitors typed.1.1.1.1.1.1.0) (in_range table.Monitors);
+        events = are_of table.Events event_in event_values (λ (e : Event). e.number) event_stored (λ e. refl) (λ r w null. of_width 11 r w ∙ ap (λ v. column r 0 ∷ v ∷ cells 2 9 r) null) (table_rows table.Events)
+            (filed.rising table.Events) filed.whole.2 (nulls schema.events.columns (has_computed (schema.table_of schema.events)) 9 (table_rows table.Events) filed.whole.2 typed.1.1.1.1.1.1.1.0) (in_range table.Events);
+        kept = are_of table.Kept kept_in kept_values (λ (k : Kept). k.stamp) (λ r k h. (kept_stored r k h).0) (λ k. refl) (λ r w null. of_width 8 r w ∙ ap (λ v. column r 0 ∷ v ∷ cells 2 6 r) null) (table_rows table.Kept)
+            (filed.rising table.Kept) wide_kept (nulls schema.kept.columns (has_computed (schema.table_of schema.kept)) 6 (table_rows table.Kept) wide_kept typed.1.1.1.1.1.1.1.1.0) (in_range table.Kept);
       }
 
 module _ (db : Trees) (p : Parts db) where
@@ -554,7 +554,7 @@ each_shape shapes h table.Events = h.1.1.1.1.1.1.1.0
 each_shape shapes h table.Kept = h.1.1.1.1.1.1.1.1.0
 
 -- they have integers as numbers, which rise, whatever they hold
-pub filed_by_store : (v : View) (s : Schema) → s ≡ book_schema → IsDatabase (record { schema = s; trees = v.trees }) → IsListed (v.trees catalog_tree) v.shape v.reals → IsOrdered v.shape v.trees → AreWhole v.trees → IsFiled v.trees
+pub filed_by_store : (v : View) (s : Schema) → s ≡ book_schema → IsDatabase (record { schema = s; trees = v.trees }) → IsListed (v.trees catalog_tree) v.shape v.reals → IsOrdered v.shape v.trees → HaveAllColumns v.trees → IsFiled v.trees
 filed_by_store v s is obeys listed ordered whole =
     let laid = laid_out listed (objects_rise v listed ordered) obeys.lists.listed in
     let shapes = each_shape v.shape (subst (λ (x : Schema). AllByRecursion (λ t. v.shape t.tree ≡ shape.Table) x.tables) is laid.tables) in

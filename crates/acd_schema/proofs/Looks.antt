@@ -2,7 +2,7 @@
 use Rattle.std.proofs.lemmas.Grind.{common_steps}
 use Rattle.std.proofs.lemmas.Bool.Decides.{nat_tests}
 use Rattle.std.proofs.lemmas.List.Sorted.{list_any-IsPermutation, length_permutation}
-use Rattle.std.proofs.Common.{◌≡◌, ◌==◌, ◌||◌, ℕ, ◌+◌, ◌<◌, ◌≤◌, length, map, not, cond, take, get_or, arith, List, [], ◌∷◌, ◌++◌, inl, inr, Result, Ok, Err, Option, Some, None, Bool, true, false, IsTrue, IfOk, refl, sym, ap, subst, subst₂, ◌∙◌}
+use Rattle.std.proofs.Common.{◌≡◌, ◌&&◌, ◌==◌, ◌||◌, ℕ, ◌+◌, ◌<◌, ◌≤◌, length, map, not, cond, take, get_or, arith, List, [], ◌∷◌, ◌++◌, inl, inr, Result, Ok, Err, Option, Some, None, Bool, true, false, IsTrue, IfOk, refl, sym, ap, subst, subst₂, ◌∙◌}
 use Rattle.std.specs.Prelude.{Vec, IsPermutation, ⊤}
 use Rattle.std.specs.List.{AllByRecursion, list_any}
 use Rattle.std.specs.declared.alloc.Global.{Global}
@@ -24,13 +24,13 @@ use Rattle.acd_statements.specs.declared.tables.Whole.{Whole}
 use Rattle.acd_statements.specs.declared.tables.Log.{Log}
 use Rattle.acd_schema.specs.declared.inspection.Page.{Page}
 use Rattle.acd_schema.specs.declared.inspection.Page.TheVariants.{Bad, Last, More}
-use Rattle.acd_statements.specs.Lying.{is_good, is_good_in, are_good, lying, table_of, table_of_log, has_meta, Numbered, AreNumbered, AreSameFirst, BeginsAsBook, IsFiled, TellsGood, TellsLow, IsPageRows}
+use Rattle.acd_statements.specs.AnyRows.{is_good, is_good_in, are_good, rows_in, table_of, table_of_log, has_meta, Numbered, AreNumbered, AreSameFirst, BeginsAsBook, IsFiled, TellsGood, TellsLow, IsPageRows}
 use Rattle.acd_schema.specs.Inspecting.{is_good_behind, version_fault, fault_of_version, all_tables, TellsBehind, IsBadOf, IsPage, IsPageOf, IsVersionFound, IsRowFound, IsFound, IsFaultOf}
 use Rattle.acd_statements.specs.Draft.{NoStop}
 use Rattle.acd_columns.specs.Ranges.{whole_at}
 use Rattle.acd_statements.specs.Schema.{book_schema}
 use Rattle.acd_statements.specs.Schema as schema
-use Rattle.acd_statements.specs.Seeing.{Lies, Sees, HasLooked}
+use Rattle.acd_statements.specs.Seeing.{HasDatabase, Sees, HasLooked}
 use Rattle.acd_statements.proofs.KeyedRows.{apart, same_number}
 use Rattle.acd_statements.proofs.Looked.{mapped_all, moved_all}
 use Rattle.acd_schema.proofs.Paged.{page_is, log_told}
@@ -81,22 +81,22 @@ pub version_told : (d : Database) (old new : State) (rows : Vec Row Global) (f :
     → Sees d old new (Ok rows) (λ rows. IsPermutation (map (λ r. column r 2 ∷ []) (d.trees schema.meta.tree)) rows.items) → Sees d old new (Ok f) (λ f. IsVersionFound d f)
 version_told d old new rows f b is h =
     sees_on d old new rows (λ rows. IsPermutation (map (λ r. column r 2 ∷ []) (d.trees schema.meta.tree)) rows.items) (λ f. IsVersionFound d f) (Ok f) h
-    (λ lies same.
+    (λ had same.
     let here = moved_all (Shows d.trees) _ rows.items same (mapped_all (Shows d.trees) (λ r. column r 2 ∷ []) (d.trees schema.meta.tree) (all_from (λ r. Shows d.trees (column r 2 ∷ [])) (d.trees schema.meta.tree) (λ r k. (r, k, refl)))) in
     subst (IsVersionFound d) (sym is) (version_found d b rows.items same here))
 
 pub not_made : (s : State) (f : AdoptFault) → f ≡ WrongVersion 0 → has_meta s.now.schema.tables ≡ false → Sees s.now s s (Ok (Some f)) (λ f. IsFound s.now f)
-not_made s f is none = sees_here s.now s (Some f) (λ f. IsFound s.now f) (λ lies. subst (IsFaultOf s.now) (sym is) (apart 0 1 refl, inl (none, refl)))
+not_made s f is none = sees_here s.now s (Some f) (λ f. IsFound s.now f) (λ had. subst (IsFaultOf s.now) (sym is) (apart 0 1 refl, inl (none, refl)))
 
 pub other_made : (s : State) (f : AdoptFault) → f ≡ Store → Sees s.now s s (Ok (Some f)) (λ f. IsFound s.now f)
-other_made s f is = sees_here s.now s (Some f) (λ f. IsFound s.now f) (λ lies. subst (IsFaultOf s.now) (sym is) tt)
+other_made s f is = sees_here s.now s (Some f) (λ f. IsFound s.now f) (λ had. subst (IsFaultOf s.now) (sym is) tt)
 
 -- the version alone
 pub version_fault_found : (d : Database) (old new : State) (f : AdoptFault) → Sees d old new (Ok (Some f)) (λ f. IsVersionFound d f) → Sees d old new (Ok (Some f)) (λ f. IsFound d f)
-version_fault_found d old new f h = sees_on d old new (Some f) (λ f. IsVersionFound d f) (λ f. IsFound d f) (Ok (Some f)) h (λ lies p. p)
+version_fault_found d old new f h = sees_on d old new (Some f) (λ f. IsVersionFound d f) (λ f. IsFound d f) (Ok (Some f)) h (λ had p. p)
 
 pub first_alone : (d : Database) (old new : State) (f : AdoptFault) → f ≡ Store → Sees d old new (Ok None) (λ f. IsVersionFound d f) → Sees d old new (Ok (Some f)) (λ f. IsFound d f)
-first_alone d old new f is h = sees_on d old new None (λ f. IsVersionFound d f) (λ f. IsFound d f) (Ok (Some f)) h (λ lies p. subst (IsFaultOf d) (sym is) tt)
+first_alone d old new f is h = sees_on d old new None (λ f. IsVersionFound d f) (λ f. IsFound d f) (Ok (Some f)) h (λ had p. subst (IsFaultOf d) (sym is) tt)
 
 both_found : (d : Database) → d.schema ≡ book_schema → IsVersionFound d None → (f : Option AdoptFault) → IsRowFound d f → IsFound d f
 both_found d is version None rows = record { schema_is = is; version = version; in_range = rows }
@@ -113,7 +113,7 @@ unfolding are_good
 none_bad t [] = refl
 none_bad t (row ∷ rows) = either (is_good t row) (are_good t rows) (list_any (λ r. not (is_good t r)) rows) (none_bad t rows)
   where
-    either : (a b c : Bool) → b ≡ not c → cond a b false ≡ not (not a || c)
+    either : (a b c : Bool) → b ≡ not c → (a && b) ≡ not (not a || c)
     either true b c e = e
     either false b c e = refl
 
@@ -121,22 +121,22 @@ good_moved : (t : Table) (xs ys : List Row) → IsPermutation xs ys → are_good
 good_moved t xs ys same = none_bad t ys ∙ ap not (sym (list_any-IsPermutation (λ r. not (is_good t r)) xs ys same)) ∙ sym (none_bad t xs)
 
 pub whole_told : (d : Database) (old new : State) (w : Whole) (rows : Vec Row Global) (r : Result Bool Error) → IfOk r (λ good. good ≡ are_good (table_of w) rows.items)
-    → Sees d old new (Ok rows) (λ rows. IsPermutation (lying (table_of w) d.trees) rows.items) → Sees d old new r (λ good. TellsGood (table_of w) d.trees good)
+    → Sees d old new (Ok rows) (λ rows. IsPermutation (rows_in (table_of w) d.trees) rows.items) → Sees d old new r (λ good. TellsGood (table_of w) d.trees good)
 unfolding is_good_in
 whole_told d old new w rows (Ok good) is h =
-    sees_on d old new rows (λ rows. IsPermutation (lying (table_of w) d.trees) rows.items) (λ good. TellsGood (table_of w) d.trees good) (Ok good) h
-    (λ lies same. let known = is ∙ good_moved (table_of w) (lying (table_of w) d.trees) rows.items same in record { bad = λ e. sym known ∙ e; filed = λ filed. known })
+    sees_on d old new rows (λ rows. IsPermutation (rows_in (table_of w) d.trees) rows.items) (λ good. TellsGood (table_of w) d.trees good) (Ok good) h
+    (λ had same. let known = is ∙ good_moved (table_of w) (rows_in (table_of w) d.trees) rows.items same in record { bad = λ e. sym known ∙ e; filed = λ filed. known })
 whole_told d old new w rows (Err e) is h =
-    sees_on d old new rows (λ rows. IsPermutation (lying (table_of w) d.trees) rows.items) (λ good. TellsGood (table_of w) d.trees good) (Err e) h (λ lies same. tt)
+    sees_on d old new rows (λ rows. IsPermutation (rows_in (table_of w) d.trees) rows.items) (λ good. TellsGood (table_of w) d.trees good) (Err e) h (λ had same. tt)
 
 -- ---- tables that are read in pages
 
 pub page_told : (d : Database) (old new : State) (l : Log) (n : ℕ) (rows : Vec Row Global) (r : Result Page Error) → IfOk r (λ page. IsPageOf l n rows.items page)
     → Sees d old new (Ok rows) (λ rows. IsPageRows l n 1000 d.trees rows.items) → Sees d old new r (λ page. IsPage l n d.trees page)
 page_told d old new l n rows (Ok page) is h =
-    sees_on d old new rows (λ rows. IsPageRows l n 1000 d.trees rows.items) (λ page. IsPage l n d.trees page) (Ok page) h (λ lies are. page_is l n d rows.items page are is)
+    sees_on d old new rows (λ rows. IsPageRows l n 1000 d.trees rows.items) (λ page. IsPage l n d.trees page) (Ok page) h (λ had are. page_is l n d rows.items page are is)
 page_told d old new l n rows (Err e) is h =
-    sees_on d old new rows (λ rows. IsPageRows l n 1000 d.trees rows.items) (λ page. IsPage l n d.trees page) (Err e) h (λ lies are. tt)
+    sees_on d old new rows (λ rows. IsPageRows l n 1000 d.trees rows.items) (λ page. IsPage l n d.trees page) (Err e) h (λ had are. tt)
 
 abbrev pub Left : Log → ℕ → Trees → Unit {0} → Type 0
 Left l n db x = (xs : List Numbered) → AreNumbered l db xs → is_good_behind l n xs ≡ is_good_behind l 0 xs
@@ -146,19 +146,19 @@ module _ (d : Database) (old mid new : State) (l : Log) (n : ℕ) (first : Sees 
   pages_bad next =
       sees_on d old new Bad (λ page. IsPage l n d.trees page) (λ good. TellsBehind l d.trees good) (Ok false)
       (sees_then d old mid new tt (Left l n d.trees) first (λ page. IsPage l n d.trees page) (λ page. IsPage l n d.trees page) (Ok Bad) (λ p b q. q) next)
-      (λ lies bad. record { bad = λ e. bad; filed = λ e. absurd (cc e) })
+      (λ had bad. record { bad = λ e. bad; filed = λ e. absurd (cc e) })
 
   pub pages_last : Sees d mid new (Ok Last) (λ page. IsPage l n d.trees page) → Sees d old new (Ok true) (λ good. TellsBehind l d.trees good)
   pages_last next =
       sees_on d old new Last (λ page. IsPage l n d.trees page × Left l n d.trees tt) (λ good. TellsBehind l d.trees good) (Ok true)
       (sees_then d old mid new tt (Left l n d.trees) first (λ page. IsPage l n d.trees page) (λ page. IsPage l n d.trees page × Left l n d.trees tt) (Ok Last) (λ p b q. (q, p)) next)
-      (λ lies both. record { bad = λ e. absurd (cc e); filed = λ e xs are. sym (both.1 xs are) ∙ both.0 xs are })
+      (λ had both. record { bad = λ e. absurd (cc e); filed = λ e xs are. sym (both.1 xs are) ∙ both.0 xs are })
 
   pub pages_more : (m : ℕ) → Sees d mid new (Ok (More m)) (λ page. IsPage l n d.trees page) → Sees d old new (Ok tt) (Left l m d.trees)
   pages_more m next =
       sees_on d old new (More m) (λ page. IsPage l n d.trees page × Left l n d.trees tt) (Left l m d.trees) (Ok tt)
       (sees_then d old mid new tt (Left l n d.trees) first (λ page. IsPage l n d.trees page) (λ page. IsPage l n d.trees page × Left l n d.trees tt) (Ok (More m)) (λ p b q. (q, p)) next)
-      (λ lies both xs are. sym (both.0 xs are) ∙ both.1 xs are)
+      (λ had both xs are. sym (both.0 xs are) ∙ both.1 xs are)
 
   pub pages_fail : (e : Error) → Sees d mid new (Err e) (λ page. IsPage l n d.trees page) → Sees d old new (Err e) (λ good. TellsBehind l d.trees good)
   pages_fail e next =
@@ -166,13 +166,13 @@ module _ (d : Database) (old mid new : State) (l : Log) (n : ℕ) (first : Sees 
       (sees_fail d mid new e (λ page. IsPage l n d.trees page) (λ good. TellsBehind l d.trees good) next)
 
 pub pages_end : (d : Database) (old new : State) (l : Log) (n : ℕ) (e : Error) → Sees d old new (Ok tt) (Left l n d.trees) → Sees d old new (Err e) (λ good. TellsBehind l d.trees good)
-pages_end d old new l n e h = sees_on d old new tt (Left l n d.trees) (λ good. TellsBehind l d.trees good) (Err e) h (λ lies p. tt)
+pages_end d old new l n e h = sees_on d old new tt (Left l n d.trees) (λ good. TellsBehind l d.trees good) (Err e) h (λ had p. tt)
 
 module _ (d : Database) (old mid : State) (l : Log) (low : Vec Row Global) (first : Sees d old mid (Ok low) (λ rows. TellsLow l d.trees rows.items)) where
   pub log_low : (low.items ≡ [] → ⊥) → Sees d old mid (Ok false) (λ good. TellsGood (table_of_log l) d.trees good)
   log_low some =
       sees_on d old mid low (λ rows. TellsLow l d.trees rows.items) (λ good. TellsGood (table_of_log l) d.trees good) (Ok false) first
-      (λ lies tells. record { bad = λ e. tells.some some; filed = λ filed. sym (tells.some some) })
+      (λ had tells. record { bad = λ e. tells.some some; filed = λ filed. sym (tells.some some) })
 
   pub log_pages : (new : State) (r : Result Bool Error) → low.items ≡ [] → Sees d mid new r (λ good. TellsBehind l d.trees good) → Sees d old new r (λ good. TellsGood (table_of_log l) d.trees good)
   log_pages new r none next =
@@ -200,7 +200,7 @@ module _ (d : Database) (old mid new : State) (tables : List Table) (i : ℕ) (f
   tables_next t x good at low is next =
       sees_on d old new good (λ good. TellsGood t d.trees good × Good (take i tables) d.trees tt) (Good (take (i + 1) tables) d.trees) (Ok tt)
       (sees_then d old mid new tt (Good (take i tables) d.trees) first (λ good. TellsGood t d.trees good) (λ good. TellsGood t d.trees good × Good (take i tables) d.trees tt) (Ok good) (λ p b q. (q, p)) next)
-      (λ lies both filed.
+      (λ had both filed.
       subst (Every (λ t. is_good_in t d.trees ≡ true)) (sym (one_more tables i x low))
       (every_pushed (λ t. is_good_in t d.trees ≡ true) (take i tables) (get_or tables i x) (both.1 filed) (subst (λ t. is_good_in t d.trees ≡ true) at (sym (both.0.filed filed) ∙ is))))
 
@@ -208,7 +208,7 @@ module _ (d : Database) (old mid new : State) (tables : List Table) (i : ℕ) (f
   tables_bad t good is next =
       sees_on d old new good (λ good. TellsGood t d.trees good) (λ bad. IsBadOf tables d.trees bad) (Ok (Some t))
       (sees_then d old mid new tt (Good (take i tables) d.trees) first (λ good. TellsGood t d.trees good) (λ good. TellsGood t d.trees good) (Ok good) (λ p b q. q) next)
-      (λ lies tells. tells.bad is)
+      (λ had tells. tells.bad is)
 
   pub tables_fail : (t : Table) (e : Error) → Sees d mid new (Err e) (λ good. TellsGood t d.trees good) → Sees d old new (Err e) (λ bad. IsBadOf tables d.trees bad)
   tables_fail t e next =
@@ -217,7 +217,7 @@ module _ (d : Database) (old mid new : State) (tables : List Table) (i : ℕ) (f
 
 pub tables_end : (d : Database) (old new : State) (tables : List Table) (i : ℕ) → Sees d old new (Ok tt) (Good (take i tables) d.trees) → length tables ≤ i → Sees d old new (Ok None) (λ bad. IsBadOf tables d.trees bad)
 tables_end d old new tables i h all =
-    sees_on d old new tt (Good (take i tables) d.trees) (λ bad. IsBadOf tables d.trees bad) (Ok None) h (λ lies p filed. subst (Every (λ t. is_good_in t d.trees ≡ true)) (taken tables i all) (p filed))
+    sees_on d old new tt (Good (take i tables) d.trees) (λ bad. IsBadOf tables d.trees bad) (Ok None) h (λ had p filed. subst (Every (λ t. is_good_in t d.trees ≡ true)) (taken tables i all) (p filed))
 
 each_good : (db : Trees) → Every (λ t. is_good_in t db ≡ true) all_tables → (t : Table) → is_good_in t db ≡ true
 each_good db h table.Meta = h.0
@@ -231,10 +231,10 @@ each_good db h table.Events = h.1.1.1.1.1.1.1.0
 each_good db h table.Kept = h.1.1.1.1.1.1.1.1.0
 
 pub bad_told : (d : Database) (old new : State) (t : Table) → d.schema ≡ book_schema → Sees d old new (Ok (Some t)) (λ bad. IsBadOf all_tables d.trees bad) → Sees d old new (Ok (Some (BadRow t))) (λ f. IsRowFound d f)
-bad_told d old new t is h = sees_on d old new (Some t) (λ bad. IsBadOf all_tables d.trees bad) (λ f. IsRowFound d f) (Ok (Some (BadRow t))) h (λ lies bad. inl (is, bad))
+bad_told d old new t is h = sees_on d old new (Some t) (λ bad. IsBadOf all_tables d.trees bad) (λ f. IsRowFound d f) (Ok (Some (BadRow t))) h (λ had bad. inl (is, bad))
 
 pub good_told : (d : Database) (old new : State) → Sees d old new (Ok None) (λ bad. IsBadOf all_tables d.trees bad) → Sees d old new (Ok None) (λ f. IsRowFound d f)
-good_told d old new h = sees_on d old new None (λ bad. IsBadOf all_tables d.trees bad) (λ f. IsRowFound d f) (Ok None) h (λ lies all filed. each_good d.trees (all filed))
+good_told d old new h = sees_on d old new None (λ bad. IsBadOf all_tables d.trees bad) (λ f. IsRowFound d f) (Ok None) h (λ had all filed. each_good d.trees (all filed))
 
 -- ---- the whole look
 
@@ -253,14 +253,14 @@ begins_of a b s own same first second is = begins_of_first s.tables (subst₂ Ar
 -- what is seen of the database that is there
 pub sees_at : {A : Type 0} (d : Database) (old new : State) (r : Result A Error) (P : Database → A → Type 0) → Sees old.now old new r (P old.now) → Sees d old new r (P d)
 sees_at d old new r P h =
-    let there : Lies old d → Sees d old new r (P d) = λ lies. subst (λ x. Sees x old new r (P x)) lies.now h in
+    let there : HasDatabase old d → Sees d old new r (P d) = λ had. subst (λ x. Sees x old new r (P x)) had.now h in
     record {
       clean = h.clean;
       was_open = h.was_open;
-      up = λ k lies. (there lies).up k lies;
-      same = λ k lies up. (there lies).same k lies up;
-      stops = λ k lies. (there lies).stops k lies;
-      answer = λ k lies. (there lies).answer k lies;
+      up = λ k had. (there had).up k had;
+      same = λ k had up. (there had).same k had up;
+      stops = λ k had. (there had).stops k had;
+      answer = λ k had. (there had).answer k had;
     }
 
 module _ {A : Type 0} (old mid new : State) (r : Result A Error) (P : Database → A → Type 0) where
@@ -268,15 +268,15 @@ module _ {A : Type 0} (old mid new : State) (r : Result A Error) (P : Database �
       → (IsTrue old.is_open → IsDatabase old.now) → Sees mid.now mid new r (P mid.now) → HasLooked old new r P
   looked first up still settled obeys next =
       let here = sees_at old.now mid new r P next in
-      let lies : HasCleanDisk mid → Lies mid old.now = λ m.
+      let had : HasCleanDisk mid → HasDatabase mid old.now = λ m.
       let was = first.was_open m (up m) in
       first.same m (record { is_open = was; now = refl; committed = sym (settled was) }) (up m) in
       record {
         seen = sees_then old.now old mid new tt (λ (x : Unit {0}). ⊤) first (P old.now) (P old.now) r (λ p b q. q) here;
-        up = λ k. here.up k (lies (here.clean k));
+        up = λ k. here.up k (had (here.clean k));
         settled = settled;
         obeys = obeys;
-        stops = λ k db left. still (here.clean k) db (here.stops k (lies (here.clean k)) db left);
+        stops = λ k db left. still (here.clean k) db (here.stops k (had (here.clean k)) db left);
       }
 
 pub looked_not : {A : Type 0} (old new : State) (e : Error) (P : Database → A → Type 0) → Sees {A = Unit {0}} old.now old new (Err e) (λ _. ⊤) → (HasCleanDisk new → NoStop old new)

@@ -17,12 +17,11 @@ use Rattle.acd_terms.specs.Lists.{Among, IsAscending}
 use Rattle.acd_terms.specs.declared.event.Event.{Event}
 use Rattle.acd_laws.proofs.Lists.{after_among, filter_all, filter_among, ascending-filter}
 use Rattle.acd_book.specs.declared.kept.Kept.{Kept}
-use Rattle.acd_statements.specs.declared.tables.Table.{Table}
 use Rattle.acd_statements.specs.declared.tables.Log.{Log}
 use Rattle.acd_statements.specs.declared.tables.Log.TheVariants as log
 use Rattle.acd_schema.specs.declared.inspection.Page.{Page}
 use Rattle.acd_schema.specs.declared.inspection.Page.TheVariants.{Bad, Last, More}
-use Rattle.acd_statements.specs.Lying.{is_good, are_good, is_good_in, lying, values_in, table_of_log, Numbered, AreNumbered, FromOne, TellsGood, IsPageRows}
+use Rattle.acd_statements.specs.AnyRows.{is_good, are_good, is_good_in, rows_in, values_in, table_of_log, Numbered, AreNumbered, FromOne, TellsGood, IsPageRows}
 use Rattle.acd_schema.specs.Inspecting.{is_good_behind, number_if_good, last_good, TellsBehind, IsPageOf, IsPage}
 use Rattle.acd_statements.specs.Content.{tree_of}
 use Rattle.acd_columns.specs.Decoding.{option_in}
@@ -155,7 +154,7 @@ page_bad : (l : Log) (n limit : ℕ) (db : Trees) (rows : List Row) → IsPageRo
 unfolding is_good_in
 page_bad l n limit db rows page h =
     let bad = bad_row_in l n rows h in
-    bad_among (table_of_log l) (lying (table_of_log l) db) bad.0 (at_each (λ r. Has (lying (table_of_log l) db) r) rows bad.0 page.known bad.1) bad.2
+    bad_among (table_of_log l) (rows_in (table_of_log l) db) bad.0 (at_each (λ r. Has (rows_in (table_of_log l) db) r) rows bad.0 page.known bad.1) bad.2
 
 abbrev number_key : Numbered → ℕ
 number_key x = x.key
@@ -210,25 +209,6 @@ log_told l db true low h = record {
 }
 
 -- ---- rows, one after the other
-
-good_one : (t : Table) (row : Row) (rest : List Row) → is_good t row ≡ true → are_good t (row ∷ rest) ≡ are_good t rest
-unfolding are_good
-good_one t row rest good = rw good refl
-
-bad_one : (t : Table) (row : Row) (rest : List Row) → is_good t row ≡ false → are_good t (row ∷ rest) ≡ false
-unfolding are_good
-bad_one t row rest bad = rw bad refl
-
-module _ (t : Table) (rows : List Row) (i : ℕ) (left : are_good t (drop i rows) ≡ are_good t rows) where
-  pub good_step : (row d : Row) → row ≡ get_or rows i d → i < length rows → is_good t row ≡ true → are_good t (drop (i + 1) rows) ≡ are_good t rows
-  good_step row d is low good = sym (ap (are_good t) (at rows i row d is low) ∙ good_one t row (drop (i + 1) rows) good) ∙ left
-
-  pub good_stop : (row d : Row) → row ≡ get_or rows i d → i < length rows → is_good t row ≡ false → false ≡ are_good t rows
-  good_stop row d is low bad = sym (ap (are_good t) (at rows i row d is low) ∙ bad_one t row (drop (i + 1) rows) bad) ∙ left
-
-  pub good_end : length rows ≤ i → true ≡ are_good t rows
-  unfolding are_good
-  good_end all = sym (ap (are_good t) (drop_all i rows all)) ∙ left
 
 number_one : (l : Log) (last : ℕ) (o : Option ℕ) (row : Row) (rest : List Row) → number_if_good l row ≡ o → last_good l last (row ∷ rest) ≡ (o >>= (λ k. last_good l k rest))
 unfolding last_good

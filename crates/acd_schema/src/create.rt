@@ -1,6 +1,6 @@
 //! Makes the tables of a book.
 
-ghost use Rattle.std.specs.Prelude.{◌≡◌, false, IsTrue, OnOk};
+ghost use Rattle.std.specs.Prelude.{◌≡◌, ◌↔◌, false, IsTrue, OnOk};
 ghost use Rattle.sqlite_schema.specs.declared.schema.Table.{Table};
 ghost use Rattle.sqlite_schema.specs.declared.schema.Schema.{Schema};
 ghost use Rattle.sqlite.specs.Change.{created};
@@ -13,9 +13,17 @@ ghost use Rattle.acd_book.specs.Content.{empty_content};
 ghost use Rattle.acd_schema.specs.SettingUp.{MayMake};
 
 use acd_columns::Meta;
-use acd_statements::write::{put_meta, write};
+use acd_statements::write::{insert_meta, write};
 use acd_terms::Limits;
 use sqlite::{Alter, Connection, Error, Transaction};
+use sqlite_schema::schema::Schema;
+
+/// Whether a database has no table, no index and no view.
+pub fn has_no_tables(schema: &Schema) -> bool
+    ensures { IsTrue result ↔ (schema.now ≡ no_schema) }
+{
+    schema.tables.is_empty() && schema.indexes.is_empty() && schema.views.is_empty()
+}
 
 // Makes one table.
 fn make<S: Alter>(tx: &mut Transaction<'_, S>, sql: &str) -> Result<(), Error>
@@ -101,13 +109,14 @@ fn make_tables<S: Alter>(tx: &mut Transaction<'_, S>) -> Result<(), Error>
     make_log(tx)
 }
 
-/// Makes the tables, and the row of the limits.
+/// Makes the tables of a new book in one transaction, and the row of the limits.
 pub fn set_up<S: Alter>(conn: &mut Connection<S>, limits: Limits) -> Result<(), Error>
     requires idle { conn.old.in_transaction ≡ false }
+    requires empty { (state S.Store conn.old).now.schema ≡ no_schema }
     requires fit { LimitsFit limits }
     ensures idle { conn.new.in_transaction ≡ false }
     ensures clean { HasCleanDisk (state S.Store conn.new) → HasCleanDisk (state S.Store conn.old) }
-    ensures made { HasCleanDisk (state S.Store conn.new) → OnOk result ((state S.Store conn.old).now.schema ≡ no_schema → Holds (state S.Store conn.new) (empty_content limits)) }
+    ensures made { HasCleanDisk (state S.Store conn.new) → OnOk result (Holds (state S.Store conn.new) (empty_content limits)) }
     ensures up { HasCleanDisk (state S.Store conn.new) → OnOk result (IsTrue (state S.Store conn.new).is_open) }
     ensures stops { HasCleanDisk (state S.Store conn.new) → MayMake (state S.Store conn.old) (state S.Store conn.new) limits }
 {
@@ -121,6 +130,6 @@ pub fn set_up<S: Alter>(conn: &mut Connection<S>, limits: Limits) -> Result<(), 
     };
     let mut tx = conn.transaction();
     make_tables(&mut tx)?;
-    put_meta(&mut tx, &meta)?;
+    insert_meta(&mut tx, &meta)?;
     tx.commit()
 }

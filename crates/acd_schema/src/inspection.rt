@@ -3,7 +3,7 @@
 ghost use Rattle.std.specs.Prelude.{◌≡◌, false, None, IfOk};
 ghost use Rattle.sqlite.specs.Effect.{Database};
 ghost use Rattle.sqlite.specs.Held.{state};
-ghost use Rattle.acd_statements.specs.Lying.{table_of, table_of_log, is_good, are_good, BeginsAsBook, TellsGood};
+ghost use Rattle.acd_statements.specs.AnyRows.{table_of, table_of_log, is_good, are_good, BeginsAsBook, TellsGood};
 ghost use Rattle.acd_schema.specs.Inspecting.{number_if_good, last_good, IsLike, TellsBehind, IsBadOf, IsPage, IsPageOf, PageFits, IsFound, IsRowFound, IsVersionFound, IsStoreFault, version_fault, adopt_fault_of};
 ghost use Rattle.acd_statements.specs.Draft.{Fits};
 ghost use Rattle.acd_statements.specs.Schema.{book_schema};
@@ -61,15 +61,11 @@ fn is_good(table: Whole, row: &Row) -> bool
     }
 }
 
+#[tactic(auto, unfolding(acd_statements::specs::AnyRows::are_good))]
 fn are_good(table: Whole, rows: &[Row]) -> bool
     ensures { result ≡ are_good (table_of table) rows.now }
 {
-    for row in rows {
-        if !is_good(table, row) {
-            return false;
-        }
-    }
-    true
+    rows.iter().all(|row| is_good(table, row))
 }
 
 // Whether each value of a table that is read whole is in its range.
@@ -368,6 +364,7 @@ pub fn look_over<S: Alter>(
     ensures idle { conn.new.in_transaction ≡ false }
     ensures looked { HasLooked (state S.Store conn.old) (state S.Store conn.new) result (λ d fault. IsFound d fault) }
 {
+    // What these two promise holds of the connection before anything is read; their answers aren't needed.
     let _settled = conn.is_autocommit();
     let _obeyed = conn.schema();
     probe(conn)?;

@@ -6,6 +6,6 @@ mod create;
 mod fault;
 mod inspection;
 
-pub use create::set_up;
+pub use create::{has_no_tables, set_up};
 pub use fault::AdoptFault;
 pub use inspection::{fault_of, look_over};

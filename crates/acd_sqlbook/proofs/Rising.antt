@@ -13,7 +13,7 @@ use Rattle.acd_book.specs.Memory.{stamp_of, number_of}
 use Rattle.acd_book.specs.Order.{Rises, IsOrdered}
 use Rattle.acd_book.specs.declared.kept.Kept.{Kept}
 use Rattle.acd_statements.specs.declared.tables.Table.TheVariants as table
-use Rattle.acd_statements.specs.Lying.{is_good}
+use Rattle.acd_statements.specs.AnyRows.{is_good}
 use Rattle.acd_schema.specs.Inspecting.{is_good_table, IsInRange}
 use Rattle.acd_statements.specs.Content.{Encodes}
 use Rattle.acd_columns.specs.Ranges.{at_least, whole_at, stamp_at, event_in, kept_in}

@@ -1,12 +1,20 @@
 -- What a connection is as a book, behind the look at it.
-use Rattle.std.specs.Prelude.{◌≡◌}
+use Rattle.std.specs.Prelude.{◌≡◌, IsTrue}
 use Rattle.sqlite.specs.Effect.{Database}
+use Rattle.sqlite.specs.State.{State}
 use Rattle.acd_book.specs.Content.{Within}
 use Rattle.acd_book.specs.Order.{IsOrdered}
 use Rattle.acd_book.specs.State.{BookState}
 use Rattle.acd_schema.specs.declared.fault.AdoptFault.{AdoptFault}
-use Rattle.acd_statements.specs.Lying.{IsFiled}
+use Rattle.acd_statements.specs.Draft.{NoStop}
+use Rattle.acd_statements.specs.AnyRows.{IsFiled}
+use Rattle.acd_statements.specs.Seeing.{HasDatabase}
 use Rattle.acd_schema.specs.Inspecting.{IsFaultOf, IsOfBook, IsInRange}
+
+-- nothing is changed, in tables of a book or of anything else: no stop is new and, while the connection is open, its database is the one that it was
+pub record IsUntouched (old new : State) : Type 0 where
+  pub same : IsTrue new.is_open → HasDatabase new old.now
+  pub stops : NoStop old new
 
 -- a book of a connection over this database: it holds what the connection held, and has the stops that it had
 pub record IsAdopted (d : Database) (old new : BookState) : Type 0 where

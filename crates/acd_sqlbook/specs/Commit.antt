@@ -1,5 +1,5 @@
 -- What a commit makes of a content, write by write.
-use Rattle.std.specs.Prelude.{ℕ, ◌+◌, ◌==◌, ◌&&◌, List, Bool, [], ◌∷◌, ⊤, false, IfSome, length, filter, max, nat_lt}
+use Rattle.std.specs.Prelude.{ℕ, ◌+◌, List, [], ◌∷◌, ⊤, IfSome, length, max}
 use Rattle.std.specs.Ordering.{nat_cmp}
 use Rattle.acd_terms.specs.Columns.{columns_of}
 use Rattle.acd_terms.specs.Lists.{put_by}
@@ -51,24 +51,6 @@ with_kept c k = with_part table.Kept (put_by (λ (x : Kept). nat_cmp k.stamp x.s
 -- the changes, the events, the kept record, and last the counters
 abbrev pub made_by : List Change → List Event → Kept → Meta → Content → Content
 made_by changes events kept meta c = with_part table.Meta meta (with_kept (with_events (all_filed c changes) events) kept)
-
--- ---- what has no row yet
-
--- both put one call, or one connection
-abbrev pub puts_the_same : Change → Change → Bool
-puts_the_same (PutCall k) (PutCall l) = k.call == l.call
-puts_the_same (PutConnection x) (PutConnection y) = (x.call == y.call) && (x.device == y.device)
-puts_the_same _ _ = false
-
--- what a change of these puts, no other of them puts
-abbrev pub is_put_once : List Change → Change → Bool
-is_put_once changes change = length (filter (puts_the_same change) changes) == 1
-
--- a change of these puts a call above the last one, or a connection of such a call, and no other puts the same
-abbrev pub is_new : ℕ → List Change → Change → Bool
-is_new last changes (PutCall k) = nat_lt last k.call && is_put_once changes (PutCall k)
-is_new last changes (PutConnection x) = nat_lt last x.call && is_put_once changes (PutConnection x)
-is_new last changes _ = false
 
 -- ---- the counters of a commit
 

@@ -1,4 +1,5 @@
 pub mod Commit
+pub mod Choosing
 pub mod Calls
 pub mod State
 pub mod StoreLaws

@@ -1,6 +1,6 @@
 //! A book over a connection.
 
-ghost use Rattle.std.specs.Prelude.{◌≡◌, ◌≤◌, false, Err, is_ok, IsTrue, IfOk, IfErr};
+ghost use Rattle.std.specs.Prelude.{◌≡◌, ◌≢◌, ◌≤◌, false, Err, is_ok, IsTrue, IfOk, IfErr};
 ghost use Rattle.sqlite.specs.State.{HasCleanDisk};
 ghost use Rattle.sqlite.specs.Held.{state};
 ghost use Rattle.acd_statements.specs.Schema.{no_schema};
@@ -15,7 +15,7 @@ use crate::ready::{
 use crate::transition::commit_rows_ready;
 use acd_book::{Book, BookFault, Kept};
 use acd_model::Change;
-use acd_schema::set_up;
+use acd_schema::{has_no_tables, set_up};
 use acd_terms::{Event, Invoke, Limits, Requester, Rows};
 use sqlite::{Alter, Connection, Error, ErrorCode};
 use std::alloc::Global;
@@ -68,7 +68,7 @@ fn noted<T>(found: Result<T, Error>, fresh: &mut bool, failures: &mut u64) -> Re
 impl<S: Alter> SqlBook<S> {
     /// Makes the tables of a new book, in one transaction.
     ///
-    /// Limits that no INTEGER column can hold, and a database that has such tables already, are
+    /// Limits that no INTEGER column can hold, and a database that has any table, index or view, are
     /// [`BookFault::Store`]. The connection is handed back beside a fault.
     pub fn create(
         alloc: Global,
@@ -76,15 +76,16 @@ impl<S: Alter> SqlBook<S> {
         limits: Limits,
     ) -> Result<SqlBook<S>, (BookFault, Connection<S>)>
         requires { conn.in_transaction ≡ false }
-        ensures made { IfOk result (λ b. HasCleanDisk (state S.Store b.conn) → (state S.Store conn).now.schema ≡ no_schema → IsNew (book_state (state S.Store b.conn) b.failures) limits) }
+        ensures made { IfOk result (λ b. HasCleanDisk (state S.Store b.conn) → IsNew (book_state (state S.Store b.conn) b.failures) limits) }
         ensures counted { IfOk result (λ b. b.failures ≡ 0) }
         ensures clean { IfOk result (λ b. HasCleanDisk (state S.Store b.conn) → HasCleanDisk (state S.Store conn)) }
         ensures refused { ¬ (LimitsFit limits) → result ≡ Err (BookFault.Store, conn) }
+        ensures occupied { (state S.Store conn).now.schema ≢ no_schema → result ≡ Err (BookFault.Store, conn) }
         ensures handed_back { IfErr result (λ e. e.1.in_transaction ≡ false) }
         ensures doubted { IfErr result (λ e. HasCleanDisk (state S.Store e.1) → HasCleanDisk (state S.Store conn)) }
         ensures stops { IfErr result (λ e. HasCleanDisk (state S.Store e.1) → MayMake (state S.Store conn) (state S.Store e.1) limits) }
     {
-        if !limits_fit(&limits) {
+        if !limits_fit(&limits) || !has_no_tables(conn.schema()) {
             return Err((BookFault::Store, conn));
         }
         match set_up(&mut conn, limits) {

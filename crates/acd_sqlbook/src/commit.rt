@@ -7,7 +7,8 @@ ghost use Rattle.acd_codec.specs.RequestTexts.{request_text};
 ghost use Rattle.acd_terms.specs.Lists.{IsAscending};
 ghost use Rattle.acd_model.specs.Rules.Plan.{connection_order};
 ghost use Rattle.acd_book.specs.Content.{Content};
-ghost use Rattle.acd_sqlbook.specs.Commit.{ChangeFits, EventFits, filed, all_filed, with_event, with_events, made_by, puts_the_same, is_put_once, is_new, top_call, top_monitor, last_call, last_monitor, counted};
+ghost use Rattle.acd_sqlbook.specs.Choosing.{puts_the_same, is_put_once, is_new};
+ghost use Rattle.acd_sqlbook.specs.Commit.{ChangeFits, EventFits, filed, all_filed, with_event, with_events, made_by, top_call, top_monitor, last_call, last_monitor, counted};
 ghost use Rattle.acd_statements.specs.Draft.{Drafts, Works, Holds, AddsStop, Fits, FiguresFit, MetaFits};
 
 use acd_book::Kept;
@@ -15,8 +16,9 @@ use acd_columns::Meta;
 use acd_model::Change;
 use acd_statements::fitting::{fits, too_large};
 use acd_statements::write::{
-    drop_call, drop_connection, drop_monitor, insert_call, insert_connection, put_agent, put_call,
-    put_connection, put_event, put_group, put_kept, put_monitor, put_station, set_meta,
+    drop_call, drop_connection, drop_monitor, insert_call, insert_connection, insert_event,
+    insert_kept, insert_station, put_agent, put_call, put_connection, put_group, put_monitor,
+    set_meta,
 };
 use acd_terms::{Event, Figures};
 use sqlite::{Alter, Connection, Error, Transaction};
@@ -77,7 +79,7 @@ fn make_change<S: Alter>(
     match change {
         Change::Nothing => Ok(()),
         Change::PutGroup(group) => put_group(tx, group),
-        Change::PutStation(station) => put_station(tx, station),
+        Change::PutStation(station) => insert_station(tx, station),
         Change::PutAgent(agent) => put_agent(tx, agent),
         Change::PutCall(call) if is_new => insert_call(tx, call),
         Change::PutCall(call) => put_call(tx, call),
@@ -206,7 +208,7 @@ fn write_event<S: Alter>(tx: &mut Transaction<'_, S>, event: &Event) -> Result<(
     if !event_fits(event) {
         return Err(too_large());
     }
-    put_event(tx, event)
+    insert_event(tx, event)
 }
 
 fn write_events<S: Alter>(tx: &mut Transaction<'_, S>, events: &[Event]) -> Result<(), Error>
@@ -310,7 +312,7 @@ fn write_all<S: Alter>(
 {
     write_changes(tx, last, changes)?;
     write_events(tx, events)?;
-    put_kept(tx, kept, request)?;
+    insert_kept(tx, kept, request)?;
     set_meta(tx, meta)?;
     Ok(())
 }

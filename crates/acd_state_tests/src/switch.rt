@@ -305,3 +305,17 @@ fn no_counter_may_stand_at_the_end_of_its_type(rt: HostRuntime) -> Result<(), Fa
     }
     Ok(())
 }
+
+// One call entered. Each of these breaks the balance of the group too, which is looked at later.
+#[test]
+fn no_figure_is_above_the_calls_that_entered(rt: HostRuntime) -> Result<(), Fail> {
+    for (answered, abandoned, moved) in [(2, 0, 0), (1, 2, 0), (1, 0, 2)] {
+        let mut parts = answered_call(&rt);
+        parts.group.figures.answered = answered;
+        parts.group.figures.abandoned = abandoned;
+        parts.group.figures.moved = moved;
+        let fault = fault_of(rt.alloc(), &parts)?;
+        assert_eq!(rt; fault, Some(RowFault::Broken(Rule::Counters)));
+    }
+    Ok(())
+}

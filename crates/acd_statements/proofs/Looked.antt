@@ -1,5 +1,5 @@
 -- What the queries show of tables whose rows may hold anything.
-use Rattle.std.proofs.Common.{◌≡◌, ℕ, zero, suc, length, take, filter, nat_lt, nat_le, List, [], ◌∷◌, map, cond, Bool, true, false, Option, Some, None, Result, inl, inr, refl, sym, ap, subst, ◌∙◌, IsTrue, arith}
+use Rattle.std.proofs.Common.{◌≡◌, ◌&&◌, ℕ, zero, suc, length, take, filter, nat_lt, nat_le, List, [], ◌∷◌, map, cond, Bool, true, false, Option, Some, None, Result, inl, inr, refl, sym, ap, subst, ◌∙◌, IsTrue, arith}
 use Rattle.std.specs.Prelude.{Vec, pos, negsuc, codes}
 use Rattle.std.specs.declared.alloc.Global.{Global}
 use Rattle.std.specs.List.{AllByRecursion, list_all}
@@ -40,14 +40,14 @@ use Rattle.acd_statements.specs.declared.tables.Log.{Log}
 use Rattle.acd_statements.specs.declared.tables.Log.TheVariants as log
 use Rattle.acd_statements.specs.declared.tables.Table.{Table}
 use Rattle.acd_statements.specs.declared.tables.Table.TheVariants as table
-use Rattle.acd_statements.specs.Lying.{values_in, lying, is_good, are_good, is_good_in, table_of_log, values_behind, BeginsAsBook, Numbered, AreNumbered, FromOne, TellsLow, IsPageRows}
+use Rattle.acd_statements.specs.AnyRows.{values_in, rows_in, is_good, are_good, is_good_in, table_of_log, values_behind, BeginsAsBook, Numbered, AreNumbered, FromOne, TellsLow, IsPageRows}
 use Rattle.acd_statements.specs.Content.{tree_of}
 use Rattle.acd_columns.specs.Decoding.{option_in}
 use Rattle.acd_columns.specs.Ranges.{◌>>=◌, at_least, stamp_at, event_in, kept_in}
 use Rattle.acd_columns.specs.Rows.{id_value}
 use Rattle.acd_statements.specs.Schema.{book_schema}
 use Rattle.acd_statements.specs.Schema as schema
-use Rattle.acd_statements.specs.Seeing.{Lies, Sees}
+use Rattle.acd_statements.specs.Seeing.{HasDatabase, Sees}
 use Rattle.acd_statements.proofs.Asked.{columns, no_limit, by_number, above_parameter, above, groups_listing, stations_listing, agents_listing, calls_listing, monitors_listing, events_listing, kept_listing}
 use Rattle.acd_statements.proofs.ConnectionRows.{connections_listing}
 use Rattle.acd_statements.proofs.KeyedRows.{id_cmp, by_key}
@@ -110,17 +110,17 @@ bad_among t [] r h bad = absurd h
 bad_among t (x ∷ rows) r (inl e) bad = rw (sym (ap (is_good t) e) ∙ bad) refl
 bad_among t (x ∷ rows) r (inr k) bad = either (is_good t x) (are_good t rows) (bad_among t rows r k bad)
   where
-    either : (a b : Bool) → b ≡ false → cond a b false ≡ false
+    either : (a b : Bool) → b ≡ false → (a && b) ≡ false
     either true b e = e
     either false b e = refl
 
 -- ---- one text
 
-module _ (text : List ℕ) (it : Listing text) (params : Row) (d : Database) (old new : State) (rows : List Row) (lies : Lies old d) (is : d.schema ≡ book_schema) (h : Shown text params old new rows) where
+module _ (text : List ℕ) (it : Listing text) (params : Row) (d : Database) (old new : State) (rows : List Row) (had : HasDatabase old d) (is : d.schema ≡ book_schema) (h : Shown text params old new rows) where
   answer_in : IsProgramAnswer [] (query_of it) d.trees params rows
   answer_in =
-      let read = reads_as text params old new book_schema (ap (λ (x : Database). x.schema) lies.now ∙ is) _ it.command it.plain it.unlisted rows h in
-      subst (λ (x : Database). IsProgramAnswer [] (query_of it) x.trees params rows) lies.now read.answer
+      let read = reads_as text params old new book_schema (ap (λ (x : Database). x.schema) had.now ∙ is) _ it.command it.plain it.unlisted rows h in
+      subst (λ (x : Database). IsProgramAnswer [] (query_of it) x.trees params rows) had.now read.answer
 
   -- each row of the answer shows one that passes
   abbrev Comes : Output → Type 0
@@ -164,12 +164,12 @@ pub record AsksAll (t : Table) (text : List ℕ) (it : Listing text) : Type 0 wh
   pub unlimited : it.limit ≡ no_limit
   pub shows : (r : Row) → showing [] it.project r ≡ values_in t r
 
-pub shown_all : (t : Table) (text : List ℕ) (it : Listing text) → AsksAll t text it → (d : Database) (old new : State) (rows : List Row) → Lies old d → d.schema ≡ book_schema → Shown text [] old new rows
-    → IsPermutation (lying t d.trees) rows
-shown_all t text it asks d old new rows lies is h =
+pub shown_all : (t : Table) (text : List ℕ) (it : Listing text) → AsksAll t text it → (d : Database) (old new : State) (rows : List Row) → HasDatabase old d → d.schema ≡ book_schema → Shown text [] old new rows
+    → IsPermutation (rows_in t d.trees) rows
+shown_all t text it asks d old new rows had is h =
     let all = scanned it.tree it.terms it.project it.order d.trees [] rows
-    (subst (λ l. IsProgramAnswer [] (record (query_of it) { limit = l }) d.trees [] rows) asks.unlimited (answer_in text it [] d old new rows lies is h)) in
-    let same : map (showing [] it.project) (passing [] it.terms (d.trees it.tree)) ≡ lying t d.trees =
+    (subst (λ l. IsProgramAnswer [] (record (query_of it) { limit = l }) d.trees [] rows) asks.unlimited (answer_in text it [] d old new rows had is h)) in
+    let same : map (showing [] it.project) (passing [] it.terms (d.trees it.tree)) ≡ rows_in t d.trees =
     ap (λ ts. map (showing [] it.project) (passing [] ts (d.trees it.tree))) asks.all
     ∙ ap (map (showing [] it.project)) (filter_all (d.trees it.tree))
     ∙ map_same (showing [] it.project) (values_in t) asks.shows (d.trees it.tree)
@@ -196,13 +196,13 @@ pub asks_connections : AsksAll table.Connections text.read_connections connectio
 unfolding connections_listing
 asks_connections = record { tree = refl; all = refl; unlimited = refl; shows = λ r. refl }
 
-pub lying_connections : Listing text.read_lying_connections
+pub unordered_connections : Listing text.read_unordered_connections
 unfolding understood everything
-lying_connections = record { tree = schema.connections.tree; terms = []; project = columns 1 7; order = []; limit = no_limit; names = _; command = refl; plain = (refl, refl); unlisted = refl }
+unordered_connections = record { tree = schema.connections.tree; terms = []; project = columns 1 7; order = []; limit = no_limit; names = _; command = refl; plain = (refl, refl); unlisted = refl }
 
-pub asks_lying_connections : AsksAll table.Connections text.read_lying_connections lying_connections
-unfolding lying_connections
-asks_lying_connections = record { tree = refl; all = refl; unlimited = refl; shows = λ r. refl }
+pub asks_unordered_connections : AsksAll table.Connections text.read_unordered_connections unordered_connections
+unfolding unordered_connections
+asks_unordered_connections = record { tree = refl; all = refl; unlimited = refl; shows = λ r. refl }
 
 pub asks_monitors : AsksAll table.Monitors text.read_monitors monitors_listing
 unfolding monitors_listing
@@ -210,16 +210,16 @@ asks_monitors = record { tree = refl; all = refl; unlimited = refl; shows = λ r
 
 -- ---- the limits and the counters, and the version
 
-in_database : (s t : Schema) (text : List ℕ) (it : Selection t text) (d : Database) (old new : State) (rows : List Row) → Lies old d → d.schema ≡ t → Shown text [] old new rows
+in_database : (s t : Schema) (text : List ℕ) (it : Selection t text) (d : Database) (old new : State) (rows : List Row) → HasDatabase old d → d.schema ≡ t → Shown text [] old new rows
     → IsPermutation (map (showing [] it.project) (passing [] it.terms (d.trees it.tree))) rows
-in_database s t text it d old new rows lies is h =
-    subst (λ (x : Database). IsPermutation (map (showing [] it.project) (passing [] it.terms (x.trees it.tree))) rows) lies.now
-    (selected t text it [] old new rows (ap (λ (x : Database). x.schema) lies.now ∙ is) h)
+in_database s t text it d old new rows had is h =
+    subst (λ (x : Database). IsPermutation (map (showing [] it.project) (passing [] it.terms (x.trees it.tree))) rows) had.now
+    (selected t text it [] old new rows (ap (λ (x : Database). x.schema) had.now ∙ is) h)
 
-pub shown_meta : (d : Database) (old new : State) (rows : List Row) → Lies old d → d.schema ≡ book_schema → Shown whole.read_meta [] old new rows → IsPermutation (lying table.Meta d.trees) rows
+pub shown_meta : (d : Database) (old new : State) (rows : List Row) → HasDatabase old d → d.schema ≡ book_schema → Shown whole.read_meta [] old new rows → IsPermutation (rows_in table.Meta d.trees) rows
 unfolding meta_selection
-shown_meta d old new rows lies is h =
-    subst (λ l. IsPermutation l rows) (ap (map (values_in table.Meta)) (filter_all (d.trees schema.meta.tree))) (in_database book_schema book_schema whole.read_meta meta_selection d old new rows lies is h)
+shown_meta d old new rows had is h =
+    subst (λ l. IsPermutation l rows) (ap (map (values_in table.Meta)) (filter_all (d.trees schema.meta.tree))) (in_database book_schema book_schema whole.read_meta meta_selection d old new rows had is h)
 
 -- whatever tables are behind the first
 abbrev begun : List Made → Schema → Schema
@@ -235,12 +235,12 @@ begins d b = ap (λ ts. record d.schema { tables = ts }) b.1
 pub version_plain : (d : Database) → BeginsAsBook d.schema → IsPlain (understood d.schema text.read_version)
 version_plain d b = subst (λ s. IsPlain (understood s text.read_version)) (sym (begins d b)) (version_selection b.0 d.schema).plain
 
-pub shown_version : (d : Database) (old new : State) (rows : List Row) → Lies old d → BeginsAsBook d.schema → Shown text.read_version [] old new rows
+pub shown_version : (d : Database) (old new : State) (rows : List Row) → HasDatabase old d → BeginsAsBook d.schema → Shown text.read_version [] old new rows
     → IsPermutation (map (λ r. column r 2 ∷ []) (d.trees schema.meta.tree)) rows
 unfolding version_selection
-shown_version d old new rows lies b h =
+shown_version d old new rows had b h =
     subst (λ l. IsPermutation l rows) (ap (map (λ (r : Row). column r 2 ∷ [])) (filter_all (d.trees schema.meta.tree)))
-    (in_database (begun b.0 d.schema) (begun b.0 d.schema) text.read_version (version_selection b.0 d.schema) d old new rows lies (begins d b) h)
+    (in_database (begun b.0 d.schema) (begun b.0 d.schema) text.read_version (version_selection b.0 d.schema) d old new rows had (begins d b) h)
 
 pub book_begins : (d : Database) → d.schema ≡ book_schema → BeginsAsBook d.schema
 book_begins d is = subst BeginsAsBook (sym is) (_, refl)
@@ -313,19 +313,19 @@ first_one : (rows : List Row) {P : Row → Type 0} → (rows ≡ [] → ⊥) →
 first_one [] some all = absurd (some refl)
 first_one (r ∷ rows) some all = (r, all.0)
 
-pub shown_low : (l : Log) (text : List ℕ) (it : Listing text) → AsksLow l text it → (d : Database) (old new : State) (rows : List Row) → Lies old d → d.schema ≡ book_schema → Shown text [] old new rows
+pub shown_low : (l : Log) (text : List ℕ) (it : Listing text) → AsksLow l text it → (d : Database) (old new : State) (rows : List Row) → HasDatabase old d → d.schema ≡ book_schema → Shown text [] old new rows
     → TellsLow l d.trees rows
 unfolding is_good_in
-shown_low l text it asks d old new rows lies is h = record {
+shown_low l text it asks d old new rows had is h = record {
   none = λ none.
       subst (λ n. AllByRecursion (λ r. IsTrue (is_int (rowid r)) → FromOne r) (d.trees n)) asks.tree
       (all_so (λ r. list_all (holds ([] ∷ r ∷ [])) it.terms ≡ false) (λ r. IsTrue (is_int (rowid r)) → FromOne r) (λ r f int. from_one r (rowid r) refl (sym (asks.tests r) ∙ f) int) (d.trees it.tree)
-      (rows_lack text it [] d old new rows lies is h asks.one none));
+      (rows_lack text it [] d old new rows had is h asks.one none));
   some = λ some.
-      let one = first_one rows some (rows_come text it [] d old new rows lies is h) in
+      let one = first_one rows some (rows_come text it [] d old new rows had is h) in
       let r = one.1.0 in
       let here : Has (d.trees (tree_of (table_of_log l))) r = subst (λ n. Has (d.trees n) r) asks.tree one.1.1 in
-      bad_among (table_of_log l) (lying (table_of_log l) d.trees) (values_in (table_of_log l) r) (mapped_has (values_in (table_of_log l)) (d.trees (tree_of (table_of_log l))) r here)
+      bad_among (table_of_log l) (rows_in (table_of_log l) d.trees) (values_in (table_of_log l) r) (mapped_has (values_in (table_of_log l)) (d.trees (tree_of (table_of_log l))) r here)
       (low_is_bad l r (sym (asks.tests r) ∙ one.1.2));
 }
 
@@ -378,19 +378,19 @@ pub record AsksPage (l : Log) (text : List ℕ) (it : Listing text) (n limit : �
   pub shows : (r : Row) → showing (id_value n ∷ id_value limit ∷ []) it.project r ≡ values_in (table_of_log l) r
   pub limited_by : as_count (eval it.limit ((id_value n ∷ id_value limit ∷ []) ∷ [])) ≡ Some limit
 
-pub shown_page : (l : Log) (text : List ℕ) (it : Listing text) (n limit : ℕ) → AsksPage l text it n limit → (d : Database) (old new : State) (rows : List Row) → Lies old d → d.schema ≡ book_schema
+pub shown_page : (l : Log) (text : List ℕ) (it : Listing text) (n limit : ℕ) → AsksPage l text it n limit → (d : Database) (old new : State) (rows : List Row) → HasDatabase old d → d.schema ≡ book_schema
     → Shown text (id_value n ∷ id_value limit ∷ []) old new rows → IsPageRows l n limit d.trees rows
-shown_page l text it n limit asks d old new rows lies is h =
+shown_page l text it n limit asks d old new rows had is h =
     let params = id_value n ∷ id_value limit ∷ [] in record {
-      known = all_so (λ row. (r : Row) × Has (d.trees it.tree) r × (list_all (holds (params ∷ r ∷ [])) it.terms ≡ true) × (row ≡ showing params it.project r)) (λ row. Has (lying (table_of_log l) d.trees) row)
+      known = all_so (λ row. (r : Row) × Has (d.trees it.tree) r × (list_all (holds (params ∷ r ∷ [])) it.terms ≡ true) × (row ≡ showing params it.project r)) (λ row. Has (rows_in (table_of_log l) d.trees) row)
           (λ row from.
-          subst (Has (lying (table_of_log l) d.trees)) (sym (from.3 ∙ asks.shows from.0))
+          subst (Has (rows_in (table_of_log l) d.trees)) (sym (from.3 ∙ asks.shows from.0))
           (mapped_has (values_in (table_of_log l)) (d.trees (tree_of (table_of_log l))) from.0 (subst (λ k. Has (d.trees k) from.0) asks.tree from.1)))
-          rows (rows_come text it params d old new rows lies is h);
+          rows (rows_come text it params d old new rows had is h);
       paged = λ xs are.
           listed text it (λ (x : Numbered). x.key) (λ (x : Numbered). x.row) (λ (x : Numbered). values_in (table_of_log l) x.row) params (λ (x : Numbered). nat_lt n x.key) asks.lists old new rows xs
-          (ap (λ (x : Database). x.schema) lies.now ∙ is)
-          (record { rows_are = ap (λ (x : Database). x.trees it.tree) lies.now ∙ ap d.trees asks.tree ∙ are.rows; ascending = numbers_ascend l d xs are }) h
+          (ap (λ (x : Database). x.schema) had.now ∙ is)
+          (record { rows_are = ap (λ (x : Database). x.trees it.tree) had.now ∙ ap d.trees asks.tree ∙ are.rows; ascending = numbers_ascend l d xs are }) h
           ∙ ap (λ o. limited o (values_behind l n xs)) asks.limited_by;
     }
 
@@ -409,8 +409,8 @@ asks_kept n limit = record { tree = refl; lists = record { keyed = λ x. x.is; r
 
 -- ---- plain texts
 
-pub lying_connections_plain : IsPlain (understood book_schema text.read_lying_connections)
-lying_connections_plain = lying_connections.plain
+pub unordered_connections_plain : IsPlain (understood book_schema text.read_unordered_connections)
+unordered_connections_plain = unordered_connections.plain
 
 pub low_events_plain : IsPlain (understood book_schema text.read_low_events)
 low_events_plain = low_events.plain
@@ -424,23 +424,23 @@ plain_of text d is plain = subst (λ s. IsPlain (understood s text)) (sym is) pl
 -- ---- reads
 
 module _ (d : Database) (old new : State) (r : Result (Vec Row Global) Error) (is : d.schema ≡ book_schema) where
-  pub sees_all : (t : Table) (text : List ℕ) (it : Listing text) → AsksAll t text it → Sees d old new r (λ rows. Shown text [] old new rows.items) → Sees d old new r (λ rows. IsPermutation (lying t d.trees) rows.items)
-  sees_all t text it asks h = sees_so d old new r (λ rows. Shown text [] old new rows.items) (λ rows. IsPermutation (lying t d.trees) rows.items) (λ lies rows shown. shown_all t text it asks d old new rows.items lies is shown) h
+  pub sees_all : (t : Table) (text : List ℕ) (it : Listing text) → AsksAll t text it → Sees d old new r (λ rows. Shown text [] old new rows.items) → Sees d old new r (λ rows. IsPermutation (rows_in t d.trees) rows.items)
+  sees_all t text it asks h = sees_so d old new r (λ rows. Shown text [] old new rows.items) (λ rows. IsPermutation (rows_in t d.trees) rows.items) (λ had rows shown. shown_all t text it asks d old new rows.items had is shown) h
 
-  pub sees_meta : Sees d old new r (λ rows. Shown whole.read_meta [] old new rows.items) → Sees d old new r (λ rows. IsPermutation (lying table.Meta d.trees) rows.items)
-  sees_meta h = sees_so d old new r (λ rows. Shown whole.read_meta [] old new rows.items) (λ rows. IsPermutation (lying table.Meta d.trees) rows.items) (λ lies rows shown. shown_meta d old new rows.items lies is shown) h
+  pub sees_meta : Sees d old new r (λ rows. Shown whole.read_meta [] old new rows.items) → Sees d old new r (λ rows. IsPermutation (rows_in table.Meta d.trees) rows.items)
+  sees_meta h = sees_so d old new r (λ rows. Shown whole.read_meta [] old new rows.items) (λ rows. IsPermutation (rows_in table.Meta d.trees) rows.items) (λ had rows shown. shown_meta d old new rows.items had is shown) h
 
   pub sees_low : (l : Log) (text : List ℕ) (it : Listing text) → AsksLow l text it → Sees d old new r (λ rows. Shown text [] old new rows.items) → Sees d old new r (λ rows. TellsLow l d.trees rows.items)
-  sees_low l text it asks h = sees_so d old new r (λ rows. Shown text [] old new rows.items) (λ rows. TellsLow l d.trees rows.items) (λ lies rows shown. shown_low l text it asks d old new rows.items lies is shown) h
+  sees_low l text it asks h = sees_so d old new r (λ rows. Shown text [] old new rows.items) (λ rows. TellsLow l d.trees rows.items) (λ had rows shown. shown_low l text it asks d old new rows.items had is shown) h
 
   pub sees_page : (l : Log) (text : List ℕ) (it : Listing text) (n limit : ℕ) → AsksPage l text it n limit → Sees d old new r (λ rows. Shown text (id_value n ∷ id_value limit ∷ []) old new rows.items)
       → Sees d old new r (λ rows. IsPageRows l n limit d.trees rows.items)
   sees_page l text it n limit asks h =
       sees_so d old new r (λ rows. Shown text (id_value n ∷ id_value limit ∷ []) old new rows.items) (λ rows. IsPageRows l n limit d.trees rows.items)
-      (λ lies rows shown. shown_page l text it n limit asks d old new rows.items lies is shown) h
+      (λ had rows shown. shown_page l text it n limit asks d old new rows.items had is shown) h
 
 pub sees_version : (d : Database) (old new : State) (r : Result (Vec Row Global) Error) → BeginsAsBook d.schema → Sees d old new r (λ rows. Shown text.read_version [] old new rows.items)
     → Sees d old new r (λ rows. IsPermutation (map (λ r. column r 2 ∷ []) (d.trees schema.meta.tree)) rows.items)
 sees_version d old new r b h =
     sees_so d old new r (λ rows. Shown text.read_version [] old new rows.items) (λ rows. IsPermutation (map (λ r. column r 2 ∷ []) (d.trees schema.meta.tree)) rows.items)
-    (λ lies rows shown. shown_version d old new rows.items lies b shown) h
+    (λ had rows shown. shown_version d old new rows.items had b shown) h

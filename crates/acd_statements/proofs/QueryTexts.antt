@@ -37,8 +37,8 @@ read_events_at = codes "SELECT number, moment, kind, device, call, agent, grp, t
 abbrev pub read_version : List ℕ
 read_version = codes "SELECT version FROM meta"
 
-abbrev pub read_lying_connections : List ℕ
-read_lying_connections = codes "SELECT call, device, state, grp, place, queued, offered FROM connections"
+abbrev pub read_unordered_connections : List ℕ
+read_unordered_connections = codes "SELECT call, device, state, grp, place, queued, offered FROM connections"
 
 abbrev pub read_low_events : List ℕ
 read_low_events = codes "SELECT number FROM events WHERE number < 1 ORDER BY number LIMIT 1"

@@ -34,8 +34,8 @@ update_group = codes "UPDATE acd_groups SET name = ?2, ring = ?3, wrap = ?4, ent
 abbrev pub insert_group : List ℕ
 insert_group = codes "INSERT INTO acd_groups (device, name, ring, wrap, entered, answered, abandoned, moved, waited) VALUES (?1, ?2, ?3, ?4, ?5, ?6, ?7, ?8, ?9)"
 
-abbrev pub put_station : List ℕ
-put_station = codes "INSERT INTO stations (device) VALUES (?1)"
+abbrev pub insert_station : List ℕ
+insert_station = codes "INSERT INTO stations (device) VALUES (?1)"
 
 abbrev pub update_agent : List ℕ
 update_agent = codes "UPDATE agents SET name = ?2, state = ?3, pending = ?4, station = ?5, grp = ?6, stamp = ?7, since = ?8 WHERE agent = ?1"
@@ -52,14 +52,14 @@ insert_call = codes "INSERT INTO calls (call, caller, called, since) VALUES (?1,
 abbrev pub put_monitor : List ℕ
 put_monitor = codes "INSERT INTO monitors (monitor, device, after_event) VALUES (?1, ?2, ?3) ON CONFLICT (monitor) DO UPDATE SET device = excluded.device, after_event = excluded.after_event"
 
-abbrev pub put_event : List ℕ
-put_event = codes "INSERT INTO events (number, moment, kind, device, call, agent, grp, target, cause, waited) VALUES (?1, ?2, ?3, ?4, ?5, ?6, ?7, ?8, ?9, ?10)"
+abbrev pub insert_event : List ℕ
+insert_event = codes "INSERT INTO events (number, moment, kind, device, call, agent, grp, target, cause, waited) VALUES (?1, ?2, ?3, ?4, ?5, ?6, ?7, ?8, ?9, ?10)"
 
-abbrev pub put_kept : List ℕ
-put_kept = codes "INSERT INTO kept (stamp, requester, invoke, moment, request, status, body) VALUES (?1, ?2, ?3, ?4, ?5, ?6, ?7)"
+abbrev pub insert_kept : List ℕ
+insert_kept = codes "INSERT INTO kept (stamp, requester, invoke, moment, request, status, body) VALUES (?1, ?2, ?3, ?4, ?5, ?6, ?7)"
 
-abbrev pub put_meta : List ℕ
-put_meta = codes "INSERT INTO meta (id, version, max_requests, max_calls, max_groups, max_stations, max_agents, max_monitors, last_stamp, last_moment, last_call, last_monitor, last_event) VALUES (?1, ?2, ?3, ?4, ?5, ?6, ?7, ?8, ?9, ?10, ?11, ?12, ?13) ON CONFLICT (id) DO UPDATE SET version = excluded.version, max_requests = excluded.max_requests, max_calls = excluded.max_calls, max_groups = excluded.max_groups, max_stations = excluded.max_stations, max_agents = excluded.max_agents, max_monitors = excluded.max_monitors, last_stamp = excluded.last_stamp, last_moment = excluded.last_moment, last_call = excluded.last_call, last_monitor = excluded.last_monitor, last_event = excluded.last_event"
+abbrev pub insert_meta : List ℕ
+insert_meta = codes "INSERT INTO meta (id, version, max_requests, max_calls, max_groups, max_stations, max_agents, max_monitors, last_stamp, last_moment, last_call, last_monitor, last_event) VALUES (?1, ?2, ?3, ?4, ?5, ?6, ?7, ?8, ?9, ?10, ?11, ?12, ?13)"
 
 abbrev pub set_meta : List ℕ
 set_meta = codes "UPDATE meta SET max_requests = ?1, max_calls = ?2, max_groups = ?3, max_stations = ?4, max_agents = ?5, max_monitors = ?6, last_stamp = ?7, last_moment = ?8, last_call = ?9, last_monitor = ?10, last_event = ?11 WHERE id = 1"

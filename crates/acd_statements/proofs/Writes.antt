@@ -305,44 +305,44 @@ puts_monitor w c old new count d ran =
 
 -- ---- stations, events and kept records, which are never put again
 
-stations_text : Insertion book_schema text.put_station
+stations_text : Insertion book_schema text.insert_station
 unfolding understood everything
-stations_text = insertion text.put_station 2 0 schema.stations refl refl (refl, refl)
+stations_text = insertion text.insert_station 2 0 schema.stations refl refl (refl, refl)
 
-stations_put : Inserts book_schema text.put_station (λ (s : StationRecord). s.device) station_row station_values
+stations_put : Inserts book_schema text.insert_station (λ (s : StationRecord). s.device) station_row station_values
 unfolding stations_text
 stations_put = record { it = stations_text; files = record { headed = λ s. refl; casts = λ s. rw (cast_id s.device, cast_null) refl }; source = λ s. refl }
 
-pub puts_station : (s : StationRecord) (c : Content) (old new : State) (count : ℕ) → Drafts old c → Executes text.put_station (station_values s) old new (Ok count)
+pub puts_station : (s : StationRecord) (c : Content) (old new : State) (count : ℕ) → Drafts old c → Executes text.insert_station (station_values s) old new (Ok count)
     → Drafts new (with_part table.Stations (put_by (at_station s.device) c.rows.stations s) c)
 unfolding stations_put stations_text
 puts_station s c old new count d ran =
-    let made = inserted_row book_schema text.put_station (λ (s : StationRecord). s.device) station_row station_values stations_put s c.rows.stations old new count d.schema (d.encodes table.Stations) ran in
+    let made = inserted_row book_schema text.insert_station (λ (s : StationRecord). s.device) station_row station_values stations_put s c.rows.stations old new count d.schema (d.encodes table.Stations) ran in
     drafted table.Stations _ _ old new c made.are_rows made.replaces d
 
-events_text : Insertion book_schema text.put_event
+events_text : Insertion book_schema text.insert_event
 unfolding understood everything
-events_text = insertion text.put_event 7 9 schema.events refl refl (refl, refl)
+events_text = insertion text.insert_event 7 9 schema.events refl refl (refl, refl)
 
 event_casts : (n m : ℕ) (k : Columns) → cast_row (table_of schema.events) (keyed_row (id_value n ∷ id_value m ∷ report_values k)) ≡ keyed_row (id_value n ∷ id_value m ∷ report_values k)
 event_casts n m k = rw (cast_id n, cast_null, cast_id m, cast_id (kind_code k.kind), cast_maybe (λ x. x) k.device, cast_maybe (λ x. x) k.call, cast_maybe (λ x. x) k.agent, cast_maybe (λ x. x) k.group, cast_maybe (λ x. x) k.to, cast_maybe cause_code k.cause, cast_maybe (λ x. x) k.waited) refl
 
-events_put : Inserts book_schema text.put_event (λ (e : Event). e.number) event_row event_values
+events_put : Inserts book_schema text.insert_event (λ (e : Event). e.number) event_row event_values
 unfolding events_text
 events_put = record { it = events_text; files = record { headed = λ e. refl; casts = λ e. event_casts e.number e.moment (columns_of e.report) }; source = λ e. refl }
 
-pub puts_event : (e : Event) (c : Content) (old new : State) (count : ℕ) → Drafts old c → Executes text.put_event (event_values e) old new (Ok count)
+pub puts_event : (e : Event) (c : Content) (old new : State) (count : ℕ) → Drafts old c → Executes text.insert_event (event_values e) old new (Ok count)
     → Drafts new (with_part table.Events (put_by (λ (x : Event). nat_cmp e.number x.number) c.events e) c)
 unfolding events_put events_text
 puts_event e c old new count d ran =
-    let made = inserted_row book_schema text.put_event (λ (e : Event). e.number) event_row event_values events_put e c.events old new count d.schema (d.encodes table.Events) ran in
+    let made = inserted_row book_schema text.insert_event (λ (e : Event). e.number) event_row event_values events_put e c.events old new count d.schema (d.encodes table.Events) ran in
     drafted table.Events _ _ old new c made.are_rows made.replaces d
 
-kept_text : Insertion book_schema text.put_kept
+kept_text : Insertion book_schema text.insert_kept
 unfolding understood everything
-kept_text = insertion text.put_kept 8 6 schema.kept refl refl (refl, refl)
+kept_text = insertion text.insert_kept 8 6 schema.kept refl refl (refl, refl)
 
-kept_put : Inserts book_schema text.put_kept (λ (k : Kept). k.stamp) kept_row kept_values
+kept_put : Inserts book_schema text.insert_kept (λ (k : Kept). k.stamp) kept_row kept_values
 unfolding kept_text
 kept_put = record {
   it = kept_text;
@@ -350,22 +350,22 @@ kept_put = record {
   source = λ k. refl;
 }
 
-pub puts_kept : (k : Kept) → IsReadable k → (c : Content) (old new : State) (count : ℕ) → Drafts old c → Executes text.put_kept (kept_values k) old new (Ok count)
+pub puts_kept : (k : Kept) → IsReadable k → (c : Content) (old new : State) (count : ℕ) → Drafts old c → Executes text.insert_kept (kept_values k) old new (Ok count)
     → Drafts new (with_part table.Kept (put_by (λ (x : Kept). nat_cmp k.stamp x.stamp) c.kept k) c)
 unfolding kept_put kept_text
 puts_kept k readable c old new count d ran =
     let was = d.encodes table.Kept in
-    let made = inserted_row book_schema text.put_kept (λ (k : Kept). k.stamp) kept_row kept_values kept_put k c.kept old new count d.schema was.0 ran in
+    let made = inserted_row book_schema text.insert_kept (λ (k : Kept). k.stamp) kept_row kept_values kept_put k c.kept old new count d.schema was.0 ran in
     drafted table.Kept _ _ old new c (made.are_rows, every-put (λ (x : Kept). nat_cmp k.stamp x.stamp) IsReadable k readable c.kept was.1) made.replaces d
 
 -- ---- the limits and the counters
 
-meta_text : Upsertion book_schema text.put_meta
+meta_text : Insertion book_schema text.insert_meta
 unfolding understood everything
-meta_text = upsertion text.put_meta 0 12 schema.meta refl refl (refl, refl)
+meta_text = insertion text.insert_meta 0 12 schema.meta refl refl (refl, refl)
 
-meta_put : Upserts book_schema text.put_meta (λ (m : Meta). 1) meta_row meta_values
-unfolding meta_text binary
+meta_put : Inserts book_schema text.insert_meta (λ (m : Meta). 1) meta_row meta_values
+unfolding meta_text
 meta_put = record {
   it = meta_text;
   files = record {
@@ -387,18 +387,7 @@ meta_put = record {
     ) refl;
   };
   source = λ m. refl;
-  by_number = refl;
-  no_index = no_index;
-  finds = λ new m n. by_id 1 n;
-  shows = λ new m n. refl;
 }
-
-pub puts_meta : (m : Meta) (c : Content) (old new : State) (count : ℕ) → Drafts old c → Executes text.put_meta (meta_values m) old new (Ok count) → Drafts new (with_part table.Meta m c)
-unfolding meta_put meta_text
-puts_meta m c old new count d ran =
-    let was : AreRows (λ (m : Meta). 1) meta_row (old.now.trees schema.meta.tree) (meta_of c.rows ∷ []) = record { rows_are = d.encodes table.Meta; ascending = (tt, tt) } in
-    let made = upserted_row book_schema text.put_meta (λ (m : Meta). 1) meta_row meta_values meta_put m (meta_of c.rows ∷ []) old new count d.schema was ran in
-    drafted table.Meta _ _ old new c refl made.replaces d
 
 -- what an UPDATE binds: the limits and the counters, without the key and the version, which stay
 abbrev pub set_values : Meta → Row
@@ -474,13 +463,13 @@ drops_monitor n c old new count d ran =
 
 -- ---- the first row of a new book
 
-pub starts_meta : (m : Meta) (old new : State) (count : ℕ) → Builds old book_schema → Executes text.put_meta (meta_values m) old new (Ok count) → Drafts new (with_part table.Meta m (empty_content m.limits))
+pub starts_meta : (m : Meta) (old new : State) (count : ℕ) → Builds old book_schema → Executes text.insert_meta (meta_values m) old new (Ok count) → Drafts new (with_part table.Meta m (empty_content m.limits))
 unfolding meta_put meta_text
 starts_meta m old new count b ran =
     let none : AreRows (λ (m : Meta). 1) meta_row (old.now.trees schema.meta.tree) [] = record { rows_are = b.empty.0; ascending = tt } in
-    let made = (upserted_row book_schema text.put_meta (λ (m : Meta). 1) meta_row meta_values meta_put m [] old new count b.schema_is none ran).replaces in
+    let made = (inserted_row book_schema text.insert_meta (λ (m : Meta). 1) meta_row meta_values meta_put m [] old new count b.schema_is none ran).replaces in
     record { inside = made.mode ∙ b.inside; schema = made.schema_is; encodes = only_meta m old.now.trees new.now.trees b.empty made.rows_are made.others }
 
-pub starts : (m : Meta) (old new : State) (r : Result (Unit {0}) Error) → OnOk r (Ran text.put_meta (meta_values m) old new) → OnOk r (Builds old book_schema → Drafts new (with_part table.Meta m (empty_content m.limits)))
+pub starts : (m : Meta) (old new : State) (r : Result (Unit {0}) Error) → OnOk r (Ran text.insert_meta (meta_values m) old new) → OnOk r (Builds old book_schema → Drafts new (with_part table.Meta m (empty_content m.limits)))
 starts m old new (Err e) ran = tt
 starts m old new (Ok x) ran = λ (b : Builds old book_schema). starts_meta m old new ran.0 b ran.1

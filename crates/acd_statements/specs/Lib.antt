@@ -5,4 +5,4 @@ pub mod Draft
 pub mod Finding
 pub mod Decoding
 pub mod Seeing
-pub mod Lying
+pub mod AnyRows

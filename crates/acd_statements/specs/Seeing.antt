@@ -6,7 +6,7 @@ use Rattle.sqlite.specs.declared.error.Error.{Error}
 use Rattle.acd_statements.specs.Draft.{NoStop}
 
 -- between transactions: the connection is open, and this is its database
-pub record Lies (s : State) (d : Database) : Type 0 where
+pub record HasDatabase (s : State) (d : Database) : Type 0 where
   pub is_open : IsTrue s.is_open
   pub now : s.now ≡ d
   pub committed : s.committed ≡ d
@@ -15,10 +15,10 @@ pub record Lies (s : State) (d : Database) : Type 0 where
 pub record Sees {A : Type 0} (d : Database) (old new : State) (result : Result A Error) (IsAnswer : A → Type 0) : Type 0 where
   pub clean : HasCleanDisk new → HasCleanDisk old
   pub was_open : HasCleanDisk new → IsTrue new.is_open → IsTrue old.is_open
-  pub up : HasCleanDisk new → Lies old d → OnOk result (IsTrue new.is_open)
-  pub same : HasCleanDisk new → Lies old d → IsTrue new.is_open → Lies new d
-  pub stops : HasCleanDisk new → Lies old d → NoStop old new
-  pub answer : HasCleanDisk new → Lies old d → IfOk result IsAnswer
+  pub up : HasCleanDisk new → HasDatabase old d → OnOk result (IsTrue new.is_open)
+  pub same : HasCleanDisk new → HasDatabase old d → IsTrue new.is_open → HasDatabase new d
+  pub stops : HasCleanDisk new → HasDatabase old d → NoStop old new
+  pub answer : HasCleanDisk new → HasDatabase old d → IfOk result IsAnswer
 
 -- a look at a connection that is in no transaction
 pub record HasLooked {A : Type 0} (old new : State) (result : Result A Error) (IsAnswer : Database → A → Type 0) : Type 0 where

@@ -6,7 +6,7 @@
 //! Each function of `write` works inside a transaction, and adds no stop.
 //!
 //! ```ignore
-//! put_station(&mut tx, &station)?;
+//! insert_station(&mut tx, &station)?;
 //! let rows = station_rows(&mut conn)?;
 //! ```
 #![tactic(auto)]

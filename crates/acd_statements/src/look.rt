@@ -7,12 +7,12 @@ ghost use Rattle.sqlite.specs.Effect.{Database};
 ghost use Rattle.sqlite.specs.Held.{state};
 ghost use Rattle.acd_statements.specs.declared.tables.Log.TheVariants as log;
 ghost use Rattle.acd_statements.specs.declared.tables.Table.TheVariants as table;
-ghost use Rattle.acd_statements.specs.Lying.{has_meta, lying, BeginsAsBook, TellsLow};
+ghost use Rattle.acd_statements.specs.AnyRows.{has_meta, rows_in, BeginsAsBook, TellsLow};
 ghost use Rattle.acd_statements.specs.Content.{tree_of};
 ghost use Rattle.acd_statements.specs.Schema.{book_schema};
 ghost use Rattle.acd_statements.specs.Seeing.{Sees};
 
-use crate::read::{meta_rows, read};
+use crate::read::read;
 use sqlite::{Alter, Connection, Error, Row};
 use sqlite_schema::schema::{Schema, Table};
 
@@ -22,17 +22,12 @@ fn is_meta(table: &Table) -> bool
     table.name.as_slice() == b"meta".as_slice()
 }
 
-/// Whether there is a table of the limits and the counters.
+/// Whether a table of any shape has the name `meta`.
+#[tactic(auto, unfolding(crate::specs::AnyRows::has_meta))]
 pub fn has_meta(schema: &Schema) -> bool
     ensures { result ≡ has_meta schema.now.tables }
 {
-    let tables = schema.tables.as_slice();
-    for table in tables {
-        if is_meta(table) {
-            return true;
-        }
-    }
-    false
+    schema.tables.as_slice().iter().any(|table| is_meta(table))
 }
 
 /// The versions that the table tells.
@@ -44,20 +39,13 @@ pub fn version_rows<S: Alter>(conn: &mut Connection<S>) -> Result<Vec<Row>, Erro
     read(conn, "SELECT version FROM meta", &[])
 }
 
-/// The row of the limits and the counters.
-pub(crate) fn counter_rows<S: Alter>(conn: &mut Connection<S>) -> Result<Vec<Row>, Error>
+/// The rows of connections in the order in which they stand. Their key isn't the number of a row, so that to put them in its order takes longer than to read them.
+pub(crate) fn unordered_connection_rows<S: Alter>(
+    conn: &mut Connection<S>,
+) -> Result<Vec<Row>, Error>
     requires { conn.old.in_transaction ≡ false }
     ensures idle { conn.new.in_transaction ≡ false }
-    ensures seen { (d : Database) → d.schema ≡ book_schema → Sees d (state S.Store conn.old) (state S.Store conn.new) result (λ rows. IsPermutation (lying table.Meta d.trees) rows.items) }
-{
-    meta_rows(conn)
-}
-
-/// The rows of connections as they lie. Their key isn't the number of a row, so that to put them in its order takes longer than to read them.
-pub(crate) fn lying_connection_rows<S: Alter>(conn: &mut Connection<S>) -> Result<Vec<Row>, Error>
-    requires { conn.old.in_transaction ≡ false }
-    ensures idle { conn.new.in_transaction ≡ false }
-    ensures seen { (d : Database) → d.schema ≡ book_schema → Sees d (state S.Store conn.old) (state S.Store conn.new) result (λ rows. IsPermutation (lying table.Connections d.trees) rows.items) }
+    ensures seen { (d : Database) → d.schema ≡ book_schema → Sees d (state S.Store conn.old) (state S.Store conn.new) result (λ rows. IsPermutation (rows_in table.Connections d.trees) rows.items) }
 {
     read(
         conn,

@@ -10,14 +10,12 @@ ghost use Rattle.sqlite.specs.Values.{bound};
 ghost use Rattle.acd_book.specs.Content.{Content};
 ghost use Rattle.acd_statements.specs.Schema.{book_schema};
 ghost use Rattle.acd_statements.specs.Content.{meta_of};
-ghost use Rattle.acd_columns.specs.Reading.{meta_shown, limits_in, meta_in};
-ghost use Rattle.acd_statements.specs.Lying.{lying};
+ghost use Rattle.acd_columns.specs.Reading.{meta_shown};
+ghost use Rattle.acd_statements.specs.AnyRows.{rows_in};
 ghost use Rattle.acd_statements.specs.declared.tables.Table.TheVariants as table;
 ghost use Rattle.acd_statements.specs.Draft.{Holds, Quiet, NoStop};
 ghost use Rattle.acd_statements.specs.Seeing.{Sees};
 
-use acd_columns::Meta;
-use acd_terms::Limits;
 use sqlite::types::ValueRef;
 use sqlite::{Alter, Connection, Error, Row};
 
@@ -60,50 +58,11 @@ pub fn meta_rows<S: Alter>(conn: &mut Connection<S>) -> Result<Vec<Row>, Error>
     ensures quiet { Quiet (state S.Store conn.old) (state S.Store conn.new) }
     ensures stops { HasCleanDisk (state S.Store conn.new) → (c : Content) → Holds (state S.Store conn.old) c → NoStop (state S.Store conn.old) (state S.Store conn.new) }
     ensures rows { HasCleanDisk (state S.Store conn.new) → IfOk result (λ rows. (c : Content) → Holds (state S.Store conn.old) c → rows.items ≡ meta_shown (meta_of c.rows) ∷ []) }
-    ensures seen { (d : Database) → d.schema ≡ book_schema → Sees d (state S.Store conn.old) (state S.Store conn.new) result (λ rows. IsPermutation (lying table.Meta d.trees) rows.items) }
+    ensures seen { (d : Database) → d.schema ≡ book_schema → Sees d (state S.Store conn.old) (state S.Store conn.new) result (λ rows. IsPermutation (rows_in table.Meta d.trees) rows.items) }
 {
     read(
         conn,
         "SELECT max_requests, max_calls, max_groups, max_stations, max_agents, max_monitors, last_stamp, last_moment, last_call, last_monitor, last_event FROM meta",
         &[],
     )
-}
-
-fn limits_in(row: &Row) -> Result<Limits, Error>
-    ensures { IfOk result (λ limits. limits ≡ limits_in row.now) }
-{
-    let requests = row.get(0)?;
-    let calls = row.get(1)?;
-    let groups = row.get(2)?;
-    let stations = row.get(3)?;
-    let agents = row.get(4)?;
-    let monitors = row.get(5)?;
-    Ok(Limits {
-        requests,
-        calls,
-        groups,
-        stations,
-        agents,
-        monitors,
-    })
-}
-
-/// The limits and the counters that a row stands for.
-pub fn meta_in(row: &Row) -> Result<Meta, Error>
-    ensures { IfOk result (λ meta. meta ≡ meta_in row.now) }
-{
-    let limits = limits_in(row)?;
-    let last_stamp = row.get(6)?;
-    let last_moment = row.get(7)?;
-    let last_call = row.get(8)?;
-    let last_monitor = row.get(9)?;
-    let last_event = row.get(10)?;
-    Ok(Meta {
-        limits,
-        last_stamp,
-        last_moment,
-        last_call,
-        last_monitor,
-        last_event,
-    })
 }

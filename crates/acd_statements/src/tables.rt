@@ -4,14 +4,15 @@ ghost use Rattle.std.specs.Prelude.{◌≡◌, false, IsPermutation};
 ghost use Rattle.sqlite.specs.Effect.{Database};
 ghost use Rattle.sqlite.specs.Held.{state};
 ghost use Rattle.acd_statements.specs.Draft.{Fits};
-ghost use Rattle.acd_statements.specs.Lying.{table_of, lying, TellsLow, IsPageRows};
+ghost use Rattle.acd_statements.specs.AnyRows.{table_of, rows_in, TellsLow, IsPageRows};
 ghost use Rattle.acd_statements.specs.Schema.{book_schema};
 ghost use Rattle.acd_statements.specs.Seeing.{Sees};
 
-use crate::look::{counter_rows, low_event_rows, low_kept_rows, lying_connection_rows};
+use crate::look::{low_event_rows, low_kept_rows, unordered_connection_rows};
 use crate::query::{
     agent_rows, call_rows, event_rows, group_rows, kept_rows, monitor_rows, station_rows,
 };
+use crate::read::meta_rows;
 use sqlite::{Alter, Connection, Error, Row};
 
 /// A table of the book.
@@ -52,15 +53,15 @@ impl Whole {
     pub fn rows<S: Alter>(self, conn: &mut Connection<S>) -> Result<Vec<Row>, Error>
         requires { conn.old.in_transaction ≡ false }
         ensures idle { conn.new.in_transaction ≡ false }
-        ensures seen { (d : Database) → d.schema ≡ book_schema → Sees d (state S.Store conn.old) (state S.Store conn.new) result (λ rows. IsPermutation (lying (table_of self) d.trees) rows.items) }
+        ensures seen { (d : Database) → d.schema ≡ book_schema → Sees d (state S.Store conn.old) (state S.Store conn.new) result (λ rows. IsPermutation (rows_in (table_of self) d.trees) rows.items) }
     {
         match self {
-            Whole::Meta => counter_rows(conn),
+            Whole::Meta => meta_rows(conn),
             Whole::Groups => group_rows(conn),
             Whole::Stations => station_rows(conn),
             Whole::Agents => agent_rows(conn),
             Whole::Calls => call_rows(conn),
-            Whole::Connections => lying_connection_rows(conn),
+            Whole::Connections => unordered_connection_rows(conn),
             Whole::Monitors => monitor_rows(conn),
         }
     }

@@ -91,7 +91,8 @@ pub fn put_group<S: Alter>(tx: &mut Transaction<'_, S>, group: &GroupRecord) -> 
     )
 }
 
-pub fn put_station<S: Alter>(
+/// Puts a station that has no row. One that has a row is the store's to refuse.
+pub fn insert_station<S: Alter>(
     tx: &mut Transaction<'_, S>,
     station: &StationRecord,
 ) -> Result<(), Error>
@@ -140,6 +141,7 @@ pub fn put_agent<S: Alter>(tx: &mut Transaction<'_, S>, agent: &AgentRecord) -> 
     )
 }
 
+/// Puts a call in the place of the one that has its number, if any.
 pub fn put_call<S: Alter>(tx: &mut Transaction<'_, S>, call: &CallRecord) -> Result<(), Error>
     requires { Fits call.now.call }
     ensures same { tx.new.conn.ghost_name ≡ tx.old.conn.ghost_name }
@@ -179,6 +181,7 @@ pub fn insert_call<S: Alter>(tx: &mut Transaction<'_, S>, call: &CallRecord) -> 
     )
 }
 
+/// Puts a monitor in the place of the one that has its number, if any.
 pub fn put_monitor<S: Alter>(
     tx: &mut Transaction<'_, S>,
     monitor: &MonitorRecord,
@@ -201,7 +204,8 @@ pub fn put_monitor<S: Alter>(
     )
 }
 
-pub fn put_event<S: Alter>(tx: &mut Transaction<'_, S>, event: &Event) -> Result<(), Error>
+/// Puts an event whose number has no row. One that has a row is the store's to refuse.
+pub fn insert_event<S: Alter>(tx: &mut Transaction<'_, S>, event: &Event) -> Result<(), Error>
     requires number { Fits event.now.number }
     requires call { IfSome (columns_of event.now.report).call Fits }
     ensures same { tx.new.conn.ghost_name ≡ tx.old.conn.ghost_name }
@@ -228,7 +232,8 @@ pub fn put_event<S: Alter>(tx: &mut Transaction<'_, S>, event: &Event) -> Result
     )
 }
 
-pub fn put_kept<S: Alter>(
+/// Puts a kept record, with the text of its request, that has no row. One whose stamp or whose requester and invoke number have a row is the store's to refuse.
+pub fn insert_kept<S: Alter>(
     tx: &mut Transaction<'_, S>,
     kept: &Kept,
     request: &str,
@@ -256,18 +261,17 @@ pub fn put_kept<S: Alter>(
     )
 }
 
-pub fn put_meta<S: Alter>(tx: &mut Transaction<'_, S>, meta: &Meta) -> Result<(), Error>
+/// Puts the limits and the counters of a new book, whose tables have no row.
+pub fn insert_meta<S: Alter>(tx: &mut Transaction<'_, S>, meta: &Meta) -> Result<(), Error>
     requires { MetaFits meta.now }
     ensures same { tx.new.conn.ghost_name ≡ tx.old.conn.ghost_name }
     ensures works { Works (state S.Store tx.old.conn.now) (state S.Store tx.new.conn.now) }
-    ensures put { HasCleanDisk (state S.Store tx.new.conn.now) → OnOk result ((c : Content) → Drafts (state S.Store tx.old.conn.now) c
-        → Drafts (state S.Store tx.new.conn.now) (with_part Table.Meta meta.now c)) }
     ensures start { HasCleanDisk (state S.Store tx.new.conn.now) → OnOk result (Builds (state S.Store tx.old.conn.now) book_schema
         → Drafts (state S.Store tx.new.conn.now) (with_part Table.Meta meta.now (empty_content meta.now.limits))) }
 {
     write(
         tx,
-        "INSERT INTO meta (id, version, max_requests, max_calls, max_groups, max_stations, max_agents, max_monitors, last_stamp, last_moment, last_call, last_monitor, last_event) VALUES (?1, ?2, ?3, ?4, ?5, ?6, ?7, ?8, ?9, ?10, ?11, ?12, ?13) ON CONFLICT (id) DO UPDATE SET version = excluded.version, max_requests = excluded.max_requests, max_calls = excluded.max_calls, max_groups = excluded.max_groups, max_stations = excluded.max_stations, max_agents = excluded.max_agents, max_monitors = excluded.max_monitors, last_stamp = excluded.last_stamp, last_moment = excluded.last_moment, last_call = excluded.last_call, last_monitor = excluded.last_monitor, last_event = excluded.last_event",
+        "INSERT INTO meta (id, version, max_requests, max_calls, max_groups, max_stations, max_agents, max_monitors, last_stamp, last_moment, last_call, last_monitor, last_event) VALUES (?1, ?2, ?3, ?4, ?5, ?6, ?7, ?8, ?9, ?10, ?11, ?12, ?13)",
         &[
             bind::integer(1),
             bind::integer(1),

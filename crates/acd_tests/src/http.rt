@@ -9,9 +9,12 @@ use acd_terms::Limits;
 use std::io::{self, ErrorKind, Read, Write};
 use std::process::Abort;
 
+mod executing;
 mod listening;
+mod pieces;
 mod reads;
 mod refusals;
+mod targets;
 
 fn group() -> &'static [u8] {
     b"POST /csta HTTP/1.1\r\nHost: desk\r\nContent-Length: 104\r\n\r\n{\"requester\":\"plan\",\"invoke\":1,\"service\":\"addGroup\",\"device\":\"100\",\"name\":\"Billing\",\"ring\":20,\"wrap\":30}"
@@ -21,11 +24,16 @@ fn group_reply() -> &'static [u8] {
     b"HTTP/1.1 200 OK\r\nContent-Type: application/json\r\nContent-Length: 43\r\nConnection: close\r\n\r\n{\"invoke\":1,\"requester\":\"plan\",\"result\":{}}"
 }
 
-fn opened(rt: &(impl Abort + AllocGlobal)) -> Desk<MemoryBook> {
-    match Desk::open(rt.alloc(), MemoryBook::new(rt.alloc(), Limits::GREATEST)) {
+// A new desk with these limits.
+fn opened_within(rt: &(impl Abort + AllocGlobal), limits: Limits) -> Desk<MemoryBook> {
+    match Desk::open(rt.alloc(), MemoryBook::new(rt.alloc(), limits)) {
         Ok(desk) => desk,
         Err(_) => panic!(rt; "no desk"),
     }
+}
+
+fn opened(rt: &(impl Abort + AllocGlobal)) -> Desk<MemoryBook> {
+    opened_within(rt, Limits::GREATEST)
 }
 
 // How many requests the desk has executed.
@@ -47,21 +55,38 @@ fn asked<B: Book>(
 }
 
 // The desk writes this reply to the request.
-fn replies<B: Book + Drop>(
+fn replies<B: Book>(
     rt: &(impl Abort + AllocGlobal),
-    mut desk: Desk<B>,
+    desk: &mut Desk<B>,
     request: &[u8],
     reply: &[u8],
 ) {
     let mut output = Vec::new(rt.alloc());
-    let result = asked(rt, &mut desk, request, &mut output);
+    let result = asked(rt, desk, request, &mut output);
     assert!(rt; result.is_ok());
     assert_eq!(rt; output.as_slice(), reply);
 }
 
+// The desk answers the request with this status and this JSON.
+fn answers<B: Book>(
+    rt: &(impl Abort + AllocGlobal),
+    desk: &mut Desk<B>,
+    request: &[u8],
+    status: &str,
+    body: &str,
+) {
+    let len = body.len();
+    let kind = "Content-Type: application/json";
+    let reply = format!(in rt.alloc();
+        "HTTP/1.1 {status}\r\n{kind}\r\nContent-Length: {len}\r\nConnection: close\r\n\r\n{body}"
+    );
+    replies(rt, desk, request, reply.expect(rt, "memory").as_bytes());
+}
+
 // A new desk writes this reply to the request.
 fn gives(rt: &(impl Abort + AllocGlobal), request: &[u8], reply: &[u8]) {
-    replies(rt, opened(rt), request, reply);
+    let mut desk = opened(rt);
+    replies(rt, &mut desk, request, reply);
 }
 
 #[test]

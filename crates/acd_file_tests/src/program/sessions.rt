@@ -103,3 +103,14 @@ fn a_new_file_has_small_pages(rt: HostRuntime) {
     assert!(rt; has_small_pages(&rt, file.as_str()));
     let _ = remove(&rt, file.as_str());
 }
+
+// A new file whose making was stopped at its first byte. It is made to its end, and holds no desk.
+#[test]
+fn a_file_whose_making_was_stopped(rt: HostRuntime) {
+    let file = free_path(&rt, "stopped.db").expect(&rt, "a path");
+    fs::write(&rt, file.as_str(), "\0").expect(&rt, "a byte");
+    let words = ["acd", "lines", "--file", file.as_str()];
+    assert!(rt; gives(&rt, &words, "", 1, "", "acd: wrong version 0\n"));
+    assert!(rt; has_small_pages(&rt, file.as_str()));
+    let _ = remove(&rt, file.as_str());
+}

@@ -2,11 +2,12 @@
 
 ghost use Rattle.std.specs.Prelude.{◌≡◌, false};
 
+mod pages;
 mod ranges;
 
 use super::answers::{event_after, stations, under};
 use super::commits::commit_first;
-use super::{empty, expect_limits, new_book};
+use super::{changed, empty, expect_limits, new_book};
 use crate::comparing::same;
 use acd_book::Book;
 use acd_sqlbook::{AdoptFault, SqlBook, Table};
@@ -18,14 +19,7 @@ use std::process::Abort;
 fn altered(rt: &impl Abort, alloc: Global, changes: &[&'static str]) -> Connection<MemStore>
     ensures { result.in_transaction ≡ false }
 {
-    let mut conn = new_book(rt, alloc).into_connection();
-    for sql in changes {
-        conn.execute_batch(sql).expect(rt, "a change");
-    }
-    if !conn.is_autocommit() {
-        panic!(rt; "a transaction");
-    }
-    conn
+    changed(rt, new_book(rt, alloc).into_connection(), changes)
 }
 
 // The connection, which the SQL has altered, is taken for a book, or this is told of it.

@@ -1,12 +1,12 @@
 //! Commits of changes over a book in memory: what they leave in the tables, and a commit that is refused.
 
-use super::records::{device, station};
+use super::records::{device, monitor, station};
 use super::{expect_limits, expect_numbers, new_book};
 use crate::comparing::same;
 use acd_book::{Book, BookFault, Kept, Text};
 use acd_model::Change;
 use acd_sqlbook::SqlBook;
-use acd_terms::{Command, Event, Invoke, MonitorRecord, Report, Request, Requester};
+use acd_terms::{Command, Event, Invoke, Report, Request, Requester};
 use sqlite::MemStore;
 use std::alloc::Global;
 use std::process::Abort;
@@ -31,22 +31,16 @@ pub fn record(rt: &impl Abort, alloc: Global, stamp: u64, invoke: u64) -> Kept {
 
 /// A commit of a station, a monitor of it and an event there.
 pub fn commit_first(rt: &impl Abort, alloc: Global, book: &mut SqlBook<MemStore>) {
-    let device = device(rt, "201");
-    let monitor = MonitorRecord {
-        monitor: 3,
-        device,
-        after_event: 0,
-    };
     let changes = [
         Change::PutStation(station(rt, "201")),
-        Change::PutMonitor(monitor),
+        Change::PutMonitor(monitor(rt, 3)),
     ];
     let event = Event {
         number: 1,
         moment: 10,
         report: Report::Held {
             call: 1,
-            station: device,
+            station: device(rt, "201"),
         },
     };
     book.commit_changes(&changes, &[event], &record(rt, alloc, 1, 1))

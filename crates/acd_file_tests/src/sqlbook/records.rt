@@ -2,12 +2,22 @@
 
 use acd_terms::{
     AgentId, AgentRecord, AgentState, CallRecord, ConnectionRecord, ConnectionState, DeviceId,
-    Name, StationRecord,
+    Figures, GroupRecord, MonitorRecord, Name, Seconds, StationRecord,
 };
 use std::process::Abort;
 
 pub fn device(rt: &impl Abort, text: &str) -> DeviceId {
     DeviceId::read(text.as_bytes()).expect(rt, "a device")
+}
+
+pub fn group(rt: &impl Abort, figures: Figures) -> GroupRecord {
+    GroupRecord {
+        device: device(rt, "100"),
+        name: Name::read(b"group").expect(rt, "a name"),
+        ring: Seconds::new(20).expect(rt, "seconds"),
+        wrap: Seconds::new(30).expect(rt, "seconds"),
+        figures,
+    }
 }
 
 pub fn station(rt: &impl Abort, text: &str) -> StationRecord {
@@ -48,5 +58,14 @@ pub fn agent(rt: &impl Abort, number: &str, station: DeviceId) -> AgentRecord {
         group: None,
         stamp: 5,
         since: 10,
+    }
+}
+
+/// A monitor from the first event on.
+pub fn monitor(rt: &impl Abort, monitor: u64) -> MonitorRecord {
+    MonitorRecord {
+        monitor,
+        device: device(rt, "201"),
+        after_event: 0,
     }
 }

@@ -71,6 +71,26 @@ part two_ready
 = agent 8 ready, stamp 8, since 6
 = agent 7 ready, stamp 9, since 7
 
+part ready_at_one_moment
+# Both agents become ready at one moment, 8 by the earlier request.
+> 5 {"agent":"7","device":"201","group":"100","invoke":1,"requested":"loggedOn","requester":"desk","service":"setAgentState"}
+< 200 {"invoke":1,"requester":"desk","result":{"state":"notReady"}}
+! {"agent":"7","device":"201","event":"agentLoggedOn","group":"100","moment":5,"number":1}
+> 5 {"agent":"8","device":"202","group":"100","invoke":2,"requested":"loggedOn","requester":"desk","service":"setAgentState"}
+< 200 {"invoke":2,"requester":"desk","result":{"state":"notReady"}}
+! {"agent":"8","device":"202","event":"agentLoggedOn","group":"100","moment":5,"number":2}
+> 6 {"agent":"8","invoke":3,"requested":"ready","requester":"desk","service":"setAgentState"}
+< 200 {"invoke":3,"requester":"desk","result":{"state":"ready"}}
+! {"agent":"8","device":"202","event":"agentReady","moment":6,"number":3}
+> 6 {"agent":"7","invoke":4,"requested":"ready","requester":"desk","service":"setAgentState"}
+< 200 {"invoke":4,"requester":"desk","result":{"state":"ready"}}
+! {"agent":"7","device":"201","event":"agentReady","moment":6,"number":4}
+> 10 {"called":"100","caller":"0301234","invoke":1,"requester":"pbx","service":"arriveCall"}
+< 200 {"invoke":1,"requester":"pbx","result":{"call":1}}
+! {"call":1,"cause":"newCall","device":"100","event":"queued","moment":10,"number":5}
+! {"call":1,"cause":"distributed","device":"100","event":"diverted","group":"100","moment":10,"number":6,"to":"202"}
+! {"call":1,"cause":"distributed","device":"202","event":"delivered","group":"100","moment":10,"number":7}
+
 # The worked examples.
 
 part wrap_up
@@ -307,10 +327,35 @@ part second_call
 = call 1 at 201 connected of group 100
 = agent 7 busy, stamp 9, since 25
 
+part beside_a_failed_and_a_held_call
+# A station where one call failed and another is on hold makes a third, and takes up the first beside it.
+> 26 {"called":"201","caller":"0401","invoke":2,"requester":"pbx","service":"arriveCall"}
+< 200 {"invoke":2,"requester":"pbx","result":{"call":2}}
+! {"call":2,"cause":"busy","device":"201","event":"failed","moment":26,"number":8}
+> 27 {"call":1,"device":"201","invoke":4,"requester":"desk","service":"holdCall"}
+< 200 {"invoke":4,"requester":"desk","result":{}}
+! {"call":1,"device":"201","event":"held","moment":27,"number":9}
+> 28 {"called":"202","device":"201","invoke":5,"requester":"desk","service":"makeCall"}
+< 200 {"invoke":5,"requester":"desk","result":{"call":3}}
+! {"call":3,"device":"201","event":"serviceInitiated","moment":28,"number":10}
+> 29 {"call":3,"device":"201","invoke":6,"requester":"desk","service":"phoneOffHook"}
+< 200 {"invoke":6,"requester":"desk","result":{}}
+! {"call":3,"device":"201","event":"originated","moment":29,"number":11,"to":"202"}
+! {"call":3,"cause":"newCall","device":"202","event":"delivered","moment":29,"number":12}
+> 30 {"call":3,"device":"201","invoke":7,"requester":"desk","service":"holdCall"}
+< 200 {"invoke":7,"requester":"desk","result":{}}
+! {"call":3,"device":"201","event":"held","moment":30,"number":13}
+> 31 {"call":1,"device":"201","invoke":8,"requester":"desk","service":"retrieveCall"}
+< 200 {"invoke":8,"requester":"desk","result":{}}
+! {"call":1,"device":"201","event":"retrieved","moment":31,"number":14}
+= call 1 at 201 connected of group 100
+= agent 7 busy, stamp 9, since 25
+
 scene call_waits: plan call_arrives
 scene offered_to_the_ready_agent: plan call_arrives ana_becomes_ready
 scene answered_call: plan call_arrives ana_becomes_ready ana_answers
 scene longest_ready_first: plan two_ready
+scene earliest_request_first: plan ready_at_one_moment
 
 # Both agents become ready with the stamp and at the moment of the tick; the next call goes to the lesser number.
 scene wrap_up_and_tick: plan two_ready wrap_up tick_after_the_wrap next_call
@@ -329,6 +374,7 @@ scene deflected_to_station: plan call_arrives ana_becomes_ready deflection_to_st
 scene hold_and_pending: plan call_arrives ana_becomes_ready ana_answers hold_and_pending
 scene transfer_to_group: plan call_arrives ana_becomes_ready ana_answers transfer_to_group
 scene second_call_while_holding: plan call_arrives ana_becomes_ready ana_answers second_call
+scene calls_beside_a_failed_and_a_held_one: plan call_arrives ana_becomes_ready ana_answers beside_a_failed_and_a_held_call
 
 # Calls that are handed on: deflected out of a queue and from an agent, and transferred.
 

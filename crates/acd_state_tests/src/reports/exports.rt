@@ -3,6 +3,7 @@
 use super::device;
 use acd_reports::{events_csv, events_page, export_header};
 use acd_terms::{AgentId, Cause, Event, Report, Waited};
+use std::alloc::Global;
 use std::process::Abort;
 
 const HEADER: &str = "number,moment,event,call,device,agent,group,to,cause,waited\n";
@@ -141,4 +142,92 @@ fn long_members(rt: HostRuntime) {
     let wanted =
         "18446744073709551615,4294967295,connectionCleared,1000000000,000000000000301,,,,,\n1,0,callCleared,1,,,,,,\n";
     assert_eq!(rt; page.as_str(), wanted);
+}
+
+// These reports, numbered from 1, at the moment 9 have these records.
+fn expect_records(rt: &impl Abort, alloc: Global, reports: &[Report], records: &str) {
+    let mut events = Vec::new(alloc);
+    let mut number = 1u64;
+    for report in reports {
+        let event = Event {
+            number,
+            moment: 9,
+            report: *report,
+        };
+        events.push(event).expect(rt, "memory");
+        number = number.saturating_add(1);
+    }
+    let page = events_page(alloc, &events).expect(rt, "memory");
+    assert_eq!(rt; page.as_str(), records);
+}
+
+// A report of each kind that has more than a call and its device, of the causes that an answered call hasn't.
+#[test]
+fn records_of_calls_on_their_way(rt: HostRuntime) {
+    let (call, group) = (3, device(&rt, "100"));
+    let (station, to) = (device(&rt, "201"), device(&rt, "202"));
+    let reports = [
+        Report::Originated { call, station, to },
+        Report::Queued {
+            call,
+            group,
+            cause: Cause::Transferred,
+        },
+        Report::Delivered {
+            call,
+            station,
+            cause: Cause::Deflected,
+            group: None,
+        },
+        Report::Diverted {
+            call,
+            device: station,
+            to: group,
+            cause: Cause::NoAnswer,
+            group: Some(group),
+        },
+        Report::Transferred { call, station, to },
+        Report::CallCleared {
+            call,
+            group: Some(group),
+        },
+    ];
+    let records =
+        "1,9,originated,3,201,,,202,,\n2,9,queued,3,100,,,,transferred,\n3,9,delivered,3,201,,,,deflected,\n4,9,diverted,3,201,,100,100,noAnswer,\n5,9,transferred,3,201,,,202,,\n6,9,callCleared,3,,,100,,,\n";
+    expect_records(&rt, rt.alloc(), &reports, records);
+}
+
+// A report of each other kind.
+#[test]
+fn records_of_a_station(rt: HostRuntime) {
+    let (call, station, group) = (3, device(&rt, "201"), device(&rt, "100"));
+    let agent = AgentId::read(b"7").expect(&rt, "an agent");
+    let reports = [
+        Report::ServiceInitiated { call, station },
+        Report::Established {
+            call,
+            station,
+            waited: None,
+        },
+        Report::Held { call, station },
+        Report::Retrieved { call, station },
+        Report::Failed { call, station },
+        Report::ConnectionCleared {
+            call,
+            device: station,
+        },
+        Report::AgentLoggedOn {
+            agent,
+            station,
+            group,
+        },
+        Report::AgentLoggedOff { agent, station },
+        Report::AgentNotReady { agent, station },
+        Report::AgentReady { agent, station },
+        Report::AgentBusy { agent, station },
+        Report::AgentWorkingAfterCall { agent, station },
+    ];
+    let records =
+        "1,9,serviceInitiated,3,201,,,,,\n2,9,established,3,201,,,,,\n3,9,held,3,201,,,,,\n4,9,retrieved,3,201,,,,,\n5,9,failed,3,201,,,,busy,\n6,9,connectionCleared,3,201,,,,,\n7,9,agentLoggedOn,,201,7,100,,,\n8,9,agentLoggedOff,,201,7,,,,\n9,9,agentNotReady,,201,7,,,,\n10,9,agentReady,,201,7,,,,\n11,9,agentBusy,,201,7,,,,\n12,9,agentWorkingAfterCall,,201,7,,,,\n";
+    expect_records(&rt, rt.alloc(), &reports, records);
 }

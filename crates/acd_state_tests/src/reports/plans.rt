@@ -89,11 +89,51 @@ fn office(rt: &impl Abort) -> [Command; 5] {
     ]
 }
 
+// The command of a row of this kind.
+fn added(rt: &impl Abort, kind: &str, digits: &str) -> Command {
+    if kind == "group" {
+        add_group(rt, digits, "Office", 20, 30)
+    } else if kind == "station" {
+        add_station(rt, digits)
+    } else {
+        add_agent(rt, digits, "Office")
+    }
+}
+
+// The plan of as many groups, stations and agents as a desk takes, and the commands of its rows.
+fn greatest(rt: &impl Abort, alloc: Global) -> (String, Vec<Command>) {
+    let mut plan = String::from_str(alloc, HEADER).expect(rt, "memory");
+    let mut commands = Vec::new(alloc);
+    for (kind, first, last, rest) in [
+        ("group", 100u64, 163u64, "Office,20,30"),
+        ("station", 2001, 3000, ",,"),
+        ("agent", 1, 1000, "Office,,"),
+    ] {
+        for number in first..=last {
+            let digits = number.to_string(alloc).expect(rt, "memory");
+            let digits = digits.as_str();
+            let row = format!(in alloc; "{kind},{digits},{rest}\n").expect(rt, "memory");
+            plan.push_str(row.as_str()).expect(rt, "memory");
+            commands.push(added(rt, kind, digits)).expect(rt, "memory");
+        }
+    }
+    (plan, commands)
+}
+
 #[test]
 fn plan_of_an_office(rt: HostRuntime) {
     let alloc = rt.alloc();
     let plan = with_header(&rt, alloc, OFFICE.as_bytes());
     expect_plan(&rt, alloc, plan.as_slice(), &office(&rt));
+}
+
+// 64 groups, 1,000 stations and 1,000 agents.
+#[test]
+fn greatest_plan(rt: HostRuntime) {
+    let alloc = rt.alloc();
+    let (plan, commands) = greatest(&rt, alloc);
+    assert_eq!(rt; commands.len(), 2064);
+    expect_plan(&rt, alloc, plan.as_str().as_bytes(), &commands);
 }
 
 #[test]

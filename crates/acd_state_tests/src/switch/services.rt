@@ -1,4 +1,4 @@
-//! The services at a working size: with ample memory each call that may find none answers.
+//! The services at a working size: with ample memory each of these five answers.
 //!
 //! Twelve groups, forty stations and agents, a monitor of each group, and sixty calls, five to each
 //! group. The services alone make no offer and set no figure, so that all calls wait.

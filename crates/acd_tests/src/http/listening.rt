@@ -1,13 +1,13 @@
 //! Connections over the loopback address.
 
-use super::{executed, group, group_reply, opened};
+use super::{group, group_reply, opened};
 use acd_book::Book;
 use acd_desk::Desk;
 use acd_http::serve_on;
 use std::io::{Read, Write};
 use std::net::{Ipv4Addr, Net, Shutdown, SocketAddr, TcpListener, TcpStream};
 use std::process::Abort;
-use std::time::Clock;
+use std::time::{Clock, SystemTime, UNIX_EPOCH};
 
 fn listener<R>(rt: &R) -> TcpListener
 where
@@ -50,14 +50,35 @@ fn serves<B: Book>(
     assert_eq!(rt; errors.as_slice(), lines.as_bytes());
 }
 
+// The seconds of the machine's clock since 1970.
+fn seconds_now(rt: &(impl Abort + Clock)) -> u64 {
+    let now = SystemTime::now(rt).expect(rt, "a clock");
+    let since = now.duration_since(UNIX_EPOCH).expect(rt, "since 1970");
+    since.as_secs()
+}
+
+// How many requests the desk has executed, and the moment of the last.
+fn last_executed<B: Book + Drop>(rt: &(impl Abort + AllocGlobal), desk: Desk<B>) -> (u64, u64) {
+    let mut book = desk.close();
+    let rows = book.rows().expect(rt, "rows");
+    (rows.last_stamp, u64::from(rows.last_moment))
+}
+
 #[test]
 fn connection_is_served(rt: HostRuntime) {
     let mut desk = opened(&rt);
     let listener = listener(&rt);
     let mut client = client(&rt, &listener, group());
+    let before = seconds_now(&rt);
     serves(&rt, &listener, &mut desk, 1, "");
+    let behind = seconds_now(&rt);
     assert_eq!(rt; reply(&rt, &mut client).as_slice(), group_reply());
-    assert_eq!(rt; executed(&rt, desk), 1);
+    let (stamp, moment) = last_executed(&rt, desk);
+    assert_eq!(rt; stamp, 1);
+    assert!(rt;
+        before <= moment && moment <= behind,
+        "{before}, {moment}, {behind}"
+    );
 }
 
 fn begun() -> &'static [u8] {

@@ -1,6 +1,6 @@
 //! Reads over HTTP, with the bytes that the formats prescribe.
 
-use super::{asked, opened};
+use super::{opened, replies};
 use acd_book::MemoryBook;
 use acd_desk::Desk;
 use acd_lines::lines;
@@ -34,19 +34,6 @@ fn desk_after(rt: &(impl Abort + AllocGlobal), scene: &[u8]) -> Desk<MemoryBook>
     let mut desk = opened(rt);
     takes(rt, &mut desk, scene);
     desk
-}
-
-// The desk writes this reply to the request.
-fn replies(
-    rt: &(impl Abort + AllocGlobal),
-    desk: &mut Desk<MemoryBook>,
-    request: &[u8],
-    reply: &[u8],
-) {
-    let mut output = Vec::new(rt.alloc());
-    let result = asked(rt, desk, request, &mut output);
-    assert!(rt; result.is_ok());
-    assert_eq!(rt; output.as_slice(), reply);
 }
 
 fn get_queue() -> &'static [u8] {
@@ -192,4 +179,26 @@ fn reads_along_a_call(rt: HostRuntime) {
         "text/plain",
         last_report(),
     );
+}
+
+// A call, a monitor or an agent, in other digits than its own.
+fn others() -> [&'static str; 7] {
+    [
+        "GET /calls/01 HTTP/1.0\r\n\r\n",
+        "GET /calls/00000000001 HTTP/1.0\r\n\r\n",
+        "GET /calls/4294967297 HTTP/1.0\r\n\r\n",
+        "GET /calls/18446744073709551617 HTTP/1.0\r\n\r\n",
+        "GET /monitors/01/events HTTP/1.0\r\n\r\n",
+        "GET /monitors/18446744073709551617/events HTTP/1.0\r\n\r\n",
+        "GET /agents/07 HTTP/1.0\r\n\r\n",
+    ]
+}
+
+#[test]
+fn digits_of_a_path(rt: HostRuntime) {
+    let mut desk = desk_after(&rt, call_waits());
+    takes(&rt, &mut desk, agent_answers());
+    for request in others() {
+        replies(&rt, &mut desk, request.as_bytes(), not_found());
+    }
 }

@@ -1,20 +1,12 @@
 //! The tests of a request: the first failure of each, and which goes before which.
 
-use super::gives;
+use super::{answers, gives, group_reply, opened};
 use std::process::Abort;
 
 // A new desk answers the request with this status and body.
 fn refuses(rt: &(impl Abort + AllocGlobal), request: &str, status: &str, body: &str) {
-    let len = body.len();
-    let kind = "Content-Type: application/json";
-    let reply = format!(in rt.alloc();
-        "HTTP/1.1 {status}\r\n{kind}\r\nContent-Length: {len}\r\nConnection: close\r\n\r\n{body}"
-    );
-    gives(
-        rt,
-        request.as_bytes(),
-        reply.expect(rt, "memory").as_bytes(),
-    );
+    let mut desk = opened(rt);
+    answers(rt, &mut desk, request.as_bytes(), status, body);
 }
 
 fn bad_request() -> &'static str {
@@ -25,13 +17,15 @@ fn bad_host() -> &'static str {
     r#"{"error":{"code":30,"member":"host","name":"malformed"}}"#
 }
 
-// A head that can't be read, and hosts before a coding.
-fn of_heads() -> [(&'static str, &'static str); 4] {
+fn bad_head() -> &'static str {
+    r#"{"error":{"code":30,"member":"head","name":"malformed"}}"#
+}
+
+// Heads that can't be read, whatever their method, and hosts before a coding.
+fn of_heads() -> [(&'static str, &'static str); 5] {
     [
-        (
-            "GET /csta HTTP/1.1\r\nHost desk\r\n\r\n",
-            r#"{"error":{"code":30,"member":"head","name":"malformed"}}"#,
-        ),
+        ("GET /csta HTTP/1.1\r\nHost desk\r\n\r\n", bad_head()),
+        ("HEAD /csta HTTP/1.1\r\nHost desk\r\n\r\n", bad_head()),
         (
             "GET /csta HTTP/1.1\r\nTransfer-Encoding: chunked\r\n\r\n",
             bad_host(),
@@ -98,8 +92,12 @@ fn paths_before_lengths(rt: HostRuntime) {
     refuses(&rt, request, "404 Not Found", body);
 }
 
-fn posted_to_a_read() -> &'static [u8] {
-    b"POST /queues/100 HTTP/1.1\r\nHost: desk\r\nContent-Length: 5000\r\n\r\n"
+// With a body that is too large, and with none and a query that is malformed.
+fn posted_to_reads() -> [&'static str; 2] {
+    [
+        "POST /queues/100 HTTP/1.1\r\nHost: desk\r\nContent-Length: 5000\r\n\r\n",
+        "POST /events?after=x HTTP/1.1\r\nHost: desk\r\n\r\n",
+    ]
 }
 
 fn allowed_for_a_read() -> &'static [u8] {
@@ -108,7 +106,9 @@ fn allowed_for_a_read() -> &'static [u8] {
 
 #[test]
 fn methods_before_lengths(rt: HostRuntime) {
-    gives(&rt, posted_to_a_read(), allowed_for_a_read());
+    for request in posted_to_reads() {
+        gives(&rt, request.as_bytes(), allowed_for_a_read());
+    }
 }
 
 #[test]
@@ -132,6 +132,29 @@ fn large_bodies(rt: HostRuntime) {
     for request in too_large() {
         refuses(&rt, request, "413 Payload Too Large", body);
     }
+}
+
+// The group's request in a body of the greatest length, which ends with it.
+fn longest_body(rt: &(impl Abort + AllocGlobal)) -> String {
+    let mut request = String::new(rt.alloc());
+    request
+        .push_str("POST /csta HTTP/1.1\r\nHost: desk\r\nContent-Length: 4096\r\n\r\n")
+        .expect(rt, "memory");
+    for _ in 0..3992 {
+        request.push_str(" ").expect(rt, "memory");
+    }
+    request
+        .push_str(
+            r#"{"requester":"plan","invoke":1,"service":"addGroup","device":"100","name":"Billing","ring":20,"wrap":30}"#,
+        )
+        .expect(rt, "memory");
+    request
+}
+
+#[test]
+fn body_of_the_greatest_length(rt: HostRuntime) {
+    let longest = longest_body(&rt);
+    gives(&rt, longest.as_bytes(), group_reply());
 }
 
 // No body, and one that asks for nothing. What follows it is no part of it.

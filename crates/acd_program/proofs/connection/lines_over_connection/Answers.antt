@@ -8,8 +8,9 @@ use Rattle.acd_program.specs.declared.session.SessionFault.{SessionFault}
 use Rattle.acd_program.specs.declared.session.SessionFault.TheVariants.{Open, Lines, StoreFailed}
 use Rattle.acd_program.specs.declared.connection.ConnectionFault.TheVariants.{Session}
 use Rattle.acd_program.specs.Endings.{EndsUnread}
-use Rattle.acd_program.specs.Over.{AnswersOver, BeginsOver, FailsOver, OverConnection, IsOpenFault, IsLinesFault, IsStoreFailed}
+use Rattle.acd_program.specs.Over.{AnswersOver, BeginsOver, FailsOver, OverConnection, Unserved, IsOpenFault, IsLinesFault, IsStoreFailed}
 use Rattle.acd_program.proofs.Over.{answers_of, begins_of, fails_of, over_connection}
+use Rattle.acd_program.proofs.Taking.{unserved_refused}
 use Rattle.acd_program.proofs.connection.lines_over_connection.Goals as goal
 
 pub returns-in-Ok-done-clause-ok : goal.returns-in-Ok-done-clause-ok
@@ -23,7 +24,7 @@ returns-in-Ok-done-clause-ok g c =
     let new : BookState = book_state (state g.S.Store last.conn) last.failures in
     let said : P mid new = subst (λ (r : _). OnOk r (P mid new)) c.in-Ok-done.is c.lines_over_book-done.ensures.ok in
     subst (λ (x : _). OverConnection P c.args.makes (state g.S.Store c.args.conn) (state g.S.Store x)) (sym c.into_connection.ensures.same)
-    (over_connection P c.args.makes (state g.S.Store c.args.conn) (state g.S.Store last.conn) mid last.failures (λ old of h. answers_of old mid new had before behind of h) c.in-Ok.ensures said)
+    (over_connection P c.args.makes (state g.S.Store c.args.conn) (state g.S.Store last.conn) mid last.failures (λ old of h. answers_of old mid new had before behind of h) c.in-Ok.ensures.taken said)
 
 pub returns-in-Err-done-clause-stopped : goal.returns-in-Err-done-clause-stopped
 returns-in-Err-done-clause-stopped g c is =
@@ -36,7 +37,7 @@ returns-in-Err-done-clause-stopped g c is =
     let new : BookState = book_state (state g.S.Store last.conn) last.failures in
     let said : P mid new = (subst (λ (r : _). IfErr r (λ (fault : SessionFault). IsLinesFault fault → P mid new)) c.in-Err-done.is c.lines_over_book-done.ensures.stopped) is in
     subst (λ (x : _). OverConnection P c.args.makes (state g.S.Store c.args.conn) (state g.S.Store x)) (sym c.into_connection-in-Err-done.ensures.same)
-    (over_connection P c.args.makes (state g.S.Store c.args.conn) (state g.S.Store last.conn) mid last.failures (λ old of h. begins_of old mid new had before behind of h) c.in-Ok.ensures said)
+    (over_connection P c.args.makes (state g.S.Store c.args.conn) (state g.S.Store last.conn) mid last.failures (λ old of h. begins_of old mid new had before behind of h) c.in-Ok.ensures.taken said)
 
 pub returns-in-Err-done-clause-failed : goal.returns-in-Err-done-clause-failed
 returns-in-Err-done-clause-failed g c is =
@@ -50,7 +51,7 @@ returns-in-Err-done-clause-failed g c is =
     let said : (c.args.ends_on_store_fault ≡ true) × P mid new = (subst (λ (r : _). IfErr r (λ (fault : SessionFault). IsStoreFailed fault → (c.args.ends_on_store_fault ≡ true) × P mid new)) c.in-Err-done.is c.lines_over_book-done.ensures.failed) is in (
       said.0,
       subst (λ (x : _). OverConnection P c.args.makes (state g.S.Store c.args.conn) (state g.S.Store x)) (sym c.into_connection-in-Err-done.ensures.same)
-          (over_connection P c.args.makes (state g.S.Store c.args.conn) (state g.S.Store last.conn) mid last.failures (λ old of h. fails_of old mid new had before behind of h) c.in-Ok.ensures said.1),
+          (over_connection P c.args.makes (state g.S.Store c.args.conn) (state g.S.Store last.conn) mid last.failures (λ old of h. fails_of old mid new had before behind of h) c.in-Ok.ensures.taken said.1),
     )
 
 unread : (fault : SessionFault) (P : Type 0) → EndsUnread (Session fault) → ((why : OpenFault) → IsOpenFault why fault → P) → P
@@ -68,3 +69,16 @@ returns-in-Err-done-clause-unread g c is =
     = subst (λ (r : _). IfErr r (λ (fault : SessionFault). (why : OpenFault) → IsOpenFault why fault → Refused mid why new × (c.lines_over_book-done.new.reader ≡ c.args.reader.now) × (c.lines_over_book-done.new.writer ≡ c.args.writer.now)))
     c.in-Err-done.is c.lines_over_book-done.ensures.refused in
     unread c.in-Err-done.fault Q is (λ why no_desk. ((said why no_desk).1, (said why no_desk).2))
+
+pub returns-in-Err-done-clause-unserved : goal.returns-in-Err-done-clause-unserved
+returns-in-Err-done-clause-unserved g c is =
+    let mid : BookState = book_state (state g.S.Store c.in-Ok.book.conn) c.in-Ok.book.failures in
+    let last : _ = c.lines_over_book-done.result.1 in
+    let new : BookState = book_state (state g.S.Store last.conn) last.failures in
+    let Q : Type 0 = Unserved c.args.makes (state g.S.Store c.args.conn) (state g.S.Store last.conn) in
+    let said : (why : OpenFault) → IsOpenFault why c.in-Err-done.fault → Refused mid why new × (c.lines_over_book-done.new.reader ≡ c.args.reader.now) × (c.lines_over_book-done.new.writer ≡ c.args.writer.now)
+    = subst (λ (r : _). IfErr r (λ (fault : SessionFault). (why : OpenFault) → IsOpenFault why fault → Refused mid why new × (c.lines_over_book-done.new.reader ≡ c.args.reader.now) × (c.lines_over_book-done.new.writer ≡ c.args.writer.now)))
+    c.in-Err-done.is c.lines_over_book-done.ensures.refused in
+    subst (λ (x : _). Unserved c.args.makes (state g.S.Store c.args.conn) (state g.S.Store x)) (sym c.into_connection-in-Err-done.ensures.same)
+    (unread c.in-Err-done.fault Q is
+    (λ why no_desk. unserved_refused c.args.makes (state g.S.Store c.args.conn) (state g.S.Store last.conn) mid last.failures why c.in-Ok.ensures.taken (said why no_desk).0))

@@ -7,7 +7,7 @@ use Rattle.acd_statements.proofs.Seen.{sees_here}
 use Rattle.acd_schema.proofs.inspection.are_pages_good.Goals as goal
 
 pub loop-init : goal.loop-init
-loop-init g c = record { idle = c.requires.idle; fits = omega arith; seen = λ d is. sees_here d (state g.S.Store c.args.conn.now) tt (Left c.args.log 0 d.trees) (λ lies xs are. refl) }
+loop-init g c = record { idle = c.requires.idle; fits = omega arith; seen = λ d is. sees_here d (state g.S.Store c.args.conn.now) tt (Left c.args.log 0 d.trees) (λ had xs are. refl) }
 
 pub loop-preserved : goal.loop-preserved
 loop-preserved g c = record {

@@ -7,7 +7,7 @@ use Rattle.acd_statements.proofs.Seen.{sees_here}
 use Rattle.acd_schema.proofs.inspection.bad_table.Goals as goal
 
 pub loop-table-init : goal.loop-table-init
-loop-table-init g c = record { idle = c.requires.idle; seen = λ d is. sees_here d (state g.S.Store c.args.conn.now) tt (Good [] d.trees) (λ lies filed. tt) }
+loop-table-init g c = record { idle = c.requires.idle; seen = λ d is. sees_here d (state g.S.Store c.args.conn.now) tt (Good [] d.trees) (λ had filed. tt) }
 
 pub loop-table-preserved : goal.loop-table-preserved
 loop-table-preserved g c =

@@ -1,6 +1,6 @@
 use Rattle.std.proofs.Common.{sym, subst}
 use Rattle.sqlite.specs.Held.{state}
-use Rattle.acd_statements.specs.Lying.{TellsGood}
+use Rattle.acd_statements.specs.AnyRows.{TellsGood}
 use Rattle.acd_statements.specs.Seeing.{Sees}
 use Rattle.acd_schema.proofs.inspection.is_good_table.Goals as goal
 

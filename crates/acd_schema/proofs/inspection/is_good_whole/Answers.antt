@@ -1,6 +1,6 @@
 use Rattle.std.proofs.Common.{Ok}
 use Rattle.sqlite.specs.Held.{state}
-use Rattle.acd_statements.specs.Lying.{table_of, TellsGood}
+use Rattle.acd_statements.specs.AnyRows.{table_of, TellsGood}
 use Rattle.acd_schema.proofs.Looks.{whole_told}
 use Rattle.acd_statements.proofs.Seen.{sees_fail}
 use Rattle.acd_schema.proofs.inspection.is_good_whole.Goals as goal

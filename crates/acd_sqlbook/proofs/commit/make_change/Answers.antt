@@ -8,7 +8,7 @@ returns-in-PutGroup-clause-put g c clean =
 
 pub returns-in-PutStation-clause-put : goal.returns-in-PutStation-clause-put
 returns-in-PutStation-clause-put g c clean =
-    filing (state g.S.Store c.args.tx.now.conn.now) (state g.S.Store c.put_station.new.tx.conn.now) c.put_station.result c.args.change.now _ _ c.in-PutStation.is (station_filed c.in-PutStation.station) (c.put_station.ensures.put clean)
+    filing (state g.S.Store c.args.tx.now.conn.now) (state g.S.Store c.insert_station.new.tx.conn.now) c.insert_station.result c.args.change.now _ _ c.in-PutStation.is (station_filed c.in-PutStation.station) (c.insert_station.ensures.put clean)
 
 pub returns-in-PutAgent-clause-put : goal.returns-in-PutAgent-clause-put
 returns-in-PutAgent-clause-put g c clean =

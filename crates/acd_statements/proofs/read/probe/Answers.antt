@@ -34,12 +34,12 @@ pub returns-in_err-query_row-clause-seen : goal.returns-in_err-query_row-clause-
 returns-in_err-query_row-clause-seen g c d =
     let is : c.from_residual.result ≡ Err c.in_err-query_row.field-0.0 = search rules in
     subst (λ r. Sees {A = Unit {0}} d (state g.S.Store c.args.conn.now) (state g.S.Store c.query_row.new.self) r (λ x. ⊤)) (sym is)
-    (sees_failed d (state g.S.Store c.args.conn.now) (state g.S.Store c.query_row.new.self) c.query_row.ensures.survives (λ lies db. never_commits probe_text [] (state g.S.Store c.args.conn.now) db (probe_plain _))
+    (sees_failed d (state g.S.Store c.args.conn.now) (state g.S.Store c.query_row.new.self) c.query_row.ensures.survives (λ had db. never_commits probe_text [] (state g.S.Store c.args.conn.now) db (probe_plain _))
     c.in_err-query_row.field-0.0 (λ x. ⊤) (λ clean. row_fails probe_text [] (state g.S.Store c.args.conn.now) (state g.S.Store c.query_row.new.self) c.in_err-query_row.field-0.0 (probe_plain _) (c.in_err-query_row.ensures.row clean)))
 
 pub returns-clause-seen : goal.returns-clause-seen
 returns-clause-seen g c d =
     let same : HasCleanDisk (state g.S.Store c.query_row.new.self) → IsUnchanged (state g.S.Store c.args.conn.now) (state g.S.Store c.query_row.new.self) =
     λ clean. row_same probe_text [] (state g.S.Store c.args.conn.now) (state g.S.Store c.query_row.new.self) c.in_ok-query_row.field-0 (probe_plain _) (c.in_ok-query_row.ensures.row clean) in
-    sees_shown d (state g.S.Store c.args.conn.now) (state g.S.Store c.query_row.new.self) c.query_row.ensures.survives (λ lies db. never_commits probe_text [] (state g.S.Store c.args.conn.now) db (probe_plain _))
-    tt (λ x. ⊤) (λ clean. ((same clean).0.was_open, (same clean).0.is_open)) (λ clean lies. same clean) (λ clean lies. tt)
+    sees_shown d (state g.S.Store c.args.conn.now) (state g.S.Store c.query_row.new.self) c.query_row.ensures.survives (λ had db. never_commits probe_text [] (state g.S.Store c.args.conn.now) db (probe_plain _))
+    tt (λ x. ⊤) (λ clean. ((same clean).0.was_open, (same clean).0.is_open)) (λ clean had. same clean) (λ clean had. tt)

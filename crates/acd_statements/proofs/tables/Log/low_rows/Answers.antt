@@ -1,6 +1,6 @@
 use Rattle.std.proofs.Common.{sym, subst}
 use Rattle.sqlite.specs.Held.{state}
-use Rattle.acd_statements.specs.Lying.{TellsLow}
+use Rattle.acd_statements.specs.AnyRows.{TellsLow}
 use Rattle.acd_statements.specs.Seeing.{Sees}
 use Rattle.acd_statements.proofs.tables.Log.low_rows.Goals as goal
 

@@ -1,6 +1,6 @@
 use Rattle.std.proofs.Common.{sym, subst}
 use Rattle.sqlite.specs.Held.{state}
-use Rattle.acd_statements.specs.Lying.{IsPageRows}
+use Rattle.acd_statements.specs.AnyRows.{IsPageRows}
 use Rattle.acd_statements.specs.Seeing.{Sees}
 use Rattle.acd_statements.proofs.tables.Log.rows.Goals as goal
 

@@ -1,6 +1,6 @@
--- Rows as they lie in a database, whatever they hold, and whether their values are in their ranges.
-use Rattle.std.specs.Prelude.{◌≡◌, ℕ, Bool, true, false, List, [], ◌∷◌, length, map, take, filter, nat_lt, codes, if◌then◌else◌, IsTrue}
-use Rattle.std.specs.List.{AllByRecursion}
+-- Rows as they stand in a database, whatever they hold, and whether their values are in their ranges.
+use Rattle.std.specs.Prelude.{◌≡◌, ℕ, Bool, false, List, [], ◌∷◌, length, map, take, filter, nat_lt, codes, IsTrue}
+use Rattle.std.specs.List.{AllByRecursion, list_all, list_any}
 use Rattle.std.specs.Option.{is_some}
 use Rattle.std.specs.Str.{bytes_eq}
 use Rattle.sqlite_value.specs.Order.{Row, column}
@@ -35,10 +35,9 @@ is_good table.Events r = is_some (event_in r)
 is_good table.Kept r = is_some (kept_in r)
 
 unfoldable pub are_good : Table → List Row → Bool
-are_good t [] = true
-are_good t (row ∷ rows) = if is_good t row then are_good t rows else false
+are_good t rows = list_all (is_good t) rows
 
--- ---- rows as they lie in a database
+-- ---- rows as they stand in a database
 
 -- the values of a row that are looked at
 abbrev pub values_in : Table → Row → Row
@@ -55,16 +54,16 @@ values_in table.Events r =
 values_in table.Kept r = column r 0 ∷ column r 2 ∷ column r 3 ∷ column r 4 ∷ column r 5 ∷ column r 6 ∷ column r 7 ∷ []
 
 -- of all rows of the table
-abbrev pub lying : Table → Trees → List Row
-lying t db = map (values_in t) (db (tree_of t))
+abbrev pub rows_in : Table → Trees → List Row
+rows_in t db = map (values_in t) (db (tree_of t))
 
 -- each of them is in its range
 unfoldable pub is_good_in : Table → Trees → Bool
-is_good_in t db = are_good t (lying t db)
+is_good_in t db = are_good t (rows_in t db)
 
 -- Each row has a value for each column. One from before a column was added may lack the last ones, where these may hold NULL.
-abbrev pub AreWhole : Trees → Type 0
-AreWhole db =
+abbrev pub HaveAllColumns : Trees → Type 0
+HaveAllColumns db =
     AllByRecursion (λ r. length r ≡ 2) (db (tree_of table.Stations))
     × AllByRecursion (λ r. length r ≡ 8) (db (tree_of table.Connections))
     × AllByRecursion (λ r. length r ≡ 11) (db (tree_of table.Events))
@@ -73,7 +72,7 @@ AreWhole db =
 pub record IsFiled (db : Trees) : Type 0 where
   pub rising : (t : Table) → IsTable (db (tree_of t))
   pub numbered : (t : Table) → AllByRecursion (λ r. IsTrue (is_int (rowid r))) (db (tree_of t))
-  pub whole : AreWhole db
+  pub whole : HaveAllColumns db
 
 -- a bad one is there; and where the rows are filed it is told whether there is one
 pub record TellsGood (t : Table) (db : Trees) (good : Bool) : Type 0 where
@@ -122,14 +121,13 @@ pub record TellsLow (l : Log) (db : Trees) (low : List Row) : Type 0 where
 
 -- the first rows above a number
 pub record IsPageRows (l : Log) (n limit : ℕ) (db : Trees) (rows : List Row) : Type 0 where
-  pub known : AllByRecursion (λ r. Has (lying (table_of_log l) db) r) rows
+  pub known : AllByRecursion (λ r. Has (rows_in (table_of_log l) db) r) rows
   pub paged : (xs : List Numbered) → AreNumbered l db xs → rows ≡ take limit (values_behind l n xs)
 
 -- ---- the first table
 
 unfoldable pub has_meta : List Made → Bool
-has_meta [] = false
-has_meta (t ∷ tables) = if bytes_eq t.name (codes "meta") then true else has_meta tables
+has_meta tables = list_any (λ t. bytes_eq t.name (codes "meta")) tables
 
 -- its first table is `meta` as a book has it
 abbrev pub BeginsAsBook : Schema → Type 0
