@@ -40,6 +40,9 @@ pub(crate) enum Task<'a> {
     },
 }
 
+/// What `acd --version` tells behind the program's name: the version, and the toolchain that proved it.
+const VERSION: &str = "0.9 (rattle-kit-13f)";
+
 const FILE: &str = "file";
 
 const PLAN: &str = "plan";
@@ -186,6 +189,7 @@ fn reading_commands<'a>(alloc: Global, acd: Command<'a>) -> Result<Command<'a>, 
 
 fn all_commands<'a>(alloc: Global) -> Result<Command<'a>, AllocError> {
     let acd = Command::new(alloc, "acd")
+        .version(VERSION)
         .about("The desk of a help line: an automatic call distributor")
         .subcommand_required(true);
     reading_commands(alloc, executing_commands(alloc, acd)?)

@@ -122,3 +122,11 @@ fn help_of_all_commands(rt: HostRuntime) {
         assert!(rt; helps(&rt, &["acd", command, "--help"]), "{command}");
     }
 }
+
+#[test]
+fn version_and_toolchain(rt: HostRuntime) {
+    for option in ["--version", "-V"] {
+        let words = ["acd", option];
+        assert!(rt; gives(&rt, &words, "", 0, "acd 0.9 (rattle-kit-13f)\n", ""));
+    }
+}
