@@ -17,7 +17,7 @@ _acd() {
             import) offered='--file --plan --help' ;;
             report | export) offered='--file --help' ;;
             audit) offered='--file --count --help' ;;
-            help) offered='lines serve import report export audit help' ;;
+            help) offered='lines serve import report export audit' ;;
             *) return ;;
         esac
     fi
