@@ -1,0 +1,26 @@
+# completion of acd in bash; tools/package compares its commands and options with what --help says
+_acd() {
+    local word=${COMP_WORDS[COMP_CWORD]} before=${COMP_WORDS[COMP_CWORD - 1]} command=${COMP_WORDS[1]} offered
+    COMPREPLY=()
+    if [[ $COMP_CWORD -eq 1 ]]; then
+        offered='lines serve import report export audit help --help --version'
+    elif [[ $before == --file || $before == --plan ]]; then
+        mapfile -t COMPREPLY < <(compgen -f -- "$word")
+        compopt -o filenames 2>/dev/null
+        return
+    elif [[ $before == --port || $before == --connections ]]; then
+        return
+    else
+        case $command in
+            lines) offered='--file --end-on-store-fault --help' ;;
+            serve) offered='--file --port --connections --help' ;;
+            import) offered='--file --plan --help' ;;
+            report | export) offered='--file --help' ;;
+            audit) offered='--file --count --help' ;;
+            help) offered='lines serve import report export audit' ;;
+            *) return ;;
+        esac
+    fi
+    mapfile -t COMPREPLY < <(compgen -W "$offered" -- "$word")
+}
+complete -F _acd acd
