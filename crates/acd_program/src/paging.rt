@@ -39,13 +39,13 @@ fn may_be_new<D: Disk>(files: &mut Files<D>) -> io::Result<bool>
     Ok(files.db.len()? <= NEW_PAGE)
 }
 
-// The files, with a database of no tables in them unless they hold one. A stop leaves none, one that the next call finishes, or all of it.
-fn created<'a, D: Disk + Drop>(
+// The pages of files that are laid out.
+fn pages<'a, D: Disk + Drop>(
     alloc: Global,
     files: Files<D>,
     seed: u64,
     path: &'a str,
-) -> Result<Files<D>, Fault<'a>>
+) -> Result<Pager<D>, Fault<'a>>
     requires log { IsTrue (D.Disk.is_usable files.log) }
     requires db { IsTrue (D.Disk.is_usable files.db) }
 {
@@ -56,10 +56,23 @@ fn created<'a, D: Disk + Drop>(
         cache_pages: ONE_PAGE,
         ..Options::new(seed)
     };
-    let Ok(pager) = Pager::new(alloc, files, size, options) else {
-        return Err(Fault::NoMemory);
-    };
-    let Ok(unopened) = Unopened::new(alloc, pager, &[]) else {
+    match Pager::new(alloc, files, size, options) {
+        Ok(pager) => Ok(pager),
+        Err(_) => Err(Fault::NoMemory),
+    }
+}
+
+// The files, with a database of no tables in them unless they hold one. A stop leaves none, one that the next call finishes, or all of it.
+fn created<'a, D: Disk + Drop>(
+    alloc: Global,
+    files: Files<D>,
+    seed: u64,
+    path: &'a str,
+) -> Result<Files<D>, Fault<'a>>
+    requires log { IsTrue (D.Disk.is_usable files.log) }
+    requires db { IsTrue (D.Disk.is_usable files.db) }
+{
+    let Ok(unopened) = Unopened::new(alloc, pages(alloc, files, seed, path)?, &[]) else {
         return Err(Fault::NoMemory);
     };
     match unopened.create() {
