@@ -141,13 +141,15 @@ fn commit_stations<B: Book>(
     commit_rows(rt, book, &rows)
 }
 
-// A stamp and a number that don't go on, a key that is kept, and rows out of order are refused, and change nothing.
-fn play<B: Book>(rt: &(impl Abort + AllocGlobal), book: &mut B) {
+fn fill<B: Book>(rt: &(impl Abort + AllocGlobal), book: &mut B) {
     for number in 1..=300 {
         same(rt, &commit(rt, book, (number, number, number)), &Ok(()));
     }
-    expect_filled(rt, book);
-    for numbers in [(301, 302, 301), (302, 301, 301), (301, 301, 150)] {
+}
+
+// A number and a stamp that don't go on, a key that is kept, and rows out of order.
+fn expect_refused<B: Book>(rt: &(impl Abort + AllocGlobal), book: &mut B) {
+    for numbers in [(302, 301, 301), (301, 302, 301), (301, 301, 150)] {
         let refused = commit(rt, book, numbers);
         same(
             rt,
@@ -157,6 +159,13 @@ fn play<B: Book>(rt: &(impl Abort + AllocGlobal), book: &mut B) {
     }
     let refused = commit_stations(rt, book, "202", "201");
     same(rt, &refused, &Err(BookFault::NoMemory));
+}
+
+// What is refused changes nothing.
+fn play<B: Book>(rt: &(impl Abort + AllocGlobal), book: &mut B) {
+    fill(rt, book);
+    expect_filled(rt, book);
+    expect_refused(rt, book);
     expect_filled(rt, book);
     same(rt, &commit_stations(rt, book, "201", "202"), &Ok(()));
     same(rt, &counters(rt, book), &(2, 301, 10, 300));

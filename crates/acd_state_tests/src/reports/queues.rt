@@ -77,7 +77,7 @@ fn lines() -> [(u32, &'static str); 2] {
 }
 
 fn line() -> &'static str {
-    "100                   0       0          1          1          0          0         15          - Billing\n"
+    "300                   0       0          1          1          0          0         15          - Billing\n"
 }
 
 fn rows_of(
@@ -108,25 +108,29 @@ fn expect_report(
     same_text(rt, "report", report.as_str(), wanted.as_str());
 }
 
-#[test]
-fn reports_of_four_groups(rt: HostRuntime) {
-    let rows = rows_of(&rt, &groups(&rt), &connections(&rt));
-    for (moment, lines) in lines() {
-        expect_report(&rt, &rows, moment, lines, 1);
-    }
+fn expect_report_of(
+    rt: &(impl Abort + AllocGlobal),
+    groups: &[GroupRecord],
+    moment: u32,
+    lines: &str,
+    times: usize,
+) {
+    let rows = rows_of(rt, groups, &connections(rt));
+    expect_report(rt, &rows, moment, lines, times);
 }
 
 #[test]
-fn report_of_no_group(rt: HostRuntime) {
-    let rows = rows_of(&rt, &[], &[]);
-    expect_report(&rt, &rows, 0, "", 0);
+fn reports_of_groups(rt: HostRuntime) {
+    expect_report_of(&rt, &[], 0, "", 0);
+    for (moment, lines) in lines() {
+        expect_report_of(&rt, &groups(&rt), moment, lines, 1);
+    }
 }
 
 // As many groups as there may be. The report takes any rows, so all of them are one.
 #[test]
 fn report_of_64_groups(rt: HostRuntime) {
-    let billing = group(&rt, "100", "Billing", figures([1, 1, 0, 0], 15));
-    let groups = vec![in rt.alloc(); billing; 64].expect(&rt, "memory");
-    let rows = rows_of(&rt, &groups, &[]);
-    expect_report(&rt, &rows, 40, line(), 64);
+    let once = group(&rt, "300", "Billing", figures([1, 1, 0, 0], 15));
+    let groups = vec![in rt.alloc(); once; 64].expect(&rt, "memory");
+    expect_report_of(&rt, &groups, 40, line(), 64);
 }
