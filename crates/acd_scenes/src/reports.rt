@@ -8,9 +8,6 @@ use acd_terms::{
 };
 use std::process::Abort;
 
-// More events than any scene has.
-pub const ALL: usize = 1000;
-
 // What an event tells of its call at its device.
 fn state_told(kind: EventKind) -> Option<ConnectionState> {
     match kind {

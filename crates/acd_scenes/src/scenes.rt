@@ -1,21 +1,10 @@
 //! The scenes, in lines of a [script](crate::script), and what is told of them.
 
-mod agents;
-mod calls;
-mod refusals;
-mod told;
-
-use std::alloc::{AllocError, Global};
-
-/// All lines.
-pub fn all(alloc: Global) -> Result<String, AllocError> {
-    let mut lines = String::new(alloc);
-    lines.push_str(calls::lines())?;
-    lines.push_str(agents::lines())?;
-    lines.push_str(refusals::lines())?;
-    lines.push_str(told::lines())?;
-    Ok(lines)
-}
+pub mod agents;
+pub mod calls;
+pub mod office;
+pub mod refusals;
+pub mod told;
 
 /// The name of each scene, and where each wrong one is wrong.
 pub fn names() -> &'static str {
