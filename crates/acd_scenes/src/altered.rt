@@ -1,12 +1,12 @@
 //! What is told of a book whose database something else has changed.
 
 use crate::sessions::{Scene, answers_so, opened};
-use crate::shelf::{Shelf, taken};
-use crate::texts::{halves, joined};
+use crate::shelf::{Changing, Shelf, taken};
+use crate::texts::{halves, joined, push_both};
 use acd_book::Book;
 use acd_desk::{Audit, Desk, OpenFault};
 use acd_terms::Limits;
-use sqlite::{Alter, Connection, MemStore};
+use sqlite::{Connection, MemStore};
 use std::alloc::Global;
 use std::process::Abort;
 
@@ -45,22 +45,16 @@ fn told_of<P: Shelf>(rt: &impl Abort, alloc: Global, shelf: P) -> String {
     told(rt, alloc, taken(rt, alloc, shelf, None))
 }
 
-fn changed<S: Alter + Drop>(rt: &impl Abort, conn: Connection<S>, sql: &str) -> Connection<S> {
-    let mut conn = conn;
-    conn.execute_batch(sql).expect(rt, "a change");
-    conn
-}
-
 // What is told of a database in which a new book takes the scene, and which is then changed.
-fn told_behind<S: Alter + Drop>(
+fn told_behind<P: Changing>(
     rt: &impl Abort,
     alloc: Global,
-    conn: Connection<S>,
+    shelf: P,
     scene: &Scene,
     sql: &str,
 ) -> String {
-    let conn = behind(rt, alloc, conn, scene);
-    told_of(rt, alloc, changed(rt, conn, sql))
+    let shelf = behind(rt, alloc, shelf, scene);
+    told_of(rt, alloc, shelf.changed(rt, sql))
 }
 
 /// A database in memory.
@@ -78,7 +72,9 @@ fn unseen(rt: &impl Abort, alloc: Global, scene: &Scene, change: &str) -> Option
     if told.as_str() == wanted {
         return None;
     }
-    Some(joined(rt, alloc, &[told.as_str(), " behind ", change]))
+    let mut what = told;
+    push_both(rt, &mut what, " behind ", change);
+    Some(what)
 }
 
 // The first change of the transcript of which something else is told.

@@ -4,11 +4,12 @@ use crate::exports;
 use crate::look_ups::same;
 use crate::player::{ALL, events_of, rows_of};
 use crate::reference::Reference;
-use crate::sessions::{Scene, answers_so, opened, requests_at};
+use crate::sessions::{Scene, answers_so, arrivals, opened, requests, requests_at};
 use crate::texts::{joined, push};
 use acd_book::{Book, BookFault, Kept, Text};
+use acd_desk::Desk;
 use acd_tables::{Records, Tables};
-use acd_terms::{Command, Event, Invoke, Request, Requester, Rows};
+use acd_terms::{Arrival, Command, Event, Invoke, Request, Requester, Rows};
 use std::alloc::Global;
 use std::process::Abort;
 
@@ -142,15 +143,49 @@ pub fn committed<B: Book>(
 }
 
 /// A new book takes all rows and all events of another by one commit, and not the same record twice.
-pub fn expect_committed<B: Book>(
+pub fn expect_committed<B: Book + Drop>(
     rt: &impl Abort,
     alloc: Global,
-    book: &mut B,
+    book: B,
     held: &Held,
     refused: BookFault,
 ) {
+    let mut book = book;
     let record = first_record(rt, alloc);
-    same(rt, &committed(book, &held.0, &held.1, &record), &Ok(()));
-    same(rt, &held_by(rt, book), held);
-    same(rt, &committed(book, &held.0, &[], &record), &Err(refused));
+    same(
+        rt,
+        &committed(&mut book, &held.0, &held.1, &record),
+        &Ok(()),
+    );
+    same(rt, &held_by(rt, &mut book), held);
+    same(
+        rt,
+        &committed(&mut book, &held.0, &[], &record),
+        &Err(refused),
+    );
+}
+
+// The book behind a session over all these requests.
+fn ran<B: Book + Drop>(rt: &impl Abort, alloc: Global, book: B, arrivals: &[Arrival]) -> B {
+    match Desk::session(alloc, book, arrivals) {
+        Ok((answers, book)) => {
+            same(rt, &answers.len(), &arrivals.len());
+            book
+        }
+        Err((fault, _)) => panic!(rt; "{fault:?}"),
+    }
+}
+
+/// A new book holds the same behind one session over all requests.
+pub fn expect_run<B: Book + Drop>(
+    rt: &impl Abort,
+    alloc: Global,
+    book: B,
+    texts: &[&str],
+    held: &Held,
+) {
+    let input = requests(rt, alloc, texts);
+    let arrivals = arrivals(rt, alloc, input.as_str());
+    let mut book = ran(rt, alloc, book, &arrivals);
+    same(rt, &held_by(rt, &mut book), held);
 }

@@ -1,7 +1,7 @@
 //! The export of a desk holds what its event reports tell, and its pages are these reports.
 
 use crate::reads;
-use crate::texts::{joined, push};
+use crate::texts::{joined, push, push_both, same_text};
 use acd_book::Book;
 use acd_codec::event_text;
 use acd_desk::Desk;
@@ -47,7 +47,7 @@ fn value<'a>(members: &'a str, name: &str) -> &'a str {
 fn add_record(rt: &impl Abort, records: &mut String, members: &str) {
     let mut between = "";
     for name in HEADER.split(',') {
-        push(rt, records, &[between, value(members, name)]);
+        push_both(rt, records, between, value(members, name));
         between = ",";
     }
     push(rt, records, &["\n"]);
@@ -71,7 +71,7 @@ fn expect_read<B: Book>(
     wanted: &str,
 ) {
     let told = reads::text(rt, alloc, desk, asked);
-    assert_eq!(rt; told.as_str(), wanted);
+    same_text(rt, told.as_str(), wanted);
 }
 
 /// The desk exports a record of each of its events, which are these.
@@ -85,7 +85,8 @@ fn page_of(rt: &impl Abort, alloc: Global, events: &[Event], last: u64) -> Strin
     let mut page = joined(rt, alloc, &["{\"events\":["]);
     let mut between = "";
     for event in events {
-        push(rt, &mut page, &[between, report(rt, alloc, event).as_str()]);
+        let report = report(rt, alloc, event);
+        push_both(rt, &mut page, between, report.as_str());
         between = ",";
     }
     let end = format!(in alloc; "],\"last\":{last}}}").expect(rt, "memory");

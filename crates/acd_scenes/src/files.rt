@@ -2,9 +2,10 @@
 //! each of its calls in turn, and which is opened again.
 
 use crate::ends::count_kept;
+use crate::look_ups::same;
 use crate::sessions::{Scene, answered, answers_so, arrivals, opened};
 use crate::shelf::{Shelf, Stopping, empty_files, taken, with_new_book};
-use crate::texts::{joined, push};
+use crate::texts::{joined, push, same_text};
 use acd_book::Book;
 use acd_desk::{Audit, Desk, Taken};
 use acd_terms::Arrival;
@@ -33,7 +34,7 @@ fn play_closed<P: Shelf>(rt: &impl Abort, alloc: Global, shelf: P, scene: &Scene
     for line in scene.input.as_str().lines() {
         shelf = answer(rt, alloc, shelf, line, &mut answers);
     }
-    assert_eq!(rt; answers.as_str(), scene.output.as_str());
+    same_text(rt, answers.as_str(), scene.output.as_str());
 }
 
 // How many requests were answered 200, which are the first of them. All behind them are answered storeFault.
@@ -90,7 +91,7 @@ fn run_over<P: Shelf>(rt: &impl Abort, alloc: Global, shelf: P, arrivals: &[Arri
 // What the book keeps is sound, and all that was answered, or one request more.
 fn expect_kept<B: Book + Drop>(rt: &impl Abort, alloc: Global, book: B, replied: u64) -> B {
     let mut desk = opened(rt, alloc, book);
-    assert_eq!(rt; desk.audit(), Ok(Audit::Sound));
+    same(rt, &desk.audit(), &Ok(Audit::Sound));
     let mut book = desk.close();
     let kept = count_kept(rt, &mut book);
     assert!(rt; kept == replied || kept == replied.saturating_add(1));

@@ -15,7 +15,7 @@
 
 use crate::reference::Reference;
 use crate::sessions::{answered, arrival, opened};
-use crate::texts::{joined, push};
+use crate::texts::{joined, push, push_both};
 use crate::{ends, held, reads, reports};
 use acd_book::Book;
 use acd_codec::event_text;
@@ -51,6 +51,15 @@ fn line_at(text: &str, number: usize) -> Option<&str> {
         }
     }
     None
+}
+
+fn has_line(text: &str, line: &str) -> bool {
+    for known in text.lines() {
+        if known == line {
+            return true;
+        }
+    }
+    false
 }
 
 /// The rows of the book.
@@ -139,7 +148,7 @@ impl Player {
 
     // A line isn't what happens.
     fn miss(&mut self, rt: &impl Abort, how: &str, text: &str) {
-        push(rt, &mut self.wrong, &[how, text]);
+        push_both(rt, &mut self.wrong, how, text);
     }
 
     // The line is the next one that the last request made.
@@ -150,7 +159,7 @@ impl Player {
         }
         match line_at(self.made.as_str(), self.read) {
             Some(made) if made == line => {}
-            Some(made) => push(rt, &mut self.wrong, &["made: ", made]),
+            Some(made) => push_both(rt, &mut self.wrong, "made: ", made),
             None => self.miss(rt, "not made: ", line),
         }
         self.read = self.read.saturating_add(1);
@@ -159,7 +168,7 @@ impl Player {
     // All lines that the last request made were read.
     fn expect_all_read(&mut self, rt: &impl Abort) {
         if let Some(made) = line_at(self.made.as_str(), self.read) {
-            push(rt, &mut self.wrong, &["left out: ", made]);
+            push_both(rt, &mut self.wrong, "left out: ", made);
         }
     }
 
@@ -235,7 +244,7 @@ impl Player {
     // The rows hold the line.
     fn expect_held<B: Book>(&mut self, rt: &impl Abort, book: &mut B, line: &str) {
         let held = held::text(rt, self.alloc, &rows_of(rt, book));
-        if !held.as_str().lines().any(|held| held == line) {
+        if !has_line(held.as_str(), line) {
             self.miss(rt, "not held: ", line);
         }
     }

@@ -3,6 +3,7 @@
 ghost use Rattle.acd_model.specs.Rules.First.{BreaksNoRule};
 
 use crate::look_ups::{self, same};
+use crate::texts::same_text;
 use acd_codec::{outcome_status, reply_text};
 use acd_switch::Switch;
 use acd_terms::{Arrival, Command, Event, Limits, Outcome, Request, Rows};
@@ -82,7 +83,7 @@ impl Reference {
         }
         let outcome = self.step(rt, arrival, events);
         let line = answer_line(rt, alloc, &arrival.request, outcome);
-        assert_eq!(rt; answer, line.as_str());
+        same_text(rt, answer, line.as_str());
     }
 
     fn rows(&self, rt: &impl Abort) -> Rows {

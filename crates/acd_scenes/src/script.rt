@@ -15,14 +15,16 @@
 //! | `altered NAME: PART` | is taken by a book whose database is then changed by each of its lines `~ TOLD SQL` ([`altered`](crate::altered)) |
 
 use crate::altered::database;
-use crate::ends::{expect_committed, held_by};
+use crate::ends::{expect_committed, expect_run, held_by};
 use crate::player::play;
 use crate::shelf::taken;
 use crate::texts::{halves, joined, number, push};
 use crate::{altered, files};
 use acd_book::{Book, BookFault, MemoryBook};
 use acd_codec::read_request;
+use acd_sqlbook::SqlBook;
 use acd_terms::{Limits, Request};
+use sqlite::MemStore;
 use std::alloc::Global;
 use std::process::Abort;
 
@@ -33,46 +35,60 @@ struct Part<'a> {
     text: String,
 }
 
-// Over a new book. Another one takes what it then holds by one commit.
+// Over the first of three new books. The second takes what it then holds by one commit, and the third by one session.
 fn played_over<B: Book + Drop>(
     rt: &impl Abort,
     alloc: Global,
-    book: B,
-    other: B,
+    books: (B, B, B),
     refused: BookFault,
     texts: &[&str],
 ) -> Option<String> {
+    let (book, copy, other) = books;
     let (mut book, wrong) = play(rt, alloc, book, texts);
     if wrong.is_none() {
         let held = held_by(rt, &mut book);
-        let mut other = other;
-        expect_committed(rt, alloc, &mut other, &held, refused);
+        expect_committed(rt, alloc, copy, &held, refused);
+        expect_run(rt, alloc, other, texts, &held);
     }
     wrong
 }
 
-// Over a new book in memory with these limits.
+fn book_in_memory(alloc: Global, limits: Limits) -> MemoryBook {
+    MemoryBook::new(alloc, limits)
+}
+
+// Over new books in memory with these limits.
 fn played_in_memory(
     rt: &impl Abort,
     alloc: Global,
     limits: Limits,
     texts: &[&str],
 ) -> Option<String> {
-    let book = MemoryBook::new(alloc, limits);
-    let other = MemoryBook::new(alloc, limits);
-    played_over(rt, alloc, book, other, BookFault::NoMemory, texts)
+    let books = (
+        book_in_memory(alloc, limits),
+        book_in_memory(alloc, limits),
+        book_in_memory(alloc, limits),
+    );
+    played_over(rt, alloc, books, BookFault::NoMemory, texts)
 }
 
-// And over one in a database.
+fn book_in_database(rt: &impl Abort, alloc: Global, limits: Limits) -> SqlBook<MemStore> {
+    taken(rt, alloc, database(rt, alloc), Some(limits))
+}
+
+// And over books in databases.
 fn played_in_database(
     rt: &impl Abort,
     alloc: Global,
     limits: Limits,
     texts: &[&str],
 ) -> Option<String> {
-    let book = taken(rt, alloc, database(rt, alloc), Some(limits));
-    let other = taken(rt, alloc, database(rt, alloc), Some(limits));
-    played_over(rt, alloc, book, other, BookFault::Store, texts)
+    let books = (
+        book_in_database(rt, alloc, limits),
+        book_in_database(rt, alloc, limits),
+        book_in_database(rt, alloc, limits),
+    );
+    played_over(rt, alloc, books, BookFault::Store, texts)
 }
 
 // Over both. Answers where that isn't what happens.
@@ -279,7 +295,8 @@ impl<'a> Script<'a> {
                 if word != "wrong" {
                     panic!(rt; "{name}, {what}");
                 }
-                push(rt, &mut self.told, &[name, ", ", what, "\n"]);
+                push(rt, &mut self.told, &[name, ", "]);
+                push(rt, &mut self.told, &[what, "\n"]);
             }
         }
     }
@@ -298,7 +315,13 @@ impl<'a> Script<'a> {
     }
 
     // Plays these parts, and this text behind them.
-    fn wrong_row(&self, rt: &impl Abort, limits: Limits, names: &str, text: &str) -> Option<String> {
+    fn wrong_row(
+        &self,
+        rt: &impl Abort,
+        limits: Limits,
+        names: &str,
+        text: &str,
+    ) -> Option<String> {
         let mut texts = texts_of(rt, self.alloc, &self.parts, names);
         texts.push(text).expect(rt, "memory");
         played(rt, self.alloc, limits, &texts)
@@ -357,9 +380,12 @@ impl<'a> Script<'a> {
 }
 
 fn is_scene(word: &str) -> bool {
-    ["scene", "wrong", "files", "stops", "altered"]
-        .iter()
-        .any(|known| *known == word)
+    for known in ["scene", "wrong", "files", "stops", "altered"] {
+        if word == known {
+            return true;
+        }
+    }
+    false
 }
 
 // A line of a transcript.

@@ -1,6 +1,6 @@
 //! The requests of transcripts as one session.
 
-use crate::texts::{halves, moment, push};
+use crate::texts::{halves, moment, push, same_text};
 use acd_book::Book;
 use acd_codec::read_request;
 use acd_desk::Desk;
@@ -122,6 +122,6 @@ pub fn answers_so<B: Book + Drop>(
     output: &str,
 ) -> B {
     let (book, answers) = answered(rt, alloc, book, input);
-    assert_eq!(rt; answers.as_str(), output);
+    same_text(rt, answers.as_str(), output);
     book
 }

@@ -27,6 +27,12 @@ pub trait Stopping: Shelf {
     fn copied(&self, rt: &impl Abort, alloc: Global, log: u64, database: u64) -> Self;
 }
 
+/// A shelf whose database something else changes.
+pub trait Changing: Shelf {
+    /// The same behind these statements.
+    fn changed(self, rt: &impl Abort, sql: &str) -> Self;
+}
+
 // A new book in the database of a connection.
 fn created<S: Alter + Drop>(
     alloc: Global,
@@ -68,6 +74,14 @@ impl<S: Alter + Drop> Shelf for Connection<S> {
 
     fn put(book: SqlBook<S>) -> (Connection<S>, bool) {
         (book.into_connection(), true)
+    }
+}
+
+impl<S: Alter + Drop> Changing for Connection<S> {
+    fn changed(self, rt: &impl Abort, sql: &str) -> Connection<S> {
+        let mut conn = self;
+        conn.execute_batch(sql).expect(rt, "a change");
+        conn
     }
 }
 
