@@ -15,7 +15,7 @@ use std::alloc::AllocError;
 use thiserror::Error;
 
 /// Why a command did not do what it was asked, as it is printed.
-#[derive(Clone, Copy, Debug, PartialEq, Eq, Error)]
+#[derive(Clone, Copy, Debug, Error)]
 pub(crate) enum Fault<'a> {
     /// The file or the plan at this path is not there, can't be read, or is no database.
     #[error("cannot open {0}")]

@@ -68,19 +68,24 @@ fn seed<'a>(rt: &HostRuntime, path: &'a str) -> Result<u64, Fault<'a>> {
     }
 }
 
-fn connect<'a>(
-    rt: &HostRuntime,
-    path: &'a str,
-    found: Found,
-) -> Result<Connection<Store>, Fault<'a>>
+// Whether a desk is to be made in what there is, which it never is where only one that is there is looked at.
+fn is_new<'a>(found: Found, makes: bool, path: &'a str) -> Result<bool, Fault<'a>> {
+    match found {
+        Found::Bytes(_) => Ok(false),
+        _ if makes => Ok(true),
+        Found::Nothing => Err(Fault::CannotOpen(path)),
+        Found::NoBytes => Err(Fault::WrongVersion(0)),
+    }
+}
+
+// A connection to the files at a path.
+fn open_connection<'a>(rt: &HostRuntime, path: &'a str) -> Result<Connection<Store>, Fault<'a>>
     ensures { IfOk result (λ conn. conn.in_transaction ≡ false) }
 {
-    if let Found::Bytes(len) = found {
-        announce(rt, path, len);
-    }
+    let [first, second] = [seed(rt, path)?, seed(rt, path)?];
     let files = open_pair(rt, path, Unknown)?;
-    let mut files = begun(rt.alloc(), files, seed(rt, path)?, path)?;
-    let options = options(&mut files, seed(rt, path)?, path)?;
+    let mut files = begun(rt.alloc(), files, first, path)?;
+    let options = options(&mut files, second, path)?;
     match Connection::open_files(rt.alloc(), files, options) {
         Ok(conn) => Ok(conn),
         Err((Error::SqliteFailure(ErrorCode::OutOfMemory), _)) => Err(Fault::NoMemory),
@@ -88,31 +93,23 @@ fn connect<'a>(
     }
 }
 
-/// A connection to the file at a path, and whether there was none, or one of no bytes.
-pub(crate) fn connect_or_create<'a>(
+/// A connection to the file at a path, and whether there was none, or one of no bytes: these are refused where no desk
+/// is to be made.
+pub(crate) fn connect<'a>(
     rt: &HostRuntime,
     path: &'a str,
+    makes: bool,
 ) -> Result<(Connection<Store>, bool), Fault<'a>>
     ensures { IfOk result (λ found. found.0.in_transaction ≡ false) }
 {
     let found = look(rt, path)?;
-    let is_new = !matches!(found, Found::Bytes(_));
-    let conn = connect(rt, path, found)?;
-    Ok((conn, is_new))
-}
-
-/// A connection to the file at a path, which it never makes.
-pub(crate) fn connect_to<'a>(
-    rt: &HostRuntime,
-    path: &'a str,
-) -> Result<Connection<Store>, Fault<'a>>
-    ensures { IfOk result (λ conn. conn.in_transaction ≡ false) }
-{
-    let found = look(rt, path)?;
-    match found {
-        Found::Nothing => Err(Fault::CannotOpen(path)),
-        Found::NoBytes => Err(Fault::WrongVersion(0)),
-        Found::Bytes(_) => connect(rt, path, found),
+    let is_new = is_new(found, makes, path)?;
+    if let Found::Bytes(len) = found {
+        announce(rt, path, len);
+    }
+    match open_connection(rt, path) {
+        Ok(conn) => Ok((conn, is_new)),
+        Err(fault) => Err(fault),
     }
 }
 

@@ -4,10 +4,9 @@ ghost use Rattle.std.specs.Prelude.{◌≡◌, ◌≢◌, ◌≤◌, ◌⊎◌, 
 ghost use Rattle.acd_program.specs.Statuses.{IsDone, TellsConnections, finding_status};
 
 use crate::auditing::Finding;
-use crate::connection::lines_over_connection;
-use crate::desk::{Reading, audit, import_requests, read};
+use crate::desk::{BookWork, Done, Work, over_database};
 use crate::fault::Fault;
-use crate::file::{close_connection, connect_or_create, connect_to};
+use crate::file::{close_connection, connect};
 use crate::memory::lines_over_memory;
 use crate::plan::read_plan;
 use crate::serving::serve;
@@ -29,60 +28,34 @@ const DIFFERS: u8 = 3;
 
 const OPEN_ELSEWHERE: u8 = 4;
 
-// What ended the lines goes before what closing the file found.
-fn lines_over_file<'a, R: Read, W: Write>(
+// Does it over the file, closes it, and prints what is left.
+fn work_in<'a, R: Read, W: Write>(
     rt: &HostRuntime,
     file: &'a str,
-    ends_on_store_fault: bool,
+    makes: bool,
+    work: Work<'_>,
     reader: &mut R,
     writer: &mut W,
-) -> Result<(), Fault<'a>> {
-    let (conn, is_new) = connect_or_create(rt, file)?;
-    let (done, conn) = lines_over_connection(
-        rt.alloc(),
-        conn,
-        is_new,
-        ends_on_store_fault,
-        reader,
-        writer,
-    );
-    let closed = close_connection(conn);
-    done?;
-    closed
+) -> Result<u8, Fault<'a>>
+    ensures { IfOk result IsDone }
+{
+    let (conn, is_new) = connect(rt, file, makes)?;
+    let (done, conn) = over_database(rt, conn, is_new, work, reader, writer);
+    print_done(done, close_connection(conn), writer)
 }
 
-fn import_plan<'a, W: Write>(
+fn import_plan<'a, R: Read, W: Write>(
     rt: &HostRuntime,
     file: &'a str,
     plan: &'a str,
+    reader: &mut R,
     writer: &mut W,
-) -> Result<(), Fault<'a>> {
+) -> Result<u8, Fault<'a>>
+    ensures { IfOk result IsDone }
+{
     let requests = read_plan(rt, plan)?;
-    let (conn, is_new) = connect_or_create(rt, file)?;
-    let (done, conn) = import_requests(rt.alloc(), conn, is_new, &requests, writer);
-    let closed = close_connection(conn);
-    done?;
-    closed
-}
-
-// Closes the file, and then prints what was read of its desk.
-fn print_read<'a, W: Write>(
-    rt: &HostRuntime,
-    file: &'a str,
-    reading: Reading,
-    writer: &mut W,
-) -> Result<(), Fault<'a>> {
-    let conn = connect_to(rt, file)?;
-    let (found, conn) = read(rt.alloc(), conn, reading);
-    let closed = close_connection(conn);
-    match found {
-        Ok(Some(text)) => match writer.write_all(text.as_bytes()) {
-            Ok(()) => closed,
-            Err(_) => Err(Fault::Write),
-        },
-        Ok(None) => closed,
-        Err(fault) => Err(fault),
-    }
+    let work = Work::Book(BookWork::Import(&requests));
+    work_in(rt, file, true, work, reader, writer)
 }
 
 fn serve_file<'a, W: Write, E: Write>(
@@ -95,7 +68,7 @@ fn serve_file<'a, W: Write, E: Write>(
 ) -> Result<(), Fault<'a>>
     ensures { OnOk result (TellsConnections (E.contents errors.old) (E.contents errors.new)) }
 {
-    let (conn, is_new) = connect_or_create(rt, file)?;
+    let (conn, is_new) = connect(rt, file, true)?;
     let (done, conn) = serve(rt, conn, is_new, port, connections, writer, errors);
     let closed = close_connection(conn);
     match done {
@@ -131,33 +104,35 @@ fn print_finding<'a, W: Write>(found: Finding, writer: &mut W) -> Result<u8, Fau
     }
 }
 
-fn print_audited<'a, W: Write>(
-    found: Result<Finding, Fault<'a>>,
+// What is left of the work.
+fn print<'a, W: Write>(done: Done, writer: &mut W) -> Result<u8, Fault<'a>>
+    ensures { IfOk result IsDone }
+{
+    match done {
+        Done::Nothing => Ok(SUCCESS),
+        Done::Told(text) => match writer.write_all(text.as_bytes()) {
+            Ok(()) => Ok(SUCCESS),
+            Err(_) => Err(Fault::Write),
+        },
+        Done::Audited(found) => print_finding(found, writer),
+    }
+}
+
+// What ended the work goes before what printing met, and that before what closing the file found.
+fn print_done<'a, W: Write>(
+    done: Result<Done, Fault<'a>>,
     closed: Result<(), Fault<'a>>,
     writer: &mut W,
 ) -> Result<u8, Fault<'a>>
     ensures { IfOk result IsDone }
 {
-    match found {
-        Ok(found) => match print_finding(found, writer) {
+    match done {
+        Ok(done) => match print(done, writer) {
             Ok(status) => after(status, closed),
             Err(fault) => Err(fault),
         },
         Err(fault) => Err(fault),
     }
-}
-
-fn audit_file<'a, W: Write>(
-    rt: &HostRuntime,
-    file: &'a str,
-    counts: bool,
-    writer: &mut W,
-) -> Result<u8, Fault<'a>>
-    ensures { IfOk result IsDone }
-{
-    let conn = connect_to(rt, file)?;
-    let (found, conn) = audit(rt, conn, counts);
-    print_audited(found, close_connection(conn), writer)
 }
 
 // The status, where no fault ended the work.
@@ -189,10 +164,12 @@ fn execute<'a, R: Read, W: Write, E: Write>(
         Task::Lines {
             file: Some(file),
             ends_on_store_fault,
-        } => after(
-            SUCCESS,
-            lines_over_file(rt, file, ends_on_store_fault, reader, writer),
-        ),
+        } => {
+            let work = Work::Lines {
+                ends_on_store_fault,
+            };
+            work_in(rt, file, true, work, reader, writer)
+        }
         Task::Serve {
             file,
             port,
@@ -201,10 +178,8 @@ fn execute<'a, R: Read, W: Write, E: Write>(
             serve_file(rt, file, port, connections, writer, errors)?;
             Ok(SUCCESS)
         }
-        Task::Import { file, plan } => after(SUCCESS, import_plan(rt, file, plan, writer)),
-        Task::Report { file } => after(SUCCESS, print_read(rt, file, Reading::Report, writer)),
-        Task::Export { file } => after(SUCCESS, print_read(rt, file, Reading::Export, writer)),
-        Task::Audit { file, counts } => audit_file(rt, file, counts, writer),
+        Task::Import { file, plan } => import_plan(rt, file, plan, reader, writer),
+        Task::Read { file, work } => work_in(rt, file, false, Work::Book(work), reader, writer),
     }
 }
 

@@ -3,7 +3,7 @@
 ghost use Rattle.std.specs.Prelude.{◌≡◌, false, OnOk};
 ghost use Rattle.acd_program.specs.Statuses.{TellsConnections};
 
-use crate::desk::desk_over;
+use crate::connection::book_over;
 use crate::fault::Fault;
 use acd_book::Book;
 use acd_desk::Desk;
@@ -67,6 +67,24 @@ fn serve_desk<'a, B: Book, W: Write, E: Write>(
     answer(rt, &listener, desk, connections, errors)
 }
 
+fn serve_book<'a, B: Book, W: Write, E: Write>(
+    rt: &HostRuntime,
+    book: B,
+    port: u16,
+    connections: u32,
+    writer: &mut W,
+    errors: &mut E,
+) -> (Result<(), Fault<'a>>, B)
+    ensures { OnOk result.0 (TellsConnections (E.contents errors.old) (E.contents errors.new)) }
+{
+    let mut desk = match Desk::open(rt.alloc(), book) {
+        Ok(desk) => desk,
+        Err((fault, book)) => return (Err(Fault::from(fault)), book),
+    };
+    let done = serve_desk(rt, &mut desk, port, connections, writer, errors);
+    (done, desk.close())
+}
+
 /// Serves so many connections over the desk of a database, which is made where there is none and one is to be made.
 /// The faults of connections are lines on `errors`.
 pub(crate) fn serve<'a, S: Alter, W: Write, E: Write>(
@@ -81,10 +99,10 @@ pub(crate) fn serve<'a, S: Alter, W: Write, E: Write>(
     requires { conn.in_transaction ≡ false }
     ensures { OnOk result.0 (TellsConnections (E.contents errors.old) (E.contents errors.new)) }
 {
-    let mut desk = match desk_over(rt.alloc(), conn, makes) {
-        Ok(desk) => desk,
-        Err((fault, conn)) => return (Err(fault), conn),
+    let book = match book_over(rt.alloc(), conn, makes) {
+        Ok(book) => book,
+        Err((fault, conn)) => return (Err(Fault::from(fault)), conn),
     };
-    let done = serve_desk(rt, &mut desk, port, connections, writer, errors);
-    (done, desk.close().into_connection())
+    let (done, book) = serve_book(rt, book, port, connections, writer, errors);
+    (done, book.into_connection())
 }

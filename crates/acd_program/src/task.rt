@@ -1,5 +1,6 @@
 //! What a command line asks for.
 
+use crate::desk::{BookWork, Telling};
 use clap::builder::ValueParser;
 use clap::error::ErrorKind;
 use clap::{Arg, ArgAction, ArgMatches, Command, Error};
@@ -25,18 +26,10 @@ pub(crate) enum Task<'a> {
         file: &'a str,
         plan: &'a str,
     },
-    /// Print the queue report.
-    Report {
+    /// Print what is told of the desk in a file: the queue report, all event reports, or what an audit finds.
+    Read {
         file: &'a str,
-    },
-    /// Print all event reports.
-    Export {
-        file: &'a str,
-    },
-    /// Run the kept requests again, and compare what they give with the file.
-    Audit {
-        file: &'a str,
-        counts: bool,
+        work: BookWork<'a>,
     },
 }
 
@@ -173,18 +166,12 @@ fn audit_command<'a>(alloc: Global) -> Result<Command<'a>, AllocError> {
         ))
 }
 
-// The commands that execute requests.
-fn executing_commands<'a>(alloc: Global, acd: Command<'a>) -> Result<Command<'a>, AllocError> {
-    acd.subcommand(lines_command(alloc)?)?
-        .subcommand(serve_command(alloc)?)?
-        .subcommand(import_command(alloc)?)
-}
-
-// The commands that read a file.
-fn reading_commands<'a>(alloc: Global, acd: Command<'a>) -> Result<Command<'a>, AllocError> {
-    acd.subcommand(report_command(alloc)?)?
-        .subcommand(export_command(alloc)?)?
-        .subcommand(audit_command(alloc)?)
+// The command with one more below it.
+fn with<'a>(
+    acd: Result<Command<'a>, AllocError>,
+    made: Result<Command<'a>, AllocError>,
+) -> Result<Command<'a>, AllocError> {
+    acd?.subcommand(made?)
 }
 
 fn all_commands<'a>(alloc: Global) -> Result<Command<'a>, AllocError> {
@@ -192,7 +179,12 @@ fn all_commands<'a>(alloc: Global) -> Result<Command<'a>, AllocError> {
         .version(VERSION)
         .about("The desk of a help line: an automatic call distributor")
         .subcommand_required(true);
-    reading_commands(alloc, executing_commands(alloc, acd)?)
+    let acd = with(Ok(acd), lines_command(alloc));
+    let acd = with(acd, serve_command(alloc));
+    let acd = with(acd, import_command(alloc));
+    let acd = with(acd, report_command(alloc));
+    let acd = with(acd, export_command(alloc));
+    with(acd, audit_command(alloc))
 }
 
 fn lines_of<'a>(options: &ArgMatches<'a>) -> Task<'a> {
@@ -217,12 +209,12 @@ fn import_of<'a>(options: &ArgMatches<'a>) -> Option<Task<'a>> {
     })
 }
 
-// The task of a command that needs a file, or None where it is missing.
-fn reading_of<'a>(command: &str, file: &'a str, counts: bool) -> Option<Task<'a>> {
+// What is read of the desk in a file.
+fn reading_of<'a>(command: &str, counts: bool) -> Option<BookWork<'a>> {
     match command {
-        "report" => Some(Task::Report { file }),
-        "export" => Some(Task::Export { file }),
-        "audit" => Some(Task::Audit { file, counts }),
+        "report" => Some(BookWork::Tell(Telling::Report)),
+        "export" => Some(BookWork::Tell(Telling::Export)),
+        "audit" => Some(BookWork::Audit { counts }),
         _ => None,
     }
 }
@@ -233,17 +225,29 @@ fn task_in<'a>(matches: &ArgMatches<'a>) -> Option<Task<'a>> {
         "lines" => Some(lines_of(options)),
         "serve" => serving_of(options),
         "import" => import_of(options),
-        _ => reading_of(command, options.get_str(FILE)?, options.get_flag(COUNT)),
+        _ => Some(Task::Read {
+            file: options.get_str(FILE)?,
+            work: reading_of(command, options.get_flag(COUNT))?,
+        }),
     }
+}
+
+// The task of the words, or None where they name no command.
+fn chosen<'a, S: AsStr>(
+    commands: &mut Command<'a>,
+    words: &'a [S],
+) -> Result<Option<Task<'a>>, Error> {
+    let matches = commands.try_get_matches_from_mut(words)?;
+    Ok(task_in(&matches))
 }
 
 /// What the words ask for; the first is the program's name. The other outcome is a text to print, which may be
 /// the help that was asked for.
 pub(crate) fn parse<'a, S: AsStr>(alloc: Global, words: &'a [S]) -> Result<Task<'a>, Error> {
     let mut commands = all_commands(alloc)?;
-    let matches = commands.try_get_matches_from_mut(words)?;
-    match task_in(&matches) {
-        Some(task) => Ok(task),
-        None => Err(commands.error(ErrorKind::MissingSubcommand, "no command")?),
+    match chosen(&mut commands, words) {
+        Ok(Some(task)) => Ok(task),
+        Ok(None) => Err(commands.error(ErrorKind::MissingSubcommand, "no command")?),
+        Err(error) => Err(error),
     }
 }
