@@ -39,9 +39,9 @@ WANTED = {"tick with several overdue offers": 8, "several offers after one reque
 UNREACHED = {"tooManyCalls", "planFull"}  # the limits are greater than this office
 
 # an office and how long it is watched: wanted is what has to come up, and named the refusals that have to
-Size = namedtuple("Size", "seed requests repeats reused live_calls wild groups stations agents wanted named")
-DAY = Size(3000, 3000, 300, 10, 60, 3, GROUPS, STATIONS, AGENTS, WANTED, set(REFUSALS) - UNREACHED)
-MORNING = Size(12, 280, 5, 2, 8, 8, GROUPS[2:6], STATIONS[::5], AGENTS[::5], dict.fromkeys(WANTED, 1), DAY.named)
+Size = namedtuple("Size", "seed requests repeats reused live_calls wild signs groups stations agents wanted named")
+DAY = Size(3000, 3000, 300, 10, 60, 3, "\"\\", GROUPS, STATIONS, AGENTS, WANTED, set(REFUSALS) - UNREACHED)
+MORNING = Size(12, 280, 5, 2, 8, 8, "'/", GROUPS[2:6], STATIONS[::5], AGENTS[::5], dict.fromkeys(WANTED, 1), DAY.named)
 COLUMNS = "number,moment,event,call,device,agent,group,to,cause,waited".split(",")
 
 
@@ -153,12 +153,14 @@ class Office:
     # requests
 
     def open(self):
+        quote, slash = self.size.signs
         for device, ring, wrap in self.size.groups:
-            self.ask(PLANNER, "addGroup", device=device, name=f"Group {device} \"of\" the help line"[:40], ring=ring, wrap=wrap)
+            name = f"Group {device} {quote}of{quote} the help line"[:40]
+            self.ask(PLANNER, "addGroup", device=device, name=name, ring=ring, wrap=wrap)
         for station in self.station_names:
             self.ask(PLANNER, "addStation", device=station)
         for agent in self.agent_names:
-            self.ask(PLANNER, "addAgent", agent=agent, name=f"Agent {agent} \\ of the help line office \\"[:40])
+            self.ask(PLANNER, "addAgent", agent=agent, name=f"Agent {agent} {slash} of the help line office {slash}"[:40])
         for place, (agent, station) in enumerate(zip(self.rng.sample(self.agent_names, len(self.agent_names)), self.station_names)):
             self.ask(self.desk_name(), "setAgentState", agent=agent, requested="loggedOn", device=station,
                      group=self.group_names[place % len(self.group_names)])
@@ -377,10 +379,16 @@ def asked(given, reply):
 SCENE = """\
 //! A morning in a small office, as bench/office.py foresees it.
 
-/// The lines of a [script](crate::script).
-pub fn lines() -> &'static str {
+/// The first lines of a [script](crate::script).
+pub fn first_lines() -> &'static str {
     r#"part morning
 %s
+"#
+}
+
+/// The lines behind them: in two texts each takes less to prove.
+pub fn last_lines() -> &'static str {
+    r#"%s
 
 scene morning: morning
 "#
@@ -391,7 +399,9 @@ def scene(office):
     lines = []
     for given, reply, made in zip(office.given, office.wanted, office.made):
         lines += [asked(given, reply), *(f"! {compact(event)}" for event in made)]
-    print(SCENE % "\n".join([*lines, *(f"= {line}" for line in office.held())]))
+    lines += [f"= {line}" for line in office.held()]
+    half = len(lines) // 2
+    print(SCENE % ("\n".join(lines[:half]), "\n".join(lines[half:])))
 
 
 def records(office):

@@ -4,7 +4,7 @@ use crate::exports;
 use crate::look_ups::same;
 use crate::player::{ALL, events_of, rows_of};
 use crate::reference::Reference;
-use crate::sessions::{Scene, answers_so, arrivals, opened, requests, requests_at};
+use crate::sessions::{answers, answers_so, arrivals, opened, requests, requests_at};
 use crate::texts::{joined, push};
 use acd_book::{Book, BookFault, Kept, Text};
 use acd_desk::Desk;
@@ -88,13 +88,25 @@ fn compare_told<B: Book + Drop>(rt: &impl Abort, alloc: Global, book: B, events:
     desk.close()
 }
 
+// All requests, at their moments and at the greatest one.
+fn requests_again(rt: &impl Abort, alloc: Global, texts: &[&str]) -> String {
+    let mut input = requests(rt, alloc, texts);
+    let later = requests_at(rt, alloc, input.as_str(), AT_LAST);
+    push(rt, &mut input, &[later.as_str()]);
+    input
+}
+
+// Their answers.
+fn answers_again(rt: &impl Abort, alloc: Global, texts: &[&str]) -> String {
+    let output = answers(rt, alloc, texts);
+    joined(rt, alloc, &[output.as_str(), output.as_str()])
+}
+
 // One desk is sent all requests again, at the moments and at the greatest one: each gets its answer.
 fn send_again<B: Book + Drop>(rt: &impl Abort, alloc: Global, book: B, texts: &[&str]) -> B {
-    let mut scene = Scene::new(rt, alloc, texts);
-    let later = requests_at(rt, alloc, scene.input.as_str(), AT_LAST);
-    push(rt, &mut scene.input, &[later.as_str()]);
-    let again = joined(rt, alloc, &[scene.output.as_str(), scene.output.as_str()]);
-    answers_so(rt, alloc, book, scene.input.as_str(), again.as_str())
+    let input = requests_again(rt, alloc, texts);
+    let output = answers_again(rt, alloc, texts);
+    answers_so(rt, alloc, book, input.as_str(), output.as_str())
 }
 
 /// The rows and events of a book.
@@ -104,17 +116,33 @@ pub fn held_by<B: Book>(rt: &impl Abort, book: &mut B) -> Held {
     (rows_of(rt, book), events_of(rt, book, 0))
 }
 
+fn same_held(rt: &impl Abort, found: &Held, wanted: &Held) {
+    same(rt, &found.0, &wanted.0);
+    same(rt, &found.1, &wanted.1);
+}
+
+// The book holds that.
+fn expect_held<B: Book>(rt: &impl Abort, book: &mut B, held: &Held) {
+    same_held(rt, &held_by(rt, book), held);
+}
+
+// The book has what was held before, and its reads give it.
+fn compare_kept<B: Book>(rt: &impl Abort, book: B, held: &Held) -> B {
+    let mut book = book;
+    compare_reads(rt, &mut book, &held.0);
+    expect_held(rt, &mut book, held);
+    book
+}
+
 /// All requests that are sent again get their answers, and change nothing. The desk tells and exports all events. What
 /// it reads of its rows gives them back, and so does a copy of them.
 pub fn compare<B: Book + Drop>(rt: &impl Abort, alloc: Global, book: B, texts: &[&str]) -> B {
     let mut book = book;
     let held = held_by(rt, &mut book);
     let book = send_again(rt, alloc, book, texts);
-    let mut book = compare_told(rt, alloc, book, &held.1);
+    let book = compare_told(rt, alloc, book, &held.1);
     compare_loaded(rt, alloc, &held.0);
-    compare_reads(rt, &mut book, &held.0);
-    same(rt, &held_by(rt, &mut book), &held);
-    book
+    compare_kept(rt, book, &held)
 }
 
 /// A kept record, the first one.
@@ -157,7 +185,7 @@ pub fn expect_committed<B: Book + Drop>(
         &committed(&mut book, &held.0, &held.1, &record),
         &Ok(()),
     );
-    same(rt, &held_by(rt, &mut book), held);
+    expect_held(rt, &mut book, held);
     same(
         rt,
         &committed(&mut book, &held.0, &[], &record),
@@ -187,5 +215,5 @@ pub fn expect_run<B: Book + Drop>(
     let input = requests(rt, alloc, texts);
     let arrivals = arrivals(rt, alloc, input.as_str());
     let mut book = ran(rt, alloc, book, &arrivals);
-    same(rt, &held_by(rt, &mut book), held);
+    expect_held(rt, &mut book, held);
 }

@@ -43,12 +43,18 @@ fn value<'a>(members: &'a str, name: &str) -> &'a str {
     ""
 }
 
+// What stands before the value at this place, from 0.
+fn between(place: usize) -> &'static str {
+    match place {
+        0 => "",
+        _ => ",",
+    }
+}
+
 // The record of an event: the values of its members.
 fn add_record(rt: &impl Abort, records: &mut String, members: &str) {
-    let mut between = "";
-    for name in HEADER.split(',') {
-        push_both(rt, records, between, value(members, name));
-        between = ",";
+    for (place, name) in HEADER.split(',').enumerate() {
+        push_both(rt, records, between(place), value(members, name));
     }
     push(rt, records, &["\n"]);
 }
@@ -83,11 +89,9 @@ pub fn compare<B: Book>(rt: &impl Abort, alloc: Global, desk: &mut Desk<B>, even
 // A page of these events.
 fn page_of(rt: &impl Abort, alloc: Global, events: &[Event], last: u64) -> String {
     let mut page = joined(rt, alloc, &["{\"events\":["]);
-    let mut between = "";
-    for event in events {
+    for (place, event) in events.iter().enumerate() {
         let report = report(rt, alloc, event);
-        push_both(rt, &mut page, between, report.as_str());
-        between = ",";
+        push_both(rt, &mut page, between(place), report.as_str());
     }
     let end = format!(in alloc; "],\"last\":{last}}}").expect(rt, "memory");
     push(rt, &mut page, &[end.as_str()]);

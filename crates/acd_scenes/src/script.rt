@@ -16,7 +16,7 @@
 //! | `altered NAME: PART` | is taken by a book whose database is then changed by each of its lines `~ TOLD SQL` ([`altered`](crate::altered)) |
 
 use crate::altered::database;
-use crate::ends::{expect_committed, expect_run, held_by};
+use crate::ends::{Held, expect_committed, expect_run, held_by};
 use crate::player::play;
 use crate::shelf::taken;
 use crate::texts::{halves, joined, number, push};
@@ -36,26 +36,29 @@ struct Part<'a> {
     text: String,
 }
 
-// Over the first of three new books. The second takes what it then holds by one commit, and the third by one session.
+// Over a new book. Answers what it then holds, or where that isn't what happens.
 fn played_over<B: Book + Drop>(
     rt: &impl Abort,
     alloc: Global,
-    books: (B, B, B),
-    refused: BookFault,
+    book: B,
     texts: &[&str],
-) -> Option<String> {
-    let (book, copy, other) = books;
+) -> Result<Held, String> {
     let (mut book, wrong) = play(rt, alloc, book, texts);
-    if wrong.is_none() {
-        let held = held_by(rt, &mut book);
-        expect_committed(rt, alloc, copy, &held, refused);
-        expect_run(rt, alloc, other, texts, &held);
+    match wrong {
+        None => Ok(held_by(rt, &mut book)),
+        Some(wrong) => Err(wrong),
     }
-    wrong
 }
 
 fn book_in_memory(alloc: Global, limits: Limits) -> MemoryBook {
     MemoryBook::new(alloc, limits)
+}
+
+// Another new book takes what one holds by one commit, and a third one by one session.
+fn again_in_memory(rt: &impl Abort, alloc: Global, limits: Limits, texts: &[&str], held: &Held) {
+    let refused = BookFault::NoMemory;
+    expect_committed(rt, alloc, book_in_memory(alloc, limits), held, refused);
+    expect_run(rt, alloc, book_in_memory(alloc, limits), texts, held);
 }
 
 // Over new books in memory with these limits.
@@ -65,16 +68,28 @@ fn played_in_memory(
     limits: Limits,
     texts: &[&str],
 ) -> Option<String> {
-    let books = (
-        book_in_memory(alloc, limits),
-        book_in_memory(alloc, limits),
-        book_in_memory(alloc, limits),
-    );
-    played_over(rt, alloc, books, BookFault::NoMemory, texts)
+    match played_over(rt, alloc, book_in_memory(alloc, limits), texts) {
+        Ok(held) => again_in_memory(rt, alloc, limits, texts, &held),
+        Err(wrong) => return Some(wrong),
+    }
+    None
 }
 
 fn book_in_database(rt: &impl Abort, alloc: Global, limits: Limits) -> SqlBook<MemStore> {
     taken(rt, alloc, database(rt, alloc), Some(limits))
+}
+
+// The same over books in databases.
+fn again_in_database(rt: &impl Abort, alloc: Global, limits: Limits, texts: &[&str], held: &Held) {
+    let refused = BookFault::Store;
+    expect_committed(
+        rt,
+        alloc,
+        book_in_database(rt, alloc, limits),
+        held,
+        refused,
+    );
+    expect_run(rt, alloc, book_in_database(rt, alloc, limits), texts, held);
 }
 
 // And over books in databases.
@@ -84,12 +99,11 @@ fn played_in_database(
     limits: Limits,
     texts: &[&str],
 ) -> Option<String> {
-    let books = (
-        book_in_database(rt, alloc, limits),
-        book_in_database(rt, alloc, limits),
-        book_in_database(rt, alloc, limits),
-    );
-    played_over(rt, alloc, books, BookFault::Store, texts)
+    match played_over(rt, alloc, book_in_database(rt, alloc, limits), texts) {
+        Ok(held) => again_in_database(rt, alloc, limits, texts, &held),
+        Err(wrong) => return Some(wrong),
+    }
+    None
 }
 
 // Over both. Answers where that isn't what happens.
@@ -155,15 +169,23 @@ fn request(rt: &impl Abort, alloc: Global, json: &str) -> Request {
     read_request(alloc, json.as_bytes()).expect(rt, "a request")
 }
 
+// The members of a reply that tell its request.
+fn key_of(rt: &impl Abort, alloc: Global, json: &str) -> String {
+    let request = request(rt, alloc, json);
+    let (invoke, requester) = (request.invoke.number(), request.requester.as_str());
+    let members = format!(in alloc; "\"invoke\":{invoke},\"requester\":\"{requester}\"");
+    members.expect(rt, "memory")
+}
+
 // The lines of a refusal.
 fn refusal(rt: &impl Abort, alloc: Global, said: &str) -> String {
     let (moment, said) = halves(rt, said);
     let (code, said) = halves(rt, said);
     let (name, json) = halves(rt, said);
-    let request = request(rt, alloc, json);
-    let (invoke, requester) = (request.invoke.number(), request.requester.as_str());
+    let key = key_of(rt, alloc, json);
     let lines = format!(in alloc;
-        "> {moment} {json}\n< 409 {{\"error\":{{\"code\":{code},\"name\":\"{name}\"}},\"invoke\":{invoke},\"requester\":\"{requester}\"}}\n"
+        "> {moment} {json}\n< 409 {{\"error\":{{\"code\":{code},\"name\":\"{name}\"}},{}}}\n",
+        key.as_str()
     );
     lines.expect(rt, "memory")
 }
@@ -172,10 +194,10 @@ fn refusal(rt: &impl Abort, alloc: Global, said: &str) -> String {
 fn granted(rt: &impl Abort, alloc: Global, said: &str) -> String {
     let (moment, said) = halves(rt, said);
     let (result, json) = halves(rt, said);
-    let request = request(rt, alloc, json);
-    let (invoke, requester) = (request.invoke.number(), request.requester.as_str());
+    let key = key_of(rt, alloc, json);
     let lines = format!(in alloc;
-        "> {moment} {json}\n< 200 {{\"invoke\":{invoke},\"requester\":\"{requester}\",\"result\":{result}}}\n"
+        "> {moment} {json}\n< 200 {{{},\"result\":{result}}}\n",
+        key.as_str()
     );
     lines.expect(rt, "memory")
 }
@@ -215,16 +237,14 @@ fn values_of(rt: &impl Abort, alloc: Global, number: u64, behind: u64) -> String
     values.expect(rt, "memory")
 }
 
-// The lines of this number. Its reports aren't listed.
+// The lines of this number.
 fn granted_to(rt: &impl Abort, alloc: Global, said: &str, number: u64, behind: u64) -> String {
     let values = values_of(rt, alloc, number, behind);
     let said = filled(rt, alloc, said, values.as_str());
-    let mut lines = granted(rt, alloc, said.as_str());
-    push(rt, &mut lines, &["! *\n"]);
-    lines
+    granted(rt, alloc, said.as_str())
 }
 
-// The lines of as many requests.
+// The lines of as many requests. Their reports aren't listed.
 fn add_each(rt: &impl Abort, alloc: Global, text: &mut String, said: &str) {
     let (first, said) = halves(rt, said);
     let (last, said) = halves(rt, said);
@@ -232,7 +252,7 @@ fn add_each(rt: &impl Abort, alloc: Global, text: &mut String, said: &str) {
     let (first, last, behind) = (number(rt, first), number(rt, last), number(rt, behind));
     for number in first..last.saturating_add(1) {
         let lines = granted_to(rt, alloc, said, number, behind);
-        push(rt, text, &[lines.as_str()]);
+        push(rt, text, &[lines.as_str(), "! *\n"]);
     }
 }
 

@@ -1,12 +1,12 @@
 //! A morning in a small office, as bench/office.py foresees it.
 
-/// The lines of a [script](crate::script).
-pub fn lines() -> &'static str {
+/// The first lines of a [script](crate::script).
+pub fn first_lines() -> &'static str {
     r#"part morning
-+ 0 {} {"requester":"planning-of-the-help-line-office","invoke":1,"service":"addGroup","device":"0100","name":"Group 0100 \"of\" the help line","ring":15,"wrap":20}
-+ 1 {} {"requester":"planning-of-the-help-line-office","invoke":2,"service":"addGroup","device":"110","name":"Group 110 \"of\" the help line","ring":30,"wrap":45}
-+ 0000000001 {} {"note": [1, {"to": null}], "ring": 20, "service": "addGroup", "device": "9", "wrap": 0, "requester": "planning-of-the-help-line-office", "name": "Group 9 \"of\" the help line", "invoke": 3}
-+ 2 {} {"requester":"planning-of-the-help-line-office","invoke":4,"service":"addGroup","device":"120","name":"Group 120 \"of\" the help line","ring":0,"wrap":30}
++ 0 {} {"requester":"planning-of-the-help-line-office","invoke":1,"service":"addGroup","device":"0100","name":"Group 0100 'of' the help line","ring":15,"wrap":20}
++ 1 {} {"requester":"planning-of-the-help-line-office","invoke":2,"service":"addGroup","device":"110","name":"Group 110 'of' the help line","ring":30,"wrap":45}
++ 0000000001 {} {"note": [1, {"to": null}], "ring": 20, "service": "addGroup", "device": "9", "wrap": 0, "requester": "planning-of-the-help-line-office", "name": "Group 9 'of' the help line", "invoke": 3}
++ 2 {} {"requester":"planning-of-the-help-line-office","invoke":4,"service":"addGroup","device":"120","name":"Group 120 'of' the help line","ring":0,"wrap":30}
 + 5 {} {"requester":"planning-of-the-help-line-office","invoke":5,"service":"addStation","device":"201"}
 + 0000000005 {} { "note": [ 1, { "to": null } ], "service": "addStation", "device": "206", "requester": "planning-of-the-help-line-office", "invoke": 6 }
 + 7 {} {"requester":"planning-of-the-help-line-office","invoke":7,"service":"addStation","device":"211"}
@@ -15,14 +15,14 @@ pub fn lines() -> &'static str {
 + 7 {} {"requester":"planning-of-the-help-line-office","invoke":10,"service":"addStation","device":"0202"}
 + 0000000007 {} { "note": [ 1, { "to": null } ], "requester": "planning-of-the-help-line-office", "device": "0207", "invoke": 11, "service": "addStation" }
 + 7 {} {"requester":"planning-of-the-help-line-office","invoke":12,"service":"addStation","device":"300000000000003"}
-+ 10 {} {"requester":"planning-of-the-help-line-office","invoke":13,"service":"addAgent","agent":"1","name":"Agent 1 \\ of the help line office \\"}
-+ 12 {} {"requester":"planning-of-the-help-line-office","invoke":14,"service":"addAgent","agent":"6","name":"Agent 6 \\ of the help line office \\"}
-+ 12 {} {"requester":"planning-of-the-help-line-office","invoke":15,"service":"addAgent","agent":"11","name":"Agent 11 \\ of the help line office \\"}
-+ 15 {} {"requester":"planning-of-the-help-line-office","invoke":16,"service":"addAgent","agent":"16","name":"Agent 16 \\ of the help line office \\"}
-+ 18 {} {"requester":"planning-of-the-help-line-office","invoke":17,"service":"addAgent","agent":"01","name":"Agent 01 \\ of the help line office \\"}
-+ 18 {} {"requester":"planning-of-the-help-line-office","invoke":18,"service":"addAgent","agent":"06","name":"Agent 06 \\ of the help line office \\"}
-+ 18 {} {"requester":"planning-of-the-help-line-office","invoke":19,"service":"addAgent","agent":"900000000","name":"Agent 900000000 \\ of the help line offic"}
-+ 0000000018 {} {"note": [1, {"to": null}], "requester": "planning-of-the-help-line-office", "service": "addAgent", "agent": "900000005", "name": "Agent 900000005 \\ of the help line offic", "invoke": 20}
++ 10 {} {"requester":"planning-of-the-help-line-office","invoke":13,"service":"addAgent","agent":"1","name":"Agent 1 / of the help line office /"}
++ 12 {} {"requester":"planning-of-the-help-line-office","invoke":14,"service":"addAgent","agent":"6","name":"Agent 6 / of the help line office /"}
++ 12 {} {"requester":"planning-of-the-help-line-office","invoke":15,"service":"addAgent","agent":"11","name":"Agent 11 / of the help line office /"}
++ 15 {} {"requester":"planning-of-the-help-line-office","invoke":16,"service":"addAgent","agent":"16","name":"Agent 16 / of the help line office /"}
++ 18 {} {"requester":"planning-of-the-help-line-office","invoke":17,"service":"addAgent","agent":"01","name":"Agent 01 / of the help line office /"}
++ 18 {} {"requester":"planning-of-the-help-line-office","invoke":18,"service":"addAgent","agent":"06","name":"Agent 06 / of the help line office /"}
++ 18 {} {"requester":"planning-of-the-help-line-office","invoke":19,"service":"addAgent","agent":"900000000","name":"Agent 900000000 / of the help line offic"}
++ 0000000018 {} {"note": [1, {"to": null}], "requester": "planning-of-the-help-line-office", "service": "addAgent", "agent": "900000005", "name": "Agent 900000005 / of the help line offic", "invoke": 20}
 + 18 {"state":"notReady"} {"requester":"help-line-office-of-the-city-002","invoke":1,"service":"setAgentState","agent":"16","requested":"loggedOn","device":"201","group":"0100"}
 ! {"agent":"16","device":"201","event":"agentLoggedOn","group":"0100","moment":18,"number":1}
 + 18 {"state":"ready"} {"requester":"help-line-office-of-the-city-001","invoke":1,"service":"setAgentState","agent":"16","requested":"ready"}
@@ -379,7 +379,12 @@ pub fn lines() -> &'static str {
 + 186 {"pending":"workingAfterCall","state":"ready"} {"requester":"help-line-office-of-the-city-001","invoke":21,"service":"setAgentState","agent":"1","requested":"workingAfterCall"}
 + 186 {} {"requester":"help-line-office-of-the-city-003","invoke":29,"service":"deflectCall","call":2,"device":"9","to":"0100"}
 ! {"call":2,"cause":"deflected","device":"9","event":"diverted","group":"9","moment":186,"number":215,"to":"0100"}
-! {"call":2,"cause":"deflected","device":"0100","event":"queued","moment":186,"number":216}
+"#
+}
+
+/// The lines behind them: in two texts each takes less to prove.
+pub fn last_lines() -> &'static str {
+    r#"! {"call":2,"cause":"deflected","device":"0100","event":"queued","moment":186,"number":216}
 + 186 {"state":"ready"} {"requester":"help-line-office-of-the-city-003","invoke":30,"service":"setAgentState","agent":"6","requested":"ready"}
 ! {"agent":"6","device":"216","event":"agentReady","moment":186,"number":217}
 + 187 {} {"requester":"help-line-office-of-the-city-003","invoke":31,"service":"deflectCall","call":20,"device":"9","to":"120"}
@@ -582,7 +587,7 @@ pub fn lines() -> &'static str {
 - 280 5 wrongConnectionState {"requester":"help-line-office-of-the-city-003","invoke":37,"service":"answerCall","call":35,"device":"110"}
 + 280 {"state":"ready"} {"requester":"help-line-office-of-the-city-002","invoke":25,"service":"setAgentState","agent":"900000000","requested":"ready"}
 ! {"agent":"900000000","device":"206","event":"agentReady","moment":280,"number":345}
-+ 536 {} {"requester":"planning-of-the-help-line-office","invoke":20,"service":"addAgent","agent":"900000005","name":"Agent 900000005 \\ of the help line offic"}
++ 536 {} {"requester":"planning-of-the-help-line-office","invoke":20,"service":"addAgent","agent":"900000005","name":"Agent 900000005 / of the help line offic"}
 + 0000000280 {} { "note": [ 1, { "to": null } ], "requester": "help-line-office-of-the-city-004", "device": "216", "service": "answerCall", "invoke": 999999967, "call": 34 }
 ! {"call":34,"device":"216","event":"established","moment":280,"number":346}
 + 280 {"state":"ready"} {"requester":"help-line-office-of-the-city-004","invoke":999999966,"service":"setAgentState","agent":"900000000","requested":"ready"}
