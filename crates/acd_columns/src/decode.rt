@@ -184,12 +184,12 @@ pub fn counters_in(row: &Row) -> Option<Meta>
     })
 }
 
-// The values of the row of an event.
+/// The values of the row of an event, before it is asked what its columns say together.
 #[derive(Clone, Copy)]
-struct EventValues {
-    number: u64,
-    moment: u32,
-    columns: Columns,
+pub struct EventValues {
+    pub number: u64,
+    pub moment: u32,
+    pub columns: Columns,
 }
 
 // None where a value is out of its range; what the columns say together isn't asked.
