@@ -1,4 +1,4 @@
--- A row that is read as a record is that of the record.
+-- A value that is read in its range is the one that is kept.
 use Rattle.std.proofs.Common.{◌≡◌, ℕ, zero, suc, pos, negsuc, ◌==◌, nat_lt, length, List, [], ◌∷◌, Bool, true, false, not, cond, Option, Some, None, Result, Err, refl, sym, ap, subst, ◌∙◌, arith}
 use Rattle.std.specs.Prelude.{option_map, position}
 use Rattle.std.specs.Str.{is_utf8, IsUtf8}
@@ -17,21 +17,9 @@ use Rattle.acd_terms.specs.declared.state.Pending.{Pending}
 use Rattle.acd_terms.specs.declared.state.ConnectionState.{ConnectionState}
 use Rattle.acd_terms.specs.declared.event.EventKind.{EventKind}
 use Rattle.acd_terms.specs.declared.event.Cause.{Cause}
-use Rattle.acd_terms.specs.declared.rows.Limits.{Limits}
-use Rattle.acd_terms.specs.declared.record.Figures.{Figures}
-use Rattle.acd_terms.specs.declared.record.GroupRecord.{GroupRecord}
-use Rattle.acd_terms.specs.declared.record.StationRecord.{StationRecord}
-use Rattle.acd_terms.specs.declared.record.AgentRecord.{AgentRecord}
-use Rattle.acd_terms.specs.declared.record.CallRecord.{CallRecord}
-use Rattle.acd_terms.specs.declared.record.ConnectionRecord.{ConnectionRecord}
-use Rattle.acd_terms.specs.declared.record.MonitorRecord.{MonitorRecord}
 use Rattle.acd_laws.proofs.Lists.{find_passes}
-use Rattle.acd_columns.specs.Codes.{with_code, agent_states, pending_states, connection_states, causes, kinds, agent_state_of, pending_of, connection_state_of, kind_of, cause_of}
-use Rattle.acd_columns.specs.declared.meta.Meta.{Meta}
-use Rattle.acd_columns.specs.Decoding.{option_in}
-use Rattle.acd_columns.specs.Reading.{meta_shown}
-use Rattle.acd_columns.specs.Rows.{id_value, agent_code, pending_code, connection_code, kind_code, cause_code, group_values, station_values, agent_values, call_values, connection_values, monitor_values}
-use Rattle.acd_columns.specs.Ranges.{limits_at, counters_in, ◌>>=◌, text_of, is_null, text_at, whole_at, at_least, stamp_at, serial_at, moment_at, seconds_at, device_at, agent_at, name_at, agent_state_at, pending_at, connection_state_at, kind_at, cause_at, utf8_of, or_none, figures_at, group_in, station_in, agent_in, call_in, connection_in, monitor_in}
+use Rattle.acd_columns.specs.Codes.{with_code, agent_states, pending_states, connection_states, causes, kinds, agent_state_of, pending_of, connection_state_of, kind_of, cause_of, agent_code, pending_code, connection_code, kind_code, cause_code}
+use Rattle.acd_columns.specs.Values.{id_value, option_in, ◌>>=◌, text_of, is_null, text_at, whole_at, at_least, stamp_at, serial_at, moment_at, seconds_at, device_at, agent_at, name_at, agent_state_at, pending_at, connection_state_at, kind_at, cause_at, utf8_of, or_none}
 
 -- ---- UTF-8
 
@@ -199,126 +187,5 @@ all_cells (v ∷ r) = ap (λ l. v ∷ l) (shifted 0 (length r) v r ∙ all_cells
 pub row_is : (n : ℕ) (r : Row) → (length r == n) ≡ true → r ≡ cells 0 n r
 row_is n r h = subst (λ k. r ≡ cells 0 k r) (sym (code_same (length r) n h)) (sym (all_cells r))
 
--- ---- records
-
 pub beside : (u v : Value) (r s : Row) → u ≡ v → r ≡ s → u ∷ r ≡ v ∷ s
 beside u v r s e f = ap (λ x. x ∷ r) e ∙ ap (λ l. v ∷ l) f
-
-pub figures_stored : (r : Row) (a b c d e : ℕ) (f : Figures) → figures_at r a b c d e ≡ Some f
-    → (column r a ≡ id_value f.entered) × (column r b ≡ id_value f.answered) × (column r c ≡ id_value f.abandoned) × (column r d ≡ id_value f.moved) × (column r e ≡ id_value f.waited)
-unfolding figures_at
-figures_stored r a b c d e f h =
-    let entered = bound _ _ f h in
-    let answered = bound _ _ f entered.2 in
-    let abandoned = bound _ _ f answered.2 in
-    let moved = bound _ _ f abandoned.2 in
-    let waited = bound _ _ f moved.2 in
-    let same = some_same _ f waited.2 in (
-      whole_stored r a _ entered.1 ∙ ap (λ (x : Figures). id_value x.entered) same,
-      whole_stored r b _ answered.1 ∙ ap (λ (x : Figures). id_value x.answered) same,
-      whole_stored r c _ abandoned.1 ∙ ap (λ (x : Figures). id_value x.abandoned) same,
-      whole_stored r d _ moved.1 ∙ ap (λ (x : Figures). id_value x.moved) same,
-      whole_stored r e _ waited.1 ∙ ap (λ (x : Figures). id_value x.waited) same,
-    )
-
-pub group_stored : (r : Row) (g : GroupRecord) → group_in r ≡ Some g → r ≡ group_values g
-unfolding group_in
-group_stored r g h =
-    let w = guarded (length r == 9) _ g h in
-    let device = bound _ _ g w.1 in
-    let name = bound _ _ g device.2 in
-    let ring = bound _ _ g name.2 in
-    let wrap = bound _ _ g ring.2 in
-    let figures = bound _ _ g wrap.2 in
-    let f = figures_stored r 4 5 6 7 8 figures.0 figures.1 in
-    row_is 9 r w.0 ∙ beside _ _ _ _ (device_stored r 0 _ device.1) (beside _ _ _ _ (name_stored r 1 _ name.1) (beside _ _ _ _ (seconds_stored r 2 _ ring.1) (beside _ _ _ _ (seconds_stored r 3 _ wrap.1) (beside _ _ _ _ (f.0) (beside _ _ _ _ (f.1) (beside _ _ _ _ (f.2) (beside _ _ _ _ (f.3) (beside _ _ _ _ (f.4) (refl))))))))) ∙ ap group_values (some_same _ g figures.2)
-
-pub station_stored : (r : Row) (s : StationRecord) → station_in r ≡ Some s → r ≡ station_values s
-unfolding station_in
-station_stored r s h =
-    let w = guarded (length r == 1) _ s h in
-    let device = bound _ _ s w.1 in
-    row_is 1 r w.0 ∙ beside _ _ _ _ (device_stored r 0 _ device.1) (refl) ∙ ap station_values (some_same _ s device.2)
-
-pub agent_stored : (r : Row) (a : AgentRecord) → agent_in r ≡ Some a → r ≡ agent_values a
-unfolding agent_in
-agent_stored r a h =
-    let w = guarded (length r == 8) _ a h in
-    let number = bound _ _ a w.1 in
-    let name = bound _ _ a number.2 in
-    let state = bound _ _ a name.2 in
-    let pending = bound _ _ a state.2 in
-    let station = bound _ _ a pending.2 in
-    let group = bound _ _ a station.2 in
-    let stamp = bound _ _ a group.2 in
-    let since = bound _ _ a stamp.2 in
-    row_is 8 r w.0 ∙ beside _ _ _ _ (agent_id_stored r 0 _ number.1) (beside _ _ _ _ (name_stored r 1 _ name.1) (beside _ _ _ _ (agent_state_stored r 2 _ state.1) (beside _ _ _ _ (or_none_stored r 3 pending_at (λ p. id_value (pending_code p)) (pending_stored r 3) _ pending.1) (beside _ _ _ _ (or_none_stored r 4 device_at (id_value) (device_stored r 4) _ station.1) (beside _ _ _ _ (or_none_stored r 5 device_at (id_value) (device_stored r 5) _ group.1) (beside _ _ _ _ (stamp_stored r 6 _ stamp.1) (beside _ _ _ _ (moment_stored r 7 _ since.1) (refl)))))))) ∙ ap agent_values (some_same _ a since.2)
-
-pub call_stored : (r : Row) (k : CallRecord) → call_in r ≡ Some k → r ≡ call_values k
-unfolding call_in
-call_stored r k h =
-    let w = guarded (length r == 4) _ k h in
-    let call = bound _ _ k w.1 in
-    let caller = bound _ _ k call.2 in
-    let called = bound _ _ k caller.2 in
-    let since = bound _ _ k called.2 in
-    row_is 4 r w.0 ∙ beside _ _ _ _ (serial_stored r 0 _ call.1) (beside _ _ _ _ (device_stored r 1 _ caller.1) (beside _ _ _ _ (device_stored r 2 _ called.1) (beside _ _ _ _ (moment_stored r 3 _ since.1) (refl)))) ∙ ap call_values (some_same _ k since.2)
-
-pub connection_stored : (r : Row) (x : ConnectionRecord) → connection_in r ≡ Some x → r ≡ connection_values x
-unfolding connection_in
-connection_stored r x h =
-    let w = guarded (length r == 7) _ x h in
-    let call = bound _ _ x w.1 in
-    let device = bound _ _ x call.2 in
-    let state = bound _ _ x device.2 in
-    let group = bound _ _ x state.2 in
-    let place = bound _ _ x group.2 in
-    let queued = bound _ _ x place.2 in
-    let offered = bound _ _ x queued.2 in
-    row_is 7 r w.0 ∙ beside _ _ _ _ (serial_stored r 0 _ call.1) (beside _ _ _ _ (device_stored r 1 _ device.1) (beside _ _ _ _ (connection_state_stored r 2 _ state.1) (beside _ _ _ _ (or_none_stored r 3 device_at (id_value) (device_stored r 3) _ group.1) (beside _ _ _ _ (or_none_stored r 4 stamp_at (id_value) (stamp_stored r 4) _ place.1) (beside _ _ _ _ (or_none_stored r 5 moment_at (id_value) (moment_stored r 5) _ queued.1) (beside _ _ _ _ (or_none_stored r 6 moment_at (id_value) (moment_stored r 6) _ offered.1) (refl))))))) ∙ ap connection_values (some_same _ x offered.2)
-
-pub monitor_stored : (r : Row) (m : MonitorRecord) → monitor_in r ≡ Some m → r ≡ monitor_values m
-unfolding monitor_in
-monitor_stored r m h =
-    let w = guarded (length r == 3) _ m h in
-    let monitor = bound _ _ m w.1 in
-    let device = bound _ _ m monitor.2 in
-    let after = bound _ _ m device.2 in
-    row_is 3 r w.0 ∙ beside _ _ _ _ (serial_stored r 0 _ monitor.1) (beside _ _ _ _ (device_stored r 1 _ device.1) (beside _ _ _ _ (whole_stored r 2 _ after.1) (refl))) ∙ ap monitor_values (some_same _ m after.2)
-
--- ---- the limits and the counters
-
-limits_stored : (r : Row) (l : Limits) → limits_at r ≡ Some l
-    → (column r 0 ≡ id_value l.requests) × (column r 1 ≡ id_value l.calls) × (column r 2 ≡ id_value l.groups) × (column r 3 ≡ id_value l.stations) × (column r 4 ≡ id_value l.agents) × (column r 5 ≡ id_value l.monitors)
-unfolding limits_at
-limits_stored r l h =
-    let requests = bound _ _ l h in
-    let calls = bound _ _ l requests.2 in
-    let groups = bound _ _ l calls.2 in
-    let stations = bound _ _ l groups.2 in
-    let agents = bound _ _ l stations.2 in
-    let monitors = bound _ _ l agents.2 in
-    let same = some_same _ l monitors.2 in (
-      whole_stored r 0 _ requests.1 ∙ ap (λ (x : Limits). id_value x.requests) same,
-      whole_stored r 1 _ calls.1 ∙ ap (λ (x : Limits). id_value x.calls) same,
-      whole_stored r 2 _ groups.1 ∙ ap (λ (x : Limits). id_value x.groups) same,
-      whole_stored r 3 _ stations.1 ∙ ap (λ (x : Limits). id_value x.stations) same,
-      whole_stored r 4 _ agents.1 ∙ ap (λ (x : Limits). id_value x.agents) same,
-      whole_stored r 5 _ monitors.1 ∙ ap (λ (x : Limits). id_value x.monitors) same,
-    )
-
-pub counters_stored : (r : Row) (m : Meta) → counters_in r ≡ Some m → r ≡ meta_shown m
-unfolding counters_in
-counters_stored r m h =
-    let w = guarded (length r == 11) _ m h in
-    let limits = bound _ _ m w.1 in
-    let stamp = bound _ _ m limits.2 in
-    let moment = bound _ _ m stamp.2 in
-    let call = bound _ _ m moment.2 in
-    let monitor = bound _ _ m call.2 in
-    let event = bound _ _ m monitor.2 in
-    let l = limits_stored r limits.0 limits.1 in
-    row_is 11 r w.0
-    ∙ beside _ _ _ _ l.0 (beside _ _ _ _ l.1 (beside _ _ _ _ l.2 (beside _ _ _ _ l.3 (beside _ _ _ _ l.4 (beside _ _ _ _ l.5
-    (beside _ _ _ _ (whole_stored r 6 _ stamp.1) (beside _ _ _ _ (moment_stored r 7 _ moment.1) (beside _ _ _ _ (whole_stored r 8 _ call.1) (beside _ _ _ _ (whole_stored r 9 _ monitor.1) (beside _ _ _ _ (whole_stored r 10 _ event.1) refl))))))))))
-    ∙ ap meta_shown (some_same _ m event.2)

@@ -1,5 +1,5 @@
 -- A row that is read as an event or as a kept record is that of the record.
-use Rattle.std.proofs.Common.{◌≡◌, ℕ, ◌==◌, length, List, [], ◌∷◌, Bool, true, false, not, cond, ◌&&◌, Option, Some, None, Result, Ok, Err, refl, sym, ap, subst, ◌∙◌}
+use Rattle.std.proofs.Common.{◌≡◌, ℕ, ◌==◌, length, List, Bool, true, false, not, cond, ◌&&◌, Option, Some, None, Result, Ok, Err, refl, sym, ap, subst, ◌∙◌}
 use Rattle.std.specs.Option.{is_some, unwrap_or}
 use Rattle.sqlite_value.specs.Order.{Row, column}
 use Rattle.std.specs.Str.{bytes_eq, is_utf8}
@@ -17,13 +17,17 @@ use Rattle.acd_terms.specs.declared.event.Cause.{Cause}
 use Rattle.acd_terms.specs.declared.event.Cause.TheVariants as cause
 use Rattle.acd_terms.specs.declared.event.Columns.{Columns}
 use Rattle.acd_terms.specs.declared.event.Report.{Report}
+use Rattle.acd_terms.specs.declared.event.Report.TheVariants as report
 use Rattle.acd_terms.specs.declared.event.Event.{Event}
 use Rattle.acd_book.specs.declared.kept.Kept.{Kept}
-use Rattle.acd_columns.specs.Rows.{IsReadable, id_value, cause_code, report_values, event_values, kept_values}
-use Rattle.acd_columns.specs.Decoding.{report_of, waited_of}
+use Rattle.acd_columns.specs.Rows.{IsReadable, event_fields, event_made, values_of_event, event_values, kept_values}
+use Rattle.acd_columns.specs.Decoding.{report_of, waited_of, event_shown, as_event, as_kept}
 use Rattle.acd_columns.specs.Reports.{admits_cause, is_formed, report_in}
-use Rattle.acd_columns.specs.Ranges.{device_at, serial_at, agent_at, moment_at, cause_at, columns_at, event_in, request_at, whole_at, text_at, status_at, utf8_of, body_at, kept_in}
-use Rattle.acd_columns.proofs.Ranged.{text_stored, whole_stored, bound, guarded, some_same, row_is, beside, or_none_stored, stamp_stored, serial_stored, moment_stored, device_stored, agent_id_stored, kind_stored, cause_stored}
+use Rattle.acd_columns.specs.Fields.{read_whole, written}
+use Rattle.acd_columns.specs.Ranges.{event_from, event_in, request_at, kept_in}
+use Rattle.acd_columns.specs.Values.{id_value, whole_at, text_at, status_at, utf8_of, body_at}
+use Rattle.acd_columns.proofs.Ranged.{text_stored, whole_stored, bound, guarded, some_same, row_is, beside, stamp_stored, moment_stored}
+use Rattle.acd_columns.proofs.Records.{values_stored, values_back}
 
 -- ---- columns that are there, and columns that aren't
 
@@ -105,38 +109,44 @@ report_formed c r h =
     let p = guarded (is_formed c) (Some (report_of c)) r h in
     ap columns_of (sym (some_same (report_of c) r p.1)) ∙ formed c.kind c.device c.call c.agent c.group c.to c.cause c.waited p.0
 
--- ---- events
+-- a report that is told by its columns is the report
+pub report_back : (r : Report) → report_of (columns_of r) ≡ r
+report_back (report.ServiceInitiated call station) = refl
+report_back (report.Originated call station to) = refl
+report_back (report.Queued call group why) = refl
+report_back (report.Delivered call station why group) = refl
+report_back (report.Diverted call device to why group) = refl
+report_back (report.Established call station None) = refl
+report_back (report.Established call station (Some w)) = refl
+report_back (report.Held call station) = refl
+report_back (report.Retrieved call station) = refl
+report_back (report.Transferred call station to) = refl
+report_back (report.Failed call station) = refl
+report_back (report.ConnectionCleared call device) = refl
+report_back (report.CallCleared call group) = refl
+report_back (report.AgentLoggedOn agent station group) = refl
+report_back (report.AgentLoggedOff agent station) = refl
+report_back (report.AgentNotReady agent station) = refl
+report_back (report.AgentReady agent station) = refl
+report_back (report.AgentBusy agent station) = refl
+report_back (report.AgentWorkingAfterCall agent station) = refl
 
-pub columns_stored : (r : Row) (c : Columns) → columns_at r ≡ Some c
-    → (column r 2 ∷ column r 3 ∷ column r 4 ∷ column r 5 ∷ column r 6 ∷ column r 7 ∷ column r 8 ∷ column r 9 ∷ []) ≡ report_values c
-unfolding columns_at
-columns_stored r c h =
-    let what = bound _ _ c h in
-    let device = bound _ _ c what.2 in
-    let call = bound _ _ c device.2 in
-    let agent = bound _ _ c call.2 in
-    let group = bound _ _ c agent.2 in
-    let to = bound _ _ c group.2 in
-    let why = bound _ _ c to.2 in
-    let waited = bound _ _ c why.2 in
-    beside _ _ _ _ (kind_stored r 2 _ what.1) (beside _ _ _ _ (or_none_stored r 3 device_at id_value (device_stored r 3) _ device.1)
-    (beside _ _ _ _ (or_none_stored r 4 serial_at id_value (serial_stored r 4) _ call.1) (beside _ _ _ _ (or_none_stored r 5 agent_at id_value (agent_id_stored r 5) _ agent.1)
-    (beside _ _ _ _ (or_none_stored r 6 device_at id_value (device_stored r 6) _ group.1) (beside _ _ _ _ (or_none_stored r 7 device_at id_value (device_stored r 7) _ to.1)
-    (beside _ _ _ _ (or_none_stored r 8 cause_at (λ w. id_value (cause_code w)) (cause_stored r 8) _ why.1)
-    (beside _ _ _ _ (or_none_stored r 9 moment_at id_value (moment_stored r 9) _ waited.1) refl)))))))
-    ∙ ap report_values (some_same _ c waited.2)
+-- ---- events
 
 pub event_stored : (r : Row) (e : Event) → event_in r ≡ Some e → r ≡ event_values e
 unfolding event_in
 event_stored r e h =
-    let w = guarded (length r == 10) _ e h in
-    let number = bound _ _ e w.1 in
-    let moment = bound _ _ e number.2 in
-    let columns = bound _ _ e moment.2 in
-    let report = bound _ _ e columns.2 in
-    row_is 10 r w.0
-    ∙ beside _ _ _ _ (stamp_stored r 0 _ number.1) (beside _ _ _ _ (moment_stored r 1 _ moment.1) (columns_stored r columns.0 columns.1 ∙ ap report_values (sym (report_formed columns.0 report.0 report.1))))
+    let values = bound (read_whole event_fields event_made r) event_from e h in
+    let report = bound (report_in values.0.columns) _ e values.2 in
+    values_stored r values.0 values.1
+    ∙ ap (λ c. written event_fields (record values.0 { columns = c })) (sym (report_formed values.0.columns report.0 report.1))
     ∙ ap event_values (some_same _ e report.2)
+
+pub event_back : (e : Event) → as_event (event_values e) ≡ e
+event_back e = ap event_shown (values_back (values_of_event e)) ∙ ap (λ r. record e { report = r }) (report_back e.report)
+
+pub event_exact : (r : Row) (x y : Event) → event_in r ≡ Some x → r ≡ event_values y → x ≡ y
+event_exact r x y h e = sym (event_back x) ∙ ap as_event (sym (event_stored r x h) ∙ e) ∙ event_back y
 
 -- ---- kept records
 
@@ -209,3 +219,11 @@ kept_stored r k h =
           ∙ ap kept_values same,
       subst IsReadable same o.reads,
     )
+
+pub kept_back : (k : Kept) → IsReadable k → as_kept (kept_values k) ≡ k
+kept_back k h = rw h refl
+
+pub kept_exact : (r : Row) (x y : Kept) → IsReadable y → kept_in r ≡ Some x → r ≡ kept_values y → x ≡ y
+kept_exact r x y good h e =
+    let own = kept_stored r x h in
+    sym (kept_back x own.1) ∙ ap as_kept (sym own.0 ∙ e) ∙ kept_back y good

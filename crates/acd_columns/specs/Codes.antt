@@ -1,4 +1,4 @@
--- What stands under a number: the inverses of the codes.
+-- The numbers that stand for states, kinds and causes, and what stands under a number.
 use Rattle.std.specs.Prelude.{ℕ, ◌==◌, List, [], ◌∷◌, Option, find}
 use Rattle.acd_terms.specs.declared.state.AgentState.{AgentState}
 use Rattle.acd_terms.specs.declared.state.AgentState.TheVariants as agent
@@ -10,7 +10,58 @@ use Rattle.acd_terms.specs.declared.event.EventKind.{EventKind}
 use Rattle.acd_terms.specs.declared.event.EventKind.TheVariants as kind
 use Rattle.acd_terms.specs.declared.event.Cause.{Cause}
 use Rattle.acd_terms.specs.declared.event.Cause.TheVariants as cause
-use Rattle.acd_columns.specs.Rows.{agent_code, pending_code, connection_code, kind_code, cause_code}
+
+abbrev pub agent_code : AgentState → ℕ
+agent_code agent.Null = 0
+agent_code agent.NotReady = 1
+agent_code agent.Ready = 2
+agent_code agent.Busy = 3
+agent_code agent.WorkingAfterCall = 4
+
+-- that of the state, where loggedOff leads to null
+abbrev pub pending_code : Pending → ℕ
+pending_code pending.LoggedOff = 0
+pending_code pending.NotReady = 1
+pending_code pending.Ready = 2
+pending_code pending.WorkingAfterCall = 4
+
+abbrev pub connection_code : ConnectionState → ℕ
+connection_code connection.Initiated = 1
+connection_code connection.Alerting = 2
+connection_code connection.Connected = 3
+connection_code connection.Hold = 4
+connection_code connection.Queued = 5
+connection_code connection.Fail = 6
+
+abbrev pub cause_code : Cause → ℕ
+cause_code cause.NewCall = 1
+cause_code cause.Distributed = 2
+cause_code cause.Deflected = 3
+cause_code cause.Transferred = 4
+cause_code cause.NoAnswer = 5
+cause_code cause.Busy = 6
+
+abbrev pub kind_code : EventKind → ℕ
+kind_code kind.ServiceInitiated = 1
+kind_code kind.Originated = 2
+kind_code kind.Queued = 3
+kind_code kind.Delivered = 4
+kind_code kind.Diverted = 5
+kind_code kind.Established = 6
+kind_code kind.Held = 7
+kind_code kind.Retrieved = 8
+kind_code kind.Transferred = 9
+kind_code kind.Failed = 10
+kind_code kind.ConnectionCleared = 11
+kind_code kind.CallCleared = 12
+kind_code kind.AgentLoggedOn = 13
+kind_code kind.AgentLoggedOff = 14
+kind_code kind.AgentNotReady = 15
+kind_code kind.AgentReady = 16
+kind_code kind.AgentBusy = 17
+kind_code kind.AgentWorkingAfterCall = 18
+
+-- ---- what stands under a number
 
 -- the one with this code
 abbrev pub with_code : {A : Type 0} → (A → ℕ) → List A → ℕ → Option A

@@ -1,8 +1,6 @@
 -- What rows stand for, whatever they hold: a value of another kind, and a code that nothing has, stand for some fixed value.
-use Rattle.std.specs.Prelude.{ℕ, pos, List, [], Option, Some, None, Result, Ok, Err}
+use Rattle.std.specs.Prelude.{ℕ, [], Option, Some, None, Result, Ok, Err}
 use Rattle.std.specs.Option.{unwrap_or}
-use Rattle.sqlite_value.specs.declared.value.Value.{Value}
-use Rattle.sqlite_value.specs.declared.value.Value.TheVariants.{Int, Text}
 use Rattle.sqlite_value.specs.Order.{Row, column}
 use Rattle.acd_terms.specs.declared.command.Request.{Request}
 use Rattle.acd_terms.specs.declared.command.Command.TheVariants.{Tick}
@@ -15,10 +13,6 @@ use Rattle.acd_terms.specs.declared.event.Columns.{Columns}
 use Rattle.acd_terms.specs.declared.event.Report.{Report}
 use Rattle.acd_terms.specs.declared.event.Report.TheVariants as report
 use Rattle.acd_terms.specs.declared.event.Event.{Event}
-use Rattle.acd_terms.specs.declared.state.AgentState.TheVariants as agent
-use Rattle.acd_terms.specs.declared.state.Pending.{Pending}
-use Rattle.acd_terms.specs.declared.state.Pending.TheVariants as pending
-use Rattle.acd_terms.specs.declared.state.ConnectionState.TheVariants as connection
 use Rattle.acd_terms.specs.declared.record.GroupRecord.{GroupRecord}
 use Rattle.acd_terms.specs.declared.record.StationRecord.{StationRecord}
 use Rattle.acd_terms.specs.declared.record.AgentRecord.{AgentRecord}
@@ -28,97 +22,35 @@ use Rattle.acd_terms.specs.declared.record.MonitorRecord.{MonitorRecord}
 use Rattle.acd_codec.specs.declared.member.Member.{Member}
 use Rattle.acd_codec.specs.Reading.{reads_as}
 use Rattle.acd_book.specs.declared.kept.Kept.{Kept}
-use Rattle.acd_columns.specs.Codes.{agent_state_of, pending_of, connection_state_of, kind_of, cause_of}
-use Rattle.acd_columns.specs.Reading.{number_in}
-
--- ---- values
-
-abbrev pub text_in : Value → List ℕ
-text_in (Text t) = t
-text_in _ = []
-
--- a number, and none in place of NULL
-abbrev pub option_in : Value → Option ℕ
-option_in (Int (pos n)) = Some n
-option_in _ = None
+use Rattle.acd_columns.specs.declared.decode.EventValues.{EventValues}
+use Rattle.acd_columns.specs.declared.meta.Meta.{Meta}
+use Rattle.acd_columns.specs.Fields.{shown_whole}
+use Rattle.acd_columns.specs.Rows.{group_fields, group_made, station_fields, station_made, agent_fields, agent_made, call_fields, call_made, connection_fields, connection_made, monitor_fields, monitor_made, meta_fields, meta_made, event_fields, event_made}
+use Rattle.acd_columns.specs.Values.{number_in, text_in}
 
 -- ---- the values of the columns, in the order in which a statement puts them
 
 abbrev pub as_group : Row → GroupRecord
-as_group r = record {
-  device = number_in (column r 0);
-  name = text_in (column r 1);
-  ring = number_in (column r 2);
-  wrap = number_in (column r 3);
-  figures = record {
-    entered = number_in (column r 4);
-    answered = number_in (column r 5);
-    abandoned = number_in (column r 6);
-    moved = number_in (column r 7);
-    waited = number_in (column r 8);
-  };
-}
+as_group r = shown_whole group_fields group_made r
 
 abbrev pub as_station : Row → StationRecord
-as_station r = record { device = number_in (column r 0) }
-
-abbrev pub as_pending : Option ℕ → Option Pending
-as_pending None = None
-as_pending (Some n) = Some (unwrap_or (pending_of n) pending.LoggedOff)
+as_station r = shown_whole station_fields station_made r
 
 abbrev pub as_agent : Row → AgentRecord
-as_agent r = record {
-  agent = number_in (column r 0);
-  name = text_in (column r 1);
-  state = unwrap_or (agent_state_of (number_in (column r 2))) agent.Null;
-  pending = as_pending (option_in (column r 3));
-  station = option_in (column r 4);
-  group = option_in (column r 5);
-  stamp = number_in (column r 6);
-  since = number_in (column r 7);
-}
+as_agent r = shown_whole agent_fields agent_made r
 
 abbrev pub as_call : Row → CallRecord
-as_call r = record {
-  call = number_in (column r 0);
-  caller = number_in (column r 1);
-  called = number_in (column r 2);
-  since = number_in (column r 3);
-}
+as_call r = shown_whole call_fields call_made r
 
 abbrev pub as_connection : Row → ConnectionRecord
-as_connection r = record {
-  call = number_in (column r 0);
-  device = number_in (column r 1);
-  state = unwrap_or (connection_state_of (number_in (column r 2))) connection.Initiated;
-  group = option_in (column r 3);
-  place = option_in (column r 4);
-  queued = option_in (column r 5);
-  offered = option_in (column r 6);
-}
+as_connection r = shown_whole connection_fields connection_made r
 
 abbrev pub as_monitor : Row → MonitorRecord
-as_monitor r = record {
-  monitor = number_in (column r 0);
-  device = number_in (column r 1);
-  after_event = number_in (column r 2);
-}
+as_monitor r = shown_whole monitor_fields monitor_made r
 
-abbrev pub as_cause : Option ℕ → Option Cause
-as_cause None = None
-as_cause (Some n) = Some (unwrap_or (cause_of n) cause.NewCall)
-
-abbrev pub as_columns : Row → Columns
-as_columns r = record {
-  kind = unwrap_or (kind_of (number_in (column r 2))) kind.ServiceInitiated;
-  device = option_in (column r 3);
-  call = option_in (column r 4);
-  agent = option_in (column r 5);
-  group = option_in (column r 6);
-  to = option_in (column r 7);
-  cause = as_cause (option_in (column r 8));
-  waited = option_in (column r 9);
-}
+-- the limits and the counters, without key and version
+abbrev pub as_meta : Row → Meta
+as_meta r = shown_whole meta_fields meta_made r
 
 -- the group and the seconds, where both are there
 abbrev pub waited_of : Option ℕ → Option ℕ → Option Waited
@@ -149,12 +81,11 @@ report_at kind.AgentWorkingAfterCall call device agent to why c = report.AgentWo
 abbrev pub report_of : Columns → Report
 report_of c = report_at c.kind (unwrap_or c.call 0) (unwrap_or c.device 0) (unwrap_or c.agent 0) (unwrap_or c.to 0) (unwrap_or c.cause cause.NewCall) c
 
+abbrev pub event_shown : EventValues → Event
+event_shown v = record { number = v.number; moment = v.moment; report = report_of v.columns }
+
 abbrev pub as_event : Row → Event
-as_event r = record {
-  number = number_in (column r 0);
-  moment = number_in (column r 1);
-  report = report_of (as_columns r);
-}
+as_event r = event_shown (shown_whole event_fields event_made r)
 
 -- the request that was read, and some request where none was
 abbrev pub as_request : Result Request Member → Request

@@ -1,21 +1,8 @@
--- The rows that stand for records. A row has its number first, and then its columns; the column that is the number is NULL there.
-use Rattle.std.specs.Prelude.{◌≡◌, ℕ, ℤ, pos, [], ◌∷◌, Ok}
-use Rattle.sqlite_value.specs.declared.value.Value.{Value}
+-- The fields of the records, and the rows that stand for them. A row has its number first, and then its columns; the column that is the number is NULL there.
+use Rattle.std.specs.Prelude.{◌≡◌, ℕ, ℤ, List, [], ◌∷◌, Ok}
 use Rattle.sqlite_value.specs.declared.value.Value.TheVariants.{Null, Int, Text}
 use Rattle.sqlite_value.specs.Order.{Row}
-use Rattle.sqlite.specs.Values.{or_null}
 use Rattle.acd_terms.specs.Columns.{columns_of}
-use Rattle.acd_terms.specs.declared.state.AgentState.{AgentState}
-use Rattle.acd_terms.specs.declared.state.AgentState.TheVariants as agent
-use Rattle.acd_terms.specs.declared.state.Pending.{Pending}
-use Rattle.acd_terms.specs.declared.state.Pending.TheVariants as pending
-use Rattle.acd_terms.specs.declared.state.ConnectionState.{ConnectionState}
-use Rattle.acd_terms.specs.declared.state.ConnectionState.TheVariants as connection
-use Rattle.acd_terms.specs.declared.event.EventKind.{EventKind}
-use Rattle.acd_terms.specs.declared.event.EventKind.TheVariants as kind
-use Rattle.acd_terms.specs.declared.event.Cause.{Cause}
-use Rattle.acd_terms.specs.declared.event.Cause.TheVariants as cause
-use Rattle.acd_terms.specs.declared.event.Columns.{Columns}
 use Rattle.acd_terms.specs.declared.event.Event.{Event}
 use Rattle.acd_terms.specs.declared.record.GroupRecord.{GroupRecord}
 use Rattle.acd_terms.specs.declared.record.StationRecord.{StationRecord}
@@ -26,105 +13,146 @@ use Rattle.acd_terms.specs.declared.record.MonitorRecord.{MonitorRecord}
 use Rattle.acd_codec.specs.Reading.{reads_as}
 use Rattle.acd_codec.specs.RequestTexts.{request_text}
 use Rattle.acd_book.specs.declared.kept.Kept.{Kept}
+use Rattle.acd_columns.specs.declared.decode.EventValues.{EventValues}
 use Rattle.acd_columns.specs.declared.meta.Meta.{Meta}
+use Rattle.acd_columns.specs.Fields.{Field, Makes, has, may_have, written}
+use Rattle.acd_columns.specs.Sorts.{whole, serial, stamp, moment, seconds, device, agent, name, agent_state, pending, kind, cause, connection_state}
+use Rattle.acd_columns.specs.Values.{id_value}
 
-abbrev pub id_value : ℕ → Value
-id_value n = Int (pos n)
+-- ---- the fields of each record, in the order of their columns, and what makes it of them
 
--- ---- codes
+abbrev pub group_fields : List (Field GroupRecord)
+group_fields =
+    has device (λ g. g.device) ∷ has name (λ g. g.name) ∷ has seconds (λ g. g.ring) ∷ has seconds (λ g. g.wrap)
+    ∷ has whole (λ g. g.figures.entered) ∷ has whole (λ g. g.figures.answered) ∷ has whole (λ g. g.figures.abandoned) ∷ has whole (λ g. g.figures.moved)
+    ∷ has whole (λ g. g.figures.waited) ∷ []
 
-abbrev pub agent_code : AgentState → ℕ
-agent_code agent.Null = 0
-agent_code agent.NotReady = 1
-agent_code agent.Ready = 2
-agent_code agent.Busy = 3
-agent_code agent.WorkingAfterCall = 4
+abbrev pub group_made : Makes GroupRecord group_fields
+group_made = λ device name ring wrap entered answered abandoned moved waited. record {
+  device = device;
+  name = name;
+  ring = ring;
+  wrap = wrap;
+  figures = record { entered = entered; answered = answered; abandoned = abandoned; moved = moved; waited = waited };
+}
 
--- that of the state, where loggedOff leads to null
-abbrev pub pending_code : Pending → ℕ
-pending_code pending.LoggedOff = 0
-pending_code pending.NotReady = 1
-pending_code pending.Ready = 2
-pending_code pending.WorkingAfterCall = 4
+abbrev pub station_fields : List (Field StationRecord)
+station_fields = has device (λ s. s.device) ∷ []
 
-abbrev pub connection_code : ConnectionState → ℕ
-connection_code connection.Initiated = 1
-connection_code connection.Alerting = 2
-connection_code connection.Connected = 3
-connection_code connection.Hold = 4
-connection_code connection.Queued = 5
-connection_code connection.Fail = 6
+abbrev pub station_made : Makes StationRecord station_fields
+station_made = λ device. record { device = device }
 
-abbrev pub cause_code : Cause → ℕ
-cause_code cause.NewCall = 1
-cause_code cause.Distributed = 2
-cause_code cause.Deflected = 3
-cause_code cause.Transferred = 4
-cause_code cause.NoAnswer = 5
-cause_code cause.Busy = 6
+abbrev pub agent_fields : List (Field AgentRecord)
+agent_fields =
+    has agent (λ a. a.agent) ∷ has name (λ a. a.name) ∷ has agent_state (λ a. a.state) ∷ may_have pending (λ a. a.pending) ∷ may_have device (λ a. a.station)
+    ∷ may_have device (λ a. a.group) ∷ has stamp (λ a. a.stamp) ∷ has moment (λ a. a.since) ∷ []
 
-abbrev pub kind_code : EventKind → ℕ
-kind_code kind.ServiceInitiated = 1
-kind_code kind.Originated = 2
-kind_code kind.Queued = 3
-kind_code kind.Delivered = 4
-kind_code kind.Diverted = 5
-kind_code kind.Established = 6
-kind_code kind.Held = 7
-kind_code kind.Retrieved = 8
-kind_code kind.Transferred = 9
-kind_code kind.Failed = 10
-kind_code kind.ConnectionCleared = 11
-kind_code kind.CallCleared = 12
-kind_code kind.AgentLoggedOn = 13
-kind_code kind.AgentLoggedOff = 14
-kind_code kind.AgentNotReady = 15
-kind_code kind.AgentReady = 16
-kind_code kind.AgentBusy = 17
-kind_code kind.AgentWorkingAfterCall = 18
+abbrev pub agent_made : Makes AgentRecord agent_fields
+agent_made = λ agent name state pending station group stamp since. record {
+  agent = agent;
+  name = name;
+  state = state;
+  pending = pending;
+  station = station;
+  group = group;
+  stamp = stamp;
+  since = since;
+}
+
+abbrev pub call_fields : List (Field CallRecord)
+call_fields = has serial (λ k. k.call) ∷ has device (λ k. k.caller) ∷ has device (λ k. k.called) ∷ has moment (λ k. k.since) ∷ []
+
+abbrev pub call_made : Makes CallRecord call_fields
+call_made = λ call caller called since. record { call = call; caller = caller; called = called; since = since }
+
+abbrev pub connection_fields : List (Field ConnectionRecord)
+connection_fields =
+    has serial (λ x. x.call) ∷ has device (λ x. x.device) ∷ has connection_state (λ x. x.state) ∷ may_have device (λ x. x.group) ∷ may_have stamp (λ x. x.place)
+    ∷ may_have moment (λ x. x.queued) ∷ may_have moment (λ x. x.offered) ∷ []
+
+abbrev pub connection_made : Makes ConnectionRecord connection_fields
+connection_made = λ call device state group place queued offered. record {
+  call = call;
+  device = device;
+  state = state;
+  group = group;
+  place = place;
+  queued = queued;
+  offered = offered;
+}
+
+abbrev pub monitor_fields : List (Field MonitorRecord)
+monitor_fields = has serial (λ w. w.monitor) ∷ has device (λ w. w.device) ∷ has whole (λ w. w.after_event) ∷ []
+
+abbrev pub monitor_made : Makes MonitorRecord monitor_fields
+monitor_made = λ monitor device after_event. record { monitor = monitor; device = device; after_event = after_event }
+
+-- the limits and the counters, which stand behind the key and the version
+abbrev pub meta_fields : List (Field Meta)
+meta_fields =
+    has whole (λ m. m.limits.requests) ∷ has whole (λ m. m.limits.calls) ∷ has whole (λ m. m.limits.groups) ∷ has whole (λ m. m.limits.stations)
+    ∷ has whole (λ m. m.limits.agents) ∷ has whole (λ m. m.limits.monitors)
+    ∷ has whole (λ m. m.last_stamp) ∷ has moment (λ m. m.last_moment) ∷ has whole (λ m. m.last_call) ∷ has whole (λ m. m.last_monitor) ∷ has whole (λ m. m.last_event) ∷ []
+
+abbrev pub meta_made : Makes Meta meta_fields
+meta_made = λ requests calls groups stations agents monitors last_stamp last_moment last_call last_monitor last_event. record {
+  limits = record { requests = requests; calls = calls; groups = groups; stations = stations; agents = agents; monitors = monitors };
+  last_stamp = last_stamp;
+  last_moment = last_moment;
+  last_call = last_call;
+  last_monitor = last_monitor;
+  last_event = last_event;
+}
+
+-- of an event its number, its moment and the columns of its report
+abbrev pub event_fields : List (Field EventValues)
+event_fields =
+    has stamp (λ v. v.number) ∷ has moment (λ v. v.moment) ∷ has kind (λ v. v.columns.kind) ∷ may_have device (λ v. v.columns.device)
+    ∷ may_have serial (λ v. v.columns.call) ∷ may_have agent (λ v. v.columns.agent) ∷ may_have device (λ v. v.columns.group) ∷ may_have device (λ v. v.columns.to)
+    ∷ may_have cause (λ v. v.columns.cause) ∷ may_have moment (λ v. v.columns.waited) ∷ []
+
+abbrev pub event_made : Makes EventValues event_fields
+event_made = λ number moment kind device call agent group to cause waited. record {
+  number = number;
+  moment = moment;
+  columns = record { kind = kind; device = device; call = call; agent = agent; group = group; to = to; cause = cause; waited = waited };
+}
+
+abbrev pub values_of_event : Event → EventValues
+values_of_event e = record { number = e.number; moment = e.moment; columns = columns_of e.report }
 
 -- ---- the values of the columns, which are the parameters of the statement that puts the record
 
 abbrev pub version : ℕ
 version = 1
 
+-- the limits and the counters as they are read
+abbrev pub meta_shown : Meta → Row
+meta_shown m = written meta_fields m
+
 abbrev pub meta_values : Meta → Row
-meta_values m =
-    id_value 1 ∷ id_value version
-    ∷ id_value m.limits.requests ∷ id_value m.limits.calls ∷ id_value m.limits.groups ∷ id_value m.limits.stations ∷ id_value m.limits.agents ∷ id_value m.limits.monitors
-    ∷ id_value m.last_stamp ∷ id_value m.last_moment ∷ id_value m.last_call ∷ id_value m.last_monitor ∷ id_value m.last_event ∷ []
+meta_values m = id_value 1 ∷ id_value version ∷ meta_shown m
 
 abbrev pub group_values : GroupRecord → Row
-group_values g =
-    id_value g.device ∷ Text g.name ∷ id_value g.ring ∷ id_value g.wrap
-    ∷ id_value g.figures.entered ∷ id_value g.figures.answered ∷ id_value g.figures.abandoned ∷ id_value g.figures.moved ∷ id_value g.figures.waited ∷ []
+group_values g = written group_fields g
 
 abbrev pub station_values : StationRecord → Row
-station_values s = id_value s.device ∷ []
+station_values s = written station_fields s
 
 abbrev pub agent_values : AgentRecord → Row
-agent_values a =
-    id_value a.agent ∷ Text a.name ∷ id_value (agent_code a.state) ∷ or_null (λ p. id_value (pending_code p)) a.pending
-    ∷ or_null id_value a.station ∷ or_null id_value a.group ∷ id_value a.stamp ∷ id_value a.since ∷ []
+agent_values a = written agent_fields a
 
 abbrev pub call_values : CallRecord → Row
-call_values c = id_value c.call ∷ id_value c.caller ∷ id_value c.called ∷ id_value c.since ∷ []
+call_values c = written call_fields c
 
 abbrev pub connection_values : ConnectionRecord → Row
-connection_values x =
-    id_value x.call ∷ id_value x.device ∷ id_value (connection_code x.state) ∷ or_null id_value x.group
-    ∷ or_null id_value x.place ∷ or_null id_value x.queued ∷ or_null id_value x.offered ∷ []
+connection_values x = written connection_fields x
 
 abbrev pub monitor_values : MonitorRecord → Row
-monitor_values w = id_value w.monitor ∷ id_value w.device ∷ id_value w.after_event ∷ []
-
-abbrev pub report_values : Columns → Row
-report_values c =
-    id_value (kind_code c.kind) ∷ or_null id_value c.device ∷ or_null id_value c.call ∷ or_null id_value c.agent ∷ or_null id_value c.group
-    ∷ or_null id_value c.to ∷ or_null (λ w. id_value (cause_code w)) c.cause ∷ or_null id_value c.waited ∷ []
+monitor_values w = written monitor_fields w
 
 abbrev pub event_values : Event → Row
-event_values e = id_value e.number ∷ id_value e.moment ∷ report_values (columns_of e.report)
+event_values e = written event_fields (values_of_event e)
 
 abbrev pub kept_values : Kept → Row
 kept_values k =

@@ -1,8 +1,7 @@
 //! The numbers that stand for states, kinds and causes, and what stands under a number.
 
 ghost use Rattle.std.specs.Prelude.{◌≡◌};
-ghost use Rattle.acd_columns.specs.Rows.{agent_code, pending_code, connection_code, kind_code, cause_code};
-ghost use Rattle.acd_columns.specs.Codes.{agent_state_of, pending_of, connection_state_of, kind_of, cause_of};
+ghost use Rattle.acd_columns.specs.Codes.{agent_code, pending_code, connection_code, kind_code, cause_code, agent_state_of, pending_of, connection_state_of, kind_of, cause_of};
 
 use acd_terms::{AgentState, Cause, ConnectionState, EventKind, Pending};
 

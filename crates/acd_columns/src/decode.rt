@@ -8,7 +8,8 @@ ghost use Rattle.std.specs.Str.{bytes_eq};
 ghost use Rattle.std.specs.Result.{result_ok};
 ghost use Rattle.acd_codec.specs.Reading.{reads_as};
 ghost use Rattle.acd_codec.specs.RequestTexts.{request_text};
-ghost use Rattle.acd_columns.specs.Ranges.{figures_at, group_in, station_in, agent_in, call_in, connection_in, monitor_in, limits_at, counters_in, columns_at, event_from, event_in, event_number, body_at, request_at, kept_from, kept_in, kept_stamp};
+ghost use Rattle.acd_columns.specs.Ranges.{group_in, station_in, agent_in, call_in, connection_in, monitor_in, counters_in, event_from, event_in, event_number, request_at, kept_from, kept_in, kept_stamp};
+ghost use Rattle.acd_columns.specs.Values.{body_at};
 
 use crate::meta::Meta;
 use crate::shape::{is_formed, report_in};
@@ -22,25 +23,6 @@ use acd_terms::{
 use sqlite::Row;
 use std::alloc::{AllocError, Global};
 
-#[tactic(auto, unfolding(crate::specs::Ranges::figures_at))]
-fn figures_in(row: &Row) -> Option<Figures>
-    ensures { result ≡ figures_at row.now 4 5 6 7 8 }
-{
-    let entered = values::whole(row, 4)?;
-    let answered = values::whole(row, 5)?;
-    let abandoned = values::whole(row, 6)?;
-    let moved = values::whole(row, 7)?;
-    let waited = values::whole(row, 8)?;
-    Some(Figures {
-        entered,
-        answered,
-        abandoned,
-        moved,
-        waited,
-    })
-}
-
-#[tactic(auto, unfolding(crate::specs::Ranges::group_in))]
 pub fn group_in(row: &Row) -> Option<GroupRecord>
     ensures { result ≡ group_in row.now }
 {
@@ -51,7 +33,18 @@ pub fn group_in(row: &Row) -> Option<GroupRecord>
     let name = values::name(row, 1)?;
     let ring = values::seconds(row, 2)?;
     let wrap = values::seconds(row, 3)?;
-    let figures = figures_in(row)?;
+    let entered = values::whole(row, 4)?;
+    let answered = values::whole(row, 5)?;
+    let abandoned = values::whole(row, 6)?;
+    let moved = values::whole(row, 7)?;
+    let waited = values::whole(row, 8)?;
+    let figures = Figures {
+        entered,
+        answered,
+        abandoned,
+        moved,
+        waited,
+    };
     Some(GroupRecord {
         device,
         name,
@@ -61,7 +54,6 @@ pub fn group_in(row: &Row) -> Option<GroupRecord>
     })
 }
 
-#[tactic(auto, unfolding(crate::specs::Ranges::station_in))]
 pub fn station_in(row: &Row) -> Option<StationRecord>
     ensures { result ≡ station_in row.now }
 {
@@ -72,7 +64,6 @@ pub fn station_in(row: &Row) -> Option<StationRecord>
     Some(StationRecord { device })
 }
 
-#[tactic(auto, unfolding(crate::specs::Ranges::agent_in))]
 pub fn agent_in(row: &Row) -> Option<AgentRecord>
     ensures { result ≡ agent_in row.now }
 {
@@ -99,7 +90,6 @@ pub fn agent_in(row: &Row) -> Option<AgentRecord>
     })
 }
 
-#[tactic(auto, unfolding(crate::specs::Ranges::call_in))]
 pub fn call_in(row: &Row) -> Option<CallRecord>
     ensures { result ≡ call_in row.now }
 {
@@ -118,7 +108,6 @@ pub fn call_in(row: &Row) -> Option<CallRecord>
     })
 }
 
-#[tactic(auto, unfolding(crate::specs::Ranges::connection_in))]
 pub fn connection_in(row: &Row) -> Option<ConnectionRecord>
     ensures { result ≡ connection_in row.now }
 {
@@ -143,7 +132,6 @@ pub fn connection_in(row: &Row) -> Option<ConnectionRecord>
     })
 }
 
-#[tactic(auto, unfolding(crate::specs::Ranges::monitor_in))]
 pub fn monitor_in(row: &Row) -> Option<MonitorRecord>
     ensures { result ≡ monitor_in row.now }
 {
@@ -160,35 +148,27 @@ pub fn monitor_in(row: &Row) -> Option<MonitorRecord>
     })
 }
 
-#[tactic(auto, unfolding(crate::specs::Ranges::limits_at))]
-fn limits_in(row: &Row) -> Option<Limits>
-    ensures { result ≡ limits_at row.now }
-{
-    let requests = values::whole(row, 0)?;
-    let calls = values::whole(row, 1)?;
-    let groups = values::whole(row, 2)?;
-    let stations = values::whole(row, 3)?;
-    let agents = values::whole(row, 4)?;
-    let monitors = values::whole(row, 5)?;
-    Some(Limits {
-        requests,
-        calls,
-        groups,
-        stations,
-        agents,
-        monitors,
-    })
-}
-
 /// The limits and the counters, as they are read.
-#[tactic(auto, unfolding(crate::specs::Ranges::counters_in))]
 pub fn counters_in(row: &Row) -> Option<Meta>
     ensures { result ≡ counters_in row.now }
 {
     if row.column_count() != 11 {
         return None;
     }
-    let limits = limits_in(row)?;
+    let requests = values::whole(row, 0)?;
+    let calls = values::whole(row, 1)?;
+    let groups = values::whole(row, 2)?;
+    let stations = values::whole(row, 3)?;
+    let agents = values::whole(row, 4)?;
+    let monitors = values::whole(row, 5)?;
+    let limits = Limits {
+        requests,
+        calls,
+        groups,
+        stations,
+        agents,
+        monitors,
+    };
     let last_stamp = values::whole(row, 6)?;
     let last_moment = values::moment(row, 7)?;
     let last_call = values::whole(row, 8)?;
@@ -204,36 +184,12 @@ pub fn counters_in(row: &Row) -> Option<Meta>
     })
 }
 
-#[tactic(auto, unfolding(crate::specs::Ranges::columns_at))]
-fn columns_in(row: &Row) -> Option<Columns>
-    ensures { result ≡ columns_at row.now }
-{
-    let kind = values::kind(row, 2)?;
-    let device = values::device_or_none(row, 3)?;
-    let call = values::serial_or_none(row, 4)?;
-    let agent = values::agent_or_none(row, 5)?;
-    let group = values::device_or_none(row, 6)?;
-    let to = values::device_or_none(row, 7)?;
-    let cause = values::cause_or_none(row, 8)?;
-    let waited = values::moment_or_none(row, 9)?;
-    Some(Columns {
-        kind,
-        device,
-        call,
-        agent,
-        group,
-        to,
-        cause,
-        waited,
-    })
-}
-
-// The values of the row of an event.
+/// The values of the row of an event, before it is asked what its columns say together.
 #[derive(Clone, Copy)]
-struct EventValues {
-    number: u64,
-    moment: u32,
-    columns: Columns,
+pub struct EventValues {
+    pub number: u64,
+    pub moment: u32,
+    pub columns: Columns,
 }
 
 // None where a value is out of its range; what the columns say together isn't asked.
@@ -246,7 +202,24 @@ fn event_values(row: &Row) -> Option<EventValues>
     }
     let number = values::stamp(row, 0)?;
     let moment = values::moment(row, 1)?;
-    let columns = columns_in(row)?;
+    let kind = values::kind(row, 2)?;
+    let device = values::device_or_none(row, 3)?;
+    let call = values::serial_or_none(row, 4)?;
+    let agent = values::agent_or_none(row, 5)?;
+    let group = values::device_or_none(row, 6)?;
+    let to = values::device_or_none(row, 7)?;
+    let cause = values::cause_or_none(row, 8)?;
+    let waited = values::moment_or_none(row, 9)?;
+    let columns = Columns {
+        kind,
+        device,
+        call,
+        agent,
+        group,
+        to,
+        cause,
+        waited,
+    };
     Some(EventValues {
         number,
         moment,

@@ -10,6 +10,7 @@ pub mod codes;
 pub mod decode;
 mod meta;
 mod shape;
+pub mod texts;
 pub mod values;
 
 pub use meta::Meta;

@@ -3,7 +3,7 @@
 ghost use Rattle.std.specs.Prelude.{◌≡◌, option_map};
 ghost use Rattle.sqlite_value.specs.Value.{owned};
 ghost use Rattle.sqlite_value.specs.Order.{column};
-ghost use Rattle.acd_columns.specs.Ranges.{is_null, text_at, whole_at, stamp_at, serial_at, moment_at, seconds_at, device_at, agent_at, name_at, agent_state_at, pending_at, connection_state_at, kind_at, cause_at, status_at, utf8_of, body_at, or_none};
+ghost use Rattle.acd_columns.specs.Values.{is_null, text_at, whole_at, stamp_at, serial_at, moment_at, seconds_at, device_at, agent_at, name_at, agent_state_at, pending_at, connection_state_at, kind_at, cause_at, status_at, utf8_of, body_at, or_none};
 
 use crate::codes::{agent_state_of, cause_of, connection_state_of, kind_of, pending_of};
 use acd_terms::{
@@ -51,7 +51,7 @@ pub fn whole(row: &Row, at: usize) -> Option<u64>
 }
 
 /// A stamp, a place or the number of an event: a number from 1.
-#[tactic(auto, unfolding(crate::specs::Ranges::stamp_at))]
+#[tactic(auto, unfolding(crate::specs::Values::stamp_at))]
 pub fn stamp(row: &Row, at: usize) -> Option<u64>
     ensures { result ≡ stamp_at row.now at }
 {
@@ -60,7 +60,7 @@ pub fn stamp(row: &Row, at: usize) -> Option<u64>
 }
 
 /// A call or a monitor.
-#[tactic(auto, unfolding(crate::specs::Ranges::serial_at))]
+#[tactic(auto, unfolding(crate::specs::Values::serial_at))]
 pub fn serial(row: &Row, at: usize) -> Option<u64>
     ensures { result ≡ serial_at row.now at }
 {
@@ -68,7 +68,7 @@ pub fn serial(row: &Row, at: usize) -> Option<u64>
     Some(Serial::new(number)?.number())
 }
 
-#[tactic(auto, unfolding(crate::specs::Ranges::moment_at, acd_terms::specs::Forms::number_between))]
+#[tactic(auto, unfolding(crate::specs::Values::moment_at, acd_terms::specs::Forms::number_between))]
 pub fn moment(row: &Row, at: usize) -> Option<u32>
     ensures { result ≡ moment_at row.now at }
 {
@@ -80,28 +80,28 @@ pub fn moment(row: &Row, at: usize) -> Option<u32>
     }
 }
 
-#[tactic(auto, unfolding(crate::specs::Ranges::seconds_at))]
+#[tactic(auto, unfolding(crate::specs::Values::seconds_at))]
 pub fn seconds(row: &Row, at: usize) -> Option<Seconds>
     ensures { result ≡ seconds_at row.now at }
 {
     Seconds::new(whole(row, at)?)
 }
 
-#[tactic(auto, unfolding(crate::specs::Ranges::device_at))]
+#[tactic(auto, unfolding(crate::specs::Values::device_at))]
 pub fn device(row: &Row, at: usize) -> Option<DeviceId>
     ensures { result ≡ device_at row.now at }
 {
     DeviceId::from_number(whole(row, at)?)
 }
 
-#[tactic(auto, unfolding(crate::specs::Ranges::agent_at))]
+#[tactic(auto, unfolding(crate::specs::Values::agent_at))]
 pub fn agent(row: &Row, at: usize) -> Option<AgentId>
     ensures { result ≡ agent_at row.now at }
 {
     AgentId::from_number(whole(row, at)?)
 }
 
-#[tactic(auto, unfolding(crate::specs::Ranges::name_at))]
+#[tactic(auto, unfolding(crate::specs::Values::name_at))]
 pub fn name(row: &Row, at: usize) -> Option<Name>
     ensures { result ≡ name_at row.now at }
 {
@@ -111,21 +111,21 @@ pub fn name(row: &Row, at: usize) -> Option<Name>
     }
 }
 
-#[tactic(auto, unfolding(crate::specs::Ranges::agent_state_at))]
+#[tactic(auto, unfolding(crate::specs::Values::agent_state_at))]
 pub fn agent_state(row: &Row, at: usize) -> Option<AgentState>
     ensures { result ≡ agent_state_at row.now at }
 {
     agent_state_of(whole(row, at)?)
 }
 
-#[tactic(auto, unfolding(crate::specs::Ranges::connection_state_at))]
+#[tactic(auto, unfolding(crate::specs::Values::connection_state_at))]
 pub fn connection_state(row: &Row, at: usize) -> Option<ConnectionState>
     ensures { result ≡ connection_state_at row.now at }
 {
     connection_state_of(whole(row, at)?)
 }
 
-#[tactic(auto, unfolding(crate::specs::Ranges::pending_at))]
+#[tactic(auto, unfolding(crate::specs::Values::pending_at))]
 pub fn pending_or_none(row: &Row, at: usize) -> Option<Option<Pending>>
     ensures { result ≡ or_none pending_at row.now at }
 {
@@ -166,14 +166,14 @@ pub fn moment_or_none(row: &Row, at: usize) -> Option<Option<u32>>
     Some(Some(moment))
 }
 
-#[tactic(auto, unfolding(crate::specs::Ranges::kind_at))]
+#[tactic(auto, unfolding(crate::specs::Values::kind_at))]
 pub fn kind(row: &Row, at: usize) -> Option<EventKind>
     ensures { result ≡ kind_at row.now at }
 {
     kind_of(whole(row, at)?)
 }
 
-#[tactic(auto, unfolding(crate::specs::Ranges::cause_at))]
+#[tactic(auto, unfolding(crate::specs::Values::cause_at))]
 pub fn cause_or_none(row: &Row, at: usize) -> Option<Option<Cause>>
     ensures { result ≡ or_none cause_at row.now at }
 {
@@ -205,7 +205,7 @@ pub fn agent_or_none(row: &Row, at: usize) -> Option<Option<AgentId>>
 }
 
 /// The status of a reply that is kept.
-#[tactic(auto, unfolding(crate::specs::Ranges::status_at))]
+#[tactic(auto, unfolding(crate::specs::Values::status_at))]
 pub fn status(row: &Row, at: usize) -> Option<u16>
     ensures { result ≡ status_at row.now at }
 {
@@ -226,7 +226,7 @@ fn utf8(text: &[u8]) -> Option<&str>
 }
 
 /// A text in UTF-8.
-#[tactic(auto, unfolding(crate::specs::Ranges::body_at))]
+#[tactic(auto, unfolding(crate::specs::Values::body_at))]
 pub fn body(row: &Row, at: usize) -> Option<&str>
     ensures { option_map (λ t. t.now) result ≡ body_at row.now at }
 {

@@ -14,7 +14,7 @@ use Rattle.acd_book.specs.Content.{Content}
 use Rattle.acd_statements.specs.Content.{meta_of}
 use Rattle.acd_columns.specs.declared.meta.Meta.{Meta}
 use Rattle.acd_statements.specs.Draft.{Holds, Quiet, NoStop}
-use Rattle.acd_columns.specs.Reading.{meta_shown}
+use Rattle.acd_columns.specs.Rows.{meta_shown}
 use Rattle.acd_statements.specs.Finding.{Finds, joined_rows}
 
 pub quiet_on : (a b c : State) → Quiet a b → Quiet b c → Quiet a c

@@ -21,7 +21,9 @@ use Rattle.acd_statements.specs.Finding.{Finds, kept_behind}
 use Rattle.acd_columns.specs.Ranges.{kept_in, monitor_in}
 use Rattle.acd_statements.proofs.Asked.{first_found}
 use Rattle.acd_reads.proofs.Chained.{finds_so, finds_on, behind}
-use Rattle.acd_reads.proofs.Recorded.{first_of, kept_exact, monitor_exact}
+use Rattle.acd_columns.proofs.Records.{monitor_exact}
+use Rattle.acd_columns.proofs.Reported.{kept_exact}
+use Rattle.acd_reads.proofs.Recorded.{first_of}
 
 module _ {R : Type 0} (in_row : Row → Option R) (values : R → Row) (IsGood : R → Type 0) (exact : (row : Row) (x y : R) → IsGood y → in_row row ≡ Some x → row ≡ values y → x ≡ y) where
   same_one : (found one : Option R) (rows : List Row) → IfSome one IsGood → rows ≡ map values (option_to_list one) → map Some (option_to_list found) ≡ map in_row (take 1 rows) → found ≡ one

@@ -27,7 +27,7 @@ use Rattle.acd_schema.specs.declared.inspection.Page.TheVariants.{Bad, Last, Mor
 use Rattle.acd_statements.specs.AnyRows.{is_good, is_good_in, are_good, rows_in, table_of, table_of_log, has_meta, Numbered, AreNumbered, AreSameFirst, BeginsAsBook, IsFiled, TellsGood, TellsLow, IsPageRows}
 use Rattle.acd_schema.specs.Inspecting.{is_good_behind, version_fault, fault_of_version, all_tables, TellsBehind, IsBadOf, IsPage, IsPageOf, IsVersionFound, IsRowFound, IsFound, IsFaultOf}
 use Rattle.acd_statements.specs.Draft.{NoStop}
-use Rattle.acd_columns.specs.Ranges.{whole_at}
+use Rattle.acd_columns.specs.Values.{whole_at}
 use Rattle.acd_statements.specs.Schema.{book_schema}
 use Rattle.acd_statements.specs.Schema as schema
 use Rattle.acd_statements.specs.Seeing.{HasDatabase, Sees, HasLooked}

@@ -24,8 +24,8 @@ use Rattle.acd_schema.specs.declared.inspection.Page.TheVariants.{Bad, Last, Mor
 use Rattle.acd_statements.specs.AnyRows.{is_good, are_good, is_good_in, rows_in, values_in, table_of_log, Numbered, AreNumbered, FromOne, TellsGood, IsPageRows}
 use Rattle.acd_schema.specs.Inspecting.{is_good_behind, number_if_good, last_good, TellsBehind, IsPageOf, IsPage}
 use Rattle.acd_statements.specs.Content.{tree_of}
-use Rattle.acd_columns.specs.Decoding.{option_in}
-use Rattle.acd_columns.specs.Ranges.{◌>>=◌, whole_at, event_in, event_number, kept_in, kept_stamp}
+use Rattle.acd_columns.specs.Values.{option_in, ◌>>=◌, whole_at}
+use Rattle.acd_columns.specs.Ranges.{event_in, event_number, kept_in, kept_stamp}
 use Rattle.acd_statements.proofs.Heaps.{at_each}
 use Rattle.acd_statements.proofs.KeyedRows.{by_key}
 use Rattle.acd_statements.proofs.Looked.{bad_among, numbers_ascend}

@@ -22,11 +22,10 @@ use Rattle.acd_schema.specs.declared.inspection.Page.TheVariants.{Bad, Last, Mor
 use Rattle.acd_statements.specs.Content.{meta_of}
 use Rattle.acd_statements.specs.Draft.{Fits}
 use Rattle.acd_statements.specs.AnyRows.{is_good, are_good, is_good_in, IsFiled, table_of_log, Numbered, AreNumbered, values_behind, has_meta, BeginsAsBook}
-use Rattle.acd_columns.specs.Reading.{meta_shown}
-use Rattle.acd_columns.specs.Rows.{group_values, station_values, agent_values, call_values, connection_values, monitor_values, event_values, kept_values}
+use Rattle.acd_columns.specs.Rows.{meta_shown, group_values, station_values, agent_values, call_values, connection_values, monitor_values, event_values, kept_values}
 use Rattle.acd_statements.specs.Schema as schema
 use Rattle.acd_statements.specs.Schema.{book_schema}
-use Rattle.acd_columns.specs.Ranges.{◌>>=◌, whole_at}
+use Rattle.acd_columns.specs.Values.{◌>>=◌, whole_at}
 
 -- ---- ranges
 

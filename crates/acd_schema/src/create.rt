@@ -12,6 +12,7 @@ ghost use Rattle.acd_statements.specs.Draft.{Works, Holds, LimitsFit};
 ghost use Rattle.acd_book.specs.Content.{empty_content};
 ghost use Rattle.acd_schema.specs.SettingUp.{MayMake};
 
+use acd_columns::texts::{CREATE_AGENTS, CREATE_CALLS, CREATE_CONNECTIONS, CREATE_EVENTS, CREATE_GROUPS, CREATE_KEPT, CREATE_META, CREATE_MONITORS, CREATE_STATIONS};
 use acd_columns::Meta;
 use acd_statements::write::{insert_meta, write};
 use acd_terms::Limits;
@@ -43,19 +44,19 @@ fn make_plan<S: Alter>(tx: &mut Transaction<'_, S>) -> Result<(), Error>
 {
     make(
         tx,
-        "CREATE TABLE meta (id INTEGER NOT NULL PRIMARY KEY CHECK (id = 1), version INTEGER NOT NULL, max_requests INTEGER NOT NULL, max_calls INTEGER NOT NULL, max_groups INTEGER NOT NULL, max_stations INTEGER NOT NULL, max_agents INTEGER NOT NULL, max_monitors INTEGER NOT NULL, last_stamp INTEGER NOT NULL, last_moment INTEGER NOT NULL, last_call INTEGER NOT NULL, last_monitor INTEGER NOT NULL, last_event INTEGER NOT NULL) STRICT",
+        CREATE_META,
     )?;
     make(
         tx,
-        "CREATE TABLE acd_groups (device INTEGER NOT NULL PRIMARY KEY, name TEXT NOT NULL, ring INTEGER NOT NULL, wrap INTEGER NOT NULL, entered INTEGER NOT NULL, answered INTEGER NOT NULL, abandoned INTEGER NOT NULL, moved INTEGER NOT NULL, waited INTEGER NOT NULL) STRICT",
+        CREATE_GROUPS,
     )?;
     make(
         tx,
-        "CREATE TABLE stations (device INTEGER NOT NULL PRIMARY KEY) STRICT",
+        CREATE_STATIONS,
     )?;
     make(
         tx,
-        "CREATE TABLE agents (agent INTEGER NOT NULL PRIMARY KEY, name TEXT NOT NULL, state INTEGER NOT NULL CHECK (state BETWEEN 0 AND 4), pending INTEGER, station INTEGER UNIQUE REFERENCES stations, grp INTEGER REFERENCES acd_groups, stamp INTEGER NOT NULL, since INTEGER NOT NULL) STRICT",
+        CREATE_AGENTS,
     )?;
     Ok(())
 }
@@ -68,15 +69,15 @@ fn make_state<S: Alter>(tx: &mut Transaction<'_, S>) -> Result<(), Error>
 {
     make(
         tx,
-        "CREATE TABLE calls (call INTEGER NOT NULL PRIMARY KEY, caller INTEGER NOT NULL, called INTEGER NOT NULL, since INTEGER NOT NULL) STRICT",
+        CREATE_CALLS,
     )?;
     make(
         tx,
-        "CREATE TABLE connections (call INTEGER NOT NULL REFERENCES calls, device INTEGER NOT NULL, state INTEGER NOT NULL CHECK (state BETWEEN 1 AND 6), grp INTEGER REFERENCES acd_groups, place INTEGER, queued INTEGER, offered INTEGER, PRIMARY KEY (call, device)) STRICT",
+        CREATE_CONNECTIONS,
     )?;
     make(
         tx,
-        "CREATE TABLE monitors (monitor INTEGER NOT NULL PRIMARY KEY, device INTEGER NOT NULL, after_event INTEGER NOT NULL) STRICT",
+        CREATE_MONITORS,
     )?;
     Ok(())
 }
@@ -89,11 +90,11 @@ fn make_log<S: Alter>(tx: &mut Transaction<'_, S>) -> Result<(), Error>
 {
     make(
         tx,
-        "CREATE TABLE events (number INTEGER NOT NULL PRIMARY KEY, moment INTEGER NOT NULL, kind INTEGER NOT NULL CHECK (kind BETWEEN 1 AND 18), device INTEGER, call INTEGER, agent INTEGER, grp INTEGER, target INTEGER, cause INTEGER, waited INTEGER) STRICT",
+        CREATE_EVENTS,
     )?;
     make(
         tx,
-        "CREATE TABLE kept (stamp INTEGER NOT NULL PRIMARY KEY, requester TEXT NOT NULL, invoke INTEGER NOT NULL, moment INTEGER NOT NULL, request TEXT NOT NULL, status INTEGER NOT NULL, body TEXT NOT NULL, UNIQUE (requester, invoke)) STRICT",
+        CREATE_KEPT,
     )?;
     Ok(())
 }

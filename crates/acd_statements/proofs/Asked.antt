@@ -34,7 +34,8 @@ use Rattle.acd_book.specs.declared.kept.Kept.{Kept}
 use Rattle.acd_statements.specs.declared.tables.Table.TheVariants as table
 use Rattle.acd_statements.specs.Schema.{book_schema}
 use Rattle.acd_statements.specs.Schema as schema
-use Rattle.acd_columns.specs.Rows.{id_value, group_values, group_row, station_values, station_row, agent_values, agent_row, call_values, call_row, monitor_values, monitor_row, event_values, event_row, kept_values, kept_row}
+use Rattle.acd_columns.specs.Values.{id_value}
+use Rattle.acd_columns.specs.Rows.{group_values, group_row, station_values, station_row, agent_values, agent_row, call_values, call_row, monitor_values, monitor_row, event_values, event_row, kept_values, kept_row}
 use Rattle.acd_statements.specs.Draft.{Holds}
 use Rattle.acd_statements.specs.Finding.{kept_behind}
 use Rattle.acd_statements.proofs.KeyedRows.{id_cmp, id_tied}

@@ -31,7 +31,8 @@ use Rattle.acd_book.specs.Content.{Content}
 use Rattle.acd_statements.specs.declared.tables.Table.TheVariants as table
 use Rattle.acd_statements.specs.Schema.{book_schema}
 use Rattle.acd_statements.specs.Schema as schema
-use Rattle.acd_columns.specs.Rows.{id_value, connection_values, connection_row}
+use Rattle.acd_columns.specs.Values.{id_value}
+use Rattle.acd_columns.specs.Rows.{connection_values, connection_row}
 use Rattle.acd_statements.specs.Content.{AreConnections}
 use Rattle.acd_statements.specs.Draft.{Holds}
 use Rattle.acd_statements.proofs.Asked.{columns}

@@ -44,7 +44,9 @@ use Rattle.acd_laws.proofs.State.{is_of_true, is_of_self}
 use Rattle.acd_statements.specs.declared.tables.Table.TheVariants as table
 use Rattle.acd_terms.specs.declared.record.ConnectionRecord.{ConnectionRecord}
 use Rattle.acd_model.specs.Rules.Plan.{connection_order}
-use Rattle.acd_columns.specs.Rows.{id_value, connection_code, connection_values, connection_row}
+use Rattle.acd_columns.specs.Values.{id_value}
+use Rattle.acd_columns.specs.Codes.{connection_code}
+use Rattle.acd_columns.specs.Rows.{connection_values, connection_row}
 use Rattle.acd_statements.specs.Content.{AreConnections, with_part}
 use Rattle.acd_statements.specs.Draft.{Drafts}
 use Rattle.acd_statements.specs.Schema.{table_of, book_schema, connections}

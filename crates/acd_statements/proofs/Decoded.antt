@@ -1,5 +1,5 @@
 -- Rows stand for the records that were written.
-use Rattle.std.proofs.Common.{◌≡◌, inl, inr, ℕ, List, [], ◌∷◌, map, drop, Option, Some, None, refl, sym, ap, subst, ◌∙◌}
+use Rattle.std.proofs.Common.{◌≡◌, inl, inr, ℕ, List, [], ◌∷◌, map, drop, refl, sym, ap, subst, ◌∙◌}
 use Rattle.std.specs.declared.cmp.Ordering.TheVariants.{Less, Equal, Greater}
 use Rattle.std.specs.declared.cmp.Ordering.{Ordering}
 use Rattle.std.specs.Cmp.{IsTotalOrder}
@@ -7,23 +7,8 @@ use Rattle.std.specs.Ordering.{ordering_reverse}
 use Rattle.sqlite_value.specs.Order.{Row}
 use Rattle.sqlite_trees.specs.Tree.{Trees}
 use Rattle.sqlite_rules.specs.Lists.{Has}
-use Rattle.sqlite.specs.Values.{or_null}
-use Rattle.acd_terms.specs.Columns.{columns_of}
 use Rattle.acd_terms.specs.Lists.{Among, Every, IsAscending, put_by}
-use Rattle.acd_terms.specs.declared.event.EventKind.{EventKind}
-use Rattle.acd_terms.specs.declared.event.EventKind.TheVariants as kind
-use Rattle.acd_terms.specs.declared.event.Cause.{Cause}
-use Rattle.acd_terms.specs.declared.event.Cause.TheVariants as cause
-use Rattle.acd_terms.specs.declared.event.Columns.{Columns}
-use Rattle.acd_terms.specs.declared.event.Report.{Report}
-use Rattle.acd_terms.specs.declared.event.Report.TheVariants as report
 use Rattle.acd_terms.specs.declared.event.Event.{Event}
-use Rattle.acd_terms.specs.declared.state.AgentState.{AgentState}
-use Rattle.acd_terms.specs.declared.state.AgentState.TheVariants as agent
-use Rattle.acd_terms.specs.declared.state.Pending.{Pending}
-use Rattle.acd_terms.specs.declared.state.Pending.TheVariants as pending
-use Rattle.acd_terms.specs.declared.state.ConnectionState.{ConnectionState}
-use Rattle.acd_terms.specs.declared.state.ConnectionState.TheVariants as connection
 use Rattle.acd_terms.specs.declared.record.GroupRecord.{GroupRecord}
 use Rattle.acd_terms.specs.declared.record.StationRecord.{StationRecord}
 use Rattle.acd_terms.specs.declared.record.AgentRecord.{AgentRecord}
@@ -37,121 +22,13 @@ use Rattle.acd_laws.proofs.Lists.{after_among, among-put, among-put_other, ascen
 use Rattle.acd_laws.proofs.State.{connections_total}
 use Rattle.acd_statements.specs.declared.tables.Table.TheVariants as table
 use Rattle.acd_columns.specs.declared.meta.Meta.{Meta}
-use Rattle.acd_columns.specs.Codes.{agent_state_of, pending_of, connection_state_of, kind_of, cause_of}
 use Rattle.acd_statements.specs.Content.{AreRows, AreConnections, Encodes, tree_of, meta_of}
-use Rattle.acd_columns.specs.Rows.{IsReadable, id_value, agent_code, pending_code, connection_code, kind_code, cause_code, report_values, agent_values, connection_values, kept_values, event_values, group_row, station_row, agent_row, call_row, connection_row, monitor_row, event_row, kept_row}
-use Rattle.acd_columns.specs.Decoding.{option_in, as_group, as_station, as_agent, as_call, as_connection, as_monitor, as_columns, as_event, as_kept, as_pending, as_cause, report_of}
+use Rattle.acd_columns.specs.Rows.{IsReadable, group_row, station_row, agent_row, call_row, connection_row, monitor_row, event_row, kept_row}
+use Rattle.acd_columns.specs.Decoding.{as_group, as_station, as_agent, as_call, as_connection, as_monitor, as_event, as_kept}
+use Rattle.acd_columns.proofs.Records.{group_back, station_back, agent_back, call_back, connection_back, monitor_back, meta_back}
+use Rattle.acd_columns.proofs.Reported.{event_back, kept_back}
 use Rattle.acd_statements.specs.Decoding.{unkeyed, records_in, in_order, connections_in, meta_stored, content_of}
 use Rattle.acd_tables.proofs.Picked.{ascending-same}
-
--- ---- codes
-
-pub agent_state_back : (s : AgentState) → agent_state_of (agent_code s) ≡ Some s
-unfolding agent_state_of
-agent_state_back agent.Null = refl
-agent_state_back agent.NotReady = refl
-agent_state_back agent.Ready = refl
-agent_state_back agent.Busy = refl
-agent_state_back agent.WorkingAfterCall = refl
-
-pub pending_back : (p : Pending) → pending_of (pending_code p) ≡ Some p
-unfolding pending_of
-pending_back pending.LoggedOff = refl
-pending_back pending.NotReady = refl
-pending_back pending.Ready = refl
-pending_back pending.WorkingAfterCall = refl
-
-pub connection_state_back : (s : ConnectionState) → connection_state_of (connection_code s) ≡ Some s
-unfolding connection_state_of
-connection_state_back connection.Initiated = refl
-connection_state_back connection.Alerting = refl
-connection_state_back connection.Connected = refl
-connection_state_back connection.Hold = refl
-connection_state_back connection.Queued = refl
-connection_state_back connection.Fail = refl
-
-pub cause_back : (c : Cause) → cause_of (cause_code c) ≡ Some c
-unfolding cause_of
-cause_back cause.NewCall = refl
-cause_back cause.Distributed = refl
-cause_back cause.Deflected = refl
-cause_back cause.Transferred = refl
-cause_back cause.NoAnswer = refl
-cause_back cause.Busy = refl
-
-pub kind_back : (k : EventKind) → kind_of (kind_code k) ≡ Some k
-unfolding kind_of
-kind_back kind.ServiceInitiated = refl
-kind_back kind.Originated = refl
-kind_back kind.Queued = refl
-kind_back kind.Delivered = refl
-kind_back kind.Diverted = refl
-kind_back kind.Established = refl
-kind_back kind.Held = refl
-kind_back kind.Retrieved = refl
-kind_back kind.Transferred = refl
-kind_back kind.Failed = refl
-kind_back kind.ConnectionCleared = refl
-kind_back kind.CallCleared = refl
-kind_back kind.AgentLoggedOn = refl
-kind_back kind.AgentLoggedOff = refl
-kind_back kind.AgentNotReady = refl
-kind_back kind.AgentReady = refl
-kind_back kind.AgentBusy = refl
-kind_back kind.AgentWorkingAfterCall = refl
-
--- ---- values
-
-pub option_back : (o : Option ℕ) → option_in (or_null id_value o) ≡ o
-option_back None = refl
-option_back (Some n) = refl
-
-pending_in_back : (o : Option Pending) → as_pending (option_in (or_null (λ p. id_value (pending_code p)) o)) ≡ o
-pending_in_back None = refl
-pending_in_back (Some p) = rw (pending_back p) refl
-
-cause_in_back : (o : Option Cause) → as_cause (option_in (or_null (λ c. id_value (cause_code c)) o)) ≡ o
-cause_in_back None = refl
-cause_in_back (Some c) = rw (cause_back c) refl
-
--- ---- records
-
-pub agent_back : (a : AgentRecord) → as_agent (agent_values a) ≡ a
-agent_back a = rw (agent_state_back a.state, pending_in_back a.pending, option_back a.station, option_back a.group) refl
-
-pub connection_back : (x : ConnectionRecord) → as_connection (connection_values x) ≡ x
-connection_back x = rw (connection_state_back x.state, option_back x.group, option_back x.place, option_back x.queued, option_back x.offered) refl
-
-columns_back : (n m : ℕ) (c : Columns) → as_columns (id_value n ∷ id_value m ∷ report_values c) ≡ c
-columns_back n m c =
-    rw (kind_back c.kind, option_back c.device, option_back c.call, option_back c.agent, option_back c.group, option_back c.to, cause_in_back c.cause, option_back c.waited) refl
-
-pub report_back : (r : Report) → report_of (columns_of r) ≡ r
-report_back (report.ServiceInitiated call station) = refl
-report_back (report.Originated call station to) = refl
-report_back (report.Queued call group why) = refl
-report_back (report.Delivered call station why group) = refl
-report_back (report.Diverted call device to why group) = refl
-report_back (report.Established call station None) = refl
-report_back (report.Established call station (Some w)) = refl
-report_back (report.Held call station) = refl
-report_back (report.Retrieved call station) = refl
-report_back (report.Transferred call station to) = refl
-report_back (report.Failed call station) = refl
-report_back (report.ConnectionCleared call device) = refl
-report_back (report.CallCleared call group) = refl
-report_back (report.AgentLoggedOn agent station group) = refl
-report_back (report.AgentLoggedOff agent station) = refl
-report_back (report.AgentNotReady agent station) = refl
-report_back (report.AgentReady agent station) = refl
-report_back (report.AgentBusy agent station) = refl
-report_back (report.AgentWorkingAfterCall agent station) = refl
-
-pub event_back : (e : Event) → as_event (event_values e) ≡ e
-event_back e = ap (λ r. record e { report = r }) (ap report_of (columns_back e.number e.moment (columns_of e.report)) ∙ report_back e.report)
-
-pub kept_back : (k : Kept) → IsReadable k → as_kept (kept_values k) ≡ k
-kept_back k h = rw h refl
 
 -- ---- tables
 
@@ -254,15 +131,15 @@ with_all m groups stations agents calls connections monitors events kept = recor
 pub decoded : (db : Trees) (c : Content) → Encodes db c → content_of db ≡ c
 unfolding content_of
 decoded db c is =
-    let groups = rows_back as_group group_row _ (db (tree_of table.Groups)) c.rows.groups (is table.Groups) (λ g. refl) in
-    let stations = rows_back as_station station_row _ (db (tree_of table.Stations)) c.rows.stations (is table.Stations) (λ s. refl) in
+    let groups = rows_back as_group group_row _ (db (tree_of table.Groups)) c.rows.groups (is table.Groups) group_back in
+    let stations = rows_back as_station station_row _ (db (tree_of table.Stations)) c.rows.stations (is table.Stations) station_back in
     let agents = rows_back as_agent agent_row _ (db (tree_of table.Agents)) c.rows.agents (is table.Agents) agent_back in
-    let calls = rows_back as_call call_row _ (db (tree_of table.Calls)) c.rows.calls (is table.Calls) (λ k. refl) in
+    let calls = rows_back as_call call_row _ (db (tree_of table.Calls)) c.rows.calls (is table.Calls) call_back in
     let connections = connections_back (db (tree_of table.Connections)) c.rows.connections (is table.Connections) in
-    let monitors = rows_back as_monitor monitor_row _ (db (tree_of table.Monitors)) c.rows.monitors (is table.Monitors) (λ w. refl) in
+    let monitors = rows_back as_monitor monitor_row _ (db (tree_of table.Monitors)) c.rows.monitors (is table.Monitors) monitor_back in
     let events = rows_back as_event event_row _ (db (tree_of table.Events)) c.events (is table.Events) event_back in
     let kept = ap (records_in as_kept) (is table.Kept).0.rows_are ∙ kept_each_back c.kept (is table.Kept).1 in
-    let m : meta_stored (db (tree_of table.Meta)) ≡ meta_of c.rows = ap meta_stored (is table.Meta) in
+    let m : meta_stored (db (tree_of table.Meta)) ≡ meta_of c.rows = ap meta_stored (is table.Meta) ∙ meta_back (meta_of c.rows) in
     let g-0 = records_in as_group (db (tree_of table.Groups)) in
     let s-0 = records_in as_station (db (tree_of table.Stations)) in
     let a-0 = records_in as_agent (db (tree_of table.Agents)) in

@@ -13,7 +13,8 @@ use Rattle.acd_model.specs.Rules.Plan.{connection_order}
 use Rattle.acd_model.specs.Scans.{at_connection}
 use Rattle.acd_laws.proofs.Lists.{after_among, among-put, among-put_other, among-remove, among-remove_other, ascending-put, ascending-remove, remove_is, filter_among, eq_is, among_put}
 use Rattle.acd_laws.proofs.State.{connections_total, connection_key, is_of_true, is_of_self}
-use Rattle.acd_columns.specs.Rows.{id_value, connection_row}
+use Rattle.acd_columns.specs.Values.{id_value}
+use Rattle.acd_columns.specs.Rows.{connection_row}
 use Rattle.acd_statements.specs.Content.{AreConnections}
 
 pub each_has : {X : Type 0} (P : X → Type 0) (xs : List X) → ((x : X) → Has xs x → P x) → AllByRecursion P xs

@@ -13,7 +13,7 @@ use Rattle.sqlite_trees.specs.Tree.{rowid, put_row}
 use Rattle.sqlite_rules.specs.Lists.{Has}
 use Rattle.acd_terms.specs.Lists.{Among, AllAfter, IsAscending, put_by}
 use Rattle.acd_laws.proofs.Lists.{after_among, after_lower, after_same, filter_all}
-use Rattle.acd_columns.specs.Rows.{id_value}
+use Rattle.acd_columns.specs.Values.{id_value}
 
 pub id_cmp : (m n : ℕ) → value_cmp (id_value m) (id_value n) ≡ nat_cmp m n
 id_cmp m n = value_cmp-Int (pos m) (pos n) ∙ grind (arith, ints, nat_tests)

@@ -21,7 +21,7 @@ use Rattle.sqlite.proofs.Callers.{IsPlain, command_of, reads_as}
 use Rattle.acd_laws.proofs.Lists.{ascending-filter}
 use Rattle.acd_book.specs.Content.{Content}
 use Rattle.acd_statements.specs.Schema.{book_schema}
-use Rattle.acd_columns.specs.Rows.{id_value}
+use Rattle.acd_columns.specs.Values.{id_value}
 use Rattle.acd_statements.specs.declared.tables.Table.{Table}
 use Rattle.acd_statements.specs.Content.{AreRows, Stores, tree_of, part}
 use Rattle.acd_statements.specs.Draft.{Holds, Quiet, NoStop}

@@ -42,9 +42,8 @@ use Rattle.acd_statements.specs.declared.tables.Table.{Table}
 use Rattle.acd_statements.specs.declared.tables.Table.TheVariants as table
 use Rattle.acd_statements.specs.AnyRows.{values_in, rows_in, is_good, are_good, is_good_in, table_of_log, values_behind, BeginsAsBook, Numbered, AreNumbered, FromOne, TellsLow, IsPageRows}
 use Rattle.acd_statements.specs.Content.{tree_of}
-use Rattle.acd_columns.specs.Decoding.{option_in}
-use Rattle.acd_columns.specs.Ranges.{◌>>=◌, at_least, stamp_at, event_in, kept_in}
-use Rattle.acd_columns.specs.Rows.{id_value}
+use Rattle.acd_columns.specs.Values.{option_in, ◌>>=◌, at_least, stamp_at, id_value}
+use Rattle.acd_columns.specs.Ranges.{event_in, kept_in}
 use Rattle.acd_statements.specs.Schema.{book_schema}
 use Rattle.acd_statements.specs.Schema as schema
 use Rattle.acd_statements.specs.Seeing.{HasDatabase, Sees}

@@ -25,7 +25,7 @@ use Rattle.sqlite.specs.Rows.{shown}
 use Rattle.sqlite.specs.State.{State, Executes}
 use Rattle.acd_terms.specs.Lists.{Among, IsAscending, put_by}
 use Rattle.acd_laws.proofs.Lists.{ascending-put}
-use Rattle.acd_columns.specs.Rows.{id_value}
+use Rattle.acd_columns.specs.Values.{id_value}
 use Rattle.acd_statements.specs.Content.{AreRows}
 use Rattle.acd_statements.specs.Schema.{Layout, table_of}
 use Rattle.acd_statements.proofs.KeyedRows.{by_key, by_key_total, id_tied, put_left, only_one, puts, row_of, same_number}

@@ -1,47 +1,48 @@
 -- The texts of the queries.
-use Rattle.std.specs.Prelude.{codes, List, ℕ}
+use Rattle.std.specs.Prelude.{List, ℕ}
+use Rattle.acd_columns.specs.declared.texts.TheConstants.{SELECT_GROUPS, SELECT_STATIONS, SELECT_AGENTS, SELECT_CALLS, SELECT_CONNECTIONS, SELECT_MONITORS, SELECT_MONITOR, SELECT_EVENTS_AFTER, SELECT_KEPT_AFTER, SELECT_KEPT_OF_REQUEST, SELECT_EVENTS_AT_DEVICE, SELECT_VERSION, SELECT_STANDING_CONNECTIONS, SELECT_LOW_EVENT, SELECT_LOW_KEPT}
 
 abbrev pub read_groups : List ℕ
-read_groups = codes "SELECT device, name, ring, wrap, entered, answered, abandoned, moved, waited FROM acd_groups ORDER BY device"
+read_groups = SELECT_GROUPS.now
 
 abbrev pub read_stations : List ℕ
-read_stations = codes "SELECT device FROM stations ORDER BY device"
+read_stations = SELECT_STATIONS.now
 
 abbrev pub read_agents : List ℕ
-read_agents = codes "SELECT agent, name, state, pending, station, grp, stamp, since FROM agents ORDER BY agent"
+read_agents = SELECT_AGENTS.now
 
 abbrev pub read_calls : List ℕ
-read_calls = codes "SELECT call, caller, called, since FROM calls ORDER BY call"
+read_calls = SELECT_CALLS.now
 
 abbrev pub read_connections : List ℕ
-read_connections = codes "SELECT call, device, state, grp, place, queued, offered FROM connections ORDER BY call, device"
+read_connections = SELECT_CONNECTIONS.now
 
 abbrev pub read_monitors : List ℕ
-read_monitors = codes "SELECT monitor, device, after_event FROM monitors ORDER BY monitor"
+read_monitors = SELECT_MONITORS.now
 
 abbrev pub read_monitor : List ℕ
-read_monitor = codes "SELECT monitor, device, after_event FROM monitors WHERE monitor = ?1 ORDER BY monitor LIMIT 1"
+read_monitor = SELECT_MONITOR.now
 
 abbrev pub read_events_after : List ℕ
-read_events_after = codes "SELECT number, moment, kind, device, call, agent, grp, target, cause, waited FROM events WHERE number > ?1 ORDER BY number LIMIT ?2"
+read_events_after = SELECT_EVENTS_AFTER.now
 
 abbrev pub read_kept_after : List ℕ
-read_kept_after = codes "SELECT stamp, requester, invoke, moment, request, status, body FROM kept WHERE stamp > ?1 ORDER BY stamp LIMIT ?2"
+read_kept_after = SELECT_KEPT_AFTER.now
 
 abbrev pub read_kept_under : List ℕ
-read_kept_under = codes "SELECT stamp, requester, invoke, moment, request, status, body FROM kept WHERE requester = ?1 AND invoke = ?2 ORDER BY stamp LIMIT 1"
+read_kept_under = SELECT_KEPT_OF_REQUEST.now
 
 abbrev pub read_events_at : List ℕ
-read_events_at = codes "SELECT number, moment, kind, device, call, agent, grp, target, cause, waited FROM events WHERE number > ?1 AND device = ?2 ORDER BY number LIMIT ?3"
+read_events_at = SELECT_EVENTS_AT_DEVICE.now
 
 abbrev pub read_version : List ℕ
-read_version = codes "SELECT version FROM meta"
+read_version = SELECT_VERSION.now
 
 abbrev pub read_unordered_connections : List ℕ
-read_unordered_connections = codes "SELECT call, device, state, grp, place, queued, offered FROM connections"
+read_unordered_connections = SELECT_STANDING_CONNECTIONS.now
 
 abbrev pub read_low_events : List ℕ
-read_low_events = codes "SELECT number FROM events WHERE number < 1 ORDER BY number LIMIT 1"
+read_low_events = SELECT_LOW_EVENT.now
 
 abbrev pub read_low_kept : List ℕ
-read_low_kept = codes "SELECT stamp FROM kept WHERE stamp < 1 ORDER BY stamp LIMIT 1"
+read_low_kept = SELECT_LOW_KEPT.now

@@ -10,7 +10,7 @@ use Rattle.sqlite_schema.specs.declared.schema.Schema.{Schema}
 use Rattle.sqlite.specs.State.{State, Executes}
 use Rattle.acd_terms.specs.Lists.{remove_by}
 use Rattle.acd_laws.proofs.Lists.{remove_is, ascending-remove}
-use Rattle.acd_columns.specs.Rows.{id_value}
+use Rattle.acd_columns.specs.Values.{id_value}
 use Rattle.acd_statements.specs.Content.{AreRows}
 use Rattle.acd_statements.proofs.KeyedRows.{by_key}
 use Rattle.acd_statements.proofs.Puts.{Files}

@@ -18,7 +18,7 @@ use Rattle.acd_book.specs.Content.{Content}
 use Rattle.acd_statements.specs.declared.tables.Table.TheVariants as table
 use Rattle.acd_statements.specs.Schema.{book_schema}
 use Rattle.acd_statements.specs.Schema as schema
-use Rattle.acd_columns.specs.Reading.{meta_shown}
+use Rattle.acd_columns.specs.Rows.{meta_shown}
 use Rattle.acd_statements.specs.Content.{meta_of}
 use Rattle.acd_statements.specs.Draft.{Holds}
 use Rattle.acd_statements.proofs.Scans.{scan, scanned, showing, passing, filter_all}

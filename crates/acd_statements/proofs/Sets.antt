@@ -10,7 +10,7 @@ use Rattle.sqlite_rules.specs.Edit.{edited}
 use Rattle.sqlite.specs.State.{State, Executes}
 use Rattle.acd_terms.specs.Lists.{Among}
 use Rattle.acd_laws.proofs.Lists.{filter_among}
-use Rattle.acd_columns.specs.Rows.{id_value}
+use Rattle.acd_columns.specs.Values.{id_value}
 use Rattle.acd_statements.specs.Content.{AreRows}
 use Rattle.acd_statements.proofs.KeyedRows.{same_number}
 use Rattle.acd_statements.proofs.Puts.{Files, Put, are_put, keyed_by, one_changed}

@@ -26,8 +26,6 @@ use Rattle.sqlite.specs.Values.{or_null}
 use Rattle.sqlite.proofs.Callers.{IsPlain, command_of, one_permutation}
 use Rattle.sqlite_tied.specs.Compute.{everything}
 use Rattle.acd_terms.specs.Lists.{put_by, remove_by}
-use Rattle.acd_terms.specs.Columns.{columns_of}
-use Rattle.acd_terms.specs.declared.event.Columns.{Columns}
 use Rattle.acd_terms.specs.declared.event.Event.{Event}
 use Rattle.acd_terms.specs.declared.record.GroupRecord.{GroupRecord}
 use Rattle.acd_terms.specs.declared.record.StationRecord.{StationRecord}
@@ -42,7 +40,11 @@ use Rattle.acd_book.specs.Content.{Content, empty_content}
 use Rattle.acd_statements.specs.declared.tables.Table.TheVariants as table
 use Rattle.acd_statements.specs.Schema.{Layout, table_of, book_schema}
 use Rattle.acd_statements.specs.Schema as schema
-use Rattle.acd_columns.specs.Rows.{id_value, agent_code, pending_code, kind_code, cause_code, meta_values, meta_row, group_values, group_row, station_values, station_row, agent_values, agent_row, call_values, call_row, monitor_values, monitor_row, report_values, event_values, event_row, kept_values, kept_row, keyed_row, IsReadable}
+use Rattle.acd_columns.specs.declared.decode.EventValues.{EventValues}
+use Rattle.acd_columns.specs.Fields.{written}
+use Rattle.acd_columns.specs.Values.{id_value}
+use Rattle.acd_columns.specs.Codes.{agent_code, pending_code, kind_code, cause_code}
+use Rattle.acd_columns.specs.Rows.{meta_values, meta_row, group_values, group_row, station_values, station_row, agent_values, agent_row, call_values, call_row, monitor_values, monitor_row, event_fields, values_of_event, event_values, event_row, kept_values, kept_row, keyed_row, IsReadable}
 use Rattle.acd_statements.specs.Content.{with_part, meta_of, AreRows}
 use Rattle.acd_statements.specs.Making.{Builds}
 use Rattle.acd_statements.specs.Draft.{Drafts, Ran}
@@ -324,12 +326,14 @@ events_text : Insertion book_schema text.insert_event
 unfolding understood everything
 events_text = insertion text.insert_event 7 9 schema.events refl refl (refl, refl)
 
-event_casts : (n m : ℕ) (k : Columns) → cast_row (table_of schema.events) (keyed_row (id_value n ∷ id_value m ∷ report_values k)) ≡ keyed_row (id_value n ∷ id_value m ∷ report_values k)
-event_casts n m k = rw (cast_id n, cast_null, cast_id m, cast_id (kind_code k.kind), cast_maybe (λ x. x) k.device, cast_maybe (λ x. x) k.call, cast_maybe (λ x. x) k.agent, cast_maybe (λ x. x) k.group, cast_maybe (λ x. x) k.to, cast_maybe cause_code k.cause, cast_maybe (λ x. x) k.waited) refl
+event_casts : (v : EventValues) → cast_row (table_of schema.events) (keyed_row (written event_fields v)) ≡ keyed_row (written event_fields v)
+event_casts v =
+    rw (cast_id v.number, cast_null, cast_id v.moment, cast_id (kind_code v.columns.kind), cast_maybe (λ x. x) v.columns.device, cast_maybe (λ x. x) v.columns.call, cast_maybe (λ x. x) v.columns.agent, cast_maybe (λ x. x) v.columns.group, cast_maybe (λ x. x) v.columns.to, cast_maybe cause_code v.columns.cause, cast_maybe (λ x. x) v.columns.waited)
+    refl
 
 events_put : Inserts book_schema text.insert_event (λ (e : Event). e.number) event_row event_values
 unfolding events_text
-events_put = record { it = events_text; files = record { headed = λ e. refl; casts = λ e. event_casts e.number e.moment (columns_of e.report) }; source = λ e. refl }
+events_put = record { it = events_text; files = record { headed = λ e. refl; casts = λ e. event_casts (values_of_event e) }; source = λ e. refl }
 
 pub puts_event : (e : Event) (c : Content) (old new : State) (count : ℕ) → Drafts old c → Executes text.insert_event (event_values e) old new (Ok count)
     → Drafts new (with_part table.Events (put_by (λ (x : Event). nat_cmp e.number x.number) c.events e) c)

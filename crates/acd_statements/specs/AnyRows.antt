@@ -16,7 +16,7 @@ use Rattle.acd_statements.specs.declared.tables.Whole.TheVariants as whole
 use Rattle.acd_statements.specs.declared.tables.Log.{Log}
 use Rattle.acd_statements.specs.declared.tables.Log.TheVariants as log
 use Rattle.acd_statements.specs.Content.{tree_of}
-use Rattle.acd_columns.specs.Rows.{id_value}
+use Rattle.acd_columns.specs.Values.{id_value}
 use Rattle.acd_statements.specs.Schema as schema
 use Rattle.acd_columns.specs.Ranges.{group_in, station_in, agent_in, call_in, connection_in, monitor_in, counters_in, event_in, kept_in}
 

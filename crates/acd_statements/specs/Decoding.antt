@@ -10,8 +10,7 @@ use Rattle.acd_book.specs.Content.{Content}
 use Rattle.acd_statements.specs.declared.tables.Table.TheVariants as table
 use Rattle.acd_columns.specs.declared.meta.Meta.{Meta}
 use Rattle.acd_statements.specs.Content.{tree_of}
-use Rattle.acd_columns.specs.Decoding.{as_group, as_station, as_agent, as_call, as_connection, as_monitor, as_event, as_kept}
-use Rattle.acd_columns.specs.Reading.{meta_in}
+use Rattle.acd_columns.specs.Decoding.{as_group, as_station, as_agent, as_call, as_connection, as_monitor, as_event, as_kept, as_meta}
 
 -- the number of the row stands in the place of its key
 abbrev pub unkeyed : Row → Row
@@ -31,8 +30,8 @@ connections_in rows = in_order (map (λ row. as_connection (drop 1 row)) rows)
 
 -- the one row of the limits and the counters, behind its key and the version
 abbrev pub meta_stored : List Row → Meta
-meta_stored [] = meta_in []
-meta_stored (row ∷ rows) = meta_in (drop 2 (unkeyed row))
+meta_stored [] = as_meta []
+meta_stored (row ∷ rows) = as_meta (drop 2 (unkeyed row))
 
 abbrev pub rows_from : Meta → Trees → Rows
 rows_from m db = record {

@@ -4,7 +4,8 @@ ghost use Rattle.std.specs.Prelude.{◌≡◌, IfSome};
 ghost use Rattle.sqlite.specs.Values.{bound_value, or_null};
 ghost use Rattle.sqlite_value.specs.Value.{owned};
 ghost use Rattle.sqlite_value.specs.declared.value.Value.TheVariants.{Text};
-ghost use Rattle.acd_columns.specs.Rows.{id_value, pending_code, cause_code};
+ghost use Rattle.acd_columns.specs.Values.{id_value};
+ghost use Rattle.acd_columns.specs.Codes.{pending_code, cause_code};
 ghost use Rattle.acd_statements.specs.Draft.{Fits};
 
 use acd_columns::codes::{cause_code, pending_code};

@@ -12,6 +12,7 @@ ghost use Rattle.acd_statements.specs.Content.{tree_of};
 ghost use Rattle.acd_statements.specs.Schema.{book_schema};
 ghost use Rattle.acd_statements.specs.Seeing.{Sees};
 
+use acd_columns::texts::{SELECT_LOW_EVENT, SELECT_LOW_KEPT, SELECT_STANDING_CONNECTIONS, SELECT_VERSION};
 use crate::read::read;
 use sqlite::{Alter, Connection, Error, Row};
 use sqlite_schema::schema::{Schema, Table};
@@ -36,7 +37,7 @@ pub fn version_rows<S: Alter>(conn: &mut Connection<S>) -> Result<Vec<Row>, Erro
     ensures idle { conn.new.in_transaction ≡ false }
     ensures seen { (d : Database) → BeginsAsBook d.schema → Sees d (state S.Store conn.old) (state S.Store conn.new) result (λ rows. IsPermutation (map (λ r. column r 2 ∷ []) (d.trees (tree_of table.Meta))) rows.items) }
 {
-    read(conn, "SELECT version FROM meta", &[])
+    read(conn, SELECT_VERSION, &[])
 }
 
 /// The rows of connections in the order in which they stand. Their key isn't the number of a row, so that to put them in its order takes longer than to read them.
@@ -49,7 +50,7 @@ pub(crate) fn unordered_connection_rows<S: Alter>(
 {
     read(
         conn,
-        "SELECT call, device, state, grp, place, queued, offered FROM connections",
+        SELECT_STANDING_CONNECTIONS,
         &[],
     )
 }
@@ -62,7 +63,7 @@ pub(crate) fn low_event_rows<S: Alter>(conn: &mut Connection<S>) -> Result<Vec<R
 {
     read(
         conn,
-        "SELECT number FROM events WHERE number < 1 ORDER BY number LIMIT 1",
+        SELECT_LOW_EVENT,
         &[],
     )
 }
@@ -75,7 +76,7 @@ pub(crate) fn low_kept_rows<S: Alter>(conn: &mut Connection<S>) -> Result<Vec<Ro
 {
     read(
         conn,
-        "SELECT stamp FROM kept WHERE stamp < 1 ORDER BY stamp LIMIT 1",
+        SELECT_LOW_KEPT,
         &[],
     )
 }

@@ -14,6 +14,7 @@ ghost use Rattle.acd_statements.specs.Finding.{Finds, kept_behind};
 ghost use Rattle.acd_statements.specs.Schema.{book_schema};
 ghost use Rattle.acd_statements.specs.Seeing.{Sees};
 
+use acd_columns::texts::{SELECT_AGENTS, SELECT_CALLS, SELECT_CONNECTIONS, SELECT_EVENTS_AFTER, SELECT_EVENTS_AT_DEVICE, SELECT_GROUPS, SELECT_KEPT_AFTER, SELECT_KEPT_OF_REQUEST, SELECT_MONITOR, SELECT_MONITORS, SELECT_STATIONS};
 use crate::bind;
 use crate::read::read;
 use acd_terms::{DeviceId, Invoke, Requester};
@@ -27,7 +28,7 @@ pub fn group_rows<S: Alter>(conn: &mut Connection<S>) -> Result<Vec<Row>, Error>
 {
     read(
         conn,
-        "SELECT device, name, ring, wrap, entered, answered, abandoned, moved, waited FROM acd_groups ORDER BY device",
+        SELECT_GROUPS,
         &[],
     )
 }
@@ -38,7 +39,7 @@ pub fn station_rows<S: Alter>(conn: &mut Connection<S>) -> Result<Vec<Row>, Erro
     ensures found { Finds (state S.Store conn.old) (state S.Store conn.new) result (λ c rows. rows.items ≡ map station_values c.rows.stations) }
     ensures seen { (d : Database) → d.schema ≡ book_schema → Sees d (state S.Store conn.old) (state S.Store conn.new) result (λ rows. IsPermutation (rows_in table.Stations d.trees) rows.items) }
 {
-    read(conn, "SELECT device FROM stations ORDER BY device", &[])
+    read(conn, SELECT_STATIONS, &[])
 }
 
 pub fn agent_rows<S: Alter>(conn: &mut Connection<S>) -> Result<Vec<Row>, Error>
@@ -49,7 +50,7 @@ pub fn agent_rows<S: Alter>(conn: &mut Connection<S>) -> Result<Vec<Row>, Error>
 {
     read(
         conn,
-        "SELECT agent, name, state, pending, station, grp, stamp, since FROM agents ORDER BY agent",
+        SELECT_AGENTS,
         &[],
     )
 }
@@ -62,7 +63,7 @@ pub fn call_rows<S: Alter>(conn: &mut Connection<S>) -> Result<Vec<Row>, Error>
 {
     read(
         conn,
-        "SELECT call, caller, called, since FROM calls ORDER BY call",
+        SELECT_CALLS,
         &[],
     )
 }
@@ -75,7 +76,7 @@ pub fn monitor_rows<S: Alter>(conn: &mut Connection<S>) -> Result<Vec<Row>, Erro
 {
     read(
         conn,
-        "SELECT monitor, device, after_event FROM monitors ORDER BY monitor",
+        SELECT_MONITORS,
         &[],
     )
 }
@@ -89,7 +90,7 @@ pub fn monitor_row<S: Alter>(conn: &mut Connection<S>, monitor: u64) -> Result<V
 {
     read(
         conn,
-        "SELECT monitor, device, after_event FROM monitors WHERE monitor = ?1 ORDER BY monitor LIMIT 1",
+        SELECT_MONITOR,
         &[bind::integer(monitor)],
     )
 }
@@ -109,7 +110,7 @@ pub fn event_rows<S: Alter>(
 {
     read(
         conn,
-        "SELECT number, moment, kind, device, call, agent, grp, target, cause, waited FROM events WHERE number > ?1 ORDER BY number LIMIT ?2",
+        SELECT_EVENTS_AFTER,
         &[bind::integer(number), bind::integer(limit)],
     )
 }
@@ -129,7 +130,7 @@ pub fn kept_rows<S: Alter>(
 {
     read(
         conn,
-        "SELECT stamp, requester, invoke, moment, request, status, body FROM kept WHERE stamp > ?1 ORDER BY stamp LIMIT ?2",
+        SELECT_KEPT_AFTER,
         &[bind::integer(stamp), bind::integer(limit)],
     )
 }
@@ -146,7 +147,7 @@ pub fn kept_row<S: Alter>(
 {
     read(
         conn,
-        "SELECT stamp, requester, invoke, moment, request, status, body FROM kept WHERE requester = ?1 AND invoke = ?2 ORDER BY stamp LIMIT 1",
+        SELECT_KEPT_OF_REQUEST,
         &[
             bind::text(requester.as_bytes()),
             bind::small(invoke.number()),
@@ -162,7 +163,7 @@ pub fn connection_rows<S: Alter>(conn: &mut Connection<S>) -> Result<Vec<Row>, E
 {
     read(
         conn,
-        "SELECT call, device, state, grp, place, queued, offered FROM connections ORDER BY call, device",
+        SELECT_CONNECTIONS,
         &[],
     )
 }
@@ -182,7 +183,7 @@ pub fn event_rows_at<S: Alter>(
 {
     read(
         conn,
-        "SELECT number, moment, kind, device, call, agent, grp, target, cause, waited FROM events WHERE number > ?1 AND device = ?2 ORDER BY number LIMIT ?3",
+        SELECT_EVENTS_AT_DEVICE,
         &[
             bind::integer(number),
             bind::device(device),

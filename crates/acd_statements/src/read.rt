@@ -10,12 +10,13 @@ ghost use Rattle.sqlite.specs.Values.{bound};
 ghost use Rattle.acd_book.specs.Content.{Content};
 ghost use Rattle.acd_statements.specs.Schema.{book_schema};
 ghost use Rattle.acd_statements.specs.Content.{meta_of};
-ghost use Rattle.acd_columns.specs.Reading.{meta_shown};
+ghost use Rattle.acd_columns.specs.Rows.{meta_shown};
 ghost use Rattle.acd_statements.specs.AnyRows.{rows_in};
 ghost use Rattle.acd_statements.specs.declared.tables.Table.TheVariants as table;
 ghost use Rattle.acd_statements.specs.Draft.{Holds, Quiet, NoStop};
 ghost use Rattle.acd_statements.specs.Seeing.{Sees};
 
+use acd_columns::texts::{SELECT_META};
 use sqlite::types::ValueRef;
 use sqlite::{Alter, Connection, Error, Row};
 
@@ -62,7 +63,7 @@ pub fn meta_rows<S: Alter>(conn: &mut Connection<S>) -> Result<Vec<Row>, Error>
 {
     read(
         conn,
-        "SELECT max_requests, max_calls, max_groups, max_stations, max_agents, max_monitors, last_stamp, last_moment, last_call, last_monitor, last_event FROM meta",
+        SELECT_META,
         &[],
     )
 }

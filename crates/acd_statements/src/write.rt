@@ -16,6 +16,7 @@ ghost use Rattle.acd_statements.specs.Making.{Builds};
 ghost use Rattle.acd_statements.specs.Content.{with_part};
 ghost use Rattle.acd_statements.specs.Draft.{Drafts, Works, Ran, Fits, FiguresFit, MetaFits};
 
+use acd_columns::texts::{DELETE_CALL, DELETE_CONNECTION, DELETE_MONITOR, INSERT_AGENT, INSERT_CALL, INSERT_CONNECTION, INSERT_EVENT, INSERT_GROUP, INSERT_KEPT, INSERT_META, INSERT_STATION, UPDATE_AGENT, UPDATE_CONNECTION, UPDATE_GROUP, UPDATE_META};
 use crate::bind;
 use crate::tables::Table;
 use acd_book::Kept;
@@ -78,7 +79,7 @@ pub fn put_group<S: Alter>(tx: &mut Transaction<'_, S>, group: &GroupRecord) -> 
     ];
     let changed = changed_rows(
         tx,
-        "UPDATE acd_groups SET name = ?2, ring = ?3, wrap = ?4, entered = ?5, answered = ?6, abandoned = ?7, moved = ?8, waited = ?9 WHERE device = ?1",
+        UPDATE_GROUP,
         &values,
     )?;
     if changed > 0 {
@@ -86,7 +87,7 @@ pub fn put_group<S: Alter>(tx: &mut Transaction<'_, S>, group: &GroupRecord) -> 
     }
     write(
         tx,
-        "INSERT INTO acd_groups (device, name, ring, wrap, entered, answered, abandoned, moved, waited) VALUES (?1, ?2, ?3, ?4, ?5, ?6, ?7, ?8, ?9)",
+        INSERT_GROUP,
         &values,
     )
 }
@@ -103,7 +104,7 @@ pub fn insert_station<S: Alter>(
 {
     write(
         tx,
-        "INSERT INTO stations (device) VALUES (?1)",
+        INSERT_STATION,
         &[bind::device(station.device)],
     )
 }
@@ -128,7 +129,7 @@ pub fn put_agent<S: Alter>(tx: &mut Transaction<'_, S>, agent: &AgentRecord) -> 
     ];
     let changed = changed_rows(
         tx,
-        "UPDATE agents SET name = ?2, state = ?3, pending = ?4, station = ?5, grp = ?6, stamp = ?7, since = ?8 WHERE agent = ?1",
+        UPDATE_AGENT,
         &values,
     )?;
     if changed > 0 {
@@ -136,7 +137,7 @@ pub fn put_agent<S: Alter>(tx: &mut Transaction<'_, S>, agent: &AgentRecord) -> 
     }
     write(
         tx,
-        "INSERT INTO agents (agent, name, state, pending, station, grp, stamp, since) VALUES (?1, ?2, ?3, ?4, ?5, ?6, ?7, ?8)",
+        INSERT_AGENT,
         &values,
     )
 }
@@ -171,7 +172,7 @@ pub fn insert_call<S: Alter>(tx: &mut Transaction<'_, S>, call: &CallRecord) -> 
 {
     write(
         tx,
-        "INSERT INTO calls (call, caller, called, since) VALUES (?1, ?2, ?3, ?4)",
+        INSERT_CALL,
         &[
             bind::integer(call.call),
             bind::device(call.caller),
@@ -216,7 +217,7 @@ pub fn insert_event<S: Alter>(tx: &mut Transaction<'_, S>, event: &Event) -> Res
     let columns = event.report.columns();
     write(
         tx,
-        "INSERT INTO events (number, moment, kind, device, call, agent, grp, target, cause, waited) VALUES (?1, ?2, ?3, ?4, ?5, ?6, ?7, ?8, ?9, ?10)",
+        INSERT_EVENT,
         &[
             bind::integer(event.number),
             bind::small(event.moment),
@@ -248,7 +249,7 @@ pub fn insert_kept<S: Alter>(
     reads_back(&kept.request);
     write(
         tx,
-        "INSERT INTO kept (stamp, requester, invoke, moment, request, status, body) VALUES (?1, ?2, ?3, ?4, ?5, ?6, ?7)",
+        INSERT_KEPT,
         &[
             bind::integer(kept.stamp),
             bind::text(kept.request.requester.as_bytes()),
@@ -271,7 +272,7 @@ pub fn insert_meta<S: Alter>(tx: &mut Transaction<'_, S>, meta: &Meta) -> Result
 {
     write(
         tx,
-        "INSERT INTO meta (id, version, max_requests, max_calls, max_groups, max_stations, max_agents, max_monitors, last_stamp, last_moment, last_call, last_monitor, last_event) VALUES (?1, ?2, ?3, ?4, ?5, ?6, ?7, ?8, ?9, ?10, ?11, ?12, ?13)",
+        INSERT_META,
         &[
             bind::integer(1),
             bind::integer(1),
@@ -300,7 +301,7 @@ pub fn set_meta<S: Alter>(tx: &mut Transaction<'_, S>, meta: &Meta) -> Result<()
 {
     write(
         tx,
-        "UPDATE meta SET max_requests = ?1, max_calls = ?2, max_groups = ?3, max_stations = ?4, max_agents = ?5, max_monitors = ?6, last_stamp = ?7, last_moment = ?8, last_call = ?9, last_monitor = ?10, last_event = ?11 WHERE id = 1",
+        UPDATE_META,
         &[
             bind::integer(meta.limits.requests),
             bind::integer(meta.limits.calls),
@@ -326,7 +327,7 @@ pub fn drop_call<S: Alter>(tx: &mut Transaction<'_, S>, call: u64) -> Result<(),
 {
     write(
         tx,
-        "DELETE FROM calls WHERE call = ?1",
+        DELETE_CALL,
         &[bind::integer(call)],
     )
 }
@@ -340,7 +341,7 @@ pub fn drop_monitor<S: Alter>(tx: &mut Transaction<'_, S>, monitor: u64) -> Resu
 {
     write(
         tx,
-        "DELETE FROM monitors WHERE monitor = ?1",
+        DELETE_MONITOR,
         &[bind::integer(monitor)],
     )
 }
@@ -359,7 +360,7 @@ pub fn put_connection<S: Alter>(
 {
     let changed = changed_rows(
         tx,
-        "UPDATE connections SET state = ?3, grp = ?4, place = ?5, queued = ?6, offered = ?7 WHERE call = ?1 AND device = ?2",
+        UPDATE_CONNECTION,
         &[
             bind::integer(connection.call),
             bind::device(connection.device),
@@ -390,7 +391,7 @@ pub fn insert_connection<S: Alter>(
 {
     write(
         tx,
-        "INSERT INTO connections (call, device, state, grp, place, queued, offered) VALUES (?1, ?2, ?3, ?4, ?5, ?6, ?7)",
+        INSERT_CONNECTION,
         &[
             bind::integer(connection.call),
             bind::device(connection.device),
@@ -416,7 +417,7 @@ pub fn drop_connection<S: Alter>(
 {
     write(
         tx,
-        "DELETE FROM connections WHERE call = ?1 AND device = ?2",
+        DELETE_CONNECTION,
         &[bind::integer(call), bind::device(device)],
     )
 }

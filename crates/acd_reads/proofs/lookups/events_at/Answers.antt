@@ -3,7 +3,8 @@ use Rattle.sqlite.specs.Held.{state}
 use Rattle.acd_book.specs.Content.{Content, is_told}
 use Rattle.acd_columns.specs.Ranges.{event_in}
 use Rattle.acd_columns.specs.Rows.{event_values}
-use Rattle.acd_reads.proofs.Recorded.{recorded, event_exact}
+use Rattle.acd_columns.proofs.Reported.{event_exact}
+use Rattle.acd_reads.proofs.Recorded.{recorded}
 use Rattle.acd_reads.proofs.lookups.events_at.Goals as goal
 
 pub returns-clause-found : goal.returns-clause-found

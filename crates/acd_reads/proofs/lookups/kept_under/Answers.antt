@@ -4,7 +4,7 @@ use Rattle.acd_book.specs.declared.kept.Kept.{Kept}
 use Rattle.acd_columns.specs.Rows.{IsReadable, kept_values}
 use Rattle.acd_columns.specs.Ranges.{kept_in}
 use Rattle.acd_reads.proofs.FirstFound.{first_recorded, found_readable}
-use Rattle.acd_reads.proofs.Recorded.{kept_exact}
+use Rattle.acd_columns.proofs.Reported.{kept_exact}
 use Rattle.acd_reads.proofs.lookups.kept_under.Goals as goal
 
 pub returns-clause-found : goal.returns-clause-found

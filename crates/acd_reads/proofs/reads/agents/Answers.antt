@@ -6,7 +6,8 @@ use Rattle.acd_terms.specs.declared.record.AgentRecord.{AgentRecord}
 use Rattle.acd_book.specs.Content.{Content}
 use Rattle.acd_columns.specs.Ranges.{agent_in}
 use Rattle.acd_columns.specs.Rows.{agent_values}
-use Rattle.acd_reads.proofs.Recorded.{found_none, recorded, agent_exact}
+use Rattle.acd_columns.proofs.Records.{agent_exact}
+use Rattle.acd_reads.proofs.Recorded.{found_none, recorded}
 use Rattle.acd_statements.specs.Finding.{Finds}
 use Rattle.acd_reads.proofs.reads.agents.Goals as goal
 

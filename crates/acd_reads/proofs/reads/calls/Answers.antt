@@ -6,7 +6,8 @@ use Rattle.acd_terms.specs.declared.record.CallRecord.{CallRecord}
 use Rattle.acd_book.specs.Content.{Content}
 use Rattle.acd_columns.specs.Ranges.{call_in}
 use Rattle.acd_columns.specs.Rows.{call_values}
-use Rattle.acd_reads.proofs.Recorded.{found_none, recorded, call_exact}
+use Rattle.acd_columns.proofs.Records.{call_exact}
+use Rattle.acd_reads.proofs.Recorded.{found_none, recorded}
 use Rattle.acd_statements.specs.Finding.{Finds}
 use Rattle.acd_reads.proofs.reads.calls.Goals as goal
 

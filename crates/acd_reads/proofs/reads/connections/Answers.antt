@@ -6,7 +6,8 @@ use Rattle.acd_terms.specs.declared.record.ConnectionRecord.{ConnectionRecord}
 use Rattle.acd_book.specs.Content.{Content}
 use Rattle.acd_columns.specs.Ranges.{connection_in}
 use Rattle.acd_columns.specs.Rows.{connection_values}
-use Rattle.acd_reads.proofs.Recorded.{found_none, recorded, connection_exact}
+use Rattle.acd_columns.proofs.Records.{connection_exact}
+use Rattle.acd_reads.proofs.Recorded.{found_none, recorded}
 use Rattle.acd_statements.specs.Finding.{Finds}
 use Rattle.acd_reads.proofs.reads.connections.Goals as goal
 

@@ -6,7 +6,8 @@ use Rattle.acd_terms.specs.declared.record.GroupRecord.{GroupRecord}
 use Rattle.acd_book.specs.Content.{Content}
 use Rattle.acd_columns.specs.Ranges.{group_in}
 use Rattle.acd_columns.specs.Rows.{group_values}
-use Rattle.acd_reads.proofs.Recorded.{found_none, recorded, group_exact}
+use Rattle.acd_columns.proofs.Records.{group_exact}
+use Rattle.acd_reads.proofs.Recorded.{found_none, recorded}
 use Rattle.acd_statements.specs.Finding.{Finds}
 use Rattle.acd_reads.proofs.reads.groups.Goals as goal
 

@@ -6,7 +6,8 @@ use Rattle.acd_terms.specs.declared.record.MonitorRecord.{MonitorRecord}
 use Rattle.acd_book.specs.Content.{Content}
 use Rattle.acd_columns.specs.Ranges.{monitor_in}
 use Rattle.acd_columns.specs.Rows.{monitor_values}
-use Rattle.acd_reads.proofs.Recorded.{found_none, recorded, monitor_exact}
+use Rattle.acd_columns.proofs.Records.{monitor_exact}
+use Rattle.acd_reads.proofs.Recorded.{found_none, recorded}
 use Rattle.acd_statements.specs.Finding.{Finds}
 use Rattle.acd_reads.proofs.reads.monitors.Goals as goal
 

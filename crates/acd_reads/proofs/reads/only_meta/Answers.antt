@@ -1,5 +1,5 @@
 use Rattle.std.proofs.Common.{slice_index_or, sym, ap, ◌∙◌}
-use Rattle.acd_reads.proofs.Recorded.{meta_exact}
+use Rattle.acd_columns.proofs.Records.{meta_exact}
 use Rattle.acd_reads.proofs.reads.only_meta.Goals as goal
 
 pub returns-in-Some : goal.returns-in-Some

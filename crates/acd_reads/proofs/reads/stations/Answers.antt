@@ -6,7 +6,8 @@ use Rattle.acd_terms.specs.declared.record.StationRecord.{StationRecord}
 use Rattle.acd_book.specs.Content.{Content}
 use Rattle.acd_columns.specs.Ranges.{station_in}
 use Rattle.acd_columns.specs.Rows.{station_values}
-use Rattle.acd_reads.proofs.Recorded.{found_none, recorded, station_exact}
+use Rattle.acd_columns.proofs.Records.{station_exact}
+use Rattle.acd_reads.proofs.Recorded.{found_none, recorded}
 use Rattle.acd_statements.specs.Finding.{Finds}
 use Rattle.acd_reads.proofs.reads.stations.Goals as goal
 

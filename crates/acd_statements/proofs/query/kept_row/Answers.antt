@@ -1,7 +1,7 @@
 use Rattle.std.proofs.Common.{[], ◌∷◌}
 use Rattle.sqlite_value.specs.declared.value.Value.TheVariants.{Text}
 use Rattle.sqlite.specs.Held.{state}
-use Rattle.acd_columns.specs.Rows.{id_value}
+use Rattle.acd_columns.specs.Values.{id_value}
 use Rattle.acd_statements.proofs.Listings.{finds}
 use Rattle.acd_statements.proofs.Asked.{key_plain, shows_kept_under}
 use Rattle.acd_statements.proofs.QueryTexts.{read_kept_under}

@@ -1,6 +1,6 @@
 use Rattle.std.proofs.Common.{[], ◌∷◌}
 use Rattle.sqlite.specs.Held.{state}
-use Rattle.acd_columns.specs.Rows.{id_value}
+use Rattle.acd_columns.specs.Values.{id_value}
 use Rattle.acd_statements.proofs.Listings.{finds}
 use Rattle.acd_statements.proofs.Asked.{monitor_plain, shows_monitor}
 use Rattle.acd_statements.proofs.QueryTexts.{read_monitor}

@@ -1,6 +1,6 @@
 use Rattle.std.proofs.Common.{[], ◌∷◌}
 use Rattle.sqlite.specs.Held.{state}
-use Rattle.acd_columns.specs.Rows.{id_value}
+use Rattle.acd_columns.specs.Values.{id_value}
 use Rattle.acd_statements.proofs.Texts.{drop_call}
 use Rattle.acd_statements.proofs.Writes.{drafts, drops_call}
 use Rattle.acd_statements.proofs.write.drop_call.Goals as goal

@@ -1,6 +1,6 @@
 use Rattle.std.proofs.Common.{[], ◌∷◌}
 use Rattle.sqlite.specs.Held.{state}
-use Rattle.acd_columns.specs.Rows.{id_value}
+use Rattle.acd_columns.specs.Values.{id_value}
 use Rattle.acd_statements.proofs.Connections.{drops_connection}
 use Rattle.acd_statements.proofs.Texts.{drop_connection}
 use Rattle.acd_statements.proofs.Writes.{drafts}

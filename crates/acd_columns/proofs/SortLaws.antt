@@ -1,0 +1,61 @@
+-- What is read of a column is what was written there, and so is what is shown of it.
+use Rattle.std.proofs.Common.{◌≡◌, ℕ, Some, None, refl, ap, ◌∙◌}
+use Rattle.sqlite_value.specs.Order.{Row, column}
+use Rattle.acd_columns.proofs.CodeLaws.{agent_state_back, pending_back, kind_back, cause_back, connection_state_back}
+use Rattle.acd_columns.proofs.Ranged.{whole_stored, stamp_stored, serial_stored, moment_stored, seconds_stored, device_stored, agent_id_stored, name_stored, agent_state_stored, pending_stored, kind_stored, cause_stored, connection_state_stored, or_none_stored}
+use Rattle.acd_columns.specs.Sorts.{Sort, whole, stamp, serial, moment, seconds, device, agent, name, agent_state, pending, kind, cause, connection_state, Column, sure, maybe, Of, Means, value_of, value, read_of, read_at, shown_of, shown_or_none, shown}
+
+sort_stored : (s : Sort) (r : Row) (at : ℕ) (x : Of s) → read_of s r at ≡ Some x → column r at ≡ value_of s x
+sort_stored whole r at x h = whole_stored r at x h
+sort_stored stamp r at x h = stamp_stored r at x h
+sort_stored serial r at x h = serial_stored r at x h
+sort_stored moment r at x h = moment_stored r at x h
+sort_stored seconds r at x h = seconds_stored r at x h
+sort_stored device r at x h = device_stored r at x h
+sort_stored agent r at x h = agent_id_stored r at x h
+sort_stored name r at x h = name_stored r at x h
+sort_stored agent_state r at x h = agent_state_stored r at x h
+sort_stored pending r at x h = pending_stored r at x h
+sort_stored kind r at x h = kind_stored r at x h
+sort_stored cause r at x h = cause_stored r at x h
+sort_stored connection_state r at x h = connection_state_stored r at x h
+
+pub stored : (c : Column) (r : Row) (at : ℕ) (x : Means c) → read_at c r at ≡ Some x → column r at ≡ value c x
+stored (sure s) r at x h = sort_stored s r at x h
+stored (maybe s) r at x h = or_none_stored r at (read_of s) (value_of s) (sort_stored s r at) x h
+
+sort_back : (s : Sort) (x : Of s) → shown_of s (value_of s x) ≡ x
+sort_back whole x = refl
+sort_back stamp x = refl
+sort_back serial x = refl
+sort_back moment x = refl
+sort_back seconds x = refl
+sort_back device x = refl
+sort_back agent x = refl
+sort_back name x = refl
+sort_back agent_state x = rw (agent_state_back x) refl
+sort_back pending x = rw (pending_back x) refl
+sort_back kind x = rw (kind_back x) refl
+sort_back cause x = rw (cause_back x) refl
+sort_back connection_state x = rw (connection_state_back x) refl
+
+-- of a value, which isn't NULL
+some_shown : (s : Sort) (x : Of s) → shown_or_none s (value_of s x) ≡ Some (shown_of s (value_of s x))
+some_shown whole x = refl
+some_shown stamp x = refl
+some_shown serial x = refl
+some_shown moment x = refl
+some_shown seconds x = refl
+some_shown device x = refl
+some_shown agent x = refl
+some_shown name x = refl
+some_shown agent_state x = refl
+some_shown pending x = refl
+some_shown kind x = refl
+some_shown cause x = refl
+some_shown connection_state x = refl
+
+pub back : (c : Column) (x : Means c) → shown c (value c x) ≡ x
+back (sure s) x = sort_back s x
+back (maybe s) None = refl
+back (maybe s) (Some x) = some_shown s x ∙ ap Some (sort_back s x)
