@@ -142,10 +142,14 @@ macro_rules! select_version {
 }
 
 pub const CREATE_META: &str = meta!(create);
+
 pub const INSERT_META: &str = meta!(insert);
+
 pub const UPDATE_META: &str =
     "UPDATE meta SET max_requests = ?1, max_calls = ?2, max_groups = ?3, max_stations = ?4, max_agents = ?5, max_monitors = ?6, last_stamp = ?7, last_moment = ?8, last_call = ?9, last_monitor = ?10, last_event = ?11 WHERE id = 1";
+
 pub const SELECT_META: &str = meta!(select_counters);
+
 pub const SELECT_VERSION: &str = meta!(select_version);
 
 // ---- groups
@@ -168,8 +172,11 @@ macro_rules! groups {
 }
 
 pub const CREATE_GROUPS: &str = groups!(create);
+
 pub const INSERT_GROUP: &str = groups!(insert);
+
 pub const UPDATE_GROUP: &str = groups!(update);
+
 pub const SELECT_GROUPS: &str = groups!(select);
 
 // ---- stations
@@ -181,7 +188,9 @@ macro_rules! stations {
 }
 
 pub const CREATE_STATIONS: &str = stations!(create);
+
 pub const INSERT_STATION: &str = stations!(insert);
+
 pub const SELECT_STATIONS: &str = stations!(select);
 
 // ---- agents
@@ -203,8 +212,11 @@ macro_rules! agents {
 }
 
 pub const CREATE_AGENTS: &str = agents!(create);
+
 pub const INSERT_AGENT: &str = agents!(insert);
+
 pub const UPDATE_AGENT: &str = agents!(update);
+
 pub const SELECT_AGENTS: &str = agents!(select);
 
 // ---- calls
@@ -222,9 +234,13 @@ macro_rules! calls {
 }
 
 pub const CREATE_CALLS: &str = calls!(create);
+
 pub const INSERT_CALL: &str = calls!(insert);
+
 pub const UPDATE_CALL: &str = calls!(update);
+
 pub const DELETE_CALL: &str = calls!(delete);
+
 pub const SELECT_CALLS: &str = calls!(select);
 
 // ---- connections
@@ -245,10 +261,15 @@ macro_rules! connections {
 }
 
 pub const CREATE_CONNECTIONS: &str = connections!(create_pair);
+
 pub const INSERT_CONNECTION: &str = connections!(insert);
+
 pub const UPDATE_CONNECTION: &str = connections!(update_pair);
+
 pub const DELETE_CONNECTION: &str = connections!(delete_pair);
+
 pub const SELECT_CONNECTIONS: &str = connections!(select_pair);
+
 pub const SELECT_STANDING_CONNECTIONS: &str = connections!(select_standing);
 
 // ---- monitors
@@ -265,10 +286,15 @@ macro_rules! monitors {
 }
 
 pub const CREATE_MONITORS: &str = monitors!(create);
+
 pub const INSERT_MONITOR: &str = monitors!(insert);
+
 pub const UPDATE_MONITOR: &str = monitors!(update);
+
 pub const DELETE_MONITOR: &str = monitors!(delete);
+
 pub const SELECT_MONITORS: &str = monitors!(select);
+
 pub const SELECT_MONITOR: &str = monitors!(one);
 
 // ---- events
@@ -292,9 +318,13 @@ macro_rules! events {
 }
 
 pub const CREATE_EVENTS: &str = events!(create);
+
 pub const INSERT_EVENT: &str = events!(insert);
+
 pub const SELECT_EVENTS_AFTER: &str = events!(page);
+
 pub const SELECT_EVENTS_AT_DEVICE: &str = events!(page_at_device);
+
 pub const SELECT_LOW_EVENT: &str = events!(low);
 
 // ---- kept records
@@ -315,7 +345,11 @@ macro_rules! kept {
 }
 
 pub const CREATE_KEPT: &str = kept!(create_of_request);
+
 pub const INSERT_KEPT: &str = kept!(insert);
+
 pub const SELECT_KEPT_AFTER: &str = kept!(page);
+
 pub const SELECT_KEPT_OF_REQUEST: &str = kept!(one_of_request);
+
 pub const SELECT_LOW_KEPT: &str = kept!(low);

@@ -3,9 +3,9 @@ use Rattle.std.proofs.Common.{◌≡◌, [], ◌∷◌, refl}
 use Rattle.std.specs.Fmt.{digits}
 use Rattle.sqlite.specs.Listing.{understood}
 use Rattle.sqlite_tied.specs.Compute.{everything}
-use Rattle.acd_statements.specs.Schema.{no_schema, book_schema, meta, groups, stations, agents, calls, connections, monitors, events, kept}
-use Rattle.acd_statements.proofs.Texts.{make_meta, make_groups, make_stations, make_agents, make_calls, make_connections, make_monitors, make_events, make_kept}
-use Rattle.acd_statements.specs.Making.{Makes, unplaced, with_tables, plan_schema, state_schema}
+use Rattle.acd_columns.specs.Schema.{no_schema, book_schema, meta, groups, stations, agents, calls, connections, monitors, events, kept}
+use Rattle.acd_columns.proofs.StatementTexts.{make_meta, make_groups, make_stations, make_agents, make_calls, make_connections, make_monitors, make_events, make_kept}
+use Rattle.acd_columns.specs.Making.{Makes, unplaced, with_tables, plan_schema, state_schema}
 
 pub whole : with_tables state_schema (events ∷ kept ∷ []) ≡ book_schema
 unfolding digits

@@ -6,14 +6,17 @@ ghost use Rattle.sqlite_schema.specs.declared.schema.Schema.{Schema};
 ghost use Rattle.sqlite.specs.Change.{created};
 ghost use Rattle.sqlite.specs.State.{HasCleanDisk};
 ghost use Rattle.sqlite.specs.Held.{state};
-ghost use Rattle.acd_statements.specs.Schema.{no_schema, book_schema};
-ghost use Rattle.acd_statements.specs.Making.{Makes, Builds, plan_schema, state_schema};
-ghost use Rattle.acd_statements.specs.Draft.{Works, Holds, LimitsFit};
+ghost use Rattle.acd_columns.specs.Schema.{no_schema, book_schema};
+ghost use Rattle.acd_columns.specs.Making.{Makes, Builds, plan_schema, state_schema};
+ghost use Rattle.acd_columns.specs.Draft.{Works, Holds, LimitsFit};
 ghost use Rattle.acd_book.specs.Content.{empty_content};
 ghost use Rattle.acd_schema.specs.SettingUp.{MayMake};
 
-use acd_columns::texts::{CREATE_AGENTS, CREATE_CALLS, CREATE_CONNECTIONS, CREATE_EVENTS, CREATE_GROUPS, CREATE_KEPT, CREATE_META, CREATE_MONITORS, CREATE_STATIONS};
 use acd_columns::Meta;
+use acd_columns::texts::{
+    CREATE_AGENTS, CREATE_CALLS, CREATE_CONNECTIONS, CREATE_EVENTS, CREATE_GROUPS, CREATE_KEPT,
+    CREATE_META, CREATE_MONITORS, CREATE_STATIONS,
+};
 use acd_statements::write::{insert_meta, write};
 use acd_terms::Limits;
 use sqlite::{Alter, Connection, Error, Transaction};
@@ -42,22 +45,10 @@ fn make_plan<S: Alter>(tx: &mut Transaction<'_, S>) -> Result<(), Error>
     ensures works { Works (state S.Store tx.old.conn.now) (state S.Store tx.new.conn.now) }
     ensures made { HasCleanDisk (state S.Store tx.new.conn.now) → OnOk result (Builds (state S.Store tx.old.conn.now) no_schema → Builds (state S.Store tx.new.conn.now) plan_schema) }
 {
-    make(
-        tx,
-        CREATE_META,
-    )?;
-    make(
-        tx,
-        CREATE_GROUPS,
-    )?;
-    make(
-        tx,
-        CREATE_STATIONS,
-    )?;
-    make(
-        tx,
-        CREATE_AGENTS,
-    )?;
+    make(tx, CREATE_META)?;
+    make(tx, CREATE_GROUPS)?;
+    make(tx, CREATE_STATIONS)?;
+    make(tx, CREATE_AGENTS)?;
     Ok(())
 }
 
@@ -67,18 +58,9 @@ fn make_state<S: Alter>(tx: &mut Transaction<'_, S>) -> Result<(), Error>
     ensures works { Works (state S.Store tx.old.conn.now) (state S.Store tx.new.conn.now) }
     ensures made { HasCleanDisk (state S.Store tx.new.conn.now) → OnOk result (Builds (state S.Store tx.old.conn.now) plan_schema → Builds (state S.Store tx.new.conn.now) state_schema) }
 {
-    make(
-        tx,
-        CREATE_CALLS,
-    )?;
-    make(
-        tx,
-        CREATE_CONNECTIONS,
-    )?;
-    make(
-        tx,
-        CREATE_MONITORS,
-    )?;
+    make(tx, CREATE_CALLS)?;
+    make(tx, CREATE_CONNECTIONS)?;
+    make(tx, CREATE_MONITORS)?;
     Ok(())
 }
 
@@ -88,14 +70,8 @@ fn make_log<S: Alter>(tx: &mut Transaction<'_, S>) -> Result<(), Error>
     ensures works { Works (state S.Store tx.old.conn.now) (state S.Store tx.new.conn.now) }
     ensures made { HasCleanDisk (state S.Store tx.new.conn.now) → OnOk result (Builds (state S.Store tx.old.conn.now) state_schema → Builds (state S.Store tx.new.conn.now) book_schema) }
 {
-    make(
-        tx,
-        CREATE_EVENTS,
-    )?;
-    make(
-        tx,
-        CREATE_KEPT,
-    )?;
+    make(tx, CREATE_EVENTS)?;
+    make(tx, CREATE_KEPT)?;
     Ok(())
 }
 

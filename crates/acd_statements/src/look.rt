@@ -5,15 +5,17 @@ ghost use Rattle.std.specs.Str.{bytes_eq};
 ghost use Rattle.sqlite_value.specs.Order.{column};
 ghost use Rattle.sqlite.specs.Effect.{Database};
 ghost use Rattle.sqlite.specs.Held.{state};
-ghost use Rattle.acd_statements.specs.declared.tables.Log.TheVariants as log;
-ghost use Rattle.acd_statements.specs.declared.tables.Table.TheVariants as table;
-ghost use Rattle.acd_statements.specs.AnyRows.{has_meta, rows_in, BeginsAsBook, TellsLow};
-ghost use Rattle.acd_statements.specs.Content.{tree_of};
-ghost use Rattle.acd_statements.specs.Schema.{book_schema};
-ghost use Rattle.acd_statements.specs.Seeing.{Sees};
+ghost use Rattle.acd_columns.specs.declared.tables.Log.TheVariants as log;
+ghost use Rattle.acd_columns.specs.declared.tables.Table.TheVariants as table;
+ghost use Rattle.acd_columns.specs.AnyRows.{has_meta, rows_in, BeginsAsBook, TellsLow};
+ghost use Rattle.acd_columns.specs.Content.{tree_of};
+ghost use Rattle.acd_columns.specs.Schema.{book_schema};
+ghost use Rattle.acd_columns.specs.Seeing.{Sees};
 
-use acd_columns::texts::{SELECT_LOW_EVENT, SELECT_LOW_KEPT, SELECT_STANDING_CONNECTIONS, SELECT_VERSION};
 use crate::read::read;
+use acd_columns::texts::{
+    SELECT_LOW_EVENT, SELECT_LOW_KEPT, SELECT_STANDING_CONNECTIONS, SELECT_VERSION,
+};
 use sqlite::{Alter, Connection, Error, Row};
 use sqlite_schema::schema::{Schema, Table};
 
@@ -48,11 +50,7 @@ pub(crate) fn unordered_connection_rows<S: Alter>(
     ensures idle { conn.new.in_transaction ≡ false }
     ensures seen { (d : Database) → d.schema ≡ book_schema → Sees d (state S.Store conn.old) (state S.Store conn.new) result (λ rows. IsPermutation (rows_in table.Connections d.trees) rows.items) }
 {
-    read(
-        conn,
-        SELECT_STANDING_CONNECTIONS,
-        &[],
-    )
+    read(conn, SELECT_STANDING_CONNECTIONS, &[])
 }
 
 /// An event whose number is below 1.
@@ -61,11 +59,7 @@ pub(crate) fn low_event_rows<S: Alter>(conn: &mut Connection<S>) -> Result<Vec<R
     ensures idle { conn.new.in_transaction ≡ false }
     ensures seen { (d : Database) → d.schema ≡ book_schema → Sees d (state S.Store conn.old) (state S.Store conn.new) result (λ rows. TellsLow log.Events d.trees rows.items) }
 {
-    read(
-        conn,
-        SELECT_LOW_EVENT,
-        &[],
-    )
+    read(conn, SELECT_LOW_EVENT, &[])
 }
 
 /// A kept record whose stamp is below 1.
@@ -74,9 +68,5 @@ pub(crate) fn low_kept_rows<S: Alter>(conn: &mut Connection<S>) -> Result<Vec<Ro
     ensures idle { conn.new.in_transaction ≡ false }
     ensures seen { (d : Database) → d.schema ≡ book_schema → Sees d (state S.Store conn.old) (state S.Store conn.new) result (λ rows. TellsLow log.Kept d.trees rows.items) }
 {
-    read(
-        conn,
-        SELECT_LOW_KEPT,
-        &[],
-    )
+    read(conn, SELECT_LOW_KEPT, &[])
 }

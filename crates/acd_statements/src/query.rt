@@ -6,17 +6,21 @@ ghost use Rattle.sqlite.specs.Held.{state};
 ghost use Rattle.acd_model.specs.Scans.{monitor_of};
 ghost use Rattle.acd_book.specs.Content.{events_behind, is_told, kept_of};
 ghost use Rattle.acd_columns.specs.Rows.{group_values, station_values, agent_values, call_values, connection_values, monitor_values, event_values, kept_values};
-ghost use Rattle.acd_statements.specs.declared.tables.Log.TheVariants as log;
-ghost use Rattle.acd_statements.specs.declared.tables.Table.TheVariants as table;
-ghost use Rattle.acd_statements.specs.AnyRows.{rows_in, IsPageRows};
-ghost use Rattle.acd_statements.specs.Draft.{Fits};
-ghost use Rattle.acd_statements.specs.Finding.{Finds, kept_behind};
-ghost use Rattle.acd_statements.specs.Schema.{book_schema};
-ghost use Rattle.acd_statements.specs.Seeing.{Sees};
+ghost use Rattle.acd_columns.specs.declared.tables.Log.TheVariants as log;
+ghost use Rattle.acd_columns.specs.declared.tables.Table.TheVariants as table;
+ghost use Rattle.acd_columns.specs.AnyRows.{rows_in, IsPageRows};
+ghost use Rattle.acd_columns.specs.Draft.{Fits};
+ghost use Rattle.acd_columns.specs.Finding.{Finds, kept_behind};
+ghost use Rattle.acd_columns.specs.Schema.{book_schema};
+ghost use Rattle.acd_columns.specs.Seeing.{Sees};
 
-use acd_columns::texts::{SELECT_AGENTS, SELECT_CALLS, SELECT_CONNECTIONS, SELECT_EVENTS_AFTER, SELECT_EVENTS_AT_DEVICE, SELECT_GROUPS, SELECT_KEPT_AFTER, SELECT_KEPT_OF_REQUEST, SELECT_MONITOR, SELECT_MONITORS, SELECT_STATIONS};
 use crate::bind;
 use crate::read::read;
+use acd_columns::texts::{
+    SELECT_AGENTS, SELECT_CALLS, SELECT_CONNECTIONS, SELECT_EVENTS_AFTER, SELECT_EVENTS_AT_DEVICE,
+    SELECT_GROUPS, SELECT_KEPT_AFTER, SELECT_KEPT_OF_REQUEST, SELECT_MONITOR, SELECT_MONITORS,
+    SELECT_STATIONS,
+};
 use acd_terms::{DeviceId, Invoke, Requester};
 use sqlite::{Alter, Connection, Error, Row};
 
@@ -26,11 +30,7 @@ pub fn group_rows<S: Alter>(conn: &mut Connection<S>) -> Result<Vec<Row>, Error>
     ensures found { Finds (state S.Store conn.old) (state S.Store conn.new) result (λ c rows. rows.items ≡ map group_values c.rows.groups) }
     ensures seen { (d : Database) → d.schema ≡ book_schema → Sees d (state S.Store conn.old) (state S.Store conn.new) result (λ rows. IsPermutation (rows_in table.Groups d.trees) rows.items) }
 {
-    read(
-        conn,
-        SELECT_GROUPS,
-        &[],
-    )
+    read(conn, SELECT_GROUPS, &[])
 }
 
 pub fn station_rows<S: Alter>(conn: &mut Connection<S>) -> Result<Vec<Row>, Error>
@@ -48,11 +48,7 @@ pub fn agent_rows<S: Alter>(conn: &mut Connection<S>) -> Result<Vec<Row>, Error>
     ensures found { Finds (state S.Store conn.old) (state S.Store conn.new) result (λ c rows. rows.items ≡ map agent_values c.rows.agents) }
     ensures seen { (d : Database) → d.schema ≡ book_schema → Sees d (state S.Store conn.old) (state S.Store conn.new) result (λ rows. IsPermutation (rows_in table.Agents d.trees) rows.items) }
 {
-    read(
-        conn,
-        SELECT_AGENTS,
-        &[],
-    )
+    read(conn, SELECT_AGENTS, &[])
 }
 
 pub fn call_rows<S: Alter>(conn: &mut Connection<S>) -> Result<Vec<Row>, Error>
@@ -61,11 +57,7 @@ pub fn call_rows<S: Alter>(conn: &mut Connection<S>) -> Result<Vec<Row>, Error>
     ensures found { Finds (state S.Store conn.old) (state S.Store conn.new) result (λ c rows. rows.items ≡ map call_values c.rows.calls) }
     ensures seen { (d : Database) → d.schema ≡ book_schema → Sees d (state S.Store conn.old) (state S.Store conn.new) result (λ rows. IsPermutation (rows_in table.Calls d.trees) rows.items) }
 {
-    read(
-        conn,
-        SELECT_CALLS,
-        &[],
-    )
+    read(conn, SELECT_CALLS, &[])
 }
 
 pub fn monitor_rows<S: Alter>(conn: &mut Connection<S>) -> Result<Vec<Row>, Error>
@@ -74,11 +66,7 @@ pub fn monitor_rows<S: Alter>(conn: &mut Connection<S>) -> Result<Vec<Row>, Erro
     ensures found { Finds (state S.Store conn.old) (state S.Store conn.new) result (λ c rows. rows.items ≡ map monitor_values c.rows.monitors) }
     ensures seen { (d : Database) → d.schema ≡ book_schema → Sees d (state S.Store conn.old) (state S.Store conn.new) result (λ rows. IsPermutation (rows_in table.Monitors d.trees) rows.items) }
 {
-    read(
-        conn,
-        SELECT_MONITORS,
-        &[],
-    )
+    read(conn, SELECT_MONITORS, &[])
 }
 
 /// The row of a monitor, if it is running.
@@ -88,11 +76,7 @@ pub fn monitor_row<S: Alter>(conn: &mut Connection<S>, monitor: u64) -> Result<V
     ensures idle { conn.new.in_transaction ≡ false }
     ensures found { Finds (state S.Store conn.old) (state S.Store conn.new) result (λ c rows. rows.items ≡ map monitor_values (option_to_list (monitor_of c.rows monitor))) }
 {
-    read(
-        conn,
-        SELECT_MONITOR,
-        &[bind::integer(monitor)],
-    )
+    read(conn, SELECT_MONITOR, &[bind::integer(monitor)])
 }
 
 /// The first rows of events above a number.
@@ -161,11 +145,7 @@ pub fn connection_rows<S: Alter>(conn: &mut Connection<S>) -> Result<Vec<Row>, E
     ensures found { Finds (state S.Store conn.old) (state S.Store conn.new) result (λ c rows. rows.items ≡ map connection_values c.rows.connections) }
     ensures seen { (d : Database) → d.schema ≡ book_schema → Sees d (state S.Store conn.old) (state S.Store conn.new) result (λ rows. IsPermutation (rows_in table.Connections d.trees) rows.items) }
 {
-    read(
-        conn,
-        SELECT_CONNECTIONS,
-        &[],
-    )
+    read(conn, SELECT_CONNECTIONS, &[])
 }
 
 /// The first rows of events at a device above a number.

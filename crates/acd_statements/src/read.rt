@@ -8,15 +8,15 @@ ghost use Rattle.sqlite.specs.State.{HasCleanDisk, Shown};
 ghost use Rattle.sqlite.specs.Held.{state};
 ghost use Rattle.sqlite.specs.Values.{bound};
 ghost use Rattle.acd_book.specs.Content.{Content};
-ghost use Rattle.acd_statements.specs.Schema.{book_schema};
-ghost use Rattle.acd_statements.specs.Content.{meta_of};
+ghost use Rattle.acd_columns.specs.Schema.{book_schema};
+ghost use Rattle.acd_columns.specs.Content.{meta_of};
 ghost use Rattle.acd_columns.specs.Rows.{meta_shown};
-ghost use Rattle.acd_statements.specs.AnyRows.{rows_in};
-ghost use Rattle.acd_statements.specs.declared.tables.Table.TheVariants as table;
-ghost use Rattle.acd_statements.specs.Draft.{Holds, Quiet, NoStop};
-ghost use Rattle.acd_statements.specs.Seeing.{Sees};
+ghost use Rattle.acd_columns.specs.AnyRows.{rows_in};
+ghost use Rattle.acd_columns.specs.declared.tables.Table.TheVariants as table;
+ghost use Rattle.acd_columns.specs.Draft.{Holds, Quiet, NoStop};
+ghost use Rattle.acd_columns.specs.Seeing.{Sees};
 
-use acd_columns::texts::{SELECT_META};
+use acd_columns::texts::SELECT_META;
 use sqlite::types::ValueRef;
 use sqlite::{Alter, Connection, Error, Row};
 
@@ -61,9 +61,5 @@ pub fn meta_rows<S: Alter>(conn: &mut Connection<S>) -> Result<Vec<Row>, Error>
     ensures rows { HasCleanDisk (state S.Store conn.new) → IfOk result (λ rows. (c : Content) → Holds (state S.Store conn.old) c → rows.items ≡ meta_shown (meta_of c.rows) ∷ []) }
     ensures seen { (d : Database) → d.schema ≡ book_schema → Sees d (state S.Store conn.old) (state S.Store conn.new) result (λ rows. IsPermutation (rows_in table.Meta d.trees) rows.items) }
 {
-    read(
-        conn,
-        SELECT_META,
-        &[],
-    )
+    read(conn, SELECT_META, &[])
 }

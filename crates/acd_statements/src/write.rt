@@ -11,18 +11,21 @@ ghost use Rattle.acd_terms.specs.Lists.{put_by, remove_by};
 ghost use Rattle.acd_model.specs.Scans.{at_group, at_station, at_agent, at_call, at_connection, at_monitor};
 ghost use Rattle.acd_codec.specs.RequestTexts.{request_text};
 ghost use Rattle.acd_book.specs.Content.{Content, empty_content};
-ghost use Rattle.acd_statements.specs.Schema.{book_schema};
-ghost use Rattle.acd_statements.specs.Making.{Builds};
-ghost use Rattle.acd_statements.specs.Content.{with_part};
-ghost use Rattle.acd_statements.specs.Draft.{Drafts, Works, Ran, Fits, FiguresFit, MetaFits};
+ghost use Rattle.acd_columns.specs.Schema.{book_schema};
+ghost use Rattle.acd_columns.specs.Making.{Builds};
+ghost use Rattle.acd_columns.specs.Content.{with_part};
+ghost use Rattle.acd_columns.specs.Draft.{Drafts, Works, Ran, Fits, FiguresFit, MetaFits};
 
-use acd_columns::texts::{DELETE_CALL, DELETE_CONNECTION, DELETE_MONITOR, INSERT_AGENT, INSERT_CALL, INSERT_CONNECTION, INSERT_EVENT, INSERT_GROUP, INSERT_KEPT, INSERT_META, INSERT_STATION, UPDATE_AGENT, UPDATE_CONNECTION, UPDATE_GROUP, UPDATE_META};
 use crate::bind;
-use crate::tables::Table;
 use acd_book::Kept;
 use acd_codec::reads_back;
-use acd_columns::Meta;
 use acd_columns::codes::{agent_code, connection_code, kind_code};
+use acd_columns::texts::{
+    DELETE_CALL, DELETE_CONNECTION, DELETE_MONITOR, INSERT_AGENT, INSERT_CALL, INSERT_CONNECTION,
+    INSERT_EVENT, INSERT_GROUP, INSERT_KEPT, INSERT_META, INSERT_STATION, UPDATE_AGENT,
+    UPDATE_CONNECTION, UPDATE_GROUP, UPDATE_META,
+};
+use acd_columns::{Meta, Table};
 use acd_terms::{
     AgentRecord, CallRecord, ConnectionRecord, DeviceId, Event, GroupRecord, MonitorRecord,
     StationRecord,
@@ -77,19 +80,11 @@ pub fn put_group<S: Alter>(tx: &mut Transaction<'_, S>, group: &GroupRecord) -> 
         bind::integer(figures.moved),
         bind::integer(figures.waited),
     ];
-    let changed = changed_rows(
-        tx,
-        UPDATE_GROUP,
-        &values,
-    )?;
+    let changed = changed_rows(tx, UPDATE_GROUP, &values)?;
     if changed > 0 {
         return Ok(());
     }
-    write(
-        tx,
-        INSERT_GROUP,
-        &values,
-    )
+    write(tx, INSERT_GROUP, &values)
 }
 
 /// Puts a station that has no row. One that has a row is the store's to refuse.
@@ -102,11 +97,7 @@ pub fn insert_station<S: Alter>(
     ensures put { HasCleanDisk (state S.Store tx.new.conn.now) → OnOk result ((c : Content) → Drafts (state S.Store tx.old.conn.now) c
         → Drafts (state S.Store tx.new.conn.now) (with_part Table.Stations (put_by (at_station station.now.device) c.rows.stations station.now) c)) }
 {
-    write(
-        tx,
-        INSERT_STATION,
-        &[bind::device(station.device)],
-    )
+    write(tx, INSERT_STATION, &[bind::device(station.device)])
 }
 
 /// Changes the row of the agent, and inserts one where there is none.
@@ -127,19 +118,11 @@ pub fn put_agent<S: Alter>(tx: &mut Transaction<'_, S>, agent: &AgentRecord) -> 
         bind::integer(agent.stamp),
         bind::small(agent.since),
     ];
-    let changed = changed_rows(
-        tx,
-        UPDATE_AGENT,
-        &values,
-    )?;
+    let changed = changed_rows(tx, UPDATE_AGENT, &values)?;
     if changed > 0 {
         return Ok(());
     }
-    write(
-        tx,
-        INSERT_AGENT,
-        &values,
-    )
+    write(tx, INSERT_AGENT, &values)
 }
 
 /// Puts a call in the place of the one that has its number, if any.
@@ -325,11 +308,7 @@ pub fn drop_call<S: Alter>(tx: &mut Transaction<'_, S>, call: u64) -> Result<(),
     ensures put { HasCleanDisk (state S.Store tx.new.conn.now) → OnOk result ((c : Content) → Drafts (state S.Store tx.old.conn.now) c
         → Drafts (state S.Store tx.new.conn.now) (with_part Table.Calls (remove_by (at_call call) c.rows.calls) c)) }
 {
-    write(
-        tx,
-        DELETE_CALL,
-        &[bind::integer(call)],
-    )
+    write(tx, DELETE_CALL, &[bind::integer(call)])
 }
 
 pub fn drop_monitor<S: Alter>(tx: &mut Transaction<'_, S>, monitor: u64) -> Result<(), Error>
@@ -339,11 +318,7 @@ pub fn drop_monitor<S: Alter>(tx: &mut Transaction<'_, S>, monitor: u64) -> Resu
     ensures put { HasCleanDisk (state S.Store tx.new.conn.now) → OnOk result ((c : Content) → Drafts (state S.Store tx.old.conn.now) c
         → Drafts (state S.Store tx.new.conn.now) (with_part Table.Monitors (remove_by (at_monitor monitor) c.rows.monitors) c)) }
 {
-    write(
-        tx,
-        DELETE_MONITOR,
-        &[bind::integer(monitor)],
-    )
+    write(tx, DELETE_MONITOR, &[bind::integer(monitor)])
 }
 
 /// Changes the row of the connection, and inserts one where there is none.

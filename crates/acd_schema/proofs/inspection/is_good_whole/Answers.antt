@@ -1,8 +1,8 @@
 use Rattle.std.proofs.Common.{Ok}
 use Rattle.sqlite.specs.Held.{state}
-use Rattle.acd_statements.specs.AnyRows.{table_of, TellsGood}
+use Rattle.acd_columns.specs.AnyRows.{table_of, TellsGood}
 use Rattle.acd_schema.proofs.Looks.{whole_told}
-use Rattle.acd_statements.proofs.Seen.{sees_fail}
+use Rattle.acd_columns.proofs.Seen.{sees_fail}
 use Rattle.acd_schema.proofs.inspection.is_good_whole.Goals as goal
 
 pub returns-in-Err-clause-seen : goal.returns-in-Err-clause-seen

@@ -1,7 +1,7 @@
 use Rattle.sqlite.specs.Held.{state}
-use Rattle.acd_statements.specs.declared.tables.Log.TheVariants as log
-use Rattle.acd_statements.proofs.Looked.{low_events, low_events_plain, asks_low_events, plain_of, sees_low}
-use Rattle.acd_statements.proofs.QueryTexts.{read_low_events}
+use Rattle.acd_columns.specs.declared.tables.Log.TheVariants as log
+use Rattle.acd_columns.proofs.Looked.{low_events, low_events_plain, asks_low_events, plain_of, sees_low}
+use Rattle.acd_columns.proofs.QueryTexts.{read_low_events}
 use Rattle.acd_statements.proofs.look.low_event_rows.Goals as goal
 
 pub returns-clause-seen : goal.returns-clause-seen

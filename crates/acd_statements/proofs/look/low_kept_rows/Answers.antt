@@ -1,7 +1,7 @@
 use Rattle.sqlite.specs.Held.{state}
-use Rattle.acd_statements.specs.declared.tables.Log.TheVariants as log
-use Rattle.acd_statements.proofs.Looked.{low_kept, low_kept_plain, asks_low_kept, plain_of, sees_low}
-use Rattle.acd_statements.proofs.QueryTexts.{read_low_kept}
+use Rattle.acd_columns.specs.declared.tables.Log.TheVariants as log
+use Rattle.acd_columns.proofs.Looked.{low_kept, low_kept_plain, asks_low_kept, plain_of, sees_low}
+use Rattle.acd_columns.proofs.QueryTexts.{read_low_kept}
 use Rattle.acd_statements.proofs.look.low_kept_rows.Goals as goal
 
 pub returns-clause-seen : goal.returns-clause-seen

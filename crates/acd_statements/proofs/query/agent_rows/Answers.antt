@@ -1,9 +1,9 @@
 use Rattle.sqlite.specs.Held.{state}
-use Rattle.acd_statements.proofs.Listings.{finds}
-use Rattle.acd_statements.proofs.Asked.{agents_plain, shows_agents, agents_listing}
-use Rattle.acd_statements.specs.declared.tables.Table.TheVariants as table
-use Rattle.acd_statements.proofs.Looked.{asks_agents, plain_of, sees_all}
-use Rattle.acd_statements.proofs.QueryTexts.{read_agents}
+use Rattle.acd_columns.proofs.Listings.{finds}
+use Rattle.acd_columns.proofs.Asked.{agents_plain, shows_agents, agents_listing}
+use Rattle.acd_columns.specs.declared.tables.Table.TheVariants as table
+use Rattle.acd_columns.proofs.Looked.{asks_agents, plain_of, sees_all}
+use Rattle.acd_columns.proofs.QueryTexts.{read_agents}
 use Rattle.acd_statements.proofs.query.agent_rows.Goals as goal
 
 pub returns-clause-found : goal.returns-clause-found

@@ -1,9 +1,9 @@
 use Rattle.sqlite.specs.Held.{state}
-use Rattle.acd_statements.proofs.Listings.{finds}
-use Rattle.acd_statements.proofs.ConnectionRows.{connections_plain, shows_connections, connections_listing}
-use Rattle.acd_statements.specs.declared.tables.Table.TheVariants as table
-use Rattle.acd_statements.proofs.Looked.{asks_connections, plain_of, sees_all}
-use Rattle.acd_statements.proofs.QueryTexts.{read_connections}
+use Rattle.acd_columns.proofs.Listings.{finds}
+use Rattle.acd_columns.proofs.ConnectionRows.{connections_plain, shows_connections, connections_listing}
+use Rattle.acd_columns.specs.declared.tables.Table.TheVariants as table
+use Rattle.acd_columns.proofs.Looked.{asks_connections, plain_of, sees_all}
+use Rattle.acd_columns.proofs.QueryTexts.{read_connections}
 use Rattle.acd_statements.proofs.query.connection_rows.Goals as goal
 
 pub returns-clause-found : goal.returns-clause-found

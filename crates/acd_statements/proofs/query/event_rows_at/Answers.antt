@@ -1,9 +1,9 @@
 use Rattle.std.proofs.Common.{[], ◌∷◌}
 use Rattle.sqlite.specs.Held.{state}
 use Rattle.acd_columns.specs.Values.{id_value}
-use Rattle.acd_statements.proofs.Listings.{finds}
-use Rattle.acd_statements.proofs.Asked.{events_at_plain, shows_events_at}
-use Rattle.acd_statements.proofs.QueryTexts.{read_events_at}
+use Rattle.acd_columns.proofs.Listings.{finds}
+use Rattle.acd_columns.proofs.Asked.{events_at_plain, shows_events_at}
+use Rattle.acd_columns.proofs.QueryTexts.{read_events_at}
 use Rattle.acd_statements.proofs.query.event_rows_at.Goals as goal
 
 pub returns-clause-found : goal.returns-clause-found

@@ -1,9 +1,9 @@
 use Rattle.sqlite.specs.Held.{state}
-use Rattle.acd_statements.proofs.Listings.{finds}
-use Rattle.acd_statements.proofs.Asked.{groups_plain, shows_groups, groups_listing}
-use Rattle.acd_statements.specs.declared.tables.Table.TheVariants as table
-use Rattle.acd_statements.proofs.Looked.{asks_groups, plain_of, sees_all}
-use Rattle.acd_statements.proofs.QueryTexts.{read_groups}
+use Rattle.acd_columns.proofs.Listings.{finds}
+use Rattle.acd_columns.proofs.Asked.{groups_plain, shows_groups, groups_listing}
+use Rattle.acd_columns.specs.declared.tables.Table.TheVariants as table
+use Rattle.acd_columns.proofs.Looked.{asks_groups, plain_of, sees_all}
+use Rattle.acd_columns.proofs.QueryTexts.{read_groups}
 use Rattle.acd_statements.proofs.query.group_rows.Goals as goal
 
 pub returns-clause-found : goal.returns-clause-found

@@ -2,9 +2,9 @@ use Rattle.std.proofs.Common.{[], ◌∷◌}
 use Rattle.sqlite_value.specs.declared.value.Value.TheVariants.{Text}
 use Rattle.sqlite.specs.Held.{state}
 use Rattle.acd_columns.specs.Values.{id_value}
-use Rattle.acd_statements.proofs.Listings.{finds}
-use Rattle.acd_statements.proofs.Asked.{key_plain, shows_kept_under}
-use Rattle.acd_statements.proofs.QueryTexts.{read_kept_under}
+use Rattle.acd_columns.proofs.Listings.{finds}
+use Rattle.acd_columns.proofs.Asked.{key_plain, shows_kept_under}
+use Rattle.acd_columns.proofs.QueryTexts.{read_kept_under}
 use Rattle.acd_statements.proofs.query.kept_row.Goals as goal
 
 pub returns-clause-found : goal.returns-clause-found

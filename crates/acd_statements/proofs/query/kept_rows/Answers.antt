@@ -1,11 +1,11 @@
 use Rattle.std.proofs.Common.{[], ◌∷◌}
 use Rattle.sqlite.specs.Held.{state}
 use Rattle.acd_columns.specs.Values.{id_value}
-use Rattle.acd_statements.proofs.Listings.{finds}
-use Rattle.acd_statements.proofs.Asked.{kept_plain, shows_kept_after, kept_listing}
-use Rattle.acd_statements.proofs.QueryTexts.{read_kept_after}
-use Rattle.acd_statements.specs.declared.tables.Log.TheVariants as log
-use Rattle.acd_statements.proofs.Looked.{asks_kept, plain_of, sees_page}
+use Rattle.acd_columns.proofs.Listings.{finds}
+use Rattle.acd_columns.proofs.Asked.{kept_plain, shows_kept_after, kept_listing}
+use Rattle.acd_columns.proofs.QueryTexts.{read_kept_after}
+use Rattle.acd_columns.specs.declared.tables.Log.TheVariants as log
+use Rattle.acd_columns.proofs.Looked.{asks_kept, plain_of, sees_page}
 use Rattle.acd_statements.proofs.query.kept_rows.Goals as goal
 
 pub returns-clause-found : goal.returns-clause-found

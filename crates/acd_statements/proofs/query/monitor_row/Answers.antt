@@ -1,9 +1,9 @@
 use Rattle.std.proofs.Common.{[], ◌∷◌}
 use Rattle.sqlite.specs.Held.{state}
 use Rattle.acd_columns.specs.Values.{id_value}
-use Rattle.acd_statements.proofs.Listings.{finds}
-use Rattle.acd_statements.proofs.Asked.{monitor_plain, shows_monitor}
-use Rattle.acd_statements.proofs.QueryTexts.{read_monitor}
+use Rattle.acd_columns.proofs.Listings.{finds}
+use Rattle.acd_columns.proofs.Asked.{monitor_plain, shows_monitor}
+use Rattle.acd_columns.proofs.QueryTexts.{read_monitor}
 use Rattle.acd_statements.proofs.query.monitor_row.Goals as goal
 
 pub returns-clause-found : goal.returns-clause-found

@@ -1,9 +1,9 @@
 use Rattle.sqlite.specs.Held.{state}
-use Rattle.acd_statements.proofs.Listings.{finds}
-use Rattle.acd_statements.proofs.Asked.{monitors_plain, shows_monitors, monitors_listing}
-use Rattle.acd_statements.specs.declared.tables.Table.TheVariants as table
-use Rattle.acd_statements.proofs.Looked.{asks_monitors, plain_of, sees_all}
-use Rattle.acd_statements.proofs.QueryTexts.{read_monitors}
+use Rattle.acd_columns.proofs.Listings.{finds}
+use Rattle.acd_columns.proofs.Asked.{monitors_plain, shows_monitors, monitors_listing}
+use Rattle.acd_columns.specs.declared.tables.Table.TheVariants as table
+use Rattle.acd_columns.proofs.Looked.{asks_monitors, plain_of, sees_all}
+use Rattle.acd_columns.proofs.QueryTexts.{read_monitors}
 use Rattle.acd_statements.proofs.query.monitor_rows.Goals as goal
 
 pub returns-clause-found : goal.returns-clause-found

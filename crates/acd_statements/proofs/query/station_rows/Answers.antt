@@ -1,9 +1,9 @@
 use Rattle.sqlite.specs.Held.{state}
-use Rattle.acd_statements.proofs.Listings.{finds}
-use Rattle.acd_statements.proofs.Asked.{stations_plain, shows_stations, stations_listing}
-use Rattle.acd_statements.specs.declared.tables.Table.TheVariants as table
-use Rattle.acd_statements.proofs.Looked.{asks_stations, plain_of, sees_all}
-use Rattle.acd_statements.proofs.QueryTexts.{read_stations}
+use Rattle.acd_columns.proofs.Listings.{finds}
+use Rattle.acd_columns.proofs.Asked.{stations_plain, shows_stations, stations_listing}
+use Rattle.acd_columns.specs.declared.tables.Table.TheVariants as table
+use Rattle.acd_columns.proofs.Looked.{asks_stations, plain_of, sees_all}
+use Rattle.acd_columns.proofs.QueryTexts.{read_stations}
 use Rattle.acd_statements.proofs.query.station_rows.Goals as goal
 
 pub returns-clause-found : goal.returns-clause-found

@@ -1,7 +1,7 @@
 use Rattle.sqlite.specs.Held.{state}
-use Rattle.acd_statements.proofs.Selections.{meta_plain, reads_meta_if}
-use Rattle.acd_statements.proofs.Looked.{plain_of, sees_meta}
-use Rattle.acd_statements.proofs.Texts.{read_meta}
+use Rattle.acd_columns.proofs.Selections.{meta_plain, reads_meta_if}
+use Rattle.acd_columns.proofs.Looked.{plain_of, sees_meta}
+use Rattle.acd_columns.proofs.StatementTexts.{read_meta}
 use Rattle.acd_statements.proofs.read.meta_rows.Goals as goal
 
 pub returns-clause-quiet : goal.returns-clause-quiet

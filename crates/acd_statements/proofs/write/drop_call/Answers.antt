@@ -1,8 +1,8 @@
 use Rattle.std.proofs.Common.{[], ◌∷◌}
 use Rattle.sqlite.specs.Held.{state}
 use Rattle.acd_columns.specs.Values.{id_value}
-use Rattle.acd_statements.proofs.Texts.{drop_call}
-use Rattle.acd_statements.proofs.Writes.{drafts, drops_call}
+use Rattle.acd_columns.proofs.StatementTexts.{drop_call}
+use Rattle.acd_columns.proofs.Writes.{drafts, drops_call}
 use Rattle.acd_statements.proofs.write.drop_call.Goals as goal
 
 pub returns-clause-put : goal.returns-clause-put

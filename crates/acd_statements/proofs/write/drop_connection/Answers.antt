@@ -1,9 +1,9 @@
 use Rattle.std.proofs.Common.{[], ◌∷◌}
 use Rattle.sqlite.specs.Held.{state}
 use Rattle.acd_columns.specs.Values.{id_value}
-use Rattle.acd_statements.proofs.Connections.{drops_connection}
-use Rattle.acd_statements.proofs.Texts.{drop_connection}
-use Rattle.acd_statements.proofs.Writes.{drafts}
+use Rattle.acd_columns.proofs.Connections.{drops_connection}
+use Rattle.acd_columns.proofs.StatementTexts.{drop_connection}
+use Rattle.acd_columns.proofs.Writes.{drafts}
 use Rattle.acd_statements.proofs.write.drop_connection.Goals as goal
 
 pub returns-clause-put : goal.returns-clause-put

@@ -1,7 +1,7 @@
 use Rattle.sqlite.specs.Held.{state}
 use Rattle.acd_columns.specs.Rows.{call_values}
-use Rattle.acd_statements.proofs.Texts.{insert_call}
-use Rattle.acd_statements.proofs.Writes.{drafts, inserts_call}
+use Rattle.acd_columns.proofs.StatementTexts.{insert_call}
+use Rattle.acd_columns.proofs.Writes.{drafts, inserts_call}
 use Rattle.acd_statements.proofs.write.insert_call.Goals as goal
 
 pub returns-clause-put : goal.returns-clause-put

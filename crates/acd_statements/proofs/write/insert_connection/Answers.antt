@@ -1,8 +1,8 @@
 use Rattle.sqlite.specs.Held.{state}
 use Rattle.acd_columns.specs.Rows.{connection_values}
-use Rattle.acd_statements.proofs.Texts.{insert_connection}
-use Rattle.acd_statements.proofs.Connections.{inserts_connection}
-use Rattle.acd_statements.proofs.Writes.{drafts}
+use Rattle.acd_columns.proofs.StatementTexts.{insert_connection}
+use Rattle.acd_columns.proofs.Connections.{inserts_connection}
+use Rattle.acd_columns.proofs.Writes.{drafts}
 use Rattle.acd_statements.proofs.write.insert_connection.Goals as goal
 
 pub returns-clause-put : goal.returns-clause-put

@@ -1,7 +1,7 @@
 use Rattle.sqlite.specs.Held.{state}
 use Rattle.acd_columns.specs.Rows.{event_values}
-use Rattle.acd_statements.proofs.Texts.{insert_event}
-use Rattle.acd_statements.proofs.Writes.{drafts, puts_event}
+use Rattle.acd_columns.proofs.StatementTexts.{insert_event}
+use Rattle.acd_columns.proofs.Writes.{drafts, puts_event}
 use Rattle.acd_statements.proofs.write.insert_event.Goals as goal
 
 pub returns-clause-put : goal.returns-clause-put

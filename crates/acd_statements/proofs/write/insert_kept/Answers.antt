@@ -1,7 +1,7 @@
 use Rattle.sqlite.specs.Held.{state}
 use Rattle.acd_columns.specs.Rows.{kept_values}
-use Rattle.acd_statements.proofs.Texts.{insert_kept}
-use Rattle.acd_statements.proofs.Writes.{drafts, puts_kept}
+use Rattle.acd_columns.proofs.StatementTexts.{insert_kept}
+use Rattle.acd_columns.proofs.Writes.{drafts, puts_kept}
 use Rattle.acd_statements.proofs.write.insert_kept.Goals as goal
 
 pub returns-clause-put : goal.returns-clause-put

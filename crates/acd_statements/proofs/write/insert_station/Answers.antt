@@ -1,7 +1,7 @@
 use Rattle.sqlite.specs.Held.{state}
 use Rattle.acd_columns.specs.Rows.{station_values}
-use Rattle.acd_statements.proofs.Texts.{insert_station}
-use Rattle.acd_statements.proofs.Writes.{drafts, puts_station}
+use Rattle.acd_columns.proofs.StatementTexts.{insert_station}
+use Rattle.acd_columns.proofs.Writes.{drafts, puts_station}
 use Rattle.acd_statements.proofs.write.insert_station.Goals as goal
 
 pub returns-clause-put : goal.returns-clause-put

@@ -2,8 +2,8 @@ use Rattle.std.proofs.Common.{◌≡◌, arith}
 use Rattle.sqlite.specs.Held.{state}
 use Rattle.sqlite.specs.State.{HasCleanDisk}
 use Rattle.acd_columns.specs.Rows.{group_values}
-use Rattle.acd_statements.proofs.Texts.{insert_group}
-use Rattle.acd_statements.proofs.Writes.{drafts_behind, sets_group, puts_group}
+use Rattle.acd_columns.proofs.StatementTexts.{insert_group}
+use Rattle.acd_columns.proofs.Writes.{drafts_behind, sets_group, puts_group}
 use Rattle.acd_statements.proofs.write.put_group.Goals as goal
 
 pub returns-then-changed-gt0-clause-put : goal.returns-then-changed-gt0-clause-put

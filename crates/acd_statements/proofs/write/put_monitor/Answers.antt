@@ -1,7 +1,7 @@
 use Rattle.sqlite.specs.Held.{state}
 use Rattle.acd_columns.specs.Rows.{monitor_values}
-use Rattle.acd_statements.proofs.Texts.{put_monitor}
-use Rattle.acd_statements.proofs.Writes.{drafts, puts_monitor}
+use Rattle.acd_columns.proofs.StatementTexts.{put_monitor}
+use Rattle.acd_columns.proofs.Writes.{drafts, puts_monitor}
 use Rattle.acd_statements.proofs.write.put_monitor.Goals as goal
 
 pub returns-clause-put : goal.returns-clause-put

@@ -1,6 +1,6 @@
 use Rattle.sqlite.specs.Held.{state}
-use Rattle.acd_statements.proofs.Texts.{set_meta}
-use Rattle.acd_statements.proofs.Writes.{drafts, set_values, sets_meta}
+use Rattle.acd_columns.proofs.StatementTexts.{set_meta}
+use Rattle.acd_columns.proofs.Writes.{drafts, set_values, sets_meta}
 use Rattle.acd_statements.proofs.write.set_meta.Goals as goal
 
 pub returns-clause-put : goal.returns-clause-put
