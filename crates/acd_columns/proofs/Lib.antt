@@ -29,3 +29,7 @@ pub mod Writes
 pub mod Decoded
 pub mod Seen
 pub mod Looked
+pub mod Common
+pub mod Seeing
+pub mod Filed
+pub mod TablesFiled

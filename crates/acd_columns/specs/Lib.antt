@@ -14,3 +14,5 @@ pub mod Finding
 pub mod InTables
 pub mod Seeing
 pub mod AnyRows
+pub mod Descriptions
+pub mod Tables
