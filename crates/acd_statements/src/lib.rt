@@ -14,8 +14,11 @@
 mod bind;
 pub mod fitting;
 pub mod look;
+pub mod put;
 pub mod query;
 pub mod read;
+mod records;
 pub mod same;
+pub mod stored;
 pub mod tables;
 pub mod write;

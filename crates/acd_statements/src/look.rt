@@ -26,7 +26,7 @@ fn is_meta(table: &Table) -> bool
 }
 
 /// Whether a table of any shape has the name `meta`.
-#[tactic(auto, unfolding(crate::specs::AnyRows::has_meta))]
+#[tactic(auto, unfolding(acd_columns::specs::AnyRows::has_meta))]
 pub fn has_meta(schema: &Schema) -> bool
     ensures { result ≡ has_meta schema.now.tables }
 {
