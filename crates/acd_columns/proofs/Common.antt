@@ -1,5 +1,5 @@
 -- What the texts of a put say, and what a statement leaves inside a transaction.
-use Rattle.std.proofs.Common.{◌≡◌, ℕ, zero, suc, ◌+◌, List, [], ◌∷◌, Bool, true, false, cond, Ok, Err, Result, OnOk, refl}
+use Rattle.std.proofs.Common.{◌≡◌, ℕ, zero, suc, ◌+◌, List, [], ◌∷◌, Bool, true, false, cond, Ok, Err, Result, OnOk, Option, Some, None, refl}
 use Rattle.sqlite_value.specs.declared.value.Value.{Value}
 use Rattle.sqlite_value.specs.declared.value.Value.TheVariants.{Null}
 use Rattle.sqlite_value.specs.Order.{Row}
@@ -8,6 +8,7 @@ use Rattle.sqlite_sql.specs.Ops.{unary}
 use Rattle.sqlite_schema.specs.declared.schema.Kind.TheVariants.{Integer}
 use Rattle.sqlite_rules.specs.Cast.{cast}
 use Rattle.sqlite.specs.declared.error.Error.{Error}
+use Rattle.sqlite.specs.Values.{or_null}
 use Rattle.sqlite.specs.State.{State, Executes}
 use Rattle.acd_book.specs.Content.{Content}
 use Rattle.acd_columns.specs.Values.{id_value}
@@ -33,6 +34,10 @@ cast_id n = either _ (id_value n)
 pub cast_null : cast Integer Null ≡ Null
 unfolding unary
 cast_null = either _ Null
+
+pub cast_maybe : {X : Type 0} (f : X → ℕ) (o : Option X) → cast Integer (or_null (λ x. id_value (f x)) o) ≡ or_null (λ x. id_value (f x)) o
+cast_maybe f None = cast_null
+cast_maybe f (Some x) = cast_id (f x)
 
 pub drafts : (sql : List ℕ) (params : Row) (change : Content → Content) (old new : State) (r : Result (Unit {0}) Error)
     → ((c : Content) (count : ℕ) → Drafts old c → Executes sql params old new (Ok count) → Drafts new (change c))

@@ -42,9 +42,9 @@ use Rattle.acd_columns.proofs.Listings.{Listing, query_of, schema_is, stored}
 use Rattle.acd_columns.proofs.Members.{Differ, AreApart, same_members}
 use Rattle.acd_columns.proofs.Ordered.{given, answered}
 use Rattle.acd_columns.proofs.Scans.{filter_all, passing}
-use Rattle.acd_columns.proofs.QueryTexts as text
+use Rattle.acd_columns.specs.declared.texts.TheConstants.{SELECT_CONNECTIONS}
 
-unfoldable pub connections_listing : Listing text.read_connections
+unfoldable pub connections_listing : Listing SELECT_CONNECTIONS.now
 unfolding understood everything
 connections_listing = record {
   tree = schema.connections.tree;
@@ -58,7 +58,7 @@ connections_listing = record {
   unlisted = refl;
 }
 
-pub connections_plain : IsPlain (understood book_schema text.read_connections)
+pub connections_plain : IsPlain (understood book_schema SELECT_CONNECTIONS.now)
 connections_plain = connections_listing.plain
 
 -- what a row is sorted by, and what it shows
@@ -131,11 +131,11 @@ shown_all rows records are =
     let known = are.known from.0 from.1 in
     subst (Has (map out records)) (sym (from.2 ∙ ap part known.2)) (mapped_has out records known.1 (has_among records known.1 known.3)))
 
-pub shows_connections : (old new : State) (rows : List Row) (c : Content) → Holds old c → Shown text.read_connections [] old new rows → rows ≡ map connection_values c.rows.connections
+pub shows_connections : (old new : State) (rows : List Row) (c : Content) → Holds old c → Shown SELECT_CONNECTIONS.now [] old new rows → rows ≡ map connection_values c.rows.connections
 unfolding connections_listing
 shows_connections old new rows c held h =
     let it = connections_listing in
-    let read = reads_as text.read_connections [] old new book_schema (schema_is old c held) _ it.command it.plain it.unlisted rows h in
+    let read = reads_as SELECT_CONNECTIONS.now [] old new book_schema (schema_is old c held) _ it.command it.plain it.unlisted rows h in
     let all = shown_all (old.now.trees schema.connections.tree) c.rows.connections (stored table.Connections old c held) in
     let every : map part (old.now.trees schema.connections.tree) ≡ map (given (query_of it) []) (passing [] [] (old.now.trees schema.connections.tree)) = ap (map part) (sym (filter_all (old.now.trees schema.connections.tree))) in
     answered connection_order connections_total it.tree it.terms it.project it.order it.limit old.now.trees [] rows out c.rows.connections ranks (stored table.Connections old c held).ascending

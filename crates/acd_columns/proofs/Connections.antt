@@ -55,10 +55,10 @@ use Rattle.acd_columns.proofs.Frames.{drafted}
 use Rattle.acd_columns.proofs.KeyedRows.{id_tied}
 use Rattle.acd_columns.proofs.Scans.{showing, passing, filter_like, all_out}
 use Rattle.acd_columns.proofs.Statements.{Insertion, insertion_edit, inserted, Deletion, deletion_edit, deleted, replaces, inert_works}
-use Rattle.acd_columns.proofs.StatementTexts as text
+use Rattle.acd_columns.specs.declared.texts.TheConstants.{DELETE_CONNECTION, INSERT_CONNECTION, UPDATE_CONNECTION}
 use Rattle.acd_columns.proofs.Updates.{Updating, updated}
 use Rattle.acd_columns.proofs.Sets.{set_none}
-use Rattle.acd_columns.proofs.Writes.{run, inert, either, cast_id, cast_null, cast_maybe}
+use Rattle.acd_columns.proofs.Common.{run, inert, either, cast_id, cast_null, cast_maybe}
 
 -- ---- rows that are put beside others
 
@@ -132,7 +132,7 @@ key_tests = op2 (Compare Eq Binary) (col 1 1) (col 0 0) ∷ op2 (Compare Eq Bina
 abbrev project : List Term
 project = col 1 0 ∷ col 1 0 ∷ col 1 1 ∷ col 1 2 ∷ run 2 5
 
-connection_change : Updating book_schema text.update_connection
+connection_change : Updating book_schema UPDATE_CONNECTION.now
 unfolding understood everything
 connection_change = record { at = 5; layout = connections; terms = key_tests; project = project; place = refl; command = refl; plain = (refl, refl); inert = inert_works book_schema inert connections.tree }
 
@@ -215,27 +215,27 @@ module _ (db : Trees) (records : List ConnectionRecord) (are : AreConnections (d
       subst (λ d. AreConnections (edited db d) (put_by (connection_order r) records r)) (sym edit_is)
       (changed_one i x here same.0 same.1 (subst (λ d. are_fresh (left_by db d) d.news ≡ true) edit_is fresh))
 
-pub sets_connection : (r : ConnectionRecord) (c : Content) (old new : State) (count : ℕ) → Drafts old c → Executes text.update_connection (connection_values r) old new (Ok count) → (count ≡ 0 → ⊥)
+pub sets_connection : (r : ConnectionRecord) (c : Content) (old new : State) (count : ℕ) → Drafts old c → Executes UPDATE_CONNECTION.now (connection_values r) old new (Ok count) → (count ≡ 0 → ⊥)
     → Drafts new (with_part table.Connections (put_by (at_connection r.call r.device) c.rows.connections r) c)
 unfolding connection_change
 sets_connection r c old new count d ran some =
     let db = old.now.trees in
-    let made = updated book_schema text.update_connection connection_change (connection_values r) old new count d.schema ran in
+    let made = updated book_schema UPDATE_CONNECTION.now connection_change (connection_values r) old new count d.schema ran in
     let are = changed_some db c.rows.connections (d.encodes table.Connections) r made.rows count made.found made.counted some made.changed.applies.fresh in
     drafted table.Connections _ (edited db (put_edit db made.rows)) old new c are (replaces book_schema old new (put_edit db made.rows) (edited db (put_edit db made.rows)) made.changed refl) d
 
 -- where the UPDATE changed no row, what an INSERT behind it makes is made of what was there
-pub behind_none : (r : ConnectionRecord) (change : Content → Content) (old mid new : State) (none : ℕ) (result : Result (Unit {0}) Error) → Executes text.update_connection (connection_values r) old mid (Ok none) → none ≡ 0
+pub behind_none : (r : ConnectionRecord) (change : Content → Content) (old mid new : State) (none : ℕ) (result : Result (Unit {0}) Error) → Executes UPDATE_CONNECTION.now (connection_values r) old mid (Ok none) → none ≡ 0
     → OnOk result ((c : Content) → Drafts mid c → Drafts new (change c)) → OnOk result ((c : Content) → Drafts old c → Drafts new (change (with_part table.Connections c.rows.connections c)))
 unfolding connection_change
 behind_none r change old mid late none (Err e) ran missed put = tt
 behind_none r change old mid late none (Ok x) ran missed put = λ (c : Content) (d : Drafts old c).
     put (with_part table.Connections c.rows.connections c)
-    (drafted table.Connections c.rows.connections (old.now.trees connections.tree) old mid c (d.encodes table.Connections) (set_none book_schema text.update_connection connection_change (connection_values r) old mid none d.schema ran missed) d)
+    (drafted table.Connections c.rows.connections (old.now.trees connections.tree) old mid c (d.encodes table.Connections) (set_none book_schema UPDATE_CONNECTION.now connection_change (connection_values r) old mid none d.schema ran missed) d)
 
 -- ---- a connection inserted
 
-new_connection : Insertion book_schema text.insert_connection
+new_connection : Insertion book_schema INSERT_CONNECTION.now
 unfolding understood everything
 new_connection = record { at = 5; layout = connections; terms = lit Null ∷ run 0 7; width = 8; place = refl; command = refl; plain = (refl, refl); inert = inert_works book_schema inert connections.tree }
 
@@ -288,12 +288,12 @@ module _ (rows : List Row) (next : Trees) (records : List ConnectionRecord) (are
   pub inserted_beside : AreConnections (put_all rows (own ∷ [])) (put_by (connection_order r) records r)
   inserted_beside = placed rows rows records are are.rising n r fresh (λ row there. (there, free row there)) (λ row there other. there)
 
-pub inserts_connection : (r : ConnectionRecord) (c : Content) (old new : State) (count : ℕ) → Drafts old c → Executes text.insert_connection (connection_values r) old new (Ok count)
+pub inserts_connection : (r : ConnectionRecord) (c : Content) (old new : State) (count : ℕ) → Drafts old c → Executes INSERT_CONNECTION.now (connection_values r) old new (Ok count)
     → Drafts new (with_part table.Connections (put_by (at_connection r.call r.device) c.rows.connections r) c)
 unfolding new_connection
 inserts_connection r c old new count d ran =
     let rows = old.now.trees connections.tree in
-    let made = inserted book_schema text.insert_connection new_connection (connection_values r) old new count d.schema ran in
+    let made = inserted book_schema INSERT_CONNECTION.now new_connection (connection_values r) old new count d.schema ran in
     let own = ap (with_rowid Chosen rows) (cast_values Null r cast_null) in
     let fresh = subst (λ k. are_fresh rows (k ∷ []) ≡ true) own made.applies.fresh in
     let is = made.applies.rows ∙ ap (λ k. put_all rows (k ∷ [])) own in
@@ -303,7 +303,7 @@ inserts_connection r c old new count d ran =
 
 -- ---- a connection taken out
 
-no_connection : Deletion book_schema text.drop_connection
+no_connection : Deletion book_schema DELETE_CONNECTION.now
 unfolding understood everything
 no_connection = record { at = 5; layout = connections; terms = key_tests; place = refl; command = refl; plain = (refl, refl); inert = inert_works book_schema inert connections.tree }
 
@@ -355,11 +355,11 @@ module _ (db : Trees) (records : List ConnectionRecord) (are : AreConnections (d
       (λ row was other. has_kept (λ y. not (hit y)) rows row was (ap not (stays row was other)))
       (λ row there. let was = has_filtered (λ y. not (hit y)) rows row there in (was.0, λ key. let out = left_out row was.0 key in cc (ap not out, was.1))))
 
-pub drops_connection : (call device : ℕ) (c : Content) (old new : State) (count : ℕ) → Drafts old c → Executes text.drop_connection (id_value call ∷ id_value device ∷ []) old new (Ok count)
+pub drops_connection : (call device : ℕ) (c : Content) (old new : State) (count : ℕ) → Drafts old c → Executes DELETE_CONNECTION.now (id_value call ∷ id_value device ∷ []) old new (Ok count)
     → Drafts new (with_part table.Connections (remove_by (at_connection call device) c.rows.connections) c)
 unfolding no_connection
 drops_connection call device c old new count d ran =
     let db = old.now.trees in
-    let made = deleted book_schema text.drop_connection no_connection (id_value call ∷ id_value device ∷ []) old new count d.schema ran in
+    let made = deleted book_schema DELETE_CONNECTION.now no_connection (id_value call ∷ id_value device ∷ []) old new count d.schema ran in
     drafted table.Connections _ (without_all (db connections.tree) (ids_of made.rows)) old new c (taken db c.rows.connections (d.encodes table.Connections) call device made.rows made.found)
     (replaces book_schema old new (deletion_edit no_connection made.rows db) _ made.changed refl) d

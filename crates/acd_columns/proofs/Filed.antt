@@ -113,7 +113,7 @@ module _ {R : Type 0} (d : Description R) where
 
 -- ---- rows
 
-by_id : (m n : ℕ) → (is_true (from_truth (Some (is_eq (value_cmp (id_value m) (id_value n))))) && true) ≡ (m == n)
+pub by_id : (m n : ℕ) → (is_true (from_truth (Some (is_eq (value_cmp (id_value m) (id_value n))))) && true) ≡ (m == n)
 by_id m n = truth_back (is_eq (value_cmp (id_value m) (id_value n))) ∙ id_tied m n
 
 numbers_tied : (m n : ℕ) (row given : Row) → list_all (holds ((id_value n ∷ given) ∷ (id_value m ∷ row) ∷ [])) by_first ≡ (m == n)

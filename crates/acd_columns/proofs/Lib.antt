@@ -12,20 +12,16 @@ pub mod KeyedRows
 pub mod Scans
 pub mod Ordered
 pub mod Listings
-pub mod QueryTexts
 pub mod Asked
 pub mod Members
 pub mod ConnectionRows
 pub mod Selections
 pub mod Statements
-pub mod Upserts
 pub mod Updates
 pub mod Puts
 pub mod Sets
 pub mod Removals
 pub mod Frames
-pub mod StatementTexts
-pub mod Writes
 pub mod Decoded
 pub mod Seen
 pub mod Looked
@@ -33,3 +29,4 @@ pub mod Common
 pub mod Seeing
 pub mod Filed
 pub mod TablesFiled
+pub mod Counters

@@ -53,8 +53,7 @@ use Rattle.acd_columns.proofs.KeyedRows.{id_cmp, by_key}
 use Rattle.acd_columns.proofs.Listings.{Listing, Lists, query_of, listed}
 use Rattle.acd_columns.proofs.Ordered.{given, in_some_order}
 use Rattle.acd_columns.proofs.Puts.{truth_back}
-use Rattle.acd_columns.proofs.QueryTexts as text
-use Rattle.acd_columns.proofs.StatementTexts as whole
+use Rattle.acd_columns.specs.declared.texts.TheConstants.{SELECT_AGENTS, SELECT_CALLS, SELECT_CONNECTIONS, SELECT_EVENTS_AFTER, SELECT_GROUPS, SELECT_KEPT_AFTER, SELECT_LOW_EVENT, SELECT_LOW_KEPT, SELECT_META, SELECT_MONITORS, SELECT_STANDING_CONNECTIONS, SELECT_STATIONS, SELECT_VERSION}
 use Rattle.acd_columns.proofs.Scans.{scanned, showing, passing, filter_all}
 use Rattle.acd_columns.proofs.Seen.{sees_so}
 use Rattle.acd_columns.proofs.Selections.{Selection, selected, meta_selection}
@@ -175,35 +174,35 @@ shown_all t text it asks d old new rows had is h =
     ∙ ap (λ n. map (values_in t) (d.trees n)) asks.tree in
     subst (λ l. IsPermutation l rows) same all
 
-pub asks_groups : AsksAll table.Groups text.read_groups groups_listing
+pub asks_groups : AsksAll table.Groups SELECT_GROUPS.now groups_listing
 unfolding groups_listing
 asks_groups = record { tree = refl; all = refl; unlimited = refl; shows = λ r. refl }
 
-pub asks_stations : AsksAll table.Stations text.read_stations stations_listing
+pub asks_stations : AsksAll table.Stations SELECT_STATIONS.now stations_listing
 unfolding stations_listing
 asks_stations = record { tree = refl; all = refl; unlimited = refl; shows = λ r. refl }
 
-pub asks_agents : AsksAll table.Agents text.read_agents agents_listing
+pub asks_agents : AsksAll table.Agents SELECT_AGENTS.now agents_listing
 unfolding agents_listing
 asks_agents = record { tree = refl; all = refl; unlimited = refl; shows = λ r. refl }
 
-pub asks_calls : AsksAll table.Calls text.read_calls calls_listing
+pub asks_calls : AsksAll table.Calls SELECT_CALLS.now calls_listing
 unfolding calls_listing
 asks_calls = record { tree = refl; all = refl; unlimited = refl; shows = λ r. refl }
 
-pub asks_connections : AsksAll table.Connections text.read_connections connections_listing
+pub asks_connections : AsksAll table.Connections SELECT_CONNECTIONS.now connections_listing
 unfolding connections_listing
 asks_connections = record { tree = refl; all = refl; unlimited = refl; shows = λ r. refl }
 
-pub unordered_connections : Listing text.read_unordered_connections
+pub unordered_connections : Listing SELECT_STANDING_CONNECTIONS.now
 unfolding understood everything
 unordered_connections = record { tree = schema.connections.tree; terms = []; project = columns 1 7; order = []; limit = no_limit; names = _; command = refl; plain = (refl, refl); unlisted = refl }
 
-pub asks_unordered_connections : AsksAll table.Connections text.read_unordered_connections unordered_connections
+pub asks_unordered_connections : AsksAll table.Connections SELECT_STANDING_CONNECTIONS.now unordered_connections
 unfolding unordered_connections
 asks_unordered_connections = record { tree = refl; all = refl; unlimited = refl; shows = λ r. refl }
 
-pub asks_monitors : AsksAll table.Monitors text.read_monitors monitors_listing
+pub asks_monitors : AsksAll table.Monitors SELECT_MONITORS.now monitors_listing
 unfolding monitors_listing
 asks_monitors = record { tree = refl; all = refl; unlimited = refl; shows = λ r. refl }
 
@@ -215,31 +214,31 @@ in_database s t text it d old new rows had is h =
     subst (λ (x : Database). IsPermutation (map (showing [] it.project) (passing [] it.terms (x.trees it.tree))) rows) had.now
     (selected t text it [] old new rows (ap (λ (x : Database). x.schema) had.now ∙ is) h)
 
-pub shown_meta : (d : Database) (old new : State) (rows : List Row) → HasDatabase old d → d.schema ≡ book_schema → Shown whole.read_meta [] old new rows → IsPermutation (rows_in table.Meta d.trees) rows
+pub shown_meta : (d : Database) (old new : State) (rows : List Row) → HasDatabase old d → d.schema ≡ book_schema → Shown SELECT_META.now [] old new rows → IsPermutation (rows_in table.Meta d.trees) rows
 unfolding meta_selection
 shown_meta d old new rows had is h =
-    subst (λ l. IsPermutation l rows) (ap (map (values_in table.Meta)) (filter_all (d.trees schema.meta.tree))) (in_database book_schema book_schema whole.read_meta meta_selection d old new rows had is h)
+    subst (λ l. IsPermutation l rows) (ap (map (values_in table.Meta)) (filter_all (d.trees schema.meta.tree))) (in_database book_schema book_schema SELECT_META.now meta_selection d old new rows had is h)
 
 -- whatever tables are behind the first
 abbrev begun : List Made → Schema → Schema
 begun rest s = record s { tables = schema.table_of schema.meta ∷ rest }
 
-version_selection : (rest : List Made) (s : Schema) → Selection (begun rest s) text.read_version
+version_selection : (rest : List Made) (s : Schema) → Selection (begun rest s) SELECT_VERSION.now
 unfolding understood everything
 version_selection rest s = record { tree = schema.meta.tree; terms = []; project = col 1 2 ∷ []; order = []; names = codes "version" ∷ []; command = refl; plain = (refl, refl); unlisted = refl }
 
 begins : (d : Database) (b : BeginsAsBook d.schema) → d.schema ≡ begun b.0 d.schema
 begins d b = ap (λ ts. record d.schema { tables = ts }) b.1
 
-pub version_plain : (d : Database) → BeginsAsBook d.schema → IsPlain (understood d.schema text.read_version)
-version_plain d b = subst (λ s. IsPlain (understood s text.read_version)) (sym (begins d b)) (version_selection b.0 d.schema).plain
+pub version_plain : (d : Database) → BeginsAsBook d.schema → IsPlain (understood d.schema SELECT_VERSION.now)
+version_plain d b = subst (λ s. IsPlain (understood s SELECT_VERSION.now)) (sym (begins d b)) (version_selection b.0 d.schema).plain
 
-pub shown_version : (d : Database) (old new : State) (rows : List Row) → HasDatabase old d → BeginsAsBook d.schema → Shown text.read_version [] old new rows
+pub shown_version : (d : Database) (old new : State) (rows : List Row) → HasDatabase old d → BeginsAsBook d.schema → Shown SELECT_VERSION.now [] old new rows
     → IsPermutation (map (λ r. column r 2 ∷ []) (d.trees schema.meta.tree)) rows
 unfolding version_selection
 shown_version d old new rows had b h =
     subst (λ l. IsPermutation l rows) (ap (map (λ (r : Row). column r 2 ∷ [])) (filter_all (d.trees schema.meta.tree)))
-    (in_database (begun b.0 d.schema) (begun b.0 d.schema) text.read_version (version_selection b.0 d.schema) d old new rows had (begins d b) h)
+    (in_database (begun b.0 d.schema) (begun b.0 d.schema) SELECT_VERSION.now (version_selection b.0 d.schema) d old new rows had (begins d b) h)
 
 pub book_begins : (d : Database) → d.schema ≡ book_schema → BeginsAsBook d.schema
 book_begins d is = subst BeginsAsBook (sym is) (_, refl)
@@ -328,19 +327,19 @@ shown_low l text it asks d old new rows had is h = record {
       (low_is_bad l r (sym (asks.tests r) ∙ one.1.2));
 }
 
-pub low_events : Listing text.read_low_events
+pub low_events : Listing SELECT_LOW_EVENT.now
 unfolding understood everything
 low_events = record { tree = schema.events.tree; terms = below_one; project = col 1 0 ∷ []; order = by_number; limit = lit (Int (pos 1)); names = _; command = refl; plain = (refl, refl); unlisted = refl }
 
-pub asks_low_events : AsksLow log.Events text.read_low_events low_events
+pub asks_low_events : AsksLow log.Events SELECT_LOW_EVENT.now low_events
 unfolding low_events
 asks_low_events = record { tree = refl; tests = λ r. refl; one = refl }
 
-pub low_kept : Listing text.read_low_kept
+pub low_kept : Listing SELECT_LOW_KEPT.now
 unfolding understood everything
 low_kept = record { tree = schema.kept.tree; terms = below_one; project = col 1 0 ∷ []; order = by_number; limit = lit (Int (pos 1)); names = _; command = refl; plain = (refl, refl); unlisted = refl }
 
-pub asks_low_kept : AsksLow log.Kept text.read_low_kept low_kept
+pub asks_low_kept : AsksLow log.Kept SELECT_LOW_KEPT.now low_kept
 unfolding low_kept
 asks_low_kept = record { tree = refl; tests = λ r. refl; one = refl }
 
@@ -398,23 +397,23 @@ number_tests : (n limit : ℕ) (x : Numbered) → list_all (holds ((id_value n �
 unfolding binary
 number_tests n limit x = ap (λ v. list_all (holds ((id_value n ∷ id_value limit ∷ []) ∷ (v ∷ []) ∷ [])) above_parameter) x.is ∙ truth_back _ ∙ above n x.key
 
-pub asks_events : (n limit : ℕ) → AsksPage log.Events text.read_events_after events_listing n limit
+pub asks_events : (n limit : ℕ) → AsksPage log.Events SELECT_EVENTS_AFTER.now events_listing n limit
 unfolding events_listing
 asks_events n limit = record { tree = refl; lists = record { keyed = λ x. x.is; ranks = λ x y. refl; tests = number_tests n limit; shows = λ x. refl }; shows = λ r. refl; limited_by = refl }
 
-pub asks_kept : (n limit : ℕ) → AsksPage log.Kept text.read_kept_after kept_listing n limit
+pub asks_kept : (n limit : ℕ) → AsksPage log.Kept SELECT_KEPT_AFTER.now kept_listing n limit
 unfolding kept_listing
 asks_kept n limit = record { tree = refl; lists = record { keyed = λ x. x.is; ranks = λ x y. refl; tests = number_tests n limit; shows = λ x. refl }; shows = λ r. refl; limited_by = refl }
 
 -- ---- plain texts
 
-pub unordered_connections_plain : IsPlain (understood book_schema text.read_unordered_connections)
+pub unordered_connections_plain : IsPlain (understood book_schema SELECT_STANDING_CONNECTIONS.now)
 unordered_connections_plain = unordered_connections.plain
 
-pub low_events_plain : IsPlain (understood book_schema text.read_low_events)
+pub low_events_plain : IsPlain (understood book_schema SELECT_LOW_EVENT.now)
 low_events_plain = low_events.plain
 
-pub low_kept_plain : IsPlain (understood book_schema text.read_low_kept)
+pub low_kept_plain : IsPlain (understood book_schema SELECT_LOW_KEPT.now)
 low_kept_plain = low_kept.plain
 
 pub plain_of : (text : List ℕ) (d : Database) → d.schema ≡ book_schema → IsPlain (understood book_schema text) → IsPlain (understood d.schema text)
@@ -426,8 +425,8 @@ module _ (d : Database) (old new : State) (r : Result (Vec Row Global) Error) (i
   pub sees_all : (t : Table) (text : List ℕ) (it : Listing text) → AsksAll t text it → Sees d old new r (λ rows. Shown text [] old new rows.items) → Sees d old new r (λ rows. IsPermutation (rows_in t d.trees) rows.items)
   sees_all t text it asks h = sees_so d old new r (λ rows. Shown text [] old new rows.items) (λ rows. IsPermutation (rows_in t d.trees) rows.items) (λ had rows shown. shown_all t text it asks d old new rows.items had is shown) h
 
-  pub sees_meta : Sees d old new r (λ rows. Shown whole.read_meta [] old new rows.items) → Sees d old new r (λ rows. IsPermutation (rows_in table.Meta d.trees) rows.items)
-  sees_meta h = sees_so d old new r (λ rows. Shown whole.read_meta [] old new rows.items) (λ rows. IsPermutation (rows_in table.Meta d.trees) rows.items) (λ had rows shown. shown_meta d old new rows.items had is shown) h
+  pub sees_meta : Sees d old new r (λ rows. Shown SELECT_META.now [] old new rows.items) → Sees d old new r (λ rows. IsPermutation (rows_in table.Meta d.trees) rows.items)
+  sees_meta h = sees_so d old new r (λ rows. Shown SELECT_META.now [] old new rows.items) (λ rows. IsPermutation (rows_in table.Meta d.trees) rows.items) (λ had rows shown. shown_meta d old new rows.items had is shown) h
 
   pub sees_low : (l : Log) (text : List ℕ) (it : Listing text) → AsksLow l text it → Sees d old new r (λ rows. Shown text [] old new rows.items) → Sees d old new r (λ rows. TellsLow l d.trees rows.items)
   sees_low l text it asks h = sees_so d old new r (λ rows. Shown text [] old new rows.items) (λ rows. TellsLow l d.trees rows.items) (λ had rows shown. shown_low l text it asks d old new rows.items had is shown) h
@@ -438,8 +437,8 @@ module _ (d : Database) (old new : State) (r : Result (Vec Row Global) Error) (i
       sees_so d old new r (λ rows. Shown text (id_value n ∷ id_value limit ∷ []) old new rows.items) (λ rows. IsPageRows l n limit d.trees rows.items)
       (λ had rows shown. shown_page l text it n limit asks d old new rows.items had is shown) h
 
-pub sees_version : (d : Database) (old new : State) (r : Result (Vec Row Global) Error) → BeginsAsBook d.schema → Sees d old new r (λ rows. Shown text.read_version [] old new rows.items)
+pub sees_version : (d : Database) (old new : State) (r : Result (Vec Row Global) Error) → BeginsAsBook d.schema → Sees d old new r (λ rows. Shown SELECT_VERSION.now [] old new rows.items)
     → Sees d old new r (λ rows. IsPermutation (map (λ r. column r 2 ∷ []) (d.trees schema.meta.tree)) rows.items)
 sees_version d old new r b h =
-    sees_so d old new r (λ rows. Shown text.read_version [] old new rows.items) (λ rows. IsPermutation (map (λ r. column r 2 ∷ []) (d.trees schema.meta.tree)) rows.items)
+    sees_so d old new r (λ rows. Shown SELECT_VERSION.now [] old new rows.items) (λ rows. IsPermutation (map (λ r. column r 2 ∷ []) (d.trees schema.meta.tree)) rows.items)
     (λ had rows shown. shown_version d old new rows.items had b shown) h

@@ -1,37 +1,27 @@
 -- A record put into the table of its kind, by an INSERT or by an upsert on its key.
-use Rattle.std.proofs.Common.{◌≡◌, inl, ℕ, ◌/◌, List, [], ◌∷◌, ◌++◌, drop, filter, length, map, not, Bool, true, false, ◌==◌, ◌&&◌, ◌||◌, Option, Some, Ok, refl, sym, ap, subst, subst₂, ◌∙◌}
-use Rattle.std.specs.Prelude.{bytes_eq}
-use Rattle.std.specs.List.{AllByRecursion, list_any, list_all}
+use Rattle.std.proofs.Common.{◌≡◌, ℕ, ◌/◌, List, [], ◌∷◌, drop, filter, length, map, not, Bool, true, false, ◌==◌, ◌&&◌, Some, Ok, refl, sym, ap, subst, ◌∙◌}
+use Rattle.std.specs.List.{list_all}
 use Rattle.std.specs.List.Sorted.{IsPermutation}
-use Rattle.sqlite_value.specs.Order.{Row, value_cmp}
-use Rattle.std.specs.Ordering.{is_eq}
-use Rattle.sqlite_value.specs.Keys.{plain, first_key}
-use Rattle.sqlite_schema.specs.declared.schema.Table.{Table}
-use Rattle.sqlite_schema.specs.Rules.{agree}
+use Rattle.sqlite_value.specs.Order.{Row}
 use Rattle.sqlite_trees.specs.Tree.{Trees, rowid, put_row}
-use Rattle.sqlite_sql.specs.Ops.{binary, is_true, from_truth}
+use Rattle.sqlite_sql.specs.Ops.{is_true, from_truth}
 use Rattle.sqlite_sql.specs.Term.{Term, holds}
-use Rattle.sqlite_schema.specs.declared.schema.Index.{Index}
 use Rattle.sqlite_schema.specs.declared.schema.Schema.{Schema}
 use Rattle.sqlite_rules.specs.declared.error.Rowids.TheVariants.{Chosen, Given}
 use Rattle.sqlite_rules.specs.Calls.{ids_of}
 use Rattle.sqlite_rules.specs.Cast.{cast_row}
-use Rattle.sqlite_rules.specs.Edit.{Edit, edit_of, edited, without_all, with_rowid, put_all, numbered as numbered_by}
-use Rattle.sqlite_rules.specs.Keys.{conflicts, shares}
-use Rattle.sqlite_rules.specs.Lists.{Has}
+use Rattle.sqlite_rules.specs.Edit.{edit_of, edited, without_all, with_rowid, put_all, numbered as numbered_by}
 use Rattle.sqlite.proofs.Callers.{one_permutation}
 use Rattle.sqlite.specs.Effect.{value_rows}
-use Rattle.sqlite.specs.Rows.{shown}
 use Rattle.sqlite.specs.State.{State, Executes}
 use Rattle.acd_terms.specs.Lists.{Among, IsAscending, put_by}
 use Rattle.acd_laws.proofs.Lists.{ascending-put}
 use Rattle.acd_columns.specs.Values.{id_value}
 use Rattle.acd_columns.specs.Content.{AreRows}
 use Rattle.acd_columns.specs.Schema.{Layout, table_of}
-use Rattle.acd_columns.proofs.KeyedRows.{by_key, by_key_total, id_tied, put_left, only_one, puts, row_of, same_number}
+use Rattle.acd_columns.proofs.KeyedRows.{by_key, by_key_total, put_left, only_one, puts}
 use Rattle.acd_columns.proofs.Scans.{showing, passing, taken_out, found_rows}
 use Rattle.acd_columns.proofs.Statements.{Insertion, insertion_edit, inserted, Replaces, replaces}
-use Rattle.acd_columns.proofs.Upserts.{Upsertion, Way, put, changed, upserted}
 
 -- the records of a table, whose key is the number of their row
 pub record Files {R : Type 0} (layout : Layout) (key : R → ℕ) (row : R → Row) : Type 0 where
@@ -45,17 +35,6 @@ module _ {R : Type 0} (schema : Schema) (text : List ℕ) (key : R → ℕ) (row
     pub it : Insertion schema text
     pub files : Files it.layout key row
     pub source : (r : R) → value_rows (params r) it.width (length it.terms / it.width) it.terms ≡ row r ∷ []
-
-  -- the text puts the record's values, or changes the columns of the row that has its key into them
-  pub record Upserts : Type 0 where
-    pub it : Upsertion schema text
-    pub files : Files it.layout key row
-    pub source : (r : R) → value_rows (params r) it.width (length it.terms / it.width) it.terms ≡ row r ∷ []
-    pub by_number : it.target ≡ 0 ∷ []
-    -- no index is on the number alone
-    pub no_index : AllByRecursion (λ i. bytes_eq (0 ∷ []) i.columns ≡ false) schema.indexes
-    pub finds : (new r : R) (n : ℕ) → list_all (holds ((params new ++ id_value n ∷ shown (table_of it.layout) (row new)) ∷ row r ∷ [])) it.tests ≡ (key r == n)
-    pub shows : (new r : R) (n : ℕ) → showing (params new ++ id_value n ∷ shown (table_of it.layout) (row new)) it.project (row r) ≡ id_value (key r) ∷ id_value (key r) ∷ drop 1 (row new)
 
 pub keyed_by : {R : Type 0} (layout : Layout) (key : R → ℕ) (row : R → Row) → Files layout key row → (r : R) → rowid (row r) ≡ id_value (key r)
 keyed_by layout key row f r = ap rowid (f.headed r)
@@ -103,65 +82,6 @@ pub truth_back : (b : Bool) → (is_true (from_truth (Some b)) && true) ≡ b
 truth_back true = refl
 truth_back false = refl
 
-same_id : (m n : ℕ) → agree plain (0 ∷ []) (id_value m ∷ []) (0 ∷ []) (id_value n ∷ []) ≡ (m == n)
-unfolding binary first_key value_cmp
-same_id m n = truth_back (is_eq (value_cmp (id_value m) (id_value n))) ∙ id_tied m n
-
-not_shared : (a b : Bool) → (a && false && b) ≡ false
-not_shared true b = refl
-not_shared false b = refl
-
-none_share : (layout : Layout) (new row : Row) (indexes : List Index) → AllByRecursion (λ i. bytes_eq (0 ∷ []) i.columns ≡ false) indexes → list_any (shares (Some (0 ∷ [])) (table_of layout) new row) indexes ≡ false
-none_share layout new row [] h = refl
-none_share layout new row (i ∷ is) h = rw (h.0, none_share layout new row is h.1) (ap (λ b. b || false) (not_shared _ _))
-
-module _ {R : Type 0} (schema : Schema) (text : List ℕ) (key : R → ℕ) (row params : R → Row) (u : Upserts schema text key row params) where
-  abbrev table : Table
-  table = table_of u.it.layout
-
-  keyed : (r : R) → rowid (row r) ≡ id_value (key r)
-  keyed = keyed_by u.it.layout key row u.files
-
-  conflict_key : (r x : R) → conflicts (Some (0 ∷ [])) schema.indexes table (row r) (row x) ≡ true → key x ≡ key r
-  conflict_key r x h =
-      let own : agree plain (0 ∷ []) (row x) (0 ∷ []) (row r) ≡ (key x == key r) = rw (u.files.headed x, u.files.headed r) (same_id (key x) (key r)) in
-      sym (same_number (key x) (key r) (sym own ∙ alone _ _ (none_share u.it.layout (row r) (row x) schema.indexes u.no_index) h))
-    where
-      alone : (a b : Bool) → b ≡ false → (a || b) ≡ true → a ≡ true
-      alone true b e h = refl
-      alone false b e h = sym e ∙ h
-
-  -- the parameters and the row that the change sees
-  abbrev given : R → Row
-  given r = params r ++ id_value (key r) ∷ shown table (row r)
-
-  changes : (r x : R) (rs : List R) (db : Trees) (rows : List Row) → db u.it.layout.tree ≡ map row rs → IsAscending (by_key key) rs → Among x rs → key x ≡ key r
-      → IsPermutation (map (showing (given r) u.it.project) (passing (given r) u.it.tests (db u.it.layout.tree))) rows
-      → edited db (edit_of db table (ids_of rows) Given 1 rows) ≡ map row (put_by (by_key key r) rs r)
-  changes r = one_changed u.it.layout key row u.files (given r) u.it.tests u.it.project r (λ y. u.finds r y (key r)) (λ y. u.shows r y (key r))
-
-  ways : (r : R) (rs : List R) (limit : Option ℕ) (db : Trees) (edit : Edit) → db u.it.layout.tree ≡ map row rs → IsAscending (by_key key) rs
-      → Way schema u.it.layout limit (params r) (0 ∷ []) u.it.tests u.it.project db (row r) edit → edited db edit ≡ map row (put_by (by_key key r) rs r)
-  ways r rs limit db edit is up (put none e) =
-      ap (edited db) e ∙ ap (λ k. put_row k (db u.it.layout.tree)) (u.files.casts r) ∙ ap (put_row (row r)) is ∙ puts key row keyed r rs
-  ways r rs limit db edit is up (changed there more rows are found e) =
-      let met = are.sound there (inl refl) in
-      let x = row_of key row keyed rs met.0 (subst (λ l. Has l met.0) is met.1) in
-      let same = conflict_key r x.0 (rw x.2 at met.2) in
-      let number : rowid there ≡ id_value (key r) = ap rowid (met.3 ∙ ap (λ k. rowid k ∷ []) x.2 ∙ ap (λ k. k ∷ []) (keyed x.0)) ∙ ap id_value same in
-      ap (edited db) e ∙ changes r x.0 rs db rows is up x.1 same
-      (subst (λ n. IsPermutation (map (showing (params r ++ n ∷ shown table (row r)) u.it.project) (passing (params r ++ n ∷ shown table (row r)) u.it.tests (db u.it.layout.tree))) rows) number found)
-
-  pub upserts : (r : R) (rs : List R) (old new : State) (count : ℕ) → old.now.schema ≡ schema → old.now.trees u.it.layout.tree ≡ map row rs → IsAscending (by_key key) rs
-      → Executes text (params r) old new (Ok count) → Replaces schema u.it.layout.tree (map row (put_by (by_key key r) rs r)) old new
-  upserts r rs old new count has is up ran =
-      let db = old.now.trees in
-      let done = upserted schema text u.it (params r) (row r) old new count has (u.source r) ran in
-      let own = ap (with_rowid Chosen (db u.it.layout.tree)) (u.files.casts r) ∙ number_kept (db u.it.layout.tree) (row r) (key r) (u.files.headed r) in
-      let way = subst₂ (λ k t. Way schema u.it.layout old.step_limit (params r) t u.it.tests u.it.project db k done.0) own u.by_number done.1 in
-      subst (λ (t : ℕ). Replaces schema t (map row (put_by (by_key key r) rs r)) old new) (ap (λ (t : Table). t.tree) done.2)
-      (replaces schema old new done.0 _ done.3 (ways r rs old.step_limit db done.0 is up way))
-
 -- ---- records in ascending key
 
 pub record Put {R : Type 0} (schema : Schema) (tree : ℕ) (key : R → ℕ) (row : R → Row) (r : R) (rs : List R) (old new : State) : Type 0 where
@@ -175,8 +95,3 @@ pub inserted_row : {R : Type 0} (schema : Schema) (text : List ℕ) (key : R →
     → old.now.schema ≡ schema → AreRows key row (old.now.trees i.it.layout.tree) rs → Executes text (params r) old new (Ok count) → Put schema i.it.layout.tree key row r rs old new
 inserted_row schema text key row params i r rs old new count has are ran =
     record { replaces = inserts schema text key row params i r rs old new count has are.rows_are ran; are_rows = are_put key row r rs are.ascending }
-
-pub upserted_row : {R : Type 0} (schema : Schema) (text : List ℕ) (key : R → ℕ) (row params : R → Row) (u : Upserts schema text key row params) (r : R) (rs : List R) (old new : State) (count : ℕ)
-    → old.now.schema ≡ schema → AreRows key row (old.now.trees u.it.layout.tree) rs → Executes text (params r) old new (Ok count) → Put schema u.it.layout.tree key row r rs old new
-upserted_row schema text key row params u r rs old new count has are ran =
-    record { replaces = upserts schema text key row params u r rs old new count has are.rows_are are.ascending ran; are_rows = are_put key row r rs are.ascending }

@@ -22,7 +22,7 @@ use Rattle.acd_columns.specs.Rows.{meta_shown}
 use Rattle.acd_columns.specs.Content.{meta_of}
 use Rattle.acd_columns.specs.Draft.{Holds}
 use Rattle.acd_columns.proofs.Scans.{scan, scanned, showing, passing, filter_all}
-use Rattle.acd_columns.proofs.StatementTexts as text
+use Rattle.acd_columns.specs.declared.texts.TheConstants.{SELECT_META}
 
 -- the tests, columns and order of a query
 pub record Selection (schema : Schema) (text : List ℕ) : Type 0 where
@@ -44,7 +44,7 @@ selected schema text it params old new rows has h =
 
 -- ---- the limits and the counters
 
-unfoldable pub meta_selection : Selection book_schema text.read_meta
+unfoldable pub meta_selection : Selection book_schema SELECT_META.now
 unfolding understood everything
 meta_selection = record {
   tree = schema.meta.tree;
@@ -57,18 +57,18 @@ meta_selection = record {
   unlisted = refl;
 }
 
-pub meta_plain : IsPlain (understood book_schema text.read_meta)
+pub meta_plain : IsPlain (understood book_schema SELECT_META.now)
 meta_plain = meta_selection.plain
 
-reads_meta : (old new : State) (rows : List Row) → Shown text.read_meta [] old new rows → (c : Content) → Holds old c → rows ≡ meta_shown (meta_of c.rows) ∷ []
+reads_meta : (old new : State) (rows : List Row) → Shown SELECT_META.now [] old new rows → (c : Content) → Holds old c → rows ≡ meta_shown (meta_of c.rows) ∷ []
 unfolding meta_selection
 reads_meta old new rows h c held =
     let has = ap (λ (d : Database). d.schema) held.idle ∙ held.schema in
     let table_is = ap (λ (d : Database). d.trees schema.meta.tree) held.idle ∙ held.encodes table.Meta in
-    let found = selected book_schema text.read_meta meta_selection [] old new rows has h in
+    let found = selected book_schema SELECT_META.now meta_selection [] old new rows has h in
     one_permutation _ rows (subst (λ l. IsPermutation l rows) (ap (map (showing [] meta_selection.project)) (filter_all (old.now.trees schema.meta.tree) ∙ table_is)) found)
 
-pub reads_meta_if : (old new : State) (r : Result (Vec Row Global) Error) → IfOk r (λ rows. Shown text.read_meta [] old new rows.items)
+pub reads_meta_if : (old new : State) (r : Result (Vec Row Global) Error) → IfOk r (λ rows. Shown SELECT_META.now [] old new rows.items)
     → IfOk r (λ rows. (c : Content) → Holds old c → rows.items ≡ meta_shown (meta_of c.rows) ∷ [])
 reads_meta_if old new (Err e) h = tt
 reads_meta_if old new (Ok rows) h = reads_meta old new rows.items h
