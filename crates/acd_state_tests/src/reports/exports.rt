@@ -7,10 +7,9 @@ use std::process::Abort;
 
 const HEADER: &str = "number,moment,event,call,device,agent,group,to,cause,waited\n";
 
-// A report of each kind of call 3 at 201, whose group is 100, and of each cause.
-fn reports_of_calls(station: DeviceId, to: DeviceId, group: DeviceId) -> [Report; 17] {
+// Reports of call 3 on its way to 201, whose group is 100, of each kind and cause.
+fn reports_on_the_way(station: DeviceId, to: DeviceId, group: DeviceId) -> [Report; 8] {
     let call = 3;
-    let seconds = 15;
     [
         Report::ServiceInitiated { call, station },
         Report::Originated { call, station, to },
@@ -50,6 +49,14 @@ fn reports_of_calls(station: DeviceId, to: DeviceId, group: DeviceId) -> [Report
             cause: Cause::NoAnswer,
             group: Some(group),
         },
+    ]
+}
+
+// Those behind its answer.
+fn reports_of_an_answer(station: DeviceId, to: DeviceId, group: DeviceId) -> [Report; 9] {
+    let call = 3;
+    let seconds = 15;
+    [
         Report::Established {
             call,
             station,
@@ -76,8 +83,12 @@ fn reports_of_calls(station: DeviceId, to: DeviceId, group: DeviceId) -> [Report
     ]
 }
 
-fn call_records() -> &'static str {
-    "1,9,serviceInitiated,3,201,,,,,\n2,9,originated,3,201,,,202,,\n3,9,queued,3,100,,,,newCall,\n4,9,queued,3,100,,,,transferred,\n5,9,delivered,3,201,,100,,distributed,\n6,9,delivered,3,201,,,,deflected,\n7,9,diverted,3,100,,100,201,distributed,\n8,9,diverted,3,201,,100,100,noAnswer,\n9,9,established,3,201,,100,,,15\n10,9,established,3,201,,,,,\n11,9,held,3,201,,,,,\n12,9,retrieved,3,201,,,,,\n13,9,transferred,3,201,,,202,,\n14,9,failed,3,201,,,,busy,\n15,9,connectionCleared,3,201,,,,,\n16,9,callCleared,3,,,100,,,\n17,9,callCleared,3,,,,,,\n"
+fn records_on_the_way() -> &'static str {
+    "1,9,serviceInitiated,3,201,,,,,\n2,9,originated,3,201,,,202,,\n3,9,queued,3,100,,,,newCall,\n4,9,queued,3,100,,,,transferred,\n5,9,delivered,3,201,,100,,distributed,\n6,9,delivered,3,201,,,,deflected,\n7,9,diverted,3,100,,100,201,distributed,\n8,9,diverted,3,201,,100,100,noAnswer,\n"
+}
+
+fn records_of_an_answer() -> &'static str {
+    "1,9,established,3,201,,100,,,15\n2,9,established,3,201,,,,,\n3,9,held,3,201,,,,,\n4,9,retrieved,3,201,,,,,\n5,9,transferred,3,201,,,202,,\n6,9,failed,3,201,,,,busy,\n7,9,connectionCleared,3,201,,,,,\n8,9,callCleared,3,,,100,,,\n9,9,callCleared,3,,,,,,\n"
 }
 
 fn reports_of_agents(agent: AgentId, station: DeviceId, group: DeviceId) -> [Report; 6] {
@@ -124,8 +135,10 @@ fn expect_records(rt: &(impl Abort + AllocGlobal), events: &[Event], records: &s
 #[test]
 fn records_of_calls(rt: HostRuntime) {
     let [station, to, group] = [device(&rt, "201"), device(&rt, "202"), device(&rt, "100")];
-    let reports = reports_of_calls(station, to, group);
-    expect_records(&rt, &numbered(&rt, &reports), call_records());
+    let reports = reports_on_the_way(station, to, group);
+    expect_records(&rt, &numbered(&rt, &reports), records_on_the_way());
+    let reports = reports_of_an_answer(station, to, group);
+    expect_records(&rt, &numbered(&rt, &reports), records_of_an_answer());
 }
 
 #[test]
