@@ -1,7 +1,6 @@
 //! Exchanges over memory, with the bytes that the formats prescribe, and readers and writers that fail midway.
 
-use crate::comparing::same;
-use crate::player::{exchanged, new_desk, play, wide};
+use crate::player::{exchanged, expect_executed, is_cut, new_desk, play, wide};
 use crate::streams::{Narrow, Pieces};
 use acd_book::Book;
 use acd_desk::Desk;
@@ -44,11 +43,6 @@ fn writes<B: Book>(
     assert!(rt; found.as_str() == text, "{bytes}: {found}");
 }
 
-// So many requests were executed.
-fn expect_executed<B: Book>(rt: &impl Abort, desk: &mut Desk<B>, requests: u64) {
-    same(rt, &desk.executed(), &Ok(requests));
-}
-
 // So many bytes of the request come, and then no more; or the reader fails.
 fn is_cut_at<B: Book>(rt: &impl Abort, alloc: Global, desk: &mut Desk<B>, n: usize) {
     writes(rt, alloc, desk, begun(n, 160, false), "truncated\n");
@@ -82,9 +76,7 @@ fn stops_at<B: Book + Drop>(
 ) {
     let writer = Narrow::new(Vec::new(alloc), n, 1, fails);
     let found = exchanged(rt, alloc, &mut desk, begun(160, 160, false), writer);
-    let written = group_reply().get(..n).expect(rt, "a reply");
-    let wanted = format!(in alloc; "{written}write\n").expect(rt, "memory");
-    assert_eq!(rt; found.as_str(), wanted.as_str());
+    is_cut(rt, found.as_str(), group_reply(), n, "write\n");
     expect_executed(rt, &mut desk, 1);
 }
 

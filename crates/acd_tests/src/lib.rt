@@ -1,6 +1,6 @@
 //! Tests of values, of the codec and of the desk with its lines and exchanges, by their public calls: what no contract
-//! says of them. Each module of tests is named as its crate. They stand here so that no crate is proved a second time for
-//! its tests.
+//! says of them. Each module of tests is named as its crate. They stand here so that no crate is proved a second time
+//! for its tests.
 #![tactic(auto)]
 
 #[cfg(test)]

@@ -1,6 +1,6 @@
 //! Whole sessions over memory, with the bytes that the formats prescribe, and readers and writers that fail midway.
 
-use crate::player::{lined, new_desk, play};
+use crate::player::{expect_executed, is_cut, lined, new_desk, play};
 use crate::streams::{Narrow, Pieces};
 use acd_book::Book;
 use acd_desk::Desk;
@@ -139,16 +139,14 @@ fn three_answers() -> &'static str {
 "#
 }
 
-// A writer with room for so many bytes takes just these. All three lines were read together, and so were answered before
-// it was called.
+// A writer with room for so many bytes takes just these. All three lines were read together, and so were answered
+// before it was called.
 fn stops_after<B: Book + Drop>(rt: &impl Abort, alloc: Global, mut desk: Desk<B>, room: usize) {
     let reader = Pieces::new(three(), usize::MAX, false);
     let writer = Narrow::new(Vec::new(alloc), room, 7, true);
     let found = lined(rt, alloc, &mut desk, reader, writer);
-    let written = three_answers().get(..room).expect(rt, "answers");
-    let wanted = format!(in alloc; "{written}cannot write\n").expect(rt, "memory");
-    assert_eq!(rt; found.as_str(), wanted.as_str());
-    assert_eq!(rt; desk.executed(), Ok(3));
+    is_cut(rt, found.as_str(), three_answers(), room, "cannot write\n");
+    expect_executed(rt, &mut desk, 3);
 }
 
 #[test]

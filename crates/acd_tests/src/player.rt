@@ -14,7 +14,7 @@
 //! |---|---|
 //! | `lines` | as the lines of `acd lines`; what is written ends with a fault, if there is one |
 //! | `torn` | the same, by a reader that gives one byte at a time and then fails |
-//! | `counted` | the same, with a line of how often something was written and how many bytes weren't read. A reading ends at `|` |
+//! | `counted` | the same, and a line of how often it was written and how many bytes are left. A reading ends at `|` |
 //! | `until` | the same, until the desk has failed |
 //! | `http` | as one exchange |
 //! | `json` | the same; of the reply stand the status and the JSON |
@@ -24,6 +24,7 @@
 //! ([`signs`]).
 
 use crate::book::{FailingBook, Reopened};
+use crate::comparing::same;
 use crate::streams::{Narrow, Pieces};
 use acd_book::{Book, MemoryBook};
 use acd_desk::Desk;
@@ -94,6 +95,20 @@ pub fn with_fault<F: Display + Drop>(
         Err(fault) => format!(in alloc; "{text}{fault}\n"),
     };
     found.expect(rt, "memory")
+}
+
+/// So many bytes of the whole were written, and then came the fault.
+pub fn is_cut(rt: &impl Abort, found: &str, whole: &str, bytes: usize, fault: &str) {
+    let written = found.strip_suffix(fault).expect(rt, "the fault");
+    assert!(rt;
+        written.len() == bytes && whole.starts_with(written),
+        "{found}"
+    );
+}
+
+/// So many requests were executed.
+pub fn expect_executed<B: Book>(rt: &impl Abort, desk: &mut Desk<B>, requests: u64) {
+    same(rt, &desk.executed(), &Ok(requests));
 }
 
 /// What an exchange writes, and its fault.

@@ -4,7 +4,8 @@ use super::reads;
 use std::alloc::Global;
 use std::process::Abort;
 
-// A member's name and the bytes in which it is the first that is faulty. Text is cheap to prove where no clause gives it.
+// A member's name and the bytes in which it is the first that is faulty. Text is cheap to prove where no clause gives
+// it.
 fn texts() -> &'static str {
     r##"
 # no JSON, or no object

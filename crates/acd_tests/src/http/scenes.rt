@@ -1,7 +1,7 @@
 //! What a desk is asked over HTTP, and its replies, in lines of a [script](crate::player).
 
-/// The tests of a request: the first failure of each, and which goes before which. Of a target that is asked by GET no body
-/// is waited for.
+/// The tests of a request: the first failure of each, and which goes before which. Of a target that is asked by GET no
+/// body is waited for.
 pub fn refusals() -> &'static str {
     r#"
 scene refusals_of_a_head
