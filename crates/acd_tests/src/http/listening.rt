@@ -96,19 +96,19 @@ fn begun() -> &'static [u8] {
 }
 
 // The first client sends half a request, and the second one more than is read at once.
-fn next_is_served<R, B: Book>(rt: &R, desk: &mut Desk<B>)
+fn next_is_served<R, B: Book + Drop>(rt: &R, mut desk: Desk<B>)
 where
     R: Abort + AllocGlobal + Clock + Net<Listener = TcpListener, Stream = TcpStream>,
 {
     let listener = listener(rt);
     let mut first = client(rt, &listener, begun(), 0);
     let mut second = client(rt, &listener, group(), 200);
-    serves(rt, &listener, desk, 2, "acd: connection 1: truncated\n");
+    serves(rt, &listener, &mut desk, 2, "acd: connection 1: truncated\n");
     is_sent(rt, rt.alloc(), &mut first, "");
     is_sent(rt, rt.alloc(), &mut second, group_reply());
 }
 
 #[test]
 fn next_is_served_behind_a_fault(rt: HostRuntime) {
-    next_is_served(&rt, &mut new_desk(&rt, rt.alloc()));
+    next_is_served(&rt, new_desk(&rt, rt.alloc()));
 }
