@@ -103,7 +103,13 @@ where
     let listener = listener(rt);
     let mut first = client(rt, &listener, begun(), 0);
     let mut second = client(rt, &listener, group(), 200);
-    serves(rt, &listener, &mut desk, 2, "acd: connection 1: truncated\n");
+    serves(
+        rt,
+        &listener,
+        &mut desk,
+        2,
+        "acd: connection 1: truncated\n",
+    );
     is_sent(rt, rt.alloc(), &mut first, "");
     is_sent(rt, rt.alloc(), &mut second, group_reply());
 }
