@@ -6,6 +6,7 @@ use super::{created, empty, expect_numbers};
 use crate::comparing::same;
 use acd_book::{Book, BookFault};
 use acd_sqlbook::row_changes;
+use acd_terms::Limits;
 use std::alloc::Global;
 use std::process::Abort;
 
@@ -59,15 +60,19 @@ fn commit_records<B: Book>(rt: &impl Abort, book: &mut B, other: &mut B) {
     same(rt, &book.failures(), &1);
 }
 
-// The book answers as the other one does, and that nothing is behind the greatest number.
+// The book answers as the other one does, that both have the limits of a new one, and that nothing is behind the last event and
+// the greatest number.
 fn expect_answers<B: Book>(rt: &impl Abort, alloc: Global, book: &mut B, other: &mut B) {
-    same(rt, &book.limits(), &other.limits());
+    same(rt, &book.limits(), &Ok(Limits::GREATEST));
+    same(rt, &other.limits(), &Ok(Limits::GREATEST));
     let events = other.events_after(0, 10);
     same(rt, &book.events_of_monitor(3, 0, 10), &events);
     let none = Ok(Vec::new(alloc));
     same(rt, &book.events_of_monitor(4, 0, 10), &none);
     same(rt, &book.events_of_monitor(u64::MAX, 0, 10), &none);
-    same(rt, &book.events_after(u64::MAX, 10), &none);
+    for number in [1, u64::MAX] {
+        same(rt, &book.events_after(number, 10), &none);
+    }
     same(rt, &book.kept_after(u64::MAX), &Ok(None));
 }
 

@@ -104,6 +104,7 @@ fn commit_of<B: Book>(
 fn expect_same<B: Book>(rt: &impl Abort, book: &mut B, other: &mut B) {
     same(rt, &book.rows(), &other.rows());
     same(rt, &book.events_after(0, 10), &other.events_after(0, 10));
+    same(rt, &book.kept_after(0), &other.kept_after(0));
 }
 
 // Whether that is committed. Then the book holds what the other one does, and no record behind that one.
