@@ -155,7 +155,8 @@ lines {file} 0
 "#
 }
 
-// A plan's fault is found before the file's, and before a file is made. The longest plan has empty lines, which are no rows.
+// A plan's fault is found before the file's, and before a file is made. The longest plan has empty lines, which are no
+// rows.
 fn plans() -> &'static str {
     r#"1 acd import --file / --plan {plan}
 ! acd: cannot open {plan}
@@ -204,8 +205,8 @@ lines {plan} 1048576
 "#
 }
 
-// The plan is imported twice: the second time its answers are the kept ones. Then a call waits, agent 7 answers it and asks to
-// log off, and the caller hangs up; and all of that again.
+// The plan is imported twice: the second time its answers are the kept ones. Then a call waits, agent 7 answers it and
+// asks to log off, and the caller hangs up; and all of that again.
 fn desk_in_a_file() -> &'static str {
     r#"lines {plan} 0
 > kind,number,name,ring,wrap
@@ -353,11 +354,11 @@ untold 2 acd
 "#
 }
 
-// A file that was changed by hand, and each time back. In the head of a row a byte stands for each value: 8 is the number 0, and
-// 9 the number 1; 1 and 4 are numbers of one byte and of four behind it, as the 20 seconds of ring behind the group's name. So
-// version and greatest number of requests change places; a name gets a control character; the group has no entry; a table
-// has a column of another name; and the last event is none, so that the next one has the number of one that is
-// there. Of the changed reply and the changed name an audit tells.
+// A file that was changed by hand, and each time back. In the head of a row a byte stands for each value: 8 is the
+// number 0, and 9 the number 1; 1 and 4 are numbers of one byte and of four behind it, as the 20 seconds of ring behind
+// the group's name. So version and greatest number of requests change places; a name gets a control character; the
+// group has no entry; a table has a column of another name; and the last event is none, so that the next one has the
+// number of one that is there. Of the changed reply and the changed name an audit tells.
 fn altered_file() -> &'static str {
     "0 acd lines --file {file}
 > 0 {\"requester\":\"plan\",\"invoke\":1,\"service\":\"addGroup\",\"device\":\"100\",\"name\":\"Billing\",\"ring\":20,\"wrap\":30}
@@ -438,8 +439,8 @@ patch {file} Killing\x14 Billing\x14
 "
 }
 
-// A client that calls when it is said that the desk listens gets its reply, and other programs are told that the file is
-// open elsewhere. Of a port that is taken the file's fault is found before the port's.
+// A client that calls when it is said that the desk listens gets its reply, and other programs are told that the file
+// is open elsewhere. Of a port that is taken the file's fault is found before the port's.
 fn desk_over_http() -> &'static str {
     r#"serve {file}
 > 4 acd report --file {file}

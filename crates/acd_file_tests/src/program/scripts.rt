@@ -1,10 +1,10 @@
-//! A script of runs of the program, over two files of its own. Empty lines part its steps, `{file}` and `{plan}` stand for
-//! paths at which nothing is at first, and the first line of a step says what it is:
+//! A script of runs of the program, over two files of its own. Empty lines part its steps, `{file}` and `{plan}` stand
+//! for paths at which nothing is at first, and the first line of a step says what it is:
 //!
 //! | line | what it is |
 //! |---|---|
 //! | `STATUS WORD WORD` | the program, called with these words, ends with this status |
-//! | `cut WORD WORD` | the same with status 1, an input that fails where it would end, and an output that fails at once |
+//! | `cut WORD WORD` | the same with status 1; its input fails where it would end, its output at once |
 //! | `untold STATUS WORD WORD` | the same, and the stream of errors fails too |
 //! | `lines PATH LENGTH` | a file gets lines, and behind them empty ones up to a length |
 //! | `zeros PATH LENGTH` | a file gets so many bytes that are 0 |
@@ -13,7 +13,8 @@
 //! | `taken` | the runs behind `>` are made where something else listens on `{port}` |
 //! | `is PATH STATE` | a path has this [state](super::files::state_of) |
 //!
-//! Behind it `>` begins a line that is read, `<` one that is written, and `!` one on the stream of errors. There are no others.
+//! Behind it `>` begins a line that is read, `<` one that is written, and `!` one on the stream of errors. There are no
+//! others.
 
 use super::broken::{cannot_tell, cannot_write};
 use super::files::{free_path, patch, remove, state_of, write};

@@ -5,8 +5,9 @@ use acd_program::program;
 use std::io;
 use std::process::Abort;
 
-// Commands that aren't there, and options and words that a command doesn't have; options that a command needs; ports and
-// numbers of connections out of their ranges, an empty one among them; and the help of all commands. Each with its status.
+// Commands that aren't there, and options and words that a command doesn't have; options that a command needs; ports
+// and numbers of connections out of their ranges, an empty one among them; and the help of all commands. Each with its
+// status.
 fn command_lines() -> &'static str {
     "2 acd
 2 acd rows

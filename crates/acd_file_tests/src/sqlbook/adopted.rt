@@ -29,8 +29,9 @@ INSERT INTO events VALUES (1, 10, 7, 1201, 1, NULL, NULL, NULL, NULL, NULL);
 INSERT INTO kept VALUES (1, 'plan', 2, 10, '{"device":"201","invoke":2,"requester":"plan","service":"addStation"}', 200, '{}')"#
 }
 
-// With these rows a value out of its range in each column that has a range. A column that refers to a key holds a bad value
-// only where that key is bad, whose table is read first. Behind them reports of other kinds, with the columns that these have.
+// With these rows a value out of its range in each column that has a range. A column that refers to a key holds a bad
+// value only where that key is bad, whose table is read first. Behind them reports of other kinds, with the columns
+// that these have.
 fn of_rows() -> &'static str {
     "BadRow(Meta) UPDATE meta SET max_requests = -1
 BadRow(Meta) UPDATE meta SET max_calls = -1

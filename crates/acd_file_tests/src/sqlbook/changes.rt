@@ -1,5 +1,5 @@
-//! Commits of changes over a book in memory: what they leave in the tables, one that is refused, and what is answered of
-//! them.
+//! Commits of changes over a book in memory: what they leave in the tables, one that is refused, and what is answered
+//! of them.
 
 use super::commits::{holding, kept_behind, second};
 use super::{created, empty, expect_numbers};
@@ -60,8 +60,8 @@ fn commit_records<B: Book>(rt: &impl Abort, book: &mut B, other: &mut B) {
     same(rt, &book.failures(), &1);
 }
 
-// The book answers as the other one does, that both have the limits of a new one, and that nothing is behind the last event and
-// the greatest number.
+// The book answers as the other one does, that both have the limits of a new one, and that nothing is behind the last
+// event and the greatest number.
 fn expect_answers<B: Book>(rt: &impl Abort, alloc: Global, book: &mut B, other: &mut B) {
     same(rt, &book.limits(), &Ok(Limits::GREATEST));
     same(rt, &other.limits(), &Ok(Limits::GREATEST));

@@ -29,11 +29,32 @@ INSERT INTO agents VALUES (11, 'Ana', 2, NULL, 1201, NULL, 5, 10);
 INSERT INTO agents VALUES (12, 'Ben', 2, NULL, 1202, NULL, 5, 10)"
 }
 
+// A call of a station with a monitor.
+fn watched_call() -> &'static str {
+    "INSERT INTO acd_groups VALUES (1100, 'Billing', 20, 30, 5, 2, 1, 1, 15);
+INSERT INTO stations VALUES (1201);
+INSERT INTO calls VALUES (1, 1201, 1202, 10);
+INSERT INTO connections VALUES (1, 1201, 3, NULL, NULL, NULL, NULL);
+INSERT INTO monitors VALUES (3, 1201, 0);
+UPDATE meta SET last_call = 1, last_monitor = 3"
+}
+
+// The same where the station alone is as it was: the group has other figures, the call another moment and its connection
+// another state, and the monitor is gone.
+fn held_call() -> &'static str {
+    "INSERT INTO acd_groups VALUES (1100, 'Billing', 20, 30, 9, 4, 2, 3, 31);
+INSERT INTO stations VALUES (1201);
+INSERT INTO calls VALUES (1, 1201, 1202, 5);
+INSERT INTO connections VALUES (1, 1201, 4, NULL, NULL, NULL, NULL);
+INSERT INTO events VALUES (1, 10, 7, 1201, 1, NULL, NULL, NULL, NULL, NULL);
+UPDATE meta SET last_call = 1, last_monitor = 3, last_event = 1"
+}
+
 // What is held and what is to be held then, and whether it is committed.
 fn replacements() -> [(&'static str, &'static str, bool); 4] {
     [
-        // Stations come before their agents, and agents give their stations up before others take them: a station has one
-        // agent.
+        // Stations come before their agents, and agents give their stations up before others take them: a station has
+        // one agent.
         (
             seated(),
             "INSERT INTO stations VALUES (1201);
@@ -50,23 +71,8 @@ INSERT INTO connections VALUES (1, 1201, 3, NULL, NULL, NULL, NULL)",
 INSERT INTO connections VALUES (2, 1201, 3, NULL, NULL, NULL, NULL)",
             true,
         ),
-        // The station alone is as it was: the group has other figures, the call another moment and its connection another
-        // state, and the monitor is gone.
-        (
-            "INSERT INTO acd_groups VALUES (1100, 'Billing', 20, 30, 5, 2, 1, 1, 15);
-INSERT INTO stations VALUES (1201);
-INSERT INTO calls VALUES (1, 1201, 1202, 10);
-INSERT INTO connections VALUES (1, 1201, 3, NULL, NULL, NULL, NULL);
-INSERT INTO monitors VALUES (3, 1201, 0);
-UPDATE meta SET last_call = 1, last_monitor = 3",
-            "INSERT INTO acd_groups VALUES (1100, 'Billing', 20, 30, 9, 4, 2, 3, 31);
-INSERT INTO stations VALUES (1201);
-INSERT INTO calls VALUES (1, 1201, 1202, 5);
-INSERT INTO connections VALUES (1, 1201, 4, NULL, NULL, NULL, NULL);
-INSERT INTO events VALUES (1, 10, 7, 1201, 1, NULL, NULL, NULL, NULL, NULL);
-UPDATE meta SET last_call = 1, last_monitor = 3, last_event = 1",
-            true,
-        ),
+        // A record that is there changes where it stands.
+        (watched_call(), held_call(), true),
         // An agent is never taken out.
         (
             seated(),
