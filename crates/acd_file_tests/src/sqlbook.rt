@@ -46,9 +46,14 @@ fn book_in<S: Alter + Drop>(rt: &impl Abort, alloc: Global, conn: Connection<S>)
     }
 }
 
-// The connection of a new book behind a change.
-fn altered(rt: &impl Abort, alloc: Global, sql: &str) -> Connection<MemStore> {
-    let book = created(rt, alloc, empty(rt, alloc));
+// The connection, in whose database a new book is made, behind a change of it.
+fn altered<S: Alter + Drop>(
+    rt: &impl Abort,
+    alloc: Global,
+    conn: Connection<S>,
+    sql: &str,
+) -> Connection<S> {
+    let book = created(rt, alloc, conn);
     changed(rt, book.into_connection(), sql)
 }
 
@@ -69,7 +74,7 @@ fn expect_numbers<S: Alter>(rt: &impl Abort, conn: &mut Connection<S>, lines: &s
 
 #[test]
 fn a_new_book(rt: HostRuntime) {
-    let mut conn = altered(&rt, rt.alloc(), "");
+    let mut conn = created(&rt, rt.alloc(), empty(&rt, rt.alloc())).into_connection();
     expect_numbers(
         &rt,
         &mut conn,
@@ -106,6 +111,7 @@ fn a_book_is_made_in_no_other_database(rt: HostRuntime) {
         let fault = fault_of_making(&rt, rt.alloc(), conn);
         same(&rt, &fault, &Some(BookFault::Store));
     }
-    let fault = fault_of_making(&rt, rt.alloc(), altered(&rt, rt.alloc(), ""));
+    let book = created(&rt, rt.alloc(), empty(&rt, rt.alloc()));
+    let fault = fault_of_making(&rt, rt.alloc(), book.into_connection());
     same(&rt, &fault, &Some(BookFault::Store));
 }

@@ -133,9 +133,15 @@ fn told<S: Alter + Drop>(rt: &impl Abort, alloc: Global, conn: Connection<S>) ->
 }
 
 // Behind the first changes the line's change of a new book is told so.
-fn expect_told(rt: &impl Abort, alloc: Global, first: &str, line: &str) {
+fn expect_told<S: Alter + Drop>(
+    rt: &impl Abort,
+    alloc: Global,
+    conn: Connection<S>,
+    first: &str,
+    line: &str,
+) {
     let (wanted, sql) = line.split_once(' ').expect(rt, "a change");
-    let conn = changed(rt, altered(rt, alloc, first), sql);
+    let conn = changed(rt, altered(rt, alloc, conn, first), sql);
     let told = told(rt, alloc, conn);
     assert_eq!(rt; told.as_str(), wanted, "{sql}");
 }
@@ -151,7 +157,7 @@ fn databases_that_are_books(rt: HostRuntime) {
         (history(), of_history()),
     ] {
         for line in lines.lines() {
-            expect_told(&rt, alloc, first, line);
+            expect_told(&rt, alloc, empty(&rt, alloc), first, line);
         }
     }
 }

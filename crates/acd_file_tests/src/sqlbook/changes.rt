@@ -1,12 +1,13 @@
 //! Commits of changes over a book in memory: what they leave in the tables, one that is refused, and what is answered
 //! of them.
 
-use super::commits::{holding, kept_behind, second};
+use super::commits::{events_of, holding, kept_behind, rows_of, second};
 use super::{created, empty, expect_numbers};
 use crate::comparing::same;
 use acd_book::{Book, BookFault};
+use acd_model::Change;
 use acd_sqlbook::row_changes;
-use acd_terms::Limits;
+use acd_terms::{Limits, Rows};
 use std::alloc::Global;
 use std::process::Abort;
 
@@ -28,13 +29,16 @@ fn in_the_tables() -> &'static str {
 2 SELECT count(*) FROM kept"
 }
 
+fn monitor_changes(rt: &impl Abort, alloc: Global, rows: &Rows) -> Vec<Change> {
+    row_changes(alloc, &[], rows.monitors.as_slice()).expect(rt, "memory")
+}
+
 // The monitors and events of another book are committed with its first record.
 fn commit_monitors<B: Book>(rt: &impl Abort, alloc: Global, book: &mut B, other: &mut B) {
-    let rows = other.rows().expect(rt, "the rows");
-    let changes = row_changes(alloc, &[], rows.monitors.as_slice()).expect(rt, "memory");
-    let events = other.events_after(0, 10).expect(rt, "the events");
-    let kept = kept_behind(rt, other, 0);
-    same(rt, &book.commit_changes(&changes, &events, &kept), &Ok(()));
+    let changes = monitor_changes(rt, alloc, &rows_of(rt, other));
+    let events = events_of(rt, other);
+    let done = book.commit_changes(&changes, &events, &kept_behind(rt, other, 0));
+    same(rt, &done, &Ok(()));
 }
 
 // The record of another book behind a stamp is committed, with this stamp.
@@ -65,7 +69,7 @@ fn commit_records<B: Book>(rt: &impl Abort, book: &mut B, other: &mut B) {
 fn expect_answers<B: Book>(rt: &impl Abort, alloc: Global, book: &mut B, other: &mut B) {
     same(rt, &book.limits(), &Ok(Limits::GREATEST));
     same(rt, &other.limits(), &Ok(Limits::GREATEST));
-    let events = other.events_after(0, 10);
+    let events = Ok(events_of(rt, other));
     same(rt, &book.events_of_monitor(3, 0, 10), &events);
     let none = Ok(Vec::new(alloc));
     same(rt, &book.events_of_monitor(4, 0, 10), &none);
@@ -80,7 +84,7 @@ fn expect_answers<B: Book>(rt: &impl Abort, alloc: Global, book: &mut B, other: 
 fn a_commit_is_in_the_tables(rt: HostRuntime) {
     let alloc = rt.alloc();
     let mut book = created(&rt, alloc, empty(&rt, alloc));
-    let mut other = holding(&rt, alloc, second(), watched());
+    let mut other = holding(&rt, alloc, empty(&rt, alloc), second(), watched());
     commit_monitors(&rt, alloc, &mut book, &mut other);
     commit_records(&rt, &mut book, &mut other);
     expect_answers(&rt, alloc, &mut book, &mut other);

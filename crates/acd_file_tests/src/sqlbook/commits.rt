@@ -5,7 +5,8 @@ use super::{altered, book_in, changed, created, empty};
 use crate::comparing::same;
 use acd_book::{Book, BookFault, Kept};
 use acd_sqlbook::SqlBook;
-use sqlite::MemStore;
+use acd_terms::{Event, Rows};
+use sqlite::{Alter, Connection};
 use std::alloc::Global;
 use std::process::Abort;
 
@@ -82,9 +83,24 @@ INSERT INTO connections VALUES (2, 1201, 3, NULL, NULL, NULL, NULL)",
     ]
 }
 
-/// A book that holds these records and these rows.
-pub fn holding(rt: &impl Abort, alloc: Global, records: &str, rows: &str) -> SqlBook<MemStore> {
-    book_in(rt, alloc, changed(rt, altered(rt, alloc, records), rows))
+/// A book over the connection that holds these records and these rows.
+pub fn holding<S: Alter + Drop>(
+    rt: &impl Abort,
+    alloc: Global,
+    conn: Connection<S>,
+    records: &str,
+    rows: &str,
+) -> SqlBook<S> {
+    let conn = altered(rt, alloc, conn, records);
+    book_in(rt, alloc, changed(rt, conn, rows))
+}
+
+pub fn rows_of<B: Book>(rt: &impl Abort, book: &mut B) -> Rows {
+    book.rows().expect(rt, "the rows")
+}
+
+pub fn events_of<B: Book>(rt: &impl Abort, book: &mut B) -> Vec<Event> {
+    book.events_after(0, 10).expect(rt, "the events")
 }
 
 /// The record that the book has behind a stamp.
@@ -102,23 +118,31 @@ fn commit_of<B: Book>(
     other: &mut B,
     stamp: u64,
 ) -> Result<(), BookFault> {
-    let rows = other.rows().expect(rt, "the rows");
-    let events = other.events_after(0, 10).expect(rt, "the events");
+    let rows = rows_of(rt, other);
+    let events = events_of(rt, other);
     book.commit(&rows, &events, &kept_behind(rt, other, stamp))
 }
 
-fn expect_same<B: Book>(rt: &impl Abort, book: &mut B, other: &mut B) {
-    same(rt, &book.rows(), &other.rows());
-    same(rt, &book.events_after(0, 10), &other.events_after(0, 10));
-    same(rt, &book.kept_after(0), &other.kept_after(0));
+fn expect_same_rows<B: Book>(rt: &impl Abort, book: &mut B, other: &mut B) {
+    same(rt, &rows_of(rt, book), &rows_of(rt, other));
+}
+
+fn expect_same_events<B: Book>(rt: &impl Abort, book: &mut B, other: &mut B) {
+    same(rt, &events_of(rt, book), &events_of(rt, other));
+}
+
+fn expect_same_record<B: Book>(rt: &impl Abort, book: &mut B, other: &mut B, stamp: u64) {
+    same(rt, &book.kept_after(stamp), &other.kept_after(stamp));
 }
 
 // Whether that is committed. Then the book holds what the other one does, and no record behind that one.
 fn takes<B: Book + Drop>(rt: &impl Abort, book: &mut B, mut other: B, stamp: u64) -> bool {
     match commit_of(rt, book, &mut other, stamp) {
         Ok(()) => {
-            expect_same(rt, book, &mut other);
-            same(rt, &book.kept_after(stamp), &other.kept_after(stamp));
+            expect_same_rows(rt, book, &mut other);
+            expect_same_events(rt, book, &mut other);
+            expect_same_record(rt, book, &mut other, 0);
+            expect_same_record(rt, book, &mut other, stamp);
             true
         }
         Err(fault) => {
@@ -133,9 +157,10 @@ fn tables_that_follow_others(rt: HostRuntime) {
     let alloc = rt.alloc();
     for (held, new, is_committed) in replacements() {
         let mut book = created(&rt, alloc, empty(&rt, alloc));
-        let is_held = takes(&rt, &mut book, holding(&rt, alloc, first(), held), 0);
-        assert!(rt; is_held, "{held}");
-        let is_made = takes(&rt, &mut book, holding(&rt, alloc, second(), new), 1);
+        let other = holding(&rt, alloc, empty(&rt, alloc), first(), held);
+        assert!(rt; takes(&rt, &mut book, other, 0), "{held}");
+        let other = holding(&rt, alloc, empty(&rt, alloc), second(), new);
+        let is_made = takes(&rt, &mut book, other, 1);
         assert_eq!(rt; is_made, is_committed, "{new}");
     }
 }
