@@ -39,9 +39,9 @@ module _ {R : Type 0} where
       (cells_are fs (make b.0) (λ r. P r × (f.get r ≡ b.0)) row (suc at) x (agree b.0) b.2)
 
   pub row_is_written : (fs : List (Field R)) (make : Makes R fs) → Agree fs make (λ r. ⊤) → (row : Row) (x : R) → read_whole fs make row ≡ Some x → row ≡ written fs x
-  row_is_written fs make agree row x h =
-      let w = guarded (length row == length fs) (read_from fs make row 0) x h in
-      row_is (length fs) row w.0 ∙ cells_are fs make (λ r. ⊤) row 0 x agree w.1
+  row_is_written fs make agree r x h =
+      let w = guarded (length r == length fs) (read_from fs make r 0) x h in
+      row_is (length fs) r w.0 ∙ cells_are fs make (λ r. ⊤) r 0 x agree w.1
 
   pub shown_back : (fs : List (Field R)) (make : Makes R fs) (x : R) → Remade fs make x → shown_whole fs make (written fs x) ≡ x
   shown_back [] made x h = h
