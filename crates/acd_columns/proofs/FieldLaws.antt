@@ -1,11 +1,25 @@
 -- A row that is read as a record is that of the record, and the record that is shown of its row is the record.
-use Rattle.std.proofs.Common.{◌≡◌, ℕ, suc, ◌==◌, List, [], ◌∷◌, length, Some, refl, sym, ap, subst, ◌∙◌}
+use Rattle.std.proofs.Common.{◌≡◌, ℕ, suc, ◌==◌, List, [], ◌∷◌, length, map, drop, Some, refl, sym, ap, subst, ◌∙◌}
 use Rattle.std.specs.Prelude.{⊤}
+use Rattle.sqlite_value.specs.declared.value.Value.TheVariants.{Null}
 use Rattle.sqlite_value.specs.Order.{Row, column}
+use Rattle.sqlite_schema.specs.declared.schema.Column.{Column as Made}
+use Rattle.sqlite_schema.specs.declared.schema.Kind.TheVariants.{Integer}
+use Rattle.sqlite_rules.specs.Cast.{cast, cast_all, cast_row}
 use Rattle.acd_columns.proofs.Ranged.{bound, guarded, some_same, cells, row_is, beside}
-use Rattle.acd_columns.proofs.SortLaws.{stored, back}
+use Rattle.acd_columns.proofs.Common.{cast_id}
+use Rattle.acd_columns.proofs.SortLaws.{stored, back, casts, null_casts}
 use Rattle.acd_columns.specs.Fields.{Field, Makes, written, read_from, read_whole, shown_whole, Agree, Remade}
-use Rattle.acd_columns.specs.Sorts.{value, read_at}
+use Rattle.acd_columns.specs.Rows.{keyed_row}
+use Rattle.acd_columns.specs.Schema.{Layout, table_of}
+use Rattle.acd_columns.specs.Sorts.{value, read_at, type_in}
+use Rattle.acd_columns.specs.Values.{id_value}
+
+pub first_is : {A : Type 0} (x y : A) (xs ys : List A) → x ∷ xs ≡ y ∷ ys → x ≡ y
+first_is x y xs ys e = cc (e)
+
+pub rest_is : {A : Type 0} (x y : A) (xs ys : List A) → x ∷ xs ≡ y ∷ ys → xs ≡ ys
+rest_is x y xs ys e = cc (e)
 
 module _ {R : Type 0} where
   -- what holds of all that is made holds of what was read
@@ -25,9 +39,9 @@ module _ {R : Type 0} where
       (cells_are fs (make b.0) (λ r. P r × (f.get r ≡ b.0)) row (suc at) x (agree b.0) b.2)
 
   pub row_is_written : (fs : List (Field R)) (make : Makes R fs) → Agree fs make (λ r. ⊤) → (row : Row) (x : R) → read_whole fs make row ≡ Some x → row ≡ written fs x
-  row_is_written fs make agree row x h =
-      let w = guarded (length row == length fs) (read_from fs make row 0) x h in
-      row_is (length fs) row w.0 ∙ cells_are fs make (λ r. ⊤) row 0 x agree w.1
+  row_is_written fs make agree r x h =
+      let w = guarded (length r == length fs) (read_from fs make r 0) x h in
+      row_is (length fs) r w.0 ∙ cells_are fs make (λ r. ⊤) r 0 x agree w.1
 
   pub shown_back : (fs : List (Field R)) (make : Makes R fs) (x : R) → Remade fs make x → shown_whole fs make (written fs x) ≡ x
   shown_back [] made x h = h
@@ -37,3 +51,29 @@ module _ {R : Type 0} where
   pub fields_exact : (fs : List (Field R)) (make : Makes R fs) → Agree fs make (λ r. ⊤) → ((x : R) → Remade fs make x) → (row : Row) (x y : R) → read_whole fs make row ≡ Some x → row ≡ written fs y → x ≡ y
   fields_exact fs make agree remade row x y h e =
       sym (shown_back fs make x (remade x)) ∙ ap (shown_whole fs make) (sym (row_is_written fs make agree row x h) ∙ e) ∙ shown_back fs make y (remade y)
+
+  -- columns of these types take the row as it is
+  pub casts_all : (cs : List Made) (fs : List (Field R)) (r : R) → map (λ (c : Made). c.kind) cs ≡ map (λ (f : Field R). type_in f.column) fs → cast_all cs (written fs r) ≡ written fs r
+  casts_all [] [] r e = refl
+  casts_all [] (f ∷ fs) r e = absurd (cc (e))
+  casts_all (c ∷ cs) [] r e = refl
+  casts_all (c ∷ cs) (f ∷ fs) r e =
+      beside (cast c.kind (value f.column (f.get r))) (value f.column (f.get r)) (cast_all cs (written fs r)) (written fs r)
+      (ap (λ k. cast k (value f.column (f.get r))) (first_is _ _ _ _ e) ∙ casts f.column (f.get r))
+      (casts_all cs fs r (rest_is _ _ _ _ e))
+
+  -- the columns of a table take the row as it is, where the first is the number of the row
+  pub fields_cast : (l : Layout) (fs : List (Field R)) (n : ℕ) (r : R) → map (λ (c : Made). c.kind) l.columns ≡ map (λ (f : Field R). type_in f.column) fs → written fs r ≡ id_value n ∷ drop 1 (written fs r)
+      → cast_row (table_of l) (keyed_row (written fs r)) ≡ keyed_row (written fs r)
+  fields_cast l [] n r kinds e = absurd (cc (e))
+  fields_cast l (f ∷ fs) n r kinds e = go l.columns kinds
+    where
+      key : value f.column (f.get r) ≡ id_value n
+      key = first_is _ _ _ _ e
+
+      go : (cs : List Made) → map (λ (c : Made). c.kind) cs ≡ map (λ (f : Field R). type_in f.column) (f ∷ fs)
+          → cast Integer (value f.column (f.get r)) ∷ cast_all cs (Null ∷ written fs r) ≡ value f.column (f.get r) ∷ Null ∷ written fs r
+      go [] k = absurd (cc (k))
+      go (c ∷ cs) k =
+          beside _ _ _ _ (ap (cast Integer) key ∙ cast_id n ∙ sym key)
+          (beside _ _ _ _ (ap (λ x. cast x Null) (first_is _ _ _ _ k) ∙ null_casts f.column) (casts_all cs fs r (rest_is _ _ _ _ k)))

@@ -1,9 +1,13 @@
 -- What is read of a column is what was written there, and so is what is shown of it.
 use Rattle.std.proofs.Common.{◌≡◌, ℕ, Some, None, refl, ap, ◌∙◌}
+use Rattle.sqlite_value.specs.declared.value.Value.TheVariants.{Null}
+use Rattle.sqlite_rules.specs.Cast.{cast}
 use Rattle.sqlite_value.specs.Order.{Row, column}
 use Rattle.acd_columns.proofs.CodeLaws.{agent_state_back, pending_back, kind_back, cause_back, connection_state_back}
 use Rattle.acd_columns.proofs.Ranged.{whole_stored, stamp_stored, serial_stored, moment_stored, seconds_stored, device_stored, agent_id_stored, name_stored, agent_state_stored, pending_stored, kind_stored, cause_stored, connection_state_stored, or_none_stored}
-use Rattle.acd_columns.specs.Sorts.{Sort, whole, stamp, serial, moment, seconds, device, agent, name, agent_state, pending, kind, cause, connection_state, Column, sure, maybe, Of, Means, value_of, value, read_of, read_at, shown_of, shown_or_none, shown}
+use Rattle.acd_columns.specs.Sorts.{Sort, whole, stamp, serial, moment, seconds, device, agent, name, agent_state, pending, kind, cause, connection_state, Column, sure, maybe, Of, Means, value_of, value, read_of, read_at, shown_of, shown_or_none, shown, type_of, type_in}
+use Rattle.acd_columns.specs.Codes.{agent_code, pending_code, kind_code, cause_code, connection_code}
+use Rattle.acd_columns.proofs.Common.{cast_id, cast_null}
 
 sort_stored : (s : Sort) (r : Row) (at : ℕ) (x : Of s) → read_of s r at ≡ Some x → column r at ≡ value_of s x
 sort_stored whole r at x h = whole_stored r at x h
@@ -59,3 +63,44 @@ pub back : (c : Column) (x : Means c) → shown c (value c x) ≡ x
 back (sure s) x = sort_back s x
 back (maybe s) None = refl
 back (maybe s) (Some x) = some_shown s x ∙ ap Some (sort_back s x)
+
+-- ---- a column takes its values as they are
+
+sort_cast : (s : Sort) (x : Of s) → cast (type_of s) (value_of s x) ≡ value_of s x
+sort_cast whole x = cast_id x
+sort_cast stamp x = cast_id x
+sort_cast serial x = cast_id x
+sort_cast moment x = cast_id x
+sort_cast seconds x = cast_id x
+sort_cast device x = cast_id x
+sort_cast agent x = cast_id x
+sort_cast name x = refl
+sort_cast agent_state x = cast_id (agent_code x)
+sort_cast pending x = cast_id (pending_code x)
+sort_cast kind x = cast_id (kind_code x)
+sort_cast cause x = cast_id (cause_code x)
+sort_cast connection_state x = cast_id (connection_code x)
+
+null_cast : (s : Sort) → cast (type_of s) Null ≡ Null
+null_cast name = refl
+null_cast whole = cast_null
+null_cast stamp = cast_null
+null_cast serial = cast_null
+null_cast moment = cast_null
+null_cast seconds = cast_null
+null_cast device = cast_null
+null_cast agent = cast_null
+null_cast agent_state = cast_null
+null_cast pending = cast_null
+null_cast kind = cast_null
+null_cast cause = cast_null
+null_cast connection_state = cast_null
+
+pub null_casts : (c : Column) → cast (type_in c) Null ≡ Null
+null_casts (sure s) = null_cast s
+null_casts (maybe s) = null_cast s
+
+pub casts : (c : Column) (x : Means c) → cast (type_in c) (value c x) ≡ value c x
+casts (sure s) x = sort_cast s x
+casts (maybe s) None = null_cast s
+casts (maybe s) (Some x) = sort_cast s x

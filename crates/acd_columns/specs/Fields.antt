@@ -34,7 +34,7 @@ read_from (f ∷ fs) make row at = read_at f.column row at >>= (λ x. read_from 
 
 -- the record of a row of this width whose values are all in their ranges
 abbrev pub read_whole : {R : Type 0} → (fs : List (Field R)) → Makes R fs → Row → Option R
-read_whole fs make row = if length row == length fs then read_from fs make row 0 else None
+read_whole fs make r = if length r == length fs then read_from fs make r 0 else None
 
 -- the record that is shown of a row, whatever it holds
 abbrev pub shown_whole : {R : Type 0} → (fs : List (Field R)) → Makes R fs → Row → R

@@ -6,3 +6,13 @@ pub mod Rows
 pub mod Decoding
 pub mod Reports
 pub mod Ranges
+pub mod Schema
+pub mod Making
+pub mod Content
+pub mod Draft
+pub mod Finding
+pub mod InTables
+pub mod Seeing
+pub mod AnyRows
+pub mod Descriptions
+pub mod Tables

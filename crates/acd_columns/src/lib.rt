@@ -1,5 +1,5 @@
-//! What the values of a row stand for: the number of each state, kind and cause, the range of each value, and the records of rows whose
-//! values are all in their ranges.
+//! What a table of the book is: its columns and the texts of its statements, what stands in a row for a record, and which record a row stands
+//! for where each value is in its range.
 //!
 //! ```ignore
 //! let station = decode::station_in(&row);
@@ -10,7 +10,9 @@ pub mod codes;
 pub mod decode;
 mod meta;
 mod shape;
+mod tables;
 pub mod texts;
 pub mod values;
 
 pub use meta::Meta;
+pub use tables::{Log, Table, Whole};

@@ -6,11 +6,11 @@ use Rattle.acd_book.specs.State.{BookState}
 use Rattle.acd_schema.specs.SettingUp.{MayMake}
 use Rattle.acd_schema.specs.declared.fault.AdoptFault.{AdoptFault}
 use Rattle.acd_sqlbook.specs.Adopting.{IsAdopted, IsHandedBack}
-use Rattle.acd_statements.proofs.Decoded.{decoded}
+use Rattle.acd_columns.proofs.Decoded.{decoded}
 use Rattle.acd_desk.specs.declared.open_fault.OpenFault.{OpenFault}
 use Rattle.acd_desk.specs.Opening.{Refused}
 use Rattle.acd_program.specs.Answered.{nothing}
-use Rattle.acd_statements.specs.Schema.{no_schema}
+use Rattle.acd_columns.specs.Schema.{no_schema}
 use Rattle.acd_sqlbook.specs.State.{book_state, IsNew}
 use Rattle.acd_program.specs.Over.{held, unmade, Unserved}
 use Rattle.acd_program.specs.Taking.{IsOf, IsTaken}

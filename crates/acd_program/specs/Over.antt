@@ -6,9 +6,9 @@ use Rattle.sqlite_trees.specs.Tree.{Trees}
 use Rattle.sqlite.specs.State.{State, HasCleanDisk}
 use Rattle.acd_book.specs.Content.{Content}
 use Rattle.acd_book.specs.State.{BookState}
-use Rattle.acd_statements.specs.AnyRows.{IsFiled}
-use Rattle.acd_statements.specs.Decoding.{content_of}
-use Rattle.acd_statements.specs.Schema.{no_schema}
+use Rattle.acd_columns.specs.AnyRows.{IsFiled}
+use Rattle.acd_columns.specs.InTables.{content_of}
+use Rattle.acd_columns.specs.Schema.{no_schema}
 use Rattle.acd_sqlbook.specs.State.{book_state}
 use Rattle.acd_desk.specs.declared.open_fault.OpenFault.{OpenFault}
 use Rattle.acd_desk.specs.declared.taken.Taken.{Taken}

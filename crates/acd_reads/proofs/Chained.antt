@@ -11,11 +11,11 @@ use Rattle.acd_terms.specs.declared.record.CallRecord.{CallRecord}
 use Rattle.acd_terms.specs.declared.record.ConnectionRecord.{ConnectionRecord}
 use Rattle.acd_terms.specs.declared.record.MonitorRecord.{MonitorRecord}
 use Rattle.acd_book.specs.Content.{Content}
-use Rattle.acd_statements.specs.Content.{meta_of}
+use Rattle.acd_columns.specs.Content.{meta_of}
 use Rattle.acd_columns.specs.declared.meta.Meta.{Meta}
-use Rattle.acd_statements.specs.Draft.{Holds, Quiet, NoStop}
+use Rattle.acd_columns.specs.Draft.{Holds, Quiet, NoStop}
 use Rattle.acd_columns.specs.Rows.{meta_shown}
-use Rattle.acd_statements.specs.Finding.{Finds, joined_rows}
+use Rattle.acd_columns.specs.Finding.{Finds, joined_rows}
 
 pub quiet_on : (a b c : State) → Quiet a b → Quiet b c → Quiet a c
 quiet_on a b c p q = record {

@@ -14,12 +14,12 @@ use Rattle.acd_terms.specs.declared.record.MonitorRecord.{MonitorRecord}
 use Rattle.acd_model.specs.Scans.{at_monitor, monitor_of}
 use Rattle.acd_book.specs.Content.{Content, IsKeptAfter, is_told, watched_by, events_of_monitor}
 use Rattle.acd_book.specs.declared.kept.Kept.{Kept}
-use Rattle.acd_statements.specs.declared.tables.Table.TheVariants as table
+use Rattle.acd_columns.specs.declared.tables.Table.TheVariants as table
 use Rattle.acd_columns.specs.Rows.{IsReadable, kept_values, monitor_values}
-use Rattle.acd_statements.specs.Draft.{Holds}
-use Rattle.acd_statements.specs.Finding.{Finds, kept_behind}
+use Rattle.acd_columns.specs.Draft.{Holds}
+use Rattle.acd_columns.specs.Finding.{Finds, kept_behind}
 use Rattle.acd_columns.specs.Ranges.{kept_in, monitor_in}
-use Rattle.acd_statements.proofs.Asked.{first_found}
+use Rattle.acd_columns.proofs.Asked.{first_found}
 use Rattle.acd_reads.proofs.Chained.{finds_so, finds_on, behind}
 use Rattle.acd_columns.proofs.Records.{monitor_exact}
 use Rattle.acd_columns.proofs.Reported.{kept_exact}

@@ -11,8 +11,8 @@ use Rattle.sqlite.specs.declared.error.Error.{Error}
 use Rattle.sqlite.specs.State.{State}
 use Rattle.acd_terms.specs.declared.event.Event.{Event}
 use Rattle.acd_book.specs.Content.{Content, is_at, is_told}
-use Rattle.acd_statements.specs.Draft.{Fits}
-use Rattle.acd_statements.specs.Finding.{Finds}
+use Rattle.acd_columns.specs.Draft.{Fits}
+use Rattle.acd_columns.specs.Finding.{Finds}
 
 abbrev pub greatest : ℕ
 greatest = 2 ^ 63 - 1

@@ -7,7 +7,7 @@ use Rattle.sqlite_value.specs.Order.{Row}
 use Rattle.sqlite.specs.declared.error.Error.{Error}
 use Rattle.sqlite.specs.State.{State}
 use Rattle.acd_book.specs.Content.{Content}
-use Rattle.acd_statements.specs.Finding.{Finds}
+use Rattle.acd_columns.specs.Finding.{Finds}
 
 -- ---- rows, one after the other
 

@@ -8,8 +8,8 @@ ghost use Rattle.sqlite.specs.Held.{state};
 ghost use Rattle.acd_model.specs.Scans.{monitor_of};
 ghost use Rattle.acd_book.specs.Content.{IsKeptAfter, events_behind, events_of_monitor, is_told, kept_of};
 ghost use Rattle.acd_columns.specs.Rows.{event_values, kept_values};
-ghost use Rattle.acd_statements.specs.Draft.{Fits};
-ghost use Rattle.acd_statements.specs.Finding.{Finds, kept_behind};
+ghost use Rattle.acd_columns.specs.Draft.{Fits};
+ghost use Rattle.acd_columns.specs.Finding.{Finds, kept_behind};
 
 use crate::reads::{first, monitors, records};
 use acd_book::Kept;

@@ -3,8 +3,8 @@
 ghost use Rattle.std.specs.Prelude.{◌≡◌, ◌++◌, ◌∷◌, [], Option, Some, false, map, take, option_to_list, IfOk, OnOk};
 ghost use Rattle.sqlite.specs.Held.{state};
 ghost use Rattle.sqlite_value.specs.Order.{Row as Values};
-ghost use Rattle.acd_statements.specs.Content.{meta_of};
-ghost use Rattle.acd_statements.specs.Finding.{Finds, joined_rows};
+ghost use Rattle.acd_columns.specs.Content.{meta_of};
+ghost use Rattle.acd_columns.specs.Finding.{Finds, joined_rows};
 ghost use Rattle.acd_columns.specs.Rows.{meta_shown};
 ghost use Rattle.acd_columns.specs.declared.meta.Meta.{Meta as MetaRow};
 ghost use Rattle.acd_columns.specs.Ranges.{group_in, station_in, agent_in, call_in, connection_in, monitor_in, event_in, kept_in};

@@ -11,9 +11,9 @@ use Rattle.sqlite.specs.Does.{Tally, lacks_sequence}
 use Rattle.sqlite.specs.Effect.{Database}
 use Rattle.sqlite.specs.State.{State, Writes, Executes}
 use Rattle.sqlite.proofs.Callers.{runs_as}
-use Rattle.acd_statements.specs.Draft.{Ran}
-use Rattle.acd_statements.specs.Making.{Makes, Builds}
-use Rattle.acd_statements.proofs.Statements.{went, same_value}
+use Rattle.acd_columns.specs.Draft.{Ran}
+use Rattle.acd_columns.specs.Making.{Makes, Builds}
+use Rattle.acd_columns.proofs.Statements.{went, same_value}
 
 kept_empty : (old new : Trees) (ts : List Table) → AllByRecursion (λ t. new t.tree ≡ old t.tree) ts → AllByRecursion (λ t. old t.tree ≡ []) ts → AllByRecursion (λ t. new t.tree ≡ []) ts
 kept_empty old new [] k e = tt

@@ -39,22 +39,22 @@ use Rattle.acd_model.specs.Rules.Plan.{connection_order}
 use Rattle.acd_book.specs.Content.{Content}
 use Rattle.acd_book.specs.declared.kept.Kept.{Kept}
 use Rattle.acd_columns.specs.declared.meta.Meta.{Meta}
-use Rattle.acd_statements.specs.declared.tables.Table.{Table}
-use Rattle.acd_statements.specs.declared.tables.Table.TheVariants as table
-use Rattle.acd_statements.specs.AnyRows.{is_good, are_good, is_good_in, values_in, rows_in, IsFiled, HaveAllColumns}
+use Rattle.acd_columns.specs.declared.tables.Table.{Table}
+use Rattle.acd_columns.specs.declared.tables.Table.TheVariants as table
+use Rattle.acd_columns.specs.AnyRows.{is_good, are_good, is_good_in, values_in, rows_in, IsFiled, HaveAllColumns}
 use Rattle.acd_schema.specs.Inspecting.{is_good_table, IsOfBook, IsInRange}
-use Rattle.acd_statements.specs.Content.{AreRows, AreConnections, Encodes, tree_of}
+use Rattle.acd_columns.specs.Content.{AreRows, AreConnections, Encodes, tree_of}
 use Rattle.acd_columns.specs.Rows.{IsReadable, keyed_row, meta_row, group_values, station_values, agent_values, call_values, connection_values, connection_row, monitor_values, event_values, kept_values, group_row, station_row, agent_row, call_row, monitor_row, event_row, kept_row, meta_shown}
 use Rattle.acd_columns.specs.Values.{id_value}
 use Rattle.acd_columns.specs.Decoding.{as_connection}
-use Rattle.acd_statements.specs.Decoding.{in_order}
+use Rattle.acd_columns.specs.InTables.{in_order}
 use Rattle.acd_columns.specs.Ranges.{group_in, station_in, agent_in, call_in, connection_in, monitor_in, counters_in, event_in, kept_in}
-use Rattle.acd_statements.specs.Schema.{book_schema}
-use Rattle.acd_statements.specs.Schema as schema
-use Rattle.acd_statements.proofs.Decoded.{with_all, ordered, from_order, to_order}
-use Rattle.acd_statements.proofs.Heaps.{at_each, each_has, key_same}
-use Rattle.acd_statements.proofs.KeyedRows.{id_cmp, id_tied, same_number, own_number}
-use Rattle.acd_statements.proofs.Looked.{all_so, ascending_of, rising_of}
+use Rattle.acd_columns.specs.Schema.{book_schema}
+use Rattle.acd_columns.specs.Schema as schema
+use Rattle.acd_columns.proofs.Decoded.{with_all, ordered, from_order, to_order}
+use Rattle.acd_columns.proofs.Heaps.{at_each, each_has, key_same}
+use Rattle.acd_columns.proofs.KeyedRows.{id_cmp, id_tied, same_number, own_number}
+use Rattle.acd_columns.proofs.Looked.{all_so, ascending_of, rising_of}
 use Rattle.acd_columns.proofs.Ranged.{row_is, cells, whole_stored}
 use Rattle.acd_columns.proofs.Records.{connection_back, group_stored, station_stored, agent_stored, call_stored, connection_stored, monitor_stored, counters_stored}
 use Rattle.acd_columns.proofs.Reported.{event_stored, kept_stored}

@@ -16,25 +16,25 @@ use Rattle.sqlite_schema.specs.declared.schema.Schema.{Schema}
 use Rattle.sqlite_schema.specs.declared.schema.Table.{Table as Made}
 use Rattle.sqlite.specs.State.{State, HasCleanDisk}
 use Rattle.acd_terms.specs.Lists.{Every}
-use Rattle.acd_statements.specs.declared.tables.Table.{Table}
-use Rattle.acd_statements.specs.declared.tables.Table.TheVariants as table
+use Rattle.acd_columns.specs.declared.tables.Table.{Table}
+use Rattle.acd_columns.specs.declared.tables.Table.TheVariants as table
 use Rattle.acd_schema.specs.declared.fault.AdoptFault.{AdoptFault}
 use Rattle.acd_schema.specs.declared.fault.AdoptFault.TheVariants.{WrongVersion, BadRow, Store}
-use Rattle.acd_statements.specs.declared.tables.Whole.{Whole}
-use Rattle.acd_statements.specs.declared.tables.Log.{Log}
+use Rattle.acd_columns.specs.declared.tables.Whole.{Whole}
+use Rattle.acd_columns.specs.declared.tables.Log.{Log}
 use Rattle.acd_schema.specs.declared.inspection.Page.{Page}
 use Rattle.acd_schema.specs.declared.inspection.Page.TheVariants.{Bad, Last, More}
-use Rattle.acd_statements.specs.AnyRows.{is_good, is_good_in, are_good, rows_in, table_of, table_of_log, has_meta, Numbered, AreNumbered, AreSameFirst, BeginsAsBook, IsFiled, TellsGood, TellsLow, IsPageRows}
+use Rattle.acd_columns.specs.AnyRows.{is_good, is_good_in, are_good, rows_in, table_of, table_of_log, has_meta, Numbered, AreNumbered, AreSameFirst, BeginsAsBook, IsFiled, TellsGood, TellsLow, IsPageRows}
 use Rattle.acd_schema.specs.Inspecting.{is_good_behind, version_fault, fault_of_version, all_tables, TellsBehind, IsBadOf, IsPage, IsPageOf, IsVersionFound, IsRowFound, IsFound, IsFaultOf}
-use Rattle.acd_statements.specs.Draft.{NoStop}
+use Rattle.acd_columns.specs.Draft.{NoStop}
 use Rattle.acd_columns.specs.Values.{whole_at}
-use Rattle.acd_statements.specs.Schema.{book_schema}
-use Rattle.acd_statements.specs.Schema as schema
-use Rattle.acd_statements.specs.Seeing.{HasDatabase, Sees, HasLooked}
-use Rattle.acd_statements.proofs.KeyedRows.{apart, same_number}
-use Rattle.acd_statements.proofs.Looked.{mapped_all, moved_all}
+use Rattle.acd_columns.specs.Schema.{book_schema}
+use Rattle.acd_columns.specs.Schema as schema
+use Rattle.acd_columns.specs.Seeing.{HasDatabase, Sees, HasLooked}
+use Rattle.acd_columns.proofs.KeyedRows.{apart, same_number}
+use Rattle.acd_columns.proofs.Looked.{mapped_all, moved_all}
 use Rattle.acd_schema.proofs.Paged.{page_is, log_told}
-use Rattle.acd_statements.proofs.Seen.{sees_on, sees_fail, sees_then, sees_here}
+use Rattle.acd_columns.proofs.Seen.{sees_on, sees_fail, sees_then, sees_here}
 
 -- ---- rows
 

@@ -17,18 +17,18 @@ use Rattle.acd_terms.specs.Lists.{Among, IsAscending}
 use Rattle.acd_terms.specs.declared.event.Event.{Event}
 use Rattle.acd_laws.proofs.Lists.{after_among, filter_all, filter_among, ascending-filter}
 use Rattle.acd_book.specs.declared.kept.Kept.{Kept}
-use Rattle.acd_statements.specs.declared.tables.Log.{Log}
-use Rattle.acd_statements.specs.declared.tables.Log.TheVariants as log
+use Rattle.acd_columns.specs.declared.tables.Log.{Log}
+use Rattle.acd_columns.specs.declared.tables.Log.TheVariants as log
 use Rattle.acd_schema.specs.declared.inspection.Page.{Page}
 use Rattle.acd_schema.specs.declared.inspection.Page.TheVariants.{Bad, Last, More}
-use Rattle.acd_statements.specs.AnyRows.{is_good, are_good, is_good_in, rows_in, values_in, table_of_log, Numbered, AreNumbered, FromOne, TellsGood, IsPageRows}
+use Rattle.acd_columns.specs.AnyRows.{is_good, are_good, is_good_in, rows_in, values_in, table_of_log, Numbered, AreNumbered, FromOne, TellsGood, IsPageRows}
 use Rattle.acd_schema.specs.Inspecting.{is_good_behind, number_if_good, last_good, TellsBehind, IsPageOf, IsPage}
-use Rattle.acd_statements.specs.Content.{tree_of}
+use Rattle.acd_columns.specs.Content.{tree_of}
 use Rattle.acd_columns.specs.Values.{option_in, ◌>>=◌, whole_at}
 use Rattle.acd_columns.specs.Ranges.{event_in, event_number, kept_in, kept_stamp}
-use Rattle.acd_statements.proofs.Heaps.{at_each}
-use Rattle.acd_statements.proofs.KeyedRows.{by_key}
-use Rattle.acd_statements.proofs.Looked.{bad_among, numbers_ascend}
+use Rattle.acd_columns.proofs.Heaps.{at_each}
+use Rattle.acd_columns.proofs.KeyedRows.{by_key}
+use Rattle.acd_columns.proofs.Looked.{bad_among, numbers_ascend}
 use Rattle.acd_statements.proofs.Named.{at}
 use Rattle.acd_columns.proofs.Reported.{event_stored, kept_stored}
 

@@ -10,21 +10,21 @@ use Rattle.sqlite.specs.declared.error.Error.TheVariants.{SqliteFailure}
 use Rattle.sqlite.specs.declared.error.ErrorCode.TheVariants.{OutOfMemory}
 use Rattle.acd_terms.specs.Lists.{Every}
 use Rattle.acd_book.specs.Content.{Content}
-use Rattle.acd_statements.specs.declared.tables.Table.{Table}
-use Rattle.acd_statements.specs.declared.tables.Table.TheVariants as table
+use Rattle.acd_columns.specs.declared.tables.Table.{Table}
+use Rattle.acd_columns.specs.declared.tables.Table.TheVariants as table
 use Rattle.acd_schema.specs.declared.fault.AdoptFault.{AdoptFault}
 use Rattle.acd_schema.specs.declared.fault.AdoptFault.TheVariants.{WrongVersion, BadRow, NoMemory, Store}
-use Rattle.acd_statements.specs.declared.tables.Log.{Log}
+use Rattle.acd_columns.specs.declared.tables.Log.{Log}
 use Rattle.acd_schema.specs.declared.inspection.Likeness.{Likeness}
 use Rattle.acd_schema.specs.declared.inspection.Likeness.TheVariants.{Whole, First, Other}
 use Rattle.acd_schema.specs.declared.inspection.Page.{Page}
 use Rattle.acd_schema.specs.declared.inspection.Page.TheVariants.{Bad, Last, More}
-use Rattle.acd_statements.specs.Content.{meta_of}
-use Rattle.acd_statements.specs.Draft.{Fits}
-use Rattle.acd_statements.specs.AnyRows.{is_good, are_good, is_good_in, IsFiled, table_of_log, Numbered, AreNumbered, values_behind, has_meta, BeginsAsBook}
+use Rattle.acd_columns.specs.Content.{meta_of}
+use Rattle.acd_columns.specs.Draft.{Fits}
+use Rattle.acd_columns.specs.AnyRows.{is_good, are_good, is_good_in, IsFiled, table_of_log, Numbered, AreNumbered, values_behind, has_meta, BeginsAsBook}
 use Rattle.acd_columns.specs.Rows.{meta_shown, group_values, station_values, agent_values, call_values, connection_values, monitor_values, event_values, kept_values}
-use Rattle.acd_statements.specs.Schema as schema
-use Rattle.acd_statements.specs.Schema.{book_schema}
+use Rattle.acd_columns.specs.Schema as schema
+use Rattle.acd_columns.specs.Schema.{book_schema}
 use Rattle.acd_columns.specs.Values.{◌>>=◌, whole_at}
 
 -- ---- ranges

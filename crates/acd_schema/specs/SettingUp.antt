@@ -4,7 +4,7 @@ use Rattle.sqlite_trees.specs.Tree.{Trees}
 use Rattle.sqlite.specs.State.{State}
 use Rattle.acd_terms.specs.declared.rows.Limits.{Limits}
 use Rattle.acd_book.specs.Content.{empty_content}
-use Rattle.acd_statements.specs.Content.{Encodes}
+use Rattle.acd_columns.specs.Content.{Encodes}
 
 -- a crash leaves what it left before, or a book with the limits and nothing else
 abbrev pub MayMake : State → State → Limits → Type 0

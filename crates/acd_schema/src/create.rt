@@ -6,9 +6,9 @@ ghost use Rattle.sqlite_schema.specs.declared.schema.Schema.{Schema};
 ghost use Rattle.sqlite.specs.Change.{created};
 ghost use Rattle.sqlite.specs.State.{HasCleanDisk};
 ghost use Rattle.sqlite.specs.Held.{state};
-ghost use Rattle.acd_statements.specs.Schema.{no_schema, book_schema};
-ghost use Rattle.acd_statements.specs.Making.{Makes, Builds, plan_schema, state_schema};
-ghost use Rattle.acd_statements.specs.Draft.{Works, Holds, LimitsFit};
+ghost use Rattle.acd_columns.specs.Schema.{no_schema, book_schema};
+ghost use Rattle.acd_columns.specs.Making.{Makes, Builds, plan_schema, state_schema};
+ghost use Rattle.acd_columns.specs.Draft.{Works, Holds, LimitsFit};
 ghost use Rattle.acd_book.specs.Content.{empty_content};
 ghost use Rattle.acd_schema.specs.SettingUp.{MayMake};
 

@@ -1,6 +1,6 @@
 //! Why a connection was not adopted.
 
-use acd_statements::Table;
+use acd_columns::Table;
 use thiserror::Error;
 
 /// Why a connection was not adopted.

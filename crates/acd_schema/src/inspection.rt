@@ -3,11 +3,11 @@
 ghost use Rattle.std.specs.Prelude.{◌≡◌, false, None, IfOk};
 ghost use Rattle.sqlite.specs.Effect.{Database};
 ghost use Rattle.sqlite.specs.Held.{state};
-ghost use Rattle.acd_statements.specs.AnyRows.{table_of, table_of_log, is_good, are_good, BeginsAsBook, TellsGood};
+ghost use Rattle.acd_columns.specs.AnyRows.{table_of, table_of_log, is_good, are_good, BeginsAsBook, TellsGood};
 ghost use Rattle.acd_schema.specs.Inspecting.{number_if_good, last_good, IsLike, TellsBehind, IsBadOf, IsPage, IsPageOf, PageFits, IsFound, IsRowFound, IsVersionFound, IsStoreFault, version_fault, adopt_fault_of};
-ghost use Rattle.acd_statements.specs.Draft.{Fits};
-ghost use Rattle.acd_statements.specs.Schema.{book_schema};
-ghost use Rattle.acd_statements.specs.Seeing.{Sees, HasLooked};
+ghost use Rattle.acd_columns.specs.Draft.{Fits};
+ghost use Rattle.acd_columns.specs.Schema.{book_schema};
+ghost use Rattle.acd_columns.specs.Seeing.{Sees, HasLooked};
 
 use crate::create::set_up;
 use crate::fault::AdoptFault;
@@ -15,12 +15,12 @@ use acd_columns::decode::{
     KeptReader, agent_in, call_in, connection_in, counters_in, event_number, group_in, monitor_in,
     station_in,
 };
-use acd_columns::values;
+use acd_columns::{Log, Table, Whole, values};
 use acd_statements::fitting::{fits, too_large};
 use acd_statements::look::{has_meta, version_rows};
 use acd_statements::read::probe;
 use acd_statements::same::{is_same_first, is_same_schema};
-use acd_statements::{Log, Table, Whole};
+use acd_statements::tables::{all_rows, low_rows, rows_above};
 use acd_terms::Limits;
 use sqlite::{Alter, Connection, Error, ErrorCode, MemStore, Row};
 use sqlite_schema::schema::Schema;
@@ -61,7 +61,7 @@ fn is_good(table: Whole, row: &Row) -> bool
     }
 }
 
-#[tactic(auto, unfolding(acd_statements::specs::AnyRows::are_good))]
+#[tactic(auto, unfolding(acd_columns::specs::AnyRows::are_good))]
 fn are_good(table: Whole, rows: &[Row]) -> bool
     ensures { result ≡ are_good (table_of table) rows.now }
 {
@@ -75,7 +75,7 @@ fn is_good_whole<S: Alter>(conn: &mut Connection<S>, table: Whole) -> Result<boo
     ensures idle { conn.new.in_transaction ≡ false }
     ensures seen { (d : Database) → d.schema ≡ book_schema → Sees d (state S.Store conn.old) (state S.Store conn.new) result (λ good. TellsGood (table_of table) d.trees good) }
 {
-    match table.rows(conn) {
+    match all_rows(table, conn) {
         Ok(rows) => Ok(are_good(table, &rows)),
         Err(error) => Err(error),
     }
@@ -143,7 +143,7 @@ fn page_behind<S: Alter>(
     ensures seen { (d : Database) → d.schema ≡ book_schema → Sees d (state S.Store conn.old) (state S.Store conn.new) result (λ page. IsPage log number d.trees page) }
     ensures fits { IfOk result (λ page. PageFits page) }
 {
-    match log.rows(conn, number) {
+    match rows_above(log, conn, number) {
         Ok(rows) => page_of(kept, log, number, &rows),
         Err(error) => Err(error),
     }
@@ -181,7 +181,7 @@ fn is_good_log<S: Alter>(
     ensures idle { conn.new.in_transaction ≡ false }
     ensures seen { (d : Database) → d.schema ≡ book_schema → Sees d (state S.Store conn.old) (state S.Store conn.new) result (λ good. TellsGood (table_of_log log) d.trees good) }
 {
-    let low = log.low_rows(conn)?;
+    let low = low_rows(log, conn)?;
     if low.is_empty() {
         are_pages_good(kept, conn, log)
     } else {

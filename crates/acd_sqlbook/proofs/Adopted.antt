@@ -9,15 +9,15 @@ use Rattle.acd_book.specs.Content.{Content}
 use Rattle.acd_book.specs.Order.{IsOrdered as IsInOrder}
 use Rattle.acd_schema.specs.declared.fault.AdoptFault.{AdoptFault}
 use Rattle.acd_schema.specs.declared.fault.AdoptFault.TheVariants.{WrongVersion, BadRow, NoMemory, Store}
-use Rattle.acd_statements.specs.AnyRows.{IsFiled, HaveAllColumns}
+use Rattle.acd_columns.specs.AnyRows.{IsFiled, HaveAllColumns}
 use Rattle.acd_schema.specs.Inspecting.{IsFound, IsFaultOf, IsStoreFault, IsInRange}
 use Rattle.acd_sqlbook.specs.Adopting.{IsAdopted, IsHandedBack, IsUntouched}
-use Rattle.acd_statements.specs.Content.{Encodes}
-use Rattle.acd_statements.specs.Decoding.{content_of}
-use Rattle.acd_statements.specs.Seeing.{HasDatabase, HasLooked}
+use Rattle.acd_columns.specs.Content.{Encodes}
+use Rattle.acd_columns.specs.InTables.{content_of}
+use Rattle.acd_columns.specs.Seeing.{HasDatabase, HasLooked}
 use Rattle.acd_sqlbook.specs.State.{IsSound, book_state}
 use Rattle.acd_sqlbook.proofs.BookStates.{Settles, Stays}
-use Rattle.acd_statements.proofs.Decoded.{decoded}
+use Rattle.acd_columns.proofs.Decoded.{decoded}
 use Rattle.acd_schema.proofs.Contents.{content_in, filed_in, filed_by_store}
 use Rattle.acd_sqlbook.proofs.Rising.{stored_ordered}
 

@@ -15,13 +15,13 @@ use Rattle.acd_book.specs.State.{Reads, Commits}
 use Rattle.acd_book.specs.declared.fault.BookFault.{BookFault}
 use Rattle.acd_book.specs.declared.fault.BookFault.TheVariants.{NoMemory, Store}
 use Rattle.acd_sqlbook.specs.Commit.{written_by}
-use Rattle.acd_statements.specs.Content.{Encodes, meta_of}
-use Rattle.acd_statements.specs.Decoding.{content_of}
+use Rattle.acd_columns.specs.Content.{Encodes, meta_of}
+use Rattle.acd_columns.specs.InTables.{content_of}
 use Rattle.acd_sqlbook.specs.Calls.{HasRead, HasCommitted, HasReplaced}
-use Rattle.acd_statements.specs.Draft.{Holds}
+use Rattle.acd_columns.specs.Draft.{Holds}
 use Rattle.acd_sqlbook.specs.State.{IsSound, IsNew, book_state, answered, failures_after}
 use Rattle.acd_sqlbook.proofs.Committing.{commit_is}
-use Rattle.acd_statements.proofs.Decoded.{decoded}
+use Rattle.acd_columns.proofs.Decoded.{decoded}
 
 -- ---- the laws of a store, of its state
 

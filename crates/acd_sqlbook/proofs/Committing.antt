@@ -14,8 +14,8 @@ use Rattle.acd_model.specs.declared.moves.Change.TheVariants.{Nothing, PutGroup,
 use Rattle.acd_book.specs.Content.{Content, GoOn, Follows, committed, FollowsBy, committed_by, rows_by}
 use Rattle.acd_book.specs.declared.kept.Kept.{Kept}
 use Rattle.acd_columns.specs.declared.meta.Meta.{Meta}
-use Rattle.acd_statements.specs.Content.{meta_of, with_part}
-use Rattle.acd_statements.specs.declared.tables.Table.TheVariants as table
+use Rattle.acd_columns.specs.Content.{meta_of, with_part}
+use Rattle.acd_columns.specs.declared.tables.Table.TheVariants as table
 use Rattle.acd_sqlbook.specs.Commit.{filed, all_filed, with_event, with_events, with_kept, made_by, top_call, top_monitor, last_call, last_monitor, counted}
 use Rattle.acd_sqlbook.proofs.Filing.{next}
 

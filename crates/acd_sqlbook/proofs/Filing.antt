@@ -16,9 +16,9 @@ use Rattle.acd_model.specs.Writes.{with_group, with_station, with_agent, with_ca
 use Rattle.acd_model.specs.declared.moves.Change.{Change}
 use Rattle.acd_model.specs.declared.moves.Change.TheVariants.{PutGroup, PutStation, PutAgent, PutCall, PutConnection, PutMonitor, RemoveCall, RemoveConnection, RemoveMonitor}
 use Rattle.acd_book.specs.Content.{Content}
-use Rattle.acd_statements.specs.declared.tables.Table.TheVariants as table
-use Rattle.acd_statements.specs.Content.{with_part}
-use Rattle.acd_statements.specs.Draft.{Drafts}
+use Rattle.acd_columns.specs.declared.tables.Table.TheVariants as table
+use Rattle.acd_columns.specs.Content.{with_part}
+use Rattle.acd_columns.specs.Draft.{Drafts}
 use Rattle.acd_sqlbook.specs.Commit.{filed, with_event, with_events}
 
 -- a fold that takes the first of the list first takes the last one last

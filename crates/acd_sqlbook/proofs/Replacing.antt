@@ -13,11 +13,11 @@ use Rattle.acd_book.specs.declared.kept.Kept.{Kept}
 use Rattle.acd_laws.specs.Orders.{Orders}
 use Rattle.acd_laws.proofs.Decided.{orders_decided}
 use Rattle.acd_columns.specs.declared.meta.Meta.{Meta}
-use Rattle.acd_statements.specs.declared.tables.Table.TheVariants as table
+use Rattle.acd_columns.specs.declared.tables.Table.TheVariants as table
 use Rattle.acd_sqlbook.specs.Calls.{HasRead, HasReplaced}
 use Rattle.acd_sqlbook.specs.Commit.{made_by}
-use Rattle.acd_statements.specs.Content.{meta_of}
-use Rattle.acd_statements.specs.Draft.{Holds, AddsStop}
+use Rattle.acd_columns.specs.Content.{meta_of}
+use Rattle.acd_columns.specs.Draft.{Holds, AddsStop}
 use Rattle.acd_differences.specs.Transition.{HasTables}
 use Rattle.acd_sqlbook.proofs.Committing.{rows_made}
 use Rattle.acd_sqlbook.proofs.Standing.{quiet_still, reads_not, reads_on, commits_not, commits_behind}

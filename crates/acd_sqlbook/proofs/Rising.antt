@@ -12,16 +12,16 @@ use Rattle.acd_book.specs.Content.{Content}
 use Rattle.acd_book.specs.Memory.{stamp_of, number_of}
 use Rattle.acd_book.specs.Order.{Rises, IsOrdered}
 use Rattle.acd_book.specs.declared.kept.Kept.{Kept}
-use Rattle.acd_statements.specs.declared.tables.Table.TheVariants as table
-use Rattle.acd_statements.specs.AnyRows.{is_good}
+use Rattle.acd_columns.specs.declared.tables.Table.TheVariants as table
+use Rattle.acd_columns.specs.AnyRows.{is_good}
 use Rattle.acd_schema.specs.Inspecting.{is_good_table, IsInRange}
-use Rattle.acd_statements.specs.Content.{Encodes}
+use Rattle.acd_columns.specs.Content.{Encodes}
 use Rattle.acd_columns.specs.Values.{at_least, whole_at, stamp_at}
 use Rattle.acd_columns.specs.Ranges.{event_in, kept_in}
 use Rattle.acd_columns.specs.Rows.{event_values, kept_values}
 use Rattle.acd_schema.proofs.Contents.{there, each_good, of_mapped}
-use Rattle.acd_statements.proofs.KeyedRows.{by_key}
-use Rattle.acd_statements.proofs.Looked.{all_so}
+use Rattle.acd_columns.proofs.KeyedRows.{by_key}
+use Rattle.acd_columns.proofs.Looked.{all_so}
 use Rattle.acd_columns.proofs.Ranged.{bound, guarded, some_same}
 
 -- ---- from 1 on

@@ -14,8 +14,8 @@ use Rattle.acd_laws.proofs.Lists.{ascending-put}
 use Rattle.acd_laws.proofs.Keyed.{Keyed, others_left}
 use Rattle.acd_laws.proofs.State.{by_connection}
 use Rattle.acd_book.specs.Content.{Content}
-use Rattle.acd_statements.specs.declared.tables.Table.TheVariants as table
-use Rattle.acd_statements.specs.Draft.{Drafts}
+use Rattle.acd_columns.specs.declared.tables.Table.TheVariants as table
+use Rattle.acd_columns.specs.Draft.{Drafts}
 use Rattle.acd_sqlbook.specs.Commit.{filed, all_filed}
 
 module _ {T K : Type 0} (r : Keyed T K) (x : T) where

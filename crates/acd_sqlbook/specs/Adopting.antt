@@ -6,9 +6,9 @@ use Rattle.acd_book.specs.Content.{Within}
 use Rattle.acd_book.specs.Order.{IsOrdered}
 use Rattle.acd_book.specs.State.{BookState}
 use Rattle.acd_schema.specs.declared.fault.AdoptFault.{AdoptFault}
-use Rattle.acd_statements.specs.Draft.{NoStop}
-use Rattle.acd_statements.specs.AnyRows.{IsFiled}
-use Rattle.acd_statements.specs.Seeing.{HasDatabase}
+use Rattle.acd_columns.specs.Draft.{NoStop}
+use Rattle.acd_columns.specs.AnyRows.{IsFiled}
+use Rattle.acd_columns.specs.Seeing.{HasDatabase}
 use Rattle.acd_schema.specs.Inspecting.{IsFaultOf, IsOfBook, IsInRange}
 
 -- nothing is changed, in tables of a book or of anything else: no stop is new and, while the connection is open, its database is the one that it was

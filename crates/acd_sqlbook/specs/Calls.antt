@@ -3,7 +3,7 @@ use Rattle.std.specs.Prelude.{◌≡◌, Result, IsTrue, IfOk, OnOk, OnErr}
 use Rattle.sqlite.specs.State.{State, HasCleanDisk}
 use Rattle.sqlite.specs.declared.error.Error.{Error}
 use Rattle.acd_book.specs.Content.{Content}
-use Rattle.acd_statements.specs.Draft.{Holds, Quiet, NoStop, MayAdd}
+use Rattle.acd_columns.specs.Draft.{Holds, Quiet, NoStop, MayAdd}
 
 -- while it is open it has a content
 abbrev pub Stands : State → Type 0

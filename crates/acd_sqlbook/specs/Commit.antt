@@ -9,10 +9,10 @@ use Rattle.acd_model.specs.declared.moves.Change.{Change}
 use Rattle.acd_model.specs.declared.moves.Change.TheVariants.{Nothing, PutGroup, PutStation, PutAgent, PutCall, PutConnection, PutMonitor, RemoveCall, RemoveConnection, RemoveMonitor}
 use Rattle.acd_book.specs.Content.{Content}
 use Rattle.acd_book.specs.declared.kept.Kept.{Kept}
-use Rattle.acd_statements.specs.declared.tables.Table.TheVariants as table
+use Rattle.acd_columns.specs.declared.tables.Table.TheVariants as table
 use Rattle.acd_columns.specs.declared.meta.Meta.{Meta}
-use Rattle.acd_statements.specs.Content.{meta_of, with_part}
-use Rattle.acd_statements.specs.Draft.{Fits, FiguresFit}
+use Rattle.acd_columns.specs.Content.{meta_of, with_part}
+use Rattle.acd_columns.specs.Draft.{Fits, FiguresFit}
 
 -- its numbers fit
 abbrev pub ChangeFits : Change → Type 0

@@ -10,8 +10,8 @@ use Rattle.acd_book.specs.Content.{Content, empty_content}
 use Rattle.acd_book.specs.State.{BookState}
 use Rattle.acd_book.specs.declared.fault.BookFault.{BookFault}
 use Rattle.acd_book.specs.declared.fault.BookFault.TheVariants.{NoMemory, Store}
-use Rattle.acd_statements.specs.Content.{Encodes}
-use Rattle.acd_statements.specs.Decoding.{content_of}
+use Rattle.acd_columns.specs.Content.{Encodes}
+use Rattle.acd_columns.specs.InTables.{content_of}
 use Rattle.acd_sqlbook.specs.Calls.{Stands}
 
 -- whatever a crash may leave is the tables of a content, and so is what the connection sees while it is open

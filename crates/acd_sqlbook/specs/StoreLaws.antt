@@ -7,7 +7,7 @@ use Rattle.sqlite.specs.Steps.{over_memory}
 use Rattle.acd_book.specs.Content.{Content}
 use Rattle.acd_book.specs.Order.{IsOrdered}
 use Rattle.acd_schema.specs.Inspecting.{IsInRange}
-use Rattle.acd_statements.specs.Content.{Encodes}
+use Rattle.acd_columns.specs.Content.{Encodes}
 use Rattle.acd_sqlbook.specs.State.{book_state}
 
 -- over a store in memory a book is clean, whatever was done to it

@@ -3,7 +3,7 @@
 ghost use Rattle.std.specs.Prelude.{◌≡◌, false, IfOk, IfErr};
 ghost use Rattle.sqlite.specs.State.{HasCleanDisk};
 ghost use Rattle.sqlite.specs.Held.{state};
-ghost use Rattle.acd_statements.specs.AnyRows.{HaveAllColumns, IsFiled};
+ghost use Rattle.acd_columns.specs.AnyRows.{HaveAllColumns, IsFiled};
 ghost use Rattle.acd_sqlbook.specs.Adopting.{IsAdopted, IsHandedBack, IsUntouched};
 ghost use Rattle.acd_sqlbook.specs.State.{book_state};
 

@@ -3,8 +3,8 @@
 ghost use Rattle.std.specs.Prelude.{◌≡◌, ◌≢◌, ◌≤◌, false, Err, is_ok, IsTrue, IfOk, IfErr};
 ghost use Rattle.sqlite.specs.State.{HasCleanDisk};
 ghost use Rattle.sqlite.specs.Held.{state};
-ghost use Rattle.acd_statements.specs.Schema.{no_schema};
-ghost use Rattle.acd_statements.specs.Draft.{LimitsFit};
+ghost use Rattle.acd_columns.specs.Schema.{no_schema};
+ghost use Rattle.acd_columns.specs.Draft.{LimitsFit};
 ghost use Rattle.acd_sqlbook.specs.State.{book_state, IsNew, fault_of, answered, failures_after};
 ghost use Rattle.acd_schema.specs.SettingUp.{MayMake};
 
@@ -118,7 +118,7 @@ impl<S: Alter> Book for SqlBook<S> {
     ghost use Rattle.std.specs.Prelude.{refl};
     ghost use Rattle.std.proofs.Common.{ap, ◌∙◌};
     ghost use Rattle.std.proofs.Math.Logic.{∥∥₁_map};
-    ghost use Rattle.acd_statements.specs.Decoding.{content_of};
+    ghost use Rattle.acd_columns.specs.InTables.{content_of};
 
     ghost state = { λ b. book_state (state S.Store b.conn) b.failures };
 

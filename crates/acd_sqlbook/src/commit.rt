@@ -9,7 +9,7 @@ ghost use Rattle.acd_model.specs.Rules.Plan.{connection_order};
 ghost use Rattle.acd_book.specs.Content.{Content};
 ghost use Rattle.acd_sqlbook.specs.Choosing.{puts_the_same, is_put_once, is_new};
 ghost use Rattle.acd_sqlbook.specs.Commit.{ChangeFits, EventFits, filed, all_filed, with_event, with_events, made_by, top_call, top_monitor, last_call, last_monitor, counted};
-ghost use Rattle.acd_statements.specs.Draft.{Drafts, Works, Holds, AddsStop, Fits, FiguresFit, MetaFits};
+ghost use Rattle.acd_columns.specs.Draft.{Drafts, Works, Holds, AddsStop, Fits, FiguresFit, MetaFits};
 
 use acd_book::Kept;
 use acd_columns::Meta;

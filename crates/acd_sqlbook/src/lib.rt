@@ -22,7 +22,7 @@ pub mod laws;
 mod ready;
 mod transition;
 
+pub use acd_columns::Table;
 pub use acd_differences::{Filed, row_changes};
 pub use acd_schema::{AdoptFault, has_no_tables};
-pub use acd_statements::Table;
 pub use book::SqlBook;

@@ -1,5 +1,5 @@
-//! Tests of the crates of the state, by their public calls: what no contract says of them. Each module is named as its
-//! crate. They stand here so that no crate is proved a second time for its tests.
+//! Tests of the crates of the state, by their public calls: what no contract says of them, and no scene shows. Each
+//! module is named as its crate. They stand here so that no crate is proved a second time for its tests.
 #![tactic(auto)]
 
 #[cfg(test)]
@@ -10,3 +10,5 @@ mod reports;
 mod switch;
 #[cfg(test)]
 mod tables;
+#[cfg(test)]
+mod values;

@@ -6,7 +6,7 @@ ghost use Rattle.sqlite_value.specs.Value.{owned};
 ghost use Rattle.sqlite_value.specs.declared.value.Value.TheVariants.{Text};
 ghost use Rattle.acd_columns.specs.Values.{id_value};
 ghost use Rattle.acd_columns.specs.Codes.{pending_code, cause_code};
-ghost use Rattle.acd_statements.specs.Draft.{Fits};
+ghost use Rattle.acd_columns.specs.Draft.{Fits};
 
 use acd_columns::codes::{cause_code, pending_code};
 use acd_terms::{AgentId, Cause, DeviceId, Name, Pending, Seconds};

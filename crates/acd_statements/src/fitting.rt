@@ -1,7 +1,7 @@
 //! Which numbers an INTEGER column can hold.
 
 ghost use Rattle.std.specs.Prelude.{◌≡◌, ◌↔◌, IsTrue};
-ghost use Rattle.acd_statements.specs.Draft.{Fits};
+ghost use Rattle.acd_columns.specs.Draft.{Fits};
 
 use sqlite::{Error, ErrorCode};
 

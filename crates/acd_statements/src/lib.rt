@@ -1,7 +1,7 @@
 //! The nine tables of a book in SQLite: the statement or the query that works on each.
 //!
 //! A query of `query` shows the values of the rows of a content, in the order of its key; what they stand for `acd_columns` says.
-//! What a database holds that is no book's yet, the queries of `look` and those of [`Whole`] and [`Log`] tell too.
+//! What a database holds that is no book's yet, the queries of `look` and of `tables` tell too.
 //!
 //! Each function of `write` works inside a transaction, and adds no stop.
 //!
@@ -14,10 +14,11 @@
 mod bind;
 pub mod fitting;
 pub mod look;
+pub mod put;
 pub mod query;
 pub mod read;
+mod records;
 pub mod same;
-mod tables;
+pub mod stored;
+pub mod tables;
 pub mod write;
-
-pub use tables::{Log, Table, Whole};

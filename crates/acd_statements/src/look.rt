@@ -5,12 +5,12 @@ ghost use Rattle.std.specs.Str.{bytes_eq};
 ghost use Rattle.sqlite_value.specs.Order.{column};
 ghost use Rattle.sqlite.specs.Effect.{Database};
 ghost use Rattle.sqlite.specs.Held.{state};
-ghost use Rattle.acd_statements.specs.declared.tables.Log.TheVariants as log;
-ghost use Rattle.acd_statements.specs.declared.tables.Table.TheVariants as table;
-ghost use Rattle.acd_statements.specs.AnyRows.{has_meta, rows_in, BeginsAsBook, TellsLow};
-ghost use Rattle.acd_statements.specs.Content.{tree_of};
-ghost use Rattle.acd_statements.specs.Schema.{book_schema};
-ghost use Rattle.acd_statements.specs.Seeing.{Sees};
+ghost use Rattle.acd_columns.specs.declared.tables.Log.TheVariants as log;
+ghost use Rattle.acd_columns.specs.declared.tables.Table.TheVariants as table;
+ghost use Rattle.acd_columns.specs.AnyRows.{has_meta, rows_in, BeginsAsBook, TellsLow};
+ghost use Rattle.acd_columns.specs.Content.{tree_of};
+ghost use Rattle.acd_columns.specs.Schema.{book_schema};
+ghost use Rattle.acd_columns.specs.Seeing.{Sees};
 
 use crate::read::read;
 use acd_columns::texts::{
@@ -26,7 +26,7 @@ fn is_meta(table: &Table) -> bool
 }
 
 /// Whether a table of any shape has the name `meta`.
-#[tactic(auto, unfolding(crate::specs::AnyRows::has_meta))]
+#[tactic(auto, unfolding(acd_columns::specs::AnyRows::has_meta))]
 pub fn has_meta(schema: &Schema) -> bool
     ensures { result ≡ has_meta schema.now.tables }
 {

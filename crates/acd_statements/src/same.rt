@@ -1,7 +1,7 @@
 //! Whether two schemas are the same. A default, a literal or a list that no table of a book has makes a table another one.
 
 ghost use Rattle.std.specs.Prelude.{◌≡◌, IsTrue};
-ghost use Rattle.acd_statements.specs.AnyRows.{AreSameFirst};
+ghost use Rattle.acd_columns.specs.AnyRows.{AreSameFirst};
 
 use sqlite_items::Items;
 use sqlite_schema::code::{Op, Terms};

@@ -3,93 +3,61 @@
 ghost use Rattle.std.specs.Prelude.{◌≡◌, false, IsPermutation};
 ghost use Rattle.sqlite.specs.Effect.{Database};
 ghost use Rattle.sqlite.specs.Held.{state};
-ghost use Rattle.acd_statements.specs.Draft.{Fits};
-ghost use Rattle.acd_statements.specs.AnyRows.{table_of, rows_in, TellsLow, IsPageRows};
-ghost use Rattle.acd_statements.specs.Schema.{book_schema};
-ghost use Rattle.acd_statements.specs.Seeing.{Sees};
+ghost use Rattle.acd_columns.specs.Draft.{Fits};
+ghost use Rattle.acd_columns.specs.AnyRows.{table_of, rows_in, TellsLow, IsPageRows};
+ghost use Rattle.acd_columns.specs.Schema.{book_schema};
+ghost use Rattle.acd_columns.specs.Seeing.{Sees};
 
 use crate::look::{low_event_rows, low_kept_rows, unordered_connection_rows};
 use crate::query::{
     agent_rows, call_rows, event_rows, group_rows, kept_rows, monitor_rows, station_rows,
 };
 use crate::read::meta_rows;
+use acd_columns::{Log, Whole};
 use sqlite::{Alter, Connection, Error, Row};
 
-/// A table of the book.
-#[derive(Clone, Copy, Debug, PartialEq, Eq)]
-pub enum Table {
-    Meta,
-    Groups,
-    Stations,
-    Agents,
-    Calls,
-    Connections,
-    Monitors,
-    Events,
-    Kept,
-}
-
-/// A table that is read whole.
-#[derive(Clone, Copy)]
-pub enum Whole {
-    Meta,
-    Groups,
-    Stations,
-    Agents,
-    Calls,
-    Connections,
-    Monitors,
-}
-
-/// A table that grows with the history, and is read in pages.
-#[derive(Clone, Copy)]
-pub enum Log {
-    Events,
-    Kept,
-}
-
-impl Whole {
-    /// All its rows, in any order.
-    pub fn rows<S: Alter>(self, conn: &mut Connection<S>) -> Result<Vec<Row>, Error>
-        requires { conn.old.in_transaction ≡ false }
-        ensures idle { conn.new.in_transaction ≡ false }
-        ensures seen { (d : Database) → d.schema ≡ book_schema → Sees d (state S.Store conn.old) (state S.Store conn.new) result (λ rows. IsPermutation (rows_in (table_of self) d.trees) rows.items) }
-    {
-        match self {
-            Whole::Meta => meta_rows(conn),
-            Whole::Groups => group_rows(conn),
-            Whole::Stations => station_rows(conn),
-            Whole::Agents => agent_rows(conn),
-            Whole::Calls => call_rows(conn),
-            Whole::Connections => unordered_connection_rows(conn),
-            Whole::Monitors => monitor_rows(conn),
-        }
+/// All rows of a table, in any order.
+pub fn all_rows<S: Alter>(table: Whole, conn: &mut Connection<S>) -> Result<Vec<Row>, Error>
+    requires { conn.old.in_transaction ≡ false }
+    ensures idle { conn.new.in_transaction ≡ false }
+    ensures seen { (d : Database) → d.schema ≡ book_schema → Sees d (state S.Store conn.old) (state S.Store conn.new) result (λ rows. IsPermutation (rows_in (table_of table) d.trees) rows.items) }
+{
+    match table {
+        Whole::Meta => meta_rows(conn),
+        Whole::Groups => group_rows(conn),
+        Whole::Stations => station_rows(conn),
+        Whole::Agents => agent_rows(conn),
+        Whole::Calls => call_rows(conn),
+        Whole::Connections => unordered_connection_rows(conn),
+        Whole::Monitors => monitor_rows(conn),
     }
 }
 
-impl Log {
-    /// A row whose number is below 1.
-    pub fn low_rows<S: Alter>(self, conn: &mut Connection<S>) -> Result<Vec<Row>, Error>
-        requires { conn.old.in_transaction ≡ false }
-        ensures idle { conn.new.in_transaction ≡ false }
-        ensures seen { (d : Database) → d.schema ≡ book_schema → Sees d (state S.Store conn.old) (state S.Store conn.new) result (λ rows. TellsLow self d.trees rows.items) }
-    {
-        match self {
-            Log::Events => low_event_rows(conn),
-            Log::Kept => low_kept_rows(conn),
-        }
+/// A row whose number is below 1.
+pub fn low_rows<S: Alter>(log: Log, conn: &mut Connection<S>) -> Result<Vec<Row>, Error>
+    requires { conn.old.in_transaction ≡ false }
+    ensures idle { conn.new.in_transaction ≡ false }
+    ensures seen { (d : Database) → d.schema ≡ book_schema → Sees d (state S.Store conn.old) (state S.Store conn.new) result (λ rows. TellsLow log d.trees rows.items) }
+{
+    match log {
+        Log::Events => low_event_rows(conn),
+        Log::Kept => low_kept_rows(conn),
     }
+}
 
-    /// The first thousand rows above a number.
-    pub fn rows<S: Alter>(self, conn: &mut Connection<S>, number: u64) -> Result<Vec<Row>, Error>
-        requires idle { conn.old.in_transaction ≡ false }
-        requires number { Fits number }
-        ensures idle { conn.new.in_transaction ≡ false }
-        ensures seen { (d : Database) → d.schema ≡ book_schema → Sees d (state S.Store conn.old) (state S.Store conn.new) result (λ rows. IsPageRows self number 1000 d.trees rows.items) }
-    {
-        match self {
-            Log::Events => event_rows(conn, number, 1000),
-            Log::Kept => kept_rows(conn, number, 1000),
-        }
+/// The first thousand rows above a number.
+pub fn rows_above<S: Alter>(
+    log: Log,
+    conn: &mut Connection<S>,
+    number: u64,
+) -> Result<Vec<Row>, Error>
+    requires idle { conn.old.in_transaction ≡ false }
+    requires number { Fits number }
+    ensures idle { conn.new.in_transaction ≡ false }
+    ensures seen { (d : Database) → d.schema ≡ book_schema → Sees d (state S.Store conn.old) (state S.Store conn.new) result (λ rows. IsPageRows log number 1000 d.trees rows.items) }
+{
+    match log {
+        Log::Events => event_rows(conn, number, 1000),
+        Log::Kept => kept_rows(conn, number, 1000),
     }
 }

@@ -11,22 +11,19 @@ ghost use Rattle.acd_terms.specs.Lists.{put_by, remove_by};
 ghost use Rattle.acd_model.specs.Scans.{at_group, at_station, at_agent, at_call, at_connection, at_monitor};
 ghost use Rattle.acd_codec.specs.RequestTexts.{request_text};
 ghost use Rattle.acd_book.specs.Content.{Content, empty_content};
-ghost use Rattle.acd_statements.specs.Schema.{book_schema};
-ghost use Rattle.acd_statements.specs.Making.{Builds};
-ghost use Rattle.acd_statements.specs.Content.{with_part};
-ghost use Rattle.acd_statements.specs.Draft.{Drafts, Works, Ran, Fits, FiguresFit, MetaFits};
+ghost use Rattle.acd_columns.specs.Schema.{book_schema};
+ghost use Rattle.acd_columns.specs.Making.{Builds};
+ghost use Rattle.acd_columns.specs.Content.{with_part};
+ghost use Rattle.acd_columns.specs.Draft.{Drafts, Works, Ran, Fits, FiguresFit, MetaFits};
 
-use crate::bind;
-use crate::tables::Table;
+use crate::{bind, put};
 use acd_book::Kept;
 use acd_codec::reads_back;
-use acd_columns::Meta;
-use acd_columns::codes::{agent_code, connection_code, kind_code};
+use acd_columns::codes::connection_code;
 use acd_columns::texts::{
-    DELETE_CALL, DELETE_CONNECTION, DELETE_MONITOR, INSERT_AGENT, INSERT_CALL, INSERT_CONNECTION,
-    INSERT_EVENT, INSERT_GROUP, INSERT_KEPT, INSERT_META, INSERT_STATION, UPDATE_AGENT,
-    UPDATE_CONNECTION, UPDATE_GROUP, UPDATE_META,
+    DELETE_CONNECTION, INSERT_CONNECTION, INSERT_KEPT, INSERT_META, UPDATE_CONNECTION, UPDATE_META,
 };
+use acd_columns::{Meta, Table};
 use acd_terms::{
     AgentRecord, CallRecord, ConnectionRecord, DeviceId, Event, GroupRecord, MonitorRecord,
     StationRecord,
@@ -69,23 +66,7 @@ pub fn put_group<S: Alter>(tx: &mut Transaction<'_, S>, group: &GroupRecord) -> 
     ensures put { HasCleanDisk (state S.Store tx.new.conn.now) → OnOk result ((c : Content) → Drafts (state S.Store tx.old.conn.now) c
         → Drafts (state S.Store tx.new.conn.now) (with_part Table.Groups (put_by (at_group group.now.device) c.rows.groups group.now) c)) }
 {
-    let figures = &group.figures;
-    let values = [
-        bind::device(group.device),
-        bind::name(&group.name),
-        bind::seconds(group.ring),
-        bind::seconds(group.wrap),
-        bind::integer(figures.entered),
-        bind::integer(figures.answered),
-        bind::integer(figures.abandoned),
-        bind::integer(figures.moved),
-        bind::integer(figures.waited),
-    ];
-    let changed = changed_rows(tx, UPDATE_GROUP, &values)?;
-    if changed > 0 {
-        return Ok(());
-    }
-    write(tx, INSERT_GROUP, &values)
+    put::put(tx, group)
 }
 
 /// Puts a station that has no row. One that has a row is the store's to refuse.
@@ -98,7 +79,7 @@ pub fn insert_station<S: Alter>(
     ensures put { HasCleanDisk (state S.Store tx.new.conn.now) → OnOk result ((c : Content) → Drafts (state S.Store tx.old.conn.now) c
         → Drafts (state S.Store tx.new.conn.now) (with_part Table.Stations (put_by (at_station station.now.device) c.rows.stations station.now) c)) }
 {
-    write(tx, INSERT_STATION, &[bind::device(station.device)])
+    put::insert(tx, station)
 }
 
 /// Changes the row of the agent, and inserts one where there is none.
@@ -109,21 +90,7 @@ pub fn put_agent<S: Alter>(tx: &mut Transaction<'_, S>, agent: &AgentRecord) -> 
     ensures put { HasCleanDisk (state S.Store tx.new.conn.now) → OnOk result ((c : Content) → Drafts (state S.Store tx.old.conn.now) c
         → Drafts (state S.Store tx.new.conn.now) (with_part Table.Agents (put_by (at_agent agent.now.agent) c.rows.agents agent.now) c)) }
 {
-    let values = [
-        bind::agent(agent.agent),
-        bind::name(&agent.name),
-        bind::small(agent_code(agent.state)),
-        bind::pending_or_null(agent.pending),
-        bind::device_or_null(agent.station),
-        bind::device_or_null(agent.group),
-        bind::integer(agent.stamp),
-        bind::small(agent.since),
-    ];
-    let changed = changed_rows(tx, UPDATE_AGENT, &values)?;
-    if changed > 0 {
-        return Ok(());
-    }
-    write(tx, INSERT_AGENT, &values)
+    put::put(tx, agent)
 }
 
 /// Puts a call in the place of the one that has its number, if any.
@@ -134,16 +101,7 @@ pub fn put_call<S: Alter>(tx: &mut Transaction<'_, S>, call: &CallRecord) -> Res
     ensures put { HasCleanDisk (state S.Store tx.new.conn.now) → OnOk result ((c : Content) → Drafts (state S.Store tx.old.conn.now) c
         → Drafts (state S.Store tx.new.conn.now) (with_part Table.Calls (put_by (at_call call.now.call) c.rows.calls call.now) c)) }
 {
-    write(
-        tx,
-        "INSERT INTO calls (call, caller, called, since) VALUES (?1, ?2, ?3, ?4) ON CONFLICT (call) DO UPDATE SET caller = excluded.caller, called = excluded.called, since = excluded.since",
-        &[
-            bind::integer(call.call),
-            bind::device(call.caller),
-            bind::device(call.called),
-            bind::small(call.since),
-        ],
-    )
+    put::put(tx, call)
 }
 
 /// Puts a call that has no row. One that has a row is the store's to refuse.
@@ -154,16 +112,7 @@ pub fn insert_call<S: Alter>(tx: &mut Transaction<'_, S>, call: &CallRecord) -> 
     ensures put { HasCleanDisk (state S.Store tx.new.conn.now) → OnOk result ((c : Content) → Drafts (state S.Store tx.old.conn.now) c
         → Drafts (state S.Store tx.new.conn.now) (with_part Table.Calls (put_by (at_call call.now.call) c.rows.calls call.now) c)) }
 {
-    write(
-        tx,
-        INSERT_CALL,
-        &[
-            bind::integer(call.call),
-            bind::device(call.caller),
-            bind::device(call.called),
-            bind::small(call.since),
-        ],
-    )
+    put::insert(tx, call)
 }
 
 /// Puts a monitor in the place of the one that has its number, if any.
@@ -178,15 +127,7 @@ pub fn put_monitor<S: Alter>(
     ensures put { HasCleanDisk (state S.Store tx.new.conn.now) → OnOk result ((c : Content) → Drafts (state S.Store tx.old.conn.now) c
         → Drafts (state S.Store tx.new.conn.now) (with_part Table.Monitors (put_by (at_monitor monitor.now.monitor) c.rows.monitors monitor.now) c)) }
 {
-    write(
-        tx,
-        "INSERT INTO monitors (monitor, device, after_event) VALUES (?1, ?2, ?3) ON CONFLICT (monitor) DO UPDATE SET device = excluded.device, after_event = excluded.after_event",
-        &[
-            bind::integer(monitor.monitor),
-            bind::device(monitor.device),
-            bind::integer(monitor.after_event),
-        ],
-    )
+    put::put(tx, monitor)
 }
 
 /// Puts an event whose number has no row. One that has a row is the store's to refuse.
@@ -198,23 +139,7 @@ pub fn insert_event<S: Alter>(tx: &mut Transaction<'_, S>, event: &Event) -> Res
     ensures put { HasCleanDisk (state S.Store tx.new.conn.now) → OnOk result ((c : Content) → Drafts (state S.Store tx.old.conn.now) c
         → Drafts (state S.Store tx.new.conn.now) (with_part Table.Events (put_by (λ x. nat_cmp event.now.number x.number) c.events event.now) c)) }
 {
-    let columns = event.report.columns();
-    write(
-        tx,
-        INSERT_EVENT,
-        &[
-            bind::integer(event.number),
-            bind::small(event.moment),
-            bind::small(kind_code(columns.kind)),
-            bind::device_or_null(columns.device),
-            bind::integer_or_null(columns.call),
-            bind::agent_or_null(columns.agent),
-            bind::device_or_null(columns.group),
-            bind::device_or_null(columns.to),
-            bind::cause_or_null(columns.cause),
-            bind::small_or_null(columns.waited),
-        ],
-    )
+    put::insert(tx, event)
 }
 
 /// Puts a kept record, with the text of its request, that has no row. One whose stamp or whose requester and invoke number have a row is the store's to refuse.
@@ -309,7 +234,7 @@ pub fn drop_call<S: Alter>(tx: &mut Transaction<'_, S>, call: u64) -> Result<(),
     ensures put { HasCleanDisk (state S.Store tx.new.conn.now) → OnOk result ((c : Content) → Drafts (state S.Store tx.old.conn.now) c
         → Drafts (state S.Store tx.new.conn.now) (with_part Table.Calls (remove_by (at_call call) c.rows.calls) c)) }
 {
-    write(tx, DELETE_CALL, &[bind::integer(call)])
+    put::remove::<CallRecord, S>(tx, call)
 }
 
 pub fn drop_monitor<S: Alter>(tx: &mut Transaction<'_, S>, monitor: u64) -> Result<(), Error>
@@ -319,7 +244,7 @@ pub fn drop_monitor<S: Alter>(tx: &mut Transaction<'_, S>, monitor: u64) -> Resu
     ensures put { HasCleanDisk (state S.Store tx.new.conn.now) → OnOk result ((c : Content) → Drafts (state S.Store tx.old.conn.now) c
         → Drafts (state S.Store tx.new.conn.now) (with_part Table.Monitors (remove_by (at_monitor monitor) c.rows.monitors) c)) }
 {
-    write(tx, DELETE_MONITOR, &[bind::integer(monitor)])
+    put::remove::<MonitorRecord, S>(tx, monitor)
 }
 
 /// Changes the row of the connection, and inserts one where there is none.

@@ -2,25 +2,29 @@
 //! replies, of event reports and of what is read of a desk stand in the scenes.
 
 mod faulty;
-mod messages;
-mod nesting;
 mod read;
 
-use acd_codec::{Member, ReadFault, read_request, request_text};
+use acd_codec::{ReadFault, read_request, request_text};
 use std::alloc::Global;
 use std::process::Abort;
 
-// The bytes are malformed, with this member.
-fn expect_fault(rt: &impl Abort, alloc: Global, bytes: &[u8], member: Member) {
-    match read_request(alloc, bytes) {
-        Err(ReadFault::Malformed(found)) => assert_eq!(rt; found, member, "{bytes:?}"),
-        _ => assert!(rt; false, "{bytes:?}"),
-    }
+// The text of the request that is read, or the fault.
+fn told(rt: &impl Abort, alloc: Global, bytes: &[u8]) -> String {
+    let read = match read_request(alloc, bytes) {
+        Ok(request) => request_text(alloc, &request),
+        Err(fault) => format!(in alloc; "{fault}"),
+    };
+    read.expect(rt, "memory")
 }
 
-// What is asked is a request with this text.
-fn expect_text(rt: &impl Abort, alloc: Global, asked: &str, text: &str) {
-    let request = read_request(alloc, asked.as_bytes()).expect(rt, "a request");
-    let written = request_text(alloc, &request).expect(rt, "memory");
-    assert_eq!(rt; written.as_str(), text);
+// A request with this text is read, or this fault.
+fn reads(rt: &impl Abort, alloc: Global, bytes: &[u8], text: &str) {
+    let told = told(rt, alloc, bytes);
+    assert!(rt; told.as_str() == text, "{bytes:?}: {told}");
+}
+
+#[test]
+fn message_of_no_memory(rt: HostRuntime) {
+    let text = format!(in rt.alloc(); "{}", ReadFault::NoMemory).expect(&rt, "memory");
+    assert_eq!(&rt; text.as_str(), "out of memory");
 }

@@ -1,139 +1,205 @@
-//! Worked examples over books in memory, and over one that fails.
+//! A desk over a book that fails: at each of its calls in a short session, and at chosen ones.
 
-use acd_book::{Book, MemoryBook};
-use acd_codec::read_request;
-use acd_desk::{Desk, OpenFault, Taken};
-use acd_terms::{Arrival, ConnectionRecord, ConnectionState, DeviceId, Limits};
-use std::alloc::Global;
-use std::process::Abort;
+use crate::player::play;
 
-mod audits;
-mod failing;
-mod runs;
-pub mod stopping;
-mod stops;
-mod store;
+// A new group, a new station, and the first request again. The book's calls: 1 the rows at the opening; 2 and 3 the key
+// of the first request and its commit; 4 and 5 those of the second; 6 the key of the repeat.
+fn failures() -> &'static str {
+    r#"
+scene no_failure
+> lines @group@station@group
+@made
+@placed
+@made
+closed executed 2, groups 1, stations 1, failures 0, reads 1
 
-// A moment, a request, and what is told of its answer.
-type SceneLine = (u32, &'static [u8], u16, &'static str);
+scene no_memory_for_the_key_of_the_first_request failing 2:noMemory
+> lines @group@station@group
+@noMemory
+@placed
+@made
+closed executed 2, groups 1, stations 1, failures 0, reads 1
 
-const BILLING: &[u8] =
-    br#"{"requester":"plan","invoke":1,"service":"addGroup","device":"100","name":"Billing","ring":20,"wrap":30}"#;
+scene no_memory_for_the_commit_of_the_first_request failing 3:noMemory
+> lines @group@station@group
+@noMemory
+@placed
+@made
+closed executed 2, groups 1, stations 1, failures 0, reads 2
 
-const BILLING_REPLY: &str = r#"{"invoke":1,"requester":"plan","result":{}}"#;
+scene no_memory_for_the_key_of_the_second_request failing 4:noMemory
+> lines @group@station@group
+@made
+@noMemory
+@made
+closed executed 1, groups 1, stations 0, failures 0, reads 1
 
-const STATION: &[u8] = br#"{"requester":"plan","invoke":2,"service":"addStation","device":"201"}"#;
+scene no_memory_for_the_commit_of_the_second_request failing 5:noMemory
+> lines @group@station@group
+@made
+@noMemory
+@made
+closed executed 1, groups 1, stations 0, failures 0, reads 1
 
-const STATION_REPLY: &str = r#"{"invoke":2,"requester":"plan","result":{}}"#;
+scene no_memory_for_the_repeat failing 6:noMemory
+> lines @group@station@group
+@made
+@placed
+@noMemory
+closed executed 2, groups 1, stations 1, failures 0, reads 1
 
-const SECOND_STATION: &[u8] =
-    br#"{"requester":"plan","invoke":3,"service":"addStation","device":"202"}"#;
+scene store_fails_at_the_key_of_the_first_request failing 2:store
+> lines @group@station@group
+@storeFault
+@storeFault
+@storeFault
+again
+> lines @group@station@group
+@made
+@placed
+@made
+closed executed 2, groups 1, stations 1, failures 1, reads 2
 
-// Group 100, stations 201 and 202, agents 7 and 8.
-const PLAN: &[SceneLine] = &[
-    (0, BILLING, 200, BILLING_REPLY),
-    (0, STATION, 200, STATION_REPLY),
-    (
-        0,
-        SECOND_STATION,
-        200,
-        r#"{"invoke":3,"requester":"plan","result":{}}"#,
-    ),
-    (
-        0,
-        br#"{"requester":"plan","invoke":4,"service":"addAgent","agent":"7","name":"Ana"}"#,
-        200,
-        r#"{"invoke":4,"requester":"plan","result":{}}"#,
-    ),
-    (
-        0,
-        br#"{"requester":"plan","invoke":5,"service":"addAgent","agent":"8","name":"Ben"}"#,
-        200,
-        r#"{"invoke":5,"requester":"plan","result":{}}"#,
-    ),
-];
+scene store_fails_at_the_commit_of_the_first_request failing 3:store
+> lines @group@station@group
+@storeFault
+@storeFault
+@storeFault
+again
+> # no request is lost or done twice
+> lines @group@station@group
+@made
+@placed
+@made
+closed executed 2, groups 1, stations 1, failures 1, reads 2
 
-fn opened<B: Book + Drop>(rt: &impl Abort, alloc: Global, book: B) -> Desk<B> {
-    match Desk::open(alloc, book) {
-        Ok(desk) => desk,
-        Err((fault, _)) => panic!(rt; "{fault:?}"),
-    }
+scene store_fails_behind_the_commit_of_the_first_request failing 3:made
+> lines @group@station@group
+@storeFault
+@storeFault
+@storeFault
+closed executed 1, groups 1, stations 0, failures 1, reads 1
+
+scene opens_again_behind_the_commit_of_the_first_request failing 3:made
+> lines @group@station@group
+@storeFault
+@storeFault
+@storeFault
+again
+> lines @group@station@group
+@made
+@placed
+@made
+closed executed 2, groups 1, stations 1, failures 1, reads 2
+
+scene store_fails_at_the_key_of_the_second_request failing 4:store
+> lines @group@station@group
+@made
+@storeFault
+@storeFault
+again
+> lines @group@station@group
+@made
+@placed
+@made
+closed executed 2, groups 1, stations 1, failures 1, reads 2
+
+scene store_fails_at_the_commit_of_the_second_request failing 5:store
+> lines @group@station@group
+@made
+@storeFault
+@storeFault
+again
+> lines @group@station@group
+@made
+@placed
+@made
+closed executed 2, groups 1, stations 1, failures 1, reads 2
+
+scene store_fails_behind_the_commit_of_the_second_request failing 5:made
+> lines @group@station@group
+@made
+@storeFault
+@storeFault
+again
+> lines @station@group
+@placed
+@made
+closed executed 2, groups 1, stations 1, failures 1, reads 2
+
+scene store_fails_at_the_repeat failing 6:store
+> lines @group@station@group
+@made
+@placed
+@storeFault
+again
+> lines @group@station@group
+@made
+@placed
+@made
+closed executed 2, groups 1, stations 1, failures 1, reads 2
+
+scene no_memory_at_the_opening failing 1:noMemory
+out of memory
+closed executed 0, groups 0, stations 0, failures 0, reads 1
+
+scene store_fails_at_the_opening failing 1:store
+the store has failed
+closed executed 0, groups 0, stations 0, failures 1, reads 1
+"#
 }
 
-// A desk over a new book in memory.
-fn new_desk(rt: &impl Abort, alloc: Global) -> Desk<MemoryBook> {
-    opened(rt, alloc, MemoryBook::new(alloc, Limits::GREATEST))
+// The second commit, call 5, finds no memory. Call 6 is then the key of the next request, and call 7 its load.
+fn loads() -> &'static str {
+    r#"
+scene unloaded failing 5:noMemory
+> lines @group@station
+@made
+@noMemory
+closed executed 1, groups 1, stations 0, failures 0, reads 1
+
+scene repeat_loads_nothing failing 5:noMemory
+> lines @group@station@group
+@made
+@noMemory
+@made
+closed executed 1, groups 1, stations 0, failures 0, reads 1
+
+scene loads_once_for_the_next_new_request failing 5:noMemory
+> lines @group@station@group
+@made
+@noMemory
+@made
+> lines 0 {"requester":"plan","invoke":3,"service":"addStation","device":"202"}\n
+200 {"invoke":3,"requester":"plan","result":{}}
+> lines @station
+@placed
+> lines 0 {"requester":"plan","invoke":4,"service":"addStation","device":"203"}\n
+200 {"invoke":4,"requester":"plan","result":{}}
+closed executed 4, groups 1, stations 3, failures 0, reads 2
+
+scene no_memory_to_load failing 5:noMemory 7:noMemory
+> lines @group@station@station@group@station
+@made
+@noMemory
+@noMemory
+@made
+@placed
+closed executed 2, groups 1, stations 1, failures 0, reads 3
+
+scene store_fails_to_load failing 5:noMemory 7:store
+> lines @group@station@station@group@station
+@made
+@noMemory
+@storeFault
+@storeFault
+@storeFault
+closed executed 1, groups 1, stations 0, failures 1, reads 2
+"#
 }
 
-// The status and the text, or what stands for them.
-fn told(taken: &Taken) -> (u16, &str) {
-    match taken {
-        Taken::Reply { status, body } => (*status, body.as_str()),
-        Taken::InvokeReused => (422, "invokeReused"),
-        Taken::DeskFull => (507, "deskFull"),
-        Taken::NoMemory => (503, "noMemory"),
-        Taken::StoreFault => (503, "storeFault"),
-    }
-}
-
-fn ask<B: Book>(rt: &impl Abort, alloc: Global, desk: &mut Desk<B>, asked: &SceneLine) {
-    let (moment, json, status, text) = *asked;
-    let request = read_request(alloc, json).expect(rt, "a request");
-    let taken = desk.take(moment, &request);
-    assert_eq!(rt; told(&taken), (status, text));
-}
-
-// Asks one request after the other.
-fn ask_all<B: Book>(rt: &impl Abort, alloc: Global, desk: &mut Desk<B>, scene: &[SceneLine]) {
-    for asked in scene {
-        ask(rt, alloc, desk, asked);
-    }
-}
-
-fn arrival(rt: &impl Abort, alloc: Global, moment: u32, json: &[u8]) -> Arrival {
-    let request = read_request(alloc, json).expect(rt, "a request");
-    Arrival { moment, request }
-}
-
-// The last stamp, moment and event number.
-fn counters(rt: &impl Abort, book: &mut impl Book) -> (u64, u32, u64) {
-    let rows = book.rows().expect(rt, "memory");
-    (rows.last_stamp, rows.last_moment, rows.last_event)
-}
-
-// The moment of the first event above a number.
-fn moment_after(rt: &impl Abort, book: &mut impl Book, number: u64) -> Option<u32> {
-    let events = book.events_after(number, 1).expect(rt, "memory");
-    match events.first() {
-        Some(event) => Some(event.moment),
-        None => None,
-    }
-}
-
-// The call waits in group 100, with this place since this moment.
-fn expect_waiting(rt: &impl Abort, book: &mut impl Book, call: u64, place: u64, queued: u32) {
-    let group = DeviceId::read(b"100").expect(rt, "a device");
-    let wanted = ConnectionRecord {
-        call,
-        device: group,
-        state: ConnectionState::Queued,
-        group: Some(group),
-        place: Some(place),
-        queued: Some(queued),
-        offered: None,
-    };
-    let rows = book.rows().expect(rt, "memory");
-    assert!(rt;
-        rows.connections
-            .iter()
-            .any(|connection| *connection == wanted)
-    );
-}
-
-// The moment at which the first request after a stamp was executed.
-fn executed_after(rt: &impl Abort, book: &mut impl Book, stamp: u64) -> Option<u32> {
-    match book.kept_after(stamp).expect(rt, "memory") {
-        Some(kept) => Some(kept.moment),
-        None => None,
-    }
+#[test]
+fn scenes_of_failures(rt: HostRuntime) {
+    play(&rt, rt.alloc(), failures());
+    play(&rt, rt.alloc(), loads());
 }

@@ -1,7 +1,10 @@
 //! Tests of values, of the codec and of the desk with its lines and exchanges, by their public calls: what no contract
-//! says of them. Each module is named as its crate. They stand here so that no crate is proved a second time for its tests.
+//! says of them. Each module of tests is named as its crate. They stand here so that no crate is proved a second time
+//! for its tests.
 #![tactic(auto)]
 
+#[cfg(test)]
+mod book;
 #[cfg(test)]
 mod codec;
 #[cfg(test)]
@@ -12,5 +15,9 @@ mod desk;
 mod http;
 #[cfg(test)]
 mod lines;
+#[cfg(test)]
+mod player;
+#[cfg(test)]
+mod streams;
 #[cfg(test)]
 mod terms;

@@ -1,145 +1,119 @@
-//! The faults of identifiers and names, each at its place.
+//! Identifiers, names and numbers, each with the first of its faults.
 
-use crate::comparing::same;
-use acd_terms::{AgentId, DeviceId, IdFault, Invoke, Name, NameFault, Requester, Seconds, Serial};
-use std::collections::HashMap;
+use acd_terms::{AgentId, DeviceId, Invoke, Name, Requester, Seconds, Serial};
+use std::alloc::{AllocError, Global};
 use std::process::Abort;
 
-// The faults, without the clauses of reading.
-fn device_fault(text: &[u8]) -> Option<IdFault> {
-    DeviceId::read(text).err()
+// What is read, from what text, and what comes of it.
+fn rows() -> &'static str {
+    "
+device||no digits
+device|1234567890123456|too many digits
+device|x123456789012345|too many digits
+device|x01|no digit at byte 0
+device|12+4x|no digit at byte 2
+device|12345678901234 |no digit at byte 14
+device|0301234|10301234 0301234
+device|000000000000000|1000000000000000 000000000000000
+agent||no digits
+agent|1234567890|too many digits
+agent|123456789x|too many digits
+agent|-7|no digit at byte 0
+agent|7 |no digit at byte 1
+agent|1234567é|no digit at byte 7
+agent|12345678 |no digit at byte 8
+agent|123456789|1123456789 123456789
+name||no characters
+name|\x1fAna|byte 0 may not stand there
+name|An\x7fa|byte 2 may not stand there
+name|Café|byte 3 may not stand there
+name|nnnnnnnnnnnnnnnnnnnnnnnnnnnnnnnnnnnnnnnnn|too many characters
+name|\x1f\x1f\x1f\x1f\x1f\x1f\x1f\x1f\x1f\x1f\x1f\x1f\x1f\x1f\x1f\x1f\x1f\x1f\x1f\x1f\x1f\x1f\x1f\x1f\x1f\x1f\x1f\x1f\x1f\x1f\x1f\x1f\x1f\x1f\x1f\x1f\x1f\x1f\x1f\x1f\x1f|too many characters
+name| ~| ~
+requester||no characters
+requester|Plan|byte 0 may not stand there
+requester|pBx|byte 1 may not stand there
+requester|a-9_|byte 3 may not stand there
+requester|aaaaaaaaaaaaaaaaaaaaaaaaaaaaaaaaa|too many characters
+requester|AAAAAAAAAAAAAAAAAAAAAAAAAAAAAAAAA|too many characters
+requester|a-9z|a-9z
+invoke|0|false
+invoke|1|true
+invoke|999999999|true
+invoke|1000000000|false
+seconds|0|true
+seconds|3600|true
+seconds|3601|false
+serial|0|false
+serial|1|true
+serial|1000000000|true
+serial|1000000001|false
+"
 }
 
-fn agent_fault(text: &[u8]) -> Option<IdFault> {
-    AgentId::read(text).err()
+fn device(alloc: Global, text: &[u8]) -> Result<String, AllocError> {
+    match DeviceId::read(text) {
+        Ok(device) => format!(in alloc; "{} {}", device.number(), device.text().as_str()),
+        Err(fault) => format!(in alloc; "{fault}"),
+    }
 }
 
-fn name_fault(text: &[u8]) -> Option<NameFault> {
-    Name::read(text).err()
+fn agent(alloc: Global, text: &[u8]) -> Result<String, AllocError> {
+    match AgentId::read(text) {
+        Ok(agent) => format!(in alloc; "{} {}", agent.number(), agent.text().as_str()),
+        Err(fault) => format!(in alloc; "{fault}"),
+    }
 }
 
-fn requester_fault(text: &[u8]) -> Option<NameFault> {
-    Requester::read(text).err()
+fn name(alloc: Global, text: &[u8]) -> Result<String, AllocError> {
+    match Name::read(text) {
+        Ok(name) => format!(in alloc; "{}", name.as_str()),
+        Err(fault) => format!(in alloc; "{fault}"),
+    }
+}
+
+fn requester(alloc: Global, text: &[u8]) -> Result<String, AllocError> {
+    match Requester::read(text) {
+        Ok(requester) => format!(in alloc; "{}", requester.as_str()),
+        Err(fault) => format!(in alloc; "{fault}"),
+    }
+}
+
+// Whether a number is one of that kind.
+fn is_number(rt: &impl Abort, alloc: Global, kind: &str, text: &str) -> Result<String, AllocError> {
+    let number = text.parse::<u64>().expect(rt, "a number");
+    let is_one = match kind {
+        "invoke" => Invoke::new(number).is_some(),
+        "seconds" => Seconds::new(number).is_some(),
+        _ => Serial::new(number).is_some(),
+    };
+    format!(in alloc; "{is_one}")
+}
+
+// What comes of the text.
+fn read(rt: &impl Abort, alloc: Global, kind: &str, text: &str) -> String {
+    let read = match kind {
+        "device" => device(alloc, text.as_bytes()),
+        "agent" => agent(alloc, text.as_bytes()),
+        "name" => name(alloc, text.as_bytes()),
+        "requester" => requester(alloc, text.as_bytes()),
+        _ => is_number(rt, alloc, kind, text),
+    };
+    read.expect(rt, "memory")
+}
+
+fn reads(rt: &impl Abort, alloc: Global, row: &str) {
+    let (kind, said) = row.split_once('|').expect(rt, "a text");
+    let (text, wanted) = said.split_once('|').expect(rt, "what comes of it");
+    let read = read(rt, alloc, kind, text);
+    assert!(rt; read.as_str() == wanted, "{row}");
 }
 
 #[test]
-fn faults_of_devices(rt: HostRuntime) {
-    for (text, fault) in [
-        ("", IdFault::Empty),
-        ("1234567890123456", IdFault::TooLong),
-        ("x123456789012345", IdFault::TooLong),
-        ("x01", IdFault::NotDigit(0)),
-        ("12+4x", IdFault::NotDigit(2)),
-        ("12345678901234 ", IdFault::NotDigit(14)),
-    ] {
-        same(&rt, &device_fault(text.as_bytes()), &Some(fault));
-    }
-    for (text, number) in [("0301234", 10301234), ("000000000000000", 1000000000000000)] {
-        let device = DeviceId::read(text.as_bytes()).expect(&rt, "a device");
-        same(&rt, &device.number(), &number);
-        same(&rt, &device.text().as_str(), &text);
-    }
-}
-
-#[test]
-fn faults_of_agents(rt: HostRuntime) {
-    for (text, fault) in [
-        ("", IdFault::Empty),
-        ("1234567890", IdFault::TooLong),
-        ("123456789x", IdFault::TooLong),
-        ("-7", IdFault::NotDigit(0)),
-        ("7 ", IdFault::NotDigit(1)),
-    ] {
-        same(&rt, &agent_fault(text.as_bytes()), &Some(fault));
-    }
-    same(
-        &rt,
-        &agent_fault(b"12345678\xff"),
-        &Some(IdFault::NotDigit(8)),
-    );
-    let agent = AgentId::read(b"123456789").expect(&rt, "an agent");
-    same(&rt, &agent.number(), &1123456789);
-}
-
-#[test]
-fn faults_of_names(rt: HostRuntime) {
-    for (text, fault) in [
-        ("", NameFault::Empty),
-        ("\x1fAna", NameFault::BadCharacter(0)),
-        ("An\x7fa", NameFault::BadCharacter(2)),
-        ("Caf\u{e9}", NameFault::BadCharacter(3)),
-    ] {
-        same(&rt, &name_fault(text.as_bytes()), &Some(fault));
-    }
-    same(&rt, &name_fault(&[b'n'; 41]), &Some(NameFault::TooLong));
-    same(&rt, &name_fault(&[0; 41]), &Some(NameFault::TooLong));
-    let name = Name::read(b" ~").expect(&rt, "a name");
-    same(&rt, &name.as_str(), &" ~");
-}
-
-#[test]
-fn faults_of_requesters(rt: HostRuntime) {
-    for (text, fault) in [
-        ("", NameFault::Empty),
-        ("Plan", NameFault::BadCharacter(0)),
-        ("pBx", NameFault::BadCharacter(1)),
-        ("a-9_", NameFault::BadCharacter(3)),
-    ] {
-        same(&rt, &requester_fault(text.as_bytes()), &Some(fault));
-    }
-    same(
-        &rt,
-        &requester_fault(&[b'a'; 33]),
-        &Some(NameFault::TooLong),
-    );
-    same(
-        &rt,
-        &requester_fault(&[b'A'; 33]),
-        &Some(NameFault::TooLong),
-    );
-    let requester = Requester::read(b"a-9z").expect(&rt, "a requester");
-    same(&rt, &requester.as_str(), &"a-9z");
-}
-
-// The key of a request.
-fn key(rt: &impl Abort, text: &str, number: u64) -> (Requester, Invoke) {
-    let requester = Requester::read(text.as_bytes()).expect(rt, "a requester");
-    let invoke = Invoke::new(number).expect(rt, "an invoke number");
-    (requester, invoke)
-}
-
-#[test]
-fn requesters_as_keys(rt: HostRuntime) {
-    let mut stamps = HashMap::new(rt.alloc());
-    let put: Result<_, _> = stamps.insert(key(&rt, "pbx", 1), 1);
-    assert!(rt; put.is_ok());
-    let put: Result<_, _> = stamps.insert(key(&rt, "pb", 1), 2);
-    assert!(rt; put.is_ok());
-    assert_eq!(rt; stamps.get(&key(&rt, "pbx", 1)).copied(), Some(1));
-    assert_eq!(rt; stamps.get(&key(&rt, "pb", 1)).copied(), Some(2));
-    assert!(rt; !stamps.contains_key(&key(&rt, "pbx", 2)));
-    assert!(rt; !stamps.contains_key(&key(&rt, "p", 1)));
-}
-
-#[test]
-fn bounds_of_numbers(rt: HostRuntime) {
-    for (number, is_one) in [
-        (0, false),
-        (1, true),
-        (999999999, true),
-        (1000000000, false),
-    ] {
-        assert!(rt; Invoke::new(number).is_some() == is_one);
-    }
-    for (number, is_one) in [(0, true), (3600, true), (3601, false)] {
-        assert!(rt; Seconds::new(number).is_some() == is_one);
-    }
-    for (number, is_one) in [
-        (0, false),
-        (1, true),
-        (1000000000, true),
-        (1000000001, false),
-    ] {
-        assert!(rt; Serial::new(number).is_some() == is_one);
+fn identifiers_names_and_numbers(rt: HostRuntime) {
+    for row in rows().lines() {
+        if !row.is_empty() {
+            reads(&rt, rt.alloc(), row);
+        }
     }
 }

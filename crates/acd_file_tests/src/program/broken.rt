@@ -1,20 +1,27 @@
 //! Streams that fail.
 
-use super::files::{free_path, remove};
-use super::scripts::{FIRST_RUN, gives};
+use super::scripts::{is_marked, marked, words_of};
 use acd_program::program;
 use std::io::{self, ErrorKind, Read, Write};
-use std::process::Abort;
 
-/// A stream that always fails.
-#[derive(Clone, Copy, Drop)]
-struct Broken;
+// An input that fails where it would end.
+#[derive(Drop)]
+struct Cut<'a> {
+    left: &'a [u8],
+}
 
-impl Read for Broken {
-    fn read(&mut self, _buf: &mut [u8]) -> io::Result<usize> {
-        Err(io::Error::from(ErrorKind::Other))
+impl<'a> Read for Cut<'a> {
+    fn read(&mut self, buf: &mut [u8]) -> io::Result<usize> {
+        if self.left.is_empty() {
+            return Err(io::Error::from(ErrorKind::Other));
+        }
+        self.left.read(buf)
     }
 }
+
+// An output that always fails.
+#[derive(Clone, Copy, Drop)]
+struct Broken;
 
 impl Write for Broken {
     fn write(&mut self, _buf: &[u8]) -> io::Result<usize> {
@@ -26,62 +33,22 @@ impl Write for Broken {
     }
 }
 
-// Whether the program ends with this fault where its output can't be written.
-fn cannot_write(rt: &HostRuntime, words: &[&str], input: &str) -> bool {
-    let mut reader = input.as_bytes();
+/// Whether the program, called with this line, ends with the step's fault where its input fails at the end of the
+/// step's and its output can't be written.
+pub fn cannot_write(rt: &HostRuntime, line: &str, step: &str) -> io::Result<bool> {
+    let words = words_of(rt.alloc(), line)?;
+    let input = marked(rt.alloc(), step, '>')?;
+    let left = input.as_str().as_bytes();
     let mut errors = Vec::new(rt.alloc());
-    let status = program(rt, words, &mut reader, &mut Broken, &mut errors);
-    status == 1 && errors.as_slice() == b"acd: cannot write\n".as_slice()
+    let status = program(rt, &words, &mut Cut { left }, &mut Broken, &mut errors);
+    Ok(status == 1 && is_marked(step, '!', &errors))
 }
 
-// Whether what this command prints of the file can't be written.
-fn cannot_print(rt: &HostRuntime, command: &str, file: &str) -> bool {
-    cannot_write(rt, &["acd", command, "--file", file], "")
-}
-
-#[test]
-fn input_that_cannot_be_read(rt: HostRuntime) {
-    let mut written = Vec::new(rt.alloc());
-    let mut errors = Vec::new(rt.alloc());
-    let words = ["acd", "lines"];
-    let status = program(&rt, &words, &mut Broken, &mut written, &mut errors);
-    assert_eq!(rt; status, 1);
-    assert!(rt; written.is_empty());
-    assert_eq!(rt; errors.as_slice(), b"acd: cannot read\n".as_slice());
-}
-
-#[test]
-fn output_that_cannot_be_written(rt: HostRuntime) {
-    assert!(rt; cannot_write(&rt, &["acd", "lines"], FIRST_RUN));
-    assert!(rt; cannot_write(&rt, &["acd", "--help"], ""));
-    let file = free_path(&rt, "unwritten.db").expect(&rt, "a path");
-    assert!(rt;
-        gives(
-            &rt,
-            &["acd", "lines", "--file", file.as_str()],
-            "",
-            0,
-            "",
-            ""
-        )
-    );
-    for command in ["report", "export", "audit"] {
-        assert!(rt; cannot_print(&rt, command, file.as_str()), "{command}");
-    }
-    let _ = remove(&rt, file.as_str());
-}
-
-// A fault that can't be told is the fault's status all the same.
-#[test]
-fn faults_that_cannot_be_told(rt: HostRuntime) {
+/// Whether the program, called with this line, ends with its status where the fault can't be told.
+pub fn cannot_tell(rt: &HostRuntime, said: &str) -> io::Result<bool> {
+    let (status, line) = said.split_once(' ').unwrap_or((said, ""));
+    let words = words_of(rt.alloc(), line)?;
     let mut reader: &[u8] = b"";
-    let words = ["acd", "report", "--file", "/"];
-    assert_eq!(rt;
-        program(&rt, &words, &mut reader, &mut Broken, &mut Broken),
-        1
-    );
-    assert_eq!(rt;
-        program(&rt, &["acd"], &mut reader, &mut Broken, &mut Broken),
-        2
-    );
+    let given = program(rt, &words, &mut reader, &mut Broken, &mut Broken);
+    Ok(status.parse::<u8>() == Ok(given))
 }

@@ -19,12 +19,45 @@ pub fn free_path(rt: &HostRuntime, name: &str) -> io::Result<String> {
     Ok(path)
 }
 
-/// The fault line of a path that is open elsewhere.
-pub fn open_elsewhere(rt: &HostRuntime, path: &str) -> io::Result<String> {
-    Ok(format!(in rt.alloc(); "acd: {path} is open elsewhere\n")?)
+/// Writes the text, and behind it this byte up to a length.
+pub fn write(rt: &HostRuntime, path: &str, text: &str, len: usize, byte: u8) -> io::Result<()> {
+    let mut bytes = Vec::new(rt.alloc());
+    bytes.extend_from_slice(text.as_bytes())?;
+    let len = len.max(bytes.len());
+    bytes.resize(len, byte)?;
+    fs::write(rt, path, bytes.as_slice())
 }
 
-/// The fault line of a path.
-pub fn cannot_open(rt: &HostRuntime, path: &str) -> io::Result<String> {
-    Ok(format!(in rt.alloc(); "acd: cannot open {path}\n")?)
+/// Puts bytes in the place of the first ones of the file that are as these, and tells whether there are any.
+pub fn patch(rt: &HostRuntime, path: &str, these: &[u8], bytes: &[u8]) -> io::Result<bool> {
+    if these.is_empty() {
+        return Ok(false);
+    }
+    let mut content = fs::read(rt, path)?;
+    match content.windows(these.len()).position(|part| part == these) {
+        Some(start) => {
+            for (byte, new) in content.iter_mut().skip(start).zip(bytes) {
+                *byte = *new;
+            }
+            fs::write(rt, path, content.as_slice())?;
+            Ok(true)
+        }
+        None => Ok(false),
+    }
+}
+
+/// Whether nothing stands at a path, a file of no bytes, a database with pages of 1,024 bytes, or something else.
+pub fn state_of(rt: &HostRuntime, path: &str) -> &'static str {
+    match fs::read(rt, path) {
+        Ok(bytes) => state_of_bytes(&bytes),
+        Err(_) => "absent",
+    }
+}
+
+fn state_of_bytes(bytes: &[u8]) -> &'static str {
+    match (bytes.get(16), bytes.get(17)) {
+        (Some(4), Some(0)) => "small",
+        _ if bytes.is_empty() => "empty",
+        _ => "other",
+    }
 }

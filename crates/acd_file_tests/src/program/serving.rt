@@ -1,11 +1,9 @@
 //! A desk in a file, over the loopback address.
 
-use super::files::{free_path, remove};
-use super::scripts::gives;
+use super::scripts::{are_runs, marked, words_of};
 use acd_program::program;
 use std::io::{self, Read, Write};
 use std::net::{Ipv4Addr, Shutdown, SocketAddr, TcpListener, TcpStream};
-use std::process::Abort;
 
 fn address(port: u16) -> SocketAddr {
     SocketAddr::from((Ipv4Addr::LOCALHOST, port))
@@ -19,12 +17,6 @@ fn added() -> &'static [u8] {
     b"HTTP/1.1 200 OK\r\nContent-Type: application/json\r\nContent-Length: 43\r\nConnection: close\r\n\r\n{\"invoke\":1,\"requester\":\"plan\",\"result\":{}}"
 }
 
-fn report() -> &'static str {
-    "group           waiting ringing    entered   answered  abandoned      moved    average    longest name
-100                   0       0          0          0          0          0          -          - Billing
-"
-}
-
 // A client that sends this, and no more.
 fn client(rt: &HostRuntime, port: u16, request: &[u8]) -> io::Result<TcpStream> {
     let mut stream = TcpStream::connect(rt, address(port))?;
@@ -33,11 +25,14 @@ fn client(rt: &HostRuntime, port: u16, request: &[u8]) -> io::Result<TcpStream> 
     Ok(stream)
 }
 
-/// The output of a program that serves: two clients call as soon as it says that it listens, and the second ends too early.
+/// The output of a program that serves. As soon as it says that it listens other programs are called, and two clients
+/// call, the second of which ends too early.
 #[derive(Drop)]
 struct Callers<'a> {
     rt: &'a HostRuntime,
     port: u16,
+    others: &'a str,
+    are_told: bool,
     written: Vec<u8>,
     first: Option<TcpStream>,
     second: Option<TcpStream>,
@@ -46,6 +41,7 @@ struct Callers<'a> {
 impl<'a> Write for Callers<'a> {
     fn write(&mut self, buf: &[u8]) -> io::Result<usize> {
         if self.first.is_none() {
+            self.are_told = are_runs(self.rt, self.others)?;
             self.first = Some(client(self.rt, self.port, add_group())?);
             self.second = Some(client(self.rt, self.port, b"GET")?);
         }
@@ -72,96 +68,61 @@ fn free_port(rt: &HostRuntime) -> io::Result<u16> {
     Ok(TcpListener::bind(rt, address(0))?.local_addr()?.port())
 }
 
-// Whether serving these callers ends well, and tells the second one's fault.
-fn serves(rt: &HostRuntime, words: &[&str], callers: &mut Callers<'_>) -> bool {
-    let mut reader: &[u8] = b"";
-    let mut errors = Vec::new(rt.alloc());
-    let status = program(rt, words, &mut reader, callers, &mut errors);
-    status == 0 && errors.as_slice() == b"acd: connection 2: truncated\n".as_slice()
-}
-
-fn callers_on<'a>(rt: &'a HostRuntime, port: u16) -> Callers<'a> {
-    let written = Vec::new(rt.alloc());
+fn callers_on<'a>(rt: &'a HostRuntime, port: u16, others: &'a str) -> Callers<'a> {
     Callers {
         rt,
         port,
-        written,
+        others,
+        are_told: false,
+        written: Vec::new(rt.alloc()),
         first: None,
         second: None,
     }
 }
 
-// Whether the two callers on this port are served, and get their replies.
-fn serves_two(rt: &HostRuntime, words: &[&str], port: u16, said: &str) -> bool {
-    let mut callers = callers_on(rt, port);
-    let served = serves(rt, words, &mut callers);
+// Whether this was said, the other programs were told what they had to be, and then the callers got their replies.
+fn are_answered(rt: &HostRuntime, said: &str, callers: Callers<'_>) -> bool {
     let Callers {
         rt: _,
         port: _,
+        others: _,
+        are_told,
         written,
         first,
         second,
     } = callers;
-    served
+    are_told
         && written.as_slice() == said.as_bytes()
         && is_sent(rt, first, added())
         && is_sent(rt, second, b"")
 }
 
-#[test]
-fn desk_over_http(rt: HostRuntime) {
-    let file = free_path(&rt, "served.db").expect(&rt, "a path");
-    let port = free_port(&rt).expect(&rt, "a port");
-    let number = format!(in rt.alloc(); "{port}").expect(&rt, "memory");
-    let said = format!(in rt.alloc(); "listening on 127.0.0.1:{port}\n").expect(&rt, "memory");
-    let words = [
-        "acd",
-        "serve",
-        "--file",
-        file.as_str(),
-        "--port",
-        number.as_str(),
-        "--connections",
-        "2",
-    ];
-    assert!(rt; serves_two(&rt, &words, port, said.as_str()));
-    assert!(rt;
-        gives(
-            &rt,
-            &["acd", "report", "--file", file.as_str()],
-            "",
-            0,
-            report(),
-            ""
-        )
-    );
-    let _ = remove(&rt, file.as_str());
+// Whether the program, called with these words, says this, and serves the callers.
+fn serves_them(rt: &HostRuntime, words: &[&str], said: &str, mut callers: Callers<'_>) -> bool {
+    let mut reader: &[u8] = b"";
+    let mut errors = Vec::new(rt.alloc());
+    let status = program(rt, words, &mut reader, &mut callers, &mut errors);
+    status == 0
+        && errors.as_slice() == b"acd: connection 2: truncated\n".as_slice()
+        && are_answered(rt, said, callers)
 }
 
-// Whether serving ends with this fault.
-fn ends_with(rt: &HostRuntime, file: &str, port: &str, fault: &str) -> bool {
-    let words = [
-        "acd",
-        "serve",
-        "--file",
-        file,
-        "--port",
-        port,
-        "--connections",
-        "1",
-    ];
-    gives(rt, &words, "", 1, "", fault)
+/// Whether the program serves the file to two callers, while the runs in the step are made.
+pub fn serves(rt: &HostRuntime, file: &str, step: &str) -> io::Result<bool> {
+    let port = free_port(rt)?;
+    let others = marked(rt.alloc(), step, '>')?;
+    let line = format!(in rt.alloc(); "acd serve --file {file} --port {port} --connections 2")?;
+    let said = format!(in rt.alloc(); "listening on 127.0.0.1:{port}\n")?;
+    let words = words_of(rt.alloc(), line.as_str())?;
+    let callers = callers_on(rt, port, others.as_str());
+    Ok(serves_them(rt, &words, said.as_str(), callers))
 }
 
-// The file's fault is found before the port's.
-#[test]
-fn taken_port(rt: HostRuntime) {
-    let taken = TcpListener::bind(&rt, address(0)).expect(&rt, "a listener");
-    let port = taken.local_addr().expect(&rt, "an address").port();
-    let number = format!(in rt.alloc(); "{port}").expect(&rt, "memory");
-    let fault = format!(in rt.alloc(); "acd: cannot listen on port {port}\n").expect(&rt, "memory");
-    let file = free_path(&rt, "unserved.db").expect(&rt, "a path");
-    assert!(rt; ends_with(&rt, file.as_str(), number.as_str(), fault.as_str()));
-    assert!(rt; ends_with(&rt, "/", number.as_str(), "acd: cannot open /\n"));
-    let _ = remove(&rt, file.as_str());
+/// Whether the runs in the step are made where something else listens on `{port}`.
+pub fn cannot_listen(rt: &HostRuntime, step: &str) -> io::Result<bool> {
+    let taken = TcpListener::bind(rt, address(0))?;
+    let port = format!(in rt.alloc(); "{}", taken.local_addr()?.port())?;
+    let runs = marked(rt.alloc(), step, '>')?;
+    let runs = runs.as_str().replace(rt.alloc(), "{port}", port.as_str())?;
+    are_runs(rt, runs.as_str())
 }

@@ -1,132 +1,69 @@
-//! Command lines that are refused, and those that are told apart. Nothing stands in the folder of the paths.
+//! Command lines that are refused, and those that ask for help.
 
-use super::scripts::{gives, refuses};
+use super::scripts::words_of;
 use acd_program::program;
+use std::io;
 use std::process::Abort;
 
-// Commands that aren't there, options and words that a command doesn't have.
-fn unknown_words() -> [&'static [&'static str]; 8] {
-    [
-        &["acd"],
-        &["acd", "rows"],
-        &["acd", "lines", "again"],
-        &["acd", "lines", "--fast"],
-        &["acd", "lines", "--count"],
-        &["acd", "report", "--file", "/absent/a.db", "--count"],
-        &[
-            "acd",
-            "report",
-            "--file",
-            "/absent/a.db",
-            "--end-on-store-fault",
-        ],
-        &[
-            "acd",
-            "export",
-            "--file",
-            "/absent/a.db",
-            "--plan",
-            "/absent/p.csv",
-        ],
-    ]
+// Commands that aren't there, and options and words that a command doesn't have; options that a command needs; ports
+// and numbers of connections out of their ranges, an empty one among them; and the help of all commands. Each with its
+// status.
+fn command_lines() -> &'static str {
+    "2 acd
+2 acd rows
+2 acd lines again
+2 acd lines --fast
+2 acd lines --count
+2 acd report --file /absent/a.db --count
+2 acd report --file /absent/a.db --end-on-store-fault
+2 acd export --file /absent/a.db --plan /absent/p.csv
+2 acd import --file /absent/a.db
+2 acd import --plan /absent/p.csv
+2 acd report
+2 acd export --file
+2 acd audit
+2 acd audit --count
+2 acd serve --file /absent/a.db --port 1
+2 acd serve --file /absent/a.db --connections 1
+2 acd serve --port 1 --connections 1
+2 acd serve --file /absent/a.db --connections 1 --port 0
+2 acd serve --file /absent/a.db --connections 1 --port 65536
+2 acd serve --file /absent/a.db --connections 1 --port http
+2 acd serve --file /absent/a.db --port  --connections 1
+2 acd serve --file /absent/a.db --connections 1 --port -1
+2 acd serve --file /absent/a.db --port 8080 --connections 0
+2 acd serve --file /absent/a.db --port 8080 --connections 1000001
+2 acd serve --file /absent/a.db --port 8080 --connections all
+2 acd serve --file /absent/a.db --connections  --port 8080
+0 acd --help
+0 acd lines --help
+0 acd serve --help
+0 acd import --help
+0 acd report --help
+0 acd export --help
+0 acd audit --help"
 }
 
-// Options that a command needs.
-fn missing_words() -> [&'static [&'static str]; 9] {
-    [
-        &["acd", "import", "--file", "/absent/a.db"],
-        &["acd", "import", "--plan", "/absent/p.csv"],
-        &["acd", "report"],
-        &["acd", "export", "--file"],
-        &["acd", "audit"],
-        &["acd", "audit", "--count"],
-        &["acd", "serve", "--file", "/absent/a.db", "--port", "1"],
-        &[
-            "acd",
-            "serve",
-            "--file",
-            "/absent/a.db",
-            "--connections",
-            "1",
-        ],
-        &["acd", "serve", "--port", "1", "--connections", "1"],
-    ]
-}
-
-#[test]
-fn refused_command_lines(rt: HostRuntime) {
-    for words in unknown_words() {
-        assert!(rt; refuses(&rt, words), "{words:?}");
-    }
-    for words in missing_words() {
-        assert!(rt; refuses(&rt, words), "{words:?}");
-    }
-}
-
-// What serving is asked for, by its words.
-fn serving<'a>(port: &'a str, connections: &'a str) -> [&'a str; 8] {
-    [
-        "acd",
-        "serve",
-        "--file",
-        "/absent/a.db",
-        "--port",
-        port,
-        "--connections",
-        connections,
-    ]
-}
-
-#[test]
-fn ports_and_connections(rt: HostRuntime) {
-    for (port, connections) in [("1", "1"), ("65535", "1000000")] {
-        let fault = "acd: cannot open /absent/a.db\n";
-        assert!(rt; gives(&rt, &serving(port, connections), "", 1, "", fault));
-    }
-    for port in ["0", "65536", "http", "", "-1"] {
-        assert!(rt; refuses(&rt, &serving(port, "1")), "{port}");
-    }
-    for connections in ["0", "1000001", "all", ""] {
-        assert!(rt;
-            refuses(&rt, &serving("8080", connections)),
-            "{connections}"
-        );
-    }
-}
-
-#[test]
-fn paths_are_kept_apart(rt: HostRuntime) {
-    let words = [
-        "acd",
-        "import",
-        "--plan=/absent/p.csv",
-        "--file=/absent/a.db",
-    ];
-    let fault = "acd: cannot open /absent/p.csv\n";
-    assert!(rt; gives(&rt, &words, "", 1, "", fault));
-}
-
-// Whether the program tells how it is called, and says nothing else.
-fn helps(rt: &HostRuntime, words: &[&str]) -> bool {
+// The status of the program, called with this line, and whether it writes nothing, and tells no fault.
+fn given(rt: &HostRuntime, line: &str) -> io::Result<(u8, bool, bool)> {
+    let words = words_of(rt.alloc(), line)?;
     let mut reader: &[u8] = b"";
     let mut written = Vec::new(rt.alloc());
     let mut errors = Vec::new(rt.alloc());
-    let given = program(rt, words, &mut reader, &mut written, &mut errors);
-    given == 0 && !written.is_empty() && errors.is_empty()
+    let status = program(rt, &words, &mut reader, &mut written, &mut errors);
+    Ok((status, written.is_empty(), errors.is_empty()))
 }
 
+// What is refused is told on the stream of errors alone, and help on the output alone.
 #[test]
-fn help_of_all_commands(rt: HostRuntime) {
-    assert!(rt; helps(&rt, &["acd", "--help"]));
-    for command in ["lines", "serve", "import", "report", "export", "audit"] {
-        assert!(rt; helps(&rt, &["acd", command, "--help"]), "{command}");
-    }
-}
-
-#[test]
-fn version_and_toolchain(rt: HostRuntime) {
-    for option in ["--version", "-V"] {
-        let words = ["acd", option];
-        assert!(rt; gives(&rt, &words, "", 0, "acd 0.9 (rattle-kit-13f)\n", ""));
+fn refused_command_lines(rt: HostRuntime) {
+    for line in command_lines().lines() {
+        let (status, words) = line.split_once(' ').unwrap_or((line, ""));
+        let wanted = match status {
+            "0" => (0, false, true),
+            _ => (2, true, false),
+        };
+        let given = given(&rt, words).expect(&rt, "memory");
+        assert_eq!(rt; given, wanted, "{line}");
     }
 }

@@ -1,86 +1,166 @@
-//! Commits of changes over a book in memory: what they leave in the tables, and a commit that is refused.
+//! Commits of whole tables over a book in memory: the store takes each change on the way, and so tells their order, it
+//! has the new rows then, and it refuses what is never taken out. What is committed is what other databases hold.
 
-use super::records::{device, monitor, station};
-use super::{expect_limits, expect_numbers, new_book};
+use super::{altered, book_in, changed, created, empty};
 use crate::comparing::same;
-use acd_book::{Book, BookFault, Kept, Text};
-use acd_model::Change;
+use acd_book::{Book, BookFault, Kept};
 use acd_sqlbook::SqlBook;
-use acd_terms::{Command, Event, Invoke, Report, Request, Requester};
-use sqlite::MemStore;
+use acd_terms::{Event, Rows};
+use sqlite::{Alter, Connection};
 use std::alloc::Global;
 use std::process::Abort;
 
-/// The record of a stamp, kept under an invoke number.
-pub fn record(rt: &impl Abort, alloc: Global, stamp: u64, invoke: u64) -> Kept {
-    let body = String::from_str(alloc, "{}").expect(rt, "memory");
-    Kept {
-        stamp,
-        moment: 10,
-        request: Request {
-            requester: Requester::read(b"plan").expect(rt, "a requester"),
-            invoke: Invoke::new(invoke).expect(rt, "an invoke number"),
-            command: Command::AddStation {
-                device: device(rt, "201"),
-            },
-        },
-        status: 200,
-        body: Text::new(body),
+// The records of one request, and of two.
+pub fn first() -> &'static str {
+    r#"INSERT INTO kept VALUES (1, 'plan', 1, 10, '{"device":"201","invoke":1,"requester":"plan","service":"addStation"}', 200, '{}');
+UPDATE meta SET last_stamp = 1, last_moment = 10"#
+}
+
+pub fn second() -> &'static str {
+    r#"INSERT INTO kept VALUES (1, 'plan', 1, 10, '{"device":"201","invoke":1,"requester":"plan","service":"addStation"}', 200, '{}');
+INSERT INTO kept VALUES (2, 'plan', 2, 10, '{"device":"202","invoke":2,"requester":"plan","service":"addStation"}', 200, '{}');
+UPDATE meta SET last_stamp = 2, last_moment = 10"#
+}
+
+// Two stations, and two agents at these.
+fn seated() -> &'static str {
+    "INSERT INTO stations VALUES (1201);
+INSERT INTO stations VALUES (1202);
+INSERT INTO agents VALUES (11, 'Ana', 2, NULL, 1201, NULL, 5, 10);
+INSERT INTO agents VALUES (12, 'Ben', 2, NULL, 1202, NULL, 5, 10)"
+}
+
+// A call of a station with a monitor.
+fn watched_call() -> &'static str {
+    "INSERT INTO acd_groups VALUES (1100, 'Billing', 20, 30, 5, 2, 1, 1, 15);
+INSERT INTO stations VALUES (1201);
+INSERT INTO calls VALUES (1, 1201, 1202, 10);
+INSERT INTO connections VALUES (1, 1201, 3, NULL, NULL, NULL, NULL);
+INSERT INTO monitors VALUES (3, 1201, 0);
+UPDATE meta SET last_call = 1, last_monitor = 3"
+}
+
+// The same where the station alone is as it was: the group has other figures, the call another moment and its connection
+// another state, and the monitor is gone.
+fn held_call() -> &'static str {
+    "INSERT INTO acd_groups VALUES (1100, 'Billing', 20, 30, 9, 4, 2, 3, 31);
+INSERT INTO stations VALUES (1201);
+INSERT INTO calls VALUES (1, 1201, 1202, 5);
+INSERT INTO connections VALUES (1, 1201, 4, NULL, NULL, NULL, NULL);
+INSERT INTO events VALUES (1, 10, 7, 1201, 1, NULL, NULL, NULL, NULL, NULL);
+UPDATE meta SET last_call = 1, last_monitor = 3, last_event = 1"
+}
+
+// What is held and what is to be held then, and whether it is committed.
+fn replacements() -> [(&'static str, &'static str, bool); 4] {
+    [
+        // Stations come before their agents, and agents give their stations up before others take them: a station has
+        // one agent.
+        (
+            seated(),
+            "INSERT INTO stations VALUES (1201);
+INSERT INTO stations VALUES (1202);
+INSERT INTO agents VALUES (11, 'Ana', 2, NULL, 1202, NULL, 5, 10);
+INSERT INTO agents VALUES (12, 'Ben', 2, NULL, 1201, NULL, 5, 10)",
+            true,
+        ),
+        // Connections go before their calls and come after them: a connection refers to its call.
+        (
+            "INSERT INTO calls VALUES (1, 1201, 1202, 10);
+INSERT INTO connections VALUES (1, 1201, 3, NULL, NULL, NULL, NULL)",
+            "INSERT INTO calls VALUES (2, 1201, 1202, 10);
+INSERT INTO connections VALUES (2, 1201, 3, NULL, NULL, NULL, NULL)",
+            true,
+        ),
+        // A record that is there changes where it stands.
+        (watched_call(), held_call(), true),
+        // An agent is never taken out.
+        (
+            seated(),
+            "INSERT INTO stations VALUES (1201); INSERT INTO stations VALUES (1202)",
+            false,
+        ),
+    ]
+}
+
+/// A book over the connection that holds these records and these rows.
+pub fn holding<S: Alter + Drop>(
+    rt: &impl Abort,
+    alloc: Global,
+    conn: Connection<S>,
+    records: &str,
+    rows: &str,
+) -> SqlBook<S> {
+    let conn = altered(rt, alloc, conn, records);
+    book_in(rt, alloc, changed(rt, conn, rows))
+}
+
+pub fn rows_of<B: Book>(rt: &impl Abort, book: &mut B) -> Rows {
+    book.rows().expect(rt, "the rows")
+}
+
+pub fn events_of<B: Book>(rt: &impl Abort, book: &mut B) -> Vec<Event> {
+    book.events_after(0, 10).expect(rt, "the events")
+}
+
+/// The record that the book has behind a stamp.
+pub fn kept_behind<B: Book>(rt: &impl Abort, book: &mut B, stamp: u64) -> Kept {
+    match book.kept_after(stamp) {
+        Ok(Some(kept)) => kept,
+        _ => panic!(rt; "no record"),
     }
 }
 
-/// A commit of a station, a monitor of it and an event there.
-pub fn commit_first(rt: &impl Abort, alloc: Global, book: &mut SqlBook<MemStore>) {
-    let changes = [
-        Change::PutStation(station(rt, "201")),
-        Change::PutMonitor(monitor(rt, 3)),
-    ];
-    let event = Event {
-        number: 1,
-        moment: 10,
-        report: Report::Held {
-            call: 1,
-            station: device(rt, "201"),
-        },
-    };
-    book.commit_changes(&changes, &[event], &record(rt, alloc, 1, 1))
-        .expect(rt, "the first commit");
+// The record behind a stamp, the rows and the events of another book are committed.
+fn commit_of<B: Book>(
+    rt: &impl Abort,
+    book: &mut B,
+    other: &mut B,
+    stamp: u64,
+) -> Result<(), BookFault> {
+    let rows = rows_of(rt, other);
+    let events = events_of(rt, other);
+    book.commit(&rows, &events, &kept_behind(rt, other, stamp))
+}
+
+fn expect_same_rows<B: Book>(rt: &impl Abort, book: &mut B, other: &mut B) {
+    same(rt, &rows_of(rt, book), &rows_of(rt, other));
+}
+
+fn expect_same_events<B: Book>(rt: &impl Abort, book: &mut B, other: &mut B) {
+    same(rt, &events_of(rt, book), &events_of(rt, other));
+}
+
+fn expect_same_record<B: Book>(rt: &impl Abort, book: &mut B, other: &mut B, stamp: u64) {
+    same(rt, &book.kept_after(stamp), &other.kept_after(stamp));
+}
+
+// Whether that is committed. Then the book holds what the other one does, and no record behind that one.
+fn takes<B: Book + Drop>(rt: &impl Abort, book: &mut B, mut other: B, stamp: u64) -> bool {
+    match commit_of(rt, book, &mut other, stamp) {
+        Ok(()) => {
+            expect_same_rows(rt, book, &mut other);
+            expect_same_events(rt, book, &mut other);
+            expect_same_record(rt, book, &mut other, 0);
+            expect_same_record(rt, book, &mut other, stamp);
+            true
+        }
+        Err(fault) => {
+            same(rt, &fault, &BookFault::Store);
+            false
+        }
+    }
 }
 
 #[test]
-fn a_commit_is_in_the_tables(rt: HostRuntime) {
-    let mut book = new_book(&rt, rt.alloc());
-    commit_first(&rt, rt.alloc(), &mut book);
-    let mut conn = book.into_connection();
-    let questions = [
-        ("SELECT device FROM stations", 1201),
-        ("SELECT device FROM monitors WHERE monitor = 3", 1201),
-        ("SELECT number FROM events WHERE device = 1201", 1),
-        ("SELECT stamp FROM kept WHERE invoke = 1", 1),
-        ("SELECT last_stamp FROM meta", 1),
-        ("SELECT last_moment FROM meta", 10),
-        ("SELECT last_monitor FROM meta", 3),
-        ("SELECT last_event FROM meta", 1),
-    ];
-    expect_numbers(&rt, &mut conn, &questions);
-}
-
-#[test]
-fn a_refused_commit_changes_nothing(rt: HostRuntime) {
+fn tables_that_follow_others(rt: HostRuntime) {
     let alloc = rt.alloc();
-    let mut book = new_book(&rt, alloc);
-    commit_first(&rt, alloc, &mut book);
-    let again = book.commit_changes(&[], &[], &record(&rt, alloc, 2, 1));
-    same(&rt, &again, &Err(BookFault::Store));
-    same(&rt, &book.failures(), &1);
-    let next = book.commit_changes(&[], &[], &record(&rt, alloc, 2, 2));
-    same(&rt, &next, &Ok(()));
-    same(&rt, &book.failures(), &1);
-    expect_limits(&rt, &mut book);
-    let mut conn = book.into_connection();
-    let questions = [
-        ("SELECT last_stamp FROM meta", 2),
-        ("SELECT count(*) FROM kept", 2),
-    ];
-    expect_numbers(&rt, &mut conn, &questions);
+    for (held, new, is_committed) in replacements() {
+        let mut book = created(&rt, alloc, empty(&rt, alloc));
+        let other = holding(&rt, alloc, empty(&rt, alloc), first(), held);
+        assert!(rt; takes(&rt, &mut book, other, 0), "{held}");
+        let other = holding(&rt, alloc, empty(&rt, alloc), second(), new);
+        let is_made = takes(&rt, &mut book, other, 1);
+        assert_eq!(rt; is_made, is_committed, "{new}");
+    }
 }

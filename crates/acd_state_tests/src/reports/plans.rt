@@ -1,387 +1,300 @@
 //! Plans: their requests, and every fault.
 
-use super::{device, name, seconds};
-use acd_reports::{PlanFault, PlanMember, plan_requests};
-use acd_terms::{AgentId, Command, Invoke, Request, Requester};
-use std::alloc::Global;
+use crate::values::{same, same_text};
+use acd_reports::{PlanFault, plan_requests};
+use acd_terms::{AgentId, Command, DeviceId, Name, Request, Seconds};
+use std::alloc::{AllocError, Global};
 use std::process::Abort;
 
-const HEADER: &str = "kind,number,name,ring,wrap\n";
+fn header() -> &'static str {
+    "kind,number,name,ring,wrap\n"
+}
 
-// A group, two stations and two agents.
-const OFFICE: &str =
-    "group,100,Billing,20,30\nstation,201,,,\nstation,202,,,\nagent,7,Ana,,\nagent,8,Ben,,\n";
+fn good_row() -> &'static str {
+    "kind,number,name,ring,wrap\nstation,200,,,\n"
+}
 
-fn planned(rt: &impl Abort, invoke: u64, command: Command) -> Request {
-    Request {
-        requester: Requester::read(b"plan").expect(rt, "a requester"),
-        invoke: Invoke::new(invoke).expect(rt, "an invoke number"),
-        command,
+fn station_text(alloc: Global, device: DeviceId) -> Result<String, AllocError> {
+    let digits = device.text();
+    let digits = digits.as_str();
+    format!(in alloc; "station {digits}")
+}
+
+fn agent_text(alloc: Global, agent: AgentId, name: &Name) -> Result<String, AllocError> {
+    let (digits, name) = (agent.text(), name.as_str());
+    let digits = digits.as_str();
+    format!(in alloc; "agent {digits} [{name}]")
+}
+
+fn group_text(
+    alloc: Global,
+    device: DeviceId,
+    name: &Name,
+    seconds: [Seconds; 2],
+) -> Result<String, AllocError> {
+    let (digits, name) = (device.text(), name.as_str());
+    let [ring, wrap] = seconds;
+    let (digits, ring, wrap) = (digits.as_str(), ring.number(), wrap.number());
+    format!(in alloc; "group {digits} [{name}] {ring} {wrap}")
+}
+
+// The command's kind and members.
+fn command_text(rt: &(impl Abort + AllocGlobal), command: &Command) -> String {
+    let text = match command {
+        Command::AddGroup {
+            device,
+            name,
+            ring,
+            wrap,
+        } => group_text(rt.alloc(), *device, name, [*ring, *wrap]),
+        Command::AddStation { device } => station_text(rt.alloc(), *device),
+        Command::AddAgent { agent, name } => agent_text(rt.alloc(), *agent, name),
+        _ => panic!(rt; "no command of a plan"),
+    };
+    text.expect(rt, "memory")
+}
+
+// A line for the request.
+fn push_request(rt: &(impl Abort + AllocGlobal), text: &mut String, request: &Request) {
+    let requester = request.requester.as_str();
+    let invoke = request.invoke.number();
+    let command = command_text(rt, &request.command);
+    let line = format!(in rt.alloc(); "{requester} {invoke} {command}\n").expect(rt, "memory");
+    text.push_str(line.as_str()).expect(rt, "memory");
+}
+
+// A line for each request.
+fn requests_text(rt: &(impl Abort + AllocGlobal), requests: &[Request]) -> String {
+    let mut text = String::new(rt.alloc());
+    for request in requests {
+        push_request(rt, &mut text, request);
+    }
+    text
+}
+
+fn fault_text(rt: &(impl Abort + AllocGlobal), fault: PlanFault) -> String {
+    fault.to_string(rt.alloc()).expect(rt, "memory")
+}
+
+// The requests of the plan, or its fault.
+fn told(rt: &(impl Abort + AllocGlobal), plan: &[u8]) -> String {
+    match plan_requests(rt.alloc(), plan) {
+        Ok(requests) => requests_text(rt, &requests),
+        Err(fault) => fault_text(rt, fault),
     }
 }
 
-fn add_group(rt: &impl Abort, digits: &str, text: &str, ring: u64, wrap: u64) -> Command {
-    Command::AddGroup {
-        device: device(rt, digits),
-        name: name(rt, text),
-        ring: seconds(rt, ring),
-        wrap: seconds(rt, wrap),
-    }
+// The plan of this name tells that.
+fn expect_plan(rt: &(impl Abort + AllocGlobal), name: &str, plan: &[u8], wanted: &str) {
+    same_text(rt, name, told(rt, plan).as_str(), wanted);
 }
 
-fn add_station(rt: &impl Abort, digits: &str) -> Command {
-    Command::AddStation {
-        device: device(rt, digits),
-    }
-}
-
-fn add_agent(rt: &impl Abort, digits: &str, text: &str) -> Command {
-    Command::AddAgent {
-        agent: AgentId::read(digits.as_bytes()).expect(rt, "an agent"),
-        name: name(rt, text),
-    }
-}
-
-fn expect_plan(rt: &impl Abort, alloc: Global, plan: &[u8], commands: &[Command]) {
-    let requests = plan_requests(alloc, plan).expect(rt, "a plan");
-    assert_eq!(rt; requests.len(), commands.len());
-    for (place, command) in commands.iter().enumerate() {
-        let wanted = planned(rt, place as u64 + 1, *command);
-        let found = requests.get(place).copied().expect(rt, "a request");
-        assert!(rt; found == wanted, "request {place}");
-    }
-}
-
-fn expect_fault(rt: &impl Abort, alloc: Global, plan: &[u8], wanted: PlanFault) {
-    match plan_requests(alloc, plan) {
-        Ok(_) => assert!(rt; false, "a plan: {plan:?}"),
-        Err(fault) => assert!(rt; fault == wanted, "{fault}: {plan:?}"),
-    }
-}
-
-// The header and these rows.
-fn with_header(rt: &impl Abort, alloc: Global, rows: &[u8]) -> Vec<u8> {
-    let mut plan = Vec::from_slice(alloc, HEADER.as_bytes()).expect(rt, "memory");
-    plan.extend_from_slice(rows).expect(rt, "memory");
-    plan
-}
-
-// Each row is faulty, with the member beside it, and is the second after a good one.
-fn expect_row_faults(rt: &impl Abort, alloc: Global, table: &[(&[u8], PlanMember)]) {
-    for (row, member) in table {
-        let mut plan = with_header(rt, alloc, b"station,200,,,\n");
-        plan.extend_from_slice(row).expect(rt, "memory");
-        let wanted = PlanFault::Row {
-            row: 2,
-            member: *member,
-        };
-        expect_fault(rt, alloc, plan.as_slice(), wanted);
-    }
-}
-
-fn office(rt: &impl Abort) -> [Command; 5] {
+// Plans, and behind the arrow what each tells. The reader of CSV takes off one mark more than the one that a plan may
+// have. Blank lines are no records, and the last row needs no line feed.
+fn plans() -> [&'static str; 10] {
     [
-        add_group(rt, "100", "Billing", 20, 30),
-        add_station(rt, "201"),
-        add_station(rt, "202"),
-        add_agent(rt, "7", "Ana"),
-        add_agent(rt, "8", "Ben"),
+        // of an office; with a mark; with two and three
+        "kind,number,name,ring,wrap\ngroup,100,Billing,20,30\nstation,201,,,\nstation,202,,,\nagent,7,Ana,,\nagent,8,Ben,,\n => plan 1 group 100 [Billing] 20 30\nplan 2 station 201\nplan 3 station 202\nplan 4 agent 7 [Ana]\nplan 5 agent 8 [Ben]\n",
+        "\u{FEFF}kind,number,name,ring,wrap\r\ngroup,100,Billing,20,30\r\nstation,201,,,\r\nagent,7,Ana,,\r\n => plan 1 group 100 [Billing] 20 30\nplan 2 station 201\nplan 3 agent 7 [Ana]\n",
+        "\u{FEFF}\u{FEFF}kind,number,name,ring,wrap\nstation,201,,,\n => plan 1 station 201\n",
+        "\u{FEFF}\u{FEFF}\u{FEFF}kind,number,name,ring,wrap\nstation,201,,,\n => plan header",
+        // a faulty header before a row
+        "kind,number,name,ring\ngroup,100,Billing,20,30\n => plan header",
+        // no rows
+        "kind,number,name,ring,wrap => ",
+        "\"kind\",number,\"name\",ring,wrap\r\n => ",
+        // blank lines, quoted fields, the least and the greatest members
+        "kind,number,name,ring,wrap\n\n\r\nstation,201,,,\n\n\nagent,7,Ana,, => plan 1 station 201\nplan 2 agent 7 [Ana]\n",
+        "kind,number,name,ring,wrap\n\"group\",\"100\",\"Billing, \"\"A\"\"\",\"20\",\"30\"\nagent,7,\" Ana\",\"\",\n => plan 1 group 100 [Billing, \"A\"] 20 30\nplan 2 agent 7 [ Ana]\n",
+        "kind,number,name,ring,wrap\ngroup,0,x,0,3600\ngroup,123456789012345,1234567890123456789012345678901234567890,0020,0000\nstation,00,,,\nagent,123456789,~ ~,,\n => plan 1 group 0 [x] 0 3600\nplan 2 group 123456789012345 [1234567890123456789012345678901234567890] 20 0\nplan 3 station 00\nplan 4 agent 123456789 [~ ~]\n",
     ]
 }
 
-// The command of a row of this kind.
-fn added(rt: &impl Abort, kind: &str, digits: &str) -> Command {
-    if kind == "group" {
-        add_group(rt, digits, "Office", 20, 30)
-    } else if kind == "station" {
-        add_station(rt, digits)
-    } else {
-        add_agent(rt, digits, "Office")
-    }
+// Plans, each with its first row that is faulty, and the member there. A line feed between quotes ends no row, so the
+// row behind it is the second.
+fn faulty_plans() -> [(&'static str, u64, &'static str); 6] {
+    [
+        (
+            "kind,number,name,ring,wrap\nagent,7,\"A\nb\",,\n",
+            1,
+            "name",
+        ),
+        (
+            "kind,number,name,ring,wrap\nstation,201,\"\",\"\n\n\",\nx,,,,\n",
+            1,
+            "ring",
+        ),
+        (
+            "kind,number,name,ring,wrap\nstation,200,\"\",,\n\"gro\nup\",100,Billing,20,30\n",
+            2,
+            "kind",
+        ),
+        (
+            "kind,number,name,ring,wrap\ngroup,100,Billing,20,30\nstation,2x1,,,\nstation,202,,,\n",
+            2,
+            "number",
+        ),
+        (
+            "kind,number,name,ring,wrap\nagent,7,Ana,,\nagent,8,,,\nstation,2x1,,,\n",
+            2,
+            "name",
+        ),
+        ("kind,number,name,ring,wrap\nagent,7,A\tna,,\n", 1, "name"),
+    ]
 }
 
-// The plan of as many groups, stations and agents as a desk takes, and the commands of its rows.
-fn greatest(rt: &impl Abort, alloc: Global) -> (String, Vec<Command>) {
-    let mut plan = String::from_str(alloc, HEADER).expect(rt, "memory");
-    let mut commands = Vec::new(alloc);
-    for (kind, first, last, rest) in [
-        ("group", 100u64, 163u64, "Office,20,30"),
-        ("station", 2001, 3000, ",,"),
-        ("agent", 1, 1000, "Office,,"),
-    ] {
-        for number in first..=last {
-            let digits = number.to_string(alloc).expect(rt, "memory");
-            let digits = digits.as_str();
-            let row = format!(in alloc; "{kind},{digits},{rest}\n").expect(rt, "memory");
-            plan.push_str(row.as_str()).expect(rt, "memory");
-            commands.push(added(rt, kind, digits)).expect(rt, "memory");
-        }
-    }
-    (plan, commands)
+// Each line, also with a line feed, is a plan whose header is faulty.
+fn faulty_headers() -> &'static str {
+    r#"
+kind,number,name,ring
+kind,number,name,ring,wrap,
+kind,number,name,wrap,ring
+Kind,number,name,ring,wrap
+kind;number;name;ring;wrap
+station,201,,,
+ kind,number,name,ring,wrap
+"#
+}
+
+// Rows, each behind its first member that is faulty, with their line feeds.
+fn faulty_rows() -> &'static str {
+    r#"fields group,100,Billing,20
+fields group,100,Billing,20,30,
+fields x
+fields ""
+kind x,x,x,x,x
+kind ,,,,
+kind Group,100,Billing,20,30
+kind groups,100,Billing,20,30
+kind  station,201,,,
+number group,x,,x,x
+number group,,Billing,20,30
+number group,1234567890123456,Billing,20,30
+number station,,x,x,x
+number station,+201,,,
+number agent,,Ana,,
+number agent, 7,Ana,,
+number agent,1234567890,Ana,,
+name group,100,,x,x
+name group,100,12345678901234567890123456789012345678901,20,30
+name station,201,Ana,x,x
+name agent,7,,x,x
+name agent,7,André,,
+ring group,100,Billing,x,x
+ring group,100,Billing,,30
+ring group,100,Billing,3601,30
+ring group,100,Billing,00020,30
+ring group,100,Billing,+20,30
+ring group,100,Billing, 20,30
+ring station,201,,0,x
+ring agent,7,Ana,20,x
+wrap group,100,Billing,20,
+wrap group,100,Billing,20,9999
+wrap group,100,Billing,20,30s
+wrap group,100,Billing,20,-1
+wrap station,201,,,0
+wrap agent,7,Ana,,30
+"#
+}
+
+// Rows that are no text.
+fn no_texts() -> [&'static [u8]; 3] {
+    [b"agent,7,\xFF,,\n", b"x,x,x,x,\xC3\n", b"\xC3,\xA9,,,\n"]
 }
 
 #[test]
-fn plan_of_an_office(rt: HostRuntime) {
-    let alloc = rt.alloc();
-    let plan = with_header(&rt, alloc, OFFICE.as_bytes());
-    expect_plan(&rt, alloc, plan.as_slice(), &office(&rt));
+fn plans_and_what_they_tell(rt: HostRuntime) {
+    for line in plans() {
+        let (plan, wanted) = line.split_once(" => ").expect(&rt, "an arrow");
+        expect_plan(&rt, plan, plan.as_bytes(), wanted);
+    }
+    for line in faulty_headers().lines() {
+        expect_plan(&rt, line, line.as_bytes(), "plan header");
+        expect_joined(&rt, line, line.as_bytes(), b"\n", "plan header");
+    }
 }
 
-// 64 groups, 1,000 stations and 1,000 agents.
+// The plan of two texts, one behind the other, tells that.
+fn expect_joined(
+    rt: &(impl Abort + AllocGlobal),
+    name: &str,
+    first: &[u8],
+    second: &[u8],
+    wanted: &str,
+) {
+    let mut plan = Vec::from_slice(rt.alloc(), first).expect(rt, "memory");
+    plan.extend_from_slice(second).expect(rt, "memory");
+    expect_plan(rt, name, plan.as_slice(), wanted);
+}
+
+// The plan of two texts is faulty at this row, in this member.
+fn expect_faulty(
+    rt: &(impl Abort + AllocGlobal),
+    name: &str,
+    first: &[u8],
+    second: &[u8],
+    fault: (u64, &str),
+) {
+    let (row, member) = fault;
+    let wanted = format!(in rt.alloc(); "plan row {row}: {member}").expect(rt, "memory");
+    expect_joined(rt, name, first, second, wanted.as_str());
+}
+
+#[test]
+fn faulty_rows_and_members(rt: HostRuntime) {
+    for (plan, row, member) in faulty_plans() {
+        expect_faulty(&rt, plan, plan.as_bytes(), b"", (row, member));
+    }
+    let good = good_row().as_bytes();
+    for line in faulty_rows().split_inclusive('\n') {
+        let (member, row) = line.split_once(' ').expect(&rt, "a member");
+        expect_faulty(&rt, line, good, row.as_bytes(), (2, member));
+    }
+    for row in no_texts() {
+        expect_faulty(&rt, "no text", good, row, (2, "fields"));
+    }
+    let text = fault_text(&rt, PlanFault::NoMemory);
+    same_text(&rt, "no memory", text.as_str(), "no memory");
+}
+
+// The row of each number from the first to the last.
+fn push_rows(
+    rt: &(impl Abort + AllocGlobal),
+    plan: &mut String,
+    kind: &str,
+    numbers: (u64, u64),
+    rest: &str,
+) {
+    let alloc = rt.alloc();
+    for number in numbers.0..=numbers.1 {
+        let row = format!(in alloc; "{kind},{number},{rest}\n").expect(rt, "memory");
+        plan.push_str(row.as_str()).expect(rt, "memory");
+    }
+}
+
+// 64 groups, 1,000 stations and 1,000 agents: as many as a desk takes.
+fn greatest(rt: &(impl Abort + AllocGlobal)) -> String {
+    let mut plan = String::from_str(rt.alloc(), header()).expect(rt, "memory");
+    push_rows(rt, &mut plan, "group", (100, 163), "Office,20,30");
+    push_rows(rt, &mut plan, "station", (2001, 3000), ",,");
+    push_rows(rt, &mut plan, "agent", (1, 1000), "Office,,");
+    plan
+}
+
 #[test]
 fn greatest_plan(rt: HostRuntime) {
-    let alloc = rt.alloc();
-    let (plan, commands) = greatest(&rt, alloc);
-    assert_eq!(rt; commands.len(), 2064);
-    expect_plan(&rt, alloc, plan.as_str().as_bytes(), &commands);
-}
-
-#[test]
-fn plan_with_mark(rt: HostRuntime) {
-    let alloc = rt.alloc();
-    let plan =
-        b"\xEF\xBB\xBFkind,number,name,ring,wrap\r\ngroup,100,Billing,20,30\r\nstation,201,,,\r\nstation,202,,,\r\nagent,7,Ana,,\r\nagent,8,Ben,,\r\n";
-    expect_plan(&rt, alloc, plan, &office(&rt));
-}
-
-// The reader of CSV takes off one mark more.
-#[test]
-fn more_marks(rt: HostRuntime) {
-    let alloc = rt.alloc();
-    let twice = b"\xEF\xBB\xBF\xEF\xBB\xBFkind,number,name,ring,wrap\nstation,201,,,\n";
-    expect_plan(&rt, alloc, twice, &[add_station(&rt, "201")]);
-    let thrice =
-        b"\xEF\xBB\xBF\xEF\xBB\xBF\xEF\xBB\xBFkind,number,name,ring,wrap\nstation,201,,,\n";
-    expect_fault(&rt, alloc, thrice, PlanFault::Header);
-}
-
-#[test]
-fn bad_number_in_plan(rt: HostRuntime) {
-    let alloc = rt.alloc();
-    let plan = with_header(
-        &rt,
-        alloc,
-        b"group,100,Billing,20,30\nstation,2x1,,,\nstation,202,,,\nagent,7,Ana,,\nagent,8,Ben,,\n",
-    );
-    let wanted = PlanFault::Row {
-        row: 2,
-        member: PlanMember::Number,
-    };
-    expect_fault(&rt, alloc, plan.as_slice(), wanted);
-}
-
-#[test]
-fn bad_header(rt: HostRuntime) {
-    let alloc = rt.alloc();
-    let headers = [
-        b"kind,number,name,ring\ngroup,100,Billing,20,30\n".as_slice(),
-        b"".as_slice(),
-        b"\n".as_slice(),
-        b"kind,number,name,ring,wrap,\n".as_slice(),
-        b"kind,number,name,wrap,ring\n".as_slice(),
-        b"Kind,number,name,ring,wrap\n".as_slice(),
-        b"kind;number;name;ring;wrap\n".as_slice(),
-        b"station,201,,,\n".as_slice(),
-        b" kind,number,name,ring,wrap\n".as_slice(),
-    ];
-    for header in headers {
-        expect_fault(&rt, alloc, header, PlanFault::Header);
-    }
-}
-
-#[test]
-fn no_rows(rt: HostRuntime) {
-    let alloc = rt.alloc();
-    expect_plan(&rt, alloc, b"kind,number,name,ring,wrap", &[]);
-    expect_plan(&rt, alloc, b"\"kind\",number,\"name\",ring,wrap\r\n", &[]);
-}
-
-// Blank lines are no records, and the last row needs no line feed.
-#[test]
-fn blank_lines(rt: HostRuntime) {
-    let alloc = rt.alloc();
-    let plan = with_header(&rt, alloc, b"\n\r\nstation,201,,,\n\n\nagent,7,Ana,,");
-    let commands = [add_station(&rt, "201"), add_agent(&rt, "7", "Ana")];
-    expect_plan(&rt, alloc, plan.as_slice(), &commands);
-}
-
-#[test]
-fn quoted_fields(rt: HostRuntime) {
-    let alloc = rt.alloc();
-    let plan = with_header(
-        &rt,
-        alloc,
-        b"\"group\",\"100\",\"Billing, \"\"A\"\"\",\"20\",\"30\"\nagent,7,\" Ana\",\"\",\n",
-    );
-    let commands = [
-        add_group(&rt, "100", "Billing, \"A\"", 20, 30),
-        add_agent(&rt, "7", " Ana"),
-    ];
-    expect_plan(&rt, alloc, plan.as_slice(), &commands);
-}
-
-// A line feed between quotes ends no row, so the row behind it is the second.
-#[test]
-fn quoted_line_feed(rt: HostRuntime) {
-    let alloc = rt.alloc();
-    let name = PlanMember::Name;
-    let plan = with_header(&rt, alloc, b"agent,7,\"A\nb\",,\n");
-    let wanted = PlanFault::Row {
-        row: 1,
-        member: name,
-    };
-    expect_fault(&rt, alloc, plan.as_slice(), wanted);
-    let kind = PlanMember::Kind;
-    let plan = with_header(&rt, alloc, b"station,201,\"\",\"\n\n\",\nx,,,,\n");
-    let wanted = PlanFault::Row {
-        row: 1,
-        member: PlanMember::Ring,
-    };
-    expect_fault(&rt, alloc, plan.as_slice(), wanted);
-    expect_row_faults(
-        &rt,
-        alloc,
-        &[(b"\"gro\nup\",100,Billing,20,30\n".as_slice(), kind)],
-    );
-}
-
-#[test]
-fn least_and_greatest(rt: HostRuntime) {
-    let alloc = rt.alloc();
-    let plan = with_header(
-        &rt,
-        alloc,
-        b"group,0,x,0,3600\ngroup,123456789012345,1234567890123456789012345678901234567890,0020,0000\nstation,00,,,\nagent,123456789,~ ~,,\n",
-    );
-    let commands = [
-        add_group(&rt, "0", "x", 0, 3600),
-        add_group(
-            &rt,
-            "123456789012345",
-            "1234567890123456789012345678901234567890",
-            20,
-            0,
-        ),
-        add_station(&rt, "00"),
-        add_agent(&rt, "123456789", "~ ~"),
-    ];
-    expect_plan(&rt, alloc, plan.as_slice(), &commands);
-}
-
-#[test]
-fn faulty_fields_and_kinds(rt: HostRuntime) {
-    let alloc = rt.alloc();
-    let table = [
-        (b"group,100,Billing,20\n".as_slice(), PlanMember::Fields),
-        (b"group,100,Billing,20,30,\n".as_slice(), PlanMember::Fields),
-        (b"x\n".as_slice(), PlanMember::Fields),
-        (b"\"\"\n".as_slice(), PlanMember::Fields),
-        (b"agent,7,\xFF,,\n".as_slice(), PlanMember::Fields),
-        (b"x,x,x,x,\xC3\n".as_slice(), PlanMember::Fields),
-        (b"\xC3,\xA9,,,\n".as_slice(), PlanMember::Fields),
-        (b"x,x,x,x,x\n".as_slice(), PlanMember::Kind),
-        (b",,,,\n".as_slice(), PlanMember::Kind),
-        (b"Group,100,Billing,20,30\n".as_slice(), PlanMember::Kind),
-        (b"groups,100,Billing,20,30\n".as_slice(), PlanMember::Kind),
-        (b" station,201,,,\n".as_slice(), PlanMember::Kind),
-    ];
-    expect_row_faults(&rt, alloc, &table);
-}
-
-#[test]
-fn faulty_numbers_and_names(rt: HostRuntime) {
-    let alloc = rt.alloc();
-    let (number, name) = (PlanMember::Number, PlanMember::Name);
-    let table = [
-        (b"group,x,,x,x\n".as_slice(), number),
-        (b"group,,Billing,20,30\n".as_slice(), number),
-        (b"group,1234567890123456,Billing,20,30\n".as_slice(), number),
-        (b"station,,x,x,x\n".as_slice(), number),
-        (b"station,+201,,,\n".as_slice(), number),
-        (b"agent,,Ana,,\n".as_slice(), number),
-        (b"agent, 7,Ana,,\n".as_slice(), number),
-        (b"agent,1234567890,Ana,,\n".as_slice(), number),
-        (b"group,100,,x,x\n".as_slice(), name),
-        (
-            b"group,100,12345678901234567890123456789012345678901,20,30\n".as_slice(),
-            name,
-        ),
-        (b"station,201,Ana,x,x\n".as_slice(), name),
-        (b"agent,7,,x,x\n".as_slice(), name),
-        (b"agent,7,Andr\xC3\xA9,,\n".as_slice(), name),
-        (b"agent,7,A\tna,,\n".as_slice(), name),
-    ];
-    expect_row_faults(&rt, alloc, &table);
-}
-
-#[test]
-fn faulty_times(rt: HostRuntime) {
-    let alloc = rt.alloc();
-    let (ring, wrap) = (PlanMember::Ring, PlanMember::Wrap);
-    let table = [
-        (b"group,100,Billing,x,x\n".as_slice(), ring),
-        (b"group,100,Billing,,30\n".as_slice(), ring),
-        (b"group,100,Billing,3601,30\n".as_slice(), ring),
-        (b"group,100,Billing,00020,30\n".as_slice(), ring),
-        (b"group,100,Billing,+20,30\n".as_slice(), ring),
-        (b"group,100,Billing, 20,30\n".as_slice(), ring),
-        (b"station,201,,0,x\n".as_slice(), ring),
-        (b"agent,7,Ana,20,x\n".as_slice(), ring),
-        (b"group,100,Billing,20,\n".as_slice(), wrap),
-        (b"group,100,Billing,20,9999\n".as_slice(), wrap),
-        (b"group,100,Billing,20,30s\n".as_slice(), wrap),
-        (b"group,100,Billing,20,-1\n".as_slice(), wrap),
-        (b"station,201,,,0\n".as_slice(), wrap),
-        (b"agent,7,Ana,,30\n".as_slice(), wrap),
-    ];
-    expect_row_faults(&rt, alloc, &table);
-}
-
-// Two rows are faulty.
-#[test]
-fn first_faulty_row(rt: HostRuntime) {
-    let alloc = rt.alloc();
-    let plan = with_header(&rt, alloc, b"agent,7,Ana,,\nagent,8,,,\nstation,2x1,,,\n");
-    let wanted = PlanFault::Row {
-        row: 2,
-        member: PlanMember::Name,
-    };
-    expect_fault(&rt, alloc, plan.as_slice(), wanted);
+    let text = told(&rt, greatest(&rt).as_str().as_bytes());
+    let last = text.as_str().lines().last();
+    same(&rt, &last, &Some("plan 2064 agent 1000 [Office]"));
 }
 
 // A plan of 1048576 bytes, the mark among them, is read, and one of a byte more is not.
 #[test]
 fn longest_plan(rt: HostRuntime) {
-    let alloc = rt.alloc();
     let start = b"\xEF\xBB\xBFkind,number,name,ring,wrap\nstation,201,,,\n";
-    let mut plan = Vec::from_slice(alloc, start).expect(&rt, "memory");
-    let feeds = vec![in alloc; b'\n'; 1048576 - start.len()].expect(&rt, "memory");
-    plan.extend_from_slice(feeds.as_slice())
-        .expect(&rt, "memory");
-    assert_eq!(rt; plan.len(), 1048576);
-    expect_plan(&rt, alloc, plan.as_slice(), &[add_station(&rt, "201")]);
+    let mut plan = Vec::from_slice(rt.alloc(), start).expect(&rt, "memory");
+    plan.resize(1048576, b'\n').expect(&rt, "memory");
+    expect_plan(&rt, "longest_plan", plan.as_slice(), "plan 1 station 201\n");
     plan.push(b'\n').expect(&rt, "memory");
-    let fault = plan_requests(alloc, plan.as_slice());
-    assert!(rt; matches!(fault, Err(PlanFault::TooLong)));
-}
-
-#[test]
-fn printed_faults(rt: HostRuntime) {
-    let alloc = rt.alloc();
-    let number = 12u64;
-    let row = PlanFault::Row {
-        row: number,
-        member: PlanMember::Wrap,
-    };
-    let row_text = format!(in alloc; "plan row {number}: wrap").expect(&rt, "memory");
-    let table = [
-        (PlanFault::TooLong, "plan too long"),
-        (PlanFault::Header, "plan header"),
-        (row, row_text.as_str()),
-        (PlanFault::NoMemory, "no memory"),
-    ];
-    for (fault, wanted) in table {
-        let text = fault.to_string(alloc).expect(&rt, "memory");
-        assert_eq!(rt; text.as_str(), wanted);
-    }
+    expect_plan(&rt, "a byte more", plan.as_slice(), "plan too long");
 }

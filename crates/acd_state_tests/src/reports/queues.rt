@@ -1,53 +1,34 @@
 //! The queue report, byte for byte.
 
-use super::{device, name, seconds};
+use crate::values::{device, group, listed, plain, same_text, waiting};
 use acd_reports::queue_report;
-use acd_terms::{
-    ConnectionRecord, ConnectionState, DeviceId, Figures, GroupRecord, Limits, Listed, Rows,
-};
-use std::alloc::Global;
+use acd_terms::{ConnectionRecord, ConnectionState, DeviceId, Figures, GroupRecord, Limits, Rows};
 use std::process::Abort;
 
-const HEADER: &str =
-    "group           waiting ringing    entered   answered  abandoned      moved    average    longest name\n";
+fn header() -> &'static str {
+    "group           waiting ringing    entered   answered  abandoned      moved    average    longest name\n"
+}
 
-const ANSWERED_ONCE: Figures = Figures {
-    entered: 1,
-    answered: 1,
-    abandoned: 0,
-    moved: 0,
-    waited: 15,
-};
-
-fn group(rt: &impl Abort, digits: &str, text: &str, figures: Figures) -> GroupRecord {
-    GroupRecord {
-        device: device(rt, digits),
-        name: name(rt, text),
-        ring: seconds(rt, 20),
-        wrap: seconds(rt, 30),
-        figures,
+fn figures(counts: [u64; 4], waited: u64) -> Figures {
+    let [entered, answered, abandoned, moved] = counts;
+    Figures {
+        entered,
+        answered,
+        abandoned,
+        moved,
+        waited,
     }
 }
 
-fn connection(call: u64, device: DeviceId, state: ConnectionState) -> ConnectionRecord {
-    ConnectionRecord {
-        call,
-        device,
-        state,
-        group: None,
-        place: None,
-        queued: None,
-        offered: None,
-    }
-}
-
-fn waiting(call: u64, group: DeviceId, queued: u32) -> ConnectionRecord {
-    ConnectionRecord {
-        group: Some(group),
-        place: Some(call),
-        queued: Some(queued),
-        ..connection(call, group, ConnectionState::Queued)
-    }
+// A name that begins with a blank, and a group whose columns are full.
+fn groups(rt: &impl Abort) -> [GroupRecord; 4] {
+    let full = figures([u64::MAX, 1, 12345678901, 1234567890], 9999999999);
+    [
+        group(rt, "100", "Billing", figures([9, 3, 1, 1], 17)),
+        group(rt, "1000", "Sales", Figures::default()),
+        group(rt, "200", " A \"name\", ", figures([1, 1, 0, 0], 15)),
+        group(rt, "123456789012345", "Full", full),
+    ]
 }
 
 // What distribution made of a call that had waited in the group.
@@ -59,135 +40,97 @@ fn distributed(
 ) -> ConnectionRecord {
     ConnectionRecord {
         group: Some(group),
-        ..connection(call, station, state)
+        ..plain(call, station, state)
     }
+}
+
+// Of three calls that wait in 100 the second has waited longest. One call rings by distribution, one without,
+// and one was answered.
+fn connections(rt: &impl Abort) -> [ConnectionRecord; 8] {
+    let [billing, sales] = [device(rt, "100"), device(rt, "1000")];
+    let [first, second] = [device(rt, "201"), device(rt, "202")];
+    let full = device(rt, "123456789012345");
+    [
+        waiting(4, billing, 4, 12),
+        waiting(5, billing, 5, 10),
+        waiting(6, billing, 6, 11),
+        waiting(7, sales, 7, 50),
+        distributed(8, billing, first, ConnectionState::Alerting),
+        plain(9, second, ConnectionState::Alerting),
+        distributed(10, billing, second, ConnectionState::Connected),
+        waiting(11, full, 11, 0),
+    ]
+}
+
+// At the moment 40 a call waits in 1000 that came in later.
+fn lines() -> [(u32, &'static str); 2] {
+    [
+        (
+            40,
+            "100                   3       1          9          3          1          1          5         30 Billing\n1000                  1       0          0          0          0          0          -          0 Sales\n200                   0       0          1          1          0          0         15          -  A \"name\", \n123456789012345       1       0 18446744073709551615          1 12345678901 1234567890 9999999999         40 Full\n",
+        ),
+        (
+            u32::MAX,
+            "100                   3       1          9          3          1          1          5 4294967285 Billing\n1000                  1       0          0          0          0          0          - 4294967245 Sales\n200                   0       0          1          1          0          0         15          -  A \"name\", \n123456789012345       1       0 18446744073709551615          1 12345678901 1234567890 9999999999 4294967295 Full\n",
+        ),
+    ]
+}
+
+fn line() -> &'static str {
+    "300                   0       0          1          1          0          0         15          - Billing\n"
 }
 
 fn rows_of(
-    rt: &impl Abort,
-    alloc: Global,
+    rt: &(impl Abort + AllocGlobal),
     groups: &[GroupRecord],
     connections: &[ConnectionRecord],
 ) -> Rows {
-    let mut rows = Rows::empty(alloc, Limits::GREATEST);
-    rows.groups = Listed::new(Vec::from_slice(alloc, groups).expect(rt, "memory"));
-    rows.connections = Listed::new(Vec::from_slice(alloc, connections).expect(rt, "memory"));
-    rows
-}
-
-// The report has the header and these lines.
-fn expect_report(rt: &impl Abort, alloc: Global, rows: &Rows, moment: u32, lines: &[&str]) {
-    let mut wanted = String::from_str(alloc, HEADER).expect(rt, "memory");
-    for line in lines {
-        wanted.push_str(line).expect(rt, "memory");
-        wanted.push('\n').expect(rt, "memory");
+    Rows {
+        groups: listed(rt, groups, groups.len()),
+        connections: listed(rt, connections, connections.len()),
+        ..Rows::empty(rt.alloc(), Limits::GREATEST)
     }
-    let report = queue_report(alloc, rows, moment).expect(rt, "memory");
-    assert_eq!(rt; report.as_str(), wanted.as_str());
 }
 
-#[test]
-fn no_groups(rt: HostRuntime) {
-    let alloc = rt.alloc();
-    let rows = rows_of(&rt, alloc, &[], &[]);
-    expect_report(&rt, alloc, &rows, 0, &[]);
-}
-
-#[test]
-fn events_and_report_after(rt: HostRuntime) {
-    let alloc = rt.alloc();
-    let groups = [group(&rt, "100", "Billing", ANSWERED_ONCE)];
-    let rows = rows_of(&rt, alloc, &groups, &[]);
-    let line =
-        "100                   0       0          1          1          0          0         15          - Billing";
-    expect_report(&rt, alloc, &rows, 40, &[line]);
-}
-
-// Of three waiting calls the second has waited longest. One call rings by distribution, one without, and
-// one was answered.
-#[test]
-fn waiting_and_ringing(rt: HostRuntime) {
-    let alloc = rt.alloc();
-    let billing = device(&rt, "100");
-    let sales = device(&rt, "1000");
-    let figures = Figures {
-        entered: 9,
-        answered: 3,
-        abandoned: 1,
-        moved: 1,
-        waited: 17,
-    };
-    let groups = [
-        group(&rt, "100", "Billing", figures),
-        group(&rt, "1000", "Sales", Figures::default()),
-    ];
-    let first = device(&rt, "201");
-    let second = device(&rt, "202");
-    let third = device(&rt, "203");
-    let connections = [
-        waiting(4, billing, 12),
-        waiting(5, billing, 10),
-        waiting(6, billing, 11),
-        waiting(7, sales, 50),
-        distributed(8, billing, first, ConnectionState::Alerting),
-        connection(9, second, ConnectionState::Alerting),
-        distributed(10, billing, third, ConnectionState::Connected),
-    ];
-    let rows = rows_of(&rt, alloc, &groups, &connections);
-    let lines = [
-        "100                   3       1          9          3          1          1          5         30 Billing",
-        "1000                  1       0          0          0          0          0          -          0 Sales",
-    ];
-    expect_report(&rt, alloc, &rows, 40, &lines);
-}
-
-#[test]
-fn name_begins_with_a_blank(rt: HostRuntime) {
-    let alloc = rt.alloc();
-    let groups = [group(&rt, "100", " A \"name\", ", ANSWERED_ONCE)];
-    let rows = rows_of(&rt, alloc, &groups, &[]);
-    let line =
-        "100                   0       0          1          1          0          0         15          -  A \"name\", ";
-    expect_report(&rt, alloc, &rows, 40, &[line]);
-}
-
-#[test]
-fn full_columns(rt: HostRuntime) {
-    let alloc = rt.alloc();
-    let figures = Figures {
-        entered: u64::MAX,
-        answered: 1,
-        abandoned: 12345678901,
-        moved: 1234567890,
-        waited: 9999999999,
-    };
-    let groups = [group(&rt, "123456789012345", "Billing", figures)];
-    let station = device(&rt, "123456789012345");
-    let rows = rows_of(&rt, alloc, &groups, &[waiting(1, station, 0)]);
-    let line =
-        "123456789012345       1       0 18446744073709551615          1 12345678901 1234567890 9999999999 4294967295 Billing";
-    expect_report(&rt, alloc, &rows, u32::MAX, &[line]);
-}
-
-// As many groups as there may be, 100 to 163.
-#[test]
-fn all_groups(rt: HostRuntime) {
-    let alloc = rt.alloc();
-    let mut groups = Vec::new(alloc);
-    let mut wanted = String::from_str(alloc, HEADER).expect(&rt, "memory");
-    for number in 100..164u64 {
-        let digits = number.to_string(alloc).expect(&rt, "memory");
-        groups
-            .push(group(&rt, digits.as_str(), "Billing", ANSWERED_ONCE))
-            .expect(&rt, "memory");
-        wanted.push_str(digits.as_str()).expect(&rt, "memory");
-        wanted
-            .push_str(
-                "                   0       0          1          1          0          0         15          - Billing\n",
-            )
-            .expect(&rt, "memory");
+// The report at the moment has the header and so often these lines.
+fn expect_report(
+    rt: &(impl Abort + AllocGlobal),
+    rows: &Rows,
+    moment: u32,
+    lines: &str,
+    times: usize,
+) {
+    let report = queue_report(rt.alloc(), rows, moment).expect(rt, "memory");
+    let mut wanted = String::from_str(rt.alloc(), header()).expect(rt, "memory");
+    for _ in 0..times {
+        wanted.push_str(lines).expect(rt, "memory");
     }
-    let rows = rows_of(&rt, alloc, groups.as_slice(), &[]);
-    let report = queue_report(alloc, &rows, 40).expect(&rt, "memory");
-    assert_eq!(rt; report.as_str(), wanted.as_str());
+    same_text(rt, "report", report.as_str(), wanted.as_str());
+}
+
+fn expect_report_of(
+    rt: &(impl Abort + AllocGlobal),
+    groups: &[GroupRecord],
+    moment: u32,
+    lines: &str,
+    times: usize,
+) {
+    let rows = rows_of(rt, groups, &connections(rt));
+    expect_report(rt, &rows, moment, lines, times);
+}
+
+#[test]
+fn reports_of_groups(rt: HostRuntime) {
+    expect_report_of(&rt, &[], 0, "", 0);
+    for (moment, lines) in lines() {
+        expect_report_of(&rt, &groups(&rt), moment, lines, 1);
+    }
+}
+
+// As many groups as there may be. The report takes any rows, so all of them are one.
+#[test]
+fn report_of_64_groups(rt: HostRuntime) {
+    let once = group(&rt, "300", "Billing", figures([1, 1, 0, 0], 15));
+    let groups = vec![in rt.alloc(); once; 64].expect(&rt, "memory");
+    expect_report_of(&rt, &groups, 40, line(), 64);
 }

@@ -1,12 +1,12 @@
 //! Bytes that are no request, each with its first faulty member.
 
-use super::expect_fault;
-use acd_codec::{Member, ReadFault, read_request};
+use super::reads;
 use std::alloc::Global;
 use std::process::Abort;
 
-// A member's name and the bytes in which it is the first that is faulty. Text is cheap to prove where no clause gives it.
-fn faulty() -> &'static str {
+// A member's name and the bytes in which it is the first that is faulty. Text is cheap to prove where no clause gives
+// it.
+fn texts() -> &'static str {
     r##"
 # no JSON, or no object
 json []
@@ -31,6 +31,9 @@ json {"requester":"pbx","invoke":NaN,"service":"tick"}
 json {"requester":"pbx","invoke":1e,"service":"tick"}
 json {"x":1e400}
 json {"requester":"pbx","invoke":1,"service":"tick","x":-1e400}
+# nested deeper than 127 values, and that deep
+json {"x":[[[[[[[[[[[[[[[[[[[[[[[[[[[[[[[[[[[[[[[[[[[[[[[[[[[[[[[[[[[[[[[[[[[[[[[[[[[[[[[[[[[[[[[[[[[[[[[[[[[[[[[[[[[[[[[[[[[[[[[[[[[[[[[]]]]]]]]]]]]]]]]]]]]]]]]]]]]]]]]]]]]]]]]]]]]]]]]]]]]]]]]]]]]]]]]]]]]]]]]]]]]]]]]]]]]]]]]]]]]]]]]]]]]]]]]]]]]]]]]]]]]]]]]]]]]]]]}
+requester {"x":[[[[[[[[[[[[[[[[[[[[[[[[[[[[[[[[[[[[[[[[[[[[[[[[[[[[[[[[[[[[[[[[[[[[[[[[[[[[[[[[[[[[[[[[[[[[[[[[[[[[[[[[[[[[[[[[[[[[[[[[[[[[[[]]]]]]]]]]]]]]]]]]]]]]]]]]]]]]]]]]]]]]]]]]]]]]]]]]]]]]]]]]]]]]]]]]]]]]]]]]]]]]]]]]]]]]]]]]]]]]]]]]]]]]]]]]]]]]]]]]]]]]]]]]]]]]}
 # no text
 json {"requester":"\ud800"}
 json {"requester":"\udc00"}
@@ -139,70 +142,55 @@ monitor {"requester":"pbx","invoke":1,"service":"monitorStop","monitor":"1"}
 }
 
 // The text is malformed, with this member.
-fn expect_faulty(rt: &impl Abort, alloc: Global, member: &str, text: &str) {
-    match read_request(alloc, text.as_bytes()) {
-        Err(ReadFault::Malformed(found)) => assert_eq!(rt; found.name(), member, "{text}"),
-        _ => assert!(rt; false, "{text}"),
+fn is_malformed(rt: &impl Abort, alloc: Global, line: &str) {
+    let (member, text) = line.split_once(' ').expect(rt, "a member");
+    let fault = format!(in alloc; "malformed: {member}").expect(rt, "memory");
+    reads(rt, alloc, text.as_bytes(), fault.as_str());
+}
+
+// The same, with signs that are no line's.
+fn texts_with_signs() -> &'static str {
+    "json \u{feff}{\"requester\":\"pbx\",\"invoke\":1,\"service\":\"tick\"}
+json {\"requester\":\"p\x00bx\"}
+json {\"requester\":\"p\tbx\"}
+json {\"requester\":\"pbx\",\"invoke\":1,\"service\":\"tick\"}\x00
+json \u{a0}{\"requester\":\"pbx\",\"invoke\":1,\"service\":\"tick\"}
+json \x0c{\"requester\":\"pbx\",\"invoke\":1,\"service\":\"tick\"}
+requester {\"requester\":\"caf\u{e9}\"}
+device {\"requester\":\"pbx\",\"invoke\":1,\"service\":\"addStation\",\"device\":\"\u{ff12}\"}
+name {\"requester\":\"pbx\",\"invoke\":1,\"service\":\"addGroup\",\"device\":\"100\",\"name\":\"a\x7f\",\"ring\":20,\"wrap\":30}
+name {\"requester\":\"pbx\",\"invoke\":1,\"service\":\"addGroup\",\"device\":\"100\",\"name\":\"Caf\u{e9}\",\"ring\":20,\"wrap\":30}
+"
+}
+
+fn are_malformed(rt: &impl Abort, alloc: Global, texts: &str) {
+    for line in texts.lines() {
+        if !line.is_empty() && !line.starts_with("# ") {
+            is_malformed(rt, alloc, line);
+        }
     }
 }
 
 #[test]
 fn faulty_texts(rt: HostRuntime) {
-    for line in faulty().lines() {
-        if !line.is_empty() && !line.starts_with("# ") {
-            let (member, text) = line.split_once(' ').expect(&rt, "a member");
-            expect_faulty(&rt, rt.alloc(), member, text);
-        }
-    }
+    are_malformed(&rt, rt.alloc(), texts());
+    are_malformed(&rt, rt.alloc(), texts_with_signs());
 }
 
-// Bytes that a line can't hold.
-static FAULTY_BYTES: [(&[u8], Member); 19] = [
-    (b"", Member::Json),
-    (
-        b"\xef\xbb\xbf{\"requester\":\"pbx\",\"invoke\":1,\"service\":\"tick\"}",
-        Member::Json,
-    ),
-    (b"{\"requester\":\"p\nbx\"}", Member::Json),
-    (b"{\"requester\":\"p\x00bx\"}", Member::Json),
-    (b"{\"requester\":\"p\tbx\"}", Member::Json),
-    (
-        b"{\"requester\":\"pbx\",\"invoke\":1,\"service\":\"tick\"}\x00",
-        Member::Json,
-    ),
-    (
-        b"\xc2\xa0{\"requester\":\"pbx\",\"invoke\":1,\"service\":\"tick\"}",
-        Member::Json,
-    ),
-    (
-        b"\x0c{\"requester\":\"pbx\",\"invoke\":1,\"service\":\"tick\"}",
-        Member::Json,
-    ),
-    (b"{\"requester\":\"caf\xc3\xa9\"}", Member::Requester),
-    (
-        b"{\"requester\":\"pbx\",\"invoke\":1,\"service\":\"addStation\",\"device\":\"\xef\xbc\x92\"}",
-        Member::Device,
-    ),
-    (
-        b"{\"requester\":\"pbx\",\"invoke\":1,\"service\":\"addGroup\",\"device\":\"100\",\"name\":\"a\x7f\",\"ring\":20,\"wrap\":30}",
-        Member::Name,
-    ),
-    (
-        b"{\"requester\":\"pbx\",\"invoke\":1,\"service\":\"addGroup\",\"device\":\"100\",\"name\":\"Caf\xc3\xa9\",\"ring\":20,\"wrap\":30}",
-        Member::Name,
-    ),
-    (b"{\"requester\":\"\xff\"}", Member::Json),
-    (b"{\"requester\":\"\xc3\"}", Member::Json),
-    (b"{\"requester\":\"caf\xc3", Member::Json),
-    (b"{\"requester\":\"\xc0\xaf\"}", Member::Json),
-    (b"{\"requester\":\"\xed\xa0\x80\"}", Member::Json),
-    (b"{\"requester\":\"\xf4\x90\x80\x80\"}", Member::Json),
-    (b"\xff{}", Member::Json),
-];
+// These bytes are no JSON.
+fn no_json(rt: &impl Abort, alloc: Global, bytes: &[u8]) {
+    reads(rt, alloc, bytes, "malformed: json");
+}
 
 #[test]
 fn faulty_bytes(rt: HostRuntime) {
-    for (bytes, member) in &FAULTY_BYTES {
-        expect_fault(&rt, rt.alloc(), bytes, *member);
-    }
+    no_json(&rt, rt.alloc(), b"");
+    no_json(&rt, rt.alloc(), b"{\"requester\":\"p\nbx\"}");
+    no_json(&rt, rt.alloc(), b"{\"requester\":\"\xff\"}");
+    no_json(&rt, rt.alloc(), b"{\"requester\":\"\xc3\"}");
+    no_json(&rt, rt.alloc(), b"{\"requester\":\"caf\xc3");
+    no_json(&rt, rt.alloc(), b"{\"requester\":\"\xc0\xaf\"}");
+    no_json(&rt, rt.alloc(), b"{\"requester\":\"\xed\xa0\x80\"}");
+    no_json(&rt, rt.alloc(), b"{\"requester\":\"\xf4\x90\x80\x80\"}");
+    no_json(&rt, rt.alloc(), b"\xff{}");
 }

@@ -1,6 +1,6 @@
 //! Bytes that are a request, with the one text of that request.
 
-use super::expect_text;
+use super::reads;
 
 // Requests that are their own text, and others with their text behind `=>`.
 fn requests() -> &'static str {
@@ -46,20 +46,9 @@ fn requests() -> &'static str {
 #[test]
 fn texts_of_requests(rt: HostRuntime) {
     for line in requests().lines() {
-        match line.split_once(" => ") {
-            Some((asked, text)) => expect_text(&rt, rt.alloc(), asked, text),
-            None if line.is_empty() => {}
-            None => expect_text(&rt, rt.alloc(), line, line),
+        if !line.is_empty() {
+            let (asked, text) = line.split_once(" => ").unwrap_or((line, line));
+            reads(&rt, rt.alloc(), asked.as_bytes(), text);
         }
     }
-}
-
-#[test]
-fn blanks_of_json(rt: HostRuntime) {
-    expect_text(
-        &rt,
-        rt.alloc(),
-        "\r\n\t {\"requester\":\"pbx\",\n\"invoke\":1,\t\"service\":\"tick\"} \r\n",
-        "{\"invoke\":1,\"requester\":\"pbx\",\"service\":\"tick\"}",
-    );
 }

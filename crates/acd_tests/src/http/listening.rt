@@ -1,9 +1,12 @@
 //! Connections over the loopback address.
 
-use super::{group, group_reply, opened};
+use super::{group, group_reply};
+use crate::comparing::same;
+use crate::player::new_desk;
 use acd_book::Book;
 use acd_desk::Desk;
 use acd_http::serve_on;
+use std::alloc::Global;
 use std::io::{Read, Write};
 use std::net::{Ipv4Addr, Net, Shutdown, SocketAddr, TcpListener, TcpStream};
 use std::process::Abort;
@@ -17,23 +20,26 @@ where
     TcpListener::bind(rt, address).expect(rt, "a listener")
 }
 
-// A client that has sent all that it sends.
-fn client<R>(rt: &R, listener: &TcpListener, request: &[u8]) -> TcpStream
+// A client that has sent all that it sends: this, and so many hundred blanks.
+fn client<R>(rt: &R, listener: &TcpListener, request: &[u8], blanks: u32) -> TcpStream
 where
     R: Abort + Net<Listener = TcpListener, Stream = TcpStream>,
 {
     let address = listener.local_addr().expect(rt, "an address");
     let mut stream = TcpStream::connect(rt, address).expect(rt, "a connection");
     stream.write_all(request).expect(rt, "sent");
+    for _ in 0..blanks {
+        stream.write_all(&[b' '; 100]).expect(rt, "sent");
+    }
     stream.shutdown(Shutdown::Write).expect(rt, "shut");
     stream
 }
 
-// What the client is sent.
-fn reply(rt: &(impl Abort + AllocGlobal), client: &mut TcpStream) -> Vec<u8> {
-    let mut bytes = Vec::new(rt.alloc());
+// The client is sent this.
+fn is_sent(rt: &impl Abort, alloc: Global, client: &mut TcpStream, reply: &str) {
+    let mut bytes = Vec::new(alloc);
     client.read_to_end(&mut bytes).expect(rt, "a reply");
-    bytes
+    assert_eq!(rt; bytes.as_slice(), reply.as_bytes());
 }
 
 // Serves so many connections, and then these lines were written.
@@ -57,64 +63,58 @@ fn seconds_now(rt: &(impl Abort + Clock)) -> u64 {
     since.as_secs()
 }
 
-// How many requests the desk has executed, and the moment of the last.
-fn last_executed<B: Book + Drop>(rt: &(impl Abort + AllocGlobal), desk: Desk<B>) -> (u64, u64) {
+// One request was executed, at one of these moments.
+fn executed_within<B: Book + Drop>(rt: &impl Abort, desk: Desk<B>, before: u64, behind: u64) {
     let mut book = desk.close();
     let rows = book.rows().expect(rt, "rows");
-    (rows.last_stamp, u64::from(rows.last_moment))
+    same(rt, &rows.last_stamp, &1);
+    let moment = u64::from(rows.last_moment);
+    assert!(rt; before <= moment && moment <= behind);
+}
+
+// A connection is served, at the moment of the clock.
+fn is_served<R, B: Book + Drop>(rt: &R, mut desk: Desk<B>)
+where
+    R: Abort + AllocGlobal + Clock + Net<Listener = TcpListener, Stream = TcpStream>,
+{
+    let listener = listener(rt);
+    let mut client = client(rt, &listener, group(), 0);
+    let before = seconds_now(rt);
+    serves(rt, &listener, &mut desk, 1, "");
+    let behind = seconds_now(rt);
+    is_sent(rt, rt.alloc(), &mut client, group_reply());
+    executed_within(rt, desk, before, behind);
 }
 
 #[test]
 fn connection_is_served(rt: HostRuntime) {
-    let mut desk = opened(&rt);
-    let listener = listener(&rt);
-    let mut client = client(&rt, &listener, group());
-    let before = seconds_now(&rt);
-    serves(&rt, &listener, &mut desk, 1, "");
-    let behind = seconds_now(&rt);
-    assert_eq!(rt; reply(&rt, &mut client).as_slice(), group_reply());
-    let (stamp, moment) = last_executed(&rt, desk);
-    assert_eq!(rt; stamp, 1);
-    assert!(rt;
-        before <= moment && moment <= behind,
-        "{before}, {moment}, {behind}"
-    );
+    is_served(&rt, new_desk(&rt, rt.alloc()));
 }
 
 fn begun() -> &'static [u8] {
     b"POST /csta HTTP/1.1\r\n"
 }
 
-fn truncated() -> &'static str {
-    "acd: connection 1: truncated\n"
+// The first client sends half a request, and the second one more than is read at once.
+fn next_is_served<R, B: Book + Drop>(rt: &R, mut desk: Desk<B>)
+where
+    R: Abort + AllocGlobal + Clock + Net<Listener = TcpListener, Stream = TcpStream>,
+{
+    let listener = listener(rt);
+    let mut first = client(rt, &listener, begun(), 0);
+    let mut second = client(rt, &listener, group(), 200);
+    serves(
+        rt,
+        &listener,
+        &mut desk,
+        2,
+        "acd: connection 1: truncated\n",
+    );
+    is_sent(rt, rt.alloc(), &mut first, "");
+    is_sent(rt, rt.alloc(), &mut second, group_reply());
 }
 
 #[test]
 fn next_is_served_behind_a_fault(rt: HostRuntime) {
-    let mut desk = opened(&rt);
-    let listener = listener(&rt);
-    let mut first = client(&rt, &listener, begun());
-    let mut second = client(&rt, &listener, group());
-    serves(&rt, &listener, &mut desk, 2, truncated());
-    assert!(rt; reply(&rt, &mut first).is_empty());
-    assert_eq!(rt; reply(&rt, &mut second).as_slice(), group_reply());
-}
-
-// A request, and more than is read at once.
-fn group_and_more(rt: &(impl Abort + AllocGlobal)) -> Vec<u8> {
-    let mut bytes = vec![in rt.alloc(); b' '; 20_000].expect(rt, "memory");
-    for (byte, given) in bytes.iter_mut().zip(group()) {
-        *byte = *given;
-    }
-    bytes
-}
-
-#[test]
-fn more_than_a_request(rt: HostRuntime) {
-    let mut desk = opened(&rt);
-    let listener = listener(&rt);
-    let request = group_and_more(&rt);
-    let mut client = client(&rt, &listener, request.as_slice());
-    serves(&rt, &listener, &mut desk, 1, "");
-    assert_eq!(rt; reply(&rt, &mut client).as_slice(), group_reply());
+    next_is_served(&rt, new_desk(&rt, rt.alloc()));
 }

@@ -8,7 +8,7 @@ use Rattle.acd_columns.specs.Ranges.{group_in}
 use Rattle.acd_columns.specs.Rows.{group_values}
 use Rattle.acd_columns.proofs.Records.{group_exact}
 use Rattle.acd_reads.proofs.Recorded.{found_none, recorded}
-use Rattle.acd_statements.specs.Finding.{Finds}
+use Rattle.acd_columns.specs.Finding.{Finds}
 use Rattle.acd_reads.proofs.reads.groups.Goals as goal
 
 pub returns-in_err-rows-clause-found : goal.returns-in_err-rows-clause-found

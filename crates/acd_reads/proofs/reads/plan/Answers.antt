@@ -8,7 +8,7 @@ use Rattle.acd_terms.specs.declared.record.AgentRecord.{AgentRecord}
 use Rattle.acd_book.specs.Content.{Content}
 use Rattle.acd_reads.proofs.Chained.{chained, broken}
 use Rattle.acd_reads.proofs.Recorded.{found_none}
-use Rattle.acd_statements.specs.Finding.{Finds}
+use Rattle.acd_columns.specs.Finding.{Finds}
 use Rattle.acd_reads.proofs.reads.plan.Goals as goal
 
 pub returns-in_err-groups-clause-found : goal.returns-in_err-groups-clause-found

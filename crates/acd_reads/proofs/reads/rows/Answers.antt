@@ -7,11 +7,11 @@ use Rattle.acd_terms.specs.declared.record.StationRecord.{StationRecord}
 use Rattle.acd_terms.specs.declared.record.AgentRecord.{AgentRecord}
 use Rattle.acd_terms.specs.declared.rows.Rows.{Rows}
 use Rattle.acd_book.specs.Content.{Content}
-use Rattle.acd_statements.specs.Content.{meta_of}
+use Rattle.acd_columns.specs.Content.{meta_of}
 use Rattle.acd_columns.specs.declared.meta.Meta.{Meta}
 use Rattle.acd_reads.proofs.Chained.{chained, broken, joined_is}
 use Rattle.acd_reads.proofs.Recorded.{found_none}
-use Rattle.acd_statements.specs.Finding.{Finds}
+use Rattle.acd_columns.specs.Finding.{Finds}
 use Rattle.acd_reads.proofs.reads.rows.Goals as goal
 
 pub returns-in_err-meta-clause-found : goal.returns-in_err-meta-clause-found

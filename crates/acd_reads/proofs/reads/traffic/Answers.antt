@@ -8,7 +8,7 @@ use Rattle.acd_terms.specs.declared.record.MonitorRecord.{MonitorRecord}
 use Rattle.acd_book.specs.Content.{Content}
 use Rattle.acd_reads.proofs.Chained.{chained, broken}
 use Rattle.acd_reads.proofs.Recorded.{found_none}
-use Rattle.acd_statements.specs.Finding.{Finds}
+use Rattle.acd_columns.specs.Finding.{Finds}
 use Rattle.acd_reads.proofs.reads.traffic.Goals as goal
 
 pub returns-in_err-calls-clause-found : goal.returns-in_err-calls-clause-found

@@ -1,7 +1,7 @@
 use Rattle.std.proofs.Common.{arith, subst}
 use Rattle.sqlite.specs.State.{HasCleanDisk}
 use Rattle.sqlite.specs.Held.{state}
-use Rattle.acd_statements.specs.Making.{Builds}
+use Rattle.acd_columns.specs.Making.{Builds}
 use Rattle.acd_schema.proofs.Making.{whole, makes_events, makes_kept}
 use Rattle.acd_schema.proofs.create.make_log.Goals as goal
 

@@ -1,9 +1,9 @@
 use Rattle.std.proofs.Common.{◌≡◌, Err, arith, refl, rules, subst, sym}
 use Rattle.sqlite.specs.Held.{state}
 use Rattle.acd_schema.specs.Inspecting.{TellsBehind}
-use Rattle.acd_statements.specs.Seeing.{Sees}
+use Rattle.acd_columns.specs.Seeing.{Sees}
 use Rattle.acd_schema.proofs.Looks.{Left, pages_bad, pages_last, pages_more, pages_fail, pages_end}
-use Rattle.acd_statements.proofs.Seen.{sees_here}
+use Rattle.acd_columns.proofs.Seen.{sees_here}
 use Rattle.acd_schema.proofs.inspection.are_pages_good.Goals as goal
 
 pub loop-init : goal.loop-init

@@ -1,9 +1,9 @@
 use Rattle.std.proofs.Common.{◌≡◌, false, Ok}
 use Rattle.sqlite.specs.Effect.{Database}
 use Rattle.sqlite.specs.Held.{state}
-use Rattle.acd_statements.specs.Draft.{Fits}
-use Rattle.acd_statements.specs.Schema.{book_schema}
-use Rattle.acd_statements.specs.Seeing.{Sees}
+use Rattle.acd_columns.specs.Draft.{Fits}
+use Rattle.acd_columns.specs.Schema.{book_schema}
+use Rattle.acd_columns.specs.Seeing.{Sees}
 use Rattle.acd_schema.proofs.Looks.{Left}
 use Rattle.acd_schema.proofs.inspection.are_pages_good.Given as goal
 

@@ -1,9 +1,9 @@
 use Rattle.std.proofs.Common.{◌≡◌, Err, rules, subst, sym}
 use Rattle.sqlite.specs.Held.{state}
 use Rattle.acd_schema.specs.Inspecting.{IsRowFound}
-use Rattle.acd_statements.specs.Seeing.{Sees}
+use Rattle.acd_columns.specs.Seeing.{Sees}
 use Rattle.acd_schema.proofs.Looks.{bad_told, good_told}
-use Rattle.acd_statements.proofs.Seen.{sees_fail}
+use Rattle.acd_columns.proofs.Seen.{sees_fail}
 use Rattle.acd_schema.proofs.inspection.bad_row.Goals as goal
 
 pub returns-in_err-bad-clause-seen : goal.returns-in_err-bad-clause-seen

@@ -1,9 +1,9 @@
 use Rattle.std.proofs.Common.{◌≡◌, Err, [], true, false, refl, rules, subst, sym}
 use Rattle.sqlite.specs.Held.{state}
 use Rattle.acd_schema.specs.Inspecting.{IsBadOf}
-use Rattle.acd_statements.specs.Seeing.{Sees}
+use Rattle.acd_columns.specs.Seeing.{Sees}
 use Rattle.acd_schema.proofs.Looks.{Good, tables_next, tables_bad, tables_fail, tables_end}
-use Rattle.acd_statements.proofs.Seen.{sees_here}
+use Rattle.acd_columns.proofs.Seen.{sees_here}
 use Rattle.acd_schema.proofs.inspection.bad_table.Goals as goal
 
 pub loop-table-init : goal.loop-table-init

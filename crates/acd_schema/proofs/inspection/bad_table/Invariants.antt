@@ -1,8 +1,8 @@
 use Rattle.std.proofs.Common.{◌≡◌, false, take, Ok}
 use Rattle.sqlite.specs.Effect.{Database}
 use Rattle.sqlite.specs.Held.{state}
-use Rattle.acd_statements.specs.Schema.{book_schema}
-use Rattle.acd_statements.specs.Seeing.{Sees}
+use Rattle.acd_columns.specs.Schema.{book_schema}
+use Rattle.acd_columns.specs.Seeing.{Sees}
 use Rattle.acd_schema.proofs.Looks.{Good}
 use Rattle.acd_schema.proofs.inspection.bad_table.Given as goal
 

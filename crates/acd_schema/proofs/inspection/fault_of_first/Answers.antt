@@ -1,9 +1,9 @@
 use Rattle.std.proofs.Common.{◌≡◌, Err, refl, rules, subst, sym}
 use Rattle.sqlite.specs.Held.{state}
 use Rattle.acd_schema.specs.Inspecting.{IsFound}
-use Rattle.acd_statements.specs.Seeing.{Sees}
+use Rattle.acd_columns.specs.Seeing.{Sees}
 use Rattle.acd_schema.proofs.Looks.{version_fault_found, first_alone}
-use Rattle.acd_statements.proofs.Seen.{sees_fail}
+use Rattle.acd_columns.proofs.Seen.{sees_fail}
 use Rattle.acd_schema.proofs.inspection.fault_of_first.Goals as goal
 
 pub returns-in_err-wrong-clause-seen : goal.returns-in_err-wrong-clause-seen

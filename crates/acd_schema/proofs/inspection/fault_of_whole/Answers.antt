@@ -1,10 +1,10 @@
 use Rattle.std.proofs.Common.{◌≡◌, Err, rules, subst, sym}
 use Rattle.sqlite.specs.Held.{state}
 use Rattle.acd_schema.specs.Inspecting.{IsFound}
-use Rattle.acd_statements.specs.Seeing.{Sees}
+use Rattle.acd_columns.specs.Seeing.{Sees}
 use Rattle.acd_schema.proofs.Looks.{version_fault_found, rows_behind}
-use Rattle.acd_statements.proofs.Looked.{book_begins}
-use Rattle.acd_statements.proofs.Seen.{sees_fail}
+use Rattle.acd_columns.proofs.Looked.{book_begins}
+use Rattle.acd_columns.proofs.Seen.{sees_fail}
 use Rattle.acd_schema.proofs.inspection.fault_of_whole.Goals as goal
 
 pub returns-in_err-wrong-clause-seen : goal.returns-in_err-wrong-clause-seen

@@ -1,9 +1,9 @@
 use Rattle.std.proofs.Common.{◌≡◌, Err, [], rules, subst, sym, ◌∙◌}
 use Rattle.sqlite.specs.Held.{state}
-use Rattle.acd_statements.specs.AnyRows.{table_of_log, TellsGood}
-use Rattle.acd_statements.specs.Seeing.{Sees}
+use Rattle.acd_columns.specs.AnyRows.{table_of_log, TellsGood}
+use Rattle.acd_columns.specs.Seeing.{Sees}
 use Rattle.acd_schema.proofs.Looks.{nothing_in, something_in, log_low, log_pages}
-use Rattle.acd_statements.proofs.Seen.{sees_fail}
+use Rattle.acd_columns.proofs.Seen.{sees_fail}
 use Rattle.acd_schema.proofs.inspection.is_good_log.Goals as goal
 
 pub returns-in_err-low-clause-seen : goal.returns-in_err-low-clause-seen

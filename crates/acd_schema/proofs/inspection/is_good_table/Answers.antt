@@ -1,7 +1,7 @@
 use Rattle.std.proofs.Common.{sym, subst}
 use Rattle.sqlite.specs.Held.{state}
-use Rattle.acd_statements.specs.AnyRows.{TellsGood}
-use Rattle.acd_statements.specs.Seeing.{Sees}
+use Rattle.acd_columns.specs.AnyRows.{TellsGood}
+use Rattle.acd_columns.specs.Seeing.{Sees}
 use Rattle.acd_schema.proofs.inspection.is_good_table.Goals as goal
 
 pub returns-in-Meta-clause-seen : goal.returns-in-Meta-clause-seen

@@ -1,7 +1,7 @@
 use Rattle.std.proofs.Common.{◌≡◌, Err, rules, subst, sym}
 use Rattle.sqlite.specs.Held.{state}
 use Rattle.acd_schema.specs.Inspecting.{IsFound}
-use Rattle.acd_statements.specs.Seeing.{HasLooked}
+use Rattle.acd_columns.specs.Seeing.{HasLooked}
 use Rattle.acd_schema.proofs.Looks.{looked, looked_not, was_idle}
 use Rattle.acd_schema.proofs.inspection.look_over.Goals as goal
 

@@ -1,12 +1,12 @@
 use Rattle.sqlite.specs.Held.{state}
 use Rattle.acd_schema.specs.Inspecting.{IsPage}
 use Rattle.acd_schema.proofs.Looks.{page_told}
-use Rattle.acd_statements.proofs.Seen.{sees_fail}
+use Rattle.acd_columns.proofs.Seen.{sees_fail}
 use Rattle.acd_schema.proofs.inspection.page_behind.Goals as goal
 
 pub returns-in-Err-clause-seen : goal.returns-in-Err-clause-seen
-returns-in-Err-clause-seen g c d is = sees_fail d (state g.S.Store c.args.conn.now) (state g.S.Store c.rows.new.conn) c.in-Err.error _ (λ page. IsPage c.args.log c.args.number d.trees page) (c.in-Err.ensures.seen d is)
+returns-in-Err-clause-seen g c d is = sees_fail d (state g.S.Store c.args.conn.now) (state g.S.Store c.rows_above.new.conn) c.in-Err.error _ (λ page. IsPage c.args.log c.args.number d.trees page) (c.in-Err.ensures.seen d is)
 
 pub returns-in-Ok-clause-seen : goal.returns-in-Ok-clause-seen
 returns-in-Ok-clause-seen g c d is =
-    page_told d (state g.S.Store c.args.conn.now) (state g.S.Store c.rows.new.conn) c.args.log c.args.number c.in-Ok.rows c.page_of.result (rw c.deref.ensures.value at c.page_of.ensures.tells) (c.in-Ok.ensures.seen d is)
+    page_told d (state g.S.Store c.args.conn.now) (state g.S.Store c.rows_above.new.conn) c.args.log c.args.number c.in-Ok.rows c.page_of.result (rw c.deref.ensures.value at c.page_of.ensures.tells) (c.in-Ok.ensures.seen d is)

@@ -1,7 +1,7 @@
 use Rattle.sqlite.specs.Held.{state}
 use Rattle.acd_schema.specs.Inspecting.{IsVersionFound}
 use Rattle.acd_schema.proofs.Looks.{version_told}
-use Rattle.acd_statements.proofs.Seen.{sees_fail}
+use Rattle.acd_columns.proofs.Seen.{sees_fail}
 use Rattle.acd_schema.proofs.inspection.wrong_version.Goals as goal
 
 pub returns-in-Err-clause-seen : goal.returns-in-Err-clause-seen

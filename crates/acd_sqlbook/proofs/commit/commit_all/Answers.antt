@@ -3,8 +3,8 @@ use Rattle.sqlite.specs.State.{HasCleanDisk, KeepsCommit}
 use Rattle.sqlite.specs.Held.{state}
 use Rattle.acd_book.specs.Content.{Content}
 use Rattle.acd_sqlbook.specs.Commit.{made_by}
-use Rattle.acd_statements.specs.Draft.{Holds, Drafts, AddsStop}
-use Rattle.acd_statements.proofs.Endings.{not_committed, begins, made_whole, adds_stop}
+use Rattle.acd_columns.specs.Draft.{Holds, Drafts, AddsStop}
+use Rattle.acd_columns.proofs.Endings.{not_committed, begins, made_whole, adds_stop}
 use Rattle.acd_sqlbook.proofs.commit.commit_all.Goals as goal
 
 pub returns-clause-done : goal.returns-clause-done

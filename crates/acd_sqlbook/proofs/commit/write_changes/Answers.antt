@@ -1,7 +1,7 @@
 use Rattle.std.proofs.Common.{◌∙◌, arith}
 use Rattle.sqlite.specs.State.{HasCleanDisk}
 use Rattle.sqlite.specs.Held.{state}
-use Rattle.acd_statements.proofs.Endings.{works_on}
+use Rattle.acd_columns.proofs.Endings.{works_on}
 use Rattle.acd_sqlbook.proofs.Skipping.{next_filed, none_left}
 use Rattle.acd_sqlbook.proofs.commit.write_changes.Goals as goal
 

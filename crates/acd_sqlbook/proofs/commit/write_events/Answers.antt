@@ -2,8 +2,8 @@ use Rattle.std.proofs.Common.{sym, subst, ◌∙◌, arith}
 use Rattle.sqlite.specs.State.{HasCleanDisk}
 use Rattle.sqlite.specs.Held.{state}
 use Rattle.acd_sqlbook.specs.Commit.{with_events}
-use Rattle.acd_statements.specs.Draft.{Drafts}
-use Rattle.acd_statements.proofs.Endings.{works_on}
+use Rattle.acd_columns.specs.Draft.{Drafts}
+use Rattle.acd_columns.proofs.Endings.{works_on}
 use Rattle.acd_sqlbook.proofs.Filing.{events_next, all_taken}
 use Rattle.acd_sqlbook.proofs.commit.write_events.Goals as goal
 

@@ -3,7 +3,7 @@ use Rattle.sqlite.specs.State.{HasCleanDisk}
 use Rattle.sqlite.specs.Held.{state}
 use Rattle.acd_book.specs.Content.{Content}
 use Rattle.acd_sqlbook.specs.Commit.{with_events}
-use Rattle.acd_statements.specs.Draft.{Drafts, Works}
+use Rattle.acd_columns.specs.Draft.{Drafts, Works}
 use Rattle.acd_sqlbook.proofs.commit.write_events.Given as goal
 
 abbrev pub invariant-loop-event : goal.invariant-loop-event

@@ -1,5 +1,5 @@
 use Rattle.sqlite.specs.Held.{state}
-use Rattle.acd_statements.proofs.Looked.{version_plain, sees_version}
+use Rattle.acd_columns.proofs.Looked.{version_plain, sees_version}
 use Rattle.acd_statements.proofs.look.version_rows.Goals as goal
 
 pub returns-clause-seen : goal.returns-clause-seen

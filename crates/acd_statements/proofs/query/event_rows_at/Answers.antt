@@ -1,13 +1,13 @@
 use Rattle.std.proofs.Common.{[], ◌∷◌}
 use Rattle.sqlite.specs.Held.{state}
 use Rattle.acd_columns.specs.Values.{id_value}
-use Rattle.acd_statements.proofs.Listings.{finds}
-use Rattle.acd_statements.proofs.Asked.{events_at_plain, shows_events_at}
-use Rattle.acd_statements.proofs.QueryTexts.{read_events_at}
+use Rattle.acd_columns.proofs.Listings.{finds}
+use Rattle.acd_columns.proofs.Asked.{events_at_plain, shows_events_at}
+use Rattle.acd_columns.specs.declared.texts.TheConstants.{SELECT_EVENTS_AT_DEVICE}
 use Rattle.acd_statements.proofs.query.event_rows_at.Goals as goal
 
 pub returns-clause-found : goal.returns-clause-found
 returns-clause-found g c =
     let e = c.read.ensures in
-    finds read_events_at (id_value c.args.number ∷ id_value c.args.device ∷ id_value c.args.limit ∷ []) (state g.S.Store c.args.conn.now) (state g.S.Store c.read.new.conn) c.read.result events_at_plain _ e.up e.quiet e.stops (λ clean. rw (c.integer.ensures, c.device.ensures, c.integer-2.ensures) at (e.shown clean))
+    finds SELECT_EVENTS_AT_DEVICE.now (id_value c.args.number ∷ id_value c.args.device ∷ id_value c.args.limit ∷ []) (state g.S.Store c.args.conn.now) (state g.S.Store c.read.new.conn) c.read.result events_at_plain _ e.up e.quiet e.stops (λ clean. rw (c.integer.ensures, c.device.ensures, c.integer-2.ensures) at (e.shown clean))
     (shows_events_at c.args.device c.args.number c.args.limit _ _)

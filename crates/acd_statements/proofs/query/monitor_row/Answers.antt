@@ -1,13 +1,13 @@
 use Rattle.std.proofs.Common.{[], ◌∷◌}
 use Rattle.sqlite.specs.Held.{state}
 use Rattle.acd_columns.specs.Values.{id_value}
-use Rattle.acd_statements.proofs.Listings.{finds}
-use Rattle.acd_statements.proofs.Asked.{monitor_plain, shows_monitor}
-use Rattle.acd_statements.proofs.QueryTexts.{read_monitor}
+use Rattle.acd_columns.proofs.Listings.{finds}
+use Rattle.acd_columns.proofs.Asked.{monitor_plain, shows_monitor}
+use Rattle.acd_columns.specs.declared.texts.TheConstants.{SELECT_MONITOR}
 use Rattle.acd_statements.proofs.query.monitor_row.Goals as goal
 
 pub returns-clause-found : goal.returns-clause-found
 returns-clause-found g c =
     let e = c.read.ensures in
-    finds read_monitor (id_value c.args.monitor ∷ []) (state g.S.Store c.args.conn.now) (state g.S.Store c.read.new.conn) c.read.result monitor_plain _ e.up e.quiet e.stops (λ clean. rw (c.integer.ensures) at (e.shown clean))
+    finds SELECT_MONITOR.now (id_value c.args.monitor ∷ []) (state g.S.Store c.args.conn.now) (state g.S.Store c.read.new.conn) c.read.result monitor_plain _ e.up e.quiet e.stops (λ clean. rw (c.integer.ensures) at (e.shown clean))
     (shows_monitor c.args.monitor _ _)

@@ -1,7 +1,7 @@
 use Rattle.sqlite.specs.Held.{state}
-use Rattle.acd_statements.proofs.Selections.{meta_plain, reads_meta_if}
-use Rattle.acd_statements.proofs.Looked.{plain_of, sees_meta}
-use Rattle.acd_statements.proofs.Texts.{read_meta}
+use Rattle.acd_columns.proofs.Selections.{meta_plain, reads_meta_if}
+use Rattle.acd_columns.proofs.Looked.{plain_of, sees_meta}
+use Rattle.acd_columns.specs.declared.texts.TheConstants.{SELECT_META}
 use Rattle.acd_statements.proofs.read.meta_rows.Goals as goal
 
 pub returns-clause-quiet : goal.returns-clause-quiet
@@ -14,4 +14,4 @@ pub returns-clause-rows : goal.returns-clause-rows
 returns-clause-rows g c clean = reads_meta_if (state g.S.Store c.args.conn.now) (state g.S.Store c.read.new.conn) c.read.result (c.read.ensures.shown clean)
 
 pub returns-clause-seen : goal.returns-clause-seen
-returns-clause-seen g c d is = sees_meta d (state g.S.Store c.args.conn.now) (state g.S.Store c.read.new.conn) c.read.result is (c.read.ensures.seen d (plain_of read_meta d is meta_plain))
+returns-clause-seen g c d is = sees_meta d (state g.S.Store c.args.conn.now) (state g.S.Store c.read.new.conn) c.read.result is (c.read.ensures.seen d (plain_of SELECT_META.now d is meta_plain))

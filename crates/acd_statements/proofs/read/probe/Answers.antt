@@ -1,11 +1,11 @@
 use Rattle.std.proofs.Common.{◌≡◌, [], Err, rules, sym, subst}
 use Rattle.std.specs.Prelude.{⊤}
 use Rattle.sqlite.specs.State.{HasCleanDisk, IsUnchanged}
-use Rattle.acd_statements.specs.Seeing.{Sees}
+use Rattle.acd_columns.specs.Seeing.{Sees}
 use Rattle.sqlite.specs.Held.{state}
 use Rattle.sqlite.proofs.Callers.{never_commits}
-use Rattle.acd_statements.proofs.Queries.{probe_text, probe_plain, quiet_unchanged, quiet_failed, quiet_stops, row_same, row_fails}
-use Rattle.acd_statements.proofs.Seen.{sees_failed, sees_shown}
+use Rattle.acd_columns.proofs.Queries.{probe_text, probe_plain, quiet_unchanged, quiet_failed, quiet_stops, row_same, row_fails}
+use Rattle.acd_columns.proofs.Seen.{sees_failed, sees_shown}
 use Rattle.acd_statements.proofs.read.probe.Goals as goal
 
 pub returns-in_err-query_row-clause-quiet : goal.returns-in_err-query_row-clause-quiet

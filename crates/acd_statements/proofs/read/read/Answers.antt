@@ -1,8 +1,8 @@
 use Rattle.sqlite.specs.Held.{state}
 use Rattle.sqlite.specs.Values.{bound}
 use Rattle.sqlite.proofs.Callers.{never_commits}
-use Rattle.acd_statements.proofs.Queries.{quiet_query, quiet_stops, query_up, plain_at}
-use Rattle.acd_statements.proofs.Seen.{sees_query}
+use Rattle.acd_columns.proofs.Queries.{quiet_query, quiet_stops, query_up, plain_at}
+use Rattle.acd_columns.proofs.Seen.{sees_query}
 use Rattle.acd_statements.proofs.read.read.Goals as goal
 
 pub returns-clause-up : goal.returns-clause-up

@@ -1,7 +1,7 @@
 use Rattle.std.proofs.Common.{ap}
 use Rattle.sqlite.specs.Held.{state}
 use Rattle.sqlite.specs.Values.{bound}
-use Rattle.acd_statements.proofs.Statements.{counts_inside, works_inside}
+use Rattle.acd_columns.proofs.Statements.{counts_inside, works_inside}
 use Rattle.acd_statements.proofs.write.changed_rows.Goals as goal
 
 pub returns-clause-ran : goal.returns-clause-ran

@@ -1,14 +1,14 @@
 use Rattle.std.proofs.Common.{[], ◌∷◌}
 use Rattle.sqlite.specs.Held.{state}
 use Rattle.acd_columns.specs.Values.{id_value}
-use Rattle.acd_statements.proofs.Connections.{drops_connection}
-use Rattle.acd_statements.proofs.Texts.{drop_connection}
-use Rattle.acd_statements.proofs.Writes.{drafts}
+use Rattle.acd_columns.proofs.Connections.{drops_connection}
+use Rattle.acd_columns.specs.declared.texts.TheConstants.{DELETE_CONNECTION}
+use Rattle.acd_columns.proofs.Common.{drafts}
 use Rattle.acd_statements.proofs.write.drop_connection.Goals as goal
 
 pub returns-clause-put : goal.returns-clause-put
 returns-clause-put g c clean =
     let old = state g.S.Store c.args.tx.now.conn.now in
     let new = state g.S.Store c.write.new.tx.conn.now in
-    drafts drop_connection (id_value c.args.call ∷ id_value c.args.device ∷ []) _ old new c.write.result (λ x count. drops_connection c.args.call c.args.device x old new count)
+    drafts DELETE_CONNECTION.now (id_value c.args.call ∷ id_value c.args.device ∷ []) _ old new c.write.result (λ x count. drops_connection c.args.call c.args.device x old new count)
     (rw (c.integer.ensures, c.device.ensures) at (c.write.ensures.ran clean))

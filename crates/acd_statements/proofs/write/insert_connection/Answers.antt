@@ -1,8 +1,8 @@
 use Rattle.sqlite.specs.Held.{state}
 use Rattle.acd_columns.specs.Rows.{connection_values}
-use Rattle.acd_statements.proofs.Texts.{insert_connection}
-use Rattle.acd_statements.proofs.Connections.{inserts_connection}
-use Rattle.acd_statements.proofs.Writes.{drafts}
+use Rattle.acd_columns.specs.declared.texts.TheConstants.{INSERT_CONNECTION}
+use Rattle.acd_columns.proofs.Connections.{inserts_connection}
+use Rattle.acd_columns.proofs.Common.{drafts}
 use Rattle.acd_statements.proofs.write.insert_connection.Goals as goal
 
 pub returns-clause-put : goal.returns-clause-put
@@ -10,5 +10,5 @@ returns-clause-put g c clean =
     let old = state g.S.Store c.args.tx.now.conn.now in
     let new = state g.S.Store c.write.new.tx.conn.now in
     let connection = c.args.connection.now in
-    drafts insert_connection (connection_values connection) _ old new c.write.result (λ x count. inserts_connection connection x old new count)
+    drafts INSERT_CONNECTION.now (connection_values connection) _ old new c.write.result (λ x count. inserts_connection connection x old new count)
     (rw (c.integer.ensures, c.device.ensures, c.small.ensures, c.connection_code.ensures, c.device_or_null.ensures, c.integer_or_null.ensures, c.small_or_null.ensures, c.small_or_null-2.ensures) at (c.write.ensures.ran clean))

@@ -1,13 +1,16 @@
 use Rattle.sqlite.specs.Held.{state}
+use Rattle.acd_columns.specs.declared.texts.TheConstants.{INSERT_KEPT}
 use Rattle.acd_columns.specs.Rows.{kept_values}
-use Rattle.acd_statements.proofs.Texts.{insert_kept}
-use Rattle.acd_statements.proofs.Writes.{drafts, puts_kept}
+use Rattle.acd_columns.specs.Tables.{kept}
+use Rattle.acd_columns.proofs.Common.{drafts}
+use Rattle.acd_columns.proofs.Filed.{inserted_in}
+use Rattle.acd_columns.proofs.TablesFiled.{kept_filed}
 use Rattle.acd_statements.proofs.write.insert_kept.Goals as goal
 
 pub returns-clause-put : goal.returns-clause-put
 returns-clause-put g c clean =
     let old = state g.S.Store c.args.tx.now.conn.now in
     let new = state g.S.Store c.write.new.tx.conn.now in
-    let kept = c.args.kept.now in
-    drafts insert_kept (kept_values kept) _ old new c.write.result (λ x count. puts_kept kept c.reads_back.ensures x old new count)
+    let item = c.args.kept.now in
+    drafts INSERT_KEPT.now (kept_values item) _ old new c.write.result (λ x count. inserted_in kept kept_filed item c.reads_back.ensures x old new count)
     (rw (c.integer.ensures, c.text.ensures, c.as_bytes.ensures.value, c.small.ensures, c.number.ensures.value, c.small-2.ensures, c.text-2.ensures, c.as_bytes-2.ensures.value, c.small-3.ensures, c.from.ensures, c.text-3.ensures, c.as_bytes-3.ensures.value, c.as_str.ensures, c.requires.request) at (c.write.ensures.ran clean))

@@ -4,9 +4,9 @@ use Rattle.sqlite.specs.State.{HasCleanDisk}
 use Rattle.acd_terms.specs.Lists.{put_by}
 use Rattle.acd_model.specs.Scans.{at_connection}
 use Rattle.acd_book.specs.Content.{Content}
-use Rattle.acd_statements.specs.declared.tables.Table.TheVariants as table
-use Rattle.acd_statements.specs.Content.{with_part}
-use Rattle.acd_statements.proofs.Connections.{sets_connection, behind_none}
+use Rattle.acd_columns.specs.declared.tables.Table.TheVariants as table
+use Rattle.acd_columns.specs.Content.{with_part}
+use Rattle.acd_columns.proofs.Connections.{sets_connection, behind_none}
 use Rattle.acd_statements.proofs.write.put_connection.Goals as goal
 
 pub returns-then-changed-gt0-clause-put : goal.returns-then-changed-gt0-clause-put

@@ -1,6 +1,7 @@
 use Rattle.sqlite.specs.Held.{state}
-use Rattle.acd_statements.proofs.Texts.{set_meta}
-use Rattle.acd_statements.proofs.Writes.{drafts, set_values, sets_meta}
+use Rattle.acd_columns.specs.declared.texts.TheConstants.{UPDATE_META}
+use Rattle.acd_columns.proofs.Counters.{set_values, sets_meta}
+use Rattle.acd_columns.proofs.Common.{drafts}
 use Rattle.acd_statements.proofs.write.set_meta.Goals as goal
 
 pub returns-clause-put : goal.returns-clause-put
@@ -8,5 +9,5 @@ returns-clause-put g c clean =
     let old = state g.S.Store c.args.tx.now.conn.now in
     let new = state g.S.Store c.write.new.tx.conn.now in
     let meta = c.args.meta.now in
-    drafts set_meta (set_values meta) _ old new c.write.result (λ x count. sets_meta meta x old new count)
+    drafts UPDATE_META.now (set_values meta) _ old new c.write.result (λ x count. sets_meta meta x old new count)
     (rw (c.integer.ensures, c.integer-2.ensures, c.integer-3.ensures, c.integer-4.ensures, c.integer-5.ensures, c.integer-6.ensures, c.integer-7.ensures, c.small.ensures, c.integer-8.ensures, c.integer-9.ensures, c.integer-10.ensures) at (c.write.ensures.ran clean))

@@ -1,7 +1,7 @@
 use Rattle.std.proofs.Common.{ap}
 use Rattle.sqlite.specs.Held.{state}
 use Rattle.sqlite.specs.Values.{bound}
-use Rattle.acd_statements.proofs.Statements.{ran_inside, works_inside}
+use Rattle.acd_columns.proofs.Statements.{ran_inside, works_inside}
 use Rattle.acd_statements.proofs.write.write.Goals as goal
 
 pub returns-clause-ran : goal.returns-clause-ran

@@ -1,7 +1,7 @@
 use Rattle.std.proofs.Common.{Ok, subst, refl}
 use Rattle.sqlite.specs.Held.{state}
 use Rattle.acd_schema.specs.Inspecting.{IsFound}
-use Rattle.acd_statements.specs.Seeing.{HasLooked}
+use Rattle.acd_columns.specs.Seeing.{HasLooked}
 use Rattle.acd_sqlbook.proofs.Adopted.{adopted, files, back_found, back_failed, untouched}
 use Rattle.acd_sqlbook.proofs.book.SqlBook.adopt.Goals as goal
 

@@ -1,0 +1,330 @@
+-- What each query shows.
+use Rattle.std.proofs.Common.{◌≡◌, ℕ, ◌+◌, zero, suc, List, [], ◌∷◌, map, filter, take, find, nat_lt, ◌==◌, ◌&&◌, cond, Bool, true, false, Option, Some, None, refl, sym, ap, ap₂, ◌∙◌, arith}
+use Rattle.std.specs.Prelude.{negsuc, pos, bytes_eq, option_to_list}
+use Rattle.std.specs.Ordering.{is_eq, is_gt}
+use Rattle.std.proofs.lemmas.Bool.Decides.{nat_tests}
+use Rattle.std.proofs.lemmas.List.{take-map}
+use Rattle.std.proofs.lemmas.Map.Text.{is_eq-slice_cmp}
+use Rattle.sqlite_value.specs.declared.keys.Collation.TheVariants.{Binary}
+use Rattle.sqlite_value.specs.declared.keys.Key.{Key}
+use Rattle.sqlite_value.specs.declared.value.Value.TheVariants.{Int, Text}
+use Rattle.sqlite_value.specs.Keys.{ascending}
+use Rattle.sqlite_value.specs.Order.{Row, value_cmp}
+use Rattle.sqlite_value.proofs.OrderLemmas.{value_cmp-Text}
+use Rattle.sqlite_sql.specs.Ops.{binary, is_true, from_truth}
+use Rattle.sqlite_sql.specs.Term.{Term, lit, col, op2}
+use Rattle.sqlite_sql.specs.declared.ops.BinaryOp.TheVariants.{Compare}
+use Rattle.sqlite_sql.specs.declared.ops.CompareOp.TheVariants.{Eq, Gt}
+use Rattle.sqlite.specs.Listing.{understood}
+use Rattle.sqlite.specs.State.{State, Shown}
+use Rattle.sqlite.proofs.Callers.{IsPlain}
+use Rattle.sqlite_tied.specs.Compute.{everything}
+use Rattle.acd_terms.specs.declared.event.Event.{Event}
+use Rattle.acd_terms.specs.declared.record.GroupRecord.{GroupRecord}
+use Rattle.acd_terms.specs.declared.record.StationRecord.{StationRecord}
+use Rattle.acd_terms.specs.declared.record.AgentRecord.{AgentRecord}
+use Rattle.acd_terms.specs.declared.record.CallRecord.{CallRecord}
+use Rattle.acd_terms.specs.declared.record.MonitorRecord.{MonitorRecord}
+use Rattle.acd_terms.specs.Columns.{columns_of}
+use Rattle.acd_model.specs.Scans.{monitor_of, has}
+use Rattle.sqlite.specs.Values.{or_null}
+use Rattle.acd_laws.proofs.State.{monitor_find}
+use Rattle.acd_book.specs.Content.{Content, kept_of, is_key, is_told, events_behind}
+use Rattle.acd_book.specs.declared.kept.Kept.{Kept}
+use Rattle.acd_columns.specs.declared.tables.Table.TheVariants as table
+use Rattle.acd_columns.specs.Schema.{book_schema}
+use Rattle.acd_columns.specs.Schema as schema
+use Rattle.acd_columns.specs.Values.{id_value}
+use Rattle.acd_columns.specs.Rows.{group_values, group_row, station_values, station_row, agent_values, agent_row, call_values, call_row, monitor_values, monitor_row, event_values, event_row, kept_values, kept_row}
+use Rattle.acd_columns.specs.Draft.{Holds}
+use Rattle.acd_columns.specs.Finding.{kept_behind}
+use Rattle.acd_columns.proofs.KeyedRows.{id_cmp, id_tied}
+use Rattle.acd_columns.proofs.Listings.{Listing, Lists, listed, schema_is, stored}
+use Rattle.acd_columns.proofs.Puts.{truth_back}
+use Rattle.acd_columns.proofs.Scans.{filter_all}
+use Rattle.acd_columns.specs.declared.texts.TheConstants.{SELECT_AGENTS, SELECT_CALLS, SELECT_EVENTS_AFTER, SELECT_EVENTS_AT_DEVICE, SELECT_GROUPS, SELECT_KEPT_AFTER, SELECT_KEPT_OF_REQUEST, SELECT_MONITOR, SELECT_MONITORS, SELECT_STATIONS}
+
+-- so many columns of a row, from one on
+abbrev pub columns : ℕ → ℕ → List Term
+columns start zero = []
+columns start (suc more) = col 1 start ∷ columns (start + 1) more
+
+-- in the order of the numbers of the rows, all of them
+abbrev pub by_number : List (Term × Key)
+by_number = (col 1 0, ascending Binary) ∷ []
+
+abbrev pub no_limit : Term
+no_limit = lit (Int (negsuc 0))
+
+-- ---- groups
+
+unfoldable pub groups_listing : Listing SELECT_GROUPS.now
+unfolding understood everything
+groups_listing = record { tree = schema.groups.tree; terms = []; project = col 1 0 ∷ columns 2 8; order = by_number; limit = no_limit; names = _; command = refl; plain = (refl, refl); unlisted = refl }
+
+groups_lists : Lists SELECT_GROUPS.now groups_listing (λ (g : GroupRecord). g.device) group_row group_values [] (λ _. true)
+unfolding groups_listing
+groups_lists = record { keyed = λ g. refl; ranks = λ x y. refl; tests = λ g. refl; shows = λ g. refl }
+
+pub groups_plain : IsPlain (understood book_schema SELECT_GROUPS.now)
+groups_plain = groups_listing.plain
+
+pub shows_groups : (old new : State) (rows : List Row) (c : Content) → Holds old c → Shown SELECT_GROUPS.now [] old new rows → rows ≡ map group_values c.rows.groups
+unfolding groups_listing
+shows_groups old new rows c held h =
+    listed SELECT_GROUPS.now groups_listing _ group_row group_values [] (λ _. true) groups_lists old new rows c.rows.groups (schema_is old c held) (stored table.Groups old c held) h
+    ∙ ap (map group_values) (filter_all c.rows.groups)
+
+-- ---- stations
+
+unfoldable pub stations_listing : Listing SELECT_STATIONS.now
+unfolding understood everything
+stations_listing = record { tree = schema.stations.tree; terms = []; project = col 1 0 ∷ columns 2 0; order = by_number; limit = no_limit; names = _; command = refl; plain = (refl, refl); unlisted = refl }
+
+stations_lists : Lists SELECT_STATIONS.now stations_listing (λ (s : StationRecord). s.device) station_row station_values [] (λ _. true)
+unfolding stations_listing
+stations_lists = record { keyed = λ s. refl; ranks = λ x y. refl; tests = λ s. refl; shows = λ s. refl }
+
+pub stations_plain : IsPlain (understood book_schema SELECT_STATIONS.now)
+stations_plain = stations_listing.plain
+
+pub shows_stations : (old new : State) (rows : List Row) (c : Content) → Holds old c → Shown SELECT_STATIONS.now [] old new rows → rows ≡ map station_values c.rows.stations
+unfolding stations_listing
+shows_stations old new rows c held h =
+    listed SELECT_STATIONS.now stations_listing _ station_row station_values [] (λ _. true) stations_lists old new rows c.rows.stations (schema_is old c held) (stored table.Stations old c held) h
+    ∙ ap (map station_values) (filter_all c.rows.stations)
+
+-- ---- agents
+
+unfoldable pub agents_listing : Listing SELECT_AGENTS.now
+unfolding understood everything
+agents_listing = record { tree = schema.agents.tree; terms = []; project = col 1 0 ∷ columns 2 7; order = by_number; limit = no_limit; names = _; command = refl; plain = (refl, refl); unlisted = refl }
+
+agents_lists : Lists SELECT_AGENTS.now agents_listing (λ (a : AgentRecord). a.agent) agent_row agent_values [] (λ _. true)
+unfolding agents_listing
+agents_lists = record { keyed = λ a. refl; ranks = λ x y. refl; tests = λ a. refl; shows = λ a. refl }
+
+pub agents_plain : IsPlain (understood book_schema SELECT_AGENTS.now)
+agents_plain = agents_listing.plain
+
+pub shows_agents : (old new : State) (rows : List Row) (c : Content) → Holds old c → Shown SELECT_AGENTS.now [] old new rows → rows ≡ map agent_values c.rows.agents
+unfolding agents_listing
+shows_agents old new rows c held h =
+    listed SELECT_AGENTS.now agents_listing _ agent_row agent_values [] (λ _. true) agents_lists old new rows c.rows.agents (schema_is old c held) (stored table.Agents old c held) h
+    ∙ ap (map agent_values) (filter_all c.rows.agents)
+
+-- ---- calls
+
+unfoldable pub calls_listing : Listing SELECT_CALLS.now
+unfolding understood everything
+calls_listing = record { tree = schema.calls.tree; terms = []; project = col 1 0 ∷ columns 2 3; order = by_number; limit = no_limit; names = _; command = refl; plain = (refl, refl); unlisted = refl }
+
+calls_lists : Lists SELECT_CALLS.now calls_listing (λ (k : CallRecord). k.call) call_row call_values [] (λ _. true)
+unfolding calls_listing
+calls_lists = record { keyed = λ k. refl; ranks = λ x y. refl; tests = λ k. refl; shows = λ k. refl }
+
+pub calls_plain : IsPlain (understood book_schema SELECT_CALLS.now)
+calls_plain = calls_listing.plain
+
+pub shows_calls : (old new : State) (rows : List Row) (c : Content) → Holds old c → Shown SELECT_CALLS.now [] old new rows → rows ≡ map call_values c.rows.calls
+unfolding calls_listing
+shows_calls old new rows c held h =
+    listed SELECT_CALLS.now calls_listing _ call_row call_values [] (λ _. true) calls_lists old new rows c.rows.calls (schema_is old c held) (stored table.Calls old c held) h
+    ∙ ap (map call_values) (filter_all c.rows.calls)
+
+-- ---- monitors
+
+unfoldable pub monitors_listing : Listing SELECT_MONITORS.now
+unfolding understood everything
+monitors_listing = record { tree = schema.monitors.tree; terms = []; project = col 1 0 ∷ columns 2 2; order = by_number; limit = no_limit; names = _; command = refl; plain = (refl, refl); unlisted = refl }
+
+monitors_lists : Lists SELECT_MONITORS.now monitors_listing (λ (w : MonitorRecord). w.monitor) monitor_row monitor_values [] (λ _. true)
+unfolding monitors_listing
+monitors_lists = record { keyed = λ w. refl; ranks = λ x y. refl; tests = λ w. refl; shows = λ w. refl }
+
+pub monitors_plain : IsPlain (understood book_schema SELECT_MONITORS.now)
+monitors_plain = monitors_listing.plain
+
+pub shows_monitors : (old new : State) (rows : List Row) (c : Content) → Holds old c → Shown SELECT_MONITORS.now [] old new rows → rows ≡ map monitor_values c.rows.monitors
+unfolding monitors_listing
+shows_monitors old new rows c held h =
+    listed SELECT_MONITORS.now monitors_listing _ monitor_row monitor_values [] (λ _. true) monitors_lists old new rows c.rows.monitors (schema_is old c held) (stored table.Monitors old c held) h
+    ∙ ap (map monitor_values) (filter_all c.rows.monitors)
+
+-- ---- tests
+
+truth : (b : Bool) → is_true (from_truth (Some b)) ≡ b
+truth true = refl
+truth false = refl
+
+-- two tests, of which the second is asked for first
+both_tests : {a b : Bool} (p q : Bool) → p ≡ a → q ≡ b → (p && (q && true)) ≡ (b && a)
+both_tests true true e f = ap₂ ◌&&◌ f e
+both_tests true false e f = ap₂ ◌&&◌ f e
+both_tests false true e f = ap₂ ◌&&◌ f e
+both_tests false false e f = ap₂ ◌&&◌ f e
+
+-- ---- those above a number
+
+pub above : (n k : ℕ) → is_gt (value_cmp (id_value k) (id_value n)) ≡ nat_lt n k
+above n k = ap is_gt (id_cmp k n) ∙ greater n k
+  where
+    greater : (n k : ℕ) → is_gt (Rattle.std.specs.Ordering.nat_cmp k n) ≡ nat_lt n k
+    greater n k = grind (arith, nat_tests)
+
+abbrev pub above_parameter : List Term
+above_parameter = op2 (Compare Gt Binary) (col 1 0) (col 0 0) ∷ []
+
+unfoldable pub events_listing : Listing SELECT_EVENTS_AFTER.now
+unfolding understood everything
+events_listing = record { tree = schema.events.tree; terms = above_parameter; project = col 1 0 ∷ columns 2 9; order = by_number; limit = col 0 1; names = _; command = refl; plain = (refl, refl); unlisted = refl }
+
+events_lists : (number limit : ℕ) → Lists SELECT_EVENTS_AFTER.now events_listing (λ (e : Event). e.number) event_row event_values (id_value number ∷ id_value limit ∷ []) (λ e. nat_lt number e.number)
+unfolding events_listing binary
+events_lists number limit = record { keyed = λ e. refl; ranks = λ x y. refl; tests = λ e. truth_back _ ∙ above number e.number; shows = λ e. refl }
+
+pub events_plain : IsPlain (understood book_schema SELECT_EVENTS_AFTER.now)
+events_plain = events_listing.plain
+
+pub shows_events_after : (number limit : ℕ) (old new : State) (rows : List Row) (c : Content) → Holds old c → Shown SELECT_EVENTS_AFTER.now (id_value number ∷ id_value limit ∷ []) old new rows
+    → rows ≡ map event_values (events_behind c.events number limit)
+unfolding events_listing
+shows_events_after number limit old new rows c held h =
+    listed SELECT_EVENTS_AFTER.now events_listing _ event_row event_values (id_value number ∷ id_value limit ∷ []) (λ e. nat_lt number e.number) (events_lists number limit) old new rows c.events (schema_is old c held) (stored table.Events old c held) h
+    ∙ take-map event_values limit (filter (λ (e : Event). nat_lt number e.number) c.events)
+
+at_device : (o : Option ℕ) (device : ℕ) → is_true (binary (Compare Eq Binary) (or_null id_value o) (id_value device)) ≡ has o device
+unfolding binary
+at_device None device = refl
+at_device (Some d) device = truth (is_eq (value_cmp (id_value d) (id_value device))) ∙ id_tied d device
+
+events_at_listing : Listing SELECT_EVENTS_AT_DEVICE.now
+unfolding understood everything
+events_at_listing = record {
+  tree = schema.events.tree;
+  terms = op2 (Compare Gt Binary) (col 1 0) (col 0 0) ∷ op2 (Compare Eq Binary) (col 1 4) (col 0 1) ∷ [];
+  project = col 1 0 ∷ columns 2 9;
+  order = by_number;
+  limit = col 0 2;
+  names = _;
+  command = refl;
+  plain = (refl, refl);
+  unlisted = refl;
+}
+
+events_at_lists : (device number limit : ℕ)
+    → Lists SELECT_EVENTS_AT_DEVICE.now events_at_listing (λ (e : Event). e.number) event_row event_values (id_value number ∷ id_value device ∷ id_value limit ∷ []) (is_told (Some device) number)
+unfolding events_at_listing binary
+events_at_lists device number limit = record {
+  keyed = λ e. refl;
+  ranks = λ x y. refl;
+  tests = λ e. both_tests _ _ (truth _ ∙ above number e.number) (at_device (columns_of e.report).device device);
+  shows = λ e. refl;
+}
+
+pub events_at_plain : IsPlain (understood book_schema SELECT_EVENTS_AT_DEVICE.now)
+events_at_plain = events_at_listing.plain
+
+pub shows_events_at : (device number limit : ℕ) (old new : State) (rows : List Row) (c : Content) → Holds old c
+    → Shown SELECT_EVENTS_AT_DEVICE.now (id_value number ∷ id_value device ∷ id_value limit ∷ []) old new rows → rows ≡ map event_values (take limit (filter (is_told (Some device) number) c.events))
+unfolding events_at_listing
+shows_events_at device number limit old new rows c held h =
+    listed SELECT_EVENTS_AT_DEVICE.now events_at_listing _ event_row event_values (id_value number ∷ id_value device ∷ id_value limit ∷ []) (is_told (Some device) number) (events_at_lists device number limit) old new rows c.events (schema_is old c held)
+    (stored table.Events old c held) h
+    ∙ take-map event_values limit (filter (is_told (Some device) number) c.events)
+
+unfoldable pub kept_listing : Listing SELECT_KEPT_AFTER.now
+unfolding understood everything
+kept_listing = record { tree = schema.kept.tree; terms = above_parameter; project = col 1 0 ∷ columns 2 6; order = by_number; limit = col 0 1; names = _; command = refl; plain = (refl, refl); unlisted = refl }
+
+kept_lists : (stamp limit : ℕ) → Lists SELECT_KEPT_AFTER.now kept_listing (λ (k : Kept). k.stamp) kept_row kept_values (id_value stamp ∷ id_value limit ∷ []) (λ k. nat_lt stamp k.stamp)
+unfolding kept_listing binary
+kept_lists stamp limit = record { keyed = λ k. refl; ranks = λ x y. refl; tests = λ k. truth_back _ ∙ above stamp k.stamp; shows = λ k. refl }
+
+pub kept_plain : IsPlain (understood book_schema SELECT_KEPT_AFTER.now)
+kept_plain = kept_listing.plain
+
+pub shows_kept_after : (stamp limit : ℕ) (old new : State) (rows : List Row) (c : Content) → Holds old c → Shown SELECT_KEPT_AFTER.now (id_value stamp ∷ id_value limit ∷ []) old new rows
+    → rows ≡ map kept_values (kept_behind c.kept stamp limit)
+unfolding kept_listing
+shows_kept_after stamp limit old new rows c held h =
+    listed SELECT_KEPT_AFTER.now kept_listing _ kept_row kept_values (id_value stamp ∷ id_value limit ∷ []) (λ k. nat_lt stamp k.stamp) (kept_lists stamp limit) old new rows c.kept (schema_is old c held) (stored table.Kept old c held).0 h
+    ∙ take-map kept_values limit (filter (λ (k : Kept). nat_lt stamp k.stamp) c.kept)
+
+-- ---- the one at a key
+
+pub first_found : {X : Type 0} (p : X → Bool) (xs : List X) → take 1 (filter p xs) ≡ option_to_list (find p xs)
+first_found p [] = refl
+first_found p (x ∷ xs) = elim (p x) as (λ b. take 1 (cond b (x ∷ filter p xs) (filter p xs)) ≡ option_to_list (cond b (Some x) (find p xs))) [ true ↦ refl | false ↦ first_found p xs ]
+
+monitor_listing : Listing SELECT_MONITOR.now
+unfolding understood everything
+monitor_listing = record {
+  tree = schema.monitors.tree;
+  terms = op2 (Compare Eq Binary) (col 1 0) (col 0 0) ∷ [];
+  project = col 1 0 ∷ columns 2 2;
+  order = by_number;
+  limit = lit (Int (pos 1));
+  names = _;
+  command = refl;
+  plain = (refl, refl);
+  unlisted = refl;
+}
+
+monitor_lists : (n : ℕ) → Lists SELECT_MONITOR.now monitor_listing (λ (w : MonitorRecord). w.monitor) monitor_row monitor_values (id_value n ∷ []) (λ w. w.monitor == n)
+unfolding monitor_listing binary
+monitor_lists n = record { keyed = λ w. refl; ranks = λ x y. refl; tests = λ w. truth_back _ ∙ id_tied w.monitor n; shows = λ w. refl }
+
+pub monitor_plain : IsPlain (understood book_schema SELECT_MONITOR.now)
+monitor_plain = monitor_listing.plain
+
+pub shows_monitor : (n : ℕ) (old new : State) (rows : List Row) (c : Content) → Holds old c → Shown SELECT_MONITOR.now (id_value n ∷ []) old new rows → rows ≡ map monitor_values (option_to_list (monitor_of c.rows n))
+unfolding monitor_listing
+shows_monitor n old new rows c held h =
+    listed SELECT_MONITOR.now monitor_listing _ monitor_row monitor_values (id_value n ∷ []) (λ w. w.monitor == n) (monitor_lists n) old new rows c.rows.monitors (schema_is old c held) (stored table.Monitors old c held) h
+    ∙ take-map monitor_values 1 (filter (λ (w : MonitorRecord). w.monitor == n) c.rows.monitors)
+    ∙ ap (map monitor_values) (first_found (λ (w : MonitorRecord). w.monitor == n) c.rows.monitors ∙ ap option_to_list (sym (monitor_find c.rows n)))
+
+text_tied : (s t : List ℕ) → is_eq (value_cmp (Text s) (Text t)) ≡ bytes_eq s t
+text_tied s t = ap is_eq (value_cmp-Text s t) ∙ is_eq-slice_cmp s t
+
+two : (a b : Bool) → (is_true (from_truth (Some a)) && (is_true (from_truth (Some b)) && true)) ≡ (a && b)
+two true true = refl
+two true false = refl
+two false true = refl
+two false false = refl
+
+key_listing : Listing SELECT_KEPT_OF_REQUEST.now
+unfolding understood everything
+key_listing = record {
+  tree = schema.kept.tree;
+  terms = op2 (Compare Eq Binary) (col 1 2) (col 0 0) ∷ op2 (Compare Eq Binary) (col 1 3) (col 0 1) ∷ [];
+  project = col 1 0 ∷ columns 2 6;
+  order = by_number;
+  limit = lit (Int (pos 1));
+  names = _;
+  command = refl;
+  plain = (refl, refl);
+  unlisted = refl;
+}
+
+key_lists : (requester : List ℕ) (invoke : ℕ) → Lists SELECT_KEPT_OF_REQUEST.now key_listing (λ (k : Kept). k.stamp) kept_row kept_values (Text requester ∷ id_value invoke ∷ []) (λ k. is_key requester invoke k.request)
+unfolding key_listing binary
+key_lists requester invoke = record {
+  keyed = λ k. refl;
+  ranks = λ x y. refl;
+  tests = λ k. two _ _ ∙ ap₂ ◌&&◌ (text_tied k.request.requester requester) (id_tied k.request.invoke invoke);
+  shows = λ k. refl;
+}
+
+pub key_plain : IsPlain (understood book_schema SELECT_KEPT_OF_REQUEST.now)
+key_plain = key_listing.plain
+
+pub shows_kept_under : (requester : List ℕ) (invoke : ℕ) (old new : State) (rows : List Row) (c : Content) → Holds old c → Shown SELECT_KEPT_OF_REQUEST.now (Text requester ∷ id_value invoke ∷ []) old new rows
+    → rows ≡ map kept_values (option_to_list (kept_of c.kept requester invoke))
+unfolding key_listing
+shows_kept_under requester invoke old new rows c held h =
+    listed SELECT_KEPT_OF_REQUEST.now key_listing _ kept_row kept_values (Text requester ∷ id_value invoke ∷ []) (λ k. is_key requester invoke k.request) (key_lists requester invoke) old new rows c.kept (schema_is old c held)
+    (stored table.Kept old c held).0 h
+    ∙ take-map kept_values 1 (filter (λ (k : Kept). is_key requester invoke k.request) c.kept)
+    ∙ ap (map kept_values) (first_found (λ (k : Kept). is_key requester invoke k.request) c.kept)

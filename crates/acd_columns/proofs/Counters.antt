@@ -1,0 +1,120 @@
+-- The statements that put the limits and the counters.
+use Rattle.std.proofs.Common.{◌≡◌, ℕ, pos, List, [], ◌∷◌, not, cond, drop, map, Ok, Err, Result, OnOk, refl, ap, subst, ◌∙◌}
+use Rattle.sqlite_value.specs.declared.value.Value.TheVariants.{Null}
+use Rattle.sqlite_value.specs.declared.keys.Collation.TheVariants.{Binary}
+use Rattle.sqlite_value.specs.Order.{Row}
+use Rattle.std.specs.List.Sorted.{IsPermutation}
+use Rattle.sqlite_sql.specs.Term.{Term, lit, col, op2}
+use Rattle.sqlite_sql.specs.Ops.{binary}
+use Rattle.sqlite_sql.specs.declared.ops.BinaryOp.TheVariants.{Compare}
+use Rattle.sqlite_sql.specs.declared.ops.CompareOp.TheVariants.{Eq}
+use Rattle.sqlite_rules.specs.Edit.{edited, without_all}
+use Rattle.sqlite_trees.specs.Tree.{Trees, put_row}
+use Rattle.sqlite.specs.declared.error.Error.{Error}
+use Rattle.sqlite.specs.Listing.{understood}
+use Rattle.sqlite.specs.State.{State, Executes}
+use Rattle.sqlite.proofs.Callers.{one_permutation}
+use Rattle.sqlite_tied.specs.Compute.{everything}
+use Rattle.acd_columns.specs.declared.meta.Meta.{Meta}
+use Rattle.acd_book.specs.Content.{Content, empty_content}
+use Rattle.acd_columns.specs.declared.tables.Table.TheVariants as table
+use Rattle.acd_columns.specs.Schema.{book_schema}
+use Rattle.acd_columns.specs.Schema as schema
+use Rattle.acd_columns.specs.Values.{id_value}
+use Rattle.acd_columns.specs.Rows.{meta_values, meta_row}
+use Rattle.acd_columns.specs.Content.{with_part, meta_of, AreRows}
+use Rattle.acd_columns.specs.Making.{Builds}
+use Rattle.acd_columns.specs.Draft.{Drafts, Ran}
+use Rattle.acd_columns.specs.declared.texts.TheConstants.{INSERT_META, UPDATE_META}
+use Rattle.acd_columns.proofs.Frames.{drafted, only_meta}
+use Rattle.acd_columns.proofs.Scans.{showing, passing}
+use Rattle.acd_columns.proofs.KeyedRows.{id_tied}
+use Rattle.acd_columns.proofs.Common.{run, inert, cast_id, cast_null}
+use Rattle.acd_columns.proofs.Filed.{by_id}
+use Rattle.acd_columns.proofs.Puts.{Inserts, inserted_row}
+use Rattle.acd_columns.proofs.Statements.{Insertion, inert_works, replaces}
+use Rattle.acd_columns.proofs.Updates.{Updating, updating_edit, updated}
+
+meta_text : Insertion book_schema INSERT_META.now
+unfolding understood everything
+meta_text = record {
+  at = 0;
+  layout = schema.meta;
+  terms = col 0 0 ∷ lit Null ∷ run 1 12;
+  width = 14;
+  place = refl;
+  command = refl;
+  plain = (refl, refl);
+  inert = inert_works book_schema inert schema.meta.tree;
+}
+
+meta_put : Inserts book_schema INSERT_META.now (λ (m : Meta). 1) meta_row meta_values
+unfolding meta_text
+meta_put = record {
+  it = meta_text;
+  files = record {
+    headed = λ m. refl;
+    casts = λ m. rw (
+      cast_id 1,
+      cast_null,
+      cast_id m.limits.requests,
+      cast_id m.limits.calls,
+      cast_id m.limits.groups,
+      cast_id m.limits.stations,
+      cast_id m.limits.agents,
+      cast_id m.limits.monitors,
+      cast_id m.last_stamp,
+      cast_id m.last_moment,
+      cast_id m.last_call,
+      cast_id m.last_monitor,
+      cast_id m.last_event,
+    ) refl;
+  };
+  source = λ m. refl;
+}
+
+-- what an UPDATE binds: the limits and the counters, without the key and the version, which stay
+abbrev pub set_values : Meta → Row
+set_values m = drop 2 (meta_values m)
+
+abbrev own_row : List Term
+own_row = op2 (Compare Eq Binary) (col 1 0) (lit (id_value 1)) ∷ []
+
+abbrev reset : List Term
+reset = col 1 0 ∷ col 1 0 ∷ lit Null ∷ col 1 2 ∷ run 0 11
+
+meta_set : Updating book_schema UPDATE_META.now
+unfolding understood everything
+meta_set = record { at = 0; layout = schema.meta; terms = own_row; project = reset; place = refl; command = refl; plain = (refl, refl); inert = inert_works book_schema inert schema.meta.tree }
+
+-- the one row passes, and the row that it becomes takes its place
+one_set : (m was : Meta) (db : Trees) (rows : List Row) → db schema.meta.tree ≡ meta_row was ∷ []
+    → IsPermutation (map (showing (set_values m) reset) (passing (set_values m) own_row (db schema.meta.tree))) rows → edited db (updating_edit db schema.meta rows) ≡ meta_row m ∷ []
+unfolding binary meta_put meta_text
+one_set m was db rows is found =
+    let one = ap (passing (set_values m) own_row) is ∙ ap (λ b. cond b (meta_row was ∷ []) []) (by_id 1 1) in
+    let rows_are : rows ≡ (id_value 1 ∷ meta_row m) ∷ [] = one_permutation _ rows (subst (λ l. IsPermutation l rows) (ap (map (showing (set_values m) reset)) one) found) in
+    let left : without_all (db schema.meta.tree) (pos 1 ∷ []) ≡ [] = ap (λ l. without_all l (pos 1 ∷ [])) is ∙ ap (λ b. cond (not b) (meta_row was ∷ []) []) (id_tied 1 1) in
+    ap (λ l. edited db (updating_edit db schema.meta l)) rows_are
+    ∙ ap (λ k. put_row k (without_all (db schema.meta.tree) (pos 1 ∷ []))) (meta_put.files.casts m)
+    ∙ ap (put_row (meta_row m)) left
+
+pub sets_meta : (m : Meta) (c : Content) (old new : State) (count : ℕ) → Drafts old c → Executes UPDATE_META.now (set_values m) old new (Ok count) → Drafts new (with_part table.Meta m c)
+unfolding meta_set
+sets_meta m c old new count d ran =
+    let made = updated book_schema UPDATE_META.now meta_set (set_values m) old new count d.schema ran in
+    let rows_are = one_set m (meta_of c.rows) old.now.trees made.rows (d.encodes table.Meta) made.found in
+    drafted table.Meta m (meta_row m ∷ []) old new c refl (replaces book_schema old new (updating_edit old.now.trees schema.meta made.rows) (meta_row m ∷ []) made.changed rows_are) d
+
+-- ---- the first row of a new book
+
+pub starts_meta : (m : Meta) (old new : State) (count : ℕ) → Builds old book_schema → Executes INSERT_META.now (meta_values m) old new (Ok count) → Drafts new (with_part table.Meta m (empty_content m.limits))
+unfolding meta_put meta_text
+starts_meta m old new count b ran =
+    let none : AreRows (λ (m : Meta). 1) meta_row (old.now.trees schema.meta.tree) [] = record { rows_are = b.empty.0; ascending = tt } in
+    let made = (inserted_row book_schema INSERT_META.now (λ (m : Meta). 1) meta_row meta_values meta_put m [] old new count b.schema_is none ran).replaces in
+    record { inside = made.mode ∙ b.inside; schema = made.schema_is; encodes = only_meta m old.now.trees new.now.trees b.empty made.rows_are made.others }
+
+pub starts : (m : Meta) (old new : State) (r : Result (Unit {0}) Error) → OnOk r (Ran INSERT_META.now (meta_values m) old new) → OnOk r (Builds old book_schema → Drafts new (with_part table.Meta m (empty_content m.limits)))
+starts m old new (Err e) ran = tt
+starts m old new (Ok x) ran = λ (b : Builds old book_schema). starts_meta m old new ran.0 b ran.1

@@ -1,0 +1,160 @@
+-- Rows stand for the records that were written.
+use Rattle.std.proofs.Common.{◌≡◌, inl, inr, ℕ, List, [], ◌∷◌, map, drop, refl, sym, ap, subst, ◌∙◌}
+use Rattle.std.specs.declared.cmp.Ordering.TheVariants.{Less, Equal, Greater}
+use Rattle.std.specs.declared.cmp.Ordering.{Ordering}
+use Rattle.std.specs.Cmp.{IsTotalOrder}
+use Rattle.std.specs.Ordering.{ordering_reverse}
+use Rattle.sqlite_value.specs.Order.{Row}
+use Rattle.sqlite_trees.specs.Tree.{Trees}
+use Rattle.sqlite_rules.specs.Lists.{Has}
+use Rattle.acd_terms.specs.Lists.{Among, Every, IsAscending, put_by}
+use Rattle.acd_terms.specs.declared.event.Event.{Event}
+use Rattle.acd_terms.specs.declared.record.GroupRecord.{GroupRecord}
+use Rattle.acd_terms.specs.declared.record.StationRecord.{StationRecord}
+use Rattle.acd_terms.specs.declared.record.AgentRecord.{AgentRecord}
+use Rattle.acd_terms.specs.declared.record.CallRecord.{CallRecord}
+use Rattle.acd_terms.specs.declared.record.ConnectionRecord.{ConnectionRecord}
+use Rattle.acd_terms.specs.declared.record.MonitorRecord.{MonitorRecord}
+use Rattle.acd_model.specs.Rules.Plan.{connection_order}
+use Rattle.acd_book.specs.Content.{Content}
+use Rattle.acd_book.specs.declared.kept.Kept.{Kept}
+use Rattle.acd_laws.proofs.Lists.{after_among, among-put, among-put_other, ascending-put, among_put}
+use Rattle.acd_laws.proofs.State.{connections_total}
+use Rattle.acd_columns.specs.declared.tables.Table.TheVariants as table
+use Rattle.acd_columns.specs.declared.meta.Meta.{Meta}
+use Rattle.acd_columns.specs.Content.{AreRows, AreConnections, Encodes, tree_of, meta_of}
+use Rattle.acd_columns.specs.Rows.{IsReadable, group_row, station_row, agent_row, call_row, connection_row, monitor_row, event_row, kept_row}
+use Rattle.acd_columns.specs.Decoding.{as_group, as_station, as_agent, as_call, as_connection, as_monitor, as_event, as_kept}
+use Rattle.acd_columns.proofs.Records.{group_back, station_back, agent_back, call_back, connection_back, monitor_back, meta_back}
+use Rattle.acd_columns.proofs.Reported.{event_back, kept_back}
+use Rattle.acd_columns.specs.InTables.{unkeyed, records_in, in_order, connections_in, meta_stored, content_of}
+use Rattle.acd_tables.proofs.Picked.{ascending-same}
+
+-- ---- tables
+
+-- where each row is that of a record
+module _ {R : Type 0} (read : Row → R) (row : R → Row) where
+  each_back : ((r : R) → read (unkeyed (row r)) ≡ r) → (rs : List R) → records_in read (map row rs) ≡ rs
+  each_back back [] = refl
+  each_back back (r ∷ rs) = rw (back r) (ap (λ l. r ∷ l) (each_back back rs))
+
+  pub rows_back : (key : R → ℕ) (rows : List Row) (records : List R) → AreRows key row rows records → ((r : R) → read (unkeyed (row r)) ≡ r) → records_in read rows ≡ records
+  rows_back key rows records are back = ap (records_in read) are.rows_are ∙ each_back back records
+
+kept_each_back : (ks : List Kept) → Every IsReadable ks → records_in as_kept (map kept_row ks) ≡ ks
+kept_each_back [] h = refl
+kept_each_back (k ∷ ks) h = rw (kept_back k h.0) (ap (λ l. k ∷ l) (kept_each_back ks h.1))
+
+-- ---- connections
+
+-- of an ascending list, two that compare as equal are one
+one_of : {X : Type 0} (cmp : X → X → Ordering) (o : IsTotalOrder cmp) (xs : List X) (x y : X) → IsAscending cmp xs → Among x xs → Among y xs → cmp x y ≡ Equal → x ≡ y
+one_of cmp o [] x y up a b e = absurd a
+one_of cmp o (z ∷ zs) x y up (inl p) (inl q) e = p ∙ sym q
+one_of cmp o (z ∷ zs) x y up (inl p) (inr b) e = absurd (let low : cmp x y ≡ Less = subst (λ k. cmp k y ≡ Less) (sym p) (after_among cmp z zs y up.0 b) in cc (low, e))
+one_of cmp o (z ∷ zs) x y up (inr a) (inl q) e =
+    absurd (let low : cmp y x ≡ Less = subst (λ k. cmp k x ≡ Less) (sym q) (after_among cmp z zs x up.0 a) in let turned = o.antisymm x y ∙ ap ordering_reverse low in cc (turned, e))
+one_of cmp o (z ∷ zs) x y up (inr a) (inr b) e = one_of cmp o zs x y up.1 a b e
+
+pub ordered : (xs : List ConnectionRecord) → IsAscending connection_order (in_order xs)
+ordered [] = tt
+ordered (x ∷ xs) = ascending-put connection_order connections_total x (in_order xs) (ordered xs)
+
+pub from_order : (xs : List ConnectionRecord) (z : ConnectionRecord) → Among z (in_order xs) → Among z xs
+from_order [] z a = a
+from_order (x ∷ xs) z a = elim (among_put (connection_order x) x (in_order xs) z a) [ inl e ↦ inl e | inr b ↦ inr (from_order xs z b) ]
+
+-- none is lost where two that compare as equal are one
+pub to_order : (xs : List ConnectionRecord) → ((x y : ConnectionRecord) → Among x xs → Among y xs → connection_order x y ≡ Equal → x ≡ y) → (z : ConnectionRecord) → Among z xs → Among z (in_order xs)
+to_order [] one z a = a
+to_order (x ∷ xs) one z (inl e) = subst (λ k. Among k (put_by (connection_order x) (in_order xs) x)) (sym e) (among-put (connection_order x) x (in_order xs))
+to_order (x ∷ xs) one z (inr a) =
+    let behind = to_order xs (λ u v p q. one u v (inr p) (inr q)) z a in
+    (elim (connection_order x z) as (λ o. connection_order x z ≡ o → Among z (put_by (connection_order x) (in_order xs) x)) [
+      | Less ↦ λ e. among-put_other (connection_order x) x (in_order xs) z behind (λ q. cc (e, q))
+      | Equal ↦ λ e. subst (λ k. Among k (put_by (connection_order x) (in_order xs) x)) (one x z (inl refl) (inr a) e) (among-put (connection_order x) x (in_order xs))
+      | Greater ↦ λ e. among-put_other (connection_order x) x (in_order xs) z behind (λ q. cc (e, q))
+    ]) refl
+
+module _ {X Y : Type 0} (f : X → Y) where
+  to_map : (xs : List X) (x : X) → Has xs x → Among (f x) (map f xs)
+  to_map [] x h = absurd h
+  to_map (y ∷ ys) x (inl e) = inl (ap f e)
+  to_map (y ∷ ys) x (inr h) = inr (to_map ys x h)
+
+  from_map : (xs : List X) (z : Y) → Among z (map f xs) → (x : X) × Has xs x × (z ≡ f x)
+  from_map [] z a = absurd a
+  from_map (x ∷ xs) z (inl e) = (x, inl refl, e)
+  from_map (x ∷ xs) z (inr a) = let m = from_map xs z a in (m.0, inr m.1, m.2)
+
+abbrev of_row : Row → ConnectionRecord
+of_row row = as_connection (drop 1 row)
+
+module _ (rows : List Row) (records : List ConnectionRecord) (are : AreConnections rows records) where
+  into : (z : ConnectionRecord) → Among z (map of_row rows) → Among z records
+  into z a =
+      let at = from_map of_row rows z a in
+      let row = are.known at.0 at.1 in
+      subst (λ k. Among k records) (sym (at.2 ∙ ap of_row row.2 ∙ connection_back row.1)) row.3
+
+  out : (z : ConnectionRecord) → Among z records → Among z (map of_row rows)
+  out z a = let row = are.stored z a in subst (λ k. Among k (map of_row rows)) (connection_back z) (to_map of_row rows (connection_row row.0 z) row.1)
+
+  pub connections_back : connections_in rows ≡ records
+  connections_back = ascending-same connection_order connections_total (in_order (map of_row rows)) records (ordered (map of_row rows)) are.ascending
+      (λ z a. into z (from_order (map of_row rows) z a))
+      (λ z a. to_order (map of_row rows) (λ x y p q e. one_of connection_order connections_total records x y are.ascending (into x p) (into y q) e) z (out z a))
+
+-- ---- the whole
+
+abbrev pub with_all : Meta → List GroupRecord → List StationRecord → List AgentRecord → List CallRecord → List ConnectionRecord → List MonitorRecord → List Event → List Kept → Content
+with_all m groups stations agents calls connections monitors events kept = record {
+  rows = record {
+    limits = m.limits;
+    groups = groups;
+    stations = stations;
+    agents = agents;
+    calls = calls;
+    connections = connections;
+    monitors = monitors;
+    last_stamp = m.last_stamp;
+    last_moment = m.last_moment;
+    last_call = m.last_call;
+    last_monitor = m.last_monitor;
+    last_event = m.last_event;
+  };
+  events = events;
+  kept = kept;
+}
+
+-- what is stored is what the tables stand for
+pub decoded : (db : Trees) (c : Content) → Encodes db c → content_of db ≡ c
+unfolding content_of
+decoded db c is =
+    let groups = rows_back as_group group_row _ (db (tree_of table.Groups)) c.rows.groups (is table.Groups) group_back in
+    let stations = rows_back as_station station_row _ (db (tree_of table.Stations)) c.rows.stations (is table.Stations) station_back in
+    let agents = rows_back as_agent agent_row _ (db (tree_of table.Agents)) c.rows.agents (is table.Agents) agent_back in
+    let calls = rows_back as_call call_row _ (db (tree_of table.Calls)) c.rows.calls (is table.Calls) call_back in
+    let connections = connections_back (db (tree_of table.Connections)) c.rows.connections (is table.Connections) in
+    let monitors = rows_back as_monitor monitor_row _ (db (tree_of table.Monitors)) c.rows.monitors (is table.Monitors) monitor_back in
+    let events = rows_back as_event event_row _ (db (tree_of table.Events)) c.events (is table.Events) event_back in
+    let kept = ap (records_in as_kept) (is table.Kept).0.rows_are ∙ kept_each_back c.kept (is table.Kept).1 in
+    let m : meta_stored (db (tree_of table.Meta)) ≡ meta_of c.rows = ap meta_stored (is table.Meta) ∙ meta_back (meta_of c.rows) in
+    let g-0 = records_in as_group (db (tree_of table.Groups)) in
+    let s-0 = records_in as_station (db (tree_of table.Stations)) in
+    let a-0 = records_in as_agent (db (tree_of table.Agents)) in
+    let k-0 = records_in as_call (db (tree_of table.Calls)) in
+    let x-0 = connections_in (db (tree_of table.Connections)) in
+    let w-0 = records_in as_monitor (db (tree_of table.Monitors)) in
+    let e-0 = records_in as_event (db (tree_of table.Events)) in
+    let r-0 = records_in as_kept (db (tree_of table.Kept)) in
+    let n = meta_of c.rows in
+    ap (λ v. with_all v g-0 s-0 a-0 k-0 x-0 w-0 e-0 r-0) m
+    ∙ ap (λ v. with_all n v s-0 a-0 k-0 x-0 w-0 e-0 r-0) groups
+    ∙ ap (λ v. with_all n c.rows.groups v a-0 k-0 x-0 w-0 e-0 r-0) stations
+    ∙ ap (λ v. with_all n c.rows.groups c.rows.stations v k-0 x-0 w-0 e-0 r-0) agents
+    ∙ ap (λ v. with_all n c.rows.groups c.rows.stations c.rows.agents v x-0 w-0 e-0 r-0) calls
+    ∙ ap (λ v. with_all n c.rows.groups c.rows.stations c.rows.agents c.rows.calls v w-0 e-0 r-0) connections
+    ∙ ap (λ v. with_all n c.rows.groups c.rows.stations c.rows.agents c.rows.calls c.rows.connections v e-0 r-0) monitors
+    ∙ ap (λ v. with_all n c.rows.groups c.rows.stations c.rows.agents c.rows.calls c.rows.connections c.rows.monitors v r-0) events
+    ∙ ap (λ v. with_all n c.rows.groups c.rows.stations c.rows.agents c.rows.calls c.rows.connections c.rows.monitors c.events v) kept

@@ -1,0 +1,172 @@
+-- The tables are as they are described.
+use Rattle.std.proofs.Common.{List, [], ◌∷◌, refl}
+use Rattle.std.specs.Prelude.{⊤}
+use Rattle.sqlite.specs.Listing.{understood}
+use Rattle.sqlite_tied.specs.Compute.{everything}
+use Rattle.acd_terms.specs.Lists.{Every}
+use Rattle.acd_columns.specs.declared.tables.Table.TheVariants as table
+use Rattle.acd_columns.specs.declared.texts.TheConstants.{UPDATE_GROUP, SELECT_GROUPS, SELECT_STATIONS, UPDATE_AGENT, SELECT_AGENTS, UPDATE_CALL, DELETE_CALL, SELECT_CALLS, UPDATE_MONITOR, DELETE_MONITOR, SELECT_MONITORS, SELECT_EVENTS_AFTER, SELECT_KEPT_AFTER}
+use Rattle.acd_columns.specs.Rows.{group_fields, station_fields, agent_fields, call_fields, monitor_fields, event_fields, values_of_event}
+use Rattle.acd_columns.specs.Schema as schema
+use Rattle.acd_columns.specs.Tables.{groups, stations, agents, calls, monitors, events, kept}
+use Rattle.acd_columns.proofs.Common.{cast_id, cast_null}
+use Rattle.acd_columns.proofs.FieldLaws.{fields_cast}
+use Rattle.acd_columns.proofs.Filed.{Filed, Selects, Updates, Deletes, Pages}
+use Rattle.acd_columns.proofs.Frames.{framed}
+use Rattle.acd_columns.proofs.Records.{group_exact, station_exact, agent_exact, call_exact, monitor_exact}
+use Rattle.acd_columns.proofs.Reported.{event_exact, kept_exact}
+
+all_read : {R : Type 0} (rs : List R) → Every (λ _. ⊤) rs
+all_read [] = tt
+all_read (r ∷ rs) = (tt, all_read rs)
+
+pub groups_filed : Filed groups
+unfolding understood everything
+groups_filed = record {
+  computes = refl;
+  plain = (refl, refl);
+  of_record = λ g. refl;
+  of_row = λ row. refl;
+  casts = λ g. fields_cast schema.groups group_fields g.device g refl refl;
+  exact = λ row x y reads h e. group_exact row x y h e;
+  held = λ c db encodes. (encodes table.Groups, all_read _);
+  framed = λ rs rows old new c are reads. framed table.Groups rs rows old new c are;
+  unchanged = λ c. refl;
+}
+
+pub groups_updates : Updates groups UPDATE_GROUP.now
+unfolding understood everything
+groups_updates = record { updates = refl; plain = (refl, refl); changes = λ new r. refl }
+
+pub groups_selects : Selects groups SELECT_GROUPS.now
+unfolding understood everything
+groups_selects = record { names = _; selects = refl; plain = (refl, refl); unlisted = refl }
+
+pub stations_filed : Filed stations
+unfolding understood everything
+stations_filed = record {
+  computes = refl;
+  plain = (refl, refl);
+  of_record = λ s. refl;
+  of_row = λ row. refl;
+  casts = λ s. fields_cast schema.stations station_fields s.device s refl refl;
+  exact = λ row x y reads h e. station_exact row x y h e;
+  held = λ c db encodes. (encodes table.Stations, all_read _);
+  framed = λ rs rows old new c are reads. framed table.Stations rs rows old new c are;
+  unchanged = λ c. refl;
+}
+
+pub stations_selects : Selects stations SELECT_STATIONS.now
+unfolding understood everything
+stations_selects = record { names = _; selects = refl; plain = (refl, refl); unlisted = refl }
+
+pub agents_filed : Filed agents
+unfolding understood everything
+agents_filed = record {
+  computes = refl;
+  plain = (refl, refl);
+  of_record = λ a. refl;
+  of_row = λ row. refl;
+  casts = λ a. fields_cast schema.agents agent_fields a.agent a refl refl;
+  exact = λ row x y reads h e. agent_exact row x y h e;
+  held = λ c db encodes. (encodes table.Agents, all_read _);
+  framed = λ rs rows old new c are reads. framed table.Agents rs rows old new c are;
+  unchanged = λ c. refl;
+}
+
+pub agents_updates : Updates agents UPDATE_AGENT.now
+unfolding understood everything
+agents_updates = record { updates = refl; plain = (refl, refl); changes = λ new r. refl }
+
+pub agents_selects : Selects agents SELECT_AGENTS.now
+unfolding understood everything
+agents_selects = record { names = _; selects = refl; plain = (refl, refl); unlisted = refl }
+
+pub calls_filed : Filed calls
+unfolding understood everything
+calls_filed = record {
+  computes = refl;
+  plain = (refl, refl);
+  of_record = λ k. refl;
+  of_row = λ row. refl;
+  casts = λ k. fields_cast schema.calls call_fields k.call k refl refl;
+  exact = λ row x y reads h e. call_exact row x y h e;
+  held = λ c db encodes. (encodes table.Calls, all_read _);
+  framed = λ rs rows old new c are reads. framed table.Calls rs rows old new c are;
+  unchanged = λ c. refl;
+}
+
+pub calls_updates : Updates calls UPDATE_CALL.now
+unfolding understood everything
+calls_updates = record { updates = refl; plain = (refl, refl); changes = λ new r. refl }
+
+pub calls_deletes : Deletes calls DELETE_CALL.now
+unfolding understood everything
+calls_deletes = record { deletes = refl; plain = (refl, refl) }
+
+pub calls_selects : Selects calls SELECT_CALLS.now
+unfolding understood everything
+calls_selects = record { names = _; selects = refl; plain = (refl, refl); unlisted = refl }
+
+pub monitors_filed : Filed monitors
+unfolding understood everything
+monitors_filed = record {
+  computes = refl;
+  plain = (refl, refl);
+  of_record = λ w. refl;
+  of_row = λ row. refl;
+  casts = λ w. fields_cast schema.monitors monitor_fields w.monitor w refl refl;
+  exact = λ row x y reads h e. monitor_exact row x y h e;
+  held = λ c db encodes. (encodes table.Monitors, all_read _);
+  framed = λ rs rows old new c are reads. framed table.Monitors rs rows old new c are;
+  unchanged = λ c. refl;
+}
+
+pub monitors_updates : Updates monitors UPDATE_MONITOR.now
+unfolding understood everything
+monitors_updates = record { updates = refl; plain = (refl, refl); changes = λ new r. refl }
+
+pub monitors_deletes : Deletes monitors DELETE_MONITOR.now
+unfolding understood everything
+monitors_deletes = record { deletes = refl; plain = (refl, refl) }
+
+pub monitors_selects : Selects monitors SELECT_MONITORS.now
+unfolding understood everything
+monitors_selects = record { names = _; selects = refl; plain = (refl, refl); unlisted = refl }
+
+pub events_filed : Filed events
+unfolding understood everything
+events_filed = record {
+  computes = refl;
+  plain = (refl, refl);
+  of_record = λ e. refl;
+  of_row = λ row. refl;
+  casts = λ e. fields_cast schema.events event_fields e.number (values_of_event e) refl refl;
+  exact = λ row x y reads h e. event_exact row x y h e;
+  held = λ c db encodes. (encodes table.Events, all_read _);
+  framed = λ rs rows old new c are reads. framed table.Events rs rows old new c are;
+  unchanged = λ c. refl;
+}
+
+pub events_pages : Pages events SELECT_EVENTS_AFTER.now
+unfolding understood everything
+events_pages = record { names = _; pages = refl; plain = (refl, refl); unlisted = refl }
+
+-- its request is read of its text
+pub kept_filed : Filed kept
+unfolding understood everything
+kept_filed = record {
+  computes = refl;
+  plain = (refl, refl);
+  of_record = λ k. refl;
+  of_row = λ row. refl;
+  casts = λ k. rw (cast_id k.stamp, cast_null, cast_id k.request.invoke, cast_id k.moment, cast_id k.status) refl;
+  exact = kept_exact;
+  held = λ c db encodes. encodes table.Kept;
+  framed = λ rs rows old new c are reads. framed table.Kept rs rows old new c (are, reads);
+  unchanged = λ c. refl;
+}
+
+pub kept_pages : Pages kept SELECT_KEPT_AFTER.now
+unfolding understood everything
+kept_pages = record { names = _; pages = refl; plain = (refl, refl); unlisted = refl }

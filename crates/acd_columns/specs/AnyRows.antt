@@ -1,0 +1,138 @@
+-- Rows as they stand in a database, whatever they hold, and whether their values are in their ranges.
+use Rattle.std.specs.Prelude.{◌≡◌, ℕ, Bool, false, List, [], ◌∷◌, length, map, take, filter, nat_lt, codes, IsTrue}
+use Rattle.std.specs.List.{AllByRecursion, list_all, list_any}
+use Rattle.std.specs.Option.{is_some}
+use Rattle.std.specs.Str.{bytes_eq}
+use Rattle.sqlite_value.specs.Order.{Row, column}
+use Rattle.sqlite_trees.specs.Tree.{Trees, IsTable, rowid}
+use Rattle.sqlite_trees.specs.View.{is_int}
+use Rattle.sqlite_rules.specs.Lists.{Has}
+use Rattle.sqlite_schema.specs.declared.schema.Table.{Table as Made}
+use Rattle.sqlite_schema.specs.declared.schema.Schema.{Schema}
+use Rattle.acd_columns.specs.declared.tables.Table.{Table}
+use Rattle.acd_columns.specs.declared.tables.Table.TheVariants as table
+use Rattle.acd_columns.specs.declared.tables.Whole.{Whole as Small}
+use Rattle.acd_columns.specs.declared.tables.Whole.TheVariants as whole
+use Rattle.acd_columns.specs.declared.tables.Log.{Log}
+use Rattle.acd_columns.specs.declared.tables.Log.TheVariants as log
+use Rattle.acd_columns.specs.Content.{tree_of}
+use Rattle.acd_columns.specs.Values.{id_value}
+use Rattle.acd_columns.specs.Schema as schema
+use Rattle.acd_columns.specs.Ranges.{group_in, station_in, agent_in, call_in, connection_in, monitor_in, counters_in, event_in, kept_in}
+
+-- ---- ranges
+
+-- each value of the row is in its range
+abbrev pub is_good : Table → Row → Bool
+is_good table.Meta r = is_some (counters_in r)
+is_good table.Groups r = is_some (group_in r)
+is_good table.Stations r = is_some (station_in r)
+is_good table.Agents r = is_some (agent_in r)
+is_good table.Calls r = is_some (call_in r)
+is_good table.Connections r = is_some (connection_in r)
+is_good table.Monitors r = is_some (monitor_in r)
+is_good table.Events r = is_some (event_in r)
+is_good table.Kept r = is_some (kept_in r)
+
+unfoldable pub are_good : Table → List Row → Bool
+are_good t rows = list_all (is_good t) rows
+
+-- ---- rows as they stand in a database
+
+-- the values of a row that are looked at
+abbrev pub values_in : Table → Row → Row
+values_in table.Meta r =
+    column r 3 ∷ column r 4 ∷ column r 5 ∷ column r 6 ∷ column r 7 ∷ column r 8 ∷ column r 9 ∷ column r 10 ∷ column r 11 ∷ column r 12 ∷ column r 13 ∷ []
+values_in table.Groups r = column r 0 ∷ column r 2 ∷ column r 3 ∷ column r 4 ∷ column r 5 ∷ column r 6 ∷ column r 7 ∷ column r 8 ∷ column r 9 ∷ []
+values_in table.Stations r = column r 0 ∷ []
+values_in table.Agents r = column r 0 ∷ column r 2 ∷ column r 3 ∷ column r 4 ∷ column r 5 ∷ column r 6 ∷ column r 7 ∷ column r 8 ∷ []
+values_in table.Calls r = column r 0 ∷ column r 2 ∷ column r 3 ∷ column r 4 ∷ []
+values_in table.Connections r = column r 1 ∷ column r 2 ∷ column r 3 ∷ column r 4 ∷ column r 5 ∷ column r 6 ∷ column r 7 ∷ []
+values_in table.Monitors r = column r 0 ∷ column r 2 ∷ column r 3 ∷ []
+values_in table.Events r =
+    column r 0 ∷ column r 2 ∷ column r 3 ∷ column r 4 ∷ column r 5 ∷ column r 6 ∷ column r 7 ∷ column r 8 ∷ column r 9 ∷ column r 10 ∷ []
+values_in table.Kept r = column r 0 ∷ column r 2 ∷ column r 3 ∷ column r 4 ∷ column r 5 ∷ column r 6 ∷ column r 7 ∷ []
+
+-- of all rows of the table
+abbrev pub rows_in : Table → Trees → List Row
+rows_in t db = map (values_in t) (db (tree_of t))
+
+-- each of them is in its range
+unfoldable pub is_good_in : Table → Trees → Bool
+is_good_in t db = are_good t (rows_in t db)
+
+-- Each row has a value for each column. One from before a column was added may lack the last ones, where these may hold NULL.
+abbrev pub HaveAllColumns : Trees → Type 0
+HaveAllColumns db =
+    AllByRecursion (λ r. length r ≡ 2) (db (tree_of table.Stations))
+    × AllByRecursion (λ r. length r ≡ 8) (db (tree_of table.Connections))
+    × AllByRecursion (λ r. length r ≡ 11) (db (tree_of table.Events))
+
+-- as a store keeps the rows of its tables: they have integers as numbers, which rise
+pub record IsFiled (db : Trees) : Type 0 where
+  pub rising : (t : Table) → IsTable (db (tree_of t))
+  pub numbered : (t : Table) → AllByRecursion (λ r. IsTrue (is_int (rowid r))) (db (tree_of t))
+  pub whole : HaveAllColumns db
+
+-- a bad one is there; and where the rows are filed it is told whether there is one
+pub record TellsGood (t : Table) (db : Trees) (good : Bool) : Type 0 where
+  pub bad : good ≡ false → is_good_in t db ≡ false
+  pub filed : IsFiled db → good ≡ is_good_in t db
+
+-- ---- the tables that are read whole
+
+abbrev pub table_of : Small → Table
+table_of whole.Meta = table.Meta
+table_of whole.Groups = table.Groups
+table_of whole.Stations = table.Stations
+table_of whole.Agents = table.Agents
+table_of whole.Calls = table.Calls
+table_of whole.Connections = table.Connections
+table_of whole.Monitors = table.Monitors
+
+-- ---- the tables that are read in pages
+
+abbrev pub table_of_log : Log → Table
+table_of_log log.Events = table.Events
+table_of_log log.Kept = table.Kept
+
+-- a row whose number is no less than 0
+pub record Numbered : Type 0 where
+  pub key : ℕ
+  pub row : Row
+  pub is : rowid row ≡ id_value key
+
+-- these are the rows of the log, in order
+pub record AreNumbered (l : Log) (db : Trees) (xs : List Numbered) : Type 0 where
+  pub rising : IsTable (db (tree_of (table_of_log l)))
+  pub rows : db (tree_of (table_of_log l)) ≡ map (λ (x : Numbered). x.row) xs
+
+abbrev pub values_behind : Log → ℕ → List Numbered → List Row
+values_behind l n xs = map (λ (x : Numbered). values_in (table_of_log l) x.row) (filter (λ (x : Numbered). nat_lt n x.key) xs)
+
+-- its number is one from 1 on
+abbrev pub FromOne : Row → Type 0
+FromOne r = (n : ℕ) × (rowid r ≡ id_value n) × (nat_lt n 1 ≡ false)
+
+-- whether a number is below 1
+pub record TellsLow (l : Log) (db : Trees) (low : List Row) : Type 0 where
+  pub none : low ≡ [] → AllByRecursion (λ r. IsTrue (is_int (rowid r)) → FromOne r) (db (tree_of (table_of_log l)))
+  pub some : (low ≡ [] → ⊥) → is_good_in (table_of_log l) db ≡ false
+
+-- the first rows above a number
+pub record IsPageRows (l : Log) (n limit : ℕ) (db : Trees) (rows : List Row) : Type 0 where
+  pub known : AllByRecursion (λ r. Has (rows_in (table_of_log l) db) r) rows
+  pub paged : (xs : List Numbered) → AreNumbered l db xs → rows ≡ take limit (values_behind l n xs)
+
+-- ---- the first table
+
+unfoldable pub has_meta : List Made → Bool
+has_meta tables = list_any (λ t. bytes_eq t.name (codes "meta")) tables
+
+-- its first table is `meta` as a book has it
+abbrev pub BeginsAsBook : Schema → Type 0
+BeginsAsBook s = (rest : List Made) × (s.tables ≡ schema.table_of schema.meta ∷ rest)
+
+abbrev pub AreSameFirst : List Made → List Made → Type 0
+AreSameFirst (x ∷ xs) (y ∷ ys) = x ≡ y
+AreSameFirst _ _ = ⊥

@@ -1,0 +1,32 @@
+-- What a table of records is, whose key is the number of a row.
+use Rattle.std.specs.Prelude.{ℕ, List, Option}
+use Rattle.sqlite_value.specs.Order.{Row}
+use Rattle.acd_book.specs.Content.{Content}
+use Rattle.acd_columns.specs.Rows.{keyed_row}
+use Rattle.acd_columns.specs.declared.tables.Table.{Table}
+use Rattle.acd_columns.specs.Schema.{Layout}
+
+pub record Description (R : Type 0) : Type 1 where
+  pub table : Table
+  -- its place among the tables
+  pub place : ℕ
+  pub layout : Layout
+  pub key : R → ℕ
+  -- the columns behind the key
+  pub behind : ℕ
+  -- the values of the columns, and the record of such values where each is in its range
+  pub values : R → Row
+  pub in_row : Row → Option R
+  -- what a content has of it
+  pub records : Content → List R
+  pub with_records : List R → Content → Content
+  -- the columns can hold the record
+  pub Fits : R → Type 0
+  -- the record can be read of its row
+  pub IsRead : R → Type 0
+  -- the text of the statement that puts a record which has no row
+  pub insert : List ℕ
+
+-- the row as it stands: the column that is the number of the row is NULL
+abbrev pub row_of : {R : Type 0} → Description R → R → Row
+row_of d r = keyed_row (d.values r)

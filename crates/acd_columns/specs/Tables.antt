@@ -1,0 +1,131 @@
+-- The tables whose key is the number of a row.
+use Rattle.std.specs.Prelude.{⊤, IfSome}
+use Rattle.acd_terms.specs.declared.record.GroupRecord.{GroupRecord}
+use Rattle.acd_terms.specs.declared.record.StationRecord.{StationRecord}
+use Rattle.acd_terms.specs.declared.record.AgentRecord.{AgentRecord}
+use Rattle.acd_terms.specs.declared.record.CallRecord.{CallRecord}
+use Rattle.acd_terms.specs.declared.record.MonitorRecord.{MonitorRecord}
+use Rattle.acd_terms.specs.declared.event.Event.{Event}
+use Rattle.acd_terms.specs.Columns.{columns_of}
+use Rattle.acd_book.specs.declared.kept.Kept.{Kept}
+use Rattle.acd_columns.specs.Content.{with_part}
+use Rattle.acd_columns.specs.declared.tables.Table.TheVariants as table
+use Rattle.acd_columns.specs.declared.texts.TheConstants.{INSERT_GROUP, INSERT_STATION, INSERT_AGENT, INSERT_CALL, INSERT_MONITOR, INSERT_EVENT, INSERT_KEPT}
+use Rattle.acd_columns.specs.Descriptions.{Description}
+use Rattle.acd_columns.specs.Draft.{Fits, FiguresFit}
+use Rattle.acd_columns.specs.Ranges.{group_in, station_in, agent_in, call_in, monitor_in, event_in, kept_in}
+use Rattle.acd_columns.specs.Rows.{group_values, station_values, agent_values, call_values, monitor_values, event_values, kept_values, IsReadable}
+use Rattle.acd_columns.specs.Schema as schema
+
+abbrev pub groups : Description GroupRecord
+groups = record {
+  table = table.Groups;
+  place = 1;
+  layout = schema.groups;
+  key = λ g. g.device;
+  behind = 8;
+  values = group_values;
+  in_row = group_in;
+  records = λ c. c.rows.groups;
+  with_records = with_part table.Groups;
+  Fits = λ g. FiguresFit g.figures;
+  IsRead = λ _. ⊤;
+  insert = INSERT_GROUP.now;
+}
+
+abbrev pub stations : Description StationRecord
+stations = record {
+  table = table.Stations;
+  place = 2;
+  layout = schema.stations;
+  key = λ s. s.device;
+  behind = 0;
+  values = station_values;
+  in_row = station_in;
+  records = λ c. c.rows.stations;
+  with_records = with_part table.Stations;
+  Fits = λ _. ⊤;
+  IsRead = λ _. ⊤;
+  insert = INSERT_STATION.now;
+}
+
+abbrev pub agents : Description AgentRecord
+agents = record {
+  table = table.Agents;
+  place = 3;
+  layout = schema.agents;
+  key = λ a. a.agent;
+  behind = 7;
+  values = agent_values;
+  in_row = agent_in;
+  records = λ c. c.rows.agents;
+  with_records = with_part table.Agents;
+  Fits = λ a. Fits a.stamp;
+  IsRead = λ _. ⊤;
+  insert = INSERT_AGENT.now;
+}
+
+abbrev pub calls : Description CallRecord
+calls = record {
+  table = table.Calls;
+  place = 4;
+  layout = schema.calls;
+  key = λ k. k.call;
+  behind = 3;
+  values = call_values;
+  in_row = call_in;
+  records = λ c. c.rows.calls;
+  with_records = with_part table.Calls;
+  Fits = λ k. Fits k.call;
+  IsRead = λ _. ⊤;
+  insert = INSERT_CALL.now;
+}
+
+abbrev pub monitors : Description MonitorRecord
+monitors = record {
+  table = table.Monitors;
+  place = 6;
+  layout = schema.monitors;
+  key = λ w. w.monitor;
+  behind = 2;
+  values = monitor_values;
+  in_row = monitor_in;
+  records = λ c. c.rows.monitors;
+  with_records = with_part table.Monitors;
+  Fits = λ w. Fits w.monitor × Fits w.after_event;
+  IsRead = λ _. ⊤;
+  insert = INSERT_MONITOR.now;
+}
+
+abbrev pub events : Description Event
+events = record {
+  table = table.Events;
+  place = 7;
+  layout = schema.events;
+  key = λ e. e.number;
+  behind = 9;
+  values = event_values;
+  in_row = event_in;
+  records = λ c. c.events;
+  with_records = with_part table.Events;
+  Fits = λ e. Fits e.number × IfSome (columns_of e.report).call Fits;
+  IsRead = λ _. ⊤;
+  insert = INSERT_EVENT.now;
+}
+
+-- the request is read of its text
+abbrev pub kept : Description Kept
+kept = record {
+  table = table.Kept;
+  place = 8;
+  layout = schema.kept;
+  key = λ k. k.stamp;
+  behind = 6;
+  values = kept_values;
+  in_row = kept_in;
+  records = λ c. c.kept;
+  with_records = with_part table.Kept;
+  Fits = λ k. Fits k.stamp;
+  IsRead = IsReadable;
+  insert = INSERT_KEPT.now;
+}

@@ -1,0 +1,34 @@
+//! The tables of the book.
+
+/// A table of the book.
+#[derive(Clone, Copy, Debug, PartialEq, Eq)]
+pub enum Table {
+    Meta,
+    Groups,
+    Stations,
+    Agents,
+    Calls,
+    Connections,
+    Monitors,
+    Events,
+    Kept,
+}
+
+/// A table that is read whole.
+#[derive(Clone, Copy)]
+pub enum Whole {
+    Meta,
+    Groups,
+    Stations,
+    Agents,
+    Calls,
+    Connections,
+    Monitors,
+}
+
+/// A table that grows with the history, and is read in pages.
+#[derive(Clone, Copy)]
+pub enum Log {
+    Events,
+    Kept,
+}

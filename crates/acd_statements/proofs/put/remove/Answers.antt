@@ -1,0 +1,13 @@
+use Rattle.std.proofs.Common.{[], ◌∷◌}
+use Rattle.sqlite.specs.Held.{state}
+use Rattle.acd_columns.specs.Values.{id_value}
+use Rattle.acd_columns.proofs.Common.{drafts}
+use Rattle.acd_columns.proofs.Filed.{removed_in}
+use Rattle.acd_statements.proofs.put.remove.Goals as goal
+
+pub returns-clause-put : goal.returns-clause-put
+returns-clause-put g c clean =
+    let old = state g.S.Store c.args.tx.now.conn.now in
+    let new = state g.S.Store c.write.new.tx.conn.now in
+    drafts g.R.Removed.delete (id_value c.args.key ∷ []) _ old new c.write.result (λ x count. removed_in g.R.Described.descr g.R.Described.filed g.R.Removed.delete g.met.R.Removed.deletes c.args.key x old new count)
+    (rw (c.integer.ensures, c.delete_text.ensures) at (c.write.ensures.ran clean))

@@ -1,0 +1,287 @@
+//! The records that the tables hold, each with its texts and the values that its statements take.
+
+use crate::bind;
+use crate::stored::{Changed, Described, Removed, Stored};
+use crate::write::changed_rows;
+use acd_columns::codes::{agent_code, kind_code};
+use acd_columns::texts::{
+    DELETE_CALL, DELETE_MONITOR, INSERT_AGENT, INSERT_CALL, INSERT_EVENT, INSERT_GROUP,
+    INSERT_MONITOR, INSERT_STATION, UPDATE_AGENT, UPDATE_CALL, UPDATE_GROUP, UPDATE_MONITOR,
+};
+use acd_terms::{AgentRecord, CallRecord, Event, GroupRecord, MonitorRecord, StationRecord};
+use sqlite::{Alter, Error, Transaction};
+
+// ---- groups
+
+impl Described for GroupRecord {
+    ghost use Rattle.acd_columns.specs.Tables.{groups};
+
+    ghost descr = { groups };
+
+    ghost use Rattle.acd_columns.proofs.TablesFiled.{groups_filed};
+
+    ghost filed = { groups_filed };
+}
+
+impl Stored for GroupRecord {
+    fn insert_text() -> &'static str {
+        INSERT_GROUP
+    }
+
+    fn run<S: Alter>(&self, tx: &mut Transaction<'_, S>, sql: &str) -> Result<usize, Error> {
+        let figures = &self.figures;
+        let values = [
+            bind::device(self.device),
+            bind::name(&self.name),
+            bind::seconds(self.ring),
+            bind::seconds(self.wrap),
+            bind::integer(figures.entered),
+            bind::integer(figures.answered),
+            bind::integer(figures.abandoned),
+            bind::integer(figures.moved),
+            bind::integer(figures.waited),
+        ];
+        changed_rows(tx, sql, &values)
+    }
+
+    ghost reads = { λ r. tt };
+}
+
+impl Changed for GroupRecord {
+    ghost use Rattle.acd_columns.specs.declared.texts.TheConstants.{UPDATE_GROUP};
+
+    ghost update = { UPDATE_GROUP.now };
+
+    ghost use Rattle.acd_columns.proofs.TablesFiled.{groups_updates};
+
+    ghost updates = { groups_updates };
+
+    fn update_text() -> &'static str {
+        UPDATE_GROUP
+    }
+}
+
+// ---- stations
+
+impl Described for StationRecord {
+    ghost use Rattle.acd_columns.specs.Tables.{stations};
+
+    ghost descr = { stations };
+
+    ghost use Rattle.acd_columns.proofs.TablesFiled.{stations_filed};
+
+    ghost filed = { stations_filed };
+}
+
+impl Stored for StationRecord {
+    fn insert_text() -> &'static str {
+        INSERT_STATION
+    }
+
+    fn run<S: Alter>(&self, tx: &mut Transaction<'_, S>, sql: &str) -> Result<usize, Error> {
+        let values = [bind::device(self.device)];
+        changed_rows(tx, sql, &values)
+    }
+
+    ghost reads = { λ r. tt };
+}
+
+// ---- agents
+
+impl Described for AgentRecord {
+    ghost use Rattle.acd_columns.specs.Tables.{agents};
+
+    ghost descr = { agents };
+
+    ghost use Rattle.acd_columns.proofs.TablesFiled.{agents_filed};
+
+    ghost filed = { agents_filed };
+}
+
+impl Stored for AgentRecord {
+    fn insert_text() -> &'static str {
+        INSERT_AGENT
+    }
+
+    fn run<S: Alter>(&self, tx: &mut Transaction<'_, S>, sql: &str) -> Result<usize, Error> {
+        let values = [
+            bind::agent(self.agent),
+            bind::name(&self.name),
+            bind::small(agent_code(self.state)),
+            bind::pending_or_null(self.pending),
+            bind::device_or_null(self.station),
+            bind::device_or_null(self.group),
+            bind::integer(self.stamp),
+            bind::small(self.since),
+        ];
+        changed_rows(tx, sql, &values)
+    }
+
+    ghost reads = { λ r. tt };
+}
+
+impl Changed for AgentRecord {
+    ghost use Rattle.acd_columns.specs.declared.texts.TheConstants.{UPDATE_AGENT};
+
+    ghost update = { UPDATE_AGENT.now };
+
+    ghost use Rattle.acd_columns.proofs.TablesFiled.{agents_updates};
+
+    ghost updates = { agents_updates };
+
+    fn update_text() -> &'static str {
+        UPDATE_AGENT
+    }
+}
+
+// ---- calls
+
+impl Described for CallRecord {
+    ghost use Rattle.acd_columns.specs.Tables.{calls};
+
+    ghost descr = { calls };
+
+    ghost use Rattle.acd_columns.proofs.TablesFiled.{calls_filed};
+
+    ghost filed = { calls_filed };
+}
+
+impl Stored for CallRecord {
+    fn insert_text() -> &'static str {
+        INSERT_CALL
+    }
+
+    fn run<S: Alter>(&self, tx: &mut Transaction<'_, S>, sql: &str) -> Result<usize, Error> {
+        let values = [
+            bind::integer(self.call),
+            bind::device(self.caller),
+            bind::device(self.called),
+            bind::small(self.since),
+        ];
+        changed_rows(tx, sql, &values)
+    }
+
+    ghost reads = { λ r. tt };
+}
+
+impl Changed for CallRecord {
+    ghost use Rattle.acd_columns.specs.declared.texts.TheConstants.{UPDATE_CALL};
+
+    ghost update = { UPDATE_CALL.now };
+
+    ghost use Rattle.acd_columns.proofs.TablesFiled.{calls_updates};
+
+    ghost updates = { calls_updates };
+
+    fn update_text() -> &'static str {
+        UPDATE_CALL
+    }
+}
+
+impl Removed for CallRecord {
+    ghost use Rattle.acd_columns.specs.declared.texts.TheConstants.{DELETE_CALL};
+
+    ghost delete = { DELETE_CALL.now };
+
+    ghost use Rattle.acd_columns.proofs.TablesFiled.{calls_deletes};
+
+    ghost deletes = { calls_deletes };
+
+    fn delete_text() -> &'static str {
+        DELETE_CALL
+    }
+}
+
+// ---- monitors
+
+impl Described for MonitorRecord {
+    ghost use Rattle.acd_columns.specs.Tables.{monitors};
+
+    ghost descr = { monitors };
+
+    ghost use Rattle.acd_columns.proofs.TablesFiled.{monitors_filed};
+
+    ghost filed = { monitors_filed };
+}
+
+impl Stored for MonitorRecord {
+    fn insert_text() -> &'static str {
+        INSERT_MONITOR
+    }
+
+    fn run<S: Alter>(&self, tx: &mut Transaction<'_, S>, sql: &str) -> Result<usize, Error> {
+        let values = [
+            bind::integer(self.monitor),
+            bind::device(self.device),
+            bind::integer(self.after_event),
+        ];
+        changed_rows(tx, sql, &values)
+    }
+
+    ghost reads = { λ r. tt };
+}
+
+impl Changed for MonitorRecord {
+    ghost use Rattle.acd_columns.specs.declared.texts.TheConstants.{UPDATE_MONITOR};
+
+    ghost update = { UPDATE_MONITOR.now };
+
+    ghost use Rattle.acd_columns.proofs.TablesFiled.{monitors_updates};
+
+    ghost updates = { monitors_updates };
+
+    fn update_text() -> &'static str {
+        UPDATE_MONITOR
+    }
+}
+
+impl Removed for MonitorRecord {
+    ghost use Rattle.acd_columns.specs.declared.texts.TheConstants.{DELETE_MONITOR};
+
+    ghost delete = { DELETE_MONITOR.now };
+
+    ghost use Rattle.acd_columns.proofs.TablesFiled.{monitors_deletes};
+
+    ghost deletes = { monitors_deletes };
+
+    fn delete_text() -> &'static str {
+        DELETE_MONITOR
+    }
+}
+
+// ---- events
+
+impl Described for Event {
+    ghost use Rattle.acd_columns.specs.Tables.{events};
+
+    ghost descr = { events };
+
+    ghost use Rattle.acd_columns.proofs.TablesFiled.{events_filed};
+
+    ghost filed = { events_filed };
+}
+
+impl Stored for Event {
+    fn insert_text() -> &'static str {
+        INSERT_EVENT
+    }
+
+    fn run<S: Alter>(&self, tx: &mut Transaction<'_, S>, sql: &str) -> Result<usize, Error> {
+        let columns = self.report.columns();
+        let values = [
+            bind::integer(self.number),
+            bind::small(self.moment),
+            bind::small(kind_code(columns.kind)),
+            bind::device_or_null(columns.device),
+            bind::integer_or_null(columns.call),
+            bind::agent_or_null(columns.agent),
+            bind::device_or_null(columns.group),
+            bind::device_or_null(columns.to),
+            bind::cause_or_null(columns.cause),
+            bind::small_or_null(columns.waited),
+        ];
+        changed_rows(tx, sql, &values)
+    }
+
+    ghost reads = { λ r. tt };
+}
