@@ -5,17 +5,15 @@
 #[cfg(test)]
 mod altered;
 #[cfg(test)]
-mod ends;
-#[cfg(test)]
 mod exports;
 #[cfg(test)]
 mod files;
 #[cfg(test)]
+mod fused;
+#[cfg(test)]
 mod held;
 #[cfg(test)]
 mod look_ups;
-#[cfg(test)]
-mod many_events;
 #[cfg(test)]
 mod player;
 #[cfg(test)]
@@ -29,10 +27,8 @@ mod scenes;
 #[cfg(test)]
 mod script;
 #[cfg(test)]
-mod sessions;
-#[cfg(test)]
-mod shelf;
+mod store;
 #[cfg(test)]
 mod tests;
 #[cfg(test)]
-mod texts;
+mod working_size;
