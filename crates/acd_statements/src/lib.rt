@@ -19,6 +19,7 @@ pub mod query;
 pub mod read;
 mod records;
 pub mod same;
+pub mod select;
 pub mod stored;
 pub mod tables;
 pub mod write;
