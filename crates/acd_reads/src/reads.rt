@@ -7,14 +7,13 @@ ghost use Rattle.acd_columns.specs.Content.{meta_of};
 ghost use Rattle.acd_columns.specs.Finding.{Finds, joined_rows};
 ghost use Rattle.acd_columns.specs.Rows.{meta_shown};
 ghost use Rattle.acd_columns.specs.declared.meta.Meta.{Meta as MetaRow};
-ghost use Rattle.acd_columns.specs.Ranges.{group_in, station_in, agent_in, call_in, connection_in, monitor_in, event_in, kept_in};
+ghost use Rattle.acd_columns.specs.Ranges.{connection_in, monitor_in, event_in, kept_in};
 
 use acd_book::Kept;
 use acd_columns::{Meta, decode};
-use acd_statements::query::{
-    agent_rows, call_rows, connection_rows, group_rows, monitor_rows, station_rows,
-};
+use acd_statements::query::connection_rows;
 use acd_statements::read::meta_rows;
+use acd_statements::select;
 use acd_terms::{
     AgentRecord, CallRecord, ConnectionRecord, Event, GroupRecord, Listed, MonitorRecord, Rows,
     StationRecord,
@@ -32,38 +31,6 @@ pub(crate) trait Decoded: Drop {
 
     fn decode(alloc: Global, row: &Row) -> Result<Option<Self>, AllocError>
         ensures { IfOk result (λ found. found ≡ in_row row.now) };
-}
-
-impl Decoded for GroupRecord {
-    ghost in_row = { group_in };
-
-    fn decode(_alloc: Global, row: &Row) -> Result<Option<GroupRecord>, AllocError> {
-        Ok(decode::group_in(row))
-    }
-}
-
-impl Decoded for StationRecord {
-    ghost in_row = { station_in };
-
-    fn decode(_alloc: Global, row: &Row) -> Result<Option<StationRecord>, AllocError> {
-        Ok(decode::station_in(row))
-    }
-}
-
-impl Decoded for AgentRecord {
-    ghost in_row = { agent_in };
-
-    fn decode(_alloc: Global, row: &Row) -> Result<Option<AgentRecord>, AllocError> {
-        Ok(decode::agent_in(row))
-    }
-}
-
-impl Decoded for CallRecord {
-    ghost in_row = { call_in };
-
-    fn decode(_alloc: Global, row: &Row) -> Result<Option<CallRecord>, AllocError> {
-        Ok(decode::call_in(row))
-    }
 }
 
 impl Decoded for ConnectionRecord {
@@ -169,8 +136,7 @@ fn groups<S: Alter>(alloc: Global, conn: &mut Connection<S>) -> Result<Vec<Group
     ensures idle { conn.new.in_transaction ≡ false }
     ensures found { Finds (state S.Store conn.old) (state S.Store conn.new) result (λ c groups. groups.items ≡ c.rows.groups) }
 {
-    let rows = group_rows(conn)?;
-    records(alloc, &rows)
+    select::records::<GroupRecord, S>(alloc, conn)
 }
 
 fn stations<S: Alter>(alloc: Global, conn: &mut Connection<S>) -> Result<Vec<StationRecord>, Error>
@@ -178,8 +144,7 @@ fn stations<S: Alter>(alloc: Global, conn: &mut Connection<S>) -> Result<Vec<Sta
     ensures idle { conn.new.in_transaction ≡ false }
     ensures found { Finds (state S.Store conn.old) (state S.Store conn.new) result (λ c stations. stations.items ≡ c.rows.stations) }
 {
-    let rows = station_rows(conn)?;
-    records(alloc, &rows)
+    select::records::<StationRecord, S>(alloc, conn)
 }
 
 fn agents<S: Alter>(alloc: Global, conn: &mut Connection<S>) -> Result<Vec<AgentRecord>, Error>
@@ -187,8 +152,7 @@ fn agents<S: Alter>(alloc: Global, conn: &mut Connection<S>) -> Result<Vec<Agent
     ensures idle { conn.new.in_transaction ≡ false }
     ensures found { Finds (state S.Store conn.old) (state S.Store conn.new) result (λ c agents. agents.items ≡ c.rows.agents) }
 {
-    let rows = agent_rows(conn)?;
-    records(alloc, &rows)
+    select::records::<AgentRecord, S>(alloc, conn)
 }
 
 fn calls<S: Alter>(alloc: Global, conn: &mut Connection<S>) -> Result<Vec<CallRecord>, Error>
@@ -196,8 +160,7 @@ fn calls<S: Alter>(alloc: Global, conn: &mut Connection<S>) -> Result<Vec<CallRe
     ensures idle { conn.new.in_transaction ≡ false }
     ensures found { Finds (state S.Store conn.old) (state S.Store conn.new) result (λ c calls. calls.items ≡ c.rows.calls) }
 {
-    let rows = call_rows(conn)?;
-    records(alloc, &rows)
+    select::records::<CallRecord, S>(alloc, conn)
 }
 
 fn connections<S: Alter>(
@@ -220,8 +183,7 @@ pub(crate) fn monitors<S: Alter>(
     ensures idle { conn.new.in_transaction ≡ false }
     ensures found { Finds (state S.Store conn.old) (state S.Store conn.new) result (λ c monitors. monitors.items ≡ c.rows.monitors) }
 {
-    let rows = monitor_rows(conn)?;
-    records(alloc, &rows)
+    select::records::<MonitorRecord, S>(alloc, conn)
 }
 
 // The groups, the stations and the agents.
