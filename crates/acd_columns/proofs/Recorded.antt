@@ -26,7 +26,7 @@ one_more in_row i rows row d found next x so_far at low is pushed =
 
 -- ---- back to the records
 
-first_of : {A : Type 0} (x y : A) (xs ys : List A) → x ∷ xs ≡ y ∷ ys → x ≡ y
+pub first_of : {A : Type 0} (x y : A) (xs ys : List A) → x ∷ xs ≡ y ∷ ys → x ≡ y
 first_of x y xs ys e = cc
 
 rest_of : {A : Type 0} (x y : A) (xs ys : List A) → x ∷ xs ≡ y ∷ ys → xs ≡ ys
@@ -47,5 +47,8 @@ module _ {R : Type 0} (in_row : Row → Option R) (values : R → Row) (exact : 
   recorded old new rows (Err e) part h read = record { up = λ k. tt; quiet = h.quiet; stops = h.stops; answer = λ k. tt }
   recorded old new rows (Ok found) part h read = record { up = h.up; quiet = h.quiet; stops = h.stops; answer = λ k c held. same_records found.items (part c) rows.items (h.answer k c held) read }
 
+pub found_none : {A B : Type 0} (old new : State) (e : Error) (P : Content → A → Type 0) (Q : Content → B → Type 0) → Finds old new (Err e) P → Finds old new (Err e) Q
+found_none old new e P Q h = record { up = λ k. tt; quiet = h.quiet; stops = h.stops; answer = λ k. tt }
+
 pub none_recorded : {R A : Type 0} (part : Content → List R) (old new : State) (e : Error) (P : Content → A → Type 0) → Finds old new (Err e) P → Finds old new (Err e) (λ c (found : Vec R Global). found.items ≡ part c)
-none_recorded part old new e P h = record { up = λ k. tt; quiet = h.quiet; stops = h.stops; answer = λ k. tt }
+none_recorded part old new e P h = found_none old new e P (λ c found. found.items ≡ part c) h

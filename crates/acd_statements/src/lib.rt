@@ -14,12 +14,17 @@
 mod bind;
 pub mod fitting;
 pub mod look;
+mod lookups;
 pub mod put;
 pub mod query;
 pub mod read;
+mod reads;
 mod records;
 pub mod same;
 pub mod select;
 pub mod stored;
 pub mod tables;
 pub mod write;
+
+pub use lookups::{events_behind, events_watched, kept_behind, kept_under};
+pub use reads::{read_meta, rows};
