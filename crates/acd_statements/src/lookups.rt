@@ -13,7 +13,8 @@ ghost use Rattle.acd_columns.specs.Finding.{Finds, kept_behind};
 
 use crate::fitting::fits;
 use crate::query::{event_rows, event_rows_at, kept_row, kept_rows, monitor_row};
-use crate::reads::{first, monitors, records};
+use crate::reads::{first, records};
+use crate::select;
 use acd_book::Kept;
 use acd_terms::{DeviceId, Event, Invoke, MonitorRecord, Requester, find};
 use sqlite::{Alter, Connection, Error, ErrorCode, Row};
@@ -145,7 +146,7 @@ fn monitor_at<S: Alter>(
     ensures found { Finds (state S.Store conn.old) (state S.Store conn.new) result (λ c found. found ≡ monitor_of c.rows number) }
 {
     if !fits(number) {
-        let monitors = monitors(alloc, conn)?;
+        let monitors = select::records::<MonitorRecord, S>(alloc, conn)?;
         return Ok(find(&monitors, number));
     }
     let rows = monitor_row(conn, number)?;

@@ -131,38 +131,6 @@ pub fn read_meta<S: Alter>(conn: &mut Connection<S>) -> Result<Meta, Error>
     }
 }
 
-fn groups<S: Alter>(alloc: Global, conn: &mut Connection<S>) -> Result<Vec<GroupRecord>, Error>
-    requires { conn.old.in_transaction ≡ false }
-    ensures idle { conn.new.in_transaction ≡ false }
-    ensures found { Finds (state S.Store conn.old) (state S.Store conn.new) result (λ c groups. groups.items ≡ c.rows.groups) }
-{
-    select::records::<GroupRecord, S>(alloc, conn)
-}
-
-fn stations<S: Alter>(alloc: Global, conn: &mut Connection<S>) -> Result<Vec<StationRecord>, Error>
-    requires { conn.old.in_transaction ≡ false }
-    ensures idle { conn.new.in_transaction ≡ false }
-    ensures found { Finds (state S.Store conn.old) (state S.Store conn.new) result (λ c stations. stations.items ≡ c.rows.stations) }
-{
-    select::records::<StationRecord, S>(alloc, conn)
-}
-
-fn agents<S: Alter>(alloc: Global, conn: &mut Connection<S>) -> Result<Vec<AgentRecord>, Error>
-    requires { conn.old.in_transaction ≡ false }
-    ensures idle { conn.new.in_transaction ≡ false }
-    ensures found { Finds (state S.Store conn.old) (state S.Store conn.new) result (λ c agents. agents.items ≡ c.rows.agents) }
-{
-    select::records::<AgentRecord, S>(alloc, conn)
-}
-
-fn calls<S: Alter>(alloc: Global, conn: &mut Connection<S>) -> Result<Vec<CallRecord>, Error>
-    requires { conn.old.in_transaction ≡ false }
-    ensures idle { conn.new.in_transaction ≡ false }
-    ensures found { Finds (state S.Store conn.old) (state S.Store conn.new) result (λ c calls. calls.items ≡ c.rows.calls) }
-{
-    select::records::<CallRecord, S>(alloc, conn)
-}
-
 fn connections<S: Alter>(
     alloc: Global,
     conn: &mut Connection<S>,
@@ -175,26 +143,15 @@ fn connections<S: Alter>(
     records(alloc, &rows)
 }
 
-pub(crate) fn monitors<S: Alter>(
-    alloc: Global,
-    conn: &mut Connection<S>,
-) -> Result<Vec<MonitorRecord>, Error>
-    requires { conn.old.in_transaction ≡ false }
-    ensures idle { conn.new.in_transaction ≡ false }
-    ensures found { Finds (state S.Store conn.old) (state S.Store conn.new) result (λ c monitors. monitors.items ≡ c.rows.monitors) }
-{
-    select::records::<MonitorRecord, S>(alloc, conn)
-}
-
 // The groups, the stations and the agents.
 fn plan<S: Alter>(alloc: Global, conn: &mut Connection<S>) -> Result<Plan, Error>
     requires { conn.old.in_transaction ≡ false }
     ensures idle { conn.new.in_transaction ≡ false }
     ensures found { Finds (state S.Store conn.old) (state S.Store conn.new) result (λ c t. (t.0.items ≡ c.rows.groups) × (t.1.items ≡ c.rows.stations) × (t.2.items ≡ c.rows.agents)) }
 {
-    let groups = groups(alloc, conn)?;
-    let stations = stations(alloc, conn)?;
-    let agents = agents(alloc, conn)?;
+    let groups = select::records::<GroupRecord, S>(alloc, conn)?;
+    let stations = select::records::<StationRecord, S>(alloc, conn)?;
+    let agents = select::records::<AgentRecord, S>(alloc, conn)?;
     Ok((groups, stations, agents))
 }
 
@@ -204,9 +161,9 @@ fn traffic<S: Alter>(alloc: Global, conn: &mut Connection<S>) -> Result<Traffic,
     ensures idle { conn.new.in_transaction ≡ false }
     ensures found { Finds (state S.Store conn.old) (state S.Store conn.new) result (λ c t. (t.0.items ≡ c.rows.calls) × (t.1.items ≡ c.rows.connections) × (t.2.items ≡ c.rows.monitors)) }
 {
-    let calls = calls(alloc, conn)?;
+    let calls = select::records::<CallRecord, S>(alloc, conn)?;
     let connections = connections(alloc, conn)?;
-    let monitors = monitors(alloc, conn)?;
+    let monitors = select::records::<MonitorRecord, S>(alloc, conn)?;
     Ok((calls, connections, monitors))
 }
 
