@@ -7,7 +7,7 @@
 //!
 //! ```ignore
 //! insert_station(&mut tx, &station)?;
-//! let rows = station_rows(&mut conn)?;
+//! let rows = rows(alloc, &mut conn)?;
 //! ```
 #![tactic(auto)]
 

@@ -9,11 +9,11 @@ ghost use Rattle.acd_columns.specs.Schema.{book_schema};
 ghost use Rattle.acd_columns.specs.Seeing.{Sees};
 
 use crate::look::{low_event_rows, low_kept_rows, unordered_connection_rows};
-use crate::query::{
-    agent_rows, call_rows, event_rows, group_rows, kept_rows, monitor_rows, station_rows,
-};
+use crate::query::{event_rows, kept_rows};
 use crate::read::meta_rows;
+use crate::select;
 use acd_columns::{Log, Whole};
+use acd_terms::{AgentRecord, CallRecord, GroupRecord, MonitorRecord, StationRecord};
 use sqlite::{Alter, Connection, Error, Row};
 
 /// All rows of a table, in any order.
@@ -24,12 +24,12 @@ pub fn all_rows<S: Alter>(table: Whole, conn: &mut Connection<S>) -> Result<Vec<
 {
     match table {
         Whole::Meta => meta_rows(conn),
-        Whole::Groups => group_rows(conn),
-        Whole::Stations => station_rows(conn),
-        Whole::Agents => agent_rows(conn),
-        Whole::Calls => call_rows(conn),
+        Whole::Groups => select::rows::<GroupRecord, S>(conn),
+        Whole::Stations => select::rows::<StationRecord, S>(conn),
+        Whole::Agents => select::rows::<AgentRecord, S>(conn),
+        Whole::Calls => select::rows::<CallRecord, S>(conn),
         Whole::Connections => unordered_connection_rows(conn),
-        Whole::Monitors => monitor_rows(conn),
+        Whole::Monitors => select::rows::<MonitorRecord, S>(conn),
     }
 }
 

@@ -9,19 +9,19 @@ pub returns-in-Meta-clause-seen : goal.returns-in-Meta-clause-seen
 returns-in-Meta-clause-seen g c d is = subst (λ w. Sees d (state g.S.Store c.args.conn.now) (state g.S.Store c.meta_rows.new.conn) c.meta_rows.result (λ rows. IsPermutation (rows_in (table_of w) d.trees) rows.items)) (sym c.in-Meta.is) (c.meta_rows.ensures.seen d is)
 
 pub returns-in-Groups-clause-seen : goal.returns-in-Groups-clause-seen
-returns-in-Groups-clause-seen g c d is = subst (λ w. Sees d (state g.S.Store c.args.conn.now) (state g.S.Store c.group_rows.new.conn) c.group_rows.result (λ rows. IsPermutation (rows_in (table_of w) d.trees) rows.items)) (sym c.in-Groups.is) (c.group_rows.ensures.seen d is)
+returns-in-Groups-clause-seen g c d is = subst (λ w. Sees d (state g.S.Store c.args.conn.now) (state g.S.Store c.rows.new.conn) c.rows.result (λ rows. IsPermutation (rows_in (table_of w) d.trees) rows.items)) (sym c.in-Groups.is) (c.rows.ensures.seen d is)
 
 pub returns-in-Stations-clause-seen : goal.returns-in-Stations-clause-seen
-returns-in-Stations-clause-seen g c d is = subst (λ w. Sees d (state g.S.Store c.args.conn.now) (state g.S.Store c.station_rows.new.conn) c.station_rows.result (λ rows. IsPermutation (rows_in (table_of w) d.trees) rows.items)) (sym c.in-Stations.is) (c.station_rows.ensures.seen d is)
+returns-in-Stations-clause-seen g c d is = subst (λ w. Sees d (state g.S.Store c.args.conn.now) (state g.S.Store c.rows-in-Stations.new.conn) c.rows-in-Stations.result (λ rows. IsPermutation (rows_in (table_of w) d.trees) rows.items)) (sym c.in-Stations.is) (c.rows-in-Stations.ensures.seen d is)
 
 pub returns-in-Agents-clause-seen : goal.returns-in-Agents-clause-seen
-returns-in-Agents-clause-seen g c d is = subst (λ w. Sees d (state g.S.Store c.args.conn.now) (state g.S.Store c.agent_rows.new.conn) c.agent_rows.result (λ rows. IsPermutation (rows_in (table_of w) d.trees) rows.items)) (sym c.in-Agents.is) (c.agent_rows.ensures.seen d is)
+returns-in-Agents-clause-seen g c d is = subst (λ w. Sees d (state g.S.Store c.args.conn.now) (state g.S.Store c.rows-in-Agents.new.conn) c.rows-in-Agents.result (λ rows. IsPermutation (rows_in (table_of w) d.trees) rows.items)) (sym c.in-Agents.is) (c.rows-in-Agents.ensures.seen d is)
 
 pub returns-in-Calls-clause-seen : goal.returns-in-Calls-clause-seen
-returns-in-Calls-clause-seen g c d is = subst (λ w. Sees d (state g.S.Store c.args.conn.now) (state g.S.Store c.call_rows.new.conn) c.call_rows.result (λ rows. IsPermutation (rows_in (table_of w) d.trees) rows.items)) (sym c.in-Calls.is) (c.call_rows.ensures.seen d is)
+returns-in-Calls-clause-seen g c d is = subst (λ w. Sees d (state g.S.Store c.args.conn.now) (state g.S.Store c.rows-in-Calls.new.conn) c.rows-in-Calls.result (λ rows. IsPermutation (rows_in (table_of w) d.trees) rows.items)) (sym c.in-Calls.is) (c.rows-in-Calls.ensures.seen d is)
 
 pub returns-in-Connections-clause-seen : goal.returns-in-Connections-clause-seen
 returns-in-Connections-clause-seen g c d is = subst (λ w. Sees d (state g.S.Store c.args.conn.now) (state g.S.Store c.unordered_connection_rows.new.conn) c.unordered_connection_rows.result (λ rows. IsPermutation (rows_in (table_of w) d.trees) rows.items)) (sym c.in-Connections.is) (c.unordered_connection_rows.ensures.seen d is)
 
 pub returns-in-Monitors-clause-seen : goal.returns-in-Monitors-clause-seen
-returns-in-Monitors-clause-seen g c d is = subst (λ w. Sees d (state g.S.Store c.args.conn.now) (state g.S.Store c.monitor_rows.new.conn) c.monitor_rows.result (λ rows. IsPermutation (rows_in (table_of w) d.trees) rows.items)) (sym c.in-Monitors.is) (c.monitor_rows.ensures.seen d is)
+returns-in-Monitors-clause-seen g c d is = subst (λ w. Sees d (state g.S.Store c.args.conn.now) (state g.S.Store c.rows-in-Monitors.new.conn) c.rows-in-Monitors.result (λ rows. IsPermutation (rows_in (table_of w) d.trees) rows.items)) (sym c.in-Monitors.is) (c.rows-in-Monitors.ensures.seen d is)
