@@ -17,8 +17,9 @@ use Rattle.acd_columns.specs.AnyRows.{is_good}
 use Rattle.acd_schema.specs.Inspecting.{is_good_table, IsInRange}
 use Rattle.acd_columns.specs.Content.{Encodes}
 use Rattle.acd_columns.specs.Values.{at_least, whole_at, stamp_at}
-use Rattle.acd_columns.specs.Ranges.{event_in, kept_in}
-use Rattle.acd_columns.specs.Rows.{event_values, kept_values}
+use Rattle.acd_columns.specs.Fields.{read_whole}
+use Rattle.acd_columns.specs.Ranges.{event_from, event_in, kept_in}
+use Rattle.acd_columns.specs.Rows.{event_fields, event_made, event_values, kept_values}
 use Rattle.acd_schema.proofs.Contents.{there, each_good, of_mapped}
 use Rattle.acd_columns.proofs.KeyedRows.{by_key}
 use Rattle.acd_columns.proofs.Looked.{all_so}
@@ -48,8 +49,9 @@ event_above : (e : Event) → is_good table.Events (event_values e) ≡ true →
 unfolding event_in
 event_above e good =
     let x = there (event_in (event_values e)) good in
-    let w = guarded (length (event_values e) == 10) _ x.0 x.1 in
-    let number = bound _ _ x.0 w.1 in
+    let values = bound (read_whole event_fields event_made (event_values e)) event_from x.0 x.1 in
+    let w = guarded (length (event_values e) == 10) _ values.0 values.1 in
+    let number = bound _ _ values.0 w.1 in
     stamp_above (event_values e) number.0 e.number number.1 refl
 
 -- ---- ascending
