@@ -20,29 +20,23 @@ use Rattle.sqlite.specs.State.{State, Shown}
 use Rattle.sqlite.proofs.Callers.{IsPlain}
 use Rattle.sqlite_tied.specs.Compute.{everything}
 use Rattle.acd_terms.specs.declared.event.Event.{Event}
-use Rattle.acd_terms.specs.declared.record.GroupRecord.{GroupRecord}
-use Rattle.acd_terms.specs.declared.record.StationRecord.{StationRecord}
-use Rattle.acd_terms.specs.declared.record.AgentRecord.{AgentRecord}
-use Rattle.acd_terms.specs.declared.record.CallRecord.{CallRecord}
 use Rattle.acd_terms.specs.declared.record.MonitorRecord.{MonitorRecord}
 use Rattle.acd_terms.specs.Columns.{columns_of}
 use Rattle.acd_model.specs.Scans.{monitor_of, has}
 use Rattle.sqlite.specs.Values.{or_null}
 use Rattle.acd_laws.proofs.State.{monitor_find}
-use Rattle.acd_book.specs.Content.{Content, kept_of, is_key, is_told, events_behind}
+use Rattle.acd_book.specs.Content.{Content, kept_of, is_key, is_told}
 use Rattle.acd_book.specs.declared.kept.Kept.{Kept}
 use Rattle.acd_columns.specs.declared.tables.Table.TheVariants as table
 use Rattle.acd_columns.specs.Schema.{book_schema}
 use Rattle.acd_columns.specs.Schema as schema
 use Rattle.acd_columns.specs.Values.{id_value}
-use Rattle.acd_columns.specs.Rows.{group_values, group_row, station_values, station_row, agent_values, agent_row, call_values, call_row, monitor_values, monitor_row, event_values, event_row, kept_values, kept_row}
+use Rattle.acd_columns.specs.Rows.{monitor_values, monitor_row, event_values, event_row, kept_values, kept_row}
 use Rattle.acd_columns.specs.Draft.{Holds}
-use Rattle.acd_columns.specs.Finding.{kept_behind}
 use Rattle.acd_columns.proofs.KeyedRows.{id_cmp, id_tied}
 use Rattle.acd_columns.proofs.Listings.{Listing, Lists, listed, schema_is, stored}
 use Rattle.acd_columns.proofs.Puts.{truth_back}
-use Rattle.acd_columns.proofs.Scans.{filter_all}
-use Rattle.acd_columns.specs.declared.texts.TheConstants.{SELECT_AGENTS, SELECT_CALLS, SELECT_EVENTS_AFTER, SELECT_EVENTS_AT_DEVICE, SELECT_GROUPS, SELECT_KEPT_AFTER, SELECT_KEPT_OF_REQUEST, SELECT_MONITOR, SELECT_MONITORS, SELECT_STATIONS}
+use Rattle.acd_columns.specs.declared.texts.TheConstants.{SELECT_EVENTS_AT_DEVICE, SELECT_KEPT_OF_REQUEST, SELECT_MONITOR}
 
 -- so many columns of a row, from one on
 abbrev pub columns : ℕ → ℕ → List Term
@@ -55,101 +49,6 @@ by_number = (col 1 0, ascending Binary) ∷ []
 
 abbrev pub no_limit : Term
 no_limit = lit (Int (negsuc 0))
-
--- ---- groups
-
-unfoldable pub groups_listing : Listing SELECT_GROUPS.now
-unfolding understood everything
-groups_listing = record { tree = schema.groups.tree; terms = []; project = col 1 0 ∷ columns 2 8; order = by_number; limit = no_limit; names = _; command = refl; plain = (refl, refl); unlisted = refl }
-
-groups_lists : Lists SELECT_GROUPS.now groups_listing (λ (g : GroupRecord). g.device) group_row group_values [] (λ _. true)
-unfolding groups_listing
-groups_lists = record { keyed = λ g. refl; ranks = λ x y. refl; tests = λ g. refl; shows = λ g. refl }
-
-pub groups_plain : IsPlain (understood book_schema SELECT_GROUPS.now)
-groups_plain = groups_listing.plain
-
-pub shows_groups : (old new : State) (rows : List Row) (c : Content) → Holds old c → Shown SELECT_GROUPS.now [] old new rows → rows ≡ map group_values c.rows.groups
-unfolding groups_listing
-shows_groups old new rows c held h =
-    listed SELECT_GROUPS.now groups_listing _ group_row group_values [] (λ _. true) groups_lists old new rows c.rows.groups (schema_is old c held) (stored table.Groups old c held) h
-    ∙ ap (map group_values) (filter_all c.rows.groups)
-
--- ---- stations
-
-unfoldable pub stations_listing : Listing SELECT_STATIONS.now
-unfolding understood everything
-stations_listing = record { tree = schema.stations.tree; terms = []; project = col 1 0 ∷ columns 2 0; order = by_number; limit = no_limit; names = _; command = refl; plain = (refl, refl); unlisted = refl }
-
-stations_lists : Lists SELECT_STATIONS.now stations_listing (λ (s : StationRecord). s.device) station_row station_values [] (λ _. true)
-unfolding stations_listing
-stations_lists = record { keyed = λ s. refl; ranks = λ x y. refl; tests = λ s. refl; shows = λ s. refl }
-
-pub stations_plain : IsPlain (understood book_schema SELECT_STATIONS.now)
-stations_plain = stations_listing.plain
-
-pub shows_stations : (old new : State) (rows : List Row) (c : Content) → Holds old c → Shown SELECT_STATIONS.now [] old new rows → rows ≡ map station_values c.rows.stations
-unfolding stations_listing
-shows_stations old new rows c held h =
-    listed SELECT_STATIONS.now stations_listing _ station_row station_values [] (λ _. true) stations_lists old new rows c.rows.stations (schema_is old c held) (stored table.Stations old c held) h
-    ∙ ap (map station_values) (filter_all c.rows.stations)
-
--- ---- agents
-
-unfoldable pub agents_listing : Listing SELECT_AGENTS.now
-unfolding understood everything
-agents_listing = record { tree = schema.agents.tree; terms = []; project = col 1 0 ∷ columns 2 7; order = by_number; limit = no_limit; names = _; command = refl; plain = (refl, refl); unlisted = refl }
-
-agents_lists : Lists SELECT_AGENTS.now agents_listing (λ (a : AgentRecord). a.agent) agent_row agent_values [] (λ _. true)
-unfolding agents_listing
-agents_lists = record { keyed = λ a. refl; ranks = λ x y. refl; tests = λ a. refl; shows = λ a. refl }
-
-pub agents_plain : IsPlain (understood book_schema SELECT_AGENTS.now)
-agents_plain = agents_listing.plain
-
-pub shows_agents : (old new : State) (rows : List Row) (c : Content) → Holds old c → Shown SELECT_AGENTS.now [] old new rows → rows ≡ map agent_values c.rows.agents
-unfolding agents_listing
-shows_agents old new rows c held h =
-    listed SELECT_AGENTS.now agents_listing _ agent_row agent_values [] (λ _. true) agents_lists old new rows c.rows.agents (schema_is old c held) (stored table.Agents old c held) h
-    ∙ ap (map agent_values) (filter_all c.rows.agents)
-
--- ---- calls
-
-unfoldable pub calls_listing : Listing SELECT_CALLS.now
-unfolding understood everything
-calls_listing = record { tree = schema.calls.tree; terms = []; project = col 1 0 ∷ columns 2 3; order = by_number; limit = no_limit; names = _; command = refl; plain = (refl, refl); unlisted = refl }
-
-calls_lists : Lists SELECT_CALLS.now calls_listing (λ (k : CallRecord). k.call) call_row call_values [] (λ _. true)
-unfolding calls_listing
-calls_lists = record { keyed = λ k. refl; ranks = λ x y. refl; tests = λ k. refl; shows = λ k. refl }
-
-pub calls_plain : IsPlain (understood book_schema SELECT_CALLS.now)
-calls_plain = calls_listing.plain
-
-pub shows_calls : (old new : State) (rows : List Row) (c : Content) → Holds old c → Shown SELECT_CALLS.now [] old new rows → rows ≡ map call_values c.rows.calls
-unfolding calls_listing
-shows_calls old new rows c held h =
-    listed SELECT_CALLS.now calls_listing _ call_row call_values [] (λ _. true) calls_lists old new rows c.rows.calls (schema_is old c held) (stored table.Calls old c held) h
-    ∙ ap (map call_values) (filter_all c.rows.calls)
-
--- ---- monitors
-
-unfoldable pub monitors_listing : Listing SELECT_MONITORS.now
-unfolding understood everything
-monitors_listing = record { tree = schema.monitors.tree; terms = []; project = col 1 0 ∷ columns 2 2; order = by_number; limit = no_limit; names = _; command = refl; plain = (refl, refl); unlisted = refl }
-
-monitors_lists : Lists SELECT_MONITORS.now monitors_listing (λ (w : MonitorRecord). w.monitor) monitor_row monitor_values [] (λ _. true)
-unfolding monitors_listing
-monitors_lists = record { keyed = λ w. refl; ranks = λ x y. refl; tests = λ w. refl; shows = λ w. refl }
-
-pub monitors_plain : IsPlain (understood book_schema SELECT_MONITORS.now)
-monitors_plain = monitors_listing.plain
-
-pub shows_monitors : (old new : State) (rows : List Row) (c : Content) → Holds old c → Shown SELECT_MONITORS.now [] old new rows → rows ≡ map monitor_values c.rows.monitors
-unfolding monitors_listing
-shows_monitors old new rows c held h =
-    listed SELECT_MONITORS.now monitors_listing _ monitor_row monitor_values [] (λ _. true) monitors_lists old new rows c.rows.monitors (schema_is old c held) (stored table.Monitors old c held) h
-    ∙ ap (map monitor_values) (filter_all c.rows.monitors)
 
 -- ---- tests
 
@@ -174,24 +73,6 @@ above n k = ap is_gt (id_cmp k n) ∙ greater n k
 
 abbrev pub above_parameter : List Term
 above_parameter = op2 (Compare Gt Binary) (col 1 0) (col 0 0) ∷ []
-
-unfoldable pub events_listing : Listing SELECT_EVENTS_AFTER.now
-unfolding understood everything
-events_listing = record { tree = schema.events.tree; terms = above_parameter; project = col 1 0 ∷ columns 2 9; order = by_number; limit = col 0 1; names = _; command = refl; plain = (refl, refl); unlisted = refl }
-
-events_lists : (number limit : ℕ) → Lists SELECT_EVENTS_AFTER.now events_listing (λ (e : Event). e.number) event_row event_values (id_value number ∷ id_value limit ∷ []) (λ e. nat_lt number e.number)
-unfolding events_listing binary
-events_lists number limit = record { keyed = λ e. refl; ranks = λ x y. refl; tests = λ e. truth_back _ ∙ above number e.number; shows = λ e. refl }
-
-pub events_plain : IsPlain (understood book_schema SELECT_EVENTS_AFTER.now)
-events_plain = events_listing.plain
-
-pub shows_events_after : (number limit : ℕ) (old new : State) (rows : List Row) (c : Content) → Holds old c → Shown SELECT_EVENTS_AFTER.now (id_value number ∷ id_value limit ∷ []) old new rows
-    → rows ≡ map event_values (events_behind c.events number limit)
-unfolding events_listing
-shows_events_after number limit old new rows c held h =
-    listed SELECT_EVENTS_AFTER.now events_listing _ event_row event_values (id_value number ∷ id_value limit ∷ []) (λ e. nat_lt number e.number) (events_lists number limit) old new rows c.events (schema_is old c held) (stored table.Events old c held) h
-    ∙ take-map event_values limit (filter (λ (e : Event). nat_lt number e.number) c.events)
 
 at_device : (o : Option ℕ) (device : ℕ) → is_true (binary (Compare Eq Binary) (or_null id_value o) (id_value device)) ≡ has o device
 unfolding binary
@@ -232,24 +113,6 @@ shows_events_at device number limit old new rows c held h =
     listed SELECT_EVENTS_AT_DEVICE.now events_at_listing _ event_row event_values (id_value number ∷ id_value device ∷ id_value limit ∷ []) (is_told (Some device) number) (events_at_lists device number limit) old new rows c.events (schema_is old c held)
     (stored table.Events old c held) h
     ∙ take-map event_values limit (filter (is_told (Some device) number) c.events)
-
-unfoldable pub kept_listing : Listing SELECT_KEPT_AFTER.now
-unfolding understood everything
-kept_listing = record { tree = schema.kept.tree; terms = above_parameter; project = col 1 0 ∷ columns 2 6; order = by_number; limit = col 0 1; names = _; command = refl; plain = (refl, refl); unlisted = refl }
-
-kept_lists : (stamp limit : ℕ) → Lists SELECT_KEPT_AFTER.now kept_listing (λ (k : Kept). k.stamp) kept_row kept_values (id_value stamp ∷ id_value limit ∷ []) (λ k. nat_lt stamp k.stamp)
-unfolding kept_listing binary
-kept_lists stamp limit = record { keyed = λ k. refl; ranks = λ x y. refl; tests = λ k. truth_back _ ∙ above stamp k.stamp; shows = λ k. refl }
-
-pub kept_plain : IsPlain (understood book_schema SELECT_KEPT_AFTER.now)
-kept_plain = kept_listing.plain
-
-pub shows_kept_after : (stamp limit : ℕ) (old new : State) (rows : List Row) (c : Content) → Holds old c → Shown SELECT_KEPT_AFTER.now (id_value stamp ∷ id_value limit ∷ []) old new rows
-    → rows ≡ map kept_values (kept_behind c.kept stamp limit)
-unfolding kept_listing
-shows_kept_after stamp limit old new rows c held h =
-    listed SELECT_KEPT_AFTER.now kept_listing _ kept_row kept_values (id_value stamp ∷ id_value limit ∷ []) (λ k. nat_lt stamp k.stamp) (kept_lists stamp limit) old new rows c.kept (schema_is old c held) (stored table.Kept old c held).0 h
-    ∙ take-map kept_values limit (filter (λ (k : Kept). nat_lt stamp k.stamp) c.kept)
 
 -- ---- the one at a key
 

@@ -30,3 +30,5 @@ pub mod Seeing
 pub mod Filed
 pub mod TablesFiled
 pub mod Counters
+pub mod Selected
+pub mod Recorded

@@ -20,7 +20,6 @@ use Rattle.sqlite_trees.specs.View.{is_int}
 use Rattle.sqlite_rules.specs.Lists.{Has}
 use Rattle.sqlite_rules.proofs.ListLemmas.{all_from}
 use Rattle.sqlite_rules.proofs.ProbeLemmas.{mapped_has}
-use Rattle.sqlite_keyed.proofs.ListLemmas.{map_same}
 use Rattle.sqlite_sql.specs.Ops.{binary}
 use Rattle.sqlite_sql.specs.Query.{Output, limited, as_count}
 use Rattle.sqlite_sql.specs.Program.{IsProgramAnswer}
@@ -47,14 +46,18 @@ use Rattle.acd_columns.specs.Ranges.{event_in, kept_in}
 use Rattle.acd_columns.specs.Schema.{book_schema}
 use Rattle.acd_columns.specs.Schema as schema
 use Rattle.acd_columns.specs.Seeing.{HasDatabase, Sees}
-use Rattle.acd_columns.proofs.Asked.{columns, no_limit, by_number, above_parameter, above, groups_listing, stations_listing, agents_listing, calls_listing, monitors_listing, events_listing, kept_listing}
+use Rattle.acd_columns.specs.Tables.{events, kept}
+use Rattle.acd_columns.proofs.Filed.{paging}
+use Rattle.acd_columns.proofs.Seeing.{AsksAll}
+use Rattle.acd_columns.proofs.TablesFiled.{events_filed, events_pages, kept_filed, kept_pages}
+use Rattle.acd_columns.proofs.Asked.{columns, no_limit, by_number, above_parameter, above}
 use Rattle.acd_columns.proofs.ConnectionRows.{connections_listing}
 use Rattle.acd_columns.proofs.KeyedRows.{id_cmp, by_key}
 use Rattle.acd_columns.proofs.Listings.{Listing, Lists, query_of, listed}
 use Rattle.acd_columns.proofs.Ordered.{given, in_some_order}
 use Rattle.acd_columns.proofs.Puts.{truth_back}
-use Rattle.acd_columns.specs.declared.texts.TheConstants.{SELECT_AGENTS, SELECT_CALLS, SELECT_CONNECTIONS, SELECT_EVENTS_AFTER, SELECT_GROUPS, SELECT_KEPT_AFTER, SELECT_LOW_EVENT, SELECT_LOW_KEPT, SELECT_META, SELECT_MONITORS, SELECT_STANDING_CONNECTIONS, SELECT_STATIONS, SELECT_VERSION}
-use Rattle.acd_columns.proofs.Scans.{scanned, showing, passing, filter_all}
+use Rattle.acd_columns.specs.declared.texts.TheConstants.{SELECT_CONNECTIONS, SELECT_EVENTS_AFTER, SELECT_KEPT_AFTER, SELECT_LOW_EVENT, SELECT_LOW_KEPT, SELECT_META, SELECT_STANDING_CONNECTIONS, SELECT_VERSION}
+use Rattle.acd_columns.proofs.Scans.{showing, passing, filter_all}
 use Rattle.acd_columns.proofs.Seen.{sees_so}
 use Rattle.acd_columns.proofs.Selections.{Selection, selected, meta_selection}
 
@@ -76,10 +79,6 @@ none_pass p (x ∷ xs) h = go (none_pass p xs) (p x) refl h
     go : (filter p xs ≡ [] → AllByRecursion (λ x. p x ≡ false) xs) → (b : Bool) → p x ≡ b → cond b (x ∷ filter p xs) (filter p xs) ≡ [] → (p x ≡ false) × AllByRecursion (λ x. p x ≡ false) xs
     go more true e k = absurd (cc k)
     go more false e k = (e, more k)
-
-empty_of : {X : Type 0} (xs : List X) → length xs ≡ 0 → xs ≡ []
-empty_of [] h = refl
-empty_of (x ∷ xs) h = absurd (omega (arith, h))
 
 all_taken : {X : Type 0} (P : X → Type 0) (n : ℕ) (xs : List X) → AllByRecursion P xs → AllByRecursion P (take n xs)
 all_taken P zero xs h = tt
@@ -155,41 +154,6 @@ module _ (text : List ℕ) (it : Listing text) (params : Row) (d : Database) (ol
 
 -- ---- tables that are read whole
 
--- the text asks for the values of all rows of the table
-pub record AsksAll (t : Table) (text : List ℕ) (it : Listing text) : Type 0 where
-  pub tree : it.tree ≡ tree_of t
-  pub all : it.terms ≡ []
-  pub unlimited : it.limit ≡ no_limit
-  pub shows : (r : Row) → showing [] it.project r ≡ values_in t r
-
-pub shown_all : (t : Table) (text : List ℕ) (it : Listing text) → AsksAll t text it → (d : Database) (old new : State) (rows : List Row) → HasDatabase old d → d.schema ≡ book_schema → Shown text [] old new rows
-    → IsPermutation (rows_in t d.trees) rows
-shown_all t text it asks d old new rows had is h =
-    let all = scanned it.tree it.terms it.project it.order d.trees [] rows
-    (subst (λ l. IsProgramAnswer [] (record (query_of it) { limit = l }) d.trees [] rows) asks.unlimited (answer_in text it [] d old new rows had is h)) in
-    let same : map (showing [] it.project) (passing [] it.terms (d.trees it.tree)) ≡ rows_in t d.trees =
-    ap (λ ts. map (showing [] it.project) (passing [] ts (d.trees it.tree))) asks.all
-    ∙ ap (map (showing [] it.project)) (filter_all (d.trees it.tree))
-    ∙ map_same (showing [] it.project) (values_in t) asks.shows (d.trees it.tree)
-    ∙ ap (λ n. map (values_in t) (d.trees n)) asks.tree in
-    subst (λ l. IsPermutation l rows) same all
-
-pub asks_groups : AsksAll table.Groups SELECT_GROUPS.now groups_listing
-unfolding groups_listing
-asks_groups = record { tree = refl; all = refl; unlimited = refl; shows = λ r. refl }
-
-pub asks_stations : AsksAll table.Stations SELECT_STATIONS.now stations_listing
-unfolding stations_listing
-asks_stations = record { tree = refl; all = refl; unlimited = refl; shows = λ r. refl }
-
-pub asks_agents : AsksAll table.Agents SELECT_AGENTS.now agents_listing
-unfolding agents_listing
-asks_agents = record { tree = refl; all = refl; unlimited = refl; shows = λ r. refl }
-
-pub asks_calls : AsksAll table.Calls SELECT_CALLS.now calls_listing
-unfolding calls_listing
-asks_calls = record { tree = refl; all = refl; unlimited = refl; shows = λ r. refl }
-
 pub asks_connections : AsksAll table.Connections SELECT_CONNECTIONS.now connections_listing
 unfolding connections_listing
 asks_connections = record { tree = refl; all = refl; unlimited = refl; shows = λ r. refl }
@@ -201,10 +165,6 @@ unordered_connections = record { tree = schema.connections.tree; terms = []; pro
 pub asks_unordered_connections : AsksAll table.Connections SELECT_STANDING_CONNECTIONS.now unordered_connections
 unfolding unordered_connections
 asks_unordered_connections = record { tree = refl; all = refl; unlimited = refl; shows = λ r. refl }
-
-pub asks_monitors : AsksAll table.Monitors SELECT_MONITORS.now monitors_listing
-unfolding monitors_listing
-asks_monitors = record { tree = refl; all = refl; unlimited = refl; shows = λ r. refl }
 
 -- ---- the limits and the counters, and the version
 
@@ -397,12 +357,10 @@ number_tests : (n limit : ℕ) (x : Numbered) → list_all (holds ((id_value n �
 unfolding binary
 number_tests n limit x = ap (λ v. list_all (holds ((id_value n ∷ id_value limit ∷ []) ∷ (v ∷ []) ∷ [])) above_parameter) x.is ∙ truth_back _ ∙ above n x.key
 
-pub asks_events : (n limit : ℕ) → AsksPage log.Events SELECT_EVENTS_AFTER.now events_listing n limit
-unfolding events_listing
+pub asks_events : (n limit : ℕ) → AsksPage log.Events SELECT_EVENTS_AFTER.now (paging events events_filed SELECT_EVENTS_AFTER.now events_pages n limit) n limit
 asks_events n limit = record { tree = refl; lists = record { keyed = λ x. x.is; ranks = λ x y. refl; tests = number_tests n limit; shows = λ x. refl }; shows = λ r. refl; limited_by = refl }
 
-pub asks_kept : (n limit : ℕ) → AsksPage log.Kept SELECT_KEPT_AFTER.now kept_listing n limit
-unfolding kept_listing
+pub asks_kept : (n limit : ℕ) → AsksPage log.Kept SELECT_KEPT_AFTER.now (paging kept kept_filed SELECT_KEPT_AFTER.now kept_pages n limit) n limit
 asks_kept n limit = record { tree = refl; lists = record { keyed = λ x. x.is; ranks = λ x y. refl; tests = number_tests n limit; shows = λ x. refl }; shows = λ r. refl; limited_by = refl }
 
 -- ---- plain texts
@@ -422,9 +380,6 @@ plain_of text d is plain = subst (λ s. IsPlain (understood s text)) (sym is) pl
 -- ---- reads
 
 module _ (d : Database) (old new : State) (r : Result (Vec Row Global) Error) (is : d.schema ≡ book_schema) where
-  pub sees_all : (t : Table) (text : List ℕ) (it : Listing text) → AsksAll t text it → Sees d old new r (λ rows. Shown text [] old new rows.items) → Sees d old new r (λ rows. IsPermutation (rows_in t d.trees) rows.items)
-  sees_all t text it asks h = sees_so d old new r (λ rows. Shown text [] old new rows.items) (λ rows. IsPermutation (rows_in t d.trees) rows.items) (λ had rows shown. shown_all t text it asks d old new rows.items had is shown) h
-
   pub sees_meta : Sees d old new r (λ rows. Shown SELECT_META.now [] old new rows.items) → Sees d old new r (λ rows. IsPermutation (rows_in table.Meta d.trees) rows.items)
   sees_meta h = sees_so d old new r (λ rows. Shown SELECT_META.now [] old new rows.items) (λ rows. IsPermutation (rows_in table.Meta d.trees) rows.items) (λ had rows shown. shown_meta d old new rows.items had is shown) h
 

@@ -11,8 +11,6 @@ use Rattle.sqlite_schema.specs.declared.schema.Table.{Table as Made}
 use Rattle.sqlite_schema.specs.declared.schema.Schema.{Schema}
 use Rattle.acd_columns.specs.declared.tables.Table.{Table}
 use Rattle.acd_columns.specs.declared.tables.Table.TheVariants as table
-use Rattle.acd_columns.specs.declared.tables.Whole.{Whole as Small}
-use Rattle.acd_columns.specs.declared.tables.Whole.TheVariants as whole
 use Rattle.acd_columns.specs.declared.tables.Log.{Log}
 use Rattle.acd_columns.specs.declared.tables.Log.TheVariants as log
 use Rattle.acd_columns.specs.Content.{tree_of}
@@ -78,17 +76,6 @@ pub record IsFiled (db : Trees) : Type 0 where
 pub record TellsGood (t : Table) (db : Trees) (good : Bool) : Type 0 where
   pub bad : good ≡ false → is_good_in t db ≡ false
   pub filed : IsFiled db → good ≡ is_good_in t db
-
--- ---- the tables that are read whole
-
-abbrev pub table_of : Small → Table
-table_of whole.Meta = table.Meta
-table_of whole.Groups = table.Groups
-table_of whole.Stations = table.Stations
-table_of whole.Agents = table.Agents
-table_of whole.Calls = table.Calls
-table_of whole.Connections = table.Connections
-table_of whole.Monitors = table.Monitors
 
 -- ---- the tables that are read in pages
 

@@ -1,5 +1,7 @@
 -- What a table of records is, whose key is the number of a row.
-use Rattle.std.specs.Prelude.{ℕ, List, Option}
+use Rattle.std.specs.Prelude.{ℕ, List, Option, Bool}
+use Rattle.std.specs.List.{list_all}
+use Rattle.std.specs.Option.{is_some}
 use Rattle.sqlite_value.specs.Order.{Row}
 use Rattle.acd_book.specs.Content.{Content}
 use Rattle.acd_columns.specs.Rows.{keyed_row}
@@ -30,3 +32,7 @@ pub record Description (R : Type 0) : Type 1 where
 -- the row as it stands: the column that is the number of the row is NULL
 abbrev pub row_of : {R : Type 0} → Description R → R → Row
 row_of d r = keyed_row (d.values r)
+
+-- each row stands for a record
+unfoldable pub are_read : {R : Type 0} → Description R → List Row → Bool
+are_read d rows = list_all (λ row. is_some (d.in_row row)) rows

@@ -14,18 +14,6 @@ pub enum Table {
     Kept,
 }
 
-/// A table that is read whole.
-#[derive(Clone, Copy)]
-pub enum Whole {
-    Meta,
-    Groups,
-    Stations,
-    Agents,
-    Calls,
-    Connections,
-    Monitors,
-}
-
 /// A table that grows with the history, and is read in pages.
 #[derive(Clone, Copy)]
 pub enum Log {

@@ -20,11 +20,10 @@ use Rattle.acd_columns.specs.declared.tables.Table.{Table}
 use Rattle.acd_columns.specs.declared.tables.Table.TheVariants as table
 use Rattle.acd_schema.specs.declared.fault.AdoptFault.{AdoptFault}
 use Rattle.acd_schema.specs.declared.fault.AdoptFault.TheVariants.{WrongVersion, BadRow, Store}
-use Rattle.acd_columns.specs.declared.tables.Whole.{Whole}
 use Rattle.acd_columns.specs.declared.tables.Log.{Log}
 use Rattle.acd_schema.specs.declared.inspection.Page.{Page}
 use Rattle.acd_schema.specs.declared.inspection.Page.TheVariants.{Bad, Last, More}
-use Rattle.acd_columns.specs.AnyRows.{is_good, is_good_in, are_good, rows_in, table_of, table_of_log, has_meta, Numbered, AreNumbered, AreSameFirst, BeginsAsBook, IsFiled, TellsGood, TellsLow, IsPageRows}
+use Rattle.acd_columns.specs.AnyRows.{is_good, is_good_in, are_good, rows_in, table_of_log, has_meta, Numbered, AreNumbered, AreSameFirst, BeginsAsBook, IsFiled, TellsGood, TellsLow, IsPageRows}
 use Rattle.acd_schema.specs.Inspecting.{is_good_behind, version_fault, fault_of_version, all_tables, TellsBehind, IsBadOf, IsPage, IsPageOf, IsVersionFound, IsRowFound, IsFound, IsFaultOf}
 use Rattle.acd_columns.specs.Draft.{NoStop}
 use Rattle.acd_columns.specs.Values.{whole_at}
@@ -105,29 +104,6 @@ both_found d is version (Some f) rows = rows
 pub rows_behind : (d : Database) (old mid new : State) (r : Result (Option AdoptFault) Error) → d.schema ≡ book_schema → Sees d old mid (Ok None) (λ f. IsVersionFound d f) → Sees d mid new r (λ f. IsRowFound d f)
     → Sees d old new r (λ f. IsFound d f)
 rows_behind d old mid new r is first next = sees_then d old mid new None (λ f. IsVersionFound d f) first (λ f. IsRowFound d f) (λ f. IsFound d f) r (both_found d is) next
-
--- ---- tables that are read whole
-
-none_bad : (t : Table) (rows : List Row) → are_good t rows ≡ not (list_any (λ r. not (is_good t r)) rows)
-unfolding are_good
-none_bad t [] = refl
-none_bad t (row ∷ rows) = either (is_good t row) (are_good t rows) (list_any (λ r. not (is_good t r)) rows) (none_bad t rows)
-  where
-    either : (a b c : Bool) → b ≡ not c → (a && b) ≡ not (not a || c)
-    either true b c e = e
-    either false b c e = refl
-
-good_moved : (t : Table) (xs ys : List Row) → IsPermutation xs ys → are_good t ys ≡ are_good t xs
-good_moved t xs ys same = none_bad t ys ∙ ap not (sym (list_any-IsPermutation (λ r. not (is_good t r)) xs ys same)) ∙ sym (none_bad t xs)
-
-pub whole_told : (d : Database) (old new : State) (w : Whole) (rows : Vec Row Global) (r : Result Bool Error) → IfOk r (λ good. good ≡ are_good (table_of w) rows.items)
-    → Sees d old new (Ok rows) (λ rows. IsPermutation (rows_in (table_of w) d.trees) rows.items) → Sees d old new r (λ good. TellsGood (table_of w) d.trees good)
-unfolding is_good_in
-whole_told d old new w rows (Ok good) is h =
-    sees_on d old new rows (λ rows. IsPermutation (rows_in (table_of w) d.trees) rows.items) (λ good. TellsGood (table_of w) d.trees good) (Ok good) h
-    (λ had same. let known = is ∙ good_moved (table_of w) (rows_in (table_of w) d.trees) rows.items same in record { bad = λ e. sym known ∙ e; filed = λ filed. known })
-whole_told d old new w rows (Err e) is h =
-    sees_on d old new rows (λ rows. IsPermutation (rows_in (table_of w) d.trees) rows.items) (λ good. TellsGood (table_of w) d.trees good) (Err e) h (λ had same. tt)
 
 -- ---- tables that are read in pages
 

@@ -3,7 +3,8 @@
 ghost use Rattle.std.specs.Prelude.{◌≡◌, false, None, IfOk};
 ghost use Rattle.sqlite.specs.Effect.{Database};
 ghost use Rattle.sqlite.specs.Held.{state};
-ghost use Rattle.acd_columns.specs.AnyRows.{table_of, table_of_log, is_good, are_good, BeginsAsBook, TellsGood};
+ghost use Rattle.acd_columns.specs.declared.tables.Table.TheVariants as table;
+ghost use Rattle.acd_columns.specs.AnyRows.{table_of_log, are_good, BeginsAsBook, TellsGood};
 ghost use Rattle.acd_schema.specs.Inspecting.{number_if_good, last_good, IsLike, TellsBehind, IsBadOf, IsPage, IsPageOf, PageFits, IsFound, IsRowFound, IsVersionFound, IsStoreFault, version_fault, adopt_fault_of};
 ghost use Rattle.acd_columns.specs.Draft.{Fits};
 ghost use Rattle.acd_columns.specs.Schema.{book_schema};
@@ -11,17 +12,15 @@ ghost use Rattle.acd_columns.specs.Seeing.{Sees, HasLooked};
 
 use crate::create::set_up;
 use crate::fault::AdoptFault;
-use acd_columns::decode::{
-    KeptReader, agent_in, call_in, connection_in, counters_in, event_number, group_in, monitor_in,
-    station_in,
-};
-use acd_columns::{Log, Table, Whole, values};
+use acd_columns::decode::{KeptReader, connection_in, counters_in, event_number};
+use acd_columns::{Log, Table, values};
 use acd_statements::fitting::{fits, too_large};
-use acd_statements::look::{has_meta, version_rows};
-use acd_statements::read::probe;
+use acd_statements::look::{has_meta, unordered_connection_rows, version_rows};
+use acd_statements::read::{meta_rows, probe};
 use acd_statements::same::{is_same_first, is_same_schema};
-use acd_statements::tables::{all_rows, low_rows, rows_above};
-use acd_terms::Limits;
+use acd_statements::select::is_good;
+use acd_statements::tables::{low_rows, rows_above};
+use acd_terms::{AgentRecord, CallRecord, GroupRecord, Limits, MonitorRecord, StationRecord};
 use sqlite::{Alter, Connection, Error, ErrorCode, MemStore, Row};
 use sqlite_schema::schema::Schema;
 use std::alloc::Global;
@@ -47,36 +46,40 @@ pub(crate) enum Page {
     More(u64),
 }
 
-fn is_good(table: Whole, row: &Row) -> bool
-    ensures { result ≡ is_good (table_of table) row.now }
+#[tactic(auto, unfolding(acd_columns::specs::AnyRows::are_good))]
+fn are_counters(rows: &[Row]) -> bool
+    ensures { result ≡ are_good table.Meta rows.now }
 {
-    match table {
-        Whole::Meta => counters_in(row).is_some(),
-        Whole::Groups => group_in(row).is_some(),
-        Whole::Stations => station_in(row).is_some(),
-        Whole::Agents => agent_in(row).is_some(),
-        Whole::Calls => call_in(row).is_some(),
-        Whole::Connections => connection_in(row).is_some(),
-        Whole::Monitors => monitor_in(row).is_some(),
-    }
+    rows.iter().all(|row| counters_in(row).is_some())
 }
 
 #[tactic(auto, unfolding(acd_columns::specs::AnyRows::are_good))]
-fn are_good(table: Whole, rows: &[Row]) -> bool
-    ensures { result ≡ are_good (table_of table) rows.now }
+fn are_connections(rows: &[Row]) -> bool
+    ensures { result ≡ are_good table.Connections rows.now }
 {
-    rows.iter().all(|row| is_good(table, row))
+    rows.iter().all(|row| connection_in(row).is_some())
 }
 
-// Whether each value of a table that is read whole is in its range.
-#[tactic(auto, unfolding(crate::specs::Inspecting::is_good_table))]
-fn is_good_whole<S: Alter>(conn: &mut Connection<S>, table: Whole) -> Result<bool, Error>
+// Whether the limits and the counters are in their ranges.
+fn is_good_meta<S: Alter>(conn: &mut Connection<S>) -> Result<bool, Error>
     requires { conn.old.in_transaction ≡ false }
     ensures idle { conn.new.in_transaction ≡ false }
-    ensures seen { (d : Database) → d.schema ≡ book_schema → Sees d (state S.Store conn.old) (state S.Store conn.new) result (λ good. TellsGood (table_of table) d.trees good) }
+    ensures seen { (d : Database) → d.schema ≡ book_schema → Sees d (state S.Store conn.old) (state S.Store conn.new) result (λ good. TellsGood table.Meta d.trees good) }
 {
-    match all_rows(table, conn) {
-        Ok(rows) => Ok(are_good(table, &rows)),
+    match meta_rows(conn) {
+        Ok(rows) => Ok(are_counters(&rows)),
+        Err(error) => Err(error),
+    }
+}
+
+// Whether each value of the connections is in its range.
+fn are_good_connections<S: Alter>(conn: &mut Connection<S>) -> Result<bool, Error>
+    requires { conn.old.in_transaction ≡ false }
+    ensures idle { conn.new.in_transaction ≡ false }
+    ensures seen { (d : Database) → d.schema ≡ book_schema → Sees d (state S.Store conn.old) (state S.Store conn.new) result (λ good. TellsGood table.Connections d.trees good) }
+{
+    match unordered_connection_rows(conn) {
+        Ok(rows) => Ok(are_connections(&rows)),
         Err(error) => Err(error),
     }
 }
@@ -200,13 +203,13 @@ fn is_good_table<S: Alter>(
     ensures seen { (d : Database) → d.schema ≡ book_schema → Sees d (state S.Store conn.old) (state S.Store conn.new) result (λ good. TellsGood table d.trees good) }
 {
     match table {
-        Table::Meta => is_good_whole(conn, Whole::Meta),
-        Table::Groups => is_good_whole(conn, Whole::Groups),
-        Table::Stations => is_good_whole(conn, Whole::Stations),
-        Table::Agents => is_good_whole(conn, Whole::Agents),
-        Table::Calls => is_good_whole(conn, Whole::Calls),
-        Table::Connections => is_good_whole(conn, Whole::Connections),
-        Table::Monitors => is_good_whole(conn, Whole::Monitors),
+        Table::Meta => is_good_meta(conn),
+        Table::Groups => is_good::<GroupRecord, S>(conn),
+        Table::Stations => is_good::<StationRecord, S>(conn),
+        Table::Agents => is_good::<AgentRecord, S>(conn),
+        Table::Calls => is_good::<CallRecord, S>(conn),
+        Table::Connections => are_good_connections(conn),
+        Table::Monitors => is_good::<MonitorRecord, S>(conn),
         Table::Events => is_good_log(kept, conn, Log::Events),
         Table::Kept => is_good_log(kept, conn, Log::Kept),
     }

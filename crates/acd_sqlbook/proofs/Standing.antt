@@ -12,7 +12,7 @@ use Rattle.acd_columns.specs.Content.{Encodes, meta_of}
 use Rattle.acd_sqlbook.specs.Calls.{HasRead, HasCommitted}
 use Rattle.acd_columns.specs.Draft.{Holds, Quiet, NoStop, AddsStop}
 use Rattle.acd_columns.specs.Finding.{Finds}
-use Rattle.acd_reads.proofs.Chained.{quiet_on}
+use Rattle.acd_statements.proofs.Chained.{quiet_on}
 
 pub quiet_still : (s : State) → Quiet s s
 quiet_still s = record { clean = λ k. k; was_open = λ k up. up; same = λ k c h up. h }

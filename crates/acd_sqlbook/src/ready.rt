@@ -15,7 +15,7 @@ use acd_book::Kept;
 use acd_codec::request_text;
 use acd_columns::Meta;
 use acd_model::Change;
-use acd_reads::{events_behind, events_watched, kept_behind, kept_under, read_meta, rows};
+use acd_statements::{events_behind, events_watched, kept_behind, kept_under, read_meta, rows};
 use acd_statements::fitting::{fits, too_large};
 use acd_statements::read::probe;
 use acd_terms::{Event, Invoke, Limits, Requester, Rows};

@@ -1,2 +1,5 @@
 mod Bounds
 pub mod Named
+pub mod Chained
+mod FirstFound
+mod Pages

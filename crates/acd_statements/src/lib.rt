@@ -7,18 +7,24 @@
 //!
 //! ```ignore
 //! insert_station(&mut tx, &station)?;
-//! let rows = station_rows(&mut conn)?;
+//! let rows = rows(alloc, &mut conn)?;
 //! ```
 #![tactic(auto)]
 
 mod bind;
 pub mod fitting;
 pub mod look;
+mod lookups;
 pub mod put;
 pub mod query;
 pub mod read;
+mod reads;
 mod records;
 pub mod same;
+pub mod select;
 pub mod stored;
 pub mod tables;
 pub mod write;
+
+pub use lookups::{events_behind, events_watched, kept_behind, kept_under};
+pub use reads::{read_meta, rows};

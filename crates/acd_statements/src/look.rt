@@ -43,7 +43,7 @@ pub fn version_rows<S: Alter>(conn: &mut Connection<S>) -> Result<Vec<Row>, Erro
 }
 
 /// The rows of connections in the order in which they stand. Their key isn't the number of a row, so that to put them in its order takes longer than to read them.
-pub(crate) fn unordered_connection_rows<S: Alter>(
+pub fn unordered_connection_rows<S: Alter>(
     conn: &mut Connection<S>,
 ) -> Result<Vec<Row>, Error>
     requires { conn.old.in_transaction ≡ false }

@@ -14,60 +14,14 @@ ghost use Rattle.acd_columns.specs.Finding.{Finds, kept_behind};
 ghost use Rattle.acd_columns.specs.Schema.{book_schema};
 ghost use Rattle.acd_columns.specs.Seeing.{Sees};
 
-use crate::bind;
 use crate::read::read;
+use crate::{bind, select};
 use acd_columns::texts::{
-    SELECT_AGENTS, SELECT_CALLS, SELECT_CONNECTIONS, SELECT_EVENTS_AFTER, SELECT_EVENTS_AT_DEVICE,
-    SELECT_GROUPS, SELECT_KEPT_AFTER, SELECT_KEPT_OF_REQUEST, SELECT_MONITOR, SELECT_MONITORS,
-    SELECT_STATIONS,
+    SELECT_CONNECTIONS, SELECT_EVENTS_AFTER, SELECT_EVENTS_AT_DEVICE, SELECT_KEPT_AFTER,
+    SELECT_KEPT_OF_REQUEST, SELECT_MONITOR,
 };
 use acd_terms::{DeviceId, Invoke, Requester};
 use sqlite::{Alter, Connection, Error, Row};
-
-pub fn group_rows<S: Alter>(conn: &mut Connection<S>) -> Result<Vec<Row>, Error>
-    requires { conn.old.in_transaction ≡ false }
-    ensures idle { conn.new.in_transaction ≡ false }
-    ensures found { Finds (state S.Store conn.old) (state S.Store conn.new) result (λ c rows. rows.items ≡ map group_values c.rows.groups) }
-    ensures seen { (d : Database) → d.schema ≡ book_schema → Sees d (state S.Store conn.old) (state S.Store conn.new) result (λ rows. IsPermutation (rows_in table.Groups d.trees) rows.items) }
-{
-    read(conn, SELECT_GROUPS, &[])
-}
-
-pub fn station_rows<S: Alter>(conn: &mut Connection<S>) -> Result<Vec<Row>, Error>
-    requires { conn.old.in_transaction ≡ false }
-    ensures idle { conn.new.in_transaction ≡ false }
-    ensures found { Finds (state S.Store conn.old) (state S.Store conn.new) result (λ c rows. rows.items ≡ map station_values c.rows.stations) }
-    ensures seen { (d : Database) → d.schema ≡ book_schema → Sees d (state S.Store conn.old) (state S.Store conn.new) result (λ rows. IsPermutation (rows_in table.Stations d.trees) rows.items) }
-{
-    read(conn, SELECT_STATIONS, &[])
-}
-
-pub fn agent_rows<S: Alter>(conn: &mut Connection<S>) -> Result<Vec<Row>, Error>
-    requires { conn.old.in_transaction ≡ false }
-    ensures idle { conn.new.in_transaction ≡ false }
-    ensures found { Finds (state S.Store conn.old) (state S.Store conn.new) result (λ c rows. rows.items ≡ map agent_values c.rows.agents) }
-    ensures seen { (d : Database) → d.schema ≡ book_schema → Sees d (state S.Store conn.old) (state S.Store conn.new) result (λ rows. IsPermutation (rows_in table.Agents d.trees) rows.items) }
-{
-    read(conn, SELECT_AGENTS, &[])
-}
-
-pub fn call_rows<S: Alter>(conn: &mut Connection<S>) -> Result<Vec<Row>, Error>
-    requires { conn.old.in_transaction ≡ false }
-    ensures idle { conn.new.in_transaction ≡ false }
-    ensures found { Finds (state S.Store conn.old) (state S.Store conn.new) result (λ c rows. rows.items ≡ map call_values c.rows.calls) }
-    ensures seen { (d : Database) → d.schema ≡ book_schema → Sees d (state S.Store conn.old) (state S.Store conn.new) result (λ rows. IsPermutation (rows_in table.Calls d.trees) rows.items) }
-{
-    read(conn, SELECT_CALLS, &[])
-}
-
-pub fn monitor_rows<S: Alter>(conn: &mut Connection<S>) -> Result<Vec<Row>, Error>
-    requires { conn.old.in_transaction ≡ false }
-    ensures idle { conn.new.in_transaction ≡ false }
-    ensures found { Finds (state S.Store conn.old) (state S.Store conn.new) result (λ c rows. rows.items ≡ map monitor_values c.rows.monitors) }
-    ensures seen { (d : Database) → d.schema ≡ book_schema → Sees d (state S.Store conn.old) (state S.Store conn.new) result (λ rows. IsPermutation (rows_in table.Monitors d.trees) rows.items) }
-{
-    read(conn, SELECT_MONITORS, &[])
-}
 
 /// The row of a monitor, if it is running.
 pub fn monitor_row<S: Alter>(conn: &mut Connection<S>, monitor: u64) -> Result<Vec<Row>, Error>

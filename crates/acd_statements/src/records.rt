@@ -1,15 +1,17 @@
 //! The records that the tables hold, each with its texts and the values that its statements take.
 
 use crate::bind;
-use crate::stored::{Changed, Described, Removed, Stored};
+use crate::stored::{Changed, Described, Removed, Selected, Stored};
 use crate::write::changed_rows;
 use acd_columns::codes::{agent_code, kind_code};
+use acd_columns::decode;
 use acd_columns::texts::{
     DELETE_CALL, DELETE_MONITOR, INSERT_AGENT, INSERT_CALL, INSERT_EVENT, INSERT_GROUP,
-    INSERT_MONITOR, INSERT_STATION, UPDATE_AGENT, UPDATE_CALL, UPDATE_GROUP, UPDATE_MONITOR,
+    INSERT_MONITOR, INSERT_STATION, SELECT_AGENTS, SELECT_CALLS, SELECT_GROUPS, SELECT_MONITORS,
+    SELECT_STATIONS, UPDATE_AGENT, UPDATE_CALL, UPDATE_GROUP, UPDATE_MONITOR,
 };
 use acd_terms::{AgentRecord, CallRecord, Event, GroupRecord, MonitorRecord, StationRecord};
-use sqlite::{Alter, Error, Transaction};
+use sqlite::{Alter, Error, Row, Transaction};
 
 // ---- groups
 
@@ -21,6 +23,8 @@ impl Described for GroupRecord {
     ghost use Rattle.acd_columns.proofs.TablesFiled.{groups_filed};
 
     ghost filed = { groups_filed };
+
+    ghost reads = { λ r. tt };
 }
 
 impl Stored for GroupRecord {
@@ -43,8 +47,6 @@ impl Stored for GroupRecord {
         ];
         changed_rows(tx, sql, &values)
     }
-
-    ghost reads = { λ r. tt };
 }
 
 impl Changed for GroupRecord {
@@ -61,6 +63,24 @@ impl Changed for GroupRecord {
     }
 }
 
+impl Selected for GroupRecord {
+    ghost use Rattle.acd_columns.specs.declared.texts.TheConstants.{SELECT_GROUPS};
+
+    ghost select = { SELECT_GROUPS.now };
+
+    ghost use Rattle.acd_columns.proofs.TablesFiled.{groups_selects};
+
+    ghost selects = { groups_selects };
+
+    fn select_text() -> &'static str {
+        SELECT_GROUPS
+    }
+
+    fn decode(row: &Row) -> Option<GroupRecord> {
+        decode::group_in(row)
+    }
+}
+
 // ---- stations
 
 impl Described for StationRecord {
@@ -71,6 +91,8 @@ impl Described for StationRecord {
     ghost use Rattle.acd_columns.proofs.TablesFiled.{stations_filed};
 
     ghost filed = { stations_filed };
+
+    ghost reads = { λ r. tt };
 }
 
 impl Stored for StationRecord {
@@ -82,8 +104,24 @@ impl Stored for StationRecord {
         let values = [bind::device(self.device)];
         changed_rows(tx, sql, &values)
     }
+}
 
-    ghost reads = { λ r. tt };
+impl Selected for StationRecord {
+    ghost use Rattle.acd_columns.specs.declared.texts.TheConstants.{SELECT_STATIONS};
+
+    ghost select = { SELECT_STATIONS.now };
+
+    ghost use Rattle.acd_columns.proofs.TablesFiled.{stations_selects};
+
+    ghost selects = { stations_selects };
+
+    fn select_text() -> &'static str {
+        SELECT_STATIONS
+    }
+
+    fn decode(row: &Row) -> Option<StationRecord> {
+        decode::station_in(row)
+    }
 }
 
 // ---- agents
@@ -96,6 +134,8 @@ impl Described for AgentRecord {
     ghost use Rattle.acd_columns.proofs.TablesFiled.{agents_filed};
 
     ghost filed = { agents_filed };
+
+    ghost reads = { λ r. tt };
 }
 
 impl Stored for AgentRecord {
@@ -116,8 +156,6 @@ impl Stored for AgentRecord {
         ];
         changed_rows(tx, sql, &values)
     }
-
-    ghost reads = { λ r. tt };
 }
 
 impl Changed for AgentRecord {
@@ -134,6 +172,24 @@ impl Changed for AgentRecord {
     }
 }
 
+impl Selected for AgentRecord {
+    ghost use Rattle.acd_columns.specs.declared.texts.TheConstants.{SELECT_AGENTS};
+
+    ghost select = { SELECT_AGENTS.now };
+
+    ghost use Rattle.acd_columns.proofs.TablesFiled.{agents_selects};
+
+    ghost selects = { agents_selects };
+
+    fn select_text() -> &'static str {
+        SELECT_AGENTS
+    }
+
+    fn decode(row: &Row) -> Option<AgentRecord> {
+        decode::agent_in(row)
+    }
+}
+
 // ---- calls
 
 impl Described for CallRecord {
@@ -144,6 +200,8 @@ impl Described for CallRecord {
     ghost use Rattle.acd_columns.proofs.TablesFiled.{calls_filed};
 
     ghost filed = { calls_filed };
+
+    ghost reads = { λ r. tt };
 }
 
 impl Stored for CallRecord {
@@ -160,8 +218,6 @@ impl Stored for CallRecord {
         ];
         changed_rows(tx, sql, &values)
     }
-
-    ghost reads = { λ r. tt };
 }
 
 impl Changed for CallRecord {
@@ -192,6 +248,24 @@ impl Removed for CallRecord {
     }
 }
 
+impl Selected for CallRecord {
+    ghost use Rattle.acd_columns.specs.declared.texts.TheConstants.{SELECT_CALLS};
+
+    ghost select = { SELECT_CALLS.now };
+
+    ghost use Rattle.acd_columns.proofs.TablesFiled.{calls_selects};
+
+    ghost selects = { calls_selects };
+
+    fn select_text() -> &'static str {
+        SELECT_CALLS
+    }
+
+    fn decode(row: &Row) -> Option<CallRecord> {
+        decode::call_in(row)
+    }
+}
+
 // ---- monitors
 
 impl Described for MonitorRecord {
@@ -202,6 +276,8 @@ impl Described for MonitorRecord {
     ghost use Rattle.acd_columns.proofs.TablesFiled.{monitors_filed};
 
     ghost filed = { monitors_filed };
+
+    ghost reads = { λ r. tt };
 }
 
 impl Stored for MonitorRecord {
@@ -217,8 +293,6 @@ impl Stored for MonitorRecord {
         ];
         changed_rows(tx, sql, &values)
     }
-
-    ghost reads = { λ r. tt };
 }
 
 impl Changed for MonitorRecord {
@@ -249,6 +323,24 @@ impl Removed for MonitorRecord {
     }
 }
 
+impl Selected for MonitorRecord {
+    ghost use Rattle.acd_columns.specs.declared.texts.TheConstants.{SELECT_MONITORS};
+
+    ghost select = { SELECT_MONITORS.now };
+
+    ghost use Rattle.acd_columns.proofs.TablesFiled.{monitors_selects};
+
+    ghost selects = { monitors_selects };
+
+    fn select_text() -> &'static str {
+        SELECT_MONITORS
+    }
+
+    fn decode(row: &Row) -> Option<MonitorRecord> {
+        decode::monitor_in(row)
+    }
+}
+
 // ---- events
 
 impl Described for Event {
@@ -259,6 +351,8 @@ impl Described for Event {
     ghost use Rattle.acd_columns.proofs.TablesFiled.{events_filed};
 
     ghost filed = { events_filed };
+
+    ghost reads = { λ r. tt };
 }
 
 impl Stored for Event {
@@ -282,6 +376,4 @@ impl Stored for Event {
         ];
         changed_rows(tx, sql, &values)
     }
-
-    ghost reads = { λ r. tt };
 }

@@ -6,7 +6,7 @@ ghost use Rattle.sqlite.specs.Held.{state};
 ghost use Rattle.acd_columns.specs.Draft.{Works};
 ghost use Rattle.acd_columns.specs.Descriptions.{Description};
 
-use sqlite::{Alter, Error, Transaction};
+use sqlite::{Alter, Error, Row, Transaction};
 
 /// A record with a table of its own, whose key is the number of its row.
 pub trait Described: Drop {
@@ -15,6 +15,8 @@ pub trait Described: Drop {
     ghost use Rattle.acd_columns.proofs.Filed.{Filed};
 
     ghost filed: { Filed descr };
+
+    ghost reads: { (r : Self) → descr.IsRead r };
 }
 
 /// A record that a statement puts.
@@ -29,8 +31,6 @@ pub trait Stored: Described {
         ensures same { tx.new.conn.ghost_name ≡ tx.old.conn.ghost_name }
         ensures works { Works (state S.Store tx.old.conn.now) (state S.Store tx.new.conn.now) }
         ensures ran { HasCleanDisk (state S.Store tx.new.conn.now) → IfOk result (λ count. Executes sql.now (Self.descr.values self.now) (state S.Store tx.old.conn.now) (state S.Store tx.new.conn.now) (Ok count)) };
-
-    ghost reads: { (r : Self) → Self.descr.IsRead r };
 }
 
 /// A record whose row can be changed.
@@ -57,4 +57,21 @@ pub trait Removed: Stored {
     ghost use Rattle.acd_columns.proofs.Filed.{Deletes};
 
     ghost deletes: { Deletes Self.descr delete };
+}
+
+/// A record that is read of its row.
+pub trait Selected: Described {
+    ghost select: { List ℕ };
+
+    /// The query of all records, in the order of their keys.
+    fn select_text() -> &'static str
+        ensures { result.now ≡ select };
+
+    /// The record of a row whose values are all in their ranges.
+    fn decode(row: &Row) -> Option<Self>
+        ensures { result ≡ Self.descr.in_row row.now };
+
+    ghost use Rattle.acd_columns.proofs.Filed.{Selects};
+
+    ghost selects: { Selects Self.descr select };
 }

@@ -1,37 +1,17 @@
-//! The tables of the book, and the query that reads each.
+//! The tables that grow with the history, and the queries that look at the rows of each.
 
-ghost use Rattle.std.specs.Prelude.{◌≡◌, false, IsPermutation};
+ghost use Rattle.std.specs.Prelude.{◌≡◌, false};
 ghost use Rattle.sqlite.specs.Effect.{Database};
 ghost use Rattle.sqlite.specs.Held.{state};
 ghost use Rattle.acd_columns.specs.Draft.{Fits};
-ghost use Rattle.acd_columns.specs.AnyRows.{table_of, rows_in, TellsLow, IsPageRows};
+ghost use Rattle.acd_columns.specs.AnyRows.{TellsLow, IsPageRows};
 ghost use Rattle.acd_columns.specs.Schema.{book_schema};
 ghost use Rattle.acd_columns.specs.Seeing.{Sees};
 
-use crate::look::{low_event_rows, low_kept_rows, unordered_connection_rows};
-use crate::query::{
-    agent_rows, call_rows, event_rows, group_rows, kept_rows, monitor_rows, station_rows,
-};
-use crate::read::meta_rows;
-use acd_columns::{Log, Whole};
+use crate::look::{low_event_rows, low_kept_rows};
+use crate::query::{event_rows, kept_rows};
+use acd_columns::Log;
 use sqlite::{Alter, Connection, Error, Row};
-
-/// All rows of a table, in any order.
-pub fn all_rows<S: Alter>(table: Whole, conn: &mut Connection<S>) -> Result<Vec<Row>, Error>
-    requires { conn.old.in_transaction ≡ false }
-    ensures idle { conn.new.in_transaction ≡ false }
-    ensures seen { (d : Database) → d.schema ≡ book_schema → Sees d (state S.Store conn.old) (state S.Store conn.new) result (λ rows. IsPermutation (rows_in (table_of table) d.trees) rows.items) }
-{
-    match table {
-        Whole::Meta => meta_rows(conn),
-        Whole::Groups => group_rows(conn),
-        Whole::Stations => station_rows(conn),
-        Whole::Agents => agent_rows(conn),
-        Whole::Calls => call_rows(conn),
-        Whole::Connections => unordered_connection_rows(conn),
-        Whole::Monitors => monitor_rows(conn),
-    }
-}
 
 /// A row whose number is below 1.
 pub fn low_rows<S: Alter>(log: Log, conn: &mut Connection<S>) -> Result<Vec<Row>, Error>

@@ -5,25 +5,25 @@ use Rattle.acd_columns.specs.Seeing.{Sees}
 use Rattle.acd_schema.proofs.inspection.is_good_table.Goals as goal
 
 pub returns-in-Meta-clause-seen : goal.returns-in-Meta-clause-seen
-returns-in-Meta-clause-seen g c d is = subst (λ t. Sees d (state g.S.Store c.args.conn.now) (state g.S.Store c.is_good_whole.new.conn) c.is_good_whole.result (λ good. TellsGood t d.trees good)) (sym c.in-Meta.is) (c.is_good_whole.ensures.seen d is)
+returns-in-Meta-clause-seen g c d is = subst (λ t. Sees d (state g.S.Store c.args.conn.now) (state g.S.Store c.is_good_meta.new.conn) c.is_good_meta.result (λ good. TellsGood t d.trees good)) (sym c.in-Meta.is) (c.is_good_meta.ensures.seen d is)
 
 pub returns-in-Groups-clause-seen : goal.returns-in-Groups-clause-seen
-returns-in-Groups-clause-seen g c d is = subst (λ t. Sees d (state g.S.Store c.args.conn.now) (state g.S.Store c.is_good_whole-in-Groups.new.conn) c.is_good_whole-in-Groups.result (λ good. TellsGood t d.trees good)) (sym c.in-Groups.is) (c.is_good_whole-in-Groups.ensures.seen d is)
+returns-in-Groups-clause-seen g c d is = subst (λ t. Sees d (state g.S.Store c.args.conn.now) (state g.S.Store c.is_good.new.conn) c.is_good.result (λ good. TellsGood t d.trees good)) (sym c.in-Groups.is) (c.is_good.ensures.seen d is)
 
 pub returns-in-Stations-clause-seen : goal.returns-in-Stations-clause-seen
-returns-in-Stations-clause-seen g c d is = subst (λ t. Sees d (state g.S.Store c.args.conn.now) (state g.S.Store c.is_good_whole-in-Stations.new.conn) c.is_good_whole-in-Stations.result (λ good. TellsGood t d.trees good)) (sym c.in-Stations.is) (c.is_good_whole-in-Stations.ensures.seen d is)
+returns-in-Stations-clause-seen g c d is = subst (λ t. Sees d (state g.S.Store c.args.conn.now) (state g.S.Store c.is_good-in-Stations.new.conn) c.is_good-in-Stations.result (λ good. TellsGood t d.trees good)) (sym c.in-Stations.is) (c.is_good-in-Stations.ensures.seen d is)
 
 pub returns-in-Agents-clause-seen : goal.returns-in-Agents-clause-seen
-returns-in-Agents-clause-seen g c d is = subst (λ t. Sees d (state g.S.Store c.args.conn.now) (state g.S.Store c.is_good_whole-in-Agents.new.conn) c.is_good_whole-in-Agents.result (λ good. TellsGood t d.trees good)) (sym c.in-Agents.is) (c.is_good_whole-in-Agents.ensures.seen d is)
+returns-in-Agents-clause-seen g c d is = subst (λ t. Sees d (state g.S.Store c.args.conn.now) (state g.S.Store c.is_good-in-Agents.new.conn) c.is_good-in-Agents.result (λ good. TellsGood t d.trees good)) (sym c.in-Agents.is) (c.is_good-in-Agents.ensures.seen d is)
 
 pub returns-in-Calls-clause-seen : goal.returns-in-Calls-clause-seen
-returns-in-Calls-clause-seen g c d is = subst (λ t. Sees d (state g.S.Store c.args.conn.now) (state g.S.Store c.is_good_whole-in-Calls.new.conn) c.is_good_whole-in-Calls.result (λ good. TellsGood t d.trees good)) (sym c.in-Calls.is) (c.is_good_whole-in-Calls.ensures.seen d is)
+returns-in-Calls-clause-seen g c d is = subst (λ t. Sees d (state g.S.Store c.args.conn.now) (state g.S.Store c.is_good-in-Calls.new.conn) c.is_good-in-Calls.result (λ good. TellsGood t d.trees good)) (sym c.in-Calls.is) (c.is_good-in-Calls.ensures.seen d is)
 
 pub returns-in-Connections-clause-seen : goal.returns-in-Connections-clause-seen
-returns-in-Connections-clause-seen g c d is = subst (λ t. Sees d (state g.S.Store c.args.conn.now) (state g.S.Store c.is_good_whole-in-Connections.new.conn) c.is_good_whole-in-Connections.result (λ good. TellsGood t d.trees good)) (sym c.in-Connections.is) (c.is_good_whole-in-Connections.ensures.seen d is)
+returns-in-Connections-clause-seen g c d is = subst (λ t. Sees d (state g.S.Store c.args.conn.now) (state g.S.Store c.are_good_connections.new.conn) c.are_good_connections.result (λ good. TellsGood t d.trees good)) (sym c.in-Connections.is) (c.are_good_connections.ensures.seen d is)
 
 pub returns-in-Monitors-clause-seen : goal.returns-in-Monitors-clause-seen
-returns-in-Monitors-clause-seen g c d is = subst (λ t. Sees d (state g.S.Store c.args.conn.now) (state g.S.Store c.is_good_whole-in-Monitors.new.conn) c.is_good_whole-in-Monitors.result (λ good. TellsGood t d.trees good)) (sym c.in-Monitors.is) (c.is_good_whole-in-Monitors.ensures.seen d is)
+returns-in-Monitors-clause-seen g c d is = subst (λ t. Sees d (state g.S.Store c.args.conn.now) (state g.S.Store c.is_good-in-Monitors.new.conn) c.is_good-in-Monitors.result (λ good. TellsGood t d.trees good)) (sym c.in-Monitors.is) (c.is_good-in-Monitors.ensures.seen d is)
 
 pub returns-in-Events-clause-seen : goal.returns-in-Events-clause-seen
 returns-in-Events-clause-seen g c d is = subst (λ t. Sees d (state g.S.Store c.args.conn.now) (state g.S.Store c.is_good_log.new.conn) c.is_good_log.result (λ good. TellsGood t d.trees good)) (sym c.in-Events.is) (c.is_good_log.ensures.seen d is)

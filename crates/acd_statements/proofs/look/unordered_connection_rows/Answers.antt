@@ -1,6 +1,7 @@
 use Rattle.sqlite.specs.Held.{state}
 use Rattle.acd_columns.specs.declared.tables.Table.TheVariants as table
-use Rattle.acd_columns.proofs.Looked.{unordered_connections, unordered_connections_plain, asks_unordered_connections, plain_of, sees_all}
+use Rattle.acd_columns.proofs.Seeing.{sees_all}
+use Rattle.acd_columns.proofs.Looked.{unordered_connections, unordered_connections_plain, asks_unordered_connections, plain_of}
 use Rattle.acd_columns.specs.declared.texts.TheConstants.{SELECT_STANDING_CONNECTIONS}
 use Rattle.acd_statements.proofs.look.unordered_connection_rows.Goals as goal
 

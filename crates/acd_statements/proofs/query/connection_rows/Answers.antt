@@ -2,7 +2,8 @@ use Rattle.sqlite.specs.Held.{state}
 use Rattle.acd_columns.proofs.Listings.{finds}
 use Rattle.acd_columns.proofs.ConnectionRows.{connections_plain, shows_connections, connections_listing}
 use Rattle.acd_columns.specs.declared.tables.Table.TheVariants as table
-use Rattle.acd_columns.proofs.Looked.{asks_connections, plain_of, sees_all}
+use Rattle.acd_columns.proofs.Seeing.{sees_all}
+use Rattle.acd_columns.proofs.Looked.{asks_connections, plain_of}
 use Rattle.acd_columns.specs.declared.texts.TheConstants.{SELECT_CONNECTIONS}
 use Rattle.acd_statements.proofs.query.connection_rows.Goals as goal
 

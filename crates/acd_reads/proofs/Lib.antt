@@ -1,4 +1,0 @@
-mod Recorded
-pub mod Chained
-mod Pages
-mod FirstFound

@@ -1,0 +1,12 @@
+use Rattle.std.proofs.Common.{ℕ, nat_lt, refl}
+use Rattle.sqlite.specs.Held.{state}
+use Rattle.acd_book.specs.Content.{Content}
+use Rattle.acd_book.specs.declared.kept.Kept.{Kept}
+use Rattle.acd_columns.specs.Rows.{kept_values}
+use Rattle.acd_statements.proofs.Pages.{paged, falls_number}
+use Rattle.acd_statements.proofs.lookups.kept_page.Goals as goal
+
+pub returns-clause-found : goal.returns-clause-found
+returns-clause-found g c =
+    paged (λ (n : ℕ) (k : Kept). nat_lt n k.stamp) (λ a b k low h. falls_number a b k.stamp low h) kept_values c.args.stamp 1 (λ (x : Content). x.kept)
+    (state g.S.Store c.args.conn.now) (state g.S.Store c.kept_rows.new.conn) c.in_ok-rows.rows c.meant.result c.min.result 1 c.min.ensures refl c.in_ok-rows.ensures.found c.meant.ensures.same c.meant.ensures.none c.meant.ensures.fewer

@@ -1,0 +1,23 @@
+use Rattle.std.proofs.Common.{◌≡◌, Err, rules, subst, sym}
+use Rattle.std.specs.Prelude.{Vec}
+use Rattle.std.specs.declared.alloc.Global.{Global}
+use Rattle.sqlite.specs.Held.{state}
+use Rattle.acd_terms.specs.declared.record.ConnectionRecord.{ConnectionRecord}
+use Rattle.acd_book.specs.Content.{Content}
+use Rattle.acd_columns.specs.Ranges.{connection_in}
+use Rattle.acd_columns.specs.Rows.{connection_values}
+use Rattle.acd_columns.proofs.Records.{connection_exact}
+use Rattle.acd_columns.proofs.Recorded.{found_none, recorded}
+use Rattle.acd_columns.specs.Finding.{Finds}
+use Rattle.acd_statements.proofs.reads.connections.Goals as goal
+
+pub returns-in_err-rows-clause-found : goal.returns-in_err-rows-clause-found
+returns-in_err-rows-clause-found g c =
+    let is : c.from_residual.result ≡ Err c.in_err-rows.field-0.0 = search rules in
+    subst (λ r. Finds (state g.S.Store c.args.conn.now) (state g.S.Store c.connection_rows.new.conn) r (λ (x : Content) (found : Vec ConnectionRecord Global). found.items ≡ x.rows.connections)) (sym is)
+    (found_none (state g.S.Store c.args.conn.now) (state g.S.Store c.connection_rows.new.conn) c.in_err-rows.field-0.0 _ (λ (x : Content) (found : Vec ConnectionRecord Global). found.items ≡ x.rows.connections) c.in_err-rows.ensures.found)
+
+pub returns-clause-found : goal.returns-clause-found
+returns-clause-found g c =
+    recorded connection_in connection_values connection_exact (state g.S.Store c.args.conn.now) (state g.S.Store c.connection_rows.new.conn) c.in_ok-rows.rows c.records.result (λ (x : Content). x.rows.connections) c.in_ok-rows.ensures.found
+    (rw c.deref.ensures.value at c.records.ensures)

@@ -1,0 +1,41 @@
+use Rattle.std.proofs.Common.{◌≡◌, Err, rules, subst, sym, ◌∙◌}
+use Rattle.std.specs.Prelude.{Vec}
+use Rattle.std.specs.declared.alloc.Global.{Global}
+use Rattle.sqlite.specs.Held.{state}
+use Rattle.acd_terms.specs.declared.record.GroupRecord.{GroupRecord}
+use Rattle.acd_terms.specs.declared.record.StationRecord.{StationRecord}
+use Rattle.acd_terms.specs.declared.record.AgentRecord.{AgentRecord}
+use Rattle.acd_terms.specs.declared.rows.Rows.{Rows}
+use Rattle.acd_book.specs.Content.{Content}
+use Rattle.acd_columns.specs.Content.{meta_of}
+use Rattle.acd_columns.specs.declared.meta.Meta.{Meta}
+use Rattle.acd_statements.proofs.Chained.{chained, broken, joined_is}
+use Rattle.acd_columns.proofs.Recorded.{found_none}
+use Rattle.acd_columns.specs.Finding.{Finds}
+use Rattle.acd_statements.proofs.reads.rows.Goals as goal
+
+pub returns-in_err-meta-clause-found : goal.returns-in_err-meta-clause-found
+returns-in_err-meta-clause-found g c =
+    let is : c.from_residual.result ≡ Err c.in_err-meta.field-0.0 = search rules in
+    subst (λ r. Finds (state g.S.Store c.args.conn.now) (state g.S.Store c.read_meta.new.conn) r (λ (x : Content) (s : Rows). s ≡ x.rows)) (sym is)
+    (found_none (state g.S.Store c.args.conn.now) (state g.S.Store c.read_meta.new.conn) c.in_err-meta.field-0.0 _ (λ (x : Content) (s : Rows). s ≡ x.rows) c.in_err-meta.ensures.found)
+
+pub returns-in_err-planned-clause-found : goal.returns-in_err-planned-clause-found
+returns-in_err-planned-clause-found g c =
+    let is : c.from_residual-in_err-planned.result ≡ Err c.in_err-planned.field-0.0 = search rules in
+    subst (λ r. Finds (state g.S.Store c.args.conn.now) (state g.S.Store c.plan.new.conn) r (λ (x : Content) (s : Rows). s ≡ x.rows)) (sym is)
+    (broken (state g.S.Store c.args.conn.now) (state g.S.Store c.read_meta.new.conn) (state g.S.Store c.plan.new.conn) c.in_ok-meta.meta _ _ c.in_ok-meta.ensures.found c.in_err-planned.field-0.0 (λ (x : Content) (s : Rows). s ≡ x.rows) c.in_err-planned.ensures.found)
+
+pub returns-in_err-live-clause-found : goal.returns-in_err-live-clause-found
+returns-in_err-live-clause-found g c =
+    let is : c.from_residual-in_err-live.result ≡ Err c.in_err-live.field-0.0 = search rules in
+    subst (λ r. Finds (state g.S.Store c.args.conn.now) (state g.S.Store c.traffic.new.conn) r (λ (x : Content) (s : Rows). s ≡ x.rows)) (sym is)
+    (broken (state g.S.Store c.args.conn.now) (state g.S.Store c.plan.new.conn) (state g.S.Store c.traffic.new.conn) (c.in_ok-meta.meta, c.in_ok-planned.planned) (λ (x : Content) (t : Meta × (Vec GroupRecord Global × Vec StationRecord Global × Vec AgentRecord Global)). (t.0 ≡ meta_of x.rows) × ((t.1.0.items ≡ x.rows.groups) × (t.1.1.items ≡ x.rows.stations) × (t.1.2.items ≡ x.rows.agents))) _
+    (chained (state g.S.Store c.args.conn.now) (state g.S.Store c.read_meta.new.conn) (state g.S.Store c.plan.new.conn) c.in_ok-meta.meta _ _ c.in_ok-meta.ensures.found c.in_ok-planned.planned (c.in_ok-meta.meta, c.in_ok-planned.planned) (λ (x : Content) (t : Meta × (Vec GroupRecord Global × Vec StationRecord Global × Vec AgentRecord Global)). (t.0 ≡ meta_of x.rows) × ((t.1.0.items ≡ x.rows.groups) × (t.1.1.items ≡ x.rows.stations) × (t.1.2.items ≡ x.rows.agents))) (λ x p q. (p, q)) c.in_ok-planned.ensures.found)
+    c.in_err-live.field-0.0 (λ (x : Content) (s : Rows). s ≡ x.rows) c.in_err-live.ensures.found)
+
+pub returns-clause-found : goal.returns-clause-found
+returns-clause-found g c =
+    chained (state g.S.Store c.args.conn.now) (state g.S.Store c.plan.new.conn) (state g.S.Store c.traffic.new.conn) (c.in_ok-meta.meta, c.in_ok-planned.planned) (λ (x : Content) (t : Meta × (Vec GroupRecord Global × Vec StationRecord Global × Vec AgentRecord Global)). (t.0 ≡ meta_of x.rows) × ((t.1.0.items ≡ x.rows.groups) × (t.1.1.items ≡ x.rows.stations) × (t.1.2.items ≡ x.rows.agents))) _
+    (chained (state g.S.Store c.args.conn.now) (state g.S.Store c.read_meta.new.conn) (state g.S.Store c.plan.new.conn) c.in_ok-meta.meta _ _ c.in_ok-meta.ensures.found c.in_ok-planned.planned (c.in_ok-meta.meta, c.in_ok-planned.planned) (λ (x : Content) (t : Meta × (Vec GroupRecord Global × Vec StationRecord Global × Vec AgentRecord Global)). (t.0 ≡ meta_of x.rows) × ((t.1.0.items ≡ x.rows.groups) × (t.1.1.items ≡ x.rows.stations) × (t.1.2.items ≡ x.rows.agents))) (λ x p q. (p, q)) c.in_ok-planned.ensures.found)
+    c.in_ok-live.live c.joined.result (λ (x : Content) (s : Rows). s ≡ x.rows) (λ x p q. c.joined.ensures ∙ joined_is x.rows _ _ _ _ _ _ _ p.0 p.1.0 p.1.1 p.1.2 q.0 q.1 q.2) c.in_ok-live.ensures.found

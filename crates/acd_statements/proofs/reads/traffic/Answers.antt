@@ -1,0 +1,38 @@
+use Rattle.std.proofs.Common.{◌≡◌, Err, rules, subst, sym}
+use Rattle.std.specs.Prelude.{Vec}
+use Rattle.std.specs.declared.alloc.Global.{Global}
+use Rattle.sqlite.specs.Held.{state}
+use Rattle.acd_terms.specs.declared.record.CallRecord.{CallRecord}
+use Rattle.acd_terms.specs.declared.record.ConnectionRecord.{ConnectionRecord}
+use Rattle.acd_terms.specs.declared.record.MonitorRecord.{MonitorRecord}
+use Rattle.acd_book.specs.Content.{Content}
+use Rattle.acd_statements.proofs.Chained.{chained, broken}
+use Rattle.acd_columns.proofs.Recorded.{found_none}
+use Rattle.acd_columns.specs.Finding.{Finds}
+use Rattle.acd_statements.proofs.reads.traffic.Goals as goal
+
+pub returns-in_err-calls-clause-found : goal.returns-in_err-calls-clause-found
+returns-in_err-calls-clause-found g c =
+    let is : c.from_residual.result ≡ Err c.in_err-calls.field-0.0 = search rules in
+    subst (λ r. Finds (state g.S.Store c.args.conn.now) (state g.S.Store c.records.new.conn) r (λ (x : Content) (t : Vec CallRecord Global × Vec ConnectionRecord Global × Vec MonitorRecord Global). (t.0.items ≡ x.rows.calls) × (t.1.items ≡ x.rows.connections) × (t.2.items ≡ x.rows.monitors))) (sym is)
+    (found_none (state g.S.Store c.args.conn.now) (state g.S.Store c.records.new.conn) c.in_err-calls.field-0.0 _ (λ (x : Content) (t : Vec CallRecord Global × Vec ConnectionRecord Global × Vec MonitorRecord Global). (t.0.items ≡ x.rows.calls) × (t.1.items ≡ x.rows.connections) × (t.2.items ≡ x.rows.monitors)) c.in_err-calls.ensures.found)
+
+pub returns-in_err-connections-clause-found : goal.returns-in_err-connections-clause-found
+returns-in_err-connections-clause-found g c =
+    let is : c.from_residual-in_err-connections.result ≡ Err c.in_err-connections.field-0.0 = search rules in
+    subst (λ r. Finds (state g.S.Store c.args.conn.now) (state g.S.Store c.connections.new.conn) r (λ (x : Content) (t : Vec CallRecord Global × Vec ConnectionRecord Global × Vec MonitorRecord Global). (t.0.items ≡ x.rows.calls) × (t.1.items ≡ x.rows.connections) × (t.2.items ≡ x.rows.monitors))) (sym is)
+    (broken (state g.S.Store c.args.conn.now) (state g.S.Store c.records.new.conn) (state g.S.Store c.connections.new.conn) c.in_ok-calls.calls _ _ c.in_ok-calls.ensures.found c.in_err-connections.field-0.0 (λ (x : Content) (t : Vec CallRecord Global × Vec ConnectionRecord Global × Vec MonitorRecord Global). (t.0.items ≡ x.rows.calls) × (t.1.items ≡ x.rows.connections) × (t.2.items ≡ x.rows.monitors)) c.in_err-connections.ensures.found)
+
+pub returns-in_err-monitors-clause-found : goal.returns-in_err-monitors-clause-found
+returns-in_err-monitors-clause-found g c =
+    let is : c.from_residual-in_err-monitors.result ≡ Err c.in_err-monitors.field-0.0 = search rules in
+    subst (λ r. Finds (state g.S.Store c.args.conn.now) (state g.S.Store c.records-2.new.conn) r (λ (x : Content) (t : Vec CallRecord Global × Vec ConnectionRecord Global × Vec MonitorRecord Global). (t.0.items ≡ x.rows.calls) × (t.1.items ≡ x.rows.connections) × (t.2.items ≡ x.rows.monitors))) (sym is)
+    (broken (state g.S.Store c.args.conn.now) (state g.S.Store c.connections.new.conn) (state g.S.Store c.records-2.new.conn) (c.in_ok-calls.calls, c.in_ok-connections.connections) (λ (x : Content) (t : Vec CallRecord Global × Vec ConnectionRecord Global). (t.0.items ≡ x.rows.calls) × (t.1.items ≡ x.rows.connections)) _
+    (chained (state g.S.Store c.args.conn.now) (state g.S.Store c.records.new.conn) (state g.S.Store c.connections.new.conn) c.in_ok-calls.calls _ _ c.in_ok-calls.ensures.found c.in_ok-connections.connections (c.in_ok-calls.calls, c.in_ok-connections.connections) (λ (x : Content) (t : Vec CallRecord Global × Vec ConnectionRecord Global). (t.0.items ≡ x.rows.calls) × (t.1.items ≡ x.rows.connections)) (λ x p q. (p, q)) c.in_ok-connections.ensures.found)
+    c.in_err-monitors.field-0.0 (λ (x : Content) (t : Vec CallRecord Global × Vec ConnectionRecord Global × Vec MonitorRecord Global). (t.0.items ≡ x.rows.calls) × (t.1.items ≡ x.rows.connections) × (t.2.items ≡ x.rows.monitors)) c.in_err-monitors.ensures.found)
+
+pub returns-clause-found : goal.returns-clause-found
+returns-clause-found g c =
+    chained (state g.S.Store c.args.conn.now) (state g.S.Store c.connections.new.conn) (state g.S.Store c.records-2.new.conn) (c.in_ok-calls.calls, c.in_ok-connections.connections) (λ (x : Content) (t : Vec CallRecord Global × Vec ConnectionRecord Global). (t.0.items ≡ x.rows.calls) × (t.1.items ≡ x.rows.connections)) _
+    (chained (state g.S.Store c.args.conn.now) (state g.S.Store c.records.new.conn) (state g.S.Store c.connections.new.conn) c.in_ok-calls.calls _ _ c.in_ok-calls.ensures.found c.in_ok-connections.connections (c.in_ok-calls.calls, c.in_ok-connections.connections) (λ (x : Content) (t : Vec CallRecord Global × Vec ConnectionRecord Global). (t.0.items ≡ x.rows.calls) × (t.1.items ≡ x.rows.connections)) (λ x p q. (p, q)) c.in_ok-connections.ensures.found)
+    c.in_ok-monitors.monitors (c.in_ok-calls.calls, c.in_ok-connections.connections, c.in_ok-monitors.monitors) (λ (x : Content) (t : Vec CallRecord Global × Vec ConnectionRecord Global × Vec MonitorRecord Global). (t.0.items ≡ x.rows.calls) × (t.1.items ≡ x.rows.connections) × (t.2.items ≡ x.rows.monitors)) (λ x p q. (p.0, p.1, q)) c.in_ok-monitors.ensures.found

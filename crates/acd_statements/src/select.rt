@@ -1,0 +1,88 @@
+//! Reads of a whole table between transactions.
+
+ghost use Rattle.std.specs.Prelude.{◌≡◌, ◌++◌, ◌∷◌, [], Some, false, map, IfOk, OnOk, IsPermutation};
+ghost use Rattle.sqlite.specs.Effect.{Database};
+ghost use Rattle.sqlite.specs.Held.{state};
+ghost use Rattle.acd_columns.specs.AnyRows.{rows_in, TellsGood};
+ghost use Rattle.acd_columns.specs.Finding.{Finds};
+ghost use Rattle.acd_columns.specs.Schema.{book_schema};
+ghost use Rattle.acd_columns.specs.Seeing.{Sees};
+ghost use Rattle.acd_columns.specs.Descriptions.{are_read};
+
+use crate::read::read;
+use crate::stored::Selected;
+use sqlite::{Alter, Connection, Error, ErrorCode, Row};
+use std::alloc::Global;
+
+/// The rows of a table, in the order of their keys.
+pub fn rows<R: Selected, S: Alter>(conn: &mut Connection<S>) -> Result<Vec<Row>, Error>
+    requires { conn.old.in_transaction ≡ false }
+    ensures idle { conn.new.in_transaction ≡ false }
+    ensures found { Finds (state S.Store conn.old) (state S.Store conn.new) result (λ c rows. rows.items ≡ map R.descr.values (R.descr.records c)) }
+    ensures seen { (d : Database) → d.schema ≡ book_schema → Sees d (state S.Store conn.old) (state S.Store conn.new) result (λ rows. IsPermutation (rows_in R.descr.table d.trees) rows.items) }
+{
+    read(conn, R::select_text(), &[])
+}
+
+fn read_one<R: Selected>(row: &Row) -> Result<R, Error>
+    ensures { IfOk result (λ one. Some one ≡ R.descr.in_row row.now) }
+{
+    match R::decode(row) {
+        Some(record) => Ok(record),
+        None => Err(Error::SqliteFailure(ErrorCode::DatabaseCorrupt)),
+    }
+}
+
+fn add<R: Drop>(records: &mut Vec<R>, one: R) -> Result<(), Error>
+    ensures { OnOk result (records.new.items ≡ records.old.items ++ one ∷ []) }
+{
+    match records.push(one) {
+        Ok(()) => Ok(()),
+        Err(_) => Err(Error::SqliteFailure(ErrorCode::OutOfMemory)),
+    }
+}
+
+fn records_of<R: Selected>(alloc: Global, rows: &[Row]) -> Result<Vec<R>, Error>
+    ensures { IfOk result (λ records. map Some records.items ≡ map R.descr.in_row rows.now) }
+{
+    let mut records = Vec::new(alloc);
+    for row in rows {
+        let one = read_one(row)?;
+        add(&mut records, one)?;
+    }
+    Ok(records)
+}
+
+/// The records of a table. A row with a value out of its range is a failure of the store.
+pub fn records<R: Selected, S: Alter>(
+    alloc: Global,
+    conn: &mut Connection<S>,
+) -> Result<Vec<R>, Error>
+    requires { conn.old.in_transaction ≡ false }
+    ensures idle { conn.new.in_transaction ≡ false }
+    ensures found { Finds (state S.Store conn.old) (state S.Store conn.new) result (λ c found. found.items ≡ R.descr.records c) }
+{
+    match rows::<R, S>(conn) {
+        Ok(rows) => records_of(alloc, &rows),
+        Err(error) => Err(error),
+    }
+}
+
+#[tactic(auto, unfolding(acd_columns::specs::Descriptions::are_read))]
+fn are_read<R: Selected>(rows: &[Row]) -> bool
+    ensures { result ≡ are_read R.descr rows.now }
+{
+    rows.iter().all(|row| R::decode(row).is_some())
+}
+
+/// Whether each value of a table is in its range.
+pub fn is_good<R: Selected, S: Alter>(conn: &mut Connection<S>) -> Result<bool, Error>
+    requires { conn.old.in_transaction ≡ false }
+    ensures idle { conn.new.in_transaction ≡ false }
+    ensures seen { (d : Database) → d.schema ≡ book_schema → Sees d (state S.Store conn.old) (state S.Store conn.new) result (λ good. TellsGood R.descr.table d.trees good) }
+{
+    match rows::<R, S>(conn) {
+        Ok(rows) => Ok(are_read::<R>(&rows)),
+        Err(error) => Err(error),
+    }
+}
