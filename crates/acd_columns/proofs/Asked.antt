@@ -28,13 +28,13 @@ use Rattle.acd_laws.proofs.State.{monitor_find}
 use Rattle.acd_book.specs.Content.{Content, kept_of, is_key, is_told}
 use Rattle.acd_book.specs.declared.kept.Kept.{Kept}
 use Rattle.acd_columns.specs.declared.tables.Table.TheVariants as table
-use Rattle.acd_columns.specs.Schema.{book_schema}
+use Rattle.acd_columns.specs.Schema.{book_schema, nine, two as both_new, names_of}
 use Rattle.acd_columns.specs.Schema as schema
 use Rattle.acd_columns.specs.Values.{id_value}
 use Rattle.acd_columns.specs.Rows.{monitor_values, monitor_row, event_values, event_row, kept_values, kept_row}
 use Rattle.acd_columns.specs.Draft.{Holds}
 use Rattle.acd_columns.proofs.KeyedRows.{id_cmp, id_tied}
-use Rattle.acd_columns.proofs.Listings.{Listing, Lists, listed, schema_is, stored}
+use Rattle.acd_columns.proofs.Listings.{Listing, Lists, listed, held_begins, stored}
 use Rattle.acd_columns.proofs.Puts.{truth_back}
 use Rattle.acd_columns.specs.declared.texts.TheConstants.{SELECT_EVENTS_AT_DEVICE, SELECT_KEPT_OF_REQUEST, SELECT_MONITOR}
 
@@ -79,7 +79,7 @@ unfolding binary
 at_device None device = refl
 at_device (Some d) device = truth (is_eq (value_cmp (id_value d) (id_value device))) ∙ id_tied d device
 
-events_at_listing : Listing SELECT_EVENTS_AT_DEVICE.now
+events_at_listing : Listing nine SELECT_EVENTS_AT_DEVICE.now
 unfolding understood everything
 events_at_listing = record {
   tree = schema.events.tree;
@@ -87,10 +87,10 @@ events_at_listing = record {
   project = col 1 0 ∷ columns 2 9;
   order = by_number;
   limit = col 0 2;
-  names = _;
-  command = refl;
-  plain = (refl, refl);
-  unlisted = refl;
+  names = names_of schema.events;
+  command = λ rest s. refl;
+  plain = λ rest s. (refl, refl);
+  unlisted = λ rest s. refl;
 }
 
 events_at_lists : (device number limit : ℕ)
@@ -104,13 +104,13 @@ events_at_lists device number limit = record {
 }
 
 pub events_at_plain : IsPlain (understood book_schema SELECT_EVENTS_AT_DEVICE.now)
-events_at_plain = events_at_listing.plain
+events_at_plain = events_at_listing.plain both_new book_schema
 
 pub shows_events_at : (device number limit : ℕ) (old new : State) (rows : List Row) (c : Content) → Holds old c
     → Shown SELECT_EVENTS_AT_DEVICE.now (id_value number ∷ id_value device ∷ id_value limit ∷ []) old new rows → rows ≡ map event_values (take limit (filter (is_told (Some device) number) c.events))
 unfolding events_at_listing
 shows_events_at device number limit old new rows c held h =
-    listed SELECT_EVENTS_AT_DEVICE.now events_at_listing _ event_row event_values (id_value number ∷ id_value device ∷ id_value limit ∷ []) (is_told (Some device) number) (events_at_lists device number limit) old new rows c.events (schema_is old c held)
+    listed SELECT_EVENTS_AT_DEVICE.now events_at_listing _ event_row event_values (id_value number ∷ id_value device ∷ id_value limit ∷ []) (is_told (Some device) number) (events_at_lists device number limit) old new rows c.events (held_begins old c held)
     (stored table.Events old c held) h
     ∙ take-map event_values limit (filter (is_told (Some device) number) c.events)
 
@@ -120,7 +120,7 @@ pub first_found : {X : Type 0} (p : X → Bool) (xs : List X) → take 1 (filter
 first_found p [] = refl
 first_found p (x ∷ xs) = elim (p x) as (λ b. take 1 (cond b (x ∷ filter p xs) (filter p xs)) ≡ option_to_list (cond b (Some x) (find p xs))) [ true ↦ refl | false ↦ first_found p xs ]
 
-monitor_listing : Listing SELECT_MONITOR.now
+monitor_listing : Listing nine SELECT_MONITOR.now
 unfolding understood everything
 monitor_listing = record {
   tree = schema.monitors.tree;
@@ -128,10 +128,10 @@ monitor_listing = record {
   project = col 1 0 ∷ columns 2 2;
   order = by_number;
   limit = lit (Int (pos 1));
-  names = _;
-  command = refl;
-  plain = (refl, refl);
-  unlisted = refl;
+  names = names_of schema.monitors;
+  command = λ rest s. refl;
+  plain = λ rest s. (refl, refl);
+  unlisted = λ rest s. refl;
 }
 
 monitor_lists : (n : ℕ) → Lists SELECT_MONITOR.now monitor_listing (λ (w : MonitorRecord). w.monitor) monitor_row monitor_values (id_value n ∷ []) (λ w. w.monitor == n)
@@ -139,12 +139,12 @@ unfolding monitor_listing binary
 monitor_lists n = record { keyed = λ w. refl; ranks = λ x y. refl; tests = λ w. truth_back _ ∙ id_tied w.monitor n; shows = λ w. refl }
 
 pub monitor_plain : IsPlain (understood book_schema SELECT_MONITOR.now)
-monitor_plain = monitor_listing.plain
+monitor_plain = monitor_listing.plain both_new book_schema
 
 pub shows_monitor : (n : ℕ) (old new : State) (rows : List Row) (c : Content) → Holds old c → Shown SELECT_MONITOR.now (id_value n ∷ []) old new rows → rows ≡ map monitor_values (option_to_list (monitor_of c.rows n))
 unfolding monitor_listing
 shows_monitor n old new rows c held h =
-    listed SELECT_MONITOR.now monitor_listing _ monitor_row monitor_values (id_value n ∷ []) (λ w. w.monitor == n) (monitor_lists n) old new rows c.rows.monitors (schema_is old c held) (stored table.Monitors old c held) h
+    listed SELECT_MONITOR.now monitor_listing _ monitor_row monitor_values (id_value n ∷ []) (λ w. w.monitor == n) (monitor_lists n) old new rows c.rows.monitors (held_begins old c held) (stored table.Monitors old c held) h
     ∙ take-map monitor_values 1 (filter (λ (w : MonitorRecord). w.monitor == n) c.rows.monitors)
     ∙ ap (map monitor_values) (first_found (λ (w : MonitorRecord). w.monitor == n) c.rows.monitors ∙ ap option_to_list (sym (monitor_find c.rows n)))
 
@@ -157,7 +157,7 @@ two true false = refl
 two false true = refl
 two false false = refl
 
-key_listing : Listing SELECT_KEPT_OF_REQUEST.now
+key_listing : Listing nine SELECT_KEPT_OF_REQUEST.now
 unfolding understood everything
 key_listing = record {
   tree = schema.kept.tree;
@@ -165,10 +165,10 @@ key_listing = record {
   project = col 1 0 ∷ columns 2 6;
   order = by_number;
   limit = lit (Int (pos 1));
-  names = _;
-  command = refl;
-  plain = (refl, refl);
-  unlisted = refl;
+  names = names_of schema.kept;
+  command = λ rest s. refl;
+  plain = λ rest s. (refl, refl);
+  unlisted = λ rest s. refl;
 }
 
 key_lists : (requester : List ℕ) (invoke : ℕ) → Lists SELECT_KEPT_OF_REQUEST.now key_listing (λ (k : Kept). k.stamp) kept_row kept_values (Text requester ∷ id_value invoke ∷ []) (λ k. is_key requester invoke k.request)
@@ -181,13 +181,13 @@ key_lists requester invoke = record {
 }
 
 pub key_plain : IsPlain (understood book_schema SELECT_KEPT_OF_REQUEST.now)
-key_plain = key_listing.plain
+key_plain = key_listing.plain both_new book_schema
 
 pub shows_kept_under : (requester : List ℕ) (invoke : ℕ) (old new : State) (rows : List Row) (c : Content) → Holds old c → Shown SELECT_KEPT_OF_REQUEST.now (Text requester ∷ id_value invoke ∷ []) old new rows
     → rows ≡ map kept_values (option_to_list (kept_of c.kept requester invoke))
 unfolding key_listing
 shows_kept_under requester invoke old new rows c held h =
-    listed SELECT_KEPT_OF_REQUEST.now key_listing _ kept_row kept_values (Text requester ∷ id_value invoke ∷ []) (λ k. is_key requester invoke k.request) (key_lists requester invoke) old new rows c.kept (schema_is old c held)
+    listed SELECT_KEPT_OF_REQUEST.now key_listing _ kept_row kept_values (Text requester ∷ id_value invoke ∷ []) (λ k. is_key requester invoke k.request) (key_lists requester invoke) old new rows c.kept (held_begins old c held)
     (stored table.Kept old c held).0 h
     ∙ take-map kept_values 1 (filter (λ (k : Kept). is_key requester invoke k.request) c.kept)
     ∙ ap (map kept_values) (first_found (λ (k : Kept). is_key requester invoke k.request) c.kept)

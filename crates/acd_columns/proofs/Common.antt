@@ -10,7 +10,7 @@ use Rattle.sqlite_rules.specs.Cast.{cast}
 use Rattle.sqlite.specs.declared.error.Error.{Error}
 use Rattle.sqlite.specs.Values.{or_null}
 use Rattle.sqlite.specs.State.{State, Executes}
-use Rattle.acd_book.specs.Content.{Content}
+use Rattle.acd_columns.specs.Relations.{Relations}
 use Rattle.acd_columns.specs.Values.{id_value}
 use Rattle.acd_columns.specs.Draft.{Drafts, Ran}
 use Rattle.acd_columns.specs.Schema.{book_schema}
@@ -21,7 +21,7 @@ run start zero = []
 run start (suc more) = col 0 start ∷ run (start + 1) more
 
 pub inert : IsInert book_schema
-inert = (tt, (tt, (tt, (((refl, refl), ((refl, refl), tt)), (tt, (((refl, refl), ((refl, refl), tt)), (tt, (tt, (tt, tt)))))))))
+inert = (tt, (tt, (tt, (((refl, refl), ((refl, refl), tt)), (tt, (((refl, refl), ((refl, refl), tt)), (tt, (tt, (tt, (((refl, refl), ((refl, refl), tt)), (((refl, refl), tt), tt)))))))))))
 
 pub either : (b : Bool) (x : Value) → cond b x x ≡ x
 either true x = refl
@@ -39,8 +39,8 @@ pub cast_maybe : {X : Type 0} (f : X → ℕ) (o : Option X) → cast Integer (o
 cast_maybe f None = cast_null
 cast_maybe f (Some x) = cast_id (f x)
 
-pub drafts : (sql : List ℕ) (params : Row) (change : Content → Content) (old new : State) (r : Result (Unit {0}) Error)
-    → ((c : Content) (count : ℕ) → Drafts old c → Executes sql params old new (Ok count) → Drafts new (change c))
-    → OnOk r (Ran sql params old new) → OnOk r ((c : Content) → Drafts old c → Drafts new (change c))
+pub drafts : (sql : List ℕ) (params : Row) (change : Relations → Relations) (old new : State) (r : Result (Unit {0}) Error)
+    → ((c : Relations) (count : ℕ) → Drafts old c → Executes sql params old new (Ok count) → Drafts new (change c))
+    → OnOk r (Ran sql params old new) → OnOk r ((c : Relations) → Drafts old c → Drafts new (change c))
 drafts sql params change old new (Err e) law ran = tt
-drafts sql params change old new (Ok x) law ran = λ (c : Content) (d : Drafts old c). law c ran.0 d ran.1
+drafts sql params change old new (Ok x) law ran = λ (c : Relations) (d : Drafts old c). law c ran.0 d ran.1

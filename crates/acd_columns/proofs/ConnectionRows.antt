@@ -29,7 +29,7 @@ use Rattle.acd_model.specs.Rules.Plan.{connection_order}
 use Rattle.acd_laws.proofs.State.{connections_total}
 use Rattle.acd_book.specs.Content.{Content}
 use Rattle.acd_columns.specs.declared.tables.Table.TheVariants as table
-use Rattle.acd_columns.specs.Schema.{book_schema}
+use Rattle.acd_columns.specs.Schema.{book_schema, nine, two, names_of}
 use Rattle.acd_columns.specs.Schema as schema
 use Rattle.acd_columns.specs.Values.{id_value}
 use Rattle.acd_columns.specs.Rows.{connection_values, connection_row}
@@ -44,7 +44,7 @@ use Rattle.acd_columns.proofs.Ordered.{given, answered}
 use Rattle.acd_columns.proofs.Scans.{filter_all, passing}
 use Rattle.acd_columns.specs.declared.texts.TheConstants.{SELECT_CONNECTIONS}
 
-unfoldable pub connections_listing : Listing SELECT_CONNECTIONS.now
+unfoldable pub connections_listing : Listing nine SELECT_CONNECTIONS.now
 unfolding understood everything
 connections_listing = record {
   tree = schema.connections.tree;
@@ -52,14 +52,14 @@ connections_listing = record {
   project = columns 1 7;
   order = (col 1 1, ascending Binary) ∷ (col 1 2, ascending Binary) ∷ [];
   limit = lit (Int (negsuc 0));
-  names = _;
-  command = refl;
-  plain = (refl, refl);
-  unlisted = refl;
+  names = names_of schema.connections;
+  command = λ rest s. refl;
+  plain = λ rest s. (refl, refl);
+  unlisted = λ rest s. refl;
 }
 
 pub connections_plain : IsPlain (understood book_schema SELECT_CONNECTIONS.now)
-connections_plain = connections_listing.plain
+connections_plain = connections_listing.plain two book_schema
 
 -- what a row is sorted by, and what it shows
 abbrev part : Row → Output
@@ -135,7 +135,7 @@ pub shows_connections : (old new : State) (rows : List Row) (c : Content) → Ho
 unfolding connections_listing
 shows_connections old new rows c held h =
     let it = connections_listing in
-    let read = reads_as SELECT_CONNECTIONS.now [] old new book_schema (schema_is old c held) _ it.command it.plain it.unlisted rows h in
+    let read = reads_as SELECT_CONNECTIONS.now [] old new book_schema (schema_is old c held) _ (it.command two book_schema) (it.plain two book_schema) (it.unlisted two book_schema) rows h in
     let all = shown_all (old.now.trees schema.connections.tree) c.rows.connections (stored table.Connections old c held) in
     let every : map part (old.now.trees schema.connections.tree) ≡ map (given (query_of it) []) (passing [] [] (old.now.trees schema.connections.tree)) = ap (map part) (sym (filter_all (old.now.trees schema.connections.tree))) in
     answered connection_order connections_total it.tree it.terms it.project it.order it.limit old.now.trees [] rows out c.rows.connections ranks (stored table.Connections old c held).ascending

@@ -38,7 +38,7 @@ use Rattle.sqlite.proofs.Callers.{one_permutation}
 use Rattle.sqlite_tied.specs.Compute.{everything}
 use Rattle.acd_terms.specs.Lists.{put_by, remove_by}
 use Rattle.acd_model.specs.Scans.{at_connection}
-use Rattle.acd_book.specs.Content.{Content}
+use Rattle.acd_columns.specs.Relations.{Relations}
 use Rattle.acd_laws.proofs.Lists.{is_eq_of}
 use Rattle.acd_laws.proofs.State.{is_of_true, is_of_self}
 use Rattle.acd_columns.specs.declared.tables.Table.TheVariants as table
@@ -215,23 +215,23 @@ module _ (db : Trees) (records : List ConnectionRecord) (are : AreConnections (d
       subst (λ d. AreConnections (edited db d) (put_by (connection_order r) records r)) (sym edit_is)
       (changed_one i x here same.0 same.1 (subst (λ d. are_fresh (left_by db d) d.news ≡ true) edit_is fresh))
 
-pub sets_connection : (r : ConnectionRecord) (c : Content) (old new : State) (count : ℕ) → Drafts old c → Executes UPDATE_CONNECTION.now (connection_values r) old new (Ok count) → (count ≡ 0 → ⊥)
-    → Drafts new (with_part table.Connections (put_by (at_connection r.call r.device) c.rows.connections r) c)
+pub sets_connection : (r : ConnectionRecord) (c : Relations) (old new : State) (count : ℕ) → Drafts old c → Executes UPDATE_CONNECTION.now (connection_values r) old new (Ok count) → (count ≡ 0 → ⊥)
+    → Drafts new (with_part table.Connections (put_by (at_connection r.call r.device) c.connections r) c)
 unfolding connection_change
 sets_connection r c old new count d ran some =
     let db = old.now.trees in
     let made = updated book_schema UPDATE_CONNECTION.now connection_change (connection_values r) old new count d.schema ran in
-    let are = changed_some db c.rows.connections (d.encodes table.Connections) r made.rows count made.found made.counted some made.changed.applies.fresh in
+    let are = changed_some db c.connections (d.tables table.Connections) r made.rows count made.found made.counted some made.changed.applies.fresh in
     drafted table.Connections _ (edited db (put_edit db made.rows)) old new c are (replaces book_schema old new (put_edit db made.rows) (edited db (put_edit db made.rows)) made.changed refl) d
 
 -- where the UPDATE changed no row, what an INSERT behind it makes is made of what was there
-pub behind_none : (r : ConnectionRecord) (change : Content → Content) (old mid new : State) (none : ℕ) (result : Result (Unit {0}) Error) → Executes UPDATE_CONNECTION.now (connection_values r) old mid (Ok none) → none ≡ 0
-    → OnOk result ((c : Content) → Drafts mid c → Drafts new (change c)) → OnOk result ((c : Content) → Drafts old c → Drafts new (change (with_part table.Connections c.rows.connections c)))
+pub behind_none : (r : ConnectionRecord) (change : Relations → Relations) (old mid new : State) (none : ℕ) (result : Result (Unit {0}) Error) → Executes UPDATE_CONNECTION.now (connection_values r) old mid (Ok none) → none ≡ 0
+    → OnOk result ((c : Relations) → Drafts mid c → Drafts new (change c)) → OnOk result ((c : Relations) → Drafts old c → Drafts new (change (with_part table.Connections c.connections c)))
 unfolding connection_change
 behind_none r change old mid late none (Err e) ran missed put = tt
-behind_none r change old mid late none (Ok x) ran missed put = λ (c : Content) (d : Drafts old c).
-    put (with_part table.Connections c.rows.connections c)
-    (drafted table.Connections c.rows.connections (old.now.trees connections.tree) old mid c (d.encodes table.Connections) (set_none book_schema UPDATE_CONNECTION.now connection_change (connection_values r) old mid none d.schema ran missed) d)
+behind_none r change old mid late none (Ok x) ran missed put = λ (c : Relations) (d : Drafts old c).
+    put (with_part table.Connections c.connections c)
+    (drafted table.Connections c.connections (old.now.trees connections.tree) old mid c (d.tables table.Connections) (set_none book_schema UPDATE_CONNECTION.now connection_change (connection_values r) old mid none d.schema ran missed) d)
 
 -- ---- a connection inserted
 
@@ -288,8 +288,8 @@ module _ (rows : List Row) (next : Trees) (records : List ConnectionRecord) (are
   pub inserted_beside : AreConnections (put_all rows (own ∷ [])) (put_by (connection_order r) records r)
   inserted_beside = placed rows rows records are are.rising n r fresh (λ row there. (there, free row there)) (λ row there other. there)
 
-pub inserts_connection : (r : ConnectionRecord) (c : Content) (old new : State) (count : ℕ) → Drafts old c → Executes INSERT_CONNECTION.now (connection_values r) old new (Ok count)
-    → Drafts new (with_part table.Connections (put_by (at_connection r.call r.device) c.rows.connections r) c)
+pub inserts_connection : (r : ConnectionRecord) (c : Relations) (old new : State) (count : ℕ) → Drafts old c → Executes INSERT_CONNECTION.now (connection_values r) old new (Ok count)
+    → Drafts new (with_part table.Connections (put_by (at_connection r.call r.device) c.connections r) c)
 unfolding new_connection
 inserts_connection r c old new count d ran =
     let rows = old.now.trees connections.tree in
@@ -297,7 +297,7 @@ inserts_connection r c old new count d ran =
     let own = ap (with_rowid Chosen rows) (cast_values Null r cast_null) in
     let fresh = subst (λ k. are_fresh rows (k ∷ []) ≡ true) own made.applies.fresh in
     let is = made.applies.rows ∙ ap (λ k. put_all rows (k ∷ [])) own in
-    let are = inserted_beside rows new.now.trees c.rows.connections (d.encodes table.Connections) (next_rowid rows) r fresh is made.applies.fits in
+    let are = inserted_beside rows new.now.trees c.connections (d.tables table.Connections) (next_rowid rows) r fresh is made.applies.fits in
     drafted table.Connections _ (put_all rows (connection_row (next_rowid rows) r ∷ [])) old new c are
     (replaces book_schema old new (insertion_edit new_connection (connection_values r) old.now.trees) _ made (ap (λ k. put_all rows (k ∷ [])) own)) d
 
@@ -355,11 +355,11 @@ module _ (db : Trees) (records : List ConnectionRecord) (are : AreConnections (d
       (λ row was other. has_kept (λ y. not (hit y)) rows row was (ap not (stays row was other)))
       (λ row there. let was = has_filtered (λ y. not (hit y)) rows row there in (was.0, λ key. let out = left_out row was.0 key in cc (ap not out, was.1))))
 
-pub drops_connection : (call device : ℕ) (c : Content) (old new : State) (count : ℕ) → Drafts old c → Executes DELETE_CONNECTION.now (id_value call ∷ id_value device ∷ []) old new (Ok count)
-    → Drafts new (with_part table.Connections (remove_by (at_connection call device) c.rows.connections) c)
+pub drops_connection : (call device : ℕ) (c : Relations) (old new : State) (count : ℕ) → Drafts old c → Executes DELETE_CONNECTION.now (id_value call ∷ id_value device ∷ []) old new (Ok count)
+    → Drafts new (with_part table.Connections (remove_by (at_connection call device) c.connections) c)
 unfolding no_connection
 drops_connection call device c old new count d ran =
     let db = old.now.trees in
     let made = deleted book_schema DELETE_CONNECTION.now no_connection (id_value call ∷ id_value device ∷ []) old new count d.schema ran in
-    drafted table.Connections _ (without_all (db connections.tree) (ids_of made.rows)) old new c (taken db c.rows.connections (d.encodes table.Connections) call device made.rows made.found)
+    drafted table.Connections _ (without_all (db connections.tree) (ids_of made.rows)) old new c (taken db c.connections (d.tables table.Connections) call device made.rows made.found)
     (replaces book_schema old new (deletion_edit no_connection made.rows db) _ made.changed refl) d

@@ -22,7 +22,11 @@ use Rattle.acd_laws.proofs.Lists.{after_among, among-put, among-put_other, ascen
 use Rattle.acd_laws.proofs.State.{connections_total}
 use Rattle.acd_columns.specs.declared.tables.Table.TheVariants as table
 use Rattle.acd_columns.specs.declared.meta.Meta.{Meta}
-use Rattle.acd_columns.specs.Content.{AreRows, AreConnections, Encodes, tree_of, meta_of}
+use Rattle.acd_columns.specs.declared.tables.Table.{Table}
+use Rattle.acd_columns.specs.declared.tables.Version.{Version}
+use Rattle.acd_columns.specs.declared.tables.Version.TheVariants as version
+use Rattle.acd_columns.specs.Relations.{meta_of, relations_of}
+use Rattle.acd_columns.specs.Content.{AreRows, AreConnections, Encodes, EncodesAs, StoresAs, IsIn, number_of, part, tree_of}
 use Rattle.acd_columns.specs.Rows.{IsReadable, group_row, station_row, agent_row, call_row, connection_row, monitor_row, event_row, kept_row}
 use Rattle.acd_columns.specs.Decoding.{as_group, as_station, as_agent, as_call, as_connection, as_monitor, as_event, as_kept}
 use Rattle.acd_columns.proofs.Records.{group_back, station_back, agent_back, call_back, connection_back, monitor_back, meta_back}
@@ -107,6 +111,21 @@ module _ (rows : List Row) (records : List ConnectionRecord) (are : AreConnectio
 
 -- ---- the whole
 
+-- each version has the nine tables
+pub old_in : (v : Version) (t : Table) → IsIn version.First t → IsIn v t
+old_in version.First t h = h
+old_in version.Second table.AgentGroups h = absurd h
+old_in version.Second table.GroupPriority h = absurd h
+old_in version.Second table.Meta h = tt
+old_in version.Second table.Groups h = tt
+old_in version.Second table.Stations h = tt
+old_in version.Second table.Agents h = tt
+old_in version.Second table.Calls h = tt
+old_in version.Second table.Connections h = tt
+old_in version.Second table.Monitors h = tt
+old_in version.Second table.Events h = tt
+old_in version.Second table.Kept h = tt
+
 abbrev pub with_all : Meta → List GroupRecord → List StationRecord → List AgentRecord → List CallRecord → List ConnectionRecord → List MonitorRecord → List Event → List Kept → Content
 with_all m groups stations agents calls connections monitors events kept = record {
   rows = record {
@@ -127,19 +146,20 @@ with_all m groups stations agents calls connections monitors events kept = recor
   kept = kept;
 }
 
--- what is stored is what the tables stand for
-pub decoded : (db : Trees) (c : Content) → Encodes db c → content_of db ≡ c
+-- what is stored is what the tables stand for, in either version
+pub decoded_as : (v : Version) (db : Trees) (c : Content) → EncodesAs v db c → content_of db ≡ c
 unfolding content_of
-decoded db c is =
-    let groups = rows_back as_group group_row _ (db (tree_of table.Groups)) c.rows.groups (is table.Groups) group_back in
-    let stations = rows_back as_station station_row _ (db (tree_of table.Stations)) c.rows.stations (is table.Stations) station_back in
-    let agents = rows_back as_agent agent_row _ (db (tree_of table.Agents)) c.rows.agents (is table.Agents) agent_back in
-    let calls = rows_back as_call call_row _ (db (tree_of table.Calls)) c.rows.calls (is table.Calls) call_back in
-    let connections = connections_back (db (tree_of table.Connections)) c.rows.connections (is table.Connections) in
-    let monitors = rows_back as_monitor monitor_row _ (db (tree_of table.Monitors)) c.rows.monitors (is table.Monitors) monitor_back in
-    let events = rows_back as_event event_row _ (db (tree_of table.Events)) c.events (is table.Events) event_back in
-    let kept = ap (records_in as_kept) (is table.Kept).0.rows_are ∙ kept_each_back c.kept (is table.Kept).1 in
-    let m : meta_stored (db (tree_of table.Meta)) ≡ meta_of c.rows = ap meta_stored (is table.Meta) ∙ meta_back (meta_of c.rows) in
+decoded_as v db c h =
+    let is : (t : Table) → IsIn version.First t → StoresAs (number_of v) t (db (tree_of t)) (part t (relations_of c)) = λ t old. h t (old_in v t old) in
+    let groups = rows_back as_group group_row _ (db (tree_of table.Groups)) c.rows.groups (is table.Groups tt) group_back in
+    let stations = rows_back as_station station_row _ (db (tree_of table.Stations)) c.rows.stations (is table.Stations tt) station_back in
+    let agents = rows_back as_agent agent_row _ (db (tree_of table.Agents)) c.rows.agents (is table.Agents tt) agent_back in
+    let calls = rows_back as_call call_row _ (db (tree_of table.Calls)) c.rows.calls (is table.Calls tt) call_back in
+    let connections = connections_back (db (tree_of table.Connections)) c.rows.connections (is table.Connections tt) in
+    let monitors = rows_back as_monitor monitor_row _ (db (tree_of table.Monitors)) c.rows.monitors (is table.Monitors tt) monitor_back in
+    let events = rows_back as_event event_row _ (db (tree_of table.Events)) c.events (is table.Events tt) event_back in
+    let kept = ap (records_in as_kept) (is table.Kept tt).0.rows_are ∙ kept_each_back c.kept (is table.Kept tt).1 in
+    let m : meta_stored (db (tree_of table.Meta)) ≡ meta_of c.rows = ap meta_stored (is table.Meta tt) ∙ meta_back (meta_of c.rows) in
     let g-0 = records_in as_group (db (tree_of table.Groups)) in
     let s-0 = records_in as_station (db (tree_of table.Stations)) in
     let a-0 = records_in as_agent (db (tree_of table.Agents)) in
@@ -158,3 +178,6 @@ decoded db c is =
     ∙ ap (λ v. with_all n c.rows.groups c.rows.stations c.rows.agents c.rows.calls c.rows.connections v e-0 r-0) monitors
     ∙ ap (λ v. with_all n c.rows.groups c.rows.stations c.rows.agents c.rows.calls c.rows.connections c.rows.monitors v r-0) events
     ∙ ap (λ v. with_all n c.rows.groups c.rows.stations c.rows.agents c.rows.calls c.rows.connections c.rows.monitors c.events v) kept
+
+pub decoded : (db : Trees) (c : Content) → Encodes db c → content_of db ≡ c
+decoded db c is = decoded_as version.Second db c (λ t here. is t)

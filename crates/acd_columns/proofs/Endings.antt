@@ -6,6 +6,7 @@ use Rattle.sqlite.specs.Effect.{Database}
 use Rattle.sqlite.specs.State.{State, HasCleanDisk, KeepsCommit, KeepsCounts, IsRolledBack, Shows, Survives}
 use Rattle.sqlite.specs.Steps.{FailsToCommit}
 use Rattle.acd_book.specs.Content.{Content}
+use Rattle.acd_columns.specs.Relations.{relations_of}
 use Rattle.acd_columns.specs.Content.{Encodes}
 use Rattle.sqlite.proofs.StateLemmas.{survives_then}
 use Rattle.acd_columns.specs.Draft.{Drafts, Holds, Works, AddsStop}
@@ -32,10 +33,10 @@ not_committed old mid new (Err e) kept drafts fails = λ (c : Content) (h : Hold
   | inr late ↦ absurd (let e = sym (drafts c h) ∙ late.1 in cc)
 ]
 
-pub begins : (old begun : State) (c : Content) → begun.in_transaction ≡ true → begun.now ≡ old.now → Holds old c → Drafts begun c
+pub begins : (old begun : State) (c : Content) → begun.in_transaction ≡ true → begun.now ≡ old.now → Holds old c → Drafts begun (relations_of c)
 begins old begun c inside same h =
     let now = same ∙ h.idle in
-    record { inside = inside; schema = ap (λ (d : Database). d.schema) now ∙ h.schema; encodes = subst (λ (d : Database). Encodes d.trees c) (sym now) h.encodes }
+    record { inside = inside; schema = ap (λ (d : Database). d.schema) now ∙ h.schema; tables = subst (λ (d : Database). Encodes d.trees c) (sym now) h.encodes }
 
 pub works_still : (s : State) → Works s s
 works_still s = record {
@@ -53,24 +54,24 @@ works_on a b c p q = record {
 }
 
 -- what the transaction made is what the connection holds
-pub holds_drafted : (mid new : State) (c : Content) → Drafts mid c → Shows mid new mid.now mid.now false → Holds new c
+pub holds_drafted : (mid new : State) (c : Content) → Drafts mid (relations_of c) → Shows mid new mid.now mid.now false → Holds new c
 holds_drafted mid new c d s = record {
   is_open = s.is_open;
   idle = s.now_is ∙ sym s.committed_is;
   schema = ap (λ (d : Database). d.schema) s.committed_is ∙ d.schema;
-  encodes = subst (λ (d : Database). Encodes d.trees c) (sym s.committed_is) d.encodes;
+  encodes = subst (λ (d : Database). Encodes d.trees c) (sym s.committed_is) d.tables;
 }
 
 -- the end of a transaction makes what was drafted
-pub made_whole : (old mid new : State) (r : Result (Unit {0}) Error) (change : Content → Content) → ((c : Content) → Holds old c → Drafts mid (change c))
+pub made_whole : (old mid new : State) (r : Result (Unit {0}) Error) (change : Content → Content) → ((c : Content) → Holds old c → Drafts mid (relations_of (change c)))
     → OnOk r (IsTrue mid.in_transaction × Shows mid new mid.now mid.now false × KeepsCounts mid new × (new.marks ≡ [])) → OnOk r ((c : Content) → Holds old c → Holds new (change c))
 made_whole old mid new (Err e) change put ended = tt
 made_whole old mid new (Ok x) change put ended = λ (c : Content) (h : Holds old c). holds_drafted mid new (change c) (put c h) ended.1
 
 -- and nothing else is added to the stops
 pub adds_stop : (old begun mid new : State) (change : Content → Content) → ((db : Trees) → begun.may_leave db → old.may_leave db) → Survives begun mid (λ _. ⊥) → Survives mid new (λ db. db ≡ mid.now.trees)
-    → ((c : Content) → Holds old c → Drafts mid (change c)) → HasCleanDisk mid → HasCleanDisk new → AddsStop old new change
+    → ((c : Content) → Holds old c → Drafts mid (relations_of (change c))) → HasCleanDisk mid → HasCleanDisk new → AddsStop old new change
 adds_stop old begun mid new change back first second put middle late db left = elim (second.crash late db left) [
   | inl was ↦ elim (first.crash middle db was) [ inl older ↦ inl (back db older) | inr none ↦ absurd none ]
-  | inr made ↦ inr (λ c h. subst (λ d. Encodes d (change c)) (sym made) (put c h).encodes)
+  | inr made ↦ inr (λ c h. subst (λ d. Encodes d (change c)) (sym made) (put c h).tables)
 ]

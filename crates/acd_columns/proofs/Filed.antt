@@ -13,6 +13,7 @@ use Rattle.sqlite_sql.specs.Term.{Term, lit, col, op2, holds}
 use Rattle.sqlite_sql.specs.declared.ops.BinaryOp.TheVariants.{Compare}
 use Rattle.sqlite_sql.specs.declared.ops.CompareOp.TheVariants.{Eq}
 use Rattle.sqlite_schema.specs.declared.schema.Table.{Table as MadeTable}
+use Rattle.sqlite_schema.specs.declared.schema.Schema.{Schema}
 use Rattle.sqlite_schema.specs.declared.command.Command.{Command}
 use Rattle.sqlite_schema.specs.declared.command.Source.TheVariants.{Values}
 use Rattle.sqlite_schema.specs.declared.command.Command.TheVariants.{Insert, Update, Delete, Select}
@@ -28,12 +29,13 @@ use Rattle.acd_book.specs.Content.{Content}
 use Rattle.acd_columns.specs.Rows.{keyed_row}
 use Rattle.acd_columns.specs.Values.{id_value}
 use Rattle.acd_columns.specs.AnyRows.{values_in, is_good}
-use Rattle.acd_columns.specs.Content.{AreRows, Encodes, tree_of}
+use Rattle.acd_columns.specs.Relations.{Relations, relations_of}
+use Rattle.acd_columns.specs.Content.{AreRows, AreTables, tree_of}
 use Rattle.acd_columns.specs.Draft.{Drafts, Holds}
-use Rattle.acd_columns.specs.Schema.{table_of, book_schema}
+use Rattle.acd_columns.specs.Schema.{table_of, book_schema, nine, with_behind, names_of}
 use Rattle.acd_columns.proofs.Asked.{columns, by_number, no_limit, above_parameter, above}
 use Rattle.acd_columns.proofs.KeyedRows.{by_key, id_tied}
-use Rattle.acd_columns.proofs.Listings.{Listing, Lists, listed, schema_is}
+use Rattle.acd_columns.proofs.Listings.{Listing, Lists, listed, held_begins}
 use Rattle.acd_columns.proofs.Seeing.{AsksAll}
 use Rattle.acd_columns.proofs.Ordered.{asking}
 use Rattle.acd_columns.proofs.Puts.{Files, Inserts, inserted_row, truth_back}
@@ -79,18 +81,17 @@ module _ {R : Type 0} (d : Description R) where
     pub of_row : (row : Row) → ◌≡◌ {A = Row × Bool} (showing [] (shown_columns d.behind) row, is_good d.table row) (values_in d.table row, is_some (d.in_row row))
     pub casts : (r : R) → cast_row (table_of d.layout) (row_of d r) ≡ row_of d r
     pub exact : (row : Row) (x y : R) → d.IsRead y → d.in_row row ≡ Some x → row ≡ d.values y → x ≡ y
-    -- the content
-    pub held : (c : Content) (db : Trees) → Encodes db c → AreRows d.key (row_of d) (db d.layout.tree) (d.records c) × Every d.IsRead (d.records c)
-    pub framed : (rs : List R) (rows : List Row) (old new : Trees) (c : Content) → AreRows d.key (row_of d) rows rs → Every d.IsRead rs → new d.layout.tree ≡ rows
-        → AllByRecursion (λ (u : MadeTable). u.tree ≢ d.layout.tree → new u.tree ≡ old u.tree) book_schema.tables → Encodes old c → Encodes new (d.with_records rs c)
-    pub unchanged : (c : Content) → d.with_records (d.records c) c ≡ c
+    -- the relations
+    pub held : (c : Relations) (db : Trees) → AreTables db c → AreRows d.key (row_of d) (db d.layout.tree) (d.records c) × Every d.IsRead (d.records c)
+    pub framed : (rs : List R) (rows : List Row) (old new : Trees) (c : Relations) → AreRows d.key (row_of d) rows rs → Every d.IsRead rs → new d.layout.tree ≡ rows
+        → AllByRecursion (λ (u : MadeTable). u.tree ≢ d.layout.tree → new u.tree ≡ old u.tree) book_schema.tables → AreTables old c → AreTables new (d.with_records rs c)
+    pub unchanged : (c : Relations) → d.with_records (d.records c) c ≡ c
 
-  -- a text that shows all rows, in the order of their keys
+  -- a text that shows all rows, in the order of their keys, whatever lies behind the nine tables
   pub record Selects (text : List ℕ) : Type 0 where
-    pub names : List (List ℕ)
-    pub selects : command_of (understood book_schema text) ≡ Select (record { lets = []; body = asking d.layout.tree [] (shown_columns d.behind) by_number no_limit }) names
-    pub plain : IsPlain (understood book_schema text)
-    pub unlisted : reads_listing book_schema text ≡ false
+    pub selects : (rest : List MadeTable) (s : Schema) → command_of (understood (with_behind nine rest s) text) ≡ Select (record { lets = []; body = asking d.layout.tree [] (shown_columns d.behind) by_number no_limit }) (names_of d.layout)
+    pub plain : (rest : List MadeTable) (s : Schema) → IsPlain (understood (with_behind nine rest s) text)
+    pub unlisted : (rest : List MadeTable) (s : Schema) → reads_listing (with_behind nine rest s) text ≡ false
 
   -- a text that changes the columns of the row that has a record's key
   pub record Updates (text : List ℕ) : Type 0 where
@@ -103,12 +104,11 @@ module _ {R : Type 0} (d : Description R) where
     pub deletes : command_of (understood book_schema text) ≡ Delete d.place (record { lets = []; body = scan d.layout.tree by_first (col 1 0 ∷ []) [] })
     pub plain : IsPlain (understood book_schema text)
 
-  -- a text that shows the first rows above a number
+  -- a text that shows the first rows above a number, whatever lies behind the nine tables
   pub record Pages (text : List ℕ) : Type 0 where
-    pub names : List (List ℕ)
-    pub pages : command_of (understood book_schema text) ≡ Select (record { lets = []; body = asking d.layout.tree above_parameter (shown_columns d.behind) by_number (col 0 1) }) names
-    pub plain : IsPlain (understood book_schema text)
-    pub unlisted : reads_listing book_schema text ≡ false
+    pub pages : (rest : List MadeTable) (s : Schema) → command_of (understood (with_behind nine rest s) text) ≡ Select (record { lets = []; body = asking d.layout.tree above_parameter (shown_columns d.behind) by_number (col 0 1) }) (names_of d.layout)
+    pub plain : (rest : List MadeTable) (s : Schema) → IsPlain (understood (with_behind nine rest s) text)
+    pub unlisted : (rest : List MadeTable) (s : Schema) → reads_listing (with_behind nine rest s) text ≡ false
 
 -- ---- rows
 
@@ -155,12 +155,12 @@ module _ {R : Type 0} (d : Description R) (f : Filed d) where
   files : Files d.layout d.key (row_of d)
   files = record { headed = headed; casts = f.casts }
 
-  drafted : (rs : List R) (rows : List Row) (old new : State) (c : Content) → AreRows d.key (row_of d) rows rs → Every d.IsRead rs → Replaces book_schema d.layout.tree rows old new → Drafts old c
+  drafted : (rs : List R) (rows : List Row) (old new : State) (c : Relations) → AreRows d.key (row_of d) rows rs → Every d.IsRead rs → Replaces book_schema d.layout.tree rows old new → Drafts old c
       → Drafts new (d.with_records rs c)
   drafted rs rows old new c are read made drafts = record {
     inside = made.mode ∙ drafts.inside;
     schema = made.schema_is;
-    encodes = f.framed rs rows old.now.trees new.now.trees c are read made.rows_are made.others drafts.encodes;
+    tables = f.framed rs rows old.now.trees new.now.trees c are read made.rows_are made.others drafts.tables;
   }
 
   abbrev insertion : Insertion book_schema d.insert
@@ -178,20 +178,20 @@ module _ {R : Type 0} (d : Description R) (f : Filed d) where
   abbrev puts : Inserts book_schema d.insert d.key (row_of d) d.values
   puts = record { it = insertion; files = files; source = λ r. ap (λ (t : Row × List Row × Row). t.1) (f.of_record r) }
 
-  every_read : (r : R) (c : Content) (db : Trees) → Encodes db c → d.IsRead r → Every d.IsRead (put_by (by_key d.key r) (d.records c) r)
+  every_read : (r : R) (c : Relations) (db : Trees) → AreTables db c → d.IsRead r → Every d.IsRead (put_by (by_key d.key r) (d.records c) r)
   every_read r c db encodes reads = every-put (by_key d.key r) d.IsRead r reads (d.records c) (f.held c db encodes).1
 
-  pub inserted_in : (r : R) → d.IsRead r → (c : Content) (old new : State) (count : ℕ) → Drafts old c → Executes d.insert (d.values r) old new (Ok count)
+  pub inserted_in : (r : R) → d.IsRead r → (c : Relations) (old new : State) (count : ℕ) → Drafts old c → Executes d.insert (d.values r) old new (Ok count)
       → Drafts new (d.with_records (put_by (by_key d.key r) (d.records c) r) c)
   inserted_in r reads c old new count drafts ran =
-      let made = inserted_row book_schema d.insert d.key (row_of d) d.values puts r (d.records c) old new count drafts.schema (f.held c old.now.trees drafts.encodes).0 ran in
-      drafted _ _ old new c made.are_rows (every_read r c old.now.trees drafts.encodes reads) made.replaces drafts
+      let made = inserted_row book_schema d.insert d.key (row_of d) d.values puts r (d.records c) old new count drafts.schema (f.held c old.now.trees drafts.tables).0 ran in
+      drafted _ _ old new c made.are_rows (every_read r c old.now.trees drafts.tables reads) made.replaces drafts
 
-  held_by : (old : State) (c : Content) → Holds old c → AreRows d.key (row_of d) (old.now.trees d.layout.tree) (d.records c)
-  held_by old c held = subst (λ (b : Database). AreRows d.key (row_of d) (b.trees d.layout.tree) (d.records c)) (sym held.idle) (f.held c old.committed.trees held.encodes).0
+  held_by : (old : State) (c : Content) → Holds old c → AreRows d.key (row_of d) (old.now.trees d.layout.tree) (d.records (relations_of c))
+  held_by old c held = subst (λ (b : Database). AreRows d.key (row_of d) (b.trees d.layout.tree) (d.records (relations_of c))) (sym held.idle) (f.held (relations_of c) old.committed.trees held.encodes).0
 
-  pub all_read : (old : State) (c : Content) → Holds old c → Every d.IsRead (d.records c)
-  all_read old c held = (f.held c old.committed.trees held.encodes).1
+  pub all_read : (old : State) (c : Content) → Holds old c → Every d.IsRead (d.records (relations_of c))
+  all_read old c held = (f.held (relations_of c) old.committed.trees held.encodes).1
 
   pub good : (row : Row) → is_good d.table row ≡ is_some (d.in_row row)
   good row = ap (λ (t : Row × Bool). t.1) (f.of_row row)
@@ -199,18 +199,18 @@ module _ {R : Type 0} (d : Description R) (f : Filed d) where
   -- ---- the query of all rows
 
   module _ (text : List ℕ) (s : Selects d text) where
-    abbrev pub listing : Listing text
-    listing = record { tree = d.layout.tree; terms = []; project = shown_columns d.behind; order = by_number; limit = no_limit; names = s.names; command = s.selects; plain = s.plain; unlisted = s.unlisted }
+    abbrev pub listing : Listing nine text
+    listing = record { tree = d.layout.tree; terms = []; project = shown_columns d.behind; order = by_number; limit = no_limit; names = names_of d.layout; command = s.selects; plain = s.plain; unlisted = s.unlisted }
 
     lists : Lists text listing d.key (row_of d) d.values [] (λ r. true)
     lists = record { keyed = λ r. ap rowid (headed r); ranks = λ a b. refl; tests = λ r. refl; shows = shows_values }
 
-    pub shows_all : (old new : State) (rows : List Row) (c : Content) → Holds old c → Shown text [] old new rows → rows ≡ map d.values (d.records c)
+    pub shows_all : (old new : State) (rows : List Row) (c : Content) → Holds old c → Shown text [] old new rows → rows ≡ map d.values (d.records (relations_of c))
     shows_all old new rows c held h =
-        listed text listing d.key (row_of d) d.values [] (λ r. true) lists old new rows (d.records c) (schema_is old c held) (held_by old c held) h
-        ∙ ap (map d.values) (filter_all (d.records c))
+        listed text listing d.key (row_of d) d.values [] (λ r. true) lists old new rows (d.records (relations_of c)) (held_begins old c held) (held_by old c held) h
+        ∙ ap (map d.values) (filter_all (d.records (relations_of c)))
 
-    pub asks : AsksAll d.table text listing
+    pub asks : AsksAll d.table nine text listing
     asks = record { tree = ap (λ (t : Option MadeTable × ℕ × Command). t.1) f.computes; all = refl; unlimited = refl; shows = λ row. ap (λ (t : Row × Bool). t.0) (f.of_row row) }
 
   -- ---- the query of a page
@@ -219,8 +219,8 @@ module _ {R : Type 0} (d : Description R) (f : Filed d) where
     abbrev given_page : Row
     given_page = id_value number ∷ id_value limit ∷ []
 
-    abbrev pub paging : Listing text
-    paging = record { tree = d.layout.tree; terms = above_parameter; project = shown_columns d.behind; order = by_number; limit = col 0 1; names = p.names; command = p.pages; plain = p.plain; unlisted = p.unlisted }
+    abbrev pub paging : Listing nine text
+    paging = record { tree = d.layout.tree; terms = above_parameter; project = shown_columns d.behind; order = by_number; limit = col 0 1; names = names_of d.layout; command = p.pages; plain = p.plain; unlisted = p.unlisted }
 
     pages_lists : Lists text paging d.key (row_of d) d.values given_page (λ x. nat_lt number (d.key x))
     pages_lists = record {
@@ -230,10 +230,10 @@ module _ {R : Type 0} (d : Description R) (f : Filed d) where
       shows = λ r. ap (λ l. column (row_of d r) 0 ∷ l) (blind given_page (row_of d r) 2 d.behind) ∙ shows_values r;
     }
 
-    pub shows_page : (old new : State) (rows : List Row) (c : Content) → Holds old c → Shown text given_page old new rows → rows ≡ map d.values (take limit (filter (λ x. nat_lt number (d.key x)) (d.records c)))
+    pub shows_page : (old new : State) (rows : List Row) (c : Content) → Holds old c → Shown text given_page old new rows → rows ≡ map d.values (take limit (filter (λ x. nat_lt number (d.key x)) (d.records (relations_of c))))
     shows_page old new rows c held h =
-        listed text paging d.key (row_of d) d.values given_page (λ x. nat_lt number (d.key x)) pages_lists old new rows (d.records c) (schema_is old c held) (held_by old c held) h
-        ∙ take-map d.values limit (filter (λ x. nat_lt number (d.key x)) (d.records c))
+        listed text paging d.key (row_of d) d.values given_page (λ x. nat_lt number (d.key x)) pages_lists old new rows (d.records (relations_of c)) (held_begins old c held) (held_by old c held) h
+        ∙ take-map d.values limit (filter (λ x. nat_lt number (d.key x)) (d.records (relations_of c)))
 
   -- ---- the statement that changes a row
 
@@ -259,19 +259,19 @@ module _ {R : Type 0} (d : Description R) (f : Filed d) where
     }
 
     -- of a record that has a row
-    pub updated_in : (r : R) → d.IsRead r → (c : Content) (old new : State) (count : ℕ) → Drafts old c → Executes text (d.values r) old new (Ok count) → (count ≡ 0 → ⊥)
+    pub updated_in : (r : R) → d.IsRead r → (c : Relations) (old new : State) (count : ℕ) → Drafts old c → Executes text (d.values r) old new (Ok count) → (count ≡ 0 → ⊥)
         → Drafts new (d.with_records (put_by (by_key d.key r) (d.records c) r) c)
     unfolding sets
     updated_in r reads c old new count drafts ran some =
-        let made = set_row book_schema text d.key (row_of d) d.values sets r (d.records c) old new count drafts.schema (f.held c old.now.trees drafts.encodes).0 ran some in
-        drafted _ _ old new c made.are_rows (every_read r c old.now.trees drafts.encodes reads) made.replaces drafts
+        let made = set_row book_schema text d.key (row_of d) d.values sets r (d.records c) old new count drafts.schema (f.held c old.now.trees drafts.tables).0 ran some in
+        drafted _ _ old new c made.are_rows (every_read r c old.now.trees drafts.tables reads) made.replaces drafts
 
     -- of a record that has none
-    pub put_in : (r : R) → d.IsRead r → (c : Content) (old mid new : State) (none count : ℕ) → Drafts old c → Executes text (d.values r) old mid (Ok none) → none ≡ 0 → Executes d.insert (d.values r) mid new (Ok count)
+    pub put_in : (r : R) → d.IsRead r → (c : Relations) (old mid new : State) (none count : ℕ) → Drafts old c → Executes text (d.values r) old mid (Ok none) → none ≡ 0 → Executes d.insert (d.values r) mid new (Ok count)
         → Drafts new (d.with_records (put_by (by_key d.key r) (d.records c) r) c)
     put_in r reads c old mid new none count drafts tried missed ran =
         let still = set_none book_schema text updating (d.values r) old mid none drafts.schema tried missed in
-        let had = f.held c old.now.trees drafts.encodes in
+        let had = f.held c old.now.trees drafts.tables in
         let between = subst (Drafts mid) (f.unchanged c) (drafted (d.records c) (old.now.trees d.layout.tree) old mid c had.0 had.1 still drafts) in
         inserted_in r reads c mid new count between ran
 
@@ -285,10 +285,10 @@ module _ {R : Type 0} (d : Description R) (f : Filed d) where
       finds = λ r n. finds_at (d.key r) n (row_of d r) (id_value n ∷ []) (headed r) refl;
     }
 
-    pub removed_in : (n : ℕ) (c : Content) (old new : State) (count : ℕ) → Drafts old c → Executes text (id_value n ∷ []) old new (Ok count)
+    pub removed_in : (n : ℕ) (c : Relations) (old new : State) (count : ℕ) → Drafts old c → Executes text (id_value n ∷ []) old new (Ok count)
         → Drafts new (d.with_records (remove_by (λ x. nat_cmp n (d.key x)) (d.records c)) c)
     unfolding removes
     removed_in n c old new count drafts ran =
-        let had = f.held c old.now.trees drafts.encodes in
+        let had = f.held c old.now.trees drafts.tables in
         let made = removed_row book_schema text d.key (row_of d) removes n (d.records c) old new count drafts.schema had.0 ran in
         drafted _ _ old new c made.are_rows (every-remove (λ x. nat_cmp n (d.key x)) d.IsRead (d.records c) had.1) made.replaces drafts

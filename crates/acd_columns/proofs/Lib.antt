@@ -32,3 +32,4 @@ pub mod TablesFiled
 pub mod Counters
 pub mod Selected
 pub mod Recorded
+pub mod Further

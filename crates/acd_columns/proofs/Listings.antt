@@ -1,5 +1,5 @@
 -- Queries over one table whose rows stand for records: they show the records that pass, in order.
-use Rattle.std.proofs.Common.{◌≡◌, ℕ, List, [], ◌∷◌, map, filter, false, Bool, Ok, Err, Result, IfOk, OnOk, IsTrue, refl, sym, ap, subst, ◌∙◌}
+use Rattle.std.proofs.Common.{◌≡◌, ◌++◌, ℕ, List, [], ◌∷◌, map, filter, false, Bool, Ok, Err, Result, IfOk, OnOk, IsTrue, refl, sym, ap, subst, ◌∙◌}
 use Rattle.std.specs.Prelude.{Vec}
 use Rattle.std.specs.declared.alloc.Global.{Global}
 use Rattle.std.specs.declared.cmp.Ordering.{Ordering}
@@ -11,6 +11,8 @@ use Rattle.sqlite_value.specs.Order.{Row, value_cmp}
 use Rattle.sqlite_trees.specs.Tree.{rowid}
 use Rattle.sqlite_sql.specs.Term.{Term, eval, holds}
 use Rattle.sqlite_sql.specs.Query.{Query, output_cmp, Output, limited, as_count}
+use Rattle.sqlite_schema.specs.declared.schema.Table.{Table as Made}
+use Rattle.sqlite_schema.specs.declared.schema.Schema.{Schema}
 use Rattle.sqlite_schema.specs.declared.command.Command.TheVariants.{Select}
 use Rattle.sqlite_keyed.proofs.ListLemmas.{map-map, map_same, IsPermutation-same}
 use Rattle.sqlite.specs.declared.error.Error.{Error}
@@ -20,9 +22,10 @@ use Rattle.sqlite.specs.State.{State, HasCleanDisk, Shown}
 use Rattle.sqlite.proofs.Callers.{IsPlain, command_of, reads_as}
 use Rattle.acd_laws.proofs.Lists.{ascending-filter}
 use Rattle.acd_book.specs.Content.{Content}
-use Rattle.acd_columns.specs.Schema.{book_schema}
+use Rattle.acd_columns.specs.Schema.{book_schema, nine, two, with_behind, Begins}
 use Rattle.acd_columns.specs.Values.{id_value}
 use Rattle.acd_columns.specs.declared.tables.Table.{Table}
+use Rattle.acd_columns.specs.Relations.{relations_of}
 use Rattle.acd_columns.specs.Content.{AreRows, Stores, tree_of, part}
 use Rattle.acd_columns.specs.Draft.{Holds, Quiet, NoStop}
 use Rattle.acd_columns.specs.Finding.{Finds}
@@ -30,33 +33,49 @@ use Rattle.acd_columns.proofs.KeyedRows.{by_key, by_key_total, id_cmp}
 use Rattle.acd_columns.proofs.Ordered.{asking, given, answered}
 use Rattle.acd_columns.proofs.Scans.{showing, passing, filter_like, each, filter_mapped}
 
--- what a text asks for: the tests, the columns, the order and the limit of a query over one table
-pub record Listing (text : List ℕ) : Type 0 where
+-- what a text asks for: the tests, the columns, the order and the limit of a query over one table; and so it does whatever lies behind these tables
+pub record Listing (base : List Made) (text : List ℕ) : Type 0 where
   pub tree : ℕ
   pub terms : List Term
   pub project : List Term
   pub order : List (Term × Key)
   pub limit : Term
   pub names : List (List ℕ)
-  pub command : command_of (understood book_schema text) ≡ Select (record { lets = []; body = asking tree terms project order limit }) names
-  pub plain : IsPlain (understood book_schema text)
-  pub unlisted : reads_listing book_schema text ≡ false
+  pub command : (rest : List Made) (s : Schema) → command_of (understood (with_behind base rest s) text) ≡ Select (record { lets = []; body = asking tree terms project order limit }) names
+  pub plain : (rest : List Made) (s : Schema) → IsPlain (understood (with_behind base rest s) text)
+  pub unlisted : (rest : List Made) (s : Schema) → reads_listing (with_behind base rest s) text ≡ false
 
-abbrev pub query_of : {text : List ℕ} → Listing text → Query
+pub begun : (base : List Made) (s : Schema) (b : Begins base s) → s ≡ with_behind base b.0 s
+begun base s b = ap (λ ts. record s { tables = ts }) b.1
+
+pub plain_of : (base : List Made) (text : List ℕ) → Listing base text → (s : Schema) → Begins base s → IsPlain (understood s text)
+plain_of base text it s b = subst (λ (x : Schema). IsPlain (understood x text)) (sym (begun base s b)) (it.plain b.0 s)
+
+pub book_begins : (s : Schema) → s ≡ book_schema → Begins nine s
+book_begins s is = subst (Begins nine) (sym is) (two, refl)
+
+-- all eleven
+pub whole_begins : (s : Schema) → s ≡ book_schema → Begins (nine ++ two) s
+whole_begins s is = subst (Begins (nine ++ two)) (sym is) ([], refl)
+
+abbrev pub query_of : {base : List Made} {text : List ℕ} → Listing base text → Query
 query_of it = asking it.tree it.terms it.project it.order it.limit
 
 pub schema_is : (old : State) (c : Content) → Holds old c → old.now.schema ≡ book_schema
 schema_is old c held = ap (λ (d : Database). d.schema) held.idle ∙ held.schema
 
-pub stored : (t : Table) (old : State) (c : Content) → Holds old c → Stores t (old.now.trees (tree_of t)) (part t c)
-stored t old c held = subst (λ (d : Database). Stores t (d.trees (tree_of t)) (part t c)) (sym held.idle) (held.encodes t)
+pub held_begins : (old : State) (c : Content) → Holds old c → Begins nine old.now.schema
+held_begins old c held = book_begins old.now.schema (schema_is old c held)
+
+pub stored : (t : Table) (old : State) (c : Content) → Holds old c → Stores t (old.now.trees (tree_of t)) (part t (relations_of c))
+stored t old c held = subst (λ (d : Database). Stores t (d.trees (tree_of t)) (part t (relations_of c))) (sym held.idle) (held.encodes t)
 
 end_of : (o : Ordering) → ordering_then o Equal ≡ o
 end_of Less = refl
 end_of Equal = refl
 end_of Greater = refl
 
-module _ {R : Type 0} (text : List ℕ) (it : Listing text) (key : R → ℕ) (row values : R → Row) (params : Row) (P : R → Bool) where
+module _ {R : Type 0} {base : List Made} (text : List ℕ) (it : Listing base text) (key : R → ℕ) (row values : R → Row) (params : Row) (P : R → Bool) where
   -- it asks for the values of the records that pass, in the order of their keys
   pub record Lists : Type 0 where
     pub keyed : (r : R) → rowid (row r) ≡ id_value (key r)
@@ -77,10 +96,11 @@ module _ {R : Type 0} (text : List ℕ) (it : Listing text) (key : R → ℕ) (r
         ∙ ap (map (given (query_of it) params)) (filter_mapped (λ r. list_all (holds (params ∷ r ∷ [])) it.terms) row rs ∙ ap (map row) (filter_like _ P rs (each _ rs l.tests)))
         ∙ map-map (given (query_of it) params) row (filter P rs)
 
-    pub listed : (old new : State) (rows : List Row) (rs : List R) → old.now.schema ≡ book_schema → AreRows key row (old.now.trees it.tree) rs → Shown text params old new rows
+    pub listed : (old new : State) (rows : List Row) (rs : List R) → Begins base old.now.schema → AreRows key row (old.now.trees it.tree) rs → Shown text params old new rows
         → rows ≡ limited (as_count (eval it.limit (params ∷ []))) (map values (filter P rs))
-    listed old new rows rs has are h =
-        let read = reads_as text params old new book_schema has _ it.command it.plain it.unlisted rows h in
+    listed old new rows rs b are h =
+        let own = with_behind base b.0 old.now.schema in
+        let read = reads_as text params old new own (begun base old.now.schema b) _ (it.command b.0 old.now.schema) (it.plain b.0 old.now.schema) (it.unlisted b.0 old.now.schema) rows h in
         let moved = IsPermutation-same _ _ (sym (passed (old.now.trees it.tree) rs are.rows_are)) in
         answered (by_key key) (by_key_total key) it.tree it.terms it.project it.order it.limit old.now.trees params rows out (filter P rs) same (ascending-filter (by_key key) P rs are.ascending) moved read.answer
         ∙ ap (limited (as_count (eval it.limit (params ∷ [])))) (map_same (λ r. showing params it.project (row r)) values l.shows (filter P rs))

@@ -43,17 +43,17 @@ use Rattle.acd_columns.specs.AnyRows.{values_in, rows_in, is_good, are_good, is_
 use Rattle.acd_columns.specs.Content.{tree_of}
 use Rattle.acd_columns.specs.Values.{option_in, ◌>>=◌, at_least, stamp_at, id_value}
 use Rattle.acd_columns.specs.Ranges.{event_in, kept_in}
-use Rattle.acd_columns.specs.Schema.{book_schema}
+use Rattle.acd_columns.specs.Schema.{nine, with_behind, Begins, names_of}
 use Rattle.acd_columns.specs.Schema as schema
 use Rattle.acd_columns.specs.Seeing.{HasDatabase, Sees}
 use Rattle.acd_columns.specs.Tables.{events, kept}
 use Rattle.acd_columns.proofs.Filed.{paging}
-use Rattle.acd_columns.proofs.Seeing.{AsksAll}
+use Rattle.acd_columns.proofs.Seeing.{AsksAll, answer_in}
 use Rattle.acd_columns.proofs.TablesFiled.{events_filed, events_pages, kept_filed, kept_pages}
 use Rattle.acd_columns.proofs.Asked.{columns, no_limit, by_number, above_parameter, above}
 use Rattle.acd_columns.proofs.ConnectionRows.{connections_listing}
 use Rattle.acd_columns.proofs.KeyedRows.{id_cmp, by_key}
-use Rattle.acd_columns.proofs.Listings.{Listing, Lists, query_of, listed}
+use Rattle.acd_columns.proofs.Listings.{Listing, Lists, query_of, listed, begun}
 use Rattle.acd_columns.proofs.Ordered.{given, in_some_order}
 use Rattle.acd_columns.proofs.Puts.{truth_back}
 use Rattle.acd_columns.specs.declared.texts.TheConstants.{SELECT_CONNECTIONS, SELECT_EVENTS_AFTER, SELECT_KEPT_AFTER, SELECT_LOW_EVENT, SELECT_LOW_KEPT, SELECT_META, SELECT_STANDING_CONNECTIONS, SELECT_VERSION}
@@ -113,12 +113,7 @@ bad_among t (x ∷ rows) r (inr k) bad = either (is_good t x) (are_good t rows) 
 
 -- ---- one text
 
-module _ (text : List ℕ) (it : Listing text) (params : Row) (d : Database) (old new : State) (rows : List Row) (had : HasDatabase old d) (is : d.schema ≡ book_schema) (h : Shown text params old new rows) where
-  answer_in : IsProgramAnswer [] (query_of it) d.trees params rows
-  answer_in =
-      let read = reads_as text params old new book_schema (ap (λ (x : Database). x.schema) had.now ∙ is) _ it.command it.plain it.unlisted rows h in
-      subst (λ (x : Database). IsProgramAnswer [] (query_of it) x.trees params rows) had.now read.answer
-
+module _ {base : List Made} (text : List ℕ) (it : Listing base text) (params : Row) (d : Database) (old new : State) (rows : List Row) (had : HasDatabase old d) (b : Begins base d.schema) (h : Shown text params old new rows) where
   -- each row of the answer shows one that passes
   abbrev Comes : Output → Type 0
   Comes o = (r : Row) × Has (d.trees it.tree) r × (list_all (holds (params ∷ r ∷ [])) it.terms ≡ true) × (o.1 ≡ showing params it.project r)
@@ -132,14 +127,14 @@ module _ (text : List ℕ) (it : Listing text) (params : Row) (d : Database) (ol
 
   pub rows_come : AllByRecursion (λ row. (r : Row) × Has (d.trees it.tree) r × (list_all (holds (params ∷ r ∷ [])) it.terms ≡ true) × (row ≡ showing params it.project r)) rows
   rows_come =
-      let some = in_some_order it.tree it.terms it.project it.order it.limit d.trees params rows answer_in in
+      let some = in_some_order it.tree it.terms it.project it.order it.limit d.trees params rows (answer_in base text it params d old new rows had b h) in
       let P = λ (row : Row). (r : Row) × Has (d.trees it.tree) r × (list_all (holds (params ∷ r ∷ [])) it.terms ≡ true) × (row ≡ showing params it.project r) in
       subst (AllByRecursion P) (sym some.2) (all_limited P (as_count (eval it.limit (params ∷ []))) (map (λ (o : Output). o.1) some.0) (mapped_all P (λ (o : Output). o.1) some.0 (come some.0 some.1)))
 
   -- where no more than the first is asked for, and none is shown
   pub rows_lack : as_count (eval it.limit (params ∷ [])) ≡ Some 1 → rows ≡ [] → AllByRecursion (λ r. list_all (holds (params ∷ r ∷ [])) it.terms ≡ false) (d.trees it.tree)
   rows_lack one none =
-      let some = in_some_order it.tree it.terms it.project it.order it.limit d.trees params rows answer_in in
+      let some = in_some_order it.tree it.terms it.project it.order it.limit d.trees params rows (answer_in base text it params d old new rows had b h) in
       let empty = first_none some.0 (sym (some.2 ∙ ap (λ o. limited o (map (λ (o : Output). o.1) some.0)) one) ∙ none) in
       let long = length_permutation _ some.0 some.1 in
       none_pass (λ r. list_all (holds (params ∷ r ∷ [])) it.terms) (d.trees it.tree) (none_given (passing params it.terms (d.trees it.tree)) (sym long ∙ ap length empty))
@@ -154,15 +149,15 @@ module _ (text : List ℕ) (it : Listing text) (params : Row) (d : Database) (ol
 
 -- ---- tables that are read whole
 
-pub asks_connections : AsksAll table.Connections SELECT_CONNECTIONS.now connections_listing
+pub asks_connections : AsksAll table.Connections nine SELECT_CONNECTIONS.now connections_listing
 unfolding connections_listing
 asks_connections = record { tree = refl; all = refl; unlimited = refl; shows = λ r. refl }
 
-pub unordered_connections : Listing SELECT_STANDING_CONNECTIONS.now
+pub unordered_connections : Listing nine SELECT_STANDING_CONNECTIONS.now
 unfolding understood everything
-unordered_connections = record { tree = schema.connections.tree; terms = []; project = columns 1 7; order = []; limit = no_limit; names = _; command = refl; plain = (refl, refl); unlisted = refl }
+unordered_connections = record { tree = schema.connections.tree; terms = []; project = columns 1 7; order = []; limit = no_limit; names = names_of schema.connections; command = λ rest s. refl; plain = λ rest s. (refl, refl); unlisted = λ rest s. refl }
 
-pub asks_unordered_connections : AsksAll table.Connections SELECT_STANDING_CONNECTIONS.now unordered_connections
+pub asks_unordered_connections : AsksAll table.Connections nine SELECT_STANDING_CONNECTIONS.now unordered_connections
 unfolding unordered_connections
 asks_unordered_connections = record { tree = refl; all = refl; unlimited = refl; shows = λ r. refl }
 
@@ -174,34 +169,33 @@ in_database s t text it d old new rows had is h =
     subst (λ (x : Database). IsPermutation (map (showing [] it.project) (passing [] it.terms (x.trees it.tree))) rows) had.now
     (selected t text it [] old new rows (ap (λ (x : Database). x.schema) had.now ∙ is) h)
 
-pub shown_meta : (d : Database) (old new : State) (rows : List Row) → HasDatabase old d → d.schema ≡ book_schema → Shown SELECT_META.now [] old new rows → IsPermutation (rows_in table.Meta d.trees) rows
+pub shown_meta : (d : Database) (old new : State) (rows : List Row) → HasDatabase old d → Begins nine d.schema → Shown SELECT_META.now [] old new rows → IsPermutation (rows_in table.Meta d.trees) rows
 unfolding meta_selection
-shown_meta d old new rows had is h =
-    subst (λ l. IsPermutation l rows) (ap (map (values_in table.Meta)) (filter_all (d.trees schema.meta.tree))) (in_database book_schema book_schema SELECT_META.now meta_selection d old new rows had is h)
+shown_meta d old new rows had b h =
+    let own = with_behind nine b.0 d.schema in
+    subst (λ l. IsPermutation l rows) (ap (map (values_in table.Meta)) (filter_all (d.trees schema.meta.tree))) (in_database own own SELECT_META.now (meta_selection b.0 d.schema) d old new rows had (begun nine d.schema b) h)
 
 -- whatever tables are behind the first
-abbrev begun : List Made → Schema → Schema
-begun rest s = record s { tables = schema.table_of schema.meta ∷ rest }
+abbrev first : List Made
+first = schema.table_of schema.meta ∷ []
 
-version_selection : (rest : List Made) (s : Schema) → Selection (begun rest s) SELECT_VERSION.now
+version_selection : (rest : List Made) (s : Schema) → Selection (with_behind first rest s) SELECT_VERSION.now
 unfolding understood everything
 version_selection rest s = record { tree = schema.meta.tree; terms = []; project = col 1 2 ∷ []; order = []; names = codes "version" ∷ []; command = refl; plain = (refl, refl); unlisted = refl }
 
-begins : (d : Database) (b : BeginsAsBook d.schema) → d.schema ≡ begun b.0 d.schema
-begins d b = ap (λ ts. record d.schema { tables = ts }) b.1
-
 pub version_plain : (d : Database) → BeginsAsBook d.schema → IsPlain (understood d.schema SELECT_VERSION.now)
-version_plain d b = subst (λ s. IsPlain (understood s SELECT_VERSION.now)) (sym (begins d b)) (version_selection b.0 d.schema).plain
+version_plain d b = subst (λ s. IsPlain (understood s SELECT_VERSION.now)) (sym (begun first d.schema b)) (version_selection b.0 d.schema).plain
 
 pub shown_version : (d : Database) (old new : State) (rows : List Row) → HasDatabase old d → BeginsAsBook d.schema → Shown SELECT_VERSION.now [] old new rows
     → IsPermutation (map (λ r. column r 2 ∷ []) (d.trees schema.meta.tree)) rows
 unfolding version_selection
 shown_version d old new rows had b h =
     subst (λ l. IsPermutation l rows) (ap (map (λ (r : Row). column r 2 ∷ [])) (filter_all (d.trees schema.meta.tree)))
-    (in_database (begun b.0 d.schema) (begun b.0 d.schema) SELECT_VERSION.now (version_selection b.0 d.schema) d old new rows had (begins d b) h)
+    (in_database (with_behind first b.0 d.schema) (with_behind first b.0 d.schema) SELECT_VERSION.now (version_selection b.0 d.schema) d old new rows had (begun first d.schema b) h)
 
-pub book_begins : (d : Database) → d.schema ≡ book_schema → BeginsAsBook d.schema
-book_begins d is = subst BeginsAsBook (sym is) (_, refl)
+-- the tables of either version
+pub nine_begin : (s : Schema) → Begins nine s → BeginsAsBook s
+nine_begin s b = subst BeginsAsBook (sym (begun nine s b)) (_, refl)
 
 -- ---- numbers below 1
 
@@ -262,7 +256,7 @@ low_is_bad log.Events r h = low_event r (low_bad (rowid r) h)
 low_is_bad log.Kept r h = low_kept_row r (low_bad (rowid r) h)
 
 -- the text asks for a row below 1
-pub record AsksLow (l : Log) (text : List ℕ) (it : Listing text) : Type 0 where
+pub record AsksLow (l : Log) (text : List ℕ) (it : Listing nine text) : Type 0 where
   pub tree : it.tree ≡ tree_of (table_of_log l)
   pub tests : (r : Row) → list_all (holds ([] ∷ r ∷ [])) it.terms ≡ passes_low (rowid r)
   pub one : as_count (eval it.limit ([] ∷ [])) ≡ Some 1
@@ -271,7 +265,7 @@ first_one : (rows : List Row) {P : Row → Type 0} → (rows ≡ [] → ⊥) →
 first_one [] some all = absurd (some refl)
 first_one (r ∷ rows) some all = (r, all.0)
 
-pub shown_low : (l : Log) (text : List ℕ) (it : Listing text) → AsksLow l text it → (d : Database) (old new : State) (rows : List Row) → HasDatabase old d → d.schema ≡ book_schema → Shown text [] old new rows
+pub shown_low : (l : Log) (text : List ℕ) (it : Listing nine text) → AsksLow l text it → (d : Database) (old new : State) (rows : List Row) → HasDatabase old d → Begins nine d.schema → Shown text [] old new rows
     → TellsLow l d.trees rows
 unfolding is_good_in
 shown_low l text it asks d old new rows had is h = record {
@@ -287,17 +281,17 @@ shown_low l text it asks d old new rows had is h = record {
       (low_is_bad l r (sym (asks.tests r) ∙ one.1.2));
 }
 
-pub low_events : Listing SELECT_LOW_EVENT.now
+pub low_events : Listing nine SELECT_LOW_EVENT.now
 unfolding understood everything
-low_events = record { tree = schema.events.tree; terms = below_one; project = col 1 0 ∷ []; order = by_number; limit = lit (Int (pos 1)); names = _; command = refl; plain = (refl, refl); unlisted = refl }
+low_events = record { tree = schema.events.tree; terms = below_one; project = col 1 0 ∷ []; order = by_number; limit = lit (Int (pos 1)); names = codes "number" ∷ []; command = λ rest s. refl; plain = λ rest s. (refl, refl); unlisted = λ rest s. refl }
 
 pub asks_low_events : AsksLow log.Events SELECT_LOW_EVENT.now low_events
 unfolding low_events
 asks_low_events = record { tree = refl; tests = λ r. refl; one = refl }
 
-pub low_kept : Listing SELECT_LOW_KEPT.now
+pub low_kept : Listing nine SELECT_LOW_KEPT.now
 unfolding understood everything
-low_kept = record { tree = schema.kept.tree; terms = below_one; project = col 1 0 ∷ []; order = by_number; limit = lit (Int (pos 1)); names = _; command = refl; plain = (refl, refl); unlisted = refl }
+low_kept = record { tree = schema.kept.tree; terms = below_one; project = col 1 0 ∷ []; order = by_number; limit = lit (Int (pos 1)); names = codes "stamp" ∷ []; command = λ rest s. refl; plain = λ rest s. (refl, refl); unlisted = λ rest s. refl }
 
 pub asks_low_kept : AsksLow log.Kept SELECT_LOW_KEPT.now low_kept
 unfolding low_kept
@@ -330,13 +324,13 @@ pub numbers_ascend : (l : Log) (d : Database) (xs : List Numbered) → AreNumber
 numbers_ascend l d xs are = ascending_of (λ (y : Numbered). y.key) (λ (y : Numbered). y.row) (λ y. y.is) xs (subst IsTable are.rows are.rising)
 
 -- the text asks for the first rows above a number
-pub record AsksPage (l : Log) (text : List ℕ) (it : Listing text) (n limit : ℕ) : Type 0 where
+pub record AsksPage (l : Log) (text : List ℕ) (it : Listing nine text) (n limit : ℕ) : Type 0 where
   pub tree : it.tree ≡ tree_of (table_of_log l)
   pub lists : Lists text it (λ (x : Numbered). x.key) (λ (x : Numbered). x.row) (λ (x : Numbered). values_in (table_of_log l) x.row) (id_value n ∷ id_value limit ∷ []) (λ (x : Numbered). nat_lt n x.key)
   pub shows : (r : Row) → showing (id_value n ∷ id_value limit ∷ []) it.project r ≡ values_in (table_of_log l) r
   pub limited_by : as_count (eval it.limit ((id_value n ∷ id_value limit ∷ []) ∷ [])) ≡ Some limit
 
-pub shown_page : (l : Log) (text : List ℕ) (it : Listing text) (n limit : ℕ) → AsksPage l text it n limit → (d : Database) (old new : State) (rows : List Row) → HasDatabase old d → d.schema ≡ book_schema
+pub shown_page : (l : Log) (text : List ℕ) (it : Listing nine text) (n limit : ℕ) → AsksPage l text it n limit → (d : Database) (old new : State) (rows : List Row) → HasDatabase old d → Begins nine d.schema
     → Shown text (id_value n ∷ id_value limit ∷ []) old new rows → IsPageRows l n limit d.trees rows
 shown_page l text it n limit asks d old new rows had is h =
     let params = id_value n ∷ id_value limit ∷ [] in record {
@@ -347,7 +341,7 @@ shown_page l text it n limit asks d old new rows had is h =
           rows (rows_come text it params d old new rows had is h);
       paged = λ xs are.
           listed text it (λ (x : Numbered). x.key) (λ (x : Numbered). x.row) (λ (x : Numbered). values_in (table_of_log l) x.row) params (λ (x : Numbered). nat_lt n x.key) asks.lists old new rows xs
-          (ap (λ (x : Database). x.schema) had.now ∙ is)
+          (subst (λ (x : Database). Begins nine x.schema) (sym had.now) is)
           (record { rows_are = ap (λ (x : Database). x.trees it.tree) had.now ∙ ap d.trees asks.tree ∙ are.rows; ascending = numbers_ascend l d xs are }) h
           ∙ ap (λ o. limited o (values_behind l n xs)) asks.limited_by;
     }
@@ -363,30 +357,16 @@ asks_events n limit = record { tree = refl; lists = record { keyed = λ x. x.is;
 pub asks_kept : (n limit : ℕ) → AsksPage log.Kept SELECT_KEPT_AFTER.now (paging kept kept_filed SELECT_KEPT_AFTER.now kept_pages n limit) n limit
 asks_kept n limit = record { tree = refl; lists = record { keyed = λ x. x.is; ranks = λ x y. refl; tests = number_tests n limit; shows = λ x. refl }; shows = λ r. refl; limited_by = refl }
 
--- ---- plain texts
-
-pub unordered_connections_plain : IsPlain (understood book_schema SELECT_STANDING_CONNECTIONS.now)
-unordered_connections_plain = unordered_connections.plain
-
-pub low_events_plain : IsPlain (understood book_schema SELECT_LOW_EVENT.now)
-low_events_plain = low_events.plain
-
-pub low_kept_plain : IsPlain (understood book_schema SELECT_LOW_KEPT.now)
-low_kept_plain = low_kept.plain
-
-pub plain_of : (text : List ℕ) (d : Database) → d.schema ≡ book_schema → IsPlain (understood book_schema text) → IsPlain (understood d.schema text)
-plain_of text d is plain = subst (λ s. IsPlain (understood s text)) (sym is) plain
-
 -- ---- reads
 
-module _ (d : Database) (old new : State) (r : Result (Vec Row Global) Error) (is : d.schema ≡ book_schema) where
+module _ (d : Database) (old new : State) (r : Result (Vec Row Global) Error) (is : Begins nine d.schema) where
   pub sees_meta : Sees d old new r (λ rows. Shown SELECT_META.now [] old new rows.items) → Sees d old new r (λ rows. IsPermutation (rows_in table.Meta d.trees) rows.items)
   sees_meta h = sees_so d old new r (λ rows. Shown SELECT_META.now [] old new rows.items) (λ rows. IsPermutation (rows_in table.Meta d.trees) rows.items) (λ had rows shown. shown_meta d old new rows.items had is shown) h
 
-  pub sees_low : (l : Log) (text : List ℕ) (it : Listing text) → AsksLow l text it → Sees d old new r (λ rows. Shown text [] old new rows.items) → Sees d old new r (λ rows. TellsLow l d.trees rows.items)
+  pub sees_low : (l : Log) (text : List ℕ) (it : Listing nine text) → AsksLow l text it → Sees d old new r (λ rows. Shown text [] old new rows.items) → Sees d old new r (λ rows. TellsLow l d.trees rows.items)
   sees_low l text it asks h = sees_so d old new r (λ rows. Shown text [] old new rows.items) (λ rows. TellsLow l d.trees rows.items) (λ had rows shown. shown_low l text it asks d old new rows.items had is shown) h
 
-  pub sees_page : (l : Log) (text : List ℕ) (it : Listing text) (n limit : ℕ) → AsksPage l text it n limit → Sees d old new r (λ rows. Shown text (id_value n ∷ id_value limit ∷ []) old new rows.items)
+  pub sees_page : (l : Log) (text : List ℕ) (it : Listing nine text) (n limit : ℕ) → AsksPage l text it n limit → Sees d old new r (λ rows. Shown text (id_value n ∷ id_value limit ∷ []) old new rows.items)
       → Sees d old new r (λ rows. IsPageRows l n limit d.trees rows.items)
   sees_page l text it n limit asks h =
       sees_so d old new r (λ rows. Shown text (id_value n ∷ id_value limit ∷ []) old new rows.items) (λ rows. IsPageRows l n limit d.trees rows.items)

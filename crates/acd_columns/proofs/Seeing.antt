@@ -5,6 +5,7 @@ use Rattle.std.specs.declared.alloc.Global.{Global}
 use Rattle.std.specs.List.Sorted.{IsPermutation}
 use Rattle.sqlite_value.specs.Order.{Row}
 use Rattle.sqlite_keyed.proofs.ListLemmas.{map_same}
+use Rattle.sqlite_schema.specs.declared.schema.Table.{Table as Made}
 use Rattle.sqlite_sql.specs.Program.{IsProgramAnswer}
 use Rattle.sqlite.specs.declared.error.Error.{Error}
 use Rattle.sqlite.specs.Effect.{Database}
@@ -13,31 +14,32 @@ use Rattle.sqlite.proofs.Callers.{reads_as}
 use Rattle.acd_columns.specs.declared.tables.Table.{Table}
 use Rattle.acd_columns.specs.AnyRows.{values_in, rows_in}
 use Rattle.acd_columns.specs.Content.{tree_of}
-use Rattle.acd_columns.specs.Schema.{book_schema}
+use Rattle.acd_columns.specs.Schema.{with_behind, Begins}
 use Rattle.acd_columns.specs.Seeing.{HasDatabase, Sees}
 use Rattle.acd_columns.proofs.Asked.{no_limit}
 use Rattle.acd_columns.proofs.Seen.{sees_so}
-use Rattle.acd_columns.proofs.Listings.{Listing, query_of}
+use Rattle.acd_columns.proofs.Listings.{Listing, query_of, begun}
 use Rattle.acd_columns.proofs.Scans.{scanned, showing, passing, filter_all}
 
-module _ (text : List ℕ) (it : Listing text) (params : Row) (d : Database) (old new : State) (rows : List Row) (had : HasDatabase old d) (is : d.schema ≡ book_schema) (h : Shown text params old new rows) where
-  answer_in : IsProgramAnswer [] (query_of it) d.trees params rows
+module _ (base : List Made) (text : List ℕ) (it : Listing base text) (params : Row) (d : Database) (old new : State) (rows : List Row) (had : HasDatabase old d) (b : Begins base d.schema) (h : Shown text params old new rows) where
+  pub answer_in : IsProgramAnswer [] (query_of it) d.trees params rows
   answer_in =
-      let read = reads_as text params old new book_schema (ap (λ (x : Database). x.schema) had.now ∙ is) _ it.command it.plain it.unlisted rows h in
+      let own = with_behind base b.0 d.schema in
+      let read = reads_as text params old new own (ap (λ (x : Database). x.schema) had.now ∙ begun base d.schema b) _ (it.command b.0 d.schema) (it.plain b.0 d.schema) (it.unlisted b.0 d.schema) rows h in
       subst (λ (x : Database). IsProgramAnswer [] (query_of it) x.trees params rows) had.now read.answer
 
 -- the text asks for the values of all rows of the table
-pub record AsksAll (t : Table) (text : List ℕ) (it : Listing text) : Type 0 where
+pub record AsksAll (t : Table) (base : List Made) (text : List ℕ) (it : Listing base text) : Type 0 where
   pub tree : it.tree ≡ tree_of t
   pub all : it.terms ≡ []
   pub unlimited : it.limit ≡ no_limit
   pub shows : (r : Row) → showing [] it.project r ≡ values_in t r
 
-pub shown_all : (t : Table) (text : List ℕ) (it : Listing text) → AsksAll t text it → (d : Database) (old new : State) (rows : List Row) → HasDatabase old d → d.schema ≡ book_schema → Shown text [] old new rows
+pub shown_all : (t : Table) (base : List Made) (text : List ℕ) (it : Listing base text) → AsksAll t base text it → (d : Database) (old new : State) (rows : List Row) → HasDatabase old d → Begins base d.schema → Shown text [] old new rows
     → IsPermutation (rows_in t d.trees) rows
-shown_all t text it asks d old new rows had is h =
+shown_all t base text it asks d old new rows had b h =
     let all = scanned it.tree it.terms it.project it.order d.trees [] rows
-    (subst (λ l. IsProgramAnswer [] (record (query_of it) { limit = l }) d.trees [] rows) asks.unlimited (answer_in text it [] d old new rows had is h)) in
+    (subst (λ l. IsProgramAnswer [] (record (query_of it) { limit = l }) d.trees [] rows) asks.unlimited (answer_in base text it [] d old new rows had b h)) in
     let same : map (showing [] it.project) (passing [] it.terms (d.trees it.tree)) ≡ rows_in t d.trees =
     ap (λ ts. map (showing [] it.project) (passing [] ts (d.trees it.tree))) asks.all
     ∙ ap (map (showing [] it.project)) (filter_all (d.trees it.tree))
@@ -45,6 +47,6 @@ shown_all t text it asks d old new rows had is h =
     ∙ ap (λ n. map (values_in t) (d.trees n)) asks.tree in
     subst (λ l. IsPermutation l rows) same all
 
-pub sees_all : (d : Database) (old new : State) (r : Result (Vec Row Global) Error) → d.schema ≡ book_schema → (t : Table) (text : List ℕ) (it : Listing text) → AsksAll t text it
+pub sees_all : (d : Database) (old new : State) (r : Result (Vec Row Global) Error) (t : Table) (base : List Made) (text : List ℕ) (it : Listing base text) → AsksAll t base text it → Begins base d.schema
     → Sees d old new r (λ rows. Shown text [] old new rows.items) → Sees d old new r (λ rows. IsPermutation (rows_in t d.trees) rows.items)
-sees_all d old new r is t text it asks h = sees_so d old new r (λ rows. Shown text [] old new rows.items) (λ rows. IsPermutation (rows_in t d.trees) rows.items) (λ had rows shown. shown_all t text it asks d old new rows.items had is shown) h
+sees_all d old new r t base text it asks b h = sees_so d old new r (λ rows. Shown text [] old new rows.items) (λ rows. IsPermutation (rows_in t d.trees) rows.items) (λ had rows shown. shown_all t base text it asks d old new rows.items had b shown) h

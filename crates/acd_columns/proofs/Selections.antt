@@ -1,11 +1,12 @@
 -- Queries over one table.
-use Rattle.std.proofs.Common.{◌≡◌, ℕ, List, [], ◌∷◌, map, false, Ok, Err, Result, IfOk, refl, ap, subst, ◌∙◌}
+use Rattle.std.proofs.Common.{◌≡◌, ℕ, List, [], ◌∷◌, drop, map, false, Ok, Err, Result, IfOk, refl, sym, ap, subst, ◌∙◌}
 use Rattle.std.specs.Prelude.{Vec}
 use Rattle.std.specs.declared.alloc.Global.{Global}
 use Rattle.std.specs.List.Sorted.{IsPermutation}
 use Rattle.sqlite_value.specs.declared.keys.Key.{Key}
 use Rattle.sqlite_value.specs.Order.{Row}
 use Rattle.sqlite_sql.specs.Term.{Term, col}
+use Rattle.sqlite_schema.specs.declared.schema.Table.{Table as Made}
 use Rattle.sqlite_schema.specs.declared.schema.Schema.{Schema}
 use Rattle.sqlite_schema.specs.declared.command.Command.TheVariants.{Select}
 use Rattle.sqlite.specs.declared.error.Error.{Error}
@@ -16,11 +17,12 @@ use Rattle.sqlite.proofs.Callers.{IsPlain, command_of, reads_as, one_permutation
 use Rattle.sqlite_tied.specs.Compute.{everything}
 use Rattle.acd_book.specs.Content.{Content}
 use Rattle.acd_columns.specs.declared.tables.Table.TheVariants as table
-use Rattle.acd_columns.specs.Schema.{book_schema}
+use Rattle.acd_columns.specs.Schema.{book_schema, nine, two, with_behind, Begins, names_of}
 use Rattle.acd_columns.specs.Schema as schema
 use Rattle.acd_columns.specs.Rows.{meta_shown}
-use Rattle.acd_columns.specs.Content.{meta_of}
+use Rattle.acd_columns.specs.Relations.{meta_of}
 use Rattle.acd_columns.specs.Draft.{Holds}
+use Rattle.acd_columns.proofs.Listings.{begun}
 use Rattle.acd_columns.proofs.Scans.{scan, scanned, showing, passing, filter_all}
 use Rattle.acd_columns.specs.declared.texts.TheConstants.{SELECT_META}
 
@@ -44,29 +46,30 @@ selected schema text it params old new rows has h =
 
 -- ---- the limits and the counters
 
-unfoldable pub meta_selection : Selection book_schema SELECT_META.now
+unfoldable pub meta_selection : (rest : List Made) (s : Schema) → Selection (with_behind nine rest s) SELECT_META.now
 unfolding understood everything
-meta_selection = record {
+meta_selection rest s = record {
   tree = schema.meta.tree;
   terms = [];
   project = col 1 3 ∷ col 1 4 ∷ col 1 5 ∷ col 1 6 ∷ col 1 7 ∷ col 1 8 ∷ col 1 9 ∷ col 1 10 ∷ col 1 11 ∷ col 1 12 ∷ col 1 13 ∷ [];
   order = [];
-  names = _;
+  names = drop 2 (names_of schema.meta);
   command = refl;
   plain = (refl, refl);
   unlisted = refl;
 }
 
-pub meta_plain : IsPlain (understood book_schema SELECT_META.now)
-meta_plain = meta_selection.plain
+pub meta_plain : (s : Schema) → Begins nine s → IsPlain (understood s SELECT_META.now)
+meta_plain s b = subst (λ (x : Schema). IsPlain (understood x SELECT_META.now)) (sym (begun nine s b)) (meta_selection b.0 s).plain
 
 reads_meta : (old new : State) (rows : List Row) → Shown SELECT_META.now [] old new rows → (c : Content) → Holds old c → rows ≡ meta_shown (meta_of c.rows) ∷ []
 unfolding meta_selection
 reads_meta old new rows h c held =
     let has = ap (λ (d : Database). d.schema) held.idle ∙ held.schema in
     let table_is = ap (λ (d : Database). d.trees schema.meta.tree) held.idle ∙ held.encodes table.Meta in
-    let found = selected book_schema SELECT_META.now meta_selection [] old new rows has h in
-    one_permutation _ rows (subst (λ l. IsPermutation l rows) (ap (map (showing [] meta_selection.project)) (filter_all (old.now.trees schema.meta.tree) ∙ table_is)) found)
+    let it = meta_selection two book_schema in
+    let found = selected book_schema SELECT_META.now it [] old new rows has h in
+    one_permutation _ rows (subst (λ l. IsPermutation l rows) (ap (map (showing [] it.project)) (filter_all (old.now.trees schema.meta.tree) ∙ table_is)) found)
 
 pub reads_meta_if : (old new : State) (r : Result (Vec Row Global) Error) → IfOk r (λ rows. Shown SELECT_META.now [] old new rows.items)
     → IfOk r (λ rows. (c : Content) → Holds old c → rows.items ≡ meta_shown (meta_of c.rows) ∷ [])

@@ -40,7 +40,7 @@ groups_updates = record { updates = refl; plain = (refl, refl); changes = λ new
 
 pub groups_selects : Selects groups SELECT_GROUPS.now
 unfolding understood everything
-groups_selects = record { names = _; selects = refl; plain = (refl, refl); unlisted = refl }
+groups_selects = record { selects = λ rest s. refl; plain = λ rest s. (refl, refl); unlisted = λ rest s. refl }
 
 pub stations_filed : Filed stations
 unfolding understood everything
@@ -58,7 +58,7 @@ stations_filed = record {
 
 pub stations_selects : Selects stations SELECT_STATIONS.now
 unfolding understood everything
-stations_selects = record { names = _; selects = refl; plain = (refl, refl); unlisted = refl }
+stations_selects = record { selects = λ rest s. refl; plain = λ rest s. (refl, refl); unlisted = λ rest s. refl }
 
 pub agents_filed : Filed agents
 unfolding understood everything
@@ -80,7 +80,7 @@ agents_updates = record { updates = refl; plain = (refl, refl); changes = λ new
 
 pub agents_selects : Selects agents SELECT_AGENTS.now
 unfolding understood everything
-agents_selects = record { names = _; selects = refl; plain = (refl, refl); unlisted = refl }
+agents_selects = record { selects = λ rest s. refl; plain = λ rest s. (refl, refl); unlisted = λ rest s. refl }
 
 pub calls_filed : Filed calls
 unfolding understood everything
@@ -106,7 +106,7 @@ calls_deletes = record { deletes = refl; plain = (refl, refl) }
 
 pub calls_selects : Selects calls SELECT_CALLS.now
 unfolding understood everything
-calls_selects = record { names = _; selects = refl; plain = (refl, refl); unlisted = refl }
+calls_selects = record { selects = λ rest s. refl; plain = λ rest s. (refl, refl); unlisted = λ rest s. refl }
 
 pub monitors_filed : Filed monitors
 unfolding understood everything
@@ -132,7 +132,7 @@ monitors_deletes = record { deletes = refl; plain = (refl, refl) }
 
 pub monitors_selects : Selects monitors SELECT_MONITORS.now
 unfolding understood everything
-monitors_selects = record { names = _; selects = refl; plain = (refl, refl); unlisted = refl }
+monitors_selects = record { selects = λ rest s. refl; plain = λ rest s. (refl, refl); unlisted = λ rest s. refl }
 
 pub events_filed : Filed events
 unfolding understood everything
@@ -150,7 +150,7 @@ events_filed = record {
 
 pub events_pages : Pages events SELECT_EVENTS_AFTER.now
 unfolding understood everything
-events_pages = record { names = _; pages = refl; plain = (refl, refl); unlisted = refl }
+events_pages = record { pages = λ rest s. refl; plain = λ rest s. (refl, refl); unlisted = λ rest s. refl }
 
 -- its request is read of its text
 pub kept_filed : Filed kept
@@ -169,4 +169,4 @@ kept_filed = record {
 
 pub kept_pages : Pages kept SELECT_KEPT_AFTER.now
 unfolding understood everything
-kept_pages = record { names = _; pages = refl; plain = (refl, refl); unlisted = refl }
+kept_pages = record { pages = λ rest s. refl; plain = λ rest s. (refl, refl); unlisted = λ rest s. refl }

@@ -13,14 +13,17 @@ use Rattle.acd_columns.specs.declared.tables.Table.{Table}
 use Rattle.acd_columns.specs.declared.tables.Table.TheVariants as table
 use Rattle.acd_columns.specs.declared.tables.Log.{Log}
 use Rattle.acd_columns.specs.declared.tables.Log.TheVariants as log
-use Rattle.acd_columns.specs.Content.{tree_of}
+use Rattle.acd_columns.specs.declared.tables.Version.{Version}
+use Rattle.acd_columns.specs.declared.tables.Version.TheVariants as version
+use Rattle.acd_columns.specs.Content.{tree_of, IsIn}
 use Rattle.acd_columns.specs.Values.{id_value}
+use Rattle.acd_columns.specs.Schema.{nine, Begins, old_schema, book_schema}
 use Rattle.acd_columns.specs.Schema as schema
 use Rattle.acd_columns.specs.Ranges.{group_in, station_in, agent_in, call_in, connection_in, monitor_in, counters_in, event_in, kept_in}
 
 -- ---- ranges
 
--- each value of the row is in its range
+-- Each value of the row is in its range. No record has a further group or a priority, so none does with a row of the last two tables.
 abbrev pub is_good : Table → Row → Bool
 is_good table.Meta r = is_some (counters_in r)
 is_good table.Groups r = is_some (group_in r)
@@ -31,6 +34,8 @@ is_good table.Connections r = is_some (connection_in r)
 is_good table.Monitors r = is_some (monitor_in r)
 is_good table.Events r = is_some (event_in r)
 is_good table.Kept r = is_some (kept_in r)
+is_good table.AgentGroups r = false
+is_good table.GroupPriority r = false
 
 unfoldable pub are_good : Table → List Row → Bool
 are_good t rows = list_all (is_good t) rows
@@ -50,6 +55,8 @@ values_in table.Monitors r = column r 0 ∷ column r 2 ∷ column r 3 ∷ []
 values_in table.Events r =
     column r 0 ∷ column r 2 ∷ column r 3 ∷ column r 4 ∷ column r 5 ∷ column r 6 ∷ column r 7 ∷ column r 8 ∷ column r 9 ∷ column r 10 ∷ []
 values_in table.Kept r = column r 0 ∷ column r 2 ∷ column r 3 ∷ column r 4 ∷ column r 5 ∷ column r 6 ∷ column r 7 ∷ []
+values_in table.AgentGroups r = column r 1 ∷ column r 2 ∷ []
+values_in table.GroupPriority r = column r 0 ∷ column r 2 ∷ []
 
 -- of all rows of the table
 abbrev pub rows_in : Table → Trees → List Row
@@ -66,10 +73,10 @@ HaveAllColumns db =
     × AllByRecursion (λ r. length r ≡ 8) (db (tree_of table.Connections))
     × AllByRecursion (λ r. length r ≡ 11) (db (tree_of table.Events))
 
--- as a store keeps the rows of its tables: they have integers as numbers, which rise
+-- as a store keeps the rows of the nine tables: they have integers as numbers, which rise
 pub record IsFiled (db : Trees) : Type 0 where
-  pub rising : (t : Table) → IsTable (db (tree_of t))
-  pub numbered : (t : Table) → AllByRecursion (λ r. IsTrue (is_int (rowid r))) (db (tree_of t))
+  pub rising : (t : Table) → IsIn version.First t → IsTable (db (tree_of t))
+  pub numbered : (t : Table) → IsIn version.First t → AllByRecursion (λ r. IsTrue (is_int (rowid r))) (db (tree_of t))
   pub whole : HaveAllColumns db
 
 -- a bad one is there; and where the rows are filed it is told whether there is one
@@ -111,6 +118,18 @@ pub record IsPageRows (l : Log) (n limit : ℕ) (db : Trees) (rows : List Row) :
   pub known : AllByRecursion (λ r. Has (rows_in (table_of_log l) db) r) rows
   pub paged : (xs : List Numbered) → AreNumbered l db xs → rows ≡ take limit (values_behind l n xs)
 
+-- ---- versions
+
+abbrev pub schema_of : Version → Schema
+schema_of version.First = old_schema
+schema_of version.Second = book_schema
+
+-- the table is there as a book has it: each of the nine in either version
+abbrev pub Covers : Schema → Table → Type 0
+Covers s table.AgentGroups = s ≡ book_schema
+Covers s table.GroupPriority = s ≡ book_schema
+Covers s t = Begins nine s
+
 -- ---- the first table
 
 unfoldable pub has_meta : List Made → Bool
@@ -118,7 +137,7 @@ has_meta tables = list_any (λ t. bytes_eq t.name (codes "meta")) tables
 
 -- its first table is `meta` as a book has it
 abbrev pub BeginsAsBook : Schema → Type 0
-BeginsAsBook s = (rest : List Made) × (s.tables ≡ schema.table_of schema.meta ∷ rest)
+BeginsAsBook s = Begins (schema.table_of schema.meta ∷ []) s
 
 abbrev pub AreSameFirst : List Made → List Made → Type 0
 AreSameFirst (x ∷ xs) (y ∷ ys) = x ≡ y

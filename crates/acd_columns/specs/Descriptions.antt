@@ -3,9 +3,9 @@ use Rattle.std.specs.Prelude.{ℕ, List, Option, Bool}
 use Rattle.std.specs.List.{list_all}
 use Rattle.std.specs.Option.{is_some}
 use Rattle.sqlite_value.specs.Order.{Row}
-use Rattle.acd_book.specs.Content.{Content}
 use Rattle.acd_columns.specs.Rows.{keyed_row}
 use Rattle.acd_columns.specs.declared.tables.Table.{Table}
+use Rattle.acd_columns.specs.Relations.{Relations}
 use Rattle.acd_columns.specs.Schema.{Layout}
 
 pub record Description (R : Type 0) : Type 1 where
@@ -19,9 +19,9 @@ pub record Description (R : Type 0) : Type 1 where
   -- the values of the columns, and the record of such values where each is in its range
   pub values : R → Row
   pub in_row : Row → Option R
-  -- what a content has of it
-  pub records : Content → List R
-  pub with_records : List R → Content → Content
+  -- what the relations have of it
+  pub records : Relations → List R
+  pub with_records : List R → Relations → Relations
   -- the columns can hold the record
   pub Fits : R → Type 0
   -- the record can be read of its row

@@ -8,13 +8,14 @@ use Rattle.acd_terms.specs.declared.rows.Limits.{Limits}
 use Rattle.acd_book.specs.Content.{Content}
 use Rattle.acd_columns.specs.declared.meta.Meta.{Meta}
 use Rattle.acd_columns.specs.Schema.{book_schema}
-use Rattle.acd_columns.specs.Content.{Encodes}
+use Rattle.acd_columns.specs.Relations.{Relations}
+use Rattle.acd_columns.specs.Content.{AreTables, Encodes}
 
--- the transaction sees this content
-pub record Drafts (s : State) (c : Content) : Type 0 where
+-- the transaction sees these relations
+pub record Drafts (s : State) (r : Relations) : Type 0 where
   pub inside : s.in_transaction ≡ true
   pub schema : s.now.schema ≡ book_schema
-  pub encodes : Encodes s.now.trees c
+  pub tables : AreTables s.now.trees r
 
 -- nothing is committed, and a crash leaves what it left before
 pub record Works (old new : State) : Type 0 where

@@ -8,6 +8,7 @@ pub mod Reports
 pub mod Ranges
 pub mod Schema
 pub mod Making
+pub mod Relations
 pub mod Content
 pub mod Draft
 pub mod Finding

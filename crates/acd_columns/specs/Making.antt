@@ -1,6 +1,8 @@
 -- A schema that is made table by table.
-use Rattle.std.specs.Prelude.{◌≡◌, ℕ, true, false, List, [], ◌∷◌, Result, Ok, Err}
+use Rattle.std.specs.Prelude.{◌≡◌, ◌≢◌, ℕ, zero, suc, true, false, List, [], ◌∷◌, Result, Ok, Err, ⊤}
 use Rattle.std.specs.List.{AllByRecursion}
+use Rattle.sqlite_value.specs.Order.{Row}
+use Rattle.sqlite_trees.specs.Tree.{Trees}
 use Rattle.sqlite_schema.specs.declared.schema.Table.{Table}
 use Rattle.sqlite_schema.specs.declared.schema.Schema.{Schema}
 use Rattle.sqlite_schema.specs.declared.command.Command.{Command}
@@ -13,7 +15,9 @@ use Rattle.sqlite.specs.Does.{lacks_sequence}
 use Rattle.sqlite.specs.Given.{IsPlain}
 use Rattle.sqlite.specs.Listing.{understood}
 use Rattle.sqlite.specs.State.{State, text_of}
-use Rattle.acd_columns.specs.Schema.{Layout, table_of, no_schema, meta, groups, stations, agents, calls, connections, monitors}
+use Rattle.acd_columns.specs.declared.meta.Meta.{Meta}
+use Rattle.acd_columns.specs.Rows.{meta_row, meta_row_as}
+use Rattle.acd_columns.specs.Schema.{Layout, table_of, no_schema, book_schema, meta, groups, stations, agents, calls, connections, monitors}
 
 abbrev pub command_of : Result Compiled CompileError → Command
 command_of (Ok c) = c.command
@@ -31,11 +35,29 @@ pub record Makes (schema : Schema) (text : List ℕ) (table : Table) : Type 0 wh
   pub defined : table_defined_by text ≡ Ok table
   pub uncounted : lacks_sequence (created schema table) ≡ false
 
--- the transaction sees this schema, and no row
-pub record Builds (s : State) (schema : Schema) : Type 0 where
+-- these tables have these rows
+abbrev pub HasRows : Trees → List Table → List (List Row) → Type 0
+HasRows db [] [] = ⊤
+HasRows db (t ∷ ts) (rows ∷ more) = (db t.tree ≡ rows) × HasRows db ts more
+HasRows db _ _ = ⊥
+
+-- of so many tables
+abbrev pub no_rows : ℕ → List (List Row)
+no_rows zero = []
+no_rows (suc n) = [] ∷ no_rows n
+
+-- the transaction sees this schema, and these rows in its tables
+pub record Builds (s : State) (schema : Schema) (rows : List (List Row)) : Type 0 where
   pub inside : s.in_transaction ≡ true
   pub schema_is : s.now.schema ≡ schema
-  pub empty : AllByRecursion (λ t. s.now.trees t.tree ≡ []) schema.tables
+  pub rows_are : HasRows s.now.trees schema.tables rows
+
+-- the version is told to be 2, and nothing else is changed
+pub record TellsSecond (old new : State) : Type 0 where
+  pub inside : new.in_transaction ≡ old.in_transaction
+  pub schema_is : new.now.schema ≡ book_schema
+  pub others : AllByRecursion (λ u. u.tree ≢ meta.tree → new.now.trees u.tree ≡ old.now.trees u.tree) book_schema.tables
+  pub told : (m : Meta) → old.now.trees meta.tree ≡ meta_row_as 1 m ∷ [] → new.now.trees meta.tree ≡ meta_row m ∷ []
 
 -- the table, before its tree is chosen
 abbrev pub unplaced : Layout → Table

@@ -124,14 +124,17 @@ values_of_event e = record { number = e.number; moment = e.moment; columns = col
 -- ---- the values of the columns, which are the parameters of the statement that puts the record
 
 abbrev pub version : ℕ
-version = 1
+version = 2
 
 -- the limits and the counters as they are read
 abbrev pub meta_shown : Meta → Row
 meta_shown m = written meta_fields m
 
+abbrev pub meta_values_as : ℕ → Meta → Row
+meta_values_as v m = id_value 1 ∷ id_value v ∷ meta_shown m
+
 abbrev pub meta_values : Meta → Row
-meta_values m = id_value 1 ∷ id_value version ∷ meta_shown m
+meta_values m = meta_values_as version m
 
 abbrev pub group_values : GroupRecord → Row
 group_values g = written group_fields g
@@ -165,8 +168,12 @@ abbrev pub keyed_row : Row → Row
 keyed_row [] = []
 keyed_row (key ∷ values) = key ∷ Null ∷ values
 
+-- of a version
+abbrev pub meta_row_as : ℕ → Meta → Row
+meta_row_as v m = keyed_row (meta_values_as v m)
+
 abbrev pub meta_row : Meta → Row
-meta_row m = keyed_row (meta_values m)
+meta_row m = meta_row_as version m
 
 abbrev pub group_row : GroupRecord → Row
 group_row g = keyed_row (group_values g)
@@ -192,6 +199,14 @@ event_row e = keyed_row (event_values e)
 
 abbrev pub kept_row : Kept → Row
 kept_row k = keyed_row (kept_values k)
+
+-- of an agent and a further group; it has a number of its own
+abbrev pub further_row : ℤ → ℕ × ℕ → Row
+further_row id p = Int id ∷ id_value p.0 ∷ id_value p.1 ∷ []
+
+-- of a group and its priority
+abbrev pub priority_row : ℕ × ℕ → Row
+priority_row p = keyed_row (id_value p.0 ∷ id_value p.1 ∷ [])
 
 -- what a request is kept as reads as the request
 abbrev pub IsReadable : Kept → Type 0

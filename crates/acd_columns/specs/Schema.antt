@@ -1,5 +1,5 @@
 -- The nine tables of a book, as their texts make them.
-use Rattle.std.specs.Prelude.{Bool, true, false, ℕ, pos, [], ◌∷◌, Option, None, Some, codes, List}
+use Rattle.std.specs.Prelude.{◌≡◌, ◌++◌, Bool, true, false, ℕ, pos, [], ◌∷◌, Option, None, Some, codes, List, map}
 use Rattle.sqlite_value.specs.declared.keys.Order.{Order}
 use Rattle.sqlite_value.specs.declared.keys.Collation.TheVariants.{Binary}
 use Rattle.sqlite_value.specs.declared.value.Value.TheVariants.{Null, Int}
@@ -62,6 +62,10 @@ table_of l = record {
   stamps = record { places = []; terms = []; formats = [] };
   is_counted = false;
 }
+
+-- as a query of all columns names them
+abbrev pub names_of : Layout → List (List ℕ)
+names_of l = map (λ (c : Column). c.name) l.columns
 
 -- a table whose first column is its key, with no more to say
 abbrev pub keyed : List ℕ → ℕ → List Column → Layout
@@ -157,9 +161,51 @@ kept = record (keyed (codes "kept") 10 (
 abbrev pub kept_key : Index
 kept_key = unique (codes "sqlite_autoindex_kept_1") 11 10 (2 ∷ 3 ∷ [])
 
-abbrev pub book_schema : Schema
-book_schema = record {
-  tables = table_of meta ∷ table_of groups ∷ table_of stations ∷ table_of agents ∷ table_of calls ∷ table_of connections ∷ table_of monitors ∷ table_of events ∷ table_of kept ∷ [];
-  indexes = agents_station ∷ connections_key ∷ kept_key ∷ [];
-  views = [];
+-- ---- version 1
+
+abbrev pub nine : List Table
+nine = table_of meta ∷ table_of groups ∷ table_of stations ∷ table_of agents ∷ table_of calls ∷ table_of connections ∷ table_of monitors ∷ table_of events ∷ table_of kept ∷ []
+
+abbrev pub old_schema : Schema
+old_schema = record { tables = nine; indexes = agents_station ∷ connections_key ∷ kept_key ∷ []; views = [] }
+
+-- ---- version 2
+
+-- the groups of an agent behind its first; its key is of two columns, so its rows have numbers of their own
+abbrev pub agent_groups : Layout
+agent_groups = record {
+  name = codes "agent_groups";
+  tree = 12;
+  columns = number (codes "agent") ∷ number (codes "grp") ∷ [];
+  key = None;
+  primary = 1 ∷ 2 ∷ [];
+  uniques = (1 ∷ 2 ∷ []) ∷ [];
+  orders = plain ∷ [];
+  checks = [];
+  references = refers 1 (codes "agents") ∷ refers 2 (codes "acd_groups") ∷ [];
 }
+
+abbrev pub agent_groups_key : Index
+agent_groups_key = unique (codes "sqlite_autoindex_agent_groups_1") 13 12 (1 ∷ 2 ∷ [])
+
+-- the groups whose priority isn't 0
+abbrev pub group_priority : Layout
+group_priority = record (keyed (codes "group_priority") 14 (number (codes "device") ∷ number (codes "priority") ∷ [])) {
+  checks = is_between 2 1 9 ∷ [];
+  references = refers 0 (codes "acd_groups") ∷ [];
+}
+
+abbrev pub two : List Table
+two = table_of agent_groups ∷ table_of group_priority ∷ []
+
+abbrev pub book_schema : Schema
+book_schema = record { tables = nine ++ two; indexes = agents_station ∷ connections_key ∷ kept_key ∷ agent_groups_key ∷ []; views = [] }
+
+-- ---- of either version
+
+-- these tables, and whatever lies behind them
+abbrev pub with_behind : List Table → List Table → Schema → Schema
+with_behind base rest s = record s { tables = base ++ rest }
+
+abbrev pub Begins : List Table → Schema → Type 0
+Begins base s = (rest : List Table) × (s.tables ≡ base ++ rest)

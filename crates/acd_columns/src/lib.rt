@@ -15,4 +15,4 @@ pub mod texts;
 pub mod values;
 
 pub use meta::Meta;
-pub use tables::{Log, Table};
+pub use tables::{Log, Table, Version};

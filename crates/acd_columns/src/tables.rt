@@ -12,6 +12,17 @@ pub enum Table {
     Monitors,
     Events,
     Kept,
+    AgentGroups,
+    GroupPriority,
+}
+
+/// The version of a book's tables.
+#[derive(Clone, Copy, PartialEq, Eq)]
+pub enum Version {
+    /// The nine tables up to `kept`.
+    First,
+    /// All eleven.
+    Second,
 }
 
 /// A table that grows with the history, and is read in pages.

@@ -148,6 +148,9 @@ pub const INSERT_META: &str = meta!(insert);
 pub const UPDATE_META: &str =
     "UPDATE meta SET max_requests = ?1, max_calls = ?2, max_groups = ?3, max_stations = ?4, max_agents = ?5, max_monitors = ?6, last_stamp = ?7, last_moment = ?8, last_call = ?9, last_monitor = ?10, last_event = ?11 WHERE id = 1";
 
+// what makes version 2 of a version 1, behind its new tables
+pub const UPDATE_VERSION: &str = "UPDATE meta SET version = 2 WHERE id = 1";
+
 pub const SELECT_META: &str = meta!(select_counters);
 
 pub const SELECT_VERSION: &str = meta!(select_version);
@@ -353,3 +356,35 @@ pub const SELECT_KEPT_AFTER: &str = kept!(page);
 pub const SELECT_KEPT_OF_REQUEST: &str = kept!(one_of_request);
 
 pub const SELECT_LOW_KEPT: &str = kept!(low);
+
+// ---- the further groups of agents
+
+macro_rules! agent_groups {
+    ($text:ident) => {
+        $text!(
+            "agent_groups",
+            "agent" "?1" "INTEGER NOT NULL REFERENCES agents",
+            "grp" "?2" "INTEGER NOT NULL REFERENCES acd_groups"
+        )
+    };
+}
+
+pub const CREATE_AGENT_GROUPS: &str = agent_groups!(create_pair);
+
+pub const SELECT_STANDING_AGENT_GROUPS: &str = agent_groups!(select_standing);
+
+// ---- the groups whose priority isn't 0
+
+macro_rules! group_priority {
+    ($text:ident) => {
+        $text!(
+            "group_priority",
+            "device" "?1" "INTEGER NOT NULL PRIMARY KEY REFERENCES acd_groups",
+            "priority" "?2" "INTEGER NOT NULL CHECK (priority BETWEEN 1 AND 9)"
+        )
+    };
+}
+
+pub const CREATE_GROUP_PRIORITY: &str = group_priority!(create);
+
+pub const SELECT_GROUP_PRIORITY: &str = group_priority!(select);

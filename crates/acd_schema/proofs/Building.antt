@@ -1,6 +1,7 @@
 -- CREATE TABLE, of any schema.
 use Rattle.std.proofs.Common.{◌≡◌, ℕ, List, [], ◌∷◌, ◌++◌, true, false, None, Ok, Err, Result, OnOk, refl, sym, ap, subst, ◌∙◌}
 use Rattle.std.specs.List.{AllByRecursion}
+use Rattle.sqlite_value.specs.Order.{Row}
 use Rattle.sqlite_trees.specs.Tree.{Trees}
 use Rattle.sqlite_schema.specs.declared.schema.Table.{Table}
 use Rattle.sqlite_schema.specs.declared.schema.Schema.{Schema}
@@ -12,19 +13,19 @@ use Rattle.sqlite.specs.Effect.{Database}
 use Rattle.sqlite.specs.State.{State, Writes, Executes}
 use Rattle.sqlite.proofs.Callers.{runs_as}
 use Rattle.acd_columns.specs.Draft.{Ran}
-use Rattle.acd_columns.specs.Making.{Makes, Builds}
+use Rattle.acd_columns.specs.Making.{Makes, Builds, HasRows}
 use Rattle.acd_columns.proofs.Statements.{went, same_value}
 
-kept_empty : (old new : Trees) (ts : List Table) → AllByRecursion (λ t. new t.tree ≡ old t.tree) ts → AllByRecursion (λ t. old t.tree ≡ []) ts → AllByRecursion (λ t. new t.tree ≡ []) ts
-kept_empty old new [] k e = tt
-kept_empty old new (t ∷ ts) k e = (k.0 ∙ e.0, kept_empty old new ts k.1 e.1)
+-- rows that were kept are those that were there, and the last table's come behind them
+all_rows : (old new : Trees) (ts : List Table) (rows : List (List Row)) (t : Table) → AllByRecursion (λ u. new u.tree ≡ old u.tree) ts → HasRows old ts rows → new t.tree ≡ [] → HasRows new (ts ++ t ∷ []) (rows ++ [] ∷ [])
+all_rows old new [] [] t kept had none = (none, tt)
+all_rows old new [] (r ∷ rows) t kept had none = absurd had
+all_rows old new (u ∷ ts) [] t kept had none = absurd had
+all_rows old new (u ∷ ts) (r ∷ rows) t kept had none = (kept.0 ∙ had.0, all_rows old new ts rows t kept.1 had.1 none)
 
-and_last : (P : Table → Type 0) (ts : List Table) (t : Table) → AllByRecursion P ts → P t → AllByRecursion P (ts ++ t ∷ [])
-and_last P [] t all h = (h, tt)
-and_last P (x ∷ ts) t all h = (all.0, and_last P ts t all.1 h)
-
-pub builds : (schema : Schema) (text : List ℕ) (table : Table) (it : Makes schema text table) (old new : State) (count : ℕ) → Builds old schema → Executes text [] old new (Ok count) → Builds new (created schema table)
-builds schema text table it old new count b h =
+pub builds : (schema : Schema) (text : List ℕ) (table : Table) (rows : List (List Row)) (it : Makes schema text table) (old new : State) (count : ℕ) → Builds old schema rows → Executes text [] old new (Ok count)
+    → Builds new (created schema table) (rows ++ [] ∷ [])
+builds schema text table rows it old new count b h =
     let w = subst (λ t. Writes old new None CreateTable t [] count) it.statement (runs_as text [] old new schema b.schema_is CreateTable it.command it.plain count h) in
     let all = went w.changed in
     let first = went all.1 in
@@ -40,15 +41,15 @@ builds schema text table it old new count b h =
     record {
       inside = w.shown.mode ∙ b.inside;
       schema_is = ap (λ (d : Database). d.schema) now ∙ schema_at;
-      empty = subst (λ (t : Trees). AllByRecursion (λ x. t x.tree ≡ []) (created schema table).tables) (sym trees)
-          (and_last (λ x. first.0.trees x.tree ≡ []) schema.tables (record table { tree = next_tree schema }) (kept_empty old.now.trees first.0.trees schema.tables others b.empty) last);
+      rows_are = subst (λ (t : Trees). HasRows t (created schema table).tables (rows ++ [] ∷ [])) (sym trees)
+          (all_rows old.now.trees first.0.trees schema.tables rows (record table { tree = next_tree schema }) others b.rows_are last);
     }
 
 pub builds_if : (text : List ℕ) (old new : State) (r : Result (Unit {0}) Error) → OnOk r (Ran text [] old new)
-    → OnOk r ((schema : Schema) (table : Table) → Makes schema text table → Builds old schema → Builds new (created schema table))
+    → OnOk r ((schema : Schema) (table : Table) (rows : List (List Row)) → Makes schema text table → Builds old schema rows → Builds new (created schema table) (rows ++ [] ∷ []))
 builds_if text old new (Err e) ran = tt
-builds_if text old new (Ok x) ran = λ (schema : Schema) (table : Table) (it : Makes schema text table) (b : Builds old schema). builds schema text table it old new ran.0 b ran.1
+builds_if text old new (Ok x) ran = λ (schema : Schema) (table : Table) (rows : List (List Row)) (it : Makes schema text table) (b : Builds old schema rows). builds schema text table rows it old new ran.0 b ran.1
 
 -- a transaction begins
-pub begins_with : (old : State) (schema : Schema) → old.now.schema ≡ schema → AllByRecursion (λ t. old.now.trees t.tree ≡ []) schema.tables → Builds (record old { in_transaction = true }) schema
-begins_with old schema is empty = record { inside = refl; schema_is = is; empty = empty }
+pub begins_with : (old : State) (schema : Schema) (rows : List (List Row)) → old.now.schema ≡ schema → HasRows old.now.trees schema.tables rows → Builds (record old { in_transaction = true }) schema rows
+begins_with old schema rows is had = record { inside = refl; schema_is = is; rows_are = had }

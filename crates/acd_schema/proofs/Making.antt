@@ -3,13 +3,17 @@ use Rattle.std.proofs.Common.{◌≡◌, [], ◌∷◌, refl}
 use Rattle.std.specs.Fmt.{digits}
 use Rattle.sqlite.specs.Listing.{understood}
 use Rattle.sqlite_tied.specs.Compute.{everything}
-use Rattle.acd_columns.specs.Schema.{no_schema, book_schema, meta, groups, stations, agents, calls, connections, monitors, events, kept}
-use Rattle.acd_columns.specs.declared.texts.TheConstants.{CREATE_AGENTS, CREATE_CALLS, CREATE_CONNECTIONS, CREATE_EVENTS, CREATE_GROUPS, CREATE_KEPT, CREATE_META, CREATE_MONITORS, CREATE_STATIONS}
+use Rattle.acd_columns.specs.Schema.{no_schema, old_schema, book_schema, agent_groups, group_priority, meta, groups, stations, agents, calls, connections, monitors, events, kept}
+use Rattle.acd_columns.specs.declared.texts.TheConstants.{CREATE_AGENTS, CREATE_AGENT_GROUPS, CREATE_CALLS, CREATE_CONNECTIONS, CREATE_EVENTS, CREATE_GROUPS, CREATE_GROUP_PRIORITY, CREATE_KEPT, CREATE_META, CREATE_MONITORS, CREATE_STATIONS}
 use Rattle.acd_columns.specs.Making.{Makes, unplaced, with_tables, plan_schema, state_schema}
 
-pub whole : with_tables state_schema (events ∷ kept ∷ []) ≡ book_schema
+pub nine_made : with_tables state_schema (events ∷ kept ∷ []) ≡ old_schema
 unfolding digits
-whole = refl
+nine_made = refl
+
+pub two_made : with_tables old_schema (agent_groups ∷ group_priority ∷ []) ≡ book_schema
+unfolding digits
+two_made = refl
 
 pub makes_meta : Makes no_schema CREATE_META.now (unplaced meta)
 unfolding understood everything
@@ -46,3 +50,11 @@ makes_events = record { command = refl; statement = refl; plain = (refl, refl); 
 pub makes_kept : Makes (with_tables state_schema (events ∷ [])) CREATE_KEPT.now (unplaced kept)
 unfolding understood everything
 makes_kept = record { command = refl; statement = refl; plain = (refl, refl); defined = refl; uncounted = refl }
+
+pub makes_agent_groups : Makes old_schema CREATE_AGENT_GROUPS.now (unplaced agent_groups)
+unfolding understood everything
+makes_agent_groups = record { command = refl; statement = refl; plain = (refl, refl); defined = refl; uncounted = refl }
+
+pub makes_group_priority : Makes (with_tables old_schema (agent_groups ∷ [])) CREATE_GROUP_PRIORITY.now (unplaced group_priority)
+unfolding understood everything
+makes_group_priority = record { command = refl; statement = refl; plain = (refl, refl); defined = refl; uncounted = refl }

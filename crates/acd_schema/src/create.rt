@@ -1,21 +1,23 @@
 //! Makes the tables of a book.
 
-ghost use Rattle.std.specs.Prelude.{◌≡◌, ◌↔◌, false, IsTrue, OnOk};
+ghost use Rattle.std.specs.Prelude.{◌≡◌, ◌↔◌, ◌++◌, ◌∷◌, [], List, false, IsTrue, OnOk};
+ghost use Rattle.sqlite_value.specs.Order.{Row as Values};
 ghost use Rattle.sqlite_schema.specs.declared.schema.Table.{Table};
 ghost use Rattle.sqlite_schema.specs.declared.schema.Schema.{Schema};
 ghost use Rattle.sqlite.specs.Change.{created};
 ghost use Rattle.sqlite.specs.State.{HasCleanDisk};
 ghost use Rattle.sqlite.specs.Held.{state};
-ghost use Rattle.acd_columns.specs.Schema.{no_schema, book_schema};
-ghost use Rattle.acd_columns.specs.Making.{Makes, Builds, plan_schema, state_schema};
+ghost use Rattle.acd_columns.specs.Schema.{no_schema, old_schema, book_schema};
+ghost use Rattle.acd_columns.specs.Making.{Makes, Builds, no_rows, plan_schema, state_schema};
 ghost use Rattle.acd_columns.specs.Draft.{Works, Holds, LimitsFit};
 ghost use Rattle.acd_book.specs.Content.{empty_content};
 ghost use Rattle.acd_schema.specs.SettingUp.{MayMake};
 
 use acd_columns::Meta;
 use acd_columns::texts::{
-    CREATE_AGENTS, CREATE_CALLS, CREATE_CONNECTIONS, CREATE_EVENTS, CREATE_GROUPS, CREATE_KEPT,
-    CREATE_META, CREATE_MONITORS, CREATE_STATIONS,
+    CREATE_AGENT_GROUPS, CREATE_AGENTS, CREATE_CALLS, CREATE_CONNECTIONS, CREATE_EVENTS,
+    CREATE_GROUP_PRIORITY, CREATE_GROUPS, CREATE_KEPT, CREATE_META, CREATE_MONITORS,
+    CREATE_STATIONS,
 };
 use acd_statements::write::{insert_meta, write};
 use acd_terms::Limits;
@@ -33,8 +35,8 @@ pub fn has_no_tables(schema: &Schema) -> bool
 fn make<S: Alter>(tx: &mut Transaction<'_, S>, sql: &str) -> Result<(), Error>
     ensures same { tx.new.conn.ghost_name ≡ tx.old.conn.ghost_name }
     ensures works { Works (state S.Store tx.old.conn.now) (state S.Store tx.new.conn.now) }
-    ensures made { HasCleanDisk (state S.Store tx.new.conn.now) → OnOk result ((schema : Schema) (table : Table) → Makes schema sql.now table
-        → Builds (state S.Store tx.old.conn.now) schema → Builds (state S.Store tx.new.conn.now) (created schema table)) }
+    ensures made { HasCleanDisk (state S.Store tx.new.conn.now) → OnOk result ((schema : Schema) (table : Table) (rows : List (List Values)) → Makes schema sql.now table
+        → Builds (state S.Store tx.old.conn.now) schema rows → Builds (state S.Store tx.new.conn.now) (created schema table) (rows ++ [] ∷ [])) }
 {
     write(tx, sql, &[])
 }
@@ -43,7 +45,7 @@ fn make<S: Alter>(tx: &mut Transaction<'_, S>, sql: &str) -> Result<(), Error>
 fn make_plan<S: Alter>(tx: &mut Transaction<'_, S>) -> Result<(), Error>
     ensures same { tx.new.conn.ghost_name ≡ tx.old.conn.ghost_name }
     ensures works { Works (state S.Store tx.old.conn.now) (state S.Store tx.new.conn.now) }
-    ensures made { HasCleanDisk (state S.Store tx.new.conn.now) → OnOk result (Builds (state S.Store tx.old.conn.now) no_schema → Builds (state S.Store tx.new.conn.now) plan_schema) }
+    ensures made { HasCleanDisk (state S.Store tx.new.conn.now) → OnOk result (Builds (state S.Store tx.old.conn.now) no_schema (no_rows 0) → Builds (state S.Store tx.new.conn.now) plan_schema (no_rows 4)) }
 {
     make(tx, CREATE_META)?;
     make(tx, CREATE_GROUPS)?;
@@ -56,7 +58,7 @@ fn make_plan<S: Alter>(tx: &mut Transaction<'_, S>) -> Result<(), Error>
 fn make_state<S: Alter>(tx: &mut Transaction<'_, S>) -> Result<(), Error>
     ensures same { tx.new.conn.ghost_name ≡ tx.old.conn.ghost_name }
     ensures works { Works (state S.Store tx.old.conn.now) (state S.Store tx.new.conn.now) }
-    ensures made { HasCleanDisk (state S.Store tx.new.conn.now) → OnOk result (Builds (state S.Store tx.old.conn.now) plan_schema → Builds (state S.Store tx.new.conn.now) state_schema) }
+    ensures made { HasCleanDisk (state S.Store tx.new.conn.now) → OnOk result (Builds (state S.Store tx.old.conn.now) plan_schema (no_rows 4) → Builds (state S.Store tx.new.conn.now) state_schema (no_rows 7)) }
 {
     make(tx, CREATE_CALLS)?;
     make(tx, CREATE_CONNECTIONS)?;
@@ -68,22 +70,46 @@ fn make_state<S: Alter>(tx: &mut Transaction<'_, S>) -> Result<(), Error>
 fn make_log<S: Alter>(tx: &mut Transaction<'_, S>) -> Result<(), Error>
     ensures same { tx.new.conn.ghost_name ≡ tx.old.conn.ghost_name }
     ensures works { Works (state S.Store tx.old.conn.now) (state S.Store tx.new.conn.now) }
-    ensures made { HasCleanDisk (state S.Store tx.new.conn.now) → OnOk result (Builds (state S.Store tx.old.conn.now) state_schema → Builds (state S.Store tx.new.conn.now) book_schema) }
+    ensures made { HasCleanDisk (state S.Store tx.new.conn.now) → OnOk result (Builds (state S.Store tx.old.conn.now) state_schema (no_rows 7) → Builds (state S.Store tx.new.conn.now) old_schema (no_rows 9)) }
 {
     make(tx, CREATE_EVENTS)?;
     make(tx, CREATE_KEPT)?;
     Ok(())
 }
 
-// Makes the nine tables.
-fn make_tables<S: Alter>(tx: &mut Transaction<'_, S>) -> Result<(), Error>
+// Makes the nine tables of version 1.
+fn make_nine<S: Alter>(tx: &mut Transaction<'_, S>) -> Result<(), Error>
     ensures same { tx.new.conn.ghost_name ≡ tx.old.conn.ghost_name }
     ensures works { Works (state S.Store tx.old.conn.now) (state S.Store tx.new.conn.now) }
-    ensures made { HasCleanDisk (state S.Store tx.new.conn.now) → OnOk result (Builds (state S.Store tx.old.conn.now) no_schema → Builds (state S.Store tx.new.conn.now) book_schema) }
+    ensures made { HasCleanDisk (state S.Store tx.new.conn.now) → OnOk result (Builds (state S.Store tx.old.conn.now) no_schema (no_rows 0) → Builds (state S.Store tx.new.conn.now) old_schema (no_rows 9)) }
 {
     make_plan(tx)?;
     make_state(tx)?;
     make_log(tx)
+}
+
+/// Makes the two tables of version 2 behind the nine, whatever rows these have.
+pub(crate) fn make_two<S: Alter>(tx: &mut Transaction<'_, S>) -> Result<(), Error>
+    ensures same { tx.new.conn.ghost_name ≡ tx.old.conn.ghost_name }
+    ensures works { Works (state S.Store tx.old.conn.now) (state S.Store tx.new.conn.now) }
+    ensures made { HasCleanDisk (state S.Store tx.new.conn.now) → OnOk result ((rows : List (List Values)) → Builds (state S.Store tx.old.conn.now) old_schema rows
+        → Builds (state S.Store tx.new.conn.now) book_schema ((rows ++ [] ∷ []) ++ [] ∷ [])) }
+{
+    make(tx, CREATE_AGENT_GROUPS)?;
+    make(tx, CREATE_GROUP_PRIORITY)?;
+    Ok(())
+}
+
+/// Makes the tables of version 1 in one transaction, with no row.
+pub(crate) fn set_up_old<S: Alter>(conn: &mut Connection<S>) -> Result<(), Error>
+    requires idle { conn.old.in_transaction ≡ false }
+    requires empty { (state S.Store conn.old).now.schema ≡ no_schema }
+    ensures idle { conn.new.in_transaction ≡ false }
+    ensures made { HasCleanDisk (state S.Store conn.new) → OnOk result ((state S.Store conn.new).now.schema ≡ old_schema) }
+{
+    let mut tx = conn.transaction();
+    make_nine(&mut tx)?;
+    tx.commit()
 }
 
 /// Makes the tables of a new book in one transaction, and the row of the limits.
@@ -106,7 +132,8 @@ pub fn set_up<S: Alter>(conn: &mut Connection<S>, limits: Limits) -> Result<(), 
         last_event: 0,
     };
     let mut tx = conn.transaction();
-    make_tables(&mut tx)?;
+    make_nine(&mut tx)?;
+    make_two(&mut tx)?;
     insert_meta(&mut tx, &meta)?;
     tx.commit()
 }

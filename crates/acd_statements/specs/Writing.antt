@@ -1,19 +1,19 @@
--- What a statement leaves of a content.
+-- What a statement leaves of what the tables held.
 use Rattle.std.specs.Prelude.{ℕ, Result, OnOk}
 use Rattle.std.specs.Ordering.{nat_cmp}
 use Rattle.sqlite.specs.State.{State, HasCleanDisk}
 use Rattle.sqlite.specs.declared.error.Error.{Error}
 use Rattle.acd_terms.specs.Lists.{put_by, remove_by}
-use Rattle.acd_book.specs.Content.{Content}
+use Rattle.acd_columns.specs.Relations.{Relations}
 use Rattle.acd_columns.specs.Draft.{Drafts}
 use Rattle.acd_columns.specs.Descriptions.{Description}
 
--- where it succeeds, a transaction that saw a content sees what was made of it
-abbrev pub Leaves : State → State → Result (Unit {0}) Error → (Content → Content) → Type 0
-Leaves old new result change = HasCleanDisk new → OnOk result ((c : Content) → Drafts old c → Drafts new (change c))
+-- where it succeeds, a transaction that saw these relations sees what was made of them
+abbrev pub Leaves : State → State → Result (Unit {0}) Error → (Relations → Relations) → Type 0
+Leaves old new result change = HasCleanDisk new → OnOk result ((r : Relations) → Drafts old r → Drafts new (change r))
 
-abbrev pub with_put : {R : Type 0} → Description R → R → Content → Content
-with_put d r c = d.with_records (put_by (λ x. nat_cmp (d.key r) (d.key x)) (d.records c) r) c
+abbrev pub with_put : {R : Type 0} → Description R → R → Relations → Relations
+with_put d x r = d.with_records (put_by (λ y. nat_cmp (d.key x) (d.key y)) (d.records r) x) r
 
-abbrev pub without : {R : Type 0} → Description R → ℕ → Content → Content
-without d n c = d.with_records (remove_by (λ x. nat_cmp n (d.key x)) (d.records c)) c
+abbrev pub without : {R : Type 0} → Description R → ℕ → Relations → Relations
+without d n r = d.with_records (remove_by (λ y. nat_cmp n (d.key y)) (d.records r)) r

@@ -9,12 +9,13 @@ ghost use Rattle.acd_columns.specs.declared.tables.Log.TheVariants as log;
 ghost use Rattle.acd_columns.specs.declared.tables.Table.TheVariants as table;
 ghost use Rattle.acd_columns.specs.AnyRows.{has_meta, rows_in, BeginsAsBook, TellsLow};
 ghost use Rattle.acd_columns.specs.Content.{tree_of};
-ghost use Rattle.acd_columns.specs.Schema.{book_schema};
+ghost use Rattle.acd_columns.specs.Schema.{nine, Begins, book_schema};
 ghost use Rattle.acd_columns.specs.Seeing.{Sees};
 
 use crate::read::read;
 use acd_columns::texts::{
-    SELECT_LOW_EVENT, SELECT_LOW_KEPT, SELECT_STANDING_CONNECTIONS, SELECT_VERSION,
+    SELECT_GROUP_PRIORITY, SELECT_LOW_EVENT, SELECT_LOW_KEPT, SELECT_STANDING_AGENT_GROUPS,
+    SELECT_STANDING_CONNECTIONS, SELECT_VERSION,
 };
 use sqlite::{Alter, Connection, Error, Row};
 use sqlite_schema::schema::{Schema, Table};
@@ -48,16 +49,34 @@ pub fn unordered_connection_rows<S: Alter>(
 ) -> Result<Vec<Row>, Error>
     requires { conn.old.in_transaction ≡ false }
     ensures idle { conn.new.in_transaction ≡ false }
-    ensures seen { (d : Database) → d.schema ≡ book_schema → Sees d (state S.Store conn.old) (state S.Store conn.new) result (λ rows. IsPermutation (rows_in table.Connections d.trees) rows.items) }
+    ensures seen { (d : Database) → Begins nine d.schema → Sees d (state S.Store conn.old) (state S.Store conn.new) result (λ rows. IsPermutation (rows_in table.Connections d.trees) rows.items) }
 {
     read(conn, SELECT_STANDING_CONNECTIONS, &[])
+}
+
+/// The rows of further groups, in the order in which they stand.
+pub fn further_rows<S: Alter>(conn: &mut Connection<S>) -> Result<Vec<Row>, Error>
+    requires { conn.old.in_transaction ≡ false }
+    ensures idle { conn.new.in_transaction ≡ false }
+    ensures seen { (d : Database) → d.schema ≡ book_schema → Sees d (state S.Store conn.old) (state S.Store conn.new) result (λ rows. IsPermutation (rows_in table.AgentGroups d.trees) rows.items) }
+{
+    read(conn, SELECT_STANDING_AGENT_GROUPS, &[])
+}
+
+/// The rows of priorities.
+pub fn priority_rows<S: Alter>(conn: &mut Connection<S>) -> Result<Vec<Row>, Error>
+    requires { conn.old.in_transaction ≡ false }
+    ensures idle { conn.new.in_transaction ≡ false }
+    ensures seen { (d : Database) → d.schema ≡ book_schema → Sees d (state S.Store conn.old) (state S.Store conn.new) result (λ rows. IsPermutation (rows_in table.GroupPriority d.trees) rows.items) }
+{
+    read(conn, SELECT_GROUP_PRIORITY, &[])
 }
 
 /// An event whose number is below 1.
 pub(crate) fn low_event_rows<S: Alter>(conn: &mut Connection<S>) -> Result<Vec<Row>, Error>
     requires { conn.old.in_transaction ≡ false }
     ensures idle { conn.new.in_transaction ≡ false }
-    ensures seen { (d : Database) → d.schema ≡ book_schema → Sees d (state S.Store conn.old) (state S.Store conn.new) result (λ rows. TellsLow log.Events d.trees rows.items) }
+    ensures seen { (d : Database) → Begins nine d.schema → Sees d (state S.Store conn.old) (state S.Store conn.new) result (λ rows. TellsLow log.Events d.trees rows.items) }
 {
     read(conn, SELECT_LOW_EVENT, &[])
 }
@@ -66,7 +85,7 @@ pub(crate) fn low_event_rows<S: Alter>(conn: &mut Connection<S>) -> Result<Vec<R
 pub(crate) fn low_kept_rows<S: Alter>(conn: &mut Connection<S>) -> Result<Vec<Row>, Error>
     requires { conn.old.in_transaction ≡ false }
     ensures idle { conn.new.in_transaction ≡ false }
-    ensures seen { (d : Database) → d.schema ≡ book_schema → Sees d (state S.Store conn.old) (state S.Store conn.new) result (λ rows. TellsLow log.Kept d.trees rows.items) }
+    ensures seen { (d : Database) → Begins nine d.schema → Sees d (state S.Store conn.old) (state S.Store conn.new) result (λ rows. TellsLow log.Kept d.trees rows.items) }
 {
     read(conn, SELECT_LOW_KEPT, &[])
 }

@@ -11,7 +11,7 @@ ghost use Rattle.acd_columns.specs.declared.tables.Table.TheVariants as table;
 ghost use Rattle.acd_columns.specs.AnyRows.{rows_in, IsPageRows};
 ghost use Rattle.acd_columns.specs.Draft.{Fits};
 ghost use Rattle.acd_columns.specs.Finding.{Finds, kept_behind};
-ghost use Rattle.acd_columns.specs.Schema.{book_schema};
+ghost use Rattle.acd_columns.specs.Schema.{nine, Begins};
 ghost use Rattle.acd_columns.specs.Seeing.{Sees};
 
 use crate::read::read;
@@ -44,7 +44,7 @@ pub fn event_rows<S: Alter>(
     requires limit { Fits limit }
     ensures idle { conn.new.in_transaction ≡ false }
     ensures found { Finds (state S.Store conn.old) (state S.Store conn.new) result (λ c rows. rows.items ≡ map event_values (events_behind c.events number limit)) }
-    ensures seen { (d : Database) → d.schema ≡ book_schema → Sees d (state S.Store conn.old) (state S.Store conn.new) result (λ rows. IsPageRows log.Events number limit d.trees rows.items) }
+    ensures seen { (d : Database) → Begins nine d.schema → Sees d (state S.Store conn.old) (state S.Store conn.new) result (λ rows. IsPageRows log.Events number limit d.trees rows.items) }
 {
     read(
         conn,
@@ -64,7 +64,7 @@ pub fn kept_rows<S: Alter>(
     requires limit { Fits limit }
     ensures idle { conn.new.in_transaction ≡ false }
     ensures found { Finds (state S.Store conn.old) (state S.Store conn.new) result (λ c rows. rows.items ≡ map kept_values (kept_behind c.kept stamp limit)) }
-    ensures seen { (d : Database) → d.schema ≡ book_schema → Sees d (state S.Store conn.old) (state S.Store conn.new) result (λ rows. IsPageRows log.Kept stamp limit d.trees rows.items) }
+    ensures seen { (d : Database) → Begins nine d.schema → Sees d (state S.Store conn.old) (state S.Store conn.new) result (λ rows. IsPageRows log.Kept stamp limit d.trees rows.items) }
 {
     read(
         conn,
@@ -97,7 +97,7 @@ pub fn connection_rows<S: Alter>(conn: &mut Connection<S>) -> Result<Vec<Row>, E
     requires { conn.old.in_transaction ≡ false }
     ensures idle { conn.new.in_transaction ≡ false }
     ensures found { Finds (state S.Store conn.old) (state S.Store conn.new) result (λ c rows. rows.items ≡ map connection_values c.rows.connections) }
-    ensures seen { (d : Database) → d.schema ≡ book_schema → Sees d (state S.Store conn.old) (state S.Store conn.new) result (λ rows. IsPermutation (rows_in table.Connections d.trees) rows.items) }
+    ensures seen { (d : Database) → Begins nine d.schema → Sees d (state S.Store conn.old) (state S.Store conn.new) result (λ rows. IsPermutation (rows_in table.Connections d.trees) rows.items) }
 {
     read(conn, SELECT_CONNECTIONS, &[])
 }

@@ -8,8 +8,8 @@ ghost use Rattle.sqlite.specs.State.{HasCleanDisk, Shown};
 ghost use Rattle.sqlite.specs.Held.{state};
 ghost use Rattle.sqlite.specs.Values.{bound};
 ghost use Rattle.acd_book.specs.Content.{Content};
-ghost use Rattle.acd_columns.specs.Schema.{book_schema};
-ghost use Rattle.acd_columns.specs.Content.{meta_of};
+ghost use Rattle.acd_columns.specs.Schema.{nine, Begins, book_schema};
+ghost use Rattle.acd_columns.specs.Relations.{meta_of};
 ghost use Rattle.acd_columns.specs.Rows.{meta_shown};
 ghost use Rattle.acd_columns.specs.AnyRows.{rows_in};
 ghost use Rattle.acd_columns.specs.declared.tables.Table.TheVariants as table;
@@ -59,7 +59,7 @@ pub fn meta_rows<S: Alter>(conn: &mut Connection<S>) -> Result<Vec<Row>, Error>
     ensures quiet { Quiet (state S.Store conn.old) (state S.Store conn.new) }
     ensures stops { HasCleanDisk (state S.Store conn.new) → (c : Content) → Holds (state S.Store conn.old) c → NoStop (state S.Store conn.old) (state S.Store conn.new) }
     ensures rows { HasCleanDisk (state S.Store conn.new) → IfOk result (λ rows. (c : Content) → Holds (state S.Store conn.old) c → rows.items ≡ meta_shown (meta_of c.rows) ∷ []) }
-    ensures seen { (d : Database) → d.schema ≡ book_schema → Sees d (state S.Store conn.old) (state S.Store conn.new) result (λ rows. IsPermutation (rows_in table.Meta d.trees) rows.items) }
+    ensures seen { (d : Database) → Begins nine d.schema → Sees d (state S.Store conn.old) (state S.Store conn.new) result (λ rows. IsPermutation (rows_in table.Meta d.trees) rows.items) }
 {
     read(conn, SELECT_META, &[])
 }

@@ -5,7 +5,7 @@ ghost use Rattle.sqlite.specs.Effect.{Database};
 ghost use Rattle.sqlite.specs.Held.{state};
 ghost use Rattle.acd_columns.specs.Draft.{Fits};
 ghost use Rattle.acd_columns.specs.AnyRows.{TellsLow, IsPageRows};
-ghost use Rattle.acd_columns.specs.Schema.{book_schema};
+ghost use Rattle.acd_columns.specs.Schema.{nine, Begins};
 ghost use Rattle.acd_columns.specs.Seeing.{Sees};
 
 use crate::look::{low_event_rows, low_kept_rows};
@@ -17,7 +17,7 @@ use sqlite::{Alter, Connection, Error, Row};
 pub fn low_rows<S: Alter>(log: Log, conn: &mut Connection<S>) -> Result<Vec<Row>, Error>
     requires { conn.old.in_transaction ≡ false }
     ensures idle { conn.new.in_transaction ≡ false }
-    ensures seen { (d : Database) → d.schema ≡ book_schema → Sees d (state S.Store conn.old) (state S.Store conn.new) result (λ rows. TellsLow log d.trees rows.items) }
+    ensures seen { (d : Database) → Begins nine d.schema → Sees d (state S.Store conn.old) (state S.Store conn.new) result (λ rows. TellsLow log d.trees rows.items) }
 {
     match log {
         Log::Events => low_event_rows(conn),
@@ -34,7 +34,7 @@ pub fn rows_above<S: Alter>(
     requires idle { conn.old.in_transaction ≡ false }
     requires number { Fits number }
     ensures idle { conn.new.in_transaction ≡ false }
-    ensures seen { (d : Database) → d.schema ≡ book_schema → Sees d (state S.Store conn.old) (state S.Store conn.new) result (λ rows. IsPageRows log number 1000 d.trees rows.items) }
+    ensures seen { (d : Database) → Begins nine d.schema → Sees d (state S.Store conn.old) (state S.Store conn.new) result (λ rows. IsPageRows log number 1000 d.trees rows.items) }
 {
     match log {
         Log::Events => event_rows(conn, number, 1000),

@@ -1,33 +1,31 @@
-//! The statements that put records and take them out, one a function. Each works inside a transaction:
-//! what it writes is there, and no stop is added.
+//! The statements of the limits and the counters, of kept records and of connections, one a function. Each works inside a
+//! transaction: what it writes is there, and no stop is added. Those of every other table are in `put`.
 
 ghost use Rattle.std.specs.Prelude.{◌≡◌, Ok, IfSome, IfOk, OnOk};
 ghost use Rattle.std.specs.Ordering.{nat_cmp};
 ghost use Rattle.sqlite.specs.State.{HasCleanDisk, Executes};
 ghost use Rattle.sqlite.specs.Held.{state};
 ghost use Rattle.sqlite.specs.Values.{bound};
-ghost use Rattle.acd_terms.specs.Columns.{columns_of};
 ghost use Rattle.acd_terms.specs.Lists.{put_by, remove_by};
-ghost use Rattle.acd_model.specs.Scans.{at_group, at_station, at_agent, at_call, at_connection, at_monitor};
+ghost use Rattle.acd_model.specs.Scans.{at_connection};
 ghost use Rattle.acd_codec.specs.RequestTexts.{request_text};
-ghost use Rattle.acd_book.specs.Content.{Content, empty_content};
+ghost use Rattle.acd_book.specs.Content.{empty_content};
 ghost use Rattle.acd_columns.specs.Schema.{book_schema};
-ghost use Rattle.acd_columns.specs.Making.{Builds};
+ghost use Rattle.acd_columns.specs.Making.{Builds, no_rows, TellsSecond};
+ghost use Rattle.acd_columns.specs.Relations.{Relations, relations_of};
 ghost use Rattle.acd_columns.specs.Content.{with_part};
-ghost use Rattle.acd_columns.specs.Draft.{Drafts, Works, Ran, Fits, FiguresFit, MetaFits};
+ghost use Rattle.acd_columns.specs.Draft.{Drafts, Works, Ran, Fits, MetaFits};
 
-use crate::{bind, put};
+use crate::bind;
 use acd_book::Kept;
 use acd_codec::reads_back;
 use acd_columns::codes::connection_code;
 use acd_columns::texts::{
     DELETE_CONNECTION, INSERT_CONNECTION, INSERT_KEPT, INSERT_META, UPDATE_CONNECTION, UPDATE_META,
+    UPDATE_VERSION,
 };
 use acd_columns::{Meta, Table};
-use acd_terms::{
-    AgentRecord, CallRecord, ConnectionRecord, DeviceId, Event, GroupRecord, MonitorRecord,
-    StationRecord,
-};
+use acd_terms::{ConnectionRecord, DeviceId};
 use sqlite::types::ValueRef;
 use sqlite::{Alter, Error, Transaction};
 
@@ -58,90 +56,6 @@ pub fn changed_rows<S: Alter>(
     tx.execute(sql, params)
 }
 
-/// Changes the row of the group, and inserts one where there is none.
-pub fn put_group<S: Alter>(tx: &mut Transaction<'_, S>, group: &GroupRecord) -> Result<(), Error>
-    requires { FiguresFit group.now.figures }
-    ensures same { tx.new.conn.ghost_name ≡ tx.old.conn.ghost_name }
-    ensures works { Works (state S.Store tx.old.conn.now) (state S.Store tx.new.conn.now) }
-    ensures put { HasCleanDisk (state S.Store tx.new.conn.now) → OnOk result ((c : Content) → Drafts (state S.Store tx.old.conn.now) c
-        → Drafts (state S.Store tx.new.conn.now) (with_part Table.Groups (put_by (at_group group.now.device) c.rows.groups group.now) c)) }
-{
-    put::put(tx, group)
-}
-
-/// Puts a station that has no row. One that has a row is the store's to refuse.
-pub fn insert_station<S: Alter>(
-    tx: &mut Transaction<'_, S>,
-    station: &StationRecord,
-) -> Result<(), Error>
-    ensures same { tx.new.conn.ghost_name ≡ tx.old.conn.ghost_name }
-    ensures works { Works (state S.Store tx.old.conn.now) (state S.Store tx.new.conn.now) }
-    ensures put { HasCleanDisk (state S.Store tx.new.conn.now) → OnOk result ((c : Content) → Drafts (state S.Store tx.old.conn.now) c
-        → Drafts (state S.Store tx.new.conn.now) (with_part Table.Stations (put_by (at_station station.now.device) c.rows.stations station.now) c)) }
-{
-    put::insert(tx, station)
-}
-
-/// Changes the row of the agent, and inserts one where there is none.
-pub fn put_agent<S: Alter>(tx: &mut Transaction<'_, S>, agent: &AgentRecord) -> Result<(), Error>
-    requires { Fits agent.now.stamp }
-    ensures same { tx.new.conn.ghost_name ≡ tx.old.conn.ghost_name }
-    ensures works { Works (state S.Store tx.old.conn.now) (state S.Store tx.new.conn.now) }
-    ensures put { HasCleanDisk (state S.Store tx.new.conn.now) → OnOk result ((c : Content) → Drafts (state S.Store tx.old.conn.now) c
-        → Drafts (state S.Store tx.new.conn.now) (with_part Table.Agents (put_by (at_agent agent.now.agent) c.rows.agents agent.now) c)) }
-{
-    put::put(tx, agent)
-}
-
-/// Puts a call in the place of the one that has its number, if any.
-pub fn put_call<S: Alter>(tx: &mut Transaction<'_, S>, call: &CallRecord) -> Result<(), Error>
-    requires { Fits call.now.call }
-    ensures same { tx.new.conn.ghost_name ≡ tx.old.conn.ghost_name }
-    ensures works { Works (state S.Store tx.old.conn.now) (state S.Store tx.new.conn.now) }
-    ensures put { HasCleanDisk (state S.Store tx.new.conn.now) → OnOk result ((c : Content) → Drafts (state S.Store tx.old.conn.now) c
-        → Drafts (state S.Store tx.new.conn.now) (with_part Table.Calls (put_by (at_call call.now.call) c.rows.calls call.now) c)) }
-{
-    put::put(tx, call)
-}
-
-/// Puts a call that has no row. One that has a row is the store's to refuse.
-pub fn insert_call<S: Alter>(tx: &mut Transaction<'_, S>, call: &CallRecord) -> Result<(), Error>
-    requires { Fits call.now.call }
-    ensures same { tx.new.conn.ghost_name ≡ tx.old.conn.ghost_name }
-    ensures works { Works (state S.Store tx.old.conn.now) (state S.Store tx.new.conn.now) }
-    ensures put { HasCleanDisk (state S.Store tx.new.conn.now) → OnOk result ((c : Content) → Drafts (state S.Store tx.old.conn.now) c
-        → Drafts (state S.Store tx.new.conn.now) (with_part Table.Calls (put_by (at_call call.now.call) c.rows.calls call.now) c)) }
-{
-    put::insert(tx, call)
-}
-
-/// Puts a monitor in the place of the one that has its number, if any.
-pub fn put_monitor<S: Alter>(
-    tx: &mut Transaction<'_, S>,
-    monitor: &MonitorRecord,
-) -> Result<(), Error>
-    requires monitor { Fits monitor.now.monitor }
-    requires after { Fits monitor.now.after_event }
-    ensures same { tx.new.conn.ghost_name ≡ tx.old.conn.ghost_name }
-    ensures works { Works (state S.Store tx.old.conn.now) (state S.Store tx.new.conn.now) }
-    ensures put { HasCleanDisk (state S.Store tx.new.conn.now) → OnOk result ((c : Content) → Drafts (state S.Store tx.old.conn.now) c
-        → Drafts (state S.Store tx.new.conn.now) (with_part Table.Monitors (put_by (at_monitor monitor.now.monitor) c.rows.monitors monitor.now) c)) }
-{
-    put::put(tx, monitor)
-}
-
-/// Puts an event whose number has no row. One that has a row is the store's to refuse.
-pub fn insert_event<S: Alter>(tx: &mut Transaction<'_, S>, event: &Event) -> Result<(), Error>
-    requires number { Fits event.now.number }
-    requires call { IfSome (columns_of event.now.report).call Fits }
-    ensures same { tx.new.conn.ghost_name ≡ tx.old.conn.ghost_name }
-    ensures works { Works (state S.Store tx.old.conn.now) (state S.Store tx.new.conn.now) }
-    ensures put { HasCleanDisk (state S.Store tx.new.conn.now) → OnOk result ((c : Content) → Drafts (state S.Store tx.old.conn.now) c
-        → Drafts (state S.Store tx.new.conn.now) (with_part Table.Events (put_by (λ x. nat_cmp event.now.number x.number) c.events event.now) c)) }
-{
-    put::insert(tx, event)
-}
-
 /// Puts a kept record, with the text of its request, that has no row. One whose stamp or whose requester and invoke number have a row is the store's to refuse.
 pub fn insert_kept<S: Alter>(
     tx: &mut Transaction<'_, S>,
@@ -152,8 +66,8 @@ pub fn insert_kept<S: Alter>(
     requires request { request.now ≡ request_text kept.now.request }
     ensures same { tx.new.conn.ghost_name ≡ tx.old.conn.ghost_name }
     ensures works { Works (state S.Store tx.old.conn.now) (state S.Store tx.new.conn.now) }
-    ensures put { HasCleanDisk (state S.Store tx.new.conn.now) → OnOk result ((c : Content) → Drafts (state S.Store tx.old.conn.now) c
-        → Drafts (state S.Store tx.new.conn.now) (with_part Table.Kept (put_by (λ x. nat_cmp kept.now.stamp x.stamp) c.kept kept.now) c)) }
+    ensures put { HasCleanDisk (state S.Store tx.new.conn.now) → OnOk result ((r : Relations) → Drafts (state S.Store tx.old.conn.now) r
+        → Drafts (state S.Store tx.new.conn.now) (with_part Table.Kept (put_by (λ x. nat_cmp kept.now.stamp x.stamp) r.kept kept.now) r)) }
 {
     reads_back(&kept.request);
     write(
@@ -176,15 +90,15 @@ pub fn insert_meta<S: Alter>(tx: &mut Transaction<'_, S>, meta: &Meta) -> Result
     requires { MetaFits meta.now }
     ensures same { tx.new.conn.ghost_name ≡ tx.old.conn.ghost_name }
     ensures works { Works (state S.Store tx.old.conn.now) (state S.Store tx.new.conn.now) }
-    ensures start { HasCleanDisk (state S.Store tx.new.conn.now) → OnOk result (Builds (state S.Store tx.old.conn.now) book_schema
-        → Drafts (state S.Store tx.new.conn.now) (with_part Table.Meta meta.now (empty_content meta.now.limits))) }
+    ensures start { HasCleanDisk (state S.Store tx.new.conn.now) → OnOk result (Builds (state S.Store tx.old.conn.now) book_schema (no_rows 11)
+        → Drafts (state S.Store tx.new.conn.now) (with_part Table.Meta meta.now (relations_of (empty_content meta.now.limits)))) }
 {
     write(
         tx,
         INSERT_META,
         &[
             bind::integer(1),
-            bind::integer(1),
+            bind::integer(2),
             bind::integer(meta.limits.requests),
             bind::integer(meta.limits.calls),
             bind::integer(meta.limits.groups),
@@ -205,8 +119,8 @@ pub fn set_meta<S: Alter>(tx: &mut Transaction<'_, S>, meta: &Meta) -> Result<()
     requires { MetaFits meta.now }
     ensures same { tx.new.conn.ghost_name ≡ tx.old.conn.ghost_name }
     ensures works { Works (state S.Store tx.old.conn.now) (state S.Store tx.new.conn.now) }
-    ensures put { HasCleanDisk (state S.Store tx.new.conn.now) → OnOk result ((c : Content) → Drafts (state S.Store tx.old.conn.now) c
-        → Drafts (state S.Store tx.new.conn.now) (with_part Table.Meta meta.now c)) }
+    ensures put { HasCleanDisk (state S.Store tx.new.conn.now) → OnOk result ((r : Relations) → Drafts (state S.Store tx.old.conn.now) r
+        → Drafts (state S.Store tx.new.conn.now) (with_part Table.Meta meta.now r)) }
 {
     write(
         tx,
@@ -227,24 +141,14 @@ pub fn set_meta<S: Alter>(tx: &mut Transaction<'_, S>, meta: &Meta) -> Result<()
     )
 }
 
-pub fn drop_call<S: Alter>(tx: &mut Transaction<'_, S>, call: u64) -> Result<(), Error>
-    requires { Fits call }
+/// Tells version 2 in tables of version 1, which the new ones lie behind.
+pub fn tell_second<S: Alter>(tx: &mut Transaction<'_, S>) -> Result<(), Error>
     ensures same { tx.new.conn.ghost_name ≡ tx.old.conn.ghost_name }
     ensures works { Works (state S.Store tx.old.conn.now) (state S.Store tx.new.conn.now) }
-    ensures put { HasCleanDisk (state S.Store tx.new.conn.now) → OnOk result ((c : Content) → Drafts (state S.Store tx.old.conn.now) c
-        → Drafts (state S.Store tx.new.conn.now) (with_part Table.Calls (remove_by (at_call call) c.rows.calls) c)) }
+    ensures told { HasCleanDisk (state S.Store tx.new.conn.now) → OnOk result ((state S.Store tx.old.conn.now).now.schema ≡ book_schema
+        → TellsSecond (state S.Store tx.old.conn.now) (state S.Store tx.new.conn.now)) }
 {
-    put::remove::<CallRecord, S>(tx, call)
-}
-
-pub fn drop_monitor<S: Alter>(tx: &mut Transaction<'_, S>, monitor: u64) -> Result<(), Error>
-    requires { Fits monitor }
-    ensures same { tx.new.conn.ghost_name ≡ tx.old.conn.ghost_name }
-    ensures works { Works (state S.Store tx.old.conn.now) (state S.Store tx.new.conn.now) }
-    ensures put { HasCleanDisk (state S.Store tx.new.conn.now) → OnOk result ((c : Content) → Drafts (state S.Store tx.old.conn.now) c
-        → Drafts (state S.Store tx.new.conn.now) (with_part Table.Monitors (remove_by (at_monitor monitor) c.rows.monitors) c)) }
-{
-    put::remove::<MonitorRecord, S>(tx, monitor)
+    write(tx, UPDATE_VERSION, &[])
 }
 
 /// Changes the row of the connection, and inserts one where there is none.
@@ -256,8 +160,8 @@ pub fn put_connection<S: Alter>(
     requires place { IfSome connection.now.place Fits }
     ensures same { tx.new.conn.ghost_name ≡ tx.old.conn.ghost_name }
     ensures works { Works (state S.Store tx.old.conn.now) (state S.Store tx.new.conn.now) }
-    ensures put { HasCleanDisk (state S.Store tx.new.conn.now) → OnOk result ((c : Content) → Drafts (state S.Store tx.old.conn.now) c
-        → Drafts (state S.Store tx.new.conn.now) (with_part Table.Connections (put_by (at_connection connection.now.call connection.now.device) c.rows.connections connection.now) c)) }
+    ensures put { HasCleanDisk (state S.Store tx.new.conn.now) → OnOk result ((r : Relations) → Drafts (state S.Store tx.old.conn.now) r
+        → Drafts (state S.Store tx.new.conn.now) (with_part Table.Connections (put_by (at_connection connection.now.call connection.now.device) r.connections connection.now) r)) }
 {
     let changed = changed_rows(
         tx,
@@ -287,8 +191,8 @@ pub fn insert_connection<S: Alter>(
     requires place { IfSome connection.now.place Fits }
     ensures same { tx.new.conn.ghost_name ≡ tx.old.conn.ghost_name }
     ensures works { Works (state S.Store tx.old.conn.now) (state S.Store tx.new.conn.now) }
-    ensures put { HasCleanDisk (state S.Store tx.new.conn.now) → OnOk result ((c : Content) → Drafts (state S.Store tx.old.conn.now) c
-        → Drafts (state S.Store tx.new.conn.now) (with_part Table.Connections (put_by (at_connection connection.now.call connection.now.device) c.rows.connections connection.now) c)) }
+    ensures put { HasCleanDisk (state S.Store tx.new.conn.now) → OnOk result ((r : Relations) → Drafts (state S.Store tx.old.conn.now) r
+        → Drafts (state S.Store tx.new.conn.now) (with_part Table.Connections (put_by (at_connection connection.now.call connection.now.device) r.connections connection.now) r)) }
 {
     write(
         tx,
@@ -313,8 +217,8 @@ pub fn drop_connection<S: Alter>(
     requires { Fits call }
     ensures same { tx.new.conn.ghost_name ≡ tx.old.conn.ghost_name }
     ensures works { Works (state S.Store tx.old.conn.now) (state S.Store tx.new.conn.now) }
-    ensures put { HasCleanDisk (state S.Store tx.new.conn.now) → OnOk result ((c : Content) → Drafts (state S.Store tx.old.conn.now) c
-        → Drafts (state S.Store tx.new.conn.now) (with_part Table.Connections (remove_by (at_connection call device) c.rows.connections) c)) }
+    ensures put { HasCleanDisk (state S.Store tx.new.conn.now) → OnOk result ((r : Relations) → Drafts (state S.Store tx.old.conn.now) r
+        → Drafts (state S.Store tx.new.conn.now) (with_part Table.Connections (remove_by (at_connection call device) r.connections) r)) }
 {
     write(
         tx,

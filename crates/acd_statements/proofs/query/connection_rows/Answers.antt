@@ -1,9 +1,10 @@
 use Rattle.sqlite.specs.Held.{state}
-use Rattle.acd_columns.proofs.Listings.{finds}
+use Rattle.acd_columns.specs.Schema.{nine}
+use Rattle.acd_columns.proofs.Listings.{finds, plain_of}
 use Rattle.acd_columns.proofs.ConnectionRows.{connections_plain, shows_connections, connections_listing}
 use Rattle.acd_columns.specs.declared.tables.Table.TheVariants as table
 use Rattle.acd_columns.proofs.Seeing.{sees_all}
-use Rattle.acd_columns.proofs.Looked.{asks_connections, plain_of}
+use Rattle.acd_columns.proofs.Looked.{asks_connections}
 use Rattle.acd_columns.specs.declared.texts.TheConstants.{SELECT_CONNECTIONS}
 use Rattle.acd_statements.proofs.query.connection_rows.Goals as goal
 
@@ -13,4 +14,4 @@ returns-clause-found g c =
     finds _ _ (state g.S.Store c.args.conn.now) (state g.S.Store c.read.new.conn) c.read.result connections_plain _ e.up e.quiet e.stops e.shown (shows_connections _ _)
 
 pub returns-clause-seen : goal.returns-clause-seen
-returns-clause-seen g c d is = sees_all d (state g.S.Store c.args.conn.now) (state g.S.Store c.read.new.conn) c.read.result is table.Connections SELECT_CONNECTIONS.now connections_listing asks_connections (c.read.ensures.seen d (plain_of SELECT_CONNECTIONS.now d is connections_plain))
+returns-clause-seen g c d is = sees_all d (state g.S.Store c.args.conn.now) (state g.S.Store c.read.new.conn) c.read.result table.Connections nine SELECT_CONNECTIONS.now connections_listing asks_connections is (c.read.ensures.seen d (plain_of nine SELECT_CONNECTIONS.now connections_listing d.schema is))

@@ -1,12 +1,14 @@
 use Rattle.sqlite.specs.Held.{state}
+use Rattle.acd_book.specs.Content.{Content}
+use Rattle.acd_columns.specs.Relations.{relations_of}
 use Rattle.acd_columns.proofs.Recorded.{none_recorded, recorded}
 use Rattle.acd_statements.proofs.select.records.Goals as goal
 
 pub returns-in-Err-clause-found : goal.returns-in-Err-clause-found
 returns-in-Err-clause-found g c =
-    none_recorded g.R.Described.descr.records (state g.S.Store c.args.conn.now) (state g.S.Store c.rows.new.conn) c.in-Err.error _ c.in-Err.ensures.found
+    none_recorded (λ (x : Content). g.R.Described.descr.records (relations_of x)) (state g.S.Store c.args.conn.now) (state g.S.Store c.rows.new.conn) c.in-Err.error _ c.in-Err.ensures.found
 
 pub returns-in-Ok-clause-found : goal.returns-in-Ok-clause-found
 returns-in-Ok-clause-found g c =
-    recorded g.R.Described.descr.in_row g.R.Described.descr.values (λ row x y. g.R.Described.filed.exact row x y (g.R.Described.reads y)) (state g.S.Store c.args.conn.now) (state g.S.Store c.rows.new.conn) c.in-Ok.rows c.records_of.result g.R.Described.descr.records c.in-Ok.ensures.found
+    recorded g.R.Described.descr.in_row g.R.Described.descr.values (λ row x y. g.R.Described.filed.exact row x y (g.R.Described.reads y)) (state g.S.Store c.args.conn.now) (state g.S.Store c.rows.new.conn) c.in-Ok.rows c.records_of.result (λ (x : Content). g.R.Described.descr.records (relations_of x)) c.in-Ok.ensures.found
     (rw c.deref.ensures.value at c.records_of.ensures)
