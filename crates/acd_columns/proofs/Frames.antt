@@ -107,7 +107,7 @@ drafted t x rows old new r stores made d = record {
 
 -- ---- a database with nothing but the limits and the counters
 
-none_heaped : {R : Type 0} (order : R → R → Ordering) (row : ℤ → R → Row) (rows : List Row) → rows ≡ [] → AreHeaped order row rows []
+pub none_heaped : {R : Type 0} (order : R → R → Ordering) (row : ℤ → R → Row) (rows : List Row) → rows ≡ [] → AreHeaped order row rows []
 none_heaped order row rows e = record {
   rising = subst IsTable (sym e) tt;
   known = λ r h. absurd (subst (λ l. Has l r) e h);

@@ -25,6 +25,9 @@ use Rattle.acd_book.specs.Content.{Content}
 use Rattle.acd_columns.specs.Schema.{book_schema, nine, two, with_behind, Begins}
 use Rattle.acd_columns.specs.Values.{id_value}
 use Rattle.acd_columns.specs.declared.tables.Table.{Table}
+use Rattle.acd_columns.specs.declared.tables.Version.{Version}
+use Rattle.acd_columns.specs.declared.tables.Version.TheVariants as version
+use Rattle.acd_columns.specs.AnyRows.{schema_of}
 use Rattle.acd_columns.specs.Relations.{relations_of}
 use Rattle.acd_columns.specs.Content.{AreRows, Stores, tree_of, part}
 use Rattle.acd_columns.specs.Draft.{Holds, Quiet, NoStop}
@@ -53,6 +56,11 @@ plain_of base text it s b = subst (λ (x : Schema). IsPlain (understood x text))
 
 pub book_begins : (s : Schema) → s ≡ book_schema → Begins nine s
 book_begins s is = subst (Begins nine) (sym is) (two, refl)
+
+-- of each version
+pub version_begins : (v : Version) (s : Schema) → s ≡ schema_of v → Begins nine s
+version_begins version.First s is = subst (Begins nine) (sym is) ([], refl)
+version_begins version.Second s is = book_begins s is
 
 -- all eleven
 pub whole_begins : (s : Schema) → s ≡ book_schema → Begins (nine ++ two) s

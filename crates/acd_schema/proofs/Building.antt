@@ -13,7 +13,8 @@ use Rattle.sqlite.specs.Effect.{Database}
 use Rattle.sqlite.specs.State.{State, Writes, Executes}
 use Rattle.sqlite.proofs.Callers.{runs_as}
 use Rattle.acd_columns.specs.Draft.{Ran}
-use Rattle.acd_columns.specs.Making.{Makes, Builds, HasRows}
+use Rattle.acd_columns.specs.Schema.{no_schema, old_schema, book_schema}
+use Rattle.acd_columns.specs.Making.{Makes, Builds, HasRows, no_rows}
 use Rattle.acd_columns.proofs.Statements.{went, same_value}
 
 -- rows that were kept are those that were there, and the last table's come behind them
@@ -53,3 +54,8 @@ builds_if text old new (Ok x) ran = λ (schema : Schema) (table : Table) (rows :
 -- a transaction begins
 pub begins_with : (old : State) (schema : Schema) (rows : List (List Row)) → old.now.schema ≡ schema → HasRows old.now.trees schema.tables rows → Builds (record old { in_transaction = true }) schema rows
 begins_with old schema rows is had = record { inside = refl; schema_is = is; rows_are = had }
+
+pub all_built : (old mid new : State) (r : Result (Unit {0}) Error) → (Builds old no_schema (no_rows 0) → Builds mid old_schema (no_rows 9))
+    → OnOk r ((rows : List (List Row)) → Builds mid old_schema rows → Builds new book_schema ((rows ++ [] ∷ []) ++ [] ∷ [])) → OnOk r (Builds old no_schema (no_rows 0) → Builds new book_schema (no_rows 11))
+all_built old mid new (Err e) nine two = tt
+all_built old mid new (Ok x) nine two = λ (b : Builds old no_schema (no_rows 0)). two (no_rows 9) (nine b)

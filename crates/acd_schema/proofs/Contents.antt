@@ -1,5 +1,5 @@
 -- Rows that are filed, and in their ranges, are those of a content.
-use Rattle.std.proofs.Common.{◌≡◌, ◌==◌, ◌&&◌, ◌||◌, ℕ, ℤ, pos, negsuc, suc, length, drop, map, not, List, [], ◌∷◌, inl, inr, Option, Some, None, Bool, true, false, IsTrue, refl, sym, ap, ap₂, subst, ◌∙◌, arith, ◌+◌, ◌<◌, ◌≤◌, zero}
+use Rattle.std.proofs.Common.{◌≡◌, ◌==◌, ◌&&◌, ◌||◌, ℕ, ℤ, pos, negsuc, suc, length, drop, map, not, List, [], ◌∷◌, ◌++◌, inl, inr, Option, Some, None, Bool, true, false, IsTrue, refl, sym, ap, ap₂, subst, ◌∙◌, arith, ◌+◌, ◌<◌, ◌≤◌, zero}
 use Rattle.std.specs.List.{AllByRecursion}
 use Rattle.std.specs.Option.{is_some}
 use Rattle.std.specs.Ordering.{int_cmp, is_eq, ordering_reverse, is_ne}
@@ -22,6 +22,7 @@ use Rattle.sqlite_rules.specs.Lists.{Has}
 use Rattle.sqlite_rules.proofs.ListLemmas.{all_has}
 use Rattle.sqlite_sql.specs.Ops.{binary, is_false, is_true, is_null, from_truth}
 use Rattle.sqlite_schema.specs.declared.schema.Column.{Column}
+use Rattle.sqlite_schema.specs.declared.schema.Table.{Table as Made}
 use Rattle.sqlite_schema.specs.declared.schema.Schema.{Schema}
 use Rattle.sqlite_schema.specs.declared.schema.Constraint.{Constraint}
 use Rattle.sqlite_schema.specs.declared.schema.Constraint.TheVariants as rule
@@ -41,17 +42,21 @@ use Rattle.acd_book.specs.declared.kept.Kept.{Kept}
 use Rattle.acd_columns.specs.declared.meta.Meta.{Meta}
 use Rattle.acd_columns.specs.declared.tables.Table.{Table}
 use Rattle.acd_columns.specs.declared.tables.Table.TheVariants as table
-use Rattle.acd_columns.specs.AnyRows.{is_good, are_good, is_good_in, values_in, rows_in, IsFiled, HaveAllColumns}
+use Rattle.acd_columns.specs.AnyRows.{is_good, are_good, is_good_in, values_in, rows_in, schema_of, IsFiled, HaveAllColumns}
 use Rattle.acd_schema.specs.Inspecting.{is_good_table, IsOfBook, IsInRange}
-use Rattle.acd_columns.specs.Content.{AreRows, AreConnections, Encodes, tree_of}
-use Rattle.acd_columns.specs.Rows.{IsReadable, keyed_row, meta_row, group_values, station_values, agent_values, call_values, connection_values, connection_row, monitor_values, event_values, kept_values, group_row, station_row, agent_row, call_row, monitor_row, event_row, kept_row, meta_shown}
+use Rattle.acd_columns.specs.declared.tables.Version.{Version}
+use Rattle.acd_columns.specs.declared.tables.Version.TheVariants as version
+use Rattle.acd_columns.specs.Content.{AreRows, AreConnections, Encodes, EncodesAs, IsIn, number_of, pair_order, tree_of}
+use Rattle.acd_columns.specs.Rows.{IsReadable, keyed_row, meta_row_as, further_row, group_values, station_values, agent_values, call_values, connection_values, connection_row, monitor_values, event_values, kept_values, group_row, station_row, agent_row, call_row, monitor_row, event_row, kept_row, meta_shown}
 use Rattle.acd_columns.specs.Values.{id_value}
 use Rattle.acd_columns.specs.Decoding.{as_connection}
 use Rattle.acd_columns.specs.InTables.{in_order}
 use Rattle.acd_columns.specs.Ranges.{group_in, station_in, agent_in, call_in, connection_in, monitor_in, counters_in, event_in, kept_in}
-use Rattle.acd_columns.specs.Schema.{book_schema}
+use Rattle.acd_columns.specs.Schema.{old_schema, book_schema, nine, with_behind, Begins}
+use Rattle.acd_columns.proofs.Listings.{begun, version_begins}
+use Rattle.acd_columns.proofs.Frames.{none_heaped}
 use Rattle.acd_columns.specs.Schema as schema
-use Rattle.acd_columns.proofs.Decoded.{with_all, ordered, from_order, to_order}
+use Rattle.acd_columns.proofs.Decoded.{old_in, with_all, ordered, from_order, to_order}
 use Rattle.acd_columns.proofs.Heaps.{at_each, each_has, key_same}
 use Rattle.acd_columns.proofs.KeyedRows.{id_cmp, id_tied, same_number, own_number}
 use Rattle.acd_columns.proofs.Looked.{all_so, ascending_of, rising_of}
@@ -70,6 +75,8 @@ width_of table.Connections = 8
 width_of table.Monitors = 4
 width_of table.Events = 11
 width_of table.Kept = 8
+width_of table.AgentGroups = 3
+width_of table.GroupPriority = 3
 
 -- ---- lists of rows
 
@@ -232,9 +239,9 @@ alone (x ∷ []) r (inr h) one rising = absurd h
 alone (x ∷ y ∷ rows) r h one rising =
     absurd (let tied = ap (λ v. value_cmp v (rowid y)) one.0 ∙ ap (value_cmp (id_value 1)) one.1.0 ∙ id_cmp 1 1 in let never : Equal ≡ Less = sym tied ∙ rising.0.0 in cc never)
 
-meta_form : (r : Row) (m : Meta) → length r ≡ 14 → rowid r ≡ id_value 1 → column r 1 ≡ Null → column r 2 ≡ id_value 1 → values_in table.Meta r ≡ meta_shown m → r ≡ meta_row m
-meta_form r m w key null version shown =
-    of_width 14 r w ∙ ap (λ v. v ∷ cells 1 13 r) key ∙ ap (λ v. id_value 1 ∷ v ∷ cells 2 12 r) null ∙ ap (λ v. id_value 1 ∷ Null ∷ v ∷ cells 3 11 r) version ∙ ap (λ l. id_value 1 ∷ Null ∷ id_value 1 ∷ l) shown
+meta_form : (n : ℕ) (r : Row) (m : Meta) → length r ≡ 14 → rowid r ≡ id_value 1 → column r 1 ≡ Null → column r 2 ≡ id_value n → values_in table.Meta r ≡ meta_shown m → r ≡ meta_row_as n m
+meta_form n r m w key null version shown =
+    of_width 14 r w ∙ ap (λ v. v ∷ cells 1 13 r) key ∙ ap (λ v. id_value 1 ∷ v ∷ cells 2 12 r) null ∙ ap (λ v. id_value 1 ∷ Null ∷ v ∷ cells 3 11 r) version ∙ ap (λ l. id_value 1 ∷ Null ∷ id_value n ∷ l) shown
 
 -- ---- connections
 
@@ -373,8 +380,14 @@ module _ (rows : List Row) (xs : List ConnectionRecord) (are : AreLinked rows xs
 
 -- ---- the whole
 
-rules_of : (d : Database) → d.schema ≡ book_schema → IsDatabase d → (rule : Constraint) → Keeps rule book_schema d.trees
-rules_of d is obeys rule = subst (λ s. Keeps rule s d.trees) is (obeys.obeys.rules rule)
+rules_of : (d : Database) (b : Begins nine d.schema) → IsDatabase d → (rule : Constraint) → Keeps rule (with_behind nine b.0 d.schema) d.trees
+rules_of d b obeys rule = subst (λ s. Keeps rule s d.trees) (begun nine d.schema b) (obeys.obeys.rules rule)
+
+unique_in : (v : Version) (d : Database) → d.schema ≡ schema_of v → IsDatabase d → AllByRecursion (λ r. clashes plain key_columns (d.trees (tree_of table.Connections)) r ≡ false) (d.trees (tree_of table.Connections))
+unique_in version.First d is obeys = all_so (λ r. passes rule.Unique old_schema d.trees (schema.table_of schema.connections) r ≡ true) (λ r. clashes plain key_columns (d.trees (tree_of table.Connections)) r ≡ false) (λ r h. not_true _ h) (d.trees (tree_of table.Connections))
+    (subst (λ s. Keeps rule.Unique s d.trees) is (obeys.obeys.rules rule.Unique)).1.1.1.1.1.0
+unique_in version.Second d is obeys = all_so (λ r. passes rule.Unique book_schema d.trees (schema.table_of schema.connections) r ≡ true) (λ r. clashes plain key_columns (d.trees (tree_of table.Connections)) r ≡ false) (λ r h. not_true _ h) (d.trees (tree_of table.Connections))
+    (subst (λ s. Keeps rule.Unique s d.trees) is (obeys.obeys.rules rule.Unique)).1.1.1.1.1.0
 
 good_rows : (t : Table) (db : Trees) → is_good_in t db ≡ true → AllByRecursion (λ r. is_good t (values_in t r) ≡ true) (db (tree_of t))
 unfolding is_good_in
@@ -385,9 +398,9 @@ readable [] h = tt
 readable (k ∷ ks) h = ((kept_stored (kept_values k) k h.0).1, readable ks h.1)
 
 -- what each table holds
-record Parts (db : Trees) : Type 0 where
+record Parts (v : Version) (db : Trees) : Type 0 where
   pub meta : Meta
-  pub meta_is : db (tree_of table.Meta) ≡ meta_row meta ∷ []
+  pub meta_is : db (tree_of table.Meta) ≡ meta_row_as (number_of v) meta ∷ []
   pub meta_good : is_some (counters_in (meta_shown meta)) ≡ true
   pub groups : AreOf table.Groups group_in group_values (λ (g : GroupRecord). g.device) group_stored (λ g. refl) (λ r w null. of_width 10 r w ∙ ap (λ v. column r 0 ∷ v ∷ cells 2 8 r) null) (db (tree_of table.Groups))
   pub stations : AreOf table.Stations station_in station_values (λ (s : StationRecord). s.device) station_stored (λ s. refl) (λ r w null. of_width 2 r w ∙ ap (λ v. column r 0 ∷ v ∷ cells 2 0 r) null) (db (tree_of table.Stations))
@@ -399,89 +412,109 @@ record Parts (db : Trees) : Type 0 where
   pub monitors : AreOf table.Monitors monitor_in monitor_values (λ (m : MonitorRecord). m.monitor) monitor_stored (λ m. refl) (λ r w null. of_width 4 r w ∙ ap (λ v. column r 0 ∷ v ∷ cells 2 2 r) null) (db (tree_of table.Monitors))
   pub events : AreOf table.Events event_in event_values (λ (e : Event). e.number) event_stored (λ e. refl) (λ r w null. of_width 11 r w ∙ ap (λ v. column r 0 ∷ v ∷ cells 2 9 r) null) (db (tree_of table.Events))
   pub kept : AreOf table.Kept kept_in kept_values (λ (k : Kept). k.stamp) (λ r k h. (kept_stored r k h).0) (λ k. refl) (λ r w null. of_width 8 r w ∙ ap (λ v. column r 0 ∷ v ∷ cells 2 6 r) null) (db (tree_of table.Kept))
+  pub further : IsIn v table.AgentGroups → db (tree_of table.AgentGroups) ≡ []
+  pub priorities : IsIn v table.GroupPriority → db (tree_of table.GroupPriority) ≡ []
 
-module _ (d : Database) (book : IsOfBook d) (obeys : IsDatabase d) (filed : IsFiled d.trees) where
+-- no row of such a table is good
+none_in : (t : Table) (db : Trees) → ((r : Row) → is_good t r ≡ false) → is_good_in t db ≡ true → db (tree_of t) ≡ []
+unfolding is_good_in
+none_in t db never good = go (db (tree_of t)) (each_good t (rows_in t db) good)
+  where
+    go : (rows : List Row) → AllByRecursion (λ r. is_good t r ≡ true) (map (values_in t) rows) → rows ≡ []
+    go [] h = refl
+    go (r ∷ rows) h = absurd (let no = never (values_in t r) in let yes = h.0 in cc (no, yes))
+
+module _ (v : Version) (d : Database) (book : IsOfBook v d) (obeys : IsDatabase d) (filed : IsFiled d.trees) where
   abbrev table_rows : Table → List Row
   table_rows t = d.trees (tree_of t)
 
-  in_range : (t : Table) → AllByRecursion (λ r. is_good t (values_in t r) ≡ true) (d.trees (tree_of t))
-  in_range t = good_rows t d.trees (book.in_range filed t)
+  in_range : (t : Table) → IsIn version.First t → AllByRecursion (λ r. is_good t (values_in t r) ≡ true) (d.trees (tree_of t))
+  in_range t old = good_rows t d.trees (book.in_range filed t (old_in v t old))
 
-  typed : Keeps rule.Datatype book_schema d.trees
-  typed = rules_of d book.schema_is obeys rule.Datatype
+  nine_there : Begins nine d.schema
+  nine_there = version_begins v d.schema book.schema_is
+
+  abbrev its_schema : Schema
+  its_schema = with_behind nine nine_there.0 d.schema
+
+  typed : Keeps rule.Datatype its_schema d.trees
+  typed = rules_of d nine_there obeys rule.Datatype
 
   wide_meta : AllByRecursion (λ r. length r ≡ width_of table.Meta) (d.trees (tree_of table.Meta))
-  wide_meta = widths table.Meta counters_in meta_shown counters_stored schema.meta.columns (has_computed (schema.table_of schema.meta)) 10 (λ r. refl) (λ x. refl) (d.trees (tree_of table.Meta)) typed.0 (in_range table.Meta)
+  wide_meta = widths table.Meta counters_in meta_shown counters_stored schema.meta.columns (has_computed (schema.table_of schema.meta)) 10 (λ r. refl) (λ x. refl) (d.trees (tree_of table.Meta)) typed.0 (in_range table.Meta tt)
 
   wide_groups : AllByRecursion (λ r. length r ≡ width_of table.Groups) (d.trees (tree_of table.Groups))
-  wide_groups = widths table.Groups group_in group_values group_stored schema.groups.columns (has_computed (schema.table_of schema.groups)) 8 (λ r. refl) (λ x. refl) (d.trees (tree_of table.Groups)) typed.1.0 (in_range table.Groups)
+  wide_groups = widths table.Groups group_in group_values group_stored schema.groups.columns (has_computed (schema.table_of schema.groups)) 8 (λ r. refl) (λ x. refl) (d.trees (tree_of table.Groups)) typed.1.0 (in_range table.Groups tt)
 
   wide_agents : AllByRecursion (λ r. length r ≡ width_of table.Agents) (d.trees (tree_of table.Agents))
-  wide_agents = widths table.Agents agent_in agent_values agent_stored schema.agents.columns (has_computed (schema.table_of schema.agents)) 7 (λ r. refl) (λ x. refl) (d.trees (tree_of table.Agents)) typed.1.1.1.0 (in_range table.Agents)
+  wide_agents = widths table.Agents agent_in agent_values agent_stored schema.agents.columns (has_computed (schema.table_of schema.agents)) 7 (λ r. refl) (λ x. refl) (d.trees (tree_of table.Agents)) typed.1.1.1.0 (in_range table.Agents tt)
 
   wide_calls : AllByRecursion (λ r. length r ≡ width_of table.Calls) (d.trees (tree_of table.Calls))
-  wide_calls = widths table.Calls call_in call_values call_stored schema.calls.columns (has_computed (schema.table_of schema.calls)) 3 (λ r. refl) (λ x. refl) (d.trees (tree_of table.Calls)) typed.1.1.1.1.0 (in_range table.Calls)
+  wide_calls = widths table.Calls call_in call_values call_stored schema.calls.columns (has_computed (schema.table_of schema.calls)) 3 (λ r. refl) (λ x. refl) (d.trees (tree_of table.Calls)) typed.1.1.1.1.0 (in_range table.Calls tt)
 
   wide_monitors : AllByRecursion (λ r. length r ≡ width_of table.Monitors) (d.trees (tree_of table.Monitors))
-  wide_monitors = widths table.Monitors monitor_in monitor_values monitor_stored schema.monitors.columns (has_computed (schema.table_of schema.monitors)) 2 (λ r. refl) (λ x. refl) (d.trees (tree_of table.Monitors)) typed.1.1.1.1.1.1.0 (in_range table.Monitors)
+  wide_monitors = widths table.Monitors monitor_in monitor_values monitor_stored schema.monitors.columns (has_computed (schema.table_of schema.monitors)) 2 (λ r. refl) (λ x. refl) (d.trees (tree_of table.Monitors)) typed.1.1.1.1.1.1.0 (in_range table.Monitors tt)
 
   wide_kept : AllByRecursion (λ r. length r ≡ width_of table.Kept) (d.trees (tree_of table.Kept))
-  wide_kept = widths table.Kept kept_in kept_values (λ r k h. (kept_stored r k h).0) schema.kept.columns (has_computed (schema.table_of schema.kept)) 6 (λ r. refl) (λ x. refl) (d.trees (tree_of table.Kept)) typed.1.1.1.1.1.1.1.1.0 (in_range table.Kept)
+  wide_kept = widths table.Kept kept_in kept_values (λ r k h. (kept_stored r k h).0) schema.kept.columns (has_computed (schema.table_of schema.kept)) 6 (λ r. refl) (λ x. refl) (d.trees (tree_of table.Kept)) typed.1.1.1.1.1.1.1.1.0 (in_range table.Kept tt)
 
-  one_row : (r : Row) × (d.trees (tree_of table.Meta) ≡ r ∷ []) × (rowid r ≡ id_value 1) × (column r 2 ≡ id_value 1)
+  one_row : (r : Row) × (d.trees (tree_of table.Meta) ≡ r ∷ []) × (rowid r ≡ id_value 1) × (column r 2 ≡ id_value (number_of v))
   one_row =
       let told = book.version in
-      let here = ones (d.trees (tree_of table.Meta)) (filed.numbered table.Meta) (rules_of d book.schema_is obeys rule.Check).0 in
-      (told.0, alone (d.trees (tree_of table.Meta)) told.0 told.1 here (filed.rising table.Meta), at_each (λ r. rowid r ≡ id_value 1) (d.trees (tree_of table.Meta)) told.0 here told.1, whole_stored told.0 2 1 told.2)
+      let here = ones (d.trees (tree_of table.Meta)) (filed.numbered table.Meta tt) (rules_of d nine_there obeys rule.Check).0 in
+      (told.0, alone (d.trees (tree_of table.Meta)) told.0 told.1 here (filed.rising table.Meta tt), at_each (λ r. rowid r ≡ id_value 1) (d.trees (tree_of table.Meta)) told.0 here told.1, whole_stored told.0 2 (number_of v) told.2)
 
-  parts : Parts d.trees
+  parts : Parts v d.trees
   parts =
       let row = one_row in
       let whole = subst (AllByRecursion (λ r. length r ≡ 14)) row.1 wide_meta in
       let null = subst (AllByRecursion (λ r. column r 1 ≡ Null)) row.1 (nulls schema.meta.columns (has_computed (schema.table_of schema.meta)) 12 (d.trees (tree_of table.Meta)) wide_meta typed.0) in
-      let good = subst (AllByRecursion (λ r. is_some (counters_in (values_in table.Meta r)) ≡ true)) row.1 (in_range table.Meta) in
+      let good = subst (AllByRecursion (λ r. is_some (counters_in (values_in table.Meta r)) ≡ true)) row.1 (in_range table.Meta tt) in
       let m = there (counters_in (values_in table.Meta row.0)) good.0 in
       let shown = counters_stored (values_in table.Meta row.0) m.0 m.1 in
-      let links = linked (table_rows table.Connections) (filed.numbered table.Connections) filed.whole.1 (in_range table.Connections) in
-      let unique = all_so (λ r. passes rule.Unique book_schema d.trees (schema.table_of schema.connections) r ≡ true) (λ r. clashes plain key_columns (d.trees (tree_of table.Connections)) r ≡ false) (λ r h. not_true _ h) (table_rows table.Connections)
-      (rules_of d book.schema_is obeys rule.Unique).1.1.1.1.1.0 in
+      let links = linked (table_rows table.Connections) (filed.numbered table.Connections tt) filed.whole.1 (in_range table.Connections tt) in
+      let unique = unique_in v d book.schema_is obeys in
       record {
         meta = m.0;
-        meta_is = row.1 ∙ ap (λ r. r ∷ []) (meta_form row.0 m.0 whole.0 row.2 null.0 row.3 shown);
+        meta_is = row.1 ∙ ap (λ r. r ∷ []) (meta_form (number_of v) row.0 m.0 whole.0 row.2 null.0 row.3 shown);
         meta_good = ap (λ r. is_some (counters_in r)) (sym shown) ∙ good.0;
         groups = are_of table.Groups group_in group_values (λ (g : GroupRecord). g.device) group_stored (λ g. refl) (λ r w null. of_width 10 r w ∙ ap (λ v. column r 0 ∷ v ∷ cells 2 8 r) null) (table_rows table.Groups)
-            (filed.rising table.Groups) wide_groups (nulls schema.groups.columns (has_computed (schema.table_of schema.groups)) 8 (table_rows table.Groups) wide_groups typed.1.0) (in_range table.Groups);
+            (filed.rising table.Groups tt) wide_groups (nulls schema.groups.columns (has_computed (schema.table_of schema.groups)) 8 (table_rows table.Groups) wide_groups typed.1.0) (in_range table.Groups tt);
         stations = are_of table.Stations station_in station_values (λ (s : StationRecord). s.device) station_stored (λ s. refl) (λ r w null. of_width 2 r w ∙ ap (λ v. column r 0 ∷ v ∷ cells 2 0 r) null) (table_rows table.Stations)
-            (filed.rising table.Stations) filed.whole.0 (nulls schema.stations.columns (has_computed (schema.table_of schema.stations)) 0 (table_rows table.Stations) filed.whole.0 typed.1.1.0) (in_range table.Stations);
+            (filed.rising table.Stations tt) filed.whole.0 (nulls schema.stations.columns (has_computed (schema.table_of schema.stations)) 0 (table_rows table.Stations) filed.whole.0 typed.1.1.0) (in_range table.Stations tt);
         agents = are_of table.Agents agent_in agent_values (λ (a : AgentRecord). a.agent) agent_stored (λ a. refl) (λ r w null. of_width 9 r w ∙ ap (λ v. column r 0 ∷ v ∷ cells 2 7 r) null) (table_rows table.Agents)
-            (filed.rising table.Agents) wide_agents (nulls schema.agents.columns (has_computed (schema.table_of schema.agents)) 7 (table_rows table.Agents) wide_agents typed.1.1.1.0) (in_range table.Agents);
+            (filed.rising table.Agents tt) wide_agents (nulls schema.agents.columns (has_computed (schema.table_of schema.agents)) 7 (table_rows table.Agents) wide_agents typed.1.1.1.0) (in_range table.Agents tt);
         calls = are_of table.Calls call_in call_values (λ (k : CallRecord). k.call) call_stored (λ k. refl) (λ r w null. of_width 5 r w ∙ ap (λ v. column r 0 ∷ v ∷ cells 2 3 r) null) (table_rows table.Calls)
-            (filed.rising table.Calls) wide_calls (nulls schema.calls.columns (has_computed (schema.table_of schema.calls)) 3 (table_rows table.Calls) wide_calls typed.1.1.1.1.0) (in_range table.Calls);
+            (filed.rising table.Calls tt) wide_calls (nulls schema.calls.columns (has_computed (schema.table_of schema.calls)) 3 (table_rows table.Calls) wide_calls typed.1.1.1.1.0) (in_range table.Calls tt);
         connections = in_order links.0;
-        connections_is = connections_are (table_rows table.Connections) links.0 links.1 (filed.rising table.Connections) (filed.numbered table.Connections) unique;
-        connections_good = connections_back_in (table_rows table.Connections) links.0 links.1 (filed.rising table.Connections) (filed.numbered table.Connections) unique (in_order links.0) (λ y a. from_order links.0 y a);
+        connections_is = connections_are (table_rows table.Connections) links.0 links.1 (filed.rising table.Connections tt) (filed.numbered table.Connections tt) unique;
+        connections_good = connections_back_in (table_rows table.Connections) links.0 links.1 (filed.rising table.Connections tt) (filed.numbered table.Connections tt) unique (in_order links.0) (λ y a. from_order links.0 y a);
         monitors = are_of table.Monitors monitor_in monitor_values (λ (m : MonitorRecord). m.monitor) monitor_stored (λ m. refl) (λ r w null. of_width 4 r w ∙ ap (λ v. column r 0 ∷ v ∷ cells 2 2 r) null) (table_rows table.Monitors)
-            (filed.rising table.Monitors) wide_monitors (nulls schema.monitors.columns (has_computed (schema.table_of schema.monitors)) 2 (table_rows table.Monitors) wide_monitors typed.1.1.1.1.1.1.0) (in_range table.Monitors);
+            (filed.rising table.Monitors tt) wide_monitors (nulls schema.monitors.columns (has_computed (schema.table_of schema.monitors)) 2 (table_rows table.Monitors) wide_monitors typed.1.1.1.1.1.1.0) (in_range table.Monitors tt);
         events = are_of table.Events event_in event_values (λ (e : Event). e.number) event_stored (λ e. refl) (λ r w null. of_width 11 r w ∙ ap (λ v. column r 0 ∷ v ∷ cells 2 9 r) null) (table_rows table.Events)
-            (filed.rising table.Events) filed.whole.2 (nulls schema.events.columns (has_computed (schema.table_of schema.events)) 9 (table_rows table.Events) filed.whole.2 typed.1.1.1.1.1.1.1.0) (in_range table.Events);
+            (filed.rising table.Events tt) filed.whole.2 (nulls schema.events.columns (has_computed (schema.table_of schema.events)) 9 (table_rows table.Events) filed.whole.2 typed.1.1.1.1.1.1.1.0) (in_range table.Events tt);
         kept = are_of table.Kept kept_in kept_values (λ (k : Kept). k.stamp) (λ r k h. (kept_stored r k h).0) (λ k. refl) (λ r w null. of_width 8 r w ∙ ap (λ v. column r 0 ∷ v ∷ cells 2 6 r) null) (table_rows table.Kept)
-            (filed.rising table.Kept) wide_kept (nulls schema.kept.columns (has_computed (schema.table_of schema.kept)) 6 (table_rows table.Kept) wide_kept typed.1.1.1.1.1.1.1.1.0) (in_range table.Kept);
+            (filed.rising table.Kept tt) wide_kept (nulls schema.kept.columns (has_computed (schema.table_of schema.kept)) 6 (table_rows table.Kept) wide_kept typed.1.1.1.1.1.1.1.1.0) (in_range table.Kept tt);
+        further = λ here. none_in table.AgentGroups d.trees (λ r. refl) (book.in_range filed table.AgentGroups here);
+        priorities = λ here. none_in table.GroupPriority d.trees (λ r. refl) (book.in_range filed table.GroupPriority here);
       }
 
-module _ (db : Trees) (p : Parts db) where
+module _ (v : Version) (db : Trees) (p : Parts v db) where
   abbrev whole_content : Content
   whole_content = with_all p.meta p.groups.records p.stations.records p.agents.records p.calls.records p.connections p.monitors.records p.events.records p.kept.records
 
-  parts_encode : Encodes db whole_content
-  parts_encode table.Meta = p.meta_is
-  parts_encode table.Groups = p.groups.are
-  parts_encode table.Stations = p.stations.are
-  parts_encode table.Agents = p.agents.are
-  parts_encode table.Calls = p.calls.are
-  parts_encode table.Connections = p.connections_is
-  parts_encode table.Monitors = p.monitors.are
-  parts_encode table.Events = p.events.are
-  parts_encode table.Kept = (p.kept.are, readable p.kept.records p.kept.back)
+  parts_encode : EncodesAs v db whole_content
+  parts_encode table.Meta here = p.meta_is
+  parts_encode table.Groups here = p.groups.are
+  parts_encode table.Stations here = p.stations.are
+  parts_encode table.Agents here = p.agents.are
+  parts_encode table.Calls here = p.calls.are
+  parts_encode table.Connections here = p.connections_is
+  parts_encode table.Monitors here = p.monitors.are
+  parts_encode table.Events here = p.events.are
+  parts_encode table.Kept here = (p.kept.are, readable p.kept.records p.kept.back)
+  parts_encode table.AgentGroups here = none_heaped pair_order further_row (db (tree_of table.AgentGroups)) (p.further here)
+  parts_encode table.GroupPriority here = record { rows_are = p.priorities here; ascending = tt }
 
   parts_in_range : IsInRange whole_content
   unfolding is_good_table
@@ -493,10 +526,12 @@ module _ (db : Trees) (p : Parts db) where
   parts_in_range table.Connections = all_good table.Connections (map connection_values p.connections) p.connections_good
   parts_in_range table.Monitors = all_good table.Monitors (map monitor_values p.monitors.records) (read_back monitor_in monitor_values p.monitors.records p.monitors.back)
   parts_in_range table.Events = all_good table.Events (map event_values p.events.records) (read_back event_in event_values p.events.records p.events.back)
+  parts_in_range table.AgentGroups = all_good table.AgentGroups [] tt
+  parts_in_range table.GroupPriority = all_good table.GroupPriority [] tt
   parts_in_range table.Kept = all_good table.Kept (map kept_values p.kept.records) (read_back kept_in kept_values p.kept.records p.kept.back)
 
-pub content_in : (d : Database) → IsOfBook d → IsDatabase d → IsFiled d.trees → (c : Content) × Encodes d.trees c × IsInRange c
-content_in d book obeys filed = let p = parts d book obeys filed in (whole_content d.trees p, parts_encode d.trees p, parts_in_range d.trees p)
+pub content_in : (v : Version) (d : Database) → IsOfBook v d → IsDatabase d → IsFiled d.trees → (c : Content) × EncodesAs v d.trees c × IsInRange c
+content_in v d book obeys filed = let p = parts v d book obeys filed in (whole_content v d.trees p, parts_encode v d.trees p, parts_in_range v d.trees p)
 
 -- ---- the rows of a content are filed
 
@@ -524,39 +559,47 @@ connections_filed rows records are = record {
   whole = each_has (λ r. length r ≡ 8) rows (λ r h. ap length (are.known r h).2);
 }
 
-each_filed : (db : Trees) (c : Content) → Encodes db c → (t : Table) → AreFiled t (db (tree_of t))
-each_filed db c is table.Meta = subst (AreFiled table.Meta) (sym (is table.Meta)) (record { rising = (tt, tt); numbered = (refl, tt); whole = (refl, tt) })
-each_filed db c is table.Groups = records_filed table.Groups (λ (g : GroupRecord). g.device) group_row (λ g. refl) (λ g. refl) (db (tree_of table.Groups)) c.rows.groups (is table.Groups)
-each_filed db c is table.Stations = records_filed table.Stations (λ (s : StationRecord). s.device) station_row (λ s. refl) (λ s. refl) (db (tree_of table.Stations)) c.rows.stations (is table.Stations)
-each_filed db c is table.Agents = records_filed table.Agents (λ (a : AgentRecord). a.agent) agent_row (λ a. refl) (λ a. refl) (db (tree_of table.Agents)) c.rows.agents (is table.Agents)
-each_filed db c is table.Calls = records_filed table.Calls (λ (k : CallRecord). k.call) call_row (λ k. refl) (λ k. refl) (db (tree_of table.Calls)) c.rows.calls (is table.Calls)
-each_filed db c is table.Connections = connections_filed (db (tree_of table.Connections)) c.rows.connections (is table.Connections)
-each_filed db c is table.Monitors = records_filed table.Monitors (λ (m : MonitorRecord). m.monitor) monitor_row (λ m. refl) (λ m. refl) (db (tree_of table.Monitors)) c.rows.monitors (is table.Monitors)
-each_filed db c is table.Events = records_filed table.Events (λ (e : Event). e.number) event_row (λ e. refl) (λ e. refl) (db (tree_of table.Events)) c.events (is table.Events)
-each_filed db c is table.Kept = records_filed table.Kept (λ (k : Kept). k.stamp) kept_row (λ k. refl) (λ k. refl) (db (tree_of table.Kept)) c.kept (is table.Kept).0
+each_filed : (db : Trees) (c : Content) → Encodes db c → (t : Table) → IsIn version.First t → AreFiled t (db (tree_of t))
+each_filed db c is table.Meta old = subst (AreFiled table.Meta) (sym (is table.Meta)) (record { rising = (tt, tt); numbered = (refl, tt); whole = (refl, tt) })
+each_filed db c is table.Groups old = records_filed table.Groups (λ (g : GroupRecord). g.device) group_row (λ g. refl) (λ g. refl) (db (tree_of table.Groups)) c.rows.groups (is table.Groups)
+each_filed db c is table.Stations old = records_filed table.Stations (λ (s : StationRecord). s.device) station_row (λ s. refl) (λ s. refl) (db (tree_of table.Stations)) c.rows.stations (is table.Stations)
+each_filed db c is table.Agents old = records_filed table.Agents (λ (a : AgentRecord). a.agent) agent_row (λ a. refl) (λ a. refl) (db (tree_of table.Agents)) c.rows.agents (is table.Agents)
+each_filed db c is table.Calls old = records_filed table.Calls (λ (k : CallRecord). k.call) call_row (λ k. refl) (λ k. refl) (db (tree_of table.Calls)) c.rows.calls (is table.Calls)
+each_filed db c is table.Connections old = connections_filed (db (tree_of table.Connections)) c.rows.connections (is table.Connections)
+each_filed db c is table.Monitors old = records_filed table.Monitors (λ (m : MonitorRecord). m.monitor) monitor_row (λ m. refl) (λ m. refl) (db (tree_of table.Monitors)) c.rows.monitors (is table.Monitors)
+each_filed db c is table.Events old = records_filed table.Events (λ (e : Event). e.number) event_row (λ e. refl) (λ e. refl) (db (tree_of table.Events)) c.events (is table.Events)
+each_filed db c is table.Kept old = records_filed table.Kept (λ (k : Kept). k.stamp) kept_row (λ k. refl) (λ k. refl) (db (tree_of table.Kept)) c.kept (is table.Kept).0
+each_filed db c is table.AgentGroups old = absurd old
+each_filed db c is table.GroupPriority old = absurd old
 
 pub filed_in : (db : Trees) (c : Content) → Encodes db c → IsFiled db
-filed_in db c is = record { rising = λ t. (each_filed db c is t).rising; numbered = λ t. (each_filed db c is t).numbered; whole = ((each_filed db c is table.Stations).whole, (each_filed db c is table.Connections).whole, (each_filed db c is table.Events).whole) }
+filed_in db c is = record {
+  rising = λ t old. (each_filed db c is t old).rising;
+  numbered = λ t old. (each_filed db c is t old).numbered;
+  whole = ((each_filed db c is table.Stations tt).whole, (each_filed db c is table.Connections tt).whole, (each_filed db c is table.Events tt).whole);
+}
 
 -- ---- the rows of a store that isn't broken
 
 shaped_as : (v : View) (t : ℕ) → v.shape t ≡ shape.Table → IsOrdered v.shape v.trees → IsTable (v.trees t) × AllByRecursion (λ r. IsTrue (is_int (rowid r))) (v.trees t)
 shaped_as v t is ordered = subst (λ s. IsShaped s (v.trees t)) is (ordered t)
 
-each_shape : (shapes : ℕ → Shape) → AllByRecursion (λ t. shapes t.tree ≡ shape.Table) book_schema.tables → (t : Table) → shapes (tree_of t) ≡ shape.Table
-each_shape shapes h table.Meta = h.0
-each_shape shapes h table.Groups = h.1.0
-each_shape shapes h table.Stations = h.1.1.0
-each_shape shapes h table.Agents = h.1.1.1.0
-each_shape shapes h table.Calls = h.1.1.1.1.0
-each_shape shapes h table.Connections = h.1.1.1.1.1.0
-each_shape shapes h table.Monitors = h.1.1.1.1.1.1.0
-each_shape shapes h table.Events = h.1.1.1.1.1.1.1.0
-each_shape shapes h table.Kept = h.1.1.1.1.1.1.1.1.0
+each_shape : (shapes : ℕ → Shape) (rest : List Made) → AllByRecursion (λ t. shapes t.tree ≡ shape.Table) (nine ++ rest) → (t : Table) → IsIn version.First t → shapes (tree_of t) ≡ shape.Table
+each_shape shapes rest h table.Meta old = h.0
+each_shape shapes rest h table.Groups old = h.1.0
+each_shape shapes rest h table.Stations old = h.1.1.0
+each_shape shapes rest h table.Agents old = h.1.1.1.0
+each_shape shapes rest h table.Calls old = h.1.1.1.1.0
+each_shape shapes rest h table.Connections old = h.1.1.1.1.1.0
+each_shape shapes rest h table.Monitors old = h.1.1.1.1.1.1.0
+each_shape shapes rest h table.Events old = h.1.1.1.1.1.1.1.0
+each_shape shapes rest h table.Kept old = h.1.1.1.1.1.1.1.1.0
+each_shape shapes rest h table.AgentGroups old = absurd old
+each_shape shapes rest h table.GroupPriority old = absurd old
 
 -- they have integers as numbers, which rise, whatever they hold
-pub filed_by_store : (v : View) (s : Schema) → s ≡ book_schema → IsDatabase (record { schema = s; trees = v.trees }) → IsListed (v.trees catalog_tree) v.shape v.reals → IsOrdered v.shape v.trees → HaveAllColumns v.trees → IsFiled v.trees
-filed_by_store v s is obeys listed ordered whole =
+pub filed_by_store : (v : View) (s : Schema) → Begins nine s → IsDatabase (record { schema = s; trees = v.trees }) → IsListed (v.trees catalog_tree) v.shape v.reals → IsOrdered v.shape v.trees → HaveAllColumns v.trees → IsFiled v.trees
+filed_by_store v s b obeys listed ordered whole =
     let laid = laid_out listed (objects_rise v listed ordered) obeys.lists.listed in
-    let shapes = each_shape v.shape (subst (λ (x : Schema). AllByRecursion (λ t. v.shape t.tree ≡ shape.Table) x.tables) is laid.tables) in
-    record { rising = λ t. (shaped_as v (tree_of t) (shapes t) ordered).0; numbered = λ t. (shaped_as v (tree_of t) (shapes t) ordered).1; whole = whole }
+    let shapes = each_shape v.shape b.0 (subst (λ (ts : List Made). AllByRecursion (λ t. v.shape t.tree ≡ shape.Table) ts) b.1 laid.tables) in
+    record { rising = λ t old. (shaped_as v (tree_of t) (shapes t old) ordered).0; numbered = λ t old. (shaped_as v (tree_of t) (shapes t old) ordered).1; whole = whole }

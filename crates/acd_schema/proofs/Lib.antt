@@ -3,3 +3,4 @@ mod Building
 pub mod Contents
 mod Paged
 mod Looks
+mod Migrated

@@ -2,7 +2,7 @@
 use Rattle.std.proofs.lemmas.Grind.{common_steps}
 use Rattle.std.proofs.lemmas.Bool.Decides.{nat_tests}
 use Rattle.std.proofs.lemmas.List.Sorted.{list_any-IsPermutation, length_permutation}
-use Rattle.std.proofs.Common.{◌≡◌, ◌&&◌, ◌==◌, ◌||◌, ℕ, ◌+◌, ◌<◌, ◌≤◌, length, map, not, cond, take, get_or, arith, List, [], ◌∷◌, ◌++◌, inl, inr, Result, Ok, Err, Option, Some, None, Bool, true, false, IsTrue, IfOk, refl, sym, ap, subst, subst₂, ◌∙◌}
+use Rattle.std.proofs.Common.{◌≡◌, ◌&&◌, ◌==◌, ◌||◌, ℕ, ◌+◌, ◌<◌, ◌≤◌, zero, suc, length, map, not, cond, take, get_or, arith, List, [], ◌∷◌, ◌++◌, inl, inr, Result, Ok, Err, Option, Some, None, Bool, true, false, IsTrue, IfOk, refl, sym, ap, subst, subst₂, ◌∙◌}
 use Rattle.std.specs.Prelude.{Vec, IsPermutation, ⊤}
 use Rattle.std.specs.List.{AllByRecursion, list_any}
 use Rattle.std.specs.declared.alloc.Global.{Global}
@@ -21,17 +21,26 @@ use Rattle.acd_columns.specs.declared.tables.Table.TheVariants as table
 use Rattle.acd_schema.specs.declared.fault.AdoptFault.{AdoptFault}
 use Rattle.acd_schema.specs.declared.fault.AdoptFault.TheVariants.{WrongVersion, BadRow, Store}
 use Rattle.acd_columns.specs.declared.tables.Log.{Log}
+use Rattle.acd_schema.specs.declared.fault.Found.{Found}
+use Rattle.acd_schema.specs.declared.fault.Found.TheVariants.{Book, Fault}
+use Rattle.acd_schema.specs.declared.inspection.Told.{Told}
+use Rattle.acd_schema.specs.declared.inspection.Told.TheVariants.{Of, Faulty}
 use Rattle.acd_schema.specs.declared.inspection.Page.{Page}
 use Rattle.acd_schema.specs.declared.inspection.Page.TheVariants.{Bad, Last, More}
-use Rattle.acd_columns.specs.AnyRows.{is_good, is_good_in, are_good, rows_in, table_of_log, has_meta, Numbered, AreNumbered, AreSameFirst, BeginsAsBook, IsFiled, TellsGood, TellsLow, IsPageRows}
-use Rattle.acd_schema.specs.Inspecting.{is_good_behind, version_fault, fault_of_version, all_tables, TellsBehind, IsBadOf, IsPage, IsPageOf, IsVersionFound, IsRowFound, IsFound, IsFaultOf}
+use Rattle.acd_columns.specs.AnyRows.{is_good, is_good_in, are_good, rows_in, table_of_log, has_meta, Numbered, AreNumbered, AreSameFirst, BeginsAsBook, schema_of, Covers, IsFiled, TellsGood, TellsLow, IsPageRows}
+use Rattle.acd_schema.specs.Inspecting.{is_good_behind, told_by, told_of, tables_of, TellsBehind, IsBadOf, IsPage, IsPageOf, IsTold, IsToldIn, IsRowFound, IsFound}
 use Rattle.acd_columns.specs.Draft.{NoStop}
 use Rattle.acd_columns.specs.Values.{whole_at}
-use Rattle.acd_columns.specs.Schema.{book_schema}
+use Rattle.acd_columns.specs.declared.tables.Version.{Version}
+use Rattle.acd_columns.specs.declared.tables.Version.TheVariants as version
+use Rattle.acd_columns.specs.Content.{IsIn, number_of}
+use Rattle.acd_columns.specs.Schema.{old_schema}
 use Rattle.acd_columns.specs.Schema as schema
 use Rattle.acd_columns.specs.Seeing.{HasDatabase, Sees, HasLooked}
 use Rattle.acd_columns.proofs.KeyedRows.{apart, same_number}
 use Rattle.acd_columns.proofs.Looked.{mapped_all, moved_all}
+use Rattle.acd_columns.proofs.Listings.{version_begins}
+use Rattle.acd_columns.proofs.Selected.{all_told}
 use Rattle.acd_schema.proofs.Paged.{page_is, log_told}
 use Rattle.acd_columns.proofs.Seen.{sees_on, sees_fail, sees_then, sees_here}
 
@@ -59,51 +68,74 @@ no_rows : (f : Row → Row) (rows : List Row) → length (map f rows) ≡ 0 → 
 no_rows f [] h = refl
 no_rows f (row ∷ rows) h = absurd (omega (arith, h))
 
-told : (d : Database) (b : BeginsAsBook d.schema) (r : Row) → Has (d.trees schema.meta.tree) r → (o : Option ℕ) → whole_at r 2 ≡ o → IsVersionFound d (fault_of_version o)
+told : (d : Database) (b : BeginsAsBook d.schema) (r : Row) → Has (d.trees schema.meta.tree) r → (o : Option ℕ) → whole_at r 2 ≡ o → IsTold d (told_of o)
 told d b row h None e = inr (refl, b, (row, h, e))
-told d b row h (Some n) e =
-    (elim (n == 1) as (λ one. (n == 1) ≡ one → IsVersionFound d (cond one None (Some (WrongVersion n)))) [
-      | true ↦ λ is. (row, h, e ∙ ap Some (sym (same_number n 1 is)))
-      | false ↦ λ isnt. (apart n 1 isnt, inr (b, inr (row, h, e)))
-    ]) refl
+told d b row h (Some n) e = go (n == 1) (n == 2) refl refl
+  where
+    go : (one two : Bool) → (n == 1) ≡ one → (n == 2) ≡ two → IsTold d (cond one (Of version.First) (cond two (Of version.Second) (Faulty (WrongVersion n))))
+    go true two is other = (row, h, e ∙ ap Some (sym (same_number n 1 is)))
+    go false true is other = (row, h, e ∙ ap Some (sym (same_number n 2 other)))
+    go false false is other = (apart n 1 is, apart n 2 other, inr (b, inr (row, h, e)))
 
 abbrev Shows : Trees → Row → Type 0
 Shows db shown = (r : Row) × Has (db schema.meta.tree) r × (shown ≡ column r 2 ∷ [])
 
-version_found : (d : Database) (b : BeginsAsBook d.schema) (rows : List Row) → IsPermutation (map (λ r. column r 2 ∷ []) (d.trees schema.meta.tree)) rows → AllByRecursion (Shows d.trees) rows → IsVersionFound d (version_fault rows)
-version_found d b [] same all = (apart 0 1 refl, inr (b, inl (no_rows (λ r. column r 2 ∷ []) (d.trees schema.meta.tree) (sym (length_permutation _ [] same)), refl)))
+version_found : (d : Database) (b : BeginsAsBook d.schema) (rows : List Row) → IsPermutation (map (λ r. column r 2 ∷ []) (d.trees schema.meta.tree)) rows → AllByRecursion (Shows d.trees) rows → IsTold d (told_by rows)
+version_found d b [] same all = (apart 0 1 refl, apart 0 2 refl, inr (b, inl (no_rows (λ r. column r 2 ∷ []) (d.trees schema.meta.tree) (sym (length_permutation _ [] same)), refl)))
 version_found d b (shown ∷ rows) same all =
     let from = all.0 in
-    subst (λ r. IsVersionFound d (fault_of_version (whole_at r 0))) (sym from.2) (told d b from.0 from.1 (whole_at from.0 2) refl)
+    subst (λ r. IsTold d (told_of (whole_at r 0))) (sym from.2) (told d b from.0 from.1 (whole_at from.0 2) refl)
 
-pub version_told : (d : Database) (old new : State) (rows : Vec Row Global) (f : Option AdoptFault) → BeginsAsBook d.schema → f ≡ version_fault rows.items
-    → Sees d old new (Ok rows) (λ rows. IsPermutation (map (λ r. column r 2 ∷ []) (d.trees schema.meta.tree)) rows.items) → Sees d old new (Ok f) (λ f. IsVersionFound d f)
-version_told d old new rows f b is h =
-    sees_on d old new rows (λ rows. IsPermutation (map (λ r. column r 2 ∷ []) (d.trees schema.meta.tree)) rows.items) (λ f. IsVersionFound d f) (Ok f) h
+pub version_told : (d : Database) (old new : State) (rows : Vec Row Global) (t : Told) → BeginsAsBook d.schema → t ≡ told_by rows.items
+    → Sees d old new (Ok rows) (λ rows. IsPermutation (map (λ r. column r 2 ∷ []) (d.trees schema.meta.tree)) rows.items) → Sees d old new (Ok t) (λ t. IsTold d t)
+version_told d old new rows t b is h =
+    sees_on d old new rows (λ rows. IsPermutation (map (λ r. column r 2 ∷ []) (d.trees schema.meta.tree)) rows.items) (λ t. IsTold d t) (Ok t) h
     (λ had same.
     let here = moved_all (Shows d.trees) _ rows.items same (mapped_all (Shows d.trees) (λ r. column r 2 ∷ []) (d.trees schema.meta.tree) (all_from (λ r. Shows d.trees (column r 2 ∷ [])) (d.trees schema.meta.tree) (λ r k. (r, k, refl)))) in
-    subst (IsVersionFound d) (sym is) (version_found d b rows.items same here))
+    subst (IsTold d) (sym is) (version_found d b rows.items same here))
 
-pub not_made : (s : State) (f : AdoptFault) → f ≡ WrongVersion 0 → has_meta s.now.schema.tables ≡ false → Sees s.now s s (Ok (Some f)) (λ f. IsFound s.now f)
-not_made s f is none = sees_here s.now s (Some f) (λ f. IsFound s.now f) (λ had. subst (IsFaultOf s.now) (sym is) (apart 0 1 refl, inl (none, refl)))
+pub not_made : (s : State) (f : Found) → f ≡ Fault (WrongVersion 0) → has_meta s.now.schema.tables ≡ false → Sees s.now s s (Ok f) (λ f. IsFound s.now f)
+not_made s f is none = sees_here s.now s f (λ f. IsFound s.now f) (λ had. subst (IsFound s.now) (sym is) (apart 0 1 refl, apart 0 2 refl, inl (none, refl)))
 
-pub other_made : (s : State) (f : AdoptFault) → f ≡ Store → Sees s.now s s (Ok (Some f)) (λ f. IsFound s.now f)
-other_made s f is = sees_here s.now s (Some f) (λ f. IsFound s.now f) (λ had. subst (IsFaultOf s.now) (sym is) tt)
+pub other_made : (s : State) (f : Found) → f ≡ Fault Store → Sees s.now s s (Ok f) (λ f. IsFound s.now f)
+other_made s f is = sees_here s.now s f (λ f. IsFound s.now f) (λ had. subst (IsFound s.now) (sym is) tt)
 
--- the version alone
-pub version_fault_found : (d : Database) (old new : State) (f : AdoptFault) → Sees d old new (Ok (Some f)) (λ f. IsVersionFound d f) → Sees d old new (Ok (Some f)) (λ f. IsFound d f)
-version_fault_found d old new f h = sees_on d old new (Some f) (λ f. IsVersionFound d f) (λ f. IsFound d f) (Ok (Some f)) h (λ had p. p)
+-- what was told of the version is a fault
+pub fault_told : (d : Database) (old new : State) (f : AdoptFault) → Sees d old new (Ok (Faulty f)) (λ t. IsTold d t) → Sees d old new (Ok (Fault f)) (λ f. IsFound d f)
+fault_told d old new f h = sees_on d old new (Faulty f) (λ t. IsTold d t) (λ f. IsFound d f) (Ok (Fault f)) h (λ had p. p)
 
-pub first_alone : (d : Database) (old new : State) (f : AdoptFault) → f ≡ Store → Sees d old new (Ok None) (λ f. IsVersionFound d f) → Sees d old new (Ok (Some f)) (λ f. IsFound d f)
-first_alone d old new f is h = sees_on d old new None (λ f. IsVersionFound d f) (λ f. IsFound d f) (Ok (Some f)) h (λ had p. subst (IsFaultOf d) (sym is) tt)
+-- the version is that of other tables
+pub other_told : (d : Database) (old new : State) (v : Version) → Sees d old new (Ok (Of v)) (λ t. IsTold d t) → Sees d old new (Ok (Fault Store)) (λ f. IsFound d f)
+other_told d old new v h = sees_on d old new (Of v) (λ t. IsTold d t) (λ f. IsFound d f) (Ok (Fault Store)) h (λ had p. tt)
 
-both_found : (d : Database) → d.schema ≡ book_schema → IsVersionFound d None → (f : Option AdoptFault) → IsRowFound d f → IsFound d f
-both_found d is version None rows = record { schema_is = is; version = version; in_range = rows }
-both_found d is version (Some f) rows = rows
+abbrev pub IsFoundIn : Version → Database → Found → Type 0
+IsFoundIn v d f = IsToldIn d.trees (Some (number_of v)) → IsFound d f
 
-pub rows_behind : (d : Database) (old mid new : State) (r : Result (Option AdoptFault) Error) → d.schema ≡ book_schema → Sees d old mid (Ok None) (λ f. IsVersionFound d f) → Sees d mid new r (λ f. IsRowFound d f)
+pub row_fault : (v : Version) (d : Database) (old new : State) (f : AdoptFault) → Sees d old new (Ok (Some f)) (λ f. IsRowFound v d f) → Sees d old new (Ok (Fault f)) (λ f. IsFoundIn v d f)
+row_fault v d old new f h = sees_on d old new (Some f) (λ f. IsRowFound v d f) (λ f. IsFoundIn v d f) (Ok (Fault f)) h (λ had p told. p)
+
+pub rows_good : (v : Version) (d : Database) (old new : State) → d.schema ≡ schema_of v → Sees d old new (Ok None) (λ f. IsRowFound v d f) → Sees d old new (Ok (Book v)) (λ f. IsFoundIn v d f)
+rows_good v d old new is h =
+    sees_on d old new None (λ f. IsRowFound v d f) (λ f. IsFoundIn v d f) (Ok (Book v)) h (λ had p told. record { schema_is = is; version = told; in_range = p })
+
+pub rows_behind : (v other : Version) (d : Database) (old mid new : State) (r : Result Found Error) → other ≡ v → Sees d old mid (Ok (Of other)) (λ t. IsTold d t) → Sees d mid new r (λ f. IsFoundIn v d f)
     → Sees d old new r (λ f. IsFound d f)
-rows_behind d old mid new r is first next = sees_then d old mid new None (λ f. IsVersionFound d f) first (λ f. IsRowFound d f) (λ f. IsFound d f) r (both_found d is) next
+rows_behind v other d old mid new r same first next =
+    sees_then d old mid new (Of other) (λ t. IsTold d t) first (λ f. IsFoundIn v d f) (λ f. IsFound d f) r (λ p f q. q (subst (λ u. IsToldIn d.trees (Some (number_of u))) same p)) next
+
+-- ---- tables with no row that could be good
+
+not_zero : (n k : ℕ) → n ≡ suc k → (n == 0) ≡ false
+not_zero n k e = grind (arith, nat_tests)
+
+none_good : (t : Table) → ((r : Row) → is_good t r ≡ false) → (rows : List Row) (n : ℕ) → n ≡ length rows → (n == 0) ≡ are_good t rows
+unfolding are_good
+none_good t never [] n e = rw e refl
+none_good t never (r ∷ rows) n e = not_zero n (length rows) e ∙ sym (ap (λ b. b && are_good t rows) (never r))
+
+pub none_told : (t : Table) (d : Database) (old new : State) (rows : Vec Row Global) (good : Bool) → ((r : Row) → is_good t r ≡ false) → good ≡ (rows.len == 0)
+    → Sees d old new (Ok rows) (λ rows. IsPermutation (rows_in t d.trees) rows.items) → Sees d old new (Ok good) (λ good. TellsGood t d.trees good)
+none_told t d old new rows good never is h = all_told t d old new rows (Ok good) (is ∙ none_good t never rows.items rows.len rows.ok.0) h
 
 -- ---- tables that are read in pages
 
@@ -167,6 +199,11 @@ one_more tables i d low = grind (arith, common_steps)
 taken : (tables : List Table) (i : ℕ) → length tables ≤ i → take i tables ≡ tables
 taken tables i h = grind (arith, common_steps)
 
+pub every_at : (P : Table → Type 0) (ts : List Table) (i : ℕ) (d : Table) → Every P ts → i < length ts → P (get_or ts i d)
+every_at P [] i d all low = absurd (omega (arith, low))
+every_at P (t ∷ ts) zero d all low = all.0
+every_at P (t ∷ ts) (suc i) d all low = every_at P ts i d all.1 (omega (arith, low))
+
 abbrev pub Good : List Table → Trees → Unit {0} → Type 0
 Good tables db x = IsFiled db → Every (λ t. is_good_in t db ≡ true) tables
 
@@ -180,37 +217,55 @@ module _ (d : Database) (old mid new : State) (tables : List Table) (i : ℕ) (f
       subst (Every (λ t. is_good_in t d.trees ≡ true)) (sym (one_more tables i x low))
       (every_pushed (λ t. is_good_in t d.trees ≡ true) (take i tables) (get_or tables i x) (both.1 filed) (subst (λ t. is_good_in t d.trees ≡ true) at (sym (both.0.filed filed) ∙ is))))
 
-  pub tables_bad : (t : Table) (good : Bool) → good ≡ false → Sees d mid new (Ok good) (λ good. TellsGood t d.trees good) → Sees d old new (Ok (Some t)) (λ bad. IsBadOf tables d.trees bad)
-  tables_bad t good is next =
-      sees_on d old new good (λ good. TellsGood t d.trees good) (λ bad. IsBadOf tables d.trees bad) (Ok (Some t))
+  pub tables_bad : (t : Table) (good : Bool) → Covers d.schema t → good ≡ false → Sees d mid new (Ok good) (λ good. TellsGood t d.trees good) → Sees d old new (Ok (Some t)) (λ bad. IsBadOf tables d bad)
+  tables_bad t good covers is next =
+      sees_on d old new good (λ good. TellsGood t d.trees good) (λ bad. IsBadOf tables d bad) (Ok (Some t))
       (sees_then d old mid new tt (Good (take i tables) d.trees) first (λ good. TellsGood t d.trees good) (λ good. TellsGood t d.trees good) (Ok good) (λ p b q. q) next)
-      (λ had tells. tells.bad is)
+      (λ had tells. (covers, tells.bad is))
 
-  pub tables_fail : (t : Table) (e : Error) → Sees d mid new (Err e) (λ good. TellsGood t d.trees good) → Sees d old new (Err e) (λ bad. IsBadOf tables d.trees bad)
+  pub tables_fail : (t : Table) (e : Error) → Sees d mid new (Err e) (λ good. TellsGood t d.trees good) → Sees d old new (Err e) (λ bad. IsBadOf tables d bad)
   tables_fail t e next =
-      sees_then d old mid new tt (Good (take i tables) d.trees) first (λ bad. IsBadOf tables d.trees bad) (λ bad. IsBadOf tables d.trees bad) (Err e) (λ p b q. q)
-      (sees_fail d mid new e (λ good. TellsGood t d.trees good) (λ bad. IsBadOf tables d.trees bad) next)
+      sees_then d old mid new tt (Good (take i tables) d.trees) first (λ bad. IsBadOf tables d bad) (λ bad. IsBadOf tables d bad) (Err e) (λ p b q. q)
+      (sees_fail d mid new e (λ good. TellsGood t d.trees good) (λ bad. IsBadOf tables d bad) next)
 
-pub tables_end : (d : Database) (old new : State) (tables : List Table) (i : ℕ) → Sees d old new (Ok tt) (Good (take i tables) d.trees) → length tables ≤ i → Sees d old new (Ok None) (λ bad. IsBadOf tables d.trees bad)
+pub tables_end : (d : Database) (old new : State) (tables : List Table) (i : ℕ) → Sees d old new (Ok tt) (Good (take i tables) d.trees) → length tables ≤ i → Sees d old new (Ok None) (λ bad. IsBadOf tables d bad)
 tables_end d old new tables i h all =
-    sees_on d old new tt (Good (take i tables) d.trees) (λ bad. IsBadOf tables d.trees bad) (Ok None) h (λ had p filed. subst (Every (λ t. is_good_in t d.trees ≡ true)) (taken tables i all) (p filed))
+    sees_on d old new tt (Good (take i tables) d.trees) (λ bad. IsBadOf tables d bad) (Ok None) h (λ had p filed. subst (Every (λ t. is_good_in t d.trees ≡ true)) (taken tables i all) (p filed))
 
-each_good : (db : Trees) → Every (λ t. is_good_in t db ≡ true) all_tables → (t : Table) → is_good_in t db ≡ true
-each_good db h table.Meta = h.0
-each_good db h table.Groups = h.1.0
-each_good db h table.Stations = h.1.1.0
-each_good db h table.Agents = h.1.1.1.0
-each_good db h table.Calls = h.1.1.1.1.0
-each_good db h table.Connections = h.1.1.1.1.1.0
-each_good db h table.Monitors = h.1.1.1.1.1.1.0
-each_good db h table.Events = h.1.1.1.1.1.1.1.0
-each_good db h table.Kept = h.1.1.1.1.1.1.1.1.0
+each_good : (v : Version) (db : Trees) → Every (λ t. is_good_in t db ≡ true) (tables_of v) → (t : Table) → IsIn v t → is_good_in t db ≡ true
+each_good version.First db h table.Meta here = h.0
+each_good version.First db h table.Groups here = h.1.0
+each_good version.First db h table.Stations here = h.1.1.0
+each_good version.First db h table.Agents here = h.1.1.1.0
+each_good version.First db h table.Calls here = h.1.1.1.1.0
+each_good version.First db h table.Connections here = h.1.1.1.1.1.0
+each_good version.First db h table.Monitors here = h.1.1.1.1.1.1.0
+each_good version.First db h table.Events here = h.1.1.1.1.1.1.1.0
+each_good version.First db h table.Kept here = h.1.1.1.1.1.1.1.1.0
+each_good version.First db h table.AgentGroups here = absurd here
+each_good version.First db h table.GroupPriority here = absurd here
+each_good version.Second db h table.Meta here = h.0
+each_good version.Second db h table.Groups here = h.1.0
+each_good version.Second db h table.Stations here = h.1.1.0
+each_good version.Second db h table.Agents here = h.1.1.1.0
+each_good version.Second db h table.Calls here = h.1.1.1.1.0
+each_good version.Second db h table.Connections here = h.1.1.1.1.1.0
+each_good version.Second db h table.Monitors here = h.1.1.1.1.1.1.0
+each_good version.Second db h table.Events here = h.1.1.1.1.1.1.1.0
+each_good version.Second db h table.Kept here = h.1.1.1.1.1.1.1.1.0
+each_good version.Second db h table.AgentGroups here = h.1.1.1.1.1.1.1.1.1.0
+each_good version.Second db h table.GroupPriority here = h.1.1.1.1.1.1.1.1.1.1.0
 
-pub bad_told : (d : Database) (old new : State) (t : Table) → d.schema ≡ book_schema → Sees d old new (Ok (Some t)) (λ bad. IsBadOf all_tables d.trees bad) → Sees d old new (Ok (Some (BadRow t))) (λ f. IsRowFound d f)
-bad_told d old new t is h = sees_on d old new (Some t) (λ bad. IsBadOf all_tables d.trees bad) (λ f. IsRowFound d f) (Ok (Some (BadRow t))) h (λ had bad. inl (is, bad))
+-- the tables of a version are those of a book
+pub covered : (v : Version) (s : Schema) → s ≡ schema_of v → Every (Covers s) (tables_of v)
+covered version.First s is = let b = version_begins version.First s is in (b, (b, (b, (b, (b, (b, (b, (b, (b, tt)))))))))
+covered version.Second s is = let b = version_begins version.Second s is in (b, (b, (b, (b, (b, (b, (b, (b, (b, (is, (is, tt)))))))))))
 
-pub good_told : (d : Database) (old new : State) → Sees d old new (Ok None) (λ bad. IsBadOf all_tables d.trees bad) → Sees d old new (Ok None) (λ f. IsRowFound d f)
-good_told d old new h = sees_on d old new None (λ bad. IsBadOf all_tables d.trees bad) (λ f. IsRowFound d f) (Ok None) h (λ had all filed. each_good d.trees (all filed))
+pub bad_told : (v : Version) (d : Database) (old new : State) (t : Table) → Sees d old new (Ok (Some t)) (λ bad. IsBadOf (tables_of v) d bad) → Sees d old new (Ok (Some (BadRow t))) (λ f. IsRowFound v d f)
+bad_told v d old new t h = sees_on d old new (Some t) (λ bad. IsBadOf (tables_of v) d bad) (λ f. IsRowFound v d f) (Ok (Some (BadRow t))) h (λ had bad. inl bad)
+
+pub good_told : (v : Version) (d : Database) (old new : State) → Sees d old new (Ok None) (λ bad. IsBadOf (tables_of v) d bad) → Sees d old new (Ok None) (λ f. IsRowFound v d f)
+good_told v d old new h = sees_on d old new None (λ bad. IsBadOf (tables_of v) d bad) (λ f. IsRowFound v d f) (Ok None) h (λ had all filed. each_good v d.trees (all filed))
 
 -- ---- the whole look
 
@@ -219,11 +274,11 @@ pub was_idle : (inside result : Bool) → inside ≡ false → result ≡ not in
 was_idle inside result is e = rw (e, is) refl
 
 -- the first of the tables is that of a book
-begins_of_first : (tables : List Made) → AreSameFirst tables book_schema.tables → (rest : List Made) × (tables ≡ schema.table_of schema.meta ∷ rest)
+begins_of_first : (tables : List Made) → AreSameFirst tables old_schema.tables → (rest : List Made) × (tables ≡ schema.table_of schema.meta ∷ rest)
 begins_of_first [] h = absurd h
 begins_of_first (t ∷ rest) h = (rest, ap (λ x. x ∷ rest) h)
 
-pub begins_of : (a b : List Made) (s own : Schema) → AreSameFirst a b → a ≡ s.tables → b ≡ own.tables → own ≡ book_schema → BeginsAsBook s
+pub begins_of : (a b : List Made) (s own : Schema) → AreSameFirst a b → a ≡ s.tables → b ≡ own.tables → own ≡ old_schema → BeginsAsBook s
 begins_of a b s own same first second is = begins_of_first s.tables (subst₂ AreSameFirst first (second ∙ ap (λ (x : Schema). x.tables) is) same)
 
 -- what is seen of the database that is there

@@ -23,7 +23,8 @@ use Rattle.acd_schema.specs.declared.inspection.Page.{Page}
 use Rattle.acd_schema.specs.declared.inspection.Page.TheVariants.{Bad, Last, More}
 use Rattle.acd_columns.specs.AnyRows.{is_good, are_good, is_good_in, rows_in, values_in, table_of_log, Numbered, AreNumbered, FromOne, TellsGood, IsPageRows}
 use Rattle.acd_schema.specs.Inspecting.{is_good_behind, number_if_good, last_good, TellsBehind, IsPageOf, IsPage}
-use Rattle.acd_columns.specs.Content.{tree_of}
+use Rattle.acd_columns.specs.declared.tables.Version.TheVariants as version
+use Rattle.acd_columns.specs.Content.{tree_of, IsIn}
 use Rattle.acd_columns.specs.Values.{option_in, ◌>>=◌, whole_at}
 use Rattle.acd_columns.specs.Ranges.{event_in, event_number, kept_in, kept_stamp}
 use Rattle.acd_columns.proofs.Heaps.{at_each}
@@ -195,6 +196,10 @@ each_from_one : (rows : List Row) → AllByRecursion (λ r. IsTrue (is_int (rowi
 each_from_one [] ints h = tt
 each_from_one (r ∷ rows) ints h = (h.0 ints.0, each_from_one rows ints.1 h.1)
 
+old_log : (l : Log) → IsIn version.First (table_of_log l)
+old_log log.Events = tt
+old_log log.Kept = tt
+
 -- where no number is below 1, those above 0 tell of all
 pub log_told : (l : Log) (db : Trees) (good : Bool) → AllByRecursion (λ r. IsTrue (is_int (rowid r)) → FromOne r) (db (tree_of (table_of_log l))) → TellsBehind l db good → TellsGood (table_of_log l) db good
 unfolding is_good_in is_good_behind
@@ -202,8 +207,8 @@ log_told l db false low h = record { bad = h.bad; filed = λ filed. sym (h.bad r
 log_told l db true low h = record {
   bad = h.bad;
   filed = λ filed.
-      let xs = numbered_of (db (tree_of (table_of_log l))) (each_from_one (db (tree_of (table_of_log l))) (filed.numbered (table_of_log l)) low) in
-      let behind = h.filed refl xs.0 (record { rising = filed.rising (table_of_log l); rows = xs.1 }) in
+      let xs = numbered_of (db (tree_of (table_of_log l))) (each_from_one (db (tree_of (table_of_log l))) (filed.numbered (table_of_log l) (old_log l)) low) in
+      let behind = h.filed refl xs.0 (record { rising = filed.rising (table_of_log l) (old_log l); rows = xs.1 }) in
       sym behind ∙ ap (λ ys. are_good (table_of_log l) (map (number_values l) ys)) (all_above xs.0 xs.2)
       ∙ ap (are_good (table_of_log l)) (sym (map-map (values_in (table_of_log l)) (λ (x : Numbered). x.row) xs.0)) ∙ ap (λ rows. are_good (table_of_log l) (map (values_in (table_of_log l)) rows)) (sym xs.1);
 }

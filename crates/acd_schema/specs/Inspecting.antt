@@ -1,5 +1,5 @@
 -- When a connection is taken for a book: its version is that of these tables, and each value is in its range.
-use Rattle.std.specs.Prelude.{◌≡◌, ◌≢◌, ◌⊎◌, ℕ, ◌==◌, Bool, true, false, List, [], ◌∷◌, map, Option, None, Some, if◌then◌else◌, ⊤}
+use Rattle.std.specs.Prelude.{◌==◌, ◌≡◌, ◌≢◌, ◌⊎◌, ℕ, Bool, true, false, List, [], ◌∷◌, map, Option, None, Some, if◌then◌else◌, ⊤}
 use Rattle.sqlite_value.specs.Order.{Row}
 use Rattle.sqlite_trees.specs.Tree.{Trees}
 use Rattle.sqlite_rules.specs.Lists.{Has}
@@ -15,16 +15,22 @@ use Rattle.acd_columns.specs.declared.tables.Table.TheVariants as table
 use Rattle.acd_schema.specs.declared.fault.AdoptFault.{AdoptFault}
 use Rattle.acd_schema.specs.declared.fault.AdoptFault.TheVariants.{WrongVersion, BadRow, NoMemory, Store}
 use Rattle.acd_columns.specs.declared.tables.Log.{Log}
+use Rattle.acd_columns.specs.declared.tables.Version.{Version}
+use Rattle.acd_columns.specs.declared.tables.Version.TheVariants as version
+use Rattle.acd_schema.specs.declared.fault.Found.{Found}
+use Rattle.acd_schema.specs.declared.fault.Found.TheVariants.{Book, Fault}
 use Rattle.acd_schema.specs.declared.inspection.Likeness.{Likeness}
 use Rattle.acd_schema.specs.declared.inspection.Likeness.TheVariants.{Whole, First, Other}
+use Rattle.acd_schema.specs.declared.inspection.Told.{Told}
+use Rattle.acd_schema.specs.declared.inspection.Told.TheVariants.{Of, Faulty}
 use Rattle.acd_schema.specs.declared.inspection.Page.{Page}
 use Rattle.acd_schema.specs.declared.inspection.Page.TheVariants.{Bad, Last, More}
-use Rattle.acd_columns.specs.Content.{meta_of}
+use Rattle.acd_columns.specs.Relations.{meta_of}
+use Rattle.acd_columns.specs.Content.{IsIn, number_of}
 use Rattle.acd_columns.specs.Draft.{Fits}
-use Rattle.acd_columns.specs.AnyRows.{is_good, are_good, is_good_in, IsFiled, table_of_log, Numbered, AreNumbered, values_behind, has_meta, BeginsAsBook}
+use Rattle.acd_columns.specs.AnyRows.{is_good, are_good, is_good_in, IsFiled, table_of_log, Numbered, AreNumbered, values_behind, has_meta, BeginsAsBook, schema_of, Covers}
 use Rattle.acd_columns.specs.Rows.{meta_shown, group_values, station_values, agent_values, call_values, connection_values, monitor_values, event_values, kept_values}
 use Rattle.acd_columns.specs.Schema as schema
-use Rattle.acd_columns.specs.Schema.{book_schema}
 use Rattle.acd_columns.specs.Values.{◌>>=◌, whole_at}
 
 -- ---- ranges
@@ -40,6 +46,8 @@ values_of table.Connections c = map connection_values c.rows.connections
 values_of table.Monitors c = map monitor_values c.rows.monitors
 values_of table.Events c = map event_values c.events
 values_of table.Kept c = map kept_values c.kept
+values_of table.AgentGroups c = []
+values_of table.GroupPriority c = []
 
 -- each value of the table is in its range
 unfoldable pub is_good_table : Table → Content → Bool
@@ -48,14 +56,17 @@ is_good_table t c = are_good t (values_of t c)
 abbrev pub IsInRange : Content → Type 0
 IsInRange c = (t : Table) → is_good_table t c ≡ true
 
--- the tables, in the order in which they are looked at
-abbrev pub all_tables : List Table
-all_tables = table.Meta ∷ table.Groups ∷ table.Stations ∷ table.Agents ∷ table.Calls ∷ table.Connections ∷ table.Monitors ∷ table.Events ∷ table.Kept ∷ []
+-- the tables of a version, in the order in which they are looked at
+abbrev pub tables_of : Version → List Table
+tables_of version.First = table.Meta ∷ table.Groups ∷ table.Stations ∷ table.Agents ∷ table.Calls ∷ table.Connections ∷ table.Monitors ∷ table.Events ∷ table.Kept ∷ []
+tables_of version.Second =
+    table.Meta ∷ table.Groups ∷ table.Stations ∷ table.Agents ∷ table.Calls ∷ table.Connections ∷ table.Monitors ∷ table.Events ∷ table.Kept
+    ∷ table.AgentGroups ∷ table.GroupPriority ∷ []
 
 -- one that isn't good or, of rows that are filed, none
-abbrev pub IsBadOf : List Table → Trees → Option Table → Type 0
-IsBadOf tables db None = IsFiled db → Every (λ t. is_good_in t db ≡ true) tables
-IsBadOf tables db (Some t) = is_good_in t db ≡ false
+abbrev pub IsBadOf : List Table → Database → Option Table → Type 0
+IsBadOf tables d None = IsFiled d.trees → Every (λ t. is_good_in t d.trees ≡ true) tables
+IsBadOf tables d (Some t) = Covers d.schema t × (is_good_in t d.trees ≡ false)
 
 unfoldable pub is_good_behind : Log → ℕ → List Numbered → Bool
 is_good_behind l n xs = are_good (table_of_log l) (values_behind l n xs)
@@ -95,7 +106,7 @@ PageFits (More m) = Fits m
 
 -- how far the tables are those of a book
 abbrev pub IsLike : Schema → Likeness → Type 0
-IsLike s Whole = s ≡ book_schema
+IsLike s (Whole v) = s ≡ schema_of v
 IsLike s First = BeginsAsBook s
 IsLike s Other = ⊤
 
@@ -111,16 +122,16 @@ IsVersion d n =
 
 -- a value of the table is out of its range
 abbrev pub IsBadIn : Table → Database → Type 0
-IsBadIn t d = ((d.schema ≡ book_schema) × (is_good_in t d.trees ≡ false)) ⊎ ((t ≡ table.Meta) × BeginsAsBook d.schema × IsToldIn d.trees None)
+IsBadIn t d = (Covers d.schema t × (is_good_in t d.trees ≡ false)) ⊎ ((t ≡ table.Meta) × BeginsAsBook d.schema × IsToldIn d.trees None)
 
-abbrev pub fault_of_version : Option ℕ → Option AdoptFault
-fault_of_version None = Some (BadRow table.Meta)
-fault_of_version (Some n) = if n == 1 then None else Some (WrongVersion n)
+abbrev pub told_of : Option ℕ → Told
+told_of None = Faulty (BadRow table.Meta)
+told_of (Some n) = if n == 1 then Of version.First else if n == 2 then Of version.Second else Faulty (WrongVersion n)
 
--- what the rows of versions tell against a book
-abbrev pub version_fault : List Row → Option AdoptFault
-version_fault [] = Some (WrongVersion 0)
-version_fault (r ∷ rows) = fault_of_version (whole_at r 0)
+-- what the rows of versions tell
+abbrev pub told_by : List Row → Told
+told_by [] = Faulty (WrongVersion 0)
+told_by (r ∷ rows) = told_of (whole_at r 0)
 
 -- ---- faults
 
@@ -131,32 +142,32 @@ IsStoreFault (BadRow t) = ⊥
 IsStoreFault NoMemory = ⊤
 IsStoreFault Store = ⊤
 
--- a version that is told is that of the database, and isn't 1; a table that is told has a value out of its range
+-- a version that is told is that of the database, and is none of a book; a table that is told has a value out of its range
 abbrev pub IsFaultOf : Database → AdoptFault → Type 0
-IsFaultOf d (WrongVersion n) = (n ≢ 1) × IsVersion d n
+IsFaultOf d (WrongVersion n) = (n ≢ 1) × (n ≢ 2) × IsVersion d n
 IsFaultOf d (BadRow t) = IsBadIn t d
 IsFaultOf d NoMemory = ⊤
 IsFaultOf d Store = ⊤
 
--- the tables are those of a book of version 1, and where their rows are filed, each value is in its range
-pub record IsOfBook (d : Database) : Type 0 where
-  pub schema_is : d.schema ≡ book_schema
-  pub version : IsToldIn d.trees (Some 1)
-  pub in_range : IsFiled d.trees → (t : Table) → is_good_in t d.trees ≡ true
+-- the tables are those of a book of this version, and where their rows are filed, each value is in its range
+pub record IsOfBook (v : Version) (d : Database) : Type 0 where
+  pub schema_is : d.schema ≡ schema_of v
+  pub version : IsToldIn d.trees (Some (number_of v))
+  pub in_range : IsFiled d.trees → (t : Table) → IsIn v t → is_good_in t d.trees ≡ true
 
 -- what the rows tell of tables that are a book's
-abbrev pub IsRowFound : Database → Option AdoptFault → Type 0
-IsRowFound d None = IsFiled d.trees → (t : Table) → is_good_in t d.trees ≡ true
-IsRowFound d (Some f) = IsFaultOf d f
+abbrev pub IsRowFound : Version → Database → Option AdoptFault → Type 0
+IsRowFound v d None = IsFiled d.trees → (t : Table) → IsIn v t → is_good_in t d.trees ≡ true
+IsRowFound v d (Some f) = IsFaultOf d f
 
-abbrev pub IsFound : Database → Option AdoptFault → Type 0
-IsFound d None = IsOfBook d
-IsFound d (Some f) = IsFaultOf d f
+abbrev pub IsFound : Database → Found → Type 0
+IsFound d (Book v) = IsOfBook v d
+IsFound d (Fault f) = IsFaultOf d f
 
--- the version is 1, or a fault
-abbrev pub IsVersionFound : Database → Option AdoptFault → Type 0
-IsVersionFound d None = IsToldIn d.trees (Some 1)
-IsVersionFound d (Some f) = IsFaultOf d f
+-- the version is that of a book, or a fault
+abbrev pub IsTold : Database → Told → Type 0
+IsTold d (Of v) = IsToldIn d.trees (Some (number_of v))
+IsTold d (Faulty f) = IsFaultOf d f
 
 -- want of memory is no failure of the store
 abbrev pub adopt_fault_of : Error → AdoptFault

@@ -1,2 +1,3 @@
 pub mod SettingUp
+pub mod Migrating
 pub mod Inspecting

@@ -100,6 +100,16 @@ pub(crate) fn make_two<S: Alter>(tx: &mut Transaction<'_, S>) -> Result<(), Erro
     Ok(())
 }
 
+// Makes the eleven tables.
+fn make_tables<S: Alter>(tx: &mut Transaction<'_, S>) -> Result<(), Error>
+    ensures same { tx.new.conn.ghost_name ≡ tx.old.conn.ghost_name }
+    ensures works { Works (state S.Store tx.old.conn.now) (state S.Store tx.new.conn.now) }
+    ensures made { HasCleanDisk (state S.Store tx.new.conn.now) → OnOk result (Builds (state S.Store tx.old.conn.now) no_schema (no_rows 0) → Builds (state S.Store tx.new.conn.now) book_schema (no_rows 11)) }
+{
+    make_nine(tx)?;
+    make_two(tx)
+}
+
 /// Makes the tables of version 1 in one transaction, with no row.
 pub(crate) fn set_up_old<S: Alter>(conn: &mut Connection<S>) -> Result<(), Error>
     requires idle { conn.old.in_transaction ≡ false }
@@ -132,8 +142,7 @@ pub fn set_up<S: Alter>(conn: &mut Connection<S>, limits: Limits) -> Result<(), 
         last_event: 0,
     };
     let mut tx = conn.transaction();
-    make_nine(&mut tx)?;
-    make_two(&mut tx)?;
+    make_tables(&mut tx)?;
     insert_meta(&mut tx, &meta)?;
     tx.commit()
 }

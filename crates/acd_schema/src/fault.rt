@@ -1,6 +1,6 @@
-//! Why a connection was not adopted.
+//! What a look at a connection finds, and why one was not adopted.
 
-use acd_columns::Table;
+use acd_columns::{Table, Version};
 use thiserror::Error;
 
 /// Why a connection was not adopted.
@@ -16,4 +16,13 @@ pub enum AdoptFault {
     NoMemory,
     #[error("the store has failed")]
     Store,
+}
+
+/// What a look at a connection has found.
+#[derive(Clone, Copy)]
+pub enum Found {
+    /// A book of a version, with each value in its range.
+    Book(Version),
+    /// Why it isn't taken for one.
+    Fault(AdoptFault),
 }

@@ -1,21 +1,25 @@
-//! Whether a database has the tables of a book of version 1, with each value in its range.
+//! Whether a database has the tables of a book, of version 1 or 2, with each value in its range.
 
-ghost use Rattle.std.specs.Prelude.{◌≡◌, false, None, IfOk};
+ghost use Rattle.std.specs.Prelude.{◌≡◌, false, None, Some, IfOk};
+ghost use Rattle.acd_terms.specs.Lists.{Every};
 ghost use Rattle.sqlite.specs.Effect.{Database};
 ghost use Rattle.sqlite.specs.Held.{state};
 ghost use Rattle.acd_columns.specs.declared.tables.Table.TheVariants as table;
-ghost use Rattle.acd_columns.specs.AnyRows.{table_of_log, are_good, BeginsAsBook, TellsGood};
-ghost use Rattle.acd_schema.specs.Inspecting.{number_if_good, last_good, IsLike, TellsBehind, IsBadOf, IsPage, IsPageOf, PageFits, IsFound, IsRowFound, IsVersionFound, IsStoreFault, version_fault, adopt_fault_of};
+ghost use Rattle.acd_columns.specs.AnyRows.{table_of_log, are_good, schema_of, BeginsAsBook, Covers, TellsGood};
+ghost use Rattle.acd_columns.specs.Content.{number_of};
+ghost use Rattle.acd_schema.specs.Inspecting.{number_if_good, last_good, tables_of, told_by, IsLike, TellsBehind, IsBadOf, IsPage, IsPageOf, PageFits, IsFound, IsRowFound, IsTold, IsToldIn, IsStoreFault, adopt_fault_of};
 ghost use Rattle.acd_columns.specs.Draft.{Fits};
-ghost use Rattle.acd_columns.specs.Schema.{book_schema};
+ghost use Rattle.acd_columns.specs.Schema.{nine, old_schema, book_schema, Begins};
 ghost use Rattle.acd_columns.specs.Seeing.{Sees, HasLooked};
 
-use crate::create::set_up;
-use crate::fault::AdoptFault;
+use crate::create::{set_up, set_up_old};
+use crate::fault::{AdoptFault, Found};
 use acd_columns::decode::{KeptReader, connection_in, counters_in, event_number};
-use acd_columns::{Log, Table, values};
+use acd_columns::{Log, Table, Version, values};
 use acd_statements::fitting::{fits, too_large};
-use acd_statements::look::{has_meta, unordered_connection_rows, version_rows};
+use acd_statements::look::{
+    further_rows, has_meta, priority_rows, unordered_connection_rows, version_rows,
+};
 use acd_statements::read::{meta_rows, probe};
 use acd_statements::same::{is_same_first, is_same_schema};
 use acd_statements::select::is_good;
@@ -28,11 +32,18 @@ use std::alloc::Global;
 // How far the tables of a database are those of a book.
 #[derive(Clone, Copy)]
 pub(crate) enum Likeness {
-    /// All of them, and no others.
-    Whole,
+    /// All of them are those of a version, and there are no others.
+    Whole(Version),
     /// The first, which tells the version.
     First,
     Other,
+}
+
+// What the first table tells of the version.
+#[derive(Clone, Copy)]
+pub(crate) enum Told {
+    Of(Version),
+    Faulty(AdoptFault),
 }
 
 // What a page of a log tells.
@@ -64,7 +75,7 @@ fn are_connections(rows: &[Row]) -> bool
 fn is_good_meta<S: Alter>(conn: &mut Connection<S>) -> Result<bool, Error>
     requires { conn.old.in_transaction ≡ false }
     ensures idle { conn.new.in_transaction ≡ false }
-    ensures seen { (d : Database) → d.schema ≡ book_schema → Sees d (state S.Store conn.old) (state S.Store conn.new) result (λ good. TellsGood table.Meta d.trees good) }
+    ensures seen { (d : Database) → Begins nine d.schema → Sees d (state S.Store conn.old) (state S.Store conn.new) result (λ good. TellsGood table.Meta d.trees good) }
 {
     match meta_rows(conn) {
         Ok(rows) => Ok(are_counters(&rows)),
@@ -76,10 +87,34 @@ fn is_good_meta<S: Alter>(conn: &mut Connection<S>) -> Result<bool, Error>
 fn are_good_connections<S: Alter>(conn: &mut Connection<S>) -> Result<bool, Error>
     requires { conn.old.in_transaction ≡ false }
     ensures idle { conn.new.in_transaction ≡ false }
-    ensures seen { (d : Database) → d.schema ≡ book_schema → Sees d (state S.Store conn.old) (state S.Store conn.new) result (λ good. TellsGood table.Connections d.trees good) }
+    ensures seen { (d : Database) → Begins nine d.schema → Sees d (state S.Store conn.old) (state S.Store conn.new) result (λ good. TellsGood table.Connections d.trees good) }
 {
     match unordered_connection_rows(conn) {
         Ok(rows) => Ok(are_connections(&rows)),
+        Err(error) => Err(error),
+    }
+}
+
+// Whether there is no further group.
+fn has_no_further<S: Alter>(conn: &mut Connection<S>) -> Result<bool, Error>
+    requires { conn.old.in_transaction ≡ false }
+    ensures idle { conn.new.in_transaction ≡ false }
+    ensures seen { (d : Database) → d.schema ≡ book_schema → Sees d (state S.Store conn.old) (state S.Store conn.new) result (λ good. TellsGood table.AgentGroups d.trees good) }
+{
+    match further_rows(conn) {
+        Ok(rows) => Ok(rows.is_empty()),
+        Err(error) => Err(error),
+    }
+}
+
+// Whether there is no priority.
+fn has_no_priority<S: Alter>(conn: &mut Connection<S>) -> Result<bool, Error>
+    requires { conn.old.in_transaction ≡ false }
+    ensures idle { conn.new.in_transaction ≡ false }
+    ensures seen { (d : Database) → d.schema ≡ book_schema → Sees d (state S.Store conn.old) (state S.Store conn.new) result (λ good. TellsGood table.GroupPriority d.trees good) }
+{
+    match priority_rows(conn) {
+        Ok(rows) => Ok(rows.is_empty()),
         Err(error) => Err(error),
     }
 }
@@ -143,7 +178,7 @@ fn page_behind<S: Alter>(
     requires idle { conn.old.in_transaction ≡ false }
     requires number { Fits number }
     ensures idle { conn.new.in_transaction ≡ false }
-    ensures seen { (d : Database) → d.schema ≡ book_schema → Sees d (state S.Store conn.old) (state S.Store conn.new) result (λ page. IsPage log number d.trees page) }
+    ensures seen { (d : Database) → Begins nine d.schema → Sees d (state S.Store conn.old) (state S.Store conn.new) result (λ page. IsPage log number d.trees page) }
     ensures fits { IfOk result (λ page. PageFits page) }
 {
     match rows_above(log, conn, number) {
@@ -160,7 +195,7 @@ fn are_pages_good<S: Alter>(
 ) -> Result<bool, Error>
     requires idle { conn.old.in_transaction ≡ false }
     ensures idle { conn.new.in_transaction ≡ false }
-    ensures seen { (d : Database) → d.schema ≡ book_schema → Sees d (state S.Store conn.old) (state S.Store conn.new) result (λ good. TellsBehind log d.trees good) }
+    ensures seen { (d : Database) → Begins nine d.schema → Sees d (state S.Store conn.old) (state S.Store conn.new) result (λ good. TellsBehind log d.trees good) }
 {
     let mut number = 0;
     for _ in 0..u64::MAX {
@@ -182,7 +217,7 @@ fn is_good_log<S: Alter>(
 ) -> Result<bool, Error>
     requires { conn.old.in_transaction ≡ false }
     ensures idle { conn.new.in_transaction ≡ false }
-    ensures seen { (d : Database) → d.schema ≡ book_schema → Sees d (state S.Store conn.old) (state S.Store conn.new) result (λ good. TellsGood (table_of_log log) d.trees good) }
+    ensures seen { (d : Database) → Begins nine d.schema → Sees d (state S.Store conn.old) (state S.Store conn.new) result (λ good. TellsGood (table_of_log log) d.trees good) }
 {
     let low = low_rows(log, conn)?;
     if low.is_empty() {
@@ -200,7 +235,7 @@ fn is_good_table<S: Alter>(
 ) -> Result<bool, Error>
     requires { conn.old.in_transaction ≡ false }
     ensures idle { conn.new.in_transaction ≡ false }
-    ensures seen { (d : Database) → d.schema ≡ book_schema → Sees d (state S.Store conn.old) (state S.Store conn.new) result (λ good. TellsGood table d.trees good) }
+    ensures seen { (d : Database) → Covers d.schema table → Sees d (state S.Store conn.old) (state S.Store conn.new) result (λ good. TellsGood table d.trees good) }
 {
     match table {
         Table::Meta => is_good_meta(conn),
@@ -212,6 +247,8 @@ fn is_good_table<S: Alter>(
         Table::Monitors => is_good::<MonitorRecord, S>(conn),
         Table::Events => is_good_log(kept, conn, Log::Events),
         Table::Kept => is_good_log(kept, conn, Log::Kept),
+        Table::AgentGroups => has_no_further(conn),
+        Table::GroupPriority => has_no_priority(conn),
     }
 }
 
@@ -223,7 +260,7 @@ fn bad_table<S: Alter>(
 ) -> Result<Option<Table>, Error>
     requires idle { conn.old.in_transaction ≡ false }
     ensures idle { conn.new.in_transaction ≡ false }
-    ensures seen { (d : Database) → d.schema ≡ book_schema → Sees d (state S.Store conn.old) (state S.Store conn.new) result (λ bad. IsBadOf tables.now d.trees bad) }
+    ensures seen { (d : Database) → Every (Covers d.schema) tables.now → Sees d (state S.Store conn.old) (state S.Store conn.new) result (λ bad. IsBadOf tables.now d bad) }
 {
     for table in tables {
         let good = is_good_table(kept, conn, *table)?;
@@ -234,52 +271,71 @@ fn bad_table<S: Alter>(
     Ok(None)
 }
 
-// What the tables tell against a book.
-fn bad_row<S: Alter>(alloc: Global, conn: &mut Connection<S>) -> Result<Option<AdoptFault>, Error>
+// The tables of each version, in the order in which they are looked at.
+const TABLES: [Table; 11] = [
+    Table::Meta,
+    Table::Groups,
+    Table::Stations,
+    Table::Agents,
+    Table::Calls,
+    Table::Connections,
+    Table::Monitors,
+    Table::Events,
+    Table::Kept,
+    Table::AgentGroups,
+    Table::GroupPriority,
+];
+
+// The tables of a version.
+fn tables_of(version: Version) -> &'static [Table]
+    ensures { result.now ≡ tables_of version }
+{
+    match version {
+        Version::First => &TABLES[..9],
+        Version::Second => &TABLES,
+    }
+}
+
+// What the tables tell against a book of the version.
+fn bad_row<S: Alter>(
+    alloc: Global,
+    conn: &mut Connection<S>,
+    version: Version,
+) -> Result<Option<AdoptFault>, Error>
     requires idle { conn.old.in_transaction ≡ false }
     ensures idle { conn.new.in_transaction ≡ false }
-    ensures seen { (d : Database) → d.schema ≡ book_schema → Sees d (state S.Store conn.old) (state S.Store conn.new) result (λ fault. IsRowFound d fault) }
+    ensures seen { (d : Database) → d.schema ≡ schema_of version → Sees d (state S.Store conn.old) (state S.Store conn.new) result (λ fault. IsRowFound version d fault) }
 {
-    let tables = [
-        Table::Meta,
-        Table::Groups,
-        Table::Stations,
-        Table::Agents,
-        Table::Calls,
-        Table::Connections,
-        Table::Monitors,
-        Table::Events,
-        Table::Kept,
-    ];
     let mut kept = KeptReader::new(alloc);
-    let bad = bad_table(&mut kept, conn, &tables)?;
+    let bad = bad_table(&mut kept, conn, tables_of(version))?;
     match bad {
         Some(table) => Ok(Some(AdoptFault::BadRow(table))),
         None => Ok(None),
     }
 }
 
-// What the versions tell against a book of version 1.
-fn version_fault(rows: &[Row]) -> Option<AdoptFault>
-    ensures { result ≡ version_fault rows.now }
+// What the rows of versions tell.
+fn told_by(rows: &[Row]) -> Told
+    ensures { result ≡ told_by rows.now }
 {
     if rows.is_empty() {
-        return Some(AdoptFault::WrongVersion(0));
+        return Told::Faulty(AdoptFault::WrongVersion(0));
     }
     match values::whole(&rows[0], 0) {
-        Some(1) => None,
-        Some(version) => Some(AdoptFault::WrongVersion(version)),
-        None => Some(AdoptFault::BadRow(Table::Meta)),
+        Some(1) => Told::Of(Version::First),
+        Some(2) => Told::Of(Version::Second),
+        Some(version) => Told::Faulty(AdoptFault::WrongVersion(version)),
+        None => Told::Faulty(AdoptFault::BadRow(Table::Meta)),
     }
 }
 
-fn wrong_version<S: Alter>(conn: &mut Connection<S>) -> Result<Option<AdoptFault>, Error>
+fn version_told<S: Alter>(conn: &mut Connection<S>) -> Result<Told, Error>
     requires { conn.old.in_transaction ≡ false }
     ensures idle { conn.new.in_transaction ≡ false }
-    ensures seen { (d : Database) → BeginsAsBook d.schema → Sees d (state S.Store conn.old) (state S.Store conn.new) result (λ fault. IsVersionFound d fault) }
+    ensures seen { (d : Database) → BeginsAsBook d.schema → Sees d (state S.Store conn.old) (state S.Store conn.new) result (λ told. IsTold d told) }
 {
     match version_rows(conn) {
-        Ok(rows) => Ok(version_fault(&rows)),
+        Ok(rows) => Ok(told_by(&rows)),
         Err(error) => Err(error),
     }
 }
@@ -297,14 +353,27 @@ fn new_tables(alloc: Global) -> Result<Connection<MemStore>, Error>
     }
 }
 
-// How far the tables are those of a new book.
-fn compared(alloc: Global, schema: &Schema) -> Result<Likeness, Error>
+// The tables of version 1, in memory.
+fn old_tables(alloc: Global) -> Result<Connection<MemStore>, Error>
+    ensures { IfOk result (λ conn. conn.schema ≡ old_schema) }
+{
+    match Connection::open_in_memory(alloc) {
+        Ok(mut conn) => {
+            set_up_old(&mut conn)?;
+            Ok(conn)
+        }
+        Err(_) => Err(Error::SqliteFailure(ErrorCode::OutOfMemory)),
+    }
+}
+
+// How far the tables are those of an old book.
+fn compared_to_old(alloc: Global, schema: &Schema) -> Result<Likeness, Error>
     ensures { IfOk result (λ likeness. IsLike schema.now likeness) }
 {
-    let book = new_tables(alloc)?;
+    let book = old_tables(alloc)?;
     let own = book.schema();
     if is_same_schema(schema, own) {
-        return Ok(Likeness::Whole);
+        return Ok(Likeness::Whole(Version::First));
     }
     if is_same_first(schema.tables.as_slice(), own.tables.as_slice()) {
         return Ok(Likeness::First);
@@ -312,66 +381,93 @@ fn compared(alloc: Global, schema: &Schema) -> Result<Likeness, Error>
     Ok(Likeness::Other)
 }
 
+// How far the tables are those of a new book, or of an old one.
+fn compared(alloc: Global, schema: &Schema) -> Result<Likeness, Error>
+    ensures { IfOk result (λ likeness. IsLike schema.now likeness) }
+{
+    let book = new_tables(alloc)?;
+    if is_same_schema(schema, book.schema()) {
+        return Ok(Likeness::Whole(Version::Second));
+    }
+    compared_to_old(alloc, schema)
+}
+
 // Why a database whose first table alone is that of a book isn't taken.
-fn fault_of_first<S: Alter>(conn: &mut Connection<S>) -> Result<Option<AdoptFault>, Error>
+fn found_in_first<S: Alter>(conn: &mut Connection<S>) -> Result<Found, Error>
     requires { conn.old.in_transaction ≡ false }
     ensures idle { conn.new.in_transaction ≡ false }
-    ensures seen { (d : Database) → BeginsAsBook d.schema → Sees d (state S.Store conn.old) (state S.Store conn.new) result (λ fault. IsFound d fault) }
+    ensures seen { (d : Database) → BeginsAsBook d.schema → Sees d (state S.Store conn.old) (state S.Store conn.new) result (λ found. IsFound d found) }
 {
-    let wrong = wrong_version(conn)?;
-    match wrong {
-        Some(fault) => Ok(Some(fault)),
-        None => Ok(Some(AdoptFault::Store)),
+    match version_told(conn) {
+        Ok(Told::Faulty(fault)) => Ok(Found::Fault(fault)),
+        Ok(Told::Of(_)) => Ok(Found::Fault(AdoptFault::Store)),
+        Err(error) => Err(error),
     }
 }
 
-// Why a database whose tables are those of a book isn't taken.
-fn fault_of_whole<S: Alter>(
+// What the rows tell of tables of a version that is told.
+fn found_in_rows<S: Alter>(
     alloc: Global,
     conn: &mut Connection<S>,
-) -> Result<Option<AdoptFault>, Error>
+    version: Version,
+) -> Result<Found, Error>
     requires { conn.old.in_transaction ≡ false }
     ensures idle { conn.new.in_transaction ≡ false }
-    ensures seen { (d : Database) → d.schema ≡ book_schema → Sees d (state S.Store conn.old) (state S.Store conn.new) result (λ fault. IsFound d fault) }
+    ensures seen { (d : Database) → d.schema ≡ schema_of version → Sees d (state S.Store conn.old) (state S.Store conn.new) result (λ found. IsToldIn d.trees (Some (number_of version)) → IsFound d found) }
 {
-    let wrong = wrong_version(conn)?;
-    match wrong {
-        Some(fault) => Ok(Some(fault)),
-        None => bad_row(alloc, conn),
+    match bad_row(alloc, conn, version) {
+        Ok(Some(fault)) => Ok(Found::Fault(fault)),
+        Ok(None) => Ok(Found::Book(version)),
+        Err(error) => Err(error),
     }
 }
 
-// Why the connection isn't taken, where its store serves.
-fn fault_in<S: Alter>(alloc: Global, conn: &mut Connection<S>) -> Result<Option<AdoptFault>, Error>
+// What is found where the tables are those of a version: another that is told is no book's.
+fn found_in_whole<S: Alter>(
+    alloc: Global,
+    conn: &mut Connection<S>,
+    version: Version,
+) -> Result<Found, Error>
     requires { conn.old.in_transaction ≡ false }
     ensures idle { conn.new.in_transaction ≡ false }
-    ensures seen { Sees (state S.Store conn.old).now (state S.Store conn.old) (state S.Store conn.new) result (λ fault. IsFound (state S.Store conn.old).now fault) }
+    ensures seen { (d : Database) → d.schema ≡ schema_of version → Sees d (state S.Store conn.old) (state S.Store conn.new) result (λ found. IsFound d found) }
+{
+    let told = version_told(conn)?;
+    match told {
+        Told::Faulty(fault) => Ok(Found::Fault(fault)),
+        Told::Of(other) if other == version => found_in_rows(alloc, conn, version),
+        Told::Of(_) => Ok(Found::Fault(AdoptFault::Store)),
+    }
+}
+
+// What is found where the store serves.
+fn found_in<S: Alter>(alloc: Global, conn: &mut Connection<S>) -> Result<Found, Error>
+    requires { conn.old.in_transaction ≡ false }
+    ensures idle { conn.new.in_transaction ≡ false }
+    ensures seen { Sees (state S.Store conn.old).now (state S.Store conn.old) (state S.Store conn.new) result (λ found. IsFound (state S.Store conn.old).now found) }
 {
     if !has_meta(conn.schema()) {
-        return Ok(Some(AdoptFault::WrongVersion(0)));
+        return Ok(Found::Fault(AdoptFault::WrongVersion(0)));
     }
     let likeness = compared(alloc, conn.schema())?;
     match likeness {
-        Likeness::Whole => fault_of_whole(alloc, conn),
-        Likeness::First => fault_of_first(conn),
-        Likeness::Other => Ok(Some(AdoptFault::Store)),
+        Likeness::Whole(version) => found_in_whole(alloc, conn, version),
+        Likeness::First => found_in_first(conn),
+        Likeness::Other => Ok(Found::Fault(AdoptFault::Store)),
     }
 }
 
-/// Why a connection isn't taken for a book, if it isn't. Nothing is changed.
-pub fn look_over<S: Alter>(
-    alloc: Global,
-    conn: &mut Connection<S>,
-) -> Result<Option<AdoptFault>, Error>
+/// Whether a connection holds a book, and of which version, or else why it isn't taken for one. Nothing is changed.
+pub fn look_over<S: Alter>(alloc: Global, conn: &mut Connection<S>) -> Result<Found, Error>
     requires { conn.old.in_transaction ≡ false }
     ensures idle { conn.new.in_transaction ≡ false }
-    ensures looked { HasLooked (state S.Store conn.old) (state S.Store conn.new) result (λ d fault. IsFound d fault) }
+    ensures looked { HasLooked (state S.Store conn.old) (state S.Store conn.new) result (λ d found. IsFound d found) }
 {
     // What these two promise holds of the connection before anything is read; their answers aren't needed.
     let _settled = conn.is_autocommit();
     let _obeyed = conn.schema();
     probe(conn)?;
-    fault_in(alloc, conn)
+    found_in(alloc, conn)
 }
 
 /// The fault of a look that failed. Want of memory is no failure of the store.

@@ -1,40 +1,97 @@
 -- A connection that was looked over, as a book.
-use Rattle.std.proofs.Common.{◌≡◌, Result, Ok, Err, Option, Some, None, IsTrue, refl, sym, ap, subst, ◌∙◌}
+use Rattle.std.proofs.Common.{◌≡◌, ◌≢◌, ◌⊎◌, inl, inr, ℕ, [], ◌∷◌, length, Result, Ok, Err, IsTrue, refl, sym, ap, subst, ◌∙◌}
+use Rattle.sqlite_trees.specs.Tree.{Trees}
+use Rattle.sqlite_schema.specs.declared.schema.Schema.{Schema}
 use Rattle.sqlite_trees.specs.Objects.{catalog_tree, IsListed}
 use Rattle.sqlite_trees.specs.View.{View, IsOrdered}
 use Rattle.sqlite.specs.Effect.{Database, IsDatabase}
 use Rattle.sqlite.specs.declared.error.Error.{Error}
 use Rattle.sqlite.specs.State.{State, HasCleanDisk}
-use Rattle.acd_book.specs.Content.{Content}
+use Rattle.acd_book.specs.Content.{Content, Within}
 use Rattle.acd_book.specs.Order.{IsOrdered as IsInOrder}
 use Rattle.acd_schema.specs.declared.fault.AdoptFault.{AdoptFault}
 use Rattle.acd_schema.specs.declared.fault.AdoptFault.TheVariants.{WrongVersion, BadRow, NoMemory, Store}
 use Rattle.acd_columns.specs.AnyRows.{IsFiled, HaveAllColumns}
-use Rattle.acd_schema.specs.Inspecting.{IsFound, IsFaultOf, IsStoreFault, IsInRange}
-use Rattle.acd_sqlbook.specs.Adopting.{IsAdopted, IsHandedBack, IsUntouched}
-use Rattle.acd_columns.specs.Content.{Encodes}
+use Rattle.acd_schema.specs.declared.fault.Found.{Found}
+use Rattle.acd_schema.specs.declared.fault.Found.TheVariants.{Book, Fault}
+use Rattle.acd_schema.specs.Inspecting.{IsFound, IsOfBook, IsFaultOf, IsStoreFault, IsInRange}
+use Rattle.acd_schema.specs.Migrating.{IsMigration, IsMade, IsRestored, MayAlter}
+use Rattle.acd_columns.specs.declared.tables.Table.TheVariants as table
+use Rattle.acd_columns.specs.declared.tables.Version.{Version}
+use Rattle.acd_columns.specs.declared.tables.Version.TheVariants as version
+use Rattle.acd_sqlbook.specs.Adopting.{IsAdopted, IsHandedBack, IsUntouched, MayMigrate}
+use Rattle.acd_columns.specs.Relations.{meta_of, relations_of}
+use Rattle.acd_columns.specs.Content.{Encodes, EncodesAs, Stores, part, pair_order, tree_of}
+use Rattle.acd_columns.specs.Rows.{further_row}
+use Rattle.acd_columns.specs.Schema.{old_schema, book_schema}
 use Rattle.acd_columns.specs.InTables.{content_of}
 use Rattle.acd_columns.specs.Seeing.{HasDatabase, HasLooked}
 use Rattle.acd_sqlbook.specs.State.{IsSound, book_state}
 use Rattle.acd_sqlbook.proofs.BookStates.{Settles, Stays}
-use Rattle.acd_columns.proofs.Decoded.{decoded}
+use Rattle.acd_columns.proofs.Decoded.{decoded, decoded_as}
+use Rattle.acd_columns.proofs.Frames.{none_heaped}
+use Rattle.acd_columns.proofs.Listings.{version_begins}
 use Rattle.acd_schema.proofs.Contents.{content_in, filed_in, filed_by_store}
 use Rattle.acd_sqlbook.proofs.Rising.{stored_ordered}
 
--- ---- the connection as a book
+-- ---- what a migration leaves of a content
 
-module _ (old new : State) (settles : Settles old) (settled_after : Settles new) (stays : Stays new) (k : HasCleanDisk new) where
-  had_before : (r : Result (Option AdoptFault) Error) → HasLooked old new r IsFound → IsTrue old.is_open → HasDatabase old old.now
+apart_schemas : book_schema ≡ old_schema → ⊥
+apart_schemas e = let many : ◌≡◌ {A = ℕ} 11 9 = ap (λ (s : Schema). length s.tables) e in cc many
+
+pub migrated_encodes : (old new : Trees) (c : Content) → EncodesAs version.First old c → IsMigration old new → Encodes new c
+migrated_encodes old new c is m table.Meta = m.told (meta_of c.rows) (is table.Meta tt)
+migrated_encodes old new c is m table.Groups = subst (λ rows. Stores table.Groups rows (part table.Groups (relations_of c))) (sym (m.kept table.Groups tt (λ e. cc e))) (is table.Groups tt)
+migrated_encodes old new c is m table.Stations = subst (λ rows. Stores table.Stations rows (part table.Stations (relations_of c))) (sym (m.kept table.Stations tt (λ e. cc e))) (is table.Stations tt)
+migrated_encodes old new c is m table.Agents = subst (λ rows. Stores table.Agents rows (part table.Agents (relations_of c))) (sym (m.kept table.Agents tt (λ e. cc e))) (is table.Agents tt)
+migrated_encodes old new c is m table.Calls = subst (λ rows. Stores table.Calls rows (part table.Calls (relations_of c))) (sym (m.kept table.Calls tt (λ e. cc e))) (is table.Calls tt)
+migrated_encodes old new c is m table.Connections = subst (λ rows. Stores table.Connections rows (part table.Connections (relations_of c))) (sym (m.kept table.Connections tt (λ e. cc e))) (is table.Connections tt)
+migrated_encodes old new c is m table.Monitors = subst (λ rows. Stores table.Monitors rows (part table.Monitors (relations_of c))) (sym (m.kept table.Monitors tt (λ e. cc e))) (is table.Monitors tt)
+migrated_encodes old new c is m table.Events = subst (λ rows. Stores table.Events rows (part table.Events (relations_of c))) (sym (m.kept table.Events tt (λ e. cc e))) (is table.Events tt)
+migrated_encodes old new c is m table.Kept = subst (λ rows. Stores table.Kept rows (part table.Kept (relations_of c))) (sym (m.kept table.Kept tt (λ e. cc e))) (is table.Kept tt)
+migrated_encodes old new c is m table.AgentGroups = none_heaped pair_order further_row (new (tree_of table.AgentGroups)) m.further
+migrated_encodes old new c is m table.GroupPriority = record { rows_are = m.priorities; ascending = tt }
+
+second_encodes : (db : Trees) (c : Content) → EncodesAs version.Second db c → Encodes db c
+second_encodes db c is table.Meta = is table.Meta tt
+second_encodes db c is table.Groups = is table.Groups tt
+second_encodes db c is table.Stations = is table.Stations tt
+second_encodes db c is table.Agents = is table.Agents tt
+second_encodes db c is table.Calls = is table.Calls tt
+second_encodes db c is table.Connections = is table.Connections tt
+second_encodes db c is table.Monitors = is table.Monitors tt
+second_encodes db c is table.Events = is table.Events tt
+second_encodes db c is table.Kept = is table.Kept tt
+second_encodes db c is table.AgentGroups = is table.AgentGroups tt
+second_encodes db c is table.GroupPriority = is table.GroupPriority tt
+
+-- ---- the connection as a book, behind the look
+
+module _ (old mid : State) (settles : Settles old) (k : HasCleanDisk mid) where
+  had_before : (r : Result Found Error) → HasLooked old mid r IsFound → IsTrue old.is_open → HasDatabase old old.now
   had_before r h was = record { is_open = was; now = refl; committed = sym (h.settled was) }
 
-  pub untouched : (r : Result (Option AdoptFault) Error) → HasLooked old new r IsFound → IsUntouched old new
+  pub untouched : (r : Result Found Error) → HasLooked old mid r IsFound → IsUntouched old mid
   untouched r h = record { same = λ up. h.seen.same k (had_before r h (h.seen.was_open k up)) up; stops = h.stops k }
 
-  same_commit : (r : Result (Option AdoptFault) Error) → HasLooked old new r IsFound → IsTrue old.is_open → IsTrue new.is_open → new.committed ≡ old.committed
+  pub leaves : (r : Result Found Error) → HasLooked old mid r IsFound → MayMigrate old mid
+  leaves r h db left = inl (h.stops k db left)
+
+  -- what was found, and what the connection has then
+  pub was_up : (f : Found) → HasLooked old mid (Ok f) IsFound → IsTrue old.is_open
+  was_up f h = h.seen.was_open k (h.up k)
+
+  pub found_in : (f : Found) → HasLooked old mid (Ok f) IsFound → IsFound old.now f
+  found_in f h = h.seen.answer k (had_before (Ok f) h (was_up f h))
+
+  pub after_look : (f : Found) → HasLooked old mid (Ok f) IsFound → HasDatabase mid old.now
+  after_look f h = h.seen.same k (had_before (Ok f) h (was_up f h)) (h.up k)
+
+  same_commit : (r : Result Found Error) → HasLooked old mid r IsFound → IsTrue old.is_open → IsTrue mid.is_open → mid.committed ≡ old.committed
   same_commit r h was up = (h.seen.same k (had_before r h was) up).committed ∙ h.settled was
 
   -- it is as sound as it was
-  still_sound : (r : Result (Option AdoptFault) Error) → HasLooked old new r IsFound → IsSound old → IsSound new
+  still_sound : (r : Result Found Error) → HasLooked old mid r IsFound → IsSound old → IsSound mid
   still_sound r h sound = record {
     stands = λ up.
         let was = h.seen.was_open k up in
@@ -45,27 +102,48 @@ module _ (old new : State) (settles : Settles old) (settled_after : Settles new)
     left = λ db left. sound.left db (h.stops k db left);
   }
 
-  same_content : (r : Result (Option AdoptFault) Error) → HasLooked old new r IsFound → IsTrue new.is_open → IsTrue old.is_open × (content_of new.committed.trees ≡ content_of old.committed.trees)
+  same_content : (r : Result Found Error) → HasLooked old mid r IsFound → IsTrue mid.is_open → IsTrue old.is_open × (content_of mid.committed.trees ≡ content_of old.committed.trees)
   same_content r h up =
       let was = h.seen.was_open k up in
-      (was, ap (λ (d : Database). content_of d.trees) ((h.seen.same k (had_before r h was) up).committed ∙ h.settled was))
+      (was, ap (λ (d : Database). content_of d.trees) (same_commit r h was up))
 
-  pub adopted : HasLooked old new (Ok None) IsFound → IsAdopted old.now (book_state old 0) (book_state new 0)
-  adopted h =
+  back : (r : Result Found Error) (f : AdoptFault) → HasLooked old mid r IsFound → IsFaultOf old.now f → IsHandedBack old.now (book_state old 0) (book_state mid 0) f
+  back r f h fault = record { sound = still_sound r h; same = same_content r h; stops = λ filed c stop. (stop.0, h.stops k stop.0 stop.1, stop.2); cause = fault }
+
+  pub back_found : (f : AdoptFault) → HasLooked old mid (Ok (Fault f)) IsFound → IsHandedBack old.now (book_state old 0) (book_state mid 0) f
+  back_found f h = back (Ok (Fault f)) f h (found_in (Fault f) h)
+
+  pub of_store : (f : AdoptFault) → IsStoreFault f → IsFaultOf old.now f
+  of_store (WrongVersion n) h = absurd h
+  of_store (BadRow t) h = absurd h
+  of_store NoMemory h = tt
+  of_store Store h = tt
+
+  pub back_failed : (e : Error) (f : AdoptFault) → IsStoreFault f → HasLooked old mid (Err e) IsFound → IsHandedBack old.now (book_state old 0) (book_state mid 0) f
+  back_failed e f is h = back (Err e) f h (of_store f is)
+
+  -- the rows of a store that isn't broken rise
+  pub files : (v : Version) → HasLooked old mid (Ok (Book v)) IsFound → (w : View) → old.now.trees ≡ w.trees → IsListed (w.trees catalog_tree) w.shape w.reals → IsOrdered w.shape w.trees → HaveAllColumns old.now.trees → IsFiled old.now.trees
+  files v h w same listed ordered whole =
+      let found = found_in (Book v) h in
+      let obeys : IsDatabase (record { schema = old.now.schema; trees = w.trees }) = subst (λ t. IsDatabase (record { schema = old.now.schema; trees = t })) same (h.obeys (was_up (Book v) h)) in
+      subst IsFiled (sym same) (filed_by_store w old.now.schema (version_begins v old.now.schema found.schema_is) obeys listed ordered (subst HaveAllColumns same whole))
+
+  pub adopted : Settles mid → Stays mid → HasLooked old mid (Ok (Book version.Second)) IsFound → IsAdopted old.now (book_state old 0) (book_state mid 0)
+  adopted settled_after stays h =
       let up = h.up k in
-      let same = same_content (Ok None) h up in
-      let had = had_before (Ok None) h same.0 in
-      let after = h.seen.same k had up in
-      let found = h.seen.answer k had in
-      let made : IsFiled old.now.trees → (c : Content) × Encodes old.now.trees c × IsInRange c = λ filed. content_in old.now found (h.obeys same.0) filed in
-      let held : (c : (c : Content) × Encodes old.now.trees c × IsInRange c) → c.0 ≡ content_of new.committed.trees = λ c. sym (decoded old.now.trees c.0 c.1) ∙ sym (ap (λ (d : Database). content_of d.trees) after.committed) in
+      let same = same_content (Ok (Book version.Second)) h up in
+      let after = after_look (Book version.Second) h in
+      let found = found_in (Book version.Second) h in
+      let made : IsFiled old.now.trees → (c : Content) × Encodes old.now.trees c × IsInRange c = λ filed. let c = content_in version.Second old.now found (h.obeys same.0) filed in (c.0, second_encodes old.now.trees c.0 c.1, c.2) in
+      let held : (c : (c : Content) × Encodes old.now.trees c × IsInRange c) → c.0 ≡ content_of mid.committed.trees = λ c. sym (decoded old.now.trees c.0 c.1) ∙ sym (ap (λ (d : Database). content_of d.trees) after.committed) in
       record {
         was_open = same.0;
         live = up;
-        content = same.1;
-        stops = λ c stop. (stop.0, h.stops k stop.0 stop.1, stop.2);
-        keeps = λ c stop. (new.committed.trees, stays up, stop.2 ∙ ap content_of (settles stop.0 same.0 stop.1) ∙ sym same.1);
-        of_book = found;
+        of_book = (version.Second, found);
+        content = λ filed. same.1;
+        stops = λ filed c stop. (stop.0, h.stops k stop.0 stop.1, stop.2);
+        keeps = λ filed c stop. (mid.committed.trees, stays up, stop.2 ∙ ap content_of (settles stop.0 same.0 stop.1) ∙ sym same.1);
         filed = λ sound. let held = sound.stands same.0 in filed_in old.now.trees held.0 (subst (λ (d : Database). Encodes d.trees held.0) (sym held.1.idle) held.1.encodes);
         sound = λ filed. let c = made filed in record {
           stands = λ up. (c.0, record { is_open = up; idle = after.now ∙ sym after.committed; schema = ap (λ (d : Database). d.schema) after.committed ∙ found.schema_is; encodes = subst (λ (d : Database). Encodes d.trees c.0) (sym after.committed) c.1 });
@@ -75,25 +153,85 @@ module _ (old new : State) (settles : Settles old) (settled_after : Settles new)
         ordered = λ filed. let c = made filed in subst IsInOrder (held c) (stored_ordered old.now.trees c.0 c.1 c.2);
       }
 
-  -- the rows of a store that isn't broken rise
-  pub files : HasLooked old new (Ok None) IsFound → (v : View) → old.now.trees ≡ v.trees → IsListed (v.trees catalog_tree) v.shape v.reals → IsOrdered v.shape v.trees → HaveAllColumns old.now.trees → IsFiled old.now.trees
-  files h v same listed ordered whole =
-      let was = (same_content (Ok None) h (h.up k)).0 in
-      let found = h.seen.answer k (had_before (Ok None) h was) in
-      let obeys : IsDatabase (record { schema = old.now.schema; trees = v.trees }) = subst (λ t. IsDatabase (record { schema = old.now.schema; trees = t })) same (h.obeys was) in
-      subst IsFiled (sym same) (filed_by_store v old.now.schema found.schema_is obeys listed ordered (subst HaveAllColumns same whole))
+-- ---- and behind the migration
 
-  back : (r : Result (Option AdoptFault) Error) (f : AdoptFault) → HasLooked old new r IsFound → IsFaultOf old.now f → IsHandedBack old.now (book_state old 0) (book_state new 0) f
-  back r f h fault = record { sound = still_sound r h; same = same_content r h; stops = λ c stop. (stop.0, h.stops k stop.0 stop.1, stop.2); cause = fault }
+module _ (old mid new : State) (settles : Settles old) (stays : Stays old) (k : HasCleanDisk mid) (h : HasLooked old mid (Ok (Book version.First)) IsFound) where
+  first : IsOfBook version.First old.now
+  first = found_in old mid settles k (Book version.First) h
 
-  pub back_found : (f : AdoptFault) → HasLooked old new (Ok (Some f)) IsFound → IsHandedBack old.now (book_state old 0) (book_state new 0) f
-  back_found f h = back (Ok (Some f)) f h (h.seen.answer k (had_before (Ok (Some f)) h (h.seen.was_open k (h.up k))))
+  after : HasDatabase mid old.now
+  after = after_look old mid settles k (Book version.First) h
 
-  of_store : (f : AdoptFault) → IsStoreFault f → IsFaultOf old.now f
-  of_store (WrongVersion n) h = absurd h
-  of_store (BadRow t) h = absurd h
-  of_store NoMemory h = tt
-  of_store Store h = tt
+  was : IsTrue old.is_open
+  was = was_up old mid settles k (Book version.First) h
 
-  pub back_failed : (e : Error) (f : AdoptFault) → IsStoreFault f → HasLooked old new (Err e) IsFound → IsHandedBack old.now (book_state old 0) (book_state new 0) f
-  back_failed e f is h = back (Err e) f h (of_store f is)
+  pub schema_there : mid.now.schema ≡ old_schema
+  schema_there = ap (λ (d : Database). d.schema) after.now ∙ first.schema_is
+
+  -- the content that it held
+  made : IsFiled old.now.trees → (c : Content) × EncodesAs version.First old.now.trees c × IsInRange c
+  made filed = content_in version.First old.now first (h.obeys was) filed
+
+  held_before : (c : Content) → EncodesAs version.First old.now.trees c → content_of old.committed.trees ≡ c
+  held_before c is = ap (λ (d : Database). content_of d.trees) (sym (h.settled was)) ∙ decoded_as version.First old.now.trees c is
+
+  migrates : (db : Trees) → IsMigration mid.now.trees db → IsMigration old.now.trees db
+  migrates db m = subst (λ (d : Database). IsMigration d.trees db) after.now m
+
+  -- a migration has it too
+  same_there : (db : Trees) → IsMigration old.now.trees db → IsFiled old.now.trees → content_of db ≡ content_of old.committed.trees
+  same_there db m filed = let c = made filed in decoded db c.0 (migrated_encodes old.now.trees db c.0 c.1 m) ∙ sym (held_before c.0 c.1)
+
+  never_sound : IsSound old → ⊥
+  never_sound sound = let held = sound.stands was in apart_schemas (sym (ap (λ (d : Database). d.schema) held.1.idle ∙ held.1.schema) ∙ first.schema_is)
+
+  pub migrated : IsMade mid new → IsMade old new
+  migrated m = record { is_open = m.is_open; idle = m.idle; schema_is = m.schema_is; tables = migrates new.committed.trees m.tables }
+
+  pub may_migrate : MayAlter mid new → MayMigrate old new
+  may_migrate may db left = elim (may db left) [
+    | inl before ↦ inl (h.stops k db before)
+    | inr m ↦ inr (first.schema_is, migrates db m)
+  ]
+
+  within : MayAlter mid new → IsFiled old.now.trees → Within (book_state new 0).stops (book_state old 0).stops
+  within may filed c stop = elim (may stop.0 stop.1) [
+    | inl before ↦ (stop.0, h.stops k stop.0 before, stop.2)
+    | inr m ↦ (old.committed.trees, stays was, stop.2 ∙ same_there stop.0 (migrates stop.0 m) filed)
+  ]
+
+  pub not_whole : old.now.schema ≡ book_schema → ⊥
+  not_whole is = apart_schemas (sym is ∙ first.schema_is)
+
+  pub adopted_first : Settles new → Stays new → MayAlter mid new → IsMade mid new → IsAdopted old.now (book_state old 0) (book_state new 0)
+  adopted_first settled_after stays_after may m =
+      let moved = migrates new.committed.trees m.tables in
+      let whole : (c : (c : Content) × EncodesAs version.First old.now.trees c × IsInRange c) → Encodes new.committed.trees c.0 = λ c. migrated_encodes old.now.trees new.committed.trees c.0 c.1 moved in
+      let held : (c : (c : Content) × EncodesAs version.First old.now.trees c × IsInRange c) → c.0 ≡ content_of new.committed.trees = λ c. sym (decoded new.committed.trees c.0 (whole c)) in
+      record {
+        was_open = was;
+        live = m.is_open;
+        of_book = (version.First, first);
+        filed = λ sound. absurd (never_sound sound);
+        content = λ filed. same_there new.committed.trees moved filed;
+        stops = within may;
+        keeps = λ filed c stop. (new.committed.trees, stays_after m.is_open, stop.2 ∙ ap content_of (settles stop.0 was stop.1) ∙ sym (same_there new.committed.trees moved filed));
+        sound = λ filed. let c = made filed in record {
+          stands = λ up. (c.0, record { is_open = up; idle = m.idle; schema = m.schema_is; encodes = whole c });
+          left = λ db left. (c.0, subst (λ t. Encodes t c.0) (sym (settled_after db m.is_open left)) (whole c));
+        };
+        in_range = λ filed. let c = made filed in subst IsInRange (held c) c.2;
+        ordered = λ filed. let c = made filed in subst IsInOrder (held c) (stored_ordered new.committed.trees c.0 (whole c) c.2);
+      }
+
+  pub back_unmade : (f : AdoptFault) → IsStoreFault f → MayAlter mid new → (IsTrue new.is_open → IsRestored mid new) → IsHandedBack old.now (book_state old 0) (book_state new 0) f
+  back_unmade f is may restored = record {
+    sound = λ sound. absurd (never_sound sound);
+    same = λ up. (was, ap (λ (d : Database). content_of d.trees) ((restored up).committed ∙ after.committed ∙ h.settled was));
+    stops = within may;
+    cause = of_store old mid settles k f is;
+  }
+
+  pub not_alone : (f : AdoptFault) → IsStoreFault f → (old.now.schema ≢ old_schema) ⊎ (¬ (IsStoreFault f)) → IsUntouched old new
+  not_alone f is (inl other) = absurd (other first.schema_is)
+  not_alone f is (inr other) = absurd (other is)

@@ -15,7 +15,8 @@ use Rattle.acd_book.specs.State.{Reads, Commits}
 use Rattle.acd_book.specs.declared.fault.BookFault.{BookFault}
 use Rattle.acd_book.specs.declared.fault.BookFault.TheVariants.{NoMemory, Store}
 use Rattle.acd_sqlbook.specs.Commit.{written_by}
-use Rattle.acd_columns.specs.Content.{Encodes, meta_of}
+use Rattle.acd_columns.specs.Relations.{meta_of}
+use Rattle.acd_columns.specs.Content.{Encodes}
 use Rattle.acd_columns.specs.InTables.{content_of}
 use Rattle.acd_sqlbook.specs.Calls.{HasRead, HasCommitted, HasReplaced}
 use Rattle.acd_columns.specs.Draft.{Holds}

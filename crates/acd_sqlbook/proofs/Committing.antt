@@ -14,9 +14,8 @@ use Rattle.acd_model.specs.declared.moves.Change.TheVariants.{Nothing, PutGroup,
 use Rattle.acd_book.specs.Content.{Content, GoOn, Follows, committed, FollowsBy, committed_by, rows_by}
 use Rattle.acd_book.specs.declared.kept.Kept.{Kept}
 use Rattle.acd_columns.specs.declared.meta.Meta.{Meta}
-use Rattle.acd_columns.specs.Content.{meta_of, with_part}
-use Rattle.acd_columns.specs.declared.tables.Table.TheVariants as table
-use Rattle.acd_sqlbook.specs.Commit.{filed, all_filed, with_event, with_events, with_kept, made_by, top_call, top_monitor, last_call, last_monitor, counted}
+use Rattle.acd_columns.specs.Relations.{meta_of}
+use Rattle.acd_sqlbook.specs.Commit.{with_meta, filed, all_filed, with_event, with_events, with_kept, made_by, top_call, top_monitor, last_call, last_monitor, counted}
 use Rattle.acd_sqlbook.proofs.Filing.{next}
 
 -- ---- the counters stand apart
@@ -87,15 +86,15 @@ kept_is c k last low h = ap (λ l. record c { kept = l }) (put_last (λ (x : Kep
 -- the writes add the events and the kept record behind the others, and make the changes
 written_are : (changes : List Change) (events : List Event) (kept : Kept) (m : Meta) (rows : Rows) (c : Content) → Follows rows events kept c
     → made_by changes events kept m c
-    ≡ with_part table.Meta m (record { rows = at (changed_by c.rows changes) c.rows.last_call c.rows.last_monitor; events = c.events ++ events; kept = c.kept ++ kept ∷ [] })
+    ≡ with_meta m (record { rows = at (changed_by c.rows changes) c.rows.last_call c.rows.last_monitor; events = c.events ++ events; kept = c.kept ++ kept ∷ [] })
 written_are changes events kept m rows c follows =
     let tables = at (changed_by c.rows changes) c.rows.last_call c.rows.last_monitor in
     let d : Content = record c { rows = tables } in
     let e : Content = record d { events = c.events ++ events } in
     let stamp = follows.next in
-    ap (λ (x : Content). with_part table.Meta m (with_kept (with_events x events) kept)) (filed_is c changes)
-    ∙ ap (λ (x : Content). with_part table.Meta m (with_kept x kept)) (events_are c.rows.last_event d events follows.numbers follows.counted.events)
-    ∙ ap (λ (x : Content). with_part table.Meta m x) (kept_is e kept c.rows.last_stamp (omega arith) follows.counted.kept)
+    ap (λ (x : Content). with_meta m (with_kept (with_events x events) kept)) (filed_is c changes)
+    ∙ ap (λ (x : Content). with_meta m (with_kept x kept)) (events_are c.rows.last_event d events follows.numbers follows.counted.events)
+    ∙ ap (λ (x : Content). with_meta m x) (kept_is e kept c.rows.last_stamp (omega arith) follows.counted.kept)
 
 -- with the counters of what is to be made, the writes make it
 made_is : (changes : List Change) (events : List Event) (kept : Kept) (c : Content) → FollowsBy changes events kept c

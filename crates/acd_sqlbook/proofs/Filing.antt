@@ -11,13 +11,16 @@ use Rattle.acd_terms.specs.declared.record.CallRecord.{CallRecord}
 use Rattle.acd_terms.specs.declared.record.ConnectionRecord.{ConnectionRecord}
 use Rattle.acd_terms.specs.declared.record.MonitorRecord.{MonitorRecord}
 use Rattle.acd_terms.specs.declared.event.Event.{Event}
-use Rattle.acd_model.specs.Scans.{at_group, at_station, at_agent, at_call, at_connection, at_monitor}
+use Rattle.acd_model.specs.Scans.{at_connection}
 use Rattle.acd_model.specs.Writes.{with_group, with_station, with_agent, with_call, with_connection, with_monitor, without_call, without_connection, without_monitor}
 use Rattle.acd_model.specs.declared.moves.Change.{Change}
 use Rattle.acd_model.specs.declared.moves.Change.TheVariants.{PutGroup, PutStation, PutAgent, PutCall, PutConnection, PutMonitor, RemoveCall, RemoveConnection, RemoveMonitor}
 use Rattle.acd_book.specs.Content.{Content}
 use Rattle.acd_columns.specs.declared.tables.Table.TheVariants as table
+use Rattle.acd_columns.specs.Relations.{Relations, relations_of}
 use Rattle.acd_columns.specs.Content.{with_part}
+use Rattle.acd_columns.specs.Tables.{groups, stations, agents, calls, monitors}
+use Rattle.acd_statements.specs.Writing.{with_put, without}
 use Rattle.acd_columns.specs.Draft.{Drafts}
 use Rattle.acd_sqlbook.specs.Commit.{filed, with_event, with_events}
 
@@ -41,43 +44,48 @@ events_next = next with_events with_event (λ c. refl) (λ c x xs. refl)
 
 -- ---- one change, as its statement makes it
 
-pub filing : (old new : State) (r : Result (Unit {0}) Error) (change v : Change) (made : Content → Content) → change ≡ v → ((c : Content) → made c ≡ filed c v)
-    → OnOk r ((c : Content) → Drafts old c → Drafts new (made c)) → OnOk r ((c : Content) → Drafts old c → Drafts new (filed c change))
-filing old new (Err e) change v made is same put = tt
-filing old new (Ok x) change v made is same put = λ (c : Content) (d : Drafts old c). subst (Drafts new) (same c ∙ ap (filed c) (sym is)) (put c d)
+-- what a statement makes of the relations of a content
+pub leaving : (old new : State) (r : Result (Unit {0}) Error) (made : Relations → Relations) (after : Content → Content) → ((c : Content) → made (relations_of c) ≡ relations_of (after c))
+    → OnOk r ((x : Relations) → Drafts old x → Drafts new (made x)) → OnOk r ((c : Content) → Drafts old (relations_of c) → Drafts new (relations_of (after c)))
+leaving old new (Err e) made after same put = tt
+leaving old new (Ok x) made after same put = λ (c : Content) (d : Drafts old (relations_of c)). subst (Drafts new) (same c) (put (relations_of c) d)
 
-pub group_filed : (g : GroupRecord) (c : Content) → with_part table.Groups (put_by (at_group g.device) c.rows.groups g) c ≡ filed c (PutGroup g)
+pub filing : (old new : State) (r : Result (Unit {0}) Error) (change v : Change) (made : Relations → Relations) → change ≡ v → ((c : Content) → made (relations_of c) ≡ relations_of (filed c v))
+    → OnOk r ((x : Relations) → Drafts old x → Drafts new (made x)) → OnOk r ((c : Content) → Drafts old (relations_of c) → Drafts new (relations_of (filed c change)))
+filing old new r change v made is same = leaving old new r made (λ c. filed c change) (λ c. same c ∙ ap (λ w. relations_of (filed c w)) (sym is))
+
+pub group_filed : (g : GroupRecord) (c : Content) → with_put groups g (relations_of c) ≡ relations_of (filed c (PutGroup g))
 unfolding with_group
 group_filed g c = refl
 
-pub station_filed : (s : StationRecord) (c : Content) → with_part table.Stations (put_by (at_station s.device) c.rows.stations s) c ≡ filed c (PutStation s)
+pub station_filed : (s : StationRecord) (c : Content) → with_put stations s (relations_of c) ≡ relations_of (filed c (PutStation s))
 unfolding with_station
 station_filed s c = refl
 
-pub agent_filed : (a : AgentRecord) (c : Content) → with_part table.Agents (put_by (at_agent a.agent) c.rows.agents a) c ≡ filed c (PutAgent a)
+pub agent_filed : (a : AgentRecord) (c : Content) → with_put agents a (relations_of c) ≡ relations_of (filed c (PutAgent a))
 unfolding with_agent
 agent_filed a c = refl
 
-pub call_filed : (k : CallRecord) (c : Content) → with_part table.Calls (put_by (at_call k.call) c.rows.calls k) c ≡ filed c (PutCall k)
+pub call_filed : (k : CallRecord) (c : Content) → with_put calls k (relations_of c) ≡ relations_of (filed c (PutCall k))
 unfolding with_call
 call_filed k c = refl
 
-pub connection_filed : (x : ConnectionRecord) (c : Content) → with_part table.Connections (put_by (at_connection x.call x.device) c.rows.connections x) c ≡ filed c (PutConnection x)
+pub connection_filed : (x : ConnectionRecord) (c : Content) → with_part table.Connections (put_by (at_connection x.call x.device) c.rows.connections x) (relations_of c) ≡ relations_of (filed c (PutConnection x))
 unfolding with_connection
 connection_filed x c = refl
 
-pub monitor_filed : (w : MonitorRecord) (c : Content) → with_part table.Monitors (put_by (at_monitor w.monitor) c.rows.monitors w) c ≡ filed c (PutMonitor w)
+pub monitor_filed : (w : MonitorRecord) (c : Content) → with_put monitors w (relations_of c) ≡ relations_of (filed c (PutMonitor w))
 unfolding with_monitor
 monitor_filed w c = refl
 
-pub call_gone : (n : ℕ) (c : Content) → with_part table.Calls (remove_by (at_call n) c.rows.calls) c ≡ filed c (RemoveCall n)
+pub call_gone : (n : ℕ) (c : Content) → without calls n (relations_of c) ≡ relations_of (filed c (RemoveCall n))
 unfolding without_call
 call_gone n c = refl
 
-pub monitor_gone : (n : ℕ) (c : Content) → with_part table.Monitors (remove_by (at_monitor n) c.rows.monitors) c ≡ filed c (RemoveMonitor n)
+pub monitor_gone : (n : ℕ) (c : Content) → without monitors n (relations_of c) ≡ relations_of (filed c (RemoveMonitor n))
 unfolding without_monitor
 monitor_gone n c = refl
 
-pub connection_gone : (n d : ℕ) (c : Content) → with_part table.Connections (remove_by (at_connection n d) c.rows.connections) c ≡ filed c (RemoveConnection n d)
+pub connection_gone : (n d : ℕ) (c : Content) → with_part table.Connections (remove_by (at_connection n d) c.rows.connections) (relations_of c) ≡ relations_of (filed c (RemoveConnection n d))
 unfolding without_connection
 connection_gone n d c = refl

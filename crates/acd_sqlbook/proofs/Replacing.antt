@@ -16,7 +16,7 @@ use Rattle.acd_columns.specs.declared.meta.Meta.{Meta}
 use Rattle.acd_columns.specs.declared.tables.Table.TheVariants as table
 use Rattle.acd_sqlbook.specs.Calls.{HasRead, HasReplaced}
 use Rattle.acd_sqlbook.specs.Commit.{made_by}
-use Rattle.acd_columns.specs.Content.{meta_of}
+use Rattle.acd_columns.specs.Relations.{meta_of}
 use Rattle.acd_columns.specs.Draft.{Holds, AddsStop}
 use Rattle.acd_differences.specs.Transition.{HasTables}
 use Rattle.acd_sqlbook.proofs.Committing.{rows_made}

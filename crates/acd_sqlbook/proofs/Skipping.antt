@@ -15,6 +15,7 @@ use Rattle.acd_laws.proofs.Keyed.{Keyed, others_left}
 use Rattle.acd_laws.proofs.State.{by_connection}
 use Rattle.acd_book.specs.Content.{Content}
 use Rattle.acd_columns.specs.declared.tables.Table.TheVariants as table
+use Rattle.acd_columns.specs.Relations.{relations_of}
 use Rattle.acd_columns.specs.Draft.{Drafts}
 use Rattle.acd_sqlbook.specs.Commit.{filed, all_filed}
 
@@ -46,10 +47,10 @@ in_vain first second x call device is_put is_gone same_call same_device c up =
 -- the one that is written next, and the last of them
 pub next_filed : (old new : State) (first : Change) (rest behind changes : List Change) (c : Content)
     → ((x : Content) → IsAscending connection_order x.rows.connections → all_filed x rest ≡ all_filed (filed x first) behind)
-    → ((x : Content) → Drafts old x → Drafts new (filed x first))
-    → (x : Content) × Drafts old x × (all_filed x rest ≡ all_filed c changes) → (x : Content) × Drafts new x × (all_filed x behind ≡ all_filed c changes)
+    → ((x : Content) → Drafts old (relations_of x) → Drafts new (relations_of (filed x first)))
+    → (x : Content) × Drafts old (relations_of x) × (all_filed x rest ≡ all_filed c changes) → (x : Content) × Drafts new (relations_of x) × (all_filed x behind ≡ all_filed c changes)
 next_filed old new first rest behind changes c step put held =
-    (filed held.0 first, put held.0 held.1, sym (step held.0 (held.1.encodes table.Connections).ascending) ∙ held.2)
+    (filed held.0 first, put held.0 held.1, sym (step held.0 (held.1.tables table.Connections).ascending) ∙ held.2)
 
-pub none_left : (s : State) (rest changes : List Change) (c : Content) → rest ≡ [] → (x : Content) × Drafts s x × (all_filed x rest ≡ all_filed c changes) → Drafts s (all_filed c changes)
-none_left s rest changes c none held = subst (Drafts s) (ap (all_filed held.0) (sym none) ∙ held.2) held.1
+pub none_left : (s : State) (rest changes : List Change) (c : Content) → rest ≡ [] → (x : Content) × Drafts s (relations_of x) × (all_filed x rest ≡ all_filed c changes) → Drafts s (relations_of (all_filed c changes))
+none_left s rest changes c none held = subst (λ x. Drafts s (relations_of x)) (ap (all_filed held.0) (sym none) ∙ held.2) held.1

@@ -8,7 +8,8 @@ use Rattle.acd_book.specs.Content.{Content}
 use Rattle.acd_book.specs.declared.kept.Kept.{Kept}
 use Rattle.acd_columns.specs.declared.meta.Meta.{Meta}
 use Rattle.acd_sqlbook.specs.Commit.{counted, made_by, written_by}
-use Rattle.acd_columns.specs.Content.{Encodes, meta_of}
+use Rattle.acd_columns.specs.Relations.{meta_of}
+use Rattle.acd_columns.specs.Content.{Encodes}
 use Rattle.acd_sqlbook.specs.Calls.{HasRead, HasCommitted}
 use Rattle.acd_columns.specs.Draft.{Holds, Quiet, NoStop, AddsStop}
 use Rattle.acd_columns.specs.Finding.{Finds}

@@ -1,5 +1,6 @@
 -- What a connection is as a book, behind the look at it.
-use Rattle.std.specs.Prelude.{◌≡◌, IsTrue}
+use Rattle.std.specs.Prelude.{◌≡◌, ◌⊎◌, IsTrue}
+use Rattle.sqlite_trees.specs.Tree.{Trees}
 use Rattle.sqlite.specs.Effect.{Database}
 use Rattle.sqlite.specs.State.{State}
 use Rattle.acd_book.specs.Content.{Within}
@@ -9,6 +10,9 @@ use Rattle.acd_schema.specs.declared.fault.AdoptFault.{AdoptFault}
 use Rattle.acd_columns.specs.Draft.{NoStop}
 use Rattle.acd_columns.specs.AnyRows.{IsFiled}
 use Rattle.acd_columns.specs.Seeing.{HasDatabase}
+use Rattle.acd_columns.specs.declared.tables.Version.{Version}
+use Rattle.acd_columns.specs.Schema.{old_schema}
+use Rattle.acd_schema.specs.Migrating.{IsMigration}
 use Rattle.acd_schema.specs.Inspecting.{IsFaultOf, IsOfBook, IsInRange}
 
 -- nothing is changed, in tables of a book or of anything else: no stop is new and, while the connection is open, its database is the one that it was
@@ -16,22 +20,26 @@ pub record IsUntouched (old new : State) : Type 0 where
   pub same : IsTrue new.is_open → HasDatabase new old.now
   pub stops : NoStop old new
 
--- a book of a connection over this database: it holds what the connection held, and has the stops that it had
+-- a crash leaves what it left before or, of version 1, its migration
+abbrev pub MayMigrate : State → State → Type 0
+MayMigrate old new = (db : Trees) → new.may_leave db → old.may_leave db ⊎ ((old.now.schema ≡ old_schema) × IsMigration old.now.trees db)
+
+-- A book of a connection over this database, of either version: it holds what the connection held, and has the stops that it had, where the rows are filed.
 pub record IsAdopted (d : Database) (old new : BookState) : Type 0 where
   pub was_open : old.is_open
   pub live : new.is_open
-  pub content : new.content ≡ old.content
-  pub stops : Within new.stops old.stops
-  pub keeps : Within old.stops new.stops
-  pub of_book : IsOfBook d
+  pub of_book : (v : Version) × IsOfBook v d
   pub filed : old.is_sound → IsFiled d.trees
+  pub content : IsFiled d.trees → new.content ≡ old.content
+  pub stops : IsFiled d.trees → Within new.stops old.stops
+  pub keeps : IsFiled d.trees → Within old.stops new.stops
   pub sound : IsFiled d.trees → new.is_sound
   pub in_range : IsFiled d.trees → IsInRange new.content
   pub ordered : IsFiled d.trees → IsOrdered new.content
 
--- a connection that is handed back: no stop is new, and while it is open it holds what it held
+-- a connection that is handed back: no stop is new and, while it is open, it holds what it held
 pub record IsHandedBack (d : Database) (old new : BookState) (fault : AdoptFault) : Type 0 where
   pub sound : old.is_sound → new.is_sound
   pub same : new.is_open → old.is_open × (new.content ≡ old.content)
-  pub stops : Within new.stops old.stops
+  pub stops : IsFiled d.trees → Within new.stops old.stops
   pub cause : IsFaultOf d fault

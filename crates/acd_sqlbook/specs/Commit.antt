@@ -9,9 +9,8 @@ use Rattle.acd_model.specs.declared.moves.Change.{Change}
 use Rattle.acd_model.specs.declared.moves.Change.TheVariants.{Nothing, PutGroup, PutStation, PutAgent, PutCall, PutConnection, PutMonitor, RemoveCall, RemoveConnection, RemoveMonitor}
 use Rattle.acd_book.specs.Content.{Content}
 use Rattle.acd_book.specs.declared.kept.Kept.{Kept}
-use Rattle.acd_columns.specs.declared.tables.Table.TheVariants as table
 use Rattle.acd_columns.specs.declared.meta.Meta.{Meta}
-use Rattle.acd_columns.specs.Content.{meta_of, with_part}
+use Rattle.acd_columns.specs.Relations.{meta_of}
 use Rattle.acd_columns.specs.Draft.{Fits, FiguresFit}
 
 -- its numbers fit
@@ -39,18 +38,30 @@ all_filed c [] = c
 all_filed c (change ∷ changes) = all_filed (filed c change) changes
 
 abbrev pub with_event : Content → Event → Content
-with_event c e = with_part table.Events (put_by (λ (x : Event). nat_cmp e.number x.number) c.events e) c
+with_event c e = record c { events = put_by (λ (x : Event). nat_cmp e.number x.number) c.events e }
 
 abbrev pub with_events : Content → List Event → Content
 with_events c [] = c
 with_events c (e ∷ es) = with_events (with_event c e) es
 
 abbrev pub with_kept : Content → Kept → Content
-with_kept c k = with_part table.Kept (put_by (λ (x : Kept). nat_cmp k.stamp x.stamp) c.kept k) c
+with_kept c k = record c { kept = put_by (λ (x : Kept). nat_cmp k.stamp x.stamp) c.kept k }
+
+abbrev pub with_meta : Meta → Content → Content
+with_meta m c = record c {
+  rows = record c.rows {
+    limits = m.limits;
+    last_stamp = m.last_stamp;
+    last_moment = m.last_moment;
+    last_call = m.last_call;
+    last_monitor = m.last_monitor;
+    last_event = m.last_event;
+  };
+}
 
 -- the changes, the events, the kept record, and last the counters
 abbrev pub made_by : List Change → List Event → Kept → Meta → Content → Content
-made_by changes events kept meta c = with_part table.Meta meta (with_kept (with_events (all_filed c changes) events) kept)
+made_by changes events kept meta c = with_meta meta (with_kept (with_events (all_filed c changes) events) kept)
 
 -- ---- the counters of a commit
 

@@ -1,44 +1,61 @@
-//! Takes a connection over a book of version 1, where each value is in its range.
+//! Takes a connection over a book where each value is in its range, and makes version 2 of one of version 1.
 
-ghost use Rattle.std.specs.Prelude.{◌≡◌, false, IfOk, IfErr};
+ghost use Rattle.std.specs.Prelude.{◌≡◌, ◌≢◌, ◌⊎◌, false, IfOk, IfErr};
 ghost use Rattle.sqlite.specs.State.{HasCleanDisk};
 ghost use Rattle.sqlite.specs.Held.{state};
 ghost use Rattle.acd_columns.specs.AnyRows.{HaveAllColumns, IsFiled};
-ghost use Rattle.acd_sqlbook.specs.Adopting.{IsAdopted, IsHandedBack, IsUntouched};
+ghost use Rattle.acd_columns.specs.Schema.{old_schema, book_schema};
+ghost use Rattle.acd_schema.specs.Inspecting.{IsStoreFault};
+ghost use Rattle.acd_schema.specs.Migrating.{IsMade};
+ghost use Rattle.acd_sqlbook.specs.Adopting.{IsAdopted, IsHandedBack, IsUntouched, MayMigrate};
 ghost use Rattle.acd_sqlbook.specs.State.{book_state};
 
 use crate::book::SqlBook;
-use acd_schema::{AdoptFault, fault_of, look_over};
+use acd_columns::Version;
+use acd_schema::{AdoptFault, Found, fault_of, look_over, migrate};
 use sqlite::{Alter, Connection};
 use std::alloc::Global;
 
 impl<S: Alter> SqlBook<S> {
-    /// Takes a connection over a book of version 1, whose values it looks at.
+    /// Takes a connection over a book, whose values it looks at, all of them before anything is written.
     ///
-    /// It changes nothing. The connection is handed back beside a fault.
+    /// Tables of version 1 become those of version 2, in one transaction; of those of version 2 nothing is changed. The
+    /// connection is handed back beside a fault: after [`AdoptFault::WrongVersion`] and [`AdoptFault::BadRow`] it is as it was.
     pub fn adopt(
         alloc: Global,
         mut conn: Connection<S>,
     ) -> Result<SqlBook<S>, (AdoptFault, Connection<S>)>
         requires { conn.in_transaction ≡ false }
         ensures adopted { IfOk result (λ b. HasCleanDisk (state S.Store b.conn) → IsAdopted (state S.Store conn).now (book_state (state S.Store conn) 0) (book_state (state S.Store b.conn) b.failures)) }
-        ensures untouched { IfOk result (λ b. HasCleanDisk (state S.Store b.conn) → IsUntouched (state S.Store conn) (state S.Store b.conn)) }
+        ensures untouched { IfOk result (λ b. HasCleanDisk (state S.Store b.conn) → (state S.Store conn).now.schema ≡ book_schema → IsUntouched (state S.Store conn) (state S.Store b.conn)) }
+        ensures migrated { IfOk result (λ b. HasCleanDisk (state S.Store b.conn) → (state S.Store conn).now.schema ≡ old_schema → IsMade (state S.Store conn) (state S.Store b.conn)) }
+        ensures leaves { IfOk result (λ b. HasCleanDisk (state S.Store b.conn) → MayMigrate (state S.Store conn) (state S.Store b.conn)) }
         ensures filed { IfOk result (λ b. HasCleanDisk (state S.Store b.conn) → (S.Store.view conn.store).is_broken ≡ false → HaveAllColumns (state S.Store conn).now.trees → IsFiled (state S.Store conn).now.trees) }
         ensures counted { IfOk result (λ b. b.failures ≡ 0) }
         ensures clean { IfOk result (λ b. HasCleanDisk (state S.Store b.conn) → HasCleanDisk (state S.Store conn)) }
         ensures idle { IfErr result (λ e. e.1.in_transaction ≡ false) }
         ensures doubted { IfErr result (λ e. HasCleanDisk (state S.Store e.1) → HasCleanDisk (state S.Store conn)) }
         ensures handed_back { IfErr result (λ e. HasCleanDisk (state S.Store e.1) → IsHandedBack (state S.Store conn).now (book_state (state S.Store conn) 0) (book_state (state S.Store e.1) 0) e.0) }
-        ensures left_alone { IfErr result (λ e. HasCleanDisk (state S.Store e.1) → IsUntouched (state S.Store conn) (state S.Store e.1)) }
+        ensures left_alone { IfErr result (λ e. HasCleanDisk (state S.Store e.1) → ((state S.Store conn).now.schema ≢ old_schema) ⊎ (¬ (IsStoreFault e.0)) → IsUntouched (state S.Store conn) (state S.Store e.1)) }
+        ensures leaves_refused { IfErr result (λ e. HasCleanDisk (state S.Store e.1) → MayMigrate (state S.Store conn) (state S.Store e.1)) }
     {
         match look_over(alloc, &mut conn) {
-            Ok(None) => Ok(SqlBook {
+            Ok(Found::Book(Version::Second)) => Ok(SqlBook {
                 alloc,
                 conn,
                 fresh: true,
                 failures: 0,
             }),
-            Ok(Some(fault)) => Err((fault, conn)),
+            Ok(Found::Book(Version::First)) => match migrate(&mut conn) {
+                Ok(()) => Ok(SqlBook {
+                    alloc,
+                    conn,
+                    fresh: true,
+                    failures: 0,
+                }),
+                Err(error) => Err((fault_of(error), conn)),
+            },
+            Ok(Found::Fault(fault)) => Err((fault, conn)),
             Err(error) => Err((fault_of(error), conn)),
         }
     }

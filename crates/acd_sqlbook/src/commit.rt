@@ -9,18 +9,18 @@ ghost use Rattle.acd_model.specs.Rules.Plan.{connection_order};
 ghost use Rattle.acd_book.specs.Content.{Content};
 ghost use Rattle.acd_sqlbook.specs.Choosing.{puts_the_same, is_put_once, is_new};
 ghost use Rattle.acd_sqlbook.specs.Commit.{ChangeFits, EventFits, filed, all_filed, with_event, with_events, made_by, top_call, top_monitor, last_call, last_monitor, counted};
+ghost use Rattle.acd_columns.specs.Relations.{relations_of};
 ghost use Rattle.acd_columns.specs.Draft.{Drafts, Works, Holds, AddsStop, Fits, FiguresFit, MetaFits};
 
 use acd_book::Kept;
 use acd_columns::Meta;
 use acd_model::Change;
 use acd_statements::fitting::{fits, too_large};
+use acd_statements::put::{insert, put, remove};
 use acd_statements::write::{
-    drop_call, drop_connection, drop_monitor, insert_call, insert_connection, insert_event,
-    insert_kept, insert_station, put_agent, put_call, put_connection, put_group, put_monitor,
-    set_meta,
+    drop_connection, insert_connection, insert_kept, put_connection, set_meta,
 };
-use acd_terms::{Event, Figures};
+use acd_terms::{CallRecord, Event, Figures, MonitorRecord};
 use sqlite::{Alter, Connection, Error, Transaction};
 
 fn figures_fit(figures: &Figures) -> bool
@@ -74,21 +74,21 @@ fn make_change<S: Alter>(
     requires { ChangeFits change.now }
     ensures same { tx.new.conn.ghost_name ≡ tx.old.conn.ghost_name }
     ensures works { Works (state S.Store tx.old.conn.now) (state S.Store tx.new.conn.now) }
-    ensures put { HasCleanDisk (state S.Store tx.new.conn.now) → OnOk result ((c : Content) → Drafts (state S.Store tx.old.conn.now) c → Drafts (state S.Store tx.new.conn.now) (filed c change.now)) }
+    ensures put { HasCleanDisk (state S.Store tx.new.conn.now) → OnOk result ((c : Content) → Drafts (state S.Store tx.old.conn.now) (relations_of c) → Drafts (state S.Store tx.new.conn.now) (relations_of (filed c change.now))) }
 {
     match change {
         Change::Nothing => Ok(()),
-        Change::PutGroup(group) => put_group(tx, group),
-        Change::PutStation(station) => insert_station(tx, station),
-        Change::PutAgent(agent) => put_agent(tx, agent),
-        Change::PutCall(call) if is_new => insert_call(tx, call),
-        Change::PutCall(call) => put_call(tx, call),
+        Change::PutGroup(group) => put(tx, group),
+        Change::PutStation(station) => insert(tx, station),
+        Change::PutAgent(agent) => put(tx, agent),
+        Change::PutCall(call) if is_new => insert(tx, call),
+        Change::PutCall(call) => put(tx, call),
         Change::PutConnection(connection) if is_new => insert_connection(tx, connection),
         Change::PutConnection(connection) => put_connection(tx, connection),
-        Change::PutMonitor(monitor) => put_monitor(tx, monitor),
-        Change::RemoveCall(call) => drop_call(tx, *call),
+        Change::PutMonitor(monitor) => put(tx, monitor),
+        Change::RemoveCall(call) => remove::<CallRecord, S>(tx, *call),
         Change::RemoveConnection(call, device) => drop_connection(tx, *call, *device),
-        Change::RemoveMonitor(monitor) => drop_monitor(tx, *monitor),
+        Change::RemoveMonitor(monitor) => remove::<MonitorRecord, S>(tx, *monitor),
     }
 }
 
@@ -99,7 +99,7 @@ fn write_change<S: Alter>(
 ) -> Result<(), Error>
     ensures same { tx.new.conn.ghost_name ≡ tx.old.conn.ghost_name }
     ensures works { Works (state S.Store tx.old.conn.now) (state S.Store tx.new.conn.now) }
-    ensures put { HasCleanDisk (state S.Store tx.new.conn.now) → OnOk result ((c : Content) → Drafts (state S.Store tx.old.conn.now) c → Drafts (state S.Store tx.new.conn.now) (filed c change.now)) }
+    ensures put { HasCleanDisk (state S.Store tx.new.conn.now) → OnOk result ((c : Content) → Drafts (state S.Store tx.old.conn.now) (relations_of c) → Drafts (state S.Store tx.new.conn.now) (relations_of (filed c change.now))) }
 {
     if !change_fits(change) {
         return Err(too_large());
@@ -190,7 +190,7 @@ fn write_changes<S: Alter>(
 ) -> Result<(), Error>
     ensures same { tx.new.conn.ghost_name ≡ tx.old.conn.ghost_name }
     ensures works { Works (state S.Store tx.old.conn.now) (state S.Store tx.new.conn.now) }
-    ensures put { HasCleanDisk (state S.Store tx.new.conn.now) → OnOk result ((c : Content) → Drafts (state S.Store tx.old.conn.now) c → Drafts (state S.Store tx.new.conn.now) (all_filed c changes.now)) }
+    ensures put { HasCleanDisk (state S.Store tx.new.conn.now) → OnOk result ((c : Content) → Drafts (state S.Store tx.old.conn.now) (relations_of c) → Drafts (state S.Store tx.new.conn.now) (relations_of (all_filed c changes.now))) }
 {
     let mut rest = changes;
     while let Some((change, behind)) = next_written(rest) {
@@ -203,18 +203,18 @@ fn write_changes<S: Alter>(
 fn write_event<S: Alter>(tx: &mut Transaction<'_, S>, event: &Event) -> Result<(), Error>
     ensures same { tx.new.conn.ghost_name ≡ tx.old.conn.ghost_name }
     ensures works { Works (state S.Store tx.old.conn.now) (state S.Store tx.new.conn.now) }
-    ensures put { HasCleanDisk (state S.Store tx.new.conn.now) → OnOk result ((c : Content) → Drafts (state S.Store tx.old.conn.now) c → Drafts (state S.Store tx.new.conn.now) (with_event c event.now)) }
+    ensures put { HasCleanDisk (state S.Store tx.new.conn.now) → OnOk result ((c : Content) → Drafts (state S.Store tx.old.conn.now) (relations_of c) → Drafts (state S.Store tx.new.conn.now) (relations_of (with_event c event.now))) }
 {
     if !event_fits(event) {
         return Err(too_large());
     }
-    insert_event(tx, event)
+    insert(tx, event)
 }
 
 fn write_events<S: Alter>(tx: &mut Transaction<'_, S>, events: &[Event]) -> Result<(), Error>
     ensures same { tx.new.conn.ghost_name ≡ tx.old.conn.ghost_name }
     ensures works { Works (state S.Store tx.old.conn.now) (state S.Store tx.new.conn.now) }
-    ensures put { HasCleanDisk (state S.Store tx.new.conn.now) → OnOk result ((c : Content) → Drafts (state S.Store tx.old.conn.now) c → Drafts (state S.Store tx.new.conn.now) (with_events c events.now)) }
+    ensures put { HasCleanDisk (state S.Store tx.new.conn.now) → OnOk result ((c : Content) → Drafts (state S.Store tx.old.conn.now) (relations_of c) → Drafts (state S.Store tx.new.conn.now) (relations_of (with_events c events.now))) }
 {
     for event in events {
         write_event(tx, event)?;
@@ -307,8 +307,8 @@ fn write_all<S: Alter>(
     requires meta { MetaFits meta.now }
     ensures same { tx.new.conn.ghost_name ≡ tx.old.conn.ghost_name }
     ensures works { Works (state S.Store tx.old.conn.now) (state S.Store tx.new.conn.now) }
-    ensures put { HasCleanDisk (state S.Store tx.new.conn.now) → OnOk result ((c : Content) → Drafts (state S.Store tx.old.conn.now) c
-        → Drafts (state S.Store tx.new.conn.now) (made_by changes.now events.now kept.now meta.now c)) }
+    ensures put { HasCleanDisk (state S.Store tx.new.conn.now) → OnOk result ((c : Content) → Drafts (state S.Store tx.old.conn.now) (relations_of c)
+        → Drafts (state S.Store tx.new.conn.now) (relations_of (made_by changes.now events.now kept.now meta.now c))) }
 {
     write_changes(tx, last, changes)?;
     write_events(tx, events)?;

@@ -7,7 +7,7 @@ ghost use Rattle.sqlite.specs.Held.{state};
 ghost use Rattle.acd_book.specs.Content.{IsKeptAfter, events_behind, events_of_monitor, kept_of};
 ghost use Rattle.acd_sqlbook.specs.Calls.{HasRead, HasCommitted};
 ghost use Rattle.acd_sqlbook.specs.Commit.{counted, written_by};
-ghost use Rattle.acd_columns.specs.Content.{meta_of};
+ghost use Rattle.acd_columns.specs.Relations.{meta_of};
 ghost use Rattle.acd_columns.specs.Draft.{Quiet, NoStop, Fits, LimitsFit, MetaFits};
 
 use crate::commit::{commit_all, counted};

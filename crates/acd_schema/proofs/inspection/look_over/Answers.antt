@@ -13,5 +13,5 @@ returns-in_err-probe-clause-looked g c =
 
 pub returns-clause-looked : goal.returns-clause-looked
 returns-clause-looked g c =
-    looked (state g.S.Store c.args.conn.now) (state g.S.Store c.probe.new.conn) (state g.S.Store c.fault_in.new.conn) c.fault_in.result (λ d f. IsFound d f) (c.in_ok-probe.ensures.seen (state g.S.Store c.args.conn.now).now) c.in_ok-probe.ensures.up c.probe.ensures.stops (c.is_autocommit-settled.ensures.settled (was_idle c.args.conn.now.in_transaction c.is_autocommit-settled.result c.requires c.is_autocommit-settled.ensures.value)) (λ up. (c.schema-obeyed.ensures.live up).0)
-    c.fault_in.ensures.seen
+    looked (state g.S.Store c.args.conn.now) (state g.S.Store c.probe.new.conn) (state g.S.Store c.found_in.new.conn) c.found_in.result (λ d f. IsFound d f) (c.in_ok-probe.ensures.seen (state g.S.Store c.args.conn.now).now) c.in_ok-probe.ensures.up c.probe.ensures.stops (c.is_autocommit-settled.ensures.settled (was_idle c.args.conn.now.in_transaction c.is_autocommit-settled.result c.requires c.is_autocommit-settled.ensures.value)) (λ up. (c.schema-obeyed.ensures.live up).0)
+    c.found_in.ensures.seen

@@ -4,6 +4,7 @@ use Rattle.sqlite.specs.Held.{state}
 use Rattle.acd_book.specs.Content.{Content}
 use Rattle.acd_sqlbook.specs.Commit.{made_by}
 use Rattle.acd_columns.specs.Draft.{Holds, Drafts, AddsStop}
+use Rattle.acd_columns.specs.Relations.{relations_of}
 use Rattle.acd_columns.proofs.Endings.{not_committed, begins, made_whole, adds_stop}
 use Rattle.acd_sqlbook.proofs.commit.commit_all.Goals as goal
 
@@ -17,7 +18,7 @@ returns-clause-done g c clean =
     let begun = c.transaction-tx.ensures.begun in
     let middle : HasCleanDisk mid = omega (arith, c.commit.ensures.survives.clean) in
     let made = made_by c.args.changes.now c.args.events.now c.args.kept.now c.args.meta.now in
-    let put : (x : Content) → Holds old x → Drafts mid (made x) =
+    let put : (x : Content) → Holds old x → Drafts mid (relations_of (made x)) =
     λ (x : Content) (h : Holds old x). (rw begun at c.in_ok-write_all.ensures.put) middle x (begins old (state g.S.Store (record c.args.conn.now { in_transaction = true })) x refl refl h) in
     subst (λ h. OnOk c.commit.result ((x : Content) → Holds old x → Holds (state g.S.Store h) (made x))) same
     (made_whole old mid (state g.S.Store end) c.commit.result made put (c.commit.ensures.ok late))
@@ -49,7 +50,7 @@ returns-clause-stops g c clean =
     let begun = c.transaction-tx.ensures.begun in
     let middle : HasCleanDisk mid = omega (arith, c.commit.ensures.survives.clean) in
     let made = made_by c.args.changes.now c.args.events.now c.args.kept.now c.args.meta.now in
-    let put : (x : Content) → Holds old x → Drafts mid (made x) =
+    let put : (x : Content) → Holds old x → Drafts mid (relations_of (made x)) =
     λ (x : Content) (h : Holds old x). (rw begun at c.in_ok-write_all.ensures.put) middle x (begins old begun-state x refl refl h) in
     subst (λ h. AddsStop old (state g.S.Store h) made) same
     (adds_stop old begun-state mid (state g.S.Store end) made (λ db left. left) (rw begun at c.write_all.ensures.works).survives c.commit.ensures.survives put middle late)

@@ -2,6 +2,7 @@ use Rattle.std.proofs.Common.{sym, subst, ◌∙◌, arith}
 use Rattle.sqlite.specs.State.{HasCleanDisk}
 use Rattle.sqlite.specs.Held.{state}
 use Rattle.acd_sqlbook.specs.Commit.{with_events}
+use Rattle.acd_columns.specs.Relations.{relations_of}
 use Rattle.acd_columns.specs.Draft.{Drafts}
 use Rattle.acd_columns.proofs.Endings.{works_on}
 use Rattle.acd_sqlbook.proofs.Filing.{events_next, all_taken}
@@ -16,10 +17,10 @@ loop-event-preserved g c =
       works = works_on _ _ _ inv.works e.works;
       put = λ clean x d.
           let before : HasCleanDisk (state g.S.Store c.loop-event.tx.conn.now) = omega (arith, e.works.survives.clean) in
-          subst (Drafts (state g.S.Store c.write_event.new.tx.conn.now)) (sym (events_next x c.loop-event.event-index c.args.events.now _ _ c.event-item.is c.loop-event-test.true))
+          subst (λ k. Drafts (state g.S.Store c.write_event.new.tx.conn.now) (relations_of k)) (sym (events_next x c.loop-event.event-index c.args.events.now _ _ c.event-item.is c.loop-event-test.true))
           (c.in_ok-write_event.ensures.put clean _ (inv.put before x d));
     }
 
 pub returns-clause-put : goal.returns-clause-put
 returns-clause-put g c clean x d =
-    subst (λ l. Drafts (state g.S.Store c.loop-event.tx.conn.now) (with_events x l)) (all_taken c.loop-event.event-index c.args.events.now c.loop-event-test.false) (c.loop-event.invariant.put clean x d)
+    subst (λ l. Drafts (state g.S.Store c.loop-event.tx.conn.now) (relations_of (with_events x l))) (all_taken c.loop-event.event-index c.args.events.now c.loop-event-test.false) (c.loop-event.invariant.put clean x d)

@@ -1,7 +1,7 @@
 use Rattle.std.proofs.Common.{◌≡◌, ℕ, length}
 use Rattle.sqlite.specs.Held.{state}
 use Rattle.acd_sqlbook.specs.Commit.{counted, written_by}
-use Rattle.acd_columns.specs.Content.{meta_of}
+use Rattle.acd_columns.specs.Relations.{meta_of}
 use Rattle.acd_columns.specs.declared.meta.Meta.{Meta}
 use Rattle.acd_sqlbook.proofs.Standing.{commits_not, commits_counted}
 use Rattle.acd_sqlbook.proofs.ready.commit_ready.Goals as goal

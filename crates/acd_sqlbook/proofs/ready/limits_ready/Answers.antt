@@ -1,7 +1,7 @@
 use Rattle.std.proofs.Common.{◌≡◌, Ok, ap}
 use Rattle.sqlite.specs.Held.{state}
 use Rattle.acd_sqlbook.proofs.Standing.{reads_on}
-use Rattle.acd_columns.specs.Content.{meta_of}
+use Rattle.acd_columns.specs.Relations.{meta_of}
 use Rattle.acd_sqlbook.proofs.ready.limits_ready.Goals as goal
 
 pub returns-in-Ok-clause-read : goal.returns-in-Ok-clause-read

@@ -1,6 +1,6 @@
 use Rattle.std.proofs.Common.{◌≡◌}
 use Rattle.sqlite.specs.Held.{state}
-use Rattle.acd_columns.specs.Content.{meta_of}
+use Rattle.acd_columns.specs.Relations.{meta_of}
 use Rattle.acd_sqlbook.proofs.Standing.{reads_behind}
 use Rattle.acd_sqlbook.proofs.ready.meta_ready.Goals as goal
 

@@ -1,6 +1,6 @@
 use Rattle.std.proofs.Common.{◌∙◌}
 use Rattle.acd_schema.proofs.Looks.{begins_of}
-use Rattle.acd_schema.proofs.inspection.compared.Goals as goal
+use Rattle.acd_schema.proofs.inspection.compared_to_old.Goals as goal
 
 pub returns-then-is_same_first : goal.returns-then-is_same_first
 returns-then-is_same_first c =
