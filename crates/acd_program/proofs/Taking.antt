@@ -1,11 +1,14 @@
 -- The book over a connection, by what making it or taking it left.
-use Rattle.std.proofs.Common.{◌≡◌, ℕ, Bool, true, Result, Ok, Err, IfOk, IfErr, inl, inr, ◌∙◌}
+use Rattle.std.proofs.Common.{◌≡◌, ℕ, Bool, true, Result, Ok, Err, IfOk, IfErr, IsTrue, inl, inr, refl, sym, ap, subst, ◌∙◌}
 use Rattle.sqlite.specs.State.{State, HasCleanDisk}
 use Rattle.acd_terms.specs.Limits.{greatest_limits}
 use Rattle.acd_book.specs.State.{BookState}
 use Rattle.acd_schema.specs.SettingUp.{MayMake}
-use Rattle.acd_schema.specs.declared.fault.AdoptFault.{AdoptFault}
-use Rattle.acd_sqlbook.specs.Adopting.{IsAdopted, IsHandedBack}
+use Rattle.acd_sqlbook.specs.Adopting.{IsAdopted, MayMigrate}
+use Rattle.acd_columns.specs.Content.{Encodes}
+use Rattle.acd_columns.specs.InTables.{content_of}
+use Rattle.sqlite_trees.specs.Tree.{Trees}
+use Rattle.acd_book.specs.Content.{Content}
 use Rattle.acd_columns.proofs.Decoded.{decoded}
 use Rattle.acd_desk.specs.declared.open_fault.OpenFault.{OpenFault}
 use Rattle.acd_desk.specs.Opening.{Refused}
@@ -19,8 +22,8 @@ pub of_held : (s t : State) (failures : ℕ) → (HasCleanDisk t → IsAdopted s
 of_held s t failures adopted counted clean = record {
   clean = clean;
   sound = λ here filed. (adopted here).sound filed;
-  content = λ here filed. (adopted here).content;
-  stops = λ here filed. (adopted here).stops;
+  content = λ here filed. (adopted here).content filed;
+  stops = λ here filed. (adopted here).stops filed;
   opened = λ here filed. (adopted here).was_open;
   failures = counted;
 }
@@ -42,29 +45,34 @@ made_taken (Err e) stand makes s asked empty h = tt
 
 -- ---- where no desk is made
 
--- what a database that was looked at, and not taken, may leave
-pub unserved_held : (makes : Bool) (s t : State) (fault : AdoptFault) → (HasCleanDisk t → IsHandedBack s.now (book_state s 0) (book_state t 0) fault) → Unserved makes s t
-unserved_held makes s t fault back = λ clean filed c stop. inl ((back clean).stops c stop)
+-- what a database that was not taken may leave
+pub unserved_held : (makes : Bool) (s t : State) → (HasCleanDisk t → MayMigrate s t) → Unserved makes s t
+unserved_held makes s t may = λ clean filed db left. elim (may clean db left) [ inl was ↦ inl was | inr second ↦ inr (inl (second.content filed)) ]
 
 -- what tables that were not made to their end may leave
 pub unserved_unmade : (makes : Bool) (s t : State) → makes ≡ true → s.now.schema ≡ no_schema → (HasCleanDisk t → MayMake s t greatest_limits) → Unserved makes s t
-unserved_unmade makes s t asked empty may = λ clean filed c stop.
-    (elim (may clean stop.0 stop.1) [
-      | inl was ↦ inl (stop.0, was, stop.2)
-      | inr made ↦ inr (asked, empty, stop.2 ∙ decoded stop.0 nothing made)
-    ])
+unserved_unmade makes s t asked empty may = λ clean filed db left. elim (may clean db left) [ inl was ↦ inl was | inr made ↦ inr (inr (asked, empty, made)) ]
 
 pub none_made : {A E : Type 0} (r : Result A E) (behind : E → State) (makes : Bool) (s : State) → makes ≡ true → s.now.schema ≡ no_schema → IfErr r (λ (e : E). HasCleanDisk (behind e) → MayMake s (behind e) greatest_limits)
     → IfErr r (λ (e : E). Unserved makes s (behind e))
 none_made (Ok b) behind makes s asked empty h = tt
 none_made (Err e) behind makes s asked empty h = unserved_unmade makes s (behind e) asked empty h
 
+-- what a sound book may leave are tables of its contents
+left_as : (t : State) (failures : ℕ) (db : Trees) (c : Content) → (book_state t failures).is_sound → t.may_leave db → content_of db ≡ c → Encodes db c
+left_as t failures db c sound left is = let own = sound.left db left in subst (Encodes db) (sym (decoded db own.0 own.1) ∙ is) own.1
+
 -- what a book that makes no desk may leave
-pub unserved_refused : (makes : Bool) (s t : State) (mid : BookState) (failures : ℕ) (why : OpenFault) → IsTaken makes s mid → Refused mid why (book_state t failures) → Unserved makes s t
-unserved_refused makes s t mid failures why (inl had) refused = λ clean filed c stop.
+pub unserved_refused : (makes : Bool) (s t : State) (mid : BookState) (failures : ℕ) (why : OpenFault) → ((db : Trees) → IsTrue s.is_open → s.may_leave db → db ≡ s.committed.trees) → IsTaken makes s mid → Refused mid why (book_state t failures) → Unserved makes s t
+unserved_refused makes s t mid failures why settles (inl had) refused = λ clean filed db left.
     let here = refused.clean clean in
-    inl (had.stops here filed c (refused.stops clean (had.sound here filed) c stop))
-unserved_refused makes s t mid failures why (inr made) refused = λ clean filed c stop.
+    let sound = had.sound here filed in
+    let before = had.stops here filed (content_of db) (refused.stops clean sound (content_of db) (db, left, refl)) in
+    let same : content_of db ≡ content_of s.committed.trees = before.2 ∙ ap content_of (settles before.0 (had.opened here filed) before.1) in
+    inr (inl (left_as t failures db (content_of s.committed.trees) (refused.sound clean sound) left same))
+unserved_refused makes s t mid failures why settles (inr made) refused = λ clean filed db left.
     let here = refused.clean clean in
     let new = made.2 in
-    inr (made.0, made.1, new.stops here tt c (refused.stops clean (new.sound here tt) c stop))
+    let sound = new.sound here tt in
+    let same = new.stops here tt (content_of db) (refused.stops clean sound (content_of db) (db, left, refl)) in
+    inr (inr (made.0, made.1, left_as t failures db nothing (refused.sound clean sound) left same))

@@ -16,6 +16,8 @@ table_name table.Connections = codes "connections"
 table_name table.Monitors = codes "monitors"
 table_name table.Events = codes "events"
 table_name table.Kept = codes "kept"
+table_name table.AgentGroups = codes "agent_groups"
+table_name table.GroupPriority = codes "group_priority"
 
 -- of a rule, its first word
 abbrev pub rule_name : Rule → List ℕ

@@ -7,6 +7,7 @@ use Rattle.sqlite.specs.State.{State, HasCleanDisk}
 use Rattle.acd_book.specs.Content.{Content}
 use Rattle.acd_book.specs.State.{BookState}
 use Rattle.acd_columns.specs.AnyRows.{IsFiled}
+use Rattle.acd_columns.specs.Content.{Encodes}
 use Rattle.acd_columns.specs.InTables.{content_of}
 use Rattle.acd_columns.specs.Schema.{no_schema}
 use Rattle.acd_sqlbook.specs.State.{book_state}
@@ -82,9 +83,10 @@ held s = record {
 abbrev pub unmade : State → BookState
 unmade s = record { content = nothing; stops = λ c. c ≡ nothing; is_sound = ⊤; is_clean = HasCleanDisk s; is_open = ⊤; failures = 0 }
 
--- no desk was made: a crash leaves what it left before or, where the database had no tables and a book was to be made, a new one with nothing in it
+-- No desk was made: a crash leaves a database that it left before, or version 2 of the content that was held or, where the database had no tables and a book was to be made,
+-- a new one with nothing in it.
 abbrev pub Unserved : Bool → State → State → Type 0
-Unserved makes old new = HasCleanDisk new → IsFiled old.now.trees → (c : Content) → (held new).stops c → (held old).stops c ⊎ ((makes ≡ true) × (old.now.schema ≡ no_schema) × (c ≡ nothing))
+Unserved makes old new = HasCleanDisk new → IsFiled old.now.trees → (db : Trees) → new.may_leave db → old.may_leave db ⊎ Encodes db (content_of old.committed.trees) ⊎ ((makes ≡ true) × (old.now.schema ≡ no_schema) × Encodes db nothing)
 
 -- what is said of the book that the database held or, where it had no tables and one was to be made, of the new one
 abbrev pub OverConnection : (BookState → BookState → Type 0) → Bool → State → State → Type 0

@@ -61,6 +61,8 @@ fn table_name(table: Table) -> &'static str
         Table::Monitors => "monitors",
         Table::Events => "events",
         Table::Kept => "kept",
+        Table::AgentGroups => "agent_groups",
+        Table::GroupPriority => "group_priority",
     }
 }
 

@@ -182,6 +182,9 @@ module _ (old mid new : State) (settles : Settles old) (stays : Stays old) (k : 
   same_there : (db : Trees) → IsMigration old.now.trees db → IsFiled old.now.trees → content_of db ≡ content_of old.committed.trees
   same_there db m filed = let c = made filed in decoded db c.0 (migrated_encodes old.now.trees db c.0 c.1 m) ∙ sym (held_before c.0 c.1)
 
+  second_there : (db : Trees) → IsMigration old.now.trees db → IsFiled old.now.trees → Encodes db (content_of old.committed.trees)
+  second_there db m filed = let c = made filed in subst (Encodes db) (sym (held_before c.0 c.1)) (migrated_encodes old.now.trees db c.0 c.1 m)
+
   never_sound : IsSound old → ⊥
   never_sound sound = let held = sound.stands was in apart_schemas (sym (ap (λ (d : Database). d.schema) held.1.idle ∙ held.1.schema) ∙ first.schema_is)
 
@@ -191,7 +194,7 @@ module _ (old mid new : State) (settles : Settles old) (stays : Stays old) (k : 
   pub may_migrate : MayAlter mid new → MayMigrate old new
   may_migrate may db left = elim (may db left) [
     | inl before ↦ inl (h.stops k db before)
-    | inr m ↦ inr (first.schema_is, migrates db m)
+    | inr m ↦ inr (record { version = first.schema_is; tables = migrates db m; content = λ filed. second_there db (migrates db m) filed })
   ]
 
   within : MayAlter mid new → IsFiled old.now.trees → Within (book_state new 0).stops (book_state old 0).stops

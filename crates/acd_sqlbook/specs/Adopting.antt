@@ -7,6 +7,8 @@ use Rattle.acd_book.specs.Content.{Within}
 use Rattle.acd_book.specs.Order.{IsOrdered}
 use Rattle.acd_book.specs.State.{BookState}
 use Rattle.acd_schema.specs.declared.fault.AdoptFault.{AdoptFault}
+use Rattle.acd_columns.specs.Content.{Encodes}
+use Rattle.acd_columns.specs.InTables.{content_of}
 use Rattle.acd_columns.specs.Draft.{NoStop}
 use Rattle.acd_columns.specs.AnyRows.{IsFiled}
 use Rattle.acd_columns.specs.Seeing.{HasDatabase}
@@ -20,9 +22,15 @@ pub record IsUntouched (old new : State) : Type 0 where
   pub same : IsTrue new.is_open → HasDatabase new old.now
   pub stops : NoStop old new
 
+-- of tables of version 1: it has the content that they had, where their rows are filed
+pub record IsSecondOf (old : State) (db : Trees) : Type 0 where
+  pub version : old.now.schema ≡ old_schema
+  pub tables : IsMigration old.now.trees db
+  pub content : IsFiled old.now.trees → Encodes db (content_of old.committed.trees)
+
 -- a crash leaves what it left before or, of version 1, its migration
 abbrev pub MayMigrate : State → State → Type 0
-MayMigrate old new = (db : Trees) → new.may_leave db → old.may_leave db ⊎ ((old.now.schema ≡ old_schema) × IsMigration old.now.trees db)
+MayMigrate old new = (db : Trees) → new.may_leave db → old.may_leave db ⊎ IsSecondOf old db
 
 -- A book of a connection over this database, of either version: it holds what the connection held, and has the stops that it had, where the rows are filed.
 pub record IsAdopted (d : Database) (old new : BookState) : Type 0 where

@@ -81,4 +81,4 @@ returns-in-Err-done-clause-unserved g c is =
     c.in-Err-done.is c.lines_over_book-done.ensures.refused in
     subst (λ (x : _). Unserved c.args.makes (state g.S.Store c.args.conn) (state g.S.Store x)) (sym c.into_connection-in-Err-done.ensures.same)
     (unread c.in-Err-done.fault Q is
-    (λ why no_desk. unserved_refused c.args.makes (state g.S.Store c.args.conn) (state g.S.Store last.conn) mid last.failures why c.in-Ok.ensures.taken (said why no_desk).0))
+    (λ why no_desk. unserved_refused c.args.makes (state g.S.Store c.args.conn) (state g.S.Store last.conn) mid last.failures why (g.met.S.Store.settled c.args.conn.store) c.in-Ok.ensures.taken (said why no_desk).0))

@@ -4,7 +4,7 @@ use Rattle.acd_columns.specs.declared.tables.Version.TheVariants as version
 use Rattle.acd_columns.specs.Seeing.{HasLooked}
 use Rattle.acd_schema.specs.declared.fault.Found.TheVariants.{Book}
 use Rattle.acd_schema.specs.Inspecting.{IsFound}
-use Rattle.acd_sqlbook.proofs.Adopted.{adopted, adopted_first, back_unmade, files, schema_there}
+use Rattle.acd_sqlbook.proofs.Adopted.{adopted, adopted_first, back_unmade, files, may_migrate, schema_there}
 use Rattle.acd_sqlbook.proofs.book.SqlBook.adopt.Goals as goal
 
 pub returns-in-Ok-Book-Second-clause-adopted : goal.returns-in-Ok-Book-Second-clause-adopted
@@ -44,3 +44,19 @@ returns-in-Err-migrate-clause-handed_back g c clean =
     let is_old = schema_there (state g.S.Store c.args.conn) (state g.S.Store c.look_over.new.conn) (state g.S.Store c.migrate.new.conn) (g.met.S.Store.settled c.args.conn.store) (g.met.S.Store.stays c.args.conn.store) middle looked in
     back_unmade (state g.S.Store c.args.conn) (state g.S.Store c.look_over.new.conn) (state g.S.Store c.migrate.new.conn) (g.met.S.Store.settled c.args.conn.store) (g.met.S.Store.stays c.args.conn.store) middle looked c.fault_of.result c.fault_of.ensures.store
     (c.migrate.ensures.stops clean is_old) (c.in-Err-migrate.ensures.undone clean is_old)
+
+pub returns-in-Ok-clause-leaves : goal.returns-in-Ok-clause-leaves
+returns-in-Ok-clause-leaves g c clean =
+    let is : c.in-Ok-Book-First.field-0 ≡ Book version.First = search rules in
+    let looked = subst (λ f. HasLooked (state g.S.Store c.args.conn) (state g.S.Store c.look_over.new.conn) (Ok f) (λ d f. IsFound d f)) is c.in-Ok-Book-First.ensures.looked in
+    let middle = c.migrate.ensures.clean clean in
+    let is_old = schema_there (state g.S.Store c.args.conn) (state g.S.Store c.look_over.new.conn) (state g.S.Store c.migrate.new.conn) (g.met.S.Store.settled c.args.conn.store) (g.met.S.Store.stays c.args.conn.store) middle looked in
+    may_migrate (state g.S.Store c.args.conn) (state g.S.Store c.look_over.new.conn) (state g.S.Store c.migrate.new.conn) (g.met.S.Store.settled c.args.conn.store) (g.met.S.Store.stays c.args.conn.store) middle looked (c.migrate.ensures.stops clean is_old)
+
+pub returns-in-Err-migrate-clause-leaves_refused : goal.returns-in-Err-migrate-clause-leaves_refused
+returns-in-Err-migrate-clause-leaves_refused g c clean =
+    let is : c.in-Ok-Book-First.field-0 ≡ Book version.First = search rules in
+    let looked = subst (λ f. HasLooked (state g.S.Store c.args.conn) (state g.S.Store c.look_over.new.conn) (Ok f) (λ d f. IsFound d f)) is c.in-Ok-Book-First.ensures.looked in
+    let middle = c.migrate.ensures.clean clean in
+    let is_old = schema_there (state g.S.Store c.args.conn) (state g.S.Store c.look_over.new.conn) (state g.S.Store c.migrate.new.conn) (g.met.S.Store.settled c.args.conn.store) (g.met.S.Store.stays c.args.conn.store) middle looked in
+    may_migrate (state g.S.Store c.args.conn) (state g.S.Store c.look_over.new.conn) (state g.S.Store c.migrate.new.conn) (g.met.S.Store.settled c.args.conn.store) (g.met.S.Store.stays c.args.conn.store) middle looked (c.migrate.ensures.stops clean is_old)
