@@ -1,23 +1,29 @@
 #!/usr/bin/env python3
-"""A day in an office of working size: input lines for `acd lines`, and the answers that have to come.
+"""A day in an office of working size, and a morning in a small one: input lines for `acd lines`, and what has to come.
 
-usage: office.py given | wanted | seen
+usage: office.py given | wanted | seen | scene | try [PROGRAM]
 
-given prints the input lines, wanted the answer lines and then all event reports, seen how often each situation came up. They
-are those of bench/switch.py, which knows nothing of the verified program. 12 groups, 40 stations, 40 agents, some 60 live
-calls, 3000 requests of eight requesters; then 300 repeats, other requests under keys that are used, and a last call.
-The same lines come at each run. crates/acd_office has them as its stdin and stdout."""
+given prints the day's input lines, wanted its answer lines and then all event reports, seen how often each situation came
+up. 12 groups, 40 stations, 40 agents, some 60 live calls, 3000 requests of eight requesters; then 300 repeats, other
+requests under keys that are used, and a last call. try has PROGRAM (release/acd) answer the day over memory and over a file,
+and export the file's event reports: it counts the lines that weren't foreseen.
+scene prints the morning as crates/acd_scenes has it in src/scenes/morning.rt: each request with its answer and its event
+reports, and what the rows then hold.
+What has to come is foreseen by bench/switch.py, which knows nothing of the verified program. The same lines come at each run."""
+import csv
+import io
 import json
 import random
+import subprocess
 import sys
-from collections import Counter
+import tempfile
+from collections import Counter, namedtuple
+from pathlib import Path
 
 from switch import REFUSALS, Desk, compact
 
-REQUESTS, REPEATS, LIVE_CALLS = 3000, 300, 60
 GROUPS = [("100", 20, 30), ("101", 20, 30), ("0100", 15, 20), ("110", 30, 45), ("9", 20, 0), ("120", 0, 30), ("00", 25, 40),
           ("900000000000001", 20, 30), ("900000000000002", 12, 15), ("130", 40, 60), ("140", 20, 30), ("999999999999999", 0, 0)]
-GROUP_NAMES = [group for group, _, _ in GROUPS]
 STATIONS = ([f"2{n:02}" for n in range(1, 25)] + [f"02{n:02}" for n in range(1, 9)]
             + [f"30000000000000{n}" for n in range(4)] + ["7", "07", "007", "77"])
 AGENTS = ([str(n) for n in range(1, 21)] + [f"0{n}" for n in range(1, 11)] + [f"90000000{n}" for n in range(8)]
@@ -32,13 +38,20 @@ WANTED = {"tick with several overdue offers": 8, "several offers after one reque
           "call failed": 10, "monitorStart": 20, "monitorStop": 10, "moment before the last": 20}
 UNREACHED = {"tooManyCalls", "planFull"}  # the limits are greater than this office
 
+# an office and how long it is watched: wanted is what has to come up, and named the refusals that have to
+Size = namedtuple("Size", "seed requests repeats reused live_calls wild signs groups stations agents wanted named")
+DAY = Size(3000, 3000, 300, 10, 60, 3, "\"\\", GROUPS, STATIONS, AGENTS, WANTED, set(REFUSALS) - UNREACHED)
+MORNING = Size(12, 280, 5, 2, 8, 8, "'/", GROUPS[2:6], STATIONS[::5], AGENTS[::5], dict.fromkeys(WANTED, 1), DAY.named)
+COLUMNS = "number,moment,event,call,device,agent,group,to,cause,waited".split(",")
+
 
 class Office:
-    def __init__(self, seed=3000):
-        self.rng = random.Random(seed)
+    def __init__(self, size):
+        self.size, self.rng = size, random.Random(size.seed)
+        self.group_names, self.station_names, self.agent_names = [each[0] for each in size.groups], size.stations, size.agents
         self.desk = Desk()
         self.switch = self.desk.switch
-        self.now, self.given, self.wanted, self.asked, self.seen = 0, [], [], [], Counter()
+        self.now, self.given, self.wanted, self.made, self.asked, self.seen = 0, [], [], [], [], Counter()
         self.invokes = dict.fromkeys([PLANNER, EXCHANGE, CLOCK, WATCHER, *DESKS], 0)
         self.pace = 1
 
@@ -60,8 +73,10 @@ class Office:
 
     def send(self, moment, requester, invoke, service, members):
         request = {"requester": requester, "invoke": invoke, "service": service, **members}
+        known = len(self.switch.events)
         self.given.append(self.line(moment, request))
         self.wanted.append(self.desk.take(moment, requester, invoke, service, **members))
+        self.made.append(self.switch.events[known:])
 
     def ask(self, requester, service, **members):
         """A new request, a while after the last one; at times it is late, with a moment before the last."""
@@ -123,10 +138,10 @@ class Office:
 
     def free_stations(self):
         """Those with no agent, or all."""
-        return [station for station in STATIONS if self.switch.agent_at(station) is None] or STATIONS
+        return [station for station in self.station_names if self.switch.agent_at(station) is None] or self.station_names
 
     def idle_stations(self):
-        return [station for station in STATIONS if self.switch.idle(station)]
+        return [station for station in self.station_names if self.switch.idle(station)]
 
     def desk_name(self):
         return self.rng.choice(DESKS)
@@ -138,36 +153,38 @@ class Office:
     # requests
 
     def open(self):
-        for device, ring, wrap in GROUPS:
-            self.ask(PLANNER, "addGroup", device=device, name=f"Group {device} \"of\" the help line"[:40], ring=ring, wrap=wrap)
-        for station in STATIONS:
+        quote, slash = self.size.signs
+        for device, ring, wrap in self.size.groups:
+            name = f"Group {device} {quote}of{quote} the help line"[:40]
+            self.ask(PLANNER, "addGroup", device=device, name=name, ring=ring, wrap=wrap)
+        for station in self.station_names:
             self.ask(PLANNER, "addStation", device=station)
-        for agent in AGENTS:
-            self.ask(PLANNER, "addAgent", agent=agent, name=f"Agent {agent} \\ of the help line office \\"[:40])
-        for place, (agent, station) in enumerate(zip(self.rng.sample(AGENTS, 40), STATIONS)):
+        for agent in self.agent_names:
+            self.ask(PLANNER, "addAgent", agent=agent, name=f"Agent {agent} {slash} of the help line office {slash}"[:40])
+        for place, (agent, station) in enumerate(zip(self.rng.sample(self.agent_names, len(self.agent_names)), self.station_names)):
             self.ask(self.desk_name(), "setAgentState", agent=agent, requested="loggedOn", device=station,
-                     group=GROUP_NAMES[place % 12])
+                     group=self.group_names[place % len(self.group_names)])
             if place % 3 == 0:
                 self.set_state(agent, "ready")
 
     def set_state(self, agent, requested):
         members = {}
         if requested == "loggedOn":
-            members = {"device": self.place(self.free_stations()), "group": self.place(GROUP_NAMES)}
+            members = {"device": self.place(self.free_stations()), "group": self.place(self.group_names)}
         self.ask(self.desk_name(), "setAgentState", agent=agent, requested=requested, **members)
 
     def place(self, devices):
         """One of these devices; at times one of the other kind."""
-        return self.rng.choice(devices if self.rng.random() < 0.9 else [STATIONS[0], GROUP_NAMES[0]])
+        return self.rng.choice(devices if self.rng.random() < 0.9 else [self.station_names[0], self.group_names[0]])
 
     def arrive(self):
         caller = f"03{self.rng.randrange(500):07}"
-        called = self.rng.choice(GROUP_NAMES) if self.rng.random() < 0.93 else self.rng.choice(STATIONS)
+        called = self.rng.choice(self.group_names) if self.rng.random() < 0.93 else self.rng.choice(self.station_names)
         self.ask(EXCHANGE, "arriveCall", caller=caller, called=called)
 
     def make_call(self):
-        device = self.pick([station for station in STATIONS if not self.switch.live_at(station)], STATIONS)
-        called = self.pick(self.idle_stations(), STATIONS) if self.rng.random() < 0.5 else self.rng.choice(GROUP_NAMES)
+        device = self.pick([station for station in self.station_names if not self.switch.live_at(station)], self.station_names)
+        called = self.pick(self.idle_stations(), self.station_names) if self.rng.random() < 0.5 else self.rng.choice(self.group_names)
         self.ask(self.desk_name(), "makeCall", device=device, called=called)
 
     def destination(self, own=None):
@@ -176,8 +193,8 @@ class Office:
         if own and chance < 0.2:
             return own
         if chance < 0.6:
-            return self.rng.choice(GROUP_NAMES)
-        return self.pick(self.idle_stations(), STATIONS) if chance < 0.9 else self.rng.choice(STATIONS)
+            return self.rng.choice(self.group_names)
+        return self.pick(self.idle_stations(), self.station_names) if chance < 0.9 else self.rng.choice(self.station_names)
 
     def deflect(self, end):
         own = self.switch.calls[end[0]].connections[end[1]].group
@@ -195,7 +212,7 @@ class Office:
                 if any(other == call and station != device for other, station in answered)]
 
     def transfer_to_group(self, end):
-        to = self.pick([group for group in GROUP_NAMES if self.switch.eligible(group)], GROUP_NAMES)
+        to = self.pick([group for group in self.group_names if self.switch.eligible(group)], self.group_names)
         self.ask(self.desk_name(), "singleStepTransfer", call=end[0], device=end[1], to=to)
 
     def act(self, service):
@@ -211,7 +228,7 @@ class Office:
     def any_device(self):
         """A planned device, a number that nobody has, or an outside caller's."""
         callers = [call.caller for call in self.switch.calls.values()]
-        return self.rng.choice(GROUP_NAMES + self.rng.sample(STATIONS, 12) + ["5", "031234567890123"] + callers[:3])
+        return self.rng.choice(self.group_names + self.rng.sample(self.station_names, min(12, len(self.station_names))) + ["5", "031234567890123"] + callers[:3])
 
     def any_end(self):
         """A call and a device: mostly a live call, and mostly one of its own devices."""
@@ -223,16 +240,16 @@ class Office:
     def wild_plan(self):
         device = self.any_device()
         if not self.switch.planned(device) and device.startswith(("5", "0312")):
-            device = GROUP_NAMES[0]  # the plan stays as it is
+            device = self.group_names[0]  # the plan stays as it is
         ring, wrap = self.rng.choice([0, 20, 3600]), self.rng.choice([0, 30])
         return self.rng.choice([("addGroup", {"device": device, "name": " ", "ring": ring, "wrap": wrap}),
-                                ("addStation", {"device": device}), ("addAgent", {"agent": self.rng.choice(AGENTS), "name": "~"})])
+                                ("addStation", {"device": device}), ("addAgent", {"agent": self.rng.choice(self.agent_names), "name": "~"})])
 
     def wild_agent(self):
-        agent = self.rng.choice(AGENTS) if self.rng.random() < 0.8 else "5555"
-        away = self.pick(self.agents("null"), AGENTS)
-        station = self.rng.choice(self.free_stations() if self.rng.random() < 0.6 else STATIONS)
-        group = self.rng.choice([self.any_device(), self.rng.choice(STATIONS)])
+        agent = self.rng.choice(self.agent_names) if self.rng.random() < 0.8 else "5555"
+        away = self.pick(self.agents("null"), self.agent_names)
+        station = self.rng.choice(self.free_stations() if self.rng.random() < 0.6 else self.station_names)
+        group = self.rng.choice([self.any_device(), self.rng.choice(self.station_names)])
         return "setAgentState", self.rng.choice([
             {"agent": agent, "requested": self.rng.choice(STATES)},
             {"agent": agent, "requested": "loggedOn", "device": self.any_device(), "group": self.any_device()},
@@ -279,9 +296,9 @@ class Office:
             (2, lambda agent: self.set_state(agent, self.rng.choice(STATES)), self.agents("ready", "busy")),
             (2, lambda agent: self.set_state(agent, self.rng.choice(STATES)), self.agents("notReady", "workingAfterCall")),
             (6, lambda agent: self.set_state(agent, "loggedOn"), self.agents("null")),
-            (2, lambda _: self.make_call(), [None]), (3, lambda _: self.wild(), [None]), (2, lambda _: self.tick(), [None]),
+            (2, lambda _: self.make_call(), [None]), (self.size.wild, lambda _: self.wild(), [None]), (2, lambda _: self.tick(), [None]),
             (0.3, self.act("holdCall"), self.connections("queued")), (0.3, self.transfer, self.connections("queued")),
-            (1, lambda device: self.ask(WATCHER, "monitorStart", device=device), STATIONS),
+            (1, lambda device: self.ask(WATCHER, "monitorStart", device=device), self.station_names),
             (1, lambda monitor: self.ask(WATCHER, "monitorStop", monitor=monitor), list(self.switch.monitors)),
         ]
 
@@ -291,7 +308,7 @@ class Office:
             self.pace = self.rng.choice([0, 1, 2])
         if self.rng.random() < 0.01:
             self.repeat()
-        if len(self.switch.calls) < LIVE_CALLS and self.rng.random() < 0.6:
+        if len(self.switch.calls) < self.size.live_calls and self.rng.random() < 0.6:
             return self.arrive()
         ways = [way for way in self.ways() if way[2]]
         _, request, things = self.rng.choices(ways, [way[0] for way in ways])[0]
@@ -305,35 +322,128 @@ class Office:
 
     def check(self):
         """Refuses a day on which something didn't come up."""
-        rare = {what: self.seen[what] for what, least in WANTED.items() if self.seen[what] < least}
-        rare |= {name: 0 for name in REFUSALS if name not in UNREACHED and self.seen[name] == 0}
+        rare = {what: self.seen[what] for what, least in self.size.wanted.items() if self.seen[what] < least}
+        rare |= {name: 0 for name in self.size.named if self.seen[name] == 0}
         if rare:
             sys.exit(f"too seldom: {rare}")
 
     def day(self):
         self.open()
-        while len(self.asked) < REQUESTS:
+        while len(self.asked) < self.size.requests:
             self.work()
-        for _ in range(REPEATS):
+        for _ in range(self.size.repeats):
             self.repeat()
-        for _ in range(10):
+        for _ in range(self.size.reused):
             self.repeat("tick")
-        self.ask(EXCHANGE, "arriveCall", caller="0301234", called="100")
+        self.ask(EXCHANGE, "arriveCall", caller="0301234", called="100")  # the small office has no such group
         self.check()
+        return self
+
+    # what the rows then hold
+
+    def held(self):
+        """In lines of a scene's transcript."""
+        switch = self.switch
+        for agent, record in switch.agents.items():
+            pending = f", pending {record.pending}" if record.pending else ""
+            yield f"agent {agent} {record.state}{pending}, stamp {record.stamp}, since {record.since}"
+        for device, group in switch.groups.items():
+            yield (f"figures of {device}: entered {group.entered}, answered {group.answered}, abandoned {group.abandoned}, "
+                   f"moved {group.moved}, waited {group.waited}")
+        for number, call in switch.calls.items():
+            yield f"call {number} since {call.since}"
+            for device, connection in call.connections.items():
+                yield f"call {number} at {device} {connection.state}" + (f" of group {connection.group}" if connection.group else "")
+                if connection.place is not None:
+                    yield f"entry of call {number} at {device}: place {connection.place}, queued {connection.queued}"
+        for number, monitor in switch.monitors.items():
+            yield f"monitor {number} at {monitor.device} after event {monitor.after}"
+        ends = sum(len(call.connections) for call in switch.calls.values())
+        yield f"{len(switch.monitors)} monitors"
+        yield f"{len(switch.groups)} groups, {len(switch.stations)} stations, {len(switch.agents)} agents"
+        yield f"{len(switch.calls)} calls, {ends} connections"
+        yield f"last stamp {switch.stamp}, moment {switch.moment}, event {len(switch.events)}"
+
+
+def asked(given, reply):
+    """A request and its answer, in lines of a scene's script."""
+    (moment, request), (status, body) = given.split(" ", 1), reply.split(" ", 1)
+    told = json.loads(body)
+    if status == "200":
+        return f"+ {moment} {compact(told['result'])} {request}"
+    if status == "409":
+        return f"- {moment} {told['error']['code']} {told['error']['name']} {request}"
+    return f"> {given}\n< {reply}"
+
+
+SCENE = """\
+//! A morning in a small office, as bench/office.py foresees it.
+
+/// The first lines of a [script](crate::script).
+pub fn first_lines() -> &'static str {
+    r#"part morning
+%s
+"#
+}
+
+/// The lines behind them: in two texts each takes less to prove.
+pub fn last_lines() -> &'static str {
+    r#"%s
+
+scene morning: morning
+"#
+}"""
+
+
+def scene(office):
+    lines = []
+    for given, reply, made in zip(office.given, office.wanted, office.made):
+        lines += [asked(given, reply), *(f"! {compact(event)}" for event in made)]
+    lines += [f"= {line}" for line in office.held()]
+    half = len(lines) // 2
+    print(SCENE % ("\n".join(lines[:half]), "\n".join(lines[half:])))
+
+
+def records(office):
+    """The export of all event reports."""
+    text = io.StringIO()
+    writer = csv.DictWriter(text, COLUMNS, lineterminator="\n")
+    writer.writeheader()
+    writer.writerows(office.switch.events)
+    return text.getvalue().splitlines()
+
+
+def tried(office, program):
+    """How many lines the program writes otherwise than foreseen."""
+    def wrong(words, wanted):
+        given = "".join(line + "\n" for line in office.given) if words[0] == "lines" else ""
+        ran = subprocess.run([program, *words], input=given, capture_output=True, text=True, check=True)
+        found = ran.stdout.splitlines()
+        return abs(len(found) - len(wanted)) + sum(one != other for one, other in zip(found, wanted))
+
+    with tempfile.TemporaryDirectory() as folder:
+        file = ["--file", f"{folder}/desk.db"]
+        return wrong(["lines"], office.wanted) + wrong(["lines", *file], office.wanted) + wrong(["export", *file], records(office))
 
 
 def main():
-    office = Office()
-    office.day()
-    if sys.argv[1:] == ["given"]:
+    what, rest = sys.argv[1:2], sys.argv[2:]
+    if what == ["scene"]:
+        return scene(Office(MORNING).day())
+    office = Office(DAY).day()
+    if what == ["given"]:
         print(*office.given, sep="\n")
-    elif sys.argv[1:] == ["wanted"]:
+    elif what == ["wanted"]:
         print(*office.wanted, *map(compact, office.switch.events), sep="\n")
-    elif sys.argv[1:] == ["seen"]:
+    elif what == ["seen"]:
         print(*(f"{count:6} {what}" for what, count in sorted(office.seen.items())), sep="\n")
+    elif what == ["try"]:
+        count = tried(office, *(rest or [Path(__file__).resolve().parent.parent / "release/acd"]))
+        print(f"{len(office.given)} requests, {len(office.switch.events)} event reports, {count} lines wrong")
+        return count > 0
     else:
         sys.exit(__doc__)
 
 
 if __name__ == "__main__":
-    main()
+    sys.exit(main())

@@ -1,76 +1,98 @@
 //! What is told of a book whose database something else has changed.
 
-use crate::player::{session, written};
-use crate::script::database;
-use crate::store::adopted;
+use crate::sessions::{Scene, answers_so, opened};
+use crate::shelf::{Changing, Shelf, taken};
+use crate::texts::{halves, joined, push_both};
 use acd_book::Book;
 use acd_desk::{Audit, Desk, OpenFault};
-use acd_sqlbook::SqlBook;
 use acd_terms::Limits;
 use sqlite::{Connection, MemStore};
 use std::alloc::Global;
 use std::process::Abort;
 
-/// A change of which something else is told.
-#[derive(Drop)]
-pub struct Unseen<'a> {
-    pub change: &'a str,
-    pub told: String,
+// What lies there once a new book has taken the requests.
+fn behind<P: Shelf>(rt: &impl Abort, alloc: Global, shelf: P, scene: &Scene) -> P {
+    let book = taken(rt, alloc, shelf, Some(Limits::GREATEST));
+    P::put(answers_so(rt, alloc, book, scene.input.as_str(), scene.output.as_str())).0
 }
 
-// A book that has taken the requests, which got these answers.
-fn book_behind(rt: &impl Abort, alloc: Global, input: &str, output: &str) -> SqlBook<MemStore> {
-    match Desk::open(alloc, database(rt, alloc, Limits::GREATEST)) {
-        Ok(mut desk) => {
-            let answers = written(rt, alloc, &mut desk, input);
-            assert_eq!(rt; answers.as_str(), output);
-            desk.close()
-        }
-        Err((fault, _)) => panic!(rt; "{fault:?}"),
+// The place in the kept list that an audit tells, or `sound`.
+fn audited<B: Book>(rt: &impl Abort, alloc: Global, desk: &mut Desk<B>) -> String {
+    match desk.audit() {
+        Ok(Audit::Sound) => joined(rt, alloc, &["sound"]),
+        Ok(Audit::Differs(place)) => format!(in alloc; "{place}").expect(rt, "memory"),
+        Err(fault) => panic!(rt; "{fault:?}"),
     }
 }
 
-// The same book behind a change of its database.
-fn changed(
+// Why there is no desk: the rule that the rows break.
+fn rule_told(rt: &impl Abort, alloc: Global, fault: OpenFault) -> String {
+    match fault {
+        OpenFault::Rows(rule) => format!(in alloc; "{rule:?}").expect(rt, "memory"),
+        fault => panic!(rt; "{fault:?}"),
+    }
+}
+
+// What is told of the book.
+fn told<B: Book + Drop>(rt: &impl Abort, alloc: Global, book: B) -> String {
+    match Desk::open(alloc, book) {
+        Ok(mut desk) => audited(rt, alloc, &mut desk),
+        Err((fault, _book)) => rule_told(rt, alloc, fault),
+    }
+}
+
+fn told_of<P: Shelf>(rt: &impl Abort, alloc: Global, shelf: P) -> String {
+    told(rt, alloc, taken(rt, alloc, shelf, None))
+}
+
+// What is told of a database in which a new book takes the scene, and which is then changed.
+fn told_behind<P: Changing>(
     rt: &impl Abort,
     alloc: Global,
-    book: SqlBook<MemStore>,
+    shelf: P,
+    scene: &Scene,
     sql: &str,
-) -> SqlBook<MemStore> {
-    let mut conn = book.into_connection();
-    conn.execute_batch(sql).expect(rt, "a change");
-    adopted(rt, alloc, conn)
+) -> String {
+    let shelf = behind(rt, alloc, shelf, scene);
+    told_of(rt, alloc, shelf.changed(rt, sql))
 }
 
-// The place in the kept list that an audit tells, or `sound`; or the rule that the rows break.
-fn told<B: Book + Drop>(rt: &impl Abort, alloc: Global, book: B) -> String {
-    let told = match Desk::open(alloc, book) {
-        Ok(mut desk) => match desk.audit() {
-            Ok(Audit::Sound) => format!(in alloc; "sound"),
-            Ok(Audit::Differs(place)) => format!(in alloc; "{place}"),
-            Err(fault) => panic!(rt; "{fault:?}"),
-        },
-        Err((OpenFault::Rows(rule), _book)) => format!(in alloc; "{rule:?}"),
-        Err((fault, _book)) => panic!(rt; "{fault:?}"),
-    };
-    told.expect(rt, "memory")
+/// A database in memory.
+pub fn database(rt: &impl Abort, alloc: Global) -> Connection<MemStore> {
+    match Connection::open_in_memory(alloc) {
+        Ok(conn) => conn,
+        Err(_) => panic!(rt; "memory"),
+    }
 }
 
-/// For each line `~ TOLD SQL` of the transcripts: a book takes their requests, its database is changed so, and just this
-/// is told of it. Answers the first of which something else is told.
-pub fn play<'a>(rt: &impl Abort, alloc: Global, texts: &[&'a str]) -> Option<Unseen<'a>> {
-    let (input, output) = session(rt, alloc, texts, None);
-    for text in texts {
-        for line in text.lines() {
-            if let Some(change) = line.strip_prefix("~ ") {
-                let (wanted, sql) = change.split_once(' ').expect(rt, "a change");
-                let book = book_behind(rt, alloc, input.as_str(), output.as_str());
-                let told = told(rt, alloc, changed(rt, alloc, book, sql));
-                if told.as_str() != wanted {
-                    return Some(Unseen { change, told });
-                }
+// Nothing, or what else than the line `TOLD SQL` is told of its change.
+fn unseen(rt: &impl Abort, alloc: Global, scene: &Scene, change: &str) -> Option<String> {
+    let (wanted, sql) = halves(rt, change);
+    let told = told_behind(rt, alloc, database(rt, alloc), scene, sql);
+    if told.as_str() == wanted {
+        return None;
+    }
+    let mut what = told;
+    push_both(rt, &mut what, " behind ", change);
+    Some(what)
+}
+
+// The first change of the transcript of which something else is told.
+fn first_unseen(rt: &impl Abort, alloc: Global, scene: &Scene, text: &str) -> Option<String> {
+    for line in text.lines() {
+        if let Some(change) = line.strip_prefix("~ ") {
+            if let Some(what) = unseen(rt, alloc, scene, change) {
+                return Some(what);
             }
         }
     }
     None
+}
+
+/// For each line `~ TOLD SQL` of the last transcript: a book takes the requests of all, its database is changed so, and just
+/// this is told of it. Else answers what is told of the first one.
+pub fn play(rt: &impl Abort, alloc: Global, texts: &[&str]) -> Option<String> {
+    let scene = Scene::new(rt, alloc, texts);
+    let changes = texts.last().expect(rt, "changes");
+    first_unseen(rt, alloc, &scene, *changes)
 }

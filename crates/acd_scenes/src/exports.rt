@@ -1,6 +1,7 @@
-//! The export of a desk holds what its event reports tell.
+//! The export of a desk holds what its event reports tell, and its pages are these reports.
 
 use crate::reads;
+use crate::texts::{joined, push, push_both, same_text};
 use acd_book::Book;
 use acd_codec::event_text;
 use acd_desk::Desk;
@@ -15,49 +16,111 @@ fn without(rt: &impl Abort, alloc: Global, text: &str, sign: &str) -> String {
     text.replace(alloc, sign, "").expect(rt, "memory")
 }
 
+fn report(rt: &impl Abort, alloc: Global, event: &Event) -> String {
+    event_text(alloc, event).expect(rt, "memory")
+}
+
 // The members of an event's report, without the signs of JSON. None of their values has one.
 fn members(rt: &impl Abort, alloc: Global, event: &Event) -> String {
-    let mut text = event_text(alloc, event).expect(rt, "memory");
-    for sign in ["{", "}", "\""] {
-        text = without(rt, alloc, text.as_str(), sign);
-    }
-    text
+    let text = report(rt, alloc, event);
+    let text = without(rt, alloc, text.as_str(), "{");
+    let text = without(rt, alloc, text.as_str(), "}");
+    without(rt, alloc, text.as_str(), "\"")
+}
+
+// The value of the member, where it has this name.
+fn value_of<'a>(member: &'a str, name: &str) -> Option<&'a str> {
+    member.strip_prefix(name)?.strip_prefix(":")
 }
 
 // The value of the member of this name, and nothing where there is none.
 fn value<'a>(members: &'a str, name: &str) -> &'a str {
     for member in members.split(',') {
-        match member.split_once(':') {
-            Some((found, value)) if found == name => return value,
-            _ => {}
+        if let Some(value) = value_of(member, name) {
+            return value;
         }
     }
     ""
 }
 
-// The record of an event: the values of its members.
-fn record(rt: &impl Abort, alloc: Global, event: &Event) -> String {
-    let members = members(rt, alloc, event);
-    let mut record = String::new(alloc);
-    for name in HEADER.split(',') {
-        if !record.is_empty() {
-            record.push_str(",").expect(rt, "memory");
-        }
-        let value = value(members.as_str(), name);
-        record.push_str(value).expect(rt, "memory");
+// What stands before the value at this place, from 0.
+fn between(place: usize) -> &'static str {
+    match place {
+        0 => "",
+        _ => ",",
     }
-    record
+}
+
+// The record of an event: the values of its members.
+fn add_record(rt: &impl Abort, records: &mut String, members: &str) {
+    for (place, name) in HEADER.split(',').enumerate() {
+        push_both(rt, records, between(place), value(members, name));
+    }
+    push(rt, records, &["\n"]);
+}
+
+fn records(rt: &impl Abort, alloc: Global, events: &[Event]) -> String {
+    let mut records = joined(rt, alloc, &[HEADER, "\n"]);
+    for event in events {
+        let members = members(rt, alloc, event);
+        add_record(rt, &mut records, members.as_str());
+    }
+    records
+}
+
+// The desk tells this of what is asked.
+fn expect_read<B: Book>(
+    rt: &impl Abort,
+    alloc: Global,
+    desk: &mut Desk<B>,
+    asked: &str,
+    wanted: &str,
+) {
+    let told = reads::text(rt, alloc, desk, asked);
+    same_text(rt, told.as_str(), wanted);
 }
 
 /// The desk exports a record of each of its events, which are these.
 pub fn compare<B: Book>(rt: &impl Abort, alloc: Global, desk: &mut Desk<B>, events: &[Event]) {
-    let mut wanted = String::from_str(alloc, HEADER).expect(rt, "memory");
-    wanted.push_str("\n").expect(rt, "memory");
-    for event in events {
-        let record = record(rt, alloc, event);
-        wanted.push_str(record.as_str()).expect(rt, "memory");
-        wanted.push_str("\n").expect(rt, "memory");
+    let records = records(rt, alloc, events);
+    expect_read(rt, alloc, desk, "export all", records.as_str());
+}
+
+// A page of these events.
+fn page_of(rt: &impl Abort, alloc: Global, events: &[Event], last: u64) -> String {
+    let mut page = joined(rt, alloc, &["{\"events\":["]);
+    for (place, event) in events.iter().enumerate() {
+        let report = report(rt, alloc, event);
+        push_both(rt, &mut page, between(place), report.as_str());
     }
-    let export = reads::told(rt, desk, "export all").expect(rt, "an export");
-    assert_eq!(rt; export.as_str(), wanted.as_str());
+    let end = format!(in alloc; "],\"last\":{last}}}").expect(rt, "memory");
+    push(rt, &mut page, &[end.as_str()]);
+    page
+}
+
+// The desk tells this page of its events.
+fn compare_page<B: Book>(
+    rt: &impl Abort,
+    alloc: Global,
+    desk: &mut Desk<B>,
+    after: u64,
+    page: &str,
+) {
+    let asked = format!(in alloc; "events {after}").expect(rt, "memory");
+    expect_read(rt, alloc, desk, asked.as_str(), page);
+}
+
+/// The desk tells its events, which are these, by hundreds.
+pub fn compare_pages<B: Book>(
+    rt: &impl Abort,
+    alloc: Global,
+    desk: &mut Desk<B>,
+    events: &[Event],
+) {
+    let mut after = 0u64;
+    for some in events.chunks(100) {
+        let page = page_of(rt, alloc, some, events.len() as u64);
+        compare_page(rt, alloc, desk, after, page.as_str());
+        after = after.saturating_add(100);
+    }
 }

@@ -1,7 +1,11 @@
 //! What the rows hold, in lines of transcripts.
 
-use acd_terms::{AgentRecord, ConnectionRecord, ConnectionState, GroupRecord, Rows};
+use crate::texts::push;
+use acd_terms::{
+    AgentRecord, CallRecord, ConnectionRecord, ConnectionState, GroupRecord, MonitorRecord, Rows,
+};
 use std::alloc::Global;
+use std::fmt::Write;
 use std::process::Abort;
 
 fn state_name(state: ConnectionState) -> &'static str {
@@ -16,61 +20,96 @@ fn state_name(state: ConnectionState) -> &'static str {
 }
 
 // The agent's state, what is pending, and the stamp and moment of the request that gave the state.
-fn agent_line(rt: &impl Abort, alloc: Global, agent: &AgentRecord) -> String {
+fn add_agent(rt: &impl Abort, text: &mut String, agent: &AgentRecord) {
     let digits = agent.agent.text();
-    let (digits, state) = (digits.as_str(), agent.state.name());
-    let (stamp, since) = (agent.stamp, agent.since);
-    let line = match agent.pending {
-        Some(pending) => {
-            let pending = pending.name();
-            format!(in alloc;
-                "= agent {digits} {state}, pending {pending}, stamp {stamp}, since {since}"
-            )
-        }
-        None => format!(in alloc; "= agent {digits} {state}, stamp {stamp}, since {since}"),
+    let (between, pending) = match agent.pending {
+        Some(pending) => (", pending ", pending.name()),
+        None => ("", ""),
     };
-    line.expect(rt, "memory")
+    let written = writeln!(
+        text,
+        "= agent {} {}{between}{pending}, stamp {}, since {}",
+        digits.as_str(),
+        agent.state.name(),
+        agent.stamp,
+        agent.since
+    );
+    written.expect(rt, "memory");
 }
 
 // What the group has counted.
-fn figures_line(rt: &impl Abort, alloc: Global, group: &GroupRecord) -> String {
+fn add_figures(rt: &impl Abort, text: &mut String, group: &GroupRecord) {
     let digits = group.device.text();
-    let (digits, f) = (digits.as_str(), group.figures);
-    let line = format!(in alloc;
-        "= figures of {digits}: entered {}, answered {}, abandoned {}, moved {}, waited {}",
-        f.entered, f.answered, f.abandoned, f.moved, f.waited
+    let f = group.figures;
+    let written = writeln!(
+        text,
+        "= figures of {}: entered {}, answered {}, abandoned {}, moved {}, waited {}",
+        digits.as_str(),
+        f.entered,
+        f.answered,
+        f.abandoned,
+        f.moved,
+        f.waited
     );
-    line.expect(rt, "memory")
+    written.expect(rt, "memory");
 }
 
 // The call's connection at the device: its state, and its group where it has one.
-fn connection_line(rt: &impl Abort, alloc: Global, connection: &ConnectionRecord) -> String {
-    let digits = connection.device.text();
-    let (call, digits) = (connection.call, digits.as_str());
+fn add_connection(rt: &impl Abort, text: &mut String, connection: &ConnectionRecord) {
+    let (call, digits) = (connection.call, connection.device.text());
     let state = state_name(connection.state);
-    let line = match connection.group {
-        Some(group) => {
-            let group = group.text();
-            let group = group.as_str();
-            format!(in alloc; "= call {call} at {digits} {state} of group {group}")
-        }
-        None => format!(in alloc; "= call {call} at {digits} {state}"),
-    };
-    line.expect(rt, "memory")
+    write!(text, "= call {call} at {} {state}", digits.as_str()).expect(rt, "memory");
+    if let Some(group) = connection.group {
+        push(rt, text, &[" of group ", group.text().as_str()]);
+    }
+    push(rt, text, &["\n"]);
 }
 
 // Place and moment with which the call entered the queue where it waits, or from which it rings.
-fn entry_line(rt: &impl Abort, alloc: Global, connection: &ConnectionRecord) -> String {
-    let digits = connection.device.text();
-    let (call, digits) = (connection.call, digits.as_str());
-    match (connection.place, connection.queued) {
-        (Some(place), Some(queued)) => {
-            format!(in alloc;
-                "= entry of call {call} at {digits}: place {place}, queued {queued}"
-            ).expect(rt, "memory")
-        }
-        _ => String::new(alloc),
+fn add_entry(rt: &impl Abort, text: &mut String, connection: &ConnectionRecord) {
+    if let (Some(place), Some(queued)) = (connection.place, connection.queued) {
+        let (call, digits) = (connection.call, connection.device.text());
+        let written = writeln!(
+            text,
+            "= entry of call {call} at {}: place {place}, queued {queued}",
+            digits.as_str()
+        );
+        written.expect(rt, "memory");
     }
+}
+
+fn add_monitor(rt: &impl Abort, text: &mut String, monitor: &MonitorRecord) {
+    let digits = monitor.device.text();
+    let written = writeln!(
+        text,
+        "= monitor {} at {} after event {}",
+        monitor.monitor,
+        digits.as_str(),
+        monitor.after_event
+    );
+    written.expect(rt, "memory");
+}
+
+fn add_call(rt: &impl Abort, text: &mut String, call: &CallRecord) {
+    writeln!(text, "= call {} since {}", call.call, call.since).expect(rt, "memory");
+}
+
+// How many there are of each, and the last numbers.
+fn add_counts(rt: &impl Abort, text: &mut String, rows: &Rows) {
+    let written = writeln!(
+        text,
+        "= {} monitors\n= {} groups, {} stations, {} agents\n= {} calls, {} connections\n= last stamp {}, moment {}, event {}",
+        rows.monitors.len(),
+        rows.groups.len(),
+        rows.stations.len(),
+        rows.agents.len(),
+        rows.calls.len(),
+        rows.connections.len(),
+        rows.last_stamp,
+        rows.last_moment,
+        rows.last_event
+    );
+    written.expect(rt, "memory");
 }
 
 /// All lines of the rows:
@@ -83,54 +122,27 @@ fn entry_line(rt: &impl Abort, alloc: Global, connection: &ConnectionRecord) -> 
 /// - `= entry of call 1 at 201: place 6, queued 10`
 /// - `= monitor 2 at 201 after event 1`
 /// - `= 1 monitors`: how many run
+/// - `= 12 groups, 40 stations, 40 agents`
+/// - `= 60 calls, 120 connections`
 /// - `= last stamp 16, moment 79, event 22`
-pub fn lines(rt: &impl Abort, alloc: Global, rows: &Rows) -> Vec<String> {
-    let mut lines = Vec::new(alloc);
+pub fn text(rt: &impl Abort, alloc: Global, rows: &Rows) -> String {
+    let mut text = String::new(alloc);
     for agent in &rows.agents {
-        lines
-            .push(agent_line(rt, alloc, agent))
-            .expect(rt, "memory");
+        add_agent(rt, &mut text, agent);
     }
     for group in &rows.groups {
-        lines
-            .push(figures_line(rt, alloc, group))
-            .expect(rt, "memory");
+        add_figures(rt, &mut text, group);
     }
     for connection in &rows.connections {
-        lines
-            .push(connection_line(rt, alloc, connection))
-            .expect(rt, "memory");
-        lines
-            .push(entry_line(rt, alloc, connection))
-            .expect(rt, "memory");
+        add_connection(rt, &mut text, connection);
+        add_entry(rt, &mut text, connection);
     }
     for call in &rows.calls {
-        let line = format!(in alloc; "= call {} since {}", call.call, call.since);
-        lines.push(line.expect(rt, "memory")).expect(rt, "memory");
+        add_call(rt, &mut text, call);
     }
     for monitor in &rows.monitors {
-        let digits = monitor.device.text();
-        let line = format!(in alloc;
-            "= monitor {} at {} after event {}",
-            monitor.monitor,
-            digits.as_str(),
-            monitor.after_event
-        );
-        lines.push(line.expect(rt, "memory")).expect(rt, "memory");
+        add_monitor(rt, &mut text, monitor);
     }
-    let line = format!(in alloc; "= {} monitors", rows.monitors.len());
-    lines.push(line.expect(rt, "memory")).expect(rt, "memory");
-    let line = format!(in alloc;
-        "= last stamp {}, moment {}, event {}",
-        rows.last_stamp, rows.last_moment, rows.last_event
-    );
-    lines.push(line.expect(rt, "memory")).expect(rt, "memory");
-    lines
-}
-
-/// The line is one of them.
-pub fn is_line(rt: &impl Abort, alloc: Global, rows: &Rows, line: &str) -> bool {
-    lines(rt, alloc, rows)
-        .iter()
-        .any(|held| held.as_str() == line)
+    add_counts(rt, &mut text, rows);
+    text
 }

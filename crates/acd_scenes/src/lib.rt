@@ -5,15 +5,17 @@
 #[cfg(test)]
 mod altered;
 #[cfg(test)]
+mod ends;
+#[cfg(test)]
 mod exports;
 #[cfg(test)]
 mod files;
 #[cfg(test)]
-mod fused;
-#[cfg(test)]
 mod held;
 #[cfg(test)]
 mod look_ups;
+#[cfg(test)]
+mod many_events;
 #[cfg(test)]
 mod player;
 #[cfg(test)]
@@ -27,8 +29,10 @@ mod scenes;
 #[cfg(test)]
 mod script;
 #[cfg(test)]
-mod store;
+mod sessions;
+#[cfg(test)]
+mod shelf;
 #[cfg(test)]
 mod tests;
 #[cfg(test)]
-mod working_size;
+mod texts;

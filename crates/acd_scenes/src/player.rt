@@ -7,39 +7,24 @@
 //! | `> MOMENT JSON` | a request, as the program reads it |
 //! | `< STATUS JSON` | its answer, as the program writes it; each request has one |
 //! | `! JSON` | an event report that the request makes, in order; none is left out |
-//! | `= TEXT` | what the rows then hold, a line of [`held::lines`] |
+//! | `! *` | all event reports that it makes: only the switch and the rows tell them |
+//! | `= TEXT` | what the rows then hold, a line of [`held::text`] |
 //! | `? READ` | a read of the desk, as [`reads::told`] has them |
 //! | `. TEXT` | a line of what it tells; where there is no such thing there is none |
 //! | `# TEXT` | a comment |
 
-use crate::look_ups::same;
 use crate::reference::Reference;
-use crate::reports::ALL;
-use crate::{exports, held, reads, reports};
+use crate::sessions::{answered, arrival, opened};
+use crate::texts::{joined, push, push_both};
+use crate::{ends, held, reads, reports};
 use acd_book::Book;
-use acd_codec::{event_text, read_request};
-use acd_desk::Desk;
-use acd_lines::lines;
-use acd_terms::{Arrival, Event, Rows};
+use acd_codec::event_text;
+use acd_terms::{Arrival, Event, Limits, Rows};
 use std::alloc::Global;
 use std::process::Abort;
 
-// The greatest moment.
-const AT_LAST: &str = "4294967295";
-
-/// Where a transcript isn't what happens.
-#[derive(Drop)]
-pub struct Mismatch {
-    /// The line, from 0, in its part of the scene.
-    pub line: usize,
-    pub what: String,
-}
-
-// What happened at a line, and the text that it is about.
-fn mismatch_at(rt: &impl Abort, alloc: Global, line: usize, how: &str, text: &str) -> Mismatch {
-    let what = line_of(rt, alloc, &[how, text]);
-    Mismatch { line, what }
-}
+/// More events than any scene has.
+pub const ALL: usize = 1000;
 
 // A scene on its way.
 #[derive(Drop)]
@@ -47,35 +32,55 @@ struct Player {
     alloc: Global,
     reference: Reference,
     // what the last request made or the last read told, in lines of a transcript, and how many of them were read
-    made: Vec<String>,
+    made: String,
     read: usize,
     // how many events were told
     told: u64,
+    // whether a request or a read was played
+    has_asked: bool,
+    // where a line isn't what happens: the line, from 0, and what happened there, which is empty before that
+    line: usize,
+    wrong: String,
 }
 
-pub fn opened<B: Book + Drop>(rt: &impl Abort, alloc: Global, book: B) -> Desk<B> {
-    match Desk::open(alloc, book) {
-        Ok(desk) => desk,
-        Err((fault, _)) => panic!(rt; "{fault:?}"),
+// The line of this number, from 0.
+fn line_at(text: &str, number: usize) -> Option<&str> {
+    for (i, line) in text.lines().enumerate() {
+        if i == number {
+            return Some(line);
+        }
     }
+    None
 }
 
-// A line of these parts, one behind the other.
-fn line_of(rt: &impl Abort, alloc: Global, parts: &[&str]) -> String {
-    let mut line = String::new(alloc);
-    for part in parts {
-        line.push_str(part).expect(rt, "memory");
+fn has_line(text: &str, line: &str) -> bool {
+    for known in text.lines() {
+        if known == line {
+            return true;
+        }
     }
-    line
+    false
 }
 
-// What the program writes to this input.
-pub fn written<B: Book>(rt: &impl Abort, alloc: Global, desk: &mut Desk<B>, input: &str) -> String {
-    let mut reader = input.as_bytes();
-    let mut writer = Vec::new(alloc);
-    let ended = lines(alloc, desk, &mut reader, &mut writer);
-    assert!(rt; ended.is_ok());
-    String::from_utf8(writer).expect(rt, "text")
+/// The rows of the book.
+pub fn rows_of<B: Book>(rt: &impl Abort, book: &mut B) -> Rows {
+    book.rows().expect(rt, "memory")
+}
+
+/// Its events behind so many.
+pub fn events_of<B: Book>(rt: &impl Abort, book: &mut B, told: u64) -> Vec<Event> {
+    book.events_after(told, ALL).expect(rt, "memory")
+}
+
+fn limits_of<B: Book>(rt: &impl Abort, book: &mut B) -> Limits {
+    book.limits().expect(rt, "memory")
+}
+
+// Whether the book keeps the request's key.
+fn is_kept<B: Book>(rt: &impl Abort, book: &mut B, arrival: &Arrival) -> bool {
+    let request = &arrival.request;
+    let kept = book.kept(&request.requester, request.invoke);
+    kept.expect(rt, "memory").is_some()
 }
 
 // The request of the line, where it is one and its key isn't kept.
@@ -85,243 +90,246 @@ fn new_arrival<B: Book>(
     book: &mut B,
     asked: &str,
 ) -> Option<Arrival> {
-    let (digits, json) = asked.split_once(' ').expect(rt, "a moment");
-    let moment = digits.parse::<u32>().expect(rt, "a moment");
-    let Ok(request) = read_request(alloc, json.as_bytes()) else {
+    let arrival = arrival(rt, alloc, asked)?;
+    if is_kept(rt, book, &arrival) {
         return None;
-    };
-    let kept = book.kept(&request.requester, request.invoke);
-    match kept.expect(rt, "memory") {
-        Some(_) => None,
-        None => Some(Arrival { moment, request }),
+    }
+    Some(arrival)
+}
+
+// The events' texts, in lines of a transcript.
+fn add_events(rt: &impl Abort, alloc: Global, made: &mut String, events: &[Event]) {
+    for event in events {
+        let text = event_text(alloc, event).expect(rt, "memory");
+        push(rt, made, &["! ", text.as_str(), "\n"]);
     }
 }
 
+// What a read told, in lines of a transcript.
+fn told_lines(rt: &impl Abort, alloc: Global, told: &str) -> String {
+    let mut lines = String::new(alloc);
+    for line in told.lines() {
+        push(rt, &mut lines, &[". ", line, "\n"]);
+    }
+    lines
+}
+
+// What a desk over the book tells of what is asked, in lines of a transcript.
+fn looked<B: Book + Drop>(rt: &impl Abort, alloc: Global, book: B, asked: &str) -> (B, String) {
+    let mut desk = opened(rt, alloc, book);
+    let told = reads::text(rt, alloc, &mut desk, asked);
+    (desk.close(), told_lines(rt, alloc, told.as_str()))
+}
+
+// What a desk over the book answers to the line.
+fn line_answered<B: Book + Drop>(
+    rt: &impl Abort,
+    alloc: Global,
+    book: B,
+    asked: &str,
+) -> (B, String) {
+    let input = joined(rt, alloc, &[asked, "\n"]);
+    answered(rt, alloc, book, input.as_str())
+}
+
 impl Player {
+    fn new(rt: &impl Abort, alloc: Global, limits: Limits) -> Player {
+        Player {
+            alloc,
+            reference: Reference::new(rt, alloc, limits),
+            made: String::new(alloc),
+            read: 0,
+            told: 0,
+            has_asked: false,
+            line: 0,
+            wrong: String::new(alloc),
+        }
+    }
+
+    // A line isn't what happens.
+    fn miss(&mut self, rt: &impl Abort, how: &str, text: &str) {
+        push_both(rt, &mut self.wrong, how, text);
+    }
+
     // The line is the next one that the last request made.
-    fn expect_made(&mut self, rt: &impl Abort, number: usize, line: &str) -> Result<(), Mismatch> {
-        let alloc = self.alloc;
-        match self.made.get(self.read) {
-            Some(made) if made.as_str() == line => {}
-            Some(made) => return Err(mismatch_at(rt, alloc, number, "made: ", made.as_str())),
-            None => return Err(mismatch_at(rt, alloc, number, "not made: ", line)),
+    fn expect_made(&mut self, rt: &impl Abort, line: &str) {
+        if line == "! *" && self.read > 0 {
+            self.read = usize::MAX;
+            return;
+        }
+        match line_at(self.made.as_str(), self.read) {
+            Some(made) if made == line => {}
+            Some(made) => push_both(rt, &mut self.wrong, "made: ", made),
+            None => self.miss(rt, "not made: ", line),
         }
         self.read = self.read.saturating_add(1);
-        Ok(())
     }
 
     // All lines that the last request made were read.
-    fn expect_all_read(&self, rt: &impl Abort, number: usize) -> Result<(), Mismatch> {
-        match self.made.get(self.read) {
-            Some(made) => Err(mismatch_at(rt, self.alloc, number, "left out: ", made.as_str())),
-            None => Ok(()),
+    fn expect_all_read(&mut self, rt: &impl Abort) {
+        if let Some(made) = line_at(self.made.as_str(), self.read) {
+            push_both(rt, &mut self.wrong, "left out: ", made);
         }
+    }
+
+    // Keeps what was made or told.
+    fn keep(&mut self, made: String) {
+        self.made = made;
+        self.read = 0;
+        self.has_asked = true;
     }
 
     // Keeps what a request made.
     fn make(&mut self, rt: &impl Abort, answer: &str, events: &[Event]) {
-        let mut made = Vec::new(self.alloc);
-        let answer = line_of(rt, self.alloc, &["< ", answer]);
-        made.push(answer).expect(rt, "memory");
-        for event in events {
-            let text = event_text(self.alloc, event).expect(rt, "memory");
-            let line = line_of(rt, self.alloc, &["! ", text.as_str()]);
-            made.push(line).expect(rt, "memory");
-        }
-        self.made = made;
-        self.read = 0;
+        let mut made = joined(rt, self.alloc, &["< ", answer]);
+        add_events(rt, self.alloc, &mut made, events);
+        self.keep(made);
         self.told = self.told.saturating_add(events.len() as u64);
     }
 
-    // The desk over the book answers the line, and so does the switch. Then the look-ups are the scans of
-    // the rows, and the reports tell the rows.
-    fn ask<B: Book + Drop>(&mut self, rt: &impl Abort, book: B, asked: &str) -> B {
-        let mut book = book;
-        let arrival = new_arrival(rt, self.alloc, &mut book, asked);
-        let mut desk = opened(rt, self.alloc, book);
-        let input = line_of(rt, self.alloc, &[asked, "\n"]);
-        let output = written(rt, self.alloc, &mut desk, &input);
-        let answer = output.strip_suffix("\n").expect(rt, "an answer line");
-        let mut book = desk.close();
-        let events = book.events_after(self.told, ALL).expect(rt, "memory");
-        self.make(rt, answer, &events);
+    // The switch makes the answer and the events too.
+    fn follow(
+        &mut self,
+        rt: &impl Abort,
+        arrival: Option<Arrival>,
+        answer: &str,
+        events: &[Event],
+    ) {
         match arrival {
             Some(arrival) => self
                 .reference
-                .take(rt, self.alloc, &arrival, answer, &events),
+                .take(rt, self.alloc, &arrival, answer, events),
             None => assert!(rt; events.is_empty()),
         }
-        let rows = book.rows().expect(rt, "memory");
-        self.reference.compare(rt, &rows);
-        let all = book.events_after(0, ALL).expect(rt, "memory");
-        reports::compare(rt, &all, &rows);
-        book
     }
 
-    // Keeps what a read told.
-    fn keep_told(&mut self, rt: &impl Abort, text: &str) {
-        let mut told = Vec::new(self.alloc);
-        for line in text.lines() {
-            let line = line_of(rt, self.alloc, &[". ", line]);
-            told.push(line).expect(rt, "memory");
-        }
-        self.made = told;
-        self.read = 0;
+    // The book has made the events behind this answer. Then the look-ups are the scans of the rows, and the reports
+    // tell the rows.
+    fn compare<B: Book>(
+        &mut self,
+        rt: &impl Abort,
+        book: &mut B,
+        arrival: Option<Arrival>,
+        answer: &str,
+    ) {
+        let events = events_of(rt, book, self.told);
+        self.make(rt, answer, &events);
+        self.follow(rt, arrival, answer, &events);
+    }
+
+    // The switch has the rows.
+    fn compare_rows<B: Book>(&self, rt: &impl Abort, book: &mut B) {
+        let rows = rows_of(rt, book);
+        self.reference.compare(rt, &rows);
+        reports::compare(rt, self.alloc, &events_of(rt, book, 0), &rows);
+    }
+
+    // The desk over the book answers the line, and so does the switch.
+    fn ask<B: Book + Drop>(&mut self, rt: &impl Abort, book: B, asked: &str) -> B {
+        let mut book = book;
+        let arrival = new_arrival(rt, self.alloc, &mut book, asked);
+        let (mut book, answer) = line_answered(rt, self.alloc, book, asked);
+        self.compare(rt, &mut book, arrival, answer.as_str());
+        self.compare_rows(rt, &mut book);
+        book
     }
 
     // A desk over the book is asked for a read.
     fn look<B: Book + Drop>(&mut self, rt: &impl Abort, book: B, asked: &str) -> B {
-        let mut desk = opened(rt, self.alloc, book);
-        match reads::told(rt, &mut desk, asked) {
-            Some(text) => self.keep_told(rt, text.as_str()),
-            None => self.keep_told(rt, ""),
-        }
-        desk.close()
+        let (book, told) = looked(rt, self.alloc, book, asked);
+        self.keep(told);
+        book
     }
 
     // The rows hold the line.
-    fn expect_held<B: Book>(
-        &self,
-        rt: &impl Abort,
-        book: &mut B,
-        number: usize,
-        line: &str,
-    ) -> Result<(), Mismatch> {
-        let rows = book.rows().expect(rt, "memory");
-        if held::is_line(rt, self.alloc, &rows, line) {
-            return Ok(());
+    fn expect_held<B: Book>(&mut self, rt: &impl Abort, book: &mut B, line: &str) {
+        let held = held::text(rt, self.alloc, &rows_of(rt, book));
+        if !has_line(held.as_str(), line) {
+            self.miss(rt, "not held: ", line);
         }
-        Err(mismatch_at(rt, self.alloc, number, "not held: ", line))
     }
 
-    // One line of a transcript.
-    fn play_line<B: Book + Drop>(
-        &mut self,
-        rt: &impl Abort,
-        book: B,
-        number: usize,
-        line: &str,
-    ) -> Result<B, Mismatch> {
-        if line.starts_with("< ") || line.starts_with("! ") || line.starts_with(". ") {
-            self.expect_made(rt, number, line)?;
-            return Ok(book);
-        }
-        self.expect_all_read(rt, number)?;
+    // One line that asks, or tells what is held.
+    fn play_asked<B: Book + Drop>(&mut self, rt: &impl Abort, book: B, line: &str) -> B {
         if let Some(asked) = line.strip_prefix("> ") {
-            return Ok(self.ask(rt, book, asked));
+            return self.ask(rt, book, asked);
         }
         if let Some(asked) = line.strip_prefix("? ") {
-            return Ok(self.look(rt, book, asked));
+            return self.look(rt, book, asked);
         }
         let mut book = book;
         if line.starts_with("= ") {
-            self.expect_held(rt, &mut book, number, line)?;
+            self.expect_held(rt, &mut book, line);
         } else if !line.is_empty() && !line.starts_with("# ") {
-            return Err(mismatch_at(rt, self.alloc, number, "no line of a transcript: ", line));
+            self.miss(rt, "no line of a transcript: ", line);
         }
-        Ok(book)
+        book
     }
 
-    fn play_text<B: Book + Drop>(
-        &mut self,
-        rt: &impl Abort,
-        book: B,
-        text: &str,
-    ) -> Result<B, Mismatch> {
+    // One line of a transcript.
+    fn play_line<B: Book + Drop>(&mut self, rt: &impl Abort, book: B, line: &str) -> B {
+        if line.starts_with("< ") || line.starts_with("! ") || line.starts_with(". ") {
+            self.expect_made(rt, line);
+            return book;
+        }
+        self.expect_all_read(rt);
+        if !self.wrong.is_empty() {
+            return book;
+        }
+        self.play_asked(rt, book, line)
+    }
+
+    // A transcript, to its end or to the first line that isn't what happens.
+    fn play_text<B: Book + Drop>(&mut self, rt: &impl Abort, book: B, text: &str) -> B {
         let mut book = book;
-        let mut asked = false;
+        self.has_asked = false;
         for (number, line) in text.lines().enumerate() {
-            asked = asked || line.starts_with("> ") || line.starts_with("? ");
-            book = self.play_line(rt, book, number, line)?;
+            if self.wrong.is_empty() {
+                self.line = number;
+                book = self.play_line(rt, book, line);
+            }
         }
-        let count = text.lines().count();
-        self.expect_all_read(rt, count)?;
-        if !asked {
-            return Err(mismatch_at(rt, self.alloc, count, "no request", ""));
-        }
-        Ok(book)
+        self.end_text(rt, text);
+        book
     }
-}
 
-// The requests of the transcripts as one input, at their own moments or all at this one, and the answers
-// as one output.
-pub fn session(
-    rt: &impl Abort,
-    alloc: Global,
-    texts: &[&str],
-    moment: Option<&str>,
-) -> (String, String) {
-    let mut input = String::new(alloc);
-    let mut output = String::new(alloc);
-    for text in texts {
-        for line in text.lines() {
-            if let Some(asked) = line.strip_prefix("> ") {
-                let (own, json) = asked.split_once(' ').expect(rt, "a moment");
-                let moment = moment.unwrap_or(own);
-                for part in [moment, " ", json, "\n"] {
-                    input.push_str(part).expect(rt, "memory");
-                }
-            } else if let Some(answer) = line.strip_prefix("< ") {
-                output.push_str(answer).expect(rt, "memory");
-                output.push_str("\n").expect(rt, "memory");
+    // The end of a transcript.
+    fn end_text(&mut self, rt: &impl Abort, text: &str) {
+        if self.wrong.is_empty() {
+            self.line = text.lines().count();
+            self.expect_all_read(rt);
+            if !self.has_asked {
+                self.miss(rt, "no request", "");
             }
         }
     }
-    (input, output)
-}
 
-// The requests of the transcripts as one input get the answers of the transcripts.
-fn send<B: Book>(
-    rt: &impl Abort,
-    alloc: Global,
-    desk: &mut Desk<B>,
-    texts: &[&str],
-    moment: Option<&str>,
-) {
-    let (input, output) = session(rt, alloc, texts, moment);
-    let answers = written(rt, alloc, desk, &input);
-    assert_eq!(rt; answers.as_str(), output.as_str());
-}
-
-fn held_by<B: Book>(rt: &impl Abort, book: &mut B) -> (Rows, Vec<Event>) {
-    let rows = book.rows().expect(rt, "memory");
-    let events = book.events_after(0, ALL).expect(rt, "memory");
-    (rows, events)
-}
-
-// One desk is sent all requests again, at the moments and at the greatest one: each gets its answer, and
-// nothing changes. It exports all events.
-fn send_again<B: Book + Drop>(rt: &impl Abort, alloc: Global, book: B, texts: &[&str]) -> B {
-    let mut book = book;
-    let before = held_by(rt, &mut book);
-    let mut desk = opened(rt, alloc, book);
-    send(rt, alloc, &mut desk, texts, None);
-    send(rt, alloc, &mut desk, texts, Some(AT_LAST));
-    exports::compare(rt, alloc, &mut desk, &before.1);
-    let mut book = desk.close();
-    same(rt, &held_by(rt, &mut book), &before);
-    book
+    // Where a line isn't what happens.
+    fn mismatch(&self, rt: &impl Abort) -> String {
+        let mismatch = format!(in self.alloc; "line {}: {}", self.line, self.wrong.as_str());
+        mismatch.expect(rt, "memory")
+    }
 }
 
 /// Plays the transcripts of a scene, one after the other, over a new book. Each line is what the desk
-/// answers, the book holds and the switch makes, and nothing is left out.
+/// answers, the book holds and the switch makes, and nothing is left out. Answers the book, and nothing else or the line
+/// where that isn't so.
 pub fn play<B: Book + Drop>(
     rt: &impl Abort,
     alloc: Global,
     book: B,
     texts: &[&str],
-) -> Result<B, Mismatch> {
+) -> (B, Option<String>) {
     let mut book = book;
-    let limits = book.limits().expect(rt, "memory");
-    let mut player = Player {
-        alloc,
-        reference: Reference::new(rt, alloc, limits),
-        made: Vec::new(alloc),
-        read: 0,
-        told: 0,
-    };
+    let limits = limits_of(rt, &mut book);
+    let mut player = Player::new(rt, alloc, limits);
     for text in texts {
-        book = player.play_text(rt, book, text)?;
+        if player.wrong.is_empty() {
+            book = player.play_text(rt, book, text);
+        }
     }
-    Ok(send_again(rt, alloc, book, texts))
+    if player.wrong.is_empty() {
+        return (ends::compare(rt, alloc, book, texts), None);
+    }
+    (book, Some(player.mismatch(rt)))
 }

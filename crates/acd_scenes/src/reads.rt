@@ -1,8 +1,10 @@
 //! What transcripts ask of a desk: its reads.
 
+use crate::texts::{halves, moment, number};
 use acd_book::Book;
 use acd_desk::{Desk, DeskFault};
 use acd_terms::{AgentId, DeviceId};
+use std::alloc::Global;
 use std::process::Abort;
 
 // The device of these digits.
@@ -14,30 +16,20 @@ fn agent(rt: &impl Abort, digits: &str) -> AgentId {
     AgentId::read(digits.as_bytes()).expect(rt, "an agent")
 }
 
-fn number(rt: &impl Abort, digits: &str) -> u64 {
-    digits.parse::<u64>().expect(rt, "a number")
-}
-
-fn moment(rt: &impl Abort, digits: &str) -> u32 {
-    digits.parse::<u32>().expect(rt, "a moment")
-}
-
 // The page of a monitor's events, by the numbers of the monitor and of the event before.
 fn monitor_events<B: Book>(
     rt: &impl Abort,
     desk: &mut Desk<B>,
     numbers: &str,
 ) -> Result<Option<String>, DeskFault> {
-    let (monitor, after) = numbers.split_once(' ').expect(rt, "two numbers");
+    let (monitor, after) = halves(rt, numbers);
     desk.monitor_events(number(rt, monitor), number(rt, after))
 }
 
 /// What the desk tells of what is asked: `agent 7`, `call 1`, `device 201`, `queue 100`, `events 10`,
 /// `monitor 1 9`, `report 40` or `export all`.
 pub fn told<B: Book>(rt: &impl Abort, desk: &mut Desk<B>, asked: &str) -> Option<String> {
-    let (what, of) = asked
-        .split_once(' ')
-        .expect(rt, "what is read, and of what");
+    let (what, of) = halves(rt, asked);
     let told = if what == "agent" {
         desk.agent(agent(rt, of))
     } else if what == "call" {
@@ -57,4 +49,12 @@ pub fn told<B: Book>(rt: &impl Abort, desk: &mut Desk<B>, asked: &str) -> Option
         desk.export()
     };
     told.expect(rt, "memory")
+}
+
+/// The same, and nothing where there is no such thing.
+pub fn text<B: Book>(rt: &impl Abort, alloc: Global, desk: &mut Desk<B>, asked: &str) -> String {
+    match told(rt, desk, asked) {
+        Some(text) => text,
+        None => String::new(alloc),
+    }
 }

@@ -3,9 +3,10 @@
 ghost use Rattle.acd_model.specs.Rules.First.{BreaksNoRule};
 
 use crate::look_ups::{self, same};
+use crate::texts::same_text;
 use acd_codec::{outcome_status, reply_text};
 use acd_switch::Switch;
-use acd_terms::{Arrival, Command, Event, Limits, Outcome, Rows};
+use acd_terms::{Arrival, Command, Event, Limits, Outcome, Request, Rows};
 use std::alloc::Global;
 use std::process::Abort;
 
@@ -30,6 +31,14 @@ fn stepped(
     switch.step(moment, command).expect(rt, "memory")
 }
 
+// The answer line of this outcome.
+fn answer_line(rt: &impl Abort, alloc: Global, request: &Request, outcome: Outcome) -> String {
+    let body = reply_text(alloc, &request.requester, request.invoke, outcome);
+    let body = body.expect(rt, "memory");
+    let status = outcome_status(outcome);
+    format!(in alloc; "{status} {body}\n").expect(rt, "memory")
+}
+
 impl Reference {
     pub fn new(rt: &impl Abort, alloc: Global, limits: Limits) -> Reference {
         assert!(rt; limits.fits());
@@ -46,18 +55,16 @@ impl Reference {
         }
     }
 
-    /// Executes a request.
-    pub fn step(
-        &mut self,
-        rt: &impl Abort,
-        moment: u32,
-        command: &Command,
-    ) -> (Outcome, Vec<Event>) {
-        stepped(rt, &mut self.switch, moment, command)
-    }
-
-    pub fn rows(&self, rt: &impl Abort) -> Rows {
-        self.switch.rows().expect(rt, "memory")
+    // Executes a request, which makes these events.
+    fn step(&mut self, rt: &impl Abort, arrival: &Arrival, events: &[Event]) -> Outcome {
+        let (outcome, made) = stepped(
+            rt,
+            &mut self.switch,
+            arrival.moment,
+            &arrival.request.command,
+        );
+        assert!(rt; made.as_slice() == events);
+        outcome
     }
 
     /// Executes a request whose key is new: it makes the answer line and the events. A full switch has made
@@ -74,14 +81,13 @@ impl Reference {
             assert!(rt; events.is_empty());
             return;
         }
-        let request = &arrival.request;
-        let (outcome, made) = self.step(rt, arrival.moment, &request.command);
-        assert!(rt; made.as_slice() == events);
-        let body = reply_text(alloc, &request.requester, request.invoke, outcome);
-        let body = body.expect(rt, "memory");
-        let status = outcome_status(outcome);
-        let line = format!(in alloc; "{status} {body}").expect(rt, "memory");
-        assert_eq!(rt; answer, line.as_str());
+        let outcome = self.step(rt, arrival, events);
+        let line = answer_line(rt, alloc, &arrival.request, outcome);
+        same_text(rt, answer, line.as_str());
+    }
+
+    fn rows(&self, rt: &impl Abort) -> Rows {
+        self.switch.rows().expect(rt, "memory")
     }
 
     /// It has these rows, and each look-up in its tables is their scan.

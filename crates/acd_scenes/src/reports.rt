@@ -6,10 +6,8 @@ use acd_terms::{
     AgentId, AgentState, Cause, ConnectionRecord, ConnectionState, DeviceId, Event, EventKind,
     Report, Rows,
 };
+use std::alloc::Global;
 use std::process::Abort;
-
-// More events than any scene has.
-pub const ALL: usize = 1000;
 
 // What an event tells of its call at its device.
 fn state_told(kind: EventKind) -> Option<ConnectionState> {
@@ -26,16 +24,36 @@ fn state_told(kind: EventKind) -> Option<ConnectionState> {
     }
 }
 
-// The last event with both tells the connection.
-fn connection_told(events: &[Event], call: u64, device: DeviceId) -> Option<ConnectionState> {
-    let mut told = None;
-    for event in events {
-        let columns = event.report.columns();
-        if columns.call == Some(call) && columns.device == Some(device) {
-            told = state_told(columns.kind);
+// A connection, by its call and device, and its state.
+type End = (u64, DeviceId, ConnectionState);
+
+fn is_of(end: &End, call: u64, device: DeviceId) -> bool {
+    end.0 == call && end.1 == device
+}
+
+// The connection is gone.
+fn forget(ends: &mut Vec<End>, call: u64, device: DeviceId) {
+    ends.retain(|end| !is_of(end, call, device));
+}
+
+// What an event tells of a connection is all that is known of it.
+fn learn(rt: &impl Abort, ends: &mut Vec<End>, event: &Event) {
+    let columns = event.report.columns();
+    if let (Some(call), Some(device)) = (columns.call, columns.device) {
+        forget(ends, call, device);
+        if let Some(state) = state_told(columns.kind) {
+            ends.push((call, device, state)).expect(rt, "memory");
         }
     }
-    told
+}
+
+// The connections that the events tell.
+fn ends_told(rt: &impl Abort, alloc: Global, events: &[Event]) -> Vec<End> {
+    let mut ends = Vec::new(alloc);
+    for event in events {
+        learn(rt, &mut ends, event);
+    }
+    ends
 }
 
 // An agent's state, and station unless it is null.
@@ -97,36 +115,17 @@ fn is_external_caller(rows: &Rows, call: u64, device: DeviceId) -> bool {
         && !is_planned(rows, device)
 }
 
-fn state_kept(rows: &Rows, call: u64, device: DeviceId) -> Option<ConnectionState> {
-    for connection in rows.connections.as_slice() {
-        if connection.call == call && connection.device == device {
-            return Some(connection.state);
+// Each connection of the rows is told, but that of an external caller, and no other one is.
+fn compare_connections(rt: &impl Abort, alloc: Global, events: &[Event], rows: &Rows) {
+    let told = ends_told(rt, alloc, events);
+    let mut kept = 0usize;
+    for c in rows.connections.as_slice() {
+        if !is_external_caller(rows, c.call, c.device) {
+            assert!(rt; told.contains(&(c.call, c.device, c.state)));
+            kept = kept.saturating_add(1);
         }
     }
-    None
-}
-
-fn compare_connection(rt: &impl Abort, events: &[Event], rows: &Rows, call: u64, device: DeviceId) {
-    if !is_external_caller(rows, call, device) {
-        same(
-            rt,
-            &connection_told(events, call, device),
-            &state_kept(rows, call, device),
-        );
-    }
-}
-
-// Each connection of the rows, and each of which an event tells.
-fn compare_connections(rt: &impl Abort, events: &[Event], rows: &Rows) {
-    for connection in rows.connections.as_slice() {
-        compare_connection(rt, events, rows, connection.call, connection.device);
-    }
-    for event in events {
-        let columns = event.report.columns();
-        if let (Some(call), Some(device)) = (columns.call, columns.device) {
-            compare_connection(rt, events, rows, call, device);
-        }
-    }
+    same(rt, &told.len(), &kept);
 }
 
 fn compare_agents(rt: &impl Abort, events: &[Event], rows: &Rows) {
@@ -165,8 +164,8 @@ fn compare_queue(rt: &impl Abort, events: &[Event], rows: &Rows, group: DeviceId
 }
 
 /// Compares what all events tell with the rows.
-pub fn compare(rt: &impl Abort, events: &[Event], rows: &Rows) {
-    compare_connections(rt, events, rows);
+pub fn compare(rt: &impl Abort, alloc: Global, events: &[Event], rows: &Rows) {
+    compare_connections(rt, alloc, events, rows);
     compare_agents(rt, events, rows);
     for group in rows.groups.as_slice() {
         compare_queue(rt, events, rows, group.device);

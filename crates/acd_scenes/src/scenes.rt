@@ -1,23 +1,13 @@
 //! The scenes, in lines of a [script](crate::script), and what is told of them.
 
-mod agents;
-mod calls;
-mod refusals;
-mod told;
+pub mod agents;
+pub mod calls;
+pub mod morning;
+pub mod office;
+pub mod refusals;
+pub mod told;
 
-use std::alloc::{AllocError, Global};
-
-/// All lines.
-pub fn all(alloc: Global) -> Result<String, AllocError> {
-    let mut lines = String::new(alloc);
-    lines.push_str(calls::lines())?;
-    lines.push_str(agents::lines())?;
-    lines.push_str(refusals::lines())?;
-    lines.push_str(told::lines())?;
-    Ok(lines)
-}
-
-/// The name of each scene, and where each wrong one is wrong.
+/// The name of each scene but those of offices, and where each wrong one is wrong.
 pub fn names() -> &'static str {
     r#"call_waits
 offered_to_the_ready_agent
@@ -99,6 +89,5 @@ missing_report, line 4: left out: ! {"call":1,"cause":"newCall","device":"100","
 surplus_report, line 2: not made: ! {"call":1,"cause":"newCall","device":"100","event":"queued","moment":10,"number":1}
 other_rows, line 2: not held: = figures of 100: entered 1, answered 0, abandoned 0, moved 0, waited 0
 another_read, line 3: made: . {"events":[],"last":0}
-office
 "#
 }

@@ -4,25 +4,28 @@
 //! |---|---|
 //! | `part NAME` | the lines of a transcript follow ([`player`](crate::player)), up to the next line of this table |
 //! | `- MOMENT CODE NAME JSON` | in a transcript: a request that is refused with this code and name, and its answer |
+//! | `+ MOMENT RESULT JSON` | in a transcript: a request that gets this result, and its answer |
+//! | `* FIRST LAST BEHIND MOMENT RESULT JSON` | for each number `$1` from the first to the last one, such a request, and `! *` behind it. `$2` is the number and so many more, for the invoke; `$3` is its group, of twelve; `$4` and `$5` are its station and its caller |
 //! | `scene NAME: PART PART` | these parts, one behind the other, are played over a new book in memory and over one in a database |
 //! | `scene NAME within R C G S A M: PART` | the same with these limits on requests, calls, groups, stations, agents and monitors |
 //! | `table NAME: PART PART` | the lines of a transcript follow, with the places `$1`, `$2` and so on in them and in the name |
 //! | `row VALUE VALUE` | with these values in its places the table's transcript, behind the parts, is a scene of that name |
 //! | `wrong NAME: PART` | isn't what happens, and the player says where |
 //! | `files NAME: PART` | is played over files that are closed and opened between any two requests |
-//! | `stops NAME: PART` | is played over files of which one stops at each of its calls in turn ([`fused`](crate::fused)) |
+//! | `stops NAME: PART` | is played over files of which one stops at each of its calls in turn ([`files`](crate::files)) |
 //! | `altered NAME: PART` | is taken by a book whose database is then changed by each of its lines `~ TOLD SQL` ([`altered`](crate::altered)) |
-//! | `office` | the [office of working size](crate::working_size) |
 
-use crate::altered::Unseen;
-use crate::player::{Mismatch, play};
-use crate::store::created;
-use crate::{altered, files, fused, working_size};
-use acd_book::MemoryBook;
+use crate::altered::database;
+use crate::ends::{Held, expect_committed, expect_run, held_by};
+use crate::player::play;
+use crate::shelf::taken;
+use crate::texts::{halves, joined, number, push};
+use crate::{altered, files};
+use acd_book::{Book, BookFault, MemoryBook};
 use acd_codec::read_request;
 use acd_sqlbook::SqlBook;
-use acd_terms::Limits;
-use sqlite::{Connection, MemStore};
+use acd_terms::{Limits, Request};
+use sqlite::MemStore;
 use std::alloc::Global;
 use std::process::Abort;
 
@@ -33,27 +36,98 @@ struct Part<'a> {
     text: String,
 }
 
-/// A new book in a database in memory.
-pub fn database(rt: &impl Abort, alloc: Global, limits: Limits) -> SqlBook<MemStore> {
-    match Connection::open_in_memory(alloc) {
-        Ok(conn) => created(rt, alloc, conn, limits),
-        Err(_) => panic!(rt; "memory"),
+// Over a new book. Answers what it then holds, or where that isn't what happens.
+fn played_over<B: Book + Drop>(
+    rt: &impl Abort,
+    alloc: Global,
+    book: B,
+    texts: &[&str],
+) -> Result<Held, String> {
+    let (mut book, wrong) = play(rt, alloc, book, texts);
+    match wrong {
+        None => Ok(held_by(rt, &mut book)),
+        Some(wrong) => Err(wrong),
     }
 }
 
-// Over a new book in memory with these limits, and over one in a database.
-fn played(rt: &impl Abort, alloc: Global, limits: Limits, texts: &[&str]) -> Result<(), Mismatch> {
-    let _ = play(rt, alloc, MemoryBook::new(alloc, limits), texts)?;
-    let _ = play(rt, alloc, database(rt, alloc, limits), texts)?;
-    Ok(())
+fn book_in_memory(alloc: Global, limits: Limits) -> MemoryBook {
+    MemoryBook::new(alloc, limits)
+}
+
+// Another new book takes what one holds by one commit, and a third one by one session.
+fn again_in_memory(rt: &impl Abort, alloc: Global, limits: Limits, texts: &[&str], held: &Held) {
+    let refused = BookFault::NoMemory;
+    expect_committed(rt, alloc, book_in_memory(alloc, limits), held, refused);
+    expect_run(rt, alloc, book_in_memory(alloc, limits), texts, held);
+}
+
+// Over new books in memory with these limits.
+fn played_in_memory(
+    rt: &impl Abort,
+    alloc: Global,
+    limits: Limits,
+    texts: &[&str],
+) -> Option<String> {
+    match played_over(rt, alloc, book_in_memory(alloc, limits), texts) {
+        Ok(held) => again_in_memory(rt, alloc, limits, texts, &held),
+        Err(wrong) => return Some(wrong),
+    }
+    None
+}
+
+fn book_in_database(rt: &impl Abort, alloc: Global, limits: Limits) -> SqlBook<MemStore> {
+    taken(rt, alloc, database(rt, alloc), Some(limits))
+}
+
+// The same over books in databases.
+fn again_in_database(rt: &impl Abort, alloc: Global, limits: Limits, texts: &[&str], held: &Held) {
+    let refused = BookFault::Store;
+    expect_committed(
+        rt,
+        alloc,
+        book_in_database(rt, alloc, limits),
+        held,
+        refused,
+    );
+    expect_run(rt, alloc, book_in_database(rt, alloc, limits), texts, held);
+}
+
+// And over books in databases.
+fn played_in_database(
+    rt: &impl Abort,
+    alloc: Global,
+    limits: Limits,
+    texts: &[&str],
+) -> Option<String> {
+    match played_over(rt, alloc, book_in_database(rt, alloc, limits), texts) {
+        Ok(held) => again_in_database(rt, alloc, limits, texts, &held),
+        Err(wrong) => return Some(wrong),
+    }
+    None
+}
+
+// Over both. Answers where that isn't what happens.
+fn played(rt: &impl Abort, alloc: Global, limits: Limits, texts: &[&str]) -> Option<String> {
+    match played_in_memory(rt, alloc, limits, texts) {
+        None => played_in_database(rt, alloc, limits, texts),
+        wrong => wrong,
+    }
+}
+
+// Over files that don't stop, or that do.
+fn played_in_files(rt: &impl Abort, alloc: Global, texts: &[&str], stops: bool) -> Option<String> {
+    files::play(rt, alloc, texts, stops);
+    None
 }
 
 // The text of the part.
 fn text_of<'b>(rt: &impl Abort, parts: &'b [Part<'_>], name: &str) -> &'b str {
-    match parts.iter().find(|part| part.name == name) {
-        Some(part) => part.text.as_str(),
-        None => panic!(rt; "no part {name}"),
+    for part in parts {
+        if part.name == name {
+            return part.text.as_str();
+        }
     }
+    panic!(rt; "no part {name}")
 }
 
 // The texts of these parts.
@@ -70,138 +144,225 @@ fn texts_of<'b>(
     texts
 }
 
-fn limits_of(rt: &impl Abort, alloc: Global, numbers: &str) -> Limits {
-    let mut read = Vec::new(alloc);
-    for number in numbers.split(' ') {
-        let number = number.parse::<u64>().expect(rt, "a limit");
-        read.push(number).expect(rt, "memory");
+// The number at this place, from 0.
+fn number_at(rt: &impl Abort, numbers: &str, place: usize) -> u64 {
+    for (i, digits) in numbers.split(' ').enumerate() {
+        if i == place {
+            return number(rt, digits);
+        }
     }
-    match read.as_slice() {
-        [requests, calls, groups, stations, agents, monitors] => Limits {
-            requests: *requests,
-            calls: *calls,
-            groups: *groups,
-            stations: *stations,
-            agents: *agents,
-            monitors: *monitors,
-        },
-        _ => panic!(rt; "not six limits: {numbers}"),
+    panic!(rt; "not six limits: {numbers}")
+}
+
+fn limits_of(rt: &impl Abort, numbers: &str) -> Limits {
+    Limits {
+        requests: number_at(rt, numbers, 0),
+        calls: number_at(rt, numbers, 1),
+        groups: number_at(rt, numbers, 2),
+        stations: number_at(rt, numbers, 3),
+        agents: number_at(rt, numbers, 4),
+        monitors: number_at(rt, numbers, 5),
     }
+}
+
+fn request(rt: &impl Abort, alloc: Global, json: &str) -> Request {
+    read_request(alloc, json.as_bytes()).expect(rt, "a request")
+}
+
+// The members of a reply that tell its request.
+fn key_of(rt: &impl Abort, alloc: Global, json: &str) -> String {
+    let request = request(rt, alloc, json);
+    let (invoke, requester) = (request.invoke.number(), request.requester.as_str());
+    let members = format!(in alloc; "\"invoke\":{invoke},\"requester\":\"{requester}\"");
+    members.expect(rt, "memory")
 }
 
 // The lines of a refusal.
 fn refusal(rt: &impl Abort, alloc: Global, said: &str) -> String {
-    let (moment, said) = said.split_once(' ').expect(rt, "a moment");
-    let (code, said) = said.split_once(' ').expect(rt, "a code");
-    let (name, json) = said.split_once(' ').expect(rt, "a name");
-    let request = read_request(alloc, json.as_bytes()).expect(rt, "a request");
-    let (invoke, requester) = (request.invoke.number(), request.requester.as_str());
+    let (moment, said) = halves(rt, said);
+    let (code, said) = halves(rt, said);
+    let (name, json) = halves(rt, said);
+    let key = key_of(rt, alloc, json);
     let lines = format!(in alloc;
-        "> {moment} {json}\n< 409 {{\"error\":{{\"code\":{code},\"name\":\"{name}\"}},\"invoke\":{invoke},\"requester\":\"{requester}\"}}\n"
+        "> {moment} {json}\n< 409 {{\"error\":{{\"code\":{code},\"name\":\"{name}\"}},{}}}\n",
+        key.as_str()
     );
     lines.expect(rt, "memory")
 }
 
+// The lines of a request that gets this result.
+fn granted(rt: &impl Abort, alloc: Global, said: &str) -> String {
+    let (moment, said) = halves(rt, said);
+    let (result, json) = halves(rt, said);
+    let key = key_of(rt, alloc, json);
+    let lines = format!(in alloc;
+        "> {moment} {json}\n< 200 {{{},\"result\":{result}}}\n",
+        key.as_str()
+    );
+    lines.expect(rt, "memory")
+}
+
+// The sign of a place, from 0.
+fn sign(place: usize) -> &'static str {
+    match place {
+        0 => "$1",
+        1 => "$2",
+        2 => "$3",
+        3 => "$4",
+        _ => "$5",
+    }
+}
+
+// The text with this value in its place.
+fn with_value(rt: &impl Abort, alloc: Global, text: &str, place: usize, value: &str) -> String {
+    text.replace(alloc, sign(place), value).expect(rt, "memory")
+}
+
 // The text with these values in its places.
 fn filled(rt: &impl Abort, alloc: Global, text: &str, values: &str) -> String {
-    let mut filled = String::new(alloc);
-    filled.push_str(text).expect(rt, "memory");
-    for (place, value) in ["$1", "$2", "$3", "$4"].iter().zip(values.split(' ')) {
-        filled = filled
-            .as_str()
-            .replace(alloc, *place, value)
-            .expect(rt, "memory");
+    let mut filled = joined(rt, alloc, &[text]);
+    for (place, value) in values.split(' ').enumerate() {
+        filled = with_value(rt, alloc, filled.as_str(), place, value);
     }
     filled
 }
 
+// The values of a number: itself, so many more, and its group, station and caller.
+fn values_of(rt: &impl Abort, alloc: Global, number: u64, behind: u64) -> String {
+    let more = number.saturating_add(behind);
+    let group = number % 12 + 100;
+    let station = number.saturating_add(200);
+    let caller = number.saturating_add(301000);
+    let values = format!(in alloc; "{number} {more} {group} {station} {caller}");
+    values.expect(rt, "memory")
+}
+
+// The lines of this number.
+fn granted_to(rt: &impl Abort, alloc: Global, said: &str, number: u64, behind: u64) -> String {
+    let values = values_of(rt, alloc, number, behind);
+    let said = filled(rt, alloc, said, values.as_str());
+    granted(rt, alloc, said.as_str())
+}
+
+// The lines of as many requests. Their reports aren't listed.
+fn add_each(rt: &impl Abort, alloc: Global, text: &mut String, said: &str) {
+    let (first, said) = halves(rt, said);
+    let (last, said) = halves(rt, said);
+    let (behind, said) = halves(rt, said);
+    let (first, last, behind) = (number(rt, first), number(rt, last), number(rt, behind));
+    for number in first..last.saturating_add(1) {
+        let lines = granted_to(rt, alloc, said, number, behind);
+        push(rt, text, &[lines.as_str(), "! *\n"]);
+    }
+}
+
 // What is said of a scene and its parts: the name, behind it the limits where they aren't the greatest, and
 // the parts' names.
-fn read_scene<'a>(rt: &impl Abort, alloc: Global, said: &'a str) -> (&'a str, Limits, &'a str) {
+fn read_scene<'a>(rt: &impl Abort, said: &'a str) -> (&'a str, Limits, &'a str) {
     let (scene, names) = said.split_once(": ").expect(rt, "parts");
     match scene.split_once(" within ") {
-        Some((name, numbers)) => (name, limits_of(rt, alloc, numbers), names),
+        Some((name, numbers)) => (name, limits_of(rt, numbers), names),
         None => (scene, Limits::GREATEST, names),
+    }
+}
+
+// Plays what the word says. Answers where that isn't what happens.
+fn mismatch(
+    rt: &impl Abort,
+    alloc: Global,
+    word: &str,
+    limits: Limits,
+    texts: &[&str],
+) -> Option<String> {
+    if word == "files" || word == "stops" {
+        played_in_files(rt, alloc, texts, word == "stops")
+    } else if word == "altered" {
+        altered::play(rt, alloc, texts)
+    } else {
+        played(rt, alloc, limits, texts)
     }
 }
 
 /// The parts that were read, and what is told of the scenes.
 #[derive(Drop)]
-struct Script<'a> {
+pub struct Script<'a> {
     alloc: Global,
     parts: Vec<Part<'a>>,
     told: String,
 }
 
 impl<'a> Script<'a> {
-    fn tell(&mut self, rt: &impl Abort, line: &str) {
-        self.told.push_str(line).expect(rt, "memory");
-        self.told.push_str("\n").expect(rt, "memory");
-    }
-
-    // A scene is what happens: its name.
-    fn scene<'b>(&self, rt: &impl Abort, said: &'b str) -> &'b str {
-        let (name, limits, names) = read_scene(rt, self.alloc, said);
-        let texts = texts_of(rt, self.alloc, &self.parts, names);
-        match played(rt, self.alloc, limits, &texts) {
-            Ok(()) => name,
-            Err(Mismatch { line, what }) => panic!(rt; "{name}, line {line}: {what}"),
+    pub fn new(alloc: Global) -> Script<'a> {
+        Script {
+            alloc,
+            parts: Vec::new(alloc),
+            told: String::new(alloc),
         }
     }
 
-    // So is what a row makes of the table that was begun last: the name and the parts.
-    fn row(&self, rt: &impl Abort, values: &str) -> String {
+    /// Each scene that is as it should be has a line here, its name; a wrong one has also the line in its last part
+    /// from 0, and what is wrong there.
+    pub fn told(&self) -> &str {
+        self.told.as_str()
+    }
+
+    // A scene was played. It is what happens, unless it is a wrong one.
+    fn tell(&mut self, rt: &impl Abort, word: &str, name: &str, wrong: Option<String>) {
+        match wrong {
+            None => {
+                assert!(rt; word != "wrong");
+                push(rt, &mut self.told, &[name, "\n"]);
+            }
+            Some(what) => {
+                let what = what.as_str();
+                if word != "wrong" {
+                    panic!(rt; "{name}, {what}");
+                }
+                push(rt, &mut self.told, &[name, ", "]);
+                push(rt, &mut self.told, &[what, "\n"]);
+            }
+        }
+    }
+
+    // Plays these parts. Answers where that isn't what happens.
+    fn wrong(&self, rt: &impl Abort, word: &str, limits: Limits, names: &str) -> Option<String> {
+        let texts = texts_of(rt, self.alloc, &self.parts, names);
+        mismatch(rt, self.alloc, word, limits, &texts)
+    }
+
+    // Plays a scene, and tells of it.
+    fn play_scene(&mut self, rt: &impl Abort, word: &str, said: &str) {
+        let (name, limits, names) = read_scene(rt, said);
+        let wrong = self.wrong(rt, word, limits, names);
+        self.tell(rt, word, name, wrong);
+    }
+
+    // Plays these parts, and this text behind them.
+    fn wrong_row(
+        &self,
+        rt: &impl Abort,
+        limits: Limits,
+        names: &str,
+        text: &str,
+    ) -> Option<String> {
+        let mut texts = texts_of(rt, self.alloc, &self.parts, names);
+        texts.push(text).expect(rt, "memory");
+        played(rt, self.alloc, limits, &texts)
+    }
+
+    // Plays what is said of the table, with this text behind its parts.
+    fn play_filled(&mut self, rt: &impl Abort, said: &str, text: &str) {
+        let (name, limits, names) = read_scene(rt, said);
+        let wrong = self.wrong_row(rt, limits, names, text);
+        self.tell(rt, "row", name, wrong);
+    }
+
+    // Plays what a row makes of the table that was begun last.
+    fn play_row(&mut self, rt: &impl Abort, values: &str) {
         let table = self.parts.last().expect(rt, "a table");
         let said = filled(rt, self.alloc, table.name, values);
         let text = filled(rt, self.alloc, table.text.as_str(), values);
-        let (name, mut texts) = self.parts(rt, said.as_str());
-        texts.push(text.as_str()).expect(rt, "memory");
-        if let Err(Mismatch { line, what }) = played(rt, self.alloc, Limits::GREATEST, &texts) {
-            panic!(rt; "{name}, line {line}: {what}");
-        }
-        said
-    }
-
-    // It isn't: its name, and where it is wrong.
-    fn wrong(&self, rt: &impl Abort, said: &str) -> String {
-        let (name, limits, names) = read_scene(rt, self.alloc, said);
-        let texts = texts_of(rt, self.alloc, &self.parts, names);
-        let told = match played(rt, self.alloc, limits, &texts) {
-            Ok(()) => panic!(rt; "{name} is what happens"),
-            Err(Mismatch { line, what }) => {
-                format!(in self.alloc; "{name}, line {line}: {what}")
-            }
-        };
-        told.expect(rt, "memory")
-    }
-
-    // The parts of a scene with the greatest limits.
-    fn parts<'b, 's>(&'s self, rt: &impl Abort, said: &'b str) -> (&'b str, Vec<&'s str>) {
-        let (name, names) = said.split_once(": ").expect(rt, "parts");
-        (name, texts_of(rt, self.alloc, &self.parts, names))
-    }
-
-    // It is what happens over files: its name.
-    fn over_files<'b>(&self, rt: &impl Abort, said: &'b str) -> &'b str {
-        let (name, texts) = self.parts(rt, said);
-        files::play(rt, self.alloc, &texts);
-        name
-    }
-
-    // And over files that stop: its name.
-    fn over_stops<'b>(&self, rt: &impl Abort, said: &'b str) -> &'b str {
-        let (name, texts) = self.parts(rt, said);
-        fused::play(rt, self.alloc, &texts);
-        name
-    }
-
-    // What is told of its book behind each change: its name.
-    fn changes<'b>(&self, rt: &impl Abort, said: &'b str) -> &'b str {
-        let (name, texts) = self.parts(rt, said);
-        match altered::play(rt, self.alloc, &texts) {
-            None => name,
-            Some(Unseen { change, told }) => panic!(rt; "{name}: {told} behind {change}"),
-        }
+        self.play_filled(rt, said.as_str(), text.as_str());
     }
 
     // A part or a table begins.
@@ -217,62 +378,48 @@ impl<'a> Script<'a> {
             assert!(rt; line.is_empty() || line.starts_with("# "));
             return;
         };
-        match line.strip_prefix("- ") {
-            Some(said) => {
-                let lines = refusal(rt, alloc, said);
-                part.text.push_str(lines.as_str()).expect(rt, "memory");
-            }
-            None => {
-                part.text.push_str(line).expect(rt, "memory");
-                part.text.push_str("\n").expect(rt, "memory");
-            }
-        }
+        add_line(rt, alloc, &mut part.text, line);
     }
 
     fn play_line(&mut self, rt: &impl Abort, line: &'a str) {
-        if let Some(name) = line.strip_prefix("part ") {
-            self.begin(rt, name);
-        } else if let Some(name) = line.strip_prefix("table ") {
-            self.begin(rt, name);
-        } else if let Some(values) = line.strip_prefix("row ") {
-            let said = self.row(rt, values);
-            let (name, _) = said.as_str().split_once(": ").expect(rt, "parts");
-            self.tell(rt, name);
-        } else if let Some(said) = line.strip_prefix("scene ") {
-            let name = self.scene(rt, said);
-            self.tell(rt, name);
-        } else if let Some(said) = line.strip_prefix("wrong ") {
-            let line = self.wrong(rt, said);
-            self.tell(rt, line.as_str());
-        } else if let Some(said) = line.strip_prefix("files ") {
-            let name = self.over_files(rt, said);
-            self.tell(rt, name);
-        } else if let Some(said) = line.strip_prefix("stops ") {
-            let name = self.over_stops(rt, said);
-            self.tell(rt, name);
-        } else if let Some(said) = line.strip_prefix("altered ") {
-            let name = self.changes(rt, said);
-            self.tell(rt, name);
-        } else if line == "office" {
-            working_size::play(rt, self.alloc);
-            self.tell(rt, line);
+        let (word, said) = line.split_once(' ').unwrap_or(("", ""));
+        if word == "part" || word == "table" {
+            self.begin(rt, said);
+        } else if word == "row" {
+            self.play_row(rt, said);
+        } else if is_scene(word) {
+            self.play_scene(rt, word, said);
         } else {
             self.add(rt, line);
         }
     }
+
+    /// Plays its lines. The first scene that is otherwise ends the program.
+    pub fn play(&mut self, rt: &impl Abort, lines: &'a str) {
+        for line in lines.lines() {
+            self.play_line(rt, line);
+        }
+    }
 }
 
-/// Plays a script. Each scene that is as it should be has a line in the answer, its name; a wrong one has
-/// also the line in its last part from 0, and what is wrong there. The first that is otherwise ends the
-/// program.
-pub fn told(rt: &impl Abort, alloc: Global, input: &str) -> String {
-    let mut script = Script {
-        alloc,
-        parts: Vec::new(alloc),
-        told: String::new(alloc),
-    };
-    for line in input.lines() {
-        script.play_line(rt, line);
+fn is_scene(word: &str) -> bool {
+    for known in ["scene", "wrong", "files", "stops", "altered"] {
+        if word == known {
+            return true;
+        }
     }
-    script.told
+    false
+}
+
+// A line of a transcript.
+fn add_line(rt: &impl Abort, alloc: Global, text: &mut String, line: &str) {
+    if let Some(said) = line.strip_prefix("- ") {
+        push(rt, text, &[refusal(rt, alloc, said).as_str()]);
+    } else if let Some(said) = line.strip_prefix("+ ") {
+        push(rt, text, &[granted(rt, alloc, said).as_str()]);
+    } else if let Some(said) = line.strip_prefix("* ") {
+        add_each(rt, alloc, text, said);
+    } else {
+        push(rt, text, &[line, "\n"]);
+    }
 }

@@ -1,10 +1,26 @@
 //! All scenes.
 
-use crate::{scenes, script};
+use crate::many_events;
+use crate::scenes::{self, agents, calls, morning, office, refusals, told};
+use crate::script::Script;
+use crate::texts::same_text;
 
 #[test]
 fn all_scenes(rt: HostRuntime) {
-    let lines = scenes::all(rt.alloc()).expect(&rt, "memory");
-    let told = script::told(&rt, rt.alloc(), lines.as_str());
-    assert_eq!(rt; told.as_str(), scenes::names());
+    let mut script = Script::new(rt.alloc());
+    script.play(&rt, calls::lines());
+    script.play(&rt, agents::lines());
+    script.play(&rt, refusals::lines());
+    script.play(&rt, told::lines());
+    same_text(&rt, script.told(), scenes::names());
+}
+
+#[test]
+fn offices(rt: HostRuntime) {
+    let mut script = Script::new(rt.alloc());
+    script.play(&rt, office::lines());
+    script.play(&rt, morning::first_lines());
+    script.play(&rt, morning::last_lines());
+    same_text(&rt, script.told(), "office\nmorning\n");
+    many_events::export_of_many_events(&rt, rt.alloc());
 }

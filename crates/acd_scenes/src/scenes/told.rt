@@ -1,4 +1,4 @@
-//! What a desk tells, files, stops, changes that an audit tells, transcripts that are wrong, and the office.
+//! What a desk tells, files, stops, changes that an audit tells, and transcripts that are wrong.
 
 /// The lines of a [script](crate::script).
 pub fn lines() -> &'static str {
@@ -293,7 +293,5 @@ wrong missing_report: missing_report
 wrong surplus_report: surplus_report
 wrong other_rows: other_rows
 wrong another_read: another_read
-
-office
 "#
 }

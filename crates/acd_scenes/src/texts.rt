@@ -1,0 +1,44 @@
+//! Texts, with ample memory.
+
+use std::alloc::Global;
+use std::process::Abort;
+
+/// The parts at the end of the text.
+pub fn push(rt: &impl Abort, text: &mut String, parts: &[&str]) {
+    for part in parts {
+        text.push_str(part).expect(rt, "memory");
+    }
+}
+
+/// The two at the end of the text.
+pub fn push_both(rt: &impl Abort, text: &mut String, first: &str, second: &str) {
+    text.push_str(first).expect(rt, "memory");
+    text.push_str(second).expect(rt, "memory");
+}
+
+/// The parts, one behind the other.
+pub fn joined(rt: &impl Abort, alloc: Global, parts: &[&str]) -> String {
+    let mut text = String::new(alloc);
+    push(rt, &mut text, parts);
+    text
+}
+
+/// The number that these digits are.
+pub fn number(rt: &impl Abort, digits: &str) -> u64 {
+    digits.parse::<u64>().expect(rt, "a number")
+}
+
+/// The moment that these digits are.
+pub fn moment(rt: &impl Abort, digits: &str) -> u32 {
+    digits.parse::<u32>().expect(rt, "a moment")
+}
+
+/// What stands before the first space, and what behind it.
+pub fn halves<'a>(rt: &impl Abort, text: &'a str) -> (&'a str, &'a str) {
+    text.split_once(' ').expect(rt, "a space")
+}
+
+/// The two are the same.
+pub fn same_text(rt: &impl Abort, found: &str, wanted: &str) {
+    assert_eq!(rt; found, wanted);
+}
