@@ -3,6 +3,7 @@
 mod adopted;
 mod changes;
 mod commits;
+mod migrated;
 
 use crate::comparing::same;
 use acd_book::BookFault;
@@ -78,7 +79,7 @@ fn a_new_book(rt: HostRuntime) {
     expect_numbers(
         &rt,
         &mut conn,
-        "1 SELECT version FROM meta
+        "2 SELECT version FROM meta
 1000000000 SELECT max_requests FROM meta
 2000 SELECT max_calls FROM meta
 0 SELECT count(*) FROM connections",

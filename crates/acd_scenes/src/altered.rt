@@ -54,7 +54,7 @@ fn told_behind<P: Changing>(
     sql: &str,
 ) -> String {
     let shelf = behind(rt, alloc, shelf, scene);
-    told_of(rt, alloc, shelf.changed(rt, sql))
+    told_of(rt, alloc, shelf.changed(rt, alloc, sql))
 }
 
 /// A database in memory.

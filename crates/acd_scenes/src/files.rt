@@ -4,7 +4,9 @@
 use crate::ends::count_kept;
 use crate::look_ups::same;
 use crate::sessions::{Scene, answered, answers_so, arrivals, opened};
-use crate::shelf::{Shelf, Stopping, closed, empty_files, taken, with_new_book};
+use crate::shelf::{
+    Changing, Shelf, Stopping, closed, empty_files, taken, with_new_book, with_old_book,
+};
 use crate::texts::{joined, push, same_text};
 use acd_book::Book;
 use acd_desk::{Audit, Desk, Taken};
@@ -164,6 +166,19 @@ fn play_over<P: Stopping>(rt: &impl Abort, alloc: Global, empty: P, scene: &Scen
     } else {
         play_closed(rt, alloc, new, scene);
     }
+}
+
+// Over what lies there, once it is a book of version 1.
+fn play_over_old<P: Changing + Stopping>(rt: &impl Abort, alloc: Global, empty: P, scene: &Scene) {
+    let old = with_old_book(rt, alloc, empty);
+    play_stopping(rt, alloc, old, scene);
+}
+
+/// The requests are one session over two files of version 1, of which one stops behind each number of its calls in turn, as
+/// `play` has it.
+pub fn play_old(rt: &impl Abort, alloc: Global, texts: &[&str]) {
+    let scene = Scene::new(rt, alloc, texts);
+    play_over_old(rt, alloc, empty_files(alloc), &scene);
 }
 
 /// Each request of the transcripts is answered by a desk that was opened for it, over the files that the one before it has

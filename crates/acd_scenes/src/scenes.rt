@@ -75,6 +75,7 @@ head_of_queue
 ready_agents_in_order
 closed_between_requests
 answered_call_stops
+migration_stops
 altered_answered_call
 altered_records
 altered_events

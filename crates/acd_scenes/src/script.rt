@@ -120,6 +120,12 @@ fn played_in_files(rt: &impl Abort, alloc: Global, texts: &[&str], stops: bool) 
     None
 }
 
+// Over files of version 1 that stop.
+fn played_in_old_files(rt: &impl Abort, alloc: Global, texts: &[&str]) -> Option<String> {
+    files::play_old(rt, alloc, texts);
+    None
+}
+
 // The text of the part.
 fn text_of<'b>(rt: &impl Abort, parts: &'b [Part<'_>], name: &str) -> &'b str {
     for part in parts {
@@ -276,6 +282,8 @@ fn mismatch(
 ) -> Option<String> {
     if word == "files" || word == "stops" {
         played_in_files(rt, alloc, texts, word == "stops")
+    } else if word == "old" {
+        played_in_old_files(rt, alloc, texts)
     } else if word == "altered" {
         altered::play(rt, alloc, texts)
     } else {
@@ -403,7 +411,7 @@ impl<'a> Script<'a> {
 }
 
 fn is_scene(word: &str) -> bool {
-    for known in ["scene", "wrong", "files", "stops", "altered"] {
+    for known in ["scene", "wrong", "files", "stops", "old", "altered"] {
         if word == known {
             return true;
         }

@@ -30,7 +30,7 @@ pub trait Stopping: Shelf {
 /// A shelf whose database something else changes.
 pub trait Changing: Shelf {
     /// The same behind these statements.
-    fn changed(self, rt: &impl Abort, sql: &str) -> Self;
+    fn changed(self, rt: &impl Abort, alloc: Global, sql: &str) -> Self;
 }
 
 // A new book in the database of a connection.
@@ -78,7 +78,7 @@ impl<S: Alter + Drop> Shelf for Connection<S> {
 }
 
 impl<S: Alter + Drop> Changing for Connection<S> {
-    fn changed(self, rt: &impl Abort, sql: &str) -> Connection<S> {
+    fn changed(self, rt: &impl Abort, _alloc: Global, sql: &str) -> Connection<S> {
         let mut conn = self;
         conn.execute_batch(sql).expect(rt, "a change");
         conn
@@ -139,6 +139,15 @@ impl<D: Disk + Drop> Shelf for Files<D> {
     }
 }
 
+impl<D: Disk + Drop> Changing for Files<D> {
+    fn changed(self, rt: &impl Abort, alloc: Global, sql: &str) -> Files<D> {
+        match connected(alloc, self) {
+            Ok(conn) => files_of(conn.changed(rt, alloc, sql)).0,
+            Err(_) => panic!(rt; "no connection"),
+        }
+    }
+}
+
 // What a file holds, in a file of its own that stops behind so many calls.
 fn fused(rt: &impl Abort, alloc: Global, bytes: &[u8], calls: u64) -> Fuse<Memory> {
     let mut copy = Memory::new(alloc);
@@ -193,4 +202,13 @@ pub fn closed<P: Shelf>(rt: &impl Abort, book: P::Taken) -> P {
 /// A shelf where a new book lies.
 pub fn with_new_book<P: Shelf>(rt: &impl Abort, alloc: Global, shelf: P) -> P {
     closed(rt, taken(rt, alloc, shelf, Some(Limits::GREATEST)))
+}
+
+// What makes version 1 of a new book.
+const OLDER: &str =
+    "DROP TABLE group_priority; DROP TABLE agent_groups; UPDATE meta SET version = 1";
+
+/// A shelf where a new book lies as version 1 had it.
+pub fn with_old_book<P: Changing>(rt: &impl Abort, alloc: Global, shelf: P) -> P {
+    with_new_book(rt, alloc, shelf).changed(rt, alloc, OLDER)
 }

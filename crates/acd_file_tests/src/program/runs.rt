@@ -356,8 +356,8 @@ untold 2 acd
 
 // A file that was changed by hand, and each time back. In the head of a row a byte stands for each value: 8 is the
 // number 0, and 9 the number 1; 1 and 4 are numbers of one byte and of four behind it, as the 20 seconds of ring behind
-// the group's name. So version and greatest number of requests change places; a name gets a control character; the
-// group has no entry; a table has a column of another name; and the last event is none, so that the next one has the
+// the group's name. So the version takes three bytes of the greatest number of requests; a name gets a control character; the
+// group has no entry; a table has another range; and the last event is none, so that the next one has the
 // number of one that is there. Of the changed reply and the changed name an audit tells.
 fn altered_file() -> &'static str {
     "0 acd lines --file {file}
@@ -368,12 +368,12 @@ fn altered_file() -> &'static str {
 < 200 {\"invoke\":2,\"requester\":\"plan\",\"result\":{}}
 < 200 {\"invoke\":1,\"requester\":\"pbx\",\"result\":{\"call\":1}}
 
-patch {file} \0\x09\x04\x02 \0\x04\x09\x02
+patch {file} \0\x01\x04\x02 \0\x04\x01\x02
 
 1 acd report --file {file}
-! acd: wrong version 1000000000
+! acd: wrong version 37460682
 
-patch {file} \0\x04\x09\x02 \0\x09\x04\x02
+patch {file} \0\x04\x01\x02 \0\x01\x04\x02
 
 patch {file} Billing\x14 Bill\x7fng\x14
 
@@ -389,12 +389,12 @@ patch {file} \x09\x08\x08\x08\x08Billing \x08\x08\x08\x08\x08Billing
 
 patch {file} \x08\x08\x08\x08\x08Billing \x09\x08\x08\x08\x08Billing
 
-patch {file} after_event aftar_event
+patch {file} AND\x209) AND\x208)
 
 1 acd report --file {file}
 ! acd: store fault
 
-patch {file} aftar_event after_event
+patch {file} AND\x208) AND\x209)
 
 patch {file} \x01\x01\x09\x08\x09 \x01\x01\x09\x08\x08
 

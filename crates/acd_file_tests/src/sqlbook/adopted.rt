@@ -8,13 +8,41 @@ use std::process::Abort;
 
 // Changes of a new book, each behind what is told of it. The first table is a book's, and tells its version.
 fn of_new_book() -> &'static str {
-    "book UPDATE meta SET version = 1
+    "book UPDATE meta SET version = 2
 WrongVersion(0) DELETE FROM meta
 WrongVersion(9) UPDATE meta SET version = 9
+WrongVersion(3) UPDATE meta SET version = 3
+WrongVersion(0) UPDATE meta SET version = 0
 BadRow(Meta) UPDATE meta SET version = -1
 Store DROP TABLE monitors
 Store CREATE TABLE more (id INTEGER)
-WrongVersion(2) DROP TABLE monitors; UPDATE meta SET version = 2"
+WrongVersion(3) DROP TABLE monitors; UPDATE meta SET version = 3
+Store UPDATE meta SET version = 1
+Store DROP TABLE group_priority
+Store DROP TABLE agent_groups
+Store DROP TABLE group_priority; DROP TABLE agent_groups
+Store DROP TABLE group_priority; UPDATE meta SET version = 1
+Store DROP TABLE monitors; UPDATE meta SET version = 1"
+}
+
+// The tables of version 1 with the greatest limits, by its own texts.
+pub fn old_tables() -> &'static str {
+    "CREATE TABLE meta (id INTEGER NOT NULL PRIMARY KEY CHECK (id = 1), version INTEGER NOT NULL, max_requests INTEGER NOT NULL, max_calls INTEGER NOT NULL, max_groups INTEGER NOT NULL, max_stations INTEGER NOT NULL, max_agents INTEGER NOT NULL, max_monitors INTEGER NOT NULL, last_stamp INTEGER NOT NULL, last_moment INTEGER NOT NULL, last_call INTEGER NOT NULL, last_monitor INTEGER NOT NULL, last_event INTEGER NOT NULL) STRICT;
+CREATE TABLE acd_groups (device INTEGER NOT NULL PRIMARY KEY, name TEXT NOT NULL, ring INTEGER NOT NULL, wrap INTEGER NOT NULL, entered INTEGER NOT NULL, answered INTEGER NOT NULL, abandoned INTEGER NOT NULL, moved INTEGER NOT NULL, waited INTEGER NOT NULL) STRICT;
+CREATE TABLE stations (device INTEGER NOT NULL PRIMARY KEY) STRICT;
+CREATE TABLE agents (agent INTEGER NOT NULL PRIMARY KEY, name TEXT NOT NULL, state INTEGER NOT NULL CHECK (state BETWEEN 0 AND 4), pending INTEGER, station INTEGER UNIQUE REFERENCES stations, grp INTEGER REFERENCES acd_groups, stamp INTEGER NOT NULL, since INTEGER NOT NULL) STRICT;
+CREATE TABLE calls (call INTEGER NOT NULL PRIMARY KEY, caller INTEGER NOT NULL, called INTEGER NOT NULL, since INTEGER NOT NULL) STRICT;
+CREATE TABLE connections (call INTEGER NOT NULL REFERENCES calls, device INTEGER NOT NULL, state INTEGER NOT NULL CHECK (state BETWEEN 1 AND 6), grp INTEGER REFERENCES acd_groups, place INTEGER, queued INTEGER, offered INTEGER, PRIMARY KEY (call, device)) STRICT;
+CREATE TABLE monitors (monitor INTEGER NOT NULL PRIMARY KEY, device INTEGER NOT NULL, after_event INTEGER NOT NULL) STRICT;
+CREATE TABLE events (number INTEGER NOT NULL PRIMARY KEY, moment INTEGER NOT NULL, kind INTEGER NOT NULL CHECK (kind BETWEEN 1 AND 18), device INTEGER, call INTEGER, agent INTEGER, grp INTEGER, target INTEGER, cause INTEGER, waited INTEGER) STRICT;
+CREATE TABLE kept (stamp INTEGER NOT NULL PRIMARY KEY, requester TEXT NOT NULL, invoke INTEGER NOT NULL, moment INTEGER NOT NULL, request TEXT NOT NULL, status INTEGER NOT NULL, body TEXT NOT NULL, UNIQUE (requester, invoke)) STRICT;
+INSERT INTO meta VALUES (1, 1, 1000000000, 2000, 64, 1000, 1000, 256, 0, 0, 0, 0, 0)"
+}
+
+// Behind rows of version 2 alone.
+fn of_new_tables() -> &'static str {
+    "BadRow(AgentGroups) INSERT INTO agent_groups VALUES (17, 1501)
+BadRow(GroupPriority) INSERT INTO group_priority VALUES (1501, 5)"
 }
 
 // A row of each table, as a book may hold it.
@@ -99,7 +127,7 @@ BadRow(Stations) INSERT INTO stations VALUES (7); UPDATE agents SET station = 7
 BadRow(Groups) INSERT INTO acd_groups VALUES (7, 'Sales', 20, 30, 0, 0, 0, 0, 0); UPDATE agents SET grp = 7
 BadRow(Calls) INSERT INTO calls VALUES (0, 15550001, 1201, 0); UPDATE connections SET call = 0
 BadRow(Groups) INSERT INTO acd_groups VALUES (7, 'Sales', 20, 30, 0, 0, 0, 0, 0); UPDATE connections SET grp = 7
-book UPDATE meta SET version = 1
+book UPDATE meta SET id = 1
 book UPDATE events SET kind = 16, call = NULL, agent = 17
 book UPDATE events SET kind = 12, device = NULL, grp = 1501
 book UPDATE events SET kind = 9, target = 1202
@@ -115,7 +143,7 @@ UPDATE meta SET last_stamp = 2200, last_moment = 10, last_event = 2200"#
 }
 
 fn of_history() -> &'static str {
-    "book UPDATE meta SET version = 1
+    "book UPDATE meta SET id = 1
 BadRow(Events) UPDATE events SET moment = -1 WHERE number = 1500
 BadRow(Kept) UPDATE kept SET moment = -1 WHERE stamp = 1500"
 }
@@ -132,17 +160,10 @@ fn told<S: Alter + Drop>(rt: &impl Abort, alloc: Global, conn: Connection<S>) ->
     told.expect(rt, "memory")
 }
 
-// Behind the first changes the line's change of a new book is told so.
-fn expect_told<S: Alter + Drop>(
-    rt: &impl Abort,
-    alloc: Global,
-    conn: Connection<S>,
-    first: &str,
-    line: &str,
-) {
+// The line's change of a database is told so.
+fn expect_told<S: Alter + Drop>(rt: &impl Abort, alloc: Global, conn: Connection<S>, line: &str) {
     let (wanted, sql) = line.split_once(' ').expect(rt, "a change");
-    let conn = changed(rt, altered(rt, alloc, conn, first), sql);
-    let told = told(rt, alloc, conn);
+    let told = told(rt, alloc, changed(rt, conn, sql));
     assert_eq!(rt; told.as_str(), wanted, "{sql}");
 }
 
@@ -154,10 +175,24 @@ fn databases_that_are_books(rt: HostRuntime) {
     for (first, lines) in [
         ("", of_new_book()),
         (rows(), of_rows()),
+        (rows(), of_new_tables()),
         (history(), of_history()),
     ] {
         for line in lines.lines() {
-            expect_told(&rt, alloc, empty(&rt, alloc), first, line);
+            let conn = altered(&rt, alloc, empty(&rt, alloc), first);
+            expect_told(&rt, alloc, conn, line);
+        }
+    }
+}
+
+// Its bad rows are told as those of version 2 are.
+#[test]
+fn databases_of_version_1(rt: HostRuntime) {
+    let alloc = rt.alloc();
+    for (first, lines) in [(rows(), of_rows()), (history(), of_history())] {
+        for line in lines.lines() {
+            let conn = changed(&rt, empty(&rt, alloc), old_tables());
+            expect_told(&rt, alloc, changed(&rt, conn, first), line);
         }
     }
 }

@@ -123,6 +123,10 @@ files closed_between_requests: plan call_arrives ana_becomes_ready ana_answers p
 
 stops answered_call_stops: plan call_arrives ana_becomes_ready ana_answers
 
+# The same where the files hold version 1, which is migrated at the first opening.
+
+old migration_stops: plan
+
 # What is told of a book whose database was changed by hand: a place that differs from the replay, or the first rule that is broken.
 
 part more_calls
@@ -151,9 +155,11 @@ part more_calls
 < 200 {"invoke":1,"requester":"clock","result":{}}
 
 part changes_of_an_answered_call
-# A kept text, the moment of an event, an event that is missing, a station that no request has added, another caller,
+# Nothing; a version 1, which is migrated, and one whose rows break a rule, which is refused then; a kept text, the moment of an event, an event that is missing, a station that no request has added, another caller,
 # and a record too many.
-~ sound UPDATE meta SET version = 1
+~ sound UPDATE meta SET version = 2
+~ sound DROP TABLE group_priority; DROP TABLE agent_groups; UPDATE meta SET version = 1
+~ Balance DROP TABLE group_priority; DROP TABLE agent_groups; UPDATE meta SET version = 1; UPDATE acd_groups SET entered = 2
 ~ Balance UPDATE acd_groups SET entered = 2
 ~ 6 UPDATE kept SET body = '{}' WHERE stamp = 6
 ~ 8 UPDATE events SET moment = 17 WHERE number = 4
