@@ -1,4 +1,4 @@
--- The nine tables of a book, as their texts make them.
+-- The tables of a book, as their texts make them.
 use Rattle.std.specs.Prelude.{◌≡◌, ◌++◌, Bool, true, false, ℕ, pos, [], ◌∷◌, Option, None, Some, codes, List, map}
 use Rattle.sqlite_value.specs.declared.keys.Order.{Order}
 use Rattle.sqlite_value.specs.declared.keys.Collation.TheVariants.{Binary}

@@ -1,10 +1,10 @@
 -- Reads that are made one after the other, before a connection is taken for a book.
 use Rattle.std.proofs.lemmas.Grind.{common_steps}
 use Rattle.std.proofs.lemmas.Bool.Decides.{nat_tests}
-use Rattle.std.proofs.lemmas.List.Sorted.{list_any-IsPermutation, length_permutation}
-use Rattle.std.proofs.Common.{◌≡◌, ◌&&◌, ◌==◌, ◌||◌, ℕ, ◌+◌, ◌<◌, ◌≤◌, zero, suc, length, map, not, cond, take, get_or, arith, List, [], ◌∷◌, ◌++◌, inl, inr, Result, Ok, Err, Option, Some, None, Bool, true, false, IsTrue, IfOk, refl, sym, ap, subst, subst₂, ◌∙◌}
+use Rattle.std.proofs.lemmas.List.Sorted.{length_permutation}
+use Rattle.std.proofs.Common.{◌≡◌, ◌&&◌, ◌==◌, ℕ, ◌+◌, ◌<◌, ◌≤◌, zero, suc, length, map, not, cond, take, get_or, arith, List, [], ◌∷◌, ◌++◌, inl, inr, Result, Ok, Err, Option, Some, None, Bool, true, false, IsTrue, IfOk, refl, sym, ap, subst, subst₂, ◌∙◌}
 use Rattle.std.specs.Prelude.{Vec, IsPermutation, ⊤}
-use Rattle.std.specs.List.{AllByRecursion, list_any}
+use Rattle.std.specs.List.{AllByRecursion}
 use Rattle.std.specs.declared.alloc.Global.{Global}
 use Rattle.sqlite_value.specs.Order.{Row, column}
 use Rattle.sqlite_trees.specs.Tree.{Trees}

@@ -20,7 +20,7 @@ use acd_terms::{Event, Invoke, Limits, Requester, Rows};
 use sqlite::{Alter, Connection, Error, ErrorCode};
 use std::alloc::Global;
 
-/// A book in a database. Its tables are those of version 1.
+/// A book in a database. Its tables are those of version 2.
 #[derive(Drop)]
 pub struct SqlBook<S: Alter> {
     pub(crate) alloc: Global,

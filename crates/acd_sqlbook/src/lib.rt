@@ -1,4 +1,4 @@
-//! The book in SQLite: the limits, the tables, the event reports and the kept replies of a desk in nine
+//! The book in SQLite: the limits, the tables, the event reports and the kept replies of a desk in eleven
 //! tables of a database.
 //!
 //! [`SqlBook::create`] makes the tables of a new book, in one transaction. A [`SqlBook`] is a

@@ -1,12 +1,12 @@
-//! The nine tables of a book in SQLite: the statement or the query that works on each.
+//! The tables of a book in SQLite: the statement or the query that works on each.
 //!
 //! A query of `query` shows the values of the rows of a content, in the order of its key; what they stand for `acd_columns` says.
 //! What a database holds that is no book's yet, the queries of `look` and of `tables` tell too.
 //!
-//! Each function of `write` works inside a transaction, and adds no stop.
+//! Each function of `put` and of `write` works inside a transaction, and adds no stop.
 //!
 //! ```ignore
-//! insert_station(&mut tx, &station)?;
+//! insert(&mut tx, &station)?;
 //! let rows = rows(alloc, &mut conn)?;
 //! ```
 #![tactic(auto)]

@@ -389,12 +389,12 @@ patch {file} \x09\x08\x08\x08\x08Billing \x08\x08\x08\x08\x08Billing
 
 patch {file} \x08\x08\x08\x08\x08Billing \x09\x08\x08\x08\x08Billing
 
-patch {file} AND\x209) AND\x208)
+patch {file} 9)) 8))
 
 1 acd report --file {file}
 ! acd: store fault
 
-patch {file} AND\x208) AND\x209)
+patch {file} 8)) 9))
 
 patch {file} \x01\x01\x09\x08\x09 \x01\x01\x09\x08\x08
 

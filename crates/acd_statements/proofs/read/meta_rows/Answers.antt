@@ -4,7 +4,6 @@ use Rattle.acd_columns.proofs.Looked.{sees_meta}
 use Rattle.std.proofs.Common.{refl}
 use Rattle.acd_columns.specs.Schema.{book_schema}
 use Rattle.acd_columns.proofs.Listings.{book_begins}
-use Rattle.acd_columns.specs.declared.texts.TheConstants.{SELECT_META}
 use Rattle.acd_statements.proofs.read.meta_rows.Goals as goal
 
 pub returns-clause-quiet : goal.returns-clause-quiet
