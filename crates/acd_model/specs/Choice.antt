@@ -1,5 +1,5 @@
 -- Which waiting call goes to which ready agent.
-use Rattle.std.specs.Prelude.{ℕ, Bool, ◌&&◌, ◌||◌, ◌==◌, nat_lt, List, [], ◌∷◌, Option, Some, None, map, unwrap_or, if◌then◌else◌}
+use Rattle.std.specs.Prelude.{ℕ, Bool, ◌&&◌, ◌||◌, ◌==◌, nat_lt, List, [], ◌∷◌, Option, Some, None, option_and_then, is_some, filter, map, unwrap_or, if◌then◌else◌}
 use Rattle.acd_terms.specs.declared.rows.Rows.{Rows}
 use Rattle.acd_terms.specs.declared.record.GroupRecord.{GroupRecord}
 use Rattle.acd_terms.specs.declared.record.AgentRecord.{AgentRecord}
@@ -43,10 +43,25 @@ offer_or g None r rest = rest
 offer_or g (Some w) None rest = rest
 offer_or g (Some w) (Some r) rest = Some (record { group = g; call = w.1; agent = r.1 })
 
-abbrev pub offer_in : Rows → List GroupRecord → Option Offer
-offer_in s [] = None
-offer_in s (g ∷ gs) = offer_or g.device (first_waiting s g.device) (first_eligible s g.device) (offer_in s gs)
+-- of higher priority, or of equal priority and smaller number
+abbrev pub is_served_before : GroupRecord → GroupRecord → Bool
+is_served_before g h = nat_lt h.priority g.priority || (g.priority == h.priority && nat_lt g.device h.device)
 
--- the offer that is to be made: in the first group that has one
+-- the one of a group and another that may be there which is served first
+abbrev pub sooner : Option GroupRecord → GroupRecord → GroupRecord
+sooner None g = g
+sooner (Some h) g = if is_served_before g h then g else h
+
+-- the one of the groups and one from before which is served first
+abbrev pub first_served : Option GroupRecord → List GroupRecord → Option GroupRecord
+first_served best [] = best
+first_served best (g ∷ gs) = first_served (Some (sooner best g)) gs
+
+-- it has a waiting call and an eligible agent
+abbrev pub has_both : Rows → GroupRecord → Bool
+has_both s g = is_some (first_waiting s g.device) && is_some (first_eligible s g.device)
+
+-- the offer that is to be made: of the groups that have both, in the one that is served first
 unfoldable pub offer_of : Rows → Option Offer
-offer_of s = offer_in s s.groups
+offer_of s = option_and_then (λ (g : GroupRecord). offer_or g.device (first_waiting s g.device) (first_eligible s g.device) None)
+    (first_served None (filter (has_both s) s.groups))
