@@ -13,7 +13,7 @@ use std::process::Abort;
 // What lies there once a new book has taken the requests.
 fn behind<P: Shelf>(rt: &impl Abort, alloc: Global, shelf: P, scene: &Scene) -> P {
     let book = taken(rt, alloc, shelf, Some(Limits::GREATEST));
-    P::put(answers_so(rt, alloc, book, scene.input.as_str(), scene.output.as_str())).0
+    P::put(answers_so(rt, alloc, book, scene.input.as_str(), scene.output.as_str()))
 }
 
 // The place in the kept list that an audit tells, or `sound`.

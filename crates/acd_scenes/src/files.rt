@@ -2,39 +2,41 @@
 //! each of its calls in turn, and which is opened again.
 
 use crate::ends::count_kept;
+use crate::fused::{closed, closed_files, connected, copied, empty_files, opened_files};
 use crate::look_ups::same;
 use crate::sessions::{Scene, answered, answers_so, arrivals, opened};
-use crate::shelf::{
-    Changing, Shelf, Stopping, closed, empty_files, taken, with_new_book, with_old_book,
-};
+use crate::shelf::{Shelf, book_in};
 use crate::texts::{joined, push, same_text};
 use acd_book::Book;
 use acd_desk::{Audit, Desk, Taken};
-use acd_terms::Arrival;
+use acd_terms::{Arrival, Limits};
+use sqlite::{Alter, Connection, Files};
+use sqlite_disk::{Fuse, Memory};
 use std::alloc::Global;
 use std::process::Abort;
 
 // A desk over the book that lies there answers the line, at the end of the answers.
-fn answer<P: Shelf>(
+fn answer<S: Alter + Drop>(
     rt: &impl Abort,
     alloc: Global,
-    shelf: P,
+    conn: Connection<S>,
     line: &str,
     answers: &mut String,
-) -> P {
+) -> Connection<S> {
     let input = joined(rt, alloc, &[line, "\n"]);
-    let book = taken(rt, alloc, shelf, None);
+    let book = book_in(rt, alloc, conn, None);
     let (book, answer) = answered(rt, alloc, book, input.as_str());
     push(rt, answers, &[answer.as_str()]);
-    closed(rt, book)
+    book.into_connection()
 }
 
-// Each request is answered by a desk that was opened for it, over what the one before it has closed.
-fn play_closed<P: Shelf>(rt: &impl Abort, alloc: Global, shelf: P, scene: &Scene) {
-    let mut shelf = shelf;
+// Each request is answered by a desk that was opened for it, over the files that the one before it has closed.
+fn play_closed(rt: &impl Abort, alloc: Global, new: Files<Fuse<Memory>>, scene: &Scene) {
+    let mut files = new;
     let mut answers = String::new(alloc);
     for line in scene.input.as_str().lines() {
-        shelf = answer(rt, alloc, shelf, line, &mut answers);
+        let conn = connected(rt, alloc, files);
+        files = closed(rt, answer(rt, alloc, conn, line, &mut answers));
     }
     same_text(rt, answers.as_str(), scene.output.as_str());
 }
@@ -54,38 +56,51 @@ fn replied(rt: &impl Abort, answers: &[Taken]) -> u64 {
 }
 
 // How many requests a session over the book answers 200.
-fn run<B: Book + Drop>(rt: &impl Abort, alloc: Global, book: B, arrivals: &[Arrival]) -> (u64, B) {
-    match Desk::session(alloc, book, arrivals) {
-        Ok((answers, book)) => (replied(rt, &answers), book),
-        Err((_, book)) => (0, book),
+fn run<S: Alter + Drop>(
+    rt: &impl Abort,
+    alloc: Global,
+    conn: Connection<S>,
+    arrivals: &[Arrival],
+) -> (u64, Connection<S>) {
+    match conn.take(alloc, None) {
+        Ok(book) => match Desk::session(alloc, book, arrivals) {
+            Ok((answers, book)) => (replied(rt, &answers), book.into_connection()),
+            Err((_, book)) => (0, book.into_connection()),
+        },
+        Err(conn) => (0, conn),
     }
 }
 
-// How a session over what may stop has ended.
+// How a session over files that may stop has ended.
 #[derive(Drop)]
-struct Ended<P: Shelf> {
+struct Ended {
     // how many requests were answered 200
     replied: u64,
     is_closed: bool,
-    shelf: P,
+    files: Files<Fuse<Memory>>,
 }
 
-// A session over what may stop.
-fn run_over<P: Shelf>(rt: &impl Abort, alloc: Global, shelf: P, arrivals: &[Arrival]) -> Ended<P> {
-    match shelf.take(alloc, None) {
-        Ok(book) => {
-            let (replied, book) = run(rt, alloc, book, arrivals);
-            let (shelf, is_closed) = P::put(book);
+// A session over files that may stop.
+fn run_over(
+    rt: &impl Abort,
+    alloc: Global,
+    files: Files<Fuse<Memory>>,
+    arrivals: &[Arrival],
+) -> Ended {
+    match opened_files(alloc, files) {
+        Ok(conn) => {
+            let (replied, conn) = run(rt, alloc, conn, arrivals);
+            let (files, is_closed) = closed_files(conn);
             Ended {
                 replied,
                 is_closed,
-                shelf,
+                files,
             }
         }
-        Err(shelf) => Ended {
+        Err(files) => Ended {
             replied: 0,
             is_closed: false,
-            shelf,
+            files,
         },
     }
 }
@@ -100,25 +115,26 @@ fn expect_kept<B: Book + Drop>(rt: &impl Abort, alloc: Global, book: B, replied:
     book
 }
 
-// So it is with the book that lies there. Sent again, all requests are answered as where nothing stops.
-fn expect_answered<P: Shelf>(
+// So it is with the book in the database. Sent again, all requests are answered as where nothing stops.
+fn expect_answered<S: Alter + Drop>(
     rt: &impl Abort,
     alloc: Global,
-    shelf: P,
+    conn: Connection<S>,
     replied: u64,
     scene: &Scene,
 ) {
-    let book = taken(rt, alloc, shelf, None);
+    let book = book_in(rt, alloc, conn, None);
     let book = expect_kept(rt, alloc, book, replied);
     let _ = answers_so(rt, alloc, book, scene.input.as_str(), scene.output.as_str());
 }
 
-// Whether the session ends without a stop, over these copies.
-fn ends_whole<P: Stopping>(rt: &impl Abort, alloc: Global, copy: P, scene: &Scene) -> bool {
+// Whether the session ends without a stop, over these files.
+fn ends_whole(rt: &impl Abort, alloc: Global, files: Files<Fuse<Memory>>, scene: &Scene) -> bool {
     let arrivals = arrivals(rt, alloc, scene.input.as_str());
-    let ended = run_over(rt, alloc, copy, &arrivals);
-    let left = ended.shelf.copied(rt, alloc, u64::MAX, u64::MAX);
-    expect_answered(rt, alloc, left, ended.replied, scene);
+    let ended = run_over(rt, alloc, files, &arrivals);
+    let left = copied(rt, alloc, &ended.files, u64::MAX, u64::MAX);
+    let conn = connected(rt, alloc, left);
+    expect_answered(rt, alloc, conn, ended.replied, scene);
     ended.replied == arrivals.len() as u64 && ended.is_closed
 }
 
@@ -132,18 +148,30 @@ enum Stops {
     Database,
 }
 
-// A copy of a new book's files, of which one stops behind so many calls.
-fn stopping<P: Stopping>(rt: &impl Abort, alloc: Global, new: &P, which: Stops, calls: u64) -> P {
+// A copy of the files, of which one stops behind so many calls.
+fn stopping(
+    rt: &impl Abort,
+    alloc: Global,
+    files: &Files<Fuse<Memory>>,
+    which: Stops,
+    calls: u64,
+) -> Files<Fuse<Memory>> {
     match which {
-        Stops::Log => new.copied(rt, alloc, calls, u64::MAX),
-        Stops::Database => new.copied(rt, alloc, u64::MAX, calls),
+        Stops::Log => copied(rt, alloc, files, calls, u64::MAX),
+        Stops::Database => copied(rt, alloc, files, u64::MAX, calls),
     }
 }
 
 // The number of calls goes up until a session ends without a stop.
-fn stop_at_each<P: Stopping>(rt: &impl Abort, alloc: Global, new: &P, which: Stops, scene: &Scene) {
+fn stop_at_each(
+    rt: &impl Abort,
+    alloc: Global,
+    files: &Files<Fuse<Memory>>,
+    which: Stops,
+    scene: &Scene,
+) {
     for calls in 0..CALLS {
-        let copy = stopping(rt, alloc, new, which, calls);
+        let copy = stopping(rt, alloc, files, which, calls);
         if ends_whole(rt, alloc, copy, scene) {
             return;
         }
@@ -152,33 +180,42 @@ fn stop_at_each<P: Stopping>(rt: &impl Abort, alloc: Global, new: &P, which: Sto
 }
 
 // Each of the two files stops at each of its calls in turn.
-fn play_stopping<P: Stopping>(rt: &impl Abort, alloc: Global, new: P, scene: &Scene) {
-    for which in [Stops::Log, Stops::Database] {
-        stop_at_each(rt, alloc, &new, which, scene);
-    }
+fn play_stopping(rt: &impl Abort, alloc: Global, files: Files<Fuse<Memory>>, scene: &Scene) {
+    stop_at_each(rt, alloc, &files, Stops::Log, scene);
+    stop_at_each(rt, alloc, &files, Stops::Database, scene);
 }
 
-// Over what lies there, once it is a new book.
-fn play_over<P: Stopping>(rt: &impl Abort, alloc: Global, empty: P, scene: &Scene, stops: bool) {
-    let new = with_new_book(rt, alloc, empty);
-    if stops {
-        play_stopping(rt, alloc, new, scene);
-    } else {
-        play_closed(rt, alloc, new, scene);
-    }
+// A connection whose database has a new book.
+fn with_new_book<S: Alter + Drop>(
+    rt: &impl Abort,
+    alloc: Global,
+    conn: Connection<S>,
+) -> Connection<S> {
+    book_in(rt, alloc, conn, Some(Limits::GREATEST)).into_connection()
 }
 
-// Over what lies there, once it is a book of version 1.
-fn play_over_old<P: Changing + Stopping>(rt: &impl Abort, alloc: Global, empty: P, scene: &Scene) {
-    let old = with_old_book(rt, alloc, empty);
-    play_stopping(rt, alloc, old, scene);
+// What makes version 1 of a new book.
+const OLDER: &str =
+    "DROP TABLE group_priority; DROP TABLE agent_groups; UPDATE meta SET version = 1";
+
+// A connection whose database has a new book as version 1 had it.
+fn with_old_book<S: Alter + Drop>(
+    rt: &impl Abort,
+    alloc: Global,
+    conn: Connection<S>,
+) -> Connection<S> {
+    let mut conn = with_new_book(rt, alloc, conn);
+    conn.execute_batch(OLDER).expect(rt, "version 1");
+    conn
 }
 
 /// The requests are one session over two files of version 1, of which one stops behind each number of its calls in turn, as
 /// `play` has it.
 pub fn play_old(rt: &impl Abort, alloc: Global, texts: &[&str]) {
     let scene = Scene::new(rt, alloc, texts);
-    play_over_old(rt, alloc, empty_files(alloc), &scene);
+    let conn = connected(rt, alloc, empty_files(alloc));
+    let files = closed(rt, with_old_book(rt, alloc, conn));
+    play_stopping(rt, alloc, files, &scene);
 }
 
 /// Each request of the transcripts is answered by a desk that was opened for it, over the files that the one before it has
@@ -187,5 +224,11 @@ pub fn play_old(rt: &impl Abort, alloc: Global, texts: &[&str]) {
 /// was answered, or one request more.
 pub fn play(rt: &impl Abort, alloc: Global, texts: &[&str], stops: bool) {
     let scene = Scene::new(rt, alloc, texts);
-    play_over(rt, alloc, empty_files(alloc), &scene, stops);
+    let conn = connected(rt, alloc, empty_files(alloc));
+    let files = closed(rt, with_new_book(rt, alloc, conn));
+    if stops {
+        play_stopping(rt, alloc, files, &scene);
+    } else {
+        play_closed(rt, alloc, files, &scene);
+    }
 }
