@@ -57,6 +57,7 @@ pub data Round (s : Rows) (m k : ℕ) : List Move → Type 0 where
 pub data Deed (s : Rows) (m k : ℕ) : List Move → Type 0 where
   nothing : Deed s m k []
   adds_group : (device : ℕ) (name : List ℕ) (ring wrap : ℕ) → is_used s device ≡ false → nat_le s.limits.groups (length s.groups) ≡ false → Deed s m k (silent (PutGroup (new_group device name ring wrap)) ∷ [])
+  ranks : (g : GroupRecord) (priority : ℕ) → group_of s g.device ≡ Some g → Deed s m k (silent (PutGroup (record g { priority = min priority greatest_priority })) ∷ [])
   adds_station : (device : ℕ) → is_used s device ≡ false → nat_le s.limits.stations (length s.stations) ≡ false → Deed s m k (silent (PutStation (record { device = device })) ∷ [])
   adds_agent : (agent : ℕ) (name : List ℕ) → agent_of s agent ≡ None → nat_le s.limits.agents (length s.agents) ≡ false → Deed s m k (silent (PutAgent (new_agent m k agent name)) ∷ [])
   watches : (device : ℕ) → is_planned s device ≡ true → nat_le s.limits.monitors (length s.monitors) ≡ false
@@ -75,7 +76,8 @@ pub data Deed (s : Rows) (m k : ℕ) : List Move → Type 0 where
       → Deed s m k (divert p.x to Deflected ∷ arrive s m k p.x.call to Deflected ∷ release s m k p.x (ending_of p.x) ∷ [])
   transfers : (p : Party s) (to : ℕ) → is_connected p.x.state ≡ true → is_answered_by (other_of s p.x) ≡ true → Free s p.x to
       → Deed s m k (transfer p.x to ∷ arrive s m k p.x.call to Transferred ∷ release s m k p.x (ending_of p.x) ∷ [])
-  logs_on : (a : AgentRecord) (device group : ℕ) → agent_of s a.agent ≡ Some a → is_null a.state ≡ true → is_station s device ≡ true → agent_at s device ≡ None → is_group s group ≡ true → Deed s m k (log_on_at m k a device group ∷ [])
+  logs_on : (a : AgentRecord) (device : ℕ) (groups : List ℕ) → agent_of s a.agent ≡ Some a → is_null a.state ≡ true → is_station s device ≡ true → agent_at s device ≡ None → ArePlannedGroups s groups
+      → Deed s m k (log_on_at m k a device groups ∷ [])
   waits : (a : AgentRecord) (wanted : Pending) → agent_of s a.agent ≡ Some a → is_null a.state ≡ false → is_occupied s a ≡ true → Deed s m k (wait_for a (Some wanted) ∷ [])
   goes : (a : AgentRecord) (wanted : Pending) → agent_of s a.agent ≡ Some a → is_null a.state ≡ false → is_occupied s a ≡ false → Deed s m k (go_from m k a a.station (state_wanted wanted) ∷ [])
 
@@ -164,11 +166,29 @@ deed_single_step_transfer s m k call device to =
     subst (λ n. Deed s m k (transfer p.x to ∷ arrive s m k n to Transferred ∷ release s m k p.x (ending_of p.x) ∷ [])) same
     (transfers p to both.0 both.1 (free s call to p.x same known new))))))))
 
-deed_log_on : (s : Rows) (m k agent device group : ℕ) → DeedBy s m k (log_on s m k agent device group)
+-- each of the groups is one where none of them is refused
+all_are_groups : (s : Rows) (gs : List ℕ) → all_groups s gs ≡ Ok tt → Every (λ (g : ℕ). is_group s g ≡ true) gs
+unfolding refuse_if if_ok
+all_are_groups s [] e = tt
+all_are_groups s (g ∷ gs) e = by (is_planned s g) (is_group s g) refl e (all_are_groups s gs)
+  where
+    by : (p q : Bool) → is_group s g ≡ q → (refuse_if (not p) UnknownDevice >> (refuse_if (not q) NotGroup >> all_groups s gs)) ≡ Ok tt
+        → (all_groups s gs ≡ Ok tt → Every (λ (x : ℕ). is_group s x ≡ true) gs) → Every (λ (x : ℕ). is_group s x ≡ true) (g ∷ gs)
+    by true true h e more = (h, more e)
+    by true false h e more = absurd (cc (e))
+    by false q h e more = absurd (cc (e))
+
+passes : {s : Rows} {m k : ℕ} (v : Result (Unit {0}) Refusal) (rest : Served) → (v ≡ Ok tt → DeedBy s m k rest) → DeedBy s m k (v >> rest)
+unfolding if_ok
+passes (Ok tt) rest h = h refl
+passes (Err r) rest h = nothing
+
+deed_log_on : (s : Rows) (m k agent device : ℕ) (groups : List ℕ) → DeedBy s m k (log_on s m k agent device groups)
 unfolding log_on
-deed_log_on s m k agent device group =
-    with _ _ (λ a ea. unless _ _ (λ null. unless _ _ (λ _. unless _ _ (λ station. unless _ _ (λ taken. unless _ _ (λ _. unless _ _ (λ no_group.
-    logs_on a device group (agent_own s agent a ea) (not-false (is_null a.state) null) (not-false (is_station s device) station) (apart_if (agent_at s device) taken) (not-false (is_group s group) no_group))))))))
+deed_log_on s m k agent device groups =
+    with _ _ (λ a ea. unless _ _ (λ null. unless _ _ (λ _. unless _ _ (λ station. unless _ _ (λ taken. passes (all_groups s groups) _ (λ all. unless _ _ (λ choice.
+    logs_on a device groups (agent_own s agent a ea) (not-false (is_null a.state) null) (not-false (is_station s device) station) (apart_if (agent_at s device) taken)
+    (not-false (is_choice groups) choice, all_are_groups s groups all))))))))
 
 either : {s : Rows} {m k : ℕ} (b : Bool) (v w : Served) → (b ≡ true → DeedBy s m k v) → (b ≡ false → DeedBy s m k w) → DeedBy s m k (cond b v w)
 either true v w h g = h refl
@@ -182,7 +202,7 @@ deed_change_state s m k agent wanted =
     either (is_in a.state wanted) _ _ (λ _. nothing) (λ _. goes a wanted (agent_own s agent a ea) seated free))))
 
 deed_set_agent_state : (s : Rows) (m k agent : ℕ) (q : Requested) → DeedBy s m k (set_agent_state s m k agent q)
-deed_set_agent_state s m k agent (requested.LoggedOn device group) = deed_log_on s m k agent device group
+deed_set_agent_state s m k agent (requested.LoggedOn device groups) = deed_log_on s m k agent device groups
 deed_set_agent_state s m k agent (requested.State wanted) = deed_change_state s m k agent wanted
 
 deed_monitor_start : (s : Rows) (m k device : ℕ) → DeedBy s m k (monitor_start s device)
@@ -192,6 +212,10 @@ deed_monitor_start s m k device = unless _ _ (λ known. unless _ _ (λ room. wat
 deed_monitor_stop : (s : Rows) (m k monitor : ℕ) → DeedBy s m k (monitor_stop s monitor)
 unfolding monitor_stop
 deed_monitor_stop s m k monitor = with _ _ (λ w _. unwatches monitor)
+
+deed_set_group_priority : (s : Rows) (m k device priority : ℕ) → DeedBy s m k (set_group_priority s device priority)
+unfolding set_group_priority
+deed_set_group_priority s m k device priority = unless _ _ (λ _. with _ _ (λ g e. ranks g priority (group_own s device g e)))
 
 pub deed_of_serve : (s : Rows) (m k : ℕ) (c : Command) → DeedBy s m k (serve s m k c) ⊎ (moves_of (serve s m k c) ≡ tick s m k)
 deed_of_serve s m k (AddGroup device name ring wrap) = inl (deed_add_group s m k device name ring wrap)
@@ -210,3 +234,4 @@ deed_of_serve s m k (SetAgentState agent q) = inl (deed_set_agent_state s m k ag
 deed_of_serve s m k (MonitorStart device) = inl (deed_monitor_start s m k device)
 deed_of_serve s m k (MonitorStop monitor) = inl (deed_monitor_stop s m k monitor)
 deed_of_serve s m k Tick = inr refl
+deed_of_serve s m k (SetGroupPriority device priority) = inl (deed_set_group_priority s m k device priority)

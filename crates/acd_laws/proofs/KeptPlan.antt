@@ -8,7 +8,7 @@ use Rattle.acd_terms.specs.declared.state.AgentState.TheVariants as A
 use Rattle.acd_terms.specs.declared.state.ConnectionState.TheVariants as S
 use Rattle.acd_model.specs.Scans.{is_used}
 use Rattle.acd_model.specs.declared.moves.Change.TheVariants.{PutGroup, PutStation, PutAgent, PutMonitor, RemoveMonitor}
-use Rattle.acd_laws.proofs.Facts.{Rules, IsPlannedStation, IsPlannedGroup, SeatedAs, AgentRule, CallRule, IsCaller, StandsAt, ConnectionRule, seated_at, ready_at, busy_at, pending_at, talking_at, ringing_at}
+use Rattle.acd_laws.proofs.Facts.{Rules, IsPlannedStation, ArePlannedGroups, SeatedAs, AgentRule, CallRule, IsCaller, StandsAt, ConnectionRule, seated_at, ready_at, busy_at, pending_at, talking_at, ringing_at}
 use Rattle.acd_laws.proofs.Lists.{one, any_some, ascending-put, ascending-remove, count-put_new, every_among, every_from, every-put, count_zero, find_passes, find_among, find_none, any_found, counted, some_from}
 use Rattle.acd_laws.proofs.Arriving.{rule_more, with_agents, lone}
 use Rattle.acd_laws.proofs.Keyed.{cmp_equal, eqb_self}
@@ -49,13 +49,12 @@ more_station : (s t : Rows) → ((d : ℕ) → IsTrue (is_station s d) → IsTru
 more_station s t f None h = h
 more_station s t f (Some d) h = f d h
 
-more_group : (s t : Rows) → ((d : ℕ) → IsTrue (is_group s d) → IsTrue (is_group t d)) → (o : Option ℕ) → IsPlannedGroup s o → IsPlannedGroup t o
-more_group s t f None h = h
-more_group s t f (Some d) h = f d h
+more_groups : (s t : Rows) → ((d : ℕ) → IsTrue (is_group s d) → IsTrue (is_group t d)) → (gs : List ℕ) → ArePlannedGroups s gs → ArePlannedGroups t gs
+more_groups s t f gs h = (h.0, every_from (λ (d : ℕ). is_group t d ≡ true) gs (λ d i. f d (every_among (λ (d : ℕ). is_group s d ≡ true) gs d h.1 i)))
 
 more_seat : (s t : Rows) → ((d : ℕ) → IsTrue (is_station s d) → IsTrue (is_station t d)) → ((d : ℕ) → IsTrue (is_group s d) → IsTrue (is_group t d)) → (a : AgentRecord) (st : AgentState) → SeatedAs s a st → SeatedAs t a st
 more_seat s t f g a A.Null h = h
-more_seat s t f g a _ h = (more_station s t f a.station h.0, more_group s t g a.group h.1)
+more_seat s t f g a _ h = (more_station s t f a.station h.0, more_groups s t g a.groups h.1)
 
 -- a group is planned
 pub kept_group : (s : Rows) (g : GroupRecord) → Rules s → is_used s g.device ≡ false → Rules (changed s (PutGroup g))
@@ -243,10 +242,10 @@ unfolding agent_at
 none_seated s d e = count_zero (seated_at d) s.agents (λ a i. find_none (seated_at d) s.agents e a i)
 
 -- an agent in null logs on at a free station
-pub kept_log_on : (s : Rows) (a : AgentRecord) (d g m k : ℕ) → Rules s → agent_of s a.agent ≡ Some a → is_null a.state ≡ true → IsTrue (is_station s d) → IsTrue (is_group s g) → agent_at s d ≡ None → Rules (changed s (log_on_at m k a d g).change)
-kept_log_on s a d g m k r there null station group free =
+pub kept_log_on : (s : Rows) (a : AgentRecord) (d : ℕ) (gs : List ℕ) (m k : ℕ) → Rules s → agent_of s a.agent ≡ Some a → is_null a.state ≡ true → IsTrue (is_station s d) → ArePlannedGroups s gs → agent_at s d ≡ None → Rules (changed s (log_on_at m k a d gs).change)
+kept_log_on s a d gs m k r there null station planned free =
     let st : a.state ≡ A.Null = null_is a.state null in
-    same_agent s a (record a { state = A.NotReady; pending = None; station = Some d; group = Some g; stamp = k; since = m }) r there refl (station, group)
+    same_agent s a (record a { state = A.NotReady; pending = None; station = Some d; groups = gs; stamp = k; since = m }) r there refl (station, planned)
     (λ e. let o = r.one_agent e in
     (elim (d == e) as (λ b. (d == e) ≡ b → count (seated_at e) s.agents + one b ≤ one (seated_at e a) + 1) [
       | true ↦ λ q. let z : count (seated_at e) s.agents ≡ 0 = subst (λ w. count (seated_at w) s.agents ≡ 0) (eqb-true d e q) (none_seated s d free) in omega (arith, z)

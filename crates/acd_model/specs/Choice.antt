@@ -37,11 +37,13 @@ first_waiting s group = least_from None (map waiting_pair (waiting_in s group))
 unfoldable pub first_eligible : Rows → ℕ → Option (ℕ × ℕ)
 first_eligible s group = least_from None (map ready_pair (eligible_in s group))
 
--- the offer in a group, where it has both, and else another
-abbrev pub offer_or : ℕ → Option (ℕ × ℕ) → Option (ℕ × ℕ) → Option Offer → Option Offer
-offer_or g None r rest = rest
-offer_or g (Some w) None rest = rest
-offer_or g (Some w) (Some r) rest = Some (record { group = g; call = w.1; agent = r.1 })
+-- the first call of a group goes to its first agent, where it has both
+abbrev pub offer_by : ℕ → Option (ℕ × ℕ) → Option (ℕ × ℕ) → Option Offer
+offer_by g (Some w) (Some r) = Some (record { group = g; call = w.1; agent = r.1 })
+offer_by g _ _ = None
+
+abbrev pub offer_in : Rows → GroupRecord → Option Offer
+offer_in s g = offer_by g.device (first_waiting s g.device) (first_eligible s g.device)
 
 -- of higher priority, or of equal priority and smaller number
 abbrev pub is_served_before : GroupRecord → GroupRecord → Bool
@@ -63,5 +65,4 @@ has_both s g = is_some (first_waiting s g.device) && is_some (first_eligible s g
 
 -- the offer that is to be made: of the groups that have both, in the one that is served first
 unfoldable pub offer_of : Rows → Option Offer
-offer_of s = option_and_then (λ (g : GroupRecord). offer_or g.device (first_waiting s g.device) (first_eligible s g.device) None)
-    (first_served None (filter (has_both s) s.groups))
+offer_of s = option_and_then (offer_in s) (first_served None (filter (has_both s) s.groups))
