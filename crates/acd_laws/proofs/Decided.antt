@@ -237,10 +237,6 @@ counters_decided s b = like
 
 -- offers, monitors, balance
 
-empty_decided : {X : Type 0} (xs : List X) → Decides (is_empty xs) (xs ≡ [])
-empty_decided [] = (λ _. refl, λ _. refl)
-empty_decided (x ∷ xs) = (λ e. absurd (cc (e)), λ e. absurd (cc (e)))
-
 pub offers_decided : (s : Rows) → Decides (keeps_offer s) ((g : GroupRecord) → Among g s.groups → HasNoOffer s g.device)
 unfolding keeps_offer
 offers_decided s = each (λ (g : GroupRecord). empty_decided (waiting_in s g.device) or empty_decided (eligible_in s g.device)) s.groups

@@ -1,5 +1,5 @@
 -- The end of a step sets figures and counters, and the rules hold on; what each step keeps, every run keeps.
-use Rattle.std.proofs.Common.{◌≡◌, ℕ, List, [], ◌∷◌, Option, Some, None, refl, sym, ◌∙◌, ap, subst, map, ◌||◌, ◌++◌, append-nil, append_assoc, arith}
+use Rattle.std.proofs.Common.{◌≡◌, ℕ, List, [], ◌∷◌, Option, Some, None, refl, sym, ◌∙◌, ap, subst, map, ◌||◌, ◌++◌, append-nil, append_assoc, arith, true}
 use Rattle.std.specs.Prelude.{is_some}
 use Rattle.acd_laws.proofs.Words.{Rows, Limits, GroupRecord, AgentRecord, AgentState, Command, Event, find_by, AllAfter, IsAscending, at_group, group_of, station_of, call_of, is_group, is_station, is_planned, empty_rows, with_last, group_order}
 use Rattle.acd_terms.specs.declared.state.AgentState.TheVariants as A

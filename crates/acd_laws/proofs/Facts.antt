@@ -3,7 +3,7 @@ use Rattle.std.specs.Prelude.{◌≡◌, ◌≢◌, ◌⊎◌, ℕ, ◌+◌, ◌
 use Rattle.acd_laws.proofs.Words.{Rows, GroupRecord, AgentRecord, CallRecord, ConnectionRecord, MonitorRecord, ConnectionState, AgentState, count, Among, Every, is_ready, is_busy, is_alerting, is_answered, call_of, is_group, is_station, is_planned, has, parties_of, initiated_of, open_of, live_at, alerting_at, hold_at, is_distributed_at}
 use Rattle.acd_terms.specs.declared.state.AgentState.TheVariants as agent
 use Rattle.acd_terms.specs.declared.state.ConnectionState.TheVariants.{Initiated, Alerting, Connected, Hold, Queued}
-use Rattle.acd_terms.specs.Limits.{limits_fit}
+use Rattle.acd_terms.specs.Limits.{limits_fit, greatest_priority}
 use Rattle.acd_terms.specs.Groups.{is_choice}
 use Rattle.acd_model.specs.Offers.{HasNoOffer}
 use Rattle.acd_model.specs.Rules.Occupied.{waits_in, rings_from}
@@ -206,3 +206,4 @@ pub record KeepsRules (s : Rows) : Type 0 where
   pub offers : (g : GroupRecord) → Among g s.groups → HasNoOffer s g.device
   pub monitors : Monitored s
   pub balance : Every (AddsUp s) s.groups
+  pub priorities : Every (λ (g : GroupRecord). g.priority ≤ greatest_priority) s.groups

@@ -12,7 +12,7 @@ use Rattle.acd_laws.proofs.Facts.{Rules, IsPlannedStation, ArePlannedGroups, Sea
 use Rattle.acd_laws.proofs.Lists.{one, any_some, ascending-put, ascending-remove, count-put_new, every_among, every_from, every-put, count_zero, find_passes, find_among, find_none, any_found, counted, some_from}
 use Rattle.acd_laws.proofs.Arriving.{rule_more, with_agents, lone}
 use Rattle.acd_laws.proofs.Keyed.{cmp_equal, eqb_self}
-use Rattle.acd_laws.proofs.State.{groups_total, stations_total, agents_total, monitors_total, agent_find, group_put, station_put, call_among, agent_among, count_agent, has_is}
+use Rattle.acd_laws.proofs.State.{groups_total, stations_total, agents_total, monitors_total, agent_find, group_put, station_put, call_among, agent_among, count_agent, has_is, group_kept}
 use Rattle.acd_model.specs.Services.{new_agent}
 use Rattle.acd_model.specs.AgentMoves.{in_state, go_to, go_from, log_on_at}
 use Rattle.acd_laws.proofs.KeptOffer.{unoccupied}
@@ -77,6 +77,32 @@ kept_group s g r free =
       ));
       connections = every_from (ConnectionRule t) s.connections (λ z i.
           rule_more s t (λ d w. w) more z (λ k. k) (λ w. ap (λ b. b || is_station s z.device) (other z.device (nobody_at s g.device r free z i)) ∙ w) (every_among (ConnectionRule s) s.connections z r.connections i));
+      parties = r.parties;
+      one_open = r.one_open;
+      one_live = r.one_live;
+      no_hold = r.no_hold;
+      one_offer = r.one_offer;
+      one_agent = r.one_agent;
+      ready = r.ready;
+      busy = r.busy;
+      pending = r.pending;
+      free = r.free;
+    }
+
+-- a planned group gets another record
+pub kept_rank : (s : Rows) (g : GroupRecord) → Rules s → is_group s g.device ≡ true → Rules (changed s (PutGroup g))
+unfolding with_group call_of connection_of agent_of station_of
+kept_rank s g r planned =
+    let t : Rows = changed s (PutGroup g) in
+    let same : (d : ℕ) → is_group t d ≡ is_group s d = group_kept s g planned in
+    record {
+      orders = record { groups = ascending-put group_order groups_total g s.groups r.orders.groups; stations = r.orders.stations; agents = r.orders.agents; monitors = r.orders.monitors; calls = r.orders.calls; connections = r.orders.connections };
+      kinds = λ d h. r.kinds d (sym (same d) ∙ h);
+      agents = every_from (AgentRule t) s.agents (λ a i. more_seat s t (λ d h. h) (λ d h. same d ∙ h) a a.state (every_among (AgentRule s) s.agents a r.agents i));
+      calls = every_from (CallRule t) s.calls (λ c i. let h = every_among (CallRule s) s.calls c r.calls i in
+          (h.0, ap (λ b. b || is_station s c.called) (same c.called) ∙ h.1, h.2, same c.caller ∙ h.3));
+      connections = every_from (ConnectionRule t) s.connections (λ z i.
+          rule_more s t (λ d w. w) (λ d w. same d ∙ w) z (λ k. k) (λ w. ap (λ b. b || is_station s z.device) (same z.device) ∙ w) (every_among (ConnectionRule s) s.connections z r.connections i));
       parties = r.parties;
       one_open = r.one_open;
       one_live = r.one_live;
