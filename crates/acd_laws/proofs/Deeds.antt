@@ -236,7 +236,8 @@ ranks_of s device priority = by (group_of s device) refl
 
     by : (o : Option GroupRecord) → group_of s device ≡ o
         → Ranks s (SetGroupPriority device priority) (moves_of (refuse_if (not (is_some o || is_station s device)) UnknownDevice >> (ok_or o NotGroup >>= put)))
-    by None e = by_refusal (λ v. Ranks s (SetGroupPriority device priority) (moves_of v)) _ _ _ (λ _. refuses device priority e) (λ _. refuses device priority e)
+    by None e = by_refusal (λ (v : Served). Ranks s (SetGroupPriority device priority) (moves_of v)) (not (is_station s device)) UnknownDevice (ok_or None NotGroup >>= put)
+        (λ _. refuses device priority e) (λ _. refuses device priority e)
     by (Some g) e = ranks device priority g e
 
 -- what a command does: a deed or what tick does, and setGroupPriority what it does

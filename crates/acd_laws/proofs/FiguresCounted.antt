@@ -1,5 +1,5 @@
 -- The figures that a group keeps are those counted from all events: by each deed, step and run.
-use Rattle.std.proofs.Common.{◌≡◌, ℕ, ◌⊎◌, inl, inr, true, false, ◌||◌, cond, List, [], ◌∷◌, Option, Some, None, refl, subst, ◌+◌, ◌++◌, sym, ◌∙◌, ap, length, append-nil}
+use Rattle.std.proofs.Common.{◌≡◌, ℕ, ◌⊎◌, inl, inr, true, false, ◌||◌, cond, List, [], ◌∷◌, Option, Some, None, refl, subst, ◌+◌, ◌++◌, sym, ◌∙◌, ap, length, append-nil, eq-eqb}
 use Rattle.std.specs.Prelude.{is_some, option_map, ◌==◌}
 use Rattle.std.proofs.lemmas.Bool.{or_parts, eqb-true, false_from_ne_true}
 use Rattle.std.specs.Prelude.{min}
@@ -14,8 +14,8 @@ use Rattle.acd_model.specs.declared.moves.Ending.TheVariants.{NoAnswer}
 use Rattle.acd_model.specs.declared.moves.Change.TheVariants.{PutGroup, PutAgent}
 use Rattle.acd_laws.proofs.Facts.{Rules, GroupColumn, ConnectionRule}
 use Rattle.acd_laws.proofs.MoveKinds.{LeavesGroups, left_groups, AgentMove, stays, waits as puts, tells, Anyone, goes_from, released_by, occupied_by, Arrival, queues, alerts, fails, arrival_of}
-use Rattle.acd_laws.proofs.Lists.{every_among, among_put, mapped_among}
-use Rattle.acd_laws.proofs.State.{connection_among, other_among, group_found_put, group_counted_found, is_some_mapped, group_among, group_key}
+use Rattle.acd_laws.proofs.Lists.{every_among, among_put, mapped_among, some_is}
+use Rattle.acd_laws.proofs.State.{connection_among, other_among, group_found_put, group_counted_found, is_some_mapped, group_among, group_key, group_put_found}
 use Rattle.acd_laws.proofs.CountedEvents.{group_counted, quiet, figures_joined, figures_numbered, figures_skipped, no_events, nothing_sum}
 use Rattle.acd_laws.proofs.Deeds.{Party, Round, offers, returns, rests, Deed, nothing, adds_group, adds_station, adds_agent, watches, unwatches, arrives, makes, goes_out, answers, holds, retrieves, clears, deflects, transfers, logs_on, waits, goes, Ranks, refuses, ranks, is_ranking}
 use Rattle.acd_model.specs.Figures.{figures_of, sum_of_figures, counting, with_figures}

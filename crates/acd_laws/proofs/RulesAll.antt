@@ -103,15 +103,18 @@ record WasKept (s : Rows) (g : GroupRecord) : Type 0 where
   balanced : g.figures.entered ≡ holding s g.device + g.figures.answered + g.figures.abandoned + g.figures.moved
   in_range : g.priority ≤ greatest_priority
 
+kept_among : (s : Rows) (g : GroupRecord) → KeepsRules s → Among g s.groups → WasKept s g
+kept_among s g h i = record { counted = every_among (IsCountedUpTo s.last_stamp s.last_moment) s.groups g h.figures i; balanced = every_among (AddsUp s) s.groups g h.balance i; in_range = every_among (λ (x : GroupRecord). x.priority ≤ greatest_priority) s.groups g h.priorities i }
+
 was_kept : (s : Rows) (g : GroupRecord) → KeepsRules s → IsGroupAfter s g → WasKept s g
-was_kept s g h (inl i) = record { counted = every_among (IsCountedUpTo s.last_stamp s.last_moment) s.groups g h.figures i; balanced = every_among (AddsUp s) s.groups g h.balance i; in_range = every_among (λ (x : GroupRecord). x.priority ≤ greatest_priority) s.groups g h.priorities i }
+was_kept s g h (inl i) = kept_among s g h i
 was_kept s g h (inr (inl n)) = record {
   counted = new_counted s.last_stamp s.last_moment g.figures n.0;
   balanced = new_balanced (holding s g.device) g.figures n.0 (none_held s g.device h.rules n.1);
   in_range = rw n.2 (omega arith);
 }
 was_kept s g h (inr (inr k)) =
-    let w = was_kept s k.was h (inl k.there) in
+    let w = kept_among s k.was h k.there in
     record {
       counted = subst (λ (f : Figures). (f.entered ≤ s.last_stamp) × (f.waited ≤ f.answered * s.last_moment)) (sym k.figures) w.counted;
       balanced = subst (λ (f : Figures). f.entered ≡ holding s g.device + f.answered + f.abandoned + f.moved) (sym k.figures)

@@ -1,5 +1,5 @@
 -- The rules are kept by every deed, by distribution, and so by the moves of a step; and what deeds and rounds keep, a step keeps.
-use Rattle.std.proofs.Common.{◌≡◌, ℕ, inl, inr, List, [], sym, ap, subst, refl, arith, ◌++◌, false}
+use Rattle.std.proofs.Common.{◌≡◌, ℕ, inl, inr, List, [], sym, ap, subst, refl, arith, ◌++◌, false, ◌∙◌, is_some}
 use Rattle.std.specs.Prelude.{min}
 use Rattle.acd_terms.specs.Limits.{greatest_priority}
 use Rattle.acd_laws.proofs.Words.{Rows, Command, Event, Move, state_wanted, is_initiated, other_of, moved, events_of, is_open, is_group}
@@ -11,7 +11,7 @@ use Rattle.acd_model.specs.Step.{step_moves}
 use Rattle.acd_model.specs.Distribution.{distribution}
 use Rattle.acd_laws.proofs.Facts.{Rules}
 use Rattle.acd_laws.proofs.Lists.{one}
-use Rattle.acd_laws.proofs.State.{connection_among, connection_rule}
+use Rattle.acd_laws.proofs.State.{connection_among, connection_rule, group_key}
 use Rattle.acd_model.specs.Release.{ending_of}
 use Rattle.acd_model.proofs.MoveLemmas.{moved_append}
 use Rattle.acd_laws.proofs.Distributing.{tick_keeps, Kept, kept-append, rules_distribution, offering, offer_moves_are, distribution_keeps}
