@@ -96,7 +96,7 @@ before_chain : (f g h : GroupRecord) → is_served_before f g ≡ false → is_s
 before_chain f g h d e = grind (arith, nat_tests)
 
 -- it is one of them, and none of them is served before it
-record IsServedFirst (g : GroupRecord) (gs : List GroupRecord) : Type 0 where
+pub record IsServedFirst (g : GroupRecord) (gs : List GroupRecord) : Type 0 where
   pub there : Among g gs
   pub first : (h : GroupRecord) → Among h gs → is_served_before h g ≡ false
 
@@ -126,11 +126,11 @@ served_from : (b : GroupRecord) (gs : List GroupRecord) → (q : GroupRecord) ×
 served_from b [] = (b, (refl, record { there = inl refl; first = λ r a. elim a [ inl w ↦ subst (λ (z : GroupRecord). is_served_before z b ≡ false) (sym w) (before_itself b) | inr c ↦ absurd c ] }))
 served_from b (p ∷ gs) = let f = served_from (sooner (Some b) p) gs in (f.0, (f.1.0, with_sooner b p f.0 gs f.1.1))
 
-none_served : (gs : List GroupRecord) → first_served None gs ≡ None → gs ≡ []
+pub none_served : (gs : List GroupRecord) → first_served None gs ≡ None → gs ≡ []
 none_served [] e = refl
 none_served (g ∷ gs) e = let f = served_from g gs in absurd (cc (f.1.0, e))
 
-served_is : (gs : List GroupRecord) (g : GroupRecord) → first_served None gs ≡ Some g → IsServedFirst g gs
+pub served_is : (gs : List GroupRecord) (g : GroupRecord) → first_served None gs ≡ Some g → IsServedFirst g gs
 served_is [] g e = absurd (cc (e))
 served_is (x ∷ gs) g e = let f = served_from x gs in subst (λ v. IsServedFirst v (x ∷ gs)) (some_is f.0 g (sym f.1.0 ∙ e)) f.1.1
 

@@ -164,6 +164,11 @@ pub group_key : (s : Rows) (n : ℕ) (g : GroupRecord) → group_of s n ≡ Some
 unfolding group_of
 group_key s n g e = eqb-true g.device n (found_has by_group s.groups n g e)
 
+-- a group of the list is found under its number
+pub group_found : (s : Rows) → IsAscending group_order s.groups → (g : GroupRecord) → Among g s.groups → group_of s g.device ≡ Some g
+unfolding group_of
+group_found s h g i = found_own by_group s.groups h g i
+
 -- an agent of the list is found under its number
 pub agent_found : (s : Rows) → IsAscending agent_order s.agents → (a : AgentRecord) → Among a s.agents → agent_of s a.agent ≡ Some a
 unfolding agent_of

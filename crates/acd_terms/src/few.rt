@@ -40,6 +40,14 @@ impl Few {
         }
     }
 
+    pub fn one(device: DeviceId) -> Few
+        ensures { result ≡ device ∷ [] }
+    {
+        let mut few = Few::none();
+        few.push(device);
+        few
+    }
+
     pub fn len(&self) -> usize
         ensures value { result ≡ length self.now }
         ensures few { result ≤ 8 }
@@ -48,7 +56,8 @@ impl Few {
     }
 
     pub fn as_slice(&self) -> &[DeviceId]
-        ensures { result.now ≡ self.now }
+        ensures value { result.now ≡ self.now }
+        ensures few { length self.now ≤ 8 }
     {
         &self.cells[..self.len]
     }

@@ -41,9 +41,9 @@ impl Groups {
     pub fn one(group: DeviceId) -> Groups
         ensures { result ≡ group ∷ [] }
     {
-        let mut list = Few::none();
-        list.push(group);
-        Groups { list }
+        Groups {
+            list: Few::one(group),
+        }
     }
 
     /// Those of a list in any order. None where one is there twice, or more than eight are.
@@ -62,8 +62,14 @@ impl Groups {
         ensures ascending { ascends nat_cmp self.now ≡ true }
         ensures few { length self.now ≤ 8 }
     {
-        let _few = self.list.len();
         self.list.as_slice()
+    }
+
+    /// The same devices.
+    pub fn to_few(&self) -> Few
+        ensures { result ≡ self.now }
+    {
+        self.list
     }
 
     /// The one of least number.
