@@ -1,5 +1,5 @@
 -- What is found among the groups that are noted is the offer that is to be made.
-use Rattle.std.proofs.Common.{◌≡◌, ℕ, Bool, true, false, cond, ◌&&◌, ◌||◌, List, [], ◌∷◌, Option, Some, None, refl, ap, sym, ◌∙◌, subst, arith}
+use Rattle.std.proofs.Common.{◌≡◌, ℕ, Bool, true, false, cond, ◌&&◌, ◌||◌, List, [], ◌∷◌, Option, Some, None, refl, ap, ap₂, sym, ◌∙◌, subst, arith}
 use Rattle.std.specs.Prelude.{◌==◌, is_some, option_and_then, filter}
 use Rattle.std.specs.List.Sorted.{IsStrictlySortedBy}
 use Rattle.std.specs.declared.cmp.Ordering.{Ordering}
@@ -89,7 +89,7 @@ module _ (s : Rows) (ascending : IsAscending group_order s.groups) where
   has_offer : (g : GroupRecord) → has_both s g ≡ true → (o : Offer) × (offer_in s g ≡ Some o)
   has_offer g e =
       let p = parts g.device (first_waiting s g.device) (first_eligible s g.device) e in
-      (record { group = g.device; call = p.0.1; agent = p.1.0.1 }, rw (p.1.1.0, p.1.1.1) refl)
+      (record { group = g.device; call = p.0.1; agent = p.1.0.1 }, ap₂ (offer_by g.device) p.1.1.0 p.1.1.1)
 
   first_of : IsFirst offer_cmp key_total key_exact (offer_at s) (offer_of s)
   unfolding offer_of

@@ -459,15 +459,15 @@ agent-turn s item turn before entry free a b o e f h out = record {
 -- what is left of the groups of an entry
 any_filtered : (p : ℕ → Bool) (gs : List ℕ) (g : ℕ) → is_one_of (filter p gs) g ≡ (is_one_of gs g && p g)
 any_filtered p [] g = refl
-any_filtered p (x ∷ gs) g = by (p x) refl (x == g) refl
+any_filtered p (x ∷ gs) g = by (p x) refl (x == g) refl (any_filtered p gs g)
   where
-    by : (b : Bool) → p x ≡ b → (c : Bool) → (x == g) ≡ c → is_one_of (cond b (x ∷ filter p gs) (filter p gs)) g ≡ ((c || is_one_of gs g) && p g)
-    by true e true f = rw f (sym (ap p (sym (eqb-true x g f)) ∙ e))
-    by true e false f = rw f (any_filtered p gs g)
-    by false e true f =
+    by : (b : Bool) → p x ≡ b → (c : Bool) → (x == g) ≡ c → is_one_of (filter p gs) g ≡ (is_one_of gs g && p g) → is_one_of (cond b (x ∷ filter p gs) (filter p gs)) g ≡ ((c || is_one_of gs g) && p g)
+    by true e true f more = rw f (sym (ap p (sym (eqb-true x g f)) ∙ e))
+    by true e false f more = rw f more
+    by false e true f more =
         let gone : p g ≡ false = ap p (sym (eqb-true x g f)) ∙ e in
-        any_filtered p gs g ∙ ap (λ b. is_one_of gs g && b) gone ∙ and_right (is_one_of gs g) false refl ∙ sym gone
-    by false e false f = any_filtered p gs g
+        more ∙ ap (λ b. is_one_of gs g && b) gone ∙ and_right (is_one_of gs g) false refl ∙ sym gone
+    by false e false f more = more
 
 module _ {E : Type 0} (cmp : E → E → Ordering) (total : IsTotalOrder cmp) where
   same_as : (k l e : E) → is_eq (cmp k l) ≡ true → is_eq (cmp k e) ≡ is_eq (cmp l e)
@@ -475,7 +475,7 @@ module _ {E : Type 0} (cmp : E → E → Ordering) (total : IsTotalOrder cmp) wh
 
   other_than : (k l e : E) → is_eq (cmp k l) ≡ false → is_eq (cmp k e) ≡ true → is_eq (cmp l e) ≡ false
   other_than k l e h f = false_from_ne_true (is_eq (cmp l e)) (λ q.
-      let to_l : is_eq (cmp e l) ≡ true = is_eq_of (cmp e l) (total.antisymm l e ∙ ap ordering_reverse (eq_is (cmp l e) q)) in
+      let to_l : is_eq (cmp e l) ≡ true = is_eq_of (cmp e l) (total.antisymm e l ∙ ap ordering_reverse (eq_is (cmp l e) q)) in
       let there : is_eq (cmp k l) ≡ is_eq (cmp e l) = same_as k e l f in cc (h, there, to_l))
 
   pub left_but : (gs : List ℕ) (k : E) (after : Option (List ℕ × E)) → LeavesBut cmp (Some (gs, k)) after (Some (left_of cmp gs k after, k))
@@ -487,7 +487,7 @@ module _ {E : Type 0} (cmp : E → E → Ordering) (total : IsTotalOrder cmp) wh
   left_but gs k (Some other) g e = by (is_eq (cmp k other.1)) refl
     where
       kept : (a q b w : Bool) → (q ≡ true → w ≡ false) → (a && q) ≡ ((a && q) && not (b && w))
-      kept true true b w h = ap (λ v. not (b && v)) (sym (h refl)) ∙ refl
+      kept true true b w h = rw (h refl) (sym (ap not (and_right b false refl)))
       kept true false b w h = refl
       kept false q b w h = refl
 

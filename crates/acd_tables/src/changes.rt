@@ -148,15 +148,15 @@ pub(crate) fn put_agent(
     let works = item.state.is_working_after_call();
     note(&mut indexes.working, item.agent, works)?;
     let turn = agent_turn(records, indexes, &old, &item);
-    let undo = indexes.enter(records, &turn.entering)?;
+    let undo = indexes.enter(records, turn.entering)?;
     match records.put_agent(item) {
         Ok(()) => {
-            indexes.settle(records, &turn);
+            indexes.settle(records, turn);
             forget(&mut indexes.working, item.agent, ends_work(&old, works));
             Ok(())
         }
         Err(error) => {
-            indexes.take_out(records, &undo);
+            indexes.take_out(records, undo);
             Err(error)
         }
     }
@@ -220,10 +220,10 @@ pub(crate) fn put_connection(
     let new = Some(*item);
     let turn = connection_turn(records, indexes, call, device, &old, &new);
     let queued = queued_after(records, indexes, call, device, &old, &new);
-    let undo = indexes.enter(records, &turn.entering)?;
+    let undo = indexes.enter(records, turn.entering)?;
     match records.put_connection(*item) {
         Ok(()) => {
-            indexes.settle(records, &turn);
+            indexes.settle(records, turn);
             indexes.queued = queued;
             forget(
                 &mut indexes.ringing,
@@ -233,7 +233,7 @@ pub(crate) fn put_connection(
             Ok(())
         }
         Err(error) => {
-            indexes.take_out(records, &undo);
+            indexes.take_out(records, undo);
             Err(error)
         }
     }
@@ -254,9 +254,9 @@ pub(crate) fn remove_connection(
     let old = records.connection(call, device);
     let turn = connection_turn(records, indexes, call, device, &old, &None);
     let queued = queued_after(records, indexes, call, device, &old, &None);
-    indexes.enter(records, &turn.entering)?;
+    indexes.enter(records, turn.entering)?;
     records.remove_connection(call, device);
-    indexes.settle(records, &turn);
+    indexes.settle(records, turn);
     indexes.queued = queued;
     forget(
         &mut indexes.ringing,

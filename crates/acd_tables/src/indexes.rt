@@ -72,15 +72,15 @@ impl Indexes {
         }
     }
 
-    /// Takes the entries in, and gives those that are to be taken out to undo it. Where one finds no
-    /// memory or no set, nothing is taken in.
+    /// Takes in what enters, and gives what is to be taken out to undo it. Where it finds no memory or no
+    /// set, nothing is taken in.
     pub(crate) fn enter(
         &mut self,
         records: &Records,
-        entries: &Entries,
+        entries: Entries,
     ) -> Result<Entries, AllocError>
         requires { Offers records.now self.old }
-        ensures ok { OnOk result (Entered records.now self.old self.new entries.now) }
+        ensures ok { OnOk result (Entered records.now self.old self.new entries) }
         ensures undo { IfOk result (Undone self.old self.new) }
         ensures err { OnErr result (Untouched records.now self.old self.new) }
     {
@@ -98,21 +98,21 @@ impl Indexes {
     }
 
     /// Takes the entries out.
-    pub(crate) fn take_out(&mut self, records: &Records, entries: &Entries)
+    pub(crate) fn take_out(&mut self, records: &Records, entries: Entries)
         requires { Offers records.now self.old }
-        ensures { TakenOut records.now self.old self.new entries.now }
+        ensures { TakenOut records.now self.old self.new entries }
     {
         leave_entry(&mut self.queues, &entries.queue);
         leave_entry(&mut self.ready, &entries.ready);
-        self.prune(records, entries);
+        self.prune(records, &entries);
     }
 
     /// Takes out what leaves, and the groups of the turn that have no offer.
-    pub(crate) fn settle(&mut self, records: &Records, turn: &Turn)
+    pub(crate) fn settle(&mut self, records: &Records, turn: Turn)
         requires { Offers records.now self.old }
-        ensures { TakenOut records.now self.old self.new turn.now.leaving }
+        ensures { TakenOut records.now self.old self.new turn.leaving }
     {
-        self.take_out(records, &turn.leaving);
+        self.take_out(records, turn.leaving);
         self.prune(records, &turn.entering);
     }
 
