@@ -5,7 +5,9 @@ use Rattle.std.specs.List.{list_any}
 use Rattle.std.specs.Ordering.{is_eq, nat_cmp}
 use Rattle.std.specs.declared.cmp.Ordering.{Ordering}
 use Rattle.std.specs.Cmp.{IsTotalOrder}
-use Rattle.std.proofs.lemmas.Bool.{and_from}
+use Rattle.std.proofs.lemmas.Bool.{and_from, or_left, or_right, eqb-true}
+use Rattle.acd_terms.specs.Groups.{is_one_of}
+use Rattle.acd_tables.specs.Indexed.{PairSets, lists}
 use Rattle.std.proofs.lemmas.Cmp.{nat_cmp_total}
 use Rattle.std.specs.BTreeMap.{BTreeMap}
 use Rattle.std.specs.BTreeSet.{BTreeSet}
@@ -14,7 +16,7 @@ use Rattle.acd_tables.specs.Turns.{is_entry, Enters, Leaves, Undoes}
 use Rattle.acd_tables.proofs.SetLemmas.{holds-same}
 use Rattle.acd_tables.proofs.TurnLemmas.{eq_key}
 
-any_last : {X : Type 0} (p : X → Bool) (xs : List X) (x : X) → list_any p (xs ++ x ∷ []) ≡ (list_any p xs || p x)
+pub any_last : {X : Type 0} (p : X → Bool) (xs : List X) (x : X) → list_any p (xs ++ x ∷ []) ≡ (list_any p xs || p x)
 any_last p [] x = by (p x)
   where
     by : (b : Bool) → (b || false) ≡ b
@@ -124,3 +126,22 @@ module _ {E : Type 0} (cmp : E → E → Ordering) where
 pub no_longer : (b : Bool) (x i : ℕ) (old new : List ℕ) → new ≡ cond b (old ++ x ∷ []) old → length old ≤ i → length new ≤ i + 1
 no_longer true x i old new e h = let l : length new ≡ length old + 1 = ap length e ∙ length-append old (x ∷ []) in omega (arith, l, h)
 no_longer false x i old new e h = let l : length new ≡ length old = ap length e in omega (arith, l, h)
+
+-- where somebody waits is kept
+pub waits_more : (queues : PairSets) (before w new : List ℕ) (x : ℕ) (flag : Bool) → ((g : ℕ) (p : ℕ × ℕ) → is_one_of before g ≡ true → lists queues g p ≡ true → is_one_of w g ≡ true)
+    → (flag ≡ false → (p : ℕ × ℕ) → lists queues x p ≡ false) → new ≡ cond flag (w ++ x ∷ []) w
+    → (g : ℕ) (p : ℕ × ℕ) → is_one_of (before ++ x ∷ []) g ≡ true → lists queues g p ≡ true → is_one_of new g ≡ true
+waits_more queues before w new x flag h none e g p m l =
+    ap (λ (gs : List ℕ). is_one_of gs g) e ∙ by flag refl (is_one_of before g) refl
+  where
+    last : (is_one_of before g || (x == g)) ≡ true
+    last = sym (any_last (λ (y : ℕ). y == g) before x) ∙ m
+
+    at : is_one_of before g ≡ false → (x == g) ≡ true
+    at f = ap (λ b. b || (x == g)) (sym f) ∙ last
+
+    by : (b : Bool) → flag ≡ b → (c : Bool) → is_one_of before g ≡ c → is_one_of (cond b (w ++ x ∷ []) w) g ≡ true
+    by true f true k = any_last (λ (y : ℕ). y == g) w x ∙ or_left (is_one_of w g) (x == g) (h g p k l)
+    by true f false k = any_last (λ (y : ℕ). y == g) w x ∙ or_right (is_one_of w g) (x == g) (at k)
+    by false f true k = h g p k l
+    by false f false k = absurd (let no = none f p in let yes = ap (λ v. lists queues v p) (eqb-true x g (at k)) ∙ l in cc (no, yes))

@@ -12,7 +12,7 @@ ghost use Rattle.acd_tables.specs.Indexed.{lists, OfferKey, offer_cmp, offer_key
 ghost use Rattle.acd_tables.specs.Turns.{Enters, Leaves, Undoes, LeavesBut, NotesGroups, left_of, is_of_group, Offers, Entered, Undone, Untouched, TakenOut, IsBlank};
 
 use crate::records::Records;
-use crate::sets::{enter_all, forget, leave_all, note};
+use crate::sets::{enter_all, forget, leave_all, note, push_if};
 use acd_terms::{AgentId, DeviceId, Few, GroupRecord, Priority};
 use std::alloc::{AllocError, Global};
 use std::cmp::Reverse;
@@ -119,7 +119,7 @@ impl Indexes {
     // Takes the groups of the entries that have no offer out of those that may have one.
     fn prune(&mut self, records: &Records, entries: &Entries)
         requires { Offers records.now self.old }
-        ensures offers { Offers records.now self.new }
+        ensures offers { ListsOffers records.now self.old.queues self.old.ready self.new.offering }
         ensures rest { self.new ≡ record self.old { offering = self.new.offering } }
     {
         prune_entry(records, &self.queues, &self.ready, &mut self.offering, &entries.queue);
@@ -145,7 +145,10 @@ fn note_group(
 {
     match records.group(group) {
         None => Ok(()),
-        Some(record) => note(offering, offer_key(&record), true),
+        Some(record) => {
+            note(offering, offer_key(&record), true)?;
+            Ok(())
+        }
     }
 }
 
@@ -188,9 +191,8 @@ fn waiting_groups(
 {
     let mut waiting = Few::none();
     for group in groups {
-        if !has_none(queues, *group) {
-            waiting.push(*group);
-        }
+        let is_waiting = !has_none(queues, *group);
+        push_if(&mut waiting, *group, is_waiting);
     }
     waiting
 }

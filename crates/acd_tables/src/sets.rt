@@ -56,8 +56,8 @@ pub(crate) fn leave_all<E: Ord + Copy>(
     }
 }
 
-// Puts the group behind the others, if it is one where the member is new.
-fn push_if(entered: &mut Few, group: DeviceId, new: bool)
+/// Puts the group behind the others, if it is new.
+pub(crate) fn push_if(entered: &mut Few, group: DeviceId, new: bool)
     requires { length entered.old < 8 }
     ensures { entered.new ≡ (if new then entered.old ++ group ∷ [] else entered.old) }
 {
