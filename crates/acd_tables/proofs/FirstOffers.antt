@@ -19,7 +19,7 @@ use Rattle.acd_model.specs.Scans.{group_of}
 use Rattle.acd_model.specs.Choice.{first_waiting, first_eligible, is_served_before, first_served, has_both, offer_by, offer_in, offer_of}
 use Rattle.acd_model.specs.declared.moves.Offer.{Offer}
 use Rattle.acd_laws.proofs.OfferFound.{least_is, IsServedFirst, none_served, served_is}
-use Rattle.acd_laws.proofs.Lists.{none_from, filter_among, among-filter}
+use Rattle.acd_laws.proofs.Lists.{none_from, filter_among, among-filter, eq_is}
 use Rattle.acd_laws.proofs.State.{group_among, group_key, group_found}
 use Rattle.acd_tables.specs.Indexed.{IsIndexed, OfferKey, offer_cmp, offer_key}
 use Rattle.acd_tables.specs.FirstOffer.{if_ranked, offer_at, first_given}
@@ -122,5 +122,5 @@ module _ (s : Rows) (x : Indexes) (h : IsIndexed s x) where
   first-offer sorted = one_first offer_cmp key_total key_exact (offer_at s) _ _
       (first_sorted offer_cmp key_total key_exact (offer_at s) x.offering.keys sorted (λ j o e.
           let q = at_key s h.groups j o e in
-          subst (λ z. Among z x.offering.keys) q.1.1.1 (contained offer_cmp key_exact x.offering (offer_key q.0) (noted q.0 q.1.0 q.1.1.0))))
+          subst (λ z. Among z x.offering.keys) q.1.1.1 (contained offer_cmp (λ j k e. key_exact j k (eq_is (offer_cmp j k) e)) x.offering (offer_key q.0) (noted q.0 q.1.0 q.1.1.0))))
       (first_of s h.groups)
