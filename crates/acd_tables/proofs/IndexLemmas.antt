@@ -442,7 +442,7 @@ agents_put : (s : Rows) (c : ConnectionRecord) → IsAscending agent_order s.age
 unfolding with_connection
 agents_put s c h = h
 
-groups_put : (s : Rows) (c : ConnectionRecord) → (with_connection s c).groups ≡ s.groups
+pub groups_put : (s : Rows) (c : ConnectionRecord) → (with_connection s c).groups ≡ s.groups
 unfolding with_connection
 groups_put s c = refl
 
@@ -450,7 +450,7 @@ agents_less : (s : Rows) (c d : ℕ) → IsAscending agent_order s.agents → Is
 unfolding without_connection
 agents_less s c d h = h
 
-groups_less : (s : Rows) (c d : ℕ) → (without_connection s c d).groups ≡ s.groups
+pub groups_less : (s : Rows) (c d : ℕ) → (without_connection s c d).groups ≡ s.groups
 unfolding without_connection
 groups_less s c d = refl
 

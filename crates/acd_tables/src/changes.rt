@@ -15,7 +15,7 @@ use crate::records::Records;
 use crate::sets::{add_set, forget, note};
 use crate::turns::{agent_turn, connection_turn};
 use crate::uses::{agent_at, is_at, is_ringing};
-use acd_terms::{AgentId, AgentRecord, ConnectionRecord, DeviceId, GroupRecord, Priority};
+use acd_terms::{AgentId, AgentRecord, ConnectionRecord, DeviceId, Few, GroupRecord, Priority};
 use std::alloc::{AllocError, Global};
 use std::collections::{BTreeSet, HashMap};
 
@@ -143,6 +143,7 @@ pub(crate) fn put_agent(
     ensures ok { OnOk result (records.new ≡ with_agent records.old item) }
     ensures err { OnErr result (records.new ≡ records.old) }
 {
+    let _few = Few::none();
     let old = records.agent(item.agent);
     sit(records, &mut indexes.seats, &old, &item)?;
     let works = item.state.is_working_after_call();
@@ -212,6 +213,7 @@ pub(crate) fn put_connection(
     ensures ok { OnOk result (records.new ≡ with_connection records.old item.now) }
     ensures err { OnErr result (records.new ≡ records.old) }
 {
+    let _few = Few::none();
     let (call, device) = (item.call, item.device);
     let old = records.connection(call, device);
     list(&mut indexes.lines, device, call, &old)?;
@@ -251,6 +253,7 @@ pub(crate) fn remove_connection(
     ensures ok { OnOk result (records.new ≡ without_connection records.old call device) }
     ensures err { OnErr result (records.new ≡ records.old) }
 {
+    let _few = Few::none();
     let old = records.connection(call, device);
     let turn = connection_turn(records, indexes, call, device, &old, &None);
     let queued = queued_after(records, indexes, call, device, &old, &None);
