@@ -273,9 +273,8 @@ fn without(groups: &Few, others: &[DeviceId]) -> Few
 {
     let mut left = Few::none();
     for group in groups.as_slice() {
-        if !others.iter().any(|other| *other == *group) {
-            left.push(*group);
-        }
+        let is_left = !others.iter().any(|other| *other == *group);
+        push_if(&mut left, *group, is_left);
     }
     left
 }
