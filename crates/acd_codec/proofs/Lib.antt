@@ -4,3 +4,4 @@ pub mod Adding
 pub mod Printed
 pub mod Plain
 pub mod RoundTrip
+pub mod Choosing

@@ -1,6 +1,7 @@
 //! What holds of requests and their texts.
 
 ghost use Rattle.std.specs.Prelude.{◌≡◌, ◌↔◌, Ok};
+ghost use Rattle.acd_terms.specs.Lists.{Every};
 ghost use Rattle.acd_codec.specs.Formed.{IsSerial, IsDevice, IsRequested, IsCommand, IsRequest};
 ghost use Rattle.acd_codec.specs.Reading.{reads_as};
 ghost use Rattle.acd_codec.specs.RequestTexts.{request_text};
@@ -15,12 +16,20 @@ fn connection_formed(call: &Serial, device: &DeviceId)
     device.number();
 }
 
+fn devices_formed(devices: &[DeviceId])
+    ensures { Every IsDevice devices.now }
+{
+    for device in devices {
+        device.number();
+    }
+}
+
 fn requested_formed(requested: &Requested)
     ensures { IsRequested requested.now }
 {
-    if let Requested::LoggedOn { device, group } = requested {
+    if let Requested::LoggedOn { device, groups } = requested {
         device.number();
-        group.number();
+        devices_formed(groups.groups().as_slice());
     }
 }
 
@@ -72,6 +81,10 @@ fn command_formed(command: &Command)
             monitor.number();
         }
         Command::Tick => {}
+        Command::SetGroupPriority { device, priority } => {
+            device.number();
+            priority.number();
+        }
     }
 }
 

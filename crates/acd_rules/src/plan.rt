@@ -1,15 +1,27 @@
 //! The rules limits, order, device, agent and monitor.
 
-ghost use Rattle.std.specs.Prelude.{◌≡◌, length, filter};
+ghost use Rattle.std.specs.Prelude.{◌≡◌, nat_le, length, filter};
+ghost use Rattle.std.specs.List.{list_all};
 ghost use Rattle.acd_terms.specs.Lists.{count};
+ghost use Rattle.acd_terms.specs.Limits.{greatest_priority};
 ghost use Rattle.acd_terms.specs.declared.record.AgentRecord.{AgentRecord};
+ghost use Rattle.acd_terms.specs.declared.record.GroupRecord.{GroupRecord};
 ghost use Rattle.acd_model.specs.Scans.{has};
-ghost use Rattle.acd_model.specs.Rules.Plan.{keeps_limits, keeps_order, keeps_device, keeps_agent, keeps_monitor, is_station_there, is_group_there, is_alone_at, is_seated};
+ghost use Rattle.acd_model.specs.Rules.Occupied.{is_empty};
+ghost use Rattle.acd_model.specs.Rules.Plan.{keeps_limits, keeps_order, keeps_device, keeps_agent, keeps_monitor, is_station_there, are_planned_groups, is_alone_at, is_seated};
 
 use crate::lookups::Lookups;
-use acd_terms::{AgentRecord, DeviceId, Rows, ascends};
+use acd_terms::{AgentRecord, DeviceId, Groups, Rows, ascends};
 
-/// No limit is above the greatest and no list above its limit; no last number is above its bound.
+// No priority is above the greatest.
+fn are_priorities_low(rows: &Rows) -> bool
+    ensures { result ≡ list_all (λ (g : GroupRecord). nat_le g.priority greatest_priority) rows.now.groups }
+{
+    rows.groups.iter().all(|g| g.priority.number() <= 9)
+}
+
+/// No limit is above the greatest and no list above its limit; no last number is above its bound, and no
+/// priority above 9.
 #[tactic(auto, unfolding(acd_model::specs::Rules::Plan::keeps_limits))]
 pub fn keeps_limits(rows: &Rows) -> bool
     ensures { result ≡ keeps_limits rows.now }
@@ -24,6 +36,7 @@ pub fn keeps_limits(rows: &Rows) -> bool
         && rows.last_stamp <= limits.requests
         && rows.last_call <= rows.last_stamp
         && rows.last_monitor <= rows.last_stamp
+        && are_priorities_low(rows)
 }
 
 /// Each list is strictly ascending in its key.
@@ -61,14 +74,17 @@ fn is_station_there(lookups: &Lookups, station: Option<DeviceId>) -> bool
     }
 }
 
-// The group, which has to be there, is planned.
-fn is_group_there(lookups: &Lookups, group: Option<DeviceId>) -> bool
-    ensures { result ≡ is_group_there lookups.now.rows.now group }
+fn is_none(groups: &Groups) -> bool
+    ensures { result ≡ is_empty groups.now }
 {
-    match group {
-        None => false,
-        Some(d) => lookups.is_group(d),
-    }
+    groups.is_empty()
+}
+
+// One to eight, in ascending number, and each is planned. The type says the order, and that there are no more.
+fn are_planned_groups(lookups: &Lookups, groups: &Groups) -> bool
+    ensures { result ≡ are_planned_groups lookups.now.rows.now groups.now }
+{
+    !is_none(groups) && groups.as_slice().iter().all(|g| lookups.is_group(*g))
 }
 
 fn logged_on_among(agents: &[AgentRecord], station: DeviceId) -> usize
@@ -94,14 +110,14 @@ fn is_alone_at(lookups: &Lookups, station: Option<DeviceId>) -> bool
     }
 }
 
-// An agent in null has no station, group or pending state, any other a planned station and group.
+// An agent in null has no station, group or pending state, any other a planned station and planned groups.
 fn is_seated(lookups: &Lookups, agent: &AgentRecord) -> bool
     ensures { result ≡ is_seated lookups.now.rows.now agent.now }
 {
     let at_its_place = if agent.state.is_null() {
-        agent.station.is_none() && agent.group.is_none() && agent.pending.is_none()
+        agent.station.is_none() && is_none(&agent.groups) && agent.pending.is_none()
     } else {
-        is_station_there(lookups, agent.station) && is_group_there(lookups, agent.group)
+        is_station_there(lookups, agent.station) && are_planned_groups(lookups, &agent.groups)
     };
     at_its_place && is_alone_at(lookups, agent.station)
 }
