@@ -2,18 +2,18 @@
 
 ghost use Rattle.std.specs.Prelude.{◌≡◌, nat_le, length, filter};
 ghost use Rattle.std.specs.List.{list_all};
+ghost use Rattle.acd_terms.specs.Groups.{is_choice};
 ghost use Rattle.acd_terms.specs.Lists.{count};
 ghost use Rattle.acd_terms.specs.Limits.{greatest_priority};
 ghost use Rattle.acd_terms.specs.declared.record.AgentRecord.{AgentRecord};
 ghost use Rattle.acd_terms.specs.declared.record.GroupRecord.{GroupRecord};
-ghost use Rattle.acd_model.specs.Scans.{has};
-ghost use Rattle.acd_model.specs.Rules.Occupied.{is_empty};
+ghost use Rattle.acd_model.specs.Scans.{has, is_group};
 ghost use Rattle.acd_model.specs.Rules.Plan.{keeps_limits, keeps_order, keeps_device, keeps_agent, keeps_monitor, is_station_there, are_planned_groups, is_alone_at, is_seated};
 
 use crate::lookups::Lookups;
 use acd_terms::{AgentRecord, DeviceId, Groups, Rows, ascends};
 
-// No priority is above the greatest.
+// No priority is above the greatest, as the type says.
 fn are_priorities_low(rows: &Rows) -> bool
     ensures { result ≡ list_all (λ (g : GroupRecord). nat_le g.priority greatest_priority) rows.now.groups }
 {
@@ -74,17 +74,24 @@ fn is_station_there(lookups: &Lookups, station: Option<DeviceId>) -> bool
     }
 }
 
-fn is_none(groups: &Groups) -> bool
-    ensures { result ≡ is_empty groups.now }
+// One to eight, in ascending number. The type says all of that but that there is one.
+fn is_choice(groups: &Groups) -> bool
+    ensures { result ≡ is_choice groups.now }
 {
-    groups.is_empty()
+    !groups.as_slice().is_empty()
 }
 
-// One to eight, in ascending number, and each is planned. The type says the order, and that there are no more.
+fn are_all_planned(lookups: &Lookups, groups: &[DeviceId]) -> bool
+    ensures { result ≡ list_all (is_group lookups.now.rows.now) groups.now }
+{
+    groups.iter().all(|g| lookups.is_group(*g))
+}
+
+// One to eight, in ascending number, and each is a planned group.
 fn are_planned_groups(lookups: &Lookups, groups: &Groups) -> bool
     ensures { result ≡ are_planned_groups lookups.now.rows.now groups.now }
 {
-    !is_none(groups) && groups.as_slice().iter().all(|g| lookups.is_group(*g))
+    is_choice(groups) && are_all_planned(lookups, groups.as_slice())
 }
 
 fn logged_on_among(agents: &[AgentRecord], station: DeviceId) -> usize
@@ -115,7 +122,7 @@ fn is_seated(lookups: &Lookups, agent: &AgentRecord) -> bool
     ensures { result ≡ is_seated lookups.now.rows.now agent.now }
 {
     let at_its_place = if agent.state.is_null() {
-        agent.station.is_none() && is_none(&agent.groups) && agent.pending.is_none()
+        agent.station.is_none() && agent.groups.is_empty() && agent.pending.is_none()
     } else {
         is_station_there(lookups, agent.station) && are_planned_groups(lookups, &agent.groups)
     };

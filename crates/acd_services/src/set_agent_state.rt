@@ -41,7 +41,7 @@ fn all_groups(tables: &Tables, groups: &[DeviceId]) -> Result<(), Refusal>
 }
 
 // An agent in null logs on at a station, in some groups.
-#[tactic(auto, unfolding(acd_model::specs::Services::SetAgentState::log_on, acd_model::specs::Served::if_ok))]
+#[tactic(auto, unfolding(acd_model::specs::Services::SetAgentState::log_on, acd_model::specs::Served::if_ok, acd_model::specs::Served::refuse_if))]
 fn log_on(
     tables: &Tables,
     at: Turn,
