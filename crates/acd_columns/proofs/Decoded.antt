@@ -49,7 +49,7 @@ kept_each_back : (ks : List Kept) → Every IsReadable ks → records_in as_kept
 kept_each_back [] h = refl
 kept_each_back (k ∷ ks) h = rw (kept_back k h.0) (ap (λ l. k ∷ l) (kept_each_back ks h.1))
 
--- ---- connections
+-- ---- rows with numbers of their own
 
 -- of an ascending list, two that compare as equal are one
 one_of : {X : Type 0} (cmp : X → X → Ordering) (o : IsTotalOrder cmp) (xs : List X) (x y : X) → IsAscending cmp xs → Among x xs → Among y xs → cmp x y ≡ Equal → x ≡ y
@@ -60,25 +60,26 @@ one_of cmp o (z ∷ zs) x y up (inr a) (inl q) e =
     absurd (let low : cmp y x ≡ Less = subst (λ k. cmp k x ≡ Less) (sym q) (after_among cmp z zs x up.0 a) in let turned = o.antisymm x y ∙ ap ordering_reverse low in cc (turned, e))
 one_of cmp o (z ∷ zs) x y up (inr a) (inr b) e = one_of cmp o zs x y up.1 a b e
 
-pub ordered : (xs : List ConnectionRecord) → IsAscending connection_order (in_order xs)
-ordered [] = tt
-ordered (x ∷ xs) = ascending-put connection_order connections_total x (in_order xs) (ordered xs)
+module _ {R : Type 0} (order : R → R → Ordering) where
+  pub ordered : IsTotalOrder order → (xs : List R) → IsAscending order (in_order order xs)
+  ordered total [] = tt
+  ordered total (x ∷ xs) = ascending-put order total x (in_order order xs) (ordered total xs)
 
-pub from_order : (xs : List ConnectionRecord) (z : ConnectionRecord) → Among z (in_order xs) → Among z xs
-from_order [] z a = a
-from_order (x ∷ xs) z a = elim (among_put (connection_order x) x (in_order xs) z a) [ inl e ↦ inl e | inr b ↦ inr (from_order xs z b) ]
+  pub from_order : (xs : List R) (z : R) → Among z (in_order order xs) → Among z xs
+  from_order [] z a = a
+  from_order (x ∷ xs) z a = elim (among_put (order x) x (in_order order xs) z a) [ inl e ↦ inl e | inr b ↦ inr (from_order xs z b) ]
 
--- none is lost where two that compare as equal are one
-pub to_order : (xs : List ConnectionRecord) → ((x y : ConnectionRecord) → Among x xs → Among y xs → connection_order x y ≡ Equal → x ≡ y) → (z : ConnectionRecord) → Among z xs → Among z (in_order xs)
-to_order [] one z a = a
-to_order (x ∷ xs) one z (inl e) = subst (λ k. Among k (put_by (connection_order x) (in_order xs) x)) (sym e) (among-put (connection_order x) x (in_order xs))
-to_order (x ∷ xs) one z (inr a) =
-    let behind = to_order xs (λ u v p q. one u v (inr p) (inr q)) z a in
-    (elim (connection_order x z) as (λ o. connection_order x z ≡ o → Among z (put_by (connection_order x) (in_order xs) x)) [
-      | Less ↦ λ e. among-put_other (connection_order x) x (in_order xs) z behind (λ q. cc (e, q))
-      | Equal ↦ λ e. subst (λ k. Among k (put_by (connection_order x) (in_order xs) x)) (one x z (inl refl) (inr a) e) (among-put (connection_order x) x (in_order xs))
-      | Greater ↦ λ e. among-put_other (connection_order x) x (in_order xs) z behind (λ q. cc (e, q))
-    ]) refl
+  -- none is lost where two that compare as equal are one
+  pub to_order : (xs : List R) → ((x y : R) → Among x xs → Among y xs → order x y ≡ Equal → x ≡ y) → (z : R) → Among z xs → Among z (in_order order xs)
+  to_order [] one z a = a
+  to_order (x ∷ xs) one z (inl e) = subst (λ k. Among k (put_by (order x) (in_order order xs) x)) (sym e) (among-put (order x) x (in_order order xs))
+  to_order (x ∷ xs) one z (inr a) =
+      let behind = to_order xs (λ u v p q. one u v (inr p) (inr q)) z a in
+      (elim (order x z) as (λ o. order x z ≡ o → Among z (put_by (order x) (in_order order xs) x)) [
+        | Less ↦ λ e. among-put_other (order x) x (in_order order xs) z behind (λ q. cc (e, q))
+        | Equal ↦ λ e. subst (λ k. Among k (put_by (order x) (in_order order xs) x)) (one x z (inl refl) (inr a) e) (among-put (order x) x (in_order order xs))
+        | Greater ↦ λ e. among-put_other (order x) x (in_order order xs) z behind (λ q. cc (e, q))
+      ]) refl
 
 module _ {X Y : Type 0} (f : X → Y) where
   to_map : (xs : List X) (x : X) → Has xs x → Among (f x) (map f xs)
@@ -90,6 +91,8 @@ module _ {X Y : Type 0} (f : X → Y) where
   from_map [] z a = absurd a
   from_map (x ∷ xs) z (inl e) = (x, inl refl, e)
   from_map (x ∷ xs) z (inr a) = let m = from_map xs z a in (m.0, inr m.1, m.2)
+
+-- ---- connections
 
 abbrev of_row : Row → ConnectionRecord
 of_row row = as_connection (drop 1 row)
@@ -105,9 +108,9 @@ module _ (rows : List Row) (records : List ConnectionRecord) (are : AreConnectio
   out z a = let row = are.stored z a in subst (λ k. Among k (map of_row rows)) (connection_back z) (to_map of_row rows (connection_row row.0 z) row.1)
 
   pub connections_back : connections_in rows ≡ records
-  connections_back = ascending-same connection_order connections_total (in_order (map of_row rows)) records (ordered (map of_row rows)) are.ascending
-      (λ z a. into z (from_order (map of_row rows) z a))
-      (λ z a. to_order (map of_row rows) (λ x y p q e. one_of connection_order connections_total records x y are.ascending (into x p) (into y q) e) z (out z a))
+  connections_back = ascending-same connection_order connections_total (in_order connection_order (map of_row rows)) records (ordered connection_order connections_total (map of_row rows)) are.ascending
+      (λ z a. into z (from_order connection_order (map of_row rows) z a))
+      (λ z a. to_order connection_order (map of_row rows) (λ x y p q e. one_of connection_order connections_total records x y are.ascending (into x p) (into y q) e) z (out z a))
 
 -- ---- the whole
 

@@ -7,14 +7,15 @@ pub mod Reported
 pub mod Endings
 pub mod Queries
 pub mod Heaps
+pub mod Heaped
 pub mod Connections
+pub mod AgentGroups
 pub mod KeyedRows
 pub mod Scans
 pub mod Ordered
 pub mod Listings
 pub mod Asked
 pub mod Members
-pub mod ConnectionRows
 pub mod Selections
 pub mod Statements
 pub mod Updates

@@ -13,8 +13,8 @@ use Rattle.acd_columns.proofs.Common.{cast_id, cast_null}
 use Rattle.acd_columns.proofs.FieldLaws.{fields_cast}
 use Rattle.acd_columns.proofs.Filed.{Filed, Selects, Updates, Deletes, Pages}
 use Rattle.acd_columns.proofs.Frames.{framed}
-use Rattle.acd_columns.proofs.Records.{group_exact, station_exact, agent_exact, call_exact, monitor_exact}
-use Rattle.acd_columns.proofs.Reported.{event_exact, kept_exact}
+use Rattle.acd_columns.proofs.Records.{group_stored, group_exact, station_stored, station_exact, agent_stored, agent_exact, call_stored, call_exact, monitor_stored, monitor_exact}
+use Rattle.acd_columns.proofs.Reported.{event_stored, event_exact, kept_stored, kept_exact}
 
 all_read : {R : Type 0} (rs : List R) → Every (λ _. ⊤) rs
 all_read [] = tt
@@ -25,9 +25,11 @@ unfolding understood everything
 groups_filed = record {
   computes = refl;
   plain = (refl, refl);
+  keyed = refl;
   of_record = λ g. refl;
   of_row = λ row. refl;
   casts = λ g. fields_cast schema.groups group_fields g.device g refl refl;
+  stored = λ row x h. (group_stored row x h, tt);
   exact = λ row x y reads h e. group_exact row x y h e;
   held = λ c db encodes. (encodes table.Groups, all_read _);
   framed = λ rs rows old new c are reads. framed table.Groups rs rows old new c are;
@@ -47,9 +49,11 @@ unfolding understood everything
 stations_filed = record {
   computes = refl;
   plain = (refl, refl);
+  keyed = refl;
   of_record = λ s. refl;
   of_row = λ row. refl;
   casts = λ s. fields_cast schema.stations station_fields s.device s refl refl;
+  stored = λ row x h. (station_stored row x h, tt);
   exact = λ row x y reads h e. station_exact row x y h e;
   held = λ c db encodes. (encodes table.Stations, all_read _);
   framed = λ rs rows old new c are reads. framed table.Stations rs rows old new c are;
@@ -65,9 +69,11 @@ unfolding understood everything
 agents_filed = record {
   computes = refl;
   plain = (refl, refl);
+  keyed = refl;
   of_record = λ a. refl;
   of_row = λ row. refl;
   casts = λ a. fields_cast schema.agents agent_fields a.agent a refl refl;
+  stored = λ row x h. (agent_stored row x h, tt);
   exact = λ row x y reads h e. agent_exact row x y h e;
   held = λ c db encodes. (encodes table.Agents, all_read _);
   framed = λ rs rows old new c are reads. framed table.Agents rs rows old new c are;
@@ -87,9 +93,11 @@ unfolding understood everything
 calls_filed = record {
   computes = refl;
   plain = (refl, refl);
+  keyed = refl;
   of_record = λ k. refl;
   of_row = λ row. refl;
   casts = λ k. fields_cast schema.calls call_fields k.call k refl refl;
+  stored = λ row x h. (call_stored row x h, tt);
   exact = λ row x y reads h e. call_exact row x y h e;
   held = λ c db encodes. (encodes table.Calls, all_read _);
   framed = λ rs rows old new c are reads. framed table.Calls rs rows old new c are;
@@ -113,9 +121,11 @@ unfolding understood everything
 monitors_filed = record {
   computes = refl;
   plain = (refl, refl);
+  keyed = refl;
   of_record = λ w. refl;
   of_row = λ row. refl;
   casts = λ w. fields_cast schema.monitors monitor_fields w.monitor w refl refl;
+  stored = λ row x h. (monitor_stored row x h, tt);
   exact = λ row x y reads h e. monitor_exact row x y h e;
   held = λ c db encodes. (encodes table.Monitors, all_read _);
   framed = λ rs rows old new c are reads. framed table.Monitors rs rows old new c are;
@@ -139,9 +149,11 @@ unfolding understood everything
 events_filed = record {
   computes = refl;
   plain = (refl, refl);
+  keyed = refl;
   of_record = λ e. refl;
   of_row = λ row. refl;
   casts = λ e. fields_cast schema.events event_fields e.number (values_of_event e) refl refl;
+  stored = λ row x h. (event_stored row x h, tt);
   exact = λ row x y reads h e. event_exact row x y h e;
   held = λ c db encodes. (encodes table.Events, all_read _);
   framed = λ rs rows old new c are reads. framed table.Events rs rows old new c are;
@@ -158,9 +170,11 @@ unfolding understood everything
 kept_filed = record {
   computes = refl;
   plain = (refl, refl);
+  keyed = refl;
   of_record = λ k. refl;
   of_row = λ row. refl;
   casts = λ k. rw (cast_id k.stamp, cast_null, cast_id k.request.invoke, cast_id k.moment, cast_id k.status) refl;
+  stored = kept_stored;
   exact = kept_exact;
   held = λ c db encodes. encodes table.Kept;
   framed = λ rs rows old new c are reads. framed table.Kept rs rows old new c (are, reads);

@@ -1,5 +1,5 @@
 -- Rows as they stand in a database, whatever they hold, and whether their values are in their ranges.
-use Rattle.std.specs.Prelude.{◌≡◌, ℕ, Bool, false, List, [], ◌∷◌, length, map, take, filter, nat_lt, codes, IsTrue}
+use Rattle.std.specs.Prelude.{◌≡◌, ℕ, suc, Bool, false, List, [], ◌∷◌, length, map, take, drop, filter, nat_lt, codes, IsTrue}
 use Rattle.std.specs.List.{AllByRecursion, list_all, list_any}
 use Rattle.std.specs.Option.{is_some}
 use Rattle.std.specs.Str.{bytes_eq}
@@ -16,8 +16,8 @@ use Rattle.acd_columns.specs.declared.tables.Log.TheVariants as log
 use Rattle.acd_columns.specs.declared.tables.Version.{Version}
 use Rattle.acd_columns.specs.declared.tables.Version.TheVariants as version
 use Rattle.acd_columns.specs.Content.{tree_of, IsIn}
-use Rattle.acd_columns.specs.Values.{id_value}
-use Rattle.acd_columns.specs.Schema.{nine, Begins, old_schema, book_schema}
+use Rattle.acd_columns.specs.Values.{id_value, cells}
+use Rattle.acd_columns.specs.Schema.{Layout, nine, Begins, old_schema, book_schema}
 use Rattle.acd_columns.specs.Schema as schema
 use Rattle.acd_columns.specs.Ranges.{group_in, station_in, agent_in, call_in, connection_in, monitor_in, counters_in, event_in, kept_in}
 
@@ -42,21 +42,27 @@ are_good t rows = list_all (is_good t) rows
 
 -- ---- rows as they stand in a database
 
+-- the number of the row, which is the key, and the columns behind it
+abbrev pub keyed_in : Layout → Row → Row
+keyed_in l r = column r 0 ∷ cells 2 (length (drop 1 l.columns)) r
+
+-- all columns
+abbrev pub numbered_in : Layout → Row → Row
+numbered_in l r = cells 1 (length l.columns) r
+
 -- the values of a row that are looked at
 abbrev pub values_in : Table → Row → Row
-values_in table.Meta r =
-    column r 3 ∷ column r 4 ∷ column r 5 ∷ column r 6 ∷ column r 7 ∷ column r 8 ∷ column r 9 ∷ column r 10 ∷ column r 11 ∷ column r 12 ∷ column r 13 ∷ []
-values_in table.Groups r = column r 0 ∷ column r 2 ∷ column r 3 ∷ column r 4 ∷ column r 5 ∷ column r 6 ∷ column r 7 ∷ column r 8 ∷ column r 9 ∷ []
-values_in table.Stations r = column r 0 ∷ []
-values_in table.Agents r = column r 0 ∷ column r 2 ∷ column r 3 ∷ column r 4 ∷ column r 5 ∷ column r 6 ∷ column r 7 ∷ column r 8 ∷ []
-values_in table.Calls r = column r 0 ∷ column r 2 ∷ column r 3 ∷ column r 4 ∷ []
-values_in table.Connections r = column r 1 ∷ column r 2 ∷ column r 3 ∷ column r 4 ∷ column r 5 ∷ column r 6 ∷ column r 7 ∷ []
-values_in table.Monitors r = column r 0 ∷ column r 2 ∷ column r 3 ∷ []
-values_in table.Events r =
-    column r 0 ∷ column r 2 ∷ column r 3 ∷ column r 4 ∷ column r 5 ∷ column r 6 ∷ column r 7 ∷ column r 8 ∷ column r 9 ∷ column r 10 ∷ []
-values_in table.Kept r = column r 0 ∷ column r 2 ∷ column r 3 ∷ column r 4 ∷ column r 5 ∷ column r 6 ∷ column r 7 ∷ []
-values_in table.AgentGroups r = column r 1 ∷ column r 2 ∷ []
-values_in table.GroupPriority r = column r 0 ∷ column r 2 ∷ []
+values_in table.Meta r = cells 3 (length (drop 2 schema.meta.columns)) r
+values_in table.Groups r = keyed_in schema.groups r
+values_in table.Stations r = keyed_in schema.stations r
+values_in table.Agents r = keyed_in schema.agents r
+values_in table.Calls r = keyed_in schema.calls r
+values_in table.Connections r = numbered_in schema.connections r
+values_in table.Monitors r = keyed_in schema.monitors r
+values_in table.Events r = keyed_in schema.events r
+values_in table.Kept r = keyed_in schema.kept r
+values_in table.AgentGroups r = numbered_in schema.agent_groups r
+values_in table.GroupPriority r = keyed_in schema.group_priority r
 
 -- of all rows of the table
 abbrev pub rows_in : Table → Trees → List Row
@@ -66,12 +72,12 @@ rows_in t db = map (values_in t) (db (tree_of t))
 unfoldable pub is_good_in : Table → Trees → Bool
 is_good_in t db = are_good t (rows_in t db)
 
--- Each row has a value for each column. One from before a column was added may lack the last ones, where these may hold NULL.
+-- Each row has its number, and a value for each column. One from before a column was added may lack the last ones, where these may hold NULL.
 abbrev pub HaveAllColumns : Trees → Type 0
 HaveAllColumns db =
-    AllByRecursion (λ r. length r ≡ 2) (db (tree_of table.Stations))
-    × AllByRecursion (λ r. length r ≡ 8) (db (tree_of table.Connections))
-    × AllByRecursion (λ r. length r ≡ 11) (db (tree_of table.Events))
+    AllByRecursion (λ r. length r ≡ suc (length schema.stations.columns)) (db (tree_of table.Stations))
+    × AllByRecursion (λ r. length r ≡ suc (length schema.connections.columns)) (db (tree_of table.Connections))
+    × AllByRecursion (λ r. length r ≡ suc (length schema.events.columns)) (db (tree_of table.Events))
 
 -- as a store keeps the rows of the nine tables: they have integers as numbers, which rise
 pub record IsFiled (db : Trees) : Type 0 where

@@ -1,5 +1,6 @@
 -- What the tables of a database stand for, whatever their rows hold.
 use Rattle.std.specs.Prelude.{List, [], ◌∷◌, drop, map}
+use Rattle.std.specs.declared.cmp.Ordering.{Ordering}
 use Rattle.sqlite_value.specs.Order.{Row}
 use Rattle.sqlite_trees.specs.Tree.{Trees}
 use Rattle.acd_terms.specs.Lists.{put_by}
@@ -20,13 +21,13 @@ unkeyed row = row
 abbrev pub records_in : {R : Type 0} → (Row → R) → List Row → List R
 records_in read rows = map (λ row. read (unkeyed row)) rows
 
--- connections in the order of their keys
-abbrev pub in_order : List ConnectionRecord → List ConnectionRecord
-in_order [] = []
-in_order (x ∷ xs) = put_by (connection_order x) (in_order xs) x
+abbrev pub in_order : {R : Type 0} → (R → R → Ordering) → List R → List R
+in_order order [] = []
+in_order order (x ∷ xs) = put_by (order x) (in_order order xs) x
 
+-- in the order of their keys
 abbrev pub connections_in : List Row → List ConnectionRecord
-connections_in rows = in_order (map (λ row. as_connection (drop 1 row)) rows)
+connections_in rows = in_order connection_order (map (λ row. as_connection (drop 1 row)) rows)
 
 -- the one row of the limits and the counters, behind its key and the version
 abbrev pub meta_stored : List Row → Meta

@@ -162,6 +162,10 @@ kept_values k =
     id_value k.stamp ∷ Text k.request.requester ∷ id_value k.request.invoke ∷ id_value k.moment ∷ Text (request_text k.request)
     ∷ id_value k.status ∷ Text k.body ∷ []
 
+-- an agent and a further group
+abbrev pub further_values : ℕ × ℕ → Row
+further_values p = id_value p.0 ∷ id_value p.1 ∷ []
+
 -- ---- the rows: the column that is the number of the row is NULL
 
 abbrev pub keyed_row : Row → Row
@@ -202,7 +206,7 @@ kept_row k = keyed_row (kept_values k)
 
 -- of an agent and a further group; it has a number of its own
 abbrev pub further_row : ℤ → ℕ × ℕ → Row
-further_row id p = Int id ∷ id_value p.0 ∷ id_value p.1 ∷ []
+further_row id p = Int id ∷ further_values p
 
 -- of a group and its priority
 abbrev pub priority_row : ℕ × ℕ → Row

@@ -1,20 +1,21 @@
--- The tables whose key is the number of a row.
-use Rattle.std.specs.Prelude.{⊤, IfSome}
+-- The tables, as they are described.
+use Rattle.std.specs.Prelude.{⊤, ℕ, None, IfSome}
 use Rattle.acd_terms.specs.declared.record.GroupRecord.{GroupRecord}
 use Rattle.acd_terms.specs.declared.record.StationRecord.{StationRecord}
 use Rattle.acd_terms.specs.declared.record.AgentRecord.{AgentRecord}
 use Rattle.acd_terms.specs.declared.record.CallRecord.{CallRecord}
+use Rattle.acd_terms.specs.declared.record.ConnectionRecord.{ConnectionRecord}
 use Rattle.acd_terms.specs.declared.record.MonitorRecord.{MonitorRecord}
 use Rattle.acd_terms.specs.declared.event.Event.{Event}
 use Rattle.acd_terms.specs.Columns.{columns_of}
 use Rattle.acd_book.specs.declared.kept.Kept.{Kept}
 use Rattle.acd_columns.specs.Content.{with_part}
 use Rattle.acd_columns.specs.declared.tables.Table.TheVariants as table
-use Rattle.acd_columns.specs.declared.texts.TheConstants.{INSERT_GROUP, INSERT_STATION, INSERT_AGENT, INSERT_CALL, INSERT_MONITOR, INSERT_EVENT, INSERT_KEPT}
-use Rattle.acd_columns.specs.Descriptions.{Description}
+use Rattle.acd_columns.specs.declared.texts.TheConstants.{INSERT_GROUP, INSERT_STATION, INSERT_AGENT, INSERT_CALL, INSERT_CONNECTION, INSERT_MONITOR, INSERT_EVENT, INSERT_KEPT, INSERT_AGENT_GROUP}
+use Rattle.acd_columns.specs.Descriptions.{Description, Heap}
 use Rattle.acd_columns.specs.Draft.{Fits, FiguresFit}
-use Rattle.acd_columns.specs.Ranges.{group_in, station_in, agent_in, call_in, monitor_in, event_in, kept_in}
-use Rattle.acd_columns.specs.Rows.{group_values, station_values, agent_values, call_values, monitor_values, event_values, kept_values, IsReadable}
+use Rattle.acd_columns.specs.Ranges.{group_in, station_in, agent_in, call_in, connection_in, monitor_in, event_in, kept_in}
+use Rattle.acd_columns.specs.Rows.{group_values, station_values, agent_values, call_values, connection_values, monitor_values, event_values, kept_values, further_values, IsReadable}
 use Rattle.acd_columns.specs.Schema as schema
 
 abbrev pub groups : Description GroupRecord
@@ -23,7 +24,6 @@ groups = record {
   place = 1;
   layout = schema.groups;
   key = λ g. g.device;
-  behind = 8;
   values = group_values;
   in_row = group_in;
   records = λ r. r.groups;
@@ -39,7 +39,6 @@ stations = record {
   place = 2;
   layout = schema.stations;
   key = λ s. s.device;
-  behind = 0;
   values = station_values;
   in_row = station_in;
   records = λ r. r.stations;
@@ -55,7 +54,6 @@ agents = record {
   place = 3;
   layout = schema.agents;
   key = λ a. a.agent;
-  behind = 7;
   values = agent_values;
   in_row = agent_in;
   records = λ r. r.agents;
@@ -71,7 +69,6 @@ calls = record {
   place = 4;
   layout = schema.calls;
   key = λ k. k.call;
-  behind = 3;
   values = call_values;
   in_row = call_in;
   records = λ r. r.calls;
@@ -87,7 +84,6 @@ monitors = record {
   place = 6;
   layout = schema.monitors;
   key = λ w. w.monitor;
-  behind = 2;
   values = monitor_values;
   in_row = monitor_in;
   records = λ r. r.monitors;
@@ -103,7 +99,6 @@ events = record {
   place = 7;
   layout = schema.events;
   key = λ e. e.number;
-  behind = 9;
   values = event_values;
   in_row = event_in;
   records = λ r. r.events;
@@ -120,7 +115,6 @@ kept = record {
   place = 8;
   layout = schema.kept;
   key = λ k. k.stamp;
-  behind = 6;
   values = kept_values;
   in_row = kept_in;
   records = λ r. r.kept;
@@ -128,4 +122,33 @@ kept = record {
   Fits = λ k. Fits k.stamp;
   IsRead = IsReadable;
   insert = INSERT_KEPT.now;
+}
+
+abbrev pub connections : Heap ConnectionRecord
+connections = record {
+  table = table.Connections;
+  place = 5;
+  layout = schema.connections;
+  first = λ x. x.call;
+  second = λ x. x.device;
+  values = connection_values;
+  in_row = connection_in;
+  records = λ r. r.connections;
+  with_records = with_part table.Connections;
+  insert = INSERT_CONNECTION.now;
+}
+
+-- an agent and a group that it has behind its first, which no record has
+abbrev pub agent_groups : Heap (ℕ × ℕ)
+agent_groups = record {
+  table = table.AgentGroups;
+  place = 9;
+  layout = schema.agent_groups;
+  first = λ p. p.0;
+  second = λ p. p.1;
+  values = further_values;
+  in_row = λ _. None;
+  records = λ r. r.further;
+  with_records = with_part table.AgentGroups;
+  insert = INSERT_AGENT_GROUP.now;
 }

@@ -1,5 +1,5 @@
 -- The values of columns, and what each stands for: in its range, and whatever it holds.
-use Rattle.std.specs.Prelude.{ℕ, pos, ◌==◌, List, [], nat_le, Bool, true, false, ◌||◌, Option, None, Some, option_map, if◌then◌else◌}
+use Rattle.std.specs.Prelude.{ℕ, zero, suc, pos, ◌==◌, List, [], ◌∷◌, nat_le, Bool, true, false, ◌||◌, Option, None, Some, option_map, if◌then◌else◌}
 use Rattle.std.specs.Result.{result_ok}
 use Rattle.std.specs.Str.{is_utf8}
 use Rattle.sqlite_value.specs.declared.value.Value.{Value}
@@ -17,6 +17,11 @@ use Rattle.acd_columns.specs.Codes.{agent_state_of, pending_of, connection_state
 
 abbrev pub id_value : ℕ → Value
 id_value n = Int (pos n)
+
+-- so many columns of a row, from one on
+abbrev pub cells : ℕ → ℕ → Row → Row
+cells start zero r = []
+cells start (suc k) r = column r start ∷ cells (suc start) k r
 
 abbrev pub is_null : Value → Bool
 is_null Null = true

@@ -371,6 +371,13 @@ macro_rules! agent_groups {
 
 pub const CREATE_AGENT_GROUPS: &str = agent_groups!(create_pair);
 
+pub const INSERT_AGENT_GROUP: &str = agent_groups!(insert);
+
+// all groups of an agent
+pub const DELETE_AGENT_GROUPS: &str = agent_groups!(delete);
+
+pub const SELECT_AGENT_GROUPS: &str = agent_groups!(select_pair);
+
 pub const SELECT_STANDING_AGENT_GROUPS: &str = agent_groups!(select_standing);
 
 // ---- the groups whose priority isn't 0
