@@ -5,3 +5,4 @@ pub mod Printed
 pub mod Plain
 pub mod RoundTrip
 pub mod Choosing
+pub mod OldReadings

@@ -1,11 +1,13 @@
 -- The members of a request, each read by the form of what it names.
-use Rattle.std.specs.Prelude.{ℕ, Bool, List, [], ◌∷◌, Option, Some, option_map, option_and_then, Result}
+use Rattle.std.specs.Prelude.{ℕ, nat_le, Bool, true, not, ◌&&◌, List, [], ◌∷◌, length, Option, Some, None, option_map, option_and_then, Result, if◌then◌else◌}
+use Rattle.std.specs.Ordering.{nat_cmp}
 use Rattle.std.specs.Option.{ok_or, is_some}
 use Rattle.std.specs.Result.{result_ok}
 use Rattle.serde_json.specs.Data.{Data, Items, no_items, item}
 use Rattle.serde_json.specs.Find.{get, as_str, as_number, as_u64, as_array}
 use Rattle.acd_terms.specs.Forms.{device_digits, agent_digits, read_id, read_text, is_name_byte, is_requester_byte, number_between}
-use Rattle.acd_terms.specs.Groups.{with_all, some_of}
+use Rattle.acd_terms.specs.Groups.{most_groups, is_one_of}
+use Rattle.acd_terms.specs.Lists.{put_by}
 use Rattle.acd_codec.specs.declared.member.Member.{Member}
 use Rattle.acd_codec.specs.declared.member.Member.TheVariants as member
 use Rattle.acd_codec.specs.declared.service.RequestedState.{RequestedState}
@@ -85,9 +87,19 @@ abbrev pub devices_of : Items → Option (List ℕ)
 devices_of no_items = Some []
 devices_of (item d ds) = option_and_then (λ (n : ℕ). option_map (λ (ns : List ℕ). n ∷ ns) (devices_of ds)) (option_and_then device_of (as_str d))
 
--- one to eight devices, none of them twice, whatever their order: in ascending number
+-- none of them stands there twice
+abbrev pub are_distinct : List ℕ → Bool
+are_distinct [] = true
+are_distinct (d ∷ ds) = not (is_one_of ds d) && are_distinct ds
+
+-- in ascending number: each is put in its place among those behind it
+abbrev pub ascending : List ℕ → List ℕ
+ascending [] = []
+ascending (d ∷ ds) = put_by (nat_cmp d) (ascending ds) d
+
+-- one to eight devices, none of them twice, in whatever order
 abbrev pub choice_of : List ℕ → Option (List ℕ)
-choice_of ds = option_and_then some_of (with_all [] ds)
+choice_of ds = if nat_le 1 (length ds) && nat_le (length ds) most_groups && are_distinct ds then Some (ascending ds) else None
 
 -- groups are a list of such devices
 unfoldable pub groups_in : Data → Result (List ℕ) Member

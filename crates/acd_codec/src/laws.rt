@@ -4,6 +4,7 @@ ghost use Rattle.std.specs.Prelude.{◌≡◌, ◌↔◌, Ok};
 ghost use Rattle.acd_terms.specs.Lists.{Every};
 ghost use Rattle.acd_codec.specs.Formed.{IsSerial, IsDevice, IsRequested, IsCommand, IsRequest};
 ghost use Rattle.acd_codec.specs.Reading.{reads_as};
+ghost use Rattle.acd_codec.specs.OldReading.{OldReadsTheSame};
 ghost use Rattle.acd_codec.specs.RequestTexts.{request_text};
 
 use acd_terms::{Command, DeviceId, Request, Requested, Serial};
@@ -111,3 +112,9 @@ pub fn same_text(a: &Request, b: &Request)
     request_formed(a);
     request_formed(b);
 }
+
+/// Bytes that were read as a request while an agent served one group and groups had no priority are read as the same
+/// request.
+pub fn old_reads_the_same()
+    ensures { OldReadsTheSame }
+{}

@@ -1,9 +1,10 @@
 //! Requests out of JSON.
 
-ghost use Rattle.std.specs.Prelude.{◌≡◌, Some, option_map, option_and_then, IfOk, IfErr};
+ghost use Rattle.std.specs.Prelude.{◌≡◌, [], Some, option_map, option_and_then, IfOk, IfErr};
 ghost use Rattle.json.specs.Value.{value_view, items_view};
 ghost use Rattle.serde_json.specs.Find.{as_str};
 ghost use Rattle.serde_json.specs.Read.{of_json, of_items};
+ghost use Rattle.acd_terms.specs.Groups.{with_all};
 ghost use Rattle.acd_codec.specs.Documents.{data_of};
 ghost use Rattle.acd_codec.specs.MemberReading.{device_of, device_in, agent_in, name_in, requester_in, invoke_in, seconds_in, priority_in, serial_in, service_in, requested_state_in, devices_of, choice_of, groups_in};
 ghost use Rattle.acd_codec.specs.Reading.{Gives, IsFault, at_connection, at_device, at_devices, to_device, add_group_in, add_agent_in, monitor_stop_in, two_devices_in, connection_in, one_group_in, chosen_in, requested_in, set_agent_state_in, set_group_priority_in, command_in, request_in, request_from, reads_as};
@@ -132,14 +133,26 @@ fn device_of(item: &Value<'_>) -> Option<DeviceId>
 }
 
 // The groups that a list names, in whatever order.
-fn choice_of(items: &[Value<'_>]) -> Option<SomeGroups>
-    ensures { result ≡ option_and_then choice_of (option_and_then devices_of (of_items (items_view items.now))) }
+fn groups_of(items: &[Value<'_>]) -> Option<Groups>
+    ensures { let devices = option_and_then devices_of (of_items (items_view items.now)) in
+        result ≡ option_and_then (with_all []) devices }
 {
     let mut groups = Groups::none();
     for item in items {
         groups = groups.with(device_of(item)?)?;
     }
-    SomeGroups::of(groups)
+    Some(groups)
+}
+
+// The same, where it names any.
+fn choice_of(items: &[Value<'_>]) -> Option<SomeGroups>
+    ensures { let devices = option_and_then devices_of (of_items (items_view items.now)) in
+        result ≡ option_and_then choice_of devices }
+{
+    match groups_of(items) {
+        None => None,
+        Some(groups) => SomeGroups::of(groups),
+    }
 }
 
 #[tactic(auto, unfolding(crate::specs::MemberReading::groups_in))]

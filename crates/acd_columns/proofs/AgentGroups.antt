@@ -16,9 +16,9 @@ use Rattle.acd_columns.specs.declared.tables.Version.{Version}
 use Rattle.acd_columns.specs.declared.tables.Version.TheVariants as version
 use Rattle.acd_columns.specs.declared.texts.TheConstants.{INSERT_AGENT_GROUP, DELETE_AGENT_GROUPS, SELECT_AGENT_GROUPS}
 use Rattle.acd_columns.specs.AnyRows.{schema_of}
-use Rattle.acd_columns.specs.Content.{IsIn, with_part, pair_order}
+use Rattle.acd_columns.specs.Content.{IsIn, with_part}
 use Rattle.acd_columns.specs.Draft.{Drafts, Holds}
-use Rattle.acd_columns.specs.Relations.{Relations, relations_of}
+use Rattle.acd_columns.specs.Relations.{pair_order, Relations, relations_of}
 use Rattle.acd_columns.specs.Rows.{further_values}
 use Rattle.acd_columns.specs.Schema.{nine, two, table_of, book_schema}
 use Rattle.acd_columns.specs.Schema as schema
@@ -28,6 +28,7 @@ use Rattle.acd_columns.proofs.Common.{cast_id}
 use Rattle.acd_columns.proofs.Connections.{no_clash}
 use Rattle.acd_columns.proofs.Frames.{framed}
 use Rattle.acd_columns.proofs.Heaped.{Heaped, DeletesThose, SelectsAll, by_one, has_twin, inserted_in, deleted_in, of_one, shows_all}
+use Rattle.acd_columns.proofs.Records.{further_stored}
 use Rattle.acd_columns.proofs.Listings.{schema_is, whole_begins}
 
 groups_alone : (v : Version) → IsIn v table.AgentGroups → (db : Trees) → Keeps Unique (schema_of v) db → AllByRecursion (λ row. has_twin (db schema.agent_groups.tree) row ≡ false) (db schema.agent_groups.tree)
@@ -45,7 +46,7 @@ groups_heaped = record {
   shows = λ id p. refl;
   of_row = λ row. refl;
   casts = λ p. rw (cast_id p.0, cast_id p.1) refl;
-  stored = λ row p h. absurd (cc h);
+  stored = further_stored;
   alone = groups_alone;
   held = λ c db encodes. encodes table.AgentGroups;
   framed = λ rs rows old new c are. framed table.AgentGroups rs rows old new c are;

@@ -32,10 +32,10 @@ use Rattle.acd_columns.specs.AnyRows.{values_in, is_good}
 use Rattle.acd_columns.specs.Relations.{Relations, relations_of}
 use Rattle.acd_columns.specs.Content.{AreRows, AreTables, tree_of}
 use Rattle.acd_columns.specs.Draft.{Drafts, Holds}
-use Rattle.acd_columns.specs.Schema.{table_of, book_schema, nine, with_behind, names_of}
+use Rattle.acd_columns.specs.Schema.{Begins, table_of, book_schema, nine, with_behind, names_of}
 use Rattle.acd_columns.proofs.Asked.{columns, by_number, no_limit, above_parameter, above}
 use Rattle.acd_columns.proofs.KeyedRows.{by_key, id_tied}
-use Rattle.acd_columns.proofs.Listings.{Listing, Lists, listed, held_begins}
+use Rattle.acd_columns.proofs.Listings.{schema_is, Listing, Lists, listed, held_begins}
 use Rattle.acd_columns.proofs.Seeing.{AsksAll}
 use Rattle.acd_columns.proofs.Ordered.{asking}
 use Rattle.acd_columns.proofs.Puts.{Files, Inserts, inserted_row, truth_back}
@@ -91,11 +91,12 @@ module _ {R : Type 0} (d : Description R) where
         → AllByRecursion (λ (u : MadeTable). u.tree ≢ d.layout.tree → new u.tree ≡ old u.tree) book_schema.tables → AreTables old c → AreTables new (d.with_records rs c)
     pub unchanged : (c : Relations) → d.with_records (d.records c) c ≡ c
 
-  -- a text that shows all rows, in the order of their keys, whatever lies behind the nine tables
-  pub record Selects (text : List ℕ) : Type 0 where
-    pub selects : (rest : List MadeTable) (s : Schema) → command_of (understood (with_behind nine rest s) text) ≡ Select (record { lets = []; body = asking d.layout.tree [] (shown_columns (behind d)) by_number no_limit }) (names_of d.layout)
-    pub plain : (rest : List MadeTable) (s : Schema) → IsPlain (understood (with_behind nine rest s) text)
-    pub unlisted : (rest : List MadeTable) (s : Schema) → reads_listing (with_behind nine rest s) text ≡ false
+  -- a text that shows all rows, in the order of their keys, whatever lies behind these tables, with which the book's begin
+  pub record Selects (base : List MadeTable) (text : List ℕ) : Type 0 where
+    pub begins : Begins base book_schema
+    pub selects : (rest : List MadeTable) (s : Schema) → command_of (understood (with_behind base rest s) text) ≡ Select (record { lets = []; body = asking d.layout.tree [] (shown_columns (behind d)) by_number no_limit }) (names_of d.layout)
+    pub plain : (rest : List MadeTable) (s : Schema) → IsPlain (understood (with_behind base rest s) text)
+    pub unlisted : (rest : List MadeTable) (s : Schema) → reads_listing (with_behind base rest s) text ≡ false
 
   -- a text that changes the columns of the row that has a record's key
   pub record Updates (text : List ℕ) : Type 0 where
@@ -205,8 +206,8 @@ module _ {R : Type 0} (d : Description R) (f : Filed d) where
 
   -- ---- the query of all rows
 
-  module _ (text : List ℕ) (s : Selects d text) where
-    abbrev pub listing : Listing nine text
+  module _ (base : List MadeTable) (text : List ℕ) (s : Selects d base text) where
+    abbrev pub listing : Listing base text
     listing = record { tree = d.layout.tree; terms = []; project = shown_columns (behind d); order = by_number; limit = no_limit; names = names_of d.layout; command = s.selects; plain = s.plain; unlisted = s.unlisted }
 
     lists : Lists text listing d.key (row_of d) d.values [] (λ r. true)
@@ -214,10 +215,10 @@ module _ {R : Type 0} (d : Description R) (f : Filed d) where
 
     pub shows_all : (old new : State) (rows : List Row) (c : Content) → Holds old c → Shown text [] old new rows → rows ≡ map d.values (d.records (relations_of c))
     shows_all old new rows c held h =
-        listed text listing d.key (row_of d) d.values [] (λ r. true) lists old new rows (d.records (relations_of c)) (held_begins old c held) (held_by old c held) h
+        listed text listing d.key (row_of d) d.values [] (λ r. true) lists old new rows (d.records (relations_of c)) (subst (Begins base) (sym (schema_is old c held)) s.begins) (held_by old c held) h
         ∙ ap (map d.values) (filter_all (d.records (relations_of c)))
 
-    pub asks : AsksAll d.table nine text listing
+    pub asks : AsksAll d.table base text listing
     asks = record { tree = tree_is; all = refl; unlimited = refl; shows = λ row. ap (λ (t : Row × Bool). t.0) (f.of_row row) }
 
   -- ---- the query of a page

@@ -7,6 +7,7 @@ pub mod Reported
 pub mod Endings
 pub mod Queries
 pub mod Heaps
+pub mod Joined
 pub mod Heaped
 pub mod Connections
 pub mod AgentGroups

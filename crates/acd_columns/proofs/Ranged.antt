@@ -19,7 +19,7 @@ use Rattle.acd_terms.specs.declared.event.EventKind.{EventKind}
 use Rattle.acd_terms.specs.declared.event.Cause.{Cause}
 use Rattle.acd_laws.proofs.Lists.{find_passes}
 use Rattle.acd_columns.specs.Codes.{with_code, agent_states, pending_states, connection_states, causes, kinds, agent_state_of, pending_of, connection_state_of, kind_of, cause_of, agent_code, pending_code, connection_code, kind_code, cause_code}
-use Rattle.acd_columns.specs.Values.{id_value, cells, option_in, ◌>>=◌, text_of, is_null, text_at, whole_at, at_least, stamp_at, serial_at, moment_at, seconds_at, device_at, agent_at, name_at, agent_state_at, pending_at, connection_state_at, kind_at, cause_at, utf8_of, or_none}
+use Rattle.acd_columns.specs.Values.{id_value, cells, option_in, ◌>>=◌, text_of, is_null, text_at, whole_at, at_least, stamp_at, serial_at, moment_at, seconds_at, priority_at, device_at, agent_at, name_at, agent_state_at, pending_at, connection_state_at, kind_at, cause_at, utf8_of, or_none}
 
 -- ---- UTF-8
 
@@ -89,6 +89,10 @@ module _ (r : Row) (at : ℕ) where
   pub seconds_stored : (n : ℕ) → seconds_at r at ≡ Some n → column r at ≡ id_value n
   unfolding seconds_at number_between
   seconds_stored n h = passed (number_between 0 3600) (λ m k e. some_same m k (guarded _ (Some m) k e).1) (column r at) n h
+
+  pub priority_stored : (n : ℕ) → priority_at r at ≡ Some n → column r at ≡ id_value n
+  unfolding priority_at number_between
+  priority_stored n h = passed (number_between 1 9) (λ m k e. some_same m k (guarded _ (Some m) k e).1) (column r at) n h
 
   pub device_stored : (n : ℕ) → device_at r at ≡ Some n → column r at ≡ id_value n
   unfolding device_at id_with

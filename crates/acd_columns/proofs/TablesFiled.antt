@@ -1,19 +1,20 @@
 -- The tables are as they are described.
-use Rattle.std.proofs.Common.{List, [], ◌∷◌, refl}
+use Rattle.std.proofs.Common.{List, [], ◌∷◌, ◌++◌, refl}
 use Rattle.std.specs.Prelude.{⊤}
 use Rattle.sqlite.specs.Listing.{understood}
 use Rattle.sqlite_tied.specs.Compute.{everything}
 use Rattle.acd_terms.specs.Lists.{Every}
 use Rattle.acd_columns.specs.declared.tables.Table.TheVariants as table
-use Rattle.acd_columns.specs.declared.texts.TheConstants.{UPDATE_GROUP, SELECT_GROUPS, SELECT_STATIONS, UPDATE_AGENT, SELECT_AGENTS, UPDATE_CALL, DELETE_CALL, SELECT_CALLS, UPDATE_MONITOR, DELETE_MONITOR, SELECT_MONITORS, SELECT_EVENTS_AFTER, SELECT_KEPT_AFTER}
-use Rattle.acd_columns.specs.Rows.{group_fields, station_fields, agent_fields, call_fields, monitor_fields, event_fields, values_of_event}
+use Rattle.acd_columns.specs.declared.texts.TheConstants.{UPDATE_GROUP, SELECT_GROUPS, SELECT_STATIONS, UPDATE_AGENT, SELECT_AGENTS, UPDATE_CALL, DELETE_CALL, SELECT_CALLS, UPDATE_MONITOR, DELETE_MONITOR, SELECT_MONITORS, SELECT_EVENTS_AFTER, SELECT_KEPT_AFTER, UPDATE_GROUP_PRIORITY, DELETE_GROUP_PRIORITY, SELECT_GROUP_PRIORITY}
+use Rattle.acd_columns.specs.Rows.{priority_fields, group_fields, station_fields, agent_fields, call_fields, monitor_fields, event_fields, values_of_event}
+use Rattle.acd_columns.specs.Schema.{nine, two}
 use Rattle.acd_columns.specs.Schema as schema
-use Rattle.acd_columns.specs.Tables.{groups, stations, agents, calls, monitors, events, kept}
+use Rattle.acd_columns.specs.Tables.{groups, group_priority, stations, agents, calls, monitors, events, kept}
 use Rattle.acd_columns.proofs.Common.{cast_id, cast_null}
 use Rattle.acd_columns.proofs.FieldLaws.{fields_cast}
 use Rattle.acd_columns.proofs.Filed.{Filed, Selects, Updates, Deletes, Pages}
 use Rattle.acd_columns.proofs.Frames.{framed}
-use Rattle.acd_columns.proofs.Records.{group_stored, group_exact, station_stored, station_exact, agent_stored, agent_exact, call_stored, call_exact, monitor_stored, monitor_exact}
+use Rattle.acd_columns.proofs.Records.{priority_stored, priority_exact, group_stored, group_exact, station_stored, station_exact, agent_stored, agent_exact, call_stored, call_exact, monitor_stored, monitor_exact}
 use Rattle.acd_columns.proofs.Reported.{event_stored, event_exact, kept_stored, kept_exact}
 
 all_read : {R : Type 0} (rs : List R) → Every (λ _. ⊤) rs
@@ -40,9 +41,38 @@ pub groups_updates : Updates groups UPDATE_GROUP.now
 unfolding understood everything
 groups_updates = record { updates = refl; plain = (refl, refl); changes = λ new r. refl }
 
-pub groups_selects : Selects groups SELECT_GROUPS.now
+pub groups_selects : Selects groups nine SELECT_GROUPS.now
 unfolding understood everything
-groups_selects = record { selects = λ rest s. refl; plain = λ rest s. (refl, refl); unlisted = λ rest s. refl }
+groups_selects = record { begins = (two, refl); selects = λ rest s. refl; plain = λ rest s. (refl, refl); unlisted = λ rest s. refl }
+
+pub priorities_filed : Filed group_priority
+unfolding understood everything
+priorities_filed = record {
+  computes = refl;
+  plain = (refl, refl);
+  keyed = refl;
+  of_record = λ p. refl;
+  of_row = λ row. refl;
+  casts = λ p. fields_cast schema.group_priority priority_fields p.device p refl refl;
+  stored = λ row x h. (priority_stored row x h, tt);
+  exact = λ row x y reads h e. priority_exact row x y h e;
+  held = λ c db encodes. (encodes table.GroupPriority, all_read _);
+  framed = λ rs rows old new c are reads. framed table.GroupPriority rs rows old new c are;
+  unchanged = λ c. refl;
+}
+
+pub priorities_updates : Updates group_priority UPDATE_GROUP_PRIORITY.now
+unfolding understood everything
+priorities_updates = record { updates = refl; plain = (refl, refl); changes = λ new r. refl }
+
+pub priorities_deletes : Deletes group_priority DELETE_GROUP_PRIORITY.now
+unfolding understood everything
+priorities_deletes = record { deletes = refl; plain = (refl, refl) }
+
+-- of version 2 alone
+pub priorities_selects : Selects group_priority (nine ++ two) SELECT_GROUP_PRIORITY.now
+unfolding understood everything
+priorities_selects = record { begins = ([], refl); selects = λ rest s. refl; plain = λ rest s. (refl, refl); unlisted = λ rest s. refl }
 
 pub stations_filed : Filed stations
 unfolding understood everything
@@ -60,9 +90,9 @@ stations_filed = record {
   unchanged = λ c. refl;
 }
 
-pub stations_selects : Selects stations SELECT_STATIONS.now
+pub stations_selects : Selects stations nine SELECT_STATIONS.now
 unfolding understood everything
-stations_selects = record { selects = λ rest s. refl; plain = λ rest s. (refl, refl); unlisted = λ rest s. refl }
+stations_selects = record { begins = (two, refl); selects = λ rest s. refl; plain = λ rest s. (refl, refl); unlisted = λ rest s. refl }
 
 pub agents_filed : Filed agents
 unfolding understood everything
@@ -84,9 +114,9 @@ pub agents_updates : Updates agents UPDATE_AGENT.now
 unfolding understood everything
 agents_updates = record { updates = refl; plain = (refl, refl); changes = λ new r. refl }
 
-pub agents_selects : Selects agents SELECT_AGENTS.now
+pub agents_selects : Selects agents nine SELECT_AGENTS.now
 unfolding understood everything
-agents_selects = record { selects = λ rest s. refl; plain = λ rest s. (refl, refl); unlisted = λ rest s. refl }
+agents_selects = record { begins = (two, refl); selects = λ rest s. refl; plain = λ rest s. (refl, refl); unlisted = λ rest s. refl }
 
 pub calls_filed : Filed calls
 unfolding understood everything
@@ -112,9 +142,9 @@ pub calls_deletes : Deletes calls DELETE_CALL.now
 unfolding understood everything
 calls_deletes = record { deletes = refl; plain = (refl, refl) }
 
-pub calls_selects : Selects calls SELECT_CALLS.now
+pub calls_selects : Selects calls nine SELECT_CALLS.now
 unfolding understood everything
-calls_selects = record { selects = λ rest s. refl; plain = λ rest s. (refl, refl); unlisted = λ rest s. refl }
+calls_selects = record { begins = (two, refl); selects = λ rest s. refl; plain = λ rest s. (refl, refl); unlisted = λ rest s. refl }
 
 pub monitors_filed : Filed monitors
 unfolding understood everything
@@ -140,9 +170,9 @@ pub monitors_deletes : Deletes monitors DELETE_MONITOR.now
 unfolding understood everything
 monitors_deletes = record { deletes = refl; plain = (refl, refl) }
 
-pub monitors_selects : Selects monitors SELECT_MONITORS.now
+pub monitors_selects : Selects monitors nine SELECT_MONITORS.now
 unfolding understood everything
-monitors_selects = record { selects = λ rest s. refl; plain = λ rest s. (refl, refl); unlisted = λ rest s. refl }
+monitors_selects = record { begins = (two, refl); selects = λ rest s. refl; plain = λ rest s. (refl, refl); unlisted = λ rest s. refl }
 
 pub events_filed : Filed events
 unfolding understood everything

@@ -19,11 +19,11 @@ use Rattle.acd_columns.specs.Content.{tree_of, IsIn}
 use Rattle.acd_columns.specs.Values.{id_value, cells}
 use Rattle.acd_columns.specs.Schema.{Layout, nine, Begins, old_schema, book_schema}
 use Rattle.acd_columns.specs.Schema as schema
-use Rattle.acd_columns.specs.Ranges.{group_in, station_in, agent_in, call_in, connection_in, monitor_in, counters_in, event_in, kept_in}
+use Rattle.acd_columns.specs.Ranges.{priority_in, further_in, group_in, station_in, agent_in, call_in, connection_in, monitor_in, counters_in, event_in, kept_in}
 
 -- ---- ranges
 
--- Each value of the row is in its range. No record has a further group or a priority, so none does with a row of the last two tables.
+-- each value of the row is in its range
 abbrev pub is_good : Table → Row → Bool
 is_good table.Meta r = is_some (counters_in r)
 is_good table.Groups r = is_some (group_in r)
@@ -34,8 +34,8 @@ is_good table.Connections r = is_some (connection_in r)
 is_good table.Monitors r = is_some (monitor_in r)
 is_good table.Events r = is_some (event_in r)
 is_good table.Kept r = is_some (kept_in r)
-is_good table.AgentGroups r = false
-is_good table.GroupPriority r = false
+is_good table.AgentGroups r = is_some (further_in r)
+is_good table.GroupPriority r = is_some (priority_in r)
 
 unfoldable pub are_good : Table → List Row → Bool
 are_good t rows = list_all (is_good t) rows

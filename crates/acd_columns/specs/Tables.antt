@@ -1,24 +1,25 @@
 -- The tables, as they are described.
 use Rattle.std.specs.Prelude.{⊤, ℕ, None, IfSome}
-use Rattle.acd_terms.specs.declared.record.GroupRecord.{GroupRecord}
 use Rattle.acd_terms.specs.declared.record.StationRecord.{StationRecord}
-use Rattle.acd_terms.specs.declared.record.AgentRecord.{AgentRecord}
 use Rattle.acd_terms.specs.declared.record.CallRecord.{CallRecord}
 use Rattle.acd_terms.specs.declared.record.ConnectionRecord.{ConnectionRecord}
 use Rattle.acd_terms.specs.declared.record.MonitorRecord.{MonitorRecord}
 use Rattle.acd_terms.specs.declared.event.Event.{Event}
 use Rattle.acd_terms.specs.Columns.{columns_of}
 use Rattle.acd_book.specs.declared.kept.Kept.{Kept}
+use Rattle.acd_columns.specs.declared.relations.GroupRow.{GroupRow}
+use Rattle.acd_columns.specs.declared.relations.AgentRow.{AgentRow}
+use Rattle.acd_columns.specs.declared.relations.GroupPriority.{GroupPriority}
 use Rattle.acd_columns.specs.Content.{with_part}
 use Rattle.acd_columns.specs.declared.tables.Table.TheVariants as table
-use Rattle.acd_columns.specs.declared.texts.TheConstants.{INSERT_GROUP, INSERT_STATION, INSERT_AGENT, INSERT_CALL, INSERT_CONNECTION, INSERT_MONITOR, INSERT_EVENT, INSERT_KEPT, INSERT_AGENT_GROUP}
+use Rattle.acd_columns.specs.declared.texts.TheConstants.{INSERT_GROUP, INSERT_STATION, INSERT_AGENT, INSERT_CALL, INSERT_CONNECTION, INSERT_MONITOR, INSERT_EVENT, INSERT_KEPT, INSERT_AGENT_GROUP, INSERT_GROUP_PRIORITY}
 use Rattle.acd_columns.specs.Descriptions.{Description, Heap}
 use Rattle.acd_columns.specs.Draft.{Fits, FiguresFit}
-use Rattle.acd_columns.specs.Ranges.{group_in, station_in, agent_in, call_in, connection_in, monitor_in, event_in, kept_in}
-use Rattle.acd_columns.specs.Rows.{group_values, station_values, agent_values, call_values, connection_values, monitor_values, event_values, kept_values, further_values, IsReadable}
+use Rattle.acd_columns.specs.Ranges.{priority_in, further_in, group_in, station_in, agent_in, call_in, connection_in, monitor_in, event_in, kept_in}
+use Rattle.acd_columns.specs.Rows.{group_values, priority_values, station_values, agent_values, call_values, connection_values, monitor_values, event_values, kept_values, further_values, IsReadable}
 use Rattle.acd_columns.specs.Schema as schema
 
-abbrev pub groups : Description GroupRecord
+abbrev pub groups : Description GroupRow
 groups = record {
   table = table.Groups;
   place = 1;
@@ -48,7 +49,7 @@ stations = record {
   insert = INSERT_STATION.now;
 }
 
-abbrev pub agents : Description AgentRecord
+abbrev pub agents : Description AgentRow
 agents = record {
   table = table.Agents;
   place = 3;
@@ -124,6 +125,21 @@ kept = record {
   insert = INSERT_KEPT.now;
 }
 
+abbrev pub group_priority : Description GroupPriority
+group_priority = record {
+  table = table.GroupPriority;
+  place = 10;
+  layout = schema.group_priority;
+  key = λ p. p.device;
+  values = priority_values;
+  in_row = priority_in;
+  records = λ r. r.priorities;
+  with_records = with_part table.GroupPriority;
+  Fits = λ _. ⊤;
+  IsRead = λ _. ⊤;
+  insert = INSERT_GROUP_PRIORITY.now;
+}
+
 abbrev pub connections : Heap ConnectionRecord
 connections = record {
   table = table.Connections;
@@ -138,7 +154,7 @@ connections = record {
   insert = INSERT_CONNECTION.now;
 }
 
--- an agent and a group that it has behind its first, which no record has
+-- an agent and a group that it has behind its first
 abbrev pub agent_groups : Heap (ℕ × ℕ)
 agent_groups = record {
   table = table.AgentGroups;
@@ -147,7 +163,7 @@ agent_groups = record {
   first = λ p. p.0;
   second = λ p. p.1;
   values = further_values;
-  in_row = λ _. None;
+  in_row = further_in;
   records = λ r. r.further;
   with_records = with_part table.AgentGroups;
   insert = INSERT_AGENT_GROUP.now;

@@ -78,6 +78,10 @@ moment_at r at = whole_at r at >>= number_between 0 4294967295
 unfoldable pub seconds_at : Row → ℕ → Option ℕ
 seconds_at r at = whole_at r at >>= number_between 0 3600
 
+-- one that isn't 0
+unfoldable pub priority_at : Row → ℕ → Option ℕ
+priority_at r at = whole_at r at >>= number_between 1 9
+
 unfoldable pub device_at : Row → ℕ → Option ℕ
 device_at r at = whole_at r at >>= id_with device_digits
 

@@ -394,4 +394,10 @@ macro_rules! group_priority {
 
 pub const CREATE_GROUP_PRIORITY: &str = group_priority!(create);
 
+pub const INSERT_GROUP_PRIORITY: &str = group_priority!(insert);
+
+pub const UPDATE_GROUP_PRIORITY: &str = group_priority!(update);
+
+pub const DELETE_GROUP_PRIORITY: &str = group_priority!(delete);
+
 pub const SELECT_GROUP_PRIORITY: &str = group_priority!(select);

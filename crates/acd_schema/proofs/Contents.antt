@@ -40,11 +40,11 @@ use Rattle.acd_columns.specs.declared.tables.Version.{Version}
 use Rattle.acd_columns.specs.declared.tables.Version.TheVariants as version
 use Rattle.acd_columns.specs.AnyRows.{is_good, are_good, is_good_in, values_in, rows_in, IsFiled, HaveAllColumns}
 use Rattle.acd_schema.specs.Inspecting.{is_good_table, IsOfBook, IsInRange}
-use Rattle.acd_columns.specs.Content.{AreRows, AreHeaped, Encodes, EncodesAs, IsIn, number_of, pair_order, tree_of}
+use Rattle.acd_columns.specs.Content.{AreRows, AreHeaped, Encodes, EncodesAs, IsIn, number_of, tree_of}
 use Rattle.acd_columns.specs.Descriptions.{Description, Heap, behind, behind_both, row_of, numbered_row, by_both}
 use Rattle.acd_columns.specs.InTables.{in_order}
 use Rattle.acd_columns.specs.Ranges.{counters_in}
-use Rattle.acd_columns.specs.Relations.{relations_of}
+use Rattle.acd_columns.specs.Relations.{pair_order, relations_of}
 use Rattle.acd_columns.specs.Rows.{keyed_row, meta_row_as, meta_shown, further_row}
 use Rattle.acd_columns.specs.Schema.{Layout, table_of, nine, with_behind, Begins}
 use Rattle.acd_columns.specs.Schema as schema

@@ -20,8 +20,8 @@ use Rattle.acd_columns.specs.declared.tables.Table.TheVariants as table
 use Rattle.acd_columns.specs.declared.tables.Version.{Version}
 use Rattle.acd_columns.specs.declared.tables.Version.TheVariants as version
 use Rattle.acd_sqlbook.specs.Adopting.{IsAdopted, IsHandedBack, IsUntouched, MayMigrate}
-use Rattle.acd_columns.specs.Relations.{meta_of, relations_of}
-use Rattle.acd_columns.specs.Content.{Encodes, EncodesAs, Stores, part, pair_order, tree_of}
+use Rattle.acd_columns.specs.Relations.{pair_order, meta_of, relations_of}
+use Rattle.acd_columns.specs.Content.{Encodes, EncodesAs, Stores, part, tree_of}
 use Rattle.acd_columns.specs.Rows.{further_row}
 use Rattle.acd_columns.specs.Schema.{old_schema, book_schema}
 use Rattle.acd_columns.specs.InTables.{content_of}

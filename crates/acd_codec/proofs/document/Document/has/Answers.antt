@@ -1,4 +1,4 @@
-use Rattle.std.proofs.Common.{◌≡◌, is_some, sym, ap, ◌∙◌}
+use Rattle.std.proofs.Common.{is_some, ap, ◌∙◌}
 use Rattle.json.specs.Find as found
 use Rattle.json.specs.Value.{value_view}
 use Rattle.serde_json.specs.Find.{get}
