@@ -115,7 +115,8 @@ impl<'a> Document<'a> {
 
     /// The member, if it is a list.
     pub(crate) fn list(&self, member: Member) -> Option<&[Value<'a>]>
-        ensures { option_and_then (λ vs. of_items (items_view vs.now)) result ≡ list_in member (data_of self.now) }
+        ensures { option_and_then (λ vs. of_items (items_view vs.now)) result
+            ≡ list_in member (data_of self.now) }
     {
         match self.find(member) {
             None => None,

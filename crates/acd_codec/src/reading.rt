@@ -124,7 +124,8 @@ fn requested_state_in(document: &Document<'_>) -> Result<RequestedState, Member>
 
 // The device that an item of a list names.
 fn device_of(item: &Value<'_>) -> Option<DeviceId>
-    ensures { result ≡ option_and_then device_of (option_and_then as_str (of_json (value_view item.now))) }
+    ensures { let text = option_and_then as_str (of_json (value_view item.now)) in
+        result ≡ option_and_then device_of text }
 {
     match item.as_str() {
         None => None,

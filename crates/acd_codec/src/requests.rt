@@ -193,7 +193,8 @@ fn put_set_group_priority(
     priority: Priority,
 ) -> Result<(), AllocError>
     ensures { let r = request.now in
-        Adds result out.old out.new (tokens_of (set_group_priority r.requester r.invoke device priority)) }
+        Adds result out.old out.new
+        (tokens_of (set_group_priority r.requester r.invoke device priority)) }
 {
     put_device(out, "device", Some(device))?;
     put_invoke(out, request.invoke)?;

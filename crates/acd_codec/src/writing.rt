@@ -75,7 +75,8 @@ pub(crate) fn put_seconds(out: &mut Writer, name: &str, value: Seconds) -> Resul
 
 /// Writes the priority that a group is given.
 pub(crate) fn put_priority(out: &mut Writer, priority: Priority) -> Result<(), AllocError>
-    ensures { Adds result out.old out.new (tokens_of (member (codes "priority") (number (unsigned priority)) no_members)) }
+    ensures { Adds result out.old out.new
+        (tokens_of (member (codes "priority") (number (unsigned priority)) no_members)) }
 {
     put_number(out, "priority", u64::from(priority.number()))
 }

@@ -158,7 +158,7 @@ with_all m groups stations agents calls connections monitors events kept = recor
 }
 
 -- groups and agents that ascend by what the tables have of them ascend
-groups_rise : (groups : List GroupRecord) → IsAscending (λ (g h : GroupRow). nat_cmp g.device h.device) (map group_part groups) → IsAscending group_order groups
+pub groups_rise : (groups : List GroupRecord) → IsAscending (λ (g h : GroupRow). nat_cmp g.device h.device) (map group_part groups) → IsAscending group_order groups
 groups_rise [] up = tt
 groups_rise (g ∷ groups) up = (after groups up.0, groups_rise groups up.1)
   where
@@ -166,7 +166,7 @@ groups_rise (g ∷ groups) up = (after groups up.0, groups_rise groups up.1)
     after [] h = tt
     after (x ∷ hs) h = (h.0, after hs h.1)
 
-agents_rise : (agents : List AgentRecord) → IsAscending (λ (a b : AgentRow). nat_cmp a.agent b.agent) (map agent_part agents) → IsAscending agent_order agents
+pub agents_rise : (agents : List AgentRecord) → IsAscending (λ (a b : AgentRow). nat_cmp a.agent b.agent) (map agent_part agents) → IsAscending agent_order agents
 agents_rise [] up = tt
 agents_rise (a ∷ agents) up = (after agents up.0, agents_rise agents up.1)
   where

@@ -4,24 +4,22 @@ ghost use Rattle.std.specs.Prelude.{◌≡◌, nat_le, length, filter};
 ghost use Rattle.std.specs.List.{list_all};
 ghost use Rattle.acd_terms.specs.Groups.{is_choice};
 ghost use Rattle.acd_terms.specs.Lists.{count};
-ghost use Rattle.acd_terms.specs.Limits.{greatest_priority};
 ghost use Rattle.acd_terms.specs.declared.record.AgentRecord.{AgentRecord};
 ghost use Rattle.acd_terms.specs.declared.record.GroupRecord.{GroupRecord};
 ghost use Rattle.acd_model.specs.Scans.{has, is_group};
 ghost use Rattle.acd_model.specs.Rules.Plan.{keeps_limits, keeps_order, keeps_device, keeps_agent, keeps_monitor, is_station_there, are_planned_groups, is_alone_at, is_seated};
 
 use crate::lookups::Lookups;
-use acd_terms::{AgentRecord, DeviceId, Groups, Rows, ascends};
+use acd_terms::{AgentRecord, DeviceId, GroupRecord, Groups, Rows, ascends};
 
-// No priority is above the greatest, as the type says.
-fn are_priorities_low(rows: &Rows) -> bool
-    ensures { result ≡ list_all (λ (g : GroupRecord). nat_le g.priority greatest_priority) rows.now.groups }
+fn are_priorities_low(groups: &[GroupRecord]) -> bool
+    ensures { result ≡ list_all (λ (g : GroupRecord). nat_le g.priority 9) groups.now }
 {
-    rows.groups.iter().all(|g| g.priority.number() <= 9)
+    groups.iter().all(|g| g.priority.number() <= 9)
 }
 
-/// No limit is above the greatest and no list above its limit; no last number is above its bound, and no
-/// priority above 9.
+/// No limit is above the greatest and no list above its limit; no last number is above its bound,
+/// and no priority above 9.
 #[tactic(auto, unfolding(acd_model::specs::Rules::Plan::keeps_limits))]
 pub fn keeps_limits(rows: &Rows) -> bool
     ensures { result ≡ keeps_limits rows.now }
@@ -36,7 +34,7 @@ pub fn keeps_limits(rows: &Rows) -> bool
         && rows.last_stamp <= limits.requests
         && rows.last_call <= rows.last_stamp
         && rows.last_monitor <= rows.last_stamp
-        && are_priorities_low(rows)
+        && are_priorities_low(rows.groups.as_slice())
 }
 
 /// Each list is strictly ascending in its key.
@@ -117,7 +115,8 @@ fn is_alone_at(lookups: &Lookups, station: Option<DeviceId>) -> bool
     }
 }
 
-// An agent in null has no station, group or pending state, any other a planned station and planned groups.
+// An agent in null has no station, groups or pending state, any other a planned station and one to
+// eight planned groups.
 fn is_seated(lookups: &Lookups, agent: &AgentRecord) -> bool
     ensures { result ≡ is_seated lookups.now.rows.now agent.now }
 {

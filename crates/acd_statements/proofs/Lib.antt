@@ -1,5 +1,6 @@
 mod Bounds
 pub mod Named
 pub mod Chained
+mod Planned
 mod FirstFound
 mod Pages

@@ -15,6 +15,8 @@ mod bind;
 pub mod fitting;
 pub mod look;
 mod lookups;
+pub mod parts;
+mod plan;
 pub mod put;
 pub mod query;
 pub mod read;

@@ -1,4 +1,4 @@
-use Rattle.acd_statements.proofs.records.GroupRecordStored.run.Goals as goal
+use Rattle.acd_statements.proofs.records.GroupRowStored.run.Goals as goal
 
 pub returns-clause-ran : goal.returns-clause-ran
 returns-clause-ran g c clean =
