@@ -62,6 +62,12 @@ pub fn ready(agent: AgentRecord, station: DeviceId, group: DeviceId) -> AgentRec
     }
 }
 
+/// Two groups of an agent.
+pub fn two_groups(rt: &impl Abort, one: &str, other: &str) -> Groups {
+    let groups = Groups::one(device(rt, one));
+    groups.with(device(rt, other)).expect(rt, "two groups")
+}
+
 /// A connection of no group.
 pub fn plain(call: u64, device: DeviceId, state: ConnectionState) -> ConnectionRecord {
     ConnectionRecord {

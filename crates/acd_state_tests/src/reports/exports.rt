@@ -91,6 +91,7 @@ fn records_of_an_answer() -> &'static str {
     "1,9,established,3,201,,100,,,15\n2,9,established,3,201,,,,,\n3,9,held,3,201,,,,,\n4,9,retrieved,3,201,,,,,\n5,9,transferred,3,201,,,202,,\n6,9,failed,3,201,,,,busy,\n7,9,connectionCleared,3,201,,,,,\n8,9,callCleared,3,,,100,,,\n9,9,callCleared,3,,,,,,\n"
 }
 
+// The second one logs on in several groups.
 fn reports_of_agents(agent: AgentId, station: DeviceId, group: DeviceId) -> [Report; 7] {
     [
         Report::AgentLoggedOn {
