@@ -1,13 +1,13 @@
 -- The statements that put the further groups of agents and take them out, and the query of all of them.
-use Rattle.std.proofs.Common.{◌≡◌, ◌==◌, ◌++◌, ℕ, [], ◌∷◌, List, filter, map, not, false, true, Ok, refl}
+use Rattle.std.proofs.Common.{◌≡◌, ◌==◌, ◌&&◌, ◌++◌, ℕ, [], ◌∷◌, List, filter, map, not, true, Ok, refl}
 use Rattle.std.specs.List.{AllByRecursion}
 use Rattle.sqlite_value.specs.Order.{Row}
 use Rattle.sqlite_trees.specs.Tree.{Trees}
 use Rattle.sqlite_schema.specs.declared.schema.Constraint.TheVariants.{Unique}
-use Rattle.sqlite_schema.specs.Rules.{Keeps, passes}
-use Rattle.sqlite_rules.proofs.ListLemmas.{all_from, all_has}
+use Rattle.sqlite_schema.specs.Rules.{Keeps}
 use Rattle.sqlite.specs.Listing.{understood}
 use Rattle.sqlite.specs.State.{State, Executes, Shown}
+use Rattle.sqlite.proofs.Callers.{IsPlain}
 use Rattle.sqlite_tied.specs.Compute.{everything}
 use Rattle.acd_terms.specs.Lists.{put_by}
 use Rattle.acd_book.specs.Content.{Content}
@@ -20,22 +20,19 @@ use Rattle.acd_columns.specs.Content.{IsIn, with_part}
 use Rattle.acd_columns.specs.Draft.{Drafts, Holds}
 use Rattle.acd_columns.specs.Relations.{pair_order, Relations, relations_of}
 use Rattle.acd_columns.specs.Rows.{further_values}
-use Rattle.acd_columns.specs.Schema.{nine, two, table_of, book_schema}
+use Rattle.acd_columns.specs.Schema.{book_schema, nine, two}
 use Rattle.acd_columns.specs.Schema as schema
 use Rattle.acd_columns.specs.Tables.{agent_groups}
 use Rattle.acd_columns.specs.Values.{id_value}
 use Rattle.acd_columns.proofs.Common.{cast_id}
-use Rattle.acd_columns.proofs.Connections.{no_clash}
 use Rattle.acd_columns.proofs.Frames.{framed}
 use Rattle.acd_columns.proofs.Heaped.{Heaped, DeletesThose, SelectsAll, by_one, has_twin, inserted_in, deleted_in, of_one, shows_all}
 use Rattle.acd_columns.proofs.Records.{further_stored}
 use Rattle.acd_columns.proofs.Listings.{schema_is, whole_begins}
 
-groups_alone : (v : Version) → IsIn v table.AgentGroups → (db : Trees) → Keeps Unique (schema_of v) db → AllByRecursion (λ row. has_twin (db schema.agent_groups.tree) row ≡ false) (db schema.agent_groups.tree)
+groups_alone : (v : Version) → IsIn v table.AgentGroups → (db : Trees) → Keeps Unique (schema_of v) db → AllByRecursion (λ row. (not (has_twin (db schema.agent_groups.tree) row) && true) ≡ true) (db schema.agent_groups.tree)
 groups_alone version.First there db keeps = absurd there
-groups_alone version.Second there db keeps =
-    all_from (λ row. has_twin (db schema.agent_groups.tree) row ≡ false) (db schema.agent_groups.tree)
-    (λ row k. no_clash _ (all_has (λ r. passes Unique book_schema db (table_of schema.agent_groups) r ≡ true) (db schema.agent_groups.tree) row keeps.1.1.1.1.1.1.1.1.1.0 k))
+groups_alone version.Second there db keeps = keeps.1.1.1.1.1.1.1.1.1.0
 
 pub groups_heaped : Heaped agent_groups
 unfolding understood everything
@@ -73,3 +70,6 @@ drops_groups agent c old new count d ran =
 
 pub shows_groups : (old new : State) (rows : List Row) (c : Content) → Holds old c → Shown SELECT_AGENT_GROUPS.now [] old new rows → rows ≡ map further_values (relations_of c).further
 shows_groups old new rows c held shown = shows_all agent_groups groups_heaped SELECT_AGENT_GROUPS.now groups_selects old new rows c held (whole_begins old.now.schema (schema_is old c held)) shown
+
+pub groups_plain : IsPlain (understood book_schema SELECT_AGENT_GROUPS.now)
+groups_plain = groups_selects.plain [] book_schema

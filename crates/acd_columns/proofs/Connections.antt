@@ -1,11 +1,10 @@
 -- The statements that put connections and take them out, and the query of all of them.
-use Rattle.std.proofs.Common.{◌≡◌, ◌==◌, ◌&&◌, ℕ, [], ◌∷◌, List, map, not, true, false, Bool, Ok, Err, Result, OnOk, refl, sym, subst}
+use Rattle.std.proofs.Common.{◌≡◌, ◌==◌, ◌&&◌, ℕ, [], ◌∷◌, List, map, not, true, Ok, Err, Result, OnOk, refl, sym, subst}
 use Rattle.std.specs.List.{AllByRecursion}
 use Rattle.sqlite_value.specs.Order.{Row}
 use Rattle.sqlite_trees.specs.Tree.{Trees}
 use Rattle.sqlite_schema.specs.declared.schema.Constraint.TheVariants.{Unique}
-use Rattle.sqlite_schema.specs.Rules.{Keeps, passes}
-use Rattle.sqlite_rules.proofs.ListLemmas.{all_from, all_has}
+use Rattle.sqlite_schema.specs.Rules.{Keeps}
 use Rattle.sqlite.specs.declared.error.Error.{Error}
 use Rattle.sqlite.specs.Listing.{understood}
 use Rattle.sqlite.specs.State.{State, Executes, Shown}
@@ -26,7 +25,7 @@ use Rattle.acd_columns.specs.Content.{with_part}
 use Rattle.acd_columns.specs.Draft.{Drafts, Holds}
 use Rattle.acd_columns.specs.Relations.{Relations}
 use Rattle.acd_columns.specs.Rows.{connection_fields, connection_values}
-use Rattle.acd_columns.specs.Schema.{nine, two, table_of, old_schema, book_schema}
+use Rattle.acd_columns.specs.Schema.{nine, two, book_schema}
 use Rattle.acd_columns.specs.Schema as schema
 use Rattle.acd_columns.specs.Tables.{connections}
 use Rattle.acd_columns.specs.Values.{id_value}
@@ -36,18 +35,9 @@ use Rattle.acd_columns.proofs.Heaped.{Heaped, UpdatesOne, DeletesThose, SelectsA
 use Rattle.acd_columns.proofs.Listings.{Listing, held_begins}
 use Rattle.acd_columns.proofs.Records.{connection_stored}
 
--- no row has the key of another where the one unique index is kept
-pub no_clash : (b : Bool) → (not b && true) ≡ true → b ≡ false
-no_clash true h = absurd (cc h)
-no_clash false h = refl
-
-connections_alone : (v : Version) (db : Trees) → Keeps Unique (schema_of v) db → AllByRecursion (λ row. has_twin (db schema.connections.tree) row ≡ false) (db schema.connections.tree)
-connections_alone version.First db keeps =
-    all_from (λ row. has_twin (db schema.connections.tree) row ≡ false) (db schema.connections.tree)
-    (λ row there. no_clash _ (all_has (λ r. passes Unique old_schema db (table_of schema.connections) r ≡ true) (db schema.connections.tree) row keeps.1.1.1.1.1.0 there))
-connections_alone version.Second db keeps =
-    all_from (λ row. has_twin (db schema.connections.tree) row ≡ false) (db schema.connections.tree)
-    (λ row there. no_clash _ (all_has (λ r. passes Unique book_schema db (table_of schema.connections) r ≡ true) (db schema.connections.tree) row keeps.1.1.1.1.1.0 there))
+connections_alone : (v : Version) (db : Trees) → Keeps Unique (schema_of v) db → AllByRecursion (λ row. (not (has_twin (db schema.connections.tree) row) && true) ≡ true) (db schema.connections.tree)
+connections_alone version.First db keeps = keeps.1.1.1.1.1.0
+connections_alone version.Second db keeps = keeps.1.1.1.1.1.0
 
 pub connections_heaped : Heaped connections
 unfolding understood everything
@@ -99,7 +89,7 @@ pub drops_connection : (call device : ℕ) (c : Relations) (old new : State) (co
 drops_connection call device c old new count d ran =
     subst (λ (xs : List ConnectionRecord). Drafts new (with_part table.Connections xs c)) (sym (others_left by_connection c.connections (d.tables table.Connections).ascending (call, device)))
     (deleted_in connections connections_heaped DELETE_CONNECTION.now by_two connections_deletes (id_value call ∷ id_value device ∷ []) (λ (x : ConnectionRecord). (x.call == call) && (x.device == device))
-    (of_two connections connections_heaped call device) c old new count d ran)
+    (of_two connections connections_heaped call device []) c old new count d ran)
 
 -- ---- the query
 

@@ -16,7 +16,7 @@ use Rattle.sqlite_value.specs.declared.value.Value.TheVariants.{Null, Int}
 use Rattle.sqlite_value.specs.Keys.{plain, first_key, ascending}
 use Rattle.sqlite_value.specs.Order.{Row, column, value_cmp}
 use Rattle.sqlite_value.proofs.OrderLemmas.{value_cmp_total}
-use Rattle.sqlite_trees.specs.Tree.{Trees, IsTable, rowid}
+use Rattle.sqlite_trees.specs.Tree.{Trees, rowid}
 use Rattle.sqlite_trees.proofs.ListLemmas.{ascending-filter}
 use Rattle.sqlite_sql.specs.Ops.{unary, binary, is_true, from_truth}
 use Rattle.sqlite_sql.specs.Query.{Output, output_cmp}
@@ -36,15 +36,14 @@ use Rattle.sqlite_rules.specs.Calls.{ids_of}
 use Rattle.sqlite_rules.specs.Edit.{edit_of, edited, are_fresh, put_all, without_all, with_rowid, next_rowid, numbered}
 use Rattle.sqlite_rules.specs.declared.error.Rowids.TheVariants.{Chosen, Given}
 use Rattle.sqlite_rules.specs.Lists.{Has}
-use Rattle.sqlite_rules.proofs.ListLemmas.{all_from, all_has, has_filtered, has_kept, some_from}
+use Rattle.sqlite_rules.proofs.ListLemmas.{all_has, has_filtered, has_kept, some_from}
 use Rattle.sqlite_rules.proofs.ProbeLemmas.{has_mapped, mapped_has}
 use Rattle.sqlite_rules.proofs.TableLemmas.{put_all_keeps, put_all_adds}
-use Rattle.sqlite_keyed.proofs.ListLemmas.{all_map}
 use Rattle.sqlite.specs.Effect.{Database, value_rows}
 use Rattle.sqlite.specs.Listing.{understood, reads_listing}
 use Rattle.sqlite.specs.State.{State, Executes, Shown}
 use Rattle.sqlite.proofs.Callers.{IsPlain, command_of, one_permutation, reads_as}
-use Rattle.acd_terms.specs.Lists.{Among, AllAfter, IsAscending, put_by}
+use Rattle.acd_terms.specs.Lists.{Among, put_by}
 use Rattle.acd_laws.proofs.Lists.{filter_among}
 use Rattle.acd_book.specs.Content.{Content}
 use Rattle.acd_columns.specs.declared.tables.Version.{Version}
@@ -56,13 +55,13 @@ use Rattle.acd_columns.specs.Draft.{Drafts, Holds}
 use Rattle.acd_columns.specs.Relations.{Relations, relations_of}
 use Rattle.acd_columns.specs.Schema.{table_of, book_schema, with_behind, names_of, Begins}
 use Rattle.acd_columns.specs.Values.{id_value}
-use Rattle.acd_columns.proofs.Asked.{columns, no_limit}
+use Rattle.acd_columns.proofs.Asked.{columns, no_limit, two}
 use Rattle.acd_columns.proofs.Common.{run, inert, either, cast_null}
 use Rattle.acd_columns.proofs.Heaps.{both_same, both_are, same_id, lone, left_is, by_both_total, is_like, like_tied, ints_of, heap_left, met_key, heap_beside}
 use Rattle.acd_columns.proofs.KeyedRows.{id_cmp, id_tied, put_back}
-use Rattle.acd_columns.proofs.Listings.{Listing, query_of, begun}
-use Rattle.acd_columns.proofs.Members.{Differ, AreApart, same_members}
-use Rattle.acd_columns.proofs.Ordered.{asking, given, answered}
+use Rattle.acd_columns.proofs.Listings.{Listing, query_of, begun, end_of}
+use Rattle.acd_columns.proofs.Members.{Differ, apart_under, same_members}
+use Rattle.acd_columns.proofs.Ordered.{asking, given, answered, strict}
 use Rattle.acd_columns.proofs.Puts.{truth_back}
 use Rattle.acd_columns.proofs.Ranged.{beside}
 use Rattle.acd_columns.proofs.Scans.{scan, showing, passing, filter_all}
@@ -124,7 +123,7 @@ module _ {R : Type 0} (h : Heap R) where
     -- a row whose values are in their ranges is that of the record
     pub stored : (row : Row) (r : R) → h.in_row row ≡ Some r → row ≡ h.values r
     -- in each version that has it no two rows have one key
-    pub alone : (v : Version) → IsIn v h.table → (db : Trees) → Keeps Unique (schema_of v) db → AllByRecursion (λ row. has_twin (db h.layout.tree) row ≡ false) (db h.layout.tree)
+    pub alone : (v : Version) → IsIn v h.table → (db : Trees) → Keeps Unique (schema_of v) db → AllByRecursion (λ row. (not (has_twin (db h.layout.tree) row) && true) ≡ true) (db h.layout.tree)
     -- the relations
     pub held : (c : Relations) (db : Trees) → AreTables db c → AreHeaped (by_both h) (numbered_row h) (db h.layout.tree) (h.records c)
     pub framed : (rs : List R) (rows : List Row) (old new : Trees) (c : Relations) → AreHeaped (by_both h) (numbered_row h) rows rs → new h.layout.tree ≡ rows
@@ -150,12 +149,6 @@ module _ {R : Type 0} (h : Heap R) where
 
 -- ---- rows
 
-two : (a b : Bool) → (is_true (from_truth (Some a)) && (is_true (from_truth (Some b)) && true)) ≡ (a && b)
-two true true = refl
-two true false = refl
-two false true = refl
-two false false = refl
-
 both_ids : (m n p q : ℕ) → (is_eq (value_cmp (id_value m) (id_value p)) && is_eq (value_cmp (id_value n) (id_value q))) ≡ ((m == p) && (n == q))
 both_ids m n p q = ap₂ ◌&&◌ (id_tied m p) (id_tied n q)
 
@@ -179,6 +172,10 @@ apart_is Greater e = refl
 differs : (own id : ℤ) → is_eq (value_cmp (Int id) (Int own)) ≡ false → differ (Int id) (Int own) ≡ true
 unfolding binary
 differs own id e = apart_is (value_cmp (Int id) (Int own)) e
+
+-- where a unique index is kept
+pub no_twin : (rows : List Row) → AllByRecursion (λ row. (not (has_twin rows row) && true) ≡ true) rows → (row : Row) → Has rows row → has_twin rows row ≡ false
+no_twin rows alone row there = not-true _ (and_parts _ true (all_has (λ r. (not (has_twin rows r) && true) ≡ true) rows row alone there)).0
 
 cast_whole : (id : ℤ) → cast Integer (Int id) ≡ Int id
 unfolding unary
@@ -218,16 +215,7 @@ module _ {R : Type 0} (h : Heap R) (f : Heaped h) where
   -- ---- INSERT
 
   abbrev insertion : Insertion book_schema h.insert
-  insertion = record {
-    at = h.place;
-    layout = h.layout;
-    terms = sources (behind_both h);
-    width = behind_both h + 3;
-    place = place_is;
-    command = ap (λ (t : Option MadeTable × ℕ × Command). t.2) f.computes;
-    plain = f.plain;
-    inert = inert_works book_schema inert h.layout.tree;
-  }
+  insertion = record { at = h.place; layout = h.layout; terms = sources (behind_both h); width = behind_both h + 3; place = place_is; command = ap (λ (t : Option MadeTable × ℕ × Command). t.2) f.computes; plain = f.plain; inert = inert_works book_schema inert h.layout.tree }
 
   pub agreed : (id own : ℤ) (r x : R) → agree plain key_columns (numbered_row h id x) key_columns (numbered_row h own r) ≡ is_like h r x
   agreed id own r x =
@@ -236,7 +224,7 @@ module _ {R : Type 0} (h : Heap R) (f : Heaped h) where
 
   -- where a row could be put, no record had its key
   none_like : (rows : List Row) (records : List R) (are : AreRowsOf rows records) (id : ℤ) (r : R) (next : List Row) → are_fresh rows (numbered_row h id r ∷ []) ≡ true → next ≡ put_all rows (numbered_row h id r ∷ [])
-      → AllByRecursion (λ row. has_twin next row ≡ false) next → (x : R) → Among x records → is_like h r x ≡ false
+      → AllByRecursion (λ row. (not (has_twin next row) && true) ≡ true) next → (x : R) → Among x records → is_like h r x ≡ false
   none_like rows records are id r next fresh is alone x a = false_from_ne_true (is_like h r x) (λ met.
       let own = numbered_row h id r in
       let at = are.stored x a in
@@ -246,7 +234,7 @@ module _ {R : Type 0} (h : Heap R) (f : Heaped h) where
       false_from_ne_true _ (λ tied. let taken = some_from (λ s. is_eq (value_cmp (rowid s) (rowid own))) rows row at.1 tied in cc (free, taken)) in
       let hit = some_from (λ s. agree plain key_columns s key_columns own && differ (rowid s) (rowid own)) next row (subst (λ l. Has l row) (sym is) (put_all_keeps (own ∷ []) rows row fresh at.1))
       (and_from _ _ (agreed at.0 id r x ∙ met) (differs id at.0 other)) in
-      let none = all_has (λ s. has_twin next s ≡ false) next own alone (subst (λ l. Has l own) (sym is) (put_all_adds (own ∷ []) rows own fresh (inl refl))) in
+      let none = no_twin next alone own (subst (λ l. Has l own) (sym is) (put_all_adds (own ∷ []) rows own fresh (inl refl))) in
       cc (hit, none))
 
   pub inserted_in : IsIn version.Second h.table → (r : R) (c : Relations) (old new : State) (count : ℕ) → Drafts old c → Executes h.insert (h.values r) old new (Ok count)
@@ -265,28 +253,25 @@ module _ {R : Type 0} (h : Heap R) (f : Heaped h) where
       drafted _ (put_all rows (numbered_row h id r ∷ [])) old new c (heap_beside h starts rows (h.records c) are id r fresh other)
       (replaces book_schema old new (edit_of db (table_of h.layout) [] Chosen 0 ((Null ∷ h.values r) ∷ [])) _ made put) drafts
 
-  -- ---- UPDATE
+  -- ---- tests
 
-  tested : (id : ℤ) (r x : R) (more : Row) → list_all (holds ((id_value (h.first r) ∷ id_value (h.second r) ∷ more) ∷ numbered_row h id x ∷ [])) by_two ≡ is_like h r x
-  tested id r x more =
-      subst (λ v. list_all (holds ((id_value (h.first r) ∷ id_value (h.second r) ∷ more) ∷ (Int id ∷ v) ∷ [])) by_two ≡ is_like h r x) (sym (starts x))
-      (two_tests (h.first r) (h.second r) more id (h.first x) (h.second x) (drop 2 (h.values x)))
+  -- a record passes where it has these numbers
+  pub of_two : (m n : ℕ) (given : Row) (id : ℤ) (x : R) → list_all (holds ((id_value m ∷ id_value n ∷ given) ∷ numbered_row h id x ∷ [])) by_two ≡ ((h.first x == m) && (h.second x == n))
+  of_two m n given id x =
+      subst (λ v. list_all (holds ((id_value m ∷ id_value n ∷ given) ∷ (Int id ∷ v) ∷ [])) by_two ≡ ((h.first x == m) && (h.second x == n))) (sym (starts x))
+      (two_tests m n given id (h.first x) (h.second x) (drop 2 (h.values x)))
+
+  pub of_one : (m : ℕ) (id : ℤ) (x : R) → list_all (holds ((id_value m ∷ []) ∷ numbered_row h id x ∷ [])) by_one ≡ (h.first x == m)
+  of_one m id x = subst (λ v. list_all (holds ((id_value m ∷ []) ∷ (Int id ∷ v) ∷ [])) by_one ≡ (h.first x == m)) (sym (starts x)) (one_test m id (h.first x) (id_value (h.second x) ∷ drop 2 (h.values x)))
 
   passes_is : (id : ℤ) (r x : R) → list_all (holds (h.values r ∷ numbered_row h id x ∷ [])) by_two ≡ is_like h r x
-  passes_is id r x = subst (λ v. list_all (holds (v ∷ numbered_row h id x ∷ [])) by_two ≡ is_like h r x) (sym (starts r)) (tested id r x (drop 2 (h.values r)))
+  passes_is id r x = subst (λ v. list_all (holds (v ∷ numbered_row h id x ∷ [])) by_two ≡ is_like h r x) (sym (starts r)) (of_two (h.first r) (h.second r) (drop 2 (h.values r)) id x)
+
+  -- ---- UPDATE
 
   module _ (text : List ℕ) (u : UpdatesOne h text) where
     abbrev updating : Updating book_schema text
-    updating = record {
-      at = h.place;
-      layout = h.layout;
-      terms = by_two;
-      project = columns_given (behind_both h);
-      place = place_is;
-      command = u.updates;
-      plain = u.plain;
-      inert = inert_works book_schema inert h.layout.tree;
-    }
+    updating = record { at = h.place; layout = h.layout; terms = by_two; project = columns_given (behind_both h); place = place_is; command = u.updates; plain = u.plain; inert = inert_works book_schema inert h.layout.tree }
 
     module _ (r : R) (db : Trees) (records : List R) (are : AreRowsOf (db h.layout.tree) records) where
       abbrev rows : List Row
@@ -345,7 +330,7 @@ module _ {R : Type 0} (h : Heap R) (f : Heaped h) where
         let are = changed r db (h.records c) (f.held c db drafts.tables) made.rows count made.found made.counted some made.changed.applies.fresh in
         drafted _ (edited db (updating_edit db h.layout made.rows)) old new c are (replaces book_schema old new (updating_edit db h.layout made.rows) _ made.changed refl) drafts
 
-    -- of a record that has none
+    -- where it changed no row
     pub unchanged_in : (r : R) (c : Relations) (old new : State) (count : ℕ) → Drafts old c → Executes text (h.values r) old new (Ok count) → count ≡ 0 → Drafts new (h.with_records (h.records c) c)
     unchanged_in r c old new count drafts ran missed =
         drafted (h.records c) (old.now.trees h.layout.tree) old new c (f.held c old.now.trees drafts.tables) (set_none book_schema text updating (h.values r) old new count drafts.schema ran missed) drafts
@@ -364,28 +349,11 @@ module _ {R : Type 0} (h : Heap R) (f : Heaped h) where
       drafted _ (filter (λ s. not (list_all (holds (params ∷ s ∷ [])) terms)) rows) old new c (heap_left h (λ s. list_all (holds (params ∷ s ∷ [])) terms) p same rows (h.records c) are)
       (replaces book_schema old new (deletion_edit it made.rows db) _ made.changed (left_is rows are.rising (ints_of h rows (h.records c) are) params terms [] made.rows made.found)) drafts
 
-  -- a record passes where it has these numbers
-  pub of_two : (m n : ℕ) (id : ℤ) (x : R) → list_all (holds ((id_value m ∷ id_value n ∷ []) ∷ numbered_row h id x ∷ [])) by_two ≡ ((h.first x == m) && (h.second x == n))
-  of_two m n id x = subst (λ v. list_all (holds ((id_value m ∷ id_value n ∷ []) ∷ (Int id ∷ v) ∷ [])) by_two ≡ ((h.first x == m) && (h.second x == n))) (sym (starts x)) (two_tests m n [] id (h.first x) (h.second x) (drop 2 (h.values x)))
-
-  pub of_one : (m : ℕ) (id : ℤ) (x : R) → list_all (holds ((id_value m ∷ []) ∷ numbered_row h id x ∷ [])) by_one ≡ (h.first x == m)
-  of_one m id x = subst (λ v. list_all (holds ((id_value m ∷ []) ∷ (Int id ∷ v) ∷ [])) by_one ≡ (h.first x == m)) (sym (starts x)) (one_test m id (h.first x) (id_value (h.second x) ∷ drop 2 (h.values x)))
-
   -- ---- the query of all rows
 
   module _ {base : List MadeTable} (text : List ℕ) (s : SelectsAll h base text) where
     abbrev pub listing : Listing base text
-    listing = record {
-      tree = h.layout.tree;
-      terms = [];
-      project = shown_columns (behind_both h);
-      order = by_columns;
-      limit = no_limit;
-      names = names_of h.layout;
-      command = s.selects;
-      plain = s.plain;
-      unlisted = s.unlisted;
-    }
+    listing = record { tree = h.layout.tree; terms = []; project = shown_columns (behind_both h); order = by_columns; limit = no_limit; names = names_of h.layout; command = s.selects; plain = s.plain; unlisted = s.unlisted }
 
     -- what a row is sorted by, and what it shows
     abbrev part : Row → Output
@@ -397,11 +365,6 @@ module _ {R : Type 0} (h : Heap R) (f : Heaped h) where
     part_is : (id : ℤ) (x : R) → part (numbered_row h id x) ≡ out x
     part_is id x i = (ap (λ (v : Row). column v 0 ∷ column v 1 ∷ []) (starts x) i, f.shows id x i)
 
-    end_of : (o : Ordering) → ordering_then o Equal ≡ o
-    end_of Less = refl
-    end_of Equal = refl
-    end_of Greater = refl
-
     ranks : (x y : R) → output_cmp (query_of listing) (out x) (out y) ≡ by_both h x y
     ranks x y = ap₂ ordering_then (id_cmp (h.first x) (h.first y)) (end_of _ ∙ id_cmp (h.second x) (h.second y))
 
@@ -410,27 +373,13 @@ module _ {R : Type 0} (h : Heap R) (f : Heaped h) where
         both_are (h.first x) (h.second x) (h.first y) (h.second y) (same_id (h.first y) (h.first x) (ap (λ (o : Output). column o.0 0) (sym e)))
         (same_id (h.second y) (h.second x) (ap (λ (o : Output). column o.0 1) (sym e)))
 
-    differ_all : (x : R) (xs : List R) → AllAfter (by_both h) x xs → AllByRecursion (λ y. Differ (out x) (out y)) xs
-    differ_all x [] up = tt
-    differ_all x (y ∷ xs) up = (λ e. let never : true ≡ false = sym (like_tied h x y ∙ out_like x y e) ∙ ap is_eq up.0 in cc never, differ_all x xs up.1)
+    records_apart : (x y : R) → by_both h x y ≡ Less → Differ (out x) (out y)
+    records_apart x y low e = let never : true ≡ false = sym (like_tied h x y ∙ out_like x y e) ∙ ap is_eq low in cc never
 
-    records_apart : (xs : List R) → IsAscending (by_both h) xs → AreApart (map out xs)
-    records_apart [] up = tt
-    records_apart (x ∷ xs) up = (all_map (Differ (out x)) out xs (differ_all x xs up.0), records_apart xs up.1)
-
-    module _ (all : List Row) (apart : (a b : Row) → Has all a → Has all b → column a 1 ≡ column b 1 → column a 2 ≡ column b 2 → a ≡ b) where
-      two_rows : (a b : Row) → Has all a → Has all b → value_cmp (rowid a) (rowid b) ≡ Less → Differ (part a) (part b)
-      two_rows a b p q low e =
-          let same = apart a b p q (ap (λ (o : Output). column o.0 0) e) (ap (λ (o : Output). column o.0 1) e) in
-          let tied : value_cmp (rowid a) (rowid b) ≡ Equal = ap (λ r. value_cmp (rowid a) (rowid r)) (sym same) ∙ tied_itself value_cmp_total (rowid a) in
-          let never : Equal ≡ Less = sym tied ∙ low in cc
-
-      rows_apart : (rows : List Row) → IsTable rows → ((r : Row) → Has rows r → Has all r) → AreApart (map part rows)
-      rows_apart [] up among = tt
-      rows_apart (r ∷ rows) up among = (
-        all_map (Differ (part r)) part rows (all_from (λ s. Differ (part r) (part s)) rows (λ s k. two_rows r s (among r (inl refl)) (among s (inr k)) (all_has (λ s. value_cmp (rowid r) (rowid s) ≡ Less) rows s up.0 k))),
-        rows_apart rows up.1 (λ s k. among s (inr k)),
-      )
+    rows_apart : (rows : List Row) (records : List R) → AreRowsOf rows records → (a b : Row) → Has rows a → Has rows b → value_cmp (rowid a) (rowid b) ≡ Less → Differ (part a) (part b)
+    rows_apart rows records are a b p q low e =
+        let same = are.apart a b p q (ap (λ (o : Output). column o.0 0) e) (ap (λ (o : Output). column o.0 1) e) in
+        let never : Equal ≡ Less = sym (ap (λ r. value_cmp (rowid a) (rowid r)) (sym same) ∙ tied_itself value_cmp_total (rowid a)) ∙ low in cc
 
     has_among : (xs : List R) (x : R) → Among x xs → Has xs x
     has_among [] x a = absurd a
@@ -444,7 +393,7 @@ module _ {R : Type 0} (h : Heap R) (f : Heaped h) where
 
     shown_all : (rows : List Row) (records : List R) → AreRowsOf rows records → IsPermutation (map out records) (map part rows)
     shown_all rows records are =
-        same_members (map out records) (map part rows) (records_apart records are.ascending) (rows_apart rows are.apart rows are.rising (λ r p. p))
+        same_members (map out records) (map part rows) (apart_under out records (λ x y p q. records_apart x y) (strict (by_both h) (by_both_total h) records are.ascending)) (apart_under part rows (rows_apart rows records are) are.rising)
         (λ o p.
         let from = has_mapped out records o p in
         let at = are.stored from.0 (among_has records from.0 from.1) in

@@ -17,7 +17,7 @@ use Rattle.acd_columns.specs.declared.tables.Version.{Version}
 use Rattle.acd_columns.specs.declared.tables.Version.TheVariants as version
 use Rattle.acd_columns.specs.Content.{tree_of, IsIn}
 use Rattle.acd_columns.specs.Values.{id_value, cells}
-use Rattle.acd_columns.specs.Schema.{Layout, nine, Begins, old_schema, book_schema}
+use Rattle.acd_columns.specs.Schema.{Layout, behind_first, nine, Begins, old_schema, book_schema}
 use Rattle.acd_columns.specs.Schema as schema
 use Rattle.acd_columns.specs.Ranges.{priority_in, further_in, group_in, station_in, agent_in, call_in, connection_in, monitor_in, counters_in, event_in, kept_in}
 
@@ -44,7 +44,7 @@ are_good t rows = list_all (is_good t) rows
 
 -- the number of the row, which is the key, and the columns behind it
 abbrev pub keyed_in : Layout → Row → Row
-keyed_in l r = column r 0 ∷ cells 2 (length (drop 1 l.columns)) r
+keyed_in l r = column r 0 ∷ cells 2 (behind_first l) r
 
 -- all columns
 abbrev pub numbered_in : Layout → Row → Row

@@ -9,7 +9,7 @@ use Rattle.sqlite_value.specs.Order.{Row}
 use Rattle.acd_columns.specs.Rows.{keyed_row}
 use Rattle.acd_columns.specs.declared.tables.Table.{Table}
 use Rattle.acd_columns.specs.Relations.{Relations}
-use Rattle.acd_columns.specs.Schema.{Layout}
+use Rattle.acd_columns.specs.Schema.{Layout, behind_first}
 
 -- ---- where the key is the number of a row
 
@@ -34,7 +34,7 @@ pub record Description (R : Type 0) : Type 1 where
 
 -- how many columns stand behind the key
 abbrev pub behind : {R : Type 0} → Description R → ℕ
-behind d = length (drop 1 d.layout.columns)
+behind d = behind_first d.layout
 
 -- the row as it stands: the column that is the number of the row is NULL
 abbrev pub row_of : {R : Type 0} → Description R → R → Row

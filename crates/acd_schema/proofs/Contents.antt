@@ -1,5 +1,5 @@
 -- Rows that are filed, and in their ranges, are those of a content.
-use Rattle.std.proofs.Common.{◌≡◌, ◌==◌, ◌&&◌, ◌||◌, ℕ, ℤ, pos, negsuc, zero, suc, length, drop, map, not, slice_get, List, [], ◌∷◌, ◌++◌, inl, inr, Option, Some, Bool, true, false, IsTrue, refl, sym, ap, ap₂, subst, subst₂, ◌∙◌, arith, ◌+◌, ◌<◌, ◌≤◌}
+use Rattle.std.proofs.Common.{◌≡◌, ◌==◌, ◌&&◌, ◌||◌, ℕ, ℤ, pos, negsuc, zero, suc, length, drop, map, not, slice_get, List, [], ◌∷◌, ◌++◌, inl, inr, Option, Some, None, Bool, true, false, IsTrue, refl, sym, ap, ap₂, subst, subst₂, ◌∙◌, arith, ◌+◌, ◌<◌, ◌≤◌}
 use Rattle.std.specs.List.{AllByRecursion}
 use Rattle.std.specs.Option.{is_some}
 use Rattle.std.specs.Ordering.{int_cmp, is_eq, is_ne}
@@ -46,7 +46,7 @@ use Rattle.acd_columns.specs.InTables.{in_order}
 use Rattle.acd_columns.specs.Ranges.{counters_in}
 use Rattle.acd_columns.specs.Relations.{pair_order, relations_of}
 use Rattle.acd_columns.specs.Rows.{keyed_row, meta_row_as, meta_shown, further_row}
-use Rattle.acd_columns.specs.Schema.{Layout, table_of, nine, with_behind, Begins}
+use Rattle.acd_columns.specs.Schema.{Layout, behind_first, table_of, nine, with_behind, Begins}
 use Rattle.acd_columns.specs.Schema as schema
 use Rattle.acd_columns.specs.Tables.{groups, stations, agents, calls, connections, monitors, events, kept}
 use Rattle.acd_columns.specs.Values.{id_value, cells}
@@ -55,14 +55,14 @@ use Rattle.acd_columns.proofs.Connections.{connections_heaped}
 use Rattle.acd_columns.proofs.Decoded.{old_in, with_all, ordered, from_order, to_order}
 use Rattle.acd_columns.proofs.Filed.{Filed, tree_is, good, headed, shows_values}
 use Rattle.acd_columns.proofs.Frames.{none_heaped}
-use Rattle.acd_columns.proofs.Heaped.{Heaped, key_columns, has_twin, starts, agreed, heap_tree}
+use Rattle.acd_columns.proofs.Heaped.{Heaped, key_columns, has_twin, no_twin, starts, agreed, heap_tree}
 use Rattle.acd_columns.proofs.Heaps.{one_number, by_both_total, like_tied, key_met, met_key}
 use Rattle.acd_columns.proofs.KeyedRows.{id_cmp, id_tied, same_number, own_number}
 use Rattle.acd_columns.proofs.Listings.{begun, version_begins}
-use Rattle.acd_columns.proofs.Looked.{ascending_of, rising_of}
+use Rattle.acd_columns.proofs.Looked.{mapped_all, ascending_of, rising_of}
 use Rattle.acd_columns.proofs.Ranged.{row_is, null_is, some_same, whole_stored}
 use Rattle.acd_columns.proofs.Records.{counters_stored}
-use Rattle.acd_columns.proofs.Scans.{showing}
+use Rattle.acd_columns.proofs.Scans.{showing, each}
 use Rattle.acd_columns.proofs.TablesFiled.{groups_filed, stations_filed, agents_filed, calls_filed, monitors_filed, events_filed, kept_filed}
 
 -- ---- lists of rows
@@ -116,14 +116,14 @@ shown_cells start (suc n) r = ap (λ l. column r start ∷ l) (shown_cells (star
 
 -- ---- the width of a row whose last column is there
 
+longer : (m n : ℕ) → m ≤ n → suc m ≤ suc n
+longer m n h = omega arith
+
 typed_length : (key : Option ℕ) (at : ℕ) (columns : List Column) (vs : Row) → are_typed key at columns vs ≡ true → length vs ≤ length columns
 typed_length key at [] [] h = omega arith
 typed_length key at [] (v ∷ vs) h = absurd (cc h)
 typed_length key at (c ∷ cs) [] h = omega arith
-typed_length key at (c ∷ cs) (v ∷ vs) h =
-    let rest : are_typed key (at + 1) cs vs ≡ true = (and_parts _ _ h).1 in
-    let more : length vs ≤ length cs = typed_length key (at + 1) cs vs rest in
-    omega (arith, more)
+typed_length key at (c ∷ cs) (v ∷ vs) h = longer (length vs) (length cs) (typed_length key (at + 1) cs vs (and_parts _ _ h).1)
 
 there_at : (r : Row) (k : ℕ) → is_null (column r k) ≡ false → k < length r
 there_at [] k h = absurd (cc h)
@@ -159,15 +159,15 @@ last_there (c ∷ d ∷ cs) at r behind h end =
     let same : at + 1 + length (d ∷ cs) ≡ at + length (c ∷ d ∷ cs) = omega arith in
     subst (λ k. is_null (column r k) ≡ false) same (last_there (d ∷ cs) (at + 1) r (above_zero at) (and_parts _ _ h).1 end)
 
+whole_columns : (columns : List Column) (r : Row) → ends (drop 1 columns) ≡ true → (are_typed (Some 0) 0 columns (drop 1 r) && true) ≡ true → are_present (Some 0) 0 columns r ≡ true → length r ≡ suc (length columns)
+whole_columns [] r end typed present = absurd (cc end)
+whole_columns (c ∷ cs) r end typed present =
+    let same : 1 + length cs ≡ length (c ∷ cs) = omega arith in
+    width_is (c ∷ cs) r typed (subst (λ k. is_null (column r k) ≡ false) same (last_there cs 1 r refl present end))
+
 whole_row : (l : Layout) (r : Row) → l.key ≡ Some 0 → ends (drop 1 l.columns) ≡ true → is_typed l r ≡ true → are_present l.key 0 l.columns r ≡ true → length r ≡ suc (length l.columns)
-whole_row l r key end typed there =
-    go l.columns end (subst (λ k. (are_typed k 0 l.columns (drop 1 r) && true) ≡ true) key typed) (subst (λ k. are_present k 0 l.columns r ≡ true) key there)
-  where
-    go : (columns : List Column) → ends (drop 1 columns) ≡ true → (are_typed (Some 0) 0 columns (drop 1 r) && true) ≡ true → are_present (Some 0) 0 columns r ≡ true → length r ≡ suc (length columns)
-    go [] end typed there = absurd (cc end)
-    go (c ∷ cs) end typed there =
-        let same : 1 + length cs ≡ length (c ∷ cs) = omega arith in
-        width_is (c ∷ cs) r typed (subst (λ k. is_null (column r k) ≡ false) same (last_there cs 1 r refl (and_parts _ _ there).1 end))
+whole_row l r key end typed present =
+    whole_columns l.columns r end (subst (λ k. (are_typed k 0 l.columns (drop 1 r) && true) ≡ true) key typed) (subst (λ k. are_present k 0 l.columns r ≡ true) key present)
 
 -- ---- the limits and the counters
 
@@ -274,7 +274,7 @@ module _ {R : Type 0} (h : Heap R) (f : Heaped h) where
   heap_good r = ap (λ (t : Row × Bool). t.1) (f.of_row r)
 
   -- rows and the records that they are, one for one
-  record AreLinked (rows : List Row) (xs : List R) : Type 0 where
+  pub record AreLinked (rows : List Row) (xs : List R) : Type 0 where
     pub known : (r : Row) → Has rows r → (id : ℤ) × (x : R) × (r ≡ numbered_row h id x) × Among x xs
     pub stored : (x : R) → Among x xs → (id : ℤ) × Has rows (numbered_row h id x)
     pub back : (x : R) → Among x xs → h.in_row (h.values x) ≡ Some x
@@ -306,14 +306,14 @@ module _ {R : Type 0} (h : Heap R) (f : Heaped h) where
     pub are : AreHeaped (by_both h) (numbered_row h) rows records
     pub are_right : are_good h.table (map h.values records) ≡ true
 
-  module _ (rows : List Row) (xs : List R) (are : AreLinked rows xs) (rising : IsTable rows) (alone : AllByRecursion (λ r. has_twin rows r ≡ false) rows) where
+  module _ (rows : List Row) (xs : List R) (are : AreLinked rows xs) (rising : IsTable rows) (alone : AllByRecursion (λ r. (not (has_twin rows r) && true) ≡ true) rows) where
     rows_apart : (a b : Row) → Has rows a → Has rows b → column a 1 ≡ column b 1 → column a 2 ≡ column b 2 → a ≡ b
     rows_apart a b p q e g =
         let x = are.known a p in
         let y = are.known b q in
         let like = key_met h (starts h f) x.0 y.0 y.1 x.1 (ap (λ r. column r 1) (sym x.2) ∙ e ∙ ap (λ r. column r 1) y.2) (ap (λ r. column r 2) (sym x.2) ∙ g ∙ ap (λ r. column r 2) y.2) in
         let one : agree plain key_columns a key_columns b ≡ true = subst₂ (λ r s. agree plain key_columns r key_columns s ≡ true) (sym x.2) (sym y.2) (agreed h f x.0 y.0 y.1 x.1 ∙ like) in
-        let none = all_has (λ r. has_twin rows r ≡ false) rows b alone q in
+        let none = no_twin rows alone b q in
         let level : differ (rowid a) (rowid b) ≡ false = false_from_ne_true (differ (rowid a) (rowid b)) (λ d. let hit = some_from (λ r. agree plain key_columns r key_columns b && differ (rowid r) (rowid b)) rows a p (and_from _ _ one d) in cc (hit, none)) in
         one_number rows a b rising p q (subst₂ (λ v w. value_cmp v w ≡ Equal) (ap rowid (sym x.2)) (ap rowid (sym y.2)) (levels x.0 y.0 (subst₂ (λ v w. differ v w ≡ false) (ap rowid x.2) (ap rowid y.2) level)))
 
@@ -416,7 +416,7 @@ module _ (v : Version) (d : Database) (book : IsOfBook v d) (obeys : IsDatabase 
       let rows = d.trees (tree_of h.table) in
       let links = linked h f rows (filed.numbered h.table old) w (in_range h.table old) in
       let alone = f.alone v (old_in v h.table old) d.trees (subst (λ s. Keeps rule.Unique s d.trees) book.schema_is (obeys.obeys.rules rule.Unique)) in
-      heap_of h f rows links.0 links.1 (filed.rising h.table old) (subst (λ n. AllByRecursion (λ r. has_twin (d.trees n) r ≡ false) (d.trees n)) (heap_tree h f) alone)
+      heap_of h f rows links.0 links.1 (filed.rising h.table old) (subst (λ n. AllByRecursion (λ r. (not (has_twin (d.trees n) r) && true) ≡ true) (d.trees n)) (heap_tree h f) alone)
 
   meta_whole : AllByRecursion (λ r. length r ≡ suc (length schema.meta.columns)) (d.trees (tree_of table.Meta))
   meta_whole = whole_rows schema.meta 0 refl refl refl
@@ -437,7 +437,7 @@ module _ (v : Version) (d : Database) (book : IsOfBook v d) (obeys : IsDatabase 
       let shown = counters_stored (values_in table.Meta row.0) m.0 m.1 in
       record {
         meta = m.0;
-        meta_is = row.1 ∙ ap (λ r. r ∷ []) (meta_form (number_of v) row.0 m.0 whole.0 row.2 (key_null schema.meta (length (drop 1 schema.meta.columns)) row.0 refl whole.0 typed.0) row.3 shown);
+        meta_is = row.1 ∙ ap (λ r. r ∷ []) (meta_form (number_of v) row.0 m.0 whole.0 row.2 (key_null schema.meta (behind_first schema.meta) row.0 refl whole.0 typed.0) row.3 shown);
         meta_good = ap (λ r. is_some (counters_in r)) (sym shown) ∙ good.0;
         groups = ended groups groups_filed tt refl refl;
         stations = described stations stations_filed tt refl filed.whole.0;
@@ -492,23 +492,19 @@ record AreFiled (width : ℕ) (rows : List Row) : Type 0 where
   pub numbered : AllByRecursion (λ r. IsTrue (is_int (rowid r))) rows
   pub whole : AllByRecursion (λ r. length r ≡ width) rows
 
-each_of : {X : Type 0} (P : Row → Type 0) (row : X → Row) → ((x : X) → P (row x)) → (xs : List X) → AllByRecursion P (map row xs)
-each_of P row all [] = tt
-each_of P row all (x ∷ xs) = (all x, each_of P row all xs)
-
 shown_length : (start n : ℕ) (r : Row) → length (cells start n r) ≡ n
 shown_length start zero r = refl
 shown_length start (suc n) r = ap suc (shown_length (suc start) n r)
 
 module _ (db : Trees) (c : Content) (is : Encodes db c) where
   records_filed : {R : Type 0} (d : Description R) (f : Filed d) → AreFiled (suc (suc (behind d))) (db (tree_of d.table))
-  records_filed d f =
+  records_filed {R = R} d f =
       let are = (f.held (relations_of c) db is).0 in
-      let wide = λ x. ap (λ r. length (keyed_row r)) (sym (shows_values d f x) ∙ ap (λ l. column (row_of d x) 0 ∷ l) (shown_cells 2 (behind d) (row_of d x))) ∙ ap (λ n. suc (suc n)) (shown_length 2 (behind d) (row_of d x)) in
+      let wide = λ (x : R). ap (λ r. length (keyed_row r)) (sym (shows_values d f x) ∙ ap (λ l. column (row_of d x) 0 ∷ l) (shown_cells 2 (behind d) (row_of d x))) ∙ ap (λ n. suc (suc n)) (shown_length 2 (behind d) (row_of d x)) in
       subst (λ rows. AreFiled (suc (suc (behind d))) rows) (sym (ap db (sym (tree_is d f)) ∙ are.rows_are)) (record {
         rising = rising_of d.key (row_of d) (λ x. ap rowid (headed d f x)) (d.records (relations_of c)) are.ascending;
-        numbered = each_of (λ r. IsTrue (is_int (rowid r))) (row_of d) (λ x. ap (λ r. is_int (rowid r)) (headed d f x)) (d.records (relations_of c));
-        whole = each_of (λ r. length r ≡ suc (suc (behind d))) (row_of d) wide (d.records (relations_of c));
+        numbered = mapped_all (λ r. IsTrue (is_int (rowid r))) (row_of d) (d.records (relations_of c)) (each (λ x. IsTrue (is_int (rowid (row_of d x)))) (d.records (relations_of c)) (λ x. ap (λ r. is_int (rowid r)) (headed d f x)));
+        whole = mapped_all (λ r. length r ≡ suc (suc (behind d))) (row_of d) (d.records (relations_of c)) (each (λ x. length (row_of d x) ≡ suc (suc (behind d))) (d.records (relations_of c)) wide);
       })
 
   heap_filed : {R : Type 0} (h : Heap R) (f : Heaped h) → AreFiled (suc (suc (suc (behind_both h)))) (db (tree_of h.table))

@@ -101,12 +101,12 @@ fn groups_of(part: &AgentRow, further: &[(AgentId, DeviceId)]) -> Option<Few>
     ensures { IfSome result (λ groups. groups ≡ behind_first part.now.group (groups_beside further.now part.now.agent)) }
 {
     let mut groups = first(part.group);
-    for (agent, group) in further {
-        if *agent == part.agent {
+    for item in further {
+        if item.0 == part.agent {
             if groups.len() >= 8 {
                 return None;
             }
-            groups.push(*group);
+            groups.push(item.1);
         }
     }
     Some(groups)
