@@ -10,10 +10,15 @@ use Rattle.acd_terms.specs.declared.command.Requested.{Requested}
 use Rattle.acd_terms.specs.declared.command.Requested.TheVariants as requested
 use Rattle.acd_terms.specs.declared.command.Command.{Command}
 use Rattle.acd_terms.specs.declared.command.Command.TheVariants.{SetAgentState, SetGroupPriority}
-use Rattle.acd_terms.specs.declared.answer.Refusal.TheVariants.{UnknownDevice, NotGroup}
-use Rattle.acd_model.specs.Scans.{is_group, is_planned}
+use Rattle.acd_terms.specs.declared.answer.Answer.TheVariants as answer
+use Rattle.acd_terms.specs.declared.answer.Refusal.{Refusal}
+use Rattle.acd_terms.specs.declared.answer.Refusal.TheVariants.{UnknownAgent, WrongAgentState, UnknownDevice, NotStation, StationTaken, NotGroup}
+use Rattle.acd_terms.specs.declared.state.AgentState.TheVariants.{NotReady}
+use Rattle.acd_terms.specs.States.{is_null}
+use Rattle.acd_model.specs.Scans.{agent_of, agent_at, is_group, is_station, is_planned}
+use Rattle.acd_model.specs.AgentMoves.{log_on_at}
 use Rattle.acd_model.specs.Moves.{moved}
-use Rattle.acd_model.specs.Served.{Served, refuse_if, if_ok, ◌>>=◌, ◌>>◌, outcome_of, moves_of}
+use Rattle.acd_model.specs.Served.{Served, refuse_if, if_ok, ◌>>=◌, ◌>>◌, gives, outcome_of, moves_of}
 use Rattle.acd_model.specs.Services.{all_groups, log_on, set_agent_state}
 use Rattle.acd_model.specs.Services.Serve.{serve}
 use Rattle.acd_model.specs.Step.{Stepped, step, step_by, executed_moment, next_stamp}
@@ -30,12 +35,78 @@ use Rattle.acd_desk.proofs.Sound.{firsts_own, length-arrivals}
 
 -- a log-on in one group
 
-one_test : (p q : Bool) (rest : Served) → (refuse_if p UnknownDevice >> (refuse_if q NotGroup >> rest)) ≡ ((refuse_if p UnknownDevice >> (refuse_if q NotGroup >> Ok tt)) >> rest)
+abbrev nothing_left : Result (Unit {0}) Refusal
+nothing_left = Ok tt
+
+one_test : (p q : Bool) (rest : Served) → (refuse_if p UnknownDevice >> (refuse_if q NotGroup >> rest)) ≡ ((refuse_if p UnknownDevice >> (refuse_if q NotGroup >> nothing_left)) >> rest)
 unfolding refuse_if if_ok
 one_test true q rest = refl
 one_test false true rest = refl
 one_test false false rest = refl
 
 same_log_on : (s : Rows) (m k agent device group : ℕ) → old_log_on s m k agent device group ≡ log_on s m k agent device (group ∷ [])
-unfolding old_log_on log_on refuse_if
-same_log_on s m k agent device group = ?
+unfolding old_log_on log_on refuse_if if_ok
+same_log_on s m k agent device group = λ i.
+    ok_or (agent_of s agent) UnknownAgent >>= (λ (a : AgentRecord).
+    refuse_if (not (is_null a.state)) WrongAgentState >> (refuse_if (not (is_planned s device)) UnknownDevice >> (refuse_if (not (is_station s device)) NotStation
+    >> (refuse_if (is_some (agent_at s device)) StationTaken
+    >> one_test (not (is_planned s group)) (not (is_group s group)) (gives (answer.State NotReady) (log_on_at m k a device (group ∷ []) ∷ [])) i))))
+
+same_set_agent_state : (s : Rows) (m k agent : ℕ) (q : Requested) → IsOldRequested q → old_set_agent_state s m k agent q ≡ set_agent_state s m k agent q
+same_set_agent_state s m k agent (requested.LoggedOn device []) h = absurd (none h)
+  where
+    none : ◌≡◌ {A = ℕ} 0 1 → ⊥
+    none e = cc (e)
+same_set_agent_state s m k agent (requested.LoggedOn device (g ∷ [])) h = same_log_on s m k agent device g
+same_set_agent_state s m k agent (requested.LoggedOn device (g ∷ f ∷ gs)) h = absurd (more (length gs) h)
+  where
+    more : (n : ℕ) → ◌≡◌ {A = ℕ} (suc (suc n)) 1 → ⊥
+    more n e = omega (arith, e)
+same_set_agent_state s m k agent (requested.State wanted) h = refl
+
+same_serve : (s : Rows) (m k : ℕ) (c : Command) → IsOldCommand c → old_serve s m k c ≡ serve s m k c
+same_serve s m k (SetAgentState agent q) h = same_set_agent_state s m k agent q h
+same_serve s m k (SetGroupPriority device priority) h = absurd h
+same_serve s m k _ h = refl
+
+same_step : (s : Rows) (moment : ℕ) (c : Command) → IsOldCommand c → IsOldState s → old_step s moment c ≡ step s moment c
+unfolding old_step step
+same_step s moment c h o =
+    let m : ℕ = executed_moment s moment in
+    let k : ℕ = next_stamp s in
+    let v : Served = serve s m k c in
+    ap (old_step_at s m k) (same_serve s m k c h)
+    ∙ ap (λ (ms : List Move). step_by s m k (outcome_of v) (moves_of v ++ ms)) (same_distribution (moved s (moves_of v)) m (moved_is_old s (moves_of v) (serve_old s m k c h o) o))
+
+-- runs
+
+abbrev IsOldArrival : Arrival → Type 0
+IsOldArrival a = IsOldCommand a.request.command
+
+same_executed : (c : Content) (a : Arrival) → IsOldArrival a → IsOldState c.rows → old_executed c a ≡ executed c a
+same_executed c a h o =
+    ap (λ (one : Stepped). committed one.rows one.events (kept_at (next_stamp c.rows) (executed_moment c.rows a.moment) a.request one.outcome) c)
+    (same_step c.rows a.moment a.request.command h o)
+
+same_run : (list : List Arrival) (c : Content) → Every IsOldArrival list → IsOldState c.rows → old_run_from c list ≡ run_from c list
+same_run [] c h o = refl
+same_run (a ∷ list) c h o =
+    ap (λ (d : Content). old_run_from d list) (same_executed c a h.0 o) ∙ same_run list (executed c a) h.1 (step_is_old c.rows a.moment a.request.command h.0 o)
+
+arrivals_old : (ks : List Kept) → Every (λ (k : Kept). IsOldCommand k.request.command) ks → Every IsOldArrival (arrivals_of ks)
+arrivals_old [] h = tt
+arrivals_old (k ∷ ks) h = (h.0, arrivals_old ks h.1)
+
+pub old_sound_is_sound : (c : Content) → IsOldSound c → IsSound c
+old_sound_is_sound c sound =
+    let start : Content = empty_content c.rows.limits in
+    let list : List Arrival = arrivals_of c.kept in
+    let size = length-arrivals c.kept in
+    let few : length list ≤ c.rows.limits.requests = omega (arith, size, sound.few) in
+    let own : firsts c.rows.limits.requests list ≡ list = firsts_own c.rows.limits.requests list sound.distinct few in
+    record {
+      fits = sound.fits;
+      distinct = sound.distinct;
+      few = sound.few;
+      replays = sound.replays ∙ ap (old_run_from start) own ∙ same_run list start (arrivals_old c.kept sound.old) (empty_is_old c.rows.limits) ∙ ap (run_from start) (sym own);
+    }

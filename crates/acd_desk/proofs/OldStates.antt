@@ -1,8 +1,8 @@
 -- States in which each agent serves one group at most and no group has a priority; and that the moves of a step over such a
 -- state leave such a state.
-use Rattle.std.proofs.Common.{◌≡◌, ℕ, zero, suc, Bool, true, false, cond, List, [], ◌∷◌, ◌++◌, map, Option, Some, None, refl, subst, length, Err}
+use Rattle.std.proofs.Common.{◌≡◌, ℕ, zero, suc, Bool, true, false, cond, List, [], ◌∷◌, ◌++◌, map, Option, Some, None, refl, length, arith, Err}
 use Rattle.std.specs.Option.{ok_or}
-use Rattle.std.specs.Prelude.{is_some, min, Result, Ok}
+use Rattle.std.specs.Prelude.{Result, Ok}
 use Rattle.acd_terms.specs.Rows.{empty_rows}
 use Rattle.acd_terms.specs.declared.state.AgentState.TheVariants as A
 use Rattle.acd_terms.specs.declared.answer.Refusal.{Refusal}
@@ -14,7 +14,7 @@ use Rattle.acd_model.specs.CallMoves.{arrive}
 use Rattle.acd_model.specs.AgentMoves.{in_state, go_from}
 use Rattle.acd_model.specs.Release.{released, release_of, release_agent, release, ending_of}
 use Rattle.acd_model.specs.Served.{refuse_if, if_ok, ◌>>=◌, ◌>>◌, moves_of}
-use Rattle.acd_model.specs.Services.{add_group, add_station, add_agent, arrive_call, make_call, phone_off_hook, busy_agent, occupy, answer_call, hold_call, retrieve_call, release_other, clearing, clear_connection, deflect_call, single_step_transfer, all_groups, log_on, change_state, set_agent_state, monitor_start, monitor_stop}
+use Rattle.acd_model.specs.Services.{add_group, add_station, add_agent, arrive_call, make_call, phone_off_hook, busy_agent, occupy, answer_call, hold_call, retrieve_call, clear_other, release_other, clear_connection, deflect_call, single_step_transfer, all_groups, log_on, change_state, set_agent_state, monitor_start, monitor_stop}
 use Rattle.acd_model.specs.Services.Serve.{serve}
 use Rattle.acd_model.specs.Distribution.{offer_at, offer_moves, with_offer, offers, distribution, station_of_agent}
 use Rattle.acd_model.specs.Choice.{offer_of}
@@ -174,8 +174,8 @@ tick_old s m k o =
 abbrev Stays_old : Served → Type 0
 Stays_old v = Every IsOldMove (moves_of v)
 
-unless : {b : Bool} (r : Refusal) (rest : Served) → Stays_old rest → Stays_old (refuse_if b r >> rest)
-unless {b} r rest h = by_refusal Stays_old b r rest (λ _. tt) (λ _. h)
+unless : (b : Bool) (r : Refusal) (rest : Served) → Stays_old rest → Stays_old (refuse_if b r >> rest)
+unless b r rest h = by_refusal Stays_old b r rest (λ _. tt) (λ _. h)
 
 with : {T : Type 0} {found : Option T} (r : Refusal) (rest : T → Served) → ((x : T) → found ≡ Some x → Stays_old (rest x)) → Stays_old (ok_or found r >>= rest)
 with {T} {found} r rest h = by_found Stays_old found r rest (λ _. tt) h
@@ -187,39 +187,39 @@ passes (Err r) rest h = tt
 
 add_group_old : (s : Rows) (device : ℕ) (name : List ℕ) (ring wrap : ℕ) → Stays_old (add_group s device name ring wrap)
 unfolding add_group
-add_group_old s device name ring wrap = unless _ _ (unless _ _ (refl, tt))
+add_group_old s device name ring wrap = unless _ _ _ (unless _ _ _ (refl, tt))
 
 add_station_old : (s : Rows) (device : ℕ) → Stays_old (add_station s device)
 unfolding add_station
-add_station_old s device = unless _ _ (unless _ _ (tt, tt))
+add_station_old s device = unless _ _ _ (unless _ _ _ (tt, tt))
 
 add_agent_old : (s : Rows) (m k agent : ℕ) (name : List ℕ) → Stays_old (add_agent s m k agent name)
 unfolding add_agent
-add_agent_old s m k agent name = unless _ _ (unless _ _ (tt, tt))
+add_agent_old s m k agent name = unless _ _ _ (unless _ _ _ (tt, tt))
 
 arrive_call_old : (s : Rows) (m k caller called : ℕ) → Stays_old (arrive_call s m k caller called)
 unfolding arrive_call arrive
-arrive_call_old s m k caller called = unless _ _ (unless _ _ (unless _ _ (tt, (tt, (tt, tt)))))
+arrive_call_old s m k caller called = unless _ _ _ (unless _ _ _ (unless _ _ _ (tt, (tt, (tt, tt)))))
 
 make_call_old : (s : Rows) (m device called : ℕ) → Stays_old (make_call s m device called)
 unfolding make_call
-make_call_old s m device called = unless _ _ (unless _ _ (unless _ _ (unless _ _ (unless _ _ (unless _ _ (tt, (tt, tt)))))))
+make_call_old s m device called = unless _ _ _ (unless _ _ _ (unless _ _ _ (unless _ _ _ (unless _ _ _ (unless _ _ _ (tt, (tt, tt)))))))
 
 phone_off_hook_old : (s : Rows) (m k call device : ℕ) → Stays_old (phone_off_hook s m k call device)
 unfolding phone_off_hook arrive
-phone_off_hook_old s m k call device = with _ _ (λ c _. with _ _ (λ x _. unless _ _ (tt, (tt, tt))))
+phone_off_hook_old s m k call device = with _ _ (λ c _. with _ _ (λ x _. unless _ _ _ (tt, (tt, tt))))
 
 answer_call_old : (s : Rows) (m k call device : ℕ) → IsOldState s → Stays_old (answer_call s m k call device)
 unfolding answer_call
-answer_call_old s m k call device o = with _ _ (λ _ _. with _ _ (λ x _. unless _ _ (tt, (occupy_old s m k x o, tt))))
+answer_call_old s m k call device o = with _ _ (λ _ _. with _ _ (λ x _. unless _ _ _ (tt, (occupy_old s m k x o, tt))))
 
 hold_call_old : (s : Rows) (call device : ℕ) → Stays_old (hold_call s call device)
 unfolding hold_call
-hold_call_old s call device = with _ _ (λ _ _. with _ _ (λ x _. unless _ _ (unless _ _ (tt, tt))))
+hold_call_old s call device = with _ _ (λ _ _. with _ _ (λ x _. unless _ _ _ (unless _ _ _ (tt, tt))))
 
 retrieve_call_old : (s : Rows) (call device : ℕ) → Stays_old (retrieve_call s call device)
 unfolding retrieve_call
-retrieve_call_old s call device = with _ _ (λ _ _. with _ _ (λ x _. unless _ _ (unless _ _ (tt, tt))))
+retrieve_call_old s call device = with _ _ (λ _ _. with _ _ (λ x _. unless _ _ _ (unless _ _ _ (tt, tt))))
 
 clear_other_old : (other : Option ConnectionRecord) → IsOldMove (clear_other other)
 clear_other_old None = tt
@@ -234,17 +234,17 @@ clear_connection_old s m k call device o =
 deflect_call_old : (s : Rows) (m k call device to : ℕ) → IsOldState s → Stays_old (deflect_call s m k call device to)
 unfolding deflect_call arrive
 deflect_call_old s m k call device to o =
-    with _ _ (λ _ _. with _ _ (λ x _. unless _ _ (unless _ _ (unless _ _ (unless _ _ (tt, (tt, (release_old s m k x (ending_of x) o, tt))))))))
+    with _ _ (λ _ _. with _ _ (λ x _. unless _ _ _ (unless _ _ _ (unless _ _ _ (unless _ _ _ (tt, (tt, (release_old s m k x (ending_of x) o, tt))))))))
 
 single_step_transfer_old : (s : Rows) (m k call device to : ℕ) → IsOldState s → Stays_old (single_step_transfer s m k call device to)
 unfolding single_step_transfer arrive
 single_step_transfer_old s m k call device to o =
-    with _ _ (λ _ _. with _ _ (λ x _. unless _ _ (unless _ _ (unless _ _ (unless _ _ (unless _ _ (tt, (tt, (release_old s m k x (ending_of x) o, tt)))))))))
+    with _ _ (λ _ _. with _ _ (λ x _. unless _ _ _ (unless _ _ _ (unless _ _ _ (unless _ _ _ (unless _ _ _ (tt, (tt, (release_old s m k x (ending_of x) o, tt)))))))))
 
 log_on_old : (s : Rows) (m k agent device group : ℕ) → Stays_old (log_on s m k agent device (group ∷ []))
 unfolding log_on
 log_on_old s m k agent device group =
-    with _ _ (λ a _. unless _ _ (unless _ _ (unless _ _ (unless _ _ (passes (all_groups s (group ∷ [])) _ (unless _ _ (tt, tt)))))))
+    with _ _ (λ a _. unless _ _ _ (unless _ _ _ (unless _ _ _ (unless _ _ _ (passes (all_groups s (group ∷ [])) _ (unless _ _ _ (tt, tt)))))))
 
 either_way : (b : Bool) (v w : Served) → Stays_old v → Stays_old w → Stays_old (cond b v w)
 either_way true v w h g = h
@@ -255,23 +255,23 @@ unfolding change_state
 change_state_old s m k agent wanted o =
     with _ _ (λ a e.
     let one : HasOneGroup a = every_among HasOneGroup s.agents a o.agents (agent_among s agent a e) in
-    unless _ _ (either_way (is_occupied s a) _ _ (one, tt) (either_way (is_in a.state wanted) _ _ tt (goes_old m k a a.station (state_wanted wanted) one, tt))))
+    unless _ _ _ (either_way (is_occupied s a) _ _ (one, tt) (either_way (is_in a.state wanted) _ _ tt (goes_old m k a a.station (state_wanted wanted) one, tt))))
 
 set_agent_state_old : (s : Rows) (m k agent : ℕ) (q : Requested) → IsOldRequested q → IsOldState s → Stays_old (set_agent_state s m k agent q)
 set_agent_state_old s m k agent (requested.LoggedOn device []) h o = absurd (none h)
   where
-    none : 0 ≡ 1 → ⊥
+    none : ◌≡◌ {A = ℕ} 0 1 → ⊥
     none e = cc (e)
 set_agent_state_old s m k agent (requested.LoggedOn device (g ∷ [])) h o = log_on_old s m k agent device g
 set_agent_state_old s m k agent (requested.LoggedOn device (g ∷ f ∷ gs)) h o = absurd (more (length gs) h)
   where
-    more : (n : ℕ) → suc (suc n) ≡ 1 → ⊥
+    more : (n : ℕ) → ◌≡◌ {A = ℕ} (suc (suc n)) 1 → ⊥
     more n e = omega (arith, e)
 set_agent_state_old s m k agent (requested.State wanted) h o = change_state_old s m k agent wanted o
 
 monitor_start_old : (s : Rows) (device : ℕ) → Stays_old (monitor_start s device)
 unfolding monitor_start
-monitor_start_old s device = unless _ _ (unless _ _ (tt, tt))
+monitor_start_old s device = unless _ _ _ (unless _ _ _ (tt, tt))
 
 monitor_stop_old : (s : Rows) (monitor : ℕ) → Stays_old (monitor_stop s monitor)
 unfolding monitor_stop

@@ -106,9 +106,9 @@ group_put_found s g d = found_put by_group s.groups g d
 -- a planned group's record is put: the groups are planned that were
 pub group_kept : (s : Rows) (g : GroupRecord) → is_group s g.device ≡ true → (d : ℕ) → is_group (with_group s g) d ≡ is_group s d
 group_kept s g planned d = group_put s g d ∙ (elim (g.device == d) as (λ b. (g.device == d) ≡ b → (b || is_group s d) ≡ is_group s d) [
-      | true ↦ λ e. sym (subst (λ v. is_group s v ≡ true) (eqb-true g.device d e) planned)
-      | false ↦ λ e. refl
-    ]) refl
+  | true ↦ λ e. sym (subst (λ v. is_group s v ≡ true) (eqb-true g.device d e) planned)
+  | false ↦ λ e. refl
+]) refl
 
 pub group_found_put : (d : ℕ) (g : GroupRecord) (gs : List GroupRecord) → find_by (at_group d) (put_by (at_group g.device) gs g) ≡ cond (g.device == d) (Some g) (find_by (at_group d) gs)
 group_found_put d g gs = found_put by_group gs g d

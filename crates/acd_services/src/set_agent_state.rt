@@ -7,12 +7,12 @@ ghost use Rattle.acd_model.specs.Services.SetAgentState.{all_groups, log_on, go_
 use crate::agent_moves::{go_from, log_on_at, wait_for};
 use acd_model::{Moves, Served, gives, refuse_if};
 use acd_tables::Tables;
-use acd_terms::Refusal;
 use acd_terms::Refusal::{
     NotGroup, NotStation, StationTaken, UnknownAgent, UnknownDevice, WrongAgentState,
 };
 use acd_terms::{
-    AgentId, AgentRecord, AgentState, Answer, DeviceId, Pending, Requested, SomeGroups, Turn,
+    AgentId, AgentRecord, AgentState, Answer, DeviceId, Pending, Refusal, Requested, SomeGroups,
+    Turn,
 };
 
 // The agent is in the state that is wanted for.
@@ -42,13 +42,7 @@ fn all_groups(tables: &Tables, groups: &[DeviceId]) -> Result<(), Refusal>
 
 // An agent in null logs on at a station, in some groups.
 #[tactic(auto, unfolding(acd_model::specs::Services::SetAgentState::log_on, acd_model::specs::Served::if_ok, acd_model::specs::Served::refuse_if))]
-fn log_on(
-    tables: &Tables,
-    at: Turn,
-    agent: AgentId,
-    device: DeviceId,
-    groups: SomeGroups,
-) -> Served
+fn log_on(tables: &Tables, at: Turn, agent: AgentId, device: DeviceId, groups: SomeGroups) -> Served
     ensures { result ≡ log_on tables.now at.moment at.stamp agent device groups }
 {
     let agent = tables.agent(agent).ok_or(UnknownAgent)?;

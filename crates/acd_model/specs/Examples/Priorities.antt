@@ -60,6 +60,6 @@ EqualPriorities =
 abbrev pub PriorityChanged : Type 0
 PriorityChanged =
     let r = run_after (two_groups ++ at 0 (SetGroupPriority claims 5) ∷ at 0 (SetGroupPriority billing 2) ∷ [])
-        (at 5 (ArriveCall caller billing) ∷ at 6 (ArriveCall second_caller claims) ∷ at 7 (SetGroupPriority claims 1)
-        ∷ at 15 (SetAgentState ana (LoggedOn first_station (billing ∷ claims ∷ []))) ∷ asks_for 18 ana pending.Ready ∷ []) in
+    (at 5 (ArriveCall caller billing) ∷ at 6 (ArriveCall second_caller claims) ∷ at 7 (SetGroupPriority claims 1)
+    ∷ at 15 (SetAgentState ana (LoggedOn first_station (billing ∷ claims ∷ []))) ∷ asks_for 18 ana pending.Ready ∷ []) in
     (connection_of r.rows 1 first_station ≡ Some (ringing_from billing 1 first_station 9 5 18))
