@@ -56,7 +56,7 @@ kept_each_back (k ∷ ks) h = rw (kept_back k h.0) (ap (λ l. k ∷ l) (kept_eac
 -- ---- rows with numbers of their own
 
 -- of an ascending list, two that compare as equal are one
-one_of : {X : Type 0} (cmp : X → X → Ordering) (o : IsTotalOrder cmp) (xs : List X) (x y : X) → IsAscending cmp xs → Among x xs → Among y xs → cmp x y ≡ Equal → x ≡ y
+pub one_of : {X : Type 0} (cmp : X → X → Ordering) (o : IsTotalOrder cmp) (xs : List X) (x y : X) → IsAscending cmp xs → Among x xs → Among y xs → cmp x y ≡ Equal → x ≡ y
 one_of cmp o [] x y up a b e = absurd a
 one_of cmp o (z ∷ zs) x y up (inl p) (inl q) e = p ∙ sym q
 one_of cmp o (z ∷ zs) x y up (inl p) (inr b) e = absurd (let low : cmp x y ≡ Less = subst (λ k. cmp k y ≡ Less) (sym p) (after_among cmp z zs y up.0 b) in cc (low, e))

@@ -24,18 +24,18 @@ use Rattle.acd_columns.specs.Relations.{pair_order, group_part, agent_part, furt
 pub apart : (m n : ℕ) → nat_cmp m n ≡ Less → (n == m) ≡ false
 apart m n e = sym (key_is m n) ∙ ap is_eq e
 
-apart_back : (m n : ℕ) → nat_cmp m n ≡ Less → (m == n) ≡ false
+pub apart_back : (m n : ℕ) → nat_cmp m n ≡ Less → (m == n) ≡ false
 apart_back m n e = false_from_ne_true (m == n) (λ h. let other = apart m n e in let is = eq-eqb n m (sym (eqb-true m n h)) in cc (other, is))
 
 -- ---- the pairs of one agent
 
-abbrev of_agent : ℕ → ℕ × ℕ → Bool
+abbrev pub of_agent : ℕ → ℕ × ℕ → Bool
 of_agent n p = p.0 == n
 
-abbrev not_of : ℕ → ℕ × ℕ → Bool
+abbrev pub not_of : ℕ → ℕ × ℕ → Bool
 not_of n p = not (p.0 == n)
 
-abbrev pairs_of : ℕ → List ℕ → List (ℕ × ℕ)
+abbrev pub pairs_of : ℕ → List ℕ → List (ℕ × ℕ)
 pairs_of n gs = map (λ (g : ℕ). (n, g)) gs
 
 own_pairs : (n : ℕ) (gs : List ℕ) → filter (of_agent n) (pairs_of n gs) ≡ pairs_of n gs

@@ -8,6 +8,7 @@ pub mod Endings
 pub mod Queries
 pub mod Heaps
 pub mod Joined
+pub mod Rejoined
 pub mod Heaped
 pub mod Connections
 pub mod AgentGroups

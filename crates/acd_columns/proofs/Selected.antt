@@ -1,5 +1,5 @@
 -- What the query of a table finds, and what it tells of a table whose rows may hold anything.
-use Rattle.std.proofs.Common.{◌≡◌, ◌&&◌, ◌||◌, ℕ, not, List, [], ◌∷◌, map, Bool, true, false, Result, Ok, Err, IfOk, OnOk, IsTrue, refl, sym, ap, subst, ◌∙◌}
+use Rattle.std.proofs.Common.{◌≡◌, ◌&&◌, ◌||◌, ℕ, not, List, [], ◌∷◌, map, Bool, true, false, Result, Ok, Err, IfOk, OnOk, IsTrue, Some, refl, sym, ap, ap₂, subst, ◌∙◌}
 use Rattle.std.specs.Prelude.{Vec, IsPermutation}
 use Rattle.std.specs.List.{list_any}
 use Rattle.std.specs.declared.alloc.Global.{Global}
@@ -75,3 +75,26 @@ module _ {R : Type 0} (d : Description R) (f : Filed d) where
       → Sees b old new (Ok rows) (λ rows. IsPermutation (rows_in d.table b.trees) rows.items) → Sees b old new r (λ good. TellsGood d.table b.trees good)
   told b old new rows (Ok good) is h = all_told d.table b old new rows (Ok good) (is ∙ alike rows.items) h
   told b old new rows (Err e) is h = all_told d.table b old new rows (Err e) tt h
+
+-- ---- records that are read of rows
+
+head_of : {X : Type 0} (x y : X) (xs ys : List X) → x ∷ xs ≡ y ∷ ys → x ≡ y
+head_of x y xs ys e = cc
+
+tail_of : {X : Type 0} (x y : X) (xs ys : List X) → x ∷ xs ≡ y ∷ ys → xs ≡ ys
+tail_of x y xs ys e = cc
+
+module _ {R : Type 0} (d : Description R) (f : Filed d) where
+  values_read : (rows : List Row) (found : List R) → map Some found ≡ map d.in_row rows → rows ≡ map d.values found
+  values_read [] [] e = refl
+  values_read [] (x ∷ found) e = absurd (cc e)
+  values_read (row ∷ rows) [] e = absurd (cc e)
+  values_read (row ∷ rows) (x ∷ found) e = ap₂ (λ r rs. r ∷ rs) (f.stored row x (sym (head_of (Some x) (d.in_row row) (map Some found) (map d.in_row rows) e))).0 (values_read rows found (tail_of (Some x) (d.in_row row) (map Some found) (map d.in_row rows) e))
+
+  pub seen_records : (b : Database) (old new : State) (rows : Vec Row Global) (r : Result (Vec R Global) Error) → IfOk r (λ found. map Some found.items ≡ map d.in_row rows.items)
+      → Sees b old new (Ok rows) (λ rows. IsPermutation (rows_in d.table b.trees) rows.items) → Sees b old new r (λ found. IsPermutation (rows_in d.table b.trees) (map d.values found.items))
+  seen_records b old new rows (Ok found) read h =
+      sees_on b old new rows (λ rows. IsPermutation (rows_in d.table b.trees) rows.items) (λ found. IsPermutation (rows_in d.table b.trees) (map d.values found.items)) (Ok found) h
+      (λ had same. subst (IsPermutation (rows_in d.table b.trees)) (values_read rows.items found.items read) same)
+  seen_records b old new rows (Err e) read h =
+      sees_on b old new rows (λ rows. IsPermutation (rows_in d.table b.trees) rows.items) (λ found. IsPermutation (rows_in d.table b.trees) (map d.values found.items)) (Err e) h (λ had same. tt)

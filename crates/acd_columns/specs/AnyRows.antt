@@ -15,7 +15,10 @@ use Rattle.acd_columns.specs.declared.tables.Log.{Log}
 use Rattle.acd_columns.specs.declared.tables.Log.TheVariants as log
 use Rattle.acd_columns.specs.declared.tables.Version.{Version}
 use Rattle.acd_columns.specs.declared.tables.Version.TheVariants as version
+use Rattle.sqlite.specs.Effect.{Database}
 use Rattle.acd_columns.specs.Content.{tree_of, IsIn}
+use Rattle.acd_columns.specs.Decoding.{as_group, as_priority, as_agent, as_further}
+use Rattle.acd_columns.specs.Relations.{are_behind, are_of_groups}
 use Rattle.acd_columns.specs.Values.{id_value, cells}
 use Rattle.acd_columns.specs.Schema.{Layout, behind_first, nine, Begins, old_schema, book_schema}
 use Rattle.acd_columns.specs.Schema as schema
@@ -72,23 +75,32 @@ rows_in t db = map (values_in t) (db (tree_of t))
 unfoldable pub is_good_in : Table → Trees → Bool
 is_good_in t db = are_good t (rows_in t db)
 
+-- each further group is behind the first one of its agent, who has seven at most
+unfoldable pub is_beside : Trees → Bool
+is_beside db = are_behind (map as_agent (rows_in table.Agents db)) (map as_further (rows_in table.AgentGroups db))
+
+-- each priority is of a group
+unfoldable pub is_ranked : Trees → Bool
+is_ranked db = are_of_groups (map as_group (rows_in table.Groups db)) (map as_priority (rows_in table.GroupPriority db))
+
 -- Each row has its number, and a value for each column. One from before a column was added may lack the last ones, where these may hold NULL.
-abbrev pub HaveAllColumns : Trees → Type 0
-HaveAllColumns db =
+abbrev pub HaveAllColumns : Version → Trees → Type 0
+HaveAllColumns v db =
     AllByRecursion (λ r. length r ≡ suc (length schema.stations.columns)) (db (tree_of table.Stations))
     × AllByRecursion (λ r. length r ≡ suc (length schema.connections.columns)) (db (tree_of table.Connections))
     × AllByRecursion (λ r. length r ≡ suc (length schema.events.columns)) (db (tree_of table.Events))
+    × (IsIn v table.AgentGroups → AllByRecursion (λ r. length r ≡ suc (length schema.agent_groups.columns)) (db (tree_of table.AgentGroups)))
 
--- as a store keeps the rows of the nine tables: they have integers as numbers, which rise
-pub record IsFiled (db : Trees) : Type 0 where
-  pub rising : (t : Table) → IsIn version.First t → IsTable (db (tree_of t))
-  pub numbered : (t : Table) → IsIn version.First t → AllByRecursion (λ r. IsTrue (is_int (rowid r))) (db (tree_of t))
-  pub whole : HaveAllColumns db
+-- as a store keeps the rows of a version's tables: they have integers as numbers, which rise
+pub record IsFiledAs (v : Version) (db : Trees) : Type 0 where
+  pub rising : (t : Table) → IsIn v t → IsTable (db (tree_of t))
+  pub numbered : (t : Table) → IsIn v t → AllByRecursion (λ r. IsTrue (is_int (rowid r))) (db (tree_of t))
+  pub whole : HaveAllColumns v db
 
 -- a bad one is there; and where the rows are filed it is told whether there is one
 pub record TellsGood (t : Table) (db : Trees) (good : Bool) : Type 0 where
   pub bad : good ≡ false → is_good_in t db ≡ false
-  pub filed : IsFiled db → good ≡ is_good_in t db
+  pub filed : IsFiledAs version.First db → good ≡ is_good_in t db
 
 -- ---- the tables that are read in pages
 
@@ -129,6 +141,10 @@ pub record IsPageRows (l : Log) (n limit : ℕ) (db : Trees) (rows : List Row) :
 abbrev pub schema_of : Version → Schema
 schema_of version.First = old_schema
 schema_of version.Second = book_schema
+
+-- of a database with the tables of a version
+abbrev pub IsFiled : Database → Type 0
+IsFiled d = (v : Version) → d.schema ≡ schema_of v → IsFiledAs v d.trees
 
 -- the table is there as a book has it: each of the nine in either version
 abbrev pub Covers : Schema → Table → Type 0

@@ -1,5 +1,6 @@
 -- What the tables hold, and what they hold of a content.
-use Rattle.std.specs.Prelude.{ℕ, ◌==◌, List, [], ◌∷◌, ◌++◌, map, filter, not, Option, None, Some, if◌then◌else◌}
+use Rattle.std.specs.Prelude.{ℕ, ◌==◌, List, [], ◌∷◌, ◌++◌, map, filter, not, length, nat_lt, nat_le, Bool, false, ◌&&◌, Option, None, Some, if◌then◌else◌}
+use Rattle.std.specs.List.{list_any, list_all}
 use Rattle.std.specs.Ordering.{nat_cmp, ordering_then}
 use Rattle.std.specs.declared.cmp.Ordering.{Ordering}
 use Rattle.acd_terms.specs.Lists.{put_by, remove_by}
@@ -149,6 +150,17 @@ priority_of (p ∷ ps) device = if p.device == device then p.priority else prior
 abbrev pub joined_group : List GroupPriority → GroupRow → GroupRecord
 joined_group priorities g = with_priority (priority_of priorities g.device) g
 
+-- ---- what stands beside rows that it belongs to
+
+-- a number behind that of the first group
+abbrev pub is_above : Option ℕ → ℕ → Bool
+is_above None group = false
+is_above (Some first) group = nat_lt first group
+
+-- the pair is of the agent, and its group is behind the agent's first one
+abbrev pub is_behind : AgentRow → ℕ × ℕ → Bool
+is_behind a p = a.agent == p.0 && is_above a.group p.1
+
 -- the groups that stand beside the agent
 abbrev pub groups_beside : List (ℕ × ℕ) → ℕ → List ℕ
 groups_beside further agent = map (λ (p : ℕ × ℕ). p.1) (filter (λ (p : ℕ × ℕ). p.0 == agent) further)
@@ -156,6 +168,16 @@ groups_beside further agent = map (λ (p : ℕ × ℕ). p.1) (filter (λ (p : �
 abbrev pub behind_first : Option ℕ → List ℕ → List ℕ
 behind_first None further = further
 behind_first (Some group) further = group ∷ further
+
+-- each pair is of an agent, behind its first group, and no agent has more than seven
+abbrev pub are_behind : List AgentRow → List (ℕ × ℕ) → Bool
+are_behind agents pairs =
+    list_all (λ (p : ℕ × ℕ). list_any (λ (a : AgentRow). is_behind a p) agents) pairs
+    && list_all (λ (a : AgentRow). nat_le (length (groups_beside pairs a.agent)) 7) agents
+
+-- each priority is of a group
+abbrev pub are_of_groups : List GroupRow → List GroupPriority → Bool
+are_of_groups groups priorities = list_all (λ (p : GroupPriority). list_any (λ (g : GroupRow). g.device == p.device) groups) priorities
 
 abbrev pub joined_agent : List (ℕ × ℕ) → AgentRow → AgentRecord
 joined_agent further a = with_groups (behind_first a.group (groups_beside further a.agent)) a

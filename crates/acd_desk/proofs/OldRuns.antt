@@ -1,5 +1,6 @@
--- A content that was sound is sound: from a state of then a request of then is executed as it was, and leaves such a state.
-use Rattle.std.proofs.Common.{◌≡◌, ℕ, ◌≤◌, suc, Bool, true, false, not, ◌||◌, List, [], ◌∷◌, ◌++◌, length, refl, sym, ◌∙◌, ap, arith, Err}
+-- A content that was sound is sound: where each agent serves one group at most and no group has a priority, a request that
+-- could be made then is executed as it was.
+use Rattle.std.proofs.Common.{◌≡◌, ℕ, ◌≤◌, Bool, true, false, not, List, [], ◌∷◌, ◌++◌, length, refl, sym, subst, ◌∙◌, ap, arith}
 use Rattle.std.specs.Option.{ok_or}
 use Rattle.std.specs.Prelude.{is_some, Result, Ok}
 use Rattle.acd_terms.specs.Lists.{Every}
@@ -16,10 +17,9 @@ use Rattle.acd_terms.specs.declared.answer.Refusal.TheVariants.{UnknownAgent, Wr
 use Rattle.acd_terms.specs.declared.state.AgentState.TheVariants.{NotReady}
 use Rattle.acd_terms.specs.States.{is_null}
 use Rattle.acd_model.specs.Scans.{agent_of, agent_at, is_group, is_station, is_planned}
-use Rattle.acd_model.specs.AgentMoves.{log_on_at}
 use Rattle.acd_model.specs.Moves.{moved}
 use Rattle.acd_model.specs.Served.{Served, refuse_if, if_ok, ◌>>=◌, ◌>>◌, gives, outcome_of, moves_of}
-use Rattle.acd_model.specs.Services.{all_groups, log_on, set_agent_state}
+use Rattle.acd_model.specs.Services.{log_on, set_agent_state}
 use Rattle.acd_model.specs.Services.Serve.{serve}
 use Rattle.acd_model.specs.Step.{Stepped, step, step_by, executed_moment, next_stamp}
 use Rattle.acd_model.specs.declared.moves.Move.{Move}
@@ -27,18 +27,18 @@ use Rattle.acd_book.specs.declared.kept.Kept.{Kept}
 use Rattle.acd_book.specs.Content.{Content, empty_content, committed}
 use Rattle.acd_desk.specs.Firsts.{firsts, kept_at, executed, run_from}
 use Rattle.acd_desk.specs.Stands.{arrivals_of, IsSound}
-use Rattle.acd_desk.specs.OldStep.{old_log_on, old_set_agent_state, old_serve, old_step_at, old_step}
+use Rattle.acd_desk.specs.OldStep.{old_log_on_at, old_log_on, old_set_agent_state, old_serve, old_step_at, old_step}
 use Rattle.acd_desk.specs.OldSound.{old_executed, old_run_from, IsOldRequested, IsOldCommand, IsOldSound}
-use Rattle.acd_desk.proofs.OldStates.{IsOldState, empty_is_old, moved_is_old, serve_old, step_is_old}
+use Rattle.acd_desk.proofs.OldStates.{just_one, IsOldState, empty_is_old, moved_is_old, serve_old, step_is_old}
 use Rattle.acd_desk.proofs.OldOffers.{same_distribution}
 use Rattle.acd_desk.proofs.Sound.{firsts_own, length-arrivals}
 
 -- a log-on in one group
 
-abbrev nothing_left : Result (Unit {0}) Refusal
-nothing_left = Ok tt
+abbrev passed : Result (Unit {0}) Refusal
+passed = Ok tt
 
-one_test : (p q : Bool) (rest : Served) → (refuse_if p UnknownDevice >> (refuse_if q NotGroup >> rest)) ≡ ((refuse_if p UnknownDevice >> (refuse_if q NotGroup >> nothing_left)) >> rest)
+one_test : (p q : Bool) (rest : Served) → (refuse_if p UnknownDevice >> (refuse_if q NotGroup >> rest)) ≡ ((refuse_if p UnknownDevice >> (refuse_if q NotGroup >> passed)) >> rest)
 unfolding refuse_if if_ok
 one_test true q rest = refl
 one_test false true rest = refl
@@ -50,18 +50,12 @@ same_log_on s m k agent device group = λ i.
     ok_or (agent_of s agent) UnknownAgent >>= (λ (a : AgentRecord).
     refuse_if (not (is_null a.state)) WrongAgentState >> (refuse_if (not (is_planned s device)) UnknownDevice >> (refuse_if (not (is_station s device)) NotStation
     >> (refuse_if (is_some (agent_at s device)) StationTaken
-    >> one_test (not (is_planned s group)) (not (is_group s group)) (gives (answer.State NotReady) (log_on_at m k a device (group ∷ []) ∷ [])) i))))
+    >> one_test (not (is_planned s group)) (not (is_group s group)) (gives (answer.State NotReady) (old_log_on_at m k a device group ∷ [])) i))))
 
 same_set_agent_state : (s : Rows) (m k agent : ℕ) (q : Requested) → IsOldRequested q → old_set_agent_state s m k agent q ≡ set_agent_state s m k agent q
-same_set_agent_state s m k agent (requested.LoggedOn device []) h = absurd (none h)
-  where
-    none : ◌≡◌ {A = ℕ} 0 1 → ⊥
-    none e = cc (e)
-same_set_agent_state s m k agent (requested.LoggedOn device (g ∷ [])) h = same_log_on s m k agent device g
-same_set_agent_state s m k agent (requested.LoggedOn device (g ∷ f ∷ gs)) h = absurd (more (length gs) h)
-  where
-    more : (n : ℕ) → ◌≡◌ {A = ℕ} (suc (suc n)) 1 → ⊥
-    more n e = omega (arith, e)
+same_set_agent_state s m k agent (requested.LoggedOn device groups) h =
+    let one = just_one groups h in
+    subst (λ (gs : List ℕ). old_set_agent_state s m k agent (requested.LoggedOn device gs) ≡ log_on s m k agent device gs) (sym one.1) (same_log_on s m k agent device one.0)
 same_set_agent_state s m k agent (requested.State wanted) h = refl
 
 same_serve : (s : Rows) (m k : ℕ) (c : Command) → IsOldCommand c → old_serve s m k c ≡ serve s m k c

@@ -1,6 +1,6 @@
 -- States in which each agent serves one group at most and no group has a priority; and that the moves of a step over such a
 -- state leave such a state.
-use Rattle.std.proofs.Common.{◌≡◌, ℕ, zero, suc, Bool, true, false, cond, List, [], ◌∷◌, ◌++◌, map, Option, Some, None, refl, length, arith, Err}
+use Rattle.std.proofs.Common.{◌≡◌, ℕ, zero, suc, Bool, true, false, cond, List, [], ◌∷◌, ◌++◌, map, Option, Some, None, refl, sym, subst, length, arith, Err}
 use Rattle.std.specs.Option.{ok_or}
 use Rattle.std.specs.Prelude.{Result, Ok}
 use Rattle.acd_terms.specs.Rows.{empty_rows}
@@ -18,23 +18,34 @@ use Rattle.acd_model.specs.Services.{add_group, add_station, add_agent, arrive_c
 use Rattle.acd_model.specs.Services.Serve.{serve}
 use Rattle.acd_model.specs.Distribution.{offer_at, offer_moves, with_offer, offers, distribution, station_of_agent}
 use Rattle.acd_model.specs.Choice.{offer_of}
-use Rattle.acd_model.specs.Tick.{return_to, return_moves, is_rested, rested_in, rest_moves, each, returns, rests, tick}
+use Rattle.acd_model.specs.Tick.{return_to, return_moves, overdue_in, is_rested, rested_in, rest_moves, each, returns, rests, tick}
 use Rattle.acd_model.specs.Step.{step, step_moves, executed_moment, next_stamp}
 use Rattle.acd_model.specs.declared.moves.Ending.TheVariants.{NoAnswer}
 use Rattle.acd_model.specs.declared.moves.Change.TheVariants.{PutGroup, PutAgent}
 use Rattle.acd_model.specs.declared.moves.Release.TheVariants.{Stays, Goes}
 use Rattle.acd_laws.proofs.Words.{Rows, Limits, GroupRecord, AgentRecord, ConnectionRecord, AgentState, Pending, Change, Command, Ending, Event, Move, Offer, Release, Requested, Served, Every, at_group, at_agent, has, agent_of, connection_of, agent_at, is_distributed, is_occupied, other_of, with_group, with_station, with_agent, with_call, with_connection, with_monitor, without_call, without_connection, without_monitor, with_last, changed, moved, events_of, group_order, is_in, state_wanted}
 use Rattle.acd_laws.proofs.Lists.{every_among, every_from, every-append, every-put, filter_among, find_among, ascending-put}
-use Rattle.acd_laws.proofs.Keyed.{Keyed, by_number}
 use Rattle.acd_laws.proofs.Ended.{ascending_counting}
 use Rattle.acd_laws.proofs.Deeds.{by_refusal, by_found}
-use Rattle.acd_laws.proofs.State.{agent_among}
+use Rattle.acd_laws.proofs.State.{groups_total, agent_among}
 use Rattle.acd_desk.specs.OldSound.{IsOldRequested, IsOldCommand}
 
 abbrev pub IsOneAtMost : List ℕ → Type 0
 IsOneAtMost [] = Unit {0}
 IsOneAtMost (g ∷ []) = Unit {0}
 IsOneAtMost (g ∷ h ∷ gs) = ⊥
+
+-- the one of a list of one
+pub just_one : (gs : List ℕ) → length gs ≡ 1 → (g : ℕ) × (gs ≡ g ∷ [])
+just_one [] e = absurd (none e)
+  where
+    none : ◌≡◌ {A = ℕ} 0 1 → ⊥
+    none e = cc (e)
+just_one (g ∷ []) e = (g, refl)
+just_one (g ∷ f ∷ gs) e = absurd (more (length gs) e)
+  where
+    more : (n : ℕ) → ◌≡◌ {A = ℕ} (suc (suc n)) 1 → ⊥
+    more n e = omega (arith, e)
 
 -- the agent serves one group at most
 abbrev pub HasOneGroup : AgentRecord → Type 0
@@ -66,7 +77,7 @@ unfolding with_group with_station with_agent with_call with_connection with_moni
 changed_is_old s (PutGroup g) h o = record {
   agents = o.agents;
   groups = every-put (at_group g.device) HasNoPriority g h s.groups o.groups;
-  ascend = ascending-put group_order (by_number (λ (x : GroupRecord). x.device)).total g s.groups o.ascend;
+  ascend = ascending-put group_order groups_total g s.groups o.ascend;
 }
 changed_is_old s (PutAgent a) h o = record { agents = every-put (at_agent a.agent) HasOneGroup a h s.agents o.agents; groups = o.groups; ascend = o.ascend }
 changed_is_old s _ h o = record { agents = o.agents; groups = o.groups; ascend = o.ascend }
@@ -85,9 +96,9 @@ goes_old : (m k : ℕ) (a : AgentRecord) (station : Option ℕ) (state : AgentSt
 goes_old m k a None state h = tt
 goes_old m k a (Some d) state h = in_state_old state m k a h
 
-either_old : (b : Bool) (x y : Move) → IsOldMove x → IsOldMove y → IsOldMove (cond b x y)
-either_old true x y h g = h
-either_old false x y h g = g
+either : {T : Type 0} (P : T → Type 0) (b : Bool) (x y : T) → P x → P y → P (cond b x y)
+either P true x y h g = h
+either P false x y h g = g
 
 -- the agent at a station
 there_old : (s : Rows) (d : ℕ) → IsOldState s → (a : AgentRecord) → agent_at s d ≡ Some a → HasOneGroup a
@@ -104,7 +115,7 @@ releases_agent m k d (Some a) how h = released_old m k a d (release_of how a.pen
 
 release_old : (s : Rows) (m k : ℕ) (x : ConnectionRecord) (how : Ending) → IsOldState s → IsOldMove (release s m k x how)
 unfolding release
-release_old s m k x how o = either_old (is_distributed x) _ _ (releases_agent m k x.device (agent_at s x.device) how (there_old s x.device o)) tt
+release_old s m k x how o = either IsOldMove (is_distributed x) _ _ (releases_agent m k x.device (agent_at s x.device) how (there_old s x.device o)) tt
 
 busy_old : (m k d : ℕ) (found : Option AgentRecord) → ((a : AgentRecord) → found ≡ Some a → HasOneGroup a) → IsOldMove (busy_agent m k found d)
 busy_old m k d None h = tt
@@ -112,7 +123,7 @@ busy_old m k d (Some a) h = h a refl
 
 occupy_old : (s : Rows) (m k : ℕ) (x : ConnectionRecord) → IsOldState s → IsOldMove (occupy s m k x)
 unfolding occupy
-occupy_old s m k x o = either_old (is_distributed x) _ _ (busy_old m k x.device (agent_at s x.device) (there_old s x.device o)) tt
+occupy_old s m k x o = either IsOldMove (is_distributed x) _ _ (busy_old m k x.device (agent_at s x.device) (there_old s x.device o)) tt
 
 release_other_old : (s : Rows) (m k : ℕ) (other : Option ConnectionRecord) → IsOldState s → IsOldMove (release_other s m k other)
 release_other_old s m k None o = tt
@@ -165,59 +176,59 @@ rested_old s m o = every_from HasOneGroup (rested_in s m) (λ a i. every_among H
 tick_old : (s : Rows) (m k : ℕ) → IsOldState s → Every IsOldMove (tick s m k)
 unfolding tick returns rests
 tick_old s m k o =
-    let back = returns_old m k s _ o in
+    let back = returns_old m k s (overdue_in s m) o in
     let t : Rows = moved s (returns s m k) in
     every-append IsOldMove (returns s m k) (rests t m k) back (rests_old m k t (rested_in t m) (rested_old t m (moved_is_old s (returns s m k) back o)))
 
 -- the walk over refusals
 
-abbrev Stays_old : Served → Type 0
-Stays_old v = Every IsOldMove (moves_of v)
+abbrev IsOldServed : Served → Type 0
+IsOldServed v = Every IsOldMove (moves_of v)
 
-unless : (b : Bool) (r : Refusal) (rest : Served) → Stays_old rest → Stays_old (refuse_if b r >> rest)
-unless b r rest h = by_refusal Stays_old b r rest (λ _. tt) (λ _. h)
+unless : (b : Bool) (r : Refusal) (rest : Served) → IsOldServed rest → IsOldServed (refuse_if b r >> rest)
+unless b r rest h = by_refusal IsOldServed b r rest (λ _. tt) (λ _. h)
 
-with : {T : Type 0} {found : Option T} (r : Refusal) (rest : T → Served) → ((x : T) → found ≡ Some x → Stays_old (rest x)) → Stays_old (ok_or found r >>= rest)
-with {T} {found} r rest h = by_found Stays_old found r rest (λ _. tt) h
+with : {T : Type 0} {found : Option T} (r : Refusal) (rest : T → Served) → ((x : T) → found ≡ Some x → IsOldServed (rest x)) → IsOldServed (ok_or found r >>= rest)
+with {T} {found} r rest h = by_found IsOldServed found r rest (λ _. tt) h
 
-passes : (v : Result (Unit {0}) Refusal) (rest : Served) → Stays_old rest → Stays_old (v >> rest)
+passes : (v : Result (Unit {0}) Refusal) (rest : Served) → IsOldServed rest → IsOldServed (v >> rest)
 unfolding if_ok
 passes (Ok u) rest h = h
 passes (Err r) rest h = tt
 
-add_group_old : (s : Rows) (device : ℕ) (name : List ℕ) (ring wrap : ℕ) → Stays_old (add_group s device name ring wrap)
+add_group_old : (s : Rows) (device : ℕ) (name : List ℕ) (ring wrap : ℕ) → IsOldServed (add_group s device name ring wrap)
 unfolding add_group
 add_group_old s device name ring wrap = unless _ _ _ (unless _ _ _ (refl, tt))
 
-add_station_old : (s : Rows) (device : ℕ) → Stays_old (add_station s device)
+add_station_old : (s : Rows) (device : ℕ) → IsOldServed (add_station s device)
 unfolding add_station
 add_station_old s device = unless _ _ _ (unless _ _ _ (tt, tt))
 
-add_agent_old : (s : Rows) (m k agent : ℕ) (name : List ℕ) → Stays_old (add_agent s m k agent name)
+add_agent_old : (s : Rows) (m k agent : ℕ) (name : List ℕ) → IsOldServed (add_agent s m k agent name)
 unfolding add_agent
 add_agent_old s m k agent name = unless _ _ _ (unless _ _ _ (tt, tt))
 
-arrive_call_old : (s : Rows) (m k caller called : ℕ) → Stays_old (arrive_call s m k caller called)
+arrive_call_old : (s : Rows) (m k caller called : ℕ) → IsOldServed (arrive_call s m k caller called)
 unfolding arrive_call arrive
 arrive_call_old s m k caller called = unless _ _ _ (unless _ _ _ (unless _ _ _ (tt, (tt, (tt, tt)))))
 
-make_call_old : (s : Rows) (m device called : ℕ) → Stays_old (make_call s m device called)
+make_call_old : (s : Rows) (m device called : ℕ) → IsOldServed (make_call s m device called)
 unfolding make_call
 make_call_old s m device called = unless _ _ _ (unless _ _ _ (unless _ _ _ (unless _ _ _ (unless _ _ _ (unless _ _ _ (tt, (tt, tt)))))))
 
-phone_off_hook_old : (s : Rows) (m k call device : ℕ) → Stays_old (phone_off_hook s m k call device)
+phone_off_hook_old : (s : Rows) (m k call device : ℕ) → IsOldServed (phone_off_hook s m k call device)
 unfolding phone_off_hook arrive
 phone_off_hook_old s m k call device = with _ _ (λ c _. with _ _ (λ x _. unless _ _ _ (tt, (tt, tt))))
 
-answer_call_old : (s : Rows) (m k call device : ℕ) → IsOldState s → Stays_old (answer_call s m k call device)
+answer_call_old : (s : Rows) (m k call device : ℕ) → IsOldState s → IsOldServed (answer_call s m k call device)
 unfolding answer_call
 answer_call_old s m k call device o = with _ _ (λ _ _. with _ _ (λ x _. unless _ _ _ (tt, (occupy_old s m k x o, tt))))
 
-hold_call_old : (s : Rows) (call device : ℕ) → Stays_old (hold_call s call device)
+hold_call_old : (s : Rows) (call device : ℕ) → IsOldServed (hold_call s call device)
 unfolding hold_call
 hold_call_old s call device = with _ _ (λ _ _. with _ _ (λ x _. unless _ _ _ (unless _ _ _ (tt, tt))))
 
-retrieve_call_old : (s : Rows) (call device : ℕ) → Stays_old (retrieve_call s call device)
+retrieve_call_old : (s : Rows) (call device : ℕ) → IsOldServed (retrieve_call s call device)
 unfolding retrieve_call
 retrieve_call_old s call device = with _ _ (λ _ _. with _ _ (λ x _. unless _ _ _ (unless _ _ _ (tt, tt))))
 
@@ -225,55 +236,44 @@ clear_other_old : (other : Option ConnectionRecord) → IsOldMove (clear_other o
 clear_other_old None = tt
 clear_other_old (Some y) = tt
 
-clear_connection_old : (s : Rows) (m k call device : ℕ) → IsOldState s → Stays_old (clear_connection s m k call device)
+clear_connection_old : (s : Rows) (m k call device : ℕ) → IsOldState s → IsOldServed (clear_connection s m k call device)
 unfolding clear_connection
 clear_connection_old s m k call device o =
     with _ _ (λ _ _. with _ _ (λ x _.
     (tt, (clear_other_old (other_of s x), (tt, (release_old s m k x (ending_of x) o, (release_other_old s m k (other_of s x) o, tt)))))))
 
-deflect_call_old : (s : Rows) (m k call device to : ℕ) → IsOldState s → Stays_old (deflect_call s m k call device to)
+deflect_call_old : (s : Rows) (m k call device to : ℕ) → IsOldState s → IsOldServed (deflect_call s m k call device to)
 unfolding deflect_call arrive
 deflect_call_old s m k call device to o =
     with _ _ (λ _ _. with _ _ (λ x _. unless _ _ _ (unless _ _ _ (unless _ _ _ (unless _ _ _ (tt, (tt, (release_old s m k x (ending_of x) o, tt))))))))
 
-single_step_transfer_old : (s : Rows) (m k call device to : ℕ) → IsOldState s → Stays_old (single_step_transfer s m k call device to)
+single_step_transfer_old : (s : Rows) (m k call device to : ℕ) → IsOldState s → IsOldServed (single_step_transfer s m k call device to)
 unfolding single_step_transfer arrive
 single_step_transfer_old s m k call device to o =
     with _ _ (λ _ _. with _ _ (λ x _. unless _ _ _ (unless _ _ _ (unless _ _ _ (unless _ _ _ (unless _ _ _ (tt, (tt, (release_old s m k x (ending_of x) o, tt)))))))))
 
-log_on_old : (s : Rows) (m k agent device group : ℕ) → Stays_old (log_on s m k agent device (group ∷ []))
+log_on_old : (s : Rows) (m k agent device group : ℕ) → IsOldServed (log_on s m k agent device (group ∷ []))
 unfolding log_on
 log_on_old s m k agent device group =
     with _ _ (λ a _. unless _ _ _ (unless _ _ _ (unless _ _ _ (unless _ _ _ (passes (all_groups s (group ∷ [])) _ (unless _ _ _ (tt, tt)))))))
 
-either_way : (b : Bool) (v w : Served) → Stays_old v → Stays_old w → Stays_old (cond b v w)
-either_way true v w h g = h
-either_way false v w h g = g
-
-change_state_old : (s : Rows) (m k agent : ℕ) (wanted : Pending) → IsOldState s → Stays_old (change_state s m k agent wanted)
+change_state_old : (s : Rows) (m k agent : ℕ) (wanted : Pending) → IsOldState s → IsOldServed (change_state s m k agent wanted)
 unfolding change_state
 change_state_old s m k agent wanted o =
     with _ _ (λ a e.
     let one : HasOneGroup a = every_among HasOneGroup s.agents a o.agents (agent_among s agent a e) in
-    unless _ _ _ (either_way (is_occupied s a) _ _ (one, tt) (either_way (is_in a.state wanted) _ _ tt (goes_old m k a a.station (state_wanted wanted) one, tt))))
+    unless _ _ _ (either IsOldServed (is_occupied s a) _ _ (one, tt) (either IsOldServed (is_in a.state wanted) _ _ tt (goes_old m k a a.station (state_wanted wanted) one, tt))))
 
-set_agent_state_old : (s : Rows) (m k agent : ℕ) (q : Requested) → IsOldRequested q → IsOldState s → Stays_old (set_agent_state s m k agent q)
-set_agent_state_old s m k agent (requested.LoggedOn device []) h o = absurd (none h)
-  where
-    none : ◌≡◌ {A = ℕ} 0 1 → ⊥
-    none e = cc (e)
-set_agent_state_old s m k agent (requested.LoggedOn device (g ∷ [])) h o = log_on_old s m k agent device g
-set_agent_state_old s m k agent (requested.LoggedOn device (g ∷ f ∷ gs)) h o = absurd (more (length gs) h)
-  where
-    more : (n : ℕ) → ◌≡◌ {A = ℕ} (suc (suc n)) 1 → ⊥
-    more n e = omega (arith, e)
+set_agent_state_old : (s : Rows) (m k agent : ℕ) (q : Requested) → IsOldRequested q → IsOldState s → IsOldServed (set_agent_state s m k agent q)
+set_agent_state_old s m k agent (requested.LoggedOn device groups) h o =
+    let one = just_one groups h in subst (λ (gs : List ℕ). IsOldServed (log_on s m k agent device gs)) (sym one.1) (log_on_old s m k agent device one.0)
 set_agent_state_old s m k agent (requested.State wanted) h o = change_state_old s m k agent wanted o
 
-monitor_start_old : (s : Rows) (device : ℕ) → Stays_old (monitor_start s device)
+monitor_start_old : (s : Rows) (device : ℕ) → IsOldServed (monitor_start s device)
 unfolding monitor_start
 monitor_start_old s device = unless _ _ _ (unless _ _ _ (tt, tt))
 
-monitor_stop_old : (s : Rows) (monitor : ℕ) → Stays_old (monitor_stop s monitor)
+monitor_stop_old : (s : Rows) (monitor : ℕ) → IsOldServed (monitor_stop s monitor)
 unfolding monitor_stop
 monitor_stop_old s monitor = with _ _ (λ _ _. (tt, tt))
 

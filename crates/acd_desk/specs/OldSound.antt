@@ -1,6 +1,6 @@
 -- What a sound content was while an agent served one group and groups had no priority, over the records of today; and that it
 -- is sound still. What has not changed since is shared: keys, first arrivals, limits, and the reply that an outcome gives.
-use Rattle.std.specs.Prelude.{◌≡◌, ◌≤◌, ℕ, true, List, [], ◌∷◌, length}
+use Rattle.std.specs.Prelude.{◌≡◌, ◌≤◌, true, List, [], ◌∷◌, length}
 use Rattle.acd_terms.specs.Lists.{Every}
 use Rattle.acd_terms.specs.Limits.{limits_fit}
 use Rattle.acd_terms.specs.declared.rows.Limits.{Limits}

@@ -1,12 +1,14 @@
 -- One executed request as it was while an agent served one group and groups had no priority, over the records of today. What
--- has not changed since is shared, and so is what only a field of a record changed: an agent's new state leaves it its group,
--- or none in null; an agent is planned with none, and a group with priority 0; and after-call work lasts as long as the
--- agent's group has it, which is the one of least number.
-use Rattle.std.specs.Prelude.{ℕ, not, List, [], ◌∷◌, ◌++◌, is_some, Err}
+-- has not changed since is shared, and so is what changed with the records' fields alone: an agent's new state leaves it its
+-- group, or none in null; an agent is planned with none, and a group with priority 0; and after-call work lasts as long as
+-- the agent's group has it, which is the one of least number.
+use Rattle.std.specs.Prelude.{ℕ, not, List, [], ◌∷◌, ◌++◌, Some, None, is_some, Err}
 use Rattle.std.specs.Option.{ok_or}
 use Rattle.acd_terms.specs.States.{is_null}
 use Rattle.acd_terms.specs.declared.rows.Rows.{Rows}
+use Rattle.acd_terms.specs.declared.record.AgentRecord.{AgentRecord}
 use Rattle.acd_terms.specs.declared.state.AgentState.TheVariants.{NotReady}
+use Rattle.acd_terms.specs.declared.event.Report.TheVariants.{AgentLoggedOn}
 use Rattle.acd_terms.specs.declared.command.Requested.{Requested}
 use Rattle.acd_terms.specs.declared.command.Requested.TheVariants as requested
 use Rattle.acd_terms.specs.declared.command.Command.{Command}
@@ -14,8 +16,7 @@ use Rattle.acd_terms.specs.declared.command.Command.TheVariants.{AddGroup, AddSt
 use Rattle.acd_terms.specs.declared.answer.Answer.TheVariants as answer
 use Rattle.acd_terms.specs.declared.answer.Refusal.TheVariants.{UnknownAgent, WrongAgentState, UnknownDevice, NotStation, StationTaken, NotGroup}
 use Rattle.acd_model.specs.Scans.{agent_of, agent_at, is_group, is_station, is_planned}
-use Rattle.acd_model.specs.AgentMoves.{log_on_at}
-use Rattle.acd_model.specs.Moves.{moved}
+use Rattle.acd_model.specs.Moves.{reported, moved}
 use Rattle.acd_model.specs.Served.{Served, refuse_if, ◌>>=◌, ◌>>◌, gives, outcome_of, moves_of}
 use Rattle.acd_model.specs.Services.AddGroup.{add_group}
 use Rattle.acd_model.specs.Services.AddStation.{add_station}
@@ -35,7 +36,13 @@ use Rattle.acd_model.specs.Services.MonitorStop.{monitor_stop}
 use Rattle.acd_model.specs.Tick.{tick}
 use Rattle.acd_model.specs.Step.{Stepped, step_by, executed_moment, next_stamp}
 use Rattle.acd_model.specs.declared.moves.Move.{Move}
+use Rattle.acd_model.specs.declared.moves.Change.TheVariants.{PutAgent}
 use Rattle.acd_desk.specs.OldChoice.{old_distribution}
+
+abbrev pub old_log_on_at : ℕ → ℕ → AgentRecord → ℕ → ℕ → Move
+old_log_on_at m k a station group =
+    reported (PutAgent (record a { state = NotReady; pending = None; station = Some station; groups = group ∷ []; stamp = k; since = m }))
+    (AgentLoggedOn a.agent station (Some group))
 
 unfoldable pub old_log_on : Rows → ℕ → ℕ → ℕ → ℕ → ℕ → Served
 old_log_on s m k agent device group = do
@@ -46,7 +53,7 @@ old_log_on s m k agent device group = do
   refuse_if (is_some (agent_at s device)) StationTaken
   refuse_if (not (is_planned s group)) UnknownDevice
   refuse_if (not (is_group s group)) NotGroup
-  gives (answer.State NotReady) (log_on_at m k a device (group ∷ []) ∷ [])
+  gives (answer.State NotReady) (old_log_on_at m k a device group ∷ [])
 
 -- no request named more groups, or none
 abbrev pub old_set_agent_state : Rows → ℕ → ℕ → ℕ → Requested → Served

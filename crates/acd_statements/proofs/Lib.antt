@@ -2,5 +2,6 @@ mod Bounds
 pub mod Named
 pub mod Chained
 mod Planned
+mod Beside
 mod FirstFound
 mod Pages

@@ -16,6 +16,7 @@ pub mod fitting;
 pub mod look;
 mod lookups;
 pub mod parts;
+pub mod placed;
 mod plan;
 pub mod put;
 pub mod query;

@@ -62,6 +62,7 @@ pub fn records<R: Selected, S: Alter>(
     requires { conn.old.in_transaction ≡ false }
     ensures idle { conn.new.in_transaction ≡ false }
     ensures found { Finds (state S.Store conn.old) (state S.Store conn.new) result (λ c found. found.items ≡ R.descr.records (relations_of c)) }
+    ensures seen { (d : Database) → Begins R.base d.schema → Sees d (state S.Store conn.old) (state S.Store conn.new) result (λ found. IsPermutation (rows_in R.descr.table d.trees) (map R.descr.values found.items)) }
 {
     match rows::<R, S>(conn) {
         Ok(rows) => records_of(alloc, &rows),
