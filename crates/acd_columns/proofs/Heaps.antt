@@ -177,7 +177,7 @@ module _ {R : Type 0} (h : Heap R) where
       stored x (inr a) = let from = are.stored x a in (from.0, put_all_keeps (own_row ∷ []) rows (numbered_row h from.0 x) fresh from.1)
 
       -- no row beside it has the key
-      free : (row : Row) → Has rows row → column row 1 ≡ column own_row 1 → column row 2 ≡ column own_row 2 → ⊥
+      free : (it : Row) → Has rows it → column it 1 ≡ column own_row 1 → column it 2 ≡ column own_row 2 → ⊥
       free row there e f =
           let from = are.known row there in
           never from.1 from.3 (key_met from.0 id r from.1 (ap (λ k. column k 1) (sym from.2) ∙ e) (ap (λ k. column k 2) (sym from.2) ∙ f))

@@ -1,5 +1,5 @@
 -- Agents and groups that are joined of rows have just these rows.
-use Rattle.std.proofs.Common.{◌≡◌, inl, inr, ℕ, ◌≤◌, Bool, true, false, cond, not, ◌==◌, ◌&&◌, ◌||◌, ◌++◌, List, [], ◌∷◌, length, map, filter, Option, None, Some, refl, sym, ap, ap₂, subst, ◌∙◌, nat_le, nat_lt, arith}
+use Rattle.std.proofs.Common.{◌≡◌, inl, inr, ℕ, suc, ◌≤◌, Bool, true, false, cond, not, ◌==◌, ◌&&◌, ◌||◌, ◌++◌, List, [], ◌∷◌, length, map, filter, Option, None, Some, refl, sym, ap, ap₂, subst, ◌∙◌, nat_le, nat_lt, arith}
 use Rattle.std.specs.List.{list_any, list_all}
 use Rattle.std.specs.Ordering.{nat_cmp, is_eq, ordering_then, ordering_reverse}
 use Rattle.std.specs.declared.cmp.Ordering.{Ordering}
@@ -8,7 +8,7 @@ use Rattle.std.proofs.lemmas.Bool.{eqb-true, eq-eqb, false_from_ne_true, and_par
 use Rattle.std.proofs.lemmas.Bool.Decides.{nat_tests}
 use Rattle.std.proofs.lemmas.Cmp.{nat_cmp_total, on_total}
 use Rattle.acd_terms.specs.Groups.{are_groups, further_groups, least_group}
-use Rattle.acd_terms.specs.Lists.{Among, AllAfter, IsAscending, Every, ascends}
+use Rattle.acd_terms.specs.Lists.{Among, AllAfter, IsAscending, Every, is_less, ascends}
 use Rattle.acd_terms.specs.declared.record.AgentRecord.{AgentRecord}
 use Rattle.acd_terms.specs.declared.record.GroupRecord.{GroupRecord}
 use Rattle.acd_laws.proofs.Keyed.{key_is, cmp_equal, cmp_self, eqb_self}
@@ -137,6 +137,32 @@ module _ {P A : Type 0} (key : P → ℕ) (order : P → P → Ordering) (le : (
           subst (λ n. nat_lt n (number a) ≡ false) from.2
           (elim from.1 [ inl e ↦ not_below (number from.0) (number a) (ap number e) | inr k ↦ less_lt (number a) (number from.0) (after_among rising a items from.0 up.0 k) ])
 
+-- ---- groups of one agent
+
+lt_less : (m n : ℕ) → nat_lt m n ≡ true → nat_cmp m n ≡ Less
+lt_less m n h = grind (arith, nat_tests)
+
+one_more_few : (n : ℕ) → nat_le n 7 ≡ true → nat_le (suc n) 8 ≡ true
+one_more_few n h = grind (arith, nat_tests)
+
+ascends_so : (gs : List ℕ) → IsAscending nat_cmp gs → ascends nat_cmp gs ≡ true
+ascends_so [] up = refl
+ascends_so (g ∷ []) up = refl
+ascends_so (g ∷ h ∷ gs) up = and_from (is_less (nat_cmp g h)) (ascends nat_cmp (h ∷ gs)) (ap is_less up.0.0) (ascends_so (h ∷ gs) up.1)
+
+in_front : (g : ℕ) (ps : List (ℕ × ℕ)) → ((p : ℕ × ℕ) → Among p ps → nat_cmp g p.1 ≡ Less) → AllAfter nat_cmp g (map (λ (p : ℕ × ℕ). p.1) ps)
+in_front g [] all = tt
+in_front g (p ∷ ps) all = (all p (inl refl), in_front g ps (λ q h. all q (inr h)))
+
+-- pairs of one agent ascend by their groups
+second_below : (p q : ℕ × ℕ) → p.0 ≡ q.0 → pair_order p q ≡ Less → nat_cmp p.1 q.1 ≡ Less
+second_below p q e h = sym (ap (λ o. ordering_then o (nat_cmp p.1 q.1)) (cmp_self p.0 q.0 e)) ∙ h
+
+seconds_rise : (n : ℕ) (ps : List (ℕ × ℕ)) → ((p : ℕ × ℕ) → Among p ps → p.0 ≡ n) → IsAscending pair_order ps → IsAscending nat_cmp (map (λ (p : ℕ × ℕ). p.1) ps)
+seconds_rise n [] all up = tt
+seconds_rise n (p ∷ ps) all up =
+    (in_front p.1 ps (λ q h. second_below p q (all p (inl refl) ∙ sym (all q (inr h))) (after_among pair_order p ps q up.0 h)), seconds_rise n ps (λ q h. all q (inr h)) up.1)
+
 -- ---- agents
 
 module _ (agents : List AgentRow) (pairs : List (ℕ × ℕ)) (up : IsAscending own_order agents) (behind : are_behind agents pairs ≡ true) where
@@ -197,6 +223,26 @@ module _ (agents : List AgentRow) (pairs : List (ℕ × ℕ)) (up : IsAscending 
 
   pub further_rejoined : IsAscending pair_order pairs → further_in (map (joined_agent pairs) agents) ≡ pairs
   further_rejoined rise = all_further agents (λ a h. h) ∙ turned (λ (p : ℕ × ℕ). p.0) pair_order first_le (λ (a : AgentRow). a.agent) agents pairs up rise there
+
+  -- each has eight groups at most, which ascend
+  one_right : IsAscending pair_order pairs → (a : AgentRow) → Among a agents → are_groups (behind_first a.group (groups_beside pairs a.agent)) ≡ true
+  one_right rise a h = by a.group refl
+    where
+      by : (o : Option ℕ) → a.group ≡ o → are_groups (behind_first o (groups_beside pairs a.agent)) ≡ true
+      by None e = ap (λ (ps : List (ℕ × ℕ)). are_groups (map (λ (p : ℕ × ℕ). p.1) ps)) (none_beside a h e)
+      by (Some g) e =
+          and_from (nat_le (length (g ∷ groups_beside pairs a.agent)) 8) (ascends nat_cmp (g ∷ groups_beside pairs a.agent))
+          (one_more_few (length (groups_beside pairs a.agent)) (all_true (λ (x : AgentRow). nat_le (length (groups_beside pairs x.agent)) 7) agents both.1 a h))
+          (ascends_so (g ∷ groups_beside pairs a.agent)
+          (in_front g (filter (of_agent a.agent) pairs) (λ p k. lt_less g p.1 (sym (ap (λ o. is_above o p.1) e) ∙ above a h p k)),
+          seconds_rise a.agent (filter (of_agent a.agent) pairs) (λ p k. eqb-true p.0 a.agent (filter_among (of_agent a.agent) pairs p k).1) (ascending-filter pair_order (of_agent a.agent) pairs rise)))
+
+  all_right : IsAscending pair_order pairs → (bs : List AgentRow) → ((a : AgentRow) → Among a bs → Among a agents) → Every (λ (a : AgentRecord). are_groups a.groups ≡ true) (map (joined_agent pairs) bs)
+  all_right rise [] all = tt
+  all_right rise (a ∷ bs) all = (one_right rise a (all a (inl refl)), all_right rise bs (λ b h. all b (inr h)))
+
+  pub groups_right : IsAscending pair_order pairs → Every (λ (a : AgentRecord). are_groups a.groups ≡ true) (map (joined_agent pairs) agents)
+  groups_right rise = all_right rise agents (λ a h. h)
 
 -- ---- groups
 

@@ -40,7 +40,7 @@ meta_stored (row ∷ rows) = as_meta (drop 2 (unkeyed row))
 -- what the first table tells of the version
 abbrev pub version_in : List Row → ℕ
 version_in [] = 0
-version_in (row ∷ rows) = number_in (column row 2)
+version_in (first ∷ rows) = number_in (column first 2)
 
 -- version 1 has no further groups and no priorities
 abbrev pub pairs_in : Trees → List (ℕ × ℕ)

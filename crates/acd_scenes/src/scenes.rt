@@ -64,6 +64,8 @@ groups_that_are_none
 priorities_that_change
 other_groups_after_a_log_off
 eight_groups_of_an_agent
+several_groups_between_requests
+altered_further_groups_and_priorities
 refusals_of_plan_and_calls
 refusals_of_an_answered_call
 refusals_of_an_offered_call

@@ -18,6 +18,7 @@ use Rattle.sqlite_trees.specs.View.{View, is_int, IsShaped, IsOrdered}
 use Rattle.sqlite_trees.specs.Objects.{catalog_tree, IsListed}
 use Rattle.sqlite_trees.specs.declared.store.Shape.{Shape}
 use Rattle.sqlite_trees.specs.declared.store.Shape.TheVariants as shape
+use Rattle.sqlite_keyed.proofs.ListLemmas.{map-map}
 use Rattle.sqlite_catalog.proofs.LayoutLemmas.{laid_out, objects_rise}
 use Rattle.sqlite_rules.specs.Edit.{id_in}
 use Rattle.sqlite_rules.specs.Lists.{Has}
@@ -38,23 +39,26 @@ use Rattle.acd_columns.specs.declared.tables.Table.{Table}
 use Rattle.acd_columns.specs.declared.tables.Table.TheVariants as table
 use Rattle.acd_columns.specs.declared.tables.Version.{Version}
 use Rattle.acd_columns.specs.declared.tables.Version.TheVariants as version
-use Rattle.acd_columns.specs.AnyRows.{is_good, are_good, is_good_in, values_in, rows_in, IsFiled, HaveAllColumns}
+use Rattle.acd_columns.specs.AnyRows.{is_good, are_good, is_good_in, values_in, rows_in, schema_of, IsFiledAs, HaveAllColumns}
 use Rattle.acd_schema.specs.Inspecting.{is_good_table, IsOfBook, IsInRange}
-use Rattle.acd_columns.specs.Content.{AreRows, AreHeaped, Encodes, EncodesAs, IsIn, number_of, tree_of}
+use Rattle.acd_columns.specs.declared.relations.AgentRow.{AgentRow}
+use Rattle.acd_columns.specs.declared.relations.GroupRow.{GroupRow}
+use Rattle.acd_columns.specs.declared.relations.GroupPriority.{GroupPriority}
+use Rattle.acd_columns.specs.Content.{AreRows, AreHeaped, Encodes, EncodesAs, FitsIn, StoresAs, IsIn, number_of, part, tree_of}
 use Rattle.acd_columns.specs.Descriptions.{Description, Heap, behind, behind_both, row_of, numbered_row, by_both}
 use Rattle.acd_columns.specs.InTables.{in_order}
 use Rattle.acd_columns.specs.Ranges.{counters_in}
-use Rattle.acd_columns.specs.Relations.{pair_order, relations_of}
-use Rattle.acd_columns.specs.Rows.{keyed_row, meta_row_as, meta_shown, further_row}
-use Rattle.acd_columns.specs.Schema.{Layout, behind_first, table_of, nine, with_behind, Begins}
+use Rattle.acd_columns.specs.Relations.{Relations, pair_order, relations_of, group_part, agent_part, further_in, priorities_in, joined_group, joined_agent}
+use Rattle.acd_columns.specs.Rows.{keyed_row, meta_row_as, meta_shown, group_row, agent_row, further_row, priority_row, group_values, agent_values, further_values, priority_values}
+use Rattle.acd_columns.specs.Schema.{Layout, behind_first, table_of, nine, with_behind, book_schema, Begins}
 use Rattle.acd_columns.specs.Schema as schema
-use Rattle.acd_columns.specs.Tables.{groups, stations, agents, calls, connections, monitors, events, kept}
+use Rattle.acd_columns.specs.Tables.{groups, stations, agents, calls, connections, monitors, events, kept, group_priority, agent_groups}
 use Rattle.acd_columns.specs.Values.{id_value, cells}
+use Rattle.acd_columns.proofs.AgentGroups.{groups_heaped}
 use Rattle.acd_columns.proofs.Asked.{columns}
 use Rattle.acd_columns.proofs.Connections.{connections_heaped}
 use Rattle.acd_columns.proofs.Decoded.{old_in, with_all, ordered, from_order, to_order}
 use Rattle.acd_columns.proofs.Filed.{Filed, tree_is, good, headed, shows_values}
-use Rattle.acd_columns.proofs.Frames.{none_heaped}
 use Rattle.acd_columns.proofs.Heaped.{Heaped, key_columns, has_twin, no_twin, starts, agreed, heap_tree}
 use Rattle.acd_columns.proofs.Heaps.{one_number, by_both_total, like_tied, key_met, met_key}
 use Rattle.acd_columns.proofs.KeyedRows.{id_cmp, id_tied, same_number, own_number}
@@ -62,8 +66,10 @@ use Rattle.acd_columns.proofs.Listings.{begun, version_begins}
 use Rattle.acd_columns.proofs.Looked.{mapped_all, ascending_of, rising_of}
 use Rattle.acd_columns.proofs.Ranged.{row_is, null_is, some_same, whole_stored}
 use Rattle.acd_columns.proofs.Records.{counters_stored}
+use Rattle.acd_columns.proofs.Rejoined.{parts_rejoined, further_rejoined, groups_right, group_parts_rejoined, priorities_rejoined}
 use Rattle.acd_columns.proofs.Scans.{showing, each}
-use Rattle.acd_columns.proofs.TablesFiled.{groups_filed, stations_filed, agents_filed, calls_filed, monitors_filed, events_filed, kept_filed}
+use Rattle.acd_columns.proofs.TablesFiled.{priorities_filed, groups_filed, stations_filed, agents_filed, calls_filed, monitors_filed, events_filed, kept_filed}
+use Rattle.acd_schema.proofs.Places.{Beside, NoneBefore, none_beside, all_beside}
 
 -- ---- lists of rows
 
@@ -364,24 +370,18 @@ record Parts (v : Version) (db : Trees) : Type 0 where
   pub monitors : AreOf monitors monitors_filed (db (tree_of table.Monitors))
   pub events : AreOf events events_filed (db (tree_of table.Events))
   pub kept : AreOf kept kept_filed (db (tree_of table.Kept))
-  pub further : IsIn v table.AgentGroups → db (tree_of table.AgentGroups) ≡ []
-  pub priorities : IsIn v table.GroupPriority → db (tree_of table.GroupPriority) ≡ []
+  pub beside : Beside v db agents.records groups.records
 
--- no row of such a table is good
-none_in : (t : Table) (db : Trees) → ((r : Row) → is_good t r ≡ false) → is_good_in t db ≡ true → db (tree_of t) ≡ []
-unfolding is_good_in
-none_in t db never good = go (db (tree_of t)) (each_good t (rows_in t db) good)
-  where
-    go : (rows : List Row) → AllByRecursion (λ r. is_good t r ≡ true) (map (values_in t) rows) → rows ≡ []
-    go [] h = refl
-    go (r ∷ rows) h = absurd (let no = never (values_in t r) in let yes = h.0 in cc (no, yes))
+-- the nine are filed as in version 1
+pub as_first : (v : Version) (db : Trees) → IsFiledAs v db → IsFiledAs version.First db
+as_first v db h = record { rising = λ t old. h.rising t (old_in v t old); numbered = λ t old. h.numbered t (old_in v t old); whole = (h.whole.0, h.whole.1, h.whole.2, λ here. absurd here) }
 
-module _ (v : Version) (d : Database) (book : IsOfBook v d) (obeys : IsDatabase d) (filed : IsFiled d.trees) where
+module _ (v : Version) (d : Database) (book : IsOfBook v d) (obeys : IsDatabase d) (filed : IsFiledAs v d.trees) where
   abbrev table_rows : Table → List Row
   table_rows t = d.trees (tree_of t)
 
-  in_range : (t : Table) → IsIn version.First t → AllByRecursion (λ r. is_good t (values_in t r) ≡ true) (d.trees (tree_of t))
-  in_range t old = good_rows t d.trees (book.in_range filed t (old_in v t old))
+  in_range : (t : Table) → IsIn v t → AllByRecursion (λ r. is_good t (values_in t r) ≡ true) (d.trees (tree_of t))
+  in_range t here = good_rows t d.trees (book.in_range (as_first v d.trees filed) t here)
 
   nine_there : Begins nine d.schema
   nine_there = version_begins v d.schema book.schema_is
@@ -406,83 +406,141 @@ module _ (v : Version) (d : Database) (book : IsOfBook v d) (obeys : IsDatabase 
   module _ {R : Type 0} (e : Description R) (f : Filed e) (old : IsIn version.First e.table) (here : slice_get nine e.place ≡ Some (table_of e.layout)) where
     described : AllByRecursion (λ r. length r ≡ suc (suc (behind e))) (d.trees (tree_of e.table)) → AreOf e f (d.trees (tree_of e.table))
     described w =
-        are_of e f (d.trees (tree_of e.table)) (filed.rising e.table old) w (subst (λ n. AllByRecursion (λ r. is_typed e.layout r ≡ true) (d.trees n)) (tree_is e f) (ruled rule.Datatype e.layout e.place here)) (in_range e.table old)
+        are_of e f (d.trees (tree_of e.table)) (filed.rising e.table (old_in v e.table old)) w (subst (λ n. AllByRecursion (λ r. is_typed e.layout r ≡ true) (d.trees n)) (tree_is e f) (ruled rule.Datatype e.layout e.place here)) (in_range e.table (old_in v e.table old))
 
     ended : ends (drop 1 e.layout.columns) ≡ true → AreOf e f (d.trees (tree_of e.table))
     ended end = described (subst₂ (λ n m. AllByRecursion (λ r. length r ≡ suc m) (d.trees n)) (tree_is e f) (ap (λ (t : Option ℕ × ℕ). t.1) f.keyed) (whole_rows e.layout e.place here (key_first e f) end))
 
-  heaped : {R : Type 0} (h : Heap R) (f : Heaped h) → IsIn version.First h.table → AllByRecursion (λ r. length r ≡ suc (suc (suc (behind_both h)))) (d.trees (tree_of h.table)) → IsHeapOf h f (d.trees (tree_of h.table))
-  heaped h f old w =
+  heaped : {R : Type 0} (h : Heap R) (f : Heaped h) → IsIn v h.table → AllByRecursion (λ r. length r ≡ suc (suc (suc (behind_both h)))) (d.trees (tree_of h.table)) → IsHeapOf h f (d.trees (tree_of h.table))
+  heaped h f here w =
       let rows = d.trees (tree_of h.table) in
-      let links = linked h f rows (filed.numbered h.table old) w (in_range h.table old) in
-      let alone = f.alone v (old_in v h.table old) d.trees (subst (λ s. Keeps rule.Unique s d.trees) book.schema_is (obeys.obeys.rules rule.Unique)) in
-      heap_of h f rows links.0 links.1 (filed.rising h.table old) (subst (λ n. AllByRecursion (λ r. (not (has_twin (d.trees n) r) && true) ≡ true) (d.trees n)) (heap_tree h f) alone)
+      let links = linked h f rows (filed.numbered h.table here) w (in_range h.table here) in
+      let alone = f.alone v here d.trees (subst (λ s. Keeps rule.Unique s d.trees) book.schema_is (obeys.obeys.rules rule.Unique)) in
+      heap_of h f rows links.0 links.1 (filed.rising h.table here) (subst (λ n. AllByRecursion (λ r. (not (has_twin (d.trees n) r) && true) ≡ true) (d.trees n)) (heap_tree h f) alone)
 
+-- ---- what stands beside agents and groups
+
+-- what a rule says of a table of version 2
+in_second : (d : Database) → IsDatabase d → d.schema ≡ book_schema → (rule : Constraint) (l : Layout) (place : ℕ) → slice_get book_schema.tables place ≡ Some (table_of l)
+    → AllByRecursion (λ r. passes rule book_schema d.trees (table_of l) r ≡ true) (d.trees l.tree)
+in_second d obeys is rule l place here =
+    all_has (λ t. AllByRecursion (λ r. passes rule book_schema d.trees t r ≡ true) (d.trees t.tree)) book_schema.tables (table_of l) (subst (λ s. Keeps rule s d.trees) is (obeys.obeys.rules rule)) (has_got book_schema.tables place (table_of l) here)
+
+beside_of : (v : Version) (d : Database) → IsOfBook v d → IsDatabase d → IsFiledAs v d.trees → (seats : AreOf agents agents_filed (d.trees (tree_of table.Agents))) (queues : AreOf groups groups_filed (d.trees (tree_of table.Groups)))
+    → Beside v d.trees seats.records queues.records
+beside_of version.First d book obeys filed seats queues = none_beside d.trees seats.records queues.records
+beside_of version.Second d book obeys filed seats queues =
+    let rows = d.trees (tree_of table.GroupPriority) in
+    let further = heaped version.Second d book obeys filed agent_groups groups_heaped tt (filed.whole.3 tt) in
+    let typed = in_second d obeys book.schema_is rule.Datatype schema.group_priority 10 refl in
+    let present = in_second d obeys book.schema_is rule.NotNull schema.group_priority 10 refl in
+    let wide =
+        all_from (λ r. length r ≡ suc (length schema.group_priority.columns)) rows
+        (λ r k.
+        whole_row schema.group_priority r refl refl (all_has (λ r. is_typed schema.group_priority r ≡ true) rows r typed k)
+        (all_has (λ r. are_present schema.group_priority.key 0 schema.group_priority.columns r ≡ true) rows r present k))
+    in
+    let ranks = are_of group_priority priorities_filed rows (filed.rising table.GroupPriority tt) wide typed (in_range version.Second d book obeys filed table.GroupPriority tt) in
+    all_beside d.trees seats.records queues.records further.records ranks.records seats.are queues.are further.are ranks.are book.placed further.are_right ranks.are_right
+
+fits_of : (v : Version) (r : Relations) → NoneBefore v r.further r.priorities → FitsIn v r
+fits_of version.First r h = h
+fits_of version.Second r h = tt
+
+-- ---- each table
+
+module _ (v : Version) (d : Database) (book : IsOfBook v d) (obeys : IsDatabase d) (filed : IsFiledAs v d.trees) where
   meta_whole : AllByRecursion (λ r. length r ≡ suc (length schema.meta.columns)) (d.trees (tree_of table.Meta))
-  meta_whole = whole_rows schema.meta 0 refl refl refl
+  meta_whole = whole_rows v d book obeys filed schema.meta 0 refl refl refl
 
   one_row : (r : Row) × (d.trees (tree_of table.Meta) ≡ r ∷ []) × (rowid r ≡ id_value 1) × (column r 2 ≡ id_value (number_of v))
   one_row =
       let told = book.version in
-      let here = ones (d.trees (tree_of table.Meta)) (filed.numbered table.Meta tt) (ruled rule.Check schema.meta 0 refl) in
-      (told.0, alone (d.trees (tree_of table.Meta)) told.0 told.1 here (filed.rising table.Meta tt), all_has (λ r. rowid r ≡ id_value 1) (d.trees (tree_of table.Meta)) told.0 here told.1, whole_stored told.0 2 (number_of v) told.2)
+      let here = ones (d.trees (tree_of table.Meta)) (filed.numbered table.Meta (old_in v table.Meta tt)) (ruled v d book obeys filed rule.Check schema.meta 0 refl) in
+      (told.0, alone (d.trees (tree_of table.Meta)) told.0 told.1 here (filed.rising table.Meta (old_in v table.Meta tt)), all_has (λ r. rowid r ≡ id_value 1) (d.trees (tree_of table.Meta)) told.0 here told.1, whole_stored told.0 2 (number_of v) told.2)
+
+  its_groups : AreOf groups groups_filed (d.trees (tree_of table.Groups))
+  its_groups = ended v d book obeys filed groups groups_filed tt refl refl
+
+  its_agents : AreOf agents agents_filed (d.trees (tree_of table.Agents))
+  its_agents = ended v d book obeys filed agents agents_filed tt refl refl
 
   parts : Parts v d.trees
   parts =
       let row = one_row in
       let whole = subst (AllByRecursion (λ r. length r ≡ suc (length schema.meta.columns))) row.1 meta_whole in
-      let typed = subst (AllByRecursion (λ r. is_typed schema.meta r ≡ true)) row.1 (ruled rule.Datatype schema.meta 0 refl) in
-      let good = subst (AllByRecursion (λ r. is_some (counters_in (values_in table.Meta r)) ≡ true)) row.1 (in_range table.Meta tt) in
+      let typed = subst (AllByRecursion (λ r. is_typed schema.meta r ≡ true)) row.1 (ruled v d book obeys filed rule.Datatype schema.meta 0 refl) in
+      let good = subst (AllByRecursion (λ r. is_some (counters_in (values_in table.Meta r)) ≡ true)) row.1 (in_range v d book obeys filed table.Meta (old_in v table.Meta tt)) in
       let m = there (counters_in (values_in table.Meta row.0)) good.0 in
       let shown = counters_stored (values_in table.Meta row.0) m.0 m.1 in
       record {
         meta = m.0;
         meta_is = row.1 ∙ ap (λ r. r ∷ []) (meta_form (number_of v) row.0 m.0 whole.0 row.2 (key_null schema.meta (behind_first schema.meta) row.0 refl whole.0 typed.0) row.3 shown);
         meta_good = ap (λ r. is_some (counters_in r)) (sym shown) ∙ good.0;
-        groups = ended groups groups_filed tt refl refl;
-        stations = described stations stations_filed tt refl filed.whole.0;
-        agents = ended agents agents_filed tt refl refl;
-        calls = ended calls calls_filed tt refl refl;
-        connections = heaped connections connections_heaped tt filed.whole.1;
-        monitors = ended monitors monitors_filed tt refl refl;
-        events = described events events_filed tt refl filed.whole.2;
-        kept = ended kept kept_filed tt refl refl;
-        further = λ here. none_in table.AgentGroups d.trees (λ r. refl) (book.in_range filed table.AgentGroups here);
-        priorities = λ here. none_in table.GroupPriority d.trees (λ r. refl) (book.in_range filed table.GroupPriority here);
+        groups = its_groups;
+        stations = described v d book obeys filed stations stations_filed tt refl filed.whole.0;
+        agents = its_agents;
+        calls = ended v d book obeys filed calls calls_filed tt refl refl;
+        connections = heaped v d book obeys filed connections connections_heaped (old_in v table.Connections tt) filed.whole.1;
+        monitors = ended v d book obeys filed monitors monitors_filed tt refl refl;
+        events = described v d book obeys filed events events_filed tt refl filed.whole.2;
+        kept = ended v d book obeys filed kept kept_filed tt refl refl;
+        beside = beside_of v d book obeys filed its_agents its_groups;
       }
 
 module _ (v : Version) (db : Trees) (p : Parts v db) where
   abbrev whole_content : Content
-  whole_content = with_all p.meta p.groups.records p.stations.records p.agents.records p.calls.records p.connections.records p.monitors.records p.events.records p.kept.records
+  whole_content =
+      with_all p.meta (map (joined_group p.beside.priorities) p.groups.records) p.stations.records (map (joined_agent p.beside.further) p.agents.records) p.calls.records p.connections.records p.monitors.records p.events.records p.kept.records
+
+  groups_same : map group_part (map (joined_group p.beside.priorities) p.groups.records) ≡ p.groups.records
+  groups_same = group_parts_rejoined p.beside.priorities p.groups.records
+
+  agents_same : map agent_part (map (joined_agent p.beside.further) p.agents.records) ≡ p.agents.records
+  agents_same = parts_rejoined p.agents.records p.beside.further p.agents.are.ascending p.beside.behind
+
+  further_same : further_in (map (joined_agent p.beside.further) p.agents.records) ≡ p.beside.further
+  further_same = further_rejoined p.agents.records p.beside.further p.agents.are.ascending p.beside.behind p.beside.further_rise
+
+  priorities_same : priorities_in (map (joined_group p.beside.priorities) p.groups.records) ≡ p.beside.priorities
+  priorities_same = priorities_rejoined p.groups.records p.beside.priorities p.groups.are.ascending p.beside.priorities_rise p.beside.ranked p.beside.known
+
+  tables_are : (t : Table) → IsIn v t → StoresAs (number_of v) t (db (tree_of t)) (part t (relations_of whole_content))
+  tables_are table.Meta here = p.meta_is
+  tables_are table.Groups here = subst (AreRows (λ (g : GroupRow). g.device) group_row (db (tree_of table.Groups))) (sym groups_same) p.groups.are
+  tables_are table.Stations here = p.stations.are
+  tables_are table.Agents here = subst (AreRows (λ (a : AgentRow). a.agent) agent_row (db (tree_of table.Agents))) (sym agents_same) p.agents.are
+  tables_are table.Calls here = p.calls.are
+  tables_are table.Connections here = p.connections.are
+  tables_are table.Monitors here = p.monitors.are
+  tables_are table.Events here = p.events.are
+  tables_are table.Kept here = (p.kept.are, p.kept.read)
+  tables_are table.AgentGroups here = subst (AreHeaped pair_order further_row (db (tree_of table.AgentGroups))) (sym further_same) (p.beside.further_are here)
+  tables_are table.GroupPriority here = subst (AreRows (λ (r : GroupPriority). r.device) priority_row (db (tree_of table.GroupPriority))) (sym priorities_same) (p.beside.priorities_are here)
 
   parts_encode : EncodesAs v db whole_content
-  parts_encode table.Meta here = p.meta_is
-  parts_encode table.Groups here = p.groups.are
-  parts_encode table.Stations here = p.stations.are
-  parts_encode table.Agents here = p.agents.are
-  parts_encode table.Calls here = p.calls.are
-  parts_encode table.Connections here = p.connections.are
-  parts_encode table.Monitors here = p.monitors.are
-  parts_encode table.Events here = p.events.are
-  parts_encode table.Kept here = (p.kept.are, p.kept.read)
-  parts_encode table.AgentGroups here = none_heaped pair_order further_row (db (tree_of table.AgentGroups)) (p.further here)
-  parts_encode table.GroupPriority here = record { rows_are = p.priorities here; ascending = tt }
+  parts_encode = record { fits = fits_of v (relations_of whole_content) (subst₂ (NoneBefore v) (sym further_same) (sym priorities_same) p.beside.none_before); tables = tables_are }
+
+  tables_right : (t : Table) → is_good_table t whole_content ≡ true
+  unfolding is_good_table
+  tables_right table.Meta = one_more table.Meta (meta_shown p.meta) [] p.meta_good (none_good table.Meta)
+  tables_right table.Groups =
+      ap (are_good table.Groups) (sym (map-map group_values group_part (map (joined_group p.beside.priorities) p.groups.records)) ∙ ap (map group_values) groups_same) ∙ p.groups.are_right
+  tables_right table.Stations = p.stations.are_right
+  tables_right table.Agents =
+      ap (are_good table.Agents) (sym (map-map agent_values agent_part (map (joined_agent p.beside.further) p.agents.records)) ∙ ap (map agent_values) agents_same) ∙ p.agents.are_right
+  tables_right table.Calls = p.calls.are_right
+  tables_right table.Connections = p.connections.are_right
+  tables_right table.Monitors = p.monitors.are_right
+  tables_right table.Events = p.events.are_right
+  tables_right table.Kept = p.kept.are_right
+  tables_right table.AgentGroups = ap (λ l. are_good table.AgentGroups (map further_values l)) further_same ∙ p.beside.further_good
+  tables_right table.GroupPriority = ap (λ l. are_good table.GroupPriority (map priority_values l)) priorities_same ∙ p.beside.priorities_good
 
   parts_in_range : IsInRange whole_content
-  unfolding is_good_table
-  parts_in_range table.Meta = one_more table.Meta (meta_shown p.meta) [] p.meta_good (none_good table.Meta)
-  parts_in_range table.Groups = p.groups.are_right
-  parts_in_range table.Stations = p.stations.are_right
-  parts_in_range table.Agents = p.agents.are_right
-  parts_in_range table.Calls = p.calls.are_right
-  parts_in_range table.Connections = p.connections.are_right
-  parts_in_range table.Monitors = p.monitors.are_right
-  parts_in_range table.Events = p.events.are_right
-  parts_in_range table.AgentGroups = none_good table.AgentGroups
-  parts_in_range table.GroupPriority = none_good table.GroupPriority
-  parts_in_range table.Kept = p.kept.are_right
+  parts_in_range = record { tables = tables_right; groups = groups_right p.agents.records p.beside.further p.agents.are.ascending p.beside.behind p.beside.further_rise }
 
-pub content_in : (v : Version) (d : Database) → IsOfBook v d → IsDatabase d → IsFiled d.trees → (c : Content) × EncodesAs v d.trees c × IsInRange c
+pub content_in : (v : Version) (d : Database) → IsOfBook v d → IsDatabase d → IsFiledAs v d.trees → (c : Content) × EncodesAs v d.trees c × IsInRange c
 content_in v d book obeys filed = let p = parts v d book obeys filed in (whole_content v d.trees p, parts_encode v d.trees p, parts_in_range v d.trees p)
 
 -- ---- the rows of a content are filed
@@ -521,24 +579,24 @@ module _ (db : Trees) (c : Content) (is : Encodes db c) where
             ap length from.2 ∙ ap (λ l. suc (length l)) (sym (f.shows from.0 from.1) ∙ shown_cells 1 (suc (suc (behind_both h))) row) ∙ ap suc (shown_length 1 (suc (suc (behind_both h))) row));
       })
 
-  each_filed : (t : Table) → IsIn version.First t → (width : ℕ) × AreFiled width (db (tree_of t))
-  each_filed table.Meta old = (suc (length schema.meta.columns), subst (AreFiled (suc (length schema.meta.columns))) (sym (is table.Meta)) (record { rising = (tt, tt); numbered = (refl, tt); whole = (refl, tt) }))
-  each_filed table.Groups old = (_, records_filed groups groups_filed)
-  each_filed table.Stations old = (_, records_filed stations stations_filed)
-  each_filed table.Agents old = (_, records_filed agents agents_filed)
-  each_filed table.Calls old = (_, records_filed calls calls_filed)
-  each_filed table.Connections old = (_, heap_filed connections connections_heaped)
-  each_filed table.Monitors old = (_, records_filed monitors monitors_filed)
-  each_filed table.Events old = (_, records_filed events events_filed)
-  each_filed table.Kept old = (_, records_filed kept kept_filed)
-  each_filed table.AgentGroups old = absurd old
-  each_filed table.GroupPriority old = absurd old
+  each_filed : (t : Table) → (width : ℕ) × AreFiled width (db (tree_of t))
+  each_filed table.Meta = (suc (length schema.meta.columns), subst (AreFiled (suc (length schema.meta.columns))) (sym (is table.Meta)) (record { rising = (tt, tt); numbered = (refl, tt); whole = (refl, tt) }))
+  each_filed table.Groups = (_, records_filed groups groups_filed)
+  each_filed table.Stations = (_, records_filed stations stations_filed)
+  each_filed table.Agents = (_, records_filed agents agents_filed)
+  each_filed table.Calls = (_, records_filed calls calls_filed)
+  each_filed table.Connections = (_, heap_filed connections connections_heaped)
+  each_filed table.Monitors = (_, records_filed monitors monitors_filed)
+  each_filed table.Events = (_, records_filed events events_filed)
+  each_filed table.Kept = (_, records_filed kept kept_filed)
+  each_filed table.AgentGroups = (_, heap_filed agent_groups groups_heaped)
+  each_filed table.GroupPriority = (_, records_filed group_priority priorities_filed)
 
-  pub filed_in : IsFiled db
+  pub filed_in : IsFiledAs version.Second db
   filed_in = record {
-    rising = λ t old. (each_filed t old).1.rising;
-    numbered = λ t old. (each_filed t old).1.numbered;
-    whole = ((records_filed stations stations_filed).whole, (heap_filed connections connections_heaped).whole, (records_filed events events_filed).whole);
+    rising = λ t here. (each_filed t).1.rising;
+    numbered = λ t here. (each_filed t).1.numbered;
+    whole = ((records_filed stations stations_filed).whole, (heap_filed connections connections_heaped).whole, (records_filed events events_filed).whole, λ here. (heap_filed agent_groups groups_heaped).whole);
   }
 
 -- ---- the rows of a store that isn't broken
@@ -546,22 +604,34 @@ module _ (db : Trees) (c : Content) (is : Encodes db c) where
 shaped_as : (v : View) (t : ℕ) → v.shape t ≡ shape.Table → IsOrdered v.shape v.trees → IsTable (v.trees t) × AllByRecursion (λ r. IsTrue (is_int (rowid r))) (v.trees t)
 shaped_as v t is ordered = subst (λ s. IsShaped s (v.trees t)) is (ordered t)
 
-each_shape : (shapes : ℕ → Shape) (rest : List Made) → AllByRecursion (λ t. shapes t.tree ≡ shape.Table) (nine ++ rest) → (t : Table) → IsIn version.First t → shapes (tree_of t) ≡ shape.Table
-each_shape shapes rest h table.Meta old = h.0
-each_shape shapes rest h table.Groups old = h.1.0
-each_shape shapes rest h table.Stations old = h.1.1.0
-each_shape shapes rest h table.Agents old = h.1.1.1.0
-each_shape shapes rest h table.Calls old = h.1.1.1.1.0
-each_shape shapes rest h table.Connections old = h.1.1.1.1.1.0
-each_shape shapes rest h table.Monitors old = h.1.1.1.1.1.1.0
-each_shape shapes rest h table.Events old = h.1.1.1.1.1.1.1.0
-each_shape shapes rest h table.Kept old = h.1.1.1.1.1.1.1.1.0
-each_shape shapes rest h table.AgentGroups old = absurd old
-each_shape shapes rest h table.GroupPriority old = absurd old
+each_shape : (v : Version) (shapes : ℕ → Shape) → AllByRecursion (λ (t : Made). shapes t.tree ≡ shape.Table) (schema_of v).tables → (t : Table) → IsIn v t → shapes (tree_of t) ≡ shape.Table
+each_shape version.First shapes h table.Meta here = h.0
+each_shape version.First shapes h table.Groups here = h.1.0
+each_shape version.First shapes h table.Stations here = h.1.1.0
+each_shape version.First shapes h table.Agents here = h.1.1.1.0
+each_shape version.First shapes h table.Calls here = h.1.1.1.1.0
+each_shape version.First shapes h table.Connections here = h.1.1.1.1.1.0
+each_shape version.First shapes h table.Monitors here = h.1.1.1.1.1.1.0
+each_shape version.First shapes h table.Events here = h.1.1.1.1.1.1.1.0
+each_shape version.First shapes h table.Kept here = h.1.1.1.1.1.1.1.1.0
+each_shape version.First shapes h table.AgentGroups here = absurd here
+each_shape version.First shapes h table.GroupPriority here = absurd here
+each_shape version.Second shapes h table.Meta here = h.0
+each_shape version.Second shapes h table.Groups here = h.1.0
+each_shape version.Second shapes h table.Stations here = h.1.1.0
+each_shape version.Second shapes h table.Agents here = h.1.1.1.0
+each_shape version.Second shapes h table.Calls here = h.1.1.1.1.0
+each_shape version.Second shapes h table.Connections here = h.1.1.1.1.1.0
+each_shape version.Second shapes h table.Monitors here = h.1.1.1.1.1.1.0
+each_shape version.Second shapes h table.Events here = h.1.1.1.1.1.1.1.0
+each_shape version.Second shapes h table.Kept here = h.1.1.1.1.1.1.1.1.0
+each_shape version.Second shapes h table.AgentGroups here = h.1.1.1.1.1.1.1.1.1.0
+each_shape version.Second shapes h table.GroupPriority here = h.1.1.1.1.1.1.1.1.1.1.0
 
 -- they have integers as numbers, which rise, whatever they hold
-pub filed_by_store : (v : View) (s : Schema) → Begins nine s → IsDatabase (record { schema = s; trees = v.trees }) → IsListed (v.trees catalog_tree) v.shape v.reals → IsOrdered v.shape v.trees → HaveAllColumns v.trees → IsFiled v.trees
-filed_by_store v s b obeys listed ordered whole =
-    let laid = laid_out listed (objects_rise v listed ordered) obeys.lists.listed in
-    let shapes = each_shape v.shape b.0 (subst (λ (ts : List Made). AllByRecursion (λ t. v.shape t.tree ≡ shape.Table) ts) b.1 laid.tables) in
-    record { rising = λ t old. (shaped_as v (tree_of t) (shapes t old) ordered).0; numbered = λ t old. (shaped_as v (tree_of t) (shapes t old) ordered).1; whole = whole }
+pub filed_by_store : (v : Version) (w : View) (s : Schema) → s ≡ schema_of v → IsDatabase (record { schema = s; trees = w.trees }) → IsListed (w.trees catalog_tree) w.shape w.reals → IsOrdered w.shape w.trees → HaveAllColumns v w.trees
+    → IsFiledAs v w.trees
+filed_by_store v w s is obeys listed ordered whole =
+    let laid = laid_out listed (objects_rise w listed ordered) obeys.lists.listed in
+    let shapes = each_shape v w.shape (subst (λ (x : Schema). AllByRecursion (λ (t : Made). w.shape t.tree ≡ shape.Table) x.tables) is laid.tables) in
+    record { rising = λ t here. (shaped_as w (tree_of t) (shapes t here) ordered).0; numbered = λ t here. (shaped_as w (tree_of t) (shapes t here) ordered).1; whole = whole }

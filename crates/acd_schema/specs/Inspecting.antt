@@ -171,8 +171,8 @@ ArePlaced version.Second db = (is_beside db ≡ true) × (is_ranked db ≡ true)
 -- the tables are those of a book of this version, and where their rows are filed, each value is in its range
 pub record IsOfBook (v : Version) (d : Database) : Type 0 where
   pub schema_is : d.schema ≡ schema_of v
-  pub version : IsToldIn d.trees (Some (number_of v))
   pub in_range : IsFiledAs version.First d.trees → (t : Table) → IsIn v t → is_good_in t d.trees ≡ true
+  pub version : IsToldIn d.trees (Some (number_of v))
   pub placed : ArePlaced v d.trees
 
 -- what the rows tell of tables that are a book's

@@ -259,5 +259,33 @@ part eight_groups
 . {"agent":"7","device":"201","groups":["100","110","120","130","140","150","160","170"],"name":"Ana","since":20,"state":"ready"}
 
 scene eight_groups_of_an_agent: plan claims eight_groups
+
+# A desk over files that is closed and opened between any two requests.
+
+files several_groups_between_requests: plan claims a_call_in_each ana_serves_both ana_answers_claims
+
+part a_third_group
+# A third group, agent 7 in the two others, and agent 8 in one of these.
+> 1 {"device":"120","invoke":8,"name":"Sales","requester":"plan","ring":20,"service":"addGroup","wrap":30}
+< 200 {"invoke":8,"requester":"plan","result":{}}
+> 2 {"agent":"7","device":"201","groups":["110","100"],"invoke":1,"requested":"loggedOn","requester":"desk","service":"setAgentState"}
+< 200 {"invoke":1,"requester":"desk","result":{"state":"notReady"}}
+> 3 {"agent":"8","device":"202","group":"100","invoke":2,"requested":"loggedOn","requester":"desk","service":"setAgentState"}
+< 200 {"invoke":2,"requester":"desk","result":{"state":"notReady"}}
+
+part changes_of_further_groups_and_priorities
+# Each column of further groups and of priorities, and a row that is missing or too many.
+~ sound UPDATE meta SET version = 2
+~ 11 DELETE FROM agent_groups
+~ 11 UPDATE agent_groups SET agent = 18
+~ 11 UPDATE agent_groups SET grp = 1120
+~ 11 INSERT INTO agent_groups VALUES (17, 1120)
+~ 11 INSERT INTO agent_groups VALUES (18, 1110)
+~ 11 DELETE FROM group_priority
+~ 11 UPDATE group_priority SET device = 1120
+~ 11 UPDATE group_priority SET priority = 6
+~ 11 INSERT INTO group_priority VALUES (1100, 1)
+
+altered altered_further_groups_and_priorities: plan claims a_third_group changes_of_further_groups_and_priorities
 "#
 }
