@@ -11,7 +11,7 @@ use Rattle.acd_book.specs.Content.{Content, Within}
 use Rattle.acd_book.specs.Order.{IsOrdered as IsInOrder}
 use Rattle.acd_schema.specs.declared.fault.AdoptFault.{AdoptFault}
 use Rattle.acd_schema.specs.declared.fault.AdoptFault.TheVariants.{WrongVersion, BadRow, NoMemory, Store}
-use Rattle.acd_columns.specs.AnyRows.{IsFiled, IsFiledAs, HaveAllColumns, schema_of}
+use Rattle.acd_columns.specs.AnyRows.{IsFiled, IsFiledAs, HaveAllColumns}
 use Rattle.acd_schema.specs.declared.fault.Found.{Found}
 use Rattle.acd_schema.specs.declared.fault.Found.TheVariants.{Book, Fault}
 use Rattle.acd_schema.specs.Inspecting.{IsFound, IsOfBook, IsFaultOf, IsStoreFault, IsInRange}

@@ -9,13 +9,14 @@ use sqlite::{Alter, Connection};
 use std::alloc::Global;
 use std::process::Abort;
 
-// The connection behind these lines, which get just these answers.
+// The connection behind these lines, which get just these answers, and behind which just these rows are there.
 fn served<S: Alter + Drop>(
     rt: &impl Abort,
     alloc: Global,
     conn: Connection<S>,
     lines: &str,
     answers: &str,
+    rows: &str,
 ) -> Connection<S> {
     if !conn.is_autocommit() {
         panic!(rt; "a transaction");
@@ -25,6 +26,8 @@ fn served<S: Alter + Drop>(
     let (done, conn) = lines_over_connection(alloc, conn, true, false, &mut reader, &mut written);
     assert!(rt; done.is_ok(), "{lines}");
     assert!(rt; written.as_slice() == answers.as_bytes(), "{lines}");
+    let mut conn = conn;
+    expect_numbers(rt, &mut conn, rows);
     conn
 }
 
@@ -136,21 +139,15 @@ fn rows_of_two_groups() -> &'static str {
 #[test]
 fn rows_of_further_groups_and_priorities(rt: HostRuntime) {
     let alloc = rt.alloc();
-    let mut conn = empty(&rt, alloc);
-    for (lines, answers, rows) in [
-        (three_groups(), of_three_groups(), rows_of_three_groups()),
-        ("", "", rows_of_three_groups()),
-        (
-            call_of_the_second_group(),
-            of_the_second_group(),
-            rows_of_the_second_group(),
-        ),
-        (log_off(), of_log_off(), rows_of_log_off()),
-        (two_groups(), of_two_groups(), rows_of_two_groups()),
-    ] {
-        conn = served(&rt, alloc, conn, lines, answers);
-        expect_numbers(&rt, &mut conn, rows);
-    }
+    let conn = empty(&rt, alloc);
+    let rows = rows_of_three_groups();
+    let conn = served(&rt, alloc, conn, three_groups(), of_three_groups(), rows);
+    let conn = served(&rt, alloc, conn, "", "", rows);
+    let (lines, answers) = (call_of_the_second_group(), of_the_second_group());
+    let conn = served(&rt, alloc, conn, lines, answers, rows_of_the_second_group());
+    let conn = served(&rt, alloc, conn, log_off(), of_log_off(), rows_of_log_off());
+    let rows = rows_of_two_groups();
+    let conn = served(&rt, alloc, conn, two_groups(), of_two_groups(), rows);
     let _book = expect_sound(&rt, alloc, book_in(&rt, alloc, conn));
 }
 
@@ -182,7 +179,7 @@ fn two_groups_behind_a_migration(rt: HostRuntime) {
     let alloc = rt.alloc();
     let conn = changed(&rt, empty(&rt, alloc), old_tables());
     let conn = changed(&rt, conn, left());
-    let conn = served(&rt, alloc, conn, behind_a_migration(), of_a_migration());
-    let book = expect_sound(&rt, alloc, book_in(&rt, alloc, conn));
-    expect_numbers(&rt, &mut book.into_connection(), rows_of_a_migration());
+    let (lines, answers) = (behind_a_migration(), of_a_migration());
+    let conn = served(&rt, alloc, conn, lines, answers, rows_of_a_migration());
+    let _book = expect_sound(&rt, alloc, book_in(&rt, alloc, conn));
 }
