@@ -198,15 +198,15 @@ unfolding content_of
 decoded_as v db c h =
     let is : (t : Table) → IsIn version.First t → StoresAs (number_of v) t (db (tree_of t)) (part t (relations_of c)) = λ t old. h.tables t (old_in v t old) in
     let groups =
-        ap (map (joined_group (ranks_in db))) (rows_back as_group group_row _ (db (tree_of table.Groups)) (map group_part c.rows.groups) (is table.Groups tt) group_back)
-        ∙ ap (λ ps. map (joined_group ps) (map group_part c.rows.groups)) (ranks_back v db c h)
-        ∙ groups_joined c.rows.groups (groups_rise c.rows.groups (is table.Groups tt).ascending)
+    ap (map (joined_group (ranks_in db))) (rows_back as_group group_row _ (db (tree_of table.Groups)) (map group_part c.rows.groups) (is table.Groups tt) group_back)
+    ∙ ap (λ ps. map (joined_group ps) (map group_part c.rows.groups)) (ranks_back v db c h)
+    ∙ groups_joined c.rows.groups (groups_rise c.rows.groups (is table.Groups tt).ascending)
     in
     let stations = rows_back as_station station_row _ (db (tree_of table.Stations)) c.rows.stations (is table.Stations tt) station_back in
     let agents =
-        ap (map (joined_agent (pairs_in db))) (rows_back as_agent agent_row _ (db (tree_of table.Agents)) (map agent_part c.rows.agents) (is table.Agents tt) agent_back)
-        ∙ ap (λ ps. map (joined_agent ps) (map agent_part c.rows.agents)) (pairs_back v db c h)
-        ∙ agents_joined c.rows.agents (agents_rise c.rows.agents (is table.Agents tt).ascending)
+    ap (map (joined_agent (pairs_in db))) (rows_back as_agent agent_row _ (db (tree_of table.Agents)) (map agent_part c.rows.agents) (is table.Agents tt) agent_back)
+    ∙ ap (λ ps. map (joined_agent ps) (map agent_part c.rows.agents)) (pairs_back v db c h)
+    ∙ agents_joined c.rows.agents (agents_rise c.rows.agents (is table.Agents tt).ascending)
     in
     let calls = rows_back as_call call_row _ (db (tree_of table.Calls)) c.rows.calls (is table.Calls tt) call_back in
     let connections = connections_back (db (tree_of table.Connections)) c.rows.connections (is table.Connections tt) in

@@ -233,9 +233,10 @@ module _ (agents : List AgentRow) (pairs : List (ℕ × ℕ)) (up : IsAscending 
       by (Some g) e =
           and_from (nat_le (length (g ∷ groups_beside pairs a.agent)) 8) (ascends nat_cmp (g ∷ groups_beside pairs a.agent))
           (one_more_few (length (groups_beside pairs a.agent)) (all_true (λ (x : AgentRow). nat_le (length (groups_beside pairs x.agent)) 7) agents both.1 a h))
-          (ascends_so (g ∷ groups_beside pairs a.agent)
-          (in_front g (filter (of_agent a.agent) pairs) (λ p k. lt_less g p.1 (sym (ap (λ o. is_above o p.1) e) ∙ above a h p k)),
-          seconds_rise a.agent (filter (of_agent a.agent) pairs) (λ p k. eqb-true p.0 a.agent (filter_among (of_agent a.agent) pairs p k).1) (ascending-filter pair_order (of_agent a.agent) pairs rise)))
+          (ascends_so (g ∷ groups_beside pairs a.agent) (
+            in_front g (filter (of_agent a.agent) pairs) (λ p k. lt_less g p.1 (sym (ap (λ o. is_above o p.1) e) ∙ above a h p k)),
+            seconds_rise a.agent (filter (of_agent a.agent) pairs) (λ p k. eqb-true p.0 a.agent (filter_among (of_agent a.agent) pairs p k).1) (ascending-filter pair_order (of_agent a.agent) pairs rise),
+          ))
 
   all_right : IsAscending pair_order pairs → (bs : List AgentRow) → ((a : AgentRow) → Among a bs → Among a agents) → Every (λ (a : AgentRecord). are_groups a.groups ≡ true) (map (joined_agent pairs) bs)
   all_right rise [] all = tt

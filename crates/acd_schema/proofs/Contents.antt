@@ -435,10 +435,10 @@ beside_of version.Second d book obeys filed seats queues =
     let typed = in_second d obeys book.schema_is rule.Datatype schema.group_priority 10 refl in
     let present = in_second d obeys book.schema_is rule.NotNull schema.group_priority 10 refl in
     let wide =
-        all_from (λ r. length r ≡ suc (length schema.group_priority.columns)) rows
-        (λ r k.
-        whole_row schema.group_priority r refl refl (all_has (λ r. is_typed schema.group_priority r ≡ true) rows r typed k)
-        (all_has (λ r. are_present schema.group_priority.key 0 schema.group_priority.columns r ≡ true) rows r present k))
+    all_from (λ r. length r ≡ suc (length schema.group_priority.columns)) rows
+    (λ r k.
+    whole_row schema.group_priority r refl refl (all_has (λ r. is_typed schema.group_priority r ≡ true) rows r typed k)
+    (all_has (λ r. are_present schema.group_priority.key 0 schema.group_priority.columns r ≡ true) rows r present k))
     in
     let ranks = are_of group_priority priorities_filed rows (filed.rising table.GroupPriority tt) wide typed (in_range version.Second d book obeys filed table.GroupPriority tt) in
     all_beside d.trees seats.records queues.records further.records ranks.records seats.are queues.are further.are ranks.are book.placed further.are_right ranks.are_right

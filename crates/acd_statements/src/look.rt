@@ -14,8 +14,8 @@ ghost use Rattle.acd_columns.specs.Seeing.{Sees};
 
 use crate::read::read;
 use acd_columns::texts::{
-    SELECT_LOW_EVENT, SELECT_LOW_KEPT, SELECT_STANDING_AGENT_GROUPS,
-    SELECT_STANDING_CONNECTIONS, SELECT_VERSION,
+    SELECT_LOW_EVENT, SELECT_LOW_KEPT, SELECT_STANDING_AGENT_GROUPS, SELECT_STANDING_CONNECTIONS,
+    SELECT_VERSION,
 };
 use sqlite::{Alter, Connection, Error, Row};
 use sqlite_schema::schema::{Schema, Table};

@@ -129,7 +129,9 @@ fn has_group(groups: &[GroupRow], priority: &GroupPriority) -> bool
 fn are_of_groups(groups: &[GroupRow], priorities: &[GroupPriority]) -> bool
     ensures { result ≡ are_of_groups groups.now priorities.now }
 {
-    priorities.iter().all(|priority| has_group(groups, priority))
+    priorities
+        .iter()
+        .all(|priority| has_group(groups, priority))
 }
 
 // Whether the priorities belong to the groups that stand there.

@@ -17,9 +17,9 @@ ghost use Rattle.acd_columns.specs.Seeing.{Sees};
 
 use crate::read::read;
 use crate::{bind, select};
-use acd_columns::texts::{SELECT_AGENT_GROUPS, 
-    SELECT_CONNECTIONS, SELECT_EVENTS_AFTER, SELECT_EVENTS_AT_DEVICE, SELECT_KEPT_AFTER,
-    SELECT_KEPT_OF_REQUEST, SELECT_MONITOR,
+use acd_columns::texts::{
+    SELECT_AGENT_GROUPS, SELECT_CONNECTIONS, SELECT_EVENTS_AFTER, SELECT_EVENTS_AT_DEVICE,
+    SELECT_KEPT_AFTER, SELECT_KEPT_OF_REQUEST, SELECT_MONITOR,
 };
 use acd_terms::{DeviceId, Invoke, Requester};
 use sqlite::{Alter, Connection, Error, Row};

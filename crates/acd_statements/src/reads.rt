@@ -9,10 +9,9 @@ ghost use Rattle.acd_columns.specs.Rows.{meta_shown};
 ghost use Rattle.acd_columns.specs.declared.meta.Meta.{Meta as MetaRow};
 ghost use Rattle.acd_columns.specs.Ranges.{further_in, connection_in, monitor_in, event_in, kept_in};
 
-use crate::plan;
 use crate::query::connection_rows;
 use crate::read::meta_rows;
-use crate::select;
+use crate::{plan, select};
 use acd_book::Kept;
 use acd_columns::{Meta, decode};
 use acd_terms::{

@@ -4,14 +4,13 @@ use crate::bind;
 use crate::stored::{Changed, Described, Removed, Selected, Stored};
 use crate::write::changed_rows;
 use acd_columns::codes::{agent_code, kind_code};
-use acd_columns::decode;
 use acd_columns::texts::{
     DELETE_CALL, DELETE_GROUP_PRIORITY, DELETE_MONITOR, INSERT_AGENT, INSERT_CALL, INSERT_EVENT,
     INSERT_GROUP, INSERT_GROUP_PRIORITY, INSERT_MONITOR, INSERT_STATION, SELECT_AGENTS,
     SELECT_CALLS, SELECT_GROUP_PRIORITY, SELECT_GROUPS, SELECT_MONITORS, SELECT_STATIONS,
     UPDATE_AGENT, UPDATE_CALL, UPDATE_GROUP, UPDATE_GROUP_PRIORITY, UPDATE_MONITOR,
 };
-use acd_columns::{AgentRow, GroupPriority, GroupRow};
+use acd_columns::{AgentRow, GroupPriority, GroupRow, decode};
 use acd_terms::{CallRecord, Event, MonitorRecord, StationRecord};
 use sqlite::{Alter, Error, Row, Transaction};
 
