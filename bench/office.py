@@ -4,9 +4,9 @@
 usage: office.py given | wanted | seen | scene | try [PROGRAM]
 
 given prints the day's input lines, wanted its answer lines and then all event reports, seen how often each situation came
-up. 12 groups, 40 stations, 40 agents, some 60 live calls, 3000 requests of eight requesters; then 300 repeats, other
-requests under keys that are used, and a last call. try has PROGRAM (release/acd) answer the day over memory and over a file,
-and export the file's event reports: it counts the lines that weren't foreseen.
+up. 12 groups of three priorities, 40 stations, 40 agents of one to eight groups, some 60 live calls, 3000 requests of eight
+requesters; then 300 repeats, other requests under keys that are used, and a last call. try has PROGRAM (release/acd) answer
+the day over memory and over a file, and export the file's event reports: it counts the lines that weren't foreseen.
 scene prints the morning as crates/acd_scenes has it in src/scenes/morning.rt: each request with its answer and its event
 reports, and what the rows then hold.
 What has to come is foreseen by bench/switch.py, which knows nothing of the verified program. The same lines come at each run."""
@@ -36,12 +36,16 @@ WANTED = {"tick with several overdue offers": 8, "several offers after one reque
           "queued call deflected": 30, "offered call deflected": 30, "offered call deflected to its own group": 5,
           "call transferred": 30, "private call answered": 20, "two agents released": 1, "state pending": 20, "call abandoned": 20,
           "call failed": 10, "monitorStart": 20, "monitorStop": 10, "moment before the last": 20}
+MIXED = {"log-on in several groups": 20, "log-on in eight groups": 5, "log-on with both members": 3, "setGroupPriority": 20,
+         "offer of a group of higher priority": 20, "repeat in another order": 5}
 UNREACHED = {"tooManyCalls", "planFull"}  # the limits are greater than this office
 
 # an office and how long it is watched: wanted is what has to come up, and named the refusals that have to
-Size = namedtuple("Size", "seed requests repeats reused live_calls wild signs groups stations agents wanted named")
-DAY = Size(3000, 3000, 300, 10, 60, 3, "\"\\", GROUPS, STATIONS, AGENTS, WANTED, set(REFUSALS) - UNREACHED)
-MORNING = Size(12, 280, 5, 2, 8, 8, "'/", GROUPS[2:6], STATIONS[::5], AGENTS[::5], dict.fromkeys(WANTED, 1), DAY.named)
+# mixed: its agents serve several groups, of three priorities
+Size = namedtuple("Size", "seed requests repeats reused live_calls wild signs groups stations agents wanted named mixed")
+DAY = Size(3000, 3000, 300, 10, 60, 3, "\"\\", GROUPS, STATIONS, AGENTS, WANTED | MIXED, set(REFUSALS) - UNREACHED, True)
+MORNING = Size(12, 280, 5, 2, 8, 8, "'/", GROUPS[2:6], STATIONS[::5], AGENTS[::5], dict.fromkeys(WANTED, 1), DAY.named, False)
+PRIORITIES = [0, 5, 9]
 COLUMNS = "number,moment,event,call,device,agent,group,to,cause,waited".split(",")
 
 
@@ -106,6 +110,7 @@ class Office:
             self.seen[reply["error"]["name"]] += 1
             return
         self.seen[service] += 1
+        self.watch_groups(events)
         self.seen["state pending"] += "pending" in reply["result"]
         offers = sum(event["event"] == "delivered" and event["cause"] == "distributed" for event in events)
         self.seen["several offers after one request"] += offers > 1
@@ -122,6 +127,19 @@ class Office:
         self.seen["two agents released"] += service == "clearConnection" and names["agentWorkingAfterCall"] == 2
         self.seen["call abandoned"] += any(event["event"] == "callCleared" and "group" in event for event in events)
         self.seen["call failed"] += names["failed"] > 0
+
+    def watch_groups(self, events):
+        """Counts what comes up in a mixed office alone."""
+        members = self.asked[-1][3]
+        groups = members.get("groups", [])
+        self.seen["log-on in several groups"] += len(groups) > 1 and "group" not in members
+        self.seen["log-on in eight groups"] += len(groups) == 8 and "group" not in members
+        self.seen["log-on with both members"] += "group" in members and "groups" in members
+        for event in events:
+            if event["event"] == "delivered" and event["cause"] == "distributed":
+                served = self.switch.agents[self.switch.agent_at(event["device"])].groups
+                least = min(self.switch.groups[group].priority for group in served)
+                self.seen["offer of a group of higher priority"] += self.switch.groups[event["group"]].priority > least
 
     # what is there to act on
 
@@ -157,21 +175,36 @@ class Office:
         for device, ring, wrap in self.size.groups:
             name = f"Group {device} {quote}of{quote} the help line"[:40]
             self.ask(PLANNER, "addGroup", device=device, name=name, ring=ring, wrap=wrap)
+        if self.size.mixed:
+            for place, device in enumerate(self.group_names):
+                self.ask(PLANNER, "setGroupPriority", device=device, priority=PRIORITIES[place % 3])
         for station in self.station_names:
             self.ask(PLANNER, "addStation", device=station)
         for agent in self.agent_names:
             self.ask(PLANNER, "addAgent", agent=agent, name=f"Agent {agent} {slash} of the help line office {slash}"[:40])
         for place, (agent, station) in enumerate(zip(self.rng.sample(self.agent_names, len(self.agent_names)), self.station_names)):
             self.ask(self.desk_name(), "setAgentState", agent=agent, requested="loggedOn", device=station,
-                     group=self.group_names[place % len(self.group_names)])
+                     **self.serving(self.group_names[place % len(self.group_names)]))
             if place % 3 == 0:
                 self.set_state(agent, "ready")
 
     def set_state(self, agent, requested):
         members = {}
         if requested == "loggedOn":
-            members = {"device": self.place(self.free_stations()), "group": self.place(self.group_names)}
+            members = {"device": self.place(self.free_stations()), **self.serving(self.place(self.group_names))}
         self.ask(self.desk_name(), "setAgentState", agent=agent, requested=requested, **members)
+
+    def serving(self, device):
+        """The members that name this group; in a mixed office at times with up to seven others, in any order."""
+        if not self.size.mixed or self.rng.random() < 0.3:
+            return {"group": device}
+        others = [group for group in self.group_names if group != device]
+        groups = [device, *self.rng.sample(others, self.rng.choice([0, 1, 2, 3, min(7, len(others))]))]
+        self.rng.shuffle(groups)
+        return {"groups": groups} if self.rng.random() < 0.9 else {"group": device, "groups": groups}
+
+    def set_priority(self, device):
+        self.ask(PLANNER, "setGroupPriority", device=device, priority=self.rng.choice(PRIORITIES))
 
     def place(self, devices):
         """One of these devices; at times one of the other kind."""
@@ -252,8 +285,8 @@ class Office:
         group = self.rng.choice([self.any_device(), self.rng.choice(self.station_names)])
         return "setAgentState", self.rng.choice([
             {"agent": agent, "requested": self.rng.choice(STATES)},
-            {"agent": agent, "requested": "loggedOn", "device": self.any_device(), "group": self.any_device()},
-            {"agent": away, "requested": "loggedOn", "device": station, "group": group},
+            {"agent": agent, "requested": "loggedOn", "device": self.any_device(), **self.serving(self.any_device())},
+            {"agent": away, "requested": "loggedOn", "device": station, **self.serving(group)},
         ])
 
     def wild_call(self):
@@ -265,7 +298,8 @@ class Office:
 
     def wild_other(self):
         monitor = self.rng.choice([1, 1000000000, self.switch.last_monitor + 1])
-        return self.rng.choice([
+        others = [("setGroupPriority", {"device": self.any_device(), "priority": self.rng.choice(PRIORITIES)})] if self.size.mixed else []
+        return self.rng.choice(others + [
             ("arriveCall", {"caller": self.any_device(), "called": self.any_device()}),
             ("makeCall", {"device": self.any_device(), "called": self.any_device()}),
             ("clearConnection", {"call": self.any_end()[0], "device": self.any_device()}),
@@ -300,6 +334,7 @@ class Office:
             (0.3, self.act("holdCall"), self.connections("queued")), (0.3, self.transfer, self.connections("queued")),
             (1, lambda device: self.ask(WATCHER, "monitorStart", device=device), self.station_names),
             (1, lambda monitor: self.ask(WATCHER, "monitorStop", monitor=monitor), list(self.switch.monitors)),
+            (1, self.set_priority, self.group_names if self.size.mixed else []),
         ]
 
     def work(self):
@@ -318,7 +353,16 @@ class Office:
         """A request of before once more, at some moment; or another service under its key."""
         requester, invoke, first, members = self.rng.choice([each for each in self.asked if each[2] != service])
         moment = self.rng.randrange(2 * self.now)
-        self.send(moment, requester, invoke, service or first, {} if service else members)
+        members = {} if service else self.reordered(members)
+        self.send(moment, requester, invoke, service or first, members)
+
+    def reordered(self, members):
+        """The same request, with its groups in another order."""
+        if "groups" not in members:
+            return members
+        groups = self.rng.sample(members["groups"], len(members["groups"]))
+        self.seen["repeat in another order"] += groups != members["groups"]
+        return {**members, "groups": groups}
 
     def check(self):
         """Refuses a day on which something didn't come up."""

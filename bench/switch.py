@@ -38,6 +38,7 @@ class Group:
     name: str
     ring: int
     wrap: int
+    priority: int = 0
     entered: int = 0
     answered: int = 0
     abandoned: int = 0
@@ -53,7 +54,7 @@ class Agent:
     state: str = "null"
     pending: str = None
     station: str = None
-    group: str = None
+    groups: list = field(default_factory=list)  # in their order
 
 
 @dataclass
@@ -119,7 +120,7 @@ class Switch:
     def eligible(self, group):
         """Stamp, number and name of the agents to whom a call of the group may be offered, the longest ready first."""
         return sorted((record.stamp, order(agent), agent) for agent, record in self.agents.items()
-                      if record.group == group and record.state == "ready" and not self.occupied(agent)
+                      if group in record.groups and record.state == "ready" and not self.occupied(agent)
                       and self.idle(record.station))
 
     # what changes it
@@ -144,7 +145,7 @@ class Switch:
         record.state, record.stamp, record.since = state, self.stamp, self.moment
         station = record.station
         if state == "null":
-            record.station = record.group = None
+            record.station, record.groups = None, []
         self.report(EVENT_OF[state], agent=agent, device=station)
 
     def release(self, device, connection, how):
@@ -299,12 +300,12 @@ class Switch:
         self.arrive(call, to, "transferred")
         self.release(device, connection, "answered")
 
-    def set_agent_state(self, agent, requested, device=None, group=None):
+    def set_agent_state(self, agent, requested, device=None, groups=None):
         refuse_if(agent not in self.agents, "unknownAgent")
         record = self.agents[agent]
         refuse_if((record.state == "null") != (requested == "loggedOn"), "wrongAgentState")
         if requested == "loggedOn":
-            self.log_on(agent, device, group)
+            self.log_on(agent, device, groups)
         elif self.occupied(agent):
             record.pending = requested
             return {"pending": requested, "state": record.state}
@@ -312,16 +313,22 @@ class Switch:
             self.become(agent, "null" if requested == "loggedOff" else requested)
         return {"state": record.state}
 
-    def log_on(self, agent, device, group):
+    def log_on(self, agent, device, groups):
         refuse_if(not self.planned(device), "unknownDevice")
         refuse_if(device not in self.stations, "notStation")
         refuse_if(self.agent_at(device) is not None, "stationTaken")
-        refuse_if(not self.planned(group), "unknownDevice")
-        refuse_if(group not in self.groups, "notGroup")
+        for group in groups:
+            refuse_if(not self.planned(group), "unknownDevice")
+            refuse_if(group not in self.groups, "notGroup")
         record = self.agents[agent]
-        record.state, record.station, record.group = "notReady", device, group
+        record.state, record.station, record.groups = "notReady", device, groups
         record.stamp, record.since = self.stamp, self.moment
-        self.report("agentLoggedOn", agent=agent, device=device, group=group)
+        self.report("agentLoggedOn", agent=agent, device=device, group=groups[0] if len(groups) == 1 else None)
+
+    def set_group_priority(self, device, priority):
+        refuse_if(not self.planned(device), "unknownDevice")
+        refuse_if(device not in self.groups, "notGroup")
+        self.groups[device].priority = priority
 
     def monitor_start(self, device):
         refuse_if(not self.planned(device), "unknownDevice")
@@ -350,7 +357,7 @@ class Switch:
             self.report("queued", device=group, call=number, cause="noAnswer")
             self.release(device, connection, "noAnswer")
         for agent, record in sorted(self.agents.items(), key=lambda entry: order(entry[0])):
-            if record.state == "workingAfterCall" and 0 < self.groups[record.group].wrap <= self.moment - record.since:
+            if record.state == "workingAfterCall" and 0 < self.groups[record.groups[0]].wrap <= self.moment - record.since:
                 self.become(agent, "ready")
 
     def distribute(self):
@@ -358,7 +365,7 @@ class Switch:
             open_groups = [group for group in self.groups if self.waiting(group) and self.eligible(group)]
             if not open_groups:
                 return
-            group = min(open_groups, key=order)
+            group = min(open_groups, key=lambda each: (-self.groups[each].priority, order(each)))
             number, agent = self.waiting(group)[0][1], self.eligible(group)[0][2]
             station, connections = self.agents[agent].station, self.calls[number].connections
             connections[station] = replace(connections.pop(group), state="alerting", offered=self.moment)
@@ -370,7 +377,7 @@ class Switch:
         "makeCall": make_call, "phoneOffHook": phone_off_hook, "answerCall": answer_call, "holdCall": hold_call,
         "retrieveCall": retrieve_call, "clearConnection": clear_connection, "deflectCall": deflect_call,
         "singleStepTransfer": single_step_transfer, "setAgentState": set_agent_state, "monitorStart": monitor_start,
-        "monitorStop": monitor_stop, "tick": tick,
+        "monitorStop": monitor_stop, "tick": tick, "setGroupPriority": set_group_priority,
     }
 
     def step(self, moment, service, members):
@@ -383,6 +390,15 @@ class Switch:
             return str(refusal)
         self.distribute()
         return answer
+
+
+def understood(service, members):
+    """The members of a request, where a log-on has its groups in their order, whichever way it names them."""
+    if service != "setAgentState" or members["requested"] != "loggedOn":
+        return members
+    groups = [members["group"]] if "group" in members else members["groups"]
+    rest = {name: value for name, value in members.items() if name not in ("group", "groups")}
+    return {**rest, "groups": sorted(groups, key=order)}
 
 
 def compact(value):
@@ -400,6 +416,7 @@ class Desk:
         self.switch, self.kept = Switch(limits), {}
 
     def take(self, moment, requester, invoke, service, **members):
+        members = understood(service, members)
         key, request = (requester, invoke), (service, members)
         if key in self.kept:
             first, reply = self.kept[key]

@@ -8,7 +8,7 @@ use Rattle.json.specs.Written.{Written, Writes}
 use Rattle.serde_json.specs.Data.{Data, object, Members, no_members, member}
 use Rattle.serde_json.specs.Written.{outline, items_outline, members_outline, compact_text}
 use Rattle.serde_json.proofs.Texts.{print-outline}
-use Rattle.acd_codec.specs.Parts.{Part, part, list_part, written, object_of, items_of}
+use Rattle.acd_codec.specs.Parts.{Part, part, list_part, written_before, written, object_of, items_of}
 use Rattle.acd_codec.specs.Tokens.{data_tokens, tokens_of, part_tokens, parts_tokens, each_tokens, Added, Adds, Begun}
 
 pub wrote : {E : Type 0} (r : Result (Unit {0}) E) (old new : Written) (t : Token) → Writes r old new t → Adds r old new (t ∷ [])
@@ -39,10 +39,22 @@ parts_written [] = refl
 parts_written (part k None ∷ ps) = parts_written ps
 parts_written (part k (Some d) ∷ ps) = ap (λ (ts : List Token). key k ∷ (data_tokens d ++ ts)) (parts_written ps)
 
+before_written : (ps : List Part) (more : Members) → tokens_of (written_before ps more) ≡ parts_tokens ps ++ tokens_of more
+before_written [] more = refl
+before_written (part k None ∷ ps) more = before_written ps more
+before_written (part k (Some d) ∷ ps) more =
+    ap (λ (ts : List Token). key k ∷ (data_tokens d ++ ts)) (before_written ps more)
+    ∙ sym (append_assoc (key k ∷ data_tokens d) (parts_tokens ps) (tokens_of more))
+
 items_closed : {T : Type 0} (f : T → Data) (xs : List T) → items_tokens (items_outline (items_of f xs)) ≡ each_tokens f xs ++ end_array ∷ []
 items_closed {T} f [] = refl
 items_closed {T} f (x ∷ xs) =
     ap (λ (ts : List Token). data_tokens (f x) ++ ts) (items_closed f xs) ∙ sym (append_assoc (data_tokens (f x)) (each_tokens f xs) (end_array ∷ []))
+
+-- parts, and then members
+pub adds_before : {E : Type 0} (r : Result (Unit {0}) E) (old mid new : Written) (ps : List Part) (more : Members)
+    → Added old mid (parts_tokens ps) → Adds r mid new (tokens_of more) → Adds r old new (tokens_of (written_before ps more))
+adds_before {E} r old mid new ps more a b = rw (before_written ps more) (adds_then r old mid new (parts_tokens ps) (tokens_of more) a b)
 
 -- an object is its members between brackets
 pub object_added : {E : Type 0} (r : Result (Unit {0}) E) (old begun filled new : Written) (ps : List Part)

@@ -2,6 +2,7 @@
 use Rattle.std.proofs.Common.{◌&&◌, ◌==◌, ◌<◌, ◌+◌, ◌^◌, ◌∷◌, length, drop, slice_index, slice_index_or, nat_lt, nat_le, Bor, ◌≡◌, ℕ, List, Bool, true, false, cond, Option, Some, None, option_map, option_and_then, is_some, refl, sym, ap, subst, ◌∙◌, true≢false}
 use Rattle.std.specs.Str.{bytes_eq}
 use Rattle.std.proofs.lemmas.Slice.Eq.{bytes_eq-Decides}
+use Rattle.std.proofs.lemmas.Bool.{and_parts}
 use Rattle.std.proofs.lemmas.List.{at_drop_more}
 use Rattle.std.specs.Float.{binary64, float_is_finite}
 use Rattle.fast_float.specs.Text.{minus, Parts, scan, digits_of, nearest}
@@ -149,3 +150,31 @@ if_none false n o h k = k
 
 pub below_zero : (p : Parts) → option_and_then as_u64 (number_from true p) ≡ None
 below_zero p = if_none (is_integer p && nat_lt 0 (digits_of p) && nat_le (digits_of p) (2 ^ 63)) _ _ refl (if_none (float_is_finite (nearest binary64 true p)) _ None refl refl)
+
+-- a member that was found in JSON whose numbers are in range is in range itself
+
+later_fits : (o : Option json.Json) (b : Bool) (j : json.Json) → is_some (of_json j) ≡ true → is_some (option_and_then of_json o) ≡ is_some o
+    → is_some (option_and_then of_json (found.later_or o (cond b (Some j) None))) ≡ is_some (found.later_or o (cond b (Some j) None))
+later_fits (Some x) b j h k = k
+later_fits None true j h k = h
+later_fits None false j h k = refl
+
+member_fits : (k : List ℕ) (ms : json.Members) → fit ms ≡ true → is_some (option_and_then of_json (found.get_member k ms)) ≡ is_some (found.get_member k ms)
+member_fits k json.no_members h = refl
+member_fits k (json.member l j ms) h =
+    let both = and_parts (is_some (of_json j)) (fit ms) h in
+    later_fits (found.get_member k ms) (bytes_eq l k) j both.0 (member_fits k ms both.1)
+
+found_fits : (k : List ℕ) (j : json.Json) (d : Data) → of_json j ≡ Some d → is_some (option_and_then of_json (found.get k j)) ≡ is_some (found.get k j)
+found_fits k json.null d e = refl
+found_fits k (json.boolean b) d e = refl
+found_fits k (json.number s) d e = refl
+found_fits k (json.string s) d e = refl
+found_fits k (json.array js) d e = refl
+found_fits k (json.object ms) d e = member_fits k ms (sym (fits ms no_members) ∙ sym (mapped (of_members ms no_members) object) ∙ ap is_some e)
+
+-- there is a member in the data where one was found in the text
+pub found_there : {A : Type 0} (k : List ℕ) (j : json.Json) (d : Data) (o : Option (Bor (Value A))) → of_json j ≡ Some d
+    → option_map (λ v. value_view v.now) o ≡ found.get k j → is_some o ≡ is_some (get k d)
+found_there {A} k j d o h e =
+    sym (mapped o (λ (v : Bor (Value A)). value_view v.now)) ∙ ap is_some e ∙ sym (ap is_some (get_of k j d h) ∙ found_fits k j d h)

@@ -4,3 +4,5 @@ pub mod Adding
 pub mod Printed
 pub mod Plain
 pub mod RoundTrip
+pub mod Choosing
+pub mod OldReadings

@@ -1,11 +1,13 @@
 -- What each part of a request is known to be.
-use Rattle.std.specs.Prelude.{ℕ}
+use Rattle.std.specs.Prelude.{◌≡◌, ℕ, true}
 use Rattle.acd_terms.specs.Forms.{device_digits, agent_digits, IsNumberOf, IsName, IsRequester, IsBetween}
+use Rattle.acd_terms.specs.Groups.{is_choice}
+use Rattle.acd_terms.specs.Lists.{Every}
 use Rattle.acd_terms.specs.declared.command.Request.{Request}
 use Rattle.acd_terms.specs.declared.command.Requested.{Requested}
 use Rattle.acd_terms.specs.declared.command.Requested.TheVariants as requested
 use Rattle.acd_terms.specs.declared.command.Command.{Command}
-use Rattle.acd_terms.specs.declared.command.Command.TheVariants.{AddGroup, AddStation, AddAgent, ArriveCall, MakeCall, PhoneOffHook, AnswerCall, HoldCall, RetrieveCall, ClearConnection, DeflectCall, SingleStepTransfer, SetAgentState, MonitorStart, MonitorStop, Tick}
+use Rattle.acd_terms.specs.declared.command.Command.TheVariants.{AddGroup, AddStation, AddAgent, ArriveCall, MakeCall, PhoneOffHook, AnswerCall, HoldCall, RetrieveCall, ClearConnection, DeflectCall, SingleStepTransfer, SetAgentState, MonitorStart, MonitorStop, Tick, SetGroupPriority}
 
 abbrev pub IsDevice : ℕ → Type 0
 IsDevice n = IsNumberOf device_digits n
@@ -16,12 +18,15 @@ IsAgent n = IsNumberOf agent_digits n
 abbrev pub IsSeconds : ℕ → Type 0
 IsSeconds n = IsBetween 0 3600 n
 
+abbrev pub IsPriority : ℕ → Type 0
+IsPriority n = IsBetween 0 9 n
+
 -- a call or a monitor
 abbrev pub IsSerial : ℕ → Type 0
 IsSerial n = IsBetween 1 1000000000 n
 
 abbrev pub IsRequested : Requested → Type 0
-IsRequested (requested.LoggedOn device group) = IsDevice device × IsDevice group
+IsRequested (requested.LoggedOn device groups) = IsDevice device × (is_choice groups ≡ true) × Every IsDevice groups
 IsRequested (requested.State state) = Unit {0}
 
 abbrev pub IsCommand : Command → Type 0
@@ -41,6 +46,7 @@ IsCommand (SetAgentState agent requested) = IsAgent agent × IsRequested request
 IsCommand (MonitorStart device) = IsDevice device
 IsCommand (MonitorStop monitor) = IsSerial monitor
 IsCommand Tick = Unit {0}
+IsCommand (SetGroupPriority device priority) = IsDevice device × IsPriority priority
 
 -- each part is of its form
 pub record IsRequest (r : Request) : Type 0 where

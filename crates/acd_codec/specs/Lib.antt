@@ -10,3 +10,4 @@ pub mod Parts
 pub mod Tokens
 pub mod EventTexts
 pub mod ReadTexts
+pub mod OldReading

@@ -1,10 +1,13 @@
 -- The members of a request, each read by the form of what it names.
-use Rattle.std.specs.Prelude.{ℕ, List, Option, option_and_then, Result}
-use Rattle.std.specs.Option.{ok_or}
+use Rattle.std.specs.Prelude.{ℕ, nat_le, Bool, true, not, ◌&&◌, List, [], ◌∷◌, length, Option, Some, None, option_map, option_and_then, Result, if◌then◌else◌}
+use Rattle.std.specs.Ordering.{nat_cmp}
+use Rattle.std.specs.Option.{ok_or, is_some}
 use Rattle.std.specs.Result.{result_ok}
-use Rattle.serde_json.specs.Data.{Data}
-use Rattle.serde_json.specs.Find.{get, as_str, as_number, as_u64}
+use Rattle.serde_json.specs.Data.{Data, Items, no_items, item}
+use Rattle.serde_json.specs.Find.{get, as_str, as_number, as_u64, as_array}
 use Rattle.acd_terms.specs.Forms.{device_digits, agent_digits, read_id, read_text, is_name_byte, is_requester_byte, number_between}
+use Rattle.acd_terms.specs.Groups.{most_groups, is_one_of}
+use Rattle.acd_terms.specs.Lists.{put_by}
 use Rattle.acd_codec.specs.declared.member.Member.{Member}
 use Rattle.acd_codec.specs.declared.member.Member.TheVariants as member
 use Rattle.acd_codec.specs.declared.service.RequestedState.{RequestedState}
@@ -20,6 +23,14 @@ text_in m d = option_and_then as_str (get (member_name m) d)
 abbrev pub number_in : Member → Data → Option ℕ
 number_in m d = option_and_then as_u64 (option_and_then as_number (get (member_name m) d))
 
+-- a member that is a list
+abbrev pub list_in : Member → Data → Option Items
+list_in m d = option_and_then as_array (get (member_name m) d)
+
+-- there is a member of this name, whatever it is
+abbrev pub is_there : Member → Data → Bool
+is_there m d = is_some (get (member_name m) d)
+
 -- the member's text as this reader reads it, or the member as faulty
 abbrev pub read_in : {A : Type 0} → (List ℕ → Option A) → Member → Data → Result A Member
 read_in reader m d = ok_or (option_and_then reader (text_in m d)) m
@@ -29,8 +40,11 @@ abbrev pub number_within : ℕ → ℕ → Member → Data → Result ℕ Member
 number_within least greatest m d = ok_or (option_and_then (number_between least greatest) (number_in m d)) m
 
 -- a device is 1 to 15 digits
+abbrev pub device_of : List ℕ → Option ℕ
+device_of t = result_ok (read_id device_digits t)
+
 unfoldable pub device_in : Member → Data → Result ℕ Member
-device_in m d = read_in (λ t. result_ok (read_id device_digits t)) m d
+device_in m d = read_in device_of m d
 
 -- an agent is 1 to 9 digits
 unfoldable pub agent_in : Data → Result ℕ Member
@@ -52,14 +66,41 @@ invoke_in d = number_within 1 999999999 member.Invoke d
 unfoldable pub seconds_in : Member → Data → Result ℕ Member
 seconds_in m d = number_within 0 3600 m d
 
+-- a priority is 0 to 9
+unfoldable pub priority_in : Data → Result ℕ Member
+priority_in d = number_within 0 9 member.Priority d
+
 -- a call or a monitor is 1 to 1000000000
 unfoldable pub serial_in : Member → Data → Result ℕ Member
 serial_in m d = number_within 1 1000000000 m d
 
--- a service goes by one of the sixteen names
+-- a service goes by one of the seventeen names
 unfoldable pub service_in : Data → Result Service Member
 service_in d = read_in service_of member.Service d
 
 -- what is asked for is loggedOn or one of four states
 unfoldable pub requested_state_in : Data → Result RequestedState Member
 requested_state_in d = read_in requested_state_of member.Requested d
+
+-- the devices of a list, where each item is the text of one
+abbrev pub devices_of : Items → Option (List ℕ)
+devices_of no_items = Some []
+devices_of (item d ds) = option_and_then (λ (n : ℕ). option_map (λ (ns : List ℕ). n ∷ ns) (devices_of ds)) (option_and_then device_of (as_str d))
+
+-- none of them stands there twice
+abbrev pub are_distinct : List ℕ → Bool
+are_distinct [] = true
+are_distinct (d ∷ ds) = not (is_one_of ds d) && are_distinct ds
+
+-- in ascending number: each is put in its place among those behind it
+abbrev pub ascending : List ℕ → List ℕ
+ascending [] = []
+ascending (d ∷ ds) = put_by (nat_cmp d) (ascending ds) d
+
+-- one to eight devices, none of them twice, in whatever order
+abbrev pub choice_of : List ℕ → Option (List ℕ)
+choice_of ds = if nat_le 1 (length ds) && nat_le (length ds) most_groups && are_distinct ds then Some (ascending ds) else None
+
+-- groups are a list of such devices
+unfoldable pub groups_in : Data → Result (List ℕ) Member
+groups_in d = ok_or (option_and_then choice_of (option_and_then devices_of (list_in member.Groups d))) member.Groups

@@ -1,7 +1,7 @@
 -- The names of members.
 use Rattle.std.specs.Prelude.{ℕ, List, codes}
 use Rattle.acd_codec.specs.declared.member.Member.{Member}
-use Rattle.acd_codec.specs.declared.member.Member.TheVariants.{Json, Requester, Invoke, Service, Device, Name, Ring, Wrap, Agent, Caller, Called, Call, To, Requested, Group, Monitor, Moment}
+use Rattle.acd_codec.specs.declared.member.Member.TheVariants.{Json, Requester, Invoke, Service, Device, Name, Ring, Wrap, Agent, Caller, Called, Call, To, Requested, Group, Groups, Priority, Monitor, Moment}
 
 abbrev pub member_name : Member → List ℕ
 member_name Json = codes "json"
@@ -19,5 +19,7 @@ member_name Call = codes "call"
 member_name To = codes "to"
 member_name Requested = codes "requested"
 member_name Group = codes "group"
+member_name Groups = codes "groups"
+member_name Priority = codes "priority"
 member_name Monitor = codes "monitor"
 member_name Moment = codes "moment"

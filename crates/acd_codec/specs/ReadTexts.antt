@@ -1,8 +1,7 @@
 -- The texts of agents, calls, devices and queues. The members of each object stand in the order of their names.
-use Rattle.std.specs.Prelude.{ℕ, List, [], ◌∷◌, codes, Option, Some, None, option_map, if◌then◌else◌}
-use Rattle.serde_json.specs.Data.{Data, string}
+use Rattle.std.specs.Prelude.{ℕ, nat_lt, List, [], ◌∷◌, ◌++◌, codes, Option, Some, None, option_map, if◌then◌else◌}
+use Rattle.serde_json.specs.Data.{Data}
 use Rattle.serde_json.specs.Written.{compact_text}
-use Rattle.acd_terms.specs.Forms.{digits_of}
 use Rattle.acd_terms.specs.States.{is_distributed, agent_state_name, pending_name}
 use Rattle.acd_terms.specs.declared.record.AgentRecord.{AgentRecord}
 use Rattle.acd_terms.specs.declared.record.CallRecord.{CallRecord}
@@ -12,7 +11,7 @@ use Rattle.acd_terms.specs.declared.state.ConnectionState.{ConnectionState}
 use Rattle.acd_terms.specs.declared.state.ConnectionState.TheVariants.{Initiated, Alerting, Connected, Hold, Queued, Fail}
 use Rattle.acd_codec.specs.declared.read_texts.PlannedDevice.{PlannedDevice}
 use Rattle.acd_codec.specs.declared.read_texts.PlannedDevice.TheVariants.{Group, Station}
-use Rattle.acd_codec.specs.Parts.{Part, text_part, number_part, list_part, object_of, items_of}
+use Rattle.acd_codec.specs.Parts.{Part, text_part, number_part, list_part, digits_part, groups_parts, object_of, items_of, digits_data}
 
 abbrev pub connection_state_name : ConnectionState → List ℕ
 connection_state_name Initiated = codes "initiated"
@@ -22,21 +21,17 @@ connection_state_name Hold = codes "hold"
 connection_state_name Queued = codes "queued"
 connection_state_name Fail = codes "fail"
 
--- a member that is the digits of a device or an agent
-abbrev pub digits_part : List ℕ → Option ℕ → Part
-digits_part k d = text_part k (option_map digits_of d)
-
 abbrev pub agent_parts : AgentRecord → List Part
 agent_parts a =
     digits_part (codes "agent") (Some a.agent)
     ∷ digits_part (codes "device") a.station
-    ∷ digits_part (codes "group") a.group
-    ∷ text_part (codes "name") (Some a.name)
+    ∷ (groups_parts a.groups
+    ++ text_part (codes "name") (Some a.name)
     ∷ text_part (codes "pending") (option_map pending_name a.pending)
     ∷ number_part (codes "since") (Some a.since)
-    ∷ text_part (codes "state") (Some (agent_state_name a.state)) ∷ []
+    ∷ text_part (codes "state") (Some (agent_state_name a.state)) ∷ [])
 
--- an agent, with the station and the group where it is logged on
+-- an agent, with the station and the groups where it is logged on
 unfoldable pub agent_text : AgentRecord → List ℕ
 agent_text a = compact_text (object_of (agent_parts a))
 
@@ -66,11 +61,16 @@ call_parts r cs =
 unfoldable pub call_text : CallRecord → List ConnectionRecord → List ℕ
 call_text r cs = compact_text (object_of (call_parts r cs))
 
+-- a priority, where it isn't the lowest
+unfoldable pub above_0 : ℕ → Option ℕ
+above_0 priority = if nat_lt 0 priority then Some priority else None
+
 abbrev pub group_parts : GroupRecord → List Part
 group_parts g =
     digits_part (codes "device") (Some g.device)
     ∷ text_part (codes "kind") (Some (codes "group"))
     ∷ text_part (codes "name") (Some g.name)
+    ∷ number_part (codes "priority") (above_0 g.priority)
     ∷ number_part (codes "ring") (Some g.ring)
     ∷ number_part (codes "wrap") (Some g.wrap) ∷ []
 
@@ -107,9 +107,6 @@ waiting_parts c = number_part (codes "call") (Some c.call) ∷ number_part (code
 
 abbrev pub waiting_data : ConnectionRecord → Data
 waiting_data c = object_of (waiting_parts c)
-
-abbrev pub digits_data : ℕ → Data
-digits_data n = string (digits_of n)
 
 abbrev pub queue_parts : ℕ → List ConnectionRecord → List ℕ → List Part
 queue_parts group waiting ready =

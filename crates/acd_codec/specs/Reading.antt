@@ -1,5 +1,5 @@
 -- The request that bytes stand for, or the first faulty member.
-use Rattle.std.specs.Prelude.{◌≡◌, ℕ, List, Option, Some, None, Result, Ok, Err, if◌then◌else◌}
+use Rattle.std.specs.Prelude.{◌≡◌, ℕ, List, [], ◌∷◌, Option, Some, None, Result, Ok, Err, if◌then◌else◌}
 use Rattle.std.specs.Option.{is_some}
 use Rattle.std.specs.Str.{is_utf8}
 use Rattle.serde_json.specs.Data.{Data}
@@ -9,7 +9,7 @@ use Rattle.acd_terms.specs.declared.command.Request.{Request}
 use Rattle.acd_terms.specs.declared.command.Requested.{Requested}
 use Rattle.acd_terms.specs.declared.command.Requested.TheVariants as requested
 use Rattle.acd_terms.specs.declared.command.Command.{Command}
-use Rattle.acd_terms.specs.declared.command.Command.TheVariants.{AddGroup, AddStation, AddAgent, ArriveCall, MakeCall, PhoneOffHook, AnswerCall, HoldCall, RetrieveCall, ClearConnection, DeflectCall, SingleStepTransfer, SetAgentState, MonitorStart, MonitorStop, Tick}
+use Rattle.acd_terms.specs.declared.command.Command.TheVariants.{AddGroup, AddStation, AddAgent, ArriveCall, MakeCall, PhoneOffHook, AnswerCall, HoldCall, RetrieveCall, ClearConnection, DeflectCall, SingleStepTransfer, SetAgentState, MonitorStart, MonitorStop, Tick, SetGroupPriority}
 use Rattle.acd_codec.specs.declared.member.Member.{Member}
 use Rattle.acd_codec.specs.declared.member.Member.TheVariants as member
 use Rattle.acd_codec.specs.declared.fault.ReadFault.{ReadFault}
@@ -18,7 +18,7 @@ use Rattle.acd_codec.specs.declared.service.RequestedState.{RequestedState}
 use Rattle.acd_codec.specs.declared.service.RequestedState.TheVariants as requested_state
 use Rattle.acd_codec.specs.declared.service.Service.{Service}
 use Rattle.acd_codec.specs.declared.service.Service.TheVariants as service
-use Rattle.acd_codec.specs.MemberReading.{device_in, agent_in, name_in, requester_in, invoke_in, seconds_in, serial_in, service_in, requested_state_in}
+use Rattle.acd_codec.specs.MemberReading.{is_there, device_in, agent_in, name_in, requester_in, invoke_in, seconds_in, priority_in, serial_in, service_in, requested_state_in, groups_in}
 
 -- the first faulty member ends the reading
 infixl 10 ◌>>=◌
@@ -49,11 +49,24 @@ connection_in d = do
   device ← device_in member.Device d
   Ok (call, device)
 
--- only loggedOn has a device and a group
+-- the one that `group` names
+unfoldable pub one_group_in : Data → Result (List ℕ) Member
+one_group_in d = do
+  group ← device_in member.Group d
+  Ok (group ∷ [])
+
+-- where `group` is there `groups` is ignored; where both are absent the faulty one is `group`
+unfoldable pub chosen_in : Data → Result (List ℕ) Member
+chosen_in d =
+    if is_there member.Group d then one_group_in d
+    else (if is_there member.Groups d then groups_in d else Err member.Group)
+
+-- only loggedOn has a device and groups
 unfoldable pub requested_in : Data → RequestedState → Result Requested Member
 requested_in d requested_state.LoggedOn = do
-  place ← two_devices_in member.Device member.Group d
-  Ok (requested.LoggedOn place.0 place.1)
+  device ← device_in member.Device d
+  groups ← chosen_in d
+  Ok (requested.LoggedOn device groups)
 requested_in d (requested_state.State state) = Ok (requested.State state)
 
 -- an agent, then what is asked for, then what only loggedOn has
@@ -101,6 +114,13 @@ monitor_stop_in d = do
   monitor ← serial_in member.Monitor d
   Ok (MonitorStop monitor)
 
+-- a group, then its priority
+unfoldable pub set_group_priority_in : Data → Result Command Member
+set_group_priority_in d = do
+  device ← device_in member.Device d
+  priority ← priority_in d
+  Ok (SetGroupPriority device priority)
+
 -- the members of a service, in their order
 unfoldable pub command_in : Service → Data → Result Command Member
 command_in service.AddGroup d = add_group_in d
@@ -119,6 +139,7 @@ command_in service.SetAgentState d = set_agent_state_in d
 command_in service.MonitorStart d = at_device MonitorStart d
 command_in service.MonitorStop d = monitor_stop_in d
 command_in service.Tick d = Ok Tick
+command_in service.SetGroupPriority d = set_group_priority_in d
 
 -- the key, then the service, then its members; all other members are ignored
 unfoldable pub request_in : Data → Result Request Member

@@ -7,7 +7,7 @@ use Rattle.acd_terms.specs.declared.command.Request.{Request}
 use Rattle.acd_terms.specs.declared.command.Requested.{Requested}
 use Rattle.acd_terms.specs.declared.command.Requested.TheVariants as requested
 use Rattle.acd_terms.specs.declared.command.Command.{Command}
-use Rattle.acd_terms.specs.declared.command.Command.TheVariants.{AddGroup, AddStation, AddAgent, ArriveCall, MakeCall, PhoneOffHook, AnswerCall, HoldCall, RetrieveCall, ClearConnection, DeflectCall, SingleStepTransfer, SetAgentState, MonitorStart, MonitorStop, Tick}
+use Rattle.acd_terms.specs.declared.command.Command.TheVariants.{AddGroup, AddStation, AddAgent, ArriveCall, MakeCall, PhoneOffHook, AnswerCall, HoldCall, RetrieveCall, ClearConnection, DeflectCall, SingleStepTransfer, SetAgentState, MonitorStart, MonitorStop, Tick, SetGroupPriority}
 use Rattle.acd_codec.specs.declared.member.Member.{Member}
 use Rattle.acd_codec.specs.declared.member.Member.TheVariants as m
 use Rattle.acd_codec.specs.declared.service.RequestedState.{RequestedState}
@@ -15,6 +15,7 @@ use Rattle.acd_codec.specs.declared.service.RequestedState.TheVariants as reques
 use Rattle.acd_codec.specs.declared.service.Service.{Service}
 use Rattle.acd_codec.specs.declared.service.Service.TheVariants as service
 use Rattle.acd_codec.specs.Members.{member_name}
+use Rattle.acd_codec.specs.Parts.{written_before, groups_parts}
 use Rattle.acd_codec.specs.Services.{service_name, requested_state_name}
 
 -- a member that is a text, before the others
@@ -68,11 +69,15 @@ abbrev pub asked : List ℕ → ℕ → RequestedState → Members
 asked requester invoke state =
     whole m.Invoke invoke (text m.Requested (requested_state_name state) (text m.Requester requester (text m.Service (service_name service.SetAgentState) no_members)))
 
--- only loggedOn has a device and a group
+-- only loggedOn has a device and groups
 abbrev pub set_agent_state : List ℕ → ℕ → ℕ → Requested → Members
-set_agent_state requester invoke agent (requested.LoggedOn device group) =
-    digits m.Agent agent (digits m.Device device (digits m.Group group (asked requester invoke requested_state.LoggedOn)))
+set_agent_state requester invoke agent (requested.LoggedOn device groups) =
+    digits m.Agent agent (digits m.Device device (written_before (groups_parts groups) (asked requester invoke requested_state.LoggedOn)))
 set_agent_state requester invoke agent (requested.State state) = digits m.Agent agent (asked requester invoke (requested_state.State state))
+
+abbrev pub set_group_priority : List ℕ → ℕ → ℕ → ℕ → Members
+set_group_priority requester invoke device priority =
+    digits m.Device device (whole m.Invoke invoke (whole m.Priority priority (text m.Requester requester (text m.Service (service_name service.SetGroupPriority) no_members))))
 
 abbrev pub request_members : List ℕ → ℕ → Command → Members
 request_members q i (AddGroup device name ring wrap) = add_group q i device name ring wrap
@@ -91,6 +96,7 @@ request_members q i (SetAgentState agent requested) = set_agent_state q i agent 
 request_members q i (MonitorStart device) = at_device q i service.MonitorStart device
 request_members q i (MonitorStop monitor) = monitor_stop q i monitor
 request_members q i Tick = sent q i service.Tick no_members
+request_members q i (SetGroupPriority device priority) = set_group_priority q i device priority
 
 unfoldable pub request_data : Request → Data
 request_data r = object (request_members r.requester r.invoke r.command)

@@ -9,7 +9,7 @@ use Rattle.acd_terms.specs.declared.state.Pending.TheVariants as pending
 use Rattle.acd_codec.specs.declared.service.RequestedState.{RequestedState}
 use Rattle.acd_codec.specs.declared.service.RequestedState.TheVariants as requested_state
 use Rattle.acd_codec.specs.declared.service.Service.{Service}
-use Rattle.acd_codec.specs.declared.service.Service.TheVariants.{AddGroup, AddStation, AddAgent, ArriveCall, MakeCall, PhoneOffHook, AnswerCall, HoldCall, RetrieveCall, ClearConnection, DeflectCall, SingleStepTransfer, SetAgentState, MonitorStart, MonitorStop, Tick}
+use Rattle.acd_codec.specs.declared.service.Service.TheVariants.{AddGroup, AddStation, AddAgent, ArriveCall, MakeCall, PhoneOffHook, AnswerCall, HoldCall, RetrieveCall, ClearConnection, DeflectCall, SingleStepTransfer, SetAgentState, MonitorStart, MonitorStop, Tick, SetGroupPriority}
 
 abbrev pub service_name : Service → List ℕ
 service_name AddGroup = codes "addGroup"
@@ -28,12 +28,13 @@ service_name SetAgentState = codes "setAgentState"
 service_name MonitorStart = codes "monitorStart"
 service_name MonitorStop = codes "monitorStop"
 service_name Tick = codes "tick"
+service_name SetGroupPriority = codes "setGroupPriority"
 
 abbrev pub services : List Service
 services =
     AddGroup ∷ AddStation ∷ AddAgent ∷ ArriveCall ∷ MakeCall ∷ PhoneOffHook ∷ AnswerCall ∷ HoldCall
     ∷ RetrieveCall ∷ ClearConnection ∷ DeflectCall ∷ SingleStepTransfer ∷ SetAgentState ∷ MonitorStart
-    ∷ MonitorStop ∷ Tick ∷ []
+    ∷ MonitorStop ∷ Tick ∷ SetGroupPriority ∷ []
 
 -- the service with this name
 abbrev pub service_of : List ℕ → Option Service
@@ -57,6 +58,7 @@ service_of_command (command.SetAgentState agent requested) = SetAgentState
 service_of_command (command.MonitorStart device) = MonitorStart
 service_of_command (command.MonitorStop monitor) = MonitorStop
 service_of_command command.Tick = Tick
+service_of_command (command.SetGroupPriority device priority) = SetGroupPriority
 
 abbrev pub requested_state_name : RequestedState → List ℕ
 requested_state_name requested_state.LoggedOn = codes "loggedOn"

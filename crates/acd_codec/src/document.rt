@@ -2,6 +2,7 @@
 
 ghost use Rattle.std.specs.Prelude.{◌≡◌, ◌<◌, ◌^◌, ◌==◌, ◌&&◌, length, slice_index, nat_lt, nat_le, true, false, Some, None, option_map, option_and_then, is_some, IfOk, IfErr, IsTrue};
 ghost use Rattle.json.specs.Json.{if_last};
+ghost use Rattle.json.specs.Find.{as_array};
 ghost use Rattle.json.specs.Value.{value_view, items_view, members_view};
 ghost use Rattle.serde_json.specs.Data.{Members as DataMembers};
 ghost use Rattle.fast_float.specs.Text.{minus, digits_of};
@@ -9,7 +10,7 @@ ghost use Rattle.serde_json.specs.Read.{read, of_json, of_items, of_members, num
 ghost use Rattle.serde_json.specs.Find.{get, as_object, as_number, as_u64};
 ghost use Rattle.acd_codec.specs.Members.{member_name};
 ghost use Rattle.acd_codec.specs.Documents.{json_of, data_of};
-ghost use Rattle.acd_codec.specs.MemberReading.{text_in, number_in};
+ghost use Rattle.acd_codec.specs.MemberReading.{text_in, number_in, list_in, is_there};
 ghost use Rattle.acd_codec.specs.Reading.{IsFault, request_from, reads_as};
 
 use crate::fault::ReadFault;
@@ -110,6 +111,34 @@ impl<'a> Document<'a> {
             None => None,
             Some(value) => whole_number(value),
         }
+    }
+
+    /// The member, if it is a list.
+    pub(crate) fn list(&self, member: Member) -> Option<&[Value<'a>]>
+        ensures { option_and_then (λ vs. of_items (items_view vs.now)) result
+            ≡ list_in member (data_of self.now) }
+    {
+        match self.find(member) {
+            None => None,
+            Some(value) => items_in(value),
+        }
+    }
+
+    /// There is a member of this name, whatever it is.
+    pub(crate) fn has(&self, member: Member) -> bool
+        ensures { result ≡ is_there member (data_of self.now) }
+    {
+        self.value.get(member.name()).is_some()
+    }
+}
+
+// The items of a list.
+fn items_in<'v, 'a>(value: &'v Value<'a>) -> Option<&'v [Value<'a>]>
+    ensures { option_map (λ vs. items_view vs.now) result ≡ as_array (value_view value.now) }
+{
+    match value {
+        Value::Array(items) => Some(items.as_slice()),
+        _ => None,
     }
 }
 

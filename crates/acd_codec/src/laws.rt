@@ -1,8 +1,10 @@
 //! What holds of requests and their texts.
 
 ghost use Rattle.std.specs.Prelude.{◌≡◌, ◌↔◌, Ok};
+ghost use Rattle.acd_terms.specs.Lists.{Every};
 ghost use Rattle.acd_codec.specs.Formed.{IsSerial, IsDevice, IsRequested, IsCommand, IsRequest};
 ghost use Rattle.acd_codec.specs.Reading.{reads_as};
+ghost use Rattle.acd_codec.specs.OldReading.{OldReadsTheSame};
 ghost use Rattle.acd_codec.specs.RequestTexts.{request_text};
 
 use acd_terms::{Command, DeviceId, Request, Requested, Serial};
@@ -15,12 +17,20 @@ fn connection_formed(call: &Serial, device: &DeviceId)
     device.number();
 }
 
+fn devices_formed(devices: &[DeviceId])
+    ensures { Every IsDevice devices.now }
+{
+    for device in devices {
+        device.number();
+    }
+}
+
 fn requested_formed(requested: &Requested)
     ensures { IsRequested requested.now }
 {
-    if let Requested::LoggedOn { device, group } = requested {
+    if let Requested::LoggedOn { device, groups } = requested {
         device.number();
-        group.number();
+        devices_formed(groups.groups().as_slice());
     }
 }
 
@@ -72,6 +82,10 @@ fn command_formed(command: &Command)
             monitor.number();
         }
         Command::Tick => {}
+        Command::SetGroupPriority { device, priority } => {
+            device.number();
+            priority.number();
+        }
     }
 }
 
@@ -98,3 +112,9 @@ pub fn same_text(a: &Request, b: &Request)
     request_formed(a);
     request_formed(b);
 }
+
+/// Bytes that were read as a request while an agent served one group and groups had no priority are read as the same
+/// request.
+pub fn old_reads_the_same()
+    ensures { OldReadsTheSame }
+{}

@@ -23,6 +23,8 @@ pub enum Member {
     To,
     Requested,
     Group,
+    Groups,
+    Priority,
     Monitor,
     Moment,
 }
@@ -51,6 +53,8 @@ impl Member {
             Member::To => "to",
             Member::Requested => "requested",
             Member::Group => "group",
+            Member::Groups => "groups",
+            Member::Priority => "priority",
             Member::Monitor => "monitor",
             Member::Moment => "moment",
         }
@@ -85,6 +89,10 @@ impl Member {
                 "{\"error\":{\"code\":30,\"member\":\"requested\",\"name\":\"malformed\"}}",
             Member::Group =>
                 "{\"error\":{\"code\":30,\"member\":\"group\",\"name\":\"malformed\"}}",
+            Member::Groups =>
+                "{\"error\":{\"code\":30,\"member\":\"groups\",\"name\":\"malformed\"}}",
+            Member::Priority =>
+                "{\"error\":{\"code\":30,\"member\":\"priority\",\"name\":\"malformed\"}}",
             Member::Monitor =>
                 "{\"error\":{\"code\":30,\"member\":\"monitor\",\"name\":\"malformed\"}}",
             Member::Moment =>

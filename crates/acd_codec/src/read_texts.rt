@@ -2,21 +2,21 @@
 
 ghost use Rattle.std.specs.Prelude.{◌≡◌, IfOk, string_bytes};
 ghost use Rattle.acd_codec.specs.Tokens.{parts_tokens, Adds};
-ghost use Rattle.acd_codec.specs.ReadTexts.{connection_state_name, distributed_from, agent_parts, agent_text, party_parts, call_parts, call_text, group_parts, group_text, line_parts, station_parts, station_text, device_text, waiting_parts, queue_parts, queue_text};
+ghost use Rattle.acd_codec.specs.ReadTexts.{connection_state_name, distributed_from, agent_parts, agent_text, party_parts, call_parts, call_text, group_parts, group_text, line_parts, station_parts, station_text, device_text, waiting_parts, queue_parts, queue_text, above_0};
 
 use crate::writing::{
-    Form, begun, ended, put_agent, put_device, put_list, put_number, put_number_if, put_seconds,
-    put_text, put_text_if,
+    Form, begun, ended, put_agent, put_device, put_groups, put_list, put_number, put_number_if,
+    put_seconds, put_text, put_text_if,
 };
 use acd_terms::{
     AgentId, AgentRecord, CallRecord, ConnectionRecord, ConnectionState, DeviceId, GroupRecord,
-    Listed, Pending,
+    Listed, Pending, Priority,
 };
 use json::Writer;
 use std::alloc::{AllocError, Global};
 
 // An agent, a group or a call with its connections fits, and so do most stations and queues.
-const ROOM: usize = 256;
+const ROOM: usize = 384;
 
 /// A planned device, with all that its text tells.
 #[derive(Debug, Drop, PartialEq, Eq)]
@@ -49,7 +49,7 @@ fn put_agent_members(out: &mut Writer, agent: &AgentRecord) -> Result<(), AllocE
 {
     put_agent(out, "agent", Some(agent.agent))?;
     put_device(out, "device", agent.station)?;
-    put_device(out, "group", agent.group)?;
+    put_groups(out, &agent.groups)?;
     put_text(out, "name", agent.name.as_str())?;
     put_text_if(out, "pending", agent.pending.map(Pending::name))?;
     put_number(out, "since", u64::from(agent.since))?;
@@ -129,12 +129,22 @@ pub fn call_text(
     ended(out)
 }
 
+// The priority of a group that was given one.
+#[tactic(auto, unfolding(crate::specs::ReadTexts::above_0))]
+fn above_0(priority: Priority) -> Option<u64>
+    ensures { result ≡ above_0 priority }
+{
+    let number = u64::from(priority.number());
+    if number > 0 { Some(number) } else { None }
+}
+
 fn put_group_members(out: &mut Writer, group: &GroupRecord) -> Result<(), AllocError>
     ensures { Adds result out.old out.new (parts_tokens (group_parts group.now)) }
 {
     put_device(out, "device", Some(group.device))?;
     put_text(out, "kind", "group")?;
     put_text(out, "name", group.name.as_str())?;
+    put_number_if(out, "priority", above_0(group.priority))?;
     put_seconds(out, "ring", group.ring)?;
     put_seconds(out, "wrap", group.wrap)
 }
@@ -246,7 +256,7 @@ struct Digits;
 impl Form for Digits {
     type Item = AgentId;
 
-    ghost use Rattle.acd_codec.specs.ReadTexts.{digits_data};
+    ghost use Rattle.acd_codec.specs.Parts.{digits_data};
 
     ghost data_of = { digits_data };
 

@@ -1,18 +1,23 @@
 //! Requests out of JSON.
 
-ghost use Rattle.std.specs.Prelude.{◌≡◌, Some, option_map, IfOk, IfErr};
+ghost use Rattle.std.specs.Prelude.{◌≡◌, [], Some, option_map, option_and_then, IfOk, IfErr};
+ghost use Rattle.json.specs.Value.{value_view, items_view};
+ghost use Rattle.serde_json.specs.Find.{as_str};
+ghost use Rattle.serde_json.specs.Read.{of_json, of_items};
+ghost use Rattle.acd_terms.specs.Groups.{with_all};
 ghost use Rattle.acd_codec.specs.Documents.{data_of};
-ghost use Rattle.acd_codec.specs.MemberReading.{device_in, agent_in, name_in, requester_in, invoke_in, seconds_in, serial_in, service_in, requested_state_in};
-ghost use Rattle.acd_codec.specs.Reading.{Gives, IsFault, at_connection, at_device, at_devices, to_device, add_group_in, add_agent_in, monitor_stop_in, two_devices_in, connection_in, requested_in, set_agent_state_in, command_in, request_in, request_from, reads_as};
+ghost use Rattle.acd_codec.specs.MemberReading.{device_of, device_in, agent_in, name_in, requester_in, invoke_in, seconds_in, priority_in, serial_in, service_in, requested_state_in, devices_of, choice_of, groups_in};
+ghost use Rattle.acd_codec.specs.Reading.{Gives, IsFault, at_connection, at_device, at_devices, to_device, add_group_in, add_agent_in, monitor_stop_in, two_devices_in, connection_in, one_group_in, chosen_in, requested_in, set_agent_state_in, set_group_priority_in, command_in, request_in, request_from, reads_as};
 
 use crate::document::Document;
 use crate::fault::ReadFault;
 use crate::member::Member;
 use crate::service::{RequestedState, Service};
 use acd_terms::{
-    AgentId, Command, DeviceId, Invoke, Name, Request, Requested, Requester, Seconds, Serial,
+    AgentId, Command, DeviceId, Groups, Invoke, Name, Priority, Request, Requested, Requester,
+    Seconds, Serial, SomeGroups,
 };
-use json::Scratch;
+use json::{Scratch, Value};
 use std::alloc::Global;
 
 #[tactic(auto, unfolding(crate::specs::MemberReading::device_in))]
@@ -77,6 +82,16 @@ fn seconds_in(document: &Document<'_>, member: Member) -> Result<Seconds, Member
     }
 }
 
+#[tactic(auto, unfolding(crate::specs::MemberReading::priority_in))]
+fn priority_in(document: &Document<'_>) -> Result<Priority, Member>
+    ensures { result ≡ priority_in (data_of document.now) }
+{
+    match document.number(Member::Priority) {
+        None => Err(Member::Priority),
+        Some(number) => Priority::new(number).ok_or(Member::Priority),
+    }
+}
+
 #[tactic(auto, unfolding(crate::specs::MemberReading::serial_in))]
 fn serial_in(document: &Document<'_>, member: Member) -> Result<Serial, Member>
     ensures { result ≡ serial_in member (data_of document.now) }
@@ -104,6 +119,50 @@ fn requested_state_in(document: &Document<'_>) -> Result<RequestedState, Member>
     match document.text(Member::Requested) {
         None => Err(Member::Requested),
         Some(text) => RequestedState::named(text).ok_or(Member::Requested),
+    }
+}
+
+// The device that an item of a list names.
+fn device_of(item: &Value<'_>) -> Option<DeviceId>
+    ensures { let text = option_and_then as_str (of_json (value_view item.now)) in
+        result ≡ option_and_then device_of text }
+{
+    match item.as_str() {
+        None => None,
+        Some(text) => DeviceId::read(text.as_bytes()).ok(),
+    }
+}
+
+// The groups that a list names, in whatever order.
+fn groups_of(items: &[Value<'_>]) -> Option<Groups>
+    ensures { let devices = option_and_then devices_of (of_items (items_view items.now)) in
+        result ≡ option_and_then (with_all []) devices }
+{
+    let mut groups = Groups::none();
+    for item in items {
+        groups = groups.with(device_of(item)?)?;
+    }
+    Some(groups)
+}
+
+// The same, where it names any.
+fn choice_of(items: &[Value<'_>]) -> Option<SomeGroups>
+    ensures { let devices = option_and_then devices_of (of_items (items_view items.now)) in
+        result ≡ option_and_then choice_of devices }
+{
+    match groups_of(items) {
+        None => None,
+        Some(groups) => SomeGroups::of(groups),
+    }
+}
+
+#[tactic(auto, unfolding(crate::specs::MemberReading::groups_in))]
+fn groups_in(document: &Document<'_>) -> Result<SomeGroups, Member>
+    ensures { result ≡ groups_in (data_of document.now) }
+{
+    match document.list(Member::Groups) {
+        None => Err(Member::Groups),
+        Some(items) => choice_of(items).ok_or(Member::Groups),
     }
 }
 
@@ -156,14 +215,37 @@ fn connection_in(document: &Document<'_>) -> Result<(Serial, DeviceId), Member>
     Ok((call, device))
 }
 
+#[tactic(auto, unfolding(crate::specs::Reading::one_group_in))]
+fn one_group_in(document: &Document<'_>) -> Result<SomeGroups, Member>
+    ensures { result ≡ one_group_in (data_of document.now) }
+{
+    let group = device_in(document, Member::Group)?;
+    Ok(SomeGroups::one(group))
+}
+
+// The groups of a log-on: one by itself, or else a list.
+#[tactic(auto, unfolding(crate::specs::Reading::chosen_in))]
+fn chosen_in(document: &Document<'_>) -> Result<SomeGroups, Member>
+    ensures { result ≡ chosen_in (data_of document.now) }
+{
+    if document.has(Member::Group) {
+        one_group_in(document)
+    } else if document.has(Member::Groups) {
+        groups_in(document)
+    } else {
+        Err(Member::Group)
+    }
+}
+
 #[tactic(auto, unfolding(crate::specs::Reading::requested_in))]
 fn requested_in(document: &Document<'_>, state: RequestedState) -> Result<Requested, Member>
     ensures { result ≡ requested_in (data_of document.now) state }
 {
     match state {
         RequestedState::LoggedOn => {
-            let (device, group) = two_devices_in(document, Member::Device, Member::Group)?;
-            Ok(Requested::LoggedOn { device, group })
+            let device = device_in(document, Member::Device)?;
+            let groups = chosen_in(document)?;
+            Ok(Requested::LoggedOn { device, groups })
         }
         RequestedState::State(state) => Ok(Requested::State(state)),
     }
@@ -265,6 +347,15 @@ fn monitor_stop_in(document: &Document<'_>) -> Result<Command, Member>
     Ok(Command::MonitorStop { monitor })
 }
 
+#[tactic(auto, unfolding(crate::specs::Reading::set_group_priority_in))]
+fn set_group_priority_in(document: &Document<'_>) -> Result<Command, Member>
+    ensures { result ≡ set_group_priority_in (data_of document.now) }
+{
+    let device = device_in(document, Member::Device)?;
+    let priority = priority_in(document)?;
+    Ok(Command::SetGroupPriority { device, priority })
+}
+
 // The members of a service, in their order.
 #[tactic(auto, unfolding(crate::specs::Reading::command_in))]
 fn command_in(service: Service, document: &Document<'_>) -> Result<Command, Member>
@@ -287,6 +378,7 @@ fn command_in(service: Service, document: &Document<'_>) -> Result<Command, Memb
         Service::MonitorStart => monitor_start_in(document),
         Service::MonitorStop => monitor_stop_in(document),
         Service::Tick => Ok(Command::Tick),
+        Service::SetGroupPriority => set_group_priority_in(document),
     }
 }
 

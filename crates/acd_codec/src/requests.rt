@@ -3,20 +3,20 @@
 ghost use Rattle.std.specs.Prelude.{◌≡◌, codes, IfOk, string_bytes};
 ghost use Rattle.serde_json.specs.Data.{string, member, no_members};
 ghost use Rattle.acd_codec.specs.Services.{service_name};
-ghost use Rattle.acd_codec.specs.RequestTexts.{named, asked, add_group, add_agent, arrive_call, make_call, at_device, at_connection, to_device, set_agent_state, monitor_stop, sent, request_members, request_text};
+ghost use Rattle.acd_codec.specs.RequestTexts.{named, asked, add_group, add_agent, arrive_call, make_call, at_device, at_connection, to_device, set_agent_state, set_group_priority, monitor_stop, sent, request_members, request_text};
 ghost use Rattle.acd_codec.specs.Tokens.{tokens_of, Adds};
 
 use crate::service::{RequestedState, Service};
 use crate::writing::{
-    begun, ended, put_agent, put_device, put_invoke, put_requester, put_seconds, put_serial,
-    put_text, put_whom,
+    begun, ended, put_agent, put_device, put_groups, put_invoke, put_priority, put_requester,
+    put_seconds, put_serial, put_text, put_whom,
 };
-use acd_terms::{AgentId, Command, DeviceId, Name, Request, Requested, Seconds, Serial};
+use acd_terms::{AgentId, Command, DeviceId, Name, Priority, Request, Requested, Seconds, Serial};
 use json::Writer;
 use std::alloc::{AllocError, Global};
 
 // Every request fits, so it never grows.
-const ROOM: usize = 256;
+const ROOM: usize = 320;
 
 // Writes which service is asked for.
 fn put_service(out: &mut Writer, service: Service) -> Result<(), AllocError>
@@ -167,9 +167,9 @@ fn put_set_agent_state(
 {
     put_agent(out, "agent", Some(agent))?;
     match requested {
-        Requested::LoggedOn { device, group } => {
+        Requested::LoggedOn { device, groups } => {
             put_device(out, "device", Some(device))?;
-            put_device(out, "group", Some(group))?;
+            put_groups(out, &groups.groups())?;
             put_asked(out, request, RequestedState::LoggedOn)
         }
         Requested::State(state) => put_asked(out, request, RequestedState::State(state)),
@@ -184,6 +184,23 @@ fn put_monitor_stop(out: &mut Writer, request: &Request, monitor: Serial) -> Res
     put_serial(out, "monitor", monitor)?;
     put_requester(out, &request.requester)?;
     put_service(out, Service::MonitorStop)
+}
+
+fn put_set_group_priority(
+    out: &mut Writer,
+    request: &Request,
+    device: DeviceId,
+    priority: Priority,
+) -> Result<(), AllocError>
+    ensures { let r = request.now in
+        Adds result out.old out.new
+        (tokens_of (set_group_priority r.requester r.invoke device priority)) }
+{
+    put_device(out, "device", Some(device))?;
+    put_invoke(out, request.invoke)?;
+    put_priority(out, priority)?;
+    put_requester(out, &request.requester)?;
+    put_service(out, Service::SetGroupPriority)
 }
 
 fn put_request(out: &mut Writer, request: &Request) -> Result<(), AllocError>
@@ -220,6 +237,9 @@ fn put_request(out: &mut Writer, request: &Request) -> Result<(), AllocError>
         }
         Command::MonitorStop { monitor } => put_monitor_stop(out, request, *monitor),
         Command::Tick => put_sent(out, request, service),
+        Command::SetGroupPriority { device, priority } => {
+            put_set_group_priority(out, request, *device, *priority)
+        }
     }
 }
 

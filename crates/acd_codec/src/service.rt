@@ -24,6 +24,7 @@ pub enum Service {
     MonitorStart,
     MonitorStop,
     Tick,
+    SetGroupPriority,
 }
 
 impl Service {
@@ -48,6 +49,7 @@ impl Service {
             Command::MonitorStart { .. } => Service::MonitorStart,
             Command::MonitorStop { .. } => Service::MonitorStop,
             Command::Tick => Service::Tick,
+            Command::SetGroupPriority { .. } => Service::SetGroupPriority,
         }
     }
 
@@ -72,6 +74,7 @@ impl Service {
             "monitorStart" => Some(Service::MonitorStart),
             "monitorStop" => Some(Service::MonitorStop),
             "tick" => Some(Service::Tick),
+            "setGroupPriority" => Some(Service::SetGroupPriority),
             _ => None,
         }
     }
@@ -97,6 +100,7 @@ impl Service {
             Service::MonitorStart => "monitorStart",
             Service::MonitorStop => "monitorStop",
             Service::Tick => "tick",
+            Service::SetGroupPriority => "setGroupPriority",
         }
     }
 }

@@ -5,11 +5,11 @@ ghost use Rattle.json.specs.Print.{print};
 ghost use Rattle.json.specs.Token.{end_object};
 ghost use Rattle.serde_json.specs.Data.{Data, string, number, unsigned, member, no_members};
 ghost use Rattle.acd_terms.specs.Forms.{digits_of};
-ghost use Rattle.acd_codec.specs.Parts.{text_part, number_part, list_part, items_of};
+ghost use Rattle.acd_codec.specs.Parts.{text_part, number_part, list_part, groups_parts, items_of};
 ghost use Rattle.acd_codec.specs.ReplyTexts.{to_whom};
-ghost use Rattle.acd_codec.specs.Tokens.{Begun, data_tokens, tokens_of, part_tokens, each_tokens, Adds};
+ghost use Rattle.acd_codec.specs.Tokens.{Begun, data_tokens, tokens_of, part_tokens, parts_tokens, each_tokens, Adds};
 
-use acd_terms::{AgentId, DeviceId, Invoke, Requester, Seconds, Serial};
+use acd_terms::{AgentId, DeviceId, Groups, Invoke, Priority, Requester, Seconds, Serial};
 use json::Writer;
 use std::alloc::{AllocError, Global};
 
@@ -71,6 +71,14 @@ pub(crate) fn put_seconds(out: &mut Writer, name: &str, value: Seconds) -> Resul
     ensures { Adds result out.old out.new (tokens_of (member name.now (number (unsigned value)) no_members)) }
 {
     put_number(out, name, u64::from(value.number()))
+}
+
+/// Writes the priority that a group is given.
+pub(crate) fn put_priority(out: &mut Writer, priority: Priority) -> Result<(), AllocError>
+    ensures { Adds result out.old out.new
+        (tokens_of (member (codes "priority") (number (unsigned priority)) no_members)) }
+{
+    put_number(out, "priority", u64::from(priority.number()))
 }
 
 /// Writes a call or a monitor as a request names it.
@@ -158,6 +166,32 @@ pub(crate) fn put_list<F: Form>(
     out.begin_array()?;
     put_each::<F>(out, items)?;
     out.end_array()
+}
+
+// Devices by their digits.
+struct Devices;
+
+impl Form for Devices {
+    type Item = DeviceId;
+
+    ghost use Rattle.acd_codec.specs.Parts.{digits_data};
+
+    ghost data_of = { digits_data };
+
+    fn write(out: &mut Writer, device: &DeviceId) -> Result<(), AllocError> {
+        out.string(device.text().as_str())
+    }
+}
+
+/// Writes the groups of an agent: one by itself, more in a list.
+pub(crate) fn put_groups(out: &mut Writer, groups: &Groups) -> Result<(), AllocError>
+    ensures { Adds result out.old out.new (parts_tokens (groups_parts groups.now)) }
+{
+    match groups.as_slice() {
+        [] => Ok(()),
+        [group] => put_device(out, "group", Some(*group)),
+        several => put_list::<Devices>(out, "groups", several),
+    }
 }
 
 /// What was written into an empty buffer.

@@ -28,7 +28,7 @@ use Rattle.acd_laws.proofs.State.{monitor_find}
 use Rattle.acd_book.specs.Content.{Content, kept_of, is_key, is_told}
 use Rattle.acd_book.specs.declared.kept.Kept.{Kept}
 use Rattle.acd_columns.specs.declared.tables.Table.TheVariants as table
-use Rattle.acd_columns.specs.Schema.{book_schema, nine, two as both_new, names_of}
+use Rattle.acd_columns.specs.Schema.{book_schema, nine, two as both_new, names_of, behind_first}
 use Rattle.acd_columns.specs.Schema as schema
 use Rattle.acd_columns.specs.Values.{id_value}
 use Rattle.acd_columns.specs.Rows.{monitor_values, monitor_row, event_values, event_row, kept_values, kept_row}
@@ -84,7 +84,7 @@ unfolding understood everything
 events_at_listing = record {
   tree = schema.events.tree;
   terms = op2 (Compare Gt Binary) (col 1 0) (col 0 0) ∷ op2 (Compare Eq Binary) (col 1 4) (col 0 1) ∷ [];
-  project = col 1 0 ∷ columns 2 9;
+  project = col 1 0 ∷ columns 2 (behind_first schema.events);
   order = by_number;
   limit = col 0 2;
   names = names_of schema.events;
@@ -125,7 +125,7 @@ unfolding understood everything
 monitor_listing = record {
   tree = schema.monitors.tree;
   terms = op2 (Compare Eq Binary) (col 1 0) (col 0 0) ∷ [];
-  project = col 1 0 ∷ columns 2 2;
+  project = col 1 0 ∷ columns 2 (behind_first schema.monitors);
   order = by_number;
   limit = lit (Int (pos 1));
   names = names_of schema.monitors;
@@ -151,7 +151,7 @@ shows_monitor n old new rows c held h =
 text_tied : (s t : List ℕ) → is_eq (value_cmp (Text s) (Text t)) ≡ bytes_eq s t
 text_tied s t = ap is_eq (value_cmp-Text s t) ∙ is_eq-slice_cmp s t
 
-two : (a b : Bool) → (is_true (from_truth (Some a)) && (is_true (from_truth (Some b)) && true)) ≡ (a && b)
+pub two : (a b : Bool) → (is_true (from_truth (Some a)) && (is_true (from_truth (Some b)) && true)) ≡ (a && b)
 two true true = refl
 two true false = refl
 two false true = refl
@@ -162,7 +162,7 @@ unfolding understood everything
 key_listing = record {
   tree = schema.kept.tree;
   terms = op2 (Compare Eq Binary) (col 1 2) (col 0 0) ∷ op2 (Compare Eq Binary) (col 1 3) (col 0 1) ∷ [];
-  project = col 1 0 ∷ columns 2 6;
+  project = col 1 0 ∷ columns 2 (behind_first schema.kept);
   order = by_number;
   limit = lit (Int (pos 1));
   names = names_of schema.kept;

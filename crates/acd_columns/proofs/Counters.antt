@@ -1,5 +1,5 @@
 -- The statements that put the limits and the counters.
-use Rattle.std.proofs.Common.{◌≡◌, ℕ, pos, List, [], ◌∷◌, not, cond, drop, map, Ok, Err, Result, OnOk, refl, ap, subst, ◌∙◌}
+use Rattle.std.proofs.Common.{◌≡◌, ◌+◌, ℕ, pos, List, [], ◌∷◌, length, not, cond, drop, map, Ok, Err, Result, OnOk, refl, ap, subst, ◌∙◌}
 use Rattle.sqlite_value.specs.declared.value.Value.TheVariants.{Null}
 use Rattle.sqlite_value.specs.declared.keys.Collation.TheVariants.{Binary}
 use Rattle.sqlite_value.specs.Order.{Row}
@@ -18,10 +18,10 @@ use Rattle.sqlite_tied.specs.Compute.{everything}
 use Rattle.acd_columns.specs.declared.meta.Meta.{Meta}
 use Rattle.acd_book.specs.Content.{empty_content}
 use Rattle.acd_columns.specs.declared.tables.Table.TheVariants as table
-use Rattle.acd_columns.specs.Schema.{book_schema}
+use Rattle.acd_columns.specs.Schema.{book_schema, behind_first}
 use Rattle.acd_columns.specs.Schema as schema
 use Rattle.acd_columns.specs.Values.{id_value}
-use Rattle.acd_columns.specs.Rows.{meta_values, meta_row, meta_row_as}
+use Rattle.acd_columns.specs.Rows.{meta_fields, meta_values, meta_row, meta_row_as}
 use Rattle.acd_columns.proofs.Asked.{columns}
 use Rattle.acd_columns.specs.Relations.{Relations, relations_of}
 use Rattle.acd_columns.specs.Content.{with_part, AreRows}
@@ -32,8 +32,10 @@ use Rattle.acd_columns.proofs.Frames.{drafted, only_meta}
 use Rattle.acd_columns.proofs.Scans.{showing, passing}
 use Rattle.acd_columns.proofs.KeyedRows.{id_tied}
 use Rattle.acd_columns.proofs.Common.{run, inert, cast_id, cast_null}
+use Rattle.acd_columns.proofs.FieldLaws.{casts_all}
 use Rattle.acd_columns.proofs.Filed.{by_id}
 use Rattle.acd_columns.proofs.Puts.{Inserts, inserted_row}
+use Rattle.acd_columns.proofs.Ranged.{beside}
 use Rattle.acd_columns.proofs.Statements.{Insertion, inert_works, replaces}
 use Rattle.acd_columns.proofs.Updates.{Updating, updating_edit, updated}
 
@@ -42,8 +44,8 @@ unfolding understood everything
 meta_text = record {
   at = 0;
   layout = schema.meta;
-  terms = col 0 0 ∷ lit Null ∷ run 1 12;
-  width = 14;
+  terms = col 0 0 ∷ lit Null ∷ run 1 (behind_first schema.meta);
+  width = behind_first schema.meta + 2;
   place = refl;
   command = refl;
   plain = (refl, refl);
@@ -56,22 +58,7 @@ meta_put = record {
   it = meta_text;
   files = record {
     headed = λ m. refl;
-    casts = λ m. rw (
-      cast_id 1,
-      cast_id 2,
-      cast_null,
-      cast_id m.limits.requests,
-      cast_id m.limits.calls,
-      cast_id m.limits.groups,
-      cast_id m.limits.stations,
-      cast_id m.limits.agents,
-      cast_id m.limits.monitors,
-      cast_id m.last_stamp,
-      cast_id m.last_moment,
-      cast_id m.last_call,
-      cast_id m.last_monitor,
-      cast_id m.last_event,
-    ) refl;
+    casts = λ m. beside _ _ _ _ (cast_id 1) (beside _ _ _ _ cast_null (beside _ _ _ _ (cast_id 2) (casts_all (drop 2 schema.meta.columns) meta_fields m refl)));
   };
   source = λ m. refl;
 }
@@ -84,7 +71,7 @@ abbrev own_row : List Term
 own_row = op2 (Compare Eq Binary) (col 1 0) (lit (id_value 1)) ∷ []
 
 abbrev reset : List Term
-reset = col 1 0 ∷ col 1 0 ∷ lit Null ∷ col 1 2 ∷ run 0 11
+reset = col 1 0 ∷ col 1 0 ∷ lit Null ∷ col 1 2 ∷ run 0 (length (drop 2 schema.meta.columns))
 
 meta_set : Updating book_schema UPDATE_META.now
 unfolding understood everything
@@ -113,7 +100,7 @@ sets_meta m c old new count d ran =
 
 -- the columns of a row, but for the version
 abbrev retold : List Term
-retold = col 1 0 ∷ col 1 0 ∷ lit Null ∷ lit (id_value 2) ∷ columns 3 11
+retold = col 1 0 ∷ col 1 0 ∷ lit Null ∷ lit (id_value 2) ∷ columns 3 (length (drop 2 schema.meta.columns))
 
 version_set : Updating book_schema UPDATE_VERSION.now
 unfolding understood everything

@@ -6,14 +6,14 @@ use Rattle.sqlite_value.specs.Order.{Row, column}
 use Rattle.sqlite_schema.specs.declared.schema.Column.{Column as Made}
 use Rattle.sqlite_schema.specs.declared.schema.Kind.TheVariants.{Integer}
 use Rattle.sqlite_rules.specs.Cast.{cast, cast_all, cast_row}
-use Rattle.acd_columns.proofs.Ranged.{bound, guarded, some_same, cells, row_is, beside}
+use Rattle.acd_columns.proofs.Ranged.{bound, guarded, some_same, row_is, beside}
 use Rattle.acd_columns.proofs.Common.{cast_id}
 use Rattle.acd_columns.proofs.SortLaws.{stored, back, casts, null_casts}
 use Rattle.acd_columns.specs.Fields.{Field, Makes, written, read_from, read_whole, shown_whole, Agree, Remade}
 use Rattle.acd_columns.specs.Rows.{keyed_row}
 use Rattle.acd_columns.specs.Schema.{Layout, table_of}
 use Rattle.acd_columns.specs.Sorts.{value, read_at, type_in}
-use Rattle.acd_columns.specs.Values.{id_value}
+use Rattle.acd_columns.specs.Values.{id_value, cells}
 
 pub first_is : {A : Type 0} (x y : A) (xs ys : List A) → x ∷ xs ≡ y ∷ ys → x ≡ y
 first_is x y xs ys e = cc (e)

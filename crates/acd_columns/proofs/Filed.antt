@@ -32,10 +32,10 @@ use Rattle.acd_columns.specs.AnyRows.{values_in, is_good}
 use Rattle.acd_columns.specs.Relations.{Relations, relations_of}
 use Rattle.acd_columns.specs.Content.{AreRows, AreTables, tree_of}
 use Rattle.acd_columns.specs.Draft.{Drafts, Holds}
-use Rattle.acd_columns.specs.Schema.{table_of, book_schema, nine, with_behind, names_of}
+use Rattle.acd_columns.specs.Schema.{Begins, table_of, book_schema, nine, with_behind, names_of}
 use Rattle.acd_columns.proofs.Asked.{columns, by_number, no_limit, above_parameter, above}
 use Rattle.acd_columns.proofs.KeyedRows.{by_key, id_tied}
-use Rattle.acd_columns.proofs.Listings.{Listing, Lists, listed, held_begins}
+use Rattle.acd_columns.proofs.Listings.{schema_is, Listing, Lists, listed, held_begins}
 use Rattle.acd_columns.proofs.Seeing.{AsksAll}
 use Rattle.acd_columns.proofs.Ordered.{asking}
 use Rattle.acd_columns.proofs.Puts.{Files, Inserts, inserted_row, truth_back}
@@ -45,13 +45,13 @@ use Rattle.acd_columns.proofs.Sets.{Sets, set_none, set_row}
 use Rattle.acd_columns.proofs.Statements.{Insertion, Replaces, inert_works}
 use Rattle.acd_columns.proofs.Updates.{Updating}
 use Rattle.acd_columns.proofs.Common.{run, inert}
-use Rattle.acd_columns.specs.Descriptions.{Description, row_of}
+use Rattle.acd_columns.specs.Descriptions.{Description, behind, row_of}
 
 -- ---- what the texts of a table of so many columns behind its key say
 
 -- the parameters, and NULL in the column that is the number of the row
 abbrev pub sources : ℕ → List Term
-sources behind = col 0 0 ∷ lit Null ∷ run 1 behind
+sources more = col 0 0 ∷ lit Null ∷ run 1 more
 
 -- the row whose number is the first parameter
 abbrev pub by_first : List Term
@@ -59,27 +59,31 @@ by_first = op2 (Compare Eq Binary) (col 1 0) (col 0 0) ∷ []
 
 -- the number and key of the row that is there, and the parameters behind the key
 abbrev pub columns_given : ℕ → List Term
-columns_given behind = col 1 0 ∷ col 1 0 ∷ lit Null ∷ run 1 behind
+columns_given more = col 1 0 ∷ col 1 0 ∷ lit Null ∷ run 1 more
 
 -- the columns of a row
 abbrev pub shown_columns : ℕ → List Term
-shown_columns behind = col 1 0 ∷ columns 2 behind
+shown_columns more = col 1 0 ∷ columns 2 more
 
--- ---- what is owed of a table: each but `casts`, `exact`, `held` and `framed` by `refl`
+-- ---- what is owed of a table: each but `casts`, `stored`, `exact`, `held` and `framed` by `refl`
 
 module _ {R : Type 0} (d : Description R) where
   pub record Filed : Type 0 where
     -- the table, and the text that puts a record
     pub computes : ◌≡◌ {A = Option MadeTable × ℕ × Command} (slice_get book_schema.tables d.place, d.layout.tree, command_of (understood book_schema d.insert))
-        (Some (table_of d.layout), tree_of d.table, Insert d.place (Values (sources d.behind) (d.behind + 2)))
+        (Some (table_of d.layout), tree_of d.table, Insert d.place (Values (sources (behind d)) (behind d + 2)))
     pub plain : IsPlain (understood book_schema d.insert)
+    -- its first column is its key
+    pub keyed : ◌≡◌ {A = Option ℕ × ℕ} (d.layout.key, length d.layout.columns) (Some 0, suc (behind d))
     -- its values begin with the key, the text puts its row, and its columns show its values
     pub of_record : (r : R) → ◌≡◌ {A = Row × List Row × Row}
-        (d.values r, value_rows (d.values r) (d.behind + 2) (length (sources d.behind) / (d.behind + 2)) (sources d.behind), showing [] (shown_columns d.behind) (row_of d r))
+        (d.values r, value_rows (d.values r) (behind d + 2) (length (sources (behind d)) / (behind d + 2)) (sources (behind d)), showing [] (shown_columns (behind d)) (row_of d r))
         (id_value (d.key r) ∷ drop 1 (d.values r), row_of d r ∷ [], d.values r)
     -- what is looked at of any row
-    pub of_row : (row : Row) → ◌≡◌ {A = Row × Bool} (showing [] (shown_columns d.behind) row, is_good d.table row) (values_in d.table row, is_some (d.in_row row))
+    pub of_row : (row : Row) → ◌≡◌ {A = Row × Bool} (showing [] (shown_columns (behind d)) row, is_good d.table row) (values_in d.table row, is_some (d.in_row row))
     pub casts : (r : R) → cast_row (table_of d.layout) (row_of d r) ≡ row_of d r
+    -- a row whose values are in their ranges is that of the record
+    pub stored : (row : Row) (x : R) → d.in_row row ≡ Some x → (row ≡ d.values x) × d.IsRead x
     pub exact : (row : Row) (x y : R) → d.IsRead y → d.in_row row ≡ Some x → row ≡ d.values y → x ≡ y
     -- the relations
     pub held : (c : Relations) (db : Trees) → AreTables db c → AreRows d.key (row_of d) (db d.layout.tree) (d.records c) × Every d.IsRead (d.records c)
@@ -87,17 +91,18 @@ module _ {R : Type 0} (d : Description R) where
         → AllByRecursion (λ (u : MadeTable). u.tree ≢ d.layout.tree → new u.tree ≡ old u.tree) book_schema.tables → AreTables old c → AreTables new (d.with_records rs c)
     pub unchanged : (c : Relations) → d.with_records (d.records c) c ≡ c
 
-  -- a text that shows all rows, in the order of their keys, whatever lies behind the nine tables
-  pub record Selects (text : List ℕ) : Type 0 where
-    pub selects : (rest : List MadeTable) (s : Schema) → command_of (understood (with_behind nine rest s) text) ≡ Select (record { lets = []; body = asking d.layout.tree [] (shown_columns d.behind) by_number no_limit }) (names_of d.layout)
-    pub plain : (rest : List MadeTable) (s : Schema) → IsPlain (understood (with_behind nine rest s) text)
-    pub unlisted : (rest : List MadeTable) (s : Schema) → reads_listing (with_behind nine rest s) text ≡ false
+  -- a text that shows all rows, in the order of their keys, whatever lies behind these tables, with which the book's begin
+  pub record Selects (base : List MadeTable) (text : List ℕ) : Type 0 where
+    pub begins : Begins base book_schema
+    pub selects : (rest : List MadeTable) (s : Schema) → command_of (understood (with_behind base rest s) text) ≡ Select (record { lets = []; body = asking d.layout.tree [] (shown_columns (behind d)) by_number no_limit }) (names_of d.layout)
+    pub plain : (rest : List MadeTable) (s : Schema) → IsPlain (understood (with_behind base rest s) text)
+    pub unlisted : (rest : List MadeTable) (s : Schema) → reads_listing (with_behind base rest s) text ≡ false
 
   -- a text that changes the columns of the row that has a record's key
   pub record Updates (text : List ℕ) : Type 0 where
-    pub updates : command_of (understood book_schema text) ≡ Update d.place (record { lets = []; body = scan d.layout.tree by_first (columns_given d.behind) [] })
+    pub updates : command_of (understood book_schema text) ≡ Update d.place (record { lets = []; body = scan d.layout.tree by_first (columns_given (behind d)) [] })
     pub plain : IsPlain (understood book_schema text)
-    pub changes : (new r : R) → showing (d.values new) (columns_given d.behind) (row_of d r) ≡ id_value (d.key r) ∷ id_value (d.key r) ∷ drop 1 (row_of d new)
+    pub changes : (new r : R) → showing (d.values new) (columns_given (behind d)) (row_of d r) ≡ id_value (d.key r) ∷ id_value (d.key r) ∷ drop 1 (row_of d new)
 
   -- a text that takes out the row that has a key
   pub record Deletes (text : List ℕ) : Type 0 where
@@ -106,7 +111,7 @@ module _ {R : Type 0} (d : Description R) where
 
   -- a text that shows the first rows above a number, whatever lies behind the nine tables
   pub record Pages (text : List ℕ) : Type 0 where
-    pub pages : (rest : List MadeTable) (s : Schema) → command_of (understood (with_behind nine rest s) text) ≡ Select (record { lets = []; body = asking d.layout.tree above_parameter (shown_columns d.behind) by_number (col 0 1) }) (names_of d.layout)
+    pub pages : (rest : List MadeTable) (s : Schema) → command_of (understood (with_behind nine rest s) text) ≡ Select (record { lets = []; body = asking d.layout.tree above_parameter (shown_columns (behind d)) by_number (col 0 1) }) (names_of d.layout)
     pub plain : (rest : List MadeTable) (s : Schema) → IsPlain (understood (with_behind nine rest s) text)
     pub unlisted : (rest : List MadeTable) (s : Schema) → reads_listing (with_behind nine rest s) text ≡ false
 
@@ -143,13 +148,16 @@ module _ {R : Type 0} (d : Description R) (f : Filed d) where
   place_is : slice_get book_schema.tables d.place ≡ Some (table_of d.layout)
   place_is = ap (λ (t : Option MadeTable × ℕ × Command). t.0) f.computes
 
+  pub tree_is : d.layout.tree ≡ tree_of d.table
+  tree_is = ap (λ (t : Option MadeTable × ℕ × Command). t.1) f.computes
+
   first : (r : R) → d.values r ≡ id_value (d.key r) ∷ drop 1 (d.values r)
   first r = ap (λ (t : Row × List Row × Row). t.0) (f.of_record r)
 
-  shows_values : (r : R) → showing [] (shown_columns d.behind) (row_of d r) ≡ d.values r
+  pub shows_values : (r : R) → showing [] (shown_columns (behind d)) (row_of d r) ≡ d.values r
   shows_values r = ap (λ (t : Row × List Row × Row). t.2) (f.of_record r)
 
-  headed : (r : R) → row_of d r ≡ id_value (d.key r) ∷ drop 1 (row_of d r)
+  pub headed : (r : R) → row_of d r ≡ id_value (d.key r) ∷ drop 1 (row_of d r)
   headed r = headed_row (d.values r) (d.key r) (first r)
 
   files : Files d.layout d.key (row_of d)
@@ -167,8 +175,8 @@ module _ {R : Type 0} (d : Description R) (f : Filed d) where
   insertion = record {
     at = d.place;
     layout = d.layout;
-    terms = sources d.behind;
-    width = d.behind + 2;
+    terms = sources (behind d);
+    width = behind d + 2;
     place = place_is;
     command = ap (λ (t : Option MadeTable × ℕ × Command). t.2) f.computes;
     plain = f.plain;
@@ -198,20 +206,20 @@ module _ {R : Type 0} (d : Description R) (f : Filed d) where
 
   -- ---- the query of all rows
 
-  module _ (text : List ℕ) (s : Selects d text) where
-    abbrev pub listing : Listing nine text
-    listing = record { tree = d.layout.tree; terms = []; project = shown_columns d.behind; order = by_number; limit = no_limit; names = names_of d.layout; command = s.selects; plain = s.plain; unlisted = s.unlisted }
+  module _ (base : List MadeTable) (text : List ℕ) (s : Selects d base text) where
+    abbrev pub listing : Listing base text
+    listing = record { tree = d.layout.tree; terms = []; project = shown_columns (behind d); order = by_number; limit = no_limit; names = names_of d.layout; command = s.selects; plain = s.plain; unlisted = s.unlisted }
 
     lists : Lists text listing d.key (row_of d) d.values [] (λ r. true)
     lists = record { keyed = λ r. ap rowid (headed r); ranks = λ a b. refl; tests = λ r. refl; shows = shows_values }
 
     pub shows_all : (old new : State) (rows : List Row) (c : Content) → Holds old c → Shown text [] old new rows → rows ≡ map d.values (d.records (relations_of c))
     shows_all old new rows c held h =
-        listed text listing d.key (row_of d) d.values [] (λ r. true) lists old new rows (d.records (relations_of c)) (held_begins old c held) (held_by old c held) h
+        listed text listing d.key (row_of d) d.values [] (λ r. true) lists old new rows (d.records (relations_of c)) (subst (Begins base) (sym (schema_is old c held)) s.begins) (held_by old c held) h
         ∙ ap (map d.values) (filter_all (d.records (relations_of c)))
 
-    pub asks : AsksAll d.table nine text listing
-    asks = record { tree = ap (λ (t : Option MadeTable × ℕ × Command). t.1) f.computes; all = refl; unlimited = refl; shows = λ row. ap (λ (t : Row × Bool). t.0) (f.of_row row) }
+    pub asks : AsksAll d.table base text listing
+    asks = record { tree = tree_is; all = refl; unlimited = refl; shows = λ row. ap (λ (t : Row × Bool). t.0) (f.of_row row) }
 
   -- ---- the query of a page
 
@@ -220,14 +228,14 @@ module _ {R : Type 0} (d : Description R) (f : Filed d) where
     given_page = id_value number ∷ id_value limit ∷ []
 
     abbrev pub paging : Listing nine text
-    paging = record { tree = d.layout.tree; terms = above_parameter; project = shown_columns d.behind; order = by_number; limit = col 0 1; names = names_of d.layout; command = p.pages; plain = p.plain; unlisted = p.unlisted }
+    paging = record { tree = d.layout.tree; terms = above_parameter; project = shown_columns (behind d); order = by_number; limit = col 0 1; names = names_of d.layout; command = p.pages; plain = p.plain; unlisted = p.unlisted }
 
     pages_lists : Lists text paging d.key (row_of d) d.values given_page (λ x. nat_lt number (d.key x))
     pages_lists = record {
       keyed = λ r. ap rowid (headed r);
       ranks = λ a b. refl;
       tests = λ r. is_above number (d.key r) (row_of d r) limit (headed r);
-      shows = λ r. ap (λ l. column (row_of d r) 0 ∷ l) (blind given_page (row_of d r) 2 d.behind) ∙ shows_values r;
+      shows = λ r. ap (λ l. column (row_of d r) 0 ∷ l) (blind given_page (row_of d r) 2 (behind d)) ∙ shows_values r;
     }
 
     pub shows_page : (old new : State) (rows : List Row) (c : Content) → Holds old c → Shown text given_page old new rows → rows ≡ map d.values (take limit (filter (λ x. nat_lt number (d.key x)) (d.records (relations_of c))))
@@ -243,7 +251,7 @@ module _ {R : Type 0} (d : Description R) (f : Filed d) where
       at = d.place;
       layout = d.layout;
       terms = by_first;
-      project = columns_given d.behind;
+      project = columns_given (behind d);
       place = place_is;
       command = u.updates;
       plain = u.plain;

@@ -15,8 +15,8 @@ use Rattle.acd_columns.specs.declared.tables.Table.TheVariants as table
 use Rattle.acd_columns.specs.declared.meta.Meta.{Meta}
 use Rattle.acd_columns.specs.Rows.{meta_row, connection_row, further_row}
 use Rattle.acd_columns.specs.Schema.{book_schema}
-use Rattle.acd_columns.specs.Relations.{Relations, relations_of}
-use Rattle.acd_columns.specs.Content.{tree_of, Part, part, with_part, Stores, AreTables, AreHeaped, pair_order}
+use Rattle.acd_columns.specs.Relations.{pair_order, Relations, relations_of}
+use Rattle.acd_columns.specs.Content.{tree_of, Part, part, with_part, Stores, AreTables, AreHeaped}
 use Rattle.acd_columns.specs.Draft.{Drafts}
 use Rattle.acd_columns.proofs.KeyedRows.{apart, same_number}
 use Rattle.acd_columns.proofs.Statements.{Replaces}

@@ -1,11 +1,11 @@
 -- The queries of the tables of version 2 show all their rows.
-use Rattle.std.proofs.Common.{◌++◌, [], ◌∷◌, refl}
+use Rattle.std.proofs.Common.{◌++◌, [], ◌∷◌, length, refl}
 use Rattle.sqlite_sql.specs.Term.{col}
 use Rattle.sqlite.specs.Listing.{understood}
 use Rattle.sqlite_tied.specs.Compute.{everything}
 use Rattle.acd_columns.specs.declared.tables.Table.TheVariants as table
 use Rattle.acd_columns.specs.declared.texts.TheConstants.{SELECT_STANDING_AGENT_GROUPS, SELECT_GROUP_PRIORITY}
-use Rattle.acd_columns.specs.Schema.{nine, two, names_of}
+use Rattle.acd_columns.specs.Schema.{nine, two, names_of, behind_first}
 use Rattle.acd_columns.specs.Schema as schema
 use Rattle.acd_columns.proofs.Asked.{columns, by_number, no_limit}
 use Rattle.acd_columns.proofs.Listings.{Listing}
@@ -16,7 +16,7 @@ unfolding understood everything
 further_listing = record {
   tree = schema.agent_groups.tree;
   terms = [];
-  project = columns 1 2;
+  project = columns 1 (length schema.agent_groups.columns);
   order = [];
   limit = no_limit;
   names = names_of schema.agent_groups;
@@ -34,7 +34,7 @@ unfolding understood everything
 priorities_listing = record {
   tree = schema.group_priority.tree;
   terms = [];
-  project = col 1 0 ∷ columns 2 1;
+  project = col 1 0 ∷ columns 2 (behind_first schema.group_priority);
   order = by_number;
   limit = no_limit;
   names = names_of schema.group_priority;

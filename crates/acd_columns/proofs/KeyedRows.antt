@@ -12,6 +12,7 @@ use Rattle.sqlite_value.proofs.OrderLemmas.{value_cmp-Int}
 use Rattle.sqlite_trees.specs.Tree.{rowid, put_row}
 use Rattle.sqlite_rules.specs.Lists.{Has}
 use Rattle.acd_terms.specs.Lists.{Among, AllAfter, IsAscending, put_by}
+use Rattle.acd_laws.proofs.Keyed.{key_is}
 use Rattle.acd_laws.proofs.Lists.{after_among, after_lower, after_same, filter_all}
 use Rattle.acd_columns.specs.Values.{id_value}
 
@@ -34,6 +35,33 @@ own_number m = grind (arith, nat_tests)
 pub apart : (m n : ℕ) → (m == n) ≡ false → m ≡ n → ⊥
 apart m n h e = grind (arith, nat_tests)
 
+-- the one that goes out of an ascending list is the one that comes back in
+module _ {R : Type 0} (order : R → R → Ordering) (total : IsTotalOrder order) (has : R → R → Bool) (tied : (new r : R) → is_eq (order new r) ≡ has new r) where
+  module _ (new : R) where
+    -- none of these has the key
+    none_has : (rs : List R) → AllAfter order new rs → filter (λ r. not (has new r)) rs ≡ rs
+    none_has rs h = filter_all (λ r. not (has new r)) rs (λ x a. ap not (sym (tied new x) ∙ ap is_eq (after_among order new rs x h a)))
+
+    first_of : (rs : List R) → AllAfter order new rs → put_by (order new) rs new ≡ new ∷ rs
+    first_of [] h = refl
+    first_of (r ∷ rs) h = rw h.0 refl
+
+    told : (r : R) (o : Ordering) → order new r ≡ o → has new r ≡ is_eq o
+    told r o e = sym (tied new r) ∙ ap is_eq e
+
+  pub put_back : (new : R) (rs : List R) → IsAscending order rs → put_by (order new) (filter (λ r. not (has new r)) rs) new ≡ put_by (order new) rs new
+  put_back new [] h = refl
+  put_back new (r ∷ rs) h = go (order new r) refl (put_back new rs h.1)
+    where
+      go : (o : Ordering) → order new r ≡ o → put_by (order new) (filter (λ r. not (has new r)) rs) new ≡ put_by (order new) rs new
+          → put_by (order new) (cond (not (has new r)) (r ∷ filter (λ r. not (has new r)) rs) (filter (λ r. not (has new r)) rs)) new
+          ≡ match_ordering o (new ∷ r ∷ rs) (new ∷ rs) (r ∷ put_by (order new) rs new)
+      go Less e ih = rw (told new r Less e, e) (ap (λ l. new ∷ r ∷ l) (none_has new rs (after_lower order total new r e rs h.0)))
+      go Equal e ih =
+          let after = after_same order total new r e rs h.0 in
+          rw (told new r Equal e, none_has new rs after) (first_of new rs after)
+      go Greater e ih = rw (told new r Greater e, e) (ap (λ l. r ∷ l) ih)
+
 module _ {R : Type 0} (key : R → ℕ) where
   abbrev pub by_key : R → R → Ordering
   by_key a b = nat_cmp (key a) (key b)
@@ -45,40 +73,11 @@ module _ {R : Type 0} (key : R → ℕ) where
     congr = λ x y z. nat_cmp_total.congr (key x) (key y) (key z);
   }
 
-  pub has_key : R → R → Bool
-  has_key new r = key r == key new
-
   less_key : (new r : R) → by_key new r ≡ Less → (key r == key new) ≡ false
   less_key new r h = grind (arith, nat_tests)
 
-  equal_key : (new r : R) → by_key new r ≡ Equal → (key r == key new) ≡ true
-  equal_key new r h = grind (arith, nat_tests)
-
-  greater_key : (new r : R) → by_key new r ≡ Greater → (key r == key new) ≡ false
-  greater_key new r h = grind (arith, nat_tests)
-
-  module _ (new : R) where
-    -- none of these has the key
-    none_has : (rs : List R) → AllAfter by_key new rs → filter (λ r. not (key r == key new)) rs ≡ rs
-    none_has rs h = filter_all (λ r. not (key r == key new)) rs (λ x a. ap not (less_key new x (after_among by_key new rs x h a)))
-
-    first_of : (rs : List R) → AllAfter by_key new rs → put_by (by_key new) rs new ≡ new ∷ rs
-    first_of [] h = refl
-    first_of (r ∷ rs) h = rw h.0 refl
-
-  -- the one that goes out of an ascending list is the one that comes back in
   pub put_left : (new : R) (rs : List R) → IsAscending by_key rs → put_by (by_key new) (filter (λ r. not (key r == key new)) rs) new ≡ put_by (by_key new) rs new
-  put_left new [] h = refl
-  put_left new (r ∷ rs) h = go (by_key new r) refl (put_left new rs h.1)
-    where
-      go : (o : Ordering) → by_key new r ≡ o → put_by (by_key new) (filter (λ r. not (key r == key new)) rs) new ≡ put_by (by_key new) rs new
-          → put_by (by_key new) (cond (not (key r == key new)) (r ∷ filter (λ r. not (key r == key new)) rs) (filter (λ r. not (key r == key new)) rs)) new
-          ≡ match_ordering o (new ∷ r ∷ rs) (new ∷ rs) (r ∷ put_by (by_key new) rs new)
-      go Less e ih = rw (less_key new r e, e) (ap (λ l. new ∷ r ∷ l) (none_has new rs (after_lower by_key by_key_total new r e rs h.0)))
-      go Equal e ih =
-          let after = after_same by_key by_key_total new r e rs h.0 in
-          rw (equal_key new r e, none_has new rs after) (first_of new rs after)
-      go Greater e ih = rw (greater_key new r e, e) (ap (λ l. r ∷ l) ih)
+  put_left new rs h = put_back by_key by_key_total (λ x r. key r == key x) (λ x r. key_is (key x) (key r)) new rs h
 
   -- none of those after a record has its key
   none_more : (new r : R) (rs : List R) → key r ≡ key new → AllAfter by_key r rs → filter (λ x. key x == key new) rs ≡ []

@@ -78,7 +78,7 @@ held_begins old c held = book_begins old.now.schema (schema_is old c held)
 pub stored : (t : Table) (old : State) (c : Content) → Holds old c → Stores t (old.now.trees (tree_of t)) (part t (relations_of c))
 stored t old c held = subst (λ (d : Database). Stores t (d.trees (tree_of t)) (part t (relations_of c))) (sym held.idle) (held.encodes t)
 
-end_of : (o : Ordering) → ordering_then o Equal ≡ o
+pub end_of : (o : Ordering) → ordering_then o Equal ≡ o
 end_of Less = refl
 end_of Equal = refl
 end_of Greater = refl

@@ -45,12 +45,13 @@ use Rattle.acd_columns.specs.Ranges.{event_in, kept_in}
 use Rattle.acd_columns.specs.Schema.{nine, with_behind, Begins, names_of}
 use Rattle.acd_columns.specs.Schema as schema
 use Rattle.acd_columns.specs.Seeing.{HasDatabase, Sees}
-use Rattle.acd_columns.specs.Tables.{events, kept}
+use Rattle.acd_columns.specs.Tables.{connections, events, kept}
 use Rattle.acd_columns.proofs.Filed.{paging}
 use Rattle.acd_columns.proofs.Seeing.{AsksAll, answer_in}
 use Rattle.acd_columns.proofs.TablesFiled.{events_filed, events_pages, kept_filed, kept_pages}
 use Rattle.acd_columns.proofs.Asked.{columns, no_limit, by_number, above_parameter, above}
-use Rattle.acd_columns.proofs.ConnectionRows.{connections_listing}
+use Rattle.acd_columns.proofs.Connections.{connections_heaped, connections_selects, connections_listing}
+use Rattle.acd_columns.proofs.Heaped.{asks}
 use Rattle.acd_columns.proofs.KeyedRows.{id_cmp, by_key}
 use Rattle.acd_columns.proofs.Listings.{Listing, Lists, query_of, listed, begun}
 use Rattle.acd_columns.proofs.Ordered.{given, in_some_order}
@@ -150,11 +151,11 @@ module _ {base : List Made} (text : List ℕ) (it : Listing base text) (params :
 
 pub asks_connections : AsksAll table.Connections nine SELECT_CONNECTIONS.now connections_listing
 unfolding connections_listing
-asks_connections = record { tree = refl; all = refl; unlimited = refl; shows = λ r. refl }
+asks_connections = asks connections connections_heaped SELECT_CONNECTIONS.now connections_selects
 
 pub unordered_connections : Listing nine SELECT_STANDING_CONNECTIONS.now
 unfolding understood everything
-unordered_connections = record { tree = schema.connections.tree; terms = []; project = columns 1 7; order = []; limit = no_limit; names = names_of schema.connections; command = λ rest s. refl; plain = λ rest s. (refl, refl); unlisted = λ rest s. refl }
+unordered_connections = record { tree = schema.connections.tree; terms = []; project = columns 1 (length schema.connections.columns); order = []; limit = no_limit; names = names_of schema.connections; command = λ rest s. refl; plain = λ rest s. (refl, refl); unlisted = λ rest s. refl }
 
 pub asks_unordered_connections : AsksAll table.Connections nine SELECT_STANDING_CONNECTIONS.now unordered_connections
 unfolding unordered_connections

@@ -1,11 +1,12 @@
 -- Two lists of the same members, each once, are one in another order.
-use Rattle.std.proofs.Common.{◌≡◌, ◌⊎◌, inl, inr, List, [], ◌∷◌, ◌++◌, refl, sym, subst, ap}
+use Rattle.std.proofs.Common.{◌≡◌, ◌⊎◌, inl, inr, List, [], ◌∷◌, ◌++◌, map, refl, sym, subst, ap}
 use Rattle.std.specs.List.{AllByRecursion}
 use Rattle.std.specs.List.Sorted.{IsPermutation}
 use Rattle.std.proofs.lemmas.List.Sorted.{IsPermutation-refl, IsPermutation-cons, IsPermutation-sym, IsPermutation-trans, IsPermutation-middle}
 use Rattle.sqlite_trees.specs.Tree.{IsAscending}
 use Rattle.sqlite_rules.specs.Lists.{Has}
-use Rattle.sqlite_rules.proofs.ListLemmas.{all_has, has_left, has_right, has_either}
+use Rattle.sqlite_rules.proofs.ListLemmas.{all_has, all_from, has_left, has_right, has_either}
+use Rattle.sqlite_keyed.proofs.ListLemmas.{all_map}
 
 module _ {X : Type 0} where
   abbrev pub Differ : X → X → Type 0
@@ -14,6 +15,14 @@ module _ {X : Type 0} where
   -- each member once
   abbrev pub AreApart : List X → Type 0
   AreApart = IsAscending Differ
+
+  -- of images that differ where the members stand one behind the other
+  pub apart_under : {A : Type 0} {S : A → A → Type 0} (f : A → X) (xs : List A) → ((a b : A) → Has xs a → Has xs b → S a b → Differ (f a) (f b)) → IsAscending S xs → AreApart (map f xs)
+  apart_under f [] so up = tt
+  apart_under {S = S} f (a ∷ xs) so up = (
+    all_map (Differ (f a)) f xs (all_from (λ b. Differ (f a) (f b)) xs (λ b k. so a b (inl refl) (inr k) (all_has (S a) xs b up.0 k))),
+    apart_under f xs (λ b c p q. so b c (inr p) (inr q)) up.1,
+  )
 
   -- where it stands
   place : (ys : List X) (x : X) → Has ys x → (front : List X) × (back : List X) × (ys ≡ front ++ x ∷ back)

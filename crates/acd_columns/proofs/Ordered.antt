@@ -48,7 +48,7 @@ module _ {R : Type 0} (cmp : R → R → Ordering) (total : IsTotalOrder cmp) wh
   rises z [] h = tt
   rises z (x ∷ xs) h = (h.0, rises z xs h.1)
 
-  strict : (xs : List R) → IsAscending cmp xs → tree.IsAscending (λ a b. cmp a b ≡ Less) xs
+  pub strict : (xs : List R) → IsAscending cmp xs → tree.IsAscending (λ a b. cmp a b ≡ Less) xs
   strict [] h = tt
   strict (x ∷ xs) h = (rises x xs h.0, strict xs h.1)
 

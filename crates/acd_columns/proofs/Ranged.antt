@@ -19,7 +19,7 @@ use Rattle.acd_terms.specs.declared.event.EventKind.{EventKind}
 use Rattle.acd_terms.specs.declared.event.Cause.{Cause}
 use Rattle.acd_laws.proofs.Lists.{find_passes}
 use Rattle.acd_columns.specs.Codes.{with_code, agent_states, pending_states, connection_states, causes, kinds, agent_state_of, pending_of, connection_state_of, kind_of, cause_of, agent_code, pending_code, connection_code, kind_code, cause_code}
-use Rattle.acd_columns.specs.Values.{id_value, option_in, ◌>>=◌, text_of, is_null, text_at, whole_at, at_least, stamp_at, serial_at, moment_at, seconds_at, device_at, agent_at, name_at, agent_state_at, pending_at, connection_state_at, kind_at, cause_at, utf8_of, or_none}
+use Rattle.acd_columns.specs.Values.{id_value, cells, option_in, ◌>>=◌, text_of, is_null, text_at, whole_at, at_least, stamp_at, serial_at, moment_at, seconds_at, priority_at, device_at, agent_at, name_at, agent_state_at, pending_at, connection_state_at, kind_at, cause_at, utf8_of, or_none}
 
 -- ---- UTF-8
 
@@ -59,7 +59,7 @@ text_is (Real x) t e = absurd (cc e)
 text_is (Text s) t e = ap Text (some_same s t e)
 text_is (Blob b) t e = absurd (cc e)
 
-null_is : (v : Value) → is_null v ≡ true → v ≡ Null
+pub null_is : (v : Value) → is_null v ≡ true → v ≡ Null
 null_is Null e = refl
 null_is (Int n) e = absurd (cc e)
 null_is (Real x) e = absurd (cc e)
@@ -89,6 +89,10 @@ module _ (r : Row) (at : ℕ) where
   pub seconds_stored : (n : ℕ) → seconds_at r at ≡ Some n → column r at ≡ id_value n
   unfolding seconds_at number_between
   seconds_stored n h = passed (number_between 0 3600) (λ m k e. some_same m k (guarded _ (Some m) k e).1) (column r at) n h
+
+  pub priority_stored : (n : ℕ) → priority_at r at ≡ Some n → column r at ≡ id_value n
+  unfolding priority_at number_between
+  priority_stored n h = passed (number_between 1 9) (λ m k e. some_same m k (guarded _ (Some m) k e).1) (column r at) n h
 
   pub device_stored : (n : ℕ) → device_at r at ≡ Some n → column r at ≡ id_value n
   unfolding device_at id_with
@@ -171,10 +175,6 @@ module _ (r : Row) (at : ℕ) where
   cause_stored w h = with_own cause_code causes (column r at) w h
 
 -- ---- rows of a known width
-
-abbrev pub cells : ℕ → ℕ → Row → Row
-cells start zero r = []
-cells start (suc k) r = column r start ∷ cells (suc start) k r
 
 shifted : (start k : ℕ) (v : Value) (r : Row) → cells (suc start) k (v ∷ r) ≡ cells start k r
 shifted start zero v r = refl

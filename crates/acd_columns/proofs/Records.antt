@@ -1,32 +1,57 @@
 -- The rows of each kind of record, and the records that are shown of them.
-use Rattle.std.proofs.Common.{◌≡◌, Some, refl}
+use Rattle.std.proofs.Common.{◌≡◌, ℕ, Some, refl}
 use Rattle.std.specs.Prelude.{⊤}
 use Rattle.sqlite_value.specs.Order.{Row}
-use Rattle.acd_terms.specs.declared.record.GroupRecord.{GroupRecord}
 use Rattle.acd_terms.specs.declared.record.StationRecord.{StationRecord}
-use Rattle.acd_terms.specs.declared.record.AgentRecord.{AgentRecord}
 use Rattle.acd_terms.specs.declared.record.CallRecord.{CallRecord}
 use Rattle.acd_terms.specs.declared.record.ConnectionRecord.{ConnectionRecord}
 use Rattle.acd_terms.specs.declared.record.MonitorRecord.{MonitorRecord}
+use Rattle.acd_columns.specs.declared.relations.GroupRow.{GroupRow}
+use Rattle.acd_columns.specs.declared.relations.AgentRow.{AgentRow}
+use Rattle.acd_columns.specs.declared.relations.GroupPriority.{GroupPriority}
 use Rattle.acd_columns.proofs.FieldLaws.{row_is_written, shown_back, fields_exact}
 use Rattle.acd_columns.specs.declared.decode.EventValues.{EventValues}
 use Rattle.acd_columns.specs.declared.meta.Meta.{Meta}
-use Rattle.acd_columns.specs.Decoding.{as_group, as_station, as_agent, as_call, as_connection, as_monitor, as_meta}
+use Rattle.acd_columns.specs.Decoding.{as_priority, as_further, as_group, as_station, as_agent, as_call, as_connection, as_monitor, as_meta}
 use Rattle.acd_columns.specs.Fields.{read_whole, shown_whole, written, Agree}
-use Rattle.acd_columns.specs.Ranges.{group_in, station_in, agent_in, call_in, connection_in, monitor_in, counters_in}
-use Rattle.acd_columns.specs.Rows.{group_fields, group_made, group_values, station_fields, station_made, station_values, agent_fields, agent_made, agent_values, call_fields, call_made, call_values, connection_fields, connection_made, connection_values, monitor_fields, monitor_made, monitor_values, meta_fields, meta_made, meta_shown, event_fields, event_made}
+use Rattle.acd_columns.specs.Ranges.{priority_in, further_in, group_in, station_in, agent_in, call_in, connection_in, monitor_in, counters_in}
+use Rattle.acd_columns.specs.Rows.{priority_fields, priority_made, priority_values, further_fields, further_made, further_values, group_fields, group_made, group_values, station_fields, station_made, station_values, agent_fields, agent_made, agent_values, call_fields, call_made, call_values, connection_fields, connection_made, connection_values, monitor_fields, monitor_made, monitor_values, meta_fields, meta_made, meta_shown, event_fields, event_made}
 
 group_agrees : Agree group_fields group_made (λ r. ⊤)
 group_agrees = λ device name ring wrap entered answered abandoned moved waited. (((((((((tt, refl), refl), refl), refl), refl), refl), refl), refl), refl)
 
-pub group_stored : (r : Row) (g : GroupRecord) → group_in r ≡ Some g → r ≡ group_values g
+pub group_stored : (r : Row) (g : GroupRow) → group_in r ≡ Some g → r ≡ group_values g
 group_stored = row_is_written group_fields group_made group_agrees
 
-pub group_exact : (r : Row) (x y : GroupRecord) → group_in r ≡ Some x → r ≡ group_values y → x ≡ y
+pub group_exact : (r : Row) (x y : GroupRow) → group_in r ≡ Some x → r ≡ group_values y → x ≡ y
 group_exact = fields_exact group_fields group_made group_agrees (λ g. refl)
 
-pub group_back : (g : GroupRecord) → as_group (group_values g) ≡ g
+pub group_back : (g : GroupRow) → as_group (group_values g) ≡ g
 group_back g = shown_back group_fields group_made g refl
+
+priority_agrees : Agree priority_fields priority_made (λ r. ⊤)
+priority_agrees = λ device priority. ((tt, refl), refl)
+
+pub priority_stored : (r : Row) (p : GroupPriority) → priority_in r ≡ Some p → r ≡ priority_values p
+priority_stored = row_is_written priority_fields priority_made priority_agrees
+
+pub priority_exact : (r : Row) (x y : GroupPriority) → priority_in r ≡ Some x → r ≡ priority_values y → x ≡ y
+priority_exact = fields_exact priority_fields priority_made priority_agrees (λ p. refl)
+
+pub priority_back : (p : GroupPriority) → as_priority (priority_values p) ≡ p
+priority_back p = shown_back priority_fields priority_made p refl
+
+further_agrees : Agree further_fields further_made (λ r. ⊤)
+further_agrees = λ agent group. ((tt, refl), refl)
+
+pub further_stored : (r : Row) (p : ℕ × ℕ) → further_in r ≡ Some p → r ≡ further_values p
+further_stored = row_is_written further_fields further_made further_agrees
+
+pub further_exact : (r : Row) (x y : ℕ × ℕ) → further_in r ≡ Some x → r ≡ further_values y → x ≡ y
+further_exact = fields_exact further_fields further_made further_agrees (λ p. refl)
+
+pub further_back : (p : ℕ × ℕ) → as_further (further_values p) ≡ p
+further_back p = shown_back further_fields further_made p refl
 
 station_agrees : Agree station_fields station_made (λ r. ⊤)
 station_agrees = λ device. (tt, refl)
@@ -43,13 +68,13 @@ station_back s = shown_back station_fields station_made s refl
 agent_agrees : Agree agent_fields agent_made (λ r. ⊤)
 agent_agrees = λ agent name state pending station group stamp since. ((((((((tt, refl), refl), refl), refl), refl), refl), refl), refl)
 
-pub agent_stored : (r : Row) (a : AgentRecord) → agent_in r ≡ Some a → r ≡ agent_values a
+pub agent_stored : (r : Row) (a : AgentRow) → agent_in r ≡ Some a → r ≡ agent_values a
 agent_stored = row_is_written agent_fields agent_made agent_agrees
 
-pub agent_exact : (r : Row) (x y : AgentRecord) → agent_in r ≡ Some x → r ≡ agent_values y → x ≡ y
+pub agent_exact : (r : Row) (x y : AgentRow) → agent_in r ≡ Some x → r ≡ agent_values y → x ≡ y
 agent_exact = fields_exact agent_fields agent_made agent_agrees (λ a. refl)
 
-pub agent_back : (a : AgentRecord) → as_agent (agent_values a) ≡ a
+pub agent_back : (a : AgentRow) → as_agent (agent_values a) ≡ a
 agent_back a = shown_back agent_fields agent_made a refl
 
 call_agrees : Agree call_fields call_made (λ r. ⊤)

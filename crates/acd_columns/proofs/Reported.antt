@@ -95,7 +95,7 @@ formed kind.Transferred d c a g t w s h = let p = parts _ _ _ _ _ _ _ _ _ h in s
 formed kind.Failed d c a g t w s h = let p = parts _ _ _ _ _ _ _ _ _ h in same kind.Failed (there d 0 p.0) (there c 0 p.1) (absent a p.2) (absent g p.3) (absent t p.4) (busy_is w p.5 p.7) (absent s p.6)
 formed kind.ConnectionCleared d c a g t w s h = let p = parts _ _ _ _ _ _ _ _ _ h in same kind.ConnectionCleared (there d 0 p.0) (there c 0 p.1) (absent a p.2) (absent g p.3) (absent t p.4) (absent w p.5) (absent s p.6)
 formed kind.CallCleared d c a g t w s h = let p = parts _ _ _ _ _ _ _ _ _ h in same kind.CallCleared (absent d p.0) (there c 0 p.1) (absent a p.2) refl (absent t p.4) (absent w p.5) (absent s p.6)
-formed kind.AgentLoggedOn d c a g t w s h = let p = parts _ _ _ _ _ _ _ _ _ h in same kind.AgentLoggedOn (there d 0 p.0) (absent c p.1) (there a 0 p.2) (there g 0 p.3) (absent t p.4) (absent w p.5) (absent s p.6)
+formed kind.AgentLoggedOn d c a g t w s h = let p = parts _ _ _ _ _ _ _ _ _ h in same kind.AgentLoggedOn (there d 0 p.0) (absent c p.1) (there a 0 p.2) refl (absent t p.4) (absent w p.5) (absent s p.6)
 formed kind.AgentLoggedOff d c a g t w s h = let p = parts _ _ _ _ _ _ _ _ _ h in same kind.AgentLoggedOff (there d 0 p.0) (absent c p.1) (there a 0 p.2) (absent g p.3) (absent t p.4) (absent w p.5) (absent s p.6)
 formed kind.AgentNotReady d c a g t w s h = let p = parts _ _ _ _ _ _ _ _ _ h in same kind.AgentNotReady (there d 0 p.0) (absent c p.1) (there a 0 p.2) (absent g p.3) (absent t p.4) (absent w p.5) (absent s p.6)
 formed kind.AgentReady d c a g t w s h = let p = parts _ _ _ _ _ _ _ _ _ h in same kind.AgentReady (there d 0 p.0) (absent c p.1) (there a 0 p.2) (absent g p.3) (absent t p.4) (absent w p.5) (absent s p.6)

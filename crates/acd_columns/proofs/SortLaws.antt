@@ -4,8 +4,8 @@ use Rattle.sqlite_value.specs.declared.value.Value.TheVariants.{Null}
 use Rattle.sqlite_rules.specs.Cast.{cast}
 use Rattle.sqlite_value.specs.Order.{Row, column}
 use Rattle.acd_columns.proofs.CodeLaws.{agent_state_back, pending_back, kind_back, cause_back, connection_state_back}
-use Rattle.acd_columns.proofs.Ranged.{whole_stored, stamp_stored, serial_stored, moment_stored, seconds_stored, device_stored, agent_id_stored, name_stored, agent_state_stored, pending_stored, kind_stored, cause_stored, connection_state_stored, or_none_stored}
-use Rattle.acd_columns.specs.Sorts.{Sort, whole, stamp, serial, moment, seconds, device, agent, name, agent_state, pending, kind, cause, connection_state, Column, sure, maybe, Of, Means, value_of, value, read_of, read_at, shown_of, shown_or_none, shown, type_of, type_in}
+use Rattle.acd_columns.proofs.Ranged.{whole_stored, stamp_stored, serial_stored, moment_stored, seconds_stored, priority_stored, device_stored, agent_id_stored, name_stored, agent_state_stored, pending_stored, kind_stored, cause_stored, connection_state_stored, or_none_stored}
+use Rattle.acd_columns.specs.Sorts.{Sort, whole, stamp, serial, moment, seconds, priority, device, agent, name, agent_state, pending, kind, cause, connection_state, Column, sure, maybe, Of, Means, value_of, value, read_of, read_at, shown_of, shown_or_none, shown, type_of, type_in}
 use Rattle.acd_columns.specs.Codes.{agent_code, pending_code, kind_code, cause_code, connection_code}
 use Rattle.acd_columns.proofs.Common.{cast_id, cast_null}
 
@@ -15,6 +15,7 @@ sort_stored stamp r at x h = stamp_stored r at x h
 sort_stored serial r at x h = serial_stored r at x h
 sort_stored moment r at x h = moment_stored r at x h
 sort_stored seconds r at x h = seconds_stored r at x h
+sort_stored priority r at x h = priority_stored r at x h
 sort_stored device r at x h = device_stored r at x h
 sort_stored agent r at x h = agent_id_stored r at x h
 sort_stored name r at x h = name_stored r at x h
@@ -34,6 +35,7 @@ sort_back stamp x = refl
 sort_back serial x = refl
 sort_back moment x = refl
 sort_back seconds x = refl
+sort_back priority x = refl
 sort_back device x = refl
 sort_back agent x = refl
 sort_back name x = refl
@@ -50,6 +52,7 @@ some_shown stamp x = refl
 some_shown serial x = refl
 some_shown moment x = refl
 some_shown seconds x = refl
+some_shown priority x = refl
 some_shown device x = refl
 some_shown agent x = refl
 some_shown name x = refl
@@ -72,6 +75,7 @@ sort_cast stamp x = cast_id x
 sort_cast serial x = cast_id x
 sort_cast moment x = cast_id x
 sort_cast seconds x = cast_id x
+sort_cast priority x = cast_id x
 sort_cast device x = cast_id x
 sort_cast agent x = cast_id x
 sort_cast name x = refl
@@ -88,6 +92,7 @@ null_cast stamp = cast_null
 null_cast serial = cast_null
 null_cast moment = cast_null
 null_cast seconds = cast_null
+null_cast priority = cast_null
 null_cast device = cast_null
 null_cast agent = cast_null
 null_cast agent_state = cast_null

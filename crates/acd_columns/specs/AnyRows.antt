@@ -1,5 +1,5 @@
 -- Rows as they stand in a database, whatever they hold, and whether their values are in their ranges.
-use Rattle.std.specs.Prelude.{◌≡◌, ℕ, Bool, false, List, [], ◌∷◌, length, map, take, filter, nat_lt, codes, IsTrue}
+use Rattle.std.specs.Prelude.{◌≡◌, ℕ, suc, Bool, false, List, [], ◌∷◌, length, map, take, drop, filter, nat_lt, codes, IsTrue}
 use Rattle.std.specs.List.{AllByRecursion, list_all, list_any}
 use Rattle.std.specs.Option.{is_some}
 use Rattle.std.specs.Str.{bytes_eq}
@@ -15,15 +15,18 @@ use Rattle.acd_columns.specs.declared.tables.Log.{Log}
 use Rattle.acd_columns.specs.declared.tables.Log.TheVariants as log
 use Rattle.acd_columns.specs.declared.tables.Version.{Version}
 use Rattle.acd_columns.specs.declared.tables.Version.TheVariants as version
+use Rattle.sqlite.specs.Effect.{Database}
 use Rattle.acd_columns.specs.Content.{tree_of, IsIn}
-use Rattle.acd_columns.specs.Values.{id_value}
-use Rattle.acd_columns.specs.Schema.{nine, Begins, old_schema, book_schema}
+use Rattle.acd_columns.specs.Decoding.{as_group, as_priority, as_agent, as_further}
+use Rattle.acd_columns.specs.Relations.{are_behind, are_of_groups}
+use Rattle.acd_columns.specs.Values.{id_value, cells}
+use Rattle.acd_columns.specs.Schema.{Layout, behind_first, nine, Begins, old_schema, book_schema}
 use Rattle.acd_columns.specs.Schema as schema
-use Rattle.acd_columns.specs.Ranges.{group_in, station_in, agent_in, call_in, connection_in, monitor_in, counters_in, event_in, kept_in}
+use Rattle.acd_columns.specs.Ranges.{priority_in, further_in, group_in, station_in, agent_in, call_in, connection_in, monitor_in, counters_in, event_in, kept_in}
 
 -- ---- ranges
 
--- Each value of the row is in its range. No record has a further group or a priority, so none does with a row of the last two tables.
+-- each value of the row is in its range
 abbrev pub is_good : Table → Row → Bool
 is_good table.Meta r = is_some (counters_in r)
 is_good table.Groups r = is_some (group_in r)
@@ -34,29 +37,35 @@ is_good table.Connections r = is_some (connection_in r)
 is_good table.Monitors r = is_some (monitor_in r)
 is_good table.Events r = is_some (event_in r)
 is_good table.Kept r = is_some (kept_in r)
-is_good table.AgentGroups r = false
-is_good table.GroupPriority r = false
+is_good table.AgentGroups r = is_some (further_in r)
+is_good table.GroupPriority r = is_some (priority_in r)
 
 unfoldable pub are_good : Table → List Row → Bool
 are_good t rows = list_all (is_good t) rows
 
 -- ---- rows as they stand in a database
 
+-- the number of the row, which is the key, and the columns behind it
+abbrev pub keyed_in : Layout → Row → Row
+keyed_in l r = column r 0 ∷ cells 2 (behind_first l) r
+
+-- all columns
+abbrev pub numbered_in : Layout → Row → Row
+numbered_in l r = cells 1 (length l.columns) r
+
 -- the values of a row that are looked at
 abbrev pub values_in : Table → Row → Row
-values_in table.Meta r =
-    column r 3 ∷ column r 4 ∷ column r 5 ∷ column r 6 ∷ column r 7 ∷ column r 8 ∷ column r 9 ∷ column r 10 ∷ column r 11 ∷ column r 12 ∷ column r 13 ∷ []
-values_in table.Groups r = column r 0 ∷ column r 2 ∷ column r 3 ∷ column r 4 ∷ column r 5 ∷ column r 6 ∷ column r 7 ∷ column r 8 ∷ column r 9 ∷ []
-values_in table.Stations r = column r 0 ∷ []
-values_in table.Agents r = column r 0 ∷ column r 2 ∷ column r 3 ∷ column r 4 ∷ column r 5 ∷ column r 6 ∷ column r 7 ∷ column r 8 ∷ []
-values_in table.Calls r = column r 0 ∷ column r 2 ∷ column r 3 ∷ column r 4 ∷ []
-values_in table.Connections r = column r 1 ∷ column r 2 ∷ column r 3 ∷ column r 4 ∷ column r 5 ∷ column r 6 ∷ column r 7 ∷ []
-values_in table.Monitors r = column r 0 ∷ column r 2 ∷ column r 3 ∷ []
-values_in table.Events r =
-    column r 0 ∷ column r 2 ∷ column r 3 ∷ column r 4 ∷ column r 5 ∷ column r 6 ∷ column r 7 ∷ column r 8 ∷ column r 9 ∷ column r 10 ∷ []
-values_in table.Kept r = column r 0 ∷ column r 2 ∷ column r 3 ∷ column r 4 ∷ column r 5 ∷ column r 6 ∷ column r 7 ∷ []
-values_in table.AgentGroups r = column r 1 ∷ column r 2 ∷ []
-values_in table.GroupPriority r = column r 0 ∷ column r 2 ∷ []
+values_in table.Meta r = cells 3 (length (drop 2 schema.meta.columns)) r
+values_in table.Groups r = keyed_in schema.groups r
+values_in table.Stations r = keyed_in schema.stations r
+values_in table.Agents r = keyed_in schema.agents r
+values_in table.Calls r = keyed_in schema.calls r
+values_in table.Connections r = numbered_in schema.connections r
+values_in table.Monitors r = keyed_in schema.monitors r
+values_in table.Events r = keyed_in schema.events r
+values_in table.Kept r = keyed_in schema.kept r
+values_in table.AgentGroups r = numbered_in schema.agent_groups r
+values_in table.GroupPriority r = keyed_in schema.group_priority r
 
 -- of all rows of the table
 abbrev pub rows_in : Table → Trees → List Row
@@ -66,23 +75,32 @@ rows_in t db = map (values_in t) (db (tree_of t))
 unfoldable pub is_good_in : Table → Trees → Bool
 is_good_in t db = are_good t (rows_in t db)
 
--- Each row has a value for each column. One from before a column was added may lack the last ones, where these may hold NULL.
-abbrev pub HaveAllColumns : Trees → Type 0
-HaveAllColumns db =
-    AllByRecursion (λ r. length r ≡ 2) (db (tree_of table.Stations))
-    × AllByRecursion (λ r. length r ≡ 8) (db (tree_of table.Connections))
-    × AllByRecursion (λ r. length r ≡ 11) (db (tree_of table.Events))
+-- each further group is behind the first one of its agent, who has seven at most
+unfoldable pub is_beside : Trees → Bool
+is_beside db = are_behind (map as_agent (rows_in table.Agents db)) (map as_further (rows_in table.AgentGroups db))
 
--- as a store keeps the rows of the nine tables: they have integers as numbers, which rise
-pub record IsFiled (db : Trees) : Type 0 where
-  pub rising : (t : Table) → IsIn version.First t → IsTable (db (tree_of t))
-  pub numbered : (t : Table) → IsIn version.First t → AllByRecursion (λ r. IsTrue (is_int (rowid r))) (db (tree_of t))
-  pub whole : HaveAllColumns db
+-- each priority is of a group
+unfoldable pub is_ranked : Trees → Bool
+is_ranked db = are_of_groups (map as_group (rows_in table.Groups db)) (map as_priority (rows_in table.GroupPriority db))
+
+-- Each row has its number, and a value for each column. One from before a column was added may lack the last ones, where these may hold NULL.
+abbrev pub HaveAllColumns : Version → Trees → Type 0
+HaveAllColumns v db =
+    AllByRecursion (λ r. length r ≡ suc (length schema.stations.columns)) (db (tree_of table.Stations))
+    × AllByRecursion (λ r. length r ≡ suc (length schema.connections.columns)) (db (tree_of table.Connections))
+    × AllByRecursion (λ r. length r ≡ suc (length schema.events.columns)) (db (tree_of table.Events))
+    × (IsIn v table.AgentGroups → AllByRecursion (λ r. length r ≡ suc (length schema.agent_groups.columns)) (db (tree_of table.AgentGroups)))
+
+-- as a store keeps the rows of a version's tables: they have integers as numbers, which rise
+pub record IsFiledAs (v : Version) (db : Trees) : Type 0 where
+  pub rising : (t : Table) → IsIn v t → IsTable (db (tree_of t))
+  pub numbered : (t : Table) → IsIn v t → AllByRecursion (λ r. IsTrue (is_int (rowid r))) (db (tree_of t))
+  pub whole : HaveAllColumns v db
 
 -- a bad one is there; and where the rows are filed it is told whether there is one
 pub record TellsGood (t : Table) (db : Trees) (good : Bool) : Type 0 where
   pub bad : good ≡ false → is_good_in t db ≡ false
-  pub filed : IsFiled db → good ≡ is_good_in t db
+  pub filed : IsFiledAs version.First db → good ≡ is_good_in t db
 
 -- ---- the tables that are read in pages
 
@@ -123,6 +141,10 @@ pub record IsPageRows (l : Log) (n limit : ℕ) (db : Trees) (rows : List Row) :
 abbrev pub schema_of : Version → Schema
 schema_of version.First = old_schema
 schema_of version.Second = book_schema
+
+-- of a database with the tables of a version
+abbrev pub IsFiled : Database → Type 0
+IsFiled d = (v : Version) → d.schema ≡ schema_of v → IsFiledAs v d.trees
 
 -- the table is there as a book has it: each of the nine in either version
 abbrev pub Covers : Schema → Table → Type 0

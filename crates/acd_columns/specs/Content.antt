@@ -7,21 +7,22 @@ use Rattle.sqlite_trees.specs.Tree.{Trees, IsTable}
 use Rattle.sqlite_rules.specs.Lists.{Has}
 use Rattle.acd_terms.specs.Lists.{Among, Every, IsAscending}
 use Rattle.acd_terms.specs.declared.event.Event.{Event}
-use Rattle.acd_terms.specs.declared.record.GroupRecord.{GroupRecord}
 use Rattle.acd_terms.specs.declared.record.StationRecord.{StationRecord}
-use Rattle.acd_terms.specs.declared.record.AgentRecord.{AgentRecord}
 use Rattle.acd_terms.specs.declared.record.CallRecord.{CallRecord}
 use Rattle.acd_terms.specs.declared.record.ConnectionRecord.{ConnectionRecord}
 use Rattle.acd_terms.specs.declared.record.MonitorRecord.{MonitorRecord}
 use Rattle.acd_model.specs.Rules.Plan.{connection_order}
 use Rattle.acd_book.specs.Content.{Content}
 use Rattle.acd_book.specs.declared.kept.Kept.{Kept}
+use Rattle.acd_columns.specs.declared.relations.GroupRow.{GroupRow}
+use Rattle.acd_columns.specs.declared.relations.AgentRow.{AgentRow}
+use Rattle.acd_columns.specs.declared.relations.GroupPriority.{GroupPriority}
 use Rattle.acd_columns.specs.declared.tables.Table.{Table}
 use Rattle.acd_columns.specs.declared.tables.Table.TheVariants as table
 use Rattle.acd_columns.specs.declared.tables.Version.{Version}
 use Rattle.acd_columns.specs.declared.tables.Version.TheVariants as version
 use Rattle.acd_columns.specs.declared.meta.Meta.{Meta}
-use Rattle.acd_columns.specs.Relations.{Relations, relations_of}
+use Rattle.acd_columns.specs.Relations.{Relations, relations_of, pair_order}
 use Rattle.acd_columns.specs.Schema as schema
 use Rattle.acd_columns.specs.Rows.{IsReadable, meta_row_as, group_row, station_row, agent_row, call_row, connection_row, monitor_row, event_row, kept_row, further_row, priority_row}
 
@@ -42,16 +43,16 @@ tree_of table.GroupPriority = schema.group_priority.tree
 -- what a table holds
 abbrev pub Part : Table → Type 0
 Part table.Meta = Meta
-Part table.Groups = List GroupRecord
+Part table.Groups = List GroupRow
 Part table.Stations = List StationRecord
-Part table.Agents = List AgentRecord
+Part table.Agents = List AgentRow
 Part table.Calls = List CallRecord
 Part table.Connections = List ConnectionRecord
 Part table.Monitors = List MonitorRecord
 Part table.Events = List Event
 Part table.Kept = List Kept
 Part table.AgentGroups = List (ℕ × ℕ)
-Part table.GroupPriority = List (ℕ × ℕ)
+Part table.GroupPriority = List GroupPriority
 
 abbrev pub part : (t : Table) → Relations → Part t
 part table.Meta r = r.meta
@@ -98,23 +99,19 @@ pub record AreHeaped {R : Type 0} (order : R → R → Ordering) (row : ℤ → 
 abbrev pub AreConnections : List Row → List ConnectionRecord → Type 0
 AreConnections rows records = AreHeaped connection_order connection_row rows records
 
--- by the first, then by the second
-abbrev pub pair_order : ℕ × ℕ → ℕ × ℕ → Ordering
-pair_order p q = ordering_then (nat_cmp p.0 q.0) (nat_cmp p.1 q.1)
-
 -- the rows that stand for what a table holds; the version is told by the first table
 abbrev pub StoresAs : ℕ → (t : Table) → List Row → Part t → Type 0
 StoresAs v table.Meta rows m = rows ≡ meta_row_as v m ∷ []
-StoresAs v table.Groups rows groups = AreRows (λ (g : GroupRecord). g.device) group_row rows groups
+StoresAs v table.Groups rows groups = AreRows (λ (g : GroupRow). g.device) group_row rows groups
 StoresAs v table.Stations rows stations = AreRows (λ (s : StationRecord). s.device) station_row rows stations
-StoresAs v table.Agents rows agents = AreRows (λ (a : AgentRecord). a.agent) agent_row rows agents
+StoresAs v table.Agents rows agents = AreRows (λ (a : AgentRow). a.agent) agent_row rows agents
 StoresAs v table.Calls rows calls = AreRows (λ (c : CallRecord). c.call) call_row rows calls
 StoresAs v table.Connections rows connections = AreConnections rows connections
 StoresAs v table.Monitors rows monitors = AreRows (λ (w : MonitorRecord). w.monitor) monitor_row rows monitors
 StoresAs v table.Events rows events = AreRows (λ (e : Event). e.number) event_row rows events
 StoresAs v table.Kept rows kept = AreRows (λ (k : Kept). k.stamp) kept_row rows kept × Every IsReadable kept
 StoresAs v table.AgentGroups rows further = AreHeaped pair_order further_row rows further
-StoresAs v table.GroupPriority rows priorities = AreRows (λ (p : ℕ × ℕ). p.0) priority_row rows priorities
+StoresAs v table.GroupPriority rows priorities = AreRows (λ (p : GroupPriority). p.device) priority_row rows priorities
 
 abbrev pub Stores : (t : Table) → List Row → Part t → Type 0
 Stores t rows x = StoresAs 2 t rows x
@@ -137,6 +134,12 @@ abbrev pub number_of : Version → ℕ
 number_of version.First = 1
 number_of version.Second = 2
 
+-- nothing is held that only a later version has a table of
+abbrev pub FitsIn : Version → Relations → Type 0
+FitsIn version.First r = (r.further ≡ []) × (r.priorities ≡ [])
+FitsIn version.Second r = ⊤
+
 -- the tables of a content, as a version has them
-abbrev pub EncodesAs : Version → Trees → Content → Type 0
-EncodesAs v db c = (t : Table) → IsIn v t → StoresAs (number_of v) t (db (tree_of t)) (part t (relations_of c))
+pub record EncodesAs (v : Version) (db : Trees) (c : Content) : Type 0 where
+  pub fits : FitsIn v (relations_of c)
+  pub tables : (t : Table) → IsIn v t → StoresAs (number_of v) t (db (tree_of t)) (part t (relations_of c))

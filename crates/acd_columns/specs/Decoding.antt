@@ -13,30 +13,38 @@ use Rattle.acd_terms.specs.declared.event.Columns.{Columns}
 use Rattle.acd_terms.specs.declared.event.Report.{Report}
 use Rattle.acd_terms.specs.declared.event.Report.TheVariants as report
 use Rattle.acd_terms.specs.declared.event.Event.{Event}
-use Rattle.acd_terms.specs.declared.record.GroupRecord.{GroupRecord}
 use Rattle.acd_terms.specs.declared.record.StationRecord.{StationRecord}
-use Rattle.acd_terms.specs.declared.record.AgentRecord.{AgentRecord}
 use Rattle.acd_terms.specs.declared.record.CallRecord.{CallRecord}
 use Rattle.acd_terms.specs.declared.record.ConnectionRecord.{ConnectionRecord}
 use Rattle.acd_terms.specs.declared.record.MonitorRecord.{MonitorRecord}
 use Rattle.acd_codec.specs.declared.member.Member.{Member}
 use Rattle.acd_codec.specs.Reading.{reads_as}
 use Rattle.acd_book.specs.declared.kept.Kept.{Kept}
+use Rattle.acd_columns.specs.declared.relations.GroupRow.{GroupRow}
+use Rattle.acd_columns.specs.declared.relations.AgentRow.{AgentRow}
+use Rattle.acd_columns.specs.declared.relations.GroupPriority.{GroupPriority}
 use Rattle.acd_columns.specs.declared.decode.EventValues.{EventValues}
 use Rattle.acd_columns.specs.declared.meta.Meta.{Meta}
 use Rattle.acd_columns.specs.Fields.{shown_whole}
-use Rattle.acd_columns.specs.Rows.{group_fields, group_made, station_fields, station_made, agent_fields, agent_made, call_fields, call_made, connection_fields, connection_made, monitor_fields, monitor_made, meta_fields, meta_made, event_fields, event_made}
+use Rattle.acd_columns.specs.Rows.{group_fields, group_made, priority_fields, priority_made, further_fields, further_made, station_fields, station_made, agent_fields, agent_made, call_fields, call_made, connection_fields, connection_made, monitor_fields, monitor_made, meta_fields, meta_made, event_fields, event_made}
 use Rattle.acd_columns.specs.Values.{number_in, text_in}
 
 -- ---- the values of the columns, in the order in which a statement puts them
 
-abbrev pub as_group : Row → GroupRecord
+abbrev pub as_group : Row → GroupRow
 as_group r = shown_whole group_fields group_made r
+
+abbrev pub as_priority : Row → GroupPriority
+as_priority r = shown_whole priority_fields priority_made r
+
+-- an agent and a group that it has behind its first
+abbrev pub as_further : Row → ℕ × ℕ
+as_further r = shown_whole further_fields further_made r
 
 abbrev pub as_station : Row → StationRecord
 as_station r = shown_whole station_fields station_made r
 
-abbrev pub as_agent : Row → AgentRecord
+abbrev pub as_agent : Row → AgentRow
 as_agent r = shown_whole agent_fields agent_made r
 
 abbrev pub as_call : Row → CallRecord
@@ -71,7 +79,7 @@ report_at kind.Transferred call device agent to why c = report.Transferred call 
 report_at kind.Failed call device agent to why c = report.Failed call device
 report_at kind.ConnectionCleared call device agent to why c = report.ConnectionCleared call device
 report_at kind.CallCleared call device agent to why c = report.CallCleared call c.group
-report_at kind.AgentLoggedOn call device agent to why c = report.AgentLoggedOn agent device (unwrap_or c.group 0)
+report_at kind.AgentLoggedOn call device agent to why c = report.AgentLoggedOn agent device c.group
 report_at kind.AgentLoggedOff call device agent to why c = report.AgentLoggedOff agent device
 report_at kind.AgentNotReady call device agent to why c = report.AgentNotReady agent device
 report_at kind.AgentReady call device agent to why c = report.AgentReady agent device

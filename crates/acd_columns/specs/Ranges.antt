@@ -5,30 +5,38 @@ use Rattle.std.specs.Str.{bytes_eq}
 use Rattle.sqlite_value.specs.Order.{Row}
 use Rattle.acd_terms.specs.declared.command.Request.{Request}
 use Rattle.acd_terms.specs.declared.event.Event.{Event}
-use Rattle.acd_terms.specs.declared.record.GroupRecord.{GroupRecord}
 use Rattle.acd_terms.specs.declared.record.StationRecord.{StationRecord}
-use Rattle.acd_terms.specs.declared.record.AgentRecord.{AgentRecord}
 use Rattle.acd_terms.specs.declared.record.CallRecord.{CallRecord}
 use Rattle.acd_terms.specs.declared.record.ConnectionRecord.{ConnectionRecord}
 use Rattle.acd_terms.specs.declared.record.MonitorRecord.{MonitorRecord}
 use Rattle.acd_codec.specs.Reading.{reads_as}
 use Rattle.acd_codec.specs.RequestTexts.{request_text}
 use Rattle.acd_book.specs.declared.kept.Kept.{Kept}
+use Rattle.acd_columns.specs.declared.relations.GroupRow.{GroupRow}
+use Rattle.acd_columns.specs.declared.relations.AgentRow.{AgentRow}
+use Rattle.acd_columns.specs.declared.relations.GroupPriority.{GroupPriority}
 use Rattle.acd_columns.specs.declared.meta.Meta.{Meta}
 use Rattle.acd_columns.specs.declared.decode.EventValues.{EventValues}
 use Rattle.acd_columns.specs.declared.decode.KeptHead.{KeptHead}
 use Rattle.acd_columns.specs.Fields.{read_whole}
 use Rattle.acd_columns.specs.Reports.{report_in}
-use Rattle.acd_columns.specs.Rows.{group_fields, group_made, station_fields, station_made, agent_fields, agent_made, call_fields, call_made, connection_fields, connection_made, monitor_fields, monitor_made, meta_fields, meta_made, event_fields, event_made}
+use Rattle.acd_columns.specs.Rows.{group_fields, group_made, priority_fields, priority_made, further_fields, further_made, station_fields, station_made, agent_fields, agent_made, call_fields, call_made, connection_fields, connection_made, monitor_fields, monitor_made, meta_fields, meta_made, event_fields, event_made}
 use Rattle.acd_columns.specs.Values.{◌>>=◌, text_at, whole_at, stamp_at, moment_at, status_at, body_at}
 
-abbrev pub group_in : Row → Option GroupRecord
+abbrev pub group_in : Row → Option GroupRow
 group_in r = read_whole group_fields group_made r
+
+abbrev pub priority_in : Row → Option GroupPriority
+priority_in r = read_whole priority_fields priority_made r
+
+-- an agent and a group that it has behind its first
+abbrev pub further_in : Row → Option (ℕ × ℕ)
+further_in r = read_whole further_fields further_made r
 
 abbrev pub station_in : Row → Option StationRecord
 station_in r = read_whole station_fields station_made r
 
-abbrev pub agent_in : Row → Option AgentRecord
+abbrev pub agent_in : Row → Option AgentRow
 agent_in r = read_whole agent_fields agent_made r
 
 abbrev pub call_in : Row → Option CallRecord

@@ -33,7 +33,7 @@ shape_of kind.Transferred = record call_shape { to = Always }
 shape_of kind.Failed = record call_shape { cause = Always }
 shape_of kind.ConnectionCleared = call_shape
 shape_of kind.CallCleared = record call_shape { device = Never; group = Sometimes }
-shape_of kind.AgentLoggedOn = record agent_shape { group = Always }
+shape_of kind.AgentLoggedOn = record agent_shape { group = Sometimes }
 shape_of kind.AgentLoggedOff = agent_shape
 shape_of kind.AgentNotReady = agent_shape
 shape_of kind.AgentReady = agent_shape

@@ -4,30 +4,31 @@ use Rattle.sqlite_value.specs.declared.value.Value.TheVariants.{Null, Int, Text}
 use Rattle.sqlite_value.specs.Order.{Row}
 use Rattle.acd_terms.specs.Columns.{columns_of}
 use Rattle.acd_terms.specs.declared.event.Event.{Event}
-use Rattle.acd_terms.specs.declared.record.GroupRecord.{GroupRecord}
 use Rattle.acd_terms.specs.declared.record.StationRecord.{StationRecord}
-use Rattle.acd_terms.specs.declared.record.AgentRecord.{AgentRecord}
 use Rattle.acd_terms.specs.declared.record.CallRecord.{CallRecord}
 use Rattle.acd_terms.specs.declared.record.ConnectionRecord.{ConnectionRecord}
 use Rattle.acd_terms.specs.declared.record.MonitorRecord.{MonitorRecord}
 use Rattle.acd_codec.specs.Reading.{reads_as}
 use Rattle.acd_codec.specs.RequestTexts.{request_text}
 use Rattle.acd_book.specs.declared.kept.Kept.{Kept}
+use Rattle.acd_columns.specs.declared.relations.GroupRow.{GroupRow}
+use Rattle.acd_columns.specs.declared.relations.AgentRow.{AgentRow}
+use Rattle.acd_columns.specs.declared.relations.GroupPriority.{GroupPriority}
 use Rattle.acd_columns.specs.declared.decode.EventValues.{EventValues}
 use Rattle.acd_columns.specs.declared.meta.Meta.{Meta}
 use Rattle.acd_columns.specs.Fields.{Field, Makes, has, may_have, written}
-use Rattle.acd_columns.specs.Sorts.{whole, serial, stamp, moment, seconds, device, agent, name, agent_state, pending, kind, cause, connection_state}
+use Rattle.acd_columns.specs.Sorts.{whole, serial, stamp, moment, seconds, priority, device, agent, name, agent_state, pending, kind, cause, connection_state}
 use Rattle.acd_columns.specs.Values.{id_value}
 
 -- ---- the fields of each record, in the order of their columns, and what makes it of them
 
-abbrev pub group_fields : List (Field GroupRecord)
+abbrev pub group_fields : List (Field GroupRow)
 group_fields =
     has device (λ g. g.device) ∷ has name (λ g. g.name) ∷ has seconds (λ g. g.ring) ∷ has seconds (λ g. g.wrap)
     ∷ has whole (λ g. g.figures.entered) ∷ has whole (λ g. g.figures.answered) ∷ has whole (λ g. g.figures.abandoned) ∷ has whole (λ g. g.figures.moved)
     ∷ has whole (λ g. g.figures.waited) ∷ []
 
-abbrev pub group_made : Makes GroupRecord group_fields
+abbrev pub group_made : Makes GroupRow group_fields
 group_made = λ device name ring wrap entered answered abandoned moved waited. record {
   device = device;
   name = name;
@@ -36,18 +37,31 @@ group_made = λ device name ring wrap entered answered abandoned moved waited. r
   figures = record { entered = entered; answered = answered; abandoned = abandoned; moved = moved; waited = waited };
 }
 
+abbrev pub priority_fields : List (Field GroupPriority)
+priority_fields = has device (λ p. p.device) ∷ has priority (λ p. p.priority) ∷ []
+
+abbrev pub priority_made : Makes GroupPriority priority_fields
+priority_made = λ device priority. record { device = device; priority = priority }
+
+-- an agent and a group that it has behind its first
+abbrev pub further_fields : List (Field (ℕ × ℕ))
+further_fields = has agent (λ p. p.0) ∷ has device (λ p. p.1) ∷ []
+
+abbrev pub further_made : Makes (ℕ × ℕ) further_fields
+further_made = λ agent group. (agent, group)
+
 abbrev pub station_fields : List (Field StationRecord)
 station_fields = has device (λ s. s.device) ∷ []
 
 abbrev pub station_made : Makes StationRecord station_fields
 station_made = λ device. record { device = device }
 
-abbrev pub agent_fields : List (Field AgentRecord)
+abbrev pub agent_fields : List (Field AgentRow)
 agent_fields =
     has agent (λ a. a.agent) ∷ has name (λ a. a.name) ∷ has agent_state (λ a. a.state) ∷ may_have pending (λ a. a.pending) ∷ may_have device (λ a. a.station)
     ∷ may_have device (λ a. a.group) ∷ has stamp (λ a. a.stamp) ∷ has moment (λ a. a.since) ∷ []
 
-abbrev pub agent_made : Makes AgentRecord agent_fields
+abbrev pub agent_made : Makes AgentRow agent_fields
 agent_made = λ agent name state pending station group stamp since. record {
   agent = agent;
   name = name;
@@ -136,13 +150,13 @@ meta_values_as v m = id_value 1 ∷ id_value v ∷ meta_shown m
 abbrev pub meta_values : Meta → Row
 meta_values m = meta_values_as version m
 
-abbrev pub group_values : GroupRecord → Row
+abbrev pub group_values : GroupRow → Row
 group_values g = written group_fields g
 
 abbrev pub station_values : StationRecord → Row
 station_values s = written station_fields s
 
-abbrev pub agent_values : AgentRecord → Row
+abbrev pub agent_values : AgentRow → Row
 agent_values a = written agent_fields a
 
 abbrev pub call_values : CallRecord → Row
@@ -162,6 +176,13 @@ kept_values k =
     id_value k.stamp ∷ Text k.request.requester ∷ id_value k.request.invoke ∷ id_value k.moment ∷ Text (request_text k.request)
     ∷ id_value k.status ∷ Text k.body ∷ []
 
+-- an agent and a further group
+abbrev pub further_values : ℕ × ℕ → Row
+further_values p = written further_fields p
+
+abbrev pub priority_values : GroupPriority → Row
+priority_values p = written priority_fields p
+
 -- ---- the rows: the column that is the number of the row is NULL
 
 abbrev pub keyed_row : Row → Row
@@ -175,13 +196,13 @@ meta_row_as v m = keyed_row (meta_values_as v m)
 abbrev pub meta_row : Meta → Row
 meta_row m = meta_row_as version m
 
-abbrev pub group_row : GroupRecord → Row
+abbrev pub group_row : GroupRow → Row
 group_row g = keyed_row (group_values g)
 
 abbrev pub station_row : StationRecord → Row
 station_row s = keyed_row (station_values s)
 
-abbrev pub agent_row : AgentRecord → Row
+abbrev pub agent_row : AgentRow → Row
 agent_row a = keyed_row (agent_values a)
 
 abbrev pub call_row : CallRecord → Row
@@ -202,11 +223,10 @@ kept_row k = keyed_row (kept_values k)
 
 -- of an agent and a further group; it has a number of its own
 abbrev pub further_row : ℤ → ℕ × ℕ → Row
-further_row id p = Int id ∷ id_value p.0 ∷ id_value p.1 ∷ []
+further_row id p = Int id ∷ further_values p
 
--- of a group and its priority
-abbrev pub priority_row : ℕ × ℕ → Row
-priority_row p = keyed_row (id_value p.0 ∷ id_value p.1 ∷ [])
+abbrev pub priority_row : GroupPriority → Row
+priority_row p = keyed_row (priority_values p)
 
 -- what a request is kept as reads as the request
 abbrev pub IsReadable : Kept → Type 0

@@ -1,5 +1,5 @@
 -- The tables of a book, as their texts make them.
-use Rattle.std.specs.Prelude.{◌≡◌, ◌++◌, Bool, true, false, ℕ, pos, [], ◌∷◌, Option, None, Some, codes, List, map}
+use Rattle.std.specs.Prelude.{◌≡◌, ◌++◌, Bool, true, false, ℕ, pos, [], ◌∷◌, Option, None, Some, codes, List, map, length, drop}
 use Rattle.sqlite_value.specs.declared.keys.Order.{Order}
 use Rattle.sqlite_value.specs.declared.keys.Collation.TheVariants.{Binary}
 use Rattle.sqlite_value.specs.declared.value.Value.TheVariants.{Null, Int}
@@ -62,6 +62,10 @@ table_of l = record {
   stamps = record { places = []; terms = []; formats = [] };
   is_counted = false;
 }
+
+-- how many columns stand behind the first
+abbrev pub behind_first : Layout → ℕ
+behind_first l = length (drop 1 l.columns)
 
 -- as a query of all columns names them
 abbrev pub names_of : Layout → List (List ℕ)

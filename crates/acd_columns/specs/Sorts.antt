@@ -18,7 +18,7 @@ use Rattle.acd_terms.specs.declared.event.Cause.TheVariants.{NewCall}
 use Rattle.acd_terms.specs.declared.state.ConnectionState.{ConnectionState}
 use Rattle.acd_terms.specs.declared.state.ConnectionState.TheVariants.{Initiated}
 use Rattle.acd_columns.specs.Codes.{agent_code, pending_code, kind_code, cause_code, connection_code, agent_state_of, pending_of, kind_of, cause_of, connection_state_of}
-use Rattle.acd_columns.specs.Values.{id_value, number_in, text_in, whole_at, stamp_at, serial_at, moment_at, seconds_at, device_at, agent_at, name_at, agent_state_at, pending_at, kind_at, cause_at, connection_state_at, or_none}
+use Rattle.acd_columns.specs.Values.{id_value, number_in, text_in, whole_at, stamp_at, serial_at, moment_at, seconds_at, priority_at, device_at, agent_at, name_at, agent_state_at, pending_at, kind_at, cause_at, connection_state_at, or_none}
 
 pub data Sort : Type 0 where
   whole : Sort
@@ -26,6 +26,7 @@ pub data Sort : Type 0 where
   serial : Sort
   moment : Sort
   seconds : Sort
+  priority : Sort
   device : Sort
   agent : Sort
   name : Sort
@@ -62,6 +63,7 @@ value_of stamp n = id_value n
 value_of serial n = id_value n
 value_of moment n = id_value n
 value_of seconds n = id_value n
+value_of priority n = id_value n
 value_of device n = id_value n
 value_of agent n = id_value n
 value_of name t = Text t
@@ -83,6 +85,7 @@ read_of stamp r at = stamp_at r at
 read_of serial r at = serial_at r at
 read_of moment r at = moment_at r at
 read_of seconds r at = seconds_at r at
+read_of priority r at = priority_at r at
 read_of device r at = device_at r at
 read_of agent r at = agent_at r at
 read_of name r at = name_at r at
@@ -104,6 +107,7 @@ shown_of stamp v = number_in v
 shown_of serial v = number_in v
 shown_of moment v = number_in v
 shown_of seconds v = number_in v
+shown_of priority v = number_in v
 shown_of device v = number_in v
 shown_of agent v = number_in v
 shown_of name v = text_in v

@@ -1,5 +1,5 @@
 -- The values of columns, and what each stands for: in its range, and whatever it holds.
-use Rattle.std.specs.Prelude.{ℕ, pos, ◌==◌, List, [], nat_le, Bool, true, false, ◌||◌, Option, None, Some, option_map, if◌then◌else◌}
+use Rattle.std.specs.Prelude.{ℕ, zero, suc, pos, ◌==◌, List, [], ◌∷◌, nat_le, Bool, true, false, ◌||◌, Option, None, Some, option_map, if◌then◌else◌}
 use Rattle.std.specs.Result.{result_ok}
 use Rattle.std.specs.Str.{is_utf8}
 use Rattle.sqlite_value.specs.declared.value.Value.{Value}
@@ -17,6 +17,11 @@ use Rattle.acd_columns.specs.Codes.{agent_state_of, pending_of, connection_state
 
 abbrev pub id_value : ℕ → Value
 id_value n = Int (pos n)
+
+-- so many columns of a row, from one on
+abbrev pub cells : ℕ → ℕ → Row → Row
+cells start zero r = []
+cells start (suc k) r = column r start ∷ cells (suc start) k r
 
 abbrev pub is_null : Value → Bool
 is_null Null = true
@@ -72,6 +77,10 @@ moment_at r at = whole_at r at >>= number_between 0 4294967295
 
 unfoldable pub seconds_at : Row → ℕ → Option ℕ
 seconds_at r at = whole_at r at >>= number_between 0 3600
+
+-- one that isn't 0
+unfoldable pub priority_at : Row → ℕ → Option ℕ
+priority_at r at = whole_at r at >>= number_between 1 9
 
 unfoldable pub device_at : Row → ℕ → Option ℕ
 device_at r at = whole_at r at >>= id_with device_digits

@@ -8,22 +8,23 @@ ghost use Rattle.std.specs.Str.{bytes_eq};
 ghost use Rattle.std.specs.Result.{result_ok};
 ghost use Rattle.acd_codec.specs.Reading.{reads_as};
 ghost use Rattle.acd_codec.specs.RequestTexts.{request_text};
-ghost use Rattle.acd_columns.specs.Ranges.{group_in, station_in, agent_in, call_in, connection_in, monitor_in, counters_in, event_from, event_in, event_number, request_at, kept_from, kept_in, kept_stamp};
+ghost use Rattle.acd_columns.specs.Ranges.{further_in, priority_in, group_in, station_in, agent_in, call_in, connection_in, monitor_in, counters_in, event_from, event_in, event_number, request_at, kept_from, kept_in, kept_stamp};
 ghost use Rattle.acd_columns.specs.Values.{body_at};
 
 use crate::meta::Meta;
+use crate::relations::{AgentRow, GroupPriority, GroupRow};
 use crate::shape::{is_formed, report_in};
 use crate::values;
 use acd_book::{Kept, Text};
 use acd_codec::{ReadFault, RequestReader, request_text};
 use acd_terms::{
-    AgentRecord, CallRecord, Columns, ConnectionRecord, Event, Figures, GroupRecord, Limits,
+    AgentId, CallRecord, Columns, ConnectionRecord, DeviceId, Event, Figures, Limits,
     MonitorRecord, Request, StationRecord,
 };
 use sqlite::Row;
 use std::alloc::{AllocError, Global};
 
-pub fn group_in(row: &Row) -> Option<GroupRecord>
+pub fn group_in(row: &Row) -> Option<GroupRow>
     ensures { result ≡ group_in row.now }
 {
     if row.column_count() != 9 {
@@ -45,7 +46,7 @@ pub fn group_in(row: &Row) -> Option<GroupRecord>
         moved,
         waited,
     };
-    Some(GroupRecord {
+    Some(GroupRow {
         device,
         name,
         ring,
@@ -64,7 +65,7 @@ pub fn station_in(row: &Row) -> Option<StationRecord>
     Some(StationRecord { device })
 }
 
-pub fn agent_in(row: &Row) -> Option<AgentRecord>
+pub fn agent_in(row: &Row) -> Option<AgentRow>
     ensures { result ≡ agent_in row.now }
 {
     if row.column_count() != 8 {
@@ -78,7 +79,7 @@ pub fn agent_in(row: &Row) -> Option<AgentRecord>
     let group = values::device_or_none(row, 5)?;
     let stamp = values::stamp(row, 6)?;
     let since = values::moment(row, 7)?;
-    Some(AgentRecord {
+    Some(AgentRow {
         agent,
         name,
         state,
@@ -130,6 +131,29 @@ pub fn connection_in(row: &Row) -> Option<ConnectionRecord>
         queued,
         offered,
     })
+}
+
+/// An agent and a group that it has behind its first.
+pub fn further_in(row: &Row) -> Option<(AgentId, DeviceId)>
+    ensures { result ≡ further_in row.now }
+{
+    if row.column_count() != 2 {
+        return None;
+    }
+    let agent = values::agent(row, 0)?;
+    let group = values::device(row, 1)?;
+    Some((agent, group))
+}
+
+pub fn priority_in(row: &Row) -> Option<GroupPriority>
+    ensures { result ≡ priority_in row.now }
+{
+    if row.column_count() != 2 {
+        return None;
+    }
+    let device = values::device(row, 0)?;
+    let priority = values::priority(row, 1)?;
+    Some(GroupPriority { device, priority })
 }
 
 pub fn monitor_in(row: &Row) -> Option<MonitorRecord>

@@ -9,10 +9,12 @@
 pub mod codes;
 pub mod decode;
 mod meta;
+mod relations;
 mod shape;
 mod tables;
 pub mod texts;
 pub mod values;
 
 pub use meta::Meta;
+pub use relations::{AgentRow, GroupPriority, GroupRow};
 pub use tables::{Log, Table, Version};

@@ -94,7 +94,7 @@ impl Shape {
                 ..CALL
             },
             EventKind::AgentLoggedOn => Shape {
-                group: always,
+                group: sometimes,
                 ..AGENT
             },
             EventKind::AgentLoggedOff
@@ -227,7 +227,7 @@ fn report_of(columns: &Columns) -> Option<Report>
         EventKind::AgentLoggedOn => Report::AgentLoggedOn {
             agent: c.agent?,
             station: c.device?,
-            group: c.group?,
+            group: c.group,
         },
         EventKind::AgentLoggedOff => Report::AgentLoggedOff {
             agent: c.agent?,

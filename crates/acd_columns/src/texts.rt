@@ -371,6 +371,13 @@ macro_rules! agent_groups {
 
 pub const CREATE_AGENT_GROUPS: &str = agent_groups!(create_pair);
 
+pub const INSERT_AGENT_GROUP: &str = agent_groups!(insert);
+
+// all groups of an agent
+pub const DELETE_AGENT_GROUPS: &str = agent_groups!(delete);
+
+pub const SELECT_AGENT_GROUPS: &str = agent_groups!(select_pair);
+
 pub const SELECT_STANDING_AGENT_GROUPS: &str = agent_groups!(select_standing);
 
 // ---- the groups whose priority isn't 0
@@ -386,5 +393,11 @@ macro_rules! group_priority {
 }
 
 pub const CREATE_GROUP_PRIORITY: &str = group_priority!(create);
+
+pub const INSERT_GROUP_PRIORITY: &str = group_priority!(insert);
+
+pub const UPDATE_GROUP_PRIORITY: &str = group_priority!(update);
+
+pub const DELETE_GROUP_PRIORITY: &str = group_priority!(delete);
 
 pub const SELECT_GROUP_PRIORITY: &str = group_priority!(select);

@@ -3,12 +3,12 @@
 ghost use Rattle.std.specs.Prelude.{◌≡◌, option_map};
 ghost use Rattle.sqlite_value.specs.Value.{owned};
 ghost use Rattle.sqlite_value.specs.Order.{column};
-ghost use Rattle.acd_columns.specs.Values.{is_null, text_at, whole_at, stamp_at, serial_at, moment_at, seconds_at, device_at, agent_at, name_at, agent_state_at, pending_at, connection_state_at, kind_at, cause_at, status_at, utf8_of, body_at, or_none};
+ghost use Rattle.acd_columns.specs.Values.{is_null, text_at, whole_at, stamp_at, serial_at, moment_at, seconds_at, priority_at, device_at, agent_at, name_at, agent_state_at, pending_at, connection_state_at, kind_at, cause_at, status_at, utf8_of, body_at, or_none};
 
 use crate::codes::{agent_state_of, cause_of, connection_state_of, kind_of, pending_of};
 use acd_terms::{
-    AgentId, AgentState, Cause, ConnectionState, DeviceId, EventKind, Name, Pending, Seconds,
-    Serial,
+    AgentId, AgentState, Cause, ConnectionState, DeviceId, EventKind, Name, Pending, Priority,
+    Seconds, Serial,
 };
 use sqlite::Row;
 use sqlite::types::ValueRef;
@@ -85,6 +85,18 @@ pub fn seconds(row: &Row, at: usize) -> Option<Seconds>
     ensures { result ≡ seconds_at row.now at }
 {
     Seconds::new(whole(row, at)?)
+}
+
+/// A priority that isn't 0.
+#[tactic(auto, unfolding(crate::specs::Values::priority_at, acd_terms::specs::Forms::number_between))]
+pub fn priority(row: &Row, at: usize) -> Option<Priority>
+    ensures { result ≡ priority_at row.now at }
+{
+    let number = whole(row, at)?;
+    if number == 0 {
+        return None;
+    }
+    Priority::new(number)
 }
 
 #[tactic(auto, unfolding(crate::specs::Values::device_at))]

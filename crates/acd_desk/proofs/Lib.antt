@@ -24,3 +24,6 @@ pub mod AuditLaws
 pub mod Reading
 pub mod AuditSteps
 pub mod Feeding
+pub mod OldStates
+pub mod OldOffers
+pub mod OldRuns

@@ -47,19 +47,13 @@ use Rattle.acd_book.specs.declared.kept.Kept.{Kept}
 use Rattle.acd_book.specs.contracts.kept.KeptPartialEq.TheImpl as kept
 use Rattle.acd_book.specs.contracts.kept.KeptEq.TheImpl.Laws as kept_laws
 use Rattle.acd_desk.specs.Replies.{same_request}
-use Rattle.acd_desk.proofs.SameRequests.{two, same_pending, same_true}
+use Rattle.acd_desk.proofs.SameRequests.{two, same_list, same_pending, same_true}
 
 same_option : {T : Type 0} (E : T → T → Bool) → ((x y : T) → E x y ≡ true → x ≡ y) → (a b : Option T) → option_eq E a b ≡ true → a ≡ b
 same_option E same None None h = refl
 same_option E same None (Some y) h = absurd (true≢false (sym h))
 same_option E same (Some x) None h = absurd (true≢false (sym h))
 same_option E same (Some x) (Some y) h = ap Some (same x y h)
-
-same_list : {T : Type 0} (E : T → T → Bool) → ((x y : T) → E x y ≡ true → x ≡ y) → (xs ys : List T) → pointwise E xs ys ≡ true → xs ≡ ys
-same_list E same [] [] h = refl
-same_list E same [] (y ∷ ys) h = absurd (true≢false (sym h))
-same_list E same (x ∷ xs) [] h = absurd (true≢false (sym h))
-same_list E same (x ∷ xs) (y ∷ ys) h = let both = two (E x y) (pointwise E xs ys) h in ap₂ (λ z zs. z ∷ zs) (same x y both.0) (same_list E same xs ys both.1)
 
 pair : (K : ℕ → ℕ → Report) (c d e f : ℕ) → ((c == e) && (d == f)) ≡ true → K c d ≡ K e f
 pair K c d e f h = let both = two (c == e) (d == f) h in ap₂ K (eqb-true c e both.0) (eqb-true d f both.1)
@@ -133,7 +127,10 @@ same_report (reports.ConnectionCleared x1 x2) (reports.ConnectionCleared y1 y2) 
 same_report (reports.CallCleared x1 x2) (reports.CallCleared y1 y2) h =
     let h1 = two ((x1 == y1)) (option_eq nat_eq x2 y2) h in
     ap (λ (x : ℕ). reports.CallCleared x x2) (eqb-true x1 y1 h1.0) ∙ ap (λ (x : Option ℕ). reports.CallCleared y1 x) (same_option nat_eq eqb-true x2 y2 h1.1)
-same_report (reports.AgentLoggedOn x1 x2 x3) (reports.AgentLoggedOn y1 y2 y3) h = triple reports.AgentLoggedOn x1 x2 x3 y1 y2 y3 h
+same_report (reports.AgentLoggedOn x1 x2 x3) (reports.AgentLoggedOn y1 y2 y3) h =
+    let h1 = two ((x1 == y1)) ((x2 == y2) && option_eq nat_eq x3 y3) h in
+    let h2 = two ((x2 == y2)) (option_eq nat_eq x3 y3) h1.1 in
+    ap (λ (x : ℕ). reports.AgentLoggedOn x x2 x3) (eqb-true x1 y1 h1.0) ∙ ap (λ (x : ℕ). reports.AgentLoggedOn y1 x x3) (eqb-true x2 y2 h2.0) ∙ ap (λ (x : Option ℕ). reports.AgentLoggedOn y1 y2 x) (same_option nat_eq eqb-true x3 y3 h2.1)
 same_report (reports.AgentLoggedOff x1 x2) (reports.AgentLoggedOff y1 y2) h = pair reports.AgentLoggedOff x1 x2 y1 y2 h
 same_report (reports.AgentNotReady x1 x2) (reports.AgentNotReady y1 y2) h = pair reports.AgentNotReady x1 x2 y1 y2 h
 same_report (reports.AgentReady x1 x2) (reports.AgentReady y1 y2) h = pair reports.AgentReady x1 x2 y1 y2 h
@@ -180,16 +177,18 @@ same_figures a b h =
 
 same_group_record : (a b : GroupRecord) → (group_record.eq-value).it a b ≡ true → a ≡ b
 same_group_record a b h =
-    let h1 = two ((a.device == b.device)) (bytes_eq a.name b.name && ((a.ring == b.ring) && ((a.wrap == b.wrap) && (figures.eq-value).it a.figures b.figures))) h in
-    let h2 = two (bytes_eq a.name b.name) ((a.ring == b.ring) && ((a.wrap == b.wrap) && (figures.eq-value).it a.figures b.figures)) h1.1 in
-    let h3 = two ((a.ring == b.ring)) ((a.wrap == b.wrap) && (figures.eq-value).it a.figures b.figures) h2.1 in
-    let h4 = two ((a.wrap == b.wrap)) ((figures.eq-value).it a.figures b.figures) h3.1 in
-    let whole : ℕ → List ℕ → ℕ → ℕ → Figures → GroupRecord = λ (x1 : ℕ) (x2 : List ℕ) (x3 : ℕ) (x4 : ℕ) (x5 : Figures). record { device = x1; name = x2; ring = x3; wrap = x4; figures = x5 } in
-    ap (λ (x : ℕ). whole x a.name a.ring a.wrap a.figures) (eqb-true a.device b.device h1.0)
-    ∙ ap (λ (x : List ℕ). whole b.device x a.ring a.wrap a.figures) (same_text a.name b.name (sym h2.0))
-    ∙ ap (λ (x : ℕ). whole b.device b.name x a.wrap a.figures) (eqb-true a.ring b.ring h3.0)
-    ∙ ap (λ (x : ℕ). whole b.device b.name b.ring x a.figures) (eqb-true a.wrap b.wrap h4.0)
-    ∙ ap (λ (x : Figures). whole b.device b.name b.ring b.wrap x) (same_figures a.figures b.figures h4.1)
+    let h1 = two ((a.device == b.device)) (bytes_eq a.name b.name && ((a.ring == b.ring) && ((a.wrap == b.wrap) && ((a.priority == b.priority) && (figures.eq-value).it a.figures b.figures)))) h in
+    let h2 = two (bytes_eq a.name b.name) ((a.ring == b.ring) && ((a.wrap == b.wrap) && ((a.priority == b.priority) && (figures.eq-value).it a.figures b.figures))) h1.1 in
+    let h3 = two ((a.ring == b.ring)) ((a.wrap == b.wrap) && ((a.priority == b.priority) && (figures.eq-value).it a.figures b.figures)) h2.1 in
+    let h4 = two ((a.wrap == b.wrap)) ((a.priority == b.priority) && (figures.eq-value).it a.figures b.figures) h3.1 in
+    let h5 = two ((a.priority == b.priority)) ((figures.eq-value).it a.figures b.figures) h4.1 in
+    let whole : ℕ → List ℕ → ℕ → ℕ → ℕ → Figures → GroupRecord = λ (x1 : ℕ) (x2 : List ℕ) (x3 : ℕ) (x4 : ℕ) (x5 : ℕ) (x6 : Figures). record { device = x1; name = x2; ring = x3; wrap = x4; priority = x5; figures = x6 } in
+    ap (λ (x : ℕ). whole x a.name a.ring a.wrap a.priority a.figures) (eqb-true a.device b.device h1.0)
+    ∙ ap (λ (x : List ℕ). whole b.device x a.ring a.wrap a.priority a.figures) (same_text a.name b.name (sym h2.0))
+    ∙ ap (λ (x : ℕ). whole b.device b.name x a.wrap a.priority a.figures) (eqb-true a.ring b.ring h3.0)
+    ∙ ap (λ (x : ℕ). whole b.device b.name b.ring x a.priority a.figures) (eqb-true a.wrap b.wrap h4.0)
+    ∙ ap (λ (x : ℕ). whole b.device b.name b.ring b.wrap x a.figures) (eqb-true a.priority b.priority h5.0)
+    ∙ ap (λ (x : Figures). whole b.device b.name b.ring b.wrap b.priority x) (same_figures a.figures b.figures h5.1)
 
 same_station_record : (a b : StationRecord) → (station_record.eq-value).it a b ≡ true → a ≡ b
 same_station_record a b h =
@@ -197,22 +196,22 @@ same_station_record a b h =
 
 same_agent_record : (a b : AgentRecord) → (agent_record.eq-value).it a b ≡ true → a ≡ b
 same_agent_record a b h =
-    let h1 = two ((a.agent == b.agent)) (bytes_eq a.name b.name && ((agent_state.eq-value).it a.state b.state && (option_eq ((pending.eq-value).it) a.pending b.pending && (option_eq nat_eq a.station b.station && (option_eq nat_eq a.group b.group && ((a.stamp == b.stamp) && (a.since == b.since))))))) h in
-    let h2 = two (bytes_eq a.name b.name) ((agent_state.eq-value).it a.state b.state && (option_eq ((pending.eq-value).it) a.pending b.pending && (option_eq nat_eq a.station b.station && (option_eq nat_eq a.group b.group && ((a.stamp == b.stamp) && (a.since == b.since)))))) h1.1 in
-    let h3 = two ((agent_state.eq-value).it a.state b.state) (option_eq ((pending.eq-value).it) a.pending b.pending && (option_eq nat_eq a.station b.station && (option_eq nat_eq a.group b.group && ((a.stamp == b.stamp) && (a.since == b.since))))) h2.1 in
-    let h4 = two (option_eq ((pending.eq-value).it) a.pending b.pending) (option_eq nat_eq a.station b.station && (option_eq nat_eq a.group b.group && ((a.stamp == b.stamp) && (a.since == b.since)))) h3.1 in
-    let h5 = two (option_eq nat_eq a.station b.station) (option_eq nat_eq a.group b.group && ((a.stamp == b.stamp) && (a.since == b.since))) h4.1 in
-    let h6 = two (option_eq nat_eq a.group b.group) ((a.stamp == b.stamp) && (a.since == b.since)) h5.1 in
+    let h1 = two ((a.agent == b.agent)) (bytes_eq a.name b.name && ((agent_state.eq-value).it a.state b.state && (option_eq ((pending.eq-value).it) a.pending b.pending && (option_eq nat_eq a.station b.station && (pointwise nat_eq a.groups b.groups && ((a.stamp == b.stamp) && (a.since == b.since))))))) h in
+    let h2 = two (bytes_eq a.name b.name) ((agent_state.eq-value).it a.state b.state && (option_eq ((pending.eq-value).it) a.pending b.pending && (option_eq nat_eq a.station b.station && (pointwise nat_eq a.groups b.groups && ((a.stamp == b.stamp) && (a.since == b.since)))))) h1.1 in
+    let h3 = two ((agent_state.eq-value).it a.state b.state) (option_eq ((pending.eq-value).it) a.pending b.pending && (option_eq nat_eq a.station b.station && (pointwise nat_eq a.groups b.groups && ((a.stamp == b.stamp) && (a.since == b.since))))) h2.1 in
+    let h4 = two (option_eq ((pending.eq-value).it) a.pending b.pending) (option_eq nat_eq a.station b.station && (pointwise nat_eq a.groups b.groups && ((a.stamp == b.stamp) && (a.since == b.since)))) h3.1 in
+    let h5 = two (option_eq nat_eq a.station b.station) (pointwise nat_eq a.groups b.groups && ((a.stamp == b.stamp) && (a.since == b.since))) h4.1 in
+    let h6 = two (pointwise nat_eq a.groups b.groups) ((a.stamp == b.stamp) && (a.since == b.since)) h5.1 in
     let h7 = two ((a.stamp == b.stamp)) ((a.since == b.since)) h6.1 in
-    let whole : ℕ → List ℕ → AgentState → Option Pending → Option ℕ → Option ℕ → ℕ → ℕ → AgentRecord = λ (x1 : ℕ) (x2 : List ℕ) (x3 : AgentState) (x4 : Option Pending) (x5 : Option ℕ) (x6 : Option ℕ) (x7 : ℕ) (x8 : ℕ). record { agent = x1; name = x2; state = x3; pending = x4; station = x5; group = x6; stamp = x7; since = x8 } in
-    ap (λ (x : ℕ). whole x a.name a.state a.pending a.station a.group a.stamp a.since) (eqb-true a.agent b.agent h1.0)
-    ∙ ap (λ (x : List ℕ). whole b.agent x a.state a.pending a.station a.group a.stamp a.since) (same_text a.name b.name (sym h2.0))
-    ∙ ap (λ (x : AgentState). whole b.agent b.name x a.pending a.station a.group a.stamp a.since) (same_agent_state a.state b.state h3.0)
-    ∙ ap (λ (x : Option Pending). whole b.agent b.name b.state x a.station a.group a.stamp a.since) (same_option ((pending.eq-value).it) same_pending a.pending b.pending h4.0)
-    ∙ ap (λ (x : Option ℕ). whole b.agent b.name b.state b.pending x a.group a.stamp a.since) (same_option nat_eq eqb-true a.station b.station h5.0)
-    ∙ ap (λ (x : Option ℕ). whole b.agent b.name b.state b.pending b.station x a.stamp a.since) (same_option nat_eq eqb-true a.group b.group h6.0)
-    ∙ ap (λ (x : ℕ). whole b.agent b.name b.state b.pending b.station b.group x a.since) (eqb-true a.stamp b.stamp h7.0)
-    ∙ ap (λ (x : ℕ). whole b.agent b.name b.state b.pending b.station b.group b.stamp x) (eqb-true a.since b.since h7.1)
+    let whole : ℕ → List ℕ → AgentState → Option Pending → Option ℕ → List ℕ → ℕ → ℕ → AgentRecord = λ (x1 : ℕ) (x2 : List ℕ) (x3 : AgentState) (x4 : Option Pending) (x5 : Option ℕ) (x6 : List ℕ) (x7 : ℕ) (x8 : ℕ). record { agent = x1; name = x2; state = x3; pending = x4; station = x5; groups = x6; stamp = x7; since = x8 } in
+    ap (λ (x : ℕ). whole x a.name a.state a.pending a.station a.groups a.stamp a.since) (eqb-true a.agent b.agent h1.0)
+    ∙ ap (λ (x : List ℕ). whole b.agent x a.state a.pending a.station a.groups a.stamp a.since) (same_text a.name b.name (sym h2.0))
+    ∙ ap (λ (x : AgentState). whole b.agent b.name x a.pending a.station a.groups a.stamp a.since) (same_agent_state a.state b.state h3.0)
+    ∙ ap (λ (x : Option Pending). whole b.agent b.name b.state x a.station a.groups a.stamp a.since) (same_option ((pending.eq-value).it) same_pending a.pending b.pending h4.0)
+    ∙ ap (λ (x : Option ℕ). whole b.agent b.name b.state b.pending x a.groups a.stamp a.since) (same_option nat_eq eqb-true a.station b.station h5.0)
+    ∙ ap (λ (x : List ℕ). whole b.agent b.name b.state b.pending b.station x a.stamp a.since) (same_list nat_eq eqb-true a.groups b.groups h6.0)
+    ∙ ap (λ (x : ℕ). whole b.agent b.name b.state b.pending b.station b.groups x a.since) (eqb-true a.stamp b.stamp h7.0)
+    ∙ ap (λ (x : ℕ). whole b.agent b.name b.state b.pending b.station b.groups b.stamp x) (eqb-true a.since b.since h7.1)
 
 same_call_record : (a b : CallRecord) → (call_record.eq-value).it a b ≡ true → a ≡ b
 same_call_record a b h =

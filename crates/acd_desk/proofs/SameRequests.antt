@@ -1,13 +1,13 @@
 -- Requests that compare equal are equal.
-use Rattle.std.proofs.Common.{◌≡◌, ℕ, Bool, true, false, List, true≢false, sym, refl, ap, ap₂, ◌∙◌, ◌&&◌, ◌==◌, eqb-true}
+use Rattle.std.proofs.Common.{◌≡◌, ℕ, Bool, true, false, List, [], ◌∷◌, true≢false, sym, refl, ap, ap₂, ◌∙◌, ◌&&◌, ◌==◌, eqb-true, nat_eq}
 use Rattle.std.specs.Str.{bytes_eq}
-use Rattle.std.specs.Cmp.Lexicographic.{same_text}
+use Rattle.std.specs.Cmp.Lexicographic.{same_text, pointwise}
 use Rattle.acd_terms.specs.declared.state.Pending.{Pending}
 use Rattle.acd_terms.specs.declared.state.Pending.TheVariants as wanted
 use Rattle.acd_terms.specs.declared.command.Requested.{Requested}
 use Rattle.acd_terms.specs.declared.command.Requested.TheVariants.{LoggedOn, State}
 use Rattle.acd_terms.specs.declared.command.Command.{Command}
-use Rattle.acd_terms.specs.declared.command.Command.TheVariants.{AddGroup, AddStation, AddAgent, ArriveCall, MakeCall, PhoneOffHook, AnswerCall, HoldCall, RetrieveCall, ClearConnection, DeflectCall, SingleStepTransfer, SetAgentState, MonitorStart, MonitorStop, Tick}
+use Rattle.acd_terms.specs.declared.command.Command.TheVariants.{AddGroup, AddStation, AddAgent, ArriveCall, MakeCall, PhoneOffHook, AnswerCall, HoldCall, RetrieveCall, ClearConnection, DeflectCall, SingleStepTransfer, SetAgentState, MonitorStart, MonitorStop, Tick, SetGroupPriority}
 use Rattle.acd_terms.specs.declared.command.Request.{Request}
 use Rattle.acd_terms.specs.contracts.state.PendingPartialEq.TheImpl as pending
 use Rattle.acd_terms.specs.contracts.command.RequestedPartialEq.TheImpl as requested
@@ -19,6 +19,12 @@ two true true h = (refl, refl)
 two true false h = (refl, h)
 two false b h = (h, absurd (true≢false (sym h)))
 
+pub same_list : {T : Type 0} (E : T → T → Bool) → ((x y : T) → E x y ≡ true → x ≡ y) → (xs ys : List T) → pointwise E xs ys ≡ true → xs ≡ ys
+same_list E same [] [] h = refl
+same_list E same [] (y ∷ ys) h = absurd (true≢false (sym h))
+same_list E same (x ∷ xs) [] h = absurd (true≢false (sym h))
+same_list E same (x ∷ xs) (y ∷ ys) h = let both = two (E x y) (pointwise E xs ys) h in ap₂ (λ z zs. z ∷ zs) (same x y both.0) (same_list E same xs ys both.1)
+
 pub same_pending : (p q : Pending) → (pending.eq-value).it p q ≡ true → p ≡ q
 same_pending wanted.LoggedOff wanted.LoggedOff h = refl
 same_pending wanted.NotReady wanted.NotReady h = refl
@@ -27,7 +33,7 @@ same_pending wanted.WorkingAfterCall wanted.WorkingAfterCall h = refl
 same_pending _ _ h = absurd (true≢false (sym h))
 
 same_requested : (a b : Requested) → (requested.eq-value).it a b ≡ true → a ≡ b
-same_requested (LoggedOn d g) (LoggedOn e f) h = let both = two (d == e) (g == f) h in ap₂ LoggedOn (eqb-true d e both.0) (eqb-true g f both.1)
+same_requested (LoggedOn d gs) (LoggedOn e fs) h = let both = two (d == e) (pointwise nat_eq gs fs) h in ap₂ LoggedOn (eqb-true d e both.0) (same_list nat_eq eqb-true gs fs both.1)
 same_requested (State p) (State q) h = ap State (same_pending p q h)
 same_requested _ _ h = absurd (true≢false (sym h))
 
@@ -72,6 +78,7 @@ same_command (SetAgentState a q) (SetAgentState b r) h =
 same_command (MonitorStart d) (MonitorStart e) h = ap MonitorStart (eqb-true d e h)
 same_command (MonitorStop m) (MonitorStop n) h = ap MonitorStop (eqb-true m n h)
 same_command Tick Tick h = refl
+same_command (SetGroupPriority d p) (SetGroupPriority e q) h = pair SetGroupPriority d p e q h
 same_command _ _ h = absurd (true≢false (sym h))
 
 joined : (a b : Request) → a.requester ≡ b.requester → a.invoke ≡ b.invoke → a.command ≡ b.command → a ≡ b

@@ -18,3 +18,6 @@ pub mod Audit
 pub mod Replay
 pub mod AuditLaws
 pub mod Feeding
+pub mod OldChoice
+pub mod OldStep
+pub mod OldSound

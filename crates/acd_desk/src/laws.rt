@@ -4,6 +4,7 @@
 ghost use Rattle.acd_desk.specs.DeskLaws.{OneMoreArrival, AnswersByPlace, SoundKeepsLaws, EmptyIsSound, StaysSound, KeepsFirsts, EventsInOrder};
 ghost use Rattle.acd_desk.specs.Feeding.{AgainAddsNothing, FedHoldsTheLog, DesksAgree};
 ghost use Rattle.acd_desk.specs.AuditLaws.{HasOneAudit, SoundIsOrdered, SoundAgrees};
+ghost use Rattle.acd_desk.specs.OldSound.{OldSoundIsSound};
 
 /// One more arrival leads from the run of a list to the run of the longer list.
 pub fn one_more_arrival()
@@ -53,4 +54,9 @@ pub fn one_log_many_desks()
     ensures again { AgainAddsNothing }
     ensures holds { FedHoldsTheLog }
     ensures agree { DesksAgree }
+{}
+
+/// A content that was sound while an agent served one group and groups had no priority is sound.
+pub fn old_sound_is_sound()
+    ensures { OldSoundIsSound }
 {}

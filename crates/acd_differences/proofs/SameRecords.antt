@@ -31,8 +31,9 @@ two {a = true} {b = true} h = (refl, refl)
 two {a = true} {b = false} h = (refl, h)
 two {a = false} {b = b} h = (h, absurd (true≢false (sym h)))
 
-text : (s t : List ℕ) → bytes_eq s t ≡ true → s ≡ t
-text s t h = same_text s t (sym h)
+-- lists of numbers, as texts and groups are
+numbers : (s t : List ℕ) → bytes_eq s t ≡ true → s ≡ t
+numbers s t h = same_text s t (sym h)
 
 same_state : (x y : AgentState) → (agent_state_eq.eq-value).it x y ≡ true → x ≡ y
 same_state agent.Null agent.Null h = refl
@@ -94,15 +95,17 @@ same_group x y h =
     let name = two device.1 in
     let ring = two name.1 in
     let wrap = two ring.1 in
-    let entered = two wrap.1 in
+    let priority = two wrap.1 in
+    let entered = two priority.1 in
     let answered = two entered.1 in
     let abandoned = two answered.1 in
     let moved = two abandoned.1 in
     λ i. record {
       device = eqb-true x.device y.device device.0 i;
-      name = text x.name y.name name.0 i;
+      name = numbers x.name y.name name.0 i;
       ring = eqb-true x.ring y.ring ring.0 i;
       wrap = eqb-true x.wrap y.wrap wrap.0 i;
+      priority = eqb-true x.priority y.priority priority.0 i;
       figures = record {
         entered = eqb-true x.figures.entered y.figures.entered entered.0 i;
         answered = eqb-true x.figures.answered y.figures.answered answered.0 i;
@@ -119,15 +122,15 @@ same_agent x y h =
     let state = two name.1 in
     let wanted = two state.1 in
     let station = two wanted.1 in
-    let group = two station.1 in
-    let stamp = two group.1 in
+    let groups = two station.1 in
+    let stamp = two groups.1 in
     λ i. record {
       agent = eqb-true x.agent y.agent number.0 i;
-      name = text x.name y.name name.0 i;
+      name = numbers x.name y.name name.0 i;
       state = same_state x.state y.state state.0 i;
       pending = option_same (pending_eq.eq-value).it same_pending x.pending y.pending wanted.0 i;
       station = number_same x.station y.station station.0 i;
-      group = number_same x.group y.group group.0 i;
+      groups = numbers x.groups y.groups groups.0 i;
       stamp = eqb-true x.stamp y.stamp stamp.0 i;
       since = eqb-true x.since y.since stamp.1 i;
     }

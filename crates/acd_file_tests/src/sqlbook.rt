@@ -3,6 +3,7 @@
 mod adopted;
 mod changes;
 mod commits;
+mod further;
 mod migrated;
 
 use crate::comparing::same;

@@ -1,8 +1,12 @@
 -- The moves of a step stay within bounds: by each deed, and by rounds.
+use Rattle.acd_laws.proofs.Keyed.{counted_old}
 use Rattle.std.proofs.Common.{◌≡◌, ℕ, ◌+◌, ◌≤◌, ◌⊎◌, inl, inr, Bool, true, false, List, [], ◌∷◌, Option, Some, None, refl, sym, ◌∙◌, ap, subst, arith, length, cond, ◌++◌}
 use Rattle.std.specs.Prelude.{◌==◌, is_some, nat_le}
 use Rattle.std.proofs.lemmas.Bool.{or_cases, or_parts, or_right, or_left, leb-false}
-use Rattle.acd_laws.proofs.Words.{Rows, GroupRecord, StationRecord, AgentRecord, CallRecord, ConnectionRecord, MonitorRecord, Cause, Change, Command, Event, Move, Report, put_by, count, Among, Every, IsAscending, state_wanted, at_group, at_station, at_agent, at_call, at_monitor, group_of, station_of, is_group, is_station, is_planned, other_of, is_calling, with_group, with_station, with_agent, with_call, with_monitor, silent, reported, moved, events_of, agent_order}
+use Rattle.std.specs.Prelude.{min}
+use Rattle.acd_terms.specs.Limits.{greatest_priority}
+use Rattle.acd_terms.specs.Groups.{only_group}
+use Rattle.acd_laws.proofs.Words.{Rows, GroupRecord, StationRecord, AgentRecord, CallRecord, ConnectionRecord, MonitorRecord, Cause, Change, Command, Event, Move, Report, put_by, count, Among, Every, IsAscending, state_wanted, at_group, at_station, at_agent, at_call, at_monitor, group_of, station_of, is_group, is_station, is_planned, other_of, is_calling, with_group, with_station, with_agent, with_call, with_monitor, silent, reported, moved, events_of, agent_order, group_order}
 use Rattle.acd_terms.specs.declared.state.AgentState.TheVariants as A
 use Rattle.acd_terms.specs.declared.state.ConnectionState.TheVariants as S
 use Rattle.acd_terms.specs.declared.event.Cause.TheVariants.{NewCall, Deflected, Transferred}
@@ -14,11 +18,11 @@ use Rattle.acd_model.specs.Services.{new_group, new_agent, next_call, cleared_gr
 use Rattle.std.specs.declared.cmp.Ordering.{Ordering}
 use Rattle.acd_laws.proofs.MoveKinds.{LeavesConnections, AgentMove, stays, waits as pends, Recorded, goes_from, releases_here, occupies_here}
 use Rattle.acd_laws.proofs.Facts.{Rules, Sizes, AgentTimed, ConnectionTimed, Timed, MonitorRule, Monitored, at_place}
-use Rattle.acd_laws.proofs.Lists.{every_among, every_from, every-put, one, count-append, among_put, every-append}
-use Rattle.acd_laws.proofs.State.{group_put, station_put}
+use Rattle.acd_laws.proofs.Lists.{every_among, every_from, every-put, one, count-append, among_put, every-append, some_from}
+use Rattle.acd_laws.proofs.State.{group_put, station_put, group_among, group_key, by_group}
 use Rattle.acd_laws.proofs.Order.{entry_by}
-use Rattle.acd_laws.proofs.Deeds.{new_call, Deed, nothing, adds_group, adds_station, adds_agent, watches, unwatches, arrives, makes, goes_out, answers, holds, retrieves, clears, deflects, transfers, logs_on, waits, goes, deed_of_serve}
-use Rattle.acd_laws.proofs.Orderly.{Steady, knows, AllSteady, IsNew, Steadied, Settled, settled, steadied, sizes_steadied, monitored_steadied, length-put, WaitsUpTo, Neat, Steps, done, neat, comes, neat_quiet, neat_silent, neat_agent, neat_remove, neat_put, neat_turned, timed_plain, comes_to, steady_agent, steady_arrive, steps_timed, steps_place, Fit}
+use Rattle.acd_laws.proofs.Deeds.{new_call, Deed, nothing, adds_group, adds_station, adds_agent, watches, unwatches, arrives, makes, goes_out, answers, holds, retrieves, clears, deflects, transfers, logs_on, waits, goes, Ranks, refuses, ranks, deed_of_serve}
+use Rattle.acd_laws.proofs.Orderly.{Steady, knows, AllSteady, IsNew, IsRanked, IsGroupAfter, Steadied, Settled, settled, steadied, sizes_steadied, monitored_steadied, length-put, WaitsUpTo, Neat, Steps, done, neat, comes, neat_quiet, neat_silent, neat_agent, neat_remove, neat_put, neat_turned, timed_plain, comes_to, steady_agent, steady_arrive, steps_timed, steps_place, Fit, count_all}
 use Rattle.acd_model.specs.Served.{moves_of}
 use Rattle.acd_model.specs.Figures.{is_entry}
 use Rattle.acd_model.specs.Services.Serve.{serve}
@@ -47,6 +51,14 @@ pub record Behaves (s : Rows) (k m : ℕ) (ms : List Move) : Type 0 where
 
 -- a silent move of the plan or of a monitor
 
+-- a planned group's record is put in the place of the one before
+length-put_group : (s : Rows) (g : GroupRecord) → IsAscending group_order s.groups → is_group s g.device ≡ true → length (put_by (at_group g.device) s.groups g) ≡ length s.groups
+unfolding group_of
+length-put_group s g asc planned =
+    let z = some_from (group_of s g.device) planned in
+    let c = counted_old by_group s.groups (λ _. true) g z.0 asc z.1 in
+    let p = count_all (put_by (at_group g.device) s.groups g) in let q = count_all s.groups in omega (arith, c, p, q)
+
 -- where there is room for one more
 room_for : {X : Type 0} (at : X → Ordering) (x : X) (xs : List X) (limit : ℕ) → nat_le limit (length xs) ≡ false → length (put_by at xs x) ≤ limit
 room_for at x xs limit room = let a = length-put at x xs in let b = leb-false limit (length xs) room in omega (arith, a, b)
@@ -73,8 +85,8 @@ planned_station s g d e = elim (or_cases (is_group s d) (is_station s d) e) [
   | inr w ↦ or_right (is_group (with_station s g) d) _ (station_put s g d ∙ or_right (g.device == d) (is_station s d) w)
 ]
 
-put_new : (s : Rows) (g z : GroupRecord) → IsNew s g → (z ≡ g) ⊎ Among z s.groups → Among z s.groups ⊎ IsNew s z
-put_new s g z new (inl e) = inr (subst (IsNew s) (sym e) new)
+put_new : (s : Rows) (g z : GroupRecord) → IsNew s g ⊎ IsRanked s g → (z ≡ g) ⊎ Among z s.groups → IsGroupAfter s z
+put_new s g z new (inl e) = inr (subst (λ v. IsNew s v ⊎ IsRanked s v) (sym e) new)
 put_new s g z new (inr a) = inl a
 
 behaves_group : (s : Rows) (k m : ℕ) (g : GroupRecord) → nat_le s.limits.groups (length s.groups) ≡ false → IsNew s g → Behaves s k m (silent (PutGroup g) ∷ [])
@@ -84,7 +96,23 @@ behaves_group s k m g room new =
     silently s k m (PutGroup g) tt tt (record {
       sizes = sizes;
       monitors = monitored_more s (with_group s g) (planned_group s g) refl refl refl;
-      groups = λ z a. put_new s g z new (among_put (at_group g.device) g s.groups z a);
+      groups = λ z a. put_new s g z (inl new) (among_put (at_group g.device) g s.groups z a);
+      limits = refl;
+      last_call = omega arith;
+      last_monitor = omega arith;
+      last_event = refl;
+    })
+
+-- a planned group gets another priority
+behaves_rank : (s : Rows) (k m : ℕ) (g : GroupRecord) → IsAscending group_order s.groups → IsRanked s g → is_group s g.device ≡ true → Behaves s k m (silent (PutGroup g) ∷ [])
+unfolding with_group
+behaves_rank s k m g asc ranked planned =
+    let same : length (put_by (at_group g.device) s.groups g) ≡ length s.groups = length-put_group s g asc planned in
+    let sizes : Sizes s → Sizes (with_group s g) = λ h. let n = h.groups in record { limits = h.limits; groups = omega (arith, n, same); stations = h.stations; agents = h.agents; calls = h.calls; monitors = h.monitors } in
+    silently s k m (PutGroup g) tt tt (record {
+      sizes = sizes;
+      monitors = monitored_more s (with_group s g) (planned_group s g) refl refl refl;
+      groups = λ z a. put_new s g z (inr ranked) (among_put (at_group g.device) g s.groups z a);
       limits = refl;
       last_call = omega arith;
       last_monitor = omega arith;
@@ -176,7 +204,7 @@ agent_behaves s k m x b h = steadily b (neat (neat_agent s b.stamp b.timed h) do
 pub behaves_deed : (s : Rows) (k m : ℕ) (ms : List Move) → Deed s m k ms → Before s k m → Behaves s k m ms
 behaves_deed s k m _ nothing b = steadily b done (omega arith) tt
 behaves_deed s k m _ (adds_group device name ring wrap free room) b =
-    behaves_group s k m (new_group device name ring wrap) room (refl, (or_parts (is_group s device) (is_station s device) (or_parts (is_planned s device) (is_calling s device) free).0).0)
+    behaves_group s k m (new_group device name ring wrap) room (refl, (or_parts (is_group s device) (is_station s device) (or_parts (is_planned s device) (is_calling s device) free).0).0, refl)
 behaves_deed s k m _ (adds_station device _ room) b = behaves_station s k m (record { device = device }) room
 behaves_deed s k m _ (adds_agent agent name _ room) b = behaves_agent s k m (new_agent m k agent name) room (record { above = b.stamp; stamp = omega arith; since = omega arith })
 behaves_deed s k m _ (watches device planned room) b = behaves_monitor s k m (record { monitor = next_monitor s; device = device; after_event = s.last_event }) room planned refl refl
@@ -222,11 +250,18 @@ behaves_deed s k m _ (clears p) b =
     (omega arith) (tt, (steady_clears s o, (tt, (steady_agent s h, (steady_agent s g, tt)))))
 behaves_deed s k m _ (deflects p to _ _) b = given s k m to p.x (report.Diverted p.x.call p.x.device to Deflected p.x.group) Deflected b tt (λ g. refl)
 behaves_deed s k m _ (transfers p to _ _ _) b = given s k m to p.x (report.Transferred p.x.call p.x.device to) Transferred b tt (λ g. refl)
-behaves_deed s k m _ (logs_on a device group own _ _ _ _) b =
-    let c : AgentRecord = record a { state = A.NotReady; pending = None; station = Some device; group = Some group; stamp = k; since = m } in
-    steadily b (neat (neat_quiet (PutAgent c) (Some (report.AgentLoggedOn a.agent device group)) (record { above = b.stamp; stamp = omega arith; since = omega arith }) tt tt (λ g. refl)) done) (omega arith) (ap is_some own, tt)
+behaves_deed s k m _ (logs_on a device groups own _ _ _ _) b =
+    let c : AgentRecord = record a { state = A.NotReady; pending = None; station = Some device; groups = groups; stamp = k; since = m } in
+    steadily b (neat (neat_quiet (PutAgent c) (Some (report.AgentLoggedOn a.agent device (only_group groups))) (record { above = b.stamp; stamp = omega arith; since = omega arith }) tt tt (λ g. refl)) done) (omega arith) (ap is_some own, tt)
 behaves_deed s k m _ (waits a wanted own _ _) b = agent_behaves s k m _ b (pends a (Some wanted) own)
 behaves_deed s k m _ (goes a wanted own _ _) b = agent_behaves s k m _ b (goes_from (Recorded s) m k a a.station (state_wanted wanted) own)
+
+behaves_ranks : (s : Rows) (k m : ℕ) (c : Command) (ms : List Move) → Ranks s c ms → Before s k m → Behaves s k m ms
+behaves_ranks s k m _ _ (refuses device priority none) b = steadily b done (omega arith) tt
+behaves_ranks s k m _ _ (ranks device priority g own) b =
+    let h : GroupRecord = record g { priority = min priority greatest_priority } in
+    behaves_rank s k m h b.rules.orders.groups (record { was = g; there = group_among s device g own; device = refl; figures = refl; in_range = omega arith })
+    (ap (is_group s) (group_key s device g own) ∙ ap is_some own)
 
 -- what holds after moves of a step, with their events
 pub record After (s : Rows) (k m most : ℕ) (t : Rows) (es : List Event) : Type 0 where
@@ -234,7 +269,7 @@ pub record After (s : Rows) (k m most : ℕ) (t : Rows) (es : List Event) : Type
   pub places : (p : ℕ) → count (at_place p) t.connections ≤ one (k == p) + count (at_place p) s.connections
   pub sizes : Sizes t
   pub monitors : Monitored t
-  pub groups : (g : GroupRecord) → Among g t.groups → Among g s.groups ⊎ IsNew s g
+  pub groups : (g : GroupRecord) → Among g t.groups → IsGroupAfter s g
   pub limits : t.limits ≡ s.limits
   pub last_call : t.last_call ≤ s.last_call + 1
   pub last_monitor : t.last_monitor ≤ s.last_monitor + 1
@@ -300,8 +335,11 @@ after_tick s k m b =
 
 after_serve : (s : Rows) (k m : ℕ) (c : Command) → Before s k m → After s k m 13000 (moved s (moves_of (serve s m k c))) (events_of m (moves_of (serve s m k c)))
 after_serve s k m c b = elim (deed_of_serve s m k c) [
-  | inl d ↦ after_service s k m _ b (behaves_deed s k m _ d b)
-  | inr e ↦ subst (λ ms. After s k m 13000 (moved s ms) (events_of m ms)) (sym e) (after_tick s k m b)
+  | inl w ↦ elim w.1 [
+    | inl d ↦ after_service s k m _ b (behaves_deed s k m _ d b)
+    | inr e ↦ subst (λ ms. After s k m 13000 (moved s ms) (events_of m ms)) (sym e) (after_tick s k m b)
+  ]
+  | inr d ↦ after_service s k m _ b (behaves_ranks s k m c _ d b)
 ]
 
 -- the service, then the distribution

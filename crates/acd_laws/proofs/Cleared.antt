@@ -1,7 +1,7 @@
 -- Moves that clear just the calls that they end, and name none above the last; so does each deed.
 use Rattle.std.proofs.Common.{◌≡◌, ℕ, ◌+◌, ◌<◌, ◌≤◌, ◌&&◌, List, [], ◌∷◌, ◌++◌, Option, Some, None, refl, sym, ◌∙◌, ap, subst, arith, Bool, true, false, cond, eq-eqb}
 use Rattle.std.specs.Prelude.{nat_le, is_none, ◌==◌, max}
-use Rattle.acd_laws.proofs.Words.{Rows, AgentRecord, CallRecord, ConnectionRecord, AgentState, Cause, Change, Event, Move, Report, find_by, Among, Every, IsAscending, state_wanted, at_call, call_of, other_of, with_group, with_station, with_agent, with_call, with_connection, with_monitor, without_call, without_connection, without_monitor, no_move, silent, reported, changed, moved, with_event, events_of, call_order, parties_of}
+use Rattle.acd_laws.proofs.Words.{Rows, AgentRecord, CallRecord, ConnectionRecord, AgentState, Cause, Change, Event, Move, Report, find_by, Among, Every, IsAscending, state_wanted, at_call, call_of, other_of, with_group, with_station, with_agent, with_call, with_connection, with_monitor, without_call, without_connection, without_monitor, no_move, silent, reported, changed, moved, with_event, events_of, call_order, parties_of, Command}
 use Rattle.acd_terms.specs.Columns.{columns_of}
 use Rattle.acd_model.specs.Placed.{clears, cleared_by}
 use Rattle.acd_model.specs.Step.{numbered}
@@ -22,7 +22,7 @@ use Rattle.acd_terms.specs.declared.event.Cause.TheVariants.{NewCall}
 use Rattle.acd_model.specs.Release.{release, ending_of}
 use Rattle.acd_model.specs.Services.{next_call, cleared_group, clear_other, release_other, clearing}
 use Rattle.acd_model.specs.declared.moves.Ending.TheVariants.{NoAnswer}
-use Rattle.acd_laws.proofs.Deeds.{new_call, Party, Round, offers, returns, rests, Deed, nothing, adds_group, adds_station, adds_agent, watches, unwatches, arrives, makes, goes_out, answers, holds, retrieves, clears as clears_call, deflects, transfers, logs_on, waits, goes}
+use Rattle.acd_laws.proofs.Deeds.{new_call, Party, Round, offers, returns, rests, Deed, nothing, adds_group, adds_station, adds_agent, watches, unwatches, arrives, makes, goes_out, answers, holds, retrieves, clears as clears_call, deflects, transfers, logs_on, waits, goes, Ranks, refuses, ranks}
 
 -- what a report that may be there clears and names
 
@@ -331,6 +331,10 @@ counted_deed s m k ms (transfers p to _ _ _) r =
 counted_deed s m k ms (logs_on _ _ _ _ _ _ _ _) r = counted_plain s ms (plain_reported tt (λ _. refl) tt, tt)
 counted_deed s m k ms (waits _ _ _ _ _) r = counted_plain s ms (plain_silent tt, tt)
 counted_deed s m k ms (goes a wanted _ _ _) r = counted_plain s ms (plain_agent (goes_from Anyone m k a a.station (state_wanted wanted) tt), tt)
+
+pub counted_ranks : (s : Rows) (c : Command) (ms : List Move) → Ranks s c ms → AllCounted s ms
+counted_ranks s _ _ (refuses _ _ _) = tt
+counted_ranks s _ ms (ranks _ _ _ _) = counted_plain s ms (plain_silent tt, tt)
 
 pub counted_round : (s : Rows) (m k : ℕ) (ms : List Move) → Round s m k ms → Rules s → AllCounted s ms
 counted_round s m k ms (offers o x a d h) r = let le = up_to s r x h.there in counted_plain s ms (plain_reported tt (λ _. refl) le, (plain_reported tt (λ _. refl) le, tt))

@@ -8,14 +8,15 @@ use Rattle.std.specs.declared.cmp.Ordering.{Ordering}
 use Rattle.std.specs.declared.cmp.Ordering.TheVariants.{Less}
 use Rattle.std.proofs.lemmas.Bool.{le-leb, leb-true, not-true, eqb-true}
 use Rattle.std.proofs.lemmas.Bool.Decides.{Decides-like, Decides-and, Decides-or, Decides-not, Decides-eqb as equals}
-use Rattle.acd_laws.proofs.Words.{Rows, GroupRecord, StationRecord, AgentRecord, CallRecord, ConnectionRecord, MonitorRecord, AgentState, count, Among, Every, IsAscending, is_null, is_group, is_station, is_planned, has, waiting_in, eligible_in, keeps_limits, is_less, ascends, group_order, station_order, agent_order, call_order, connection_order, monitor_order, keeps_order, keeps_device, is_station_there, is_group_there, is_alone_at, keeps_agent, keeps_monitor, keeps_call}
-use Rattle.acd_terms.specs.Limits.{limits_fit}
+use Rattle.acd_laws.proofs.Words.{Rows, GroupRecord, StationRecord, AgentRecord, CallRecord, ConnectionRecord, MonitorRecord, AgentState, count, Among, Every, IsAscending, is_null, is_group, is_station, is_planned, has, waiting_in, eligible_in, keeps_limits, is_less, ascends, group_order, station_order, agent_order, call_order, connection_order, monitor_order, keeps_order, keeps_device, is_station_there, are_planned_groups, is_alone_at, keeps_agent, keeps_monitor, keeps_call}
+use Rattle.acd_terms.specs.Limits.{limits_fit, greatest_priority}
+use Rattle.acd_terms.specs.Groups.{is_choice}
 use Rattle.acd_terms.specs.declared.state.AgentState.TheVariants as A
 use Rattle.acd_model.specs.Offers.{HasNoOffer}
 use Rattle.acd_model.specs.Rules.Occupied.{keeps_offer, keeps_balance, is_empty}
 use Rattle.acd_model.specs.Rules.Counters.{keeps_counters, is_moment_or_none, is_own_place, is_offered_after, is_timed, is_countable}
 use Rattle.acd_laws.specs.Orders.{Orders}
-use Rattle.acd_laws.proofs.Facts.{IsPlannedStation, IsPlannedGroup, SeatedAs, AgentRule, CallRule, seated_at, Sizes, AgentTimed, IsPlace, IsMoment, IsAfter, ConnectionTimed, at_place, Timed, OnePlace, Monitored, IsCountedUpTo, AddsUp}
+use Rattle.acd_laws.proofs.Facts.{IsPlannedStation, ArePlannedGroups, SeatedAs, AgentRule, CallRule, seated_at, Sizes, AgentTimed, IsPlace, IsMoment, IsAfter, ConnectionTimed, at_place, Timed, OnePlace, Monitored, IsCountedUpTo, AddsUp}
 use Rattle.acd_laws.proofs.Lists.{find_passes, find_among, any_found, any_some, every_among, every_from, some_counted, all_true, all_from, some_from, some_is, after_lower}
 use Rattle.acd_laws.proofs.Keyed.{eqb_self}
 use Rattle.acd_laws.proofs.State.{groups_total, stations_total, agents_total, calls_total, connections_total, monitors_total, is_group_any, is_station_any, has_is}
@@ -83,19 +84,22 @@ pub record LimitsKept (s : Rows) : Type 0 where
   pub last_stamp : s.last_stamp ≤ s.limits.requests
   pub last_call : s.last_call ≤ s.last_stamp
   pub last_monitor : s.last_monitor ≤ s.last_stamp
+  pub priorities : (g : GroupRecord) → Among g s.groups → g.priority ≤ greatest_priority
 
 pub limits_decided : (s : Rows) → Decides (keeps_limits s) (LimitsKept s)
 unfolding keeps_limits
 limits_decided s = like
     (holds (limits_fit s.limits) and within (length s.groups) s.limits.groups and within (length s.stations) s.limits.stations and within (length s.agents) s.limits.agents and within (length s.calls) s.limits.calls
-    and within (length s.monitors) s.limits.monitors and within s.last_stamp s.limits.requests and within s.last_call s.last_stamp and within s.last_monitor s.last_stamp)
-    (λ p. let q = p.0.0.0 in record {
+    and within (length s.monitors) s.limits.monitors and within s.last_stamp s.limits.requests and within s.last_call s.last_stamp and within s.last_monitor s.last_stamp
+    and each (λ (g : GroupRecord). within g.priority greatest_priority) s.groups)
+    (λ p. let q = p.0.0.0.0 in record {
       sizes = record { limits = q.0.0.0.0.0; groups = q.0.0.0.0.1; stations = q.0.0.0.1; agents = q.0.0.1; calls = q.0.1; monitors = q.1 };
-      last_stamp = p.0.0.1;
-      last_call = p.0.1;
-      last_monitor = p.1;
+      last_stamp = p.0.0.0.1;
+      last_call = p.0.0.1;
+      last_monitor = p.0.1;
+      priorities = p.1;
     })
-    (λ h. ((((((((h.sizes.limits, h.sizes.groups), h.sizes.stations), h.sizes.agents), h.sizes.calls), h.sizes.monitors), h.last_stamp), h.last_call), h.last_monitor))
+    (λ h. (((((((((h.sizes.limits, h.sizes.groups), h.sizes.stations), h.sizes.agents), h.sizes.calls), h.sizes.monitors), h.last_stamp), h.last_call), h.last_monitor), h.priorities))
 
 -- order
 
@@ -139,13 +143,20 @@ station_decided : (s : Rows) (o : Option ℕ) → Decides (is_station_there s o)
 station_decided s None = (λ e. absurd (cc (e)), λ h. absurd h)
 station_decided s (Some d) = holds (is_station s d)
 
-group_decided : (s : Rows) (o : Option ℕ) → Decides (is_group_there s o) (IsPlannedGroup s o)
-group_decided s None = (λ e. absurd (cc (e)), λ h. absurd h)
-group_decided s (Some d) = holds (is_group s d)
+all_decided : (p : ℕ → Bool) (gs : List ℕ) → Decides (list_all p gs) (Every (λ (g : ℕ). p g ≡ true) gs)
+all_decided p [] = (λ _. tt, λ _. refl)
+all_decided p (g ∷ gs) = holds (p g) and all_decided p gs
 
-seat_decided : (s : Rows) (a : AgentRecord) (st : AgentState) → Decides (if is_null st then is_none a.station && is_none a.group && is_none a.pending else is_station_there s a.station && is_group_there s a.group) (SeatedAs s a st)
-seat_decided s a A.Null = like (absent a.station and absent a.group and absent a.pending) (λ p. (p.0.0, p.0.1, p.1)) (λ h. ((h.0, h.1), h.2))
-seat_decided s a _ = station_decided s a.station and group_decided s a.group
+groups_decided : (s : Rows) (gs : List ℕ) → Decides (are_planned_groups s gs) (ArePlannedGroups s gs)
+groups_decided s gs = holds (is_choice gs) and all_decided (is_group s) gs
+
+empty_decided : {T : Type 0} (xs : List T) → Decides (is_empty xs) (xs ≡ [])
+empty_decided [] = (λ _. refl, λ _. refl)
+empty_decided (x ∷ xs) = (λ e. absurd (cc (e)), λ e. absurd (cc (e)))
+
+seat_decided : (s : Rows) (a : AgentRecord) (st : AgentState) → Decides (if is_null st then is_none a.station && is_empty a.groups && is_none a.pending else is_station_there s a.station && are_planned_groups s a.groups) (SeatedAs s a st)
+seat_decided s a A.Null = like (absent a.station and empty_decided a.groups and absent a.pending) (λ p. (p.0.0, p.0.1, p.1)) (λ h. ((h.0, h.1), h.2))
+seat_decided s a _ = station_decided s a.station and groups_decided s a.groups
 
 alone_decided : (s : Rows) (o : Option ℕ) → Decides (is_alone_at s o) ((d : ℕ) → o ≡ Some d → count (seated_at d) s.agents ≤ 1)
 alone_decided s None = (λ _ d e. absurd (cc (e)), λ _. refl)
@@ -225,10 +236,6 @@ counters_decided s b = like
     )
 
 -- offers, monitors, balance
-
-empty_decided : {X : Type 0} (xs : List X) → Decides (is_empty xs) (xs ≡ [])
-empty_decided [] = (λ _. refl, λ _. refl)
-empty_decided (x ∷ xs) = (λ e. absurd (cc (e)), λ e. absurd (cc (e)))
 
 pub offers_decided : (s : Rows) → Decides (keeps_offer s) ((g : GroupRecord) → Among g s.groups → HasNoOffer s g.device)
 unfolding keeps_offer

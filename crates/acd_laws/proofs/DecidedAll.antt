@@ -4,7 +4,8 @@ use Rattle.std.specs.Prelude.{◌==◌, if◌then◌else◌, is_some, is_none}
 use Rattle.std.specs.Bool.{Decides}
 use Rattle.std.proofs.lemmas.Bool.{and_parts, and_from, eqb-true, false_from_ne_true, or_left, or_right}
 use Rattle.std.proofs.lemmas.Bool.Decides.{Decides-eqb as equals}
-use Rattle.acd_laws.proofs.Words.{Rows, Rule, StationRecord, AgentRecord, CallRecord, ConnectionRecord, ConnectionState, AgentState, Pending, count, Among, Every, is_ready, is_busy, is_initiated, is_alerting, is_queued, is_answered, call_of, is_group, is_station, is_planned, has, agent_at, is_distributed, is_occupied, keeps_limits, keeps_order, keeps_device, keeps_agent, keeps_monitor, keeps_call, is_bare, is_placed, has_columns, is_group_or_none, may_stand, keeps_connection, is_open, parties_of, initiated_of, initiated_at, open_of, keeps_parties, live_at, alerting_at, hold_at, keeps_live, is_distributed_at, IsTalking}
+use Rattle.acd_terms.specs.Limits.{greatest_priority}
+use Rattle.acd_laws.proofs.Words.{Rows, Rule, GroupRecord, StationRecord, AgentRecord, CallRecord, ConnectionRecord, ConnectionState, AgentState, Pending, count, Among, Every, is_ready, is_busy, is_initiated, is_alerting, is_queued, is_answered, call_of, is_group, is_station, is_planned, has, agent_at, is_distributed, is_occupied, keeps_limits, keeps_order, keeps_device, keeps_agent, keeps_monitor, keeps_call, is_bare, is_placed, has_columns, is_group_or_none, may_stand, keeps_connection, is_open, parties_of, initiated_of, initiated_at, open_of, keeps_parties, live_at, alerting_at, hold_at, keeps_live, is_distributed_at, IsTalking}
 use Rattle.acd_terms.specs.declared.state.AgentState.TheVariants as A
 use Rattle.acd_terms.specs.declared.state.ConnectionState.TheVariants as S
 use Rattle.acd_model.specs.Watched.{is_caller}
@@ -451,6 +452,7 @@ keeps_read s e =
       offers = (offers_decided s).0 t.offer;
       monitors = (monitors_decided s).0 t.monitor;
       balance = b;
+      priorities = every_from (λ (g : GroupRecord). g.priority ≤ greatest_priority) s.groups l.priorities;
     }
 
 pub rules_are_kept : (s : Rows) → BreaksNoRule s → Rules s
@@ -462,7 +464,7 @@ requests_read s e = ((limits_decided s).0 (tests s e).limits).last_stamp
 pub keeps_written : (s : Rows) → KeepsRules s → s.last_stamp ≤ s.limits.requests → BreaksNoRule s
 keeps_written s h l = broken_none s (record {
   within = within_written s h.rules;
-  limits = (limits_decided s).1 (record { sizes = h.sizes; last_stamp = l; last_call = h.last_call; last_monitor = h.last_monitor });
+  limits = (limits_decided s).1 (record { sizes = h.sizes; last_stamp = l; last_call = h.last_call; last_monitor = h.last_monitor; priorities = λ g i. every_among (λ (x : GroupRecord). x.priority ≤ greatest_priority) s.groups g h.priorities i });
   counters = (counters_decided s h.balance).1 (record { timed = h.timed; places = h.places; figures = h.figures; last_event = h.last_event });
   offer = (offers_decided s).1 h.offers;
   monitor = (monitors_decided s).1 h.monitors;

@@ -1,18 +1,23 @@
 -- What a service does, as deeds: the one walk over refusals; and the rounds of a step.
 use Rattle.std.proofs.Common.{◌≡◌, Bool, true, false, Option, Some, None, refl, ℕ, ◌⊎◌, inl, inr, not, ◌&&◌, ◌||◌, cond, List, [], ◌∷◌, length, ◌∙◌, ap, subst, Err}
 use Rattle.std.specs.Option.{ok_or}
-use Rattle.acd_laws.proofs.Words.{Rows, AgentRecord, CallRecord, ConnectionRecord, Pending, Command, Move, Offer, Refusal, Requested, Served, is_null, is_working_after_call, state_wanted, is_in, is_initiated, is_alerting, is_connected, is_hold, is_queued, agent_of, call_of, connection_of, is_group, is_station, is_planned, agent_at, other_of, is_live_at, is_occupied, silent}
+use Rattle.acd_laws.proofs.Words.{Rows, AgentRecord, CallRecord, ConnectionRecord, Pending, Command, Move, Offer, Refusal, Requested, Served, is_null, is_working_after_call, state_wanted, is_in, is_initiated, is_alerting, is_connected, is_hold, is_queued, agent_of, call_of, connection_of, is_group, is_station, is_planned, agent_at, other_of, is_live_at, is_occupied, silent, group_of, Every, GroupRecord}
 use Rattle.acd_model.specs.Scans.{is_used}
-use Rattle.acd_model.specs.Served.{refuse_if, if_ok, ◌>>=◌, ◌>>◌, moves_of}
-use Rattle.std.specs.Prelude.{◌==◌, is_some, nat_le}
+use Rattle.acd_model.specs.Served.{refuse_if, if_ok, ◌>>=◌, ◌>>◌, moves_of, gives}
+use Rattle.std.specs.Prelude.{◌==◌, is_some, nat_le, min, Result, Ok}
+use Rattle.acd_terms.specs.Limits.{greatest_priority}
+use Rattle.acd_terms.specs.Groups.{is_choice}
+use Rattle.acd_terms.specs.declared.answer.Refusal.TheVariants.{UnknownDevice, NotGroup}
+use Rattle.acd_terms.specs.declared.answer.Answer.TheVariants.{Nothing}
+use Rattle.acd_laws.proofs.Facts.{ArePlannedGroups}
 use Rattle.std.proofs.lemmas.Bool.{not-false, and_parts}
-use Rattle.acd_terms.specs.declared.command.Command.TheVariants.{AddGroup, AddStation, AddAgent, ArriveCall, MakeCall, PhoneOffHook, AnswerCall, HoldCall, RetrieveCall, ClearConnection, DeflectCall, SingleStepTransfer, SetAgentState, MonitorStart, MonitorStop, Tick}
+use Rattle.acd_terms.specs.declared.command.Command.TheVariants.{AddGroup, AddStation, AddAgent, ArriveCall, MakeCall, PhoneOffHook, AnswerCall, HoldCall, RetrieveCall, ClearConnection, DeflectCall, SingleStepTransfer, SetAgentState, MonitorStart, MonitorStop, Tick, SetGroupPriority}
 use Rattle.acd_terms.specs.declared.command.Requested.TheVariants as requested
 use Rattle.acd_terms.specs.declared.event.Cause.TheVariants.{NewCall, Deflected, Transferred}
 use Rattle.acd_model.specs.CallMoves.{begin, connect_caller, initiate, originate, arrive, answer, hold, retrieve, divert, transfer}
 use Rattle.acd_model.specs.AgentMoves.{go_from, log_on_at, wait_for}
 use Rattle.acd_model.specs.Release.{release, ending_of}
-use Rattle.acd_model.specs.Services.{add_group, add_station, add_agent, new_group, new_agent, arrive_call, make_call, phone_off_hook, has_no_call_left, next_call, occupy, answer_call, hold_call, retrieve_call, clearing, clear_connection, is_in_call, is_answered_by, deflect_call, single_step_transfer, log_on, change_state, set_agent_state, monitor_start, monitor_stop, next_monitor}
+use Rattle.acd_model.specs.Services.{add_group, add_station, add_agent, new_group, new_agent, arrive_call, make_call, phone_off_hook, has_no_call_left, next_call, occupy, answer_call, hold_call, retrieve_call, clearing, clear_connection, is_in_call, is_answered_by, deflect_call, single_step_transfer, all_groups, log_on, change_state, set_agent_state, monitor_start, monitor_stop, set_group_priority, next_monitor}
 use Rattle.acd_model.specs.Services.Serve.{serve}
 use Rattle.acd_model.specs.Distribution.{offer_at}
 use Rattle.acd_model.specs.Tick.{return_to, rest_moves, tick}
@@ -75,9 +80,20 @@ pub data Deed (s : Rows) (m k : ℕ) : List Move → Type 0 where
       → Deed s m k (divert p.x to Deflected ∷ arrive s m k p.x.call to Deflected ∷ release s m k p.x (ending_of p.x) ∷ [])
   transfers : (p : Party s) (to : ℕ) → is_connected p.x.state ≡ true → is_answered_by (other_of s p.x) ≡ true → Free s p.x to
       → Deed s m k (transfer p.x to ∷ arrive s m k p.x.call to Transferred ∷ release s m k p.x (ending_of p.x) ∷ [])
-  logs_on : (a : AgentRecord) (device group : ℕ) → agent_of s a.agent ≡ Some a → is_null a.state ≡ true → is_station s device ≡ true → agent_at s device ≡ None → is_group s group ≡ true → Deed s m k (log_on_at m k a device group ∷ [])
+  logs_on : (a : AgentRecord) (device : ℕ) (groups : List ℕ) → agent_of s a.agent ≡ Some a → is_null a.state ≡ true → is_station s device ≡ true → agent_at s device ≡ None → ArePlannedGroups s groups
+      → Deed s m k (log_on_at m k a device groups ∷ [])
   waits : (a : AgentRecord) (wanted : Pending) → agent_of s a.agent ≡ Some a → is_null a.state ≡ false → is_occupied s a ≡ true → Deed s m k (wait_for a (Some wanted) ∷ [])
   goes : (a : AgentRecord) (wanted : Pending) → agent_of s a.agent ≡ Some a → is_null a.state ≡ false → is_occupied s a ≡ false → Deed s m k (go_from m k a a.station (state_wanted wanted) ∷ [])
+
+-- what setGroupPriority does: no deed, so that its command alone changes a planned group's record
+pub data Ranks (s : Rows) : Command → List Move → Type 0 where
+  refuses : (device priority : ℕ) → group_of s device ≡ None → Ranks s (SetGroupPriority device priority) []
+  ranks : (device priority : ℕ) (g : GroupRecord) → group_of s device ≡ Some g
+      → Ranks s (SetGroupPriority device priority) (silent (PutGroup (record g { priority = min priority greatest_priority })) ∷ [])
+
+abbrev pub is_ranking : Command → Bool
+is_ranking (SetGroupPriority device priority) = true
+is_ranking _ = false
 
 -- the walk over refusals
 
@@ -164,11 +180,29 @@ deed_single_step_transfer s m k call device to =
     subst (λ n. Deed s m k (transfer p.x to ∷ arrive s m k n to Transferred ∷ release s m k p.x (ending_of p.x) ∷ [])) same
     (transfers p to both.0 both.1 (free s call to p.x same known new))))))))
 
-deed_log_on : (s : Rows) (m k agent device group : ℕ) → DeedBy s m k (log_on s m k agent device group)
+-- each of the groups is one where none of them is refused
+all_are_groups : (s : Rows) (gs : List ℕ) → all_groups s gs ≡ Ok tt → Every (λ (g : ℕ). is_group s g ≡ true) gs
+unfolding refuse_if if_ok
+all_are_groups s [] e = tt
+all_are_groups s (g ∷ gs) e = by (is_planned s g) (is_group s g) refl e (all_are_groups s gs)
+  where
+    by : (p q : Bool) → is_group s g ≡ q → (refuse_if (not p) UnknownDevice >> (refuse_if (not q) NotGroup >> all_groups s gs)) ≡ Ok tt
+        → (all_groups s gs ≡ Ok tt → Every (λ (x : ℕ). is_group s x ≡ true) gs) → Every (λ (x : ℕ). is_group s x ≡ true) (g ∷ gs)
+    by true true h e more = (h, more e)
+    by true false h e more = absurd (cc (e))
+    by false q h e more = absurd (cc (e))
+
+passes : {s : Rows} {m k : ℕ} (v : Result (Unit {0}) Refusal) (rest : Served) → (v ≡ Ok tt → DeedBy s m k rest) → DeedBy s m k (v >> rest)
+unfolding if_ok
+passes (Ok u) rest h = h refl
+passes (Err r) rest h = nothing
+
+deed_log_on : (s : Rows) (m k agent device : ℕ) (groups : List ℕ) → DeedBy s m k (log_on s m k agent device groups)
 unfolding log_on
-deed_log_on s m k agent device group =
-    with _ _ (λ a ea. unless _ _ (λ null. unless _ _ (λ _. unless _ _ (λ station. unless _ _ (λ taken. unless _ _ (λ _. unless _ _ (λ no_group.
-    logs_on a device group (agent_own s agent a ea) (not-false (is_null a.state) null) (not-false (is_station s device) station) (apart_if (agent_at s device) taken) (not-false (is_group s group) no_group))))))))
+deed_log_on s m k agent device groups =
+    with _ _ (λ a ea. unless _ _ (λ null. unless _ _ (λ _. unless _ _ (λ station. unless _ _ (λ taken. passes (all_groups s groups) _ (λ all. unless _ _ (λ choice.
+    logs_on a device groups (agent_own s agent a ea) (not-false (is_null a.state) null) (not-false (is_station s device) station) (apart_if (agent_at s device) taken)
+    (not-false (is_choice groups) choice, all_are_groups s groups all))))))))
 
 either : {s : Rows} {m k : ℕ} (b : Bool) (v w : Served) → (b ≡ true → DeedBy s m k v) → (b ≡ false → DeedBy s m k w) → DeedBy s m k (cond b v w)
 either true v w h g = h refl
@@ -182,7 +216,7 @@ deed_change_state s m k agent wanted =
     either (is_in a.state wanted) _ _ (λ _. nothing) (λ _. goes a wanted (agent_own s agent a ea) seated free))))
 
 deed_set_agent_state : (s : Rows) (m k agent : ℕ) (q : Requested) → DeedBy s m k (set_agent_state s m k agent q)
-deed_set_agent_state s m k agent (requested.LoggedOn device group) = deed_log_on s m k agent device group
+deed_set_agent_state s m k agent (requested.LoggedOn device groups) = deed_log_on s m k agent device groups
 deed_set_agent_state s m k agent (requested.State wanted) = deed_change_state s m k agent wanted
 
 deed_monitor_start : (s : Rows) (m k device : ℕ) → DeedBy s m k (monitor_start s device)
@@ -193,20 +227,36 @@ deed_monitor_stop : (s : Rows) (m k monitor : ℕ) → DeedBy s m k (monitor_sto
 unfolding monitor_stop
 deed_monitor_stop s m k monitor = with _ _ (λ w _. unwatches monitor)
 
-pub deed_of_serve : (s : Rows) (m k : ℕ) (c : Command) → DeedBy s m k (serve s m k c) ⊎ (moves_of (serve s m k c) ≡ tick s m k)
-deed_of_serve s m k (AddGroup device name ring wrap) = inl (deed_add_group s m k device name ring wrap)
-deed_of_serve s m k (AddStation device) = inl (deed_add_station s m k device)
-deed_of_serve s m k (AddAgent agent name) = inl (deed_add_agent s m k agent name)
-deed_of_serve s m k (ArriveCall caller called) = inl (deed_arrive_call s m k caller called)
-deed_of_serve s m k (MakeCall device called) = inl (deed_make_call s m k device called)
-deed_of_serve s m k (PhoneOffHook call device) = inl (deed_phone_off_hook s m k call device)
-deed_of_serve s m k (AnswerCall call device) = inl (deed_answer_call s m k call device)
-deed_of_serve s m k (HoldCall call device) = inl (deed_hold_call s m k call device)
-deed_of_serve s m k (RetrieveCall call device) = inl (deed_retrieve_call s m k call device)
-deed_of_serve s m k (ClearConnection call device) = inl (deed_clear_connection s m k call device)
-deed_of_serve s m k (DeflectCall call device to) = inl (deed_deflect_call s m k call device to)
-deed_of_serve s m k (SingleStepTransfer call device to) = inl (deed_single_step_transfer s m k call device to)
-deed_of_serve s m k (SetAgentState agent q) = inl (deed_set_agent_state s m k agent q)
-deed_of_serve s m k (MonitorStart device) = inl (deed_monitor_start s m k device)
-deed_of_serve s m k (MonitorStop monitor) = inl (deed_monitor_stop s m k monitor)
-deed_of_serve s m k Tick = inr refl
+ranks_of : (s : Rows) (device priority : ℕ) → Ranks s (SetGroupPriority device priority) (moves_of (set_group_priority s device priority))
+unfolding set_group_priority refuse_if if_ok
+ranks_of s device priority = by (group_of s device) refl
+  where
+    put : GroupRecord → Served
+    put g = gives Nothing (silent (PutGroup (record g { priority = min priority greatest_priority })) ∷ [])
+
+    by : (o : Option GroupRecord) → group_of s device ≡ o
+        → Ranks s (SetGroupPriority device priority) (moves_of (refuse_if (not (is_some o || is_station s device)) UnknownDevice >> (ok_or o NotGroup >>= put)))
+    by None e = by_refusal (λ (v : Served). Ranks s (SetGroupPriority device priority) (moves_of v)) (not (is_station s device)) UnknownDevice (ok_or None NotGroup >>= put)
+        (λ _. refuses device priority e) (λ _. refuses device priority e)
+    by (Some g) e = ranks device priority g e
+
+-- what a command does: a deed or what tick does, and setGroupPriority what it does
+pub deed_of_serve : (s : Rows) (m k : ℕ) (c : Command)
+    → ((is_ranking c ≡ false) × (DeedBy s m k (serve s m k c) ⊎ (moves_of (serve s m k c) ≡ tick s m k))) ⊎ Ranks s c (moves_of (serve s m k c))
+deed_of_serve s m k (AddGroup device name ring wrap) = inl (refl, inl (deed_add_group s m k device name ring wrap))
+deed_of_serve s m k (AddStation device) = inl (refl, inl (deed_add_station s m k device))
+deed_of_serve s m k (AddAgent agent name) = inl (refl, inl (deed_add_agent s m k agent name))
+deed_of_serve s m k (ArriveCall caller called) = inl (refl, inl (deed_arrive_call s m k caller called))
+deed_of_serve s m k (MakeCall device called) = inl (refl, inl (deed_make_call s m k device called))
+deed_of_serve s m k (PhoneOffHook call device) = inl (refl, inl (deed_phone_off_hook s m k call device))
+deed_of_serve s m k (AnswerCall call device) = inl (refl, inl (deed_answer_call s m k call device))
+deed_of_serve s m k (HoldCall call device) = inl (refl, inl (deed_hold_call s m k call device))
+deed_of_serve s m k (RetrieveCall call device) = inl (refl, inl (deed_retrieve_call s m k call device))
+deed_of_serve s m k (ClearConnection call device) = inl (refl, inl (deed_clear_connection s m k call device))
+deed_of_serve s m k (DeflectCall call device to) = inl (refl, inl (deed_deflect_call s m k call device to))
+deed_of_serve s m k (SingleStepTransfer call device to) = inl (refl, inl (deed_single_step_transfer s m k call device to))
+deed_of_serve s m k (SetAgentState agent q) = inl (refl, inl (deed_set_agent_state s m k agent q))
+deed_of_serve s m k (MonitorStart device) = inl (refl, inl (deed_monitor_start s m k device))
+deed_of_serve s m k (MonitorStop monitor) = inl (refl, inl (deed_monitor_stop s m k monitor))
+deed_of_serve s m k Tick = inl (refl, inr refl)
+deed_of_serve s m k (SetGroupPriority device priority) = inr (ranks_of s device priority)

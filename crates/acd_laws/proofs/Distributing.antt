@@ -1,6 +1,7 @@
 -- A distribution and tick: what each offer, return and rest keeps, one after another; and that a distribution's offers are those that are to be made.
 use Rattle.std.proofs.Common.{◌≡◌, ℕ, zero, suc, ◌+◌, ◌≤◌, Bool, true, false, ◌&&◌, List, [], ◌++◌, Option, Some, None, refl, sym, ◌∙◌, ap, subst, arith, length, append_assoc, append-nil, inl, inr, ◌∷◌, eq-eqb}
 use Rattle.std.specs.Prelude.{◌==◌, filter, ◌↔◌, is_some}
+use Rattle.acd_terms.specs.Groups.{is_one_of, least_group}
 use Rattle.acd_laws.proofs.Words.{Rows, GroupRecord, AgentRecord, ConnectionRecord, ConnectionState, Event, Move, Offer, remove_by, count, Among, IsAscending, is_ready, is_working_after_call, is_alerting, is_queued, at_connection, agent_of, connection_of, has, is_idle, is_occupied, waiting_in, is_idle_there, is_eligible, eligible_in, queued_in_all, with_connection, without_connection, moved, events_of, agent_order, connection_order, is_open, open_of}
 use Rattle.acd_model.specs.CallMoves.{ringing, queueing}
 use Rattle.acd_laws.proofs.Facts.{Rules}
@@ -35,7 +36,7 @@ pub record Offering (s : Rows) (o : Offer) (x : ConnectionRecord) (a : AgentReco
   pub queued : is_queued x.state ≡ true
   pub agent : a.agent ≡ o.agent
   pub known : Among a s.agents
-  pub member : has a.group o.group ≡ true
+  pub member : is_one_of a.groups o.group ≡ true
   pub ready : is_ready a.state ≡ true
   pub station : a.station ≡ Some d
   pub free : is_occupied s a ≡ false
@@ -58,7 +59,7 @@ offering s r o e =
     let wx = filter_among (λ (c : ConnectionRecord). c.device == o.group && is_queued c.state) s.connections x w.1.0 in
     let ea = filter_among (is_eligible s o.group) s.agents a v.1.0 in
     let both = (equals x.device o.group and holds (is_queued x.state)).0 wx.1 in
-    let may = (holds (has a.group o.group) and holds (is_ready a.state) and fails (is_occupied s a) and holds (is_idle_there s a.station)).0 ea.1 in
+    let may = (holds (is_one_of a.groups o.group) and holds (is_ready a.state) and fails (is_occupied s a) and holds (is_idle_there s a.station)).0 ea.1 in
     let d = idle_station s a.station may.1 in
     let call : x.call ≡ o.call = sym (ap (λ (p : ℕ × ℕ). p.1) w.1.1) in
     let agent : a.agent ≡ o.agent = sym (ap (λ (p : ℕ × ℕ). p.1) v.1.1) in (
@@ -304,7 +305,7 @@ rested_works : (s : Rows) (m : ℕ) (a : AgentRecord) → Rules s → Among a (r
 unfolding rested_in is_rested
 rested_works s m a r i =
     let w = filter_among (is_rested s m) s.agents a i in
-    (agent_found s r.orders.agents a w.0, (and_parts (is_working_after_call a.state) (is_over_in s m a a.group) w.1).0)
+    (agent_found s r.orders.agents a w.0, (and_parts (is_working_after_call a.state) (is_over_in s m a (least_group a.groups)) w.1).0)
 
 rested_ascend : (s : Rows) (m : ℕ) → Rules s → IsAscending agent_order (rested_in s m)
 unfolding rested_in

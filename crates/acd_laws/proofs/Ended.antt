@@ -1,9 +1,9 @@
 -- The end of a step sets figures and counters, and the rules hold on; what each step keeps, every run keeps.
-use Rattle.std.proofs.Common.{◌≡◌, ℕ, List, [], ◌∷◌, Option, Some, None, refl, sym, ◌∙◌, ap, subst, map, ◌||◌, ◌++◌, append-nil, append_assoc, arith}
+use Rattle.std.proofs.Common.{◌≡◌, ℕ, List, [], ◌∷◌, Option, Some, None, refl, sym, ◌∙◌, ap, subst, map, ◌||◌, ◌++◌, append-nil, append_assoc, arith, true}
 use Rattle.std.specs.Prelude.{is_some}
 use Rattle.acd_laws.proofs.Words.{Rows, Limits, GroupRecord, AgentRecord, AgentState, Command, Event, find_by, AllAfter, IsAscending, at_group, group_of, station_of, call_of, is_group, is_station, is_planned, empty_rows, with_last, group_order}
 use Rattle.acd_terms.specs.declared.state.AgentState.TheVariants as A
-use Rattle.acd_laws.proofs.Facts.{Rules, IsPlannedStation, IsPlannedGroup, SeatedAs, AgentRule, CallRule, IsCaller, ConnectionRule, two_if}
+use Rattle.acd_laws.proofs.Facts.{Rules, IsPlannedStation, ArePlannedGroups, SeatedAs, AgentRule, CallRule, IsCaller, ConnectionRule, two_if}
 use Rattle.acd_laws.proofs.Lists.{every_among, every_from}
 use Rattle.acd_model.specs.Figures.{counting, with_figures}
 use Rattle.acd_model.specs.Step.{step, executed_moment, next_stamp}
@@ -32,9 +32,8 @@ unfolding with_last with_figures station_of
 planned_ended t es k m n d = ap (λ b. b || is_station t d) (groups_ended t es k m n d)
 
 -- the rules of a record speak of the planned devices alone, and of the last call
-same_group : (s t : Rows) → ((d : ℕ) → is_group t d ≡ is_group s d) → (o : Option ℕ) → IsPlannedGroup s o → IsPlannedGroup t o
-same_group s t g None h = h
-same_group s t g (Some d) h = g d ∙ h
+same_groups : (s t : Rows) → ((d : ℕ) → is_group t d ≡ is_group s d) → (gs : List ℕ) → ArePlannedGroups s gs → ArePlannedGroups t gs
+same_groups s t g gs h = (h.0, every_from (λ (d : ℕ). is_group t d ≡ true) gs (λ d i. g d ∙ every_among (λ (d : ℕ). is_group s d ≡ true) gs d h.1 i))
 
 same_station : (s t : Rows) → ((d : ℕ) → is_station t d ≡ is_station s d) → (o : Option ℕ) → IsPlannedStation s o → IsPlannedStation t o
 same_station s t g None h = h
@@ -42,7 +41,7 @@ same_station s t g (Some d) h = g d ∙ h
 
 same_seat : (s t : Rows) → ((d : ℕ) → is_group t d ≡ is_group s d) → ((d : ℕ) → is_station t d ≡ is_station s d) → (a : AgentRecord) (st : AgentState) → SeatedAs s a st → SeatedAs t a st
 same_seat s t g f a A.Null h = h
-same_seat s t g f a _ h = (same_station s t f a.station h.0, same_group s t g a.group h.1)
+same_seat s t g f a _ h = (same_station s t f a.station h.0, same_groups s t g a.groups h.1)
 
 pub rules_ended : (t : Rows) (es : List Event) (k m n : ℕ) → Rules t → Rules (ended t es k m n)
 unfolding with_last with_figures station_of call_of

@@ -1,28 +1,28 @@
 -- The rules of rows as facts: of each record, counts over the plain lists, and bounds. Rows that break no rule are these (`DecidedAll`).
-use Rattle.std.specs.Prelude.{◌≡◌, ◌≢◌, ◌⊎◌, ℕ, ◌+◌, ◌≤◌, Bool, true, false, ◌&&◌, ◌==◌, Option, Some, None, is_some, if◌then◌else◌, ◌*◌, length}
+use Rattle.std.specs.Prelude.{◌≡◌, ◌≢◌, ◌⊎◌, ℕ, ◌+◌, ◌≤◌, Bool, true, false, ◌&&◌, ◌==◌, Option, Some, None, is_some, if◌then◌else◌, ◌*◌, List, [], length}
 use Rattle.acd_laws.proofs.Words.{Rows, GroupRecord, AgentRecord, CallRecord, ConnectionRecord, MonitorRecord, ConnectionState, AgentState, count, Among, Every, is_ready, is_busy, is_alerting, is_answered, call_of, is_group, is_station, is_planned, has, parties_of, initiated_of, open_of, live_at, alerting_at, hold_at, is_distributed_at}
 use Rattle.acd_terms.specs.declared.state.AgentState.TheVariants as agent
 use Rattle.acd_terms.specs.declared.state.ConnectionState.TheVariants.{Initiated, Alerting, Connected, Hold, Queued}
-use Rattle.acd_terms.specs.Limits.{limits_fit}
+use Rattle.acd_terms.specs.Limits.{limits_fit, greatest_priority}
+use Rattle.acd_terms.specs.Groups.{is_choice}
 use Rattle.acd_model.specs.Offers.{HasNoOffer}
 use Rattle.acd_model.specs.Rules.Occupied.{waits_in, rings_from}
 use Rattle.acd_laws.specs.Orders.{Orders}
 
--- each agent: one in null has no seat, any other a planned station and group
+-- each agent: one in null has no seat, any other a planned station and planned groups
 abbrev pub IsUnseated : AgentRecord → Type 0
-IsUnseated a = (a.station ≡ None) × (a.group ≡ None) × (a.pending ≡ None)
+IsUnseated a = (a.station ≡ None) × (a.groups ≡ []) × (a.pending ≡ None)
 
 abbrev pub IsPlannedStation : Rows → Option ℕ → Type 0
 IsPlannedStation s None = ⊥
 IsPlannedStation s (Some d) = is_station s d ≡ true
 
-abbrev pub IsPlannedGroup : Rows → Option ℕ → Type 0
-IsPlannedGroup s None = ⊥
-IsPlannedGroup s (Some g) = is_group s g ≡ true
+abbrev pub ArePlannedGroups : Rows → List ℕ → Type 0
+ArePlannedGroups s gs = (is_choice gs ≡ true) × Every (λ (g : ℕ). is_group s g ≡ true) gs
 
 abbrev pub SeatedAs : Rows → AgentRecord → AgentState → Type 0
 SeatedAs s a agent.Null = IsUnseated a
-SeatedAs s a _ = IsPlannedStation s a.station × IsPlannedGroup s a.group
+SeatedAs s a _ = IsPlannedStation s a.station × ArePlannedGroups s a.groups
 
 abbrev pub AgentRule : Rows → AgentRecord → Type 0
 AgentRule s a = SeatedAs s a a.state
@@ -206,3 +206,4 @@ pub record KeepsRules (s : Rows) : Type 0 where
   pub offers : (g : GroupRecord) → Among g s.groups → HasNoOffer s g.device
   pub monitors : Monitored s
   pub balance : Every (AddsUp s) s.groups
+  pub priorities : Every (λ (g : GroupRecord). g.priority ≤ greatest_priority) s.groups

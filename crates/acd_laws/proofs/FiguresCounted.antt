@@ -1,7 +1,8 @@
 -- The figures that a group keeps are those counted from all events: by each deed, step and run.
-use Rattle.std.proofs.Common.{◌≡◌, ℕ, ◌⊎◌, inl, inr, true, false, ◌||◌, cond, List, [], ◌∷◌, Option, Some, None, refl, subst, ◌+◌, ◌++◌, sym, ◌∙◌, ap, length, append-nil}
+use Rattle.std.proofs.Common.{◌≡◌, ℕ, ◌⊎◌, inl, inr, true, false, ◌||◌, cond, List, [], ◌∷◌, Option, Some, None, refl, subst, ◌+◌, ◌++◌, sym, ◌∙◌, ap, length, append-nil, eq-eqb}
 use Rattle.std.specs.Prelude.{is_some, option_map, ◌==◌}
 use Rattle.std.proofs.lemmas.Bool.{or_parts, eqb-true, false_from_ne_true}
+use Rattle.std.specs.Prelude.{min}
 use Rattle.acd_laws.proofs.Words.{Rows, Limits, GroupRecord, AgentRecord, ConnectionRecord, AgentState, Cause, Command, Event, Move, Report, find_by, put_by, Among, Every, state_wanted, is_alerting, is_queued, at_group, group_of, is_group, is_station, is_planned, has, other_of, is_calling, empty_rows, with_group, with_last, silent, reported, changed, moved, event_at, with_event, events_of, is_group_or_none}
 use Rattle.acd_terms.specs.declared.state.AgentState.TheVariants.{Null, Ready}
 use Rattle.acd_terms.specs.declared.event.Report.TheVariants.{Established}
@@ -13,18 +14,20 @@ use Rattle.acd_model.specs.declared.moves.Ending.TheVariants.{NoAnswer}
 use Rattle.acd_model.specs.declared.moves.Change.TheVariants.{PutGroup, PutAgent}
 use Rattle.acd_laws.proofs.Facts.{Rules, GroupColumn, ConnectionRule}
 use Rattle.acd_laws.proofs.MoveKinds.{LeavesGroups, left_groups, AgentMove, stays, waits as puts, tells, Anyone, goes_from, released_by, occupied_by, Arrival, queues, alerts, fails, arrival_of}
-use Rattle.acd_laws.proofs.Lists.{every_among, among_put, mapped_among}
-use Rattle.acd_laws.proofs.State.{connection_among, other_among, group_found_put, group_counted_found, is_some_mapped}
+use Rattle.acd_laws.proofs.Lists.{every_among, among_put, mapped_among, some_is}
+use Rattle.acd_laws.proofs.State.{connection_among, other_among, group_found_put, group_counted_found, is_some_mapped, group_among, group_key, group_put_found}
 use Rattle.acd_laws.proofs.CountedEvents.{group_counted, quiet, figures_joined, figures_numbered, figures_skipped, no_events, nothing_sum}
-use Rattle.acd_laws.proofs.Deeds.{Party, Round, offers, returns, rests, Deed, nothing, adds_group, adds_station, adds_agent, watches, unwatches, arrives, makes, goes_out, answers, holds, retrieves, clears, deflects, transfers, logs_on, waits, goes}
+use Rattle.acd_laws.proofs.Deeds.{Party, Round, offers, returns, rests, Deed, nothing, adds_group, adds_station, adds_agent, watches, unwatches, arrives, makes, goes_out, answers, holds, retrieves, clears, deflects, transfers, logs_on, waits, goes, Ranks, refuses, ranks, is_ranking}
 use Rattle.acd_model.specs.Figures.{figures_of, sum_of_figures, counting, with_figures}
 use Rattle.acd_model.specs.Services.Serve.{serve}
 use Rattle.acd_model.specs.Run.{TimedCommand, run}
 use Rattle.acd_model.specs.Step.{numbered, executed_moment, next_stamp, step_moves, step}
-use Rattle.acd_laws.specs.FigureLaws.{KeepsFigures, RunKeepsFigures}
+use Rattle.acd_laws.specs.FigureLaws.{KeepsFigures, RunKeepsFigures, ranked}
+use Rattle.acd_terms.specs.Limits.{greatest_priority}
+use Rattle.acd_terms.specs.declared.command.Command.TheVariants.{SetGroupPriority}
 use Rattle.acd_laws.proofs.Ended.{rules_step, rules_first, kept_by_run, KeptByRules}
 use Rattle.acd_laws.proofs.Distributing.{Kept}
-use Rattle.acd_laws.proofs.RulesKept.{by_deeds}
+use Rattle.acd_laws.proofs.RulesKept.{by_deeds, by_parts}
 
 -- there is no group, or it is one of these
 abbrev pub IsAmongGroups : List GroupRecord → Option ℕ → Type 0
@@ -156,18 +159,29 @@ record Uncounted (old : List Event) (gs : List GroupRecord) (es : List Event) : 
 some_stays : (d : ℕ) (g : GroupRecord) (gs : List GroupRecord) → is_some (find_by (at_group d) gs) ≡ true → is_some (find_by (at_group d) (put_by (at_group g.device) gs g)) ≡ true
 some_stays d g gs e = ap is_some (group_found_put d g gs) ∙ (elim (g.device == d) as (λ b. is_some (cond b (Some g) (find_by (at_group d) gs)) ≡ true) [ true ↦ refl | false ↦ e ])
 
+not_before : (d : ℕ) (g : GroupRecord) (gs : List GroupRecord) → is_some (find_by (at_group d) (put_by (at_group g.device) gs g)) ≡ false → is_some (find_by (at_group d) gs) ≡ false
+not_before d g gs e = false_from_ne_true (is_some (find_by (at_group d) gs)) (λ q. cc (e, some_stays d g gs q))
+
 uncounted_added : (old : List Event) (gs : List GroupRecord) (es : List Event) (g : GroupRecord) → is_some (find_by (at_group g.device) gs) ≡ false → g.figures ≡ no_figures → Uncounted old gs es → Uncounted old (put_by (at_group g.device) gs g) es
 uncounted_added old gs es g fresh new k = record {
   groups = λ z a. elim (among_put (at_group g.device) g gs z a) [
     | inl e ↦ subst (λ (y : GroupRecord). y.figures ≡ figures_of y.device old) (sym e) (new ∙ sym (k.others g.device fresh))
     | inr b ↦ k.groups z b
   ];
-  others = λ d e. k.others d (not_yet d e);
-  quiet = λ d e. k.quiet d (not_yet d e);
+  others = λ d e. k.others d (not_before d g gs e);
+  quiet = λ d e. k.quiet d (not_before d g gs e);
 }
-  where
-    not_yet : (d : ℕ) → is_some (find_by (at_group d) (put_by (at_group g.device) gs g)) ≡ false → is_some (find_by (at_group d) gs) ≡ false
-    not_yet d e = false_from_ne_true (is_some (find_by (at_group d) gs)) (λ q. cc (e, some_stays d g gs q))
+
+-- and where one is put in place of another with the same figures
+uncounted_ranked : (old : List Event) (gs : List GroupRecord) (es : List Event) (was g : GroupRecord) → Among was gs → g.device ≡ was.device → g.figures ≡ was.figures → Uncounted old gs es → Uncounted old (put_by (at_group g.device) gs g) es
+uncounted_ranked old gs es was g there device figures k = record {
+  groups = λ z a. elim (among_put (at_group g.device) g gs z a) [
+    | inl e ↦ subst (λ (y : GroupRecord). y.figures ≡ figures_of y.device old) (sym e) (figures ∙ k.groups was there ∙ ap (λ d. figures_of d old) (sym device))
+    | inr b ↦ k.groups z b
+  ];
+  others = λ d e. k.others d (not_before d g gs e);
+  quiet = λ d e. k.quiet d (not_before d g gs e);
+}
 
 abbrev UncountedIn : List Event → Rows → List Event → Type 0
 UncountedIn old t es = Uncounted old t.groups es
@@ -190,6 +204,13 @@ uncounted_deed old m k s es ms d r h =
       | inl f ↦ uncounted_moved old m s es ms f h
       | inr a ↦ subst (Kept (UncountedIn old) m s es) (sym a.alone) (uncounted_with old m s es a.group a.fresh a.new h)
     ]
+
+uncounted_ranks : (old : List Event) (m : ℕ) (s : Rows) (es : List Event) (c : Command) (ms : List Move) → Ranks s c ms → UncountedIn old s es → Kept (UncountedIn old) m s es ms
+unfolding with_group
+uncounted_ranks old m s es _ _ (refuses device priority none) k = subst (UncountedIn old s) (sym (append-nil es)) k
+uncounted_ranks old m s es _ _ (ranks device priority g own) k =
+    let h : GroupRecord = record g { priority = min priority greatest_priority } in
+    subst (Uncounted old (put_by (at_group g.device) s.groups h)) (sym (append-nil es)) (uncounted_ranked old s.groups es g h (group_among s device g own) refl refl k)
 
 -- the end of a step
 
@@ -223,8 +244,8 @@ step_keeps_figures s events moment command r k =
     let m : ℕ = executed_moment s moment in
     let ms : List Move = step_moves s m (serve s m (next_stamp s) command) in
     keeps_ended (moved s ms) events (events_of m ms) s.last_event (next_stamp s) m (s.last_event + length (events_of m ms)) (rules_step s moment command r)
-    (by_deeds (UncountedIn events) m (next_stamp s) (uncounted_deed events m (next_stamp s))
-    (λ t es ns d rt h. uncounted_moved events m t es ns (fits_round t m (next_stamp s) ns d rt) h) s [] command r (over_lists s events k))
+    (by_deeds (UncountedIn events) m (next_stamp s) command (λ _ t es ns d rt h. uncounted_deed events m (next_stamp s) t es ns d rt h) (λ t es ns d rt h. uncounted_ranks events m t es command ns d h)
+    (λ t es ns d rt h. uncounted_moved events m t es ns (fits_round t m (next_stamp s) ns d rt) h) s [] r (over_lists s events k))
 
 -- runs
 
@@ -244,7 +265,7 @@ figures_kept limits commands =
 pub run_keeps_figures : RunKeepsFigures
 run_keeps_figures limits commands g a = (figures_kept limits commands).groups g a
 
--- of a planned group a step changes the figures alone
+-- of a planned group a step changes the figures, and setGroupPriority the priority
 
 found_ended : (t : Rows) (es : List Event) (n a b c d : ℕ) (g : GroupRecord) → group_of t d ≡ Some g → group_of (with_last (with_figures t es) a b c) d ≡ Some (counting (numbered n es) g)
 unfolding with_last with_figures group_of
@@ -266,15 +287,43 @@ found_moved : (s : Rows) (ms : List Move) (d : ℕ) (g : GroupRecord) → AllFit
 unfolding group_of
 found_moved s ms d g fit e = ap (find_by (at_group d)) (groups_moved s.groups s ms fit) ∙ e
 
-pub step_adds_figures : (s : Rows) (moment : ℕ) (command : Command) (d : ℕ) (g : GroupRecord) → Rules s → group_of s d ≡ Some g → group_of (step s moment command).rows d ≡ Some (counting (step s moment command).events g)
+-- what setGroupPriority does to a planned group's record
+unranked : (c : Command) (g : GroupRecord) → is_ranking c ≡ false → ranked c g ≡ g
+unranked (SetGroupPriority device priority) g e = absurd (cc (e))
+unranked _ g e = refl
+
+differs : (device priority : ℕ) (g : GroupRecord) → (device == g.device) ≡ false → ranked (SetGroupPriority device priority) g ≡ g
+differs device priority g e = rw e refl
+
+found_ranks : (s : Rows) (c : Command) (ms : List Move) (d : ℕ) (g : GroupRecord) → Ranks s c ms → group_of s d ≡ Some g → group_of (moved s ms) d ≡ Some (ranked c g)
+found_ranks s _ _ d g (refuses device priority none) e =
+    e ∙ ap Some (sym (differs device priority g (false_from_ne_true (device == g.device) (λ q. cc (none, e, ap (group_of s) (eqb-true device g.device q ∙ group_key s d g e))))))
+found_ranks s _ _ d g (ranks device priority was own) e =
+    let h : GroupRecord = record was { priority = min priority greatest_priority } in
+    let at : was.device ≡ device = group_key s device was own in
+    let key : g.device ≡ d = group_key s d g e in
+    group_put_found s h d ∙
+    (elim (was.device == d) as (λ b. (was.device == d) ≡ b → cond b (Some h) (group_of s d) ≡ Some (ranked (SetGroupPriority device priority) g)) [
+      | true ↦ λ q.
+          let here : d ≡ device = sym (eqb-true was.device d q) ∙ at in
+          let same : was ≡ g = some_is was g (sym own ∙ ap (group_of s) (sym here) ∙ e) in
+          let own_number : (device == g.device) ≡ true = eq-eqb device g.device (sym here ∙ sym key) in
+          rw own_number (ap (λ (v : GroupRecord). let w : GroupRecord = record v { priority = min priority greatest_priority } in Some w) same)
+      | false ↦ λ q. e ∙ ap Some (sym (differs device priority g (false_from_ne_true (device == g.device) (λ p. cc (q, eq-eqb was.device d (at ∙ eqb-true device g.device p ∙ key))))))
+    ]) refl
+
+pub step_adds_figures : (s : Rows) (moment : ℕ) (command : Command) (d : ℕ) (g : GroupRecord) → Rules s → group_of s d ≡ Some g
+    → group_of (step s moment command).rows d ≡ Some (counting (step s moment command).events (ranked command g))
 unfolding step
 step_adds_figures s moment command d g r e =
     let m : ℕ = executed_moment s moment in
     let k : ℕ = next_stamp s in
     let ms : List Move = step_moves s m (serve s m k command) in
-    found_ended (moved s ms) (events_of m ms) s.last_event k m (s.last_event + length (events_of m ms)) d g
-    (by_deeds (λ t es. group_of t d ≡ Some g) m k
-    (λ t es ns deed rt h. elim (fits_deed t m k ns deed rt) [
+    let left : is_ranking command ≡ false → (t : Rows) → group_of t d ≡ Some g → group_of t d ≡ Some (ranked command g) = λ other t h. h ∙ ap Some (sym (unranked command g other)) in
+    found_ended (moved s ms) (events_of m ms) s.last_event k m (s.last_event + length (events_of m ms)) d (ranked command g)
+    (by_parts (λ t es. group_of t d ≡ Some g) (λ t es. group_of t d ≡ Some (ranked command g)) m k command
+    (λ other t es ns deed rt h. left other (moved t ns) (elim (fits_deed t m k ns deed rt) [
       | inl f ↦ found_moved t ns d g f h
       | inr a ↦ subst (λ w. group_of (moved t w) d ≡ Some g) (sym a.alone) (found_added t a.group g d a.fresh h)
-    ]) (λ t es ns round rt h. found_moved t ns d g (fits_round t m k ns round rt) h) s [] command r e)
+    ])) (λ t es ns rank rt h. found_ranks t command ns d g rank h) (λ other t es h. left other t h)
+    (λ t es ns round rt h. found_moved t ns d (ranked command g) (fits_round t m k ns round rt) h) s [] r e)

@@ -6,7 +6,7 @@ use Rattle.acd_laws.proofs.Words.{Rows, AgentRecord, ConnectionRecord, count, Am
 use Rattle.acd_terms.specs.declared.state.ConnectionState.TheVariants as S
 use Rattle.acd_model.specs.declared.moves.Change.TheVariants.{PutConnection, RemoveConnection}
 use Rattle.acd_model.specs.CallMoves.{ringing}
-use Rattle.acd_laws.proofs.Facts.{Rules, IsPlannedStation, IsPlannedGroup, SeatedAs, AgentRule, InQueue, AlertingColumns, HasColumns, StandsAt, ConnectionRule, ringing_at, talking_at, ready_at}
+use Rattle.acd_laws.proofs.Facts.{Rules, IsPlannedStation, ArePlannedGroups, SeatedAs, AgentRule, InQueue, AlertingColumns, HasColumns, StandsAt, ConnectionRule, ringing_at, talking_at, ready_at}
 use Rattle.acd_laws.proofs.Lists.{one, any_some, ascending-put, ascending-remove, every_among, every-put, every-remove, counted, none_counted, fewer, two_counted, none_from}
 use Rattle.acd_laws.proofs.Keyed.{eqb_self}
 use Rattle.acd_laws.proofs.State.{connections_total, found_key, connection_among, still_none, count_new, count_less, connection_rule}
@@ -60,7 +60,7 @@ unoccupied s a d e free =
 
 pub offer_station : (s : Rows) (a : AgentRecord) (d : ℕ) → Rules s → Among a s.agents → is_ready a.state ≡ true → a.station ≡ Some d → IsTrue (is_station s d)
 offer_station s a d r among ready station =
-    let seat : IsPlannedStation s a.station × IsPlannedGroup s a.group = subst (SeatedAs s a) (ready_is a.state ready) (every_among (AgentRule s) s.agents a r.agents among) in
+    let seat : IsPlannedStation s a.station × ArePlannedGroups s a.groups = subst (SeatedAs s a) (ready_is a.state ready) (every_among (AgentRule s) s.agents a r.agents among) in
     subst (IsPlannedStation s) station seat.0
 
 -- the call has no connection yet at the station to which it is offered

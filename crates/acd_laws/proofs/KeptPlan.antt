@@ -8,11 +8,11 @@ use Rattle.acd_terms.specs.declared.state.AgentState.TheVariants as A
 use Rattle.acd_terms.specs.declared.state.ConnectionState.TheVariants as S
 use Rattle.acd_model.specs.Scans.{is_used}
 use Rattle.acd_model.specs.declared.moves.Change.TheVariants.{PutGroup, PutStation, PutAgent, PutMonitor, RemoveMonitor}
-use Rattle.acd_laws.proofs.Facts.{Rules, IsPlannedStation, IsPlannedGroup, SeatedAs, AgentRule, CallRule, IsCaller, StandsAt, ConnectionRule, seated_at, ready_at, busy_at, pending_at, talking_at, ringing_at}
+use Rattle.acd_laws.proofs.Facts.{Rules, IsPlannedStation, ArePlannedGroups, SeatedAs, AgentRule, CallRule, IsCaller, StandsAt, ConnectionRule, seated_at, ready_at, busy_at, pending_at, talking_at, ringing_at}
 use Rattle.acd_laws.proofs.Lists.{one, any_some, ascending-put, ascending-remove, count-put_new, every_among, every_from, every-put, count_zero, find_passes, find_among, find_none, any_found, counted, some_from}
 use Rattle.acd_laws.proofs.Arriving.{rule_more, with_agents, lone}
 use Rattle.acd_laws.proofs.Keyed.{cmp_equal, eqb_self}
-use Rattle.acd_laws.proofs.State.{groups_total, stations_total, agents_total, monitors_total, agent_find, group_put, station_put, call_among, agent_among, count_agent, has_is}
+use Rattle.acd_laws.proofs.State.{groups_total, stations_total, agents_total, monitors_total, agent_find, group_put, station_put, call_among, agent_among, count_agent, has_is, group_kept}
 use Rattle.acd_model.specs.Services.{new_agent}
 use Rattle.acd_model.specs.AgentMoves.{in_state, go_to, go_from, log_on_at}
 use Rattle.acd_laws.proofs.KeptOffer.{unoccupied}
@@ -49,13 +49,12 @@ more_station : (s t : Rows) → ((d : ℕ) → IsTrue (is_station s d) → IsTru
 more_station s t f None h = h
 more_station s t f (Some d) h = f d h
 
-more_group : (s t : Rows) → ((d : ℕ) → IsTrue (is_group s d) → IsTrue (is_group t d)) → (o : Option ℕ) → IsPlannedGroup s o → IsPlannedGroup t o
-more_group s t f None h = h
-more_group s t f (Some d) h = f d h
+more_groups : (s t : Rows) → ((d : ℕ) → IsTrue (is_group s d) → IsTrue (is_group t d)) → (gs : List ℕ) → ArePlannedGroups s gs → ArePlannedGroups t gs
+more_groups s t f gs h = (h.0, every_from (λ (d : ℕ). is_group t d ≡ true) gs (λ d i. f d (every_among (λ (d : ℕ). is_group s d ≡ true) gs d h.1 i)))
 
 more_seat : (s t : Rows) → ((d : ℕ) → IsTrue (is_station s d) → IsTrue (is_station t d)) → ((d : ℕ) → IsTrue (is_group s d) → IsTrue (is_group t d)) → (a : AgentRecord) (st : AgentState) → SeatedAs s a st → SeatedAs t a st
 more_seat s t f g a A.Null h = h
-more_seat s t f g a _ h = (more_station s t f a.station h.0, more_group s t g a.group h.1)
+more_seat s t f g a _ h = (more_station s t f a.station h.0, more_groups s t g a.groups h.1)
 
 -- a group is planned
 pub kept_group : (s : Rows) (g : GroupRecord) → Rules s → is_used s g.device ≡ false → Rules (changed s (PutGroup g))
@@ -78,6 +77,32 @@ kept_group s g r free =
       ));
       connections = every_from (ConnectionRule t) s.connections (λ z i.
           rule_more s t (λ d w. w) more z (λ k. k) (λ w. ap (λ b. b || is_station s z.device) (other z.device (nobody_at s g.device r free z i)) ∙ w) (every_among (ConnectionRule s) s.connections z r.connections i));
+      parties = r.parties;
+      one_open = r.one_open;
+      one_live = r.one_live;
+      no_hold = r.no_hold;
+      one_offer = r.one_offer;
+      one_agent = r.one_agent;
+      ready = r.ready;
+      busy = r.busy;
+      pending = r.pending;
+      free = r.free;
+    }
+
+-- a planned group gets another record
+pub kept_rank : (s : Rows) (g : GroupRecord) → Rules s → is_group s g.device ≡ true → Rules (changed s (PutGroup g))
+unfolding with_group call_of connection_of agent_of station_of
+kept_rank s g r planned =
+    let t : Rows = changed s (PutGroup g) in
+    let same : (d : ℕ) → is_group t d ≡ is_group s d = group_kept s g planned in
+    record {
+      orders = record { groups = ascending-put group_order groups_total g s.groups r.orders.groups; stations = r.orders.stations; agents = r.orders.agents; monitors = r.orders.monitors; calls = r.orders.calls; connections = r.orders.connections };
+      kinds = λ d h. r.kinds d (sym (same d) ∙ h);
+      agents = every_from (AgentRule t) s.agents (λ a i. more_seat s t (λ d h. h) (λ d h. same d ∙ h) a a.state (every_among (AgentRule s) s.agents a r.agents i));
+      calls = every_from (CallRule t) s.calls (λ c i. let h = every_among (CallRule s) s.calls c r.calls i in
+          (h.0, ap (λ b. b || is_station s c.called) (same c.called) ∙ h.1, h.2, same c.caller ∙ h.3));
+      connections = every_from (ConnectionRule t) s.connections (λ z i.
+          rule_more s t (λ d w. w) (λ d w. same d ∙ w) z (λ k. k) (λ w. ap (λ b. b || is_station s z.device) (same z.device) ∙ w) (every_among (ConnectionRule s) s.connections z r.connections i));
       parties = r.parties;
       one_open = r.one_open;
       one_live = r.one_live;
@@ -243,10 +268,10 @@ unfolding agent_at
 none_seated s d e = count_zero (seated_at d) s.agents (λ a i. find_none (seated_at d) s.agents e a i)
 
 -- an agent in null logs on at a free station
-pub kept_log_on : (s : Rows) (a : AgentRecord) (d g m k : ℕ) → Rules s → agent_of s a.agent ≡ Some a → is_null a.state ≡ true → IsTrue (is_station s d) → IsTrue (is_group s g) → agent_at s d ≡ None → Rules (changed s (log_on_at m k a d g).change)
-kept_log_on s a d g m k r there null station group free =
+pub kept_log_on : (s : Rows) (a : AgentRecord) (d : ℕ) (gs : List ℕ) (m k : ℕ) → Rules s → agent_of s a.agent ≡ Some a → is_null a.state ≡ true → IsTrue (is_station s d) → ArePlannedGroups s gs → agent_at s d ≡ None → Rules (changed s (log_on_at m k a d gs).change)
+kept_log_on s a d gs m k r there null station planned free =
     let st : a.state ≡ A.Null = null_is a.state null in
-    same_agent s a (record a { state = A.NotReady; pending = None; station = Some d; group = Some g; stamp = k; since = m }) r there refl (station, group)
+    same_agent s a (record a { state = A.NotReady; pending = None; station = Some d; groups = gs; stamp = k; since = m }) r there refl (station, planned)
     (λ e. let o = r.one_agent e in
     (elim (d == e) as (λ b. (d == e) ≡ b → count (seated_at e) s.agents + one b ≤ one (seated_at e a) + 1) [
       | true ↦ λ q. let z : count (seated_at e) s.agents ≡ 0 = subst (λ w. count (seated_at w) s.agents ≡ 0) (eqb-true d e q) (none_seated s d free) in omega (arith, z)

@@ -1,11 +1,12 @@
 -- The least pair of a list, and the offer that is found: the one that is to be made.
 use Rattle.std.proofs.Common.{◌≡◌, ℕ, inl, inr, true, false, ◌&&◌, ◌||◌, cond, List, [], ◌∷◌, Some, None, refl, sym, ◌∙◌, ap, ap₂, subst, arith, map, ◌<◌, Option, zero, suc}
-use Rattle.std.specs.Prelude.{nat_lt, ◌==◌}
+use Rattle.std.specs.Prelude.{nat_lt, ◌==◌, is_some, option_and_then, filter}
 use Rattle.std.proofs.lemmas.Bool.Decides.{nat_tests}
-use Rattle.acd_model.specs.Choice.{pair_lt, lesser, least_from, waiting_pair, ready_pair, first_waiting, first_eligible, offer_or, offer_in, offer_of}
-use Rattle.acd_model.specs.Offers.{IsLeast, FindsLeast, HasNoOffer, IsOffer, FindsTheOffer}
+use Rattle.acd_model.specs.Choice.{pair_lt, lesser, least_from, waiting_pair, ready_pair, first_waiting, first_eligible, offer_by, offer_in, offer_of, is_served_before, sooner, first_served, has_both}
+use Rattle.acd_model.specs.Offers.{IsLeast, FindsLeast, HasNoOffer, IsOffer, FindsTheOffer, GroupsAscend}
 use Rattle.acd_model.specs.Scans.{is_eligible, is_occupied, is_idle}
-use Rattle.acd_laws.proofs.Lists.{some_is}
+use Rattle.std.proofs.lemmas.Bool.{false_from_ne_true}
+use Rattle.acd_laws.proofs.Lists.{some_is, filter_among, among-filter}
 use Rattle.std.specs.Ordering.{nat_cmp}
 use Rattle.std.specs.declared.cmp.Ordering.TheVariants.{Less}
 use Rattle.acd_laws.proofs.Words.{Rows, GroupRecord, Offer, Among, AllAfter, IsAscending, waiting_in, eligible_in}
@@ -83,11 +84,105 @@ finds_least ps = record {
   none = (none_of ps, λ e. ap (least_from None) e);
 }
 
+-- the group that is served first
+
+before_itself : (g : GroupRecord) → is_served_before g g ≡ false
+before_itself g = grind (arith, nat_tests)
+
+before_one_way : (g h : GroupRecord) → is_served_before g h ≡ true → is_served_before h g ≡ false
+before_one_way g h e = grind (arith, nat_tests)
+
+before_chain : (f g h : GroupRecord) → is_served_before f g ≡ false → is_served_before g h ≡ false → is_served_before f h ≡ false
+before_chain f g h d e = grind (arith, nat_tests)
+
+-- it is one of them, and none of them is served before it
+pub record IsServedFirst (g : GroupRecord) (gs : List GroupRecord) : Type 0 where
+  pub there : Among g gs
+  pub first : (h : GroupRecord) → Among h gs → is_served_before h g ≡ false
+
+with_sooner : (b p q : GroupRecord) (gs : List GroupRecord) → IsServedFirst q (sooner (Some b) p ∷ gs) → IsServedFirst q (b ∷ p ∷ gs)
+with_sooner b p q gs h =
+    (elim (is_served_before p b) as (λ v. is_served_before p b ≡ v → IsServedFirst q (cond v p b ∷ gs) → IsServedFirst q (b ∷ p ∷ gs)) [
+      | true ↦ λ e g. record {
+        there = inr g.there;
+        first = λ r a. elim a [
+          | inl w ↦ subst (λ (z : GroupRecord). is_served_before z q ≡ false) (sym w) (before_chain b p q (before_one_way p b e) (g.first p (inl refl)))
+          | inr c ↦ g.first r c
+        ];
+      }
+      | false ↦ λ e g. record {
+        there = elim g.there [ inl w ↦ inl w | inr c ↦ inr (inr c) ];
+        first = λ r a. elim a [
+          | inl w ↦ g.first r (inl w)
+          | inr c ↦ elim c [
+            | inl w ↦ subst (λ (z : GroupRecord). is_served_before z q ≡ false) (sym w) (before_chain p b q e (g.first b (inl refl)))
+            | inr d ↦ g.first r (inr d)
+          ]
+        ];
+      }
+    ]) refl h
+
+served_from : (b : GroupRecord) (gs : List GroupRecord) → (q : GroupRecord) × ((first_served (Some b) gs ≡ Some q) × IsServedFirst q (b ∷ gs))
+served_from b [] = (b, (refl, record { there = inl refl; first = λ r a. elim a [ inl w ↦ subst (λ (z : GroupRecord). is_served_before z b ≡ false) (sym w) (before_itself b) | inr c ↦ absurd c ] }))
+served_from b (p ∷ gs) = let f = served_from (sooner (Some b) p) gs in (f.0, (f.1.0, with_sooner b p f.0 gs f.1.1))
+
+pub none_served : (gs : List GroupRecord) → first_served None gs ≡ None → gs ≡ []
+none_served [] e = refl
+none_served (g ∷ gs) e = let f = served_from g gs in absurd (cc (f.1.0, e))
+
+pub served_is : (gs : List GroupRecord) (g : GroupRecord) → first_served None gs ≡ Some g → IsServedFirst g gs
+served_is [] g e = absurd (cc (e))
+served_is (x ∷ gs) g e = let f = served_from x gs in subst (λ v. IsServedFirst v (x ∷ gs)) (some_is f.0 g (sym f.1.0 ∙ e)) f.1.1
+
+-- a group has both, or no offer
+
+second_none : (w : Option (ℕ × ℕ)) → (is_some w && false) ≡ false
+second_none None = refl
+second_none (Some w) = refl
+
+not_both : (s : Rows) (g : GroupRecord) → HasNoOffer s g.device → has_both s g ≡ false
+unfolding first_waiting first_eligible
+not_both s g (inl e) = rw e refl
+not_both s g (inr e) = rw e (second_none _)
+
+no_offer_there : (s : Rows) (g : GroupRecord) → has_both s g ≡ false → HasNoOffer s g.device
+unfolding first_waiting first_eligible
+no_offer_there s g e = by (first_waiting s g.device) (first_eligible s g.device) refl refl e
+  where
+    by : (w r : Option (ℕ × ℕ)) → first_waiting s g.device ≡ w → first_eligible s g.device ≡ r → (is_some w && is_some r) ≡ false → HasNoOffer s g.device
+    by None r q p e = inl (none_mapped waiting_pair _ (none_of _ q))
+    by (Some w) None q p e = inr (none_mapped ready_pair _ (none_of _ p))
+    by (Some w) (Some r) q p e = absurd (cc (e))
+
+-- none of these groups has both
+none_has_both : (s : Rows) (gs : List GroupRecord) → ((g : GroupRecord) → Among g gs → HasNoOffer s g.device) → filter (has_both s) gs ≡ []
+none_has_both s [] h = refl
+none_has_both s (g ∷ gs) h = rw (not_both s g (h g (inl refl))) (none_has_both s gs (λ k there. h k (inr there)))
+
 -- the offer that is found
 
--- an offer, over some of the groups
-abbrev IsOfferIn : Rows → List GroupRecord → Offer → Type 0
-IsOfferIn s gs o = IsOffer (record s { groups = gs }) o
+found_is : (s : Rows) (o : Offer) → offer_of s ≡ Some o → IsOffer s o
+unfolding offer_of first_waiting first_eligible
+found_is s o e = by (first_served None (filter (has_both s) s.groups)) refl e
+  where
+    in_group : (g : GroupRecord) → IsServedFirst g (filter (has_both s) s.groups) → (w r : Option (ℕ × ℕ)) → first_waiting s g.device ≡ w
+        → first_eligible s g.device ≡ r → offer_by g.device w r ≡ Some o → IsOffer s o
+    in_group g f None r q p h = absurd (cc (h))
+    in_group g f (Some w) None q p h = absurd (cc (h))
+    in_group g f (Some w) (Some r) q p h = subst (IsOffer s) (some_is _ o h) (record {
+      group = g;
+      planned = (filter_among (has_both s) s.groups g f.there).0;
+      named = refl;
+      place = w.0;
+      call = least_is _ w q;
+      stamp = r.0;
+      agent = least_is _ r p;
+      first = λ k a before. no_offer_there s k (false_from_ne_true (has_both s k) (λ both. let n = f.first k (among-filter (has_both s) s.groups k a both) in cc (n, before)));
+    })
+
+    by : (f : Option GroupRecord) → first_served None (filter (has_both s) s.groups) ≡ f → option_and_then (offer_in s) f ≡ Some o → IsOffer s o
+    by None q h = absurd (cc (h))
+    by (Some g) q h = in_group g (served_is (filter (has_both s) s.groups) g q) (first_waiting s g.device) (first_eligible s g.device) refl refl h
 
 abbrev Ascends : List GroupRecord → Type 0
 Ascends gs = IsAscending (λ (g h : GroupRecord). nat_cmp g.device h.device) gs
@@ -100,103 +195,68 @@ later_device g h [] a b = absurd b
 later_device g h (k ∷ gs) a (inl e) = less_is g.device h.device (subst (λ (z : GroupRecord). nat_cmp g.device z.device ≡ Less) (sym e) a.0)
 later_device g h (k ∷ gs) a (inr b) = later_device g h gs a.1 b
 
--- an offer is one over other groups, where its group is among them and none before it has one
-over : (s : Rows) (gs hs : List GroupRecord) (o : Offer) (h : IsOfferIn s gs o) → Among h.group hs
-    → ((k : GroupRecord) → Among k hs → k.device < o.group → HasNoOffer (record s { groups = gs }) k.device) → IsOfferIn s hs o
-unfolding waiting_in eligible_in is_eligible is_occupied is_idle
-over s gs hs o h planned first = record { group = h.group; planned = planned; named = h.named; place = h.place; call = h.call; stamp = h.stamp; agent = h.agent; first = first }
+-- of groups in ascending number two of one number are one
+same_group : (g h : GroupRecord) (gs : List GroupRecord) → Ascends gs → Among g gs → Among h gs → g.device ≡ h.device → g ≡ h
+same_group g h [] asc a b e = absurd a
+same_group g h (k ∷ gs) asc (inl a) (inl b) e = a ∙ sym b
+same_group g h (k ∷ gs) asc (inl a) (inr b) e =
+    let late = later_device k h gs asc.0 b in let own : g.device ≡ k.device = ap (λ (z : GroupRecord). z.device) a in absurd (omega (arith, late, own, e))
+same_group g h (k ∷ gs) asc (inr a) (inl b) e =
+    let late = later_device k g gs asc.0 a in let own : h.device ≡ k.device = ap (λ (z : GroupRecord). z.device) b in absurd (omega (arith, late, own, e))
+same_group g h (k ∷ gs) asc (inr a) (inr b) e = same_group g h gs asc.1 a b e
 
--- one more group, without an offer, before the others
-one_more : (s : Rows) (g : GroupRecord) (gs : List GroupRecord) (o : Offer) → HasNoOffer s g.device → IsOfferIn s gs o → IsOfferIn s (g ∷ gs) o
-unfolding waiting_in eligible_in is_eligible is_occupied is_idle
-one_more s g gs o n h = over s gs (g ∷ gs) o h (inr h.planned) (λ k a l. elim a [ inl e ↦ subst (λ (z : GroupRecord). HasNoOffer s z.device) (sym e) n | inr b ↦ h.first k b l ])
+-- two groups of which neither is served before the other have one number
+same_device : (g h : GroupRecord) → is_served_before g h ≡ false → is_served_before h g ≡ false → g.device ≡ h.device
+same_device g h e f = grind (arith, nat_tests)
 
--- the offer of the first group
-of_first : (s : Rows) (g : GroupRecord) (gs : List GroupRecord) (w r : ℕ × ℕ) → Ascends (g ∷ gs)
-    → first_waiting s g.device ≡ Some w → first_eligible s g.device ≡ Some r → IsOfferIn s (g ∷ gs) (record { group = g.device; call = w.1; agent = r.1 })
-unfolding first_waiting first_eligible waiting_in eligible_in is_eligible is_occupied is_idle
-of_first s g gs w r asc e f = record {
-  group = g;
-  planned = inl refl;
-  named = refl;
-  place = w.0;
-  call = least_is _ w e;
-  stamp = r.0;
-  agent = least_is _ r f;
-  first = λ k a l. elim a [
-    | inl q ↦ (let same : k.device ≡ g.device = ap (λ (z : GroupRecord). z.device) q in absurd (omega (arith, l, same)))
-    | inr b ↦ (let late = later_device g k gs asc.0 b in absurd (omega (arith, l, late)))
-  ];
-}
+is_found : (s : Rows) (o : Offer) → GroupsAscend s → IsOffer s o → offer_of s ≡ Some o
+unfolding offer_of first_waiting first_eligible
+is_found s o asc h = by (first_served None (filter (has_both s) s.groups)) refl
+  where
+    waiting : first_waiting s h.group.device ≡ Some (h.place, o.call)
+    waiting = subst (λ d. first_waiting s d ≡ Some (h.place, o.call)) (sym h.named) (least_found _ (h.place, o.call) h.call)
 
-found_is : (s : Rows) (gs : List GroupRecord) (o : Offer) → Ascends gs → offer_in s gs ≡ Some o → IsOfferIn s gs o
-unfolding first_waiting first_eligible
-found_is s [] o asc e = absurd (cc (e))
-found_is s (g ∷ gs) o asc e =
-    (elim (first_waiting s g.device) as (λ v. first_waiting s g.device ≡ v → offer_or g.device v (first_eligible s g.device) (offer_in s gs) ≡ Some o → IsOfferIn s (g ∷ gs) o) [
-      | None ↦ λ q f. one_more s g gs o (inl (none_mapped waiting_pair _ (none_of _ q))) (found_is s gs o asc.1 f)
-      | Some w ↦ λ q f.
-          (elim (first_eligible s g.device) as (λ v. first_eligible s g.device ≡ v → offer_or g.device (Some w) v (offer_in s gs) ≡ Some o → IsOfferIn s (g ∷ gs) o) [
-            | None ↦ λ p h. one_more s g gs o (inr (none_mapped ready_pair _ (none_of _ p))) (found_is s gs o asc.1 h)
-            | Some r ↦ λ p h. subst (IsOfferIn s (g ∷ gs)) (some_is _ o h) (of_first s g gs w r asc q p)
-          ]) refl f
-    ]) refl e
+    eligible : first_eligible s h.group.device ≡ Some (h.stamp, o.agent)
+    eligible = subst (λ d. first_eligible s d ≡ Some (h.stamp, o.agent)) (sym h.named) (least_found _ (h.stamp, o.agent) h.agent)
 
-second_none : (g : ℕ) (w : Option (ℕ × ℕ)) (rest : Option Offer) → offer_or g w None rest ≡ rest
-second_none g None rest = refl
-second_none g (Some w) rest = refl
+    own : offer_in s h.group ≡ Some o
+    own = ap₂ (offer_by h.group.device) waiting eligible ∙ ap (λ (d : ℕ). let p : Offer = record { group = d; call = o.call; agent = o.agent } in Some p) h.named
 
--- a group without an offer is passed over
-passed : (s : Rows) (g : ℕ) (rest : Option Offer) → HasNoOffer s g → offer_or g (first_waiting s g) (first_eligible s g) rest ≡ rest
-unfolding first_waiting first_eligible
-passed s g rest (inl e) = rw e refl
-passed s g rest (inr e) = rw e (second_none g _ rest)
+    listed : Among h.group (filter (has_both s) s.groups)
+    listed = among-filter (has_both s) s.groups h.group h.planned (ap₂ (λ (w r : Option (ℕ × ℕ)). is_some w && is_some r) waiting eligible)
 
-is_found : (s : Rows) (gs : List GroupRecord) (o : Offer) → Ascends gs → IsOfferIn s gs o → offer_in s gs ≡ Some o
-unfolding first_waiting first_eligible waiting_in eligible_in is_eligible is_occupied is_idle
-is_found s [] o asc h = absurd h.planned
-is_found s (g ∷ gs) o asc h =
-    elim h.planned [
-      | inl e ↦ (let same : o.group ≡ g.device = sym h.named ∙ ap (λ (z : GroupRecord). z.device) e in
-          let a : first_waiting s g.device ≡ Some (h.place, o.call) = subst (λ d. first_waiting s d ≡ Some (h.place, o.call)) same (least_found _ (h.place, o.call) h.call) in
-          let b : first_eligible s g.device ≡ Some (h.stamp, o.agent) = subst (λ d. first_eligible s d ≡ Some (h.stamp, o.agent)) same (least_found _ (h.stamp, o.agent) h.agent) in
-          let c : offer_in s (g ∷ gs) ≡ Some (record { group = g.device; call = o.call; agent = o.agent }) = rw (a, b) refl in
-          c ∙ ap (λ (d : ℕ). let p : Offer = record { group = d; call = o.call; agent = o.agent } in Some p) (sym same))
-      | inr m ↦ (let late : g.device < o.group = subst (λ d. g.device < d) h.named (later_device g h.group gs asc.0 m) in
-          let rest = over s (g ∷ gs) gs o h m (λ k a l. h.first k (inr a) l) in
-          passed s g.device (offer_in s gs) (h.first g (inl refl) late) ∙ is_found s gs o asc.1 rest)
-    ]
+    by : (f : Option GroupRecord) → first_served None (filter (has_both s) s.groups) ≡ f → option_and_then (offer_in s) f ≡ Some o
+    by None e = absurd (subst (λ l. Among h.group l) (none_served (filter (has_both s) s.groups) e) listed)
+    by (Some g) e =
+        let f = served_is (filter (has_both s) s.groups) g e in
+        let there = filter_among (has_both s) s.groups g f.there in
+        let not_before : is_served_before g h.group ≡ false = false_from_ne_true _ (λ before. let n = not_both s g (h.first g there.0 before) in let y = there.1 in cc (n, y)) in
+        let same : g ≡ h.group = same_group g h.group s.groups asc there.0 h.planned (same_device g h.group not_before (f.first h.group listed)) in
+        ap (offer_in s) same ∙ own
 
 pub finds_the_offer : FindsTheOffer
-unfolding offer_of
-finds_the_offer s o asc = (found_is s s.groups o asc, is_found s s.groups o asc)
+finds_the_offer s o asc = (found_is s o, is_found s o asc)
 
 -- where no offer is found, no group has one
-none_in : (s : Rows) (gs : List GroupRecord) (g : GroupRecord) → offer_in s gs ≡ None → Among g gs → HasNoOffer s g.device
-unfolding first_waiting first_eligible
-none_in s [] g e a = absurd a
-none_in s (h ∷ gs) g e a =
-    (elim (first_waiting s h.device) as (λ v. first_waiting s h.device ≡ v → offer_or h.device v (first_eligible s h.device) (offer_in s gs) ≡ None → HasNoOffer s g.device) [
-      | None ↦ λ q f. elim a [ inl w ↦ subst (λ (z : GroupRecord). HasNoOffer s z.device) (sym w) (inl (none_mapped waiting_pair _ (none_of _ q))) | inr b ↦ none_in s gs g f b ]
-      | Some w ↦ λ q f.
-          (elim (first_eligible s h.device) as (λ v. first_eligible s h.device ≡ v → offer_or h.device (Some w) v (offer_in s gs) ≡ None → HasNoOffer s g.device) [
-            | None ↦ λ p k. elim a [ inl w ↦ subst (λ (z : GroupRecord). HasNoOffer s z.device) (sym w) (inr (none_mapped ready_pair _ (none_of _ p))) | inr b ↦ none_in s gs g k b ]
-            | Some r ↦ λ p k. absurd (cc (k))
-          ]) refl f
-    ]) refl e
-
 pub nothing_found : (s : Rows) (g : GroupRecord) → offer_of s ≡ None → Among g s.groups → HasNoOffer s g.device
 unfolding offer_of
-nothing_found s g e a = none_in s s.groups g e a
+nothing_found s g e a = no_offer_there s g (false_from_ne_true (has_both s g) (λ both. by (first_served None (filter (has_both s) s.groups)) refl (among-filter (has_both s) s.groups g a both) e))
+  where
+    has_offer : (k : GroupRecord) (w r : Option (ℕ × ℕ)) → (is_some w && is_some r) ≡ true → offer_by k.device w r ≡ None → ⊥
+    has_offer k None r b e = absurd (cc (b))
+    has_offer k (Some w) None b e = absurd (cc (b))
+    has_offer k (Some w) (Some r) b e = absurd (cc (e))
+
+    by : (f : Option GroupRecord) → first_served None (filter (has_both s) s.groups) ≡ f → Among g (filter (has_both s) s.groups) → option_and_then (offer_in s) f ≡ None → ⊥
+    by None q listed e = subst (λ l. Among g l) (none_served (filter (has_both s) s.groups) q) listed
+    by (Some k) q listed e =
+        let f = served_is (filter (has_both s) s.groups) k q in
+        has_offer k (first_waiting s k.device) (first_eligible s k.device) (filter_among (has_both s) s.groups k f.there).1 e
 
 -- and where none has one, none is found, and none made
-no_offer_in : (s : Rows) (gs : List GroupRecord) → ((g : GroupRecord) → Among g gs → HasNoOffer s g.device) → offer_in s gs ≡ None
-no_offer_in s [] h = refl
-no_offer_in s (g ∷ gs) h = passed s g.device (offer_in s gs) (h g (inl refl)) ∙ no_offer_in s gs (λ x there. h x (inr there))
-
 pub no_offer : (s : Rows) → ((g : GroupRecord) → Among g s.groups → HasNoOffer s g.device) → offer_of s ≡ None
 unfolding offer_of
-no_offer s h = no_offer_in s s.groups h
+no_offer s h = rw (none_has_both s s.groups h) refl
 
 pub no_offers : (n : ℕ) (s : Rows) (m : ℕ) → offer_of s ≡ None → offers n s m ≡ []
 no_offers zero s m e = refl

@@ -3,6 +3,7 @@ use Rattle.std.proofs.Common.{◌≡◌, ℕ, ◌+◌, ◌≤◌, ◌⊎◌, inl
 use Rattle.std.specs.Prelude.{◌==◌, is_some}
 use Rattle.std.specs.declared.cmp.Ordering.{Ordering}
 use Rattle.std.proofs.lemmas.Bool.{eqb-true}
+use Rattle.acd_terms.specs.Limits.{greatest_priority}
 use Rattle.acd_laws.proofs.Words.{Rows, GroupRecord, AgentRecord, ConnectionRecord, MonitorRecord, ConnectionState, AgentState, Cause, Change, Move, Report, put_by, remove_by, count, Among, Every, IsAscending, at_agent, at_call, at_connection, at_monitor, group_of, station_of, agent_of, connection_of, is_group, is_planned, with_group, with_station, with_agent, with_call, with_connection, with_monitor, without_call, without_connection, without_monitor, silent, reported, changed, moved, agent_order, connection_order}
 use Rattle.acd_model.specs.declared.moves.Change.TheVariants.{Nothing, PutGroup, PutStation, PutAgent, PutCall, PutConnection, PutMonitor, RemoveCall, RemoveConnection, RemoveMonitor}
 use Rattle.acd_laws.proofs.Lists.{ascending-put, count-put_old, count-put_most, count-remove_most, every_among, every_from, among-remove, some_from, one, every-put, every-remove}
@@ -145,15 +146,27 @@ monitored_steadied s t f h = every_from (MonitorRule t) t.monitors (λ w i.
     let q = every_among (MonitorRule s) s.monitors w h (f.monitors w i) in let a = q.1 in let b = q.2 in let c = f.last_monitor in let d = f.last_event in
     (planned_same s t f.groups f.stations w.device ∙ q.0, omega (arith, a, c), omega (arith, b, d)))
 
--- a group that wasn't there, and has counted nothing
+-- a group that wasn't there, has counted nothing, and is of the lowest priority
 abbrev pub IsNew : Rows → GroupRecord → Type 0
-IsNew s g = (g.figures ≡ no_figures) × (is_group s g.device ≡ false)
+IsNew s g = (g.figures ≡ no_figures) × (is_group s g.device ≡ false) × (g.priority ≡ 0)
+
+-- a group that was there with another priority
+pub record IsRanked (s : Rows) (g : GroupRecord) : Type 0 where
+  pub was : GroupRecord
+  pub there : Among was s.groups
+  pub device : g.device ≡ was.device
+  pub figures : g.figures ≡ was.figures
+  pub in_range : g.priority ≤ greatest_priority
+
+-- a group of the state after the moves
+abbrev pub IsGroupAfter : Rows → GroupRecord → Type 0
+IsGroupAfter s g = Among g s.groups ⊎ (IsNew s g ⊎ IsRanked s g)
 
 -- what a service leaves of the bounds
 pub record Settled (s : Rows) (ms : List Move) : Type 0 where
   pub sizes : Sizes s → Sizes (moved s ms)
   pub monitors : Monitored s → Monitored (moved s ms)
-  pub groups : (g : GroupRecord) → Among g (moved s ms).groups → Among g s.groups ⊎ IsNew s g
+  pub groups : (g : GroupRecord) → Among g (moved s ms).groups → IsGroupAfter s g
   pub limits : (moved s ms).limits ≡ s.limits
   pub last_call : (moved s ms).last_call ≤ s.last_call + 1
   pub last_monitor : (moved s ms).last_monitor ≤ s.last_monitor + 1

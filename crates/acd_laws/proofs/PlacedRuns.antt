@@ -15,7 +15,7 @@ use Rattle.acd_model.specs.Step.{executed_moment, next_stamp, step_moves, step}
 use Rattle.acd_laws.proofs.Distributing.{Kept}
 use Rattle.acd_laws.proofs.RulesKept.{by_deeds}
 use Rattle.acd_laws.proofs.Ended.{rules_step, ended, kept_by_run, rules_first, KeptByRules}
-use Rattle.acd_laws.proofs.Cleared.{AllCounted, Named, SameCalls, same_clearings, clearings_moved, clearings_numbered, names_moved, names_numbered, counted_deed, counted_round}
+use Rattle.acd_laws.proofs.Cleared.{AllCounted, Named, SameCalls, same_clearings, clearings_moved, clearings_numbered, names_moved, names_numbered, counted_deed, counted_ranks, counted_round}
 use Rattle.std.proofs.lemmas.Bool.Decides.{leb_tells}
 use Rattle.acd_terms.specs.Columns.{columns_of}
 use Rattle.acd_terms.specs.declared.event.Report.TheVariants as report
@@ -92,7 +92,8 @@ places_exclude s events c = (λ a b. cc (a.ended, b.there), λ a b. cc (a.ended,
 -- what counted moves keep, deeds and rounds keep, and so a step's moves
 moves_keep : (P : Rows → List Event → Type 0) (m k : ℕ) → ((s : Rows) (es : List Event) (ms : List Move) → AllCounted s ms → P s es → Kept P m s es ms)
     → (s : Rows) (es : List Event) (c : Command) → Rules s → P s es → Kept P m s es (step_moves s m (serve s m k c))
-moves_keep P m k f s es c r h = by_deeds P m k (λ v fs ms d rv p. f v fs ms (counted_deed v m k ms d rv) p) (λ v fs ms d rv p. f v fs ms (counted_round v m k ms d rv) p) s es c r h
+moves_keep P m k f s es c r h =
+    by_deeds P m k c (λ _ v fs ms d rv p. f v fs ms (counted_deed v m k ms d rv) p) (λ v fs ms d rv p. f v fs ms (counted_ranks v c ms d) p) (λ v fs ms d rv p. f v fs ms (counted_round v m k ms d rv) p) s es r h
 
 -- the end of a step sets figures and counters: calls stay
 calls_ended : (t : Rows) (es : List Event) (k m n : ℕ) → SameCalls t (ended t es k m n)

@@ -11,7 +11,7 @@ use Rattle.acd_model.specs.declared.moves.Ending.TheVariants.{Answered, Unanswer
 use Rattle.acd_model.specs.declared.moves.Release.TheVariants.{Stays, Goes}
 use Rattle.acd_model.specs.AgentMoves.{in_state}
 use Rattle.acd_model.specs.Release.{release_of, released, release_agent, ending_of, release}
-use Rattle.acd_laws.proofs.Facts.{RulesBut, Rules, IsPlannedStation, IsPlannedGroup, SeatedAs, AgentRule, HasColumns, ConnectionRule, ringing_at, talking_at, seated_at, ready_at, busy_at, pending_at}
+use Rattle.acd_laws.proofs.Facts.{RulesBut, Rules, IsPlannedStation, ArePlannedGroups, SeatedAs, AgentRule, HasColumns, ConnectionRule, ringing_at, talking_at, seated_at, ready_at, busy_at, pending_at}
 use Rattle.acd_laws.proofs.Lists.{one, ascending-put, every_among, every-put, counted, fewer, the_one, some_counted, some_from}
 use Rattle.acd_laws.proofs.Keyed.{eqb_self}
 use Rattle.acd_laws.proofs.State.{agents_total, agent_among, count_agent, agent_seat, agent_there}
@@ -21,7 +21,7 @@ use Rattle.acd_laws.proofs.KeptOffer.{ringing_is, talking_is}
 use Rattle.acd_laws.proofs.States.{ready_is}
 
 -- a seat that a station has
-pub seat_from : (s : Rows) (a : AgentRecord) (d : ℕ) (st : AgentState) → SeatedAs s a st → a.station ≡ Some d → IsPlannedStation s a.station × IsPlannedGroup s a.group
+pub seat_from : (s : Rows) (a : AgentRecord) (d : ℕ) (st : AgentState) → SeatedAs s a st → a.station ≡ Some d → IsPlannedStation s a.station × ArePlannedGroups s a.groups
 seat_from s a d A.Null h e = absurd (cc (h.0, e))
 seat_from s a d _ h e = h
 
@@ -37,7 +37,7 @@ pub left_pending : (s : Rows) (a : AgentRecord) (st : AgentState) → SeatedAs s
 left_pending s a A.Null h = (h.0, h.1, refl)
 left_pending s a _ h = h
 
-pub left_state : (s : Rows) (a : AgentRecord) (st : AgentState) (m k : ℕ) → is_busy st ≡ false → IsPlannedStation s a.station × IsPlannedGroup s a.group → Left s a (in_state st m k a)
+pub left_state : (s : Rows) (a : AgentRecord) (st : AgentState) (m k : ℕ) → is_busy st ≡ false → IsPlannedStation s a.station × ArePlannedGroups s a.groups → Left s a (in_state st m k a)
 left_state s a A.Null m k n h = record { agent = refl; rule = (refl, refl, refl); station = λ e q. absurd (cc (q)); not_busy = refl; settled = refl }
 left_state s a A.Busy m k n h = absurd (cc (n))
 left_state s a _ m k n h = record { agent = refl; rule = h; station = λ e q. q; not_busy = refl; settled = refl }
@@ -115,7 +115,7 @@ pub record Serves (s : Rows) (x : ConnectionRecord) (a : AgentRecord) : Type 0 w
   pub at_station : agent_at s x.device ≡ Some a
   pub there : agent_of s a.agent ≡ Some a
   pub station : a.station ≡ Some x.device
-  pub seat : IsPlannedStation s a.station × IsPlannedGroup s a.group
+  pub seat : IsPlannedStation s a.station × ArePlannedGroups s a.groups
   pub ready : is_alerting x.state ≡ true → is_ready a.state ≡ true
   pub busy : is_answered x.state ≡ true → is_busy a.state ≡ true
 
@@ -164,7 +164,7 @@ serving s x r among e =
 pub record Ends (x : ConnectionRecord) (how : Ending) : Type 0 where
   pub stays : is_distributed x ≡ true → (w : Option Pending) → release_of how w ≡ Stays → is_alerting x.state ≡ true
 
-left_by : (v : Rows) (a : AgentRecord) (to : Release) (m k d : ℕ) → AgentRule v a → IsPlannedStation v a.station × IsPlannedGroup v a.group → (to ≡ Stays → is_busy a.state ≡ false) → NotBusy to
+left_by : (v : Rows) (a : AgentRecord) (to : Release) (m k d : ℕ) → AgentRule v a → IsPlannedStation v a.station × ArePlannedGroups v a.groups → (to ≡ Stays → is_busy a.state ≡ false) → NotBusy to
     → (b : AgentRecord) × ((released m k a d to).change ≡ PutAgent b) × Left v a b
 left_by v a Stays m k d rule seat idle n = (record a { pending = None }, refl, record { agent = refl; rule = left_pending v a a.state rule; station = λ e q. q; not_busy = idle refl; settled = refl })
 left_by v a (Goes st) m k d rule seat idle n = (in_state st m k a, refl, left_state v a st m k n seat)

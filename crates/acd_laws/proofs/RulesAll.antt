@@ -1,5 +1,5 @@
 -- Rows that break no rule break none after a step; all laws together.
-use Rattle.std.proofs.Common.{◌≡◌, ℕ, ◌+◌, ◌*◌, ◌^◌, ◌<◌, ◌≤◌, ◌⊎◌, inl, inr, true, false, cond, List, [], ◌∷◌, Option, Some, None, refl, ◌∙◌, ap, subst, arith, length, map}
+use Rattle.std.proofs.Common.{◌≡◌, ℕ, ◌+◌, ◌*◌, ◌^◌, ◌<◌, ◌≤◌, ◌⊎◌, inl, inr, true, false, cond, List, [], ◌∷◌, Option, Some, None, refl, ◌∙◌, ap, subst, arith, length, map, sym}
 use Rattle.std.specs.Prelude.{◌==◌}
 use Rattle.std.proofs.lemmas.Bool.{and_parts, eqb-true, false_from_ne_true}
 use Rattle.acd_laws.proofs.Words.{Rows, Limits, GroupRecord, Figures, Command, Event, Report, count, total, Among, Every, is_alerting, is_queued, is_group, has, empty_rows, with_last, moved}
@@ -20,7 +20,8 @@ use Rattle.acd_laws.specs.RuleLaws.{StepKeepsRules, RunKeepsRules, RulesBound, R
 use Rattle.acd_laws.proofs.Order.{holding}
 use Rattle.acd_laws.proofs.WatchedRuns.{follows_step, step_leaves_no_offer, step_keeps_watched, step_balances, run_is_watched, run_tells_no_more, run_is_balanced, run_leaves_no_offer}
 use Rattle.acd_laws.proofs.Ended.{rules_first, ended, planned_ended, rules_step}
-use Rattle.acd_laws.proofs.Orderly.{IsNew, WaitsUpTo, timed_more}
+use Rattle.acd_laws.proofs.Orderly.{IsGroupAfter, WaitsUpTo, timed_more}
+use Rattle.acd_terms.specs.Limits.{greatest_priority}
 use Rattle.acd_laws.proofs.Rounds.{AllWait}
 use Rattle.acd_laws.proofs.Numbers.{greatest}
 use Rattle.acd_laws.proofs.BoundsStep.{After, Before, after_moves}
@@ -100,10 +101,26 @@ new_balanced n f e z = rw e (omega (arith, z))
 record WasKept (s : Rows) (g : GroupRecord) : Type 0 where
   counted : IsCountedUpTo s.last_stamp s.last_moment g
   balanced : g.figures.entered ≡ holding s g.device + g.figures.answered + g.figures.abandoned + g.figures.moved
+  in_range : g.priority ≤ greatest_priority
 
-was_kept : (s : Rows) (g : GroupRecord) → KeepsRules s → Among g s.groups ⊎ IsNew s g → WasKept s g
-was_kept s g h (inl i) = record { counted = every_among (IsCountedUpTo s.last_stamp s.last_moment) s.groups g h.figures i; balanced = every_among (AddsUp s) s.groups g h.balance i }
-was_kept s g h (inr n) = record { counted = new_counted s.last_stamp s.last_moment g.figures n.0; balanced = new_balanced (holding s g.device) g.figures n.0 (none_held s g.device h.rules n.1) }
+kept_among : (s : Rows) (g : GroupRecord) → KeepsRules s → Among g s.groups → WasKept s g
+kept_among s g h i = record { counted = every_among (IsCountedUpTo s.last_stamp s.last_moment) s.groups g h.figures i; balanced = every_among (AddsUp s) s.groups g h.balance i; in_range = every_among (λ (x : GroupRecord). x.priority ≤ greatest_priority) s.groups g h.priorities i }
+
+was_kept : (s : Rows) (g : GroupRecord) → KeepsRules s → IsGroupAfter s g → WasKept s g
+was_kept s g h (inl i) = kept_among s g h i
+was_kept s g h (inr (inl n)) = record {
+  counted = new_counted s.last_stamp s.last_moment g.figures n.0;
+  balanced = new_balanced (holding s g.device) g.figures n.0 (none_held s g.device h.rules n.1);
+  in_range = rw n.2 (omega arith);
+}
+was_kept s g h (inr (inr k)) =
+    let w = kept_among s k.was h k.there in
+    record {
+      counted = subst (λ (f : Figures). (f.entered ≤ s.last_stamp) × (f.waited ≤ f.answered * s.last_moment)) (sym k.figures) w.counted;
+      balanced = subst (λ (f : Figures). f.entered ≡ holding s g.device + f.answered + f.abandoned + f.moved) (sym k.figures)
+          (subst (λ d. k.was.figures.entered ≡ holding s d + k.was.figures.answered + k.was.figures.abandoned + k.was.figures.moved) (sym k.device) w.balanced);
+      in_range = k.in_range;
+    }
 
 -- the end of a step sets figures and counters
 
@@ -140,6 +157,7 @@ keeps_ended s t es k m h e l a b rules offers =
       monitors = every_from (MonitorRule (ended t es k m n)) t.monitors (λ x i.
           let q = every_among (MonitorRule t) t.monitors x a.monitors i in let u = q.2 in (planned_ended t es k m n x.device ∙ q.0, q.1, omega (arith, u, same)));
       balance = every-map (AddsUp (ended t es k m n)) (counting es) t.groups (λ g i. let p = (kept g i).balanced in let c = b g.device in omega (arith, p, c));
+      priorities = every-map (λ (g : GroupRecord). g.priority ≤ greatest_priority) (counting es) t.groups (λ g i. (kept g i).in_range);
     }
 
 -- what a step makes of the rows: its stamp is the next, and the limits stay
@@ -173,6 +191,7 @@ keeps_first limits e = record {
   offers = λ g i. absurd i;
   monitors = tt;
   balance = tt;
+  priorities = tt;
 }
 
 run_on : (commands : List TimedCommand) (s : Rows) → BreaksNoRule s → s.last_stamp + length commands ≤ s.limits.requests → BreaksNoRule (run s commands).rows

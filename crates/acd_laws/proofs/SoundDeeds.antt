@@ -1,8 +1,11 @@
 -- What deeds and rounds tell, balance and keep in order.
-use Rattle.std.proofs.Common.{◌≡◌, ℕ, ◌+◌, ◌<◌, ◌≤◌, inl, inr, true, false, ◌||◌, cond, List, [], ◌∷◌, Option, Some, None, refl, sym, ◌∙◌, ap, subst, arith, eq-eqb}
+use Rattle.std.proofs.Common.{◌≡◌, ℕ, ◌+◌, ◌<◌, ◌≤◌, inl, inr, true, false, ◌||◌, cond, List, [], ◌∷◌, Option, Some, None, refl, sym, ◌∙◌, ap, subst, arith, eq-eqb, is_some}
 use Rattle.std.specs.Prelude.{◌==◌}
 use Rattle.std.proofs.lemmas.Bool.{and_right, and_from, or_right}
-use Rattle.acd_laws.proofs.Words.{Rows, AgentRecord, CallRecord, ConnectionRecord, MonitorRecord, ConnectionState, Cause, Ending, Move, Report, count, Among, Every, state_wanted, is_initiated, is_alerting, is_connected, is_queued, connection_of, is_station, is_planned, has, other_of, with_call, with_connection, without_call, without_connection, no_move, changed, moved, is_open, parties_of, open_of}
+use Rattle.std.specs.Prelude.{min}
+use Rattle.acd_terms.specs.Limits.{greatest_priority}
+use Rattle.acd_terms.specs.Groups.{only_group}
+use Rattle.acd_laws.proofs.Words.{Rows, AgentRecord, CallRecord, ConnectionRecord, MonitorRecord, ConnectionState, Cause, Ending, Move, Report, count, Among, Every, state_wanted, is_initiated, is_alerting, is_connected, is_queued, connection_of, is_station, is_planned, has, other_of, with_call, with_connection, without_call, without_connection, no_move, changed, moved, is_open, parties_of, open_of, Command, GroupRecord, is_group}
 use Rattle.acd_terms.specs.Columns.{columns_of}
 use Rattle.acd_terms.specs.declared.state.AgentState.TheVariants as A
 use Rattle.acd_terms.specs.declared.state.ConnectionState.TheVariants as S
@@ -24,17 +27,17 @@ use Rattle.acd_laws.proofs.Facts.{GroupColumn, StandsAt, Rules}
 use Rattle.acd_laws.proofs.MoveKinds.{left_connections, left_connection, LeavesAgents, left_agent, left_agents, left_plan, Recorded, releases, occupies, goes_from, arrival_of}
 use Rattle.acd_laws.proofs.Lists.{one, none_from, two_counted, among_put}
 use Rattle.acd_laws.proofs.Keyed.{eqb_self}
-use Rattle.acd_laws.proofs.State.{found_key, connection_among, put_other, removed_other, still_none, connection_there, connection_rule, none_above, agent_there, other_agents, other_among, other_device}
+use Rattle.acd_laws.proofs.State.{found_key, connection_among, put_other, removed_other, still_none, connection_there, connection_rule, none_above, agent_there, other_agents, other_among, other_device, group_key}
 use Rattle.acd_laws.proofs.Releasing.{release_other_kept}
 use Rattle.acd_laws.proofs.KeptPlan.{nobody_at}
 use Rattle.acd_laws.proofs.States.{initiated_is, alerting_is, hold_is}
 use Rattle.acd_laws.proofs.KeptOut.{initiated_alone, outgoing}
 use Rattle.acd_laws.proofs.KeptEnds.{open_cases, closed_call, return_new}
 use Rattle.acd_laws.proofs.KeptOffer.{offer_station, offer_new}
-use Rattle.acd_laws.proofs.Told.{truthful_put, truthful_remove, truthful_outside, truthful_unseen, truthful_group, truthful_station, truthful_end, truthful_agent, truthful_silent_agent}
+use Rattle.acd_laws.proofs.Told.{truthful_put, truthful_remove, truthful_outside, truthful_unseen, truthful_group, truthful_rank, truthful_station, truthful_end, truthful_agent, truthful_silent_agent}
 use Rattle.acd_laws.proofs.Order.{holding, held, gone, holding_less, holding_new, stays, placed_put, placed_within}
 use Rattle.acd_laws.proofs.SoundMoves.{Sound, sound-append, sound_later, sound_nothing, sound_unheard, silently, sound_agent, and_yes, or_no, put, remove, ungrouped, connections_put, removed_within, ascending_less, held_shut, held_is, waits_or_rings_is, waiting_alerting, waiting_open, sound_put_new, sound_put_old, sound_remove, sound_arrival, arrive_leaves, open_gone, planned_station, planned_group}
-use Rattle.acd_laws.proofs.Deeds.{new_call, Party, Free, Round, offers, returns, rests, Deed, nothing, adds_group, adds_station, adds_agent, watches, unwatches, arrives, makes, goes_out, answers, holds, retrieves, clears, deflects, transfers, logs_on, waits, goes}
+use Rattle.acd_laws.proofs.Deeds.{new_call, Party, Free, Round, offers, returns, rests, Deed, nothing, adds_group, adds_station, adds_agent, watches, unwatches, arrives, makes, goes_out, answers, holds, retrieves, clears, deflects, transfers, logs_on, waits, goes, Ranks, refuses, ranks}
 
 later : {m b k : ℕ} {s : Rows} {ms : List Move} → b < k → Sound m b b s ms → Sound m b k s ms
 later {m} {b} {k} {s} {ms} l h = sound_later m b k s ms (omega (arith, l)) h
@@ -295,11 +298,17 @@ sound_deed s m k b _ (deflects p to state free) r l =
 sound_deed s m k b _ (transfers p to state other free) r l =
     sound_given s m k b to p (report.Transferred p.x.call p.x.device to) cause.Transferred r l (sound_transfers s m b to p r state) free refl
     (closed_call s p.x r (connection_among s p.x.call p.x.device p.x p.found) state other)
-sound_deed s m k b _ (logs_on a device group _ _ _ _ _) r l =
-    let c : AgentRecord = record a { state = A.NotReady; pending = None; station = Some device; group = Some group; stamp = k; since = m } in
-    later l (sound_unheard m b s (log_on_at m k a device group) (truthful_agent s c (report.AgentLoggedOn a.agent device group) refl refl refl) (record { leaves = tt; entry = λ g. refl; gone = λ g. refl }))
+sound_deed s m k b _ (logs_on a device groups _ _ _ _ _) r l =
+    let c : AgentRecord = record a { state = A.NotReady; pending = None; station = Some device; groups = groups; stamp = k; since = m } in
+    later l (sound_unheard m b s (log_on_at m k a device groups) (truthful_agent s c (report.AgentLoggedOn a.agent device (only_group groups)) refl refl refl) (record { leaves = tt; entry = λ g. refl; gone = λ g. refl }))
 sound_deed s m k b _ (waits a wanted own _ _) r l = later l (silently (PutAgent (record a { pending = Some wanted })) (truthful_silent_agent s (record a { pending = Some wanted }) (ap seat_of (sym own))) tt)
 sound_deed s m k b _ (goes a wanted own _ _) r l = later l (sound_agent (goes_from (Recorded s) m k a a.station (state_wanted wanted) own))
+
+pub sound_ranks : (s : Rows) (m k b : ℕ) (c : Command) (ms : List Move) → Ranks s c ms → b < k → Sound m b k s ms
+sound_ranks s m k b _ _ (refuses _ _ _) l = later l (sound_nothing m b s)
+sound_ranks s m k b _ _ (ranks device priority g own) l =
+    let h : GroupRecord = record g { priority = min priority greatest_priority } in
+    later l (silently (PutGroup h) (truthful_rank s h (ap (is_group s) (group_key s device g own) ∙ ap is_some own)) tt)
 
 -- an offer
 

@@ -99,6 +99,17 @@ pub group_put : (s : Rows) (g : GroupRecord) (d : ℕ) → is_group (with_group 
 unfolding with_group group_of
 group_put s g d = some_put by_group s.groups g d
 
+pub group_put_found : (s : Rows) (g : GroupRecord) (d : ℕ) → group_of (with_group s g) d ≡ cond (g.device == d) (Some g) (group_of s d)
+unfolding with_group group_of
+group_put_found s g d = found_put by_group s.groups g d
+
+-- a planned group's record is put: the groups are planned that were
+pub group_kept : (s : Rows) (g : GroupRecord) → is_group s g.device ≡ true → (d : ℕ) → is_group (with_group s g) d ≡ is_group s d
+group_kept s g planned d = group_put s g d ∙ (elim (g.device == d) as (λ b. (g.device == d) ≡ b → (b || is_group s d) ≡ is_group s d) [
+  | true ↦ λ e. sym (subst (λ v. is_group s v ≡ true) (eqb-true g.device d e) planned)
+  | false ↦ λ e. refl
+]) refl
+
 pub group_found_put : (d : ℕ) (g : GroupRecord) (gs : List GroupRecord) → find_by (at_group d) (put_by (at_group g.device) gs g) ≡ cond (g.device == d) (Some g) (find_by (at_group d) gs)
 group_found_put d g gs = found_put by_group gs g d
 
@@ -143,6 +154,20 @@ agent_key s n a e = eqb-true a.agent n (found_has by_agent s.agents n a e)
 -- an agent that is found by its number has that number
 pub agent_own : (s : Rows) (n : ℕ) (a : AgentRecord) → agent_of s n ≡ Some a → agent_of s a.agent ≡ Some a
 agent_own s n a e = subst (λ v. agent_of s v ≡ Some a) (sym (agent_key s n a e)) e
+
+-- a group that is found stands in the list, and has the number
+pub group_among : (s : Rows) (n : ℕ) (g : GroupRecord) → group_of s n ≡ Some g → Among g s.groups
+unfolding group_of
+group_among s n g e = found_among by_group s.groups n g e
+
+pub group_key : (s : Rows) (n : ℕ) (g : GroupRecord) → group_of s n ≡ Some g → g.device ≡ n
+unfolding group_of
+group_key s n g e = eqb-true g.device n (found_has by_group s.groups n g e)
+
+-- a group of the list is found under its number
+pub group_found : (s : Rows) → IsAscending group_order s.groups → (g : GroupRecord) → Among g s.groups → group_of s g.device ≡ Some g
+unfolding group_of
+group_found s h g i = found_own by_group s.groups h g i
 
 -- an agent of the list is found under its number
 pub agent_found : (s : Rows) → IsAscending agent_order s.agents → (a : AgentRecord) → Among a s.agents → agent_of s a.agent ≡ Some a

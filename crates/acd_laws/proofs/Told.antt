@@ -10,7 +10,7 @@ use Rattle.acd_terms.specs.declared.event.Report.TheVariants.{CallCleared}
 use Rattle.acd_model.specs.Step.{numbered}
 use Rattle.acd_model.specs.declared.moves.Change.TheVariants.{PutGroup, PutStation, PutAgent, PutConnection, RemoveCall, RemoveConnection}
 use Rattle.acd_laws.proofs.MoveKinds.{LeavesConnections, left_connection, LeavesAgents, left_agent, LeavesPlan, left_plan}
-use Rattle.acd_laws.proofs.State.{is_of, is_of_true, at_put, at_remove, agent_put, group_put, station_put}
+use Rattle.acd_laws.proofs.State.{is_of, is_of_true, at_put, at_remove, agent_put, group_put, station_put, group_kept}
 
 -- the connection's state at a planned device: of any other device nothing is told
 abbrev pub shown : Rows → ℕ → ℕ → Option ConnectionState
@@ -168,6 +168,12 @@ truthful_group s g h = record {
         | true ↦ λ q. rw (← eqb-true g.device d q, h c) (sym (both_none (is_planned s g.device)))
         | false ↦ λ q. refl
       ]) refl;
+  agents = λ n. left_seat s (PutGroup g) n tt;
+}
+
+pub truthful_rank : (s : Rows) (g : GroupRecord) → is_group s g.device ≡ true → Truthful s (silent (PutGroup g))
+truthful_rank s g planned = record {
+  connections = λ c d. shown_group s g c d ∙ ap (λ v. cond (v || is_station s d) (state_at s c d) None) (group_kept s g planned d);
   agents = λ n. left_seat s (PutGroup g) n tt;
 }
 

@@ -10,7 +10,7 @@ use Rattle.acd_laws.proofs.Told.{shown, seat, after-append, shown_after, seat_af
 use Rattle.acd_laws.proofs.CountedEvents.{figures_joined, figures_numbered}
 use Rattle.acd_laws.proofs.Order.{holding, balanced_events, Ordered, ordered_on}
 use Rattle.acd_laws.proofs.SoundMoves.{Sound}
-use Rattle.acd_laws.proofs.SoundDeeds.{sound_deed, sound_round}
+use Rattle.acd_laws.proofs.SoundDeeds.{sound_deed, sound_ranks, sound_round}
 use Rattle.acd_laws.proofs.RulesKept.{by_parts, rules_serve}
 use Rattle.std.specs.Prelude.{◌==◌, is_some, option_map}
 use Rattle.acd_terms.specs.declared.state.ConnectionState.TheVariants as S
@@ -77,8 +77,9 @@ follows_later s b c d t es l f = record {
 -- a step: the service leads from one stamp to the next, and rounds keep it
 pub follows_step : (s : Rows) (m k b : ℕ) (c : Command) → Rules s → b < k → Follows s b k (moved s (step_moves s m (serve s m k c))) (events_of m (step_moves s m (serve s m k c)))
 follows_step s m k b c r l =
-    by_parts (Follows s b b) (Follows s b k) m k (λ t es ms d rt f. follows_moves s b b k m t es ms f (sound_deed t m k b ms d rt l)) (λ t es f. follows_later s b b k t es (omega (arith, l)) f)
-    (λ t es ms d rt f. follows_moves s b k k m t es ms f (sound_round t m k k ms d rt)) s [] c r (follows_nothing s b)
+    by_parts (Follows s b b) (Follows s b k) m k c (λ _ t es ms d rt f. follows_moves s b b k m t es ms f (sound_deed t m k b ms d rt l))
+    (λ t es ms d rt f. follows_moves s b b k m t es ms f (sound_ranks t m k b c ms d l)) (λ _ t es f. follows_later s b b k t es (omega (arith, l)) f)
+    (λ t es ms d rt f. follows_moves s b k k m t es ms f (sound_round t m k k ms d rt)) s [] r (follows_nothing s b)
 
 -- an entry among events, whose number is the last one
 abbrev EntryIn : ℕ → ℕ → List Event → ℕ → Type 0

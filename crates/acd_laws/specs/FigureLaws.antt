@@ -1,12 +1,14 @@
 -- The figures that a group keeps are those counted from all events.
-use Rattle.std.specs.Prelude.{◌≡◌, ℕ, true, false, List, ◌++◌, Some}
+use Rattle.std.specs.Prelude.{◌≡◌, ◌==◌, ℕ, min, true, false, List, ◌++◌, Some, if◌then◌else◌}
 use Rattle.acd_terms.specs.Lists.{Among}
 use Rattle.acd_terms.specs.Rows.{empty_rows}
 use Rattle.acd_terms.specs.declared.rows.Rows.{Rows}
 use Rattle.acd_terms.specs.declared.rows.Limits.{Limits}
 use Rattle.acd_terms.specs.declared.record.GroupRecord.{GroupRecord}
 use Rattle.acd_terms.specs.declared.record.ConnectionRecord.{ConnectionRecord}
+use Rattle.acd_terms.specs.Limits.{greatest_priority}
 use Rattle.acd_terms.specs.declared.command.Command.{Command}
+use Rattle.acd_terms.specs.declared.command.Command.TheVariants.{SetGroupPriority}
 use Rattle.acd_terms.specs.declared.event.Event.{Event}
 use Rattle.acd_model.specs.Scans.{group_of, is_group}
 use Rattle.acd_model.specs.Figures.{figures_of, counting}
@@ -32,7 +34,12 @@ abbrev pub RunKeepsFigures : Type 0
 RunKeepsFigures = (limits : Limits) (commands : List TimedCommand) (g : GroupRecord) → Among g (run (empty_rows limits) commands).rows.groups
     → g.figures ≡ figures_of g.device (run (empty_rows limits) commands).events
 
--- of a planned group's record a step of rows that break no rule changes the figures alone, by what its events count
+-- the group with the priority that a command gives it
+abbrev pub ranked : Command → GroupRecord → GroupRecord
+ranked (SetGroupPriority device priority) g = if device == g.device then record g { priority = min priority greatest_priority } else g
+ranked _ g = g
+
+-- of a planned group's record a step of rows that break no rule changes the figures, by what its events count, and by setGroupPriority of it the priority
 abbrev pub StepAddsFigures : Type 0
 StepAddsFigures = (s : Rows) (moment : ℕ) (command : Command) (d : ℕ) (g : GroupRecord) → BreaksNoRule s → group_of s d ≡ Some g
-    → group_of (step s moment command).rows d ≡ Some (counting (step s moment command).events g)
+    → group_of (step s moment command).rows d ≡ Some (counting (step s moment command).events (ranked command g))

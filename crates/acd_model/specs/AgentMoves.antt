@@ -1,5 +1,6 @@
 -- The moves of agents.
-use Rattle.std.specs.Prelude.{ℕ, Option, Some, None}
+use Rattle.std.specs.Prelude.{ℕ, List, [], Option, Some, None}
+use Rattle.acd_terms.specs.Groups.{only_group}
 use Rattle.acd_terms.specs.declared.record.AgentRecord.{AgentRecord}
 use Rattle.acd_terms.specs.declared.state.AgentState.{AgentState}
 use Rattle.acd_terms.specs.declared.state.AgentState.TheVariants.{Null, NotReady, Ready, Busy, WorkingAfterCall}
@@ -10,14 +11,19 @@ use Rattle.acd_model.specs.Moves.{no_move, silent, reported}
 use Rattle.acd_model.specs.declared.moves.Move.{Move}
 use Rattle.acd_model.specs.declared.moves.Change.TheVariants.{PutAgent}
 
--- the station or the group that an agent has in a state: none in null
+-- the station that an agent has in a state: none in null
 abbrev pub while_logged_on : AgentState → Option ℕ → Option ℕ
 while_logged_on Null device = None
 while_logged_on _ device = device
 
--- the agent in a state, with nothing pending; in null it has no station and no group
+-- and its groups
+abbrev pub groups_while_logged_on : AgentState → List ℕ → List ℕ
+groups_while_logged_on Null groups = []
+groups_while_logged_on _ groups = groups
+
+-- the agent in a state, with nothing pending; in null it has no station and no groups
 abbrev pub in_state : AgentState → ℕ → ℕ → AgentRecord → AgentRecord
-in_state state m k a = record a { state = state; pending = None; station = while_logged_on state a.station; group = while_logged_on state a.group; stamp = k; since = m }
+in_state state m k a = record a { state = state; pending = None; station = while_logged_on state a.station; groups = groups_while_logged_on state a.groups; stamp = k; since = m }
 
 -- the report of an agent's new state
 abbrev pub state_report : AgentState → ℕ → ℕ → Report
@@ -36,10 +42,11 @@ abbrev pub go_from : ℕ → ℕ → AgentRecord → Option ℕ → AgentState �
 go_from m k a None state = no_move
 go_from m k a (Some station) state = go_to m k a station state
 
-abbrev pub log_on_at : ℕ → ℕ → AgentRecord → ℕ → ℕ → Move
-log_on_at m k a station group =
-    reported (PutAgent (record a { state = NotReady; pending = None; station = Some station; group = Some group; stamp = k; since = m }))
-    (AgentLoggedOn a.agent station group)
+-- the report names the group of an agent who serves just one
+abbrev pub log_on_at : ℕ → ℕ → AgentRecord → ℕ → List ℕ → Move
+log_on_at m k a station groups =
+    reported (PutAgent (record a { state = NotReady; pending = None; station = Some station; groups = groups; stamp = k; since = m }))
+    (AgentLoggedOn a.agent station (only_group groups))
 
 -- busy, with the same pending state
 abbrev pub become_busy : ℕ → ℕ → AgentRecord → ℕ → Move

@@ -7,3 +7,4 @@ pub mod Waiting
 pub mod Plan
 pub mod Releases
 pub mod Refusals
+pub mod Priorities

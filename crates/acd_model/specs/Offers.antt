@@ -1,11 +1,11 @@
 -- What an offer is, as a relation.
-use Rattle.std.specs.Prelude.{◌≡◌, ◌⊎◌, ◌↔◌, ℕ, ◌<◌, false, List, [], map, Option, Some, None}
+use Rattle.std.specs.Prelude.{◌≡◌, ◌⊎◌, ◌↔◌, ℕ, true, false, List, [], map, Option, Some, None}
 use Rattle.std.specs.Ordering.{nat_cmp}
 use Rattle.acd_terms.specs.Lists.{Among, IsAscending}
 use Rattle.acd_terms.specs.declared.rows.Rows.{Rows}
 use Rattle.acd_terms.specs.declared.record.GroupRecord.{GroupRecord}
 use Rattle.acd_model.specs.Scans.{waiting_in, eligible_in}
-use Rattle.acd_model.specs.Choice.{pair_lt, waiting_pair, ready_pair, first_waiting, first_eligible, offer_of}
+use Rattle.acd_model.specs.Choice.{pair_lt, waiting_pair, ready_pair, first_waiting, first_eligible, is_served_before, offer_of}
 use Rattle.acd_model.specs.declared.moves.Offer.{Offer}
 
 -- the pair stands in the list, and none there is less
@@ -30,7 +30,7 @@ FindsFirstEligible = (s : Rows) (group : ℕ) → FindsLeast (first_eligible s g
 abbrev pub HasNoOffer : Rows → ℕ → Type 0
 HasNoOffer s group = (waiting_in s group ≡ []) ⊎ (eligible_in s group ≡ [])
 
--- the call that waits first in the group goes to the agent that is ready longest there, and no group before it has both
+-- the call that waits first in the group goes to the agent that is ready longest there, and no group that is served before it has both
 pub record IsOffer (s : Rows) (o : Offer) : Type 0 where
   pub group : GroupRecord
   pub planned : Among group s.groups
@@ -39,7 +39,7 @@ pub record IsOffer (s : Rows) (o : Offer) : Type 0 where
   pub call : IsLeast (place, o.call) (map waiting_pair (waiting_in s o.group))
   pub stamp : ℕ
   pub agent : IsLeast (stamp, o.agent) (map ready_pair (eligible_in s o.group))
-  pub first : (g : GroupRecord) → Among g s.groups → g.device < o.group → HasNoOffer s g.device
+  pub first : (g : GroupRecord) → Among g s.groups → is_served_before g group ≡ true → HasNoOffer s g.device
 
 abbrev pub GroupsAscend : Rows → Type 0
 GroupsAscend s = IsAscending (λ (g h : GroupRecord). nat_cmp g.device h.device) s.groups

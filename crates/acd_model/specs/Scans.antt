@@ -4,6 +4,7 @@ use Rattle.std.specs.List.{list_any}
 use Rattle.std.specs.declared.cmp.Ordering.{Ordering}
 use Rattle.std.specs.Ordering.{nat_cmp, ordering_then}
 use Rattle.acd_terms.specs.Lists.{find_by}
+use Rattle.acd_terms.specs.Groups.{is_one_of}
 use Rattle.acd_terms.specs.States.{is_ready, is_live, is_occupying, is_queued, is_distributed}
 use Rattle.acd_terms.specs.declared.rows.Rows.{Rows}
 use Rattle.acd_terms.specs.declared.record.GroupRecord.{GroupRecord}
@@ -99,7 +100,7 @@ is_idle_there s (Some station) = is_idle s station
 
 -- of the group, ready and unoccupied, at an idle station
 unfoldable pub is_eligible : Rows → ℕ → AgentRecord → Bool
-is_eligible s group a = has a.group group && is_ready a.state && not (is_occupied s a) && is_idle_there s a.station
+is_eligible s group a = is_one_of a.groups group && is_ready a.state && not (is_occupied s a) && is_idle_there s a.station
 
 unfoldable pub eligible_in : Rows → ℕ → List AgentRecord
 eligible_in s group = filter (is_eligible s group) s.agents

@@ -16,6 +16,7 @@ pub mod SingleStepTransfer
 pub mod SetAgentState
 pub mod MonitorStart
 pub mod MonitorStop
+pub mod SetGroupPriority
 pub mod Serve
 unfoldable pub use Rattle.acd_model.specs.Services.AddGroup.{no_figures, new_group, add_group}
 unfoldable pub use Rattle.acd_model.specs.Services.AddStation.{add_station}
@@ -31,6 +32,7 @@ unfoldable pub use Rattle.acd_model.specs.Services.ClearConnection.{waiting_grou
 unfoldable pub use Rattle.acd_model.specs.Services.Destinations.{is_in_call, is_busy_station}
 unfoldable pub use Rattle.acd_model.specs.Services.DeflectCall.{deflect_call}
 unfoldable pub use Rattle.acd_model.specs.Services.SingleStepTransfer.{is_answered_by, single_step_transfer}
-unfoldable pub use Rattle.acd_model.specs.Services.SetAgentState.{log_on, go_or_wait, change_state, set_agent_state}
+unfoldable pub use Rattle.acd_model.specs.Services.SetAgentState.{all_groups, log_on, go_or_wait, change_state, set_agent_state}
 unfoldable pub use Rattle.acd_model.specs.Services.MonitorStart.{next_monitor, monitor_start}
 unfoldable pub use Rattle.acd_model.specs.Services.MonitorStop.{monitor_stop}
+unfoldable pub use Rattle.acd_model.specs.Services.SetGroupPriority.{set_group_priority}

@@ -1,6 +1,7 @@
 -- tick: offers that rang too long go back, and after-call work that lasted long enough ends.
 use Rattle.std.specs.Prelude.{ℕ, ◌+◌, Bool, false, not, ◌&&◌, ◌==◌, nat_le, List, [], ◌∷◌, ◌++◌, Option, Some, None, filter}
 use Rattle.acd_terms.specs.States.{is_alerting, is_working_after_call}
+use Rattle.acd_terms.specs.Groups.{least_group}
 use Rattle.acd_terms.specs.declared.rows.Rows.{Rows}
 use Rattle.acd_terms.specs.declared.record.GroupRecord.{GroupRecord}
 use Rattle.acd_terms.specs.declared.record.AgentRecord.{AgentRecord}
@@ -51,9 +52,9 @@ abbrev pub is_over_in : Rows → ℕ → AgentRecord → Option ℕ → Bool
 is_over_in s m a None = false
 is_over_in s m a (Some group) = is_over (wrap_of (group_of s group)) a.since m
 
--- in after-call work for at least the wrap time of the agent's group
+-- in after-call work for at least the wrap time of the agent's group of least number
 unfoldable pub is_rested : Rows → ℕ → AgentRecord → Bool
-is_rested s m a = is_working_after_call a.state && is_over_in s m a a.group
+is_rested s m a = is_working_after_call a.state && is_over_in s m a (least_group a.groups)
 
 -- in ascending agent number
 unfoldable pub rested_in : Rows → ℕ → List AgentRecord

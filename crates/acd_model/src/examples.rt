@@ -9,6 +9,7 @@ ghost use Rattle.acd_model.specs.Examples.Agents.{PendingLogOff, PresentStatePen
 ghost use Rattle.acd_model.specs.Examples.Releases.{ReleasedAfterAnAnswer, ReleasedUnanswered, ReleasedByNoAnswer};
 ghost use Rattle.acd_model.specs.Examples.Refusals.{RefusalsOfPlanAndCalls, RefusalsOfAnAnsweredCall, RefusalsOfAHeldCall, RefusalsOfAnOfferedCall, RefusalsOfAnUnansweredCall, RefusalsOfAgents};
 ghost use Rattle.acd_model.specs.Examples.HandedOn.{DeflectedToAnotherQueue, DeflectedFromQueueToStationAndBack, DeflectedToItsOwnGroup, DeflectedWithAStatePending, TransferredWhileHeld, TwoAgentsReleased, TransferredBack};
+ghost use Rattle.acd_model.specs.Examples.Priorities.{HigherPriorityFirst, EqualPriorities, PriorityChanged};
 ghost use Rattle.acd_model.specs.Examples.Stations.{BusyStationFails, PrivateCallThenDistribution, LoggedOffWithAPrivateCall, HeldPrivateCall, CallToABusyAgentStation, PrivateCalls};
 
 /// The numbers of identifiers are the digit 1 followed by their digits.
@@ -231,7 +232,7 @@ pub fn released_by_no_answer()
     ensures { ReleasedByNoAnswer }
 {}
 
-/// What is refused of plans, new calls and monitors, and in which order.
+/// What is refused of plans, priorities, new calls and monitors, and in which order.
 pub fn refusals_of_plan_and_calls()
     ensures { RefusalsOfPlanAndCalls }
 {}
@@ -254,6 +255,22 @@ pub fn refusals_of_an_offered_call()
 /// What is refused of a call whose other party rings, waits or has failed.
 pub fn refusals_of_an_unanswered_call()
     ensures { RefusalsOfAnUnansweredCall }
+{}
+
+/// A call of the group of highest priority is offered first; after-call work lasts as long as the group of
+/// least number has it.
+pub fn higher_priority_first()
+    ensures { HigherPriorityFirst }
+{}
+
+/// Of groups of equal priority the one of least number is served first.
+pub fn equal_priorities()
+    ensures { EqualPriorities }
+{}
+
+/// A priority that is changed while calls wait is the one that counts.
+pub fn priority_changed()
+    ensures { PriorityChanged }
 {}
 
 /// What is refused of agents, and in which order.

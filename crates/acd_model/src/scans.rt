@@ -175,7 +175,7 @@ pub fn is_eligible(rows: &Rows, group: DeviceId, agent: &AgentRecord) -> bool
     let Some(station) = agent.station else {
         return false;
     };
-    agent.group == Some(group)
+    agent.groups.contains(group)
         && agent.state.is_ready()
         && !is_occupied(rows, agent)
         && is_idle(rows, station)

@@ -72,7 +72,7 @@ abbrev pub held : State → BookState
 held s = record {
   content = content_of s.committed.trees;
   stops = λ c. (db : Trees) × s.may_leave db × (c ≡ content_of db);
-  is_sound = IsFiled s.now.trees;
+  is_sound = IsFiled s.now;
   is_clean = HasCleanDisk s;
   is_open = IsTrue s.is_open;
   failures = 0;
@@ -85,7 +85,7 @@ unmade s = record { content = nothing; stops = λ c. c ≡ nothing; is_sound = �
 -- No desk was made: a crash leaves a database that it left before, or version 2 of the content that was held or, where the database had no tables and a book was to be made,
 -- a new one with nothing in it.
 abbrev pub Unserved : Bool → State → State → Type 0
-Unserved makes old new = HasCleanDisk new → IsFiled old.now.trees → (db : Trees) → new.may_leave db → old.may_leave db ⊎ Encodes db (content_of old.committed.trees) ⊎ ((makes ≡ true) × (old.now.schema ≡ no_schema) × Encodes db nothing)
+Unserved makes old new = HasCleanDisk new → IsFiled old.now → (db : Trees) → new.may_leave db → old.may_leave db ⊎ Encodes db (content_of old.committed.trees) ⊎ ((makes ≡ true) × (old.now.schema ≡ no_schema) × Encodes db nothing)
 
 -- what is said of the book that the database held or, where it had no tables and one was to be made, of the new one
 abbrev pub OverConnection : (BookState → BookState → Type 0) → Bool → State → State → Type 0

@@ -34,7 +34,7 @@ pub(crate) enum Task<'a> {
 }
 
 /// What `acd --version` tells behind the program's name: the version, and the toolchain that proved it.
-const VERSION: &str = "0.9 (rattle-kit-13f)";
+const VERSION: &str = "1.0 (rattle-kit-13f)";
 
 const FILE: &str = "file";
 

@@ -153,7 +153,7 @@ fn is_eligible(lookups: &Lookups, group: DeviceId, agent: &AgentRecord) -> bool
     let Some(station) = agent.station else {
         return false;
     };
-    agent.group == Some(group)
+    agent.groups.contains(group)
         && agent.state.is_ready()
         && !is_occupied(lookups, agent)
         && is_idle(lookups, station)

@@ -1,15 +1,25 @@
 //! The rules limits, order, device, agent and monitor.
 
-ghost use Rattle.std.specs.Prelude.{◌≡◌, length, filter};
+ghost use Rattle.std.specs.Prelude.{◌≡◌, nat_le, length, filter};
+ghost use Rattle.std.specs.List.{list_all};
+ghost use Rattle.acd_terms.specs.Groups.{is_choice};
 ghost use Rattle.acd_terms.specs.Lists.{count};
 ghost use Rattle.acd_terms.specs.declared.record.AgentRecord.{AgentRecord};
-ghost use Rattle.acd_model.specs.Scans.{has};
-ghost use Rattle.acd_model.specs.Rules.Plan.{keeps_limits, keeps_order, keeps_device, keeps_agent, keeps_monitor, is_station_there, is_group_there, is_alone_at, is_seated};
+ghost use Rattle.acd_terms.specs.declared.record.GroupRecord.{GroupRecord};
+ghost use Rattle.acd_model.specs.Scans.{has, is_group};
+ghost use Rattle.acd_model.specs.Rules.Plan.{keeps_limits, keeps_order, keeps_device, keeps_agent, keeps_monitor, is_station_there, are_planned_groups, is_alone_at, is_seated};
 
 use crate::lookups::Lookups;
-use acd_terms::{AgentRecord, DeviceId, Rows, ascends};
+use acd_terms::{AgentRecord, DeviceId, GroupRecord, Groups, Rows, ascends};
 
-/// No limit is above the greatest and no list above its limit; no last number is above its bound.
+fn are_priorities_low(groups: &[GroupRecord]) -> bool
+    ensures { result ≡ list_all (λ (g : GroupRecord). nat_le g.priority 9) groups.now }
+{
+    groups.iter().all(|g| g.priority.number() <= 9)
+}
+
+/// No limit is above the greatest and no list above its limit; no last number is above its bound,
+/// and no priority above 9.
 #[tactic(auto, unfolding(acd_model::specs::Rules::Plan::keeps_limits))]
 pub fn keeps_limits(rows: &Rows) -> bool
     ensures { result ≡ keeps_limits rows.now }
@@ -24,6 +34,7 @@ pub fn keeps_limits(rows: &Rows) -> bool
         && rows.last_stamp <= limits.requests
         && rows.last_call <= rows.last_stamp
         && rows.last_monitor <= rows.last_stamp
+        && are_priorities_low(rows.groups.as_slice())
 }
 
 /// Each list is strictly ascending in its key.
@@ -61,14 +72,24 @@ fn is_station_there(lookups: &Lookups, station: Option<DeviceId>) -> bool
     }
 }
 
-// The group, which has to be there, is planned.
-fn is_group_there(lookups: &Lookups, group: Option<DeviceId>) -> bool
-    ensures { result ≡ is_group_there lookups.now.rows.now group }
+// One to eight, in ascending number. The type says all of that but that there is one.
+fn is_choice(groups: &Groups) -> bool
+    ensures { result ≡ is_choice groups.now }
 {
-    match group {
-        None => false,
-        Some(d) => lookups.is_group(d),
-    }
+    !groups.as_slice().is_empty()
+}
+
+fn are_all_planned(lookups: &Lookups, groups: &[DeviceId]) -> bool
+    ensures { result ≡ list_all (is_group lookups.now.rows.now) groups.now }
+{
+    groups.iter().all(|g| lookups.is_group(*g))
+}
+
+// One to eight, in ascending number, and each is a planned group.
+fn are_planned_groups(lookups: &Lookups, groups: &Groups) -> bool
+    ensures { result ≡ are_planned_groups lookups.now.rows.now groups.now }
+{
+    is_choice(groups) && are_all_planned(lookups, groups.as_slice())
 }
 
 fn logged_on_among(agents: &[AgentRecord], station: DeviceId) -> usize
@@ -94,14 +115,15 @@ fn is_alone_at(lookups: &Lookups, station: Option<DeviceId>) -> bool
     }
 }
 
-// An agent in null has no station, group or pending state, any other a planned station and group.
+// An agent in null has no station, groups or pending state, any other a planned station and one to
+// eight planned groups.
 fn is_seated(lookups: &Lookups, agent: &AgentRecord) -> bool
     ensures { result ≡ is_seated lookups.now.rows.now agent.now }
 {
     let at_its_place = if agent.state.is_null() {
-        agent.station.is_none() && agent.group.is_none() && agent.pending.is_none()
+        agent.station.is_none() && agent.groups.is_empty() && agent.pending.is_none()
     } else {
-        is_station_there(lookups, agent.station) && is_group_there(lookups, agent.group)
+        is_station_there(lookups, agent.station) && are_planned_groups(lookups, &agent.groups)
     };
     at_its_place && is_alone_at(lookups, agent.station)
 }

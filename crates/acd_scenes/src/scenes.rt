@@ -4,6 +4,7 @@ pub mod agents;
 pub mod calls;
 pub mod morning;
 pub mod office;
+pub mod priorities;
 pub mod refusals;
 pub mod told;
 
@@ -58,6 +59,13 @@ no_answer_with_ready_pending
 no_answer_with_not_ready_pending
 no_answer_with_working_after_call_pending
 no_answer_with_logged_off_pending
+several_groups
+groups_that_are_none
+priorities_that_change
+other_groups_after_a_log_off
+eight_groups_of_an_agent
+several_groups_between_requests
+altered_further_groups_and_priorities
 refusals_of_plan_and_calls
 refusals_of_an_answered_call
 refusals_of_an_offered_call

@@ -1,7 +1,7 @@
 //! All scenes.
 
 use crate::many_events;
-use crate::scenes::{self, agents, calls, morning, office, refusals, told};
+use crate::scenes::{self, agents, calls, morning, office, priorities, refusals, told};
 use crate::script::Script;
 use crate::texts::same_text;
 
@@ -10,6 +10,7 @@ fn all_scenes(rt: HostRuntime) {
     let mut script = Script::new(rt.alloc());
     script.play(&rt, calls::lines());
     script.play(&rt, agents::lines());
+    script.play(&rt, priorities::lines());
     script.play(&rt, refusals::lines());
     script.play(&rt, told::lines());
     same_text(&rt, script.told(), scenes::names());

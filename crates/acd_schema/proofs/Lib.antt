@@ -2,5 +2,6 @@ mod Making
 mod Building
 pub mod Contents
 mod Paged
+mod Places
 mod Looks
 mod Migrated

@@ -27,20 +27,19 @@ use Rattle.acd_schema.specs.declared.inspection.Told.{Told}
 use Rattle.acd_schema.specs.declared.inspection.Told.TheVariants.{Of, Faulty}
 use Rattle.acd_schema.specs.declared.inspection.Page.{Page}
 use Rattle.acd_schema.specs.declared.inspection.Page.TheVariants.{Bad, Last, More}
-use Rattle.acd_columns.specs.AnyRows.{is_good, is_good_in, are_good, rows_in, table_of_log, has_meta, Numbered, AreNumbered, AreSameFirst, BeginsAsBook, schema_of, Covers, IsFiled, TellsGood, TellsLow, IsPageRows}
-use Rattle.acd_schema.specs.Inspecting.{is_good_behind, told_by, told_of, tables_of, TellsBehind, IsBadOf, IsPage, IsPageOf, IsTold, IsToldIn, IsRowFound, IsFound}
+use Rattle.acd_columns.specs.AnyRows.{is_good, is_good_in, are_good, rows_in, table_of_log, has_meta, Numbered, AreNumbered, AreSameFirst, BeginsAsBook, schema_of, Covers, is_beside, is_ranked, IsFiledAs, TellsGood, TellsLow, IsPageRows}
+use Rattle.acd_schema.specs.Inspecting.{is_good_behind, told_by, told_of, tables_of, TellsBehind, IsBadOf, IsPage, IsPageOf, IsTold, IsToldIn, IsRowFound, IsPlaceFound, IsFound}
 use Rattle.acd_columns.specs.Draft.{NoStop}
 use Rattle.acd_columns.specs.Values.{whole_at}
 use Rattle.acd_columns.specs.declared.tables.Version.{Version}
 use Rattle.acd_columns.specs.declared.tables.Version.TheVariants as version
 use Rattle.acd_columns.specs.Content.{IsIn, number_of}
-use Rattle.acd_columns.specs.Schema.{old_schema}
+use Rattle.acd_columns.specs.Schema.{old_schema, book_schema}
 use Rattle.acd_columns.specs.Schema as schema
 use Rattle.acd_columns.specs.Seeing.{HasDatabase, Sees, HasLooked}
 use Rattle.acd_columns.proofs.KeyedRows.{apart, same_number}
 use Rattle.acd_columns.proofs.Looked.{mapped_all, moved_all}
 use Rattle.acd_columns.proofs.Listings.{version_begins}
-use Rattle.acd_columns.proofs.Selected.{all_told}
 use Rattle.acd_schema.proofs.Paged.{page_is, log_told}
 use Rattle.acd_columns.proofs.Seen.{sees_on, sees_fail, sees_then, sees_here}
 
@@ -69,7 +68,7 @@ no_rows f [] h = refl
 no_rows f (row ∷ rows) h = absurd (omega (arith, h))
 
 told : (d : Database) (b : BeginsAsBook d.schema) (r : Row) → Has (d.trees schema.meta.tree) r → (o : Option ℕ) → whole_at r 2 ≡ o → IsTold d (told_of o)
-told d b row h None e = inr (refl, b, (row, h, e))
+told d b row h None e = inr (inl (refl, b, (row, h, e)))
 told d b row h (Some n) e = go (n == 1) (n == 2) refl refl
   where
     go : (one two : Bool) → (n == 1) ≡ one → (n == 2) ≡ two → IsTold d (cond one (Of version.First) (cond two (Of version.Second) (Faulty (WrongVersion n))))
@@ -116,26 +115,12 @@ row_fault v d old new f h = sees_on d old new (Some f) (λ f. IsRowFound v d f) 
 
 pub rows_good : (v : Version) (d : Database) (old new : State) → d.schema ≡ schema_of v → Sees d old new (Ok None) (λ f. IsRowFound v d f) → Sees d old new (Ok (Book v)) (λ f. IsFoundIn v d f)
 rows_good v d old new is h =
-    sees_on d old new None (λ f. IsRowFound v d f) (λ f. IsFoundIn v d f) (Ok (Book v)) h (λ had p told. record { schema_is = is; version = told; in_range = p })
+    sees_on d old new None (λ f. IsRowFound v d f) (λ f. IsFoundIn v d f) (Ok (Book v)) h (λ had p told. record { schema_is = is; version = told; in_range = p.1; placed = p.0 })
 
 pub rows_behind : (v other : Version) (d : Database) (old mid new : State) (r : Result Found Error) → other ≡ v → Sees d old mid (Ok (Of other)) (λ t. IsTold d t) → Sees d mid new r (λ f. IsFoundIn v d f)
     → Sees d old new r (λ f. IsFound d f)
 rows_behind v other d old mid new r same first next =
     sees_then d old mid new (Of other) (λ t. IsTold d t) first (λ f. IsFoundIn v d f) (λ f. IsFound d f) r (λ p f q. q (subst (λ u. IsToldIn d.trees (Some (number_of u))) same p)) next
-
--- ---- tables with no row that could be good
-
-not_zero : (n k : ℕ) → n ≡ suc k → (n == 0) ≡ false
-not_zero n k e = grind (arith, nat_tests)
-
-none_good : (t : Table) → ((r : Row) → is_good t r ≡ false) → (rows : List Row) (n : ℕ) → n ≡ length rows → (n == 0) ≡ are_good t rows
-unfolding are_good
-none_good t never [] n e = rw e refl
-none_good t never (r ∷ rows) n e = not_zero n (length rows) e ∙ sym (ap (λ b. b && are_good t rows) (never r))
-
-pub none_told : (t : Table) (d : Database) (old new : State) (rows : Vec Row Global) (good : Bool) → ((r : Row) → is_good t r ≡ false) → good ≡ (rows.len == 0)
-    → Sees d old new (Ok rows) (λ rows. IsPermutation (rows_in t d.trees) rows.items) → Sees d old new (Ok good) (λ good. TellsGood t d.trees good)
-none_told t d old new rows good never is h = all_told t d old new rows (Ok good) (is ∙ none_good t never rows.items rows.len rows.ok.0) h
 
 -- ---- tables that are read in pages
 
@@ -205,7 +190,7 @@ every_at P (t ∷ ts) zero d all low = all.0
 every_at P (t ∷ ts) (suc i) d all low = every_at P ts i d all.1 (omega (arith, low))
 
 abbrev pub Good : List Table → Trees → Unit {0} → Type 0
-Good tables db x = IsFiled db → Every (λ t. is_good_in t db ≡ true) tables
+Good tables db x = IsFiledAs version.First db → Every (λ t. is_good_in t db ≡ true) tables
 
 module _ (d : Database) (old mid new : State) (tables : List Table) (i : ℕ) (first : Sees d old mid (Ok tt) (Good (take i tables) d.trees)) where
   pub tables_next : (t x : Table) (good : Bool) → t ≡ get_or tables i x → i < length tables → good ≡ true → Sees d mid new (Ok good) (λ good. TellsGood t d.trees good)
@@ -264,8 +249,33 @@ covered version.Second s is = let b = version_begins version.Second s is in (b, 
 pub bad_told : (v : Version) (d : Database) (old new : State) (t : Table) → Sees d old new (Ok (Some t)) (λ bad. IsBadOf (tables_of v) d bad) → Sees d old new (Ok (Some (BadRow t))) (λ f. IsRowFound v d f)
 bad_told v d old new t h = sees_on d old new (Some t) (λ bad. IsBadOf (tables_of v) d bad) (λ f. IsRowFound v d f) (Ok (Some (BadRow t))) h (λ had bad. inl bad)
 
-pub good_told : (v : Version) (d : Database) (old new : State) → Sees d old new (Ok None) (λ bad. IsBadOf (tables_of v) d bad) → Sees d old new (Ok None) (λ f. IsRowFound v d f)
-good_told v d old new h = sees_on d old new None (λ bad. IsBadOf (tables_of v) d bad) (λ f. IsRowFound v d f) (Ok None) h (λ had all filed. each_good v d.trees (all filed))
+-- where each table is good by itself, what is misplaced is what is found
+pub place_behind : (v : Version) (d : Database) (old mid new : State) (r : Result (Option AdoptFault) Error) → Sees d old mid (Ok None) (λ bad. IsBadOf (tables_of v) d bad) → Sees d mid new r (λ f. IsPlaceFound v d f)
+    → Sees d old new r (λ f. IsRowFound v d f)
+place_behind v d old mid new r first next = sees_then d old mid new None (λ bad. IsBadOf (tables_of v) d bad) first (λ f. IsPlaceFound v d f) (λ f. IsRowFound v d f) r both next
+  where
+    both : IsBadOf (tables_of v) d None → (f : Option AdoptFault) → IsPlaceFound v d f → IsRowFound v d f
+    both all None placed = (placed, λ filed. each_good v d.trees (all filed))
+    both all (Some f) fault = fault
+
+-- ---- what stands beside rows that it belongs to
+
+abbrev pub IsRankFound : Database → Option AdoptFault → Type 0
+IsRankFound d f = is_beside d.trees ≡ true → IsPlaceFound version.Second d f
+
+module _ (d : Database) (old mid : State) (is : d.schema ≡ book_schema) where
+  pub ranks_right : Sees d old mid (Ok true) (λ placed. placed ≡ is_ranked d.trees) → Sees d old mid (Ok None) (λ f. IsRankFound d f)
+  ranks_right h = sees_on d old mid true (λ placed. placed ≡ is_ranked d.trees) (λ f. IsRankFound d f) (Ok None) h (λ had p beside. (beside, sym p))
+
+  pub ranks_wrong : Sees d old mid (Ok false) (λ placed. placed ≡ is_ranked d.trees) → Sees d old mid (Ok (Some (BadRow table.GroupPriority))) (λ f. IsRankFound d f)
+  ranks_wrong h = sees_on d old mid false (λ placed. placed ≡ is_ranked d.trees) (λ f. IsRankFound d f) (Ok (Some (BadRow table.GroupPriority))) h (λ had p beside. inr (inr (is, sym p)))
+
+  pub further_wrong : Sees d old mid (Ok false) (λ placed. placed ≡ is_beside d.trees) → Sees d old mid (Ok (Some (BadRow table.AgentGroups))) (λ f. IsPlaceFound version.Second d f)
+  further_wrong h = sees_on d old mid false (λ placed. placed ≡ is_beside d.trees) (λ f. IsPlaceFound version.Second d f) (Ok (Some (BadRow table.AgentGroups))) h (λ had p. inr (inr (is, sym p)))
+
+  pub further_right : (new : State) (r : Result (Option AdoptFault) Error) → Sees d old mid (Ok true) (λ placed. placed ≡ is_beside d.trees) → Sees d mid new r (λ f. IsRankFound d f)
+      → Sees d old new r (λ f. IsPlaceFound version.Second d f)
+  further_right new r first next = sees_then d old mid new true (λ placed. placed ≡ is_beside d.trees) first (λ f. IsRankFound d f) (λ f. IsPlaceFound version.Second d f) r (λ p f q. q (sym p)) next
 
 -- ---- the whole look
 

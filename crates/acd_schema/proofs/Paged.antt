@@ -11,6 +11,7 @@ use Rattle.sqlite_value.specs.Order.{Row}
 use Rattle.sqlite_trees.specs.Tree.{Trees, rowid}
 use Rattle.sqlite_trees.specs.View.{is_int}
 use Rattle.sqlite_rules.specs.Lists.{Has}
+use Rattle.sqlite_rules.proofs.ListLemmas.{all_has}
 use Rattle.sqlite_keyed.proofs.ListLemmas.{map-map}
 use Rattle.sqlite.specs.Effect.{Database}
 use Rattle.acd_terms.specs.Lists.{Among, IsAscending}
@@ -27,7 +28,6 @@ use Rattle.acd_columns.specs.declared.tables.Version.TheVariants as version
 use Rattle.acd_columns.specs.Content.{tree_of, IsIn}
 use Rattle.acd_columns.specs.Values.{option_in, ◌>>=◌, whole_at}
 use Rattle.acd_columns.specs.Ranges.{event_in, event_number, kept_in, kept_stamp}
-use Rattle.acd_columns.proofs.Heaps.{at_each}
 use Rattle.acd_columns.proofs.KeyedRows.{by_key}
 use Rattle.acd_columns.proofs.Looked.{bad_among, numbers_ascend}
 use Rattle.acd_statements.proofs.Named.{at}
@@ -155,7 +155,7 @@ page_bad : (l : Log) (n limit : ℕ) (db : Trees) (rows : List Row) → IsPageRo
 unfolding is_good_in
 page_bad l n limit db rows page h =
     let bad = bad_row_in l n rows h in
-    bad_among (table_of_log l) (rows_in (table_of_log l) db) bad.0 (at_each (λ r. Has (rows_in (table_of_log l) db) r) rows bad.0 page.known bad.1) bad.2
+    bad_among (table_of_log l) (rows_in (table_of_log l) db) bad.0 (all_has (λ r. Has (rows_in (table_of_log l) db) r) rows bad.0 page.known bad.1) bad.2
 
 abbrev number_key : Numbered → ℕ
 number_key x = x.key

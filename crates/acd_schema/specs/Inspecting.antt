@@ -8,7 +8,10 @@ use Rattle.sqlite.specs.Effect.{Database}
 use Rattle.sqlite.specs.declared.error.Error.{Error}
 use Rattle.sqlite.specs.declared.error.Error.TheVariants.{SqliteFailure}
 use Rattle.sqlite.specs.declared.error.ErrorCode.TheVariants.{OutOfMemory}
+use Rattle.acd_terms.specs.Groups.{are_groups}
 use Rattle.acd_terms.specs.Lists.{Every}
+use Rattle.acd_terms.specs.declared.record.GroupRecord.{GroupRecord}
+use Rattle.acd_terms.specs.declared.record.AgentRecord.{AgentRecord}
 use Rattle.acd_book.specs.Content.{Content}
 use Rattle.acd_columns.specs.declared.tables.Table.{Table}
 use Rattle.acd_columns.specs.declared.tables.Table.TheVariants as table
@@ -25,11 +28,12 @@ use Rattle.acd_schema.specs.declared.inspection.Told.{Told}
 use Rattle.acd_schema.specs.declared.inspection.Told.TheVariants.{Of, Faulty}
 use Rattle.acd_schema.specs.declared.inspection.Page.{Page}
 use Rattle.acd_schema.specs.declared.inspection.Page.TheVariants.{Bad, Last, More}
-use Rattle.acd_columns.specs.Relations.{meta_of}
+use Rattle.acd_columns.specs.Relations.{meta_of, group_part, agent_part, further_in, priorities_in}
 use Rattle.acd_columns.specs.Content.{IsIn, number_of}
 use Rattle.acd_columns.specs.Draft.{Fits}
-use Rattle.acd_columns.specs.AnyRows.{is_good, are_good, is_good_in, IsFiled, table_of_log, Numbered, AreNumbered, values_behind, has_meta, BeginsAsBook, schema_of, Covers}
-use Rattle.acd_columns.specs.Rows.{meta_shown, group_values, station_values, agent_values, call_values, connection_values, monitor_values, event_values, kept_values}
+use Rattle.acd_columns.specs.AnyRows.{is_good, are_good, is_good_in, is_beside, is_ranked, IsFiledAs, table_of_log, Numbered, AreNumbered, values_behind, has_meta, BeginsAsBook, schema_of, Covers}
+use Rattle.acd_columns.specs.Rows.{meta_shown, group_values, station_values, agent_values, call_values, connection_values, monitor_values, event_values, kept_values, further_values, priority_values}
+use Rattle.acd_columns.specs.Schema.{book_schema}
 use Rattle.acd_columns.specs.Schema as schema
 use Rattle.acd_columns.specs.Values.{◌>>=◌, whole_at}
 
@@ -38,23 +42,25 @@ use Rattle.acd_columns.specs.Values.{◌>>=◌, whole_at}
 -- the values of the rows of a table
 abbrev pub values_of : Table → Content → List Row
 values_of table.Meta c = meta_shown (meta_of c.rows) ∷ []
-values_of table.Groups c = map group_values c.rows.groups
+values_of table.Groups c = map (λ (g : GroupRecord). group_values (group_part g)) c.rows.groups
 values_of table.Stations c = map station_values c.rows.stations
-values_of table.Agents c = map agent_values c.rows.agents
+values_of table.Agents c = map (λ (a : AgentRecord). agent_values (agent_part a)) c.rows.agents
 values_of table.Calls c = map call_values c.rows.calls
 values_of table.Connections c = map connection_values c.rows.connections
 values_of table.Monitors c = map monitor_values c.rows.monitors
 values_of table.Events c = map event_values c.events
 values_of table.Kept c = map kept_values c.kept
-values_of table.AgentGroups c = []
-values_of table.GroupPriority c = []
+values_of table.AgentGroups c = map further_values (further_in c.rows.agents)
+values_of table.GroupPriority c = map priority_values (priorities_in c.rows.groups)
 
 -- each value of the table is in its range
 unfoldable pub is_good_table : Table → Content → Bool
 is_good_table t c = are_good t (values_of t c)
 
-abbrev pub IsInRange : Content → Type 0
-IsInRange c = (t : Table) → is_good_table t c ≡ true
+-- each value of each table is, and each agent has eight groups at most, which ascend
+pub record IsInRange (c : Content) : Type 0 where
+  pub tables : (t : Table) → is_good_table t c ≡ true
+  pub groups : Every (λ (a : AgentRecord). are_groups a.groups ≡ true) c.rows.agents
 
 -- the tables of a version, in the order in which they are looked at
 abbrev pub tables_of : Version → List Table
@@ -65,7 +71,7 @@ tables_of version.Second =
 
 -- one that isn't good or, of rows that are filed, none
 abbrev pub IsBadOf : List Table → Database → Option Table → Type 0
-IsBadOf tables d None = IsFiled d.trees → Every (λ t. is_good_in t d.trees ≡ true) tables
+IsBadOf tables d None = IsFiledAs version.First d.trees → Every (λ t. is_good_in t d.trees ≡ true) tables
 IsBadOf tables d (Some t) = Covers d.schema t × (is_good_in t d.trees ≡ false)
 
 unfoldable pub is_good_behind : Log → ℕ → List Numbered → Bool
@@ -120,9 +126,17 @@ IsVersion d n =
     ((has_meta d.schema.tables ≡ false) × (n ≡ 0))
     ⊎ (BeginsAsBook d.schema × (((d.trees schema.meta.tree ≡ []) × (n ≡ 0)) ⊎ IsToldIn d.trees (Some n)))
 
--- a value of the table is out of its range
+-- a further group, or a priority, doesn't belong to what stands beside it
+abbrev pub IsMisplaced : Table → Trees → Type 0
+IsMisplaced table.AgentGroups db = is_beside db ≡ false
+IsMisplaced table.GroupPriority db = is_ranked db ≡ false
+IsMisplaced _ db = ⊥
+
+-- a value of the table is out of its range, or its rows don't belong to those of another
 abbrev pub IsBadIn : Table → Database → Type 0
-IsBadIn t d = (Covers d.schema t × (is_good_in t d.trees ≡ false)) ⊎ ((t ≡ table.Meta) × BeginsAsBook d.schema × IsToldIn d.trees None)
+IsBadIn t d =
+    (Covers d.schema t × (is_good_in t d.trees ≡ false)) ⊎ ((t ≡ table.Meta) × BeginsAsBook d.schema × IsToldIn d.trees None)
+    ⊎ ((d.schema ≡ book_schema) × IsMisplaced t d.trees)
 
 abbrev pub told_of : Option ℕ → Told
 told_of None = Faulty (BadRow table.Meta)
@@ -149,16 +163,27 @@ IsFaultOf d (BadRow t) = IsBadIn t d
 IsFaultOf d NoMemory = ⊤
 IsFaultOf d Store = ⊤
 
+-- further groups and priorities belong to what stands beside them
+abbrev pub ArePlaced : Version → Trees → Type 0
+ArePlaced version.First db = ⊤
+ArePlaced version.Second db = (is_beside db ≡ true) × (is_ranked db ≡ true)
+
 -- the tables are those of a book of this version, and where their rows are filed, each value is in its range
 pub record IsOfBook (v : Version) (d : Database) : Type 0 where
   pub schema_is : d.schema ≡ schema_of v
+  pub in_range : IsFiledAs version.First d.trees → (t : Table) → IsIn v t → is_good_in t d.trees ≡ true
   pub version : IsToldIn d.trees (Some (number_of v))
-  pub in_range : IsFiled d.trees → (t : Table) → IsIn v t → is_good_in t d.trees ≡ true
+  pub placed : ArePlaced v d.trees
 
 -- what the rows tell of tables that are a book's
 abbrev pub IsRowFound : Version → Database → Option AdoptFault → Type 0
-IsRowFound v d None = IsFiled d.trees → (t : Table) → IsIn v t → is_good_in t d.trees ≡ true
+IsRowFound v d None = ArePlaced v d.trees × (IsFiledAs version.First d.trees → (t : Table) → IsIn v t → is_good_in t d.trees ≡ true)
 IsRowFound v d (Some f) = IsFaultOf d f
+
+-- what further groups and priorities tell
+abbrev pub IsPlaceFound : Version → Database → Option AdoptFault → Type 0
+IsPlaceFound v d None = ArePlaced v d.trees
+IsPlaceFound v d (Some f) = IsFaultOf d f
 
 abbrev pub IsFound : Database → Found → Type 0
 IsFound d (Book v) = IsOfBook v d

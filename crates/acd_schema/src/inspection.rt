@@ -1,30 +1,29 @@
 //! Whether a database has the tables of a book, of version 1 or 2, with each value in its range.
 
-ghost use Rattle.std.specs.Prelude.{◌≡◌, false, None, Some, IfOk};
+ghost use Rattle.std.specs.Prelude.{◌≡◌, true, false, None, Some, IfOk};
 ghost use Rattle.acd_terms.specs.Lists.{Every};
 ghost use Rattle.sqlite.specs.Effect.{Database};
 ghost use Rattle.sqlite.specs.Held.{state};
 ghost use Rattle.acd_columns.specs.declared.tables.Table.TheVariants as table;
-ghost use Rattle.acd_columns.specs.AnyRows.{table_of_log, are_good, schema_of, BeginsAsBook, Covers, TellsGood};
+ghost use Rattle.acd_columns.specs.AnyRows.{is_beside, table_of_log, are_good, schema_of, BeginsAsBook, Covers, TellsGood};
 ghost use Rattle.acd_columns.specs.Content.{number_of};
-ghost use Rattle.acd_schema.specs.Inspecting.{number_if_good, last_good, tables_of, told_by, IsLike, TellsBehind, IsBadOf, IsPage, IsPageOf, PageFits, IsFound, IsRowFound, IsTold, IsToldIn, IsStoreFault, adopt_fault_of};
+ghost use Rattle.acd_schema.specs.Inspecting.{number_if_good, last_good, tables_of, told_by, IsLike, TellsBehind, IsBadOf, IsPage, IsPageOf, PageFits, IsFound, IsRowFound, IsPlaceFound, IsTold, IsToldIn, IsStoreFault, adopt_fault_of};
 ghost use Rattle.acd_columns.specs.Draft.{Fits};
 ghost use Rattle.acd_columns.specs.Schema.{nine, old_schema, book_schema, Begins};
 ghost use Rattle.acd_columns.specs.Seeing.{Sees, HasLooked};
 
 use crate::create::{set_up, set_up_old};
 use crate::fault::{AdoptFault, Found};
-use acd_columns::decode::{KeptReader, connection_in, counters_in, event_number};
-use acd_columns::{Log, Table, Version, values};
+use acd_columns::decode::{KeptReader, connection_in, counters_in, event_number, further_in};
+use acd_columns::{AgentRow, GroupPriority, GroupRow, Log, Table, Version, values};
 use acd_statements::fitting::{fits, too_large};
-use acd_statements::look::{
-    further_rows, has_meta, priority_rows, unordered_connection_rows, version_rows,
-};
+use acd_statements::look::{further_rows, has_meta, unordered_connection_rows, version_rows};
+use acd_statements::placed::{are_further_placed, are_priorities_placed};
 use acd_statements::read::{meta_rows, probe};
 use acd_statements::same::{is_same_first, is_same_schema};
 use acd_statements::select::is_good;
 use acd_statements::tables::{low_rows, rows_above};
-use acd_terms::{AgentRecord, CallRecord, GroupRecord, Limits, MonitorRecord, StationRecord};
+use acd_terms::{CallRecord, Limits, MonitorRecord, StationRecord};
 use sqlite::{Alter, Connection, Error, ErrorCode, MemStore, Row};
 use sqlite_schema::schema::Schema;
 use std::alloc::Global;
@@ -95,26 +94,21 @@ fn are_good_connections<S: Alter>(conn: &mut Connection<S>) -> Result<bool, Erro
     }
 }
 
-// Whether there is no further group.
-fn has_no_further<S: Alter>(conn: &mut Connection<S>) -> Result<bool, Error>
+#[tactic(auto, unfolding(acd_columns::specs::AnyRows::are_good))]
+fn are_further(rows: &[Row]) -> bool
+    ensures { result ≡ are_good table.AgentGroups rows.now }
+{
+    rows.iter().all(|row| further_in(row).is_some())
+}
+
+// Whether each value of the further groups is in its range.
+fn are_good_further<S: Alter>(conn: &mut Connection<S>) -> Result<bool, Error>
     requires { conn.old.in_transaction ≡ false }
     ensures idle { conn.new.in_transaction ≡ false }
     ensures seen { (d : Database) → d.schema ≡ book_schema → Sees d (state S.Store conn.old) (state S.Store conn.new) result (λ good. TellsGood table.AgentGroups d.trees good) }
 {
     match further_rows(conn) {
-        Ok(rows) => Ok(rows.is_empty()),
-        Err(error) => Err(error),
-    }
-}
-
-// Whether there is no priority.
-fn has_no_priority<S: Alter>(conn: &mut Connection<S>) -> Result<bool, Error>
-    requires { conn.old.in_transaction ≡ false }
-    ensures idle { conn.new.in_transaction ≡ false }
-    ensures seen { (d : Database) → d.schema ≡ book_schema → Sees d (state S.Store conn.old) (state S.Store conn.new) result (λ good. TellsGood table.GroupPriority d.trees good) }
-{
-    match priority_rows(conn) {
-        Ok(rows) => Ok(rows.is_empty()),
+        Ok(rows) => Ok(are_further(&rows)),
         Err(error) => Err(error),
     }
 }
@@ -239,16 +233,16 @@ fn is_good_table<S: Alter>(
 {
     match table {
         Table::Meta => is_good_meta(conn),
-        Table::Groups => is_good::<GroupRecord, S>(conn),
+        Table::Groups => is_good::<GroupRow, S>(conn),
         Table::Stations => is_good::<StationRecord, S>(conn),
-        Table::Agents => is_good::<AgentRecord, S>(conn),
+        Table::Agents => is_good::<AgentRow, S>(conn),
         Table::Calls => is_good::<CallRecord, S>(conn),
         Table::Connections => are_good_connections(conn),
         Table::Monitors => is_good::<MonitorRecord, S>(conn),
         Table::Events => is_good_log(kept, conn, Log::Events),
         Table::Kept => is_good_log(kept, conn, Log::Kept),
-        Table::AgentGroups => has_no_further(conn),
-        Table::GroupPriority => has_no_priority(conn),
+        Table::AgentGroups => are_good_further(conn),
+        Table::GroupPriority => is_good::<GroupPriority, S>(conn),
     }
 }
 
@@ -296,6 +290,53 @@ fn tables_of(version: Version) -> &'static [Table]
     }
 }
 
+// What further groups and priorities tell that don't belong to what stands beside them.
+fn misplaced<S: Alter>(
+    alloc: Global,
+    conn: &mut Connection<S>,
+    version: Version,
+) -> Result<Option<AdoptFault>, Error>
+    requires { conn.old.in_transaction ≡ false }
+    ensures idle { conn.new.in_transaction ≡ false }
+    ensures seen { (d : Database) → d.schema ≡ schema_of version → Sees d (state S.Store conn.old) (state S.Store conn.new) result (λ fault. IsPlaceFound version d fault) }
+{
+    match version {
+        Version::First => Ok(None),
+        Version::Second => found_misplaced(alloc, conn),
+    }
+}
+
+fn found_misplaced<S: Alter>(
+    alloc: Global,
+    conn: &mut Connection<S>,
+) -> Result<Option<AdoptFault>, Error>
+    requires { conn.old.in_transaction ≡ false }
+    ensures idle { conn.new.in_transaction ≡ false }
+    ensures seen { (d : Database) → d.schema ≡ book_schema → Sees d (state S.Store conn.old) (state S.Store conn.new) result (λ fault. IsPlaceFound Version.Second d fault) }
+{
+    match are_further_placed(alloc, conn) {
+        Ok(true) => ranks_misplaced(alloc, conn),
+        Ok(false) => Ok(Some(AdoptFault::BadRow(Table::AgentGroups))),
+        Err(error) => Err(error),
+    }
+}
+
+// The same of priorities alone.
+fn ranks_misplaced<S: Alter>(
+    alloc: Global,
+    conn: &mut Connection<S>,
+) -> Result<Option<AdoptFault>, Error>
+    requires { conn.old.in_transaction ≡ false }
+    ensures idle { conn.new.in_transaction ≡ false }
+    ensures seen { (d : Database) → d.schema ≡ book_schema → Sees d (state S.Store conn.old) (state S.Store conn.new) result (λ fault. is_beside d.trees ≡ true → IsPlaceFound Version.Second d fault) }
+{
+    match are_priorities_placed(alloc, conn) {
+        Ok(true) => Ok(None),
+        Ok(false) => Ok(Some(AdoptFault::BadRow(Table::GroupPriority))),
+        Err(error) => Err(error),
+    }
+}
+
 // What the tables tell against a book of the version.
 fn bad_row<S: Alter>(
     alloc: Global,
@@ -310,7 +351,7 @@ fn bad_row<S: Alter>(
     let bad = bad_table(&mut kept, conn, tables_of(version))?;
     match bad {
         Some(table) => Ok(Some(AdoptFault::BadRow(table))),
-        None => Ok(None),
+        None => misplaced(alloc, conn, version),
     }
 }
 

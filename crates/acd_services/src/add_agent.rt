@@ -6,7 +6,7 @@ ghost use Rattle.acd_model.specs.Services.AddAgent.{add_agent};
 use acd_model::{Change, Moves, Served, gives, refuse_if, silent};
 use acd_tables::Tables;
 use acd_terms::Refusal::{AgentExists, PlanFull};
-use acd_terms::{AgentId, AgentRecord, AgentState, Answer, Name, Turn};
+use acd_terms::{AgentId, AgentRecord, AgentState, Answer, Groups, Name, Turn};
 
 /// An agent is planned, who is logged on nowhere.
 #[tactic(auto, unfolding(acd_model::specs::Services::AddAgent::add_agent, acd_model::specs::Served::if_ok))]
@@ -21,7 +21,7 @@ pub fn add_agent(tables: &Tables, at: Turn, agent: AgentId, name: Name) -> Serve
         state: AgentState::Null,
         pending: None,
         station: None,
-        group: None,
+        groups: Groups::none(),
         stamp: at.stamp,
         since: at.moment,
     };

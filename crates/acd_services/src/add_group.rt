@@ -6,9 +6,9 @@ ghost use Rattle.acd_model.specs.Services.AddGroup.{add_group};
 use acd_model::{Change, Moves, Served, gives, refuse_if, silent};
 use acd_tables::Tables;
 use acd_terms::Refusal::{DeviceExists, PlanFull};
-use acd_terms::{Answer, DeviceId, Figures, GroupRecord, Name, Seconds};
+use acd_terms::{Answer, DeviceId, Figures, GroupRecord, Name, Priority, Seconds};
 
-/// A group is planned.
+/// A group is planned, of the lowest priority.
 #[tactic(auto, unfolding(acd_model::specs::Services::AddGroup::add_group, acd_model::specs::Served::if_ok))]
 pub fn add_group(
     tables: &Tables,
@@ -26,6 +26,7 @@ pub fn add_group(
         name,
         ring,
         wrap,
+        priority: Priority::lowest(),
         figures: Figures {
             entered: 0,
             answered: 0,

@@ -1,10 +1,10 @@
 //! The moves of agents.
 
 ghost use Rattle.std.specs.Prelude.{◌≡◌};
-ghost use Rattle.acd_model.specs.AgentMoves.{while_logged_on, in_state, state_report, go_to, go_from, log_on_at, become_busy, wait_for};
+ghost use Rattle.acd_model.specs.AgentMoves.{while_logged_on, groups_while_logged_on, in_state, state_report, go_to, go_from, log_on_at, become_busy, wait_for};
 
 use acd_model::{Change, Move, no_move, reported, silent};
-use acd_terms::{AgentId, AgentRecord, AgentState, DeviceId, Pending, Report, Turn};
+use acd_terms::{AgentId, AgentRecord, AgentState, DeviceId, Groups, Pending, Report, Turn};
 
 fn while_logged_on(state: AgentState, device: Option<DeviceId>) -> Option<DeviceId>
     ensures { result ≡ while_logged_on state device }
@@ -15,6 +15,15 @@ fn while_logged_on(state: AgentState, device: Option<DeviceId>) -> Option<Device
     }
 }
 
+fn groups_while_logged_on(state: AgentState, groups: Groups) -> Groups
+    ensures { result ≡ groups_while_logged_on state groups }
+{
+    match state {
+        AgentState::Null => Groups::none(),
+        _ => groups,
+    }
+}
+
 fn in_state(state: AgentState, at: Turn, agent: &AgentRecord) -> AgentRecord
     ensures { result ≡ in_state state at.moment at.stamp agent.now }
 {
@@ -22,7 +31,7 @@ fn in_state(state: AgentState, at: Turn, agent: &AgentRecord) -> AgentRecord
         state,
         pending: None,
         station: while_logged_on(state, agent.station),
-        group: while_logged_on(state, agent.group),
+        groups: groups_while_logged_on(state, agent.groups),
         stamp: at.stamp,
         since: at.moment,
         ..*agent
@@ -61,15 +70,15 @@ pub fn go_from(at: Turn, agent: &AgentRecord, state: AgentState) -> Move
     }
 }
 
-/// The agent logs on.
-pub fn log_on_at(at: Turn, agent: &AgentRecord, station: DeviceId, group: DeviceId) -> Move
-    ensures { result ≡ log_on_at at.moment at.stamp agent.now station group }
+/// The agent logs on. The report names the group of one who serves just one.
+pub fn log_on_at(at: Turn, agent: &AgentRecord, station: DeviceId, groups: Groups) -> Move
+    ensures { result ≡ log_on_at at.moment at.stamp agent.now station groups }
 {
     let logged_on = AgentRecord {
         state: AgentState::NotReady,
         pending: None,
         station: Some(station),
-        group: Some(group),
+        groups,
         stamp: at.stamp,
         since: at.moment,
         ..*agent
@@ -79,7 +88,7 @@ pub fn log_on_at(at: Turn, agent: &AgentRecord, station: DeviceId, group: Device
         Report::AgentLoggedOn {
             agent: agent.agent,
             station,
-            group,
+            group: groups.only(),
         },
     )
 }

@@ -29,6 +29,7 @@ mod releasing;
 mod retrieve_call;
 mod serving;
 mod set_agent_state;
+mod set_group_priority;
 mod single_step_transfer;
 
 pub use agent_moves::go_from;

@@ -21,6 +21,7 @@ use crate::monitor_stop::monitor_stop;
 use crate::phone_off_hook::phone_off_hook;
 use crate::retrieve_call::retrieve_call;
 use crate::set_agent_state::set_agent_state;
+use crate::set_group_priority::set_group_priority;
 use crate::single_step_transfer::single_step_transfer;
 use acd_model::Served;
 use acd_tables::Tables;
@@ -63,6 +64,9 @@ pub fn decide(tables: &Tables, at: Turn, command: &Command) -> Served
         }
         Command::MonitorStart { device } => monitor_start(tables, device),
         Command::MonitorStop { monitor } => monitor_stop(tables, monitor.number()),
+        Command::SetGroupPriority { device, priority } => {
+            set_group_priority(tables, device, priority)
+        }
         Command::Tick => unreachable!(),
     }
 }

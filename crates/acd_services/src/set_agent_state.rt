@@ -2,7 +2,7 @@
 
 ghost use Rattle.std.specs.Prelude.{◌≡◌};
 ghost use Rattle.acd_terms.specs.States.{is_in};
-ghost use Rattle.acd_model.specs.Services.SetAgentState.{log_on, go_or_wait, change_state, set_agent_state};
+ghost use Rattle.acd_model.specs.Services.SetAgentState.{all_groups, log_on, go_or_wait, change_state, set_agent_state};
 
 use crate::agent_moves::{go_from, log_on_at, wait_for};
 use acd_model::{Moves, Served, gives, refuse_if};
@@ -10,7 +10,10 @@ use acd_tables::Tables;
 use acd_terms::Refusal::{
     NotGroup, NotStation, StationTaken, UnknownAgent, UnknownDevice, WrongAgentState,
 };
-use acd_terms::{AgentId, AgentRecord, AgentState, Answer, DeviceId, Pending, Requested, Turn};
+use acd_terms::{
+    AgentId, AgentRecord, AgentState, Answer, DeviceId, Pending, Refusal, Requested, SomeGroups,
+    Turn,
+};
 
 // The agent is in the state that is wanted for.
 fn is_in(state: AgentState, wanted: Pending) -> bool
@@ -25,19 +28,31 @@ fn is_in(state: AgentState, wanted: Pending) -> bool
     }
 }
 
-// An agent in null logs on at a station, in a group.
-#[tactic(auto, unfolding(acd_model::specs::Services::SetAgentState::log_on, acd_model::specs::Served::if_ok))]
-fn log_on(tables: &Tables, at: Turn, agent: AgentId, device: DeviceId, group: DeviceId) -> Served
-    ensures { result ≡ log_on tables.now at.moment at.stamp agent device group }
+// Each is a planned group.
+#[tactic(auto, unfolding(acd_model::specs::Served::if_ok, acd_model::specs::Served::refuse_if))]
+fn all_groups(tables: &Tables, groups: &[DeviceId]) -> Result<(), Refusal>
+    ensures { result ≡ all_groups tables.now groups.now }
+{
+    for group in groups {
+        refuse_if(!tables.is_planned(*group), UnknownDevice)?;
+        refuse_if(!tables.is_group(*group), NotGroup)?;
+    }
+    Ok(())
+}
+
+// An agent in null logs on at a station, in some groups.
+#[tactic(auto, unfolding(acd_model::specs::Services::SetAgentState::log_on, acd_model::specs::Served::if_ok, acd_model::specs::Served::refuse_if))]
+fn log_on(tables: &Tables, at: Turn, agent: AgentId, device: DeviceId, groups: SomeGroups) -> Served
+    ensures { result ≡ log_on tables.now at.moment at.stamp agent device groups }
 {
     let agent = tables.agent(agent).ok_or(UnknownAgent)?;
     refuse_if(!agent.state.is_null(), WrongAgentState)?;
     refuse_if(!tables.is_planned(device), UnknownDevice)?;
     refuse_if(!tables.is_station(device), NotStation)?;
     refuse_if(tables.agent_at(device).is_some(), StationTaken)?;
-    refuse_if(!tables.is_planned(group), UnknownDevice)?;
-    refuse_if(!tables.is_group(group), NotGroup)?;
-    let moves = Moves::one(log_on_at(at, &agent, device, group));
+    let groups = groups.groups();
+    all_groups(tables, groups.as_slice())?;
+    let moves = Moves::one(log_on_at(at, &agent, device, groups));
     gives(Answer::State(AgentState::NotReady), moves)
 }
 
@@ -75,7 +90,7 @@ pub fn set_agent_state(tables: &Tables, at: Turn, agent: AgentId, requested: Req
     ensures { result ≡ set_agent_state tables.now at.moment at.stamp agent requested }
 {
     match requested {
-        Requested::LoggedOn { device, group } => log_on(tables, at, agent, device, group),
+        Requested::LoggedOn { device, groups } => log_on(tables, at, agent, device, groups),
         Requested::State(wanted) => change_state(tables, at, agent, wanted),
     }
 }

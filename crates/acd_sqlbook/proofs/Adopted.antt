@@ -11,7 +11,7 @@ use Rattle.acd_book.specs.Content.{Content, Within}
 use Rattle.acd_book.specs.Order.{IsOrdered as IsInOrder}
 use Rattle.acd_schema.specs.declared.fault.AdoptFault.{AdoptFault}
 use Rattle.acd_schema.specs.declared.fault.AdoptFault.TheVariants.{WrongVersion, BadRow, NoMemory, Store}
-use Rattle.acd_columns.specs.AnyRows.{IsFiled, HaveAllColumns}
+use Rattle.acd_columns.specs.AnyRows.{IsFiled, IsFiledAs, HaveAllColumns}
 use Rattle.acd_schema.specs.declared.fault.Found.{Found}
 use Rattle.acd_schema.specs.declared.fault.Found.TheVariants.{Book, Fault}
 use Rattle.acd_schema.specs.Inspecting.{IsFound, IsOfBook, IsFaultOf, IsStoreFault, IsInRange}
@@ -19,9 +19,9 @@ use Rattle.acd_schema.specs.Migrating.{IsMigration, IsMade, IsRestored, MayAlter
 use Rattle.acd_columns.specs.declared.tables.Table.TheVariants as table
 use Rattle.acd_columns.specs.declared.tables.Version.{Version}
 use Rattle.acd_columns.specs.declared.tables.Version.TheVariants as version
-use Rattle.acd_sqlbook.specs.Adopting.{IsAdopted, IsHandedBack, IsUntouched, MayMigrate}
-use Rattle.acd_columns.specs.Relations.{meta_of, relations_of}
-use Rattle.acd_columns.specs.Content.{Encodes, EncodesAs, Stores, part, pair_order, tree_of}
+use Rattle.acd_sqlbook.specs.Adopting.{HasAllColumns, IsAdopted, IsHandedBack, IsUntouched, MayMigrate}
+use Rattle.acd_columns.specs.Relations.{pair_order, meta_of, relations_of}
+use Rattle.acd_columns.specs.Content.{Encodes, EncodesAs, Stores, part, tree_of}
 use Rattle.acd_columns.specs.Rows.{further_row}
 use Rattle.acd_columns.specs.Schema.{old_schema, book_schema}
 use Rattle.acd_columns.specs.InTables.{content_of}
@@ -30,7 +30,6 @@ use Rattle.acd_sqlbook.specs.State.{IsSound, book_state}
 use Rattle.acd_sqlbook.proofs.BookStates.{Settles, Stays}
 use Rattle.acd_columns.proofs.Decoded.{decoded, decoded_as}
 use Rattle.acd_columns.proofs.Frames.{none_heaped}
-use Rattle.acd_columns.proofs.Listings.{version_begins}
 use Rattle.acd_schema.proofs.Contents.{content_in, filed_in, filed_by_store}
 use Rattle.acd_sqlbook.proofs.Rising.{stored_ordered}
 
@@ -40,30 +39,24 @@ apart_schemas : book_schema ≡ old_schema → ⊥
 apart_schemas e = let many : ◌≡◌ {A = ℕ} 11 9 = ap (λ (s : Schema). length s.tables) e in cc many
 
 pub migrated_encodes : (old new : Trees) (c : Content) → EncodesAs version.First old c → IsMigration old new → Encodes new c
-migrated_encodes old new c is m table.Meta = m.told (meta_of c.rows) (is table.Meta tt)
-migrated_encodes old new c is m table.Groups = subst (λ rows. Stores table.Groups rows (part table.Groups (relations_of c))) (sym (m.kept table.Groups tt (λ e. cc e))) (is table.Groups tt)
-migrated_encodes old new c is m table.Stations = subst (λ rows. Stores table.Stations rows (part table.Stations (relations_of c))) (sym (m.kept table.Stations tt (λ e. cc e))) (is table.Stations tt)
-migrated_encodes old new c is m table.Agents = subst (λ rows. Stores table.Agents rows (part table.Agents (relations_of c))) (sym (m.kept table.Agents tt (λ e. cc e))) (is table.Agents tt)
-migrated_encodes old new c is m table.Calls = subst (λ rows. Stores table.Calls rows (part table.Calls (relations_of c))) (sym (m.kept table.Calls tt (λ e. cc e))) (is table.Calls tt)
-migrated_encodes old new c is m table.Connections = subst (λ rows. Stores table.Connections rows (part table.Connections (relations_of c))) (sym (m.kept table.Connections tt (λ e. cc e))) (is table.Connections tt)
-migrated_encodes old new c is m table.Monitors = subst (λ rows. Stores table.Monitors rows (part table.Monitors (relations_of c))) (sym (m.kept table.Monitors tt (λ e. cc e))) (is table.Monitors tt)
-migrated_encodes old new c is m table.Events = subst (λ rows. Stores table.Events rows (part table.Events (relations_of c))) (sym (m.kept table.Events tt (λ e. cc e))) (is table.Events tt)
-migrated_encodes old new c is m table.Kept = subst (λ rows. Stores table.Kept rows (part table.Kept (relations_of c))) (sym (m.kept table.Kept tt (λ e. cc e))) (is table.Kept tt)
-migrated_encodes old new c is m table.AgentGroups = none_heaped pair_order further_row (new (tree_of table.AgentGroups)) m.further
-migrated_encodes old new c is m table.GroupPriority = record { rows_are = m.priorities; ascending = tt }
+migrated_encodes old new c is m table.Meta = m.told (meta_of c.rows) (is.tables table.Meta tt)
+migrated_encodes old new c is m table.Groups = subst (λ rows. Stores table.Groups rows (part table.Groups (relations_of c))) (sym (m.kept table.Groups tt (λ e. cc e))) (is.tables table.Groups tt)
+migrated_encodes old new c is m table.Stations = subst (λ rows. Stores table.Stations rows (part table.Stations (relations_of c))) (sym (m.kept table.Stations tt (λ e. cc e))) (is.tables table.Stations tt)
+migrated_encodes old new c is m table.Agents = subst (λ rows. Stores table.Agents rows (part table.Agents (relations_of c))) (sym (m.kept table.Agents tt (λ e. cc e))) (is.tables table.Agents tt)
+migrated_encodes old new c is m table.Calls = subst (λ rows. Stores table.Calls rows (part table.Calls (relations_of c))) (sym (m.kept table.Calls tt (λ e. cc e))) (is.tables table.Calls tt)
+migrated_encodes old new c is m table.Connections = subst (λ rows. Stores table.Connections rows (part table.Connections (relations_of c))) (sym (m.kept table.Connections tt (λ e. cc e))) (is.tables table.Connections tt)
+migrated_encodes old new c is m table.Monitors = subst (λ rows. Stores table.Monitors rows (part table.Monitors (relations_of c))) (sym (m.kept table.Monitors tt (λ e. cc e))) (is.tables table.Monitors tt)
+migrated_encodes old new c is m table.Events = subst (λ rows. Stores table.Events rows (part table.Events (relations_of c))) (sym (m.kept table.Events tt (λ e. cc e))) (is.tables table.Events tt)
+migrated_encodes old new c is m table.Kept = subst (λ rows. Stores table.Kept rows (part table.Kept (relations_of c))) (sym (m.kept table.Kept tt (λ e. cc e))) (is.tables table.Kept tt)
+migrated_encodes old new c is m table.AgentGroups = subst (Stores table.AgentGroups (new (tree_of table.AgentGroups))) (sym is.fits.0) (none_heaped pair_order further_row (new (tree_of table.AgentGroups)) m.further)
+migrated_encodes old new c is m table.GroupPriority = subst (Stores table.GroupPriority (new (tree_of table.GroupPriority))) (sym is.fits.1) (record { rows_are = m.priorities; ascending = tt })
 
 second_encodes : (db : Trees) (c : Content) → EncodesAs version.Second db c → Encodes db c
-second_encodes db c is table.Meta = is table.Meta tt
-second_encodes db c is table.Groups = is table.Groups tt
-second_encodes db c is table.Stations = is table.Stations tt
-second_encodes db c is table.Agents = is table.Agents tt
-second_encodes db c is table.Calls = is table.Calls tt
-second_encodes db c is table.Connections = is table.Connections tt
-second_encodes db c is table.Monitors = is table.Monitors tt
-second_encodes db c is table.Events = is table.Events tt
-second_encodes db c is table.Kept = is table.Kept tt
-second_encodes db c is table.AgentGroups = is table.AgentGroups tt
-second_encodes db c is table.GroupPriority = is table.GroupPriority tt
+second_encodes db c is = λ t. is.tables t tt
+
+second_filed : (d : Database) (c : Content) → d.schema ≡ book_schema → Encodes d.trees c → IsFiled d
+second_filed d c is stored version.First e = absurd (apart_schemas (sym is ∙ e))
+second_filed d c is stored version.Second e = filed_in d.trees c stored
 
 -- ---- the connection as a book, behind the look
 
@@ -123,11 +116,10 @@ module _ (old mid : State) (settles : Settles old) (k : HasCleanDisk mid) where
   back_failed e f is h = back (Err e) f h (of_store f is)
 
   -- the rows of a store that isn't broken rise
-  pub files : (v : Version) → HasLooked old mid (Ok (Book v)) IsFound → (w : View) → old.now.trees ≡ w.trees → IsListed (w.trees catalog_tree) w.shape w.reals → IsOrdered w.shape w.trees → HaveAllColumns old.now.trees → IsFiled old.now.trees
-  files v h w same listed ordered whole =
-      let found = found_in (Book v) h in
+  pub files : (v : Version) → HasLooked old mid (Ok (Book v)) IsFound → (w : View) → old.now.trees ≡ w.trees → IsListed (w.trees catalog_tree) w.shape w.reals → IsOrdered w.shape w.trees → HasAllColumns old.now → IsFiled old.now
+  files v h w same listed ordered whole u is =
       let obeys : IsDatabase (record { schema = old.now.schema; trees = w.trees }) = subst (λ t. IsDatabase (record { schema = old.now.schema; trees = t })) same (h.obeys (was_up (Book v) h)) in
-      subst IsFiled (sym same) (filed_by_store w old.now.schema (version_begins v old.now.schema found.schema_is) obeys listed ordered (subst HaveAllColumns same whole))
+      subst (IsFiledAs u) (sym same) (filed_by_store u w old.now.schema is obeys listed ordered (subst (HaveAllColumns u) same (whole u is)))
 
   pub adopted : Settles mid → Stays mid → HasLooked old mid (Ok (Book version.Second)) IsFound → IsAdopted old.now (book_state old 0) (book_state mid 0)
   adopted settled_after stays h =
@@ -135,7 +127,7 @@ module _ (old mid : State) (settles : Settles old) (k : HasCleanDisk mid) where
       let same = same_content (Ok (Book version.Second)) h up in
       let after = after_look (Book version.Second) h in
       let found = found_in (Book version.Second) h in
-      let made : IsFiled old.now.trees → (c : Content) × Encodes old.now.trees c × IsInRange c = λ filed. let c = content_in version.Second old.now found (h.obeys same.0) filed in (c.0, second_encodes old.now.trees c.0 c.1, c.2) in
+      let made : IsFiled old.now → (c : Content) × Encodes old.now.trees c × IsInRange c = λ filed. let c = content_in version.Second old.now found (h.obeys same.0) (filed version.Second found.schema_is) in (c.0, second_encodes old.now.trees c.0 c.1, c.2) in
       let held : (c : (c : Content) × Encodes old.now.trees c × IsInRange c) → c.0 ≡ content_of mid.committed.trees = λ c. sym (decoded old.now.trees c.0 c.1) ∙ sym (ap (λ (d : Database). content_of d.trees) after.committed) in
       record {
         was_open = same.0;
@@ -144,7 +136,7 @@ module _ (old mid : State) (settles : Settles old) (k : HasCleanDisk mid) where
         content = λ filed. same.1;
         stops = λ filed c stop. (stop.0, h.stops k stop.0 stop.1, stop.2);
         keeps = λ filed c stop. (mid.committed.trees, stays up, stop.2 ∙ ap content_of (settles stop.0 same.0 stop.1) ∙ sym same.1);
-        filed = λ sound. let held = sound.stands same.0 in filed_in old.now.trees held.0 (subst (λ (d : Database). Encodes d.trees held.0) (sym held.1.idle) held.1.encodes);
+        filed = λ sound. let held = sound.stands same.0 in second_filed old.now held.0 (ap (λ (d : Database). d.schema) held.1.idle ∙ held.1.schema) (subst (λ (d : Database). Encodes d.trees held.0) (sym held.1.idle) held.1.encodes);
         sound = λ filed. let c = made filed in record {
           stands = λ up. (c.0, record { is_open = up; idle = after.now ∙ sym after.committed; schema = ap (λ (d : Database). d.schema) after.committed ∙ found.schema_is; encodes = subst (λ (d : Database). Encodes d.trees c.0) (sym after.committed) c.1 });
           left = λ db left. (c.0, subst (λ t. Encodes t c.0) (sym (settled_after db up left ∙ ap (λ (d : Database). d.trees) after.committed)) c.1);
@@ -169,8 +161,8 @@ module _ (old mid new : State) (settles : Settles old) (stays : Stays old) (k : 
   schema_there = ap (λ (d : Database). d.schema) after.now ∙ first.schema_is
 
   -- the content that it held
-  made : IsFiled old.now.trees → (c : Content) × EncodesAs version.First old.now.trees c × IsInRange c
-  made filed = content_in version.First old.now first (h.obeys was) filed
+  made : IsFiled old.now → (c : Content) × EncodesAs version.First old.now.trees c × IsInRange c
+  made filed = content_in version.First old.now first (h.obeys was) (filed version.First first.schema_is)
 
   held_before : (c : Content) → EncodesAs version.First old.now.trees c → content_of old.committed.trees ≡ c
   held_before c is = ap (λ (d : Database). content_of d.trees) (sym (h.settled was)) ∙ decoded_as version.First old.now.trees c is
@@ -179,10 +171,10 @@ module _ (old mid new : State) (settles : Settles old) (stays : Stays old) (k : 
   migrates db m = subst (λ (d : Database). IsMigration d.trees db) after.now m
 
   -- a migration has it too
-  same_there : (db : Trees) → IsMigration old.now.trees db → IsFiled old.now.trees → content_of db ≡ content_of old.committed.trees
+  same_there : (db : Trees) → IsMigration old.now.trees db → IsFiled old.now → content_of db ≡ content_of old.committed.trees
   same_there db m filed = let c = made filed in decoded db c.0 (migrated_encodes old.now.trees db c.0 c.1 m) ∙ sym (held_before c.0 c.1)
 
-  second_there : (db : Trees) → IsMigration old.now.trees db → IsFiled old.now.trees → Encodes db (content_of old.committed.trees)
+  second_there : (db : Trees) → IsMigration old.now.trees db → IsFiled old.now → Encodes db (content_of old.committed.trees)
   second_there db m filed = let c = made filed in subst (Encodes db) (sym (held_before c.0 c.1)) (migrated_encodes old.now.trees db c.0 c.1 m)
 
   never_sound : IsSound old → ⊥
@@ -197,7 +189,7 @@ module _ (old mid new : State) (settles : Settles old) (stays : Stays old) (k : 
     | inr m ↦ inr (record { version = first.schema_is; tables = migrates db m; content = λ filed. second_there db (migrates db m) filed })
   ]
 
-  within : MayAlter mid new → IsFiled old.now.trees → Within (book_state new 0).stops (book_state old 0).stops
+  within : MayAlter mid new → IsFiled old.now → Within (book_state new 0).stops (book_state old 0).stops
   within may filed c stop = elim (may stop.0 stop.1) [
     | inl before ↦ (stop.0, h.stops k stop.0 before, stop.2)
     | inr m ↦ (old.committed.trees, stays was, stop.2 ∙ same_there stop.0 (migrates stop.0 m) filed)

@@ -1,9 +1,12 @@
 -- Lists of changes and events, written one after the other.
-use Rattle.std.proofs.Common.{◌≡◌, ℕ, ◌+◌, ◌<◌, ◌≤◌, List, [], ◌∷◌, ◌++◌, length, take, get_or, Result, Ok, Err, OnOk, refl, sym, ap, subst, ◌∙◌, arith}
+use Rattle.std.proofs.Common.{◌≡◌, ℕ, true, ◌+◌, ◌<◌, ◌≤◌, List, [], ◌∷◌, ◌++◌, length, take, get_or, Result, Ok, Err, OnOk, refl, sym, ap, ap₂, subst, ◌∙◌, arith}
+use Rattle.std.specs.Ordering.{nat_cmp}
+use Rattle.std.proofs.lemmas.Cmp.{nat_cmp_total}
 use Rattle.std.proofs.lemmas.Grind.{common_steps}
 use Rattle.sqlite.specs.declared.error.Error.{Error}
 use Rattle.sqlite.specs.State.{State}
-use Rattle.acd_terms.specs.Lists.{put_by, remove_by}
+use Rattle.acd_terms.specs.Groups.{further_groups}
+use Rattle.acd_terms.specs.Lists.{IsAscending, ascends, put_by, remove_by}
 use Rattle.acd_terms.specs.declared.record.GroupRecord.{GroupRecord}
 use Rattle.acd_terms.specs.declared.record.StationRecord.{StationRecord}
 use Rattle.acd_terms.specs.declared.record.AgentRecord.{AgentRecord}
@@ -17,11 +20,14 @@ use Rattle.acd_model.specs.declared.moves.Change.{Change}
 use Rattle.acd_model.specs.declared.moves.Change.TheVariants.{PutGroup, PutStation, PutAgent, PutCall, PutConnection, PutMonitor, RemoveCall, RemoveConnection, RemoveMonitor}
 use Rattle.acd_book.specs.Content.{Content}
 use Rattle.acd_columns.specs.declared.tables.Table.TheVariants as table
-use Rattle.acd_columns.specs.Relations.{Relations, relations_of}
+use Rattle.acd_columns.specs.Relations.{Relations, relations_of, with_group_parts, with_agent_parts}
 use Rattle.acd_columns.specs.Content.{with_part}
-use Rattle.acd_columns.specs.Tables.{groups, stations, agents, calls, monitors}
+use Rattle.acd_columns.specs.Tables.{stations, calls, monitors}
 use Rattle.acd_statements.specs.Writing.{with_put, without}
 use Rattle.acd_columns.specs.Draft.{Drafts}
+use Rattle.acd_columns.proofs.Decoded.{groups_rise, agents_rise}
+use Rattle.acd_columns.proofs.Joined.{further_put, agents_put, priority_put, groups_put}
+use Rattle.acd_laws.proofs.Decided.{ascending_from}
 use Rattle.acd_sqlbook.specs.Commit.{filed, with_event, with_events}
 
 -- a fold that takes the first of the list first takes the last one last
@@ -44,27 +50,42 @@ events_next = next with_events with_event (λ c. refl) (λ c x xs. refl)
 
 -- ---- one change, as its statement makes it
 
--- what a statement makes of the relations of a content
-pub leaving : (old new : State) (r : Result (Unit {0}) Error) (made : Relations → Relations) (after : Content → Content) → ((c : Content) → made (relations_of c) ≡ relations_of (after c))
+-- what a statement makes of the relations of a content that the transaction saw
+pub leaving : (old new : State) (r : Result (Unit {0}) Error) (made : Relations → Relations) (after : Content → Content) → ((c : Content) → Drafts old (relations_of c) → made (relations_of c) ≡ relations_of (after c))
     → OnOk r ((x : Relations) → Drafts old x → Drafts new (made x)) → OnOk r ((c : Content) → Drafts old (relations_of c) → Drafts new (relations_of (after c)))
 leaving old new (Err e) made after same put = tt
-leaving old new (Ok x) made after same put = λ (c : Content) (d : Drafts old (relations_of c)). subst (Drafts new) (same c) (put (relations_of c) d)
+leaving old new (Ok x) made after same put = λ (c : Content) (d : Drafts old (relations_of c)). subst (Drafts new) (same c d) (put (relations_of c) d)
+
+-- the same of a change that is known by another name
+pub named : (old new : State) (r : Result (Unit {0}) Error) (change v : Change) → change ≡ v
+    → OnOk r ((c : Content) → Drafts old (relations_of c) → Drafts new (relations_of (filed c v))) → OnOk r ((c : Content) → Drafts old (relations_of c) → Drafts new (relations_of (filed c change)))
+named old new r change v is = subst (λ w. OnOk r ((c : Content) → Drafts old (relations_of c) → Drafts new (relations_of (filed c w)))) (sym is)
 
 pub filing : (old new : State) (r : Result (Unit {0}) Error) (change v : Change) (made : Relations → Relations) → change ≡ v → ((c : Content) → made (relations_of c) ≡ relations_of (filed c v))
     → OnOk r ((x : Relations) → Drafts old x → Drafts new (made x)) → OnOk r ((c : Content) → Drafts old (relations_of c) → Drafts new (relations_of (filed c change)))
-filing old new r change v made is same = leaving old new r made (λ c. filed c change) (λ c. same c ∙ ap (λ w. relations_of (filed c w)) (sym is))
+filing old new r change v made is same put = named old new r change v is (leaving old new r made (λ c. filed c v) (λ c seen. same c) put)
 
-pub group_filed : (g : GroupRecord) (c : Content) → with_put groups g (relations_of c) ≡ relations_of (filed c (PutGroup g))
+-- what a group and an agent that are put make of their two tables, which stand in ascending number
+pub group_filed : (g : GroupRecord) (old : State) (c : Content) → Drafts old (relations_of c) → with_group_parts g (relations_of c) ≡ relations_of (filed c (PutGroup g))
 unfolding with_group
-group_filed g c = refl
+group_filed g old c seen =
+    let up = groups_rise c.rows.groups (seen.tables table.Groups).ascending in
+    ap₂ (λ parts ranks. record (relations_of c) { groups = parts; priorities = ranks }) (groups_put g c.rows.groups) (priority_put g c.rows.groups up)
 
 pub station_filed : (s : StationRecord) (c : Content) → with_put stations s (relations_of c) ≡ relations_of (filed c (PutStation s))
 unfolding with_station
 station_filed s c = refl
 
-pub agent_filed : (a : AgentRecord) (c : Content) → with_put agents a (relations_of c) ≡ relations_of (filed c (PutAgent a))
+-- all but the first of those that ascend
+further_ascend : (gs : List ℕ) → ascends nat_cmp gs ≡ true → IsAscending nat_cmp (further_groups gs)
+further_ascend [] h = tt
+further_ascend (g ∷ gs) h = (ascending_from nat_cmp nat_cmp_total (g ∷ gs) h).1
+
+pub agent_filed : (a : AgentRecord) → ascends nat_cmp a.groups ≡ true → (old : State) (c : Content) → Drafts old (relations_of c) → with_agent_parts a (relations_of c) ≡ relations_of (filed c (PutAgent a))
 unfolding with_agent
-agent_filed a c = refl
+agent_filed a own old c seen =
+    let up = agents_rise c.rows.agents (seen.tables table.Agents).ascending in
+    ap₂ (λ parts pairs. record (relations_of c) { agents = parts; further = pairs }) (agents_put a c.rows.agents) (further_put a c.rows.agents (further_ascend a.groups own) up)
 
 pub call_filed : (k : CallRecord) (c : Content) → with_put calls k (relations_of c) ≡ relations_of (filed c (PutCall k))
 unfolding with_call

@@ -18,6 +18,7 @@ use Rattle.acd_sqlbook.specs.Calls.{HasRead, HasReplaced}
 use Rattle.acd_sqlbook.specs.Commit.{made_by}
 use Rattle.acd_columns.specs.Relations.{meta_of}
 use Rattle.acd_columns.specs.Draft.{Holds, AddsStop}
+use Rattle.acd_columns.proofs.Decoded.{groups_rise, agents_rise}
 use Rattle.acd_differences.specs.Transition.{HasTables}
 use Rattle.acd_sqlbook.proofs.Committing.{rows_made}
 use Rattle.acd_sqlbook.proofs.Standing.{quiet_still, reads_not, reads_on, commits_not, commits_behind}
@@ -25,9 +26,9 @@ use Rattle.acd_sqlbook.proofs.Standing.{quiet_still, reads_not, reads_on, commit
 -- what is held is in order
 held_in_order : (s : State) (c : Content) → Holds s c → Orders c.rows
 held_in_order s c held = record {
-  groups = (held.encodes table.Groups).ascending;
+  groups = groups_rise c.rows.groups (held.encodes table.Groups).ascending;
   stations = (held.encodes table.Stations).ascending;
-  agents = (held.encodes table.Agents).ascending;
+  agents = agents_rise c.rows.agents (held.encodes table.Agents).ascending;
   calls = (held.encodes table.Calls).ascending;
   connections = (held.encodes table.Connections).ascending;
   monitors = (held.encodes table.Monitors).ascending;

@@ -73,10 +73,10 @@ unfolding is_good_table
 stored_ordered db c is good = record {
   kept = rises stamp_of c.kept
       (all_so (λ k. is_good table.Kept (kept_values k) ≡ true) (λ k. 0 < stamp_of k) kept_above c.kept
-      (of_mapped (λ r. is_good table.Kept r ≡ true) kept_values c.kept (each_good table.Kept (map kept_values c.kept) (good table.Kept))))
+      (of_mapped (λ r. is_good table.Kept r ≡ true) kept_values c.kept (each_good table.Kept (map kept_values c.kept) (good.tables table.Kept))))
       (is table.Kept).0.ascending;
   events = rises number_of c.events
       (all_so (λ e. is_good table.Events (event_values e) ≡ true) (λ e. 0 < number_of e) event_above c.events
-      (of_mapped (λ r. is_good table.Events r ≡ true) event_values c.events (each_good table.Events (map event_values c.events) (good table.Events))))
+      (of_mapped (λ r. is_good table.Events r ≡ true) event_values c.events (each_good table.Events (map event_values c.events) (good.tables table.Events))))
       (is table.Events).ascending;
 }

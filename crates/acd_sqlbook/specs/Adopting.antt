@@ -10,12 +10,16 @@ use Rattle.acd_schema.specs.declared.fault.AdoptFault.{AdoptFault}
 use Rattle.acd_columns.specs.Content.{Encodes}
 use Rattle.acd_columns.specs.InTables.{content_of}
 use Rattle.acd_columns.specs.Draft.{NoStop}
-use Rattle.acd_columns.specs.AnyRows.{IsFiled}
+use Rattle.acd_columns.specs.AnyRows.{IsFiled, HaveAllColumns, schema_of}
 use Rattle.acd_columns.specs.Seeing.{HasDatabase}
 use Rattle.acd_columns.specs.declared.tables.Version.{Version}
 use Rattle.acd_columns.specs.Schema.{old_schema}
 use Rattle.acd_schema.specs.Migrating.{IsMigration}
 use Rattle.acd_schema.specs.Inspecting.{IsFaultOf, IsOfBook, IsInRange}
+
+-- each row of its version's tables has its number, and a value for each column
+abbrev pub HasAllColumns : Database → Type 0
+HasAllColumns d = (v : Version) → d.schema ≡ schema_of v → HaveAllColumns v d.trees
 
 -- nothing is changed, in tables of a book or of anything else: no stop is new and, while the connection is open, its database is the one that it was
 pub record IsUntouched (old new : State) : Type 0 where
@@ -26,7 +30,7 @@ pub record IsUntouched (old new : State) : Type 0 where
 pub record IsSecondOf (old : State) (db : Trees) : Type 0 where
   pub version : old.now.schema ≡ old_schema
   pub tables : IsMigration old.now.trees db
-  pub content : IsFiled old.now.trees → Encodes db (content_of old.committed.trees)
+  pub content : IsFiled old.now → Encodes db (content_of old.committed.trees)
 
 -- a crash leaves what it left before or, of version 1, its migration
 abbrev pub MayMigrate : State → State → Type 0
@@ -37,17 +41,17 @@ pub record IsAdopted (d : Database) (old new : BookState) : Type 0 where
   pub was_open : old.is_open
   pub live : new.is_open
   pub of_book : (v : Version) × IsOfBook v d
-  pub filed : old.is_sound → IsFiled d.trees
-  pub content : IsFiled d.trees → new.content ≡ old.content
-  pub stops : IsFiled d.trees → Within new.stops old.stops
-  pub keeps : IsFiled d.trees → Within old.stops new.stops
-  pub sound : IsFiled d.trees → new.is_sound
-  pub in_range : IsFiled d.trees → IsInRange new.content
-  pub ordered : IsFiled d.trees → IsOrdered new.content
+  pub filed : old.is_sound → IsFiled d
+  pub content : IsFiled d → new.content ≡ old.content
+  pub stops : IsFiled d → Within new.stops old.stops
+  pub keeps : IsFiled d → Within old.stops new.stops
+  pub sound : IsFiled d → new.is_sound
+  pub in_range : IsFiled d → IsInRange new.content
+  pub ordered : IsFiled d → IsOrdered new.content
 
 -- a connection that is handed back: no stop is new and, while it is open, it holds what it held
 pub record IsHandedBack (d : Database) (old new : BookState) (fault : AdoptFault) : Type 0 where
   pub sound : old.is_sound → new.is_sound
   pub same : new.is_open → old.is_open × (new.content ≡ old.content)
-  pub stops : IsFiled d.trees → Within new.stops old.stops
+  pub stops : IsFiled d → Within new.stops old.stops
   pub cause : IsFaultOf d fault

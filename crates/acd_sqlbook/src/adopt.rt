@@ -3,11 +3,11 @@
 ghost use Rattle.std.specs.Prelude.{◌≡◌, ◌≢◌, ◌⊎◌, false, IfOk, IfErr};
 ghost use Rattle.sqlite.specs.State.{HasCleanDisk};
 ghost use Rattle.sqlite.specs.Held.{state};
-ghost use Rattle.acd_columns.specs.AnyRows.{HaveAllColumns, IsFiled};
+ghost use Rattle.acd_columns.specs.AnyRows.{IsFiled};
 ghost use Rattle.acd_columns.specs.Schema.{old_schema, book_schema};
 ghost use Rattle.acd_schema.specs.Inspecting.{IsStoreFault};
 ghost use Rattle.acd_schema.specs.Migrating.{IsMade};
-ghost use Rattle.acd_sqlbook.specs.Adopting.{IsAdopted, IsHandedBack, IsUntouched, MayMigrate};
+ghost use Rattle.acd_sqlbook.specs.Adopting.{HasAllColumns, IsAdopted, IsHandedBack, IsUntouched, MayMigrate};
 ghost use Rattle.acd_sqlbook.specs.State.{book_state};
 
 use crate::book::SqlBook;
@@ -30,7 +30,7 @@ impl<S: Alter> SqlBook<S> {
         ensures untouched { IfOk result (λ b. HasCleanDisk (state S.Store b.conn) → (state S.Store conn).now.schema ≡ book_schema → IsUntouched (state S.Store conn) (state S.Store b.conn)) }
         ensures migrated { IfOk result (λ b. HasCleanDisk (state S.Store b.conn) → (state S.Store conn).now.schema ≡ old_schema → IsMade (state S.Store conn) (state S.Store b.conn)) }
         ensures leaves { IfOk result (λ b. HasCleanDisk (state S.Store b.conn) → MayMigrate (state S.Store conn) (state S.Store b.conn)) }
-        ensures filed { IfOk result (λ b. HasCleanDisk (state S.Store b.conn) → (S.Store.view conn.store).is_broken ≡ false → HaveAllColumns (state S.Store conn).now.trees → IsFiled (state S.Store conn).now.trees) }
+        ensures filed { IfOk result (λ b. HasCleanDisk (state S.Store b.conn) → (S.Store.view conn.store).is_broken ≡ false → HasAllColumns (state S.Store conn).now → IsFiled (state S.Store conn).now) }
         ensures counted { IfOk result (λ b. b.failures ≡ 0) }
         ensures clean { IfOk result (λ b. HasCleanDisk (state S.Store b.conn) → HasCleanDisk (state S.Store conn)) }
         ensures idle { IfErr result (λ e. e.1.in_transaction ≡ false) }

@@ -16,11 +16,12 @@ use acd_book::Kept;
 use acd_columns::Meta;
 use acd_model::Change;
 use acd_statements::fitting::{fits, too_large};
+use acd_statements::parts::{put_agent, put_group};
 use acd_statements::put::{insert, put, remove};
 use acd_statements::write::{
     drop_connection, insert_connection, insert_kept, put_connection, set_meta,
 };
-use acd_terms::{CallRecord, Event, Figures, MonitorRecord};
+use acd_terms::{AgentRecord, CallRecord, Event, Figures, MonitorRecord};
 use sqlite::{Alter, Connection, Error, Transaction};
 
 fn figures_fit(figures: &Figures) -> bool
@@ -65,6 +66,17 @@ fn event_fits(event: &Event) -> bool
     fits(event.number) && place_fits(event.report.columns().call)
 }
 
+// Puts an agent. Reading its groups tells that they ascend.
+fn file_agent<S: Alter>(tx: &mut Transaction<'_, S>, agent: &AgentRecord) -> Result<(), Error>
+    requires { Fits agent.now.stamp }
+    ensures same { tx.new.conn.ghost_name ≡ tx.old.conn.ghost_name }
+    ensures works { Works (state S.Store tx.old.conn.now) (state S.Store tx.new.conn.now) }
+    ensures put { HasCleanDisk (state S.Store tx.new.conn.now) → OnOk result ((c : Content) → Drafts (state S.Store tx.old.conn.now) (relations_of c) → Drafts (state S.Store tx.new.conn.now) (relations_of (filed c (Change.PutAgent agent.now)))) }
+{
+    let _ascending = agent.groups.as_slice();
+    put_agent(tx, agent)
+}
+
 // Makes a change in its table. What is new has no row there yet, and is inserted.
 fn make_change<S: Alter>(
     tx: &mut Transaction<'_, S>,
@@ -78,9 +90,9 @@ fn make_change<S: Alter>(
 {
     match change {
         Change::Nothing => Ok(()),
-        Change::PutGroup(group) => put(tx, group),
+        Change::PutGroup(group) => put_group(tx, group),
         Change::PutStation(station) => insert(tx, station),
-        Change::PutAgent(agent) => put(tx, agent),
+        Change::PutAgent(agent) => file_agent(tx, agent),
         Change::PutCall(call) if is_new => insert(tx, call),
         Change::PutCall(call) => put(tx, call),
         Change::PutConnection(connection) if is_new => insert_connection(tx, connection),

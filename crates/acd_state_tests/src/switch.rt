@@ -1,15 +1,15 @@
 //! Rows that break a rule are refused by it.
 //!
-//! The rows are those of an answered call: group 100, stations 201 and 202, agents 7 and 8, and call 1
+//! The rows are those of an answered call: groups 05 and 100, stations 201 and 202, agents 7 and 8, and call 1
 //! from 0301234, distributed from 100 to agent 7 at 201.
 
 mod services;
 
-use crate::values::{agent, device, group, listed, plain, ready, same, waiting};
+use crate::values::{agent, device, group, listed, plain, ready, same, two_groups, waiting};
 use acd_switch::{RowFault, Switch};
 use acd_terms::{
     AgentRecord, AgentState, CallRecord, ConnectionRecord, ConnectionState, DeviceId, Figures,
-    GroupRecord, Limits, MonitorRecord, Pending, Rows, Rule, StationRecord,
+    GroupRecord, Groups, Limits, MonitorRecord, Pending, Priority, Rows, Rule, StationRecord,
 };
 use std::alloc::Global;
 use std::process::Abort;
@@ -17,6 +17,8 @@ use std::process::Abort;
 // The parts of the rows, which a test alters one by one.
 #[derive(Clone, Copy)]
 struct Parts {
+    // a group of no calls
+    other: GroupRecord,
     group: GroupRecord,
     stations: [StationRecord; 2],
     agents: [AgentRecord; 2],
@@ -65,6 +67,7 @@ fn answered_call(rt: &impl Abort) -> Parts {
         ..ready(agent(rt, "7", 9), first, billing)
     };
     Parts {
+        other: group(rt, "05", "Claims", Figures::default()),
         group: group(rt, "100", "Billing", answered_once()),
         stations: [
             StationRecord { device: first },
@@ -93,7 +96,7 @@ fn answered_call(rt: &impl Abort) -> Parts {
 fn rows_of(rt: &(impl Abort + AllocGlobal), parts: &Parts) -> Rows {
     Rows {
         limits: Limits::GREATEST,
-        groups: listed(rt, &[parts.group], 1),
+        groups: listed(rt, &[parts.other, parts.group], 2),
         stations: listed(rt, &parts.stations, 2),
         agents: listed(rt, &parts.agents, 2),
         calls: listed(rt, &parts.calls, parts.live),
@@ -175,6 +178,45 @@ fn each_rule_refuses_what_breaks_it(rt: HostRuntime) {
         break_rule(&rt, &mut parts, rule);
         same(&rt, &fault_of(&rt, &parts), &Some(RowFault::Broken(rule)));
     }
+}
+
+// The agent at 201 serves a second group. The rule is broken where that isn't planned, or is a station.
+#[test]
+fn each_group_of_an_agent_is_planned(rt: HostRuntime) {
+    let broken = Some(RowFault::Broken(Rule::Agent));
+    let mut parts = answered_call(&rt);
+    parts.group.priority = Priority::new(9).expect(&rt, "a priority");
+    parts.agents[0].groups = two_groups(&rt, "100", "05");
+    same(&rt, &fault_of(&rt, &parts), &None);
+    for second in ["110", "04", "202"] {
+        parts.agents[0].groups = two_groups(&rt, "100", second);
+        same(&rt, &fault_of(&rt, &parts), &broken);
+    }
+}
+
+#[test]
+fn just_those_logged_on_serve_groups(rt: HostRuntime) {
+    let broken = Some(RowFault::Broken(Rule::Agent));
+    let mut parts = answered_call(&rt);
+    parts.agents[0].groups = Groups::none();
+    same(&rt, &fault_of(&rt, &parts), &broken);
+    let mut parts = answered_call(&rt);
+    parts.agents[1].groups = Groups::one(device(&rt, "100"));
+    same(&rt, &fault_of(&rt, &parts), &broken);
+}
+
+// A call waits in 100. The agent who is ready serves 05, and then 100 too.
+#[test]
+fn an_agent_is_eligible_in_a_second_group(rt: HostRuntime) {
+    let billing = device(&rt, "100");
+    let mut parts = answered_call(&rt);
+    parts.agents[1] = ready(parts.agents[1], device(&rt, "202"), device(&rt, "05"));
+    call_again(&mut parts, billing, waiting(2, billing, 9, 25));
+    parts.group.figures.entered = 2;
+    same(&rt, &fault_of(&rt, &parts), &None);
+    parts.agents[1].groups = two_groups(&rt, "05", "100");
+    let broken = Some(RowFault::Broken(Rule::Offer));
+    same(&rt, &fault_of(&rt, &parts), &broken);
 }
 
 // Figures at the end of their type, and three above the calls that entered. The last of these break the balance of the

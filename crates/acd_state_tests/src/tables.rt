@@ -1,15 +1,15 @@
 //! What the tables refuse as if there were no memory.
 
-use crate::values::{agent, device, group, listed, ready, same, waiting};
+use crate::values::{agent, device, group, listed, ready, same, two_groups, waiting};
 use acd_model::Change;
 use acd_services::change;
 use acd_tables::Tables;
-use acd_terms::{Figures, Limits, Rows, StationRecord};
+use acd_terms::{AgentRecord, Figures, Limits, Rows, StationRecord};
 use std::alloc::{AllocError, Global};
 use std::process::Abort;
 
-// Changes of a group 500 with an agent at 102: three of them are refused, and three are not.
-fn changes(rt: &impl Abort) -> [(Change, bool); 7] {
+// Changes of a group 500 with an agent at 102: four of them are refused, and four are not.
+fn changes(rt: &impl Abort) -> [(Change, bool); 8] {
     let help = device(rt, "500");
     let other = device(rt, "501");
     let first = device(rt, "102");
@@ -28,9 +28,16 @@ fn changes(rt: &impl Abort) -> [(Change, bool); 7] {
             Change::PutAgent(ready(agent(rt, "4", 6), first, help)),
             false,
         ),
-        // a group that isn't planned
+        // a group that isn't planned, alone and behind one that is
         (
             Change::PutAgent(ready(agent(rt, "4", 6), second, other)),
+            false,
+        ),
+        (
+            Change::PutAgent(AgentRecord {
+                groups: two_groups(rt, "500", "501"),
+                ..ready(agent(rt, "4", 6), second, help)
+            }),
             false,
         ),
         (Change::PutConnection(waiting(1, other, 7, 0)), false),

@@ -2,7 +2,7 @@
 
 use acd_terms::{
     AgentId, AgentRecord, AgentState, ConnectionRecord, ConnectionState, DeviceId, Figures,
-    GroupRecord, Listed, Name, Seconds,
+    GroupRecord, Groups, Listed, Name, Priority, Seconds,
 };
 use std::fmt::Debug;
 use std::process::Abort;
@@ -33,6 +33,7 @@ pub fn group(rt: &impl Abort, digits: &str, name: &str, figures: Figures) -> Gro
         name: Name::read(name.as_bytes()).expect(rt, "a name"),
         ring: Seconds::new(20).expect(rt, "seconds"),
         wrap: Seconds::new(30).expect(rt, "seconds"),
+        priority: Priority::lowest(),
         figures,
     }
 }
@@ -45,7 +46,7 @@ pub fn agent(rt: &impl Abort, digits: &str, stamp: u64) -> AgentRecord {
         state: AgentState::Null,
         pending: None,
         station: None,
-        group: None,
+        groups: Groups::none(),
         stamp,
         since: 0,
     }
@@ -56,9 +57,15 @@ pub fn ready(agent: AgentRecord, station: DeviceId, group: DeviceId) -> AgentRec
     AgentRecord {
         state: AgentState::Ready,
         station: Some(station),
-        group: Some(group),
+        groups: Groups::one(group),
         ..agent
     }
+}
+
+/// Two groups of an agent.
+pub fn two_groups(rt: &impl Abort, one: &str, other: &str) -> Groups {
+    let groups = Groups::one(device(rt, one));
+    groups.with(device(rt, other)).expect(rt, "two groups")
 }
 
 /// A connection of no group.

@@ -1,5 +1,7 @@
 mod Bounds
 pub mod Named
 pub mod Chained
+mod Planned
+mod Beside
 mod FirstFound
 mod Pages

@@ -9,7 +9,7 @@ ghost use Rattle.acd_columns.specs.Codes.{pending_code, cause_code};
 ghost use Rattle.acd_columns.specs.Draft.{Fits};
 
 use acd_columns::codes::{cause_code, pending_code};
-use acd_terms::{AgentId, Cause, DeviceId, Name, Pending, Seconds};
+use acd_terms::{AgentId, Cause, DeviceId, Name, Pending, Priority, Seconds};
 use sqlite::types::ValueRef;
 
 pub(crate) fn integer(number: u64) -> ValueRef<'static>
@@ -53,6 +53,12 @@ pub(crate) fn seconds(seconds: Seconds) -> ValueRef<'static>
     ensures { bound_value (owned result) ≡ id_value seconds }
 {
     small(u32::from(seconds.number()))
+}
+
+pub(crate) fn priority(priority: Priority) -> ValueRef<'static>
+    ensures { bound_value (owned result) ≡ id_value priority }
+{
+    small(u32::from(priority.number()))
 }
 
 pub(crate) fn integer_or_null(value: Option<u64>) -> ValueRef<'static>

@@ -14,8 +14,8 @@ ghost use Rattle.acd_columns.specs.Seeing.{Sees};
 
 use crate::read::read;
 use acd_columns::texts::{
-    SELECT_GROUP_PRIORITY, SELECT_LOW_EVENT, SELECT_LOW_KEPT, SELECT_STANDING_AGENT_GROUPS,
-    SELECT_STANDING_CONNECTIONS, SELECT_VERSION,
+    SELECT_LOW_EVENT, SELECT_LOW_KEPT, SELECT_STANDING_AGENT_GROUPS, SELECT_STANDING_CONNECTIONS,
+    SELECT_VERSION,
 };
 use sqlite::{Alter, Connection, Error, Row};
 use sqlite_schema::schema::{Schema, Table};
@@ -59,15 +59,6 @@ pub fn further_rows<S: Alter>(conn: &mut Connection<S>) -> Result<Vec<Row>, Erro
     ensures seen { (d : Database) → d.schema ≡ book_schema → Sees d (state S.Store conn.old) (state S.Store conn.new) result (λ rows. IsPermutation (rows_in table.AgentGroups d.trees) rows.items) }
 {
     read(conn, SELECT_STANDING_AGENT_GROUPS, &[])
-}
-
-/// The rows of priorities.
-pub fn priority_rows<S: Alter>(conn: &mut Connection<S>) -> Result<Vec<Row>, Error>
-    requires { conn.old.in_transaction ≡ false }
-    ensures idle { conn.new.in_transaction ≡ false }
-    ensures seen { (d : Database) → d.schema ≡ book_schema → Sees d (state S.Store conn.old) (state S.Store conn.new) result (λ rows. IsPermutation (rows_in table.GroupPriority d.trees) rows.items) }
-{
-    read(conn, SELECT_GROUP_PRIORITY, &[])
 }
 
 /// An event whose number is below 1.

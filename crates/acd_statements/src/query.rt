@@ -5,7 +5,8 @@ ghost use Rattle.sqlite.specs.Effect.{Database};
 ghost use Rattle.sqlite.specs.Held.{state};
 ghost use Rattle.acd_model.specs.Scans.{monitor_of};
 ghost use Rattle.acd_book.specs.Content.{events_behind, is_told, kept_of};
-ghost use Rattle.acd_columns.specs.Rows.{group_values, station_values, agent_values, call_values, connection_values, monitor_values, event_values, kept_values};
+ghost use Rattle.acd_columns.specs.Relations.{further_in};
+ghost use Rattle.acd_columns.specs.Rows.{further_values, group_values, station_values, agent_values, call_values, connection_values, monitor_values, event_values, kept_values};
 ghost use Rattle.acd_columns.specs.declared.tables.Log.TheVariants as log;
 ghost use Rattle.acd_columns.specs.declared.tables.Table.TheVariants as table;
 ghost use Rattle.acd_columns.specs.AnyRows.{rows_in, IsPageRows};
@@ -17,8 +18,8 @@ ghost use Rattle.acd_columns.specs.Seeing.{Sees};
 use crate::read::read;
 use crate::{bind, select};
 use acd_columns::texts::{
-    SELECT_CONNECTIONS, SELECT_EVENTS_AFTER, SELECT_EVENTS_AT_DEVICE, SELECT_KEPT_AFTER,
-    SELECT_KEPT_OF_REQUEST, SELECT_MONITOR,
+    SELECT_AGENT_GROUPS, SELECT_CONNECTIONS, SELECT_EVENTS_AFTER, SELECT_EVENTS_AT_DEVICE,
+    SELECT_KEPT_AFTER, SELECT_KEPT_OF_REQUEST, SELECT_MONITOR,
 };
 use acd_terms::{DeviceId, Invoke, Requester};
 use sqlite::{Alter, Connection, Error, Row};
@@ -100,6 +101,15 @@ pub fn connection_rows<S: Alter>(conn: &mut Connection<S>) -> Result<Vec<Row>, E
     ensures seen { (d : Database) → Begins nine d.schema → Sees d (state S.Store conn.old) (state S.Store conn.new) result (λ rows. IsPermutation (rows_in table.Connections d.trees) rows.items) }
 {
     read(conn, SELECT_CONNECTIONS, &[])
+}
+
+/// The further groups, by agent and group.
+pub fn further_rows<S: Alter>(conn: &mut Connection<S>) -> Result<Vec<Row>, Error>
+    requires { conn.old.in_transaction ≡ false }
+    ensures idle { conn.new.in_transaction ≡ false }
+    ensures found { Finds (state S.Store conn.old) (state S.Store conn.new) result (λ c rows. rows.items ≡ map further_values (further_in c.rows.agents)) }
+{
+    read(conn, SELECT_AGENT_GROUPS, &[])
 }
 
 /// The first rows of events at a device above a number.

@@ -7,16 +7,16 @@ ghost use Rattle.acd_columns.specs.Relations.{meta_of};
 ghost use Rattle.acd_columns.specs.Finding.{Finds, joined_rows};
 ghost use Rattle.acd_columns.specs.Rows.{meta_shown};
 ghost use Rattle.acd_columns.specs.declared.meta.Meta.{Meta as MetaRow};
-ghost use Rattle.acd_columns.specs.Ranges.{connection_in, monitor_in, event_in, kept_in};
+ghost use Rattle.acd_columns.specs.Ranges.{further_in, connection_in, monitor_in, event_in, kept_in};
 
 use crate::query::connection_rows;
 use crate::read::meta_rows;
-use crate::select;
+use crate::{plan, select};
 use acd_book::Kept;
 use acd_columns::{Meta, decode};
 use acd_terms::{
-    AgentRecord, CallRecord, ConnectionRecord, Event, GroupRecord, Listed, MonitorRecord, Rows,
-    StationRecord,
+    AgentId, AgentRecord, CallRecord, ConnectionRecord, DeviceId, Event, GroupRecord, Listed,
+    MonitorRecord, Rows, StationRecord,
 };
 use sqlite::{Alter, Connection, Error, ErrorCode, Row};
 use std::alloc::{AllocError, Global};
@@ -38,6 +38,15 @@ impl Decoded for ConnectionRecord {
 
     fn decode(_alloc: Global, row: &Row) -> Result<Option<ConnectionRecord>, AllocError> {
         Ok(decode::connection_in(row))
+    }
+}
+
+// An agent and a group that it has behind its first.
+impl Decoded for (AgentId, DeviceId) {
+    ghost in_row = { further_in };
+
+    fn decode(_alloc: Global, row: &Row) -> Result<Option<(AgentId, DeviceId)>, AllocError> {
+        Ok(decode::further_in(row))
     }
 }
 
@@ -144,14 +153,14 @@ fn connections<S: Alter>(
 }
 
 // The groups, the stations and the agents.
-fn plan<S: Alter>(alloc: Global, conn: &mut Connection<S>) -> Result<Plan, Error>
+fn planned<S: Alter>(alloc: Global, conn: &mut Connection<S>) -> Result<Plan, Error>
     requires { conn.old.in_transaction ≡ false }
     ensures idle { conn.new.in_transaction ≡ false }
     ensures found { Finds (state S.Store conn.old) (state S.Store conn.new) result (λ c t. (t.0.items ≡ c.rows.groups) × (t.1.items ≡ c.rows.stations) × (t.2.items ≡ c.rows.agents)) }
 {
-    let groups = select::records::<GroupRecord, S>(alloc, conn)?;
+    let groups = plan::groups(alloc, conn)?;
     let stations = select::records::<StationRecord, S>(alloc, conn)?;
-    let agents = select::records::<AgentRecord, S>(alloc, conn)?;
+    let agents = plan::agents(alloc, conn)?;
     Ok((groups, stations, agents))
 }
 
@@ -195,7 +204,7 @@ pub fn rows<S: Alter>(alloc: Global, conn: &mut Connection<S>) -> Result<Rows, E
     ensures found { Finds (state S.Store conn.old) (state S.Store conn.new) result (λ c rows. rows ≡ c.rows) }
 {
     let meta = read_meta(conn)?;
-    let planned = plan(alloc, conn)?;
+    let planned = planned(alloc, conn)?;
     let live = traffic(alloc, conn)?;
     Ok(joined(meta, planned, live))
 }

@@ -4,18 +4,19 @@ use crate::bind;
 use crate::stored::{Changed, Described, Removed, Selected, Stored};
 use crate::write::changed_rows;
 use acd_columns::codes::{agent_code, kind_code};
-use acd_columns::decode;
 use acd_columns::texts::{
-    DELETE_CALL, DELETE_MONITOR, INSERT_AGENT, INSERT_CALL, INSERT_EVENT, INSERT_GROUP,
-    INSERT_MONITOR, INSERT_STATION, SELECT_AGENTS, SELECT_CALLS, SELECT_GROUPS, SELECT_MONITORS,
-    SELECT_STATIONS, UPDATE_AGENT, UPDATE_CALL, UPDATE_GROUP, UPDATE_MONITOR,
+    DELETE_CALL, DELETE_GROUP_PRIORITY, DELETE_MONITOR, INSERT_AGENT, INSERT_CALL, INSERT_EVENT,
+    INSERT_GROUP, INSERT_GROUP_PRIORITY, INSERT_MONITOR, INSERT_STATION, SELECT_AGENTS,
+    SELECT_CALLS, SELECT_GROUP_PRIORITY, SELECT_GROUPS, SELECT_MONITORS, SELECT_STATIONS,
+    UPDATE_AGENT, UPDATE_CALL, UPDATE_GROUP, UPDATE_GROUP_PRIORITY, UPDATE_MONITOR,
 };
-use acd_terms::{AgentRecord, CallRecord, Event, GroupRecord, MonitorRecord, StationRecord};
+use acd_columns::{AgentRow, GroupPriority, GroupRow, decode};
+use acd_terms::{CallRecord, Event, MonitorRecord, StationRecord};
 use sqlite::{Alter, Error, Row, Transaction};
 
 // ---- groups
 
-impl Described for GroupRecord {
+impl Described for GroupRow {
     ghost use Rattle.acd_columns.specs.Tables.{groups};
 
     ghost descr = { groups };
@@ -27,7 +28,7 @@ impl Described for GroupRecord {
     ghost reads = { λ r. tt };
 }
 
-impl Stored for GroupRecord {
+impl Stored for GroupRow {
     fn insert_text() -> &'static str {
         INSERT_GROUP
     }
@@ -49,7 +50,7 @@ impl Stored for GroupRecord {
     }
 }
 
-impl Changed for GroupRecord {
+impl Changed for GroupRow {
     ghost use Rattle.acd_columns.specs.declared.texts.TheConstants.{UPDATE_GROUP};
 
     ghost update = { UPDATE_GROUP.now };
@@ -63,7 +64,11 @@ impl Changed for GroupRecord {
     }
 }
 
-impl Selected for GroupRecord {
+impl Selected for GroupRow {
+    ghost use Rattle.acd_columns.specs.Schema.{nine};
+
+    ghost base = { nine };
+
     ghost use Rattle.acd_columns.specs.declared.texts.TheConstants.{SELECT_GROUPS};
 
     ghost select = { SELECT_GROUPS.now };
@@ -76,8 +81,84 @@ impl Selected for GroupRecord {
         SELECT_GROUPS
     }
 
-    fn decode(row: &Row) -> Option<GroupRecord> {
+    fn decode(row: &Row) -> Option<GroupRow> {
         decode::group_in(row)
+    }
+}
+
+// ---- priorities of groups
+
+impl Described for GroupPriority {
+    ghost use Rattle.acd_columns.specs.Tables.{group_priority};
+
+    ghost descr = { group_priority };
+
+    ghost use Rattle.acd_columns.proofs.TablesFiled.{priorities_filed};
+
+    ghost filed = { priorities_filed };
+
+    ghost reads = { λ r. tt };
+}
+
+impl Stored for GroupPriority {
+    fn insert_text() -> &'static str {
+        INSERT_GROUP_PRIORITY
+    }
+
+    fn run<S: Alter>(&self, tx: &mut Transaction<'_, S>, sql: &str) -> Result<usize, Error> {
+        let values = [bind::device(self.device), bind::priority(self.priority)];
+        changed_rows(tx, sql, &values)
+    }
+}
+
+impl Changed for GroupPriority {
+    ghost use Rattle.acd_columns.specs.declared.texts.TheConstants.{UPDATE_GROUP_PRIORITY};
+
+    ghost update = { UPDATE_GROUP_PRIORITY.now };
+
+    ghost use Rattle.acd_columns.proofs.TablesFiled.{priorities_updates};
+
+    ghost updates = { priorities_updates };
+
+    fn update_text() -> &'static str {
+        UPDATE_GROUP_PRIORITY
+    }
+}
+
+impl Removed for GroupPriority {
+    ghost use Rattle.acd_columns.specs.declared.texts.TheConstants.{DELETE_GROUP_PRIORITY};
+
+    ghost delete = { DELETE_GROUP_PRIORITY.now };
+
+    ghost use Rattle.acd_columns.proofs.TablesFiled.{priorities_deletes};
+
+    ghost deletes = { priorities_deletes };
+
+    fn delete_text() -> &'static str {
+        DELETE_GROUP_PRIORITY
+    }
+}
+
+impl Selected for GroupPriority {
+    ghost use Rattle.std.specs.Prelude.{◌++◌};
+    ghost use Rattle.acd_columns.specs.Schema.{nine, two};
+
+    ghost base = { nine ++ two };
+
+    ghost use Rattle.acd_columns.specs.declared.texts.TheConstants.{SELECT_GROUP_PRIORITY};
+
+    ghost select = { SELECT_GROUP_PRIORITY.now };
+
+    ghost use Rattle.acd_columns.proofs.TablesFiled.{priorities_selects};
+
+    ghost selects = { priorities_selects };
+
+    fn select_text() -> &'static str {
+        SELECT_GROUP_PRIORITY
+    }
+
+    fn decode(row: &Row) -> Option<GroupPriority> {
+        decode::priority_in(row)
     }
 }
 
@@ -107,6 +188,10 @@ impl Stored for StationRecord {
 }
 
 impl Selected for StationRecord {
+    ghost use Rattle.acd_columns.specs.Schema.{nine};
+
+    ghost base = { nine };
+
     ghost use Rattle.acd_columns.specs.declared.texts.TheConstants.{SELECT_STATIONS};
 
     ghost select = { SELECT_STATIONS.now };
@@ -126,7 +211,7 @@ impl Selected for StationRecord {
 
 // ---- agents
 
-impl Described for AgentRecord {
+impl Described for AgentRow {
     ghost use Rattle.acd_columns.specs.Tables.{agents};
 
     ghost descr = { agents };
@@ -138,7 +223,7 @@ impl Described for AgentRecord {
     ghost reads = { λ r. tt };
 }
 
-impl Stored for AgentRecord {
+impl Stored for AgentRow {
     fn insert_text() -> &'static str {
         INSERT_AGENT
     }
@@ -158,7 +243,7 @@ impl Stored for AgentRecord {
     }
 }
 
-impl Changed for AgentRecord {
+impl Changed for AgentRow {
     ghost use Rattle.acd_columns.specs.declared.texts.TheConstants.{UPDATE_AGENT};
 
     ghost update = { UPDATE_AGENT.now };
@@ -172,7 +257,11 @@ impl Changed for AgentRecord {
     }
 }
 
-impl Selected for AgentRecord {
+impl Selected for AgentRow {
+    ghost use Rattle.acd_columns.specs.Schema.{nine};
+
+    ghost base = { nine };
+
     ghost use Rattle.acd_columns.specs.declared.texts.TheConstants.{SELECT_AGENTS};
 
     ghost select = { SELECT_AGENTS.now };
@@ -185,7 +274,7 @@ impl Selected for AgentRecord {
         SELECT_AGENTS
     }
 
-    fn decode(row: &Row) -> Option<AgentRecord> {
+    fn decode(row: &Row) -> Option<AgentRow> {
         decode::agent_in(row)
     }
 }
@@ -249,6 +338,10 @@ impl Removed for CallRecord {
 }
 
 impl Selected for CallRecord {
+    ghost use Rattle.acd_columns.specs.Schema.{nine};
+
+    ghost base = { nine };
+
     ghost use Rattle.acd_columns.specs.declared.texts.TheConstants.{SELECT_CALLS};
 
     ghost select = { SELECT_CALLS.now };
@@ -324,6 +417,10 @@ impl Removed for MonitorRecord {
 }
 
 impl Selected for MonitorRecord {
+    ghost use Rattle.acd_columns.specs.Schema.{nine};
+
+    ghost base = { nine };
+
     ghost use Rattle.acd_columns.specs.declared.texts.TheConstants.{SELECT_MONITORS};
 
     ghost select = { SELECT_MONITORS.now };

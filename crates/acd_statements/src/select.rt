@@ -6,7 +6,7 @@ ghost use Rattle.sqlite.specs.Held.{state};
 ghost use Rattle.acd_columns.specs.AnyRows.{rows_in, TellsGood};
 ghost use Rattle.acd_columns.specs.Finding.{Finds};
 ghost use Rattle.acd_columns.specs.Relations.{relations_of};
-ghost use Rattle.acd_columns.specs.Schema.{nine, Begins};
+ghost use Rattle.acd_columns.specs.Schema.{Begins};
 ghost use Rattle.acd_columns.specs.Seeing.{Sees};
 ghost use Rattle.acd_columns.specs.Descriptions.{are_read};
 
@@ -20,7 +20,7 @@ pub fn rows<R: Selected, S: Alter>(conn: &mut Connection<S>) -> Result<Vec<Row>,
     requires { conn.old.in_transaction ≡ false }
     ensures idle { conn.new.in_transaction ≡ false }
     ensures found { Finds (state S.Store conn.old) (state S.Store conn.new) result (λ c rows. rows.items ≡ map R.descr.values (R.descr.records (relations_of c))) }
-    ensures seen { (d : Database) → Begins nine d.schema → Sees d (state S.Store conn.old) (state S.Store conn.new) result (λ rows. IsPermutation (rows_in R.descr.table d.trees) rows.items) }
+    ensures seen { (d : Database) → Begins R.base d.schema → Sees d (state S.Store conn.old) (state S.Store conn.new) result (λ rows. IsPermutation (rows_in R.descr.table d.trees) rows.items) }
 {
     read(conn, R::select_text(), &[])
 }
@@ -62,6 +62,7 @@ pub fn records<R: Selected, S: Alter>(
     requires { conn.old.in_transaction ≡ false }
     ensures idle { conn.new.in_transaction ≡ false }
     ensures found { Finds (state S.Store conn.old) (state S.Store conn.new) result (λ c found. found.items ≡ R.descr.records (relations_of c)) }
+    ensures seen { (d : Database) → Begins R.base d.schema → Sees d (state S.Store conn.old) (state S.Store conn.new) result (λ found. IsPermutation (rows_in R.descr.table d.trees) (map R.descr.values found.items)) }
 {
     match rows::<R, S>(conn) {
         Ok(rows) => records_of(alloc, &rows),
@@ -80,7 +81,7 @@ fn are_read<R: Selected>(rows: &[Row]) -> bool
 pub fn is_good<R: Selected, S: Alter>(conn: &mut Connection<S>) -> Result<bool, Error>
     requires { conn.old.in_transaction ≡ false }
     ensures idle { conn.new.in_transaction ≡ false }
-    ensures seen { (d : Database) → Begins nine d.schema → Sees d (state S.Store conn.old) (state S.Store conn.new) result (λ good. TellsGood R.descr.table d.trees good) }
+    ensures seen { (d : Database) → Begins R.base d.schema → Sees d (state S.Store conn.old) (state S.Store conn.new) result (λ good. TellsGood R.descr.table d.trees good) }
 {
     match rows::<R, S>(conn) {
         Ok(rows) => Ok(are_read::<R>(&rows)),

@@ -61,6 +61,11 @@ pub trait Removed: Stored {
 
 /// A record that is read of its row.
 pub trait Selected: Described {
+    ghost use Rattle.sqlite_schema.specs.declared.schema.Table.{Table};
+
+    // the tables that are there in each version which has this one
+    ghost base: { List Table };
+
     ghost select: { List ℕ };
 
     /// The query of all records, in the order of their keys.
@@ -73,5 +78,5 @@ pub trait Selected: Described {
 
     ghost use Rattle.acd_columns.proofs.Filed.{Selects};
 
-    ghost selects: { Selects Self.descr select };
+    ghost selects: { Selects Self.descr base select };
 }

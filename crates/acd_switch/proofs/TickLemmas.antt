@@ -3,6 +3,7 @@ use Rattle.std.proofs.Common.{◌≡◌, ℕ, ◌≤◌, Bool, true, false, cond
 use Rattle.std.proofs.lemmas.List.{drop_all, append-nil}
 use Rattle.std.specs.Prelude.{filter}
 use Rattle.std.proofs.lemmas.Bool.{and_parts, and_from}
+use Rattle.acd_terms.specs.Groups.{least_group}
 use Rattle.acd_terms.specs.States.{is_alerting, is_working_after_call}
 use Rattle.acd_terms.specs.declared.rows.Rows.{Rows}
 use Rattle.acd_model.specs.Tick.{is_overdue, is_overdue_offer, overdue_in, is_rested, is_over_in, rested_in}
@@ -34,7 +35,7 @@ overdue-ringing s m = filter-filter (is_overdue s m) is_ringing
 
 pub rested-working : (s : Rows) (m : ℕ) → filter (is_rested s m) (filter is_working s.agents) ≡ rested_in s m
 unfolding is_rested rested_in
-rested-working s m = filter-filter (is_rested s m) is_working (λ a e. (and_parts (is_working_after_call a.state) (is_over_in s m a a.group) e).0) s.agents
+rested-working s m = filter-filter (is_rested s m) is_working (λ a e. (and_parts (is_working_after_call a.state) (is_over_in s m a (least_group a.groups)) e).0) s.agents
 
 -- a filter that has gone through all
 pub gone_through : {X : Type 0} (p : X → Bool) (done items : List X) (i : ℕ) → length items ≤ i → done ++ filter p (drop i items) ≡ filter p items → done ≡ filter p items

@@ -61,7 +61,7 @@ fn is_rested(tables: &Tables, moment: u32, agent: &AgentRecord) -> bool
     if !agent.state.is_working_after_call() {
         return false;
     }
-    match agent.group {
+    match agent.groups.least() {
         None => false,
         Some(group) => is_over(wrap_of(tables, group), agent.since, moment),
     }

@@ -1,121 +1,129 @@
--- The first offer of the groups that are noted is the first of all groups.
-use Rattle.std.proofs.Common.{◌≡◌, ℕ, ◌<◌, inl, inr, Bool, true, false, cond, List, [], ◌∷◌, Option, Some, None, refl, ap, sym, ◌∙◌, subst, arith}
-use Rattle.std.specs.Prelude.{◌==◌, find}
-use Rattle.std.specs.List.{AllByRecursion}
+-- What is found among the groups that are noted is the offer that is to be made.
+use Rattle.std.proofs.Common.{◌≡◌, ℕ, Bool, true, false, cond, ◌&&◌, ◌||◌, List, [], ◌∷◌, Option, Some, None, refl, ap, ap₂, sym, ◌∙◌, subst, arith}
+use Rattle.std.specs.Prelude.{◌==◌, is_some, option_and_then, filter}
 use Rattle.std.specs.List.Sorted.{IsStrictlySortedBy}
-use Rattle.std.specs.Option.{option_or}
-use Rattle.std.specs.declared.cmp.Ordering.TheVariants.{Less}
-use Rattle.std.specs.Ordering.{nat_cmp}
+use Rattle.std.specs.declared.cmp.Ordering.{Ordering}
+use Rattle.std.specs.declared.cmp.Ordering.TheVariants.{Less, Equal, Greater}
+use Rattle.std.specs.Ordering.{nat_cmp, ordering_then}
+use Rattle.std.specs.Cmp.{IsTotalOrder}
 use Rattle.std.specs.BTreeSet.{contains}
+use Rattle.std.proofs.lemmas.Cmp.{nat_cmp_total, on_total, then_total, back_total}
+use Rattle.std.proofs.lemmas.Map.Lookups.{CmpEqualImpliesEq, exact_unsigned}
 use Rattle.std.proofs.lemmas.Bool.{eqb-true, eq-eqb}
 use Rattle.std.proofs.lemmas.Bool.Decides.{nat_tests}
 use Rattle.acd_terms.specs.Lists.{Among, IsAscending}
 use Rattle.acd_terms.specs.declared.rows.Rows.{Rows}
 use Rattle.acd_terms.specs.declared.record.GroupRecord.{GroupRecord}
 use Rattle.acd_model.specs.Rules.Plan.{group_order}
-use Rattle.acd_model.specs.Scans.{is_group}
-use Rattle.acd_model.specs.Choice.{first_waiting, first_eligible, offer_or, offer_in, offer_of}
+use Rattle.acd_model.specs.Scans.{group_of}
+use Rattle.acd_model.specs.Choice.{first_waiting, first_eligible, is_served_before, first_served, has_both, offer_by, offer_in, offer_of}
 use Rattle.acd_model.specs.declared.moves.Offer.{Offer}
-use Rattle.acd_laws.proofs.OfferFound.{least_is}
-use Rattle.acd_laws.proofs.Lists.{any_found, any_some, find_passes, find_among, some_from, none_from, after_among}
-use Rattle.acd_laws.proofs.State.{is_group_any}
-use Rattle.acd_tables.specs.Indexed.{IsIndexed}
-use Rattle.acd_tables.specs.FirstOffer.{offer_in_group, first_given}
+use Rattle.acd_laws.proofs.OfferFound.{least_is, IsServedFirst, none_served, served_is}
+use Rattle.acd_laws.proofs.Lists.{none_from, filter_among, among-filter, eq_is}
+use Rattle.acd_laws.proofs.State.{group_among, group_key, group_found}
+use Rattle.acd_tables.specs.Indexed.{IsIndexed, OfferKey, offer_cmp, offer_key}
+use Rattle.acd_tables.specs.FirstOffer.{if_ranked, offer_at, first_given}
 use Rattle.acd_tables.specs.declared.indexes.Indexes.{Indexes}
 use Rattle.acd_tables.proofs.Firsts.{waiting-among, eligible-among}
-use Rattle.acd_tables.proofs.Picked.{contained, exact_number}
+use Rattle.acd_tables.proofs.FirstGiven.{IsFirst, one_first, first_sorted}
+use Rattle.acd_tables.proofs.Picked.{contained}
 
-less_is : (a b : ℕ) → nat_cmp a b ≡ Less → a < b
-less_is a b e = grind (arith, nat_tests)
+-- the order of keys
 
--- what f gives at the least number where it gives something
-module _ {T : Type 0} (f : ℕ → Option T) where
-  abbrev pub IsFirst : Option T → Type 0
-  IsFirst None = (j : ℕ) → f j ≡ None
-  IsFirst (Some o) = (k : ℕ) × (f k ≡ Some o) × ((j : ℕ) → j < k → f j ≡ None)
+key_total : IsTotalOrder offer_cmp
+key_total = then_total (on_total (λ (k : OfferKey). k.0.0) (back_total nat_cmp_total)) (on_total (λ (k : OfferKey). k.1) nat_cmp_total)
 
-  pub one_first : (a b : Option T) → IsFirst a → IsFirst b → a ≡ b
-  one_first None None h k = refl
-  one_first None (Some o) h k = absurd (let e = h k.0 in let g = k.1 in cc (e, g))
-  one_first (Some o) None h k = absurd (let e = k h.0 in let g = h.1 in cc (e, g))
-  one_first (Some o) (Some q) h k = sym h.1 ∙ ap f (same h.0 k.0 (λ l. let e = k.2 h.0 l in let g = h.1 in cc (e, g)) (λ l. let e = h.2 k.0 l in let g = k.1 in cc (e, g))) ∙ k.1
-    where
-      same : (a b : ℕ) → (a < b → ⊥) → (b < a → ⊥) → a ≡ b
-      same a b h k = omega (arith, h, k)
+both_equal : (a b : Ordering) → ordering_then a b ≡ Equal → (a ≡ Equal) × (b ≡ Equal)
+both_equal Less b e = absurd (cc (e))
+both_equal Equal b e = (refl, e)
+both_equal Greater b e = absurd (cc (e))
 
-  below-among : (k j : ℕ) (ks : List ℕ) → AllByRecursion (λ y. nat_cmp k y ≡ Less) ks → Among j ks → k < j
-  below-among k j [] h a = absurd a
-  below-among k j (x ∷ ks) h (inl e) = less_is k j (ap (nat_cmp k) e ∙ h.0)
-  below-among k j (x ∷ ks) h (inr a) = below-among k j ks h.1 a
+the_key : (j : OfferKey) (priority device : ℕ) → priority ≡ j.0.0 → device ≡ j.1 → ◌≡◌ {A = OfferKey} (record { 0 = priority }, device) j
+the_key j priority device e f =
+    ap (λ (p : ℕ). let k : OfferKey = (record { 0 = p }, device) in k) e ∙ ap (λ (d : ℕ). let k : OfferKey = (record { 0 = j.0.0 }, d) in k) f
 
-  -- of ascending numbers, among which are all where f gives something
-  pub first-sorted : (ks : List ℕ) → IsStrictlySortedBy nat_cmp ks → ((j : ℕ) (o : T) → f j ≡ Some o → Among j ks) → IsFirst (first_given f ks)
-  unfolding IsStrictlySortedBy
-  first-sorted [] sorted listed = λ j. none_from (f j) (λ o e. listed j o e)
-  first-sorted (k ∷ ks) sorted listed = by (f k) refl (λ later. first-sorted ks sorted.1 later)
-    where
-      by : (o : Option T) → f k ≡ o → (((j : ℕ) (o : T) → f j ≡ Some o → Among j ks) → IsFirst (first_given f ks)) → IsFirst (option_or o (first_given f ks))
-      by None e more = more (λ j o q. elim (listed j o q) [ inl same ↦ (let g : f k ≡ Some o = ap f (sym same) ∙ q in absurd (cc (e, g))) | inr a ↦ a ])
-      by (Some o) e more = (k, e, λ j l. none_from (f j) (λ x q. elim (listed j x q) [ inl same ↦ omega (arith, l, same) | inr a ↦ (let late = below-among k j ks sorted.0 a in omega (arith, l, late)) ]))
+key_exact : CmpEqualImpliesEq offer_cmp
+key_exact x y e =
+    let b = both_equal (nat_cmp y.0.0 x.0.0) (nat_cmp x.1 y.1) e in
+    the_key y x.0.0 x.1 (sym (exact_unsigned y.0.0 x.0.0 b.0)) (exact_unsigned x.1 y.1 b.1)
 
-both_there : (g : ℕ) (w r : Option (ℕ × ℕ)) (o : Offer) → offer_or g w r None ≡ Some o → (v : ℕ × ℕ) × (u : ℕ × ℕ) × (w ≡ Some v) × (r ≡ Some u)
-both_there g None r o e = absurd (cc (e))
-both_there g (Some v) None o e = absurd (cc (e))
-both_there g (Some v) (Some u) o e = (v, u, refl, refl)
-
--- where a group has an offer, it is planned and has both
-given : (s : Rows) (g : ℕ) (o : Offer) → offer_in_group s g ≡ Some o → (is_group s g ≡ true) × (v : ℕ × ℕ) × (u : ℕ × ℕ) × (first_waiting s g ≡ Some v) × (first_eligible s g ≡ Some u)
-given s g o e = by (is_group s g) refl e
+-- a group is served before another where its key is less
+before_is : (g h : GroupRecord) → is_served_before g h ≡ false → offer_cmp (offer_key g) (offer_key h) ≡ Less → ⊥
+before_is g h e f = absurd (cc (e, by (nat_cmp h.priority g.priority) refl f))
   where
-    by : (b : Bool) → is_group s g ≡ b → cond b (offer_or g (first_waiting s g) (first_eligible s g) None) None ≡ Some o → (is_group s g ≡ true) × (v : ℕ × ℕ) × (u : ℕ × ℕ) × (first_waiting s g ≡ Some v) × (first_eligible s g ≡ Some u)
-    by true q h = let b = both_there g (first_waiting s g) (first_eligible s g) o h in (q, b.0, b.1, b.2, b.3)
-    by false q h = absurd (cc (h))
+    by : (o : Ordering) → nat_cmp h.priority g.priority ≡ o → ordering_then o (nat_cmp g.device h.device) ≡ Less → is_served_before g h ≡ true
+    by Less q l = grind (arith, nat_tests)
+    by Equal q l = grind (arith, nat_tests)
+    by Greater q l = absurd (cc (l))
 
-or-rest : (g : ℕ) (w r : Option (ℕ × ℕ)) (rest : Option Offer) → offer_or g w r rest ≡ option_or (offer_or g w r None) rest
-or-rest g None r rest = refl
-or-rest g (Some v) None rest = refl
-or-rest g (Some v) (Some u) rest = refl
+both_there : (d : ℕ) (w r : Option (ℕ × ℕ)) (o : Offer) → offer_by d w r ≡ Some o → (is_some w && is_some r) ≡ true
+both_there d None r o e = absurd (cc (e))
+both_there d (Some w) None o e = absurd (cc (e))
+both_there d (Some w) (Some r) o e = refl
 
-is-planned : (s : Rows) (g : GroupRecord) → Among g s.groups → is_group s g.device ≡ true
-is-planned s g a = is_group_any s g.device ∙ any_some (λ (h : GroupRecord). h.device == g.device) s.groups g a (eq-eqb g.device g.device refl)
+parts : (d : ℕ) (w r : Option (ℕ × ℕ)) → (is_some w && is_some r) ≡ true → (v : ℕ × ℕ) × ((u : ℕ × ℕ) × ((w ≡ Some v) × (r ≡ Some u)))
+parts d None r e = absurd (cc (e))
+parts d (Some v) None e = absurd (cc (e))
+parts d (Some v) (Some u) e = (v, (u, (refl, refl)))
 
--- the first of ascending groups, among which are all that have an offer
-first-in : (s : Rows) (gs : List GroupRecord) → ((g : GroupRecord) → Among g gs → is_group s g.device ≡ true) → IsAscending group_order gs
-    → ((j : ℕ) (o : Offer) → offer_in_group s j ≡ Some o → (g : GroupRecord) × Among g gs × (g.device ≡ j)) → IsFirst (offer_in_group s) (offer_in s gs)
-first-in s [] planned ascending listed = λ j. none_from (offer_in_group s j) (λ o e. (listed j o e).1)
-first-in s (g ∷ gs) planned ascending listed = subst (IsFirst (offer_in_group s)) (sym (or-rest g.device (first_waiting s g.device) (first_eligible s g.device) (offer_in s gs) ∙ ap (λ o. option_or o (offer_in s gs)) (sym here))) (by (offer_in_group s g.device) refl (λ later. first-in s gs (λ h a. planned h (inr a)) ascending.1 later))
-  where
-    here : offer_in_group s g.device ≡ offer_or g.device (first_waiting s g.device) (first_eligible s g.device) None
-    here = ap (λ b. cond b (offer_or g.device (first_waiting s g.device) (first_eligible s g.device) None) None) (planned g (inl refl))
+module _ (s : Rows) (ascending : IsAscending group_order s.groups) where
+  -- what is given at a key: the offer of a planned group there that has both
+  at_key : (j : OfferKey) (o : Offer) → offer_at s j ≡ Some o → (g : GroupRecord) × (Among g s.groups × ((has_both s g ≡ true) × ◌≡◌ {A = OfferKey} (offer_key g) j))
+  at_key j o e = by (group_of s j.1) refl e
+    where
+      ranked : (g : GroupRecord) → group_of s j.1 ≡ Some g → (b : Bool) → (g.priority == j.0.0) ≡ b → cond b (offer_in s g) None ≡ Some o
+          → (h : GroupRecord) × (Among h s.groups × ((has_both s h ≡ true) × ◌≡◌ {A = OfferKey} (offer_key h) j))
+      ranked g q true p e =
+          (g, (group_among s j.1 g q, (both_there g.device (first_waiting s g.device) (first_eligible s g.device) o e, the_key j g.priority g.device (eqb-true g.priority j.0.0 p) (group_key s j.1 g q))))
+      ranked g q false p e = absurd (cc (e))
 
-    by : (o : Option Offer) → offer_in_group s g.device ≡ o → (((j : ℕ) (o : Offer) → offer_in_group s j ≡ Some o → (g : GroupRecord) × Among g gs × (g.device ≡ j)) → IsFirst (offer_in_group s) (offer_in s gs)) → IsFirst (offer_in_group s) (option_or o (offer_in s gs))
-    by None e more = more (λ j o q. let h = listed j o q in
-        elim h.1 [ inl same ↦ (let at : g.device ≡ j = ap (λ (z : GroupRecord). z.device) (sym same) ∙ h.2 in let k : offer_in_group s g.device ≡ Some o = ap (offer_in_group s) at ∙ q in absurd (cc (e, k))) | inr a ↦ (h.0, a, h.2) ])
-    by (Some o) e more = (
-      g.device,
-      e,
-      λ j l. none_from (offer_in_group s j) (λ x q. let h = listed j x q in
-          elim h.1 [
-            | inl same ↦ (let at : g.device ≡ j = ap (λ (z : GroupRecord). z.device) (sym same) ∙ h.2 in omega (arith, l, at))
-            | inr a ↦ (let late = less_is g.device h.0.device (after_among group_order g gs h.0 ascending.0 a) in let at = h.2 in omega (arith, l, late, at))
-          ]),
-    )
+      by : (f : Option GroupRecord) → group_of s j.1 ≡ f → option_and_then (if_ranked s j.0.0) f ≡ Some o
+          → (h : GroupRecord) × (Among h s.groups × ((has_both s h ≡ true) × ◌≡◌ {A = OfferKey} (offer_key h) j))
+      by None q e = absurd (cc (e))
+      by (Some g) q e = ranked g q (g.priority == j.0.0) refl e
 
--- a planned group, as a record
-record_of : (s : Rows) (j : ℕ) → is_group s j ≡ true → (g : GroupRecord) × Among g s.groups × (g.device ≡ j)
-record_of s j e =
-    let p : GroupRecord → Bool = λ g. g.device == j in
-    let g = some_from (find p s.groups) (any_found p s.groups (sym (is_group_any s j) ∙ e)) in
-    (g.0, find_among p s.groups g.0 g.1, eqb-true g.0.device j (find_passes p s.groups g.0 g.1))
+  -- and at the key of a group its own offer
+  own_offer : (g : GroupRecord) → Among g s.groups → offer_at s (offer_key g) ≡ offer_in s g
+  own_offer g a = ap (option_and_then (if_ranked s g.priority)) (group_found s ascending g a) ∙ rw (eq-eqb g.priority g.priority refl) refl
+
+  has_offer : (g : GroupRecord) → has_both s g ≡ true → (o : Offer) × (offer_in s g ≡ Some o)
+  has_offer g e =
+      let p = parts g.device (first_waiting s g.device) (first_eligible s g.device) e in
+      (record { group = g.device; call = p.0.1; agent = p.1.0.1 }, ap₂ (offer_by g.device) p.1.1.0 p.1.1.1)
+
+  first_of : IsFirst offer_cmp key_total key_exact (offer_at s) (offer_of s)
+  unfolding offer_of
+  first_of = by (first_served None (filter (has_both s) s.groups)) refl
+    where
+      by : (f : Option GroupRecord) → first_served None (filter (has_both s) s.groups) ≡ f → IsFirst offer_cmp key_total key_exact (offer_at s) (option_and_then (offer_in s) f)
+      by None e = λ j. none_from (offer_at s j) (λ o k.
+          let q = at_key j o k in
+          subst (λ l. Among q.0 l) (none_served (filter (has_both s) s.groups) e) (among-filter (has_both s) s.groups q.0 q.1.0 q.1.1.0))
+      by (Some g) e =
+          let f = served_is (filter (has_both s) s.groups) g e in
+          let there = filter_among (has_both s) s.groups g f.there in
+          let o = has_offer g there.1 in
+          subst (IsFirst offer_cmp key_total key_exact (offer_at s)) (sym o.1) (
+            offer_key g,
+            own_offer g there.0 ∙ o.1,
+            λ j l. none_from (offer_at s j) (λ x k.
+                let q = at_key j x k in
+                before_is q.0 g (f.first q.0 (among-filter (has_both s) s.groups q.0 q.1.0 q.1.1.0)) (ap (λ z. offer_cmp z (offer_key g)) q.1.1.1 ∙ l)),
+          )
 
 module _ (s : Rows) (x : Indexes) (h : IsIndexed s x) where
-  noted : (j : ℕ) (v u : ℕ × ℕ) → first_waiting s j ≡ Some v → first_eligible s j ≡ Some u → contains nat_cmp x.offering j ≡ true
+  -- a group that has both is noted
+  noted : (g : GroupRecord) → Among g s.groups → has_both s g ≡ true → contains offer_cmp x.offering (offer_key g) ≡ true
   unfolding first_waiting first_eligible
-  noted j v u e f =
-      h.offers j v u (h.waiting j v ∙ (waiting-among s j v h.connections).1 (least_is _ v e).there) (h.able j u ∙ (eligible-among s j u h.agents).1 (least_is _ u f).there)
+  noted g a e =
+      let p = parts g.device (first_waiting s g.device) (first_eligible s g.device) e in
+      h.offers g.device g p.0 p.1.0 (group_found s h.groups g a)
+      (h.waiting g.device p.0 ∙ (waiting-among s g.device p.0 h.connections).1 (least_is _ p.0 p.1.1.0).there)
+      (h.able g.device p.1.0 ∙ (eligible-among s g.device p.1.0 h.agents).1 (least_is _ p.1.0 p.1.1.1).there)
 
-  pub first-offer : IsStrictlySortedBy nat_cmp x.offering.keys → first_given (offer_in_group s) x.offering.keys ≡ offer_of s
-  unfolding offer_of
-  first-offer sorted = one_first (offer_in_group s) _ _
-      (first-sorted (offer_in_group s) x.offering.keys sorted (λ j o e. let both = given s j o e in contained nat_cmp exact_number x.offering j (noted j both.1 both.2 both.3 both.4)))
-      (first-in s s.groups (is-planned s) h.groups (λ j o e. record_of s j (given s j o e).0))
+  pub first-offer : IsStrictlySortedBy offer_cmp x.offering.keys → first_given (offer_at s) x.offering.keys ≡ offer_of s
+  first-offer sorted = one_first offer_cmp key_total key_exact (offer_at s) _ _
+      (first_sorted offer_cmp key_total key_exact (offer_at s) x.offering.keys sorted (λ j o e.
+      let q = at_key s h.groups j o e in
+      subst (λ z. Among z x.offering.keys) q.1.1.1 (contained offer_cmp (λ j k e. key_exact j k (eq_is (offer_cmp j k) e)) x.offering (offer_key q.0) (noted q.0 q.1.0 q.1.1.0))))
+      (first_of s h.groups)

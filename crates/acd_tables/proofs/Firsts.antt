@@ -11,6 +11,7 @@ use Rattle.std.specs.BTreeSet.{BTreeSet, contains}
 use Rattle.std.proofs.lemmas.Bool.{and_parts, and_from, eqb-true, eq-eqb}
 use Rattle.std.proofs.lemmas.Bool.Decides.{nat_tests}
 use Rattle.acd_terms.specs.Lists.{Among, IsAscending}
+use Rattle.acd_terms.specs.Groups.{is_one_of}
 use Rattle.acd_terms.specs.States.{is_distributed, is_queued, is_ready, is_occupying}
 use Rattle.acd_terms.specs.declared.rows.Rows.{Rows}
 use Rattle.acd_terms.specs.declared.record.AgentRecord.{AgentRecord}
@@ -93,18 +94,18 @@ able-eligible s g a = by a.station refl
     ends true false = refl
     ends false y = refl
 
-    by : (o : Option ℕ) → a.station ≡ o → (has a.group g && (is_ready a.state && is_free s a.station))
-        ≡ (((has a.group g && is_ready a.state) && not (list_any (λ (c : ConnectionRecord). has a.station c.device && is_distributed c) s.connections)) && is_idle_there s a.station)
+    by : (o : Option ℕ) → a.station ≡ o → (is_one_of a.groups g && (is_ready a.state && is_free s a.station))
+        ≡ (((is_one_of a.groups g && is_ready a.state) && not (list_any (λ (c : ConnectionRecord). has a.station c.device && is_distributed c) s.connections)) && is_idle_there s a.station)
     by None e =
-        ap (λ o. has a.group g && (is_ready a.state && is_free s o)) e
-        ∙ ends (has a.group g) (is_ready a.state)
-        ∙ ap (λ b. ((has a.group g && is_ready a.state) && not b) && false) (sym (none_at s.connections))
-        ∙ ap (λ o. ((has a.group g && is_ready a.state) && not (list_any (λ (c : ConnectionRecord). has o c.device && is_distributed c) s.connections)) && is_idle_there s o) (sym e)
+        ap (λ o. is_one_of a.groups g && (is_ready a.state && is_free s o)) e
+        ∙ ends (is_one_of a.groups g) (is_ready a.state)
+        ∙ ap (λ b. ((is_one_of a.groups g && is_ready a.state) && not b) && false) (sym (none_at s.connections))
+        ∙ ap (λ o. ((is_one_of a.groups g && is_ready a.state) && not (list_any (λ (c : ConnectionRecord). has o c.device && is_distributed c) s.connections)) && is_idle_there s o) (sym e)
     by (Some d) e =
-        ap (λ o. has a.group g && (is_ready a.state && is_free s o)) e
-        ∙ ap (λ b. has a.group g && (is_ready a.state && b)) (sym (neither s d s.connections))
-        ∙ sym (regroup (has a.group g) (is_ready a.state) (not (list_any (λ (c : ConnectionRecord). d == c.device && is_distributed c) s.connections)) (not (list_any (λ (c : ConnectionRecord). c.device == d && is_occupying c.state) s.connections)))
-        ∙ ap (λ o. ((has a.group g && is_ready a.state) && not (list_any (λ (c : ConnectionRecord). has o c.device && is_distributed c) s.connections)) && is_idle_there s o) (sym e)
+        ap (λ o. is_one_of a.groups g && (is_ready a.state && is_free s o)) e
+        ∙ ap (λ b. is_one_of a.groups g && (is_ready a.state && b)) (sym (neither s d s.connections))
+        ∙ sym (regroup (is_one_of a.groups g) (is_ready a.state) (not (list_any (λ (c : ConnectionRecord). d == c.device && is_distributed c) s.connections)) (not (list_any (λ (c : ConnectionRecord). c.device == d && is_occupying c.state) s.connections)))
+        ∙ ap (λ o. ((is_one_of a.groups g && is_ready a.state) && not (list_any (λ (c : ConnectionRecord). has o c.device && is_distributed c) s.connections)) && is_idle_there s o) (sym e)
 
 -- who is eligible in the group
 pub eligible-among : (s : Rows) (g : ℕ) (p : ℕ × ℕ) → IsAscending agent_order s.agents → (is_able_since s g p.0 (agent_of s p.1) ≡ true) ↔ Among p (map ready_pair (eligible_in s g))

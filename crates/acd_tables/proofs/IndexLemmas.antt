@@ -7,7 +7,8 @@ use Rattle.std.specs.Ordering.{is_eq, nat_cmp}
 use Rattle.std.specs.BTreeMap.{BTreeMap, get, is_at}
 use Rattle.std.specs.Map.{lookup}
 use Rattle.std.specs.BTreeSet.{BTreeSet, contains}
-use Rattle.std.proofs.lemmas.Bool.{and_from, and_left, and_right, or_left, or_right, eqb-true, eq-eqb}
+use Rattle.std.proofs.lemmas.Bool.{and_from, and_parts, and_left, and_right, or_left, or_right, eqb-true, eq-eqb, not-true, false_from_ne_true}
+use Rattle.acd_terms.specs.Groups.{is_one_of}
 use Rattle.acd_terms.specs.Lists.{IsAscending, find_by, put_by, remove_by}
 use Rattle.acd_terms.specs.States.{is_queued, is_ready}
 use Rattle.acd_terms.specs.Rows.{empty_rows}
@@ -23,21 +24,21 @@ use Rattle.acd_model.specs.Rules.Plan.{group_order, agent_order, connection_orde
 use Rattle.acd_model.specs.Scans.{is_group, group_of, agent_of, connection_of, at_group, at_agent, at_connection, queued_in_all, has}
 use Rattle.acd_model.specs.Writes.{with_group, with_station, with_agent, with_call, with_connection, with_monitor, without_call, without_connection, without_monitor, with_last, with_last_ids}
 use Rattle.acd_tables.specs.Sets.{holds, holds_in, has_set, is_at_key, Stays, SameMembers, HasSet, Noted, Forgotten}
-use Rattle.acd_tables.specs.Indexed.{PairSets, pair_cmp, lists, joins, waits_at, is_busying, is_busy_at, is_free, is_able_since, rings, works, Seats, Lines, Ringing, Working, IsIndexed, SeatMap, seat_of}
-use Rattle.acd_tables.specs.Turns.{is_entry, Entered, Undone, Untouched, TakenOut, TurnsTo, IsAt, IsFreeFor, with_or_without, one_queued, stays, IsBlank}
+use Rattle.acd_tables.specs.Indexed.{PairSets, pair_cmp, lists, joins, waits_at, is_busying, is_busy_at, is_free, is_able_since, rings, works, Seats, Lines, Ringing, Working, IsIndexed, SeatMap, seat_of, OfferKey, offer_cmp, offer_key, ListsOffers}
+use Rattle.acd_tables.specs.Turns.{is_entry, Entered, Undone, Untouched, TakenOut, TurnsTo, IsAt, IsFreeFor, with_or_without, one_queued, stays, IsBlank, loses_rank}
 use Rattle.acd_tables.specs.declared.indexes.Indexes.{Indexes}
 use Rattle.acd_tables.specs.declared.indexes.Entries.{Entries}
 use Rattle.acd_tables.specs.declared.indexes.Turn.{Turn}
 use Rattle.acd_laws.proofs.Lists.{some_is, count_length, ascending-put}
-use Rattle.acd_laws.proofs.State.{agent_put, agent_key, agents_total, groups_total, group_put, has_is, count_new, count_old, count_less}
+use Rattle.acd_laws.proofs.State.{agent_put, agent_key, agents_total, groups_total, group_put, group_put_found, group_key, has_is, count_new, count_old, count_less}
 use Rattle.acd_laws.proofs.Numbers.{filter_length}
-use Rattle.acd_tables.proofs.OfferLemmas.{undone, offers-same}
+use Rattle.acd_tables.proofs.OfferLemmas.{undone, offers-same, offers-of, offers-more, own_key, key_number, key_priority}
 use Rattle.acd_tables.proofs.TurnLemmas.{Replaces, Replaces-put, Replaces-removed, eq_key, pair_key}
 use Rattle.acd_tables.proofs.NoteLemmas.{Ringing-put, Ringing-left, Working-kept}
 use Rattle.acd_tables.proofs.Looking.{seated}
 
 -- where only the offers may have changed
-pub IsIndexed-untouched : (s : Rows) (x y : Indexes) → IsIndexed s x → Untouched x y → IsIndexed s y
+pub IsIndexed-untouched : (s : Rows) (x y : Indexes) → IsIndexed s x → Untouched s x y → IsIndexed s y
 IsIndexed-untouched s x y h u = record {
   groups = h.groups;
   agents = h.agents;
@@ -55,20 +56,24 @@ IsIndexed-untouched s x y h u = record {
 }
 
 -- what entered was taken out again
-pub Untouched-undone : (x y z : Indexes) (entries undo : Entries) → Entered x y entries → Undone x y undo → TakenOut y z undo → Untouched x z
-Untouched-undone x y z entries undo e u t = record {
+pub Untouched-undone : (s : Rows) (x y z : Indexes) (entries undo : Entries) → Entered s x y entries → Undone x y undo → TakenOut s y z undo → Untouched s x z
+Untouched-undone s x y z entries undo e u t = record {
   queues = record { sets = λ g. t.queues.sets g ∙ e.queues.sets g; members = undone x.queues y.queues z.queues undo.queue u.queues t.queues };
   ready = record { sets = λ g. t.ready.sets g ∙ e.ready.sets g; members = undone x.ready y.ready z.ready undo.ready u.ready t.ready };
   offers = t.offers;
   rest = record { seats = t.rest.seats ∙ e.rest.seats; lines = t.rest.lines ∙ e.rest.lines; ringing = t.rest.ringing ∙ e.rest.ringing; working = t.rest.working ∙ e.rest.working; queued = t.rest.queued ∙ e.rest.queued };
 }
 
+pub group_same : (s t : Rows) → t.groups ≡ s.groups → (g : ℕ) → group_of t g ≡ group_of s g
+unfolding group_of
+group_same s t groups g = ap (λ (l : List GroupRecord). find_by (at_group g) l) groups
+
 groups_same : (s t : Rows) → t.groups ≡ s.groups → (g : ℕ) → is_group t g ≡ is_group s g
 unfolding group_of
 groups_same s t groups g = ap (λ (l : List GroupRecord). is_some (find_by (at_group g) l)) groups
 
 -- what enters and leaves makes the sets of the new rows
-pub IsIndexed-turned : (s t : Rows) (x y z : Indexes) (turn : Turn) (n : ℕ) → IsIndexed s x → Entered x y turn.entering → TakenOut y z turn.leaving → TurnsTo s t turn
+pub IsIndexed-turned : (s t : Rows) (x y z : Indexes) (turn : Turn) (n : ℕ) → IsIndexed s x → Entered s x y turn.entering → TakenOut t y z turn.leaving → TurnsTo s t turn
     → t.groups ≡ s.groups → IsAscending agent_order t.agents → IsAscending connection_order t.connections → Seats t x.seats → Lines t x.lines → Ringing t x.ringing → Working t x.working → n ≡ length (queued_in_all t)
     → IsIndexed t (record z { queued = n })
 IsIndexed-turned s t x y z turn n h e o w groups agents connections seats lines ringing working queued = record {
@@ -243,12 +248,13 @@ module _ (s t : Rows) (agents : t.agents ≡ s.agents) (connections : t.connecti
 
   able_same : (g n : ℕ) (o : Option AgentRecord) → is_able_since t g n o ≡ is_able_since s g n o
   able_same g n None = refl
-  able_same g n (Some a) = ap (λ b. (a.stamp == n) && (has a.group g && (is_ready a.state && b))) (free_same a.station)
+  able_same g n (Some a) = ap (λ b. (a.stamp == n) && (is_one_of a.groups g && (is_ready a.state && b))) (free_same a.station)
 
   pub IsIndexed-lists : (x : Indexes) (queues ready : PairSets) → IsIndexed s x → IsAscending group_order t.groups → SameMembers nat_cmp pair_cmp x.queues queues → SameMembers nat_cmp pair_cmp x.ready ready
-      → ((g : ℕ) → is_group t g ≡ true → has_set nat_cmp pair_cmp queues g ≡ true) → ((g : ℕ) → is_group t g ≡ true → has_set nat_cmp pair_cmp ready g ≡ true) → IsIndexed t (record x { queues = queues; ready = ready })
+      → ((g : ℕ) → is_group t g ≡ true → has_set nat_cmp pair_cmp queues g ≡ true) → ((g : ℕ) → is_group t g ≡ true → has_set nat_cmp pair_cmp ready g ≡ true) → (offering : BTreeSet OfferKey) → ListsOffers t queues ready offering
+      → IsIndexed t (record x { queues = queues; ready = ready; offering = offering })
   unfolding queued_in_all
-  IsIndexed-lists x queues ready h groups mq mr q r = record {
+  IsIndexed-lists x queues ready h groups mq mr q r offering offers = record {
     groups = groups;
     agents = subst (IsAscending agent_order) (sym agents) h.agents;
     connections = subst (IsAscending connection_order) (sym connections) h.connections;
@@ -256,7 +262,7 @@ module _ (s t : Rows) (agents : t.agents ≡ s.agents) (connections : t.connecti
     readies = r;
     waiting = λ g p. mq g p ∙ h.waiting g p ∙ ap (waits_at p.0) (sym (found_same p.1 g));
     able = λ g p. mr g p ∙ h.able g p ∙ ap (is_able_since s g p.0) (sym (agent_same p.1)) ∙ sym (able_same g p.0 (agent_of t p.1));
-    offers = offers-same x.queues queues x.ready ready x.offering mq mr h.offers;
+    offers = offers;
     seats = Seats-kept s t x.seats agent_same h.seats;
     lines = Lines-kept s t x.lines (λ c d e. sym (ap is_some (found_same c d)) ∙ e) h.lines;
     ringing = λ p e. h.ringing p (sym (ap rings (found_same p.0 p.1)) ∙ e);
@@ -268,6 +274,7 @@ module _ (s t : Rows) (agents : t.agents ≡ s.agents) (connections : t.connecti
   IsIndexed-kept x groups h = IsIndexed-lists x x.queues x.ready h (subst (IsAscending group_order) (sym groups) h.groups) (λ g p. refl) (λ g p. refl)
       (λ g e. h.queues g (sym (groups_same s t groups g) ∙ e))
       (λ g e. h.readies g (sym (groups_same s t groups g) ∙ e))
+      x.offering (offers-of s t x.queues x.ready x.offering (group_same s t groups) h.offers)
 
 pub kept-station : (s : Rows) (r : StationRecord) (x : Indexes) → IsIndexed s x → IsIndexed (with_station s r) x
 unfolding with_station
@@ -297,13 +304,60 @@ pub kept-last_ids : (s : Rows) (c m : ℕ) (x : Indexes) → IsIndexed s x → I
 unfolding with_last_ids
 kept-last_ids s c m x h = IsIndexed-kept s (with_last_ids s c m) refl refl x refl h
 
+-- a group's record is put: its key is noted before where it may have an offer, and the one of its old priority goes behind
+ranked-offers : (s : Rows) (item : GroupRecord) (old : Option GroupRecord) (queues ready : PairSets) (offering noted ranked : BTreeSet OfferKey) (belongs : Bool) → old ≡ group_of s item.device
+    → ListsOffers s queues ready offering → (belongs ≡ false → (p q : ℕ × ℕ) → lists queues item.device p ≡ true → lists ready item.device q ≡ false)
+    → Noted offer_cmp offering noted (offer_key item) belongs → ((k : OfferKey) → loses_rank old item.priority k ≡ false → contains offer_cmp ranked k ≡ contains offer_cmp noted k)
+    → ListsOffers (with_group s item) queues ready ranked
+ranked-offers s item old queues ready offering noted ranked belongs found offers none note forgot g r p q there h l = by (item.device == g) refl
+  where
+    at : (b : Bool) → (item.device == g) ≡ b → cond b (Some item) (group_of s g) ≡ Some r
+    at b e = ap (λ v. cond v (Some item) (group_of s g)) (sym e) ∙ sym (group_put_found s item g) ∙ there
+
+    -- its own key isn't the one that goes
+    keeps : (o : Option GroupRecord) → loses_rank o item.priority (offer_key item) ≡ false
+    keeps None = refl
+    keeps (Some z) = false_from_ne_true _ (λ e.
+        let parts = and_parts (not (z.priority == item.priority)) (is_eq (offer_cmp (offer_key z) (offer_key item))) e in
+        let differ = not-true (z.priority == item.priority) parts.0 in
+        let same = eq-eqb z.priority item.priority (sym (key_priority (offer_key z) (offer_key item) parts.1)) in cc (differ, same))
+
+    -- and another group's isn't either
+    others : (o : Option GroupRecord) → o ≡ group_of s item.device → (item.device == g) ≡ false → group_of s g ≡ Some r → loses_rank o item.priority (offer_key r) ≡ false
+    others None w e f = refl
+    others (Some z) w e f = false_from_ne_true _ (λ k.
+        let parts = and_parts (not (z.priority == item.priority)) (is_eq (offer_cmp (offer_key z) (offer_key r))) k in
+        let same : item.device ≡ g = sym (group_key s item.device z (sym w)) ∙ key_number (offer_key z) (offer_key r) parts.1 ∙ group_key s g r f in
+        let yes = eq-eqb item.device g same in cc (e, yes))
+
+    belonging : (b : Bool) → belongs ≡ b → (item.device == g) ≡ true → contains offer_cmp noted (offer_key item) ≡ true
+    belonging true e f = note (offer_key item) ∙ ap (λ v. (v && is_eq (offer_cmp (offer_key item) (offer_key item))) || contains offer_cmp offering (offer_key item)) e
+        ∙ ap (λ v. v || contains offer_cmp offering (offer_key item)) (own_key (offer_key item))
+    belonging false e f =
+        let same : item.device ≡ g = eqb-true item.device g f in
+        let no = none e p q (ap (λ v. lists queues v p) same ∙ h) in
+        let yes : lists ready item.device q ≡ true = ap (λ v. lists ready v q) same ∙ l in absurd (cc (no, yes))
+
+    by : (b : Bool) → (item.device == g) ≡ b → contains offer_cmp ranked (offer_key r) ≡ true
+    by true e =
+        let same : item ≡ r = some_is item r (at true e) in
+        ap (λ (z : GroupRecord). contains offer_cmp ranked (offer_key z)) (sym same) ∙ forgot (offer_key item) (keeps old) ∙ belonging belongs refl e
+    by false e =
+        let f : group_of s g ≡ Some r = at false e in
+        forgot (offer_key r) (others old found e f) ∙ note (offer_key r) ∙ or_right (belongs && is_eq (offer_cmp (offer_key item) (offer_key r))) (contains offer_cmp offering (offer_key r)) (offers g r p q f h l)
+
 -- a group with its two sets
-pub IsIndexed-group : (s : Rows) (item : GroupRecord) (x : Indexes) (queues ready : PairSets) → IsIndexed s x → HasSet nat_cmp pair_cmp x.queues queues item.device → HasSet nat_cmp pair_cmp x.ready ready item.device
-    → IsIndexed (with_group s item) (record x { queues = queues; ready = ready })
+pub IsIndexed-group : (s : Rows) (item : GroupRecord) (old : Option GroupRecord) (x : Indexes) (queues ready : PairSets) (noted ranked : BTreeSet OfferKey) (belongs : Bool) → old ≡ group_of s item.device → IsIndexed s x
+    → HasSet nat_cmp pair_cmp x.queues queues item.device → HasSet nat_cmp pair_cmp x.ready ready item.device
+    → (belongs ≡ false → (p q : ℕ × ℕ) → lists queues item.device p ≡ true → lists ready item.device q ≡ false)
+    → Noted offer_cmp x.offering noted (offer_key item) belongs → ((k : OfferKey) → loses_rank old item.priority k ≡ false → contains offer_cmp ranked k ≡ contains offer_cmp noted k)
+    → IsIndexed (with_group s item) (record x { queues = queues; ready = ready; offering = ranked })
 unfolding with_group
-IsIndexed-group s item x queues ready h hq hr = IsIndexed-lists s (with_group s item) refl refl x queues ready h (ascending-put group_order groups_total item s.groups h.groups) hq.members hr.members
+IsIndexed-group s item old x queues ready noted ranked belongs found h hq hr none note forgot =
+    IsIndexed-lists s (with_group s item) refl refl x queues ready h (ascending-put group_order groups_total item s.groups h.groups) hq.members hr.members
     (λ g e. hq.sets g ∙ there g (is_eq (nat_cmp item.device g)) (has_set nat_cmp pair_cmp x.queues g) (eq_key item.device g) (h.queues g) e)
     (λ g e. hr.sets g ∙ there g (is_eq (nat_cmp item.device g)) (has_set nat_cmp pair_cmp x.ready g) (eq_key item.device g) (h.readies g) e)
+    ranked (ranked-offers s item old queues ready x.offering noted ranked belongs found (offers-same s x.queues queues x.ready ready x.offering hq.members hr.members h.offers) none note forgot)
   where
     there : (g : ℕ) (a b : Bool) → a ≡ (item.device == g) → (is_group s g ≡ true → b ≡ true) → is_group (with_group s item) g ≡ true → (a || b) ≡ true
     there g true b k f e = refl
@@ -313,6 +367,7 @@ IsIndexed-group s item x queues ready h hq hr = IsIndexed-lists s (with_group s 
 pub IsIndexed-sets : (s : Rows) (x : Indexes) (queues ready : PairSets) (k : ℕ) → IsIndexed s x → HasSet nat_cmp pair_cmp x.queues queues k → Stays nat_cmp pair_cmp x.ready ready → IsIndexed s (record x { queues = queues; ready = ready })
 IsIndexed-sets s x queues ready k h hq hr = IsIndexed-lists s s refl refl x queues ready h h.groups hq.members hr.members
     (λ g e. hq.sets g ∙ there (is_eq (nat_cmp k g)) (has_set nat_cmp pair_cmp x.queues g) (h.queues g e)) (λ g e. hr.sets g ∙ h.readies g e)
+    x.offering (offers-same s x.queues queues x.ready ready x.offering hq.members hr.members h.offers)
   where
     there : (a b : Bool) → b ≡ true → (a || b) ≡ true
     there true b e = refl
@@ -321,6 +376,7 @@ IsIndexed-sets s x queues ready k h hq hr = IsIndexed-lists s s refl refl x queu
 pub IsIndexed-both : (s : Rows) (x : Indexes) (queues ready : PairSets) (k : ℕ) → IsIndexed s x → HasSet nat_cmp pair_cmp x.queues queues k → HasSet nat_cmp pair_cmp x.ready ready k → IsIndexed s (record x { queues = queues; ready = ready })
 IsIndexed-both s x queues ready k h hq hr = IsIndexed-lists s s refl refl x queues ready h h.groups hq.members hr.members
     (λ g e. hq.sets g ∙ there (is_eq (nat_cmp k g)) (has_set nat_cmp pair_cmp x.queues g) (h.queues g e)) (λ g e. hr.sets g ∙ there (is_eq (nat_cmp k g)) (has_set nat_cmp pair_cmp x.ready g) (h.readies g e))
+    x.offering (offers-same s x.queues queues x.ready ready x.offering hq.members hr.members h.offers)
   where
     there : (a b : Bool) → b ≡ true → (a || b) ≡ true
     there true b e = refl
@@ -328,6 +384,14 @@ IsIndexed-both s x queues ready k h hq hr = IsIndexed-lists s s refl refl x queu
 
 pub IsIndexed-stays : (s : Rows) (x : Indexes) (queues : PairSets) → IsIndexed s x → Stays nat_cmp pair_cmp x.queues queues → IsIndexed s (record x { queues = queues })
 IsIndexed-stays s x queues h hq = IsIndexed-lists s s refl refl x queues x.ready h h.groups hq.members (λ g p. refl) (λ g e. hq.sets g ∙ h.queues g e) h.readies
+    x.offering (offers-same s x.queues queues x.ready x.ready x.offering hq.members (λ g p. refl) h.offers)
+
+-- other groups are noted
+pub IsIndexed-offering : (s : Rows) (x : Indexes) (offering : BTreeSet OfferKey) → IsIndexed s x → ListsOffers s x.queues x.ready offering → IsIndexed s (record x { offering = offering })
+IsIndexed-offering s x offering h offers = IsIndexed-lists s s refl refl x x.queues x.ready h h.groups (λ g p. refl) (λ g p. refl) h.queues h.readies offering offers
+
+pub IsIndexed-noted_more : (s : Rows) (x : Indexes) (offering : BTreeSet OfferKey) → IsIndexed s x → ((k : OfferKey) → contains offer_cmp x.offering k ≡ true → contains offer_cmp offering k ≡ true) → IsIndexed s (record x { offering = offering })
+IsIndexed-noted_more s x offering h more = IsIndexed-offering s x offering h (offers-more s x.queues x.ready offering x.offering h.offers more)
 
 -- what may be listed besides
 IsIndexed-besides : (s : Rows) (x : Indexes) (seats : SeatMap) (lines : BTreeSet (ℕ × ℕ)) (ringing : BTreeSet (ℕ × ℕ)) (working : BTreeSet ℕ) → IsIndexed s x → Seats s seats → Lines s lines → Ringing s ringing → Working s working
@@ -369,7 +433,7 @@ pub IsIndexed-seated : (s : Rows) (x : Indexes) (seats : SeatMap) (working : BTr
 IsIndexed-seated s x seats working h d w = IsIndexed-besides s x seats x.lines x.ringing working h d h.lines h.ringing w
 
 -- an agent's record is put
-pub IsIndexed-agent : (s : Rows) (item : AgentRecord) (x y z : Indexes) (turn : Turn) → IsIndexed s x → Entered x y turn.entering → TakenOut y z turn.leaving → TurnsTo s (with_agent s item) turn → Seats (with_agent s item) x.seats
+pub IsIndexed-agent : (s : Rows) (item : AgentRecord) (x y z : Indexes) (turn : Turn) → IsIndexed s x → Entered s x y turn.entering → TakenOut (with_agent s item) y z turn.leaving → TurnsTo s (with_agent s item) turn → Seats (with_agent s item) x.seats
     → Working (with_agent s item) x.working → IsIndexed (with_agent s item) z
 unfolding with_agent group_of connection_of queued_in_all
 IsIndexed-agent s item x y z turn h e o w seats working = IsIndexed-turned s (with_agent s item) x y z turn z.queued h e o w refl (ascending-put agent_order agents_total item s.agents h.agents) h.connections seats h.lines h.ringing working (o.rest.queued ∙ e.rest.queued ∙ h.queued)
@@ -378,7 +442,11 @@ agents_put : (s : Rows) (c : ConnectionRecord) → IsAscending agent_order s.age
 unfolding with_connection
 agents_put s c h = h
 
-groups_put : (s : Rows) (c : ConnectionRecord) → (with_connection s c).groups ≡ s.groups
+pub groups_seated : (s : Rows) (a : AgentRecord) → (with_agent s a).groups ≡ s.groups
+unfolding with_agent
+groups_seated s a = refl
+
+pub groups_put : (s : Rows) (c : ConnectionRecord) → (with_connection s c).groups ≡ s.groups
 unfolding with_connection
 groups_put s c = refl
 
@@ -386,19 +454,19 @@ agents_less : (s : Rows) (c d : ℕ) → IsAscending agent_order s.agents → Is
 unfolding without_connection
 agents_less s c d h = h
 
-groups_less : (s : Rows) (c d : ℕ) → (without_connection s c d).groups ≡ s.groups
+pub groups_less : (s : Rows) (c d : ℕ) → (without_connection s c d).groups ≡ s.groups
 unfolding without_connection
 groups_less s c d = refl
 
 -- a connection is put
-pub IsIndexed-put : (s : Rows) (c : ConnectionRecord) (x y z : Indexes) (turn : Turn) (n : ℕ) → IsIndexed s x → Entered x y turn.entering → TakenOut y z turn.leaving → TurnsTo s (with_connection s c) turn
+pub IsIndexed-put : (s : Rows) (c : ConnectionRecord) (x y z : Indexes) (turn : Turn) (n : ℕ) → IsIndexed s x → Entered s x y turn.entering → TakenOut (with_connection s c) y z turn.leaving → TurnsTo s (with_connection s c) turn
     → Lines (with_connection s c) x.lines → Ringing (with_connection s c) x.ringing → n ≡ length (queued_in_all (with_connection s c)) → IsIndexed (with_connection s c) (record z { queued = n })
 IsIndexed-put s c x y z turn n h e o w lines ringing queued =
     let r = Replaces-put s c h.connections in
     IsIndexed-turned s (with_connection s c) x y z turn n h e o w (groups_put s c) (agents_put s c h.agents) r.ascending (Seats-kept s (with_connection s c) x.seats r.agents h.seats) lines ringing (Working-kept s (with_connection s c) x.working r.agents h.working) queued
 
 -- a connection is removed
-pub IsIndexed-removed : (s : Rows) (call device : ℕ) (x y z : Indexes) (turn : Turn) (n : ℕ) (lines : BTreeSet (ℕ × ℕ)) (ringing : BTreeSet (ℕ × ℕ)) (gone : Bool) → IsIndexed s x → Entered x y turn.entering → TakenOut y z turn.leaving
+pub IsIndexed-removed : (s : Rows) (call device : ℕ) (x y z : Indexes) (turn : Turn) (n : ℕ) (lines : BTreeSet (ℕ × ℕ)) (ringing : BTreeSet (ℕ × ℕ)) (gone : Bool) → IsIndexed s x → Entered s x y turn.entering → TakenOut (without_connection s call device) y z turn.leaving
     → TurnsTo s (without_connection s call device) turn → Forgotten pair_cmp z.lines lines (device, call) true → Forgotten pair_cmp z.ringing ringing (call, device) gone → n ≡ length (queued_in_all (without_connection s call device))
     → IsIndexed (without_connection s call device) (record z { queued = n; lines = lines; ringing = ringing })
 IsIndexed-removed s call device x y z turn n lines ringing gone h e o w listed noted queued =
@@ -446,7 +514,7 @@ module _ (s : Rows) (x : Indexes) (no_groups : s.groups ≡ []) (no_agents : s.a
     readies = λ g e. absurd (cc (e, no_group g));
     waiting = λ g p. no_member x.queues blank.queues g p ∙ sym (ap (waits_at p.0) (no_connection p.1 g));
     able = λ g p. no_member x.ready blank.ready g p ∙ sym (ap (is_able_since s g p.0) (no_agent p.1));
-    offers = λ g p q h k. absurd (cc (h, no_member x.queues blank.queues g p));
+    offers = λ g r p q there h k. absurd (cc (h, no_member x.queues blank.queues g p));
     seats = λ n d a e f. absurd (cc (e, no_agent n));
     lines = λ c d e. absurd (cc (e, ap is_some (no_connection c d)));
     ringing = λ p e. absurd (cc (e, ap rings (no_connection p.0 p.1)));

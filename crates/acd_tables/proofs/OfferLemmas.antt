@@ -1,72 +1,104 @@
 -- The groups that may have an offer, through the changes of sets.
-use Rattle.std.proofs.Common.{◌≡◌, ℕ, Bool, true, false, cond, ◌&&◌, ◌||◌, not, Option, Some, None, refl, ap, sym, ◌∙◌}
-use Rattle.std.specs.Ordering.{is_eq, nat_cmp}
+use Rattle.std.proofs.Common.{◌≡◌, ℕ, Bool, true, false, cond, ◌&&◌, ◌||◌, not, List, Option, Some, None, refl, ap, sym, ◌∙◌}
+use Rattle.std.specs.Ordering.{is_eq, nat_cmp, ordering_then}
+use Rattle.std.specs.declared.cmp.Ordering.{Ordering}
+use Rattle.std.specs.declared.cmp.Ordering.TheVariants.{Less, Equal, Greater}
 use Rattle.std.specs.BTreeSet.{BTreeSet, contains}
-use Rattle.std.proofs.lemmas.Bool.{and_parts}
+use Rattle.std.proofs.lemmas.Bool.{and_parts, and_from, or_left, or_right, false_from_ne_true}
 use Rattle.std.proofs.lemmas.Map.Lookups.{exact_unsigned}
-use Rattle.acd_laws.proofs.Lists.{eq_is}
-use Rattle.acd_tables.specs.Indexed.{PairSets, pair_cmp, lists, ListsOffers}
+use Rattle.acd_terms.specs.Groups.{is_one_of}
+use Rattle.acd_terms.specs.declared.rows.Rows.{Rows}
+use Rattle.acd_terms.specs.declared.record.GroupRecord.{GroupRecord}
+use Rattle.acd_model.specs.Scans.{group_of}
+use Rattle.acd_laws.proofs.Lists.{eq_is, is_eq_of, some_is}
+use Rattle.acd_laws.proofs.Keyed.{cmp_self}
+use Rattle.acd_laws.proofs.State.{group_key}
+use Rattle.acd_tables.specs.Sets.{Forgotten}
+use Rattle.acd_tables.specs.Indexed.{PairSets, pair_cmp, lists, OfferKey, offer_cmp, offer_key, ListsOffers}
 use Rattle.acd_tables.specs.Turns.{is_entry, is_of_group, Enters, Leaves, Undoes}
+
+both_equal : (a b : Ordering) → is_eq (ordering_then a b) ≡ true → (a ≡ Equal) × (b ≡ Equal)
+both_equal Less b e = absurd (cc (e))
+both_equal Equal b e = (refl, eq_is b e)
+both_equal Greater b e = absurd (cc (e))
+
+-- a key is its own
+pub own_key : (k : OfferKey) → is_eq (offer_cmp k k) ≡ true
+own_key k = ap is_eq (ap (λ o. ordering_then o (nat_cmp k.1 k.1)) (cmp_self k.0.0 k.0.0 refl) ∙ cmp_self k.1 k.1 refl)
+
+-- keys that are equal have one number
+pub key_number : (j k : OfferKey) → is_eq (offer_cmp j k) ≡ true → j.1 ≡ k.1
+key_number j k e = exact_unsigned j.1 k.1 (both_equal (nat_cmp k.0.0 j.0.0) (nat_cmp j.1 k.1) e).1
+
+-- and one priority
+pub key_priority : (j k : OfferKey) → is_eq (offer_cmp j k) ≡ true → k.0.0 ≡ j.0.0
+key_priority j k e = exact_unsigned k.0.0 j.0.0 (both_equal (nat_cmp k.0.0 j.0.0) (nat_cmp j.1 k.1) e).0
 
 -- a member that is there now entered or was there
 came : (a b c : Bool) → c ≡ (a || b) → c ≡ true → a ≡ false → b ≡ true
 came true b c e h n = absurd cc
 came false b c e h n = sym e ∙ h
 
-of_its_group : (entry : Option (ℕ × (ℕ × ℕ))) (g : ℕ) (p : ℕ × ℕ) → is_entry pair_cmp entry g p ≡ true → is_of_group entry g ≡ true
+of_its_group : (entry : Option (List ℕ × (ℕ × ℕ))) (g : ℕ) (p : ℕ × ℕ) → is_entry pair_cmp entry g p ≡ true → is_of_group entry g ≡ true
 of_its_group None g p h = h
-of_its_group (Some k) g p h = (and_parts (is_eq (nat_cmp k.0 g)) (is_eq (pair_cmp k.1 p)) h).0
+of_its_group (Some k) g p h = (and_parts (is_one_of k.0 g) (is_eq (pair_cmp k.1 p)) h).0
 
-left_true : (a b c : Bool) → c ≡ (a || b) → a ≡ true → c ≡ true
-left_true true b c e h = e
-left_true false b c e h = absurd cc
+module _ (s : Rows) where
+  -- more groups may be noted
+  pub offers-more : (queues ready : PairSets) (noted offering : BTreeSet OfferKey) → ListsOffers s queues ready offering
+      → ((k : OfferKey) → contains offer_cmp offering k ≡ true → contains offer_cmp noted k ≡ true) → ListsOffers s queues ready noted
+  offers-more queues ready noted offering old kept g r p q there h k = kept (offer_key r) (old g r p q there h k)
 
-right_true : (a b c : Bool) → c ≡ (a || b) → b ≡ true → c ≡ true
-right_true true b c e h = e
-right_true false b c e h = e ∙ h
+  -- the groups of what enters a queue are noted before, and those of what enters the ready agents where somebody waits
+  pub offers-entered : (queues queues' ready ready' : PairSets) (noted once offering : BTreeSet OfferKey) (e f waiting : Option (List ℕ × (ℕ × ℕ))) → ListsOffers s queues ready offering
+      → Enters pair_cmp queues queues' e → Enters pair_cmp ready ready' f
+      → ((k : OfferKey) → contains offer_cmp offering k ≡ true → contains offer_cmp once k ≡ true)
+      → ((g : ℕ) (r : GroupRecord) → is_of_group e g ≡ true → group_of s g ≡ Some r → contains offer_cmp once (offer_key r) ≡ true)
+      → ((g : ℕ) (p : ℕ × ℕ) → is_of_group f g ≡ true → lists queues g p ≡ true → is_of_group waiting g ≡ true)
+      → ((k : OfferKey) → contains offer_cmp once k ≡ true → contains offer_cmp noted k ≡ true)
+      → ((g : ℕ) (r : GroupRecord) → is_of_group waiting g ≡ true → group_of s g ≡ Some r → contains offer_cmp noted (offer_key r) ≡ true)
+      → ListsOffers s queues' ready' noted
+  offers-entered queues queues' ready ready' noted once offering e f waiting old eq er first of_queue waits second of_ready g r p q there h k =
+      by (is_entry pair_cmp e g p) refl (is_entry pair_cmp f g q) refl
+    where
+      by : (a : Bool) → is_entry pair_cmp e g p ≡ a → (b : Bool) → is_entry pair_cmp f g q ≡ b → contains offer_cmp noted (offer_key r) ≡ true
+      by true x b y = second (offer_key r) (of_queue g r (of_its_group e g p x) there)
+      by false x true y = of_ready g r (waits g p (of_its_group f g q y) (came (is_entry pair_cmp e g p) _ _ (eq.members g p) h x)) there
+      by false x false y = second (offer_key r) (first (offer_key r) (old g r p q there (came (is_entry pair_cmp e g p) _ _ (eq.members g p) h x) (came (is_entry pair_cmp f g q) _ _ (er.members g q) k y)))
 
--- the groups of what enters are noted before
-pub offers-entered : (queues queues' ready ready' : PairSets) (noted once offering : BTreeSet ℕ) (e f : Option (ℕ × (ℕ × ℕ))) → ListsOffers queues ready offering → Enters pair_cmp queues queues' e → Enters pair_cmp ready ready' f
-    → ((g : ℕ) → contains nat_cmp once g ≡ (is_of_group e g || contains nat_cmp offering g)) → ((g : ℕ) → contains nat_cmp noted g ≡ (is_of_group f g || contains nat_cmp once g)) → ListsOffers queues' ready' noted
-offers-entered queues queues' ready ready' noted once offering e f old eq er first second g p q h k = by_queue (is_entry pair_cmp e g p) refl (is_entry pair_cmp f g q) refl
-  where
-    by_queue : (a : Bool) → is_entry pair_cmp e g p ≡ a → (b : Bool) → is_entry pair_cmp f g q ≡ b → contains nat_cmp noted g ≡ true
-    by_queue true x b y = right_true (is_of_group f g) _ _ (second g) (left_true (is_of_group e g) _ _ (first g) (of_its_group e g p x))
-    by_queue false x true y = left_true (is_of_group f g) _ _ (second g) (of_its_group f g q y)
-    by_queue false x false y =
-        let was = old g p q (came (is_entry pair_cmp e g p) _ _ (eq.members g p) h x) (came (is_entry pair_cmp f g q) _ _ (er.members g q) k y) in
-        right_true (is_of_group f g) _ _ (second g) (right_true (is_of_group e g) _ _ (first g) was)
+  was_there : (a b c : Bool) → c ≡ (not a && b) → c ≡ true → b ≡ true
+  was_there true b c e h = absurd cc
+  was_there false b c e h = sym e ∙ h
 
-was_there : (a b c : Bool) → c ≡ (not a && b) → c ≡ true → b ≡ true
-was_there true b c e h = absurd cc
-was_there false b c e h = sym e ∙ h
+  -- with fewer members there are fewer offers
+  pub offers-left : (queues queues' ready ready' : PairSets) (offering : BTreeSet OfferKey) (e f : Option (List ℕ × (ℕ × ℕ))) → ListsOffers s queues ready offering → Leaves pair_cmp queues queues' e → Leaves pair_cmp ready ready' f
+      → ListsOffers s queues' ready' offering
+  offers-left queues queues' ready ready' offering e f old lq lr g r p q there h k =
+      old g r p q there (was_there (is_entry pair_cmp e g p) _ _ (lq.members g p) h) (was_there (is_entry pair_cmp f g q) _ _ (lr.members g q) k)
 
--- with fewer members there are fewer offers
-pub offers-left : (queues queues' ready ready' : PairSets) (offering : BTreeSet ℕ) (e f : Option (ℕ × (ℕ × ℕ))) → ListsOffers queues ready offering → Leaves pair_cmp queues queues' e → Leaves pair_cmp ready ready' f → ListsOffers queues' ready' offering
-offers-left queues queues' ready ready' offering e f old lq lr g p q h k =
-    old g p q (was_there (is_entry pair_cmp e g p) _ _ (lq.members g p) h) (was_there (is_entry pair_cmp f g q) _ _ (lr.members g q) k)
+  -- a group with no offer may go
+  pub offers-pruned : (queues ready : PairSets) (pruned offering : BTreeSet OfferKey) (n : ℕ) (z : GroupRecord) (gone : Bool) → ListsOffers s queues ready offering → group_of s n ≡ Some z
+      → (gone ≡ true → (p q : ℕ × ℕ) → lists queues n p ≡ true → lists ready n q ≡ false) → Forgotten offer_cmp offering pruned (offer_key z) gone → ListsOffers s queues ready pruned
+  offers-pruned queues ready pruned offering n z gone old found none forgot g r p q there h l = forgot (offer_key r) ∙ by (gone && is_eq (offer_cmp (offer_key z) (offer_key r))) refl
+    where
+      by : (b : Bool) → (gone && is_eq (offer_cmp (offer_key z) (offer_key r))) ≡ b → (not b && contains offer_cmp offering (offer_key r)) ≡ true
+      by true e =
+          let parts = and_parts gone (is_eq (offer_cmp (offer_key z) (offer_key r))) e in
+          let same : n ≡ g = sym (group_key s n z found) ∙ key_number (offer_key z) (offer_key r) parts.1 ∙ group_key s g r there in
+          let no = none parts.0 p q (ap (λ x. lists queues x p) same ∙ h) in
+          let yes : lists ready n q ≡ true = ap (λ x. lists ready x q) same ∙ l in
+          absurd (cc (no, yes))
+      by false e = old g r p q there h l
 
--- more groups may be noted
-pub offers-noted : (queues ready : PairSets) (noted offering : BTreeSet ℕ) (e : Option (ℕ × (ℕ × ℕ))) → ListsOffers queues ready offering → ((g : ℕ) → contains nat_cmp noted g ≡ (is_of_group e g || contains nat_cmp offering g)) → ListsOffers queues ready noted
-offers-noted queues ready noted offering e old first g p q h k = right_true (is_of_group e g) _ _ (first g) (old g p q h k)
+  -- the same members give the same offers
+  pub offers-same : (queues queues' ready ready' : PairSets) (offering : BTreeSet OfferKey) → ((g : ℕ) (p : ℕ × ℕ) → lists queues' g p ≡ lists queues g p) → ((g : ℕ) (p : ℕ × ℕ) → lists ready' g p ≡ lists ready g p)
+      → ListsOffers s queues ready offering → ListsOffers s queues' ready' offering
+  offers-same queues queues' ready ready' offering eq er old g r p q there h k = old g r p q there (sym (eq g p) ∙ h) (sym (er g q) ∙ k)
 
--- a group with no offer may go
-pub offers-pruned : (queues ready : PairSets) (pruned offering : BTreeSet ℕ) (k : ℕ) → ListsOffers queues ready offering → ((p q : ℕ × ℕ) → lists queues k p ≡ true → lists ready k q ≡ false)
-    → ((g : ℕ) → contains nat_cmp pruned g ≡ cond (is_eq (nat_cmp k g)) false (contains nat_cmp offering g)) → ListsOffers queues ready pruned
-offers-pruned queues ready pruned offering k old none gone g p q h l = step (is_eq (nat_cmp k g)) refl
-  where
-    step : (b : Bool) → is_eq (nat_cmp k g) ≡ b → contains nat_cmp pruned g ≡ true
-    step true e =
-        let same : k ≡ g = exact_unsigned k g (eq_is _ e) in
-        let gone = none p q (ap (λ x. lists queues x p) same ∙ h) in
-        let there : lists ready k q ≡ true = ap (λ x. lists ready x q) same ∙ l in
-        absurd cc
-    step false e = gone g ∙ ap (λ b. cond b false (contains nat_cmp offering g)) e ∙ old g p q h l
-
--- the same members give the same offers
-pub offers-same : (queues queues' ready ready' : PairSets) (offering : BTreeSet ℕ) → ((g : ℕ) (p : ℕ × ℕ) → lists queues' g p ≡ lists queues g p) → ((g : ℕ) (p : ℕ × ℕ) → lists ready' g p ≡ lists ready g p) → ListsOffers queues ready offering → ListsOffers queues' ready' offering
-offers-same queues queues' ready ready' offering eq er old g p q h k = old g p q (sym (eq g p) ∙ h) (sym (er g q) ∙ k)
+-- other rows with the same groups
+pub offers-of : (s t : Rows) (queues ready : PairSets) (offering : BTreeSet OfferKey) → ((g : ℕ) → group_of t g ≡ group_of s g) → ListsOffers s queues ready offering → ListsOffers t queues ready offering
+offers-of s t queues ready offering same old g r p q there h k = old g r p q (sym (same g) ∙ there) h k
 
 -- what entered and was taken out again
-pub undone : (old new back : PairSets) (undo : Option (ℕ × (ℕ × ℕ))) → Undoes pair_cmp old new undo → Leaves pair_cmp new back undo → (g : ℕ) (p : ℕ × ℕ) → lists back g p ≡ lists old g p
+pub undone : (old new back : PairSets) (undo : Option (List ℕ × (ℕ × ℕ))) → Undoes pair_cmp old new undo → Leaves pair_cmp new back undo → (g : ℕ) (p : ℕ × ℕ) → lists back g p ≡ lists old g p
 undone old new back undo un out g p = out.members g p ∙ sym (un g p)

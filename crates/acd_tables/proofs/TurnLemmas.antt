@@ -1,14 +1,15 @@
 -- What a change takes into the exact sets, and out of them.
-use Rattle.std.proofs.Common.{◌≡◌, ℕ, inl, inr, Bool, true, false, cond, ◌&&◌, ◌||◌, not, Option, Some, None, is_some, refl, ap, sym, ◌∙◌, subst}
-use Rattle.std.specs.Prelude.{◌==◌, unwrap_or}
+use Rattle.std.proofs.Common.{◌≡◌, ℕ, inl, inr, Bool, true, false, cond, ◌&&◌, ◌||◌, not, List, [], ◌∷◌, Option, Some, None, is_some, refl, ap, sym, ◌∙◌, subst}
+use Rattle.std.specs.Prelude.{◌==◌, unwrap_or, filter}
 use Rattle.std.specs.List.{list_any}
-use Rattle.std.specs.Cmp.{both_ways}
+use Rattle.std.specs.Cmp.{both_ways, IsTotalOrder}
 use Rattle.std.specs.declared.cmp.Ordering.{Ordering}
 use Rattle.std.specs.declared.cmp.Ordering.TheVariants.{Less, Equal, Greater}
-use Rattle.std.specs.Ordering.{is_eq, nat_cmp, ordering_then}
+use Rattle.std.specs.Ordering.{is_eq, nat_cmp, ordering_then, ordering_reverse}
 use Rattle.std.specs.BTreeMap.{BTreeMap}
 use Rattle.std.proofs.lemmas.Bool.{and_parts, and_from, and_left, and_right, or_cases, or_left, or_right, eqb-true, eq-eqb, false_from_ne_true, not-true}
 use Rattle.acd_terms.specs.Lists.{IsAscending}
+use Rattle.acd_terms.specs.Groups.{is_one_of}
 use Rattle.acd_terms.specs.States.{is_queued, is_ready}
 use Rattle.acd_terms.specs.declared.rows.Rows.{Rows}
 use Rattle.acd_terms.specs.declared.record.AgentRecord.{AgentRecord}
@@ -22,7 +23,7 @@ use Rattle.acd_laws.proofs.State.{connections_total, at_put, at_remove, agent_pu
 use Rattle.acd_tables.specs.Indexed.{pair_cmp, waits_at, is_busying, is_busy_at, is_free, is_able_since, Seats, SeatMap}
 use Rattle.acd_tables.specs.Uses.{is_there_and, is_in_use}
 use Rattle.acd_tables.specs.declared.uses.Use.TheVariants.{Busying}
-use Rattle.acd_tables.specs.Turns.{TurnsTo, differ, is_entry, IsAt, queue_entry, entry_in, ready_entry, with_or_without, LeavesBut}
+use Rattle.acd_tables.specs.Turns.{TurnsTo, differ, is_entry, IsAt, queue_entry, ready_entry, with_or_without, LeavesBut, left_of}
 use Rattle.acd_tables.specs.declared.indexes.Turn.{Turn}
 use Rattle.acd_tables.proofs.Looking.{there-any, any-there, used_some, seated}
 
@@ -38,8 +39,12 @@ pub pair_key : (call device : ℕ) (p : ℕ × ℕ) → is_eq (pair_cmp (call, d
 pair_key call device p = rw (eq_then (nat_cmp call p.0) (nat_cmp device p.1), eq_key call p.0, eq_key device p.1) refl
 
 -- an entry's test, on numbers
-entry_test : (a b c g : ℕ) (p : ℕ × ℕ) → is_entry pair_cmp (Some (g, (a, b))) c p ≡ ((g == c) && ((a == p.0) && (b == p.1)))
-entry_test a b c g p = rw (eq_then (nat_cmp a p.0) (nat_cmp b p.1), eq_key g c, eq_key a p.0, eq_key b p.1) refl
+entry_test : (a b c : ℕ) (gs : List ℕ) (p : ℕ × ℕ) → is_entry pair_cmp (Some (gs, (a, b))) c p ≡ (is_one_of gs c && ((a == p.0) && (b == p.1)))
+entry_test a b c gs p = rw (eq_then (nat_cmp a p.0) (nat_cmp b p.1), eq_key a p.0, eq_key b p.1) refl
+
+or_none : (b : Bool) → (b || false) ≡ b
+or_none true = refl
+or_none false = refl
 
 turned : (a b c : Bool) → (a && (b && c)) ≡ (b && (c && a))
 turned true true true = refl
@@ -149,16 +154,17 @@ module _ (s t : Rows) (call device : ℕ) (new : Option ConnectionRecord) (ascen
     where
       by : (o : Option AgentRecord) → is_able_since t g p.0 o ≡ is_able_since s g p.0 o
       by None = refl
-      by (Some a) = ap (λ b. (a.stamp == p.0) && (has a.group g && (is_ready a.state && b))) (free-still a.station)
+      by (Some a) = ap (λ b. (a.stamp == p.0) && (is_one_of a.groups g && (is_ready a.state && b))) (free-still a.station)
 
 entry_waits : (call device : ℕ) (o : Option ConnectionRecord) → IsAt call device o → (g : ℕ) (p : ℕ × ℕ) → is_entry pair_cmp (queue_entry o) g p ≡ (waits_at p.0 o && (call == p.1 && device == g))
 entry_waits call device None at g p = refl
 entry_waits call device (Some c) at g p = by (is_queued c.state)
   where
-    by : (b : Bool) → is_entry pair_cmp (cond b (Some (c.device, (unwrap_or c.place 0, c.call))) None) g p ≡ ((b && unwrap_or c.place 0 == p.0) && (call == p.1 && device == g))
+    by : (b : Bool) → is_entry pair_cmp (cond b (Some (c.device ∷ [], (unwrap_or c.place 0, c.call))) None) g p ≡ ((b && unwrap_or c.place 0 == p.0) && (call == p.1 && device == g))
     by false = refl
     by true =
-        entry_test (unwrap_or c.place 0) c.call g c.device p
+        entry_test (unwrap_or c.place 0) c.call g (c.device ∷ []) p
+        ∙ ap (λ b. b && ((unwrap_or c.place 0 == p.0) && (c.call == p.1))) (or_none (c.device == g))
         ∙ turned (c.device == g) (unwrap_or c.place 0 == p.0) (c.call == p.1)
         ∙ ap (λ k. (unwrap_or c.place 0 == p.0) && ((k == p.1) && (c.device == g))) at.0
         ∙ ap (λ d. (unwrap_or c.place 0 == p.0) && ((call == p.1) && (d == g))) at.1
@@ -177,7 +183,7 @@ unswapped false true x = refl
 unswapped false false x = refl
 
 pub waiting-turned : (s t : Rows) (call device : ℕ) (new : Option ConnectionRecord) → IsAt call device new → Replaces s t call device new
-    → (leaving : Option (ℕ × (ℕ × ℕ))) → LeavesBut pair_cmp (queue_entry (connection_of s call device)) (queue_entry new) leaving
+    → (leaving : Option (List ℕ × (ℕ × ℕ))) → LeavesBut pair_cmp (queue_entry (connection_of s call device)) (queue_entry new) leaving
     → (g : ℕ) (p : ℕ × ℕ) → waits_at p.0 (connection_of t p.1 g) ≡ (not (is_entry pair_cmp leaving g p) && (is_entry pair_cmp (queue_entry new) g p || waits_at p.0 (connection_of s p.1 g)))
 waiting-turned s t call device new at r leaving out g p =
     ap (waits_at p.0) (r.found p.1 g)
@@ -199,19 +205,14 @@ waiting-turned s t call device new at r leaving out g p =
     by false h = table false h (waits_at p.0 (connection_of s call device)) refl (waits_at p.0 new) refl (waits_at p.0 (connection_of s p.1 g)) (waits_at p.0 (connection_of s p.1 g)) (unswapped (waits_at p.0 (connection_of s call device)) (waits_at p.0 new) (waits_at p.0 (connection_of s p.1 g)))
 
 -- an agent's entry, by its parts
-pub entry_able : (a : AgentRecord) (g : ℕ) (p : ℕ × ℕ) → is_entry pair_cmp (ready_entry (Some a)) g p ≡ ((a.agent == p.1) && ((a.stamp == p.0) && (has a.group g && is_ready a.state)))
-entry_able a g p = by (is_ready a.state) a.group
+pub entry_able : (a : AgentRecord) (g : ℕ) (p : ℕ × ℕ) → is_entry pair_cmp (ready_entry (Some a)) g p ≡ ((a.agent == p.1) && ((a.stamp == p.0) && (is_one_of a.groups g && is_ready a.state)))
+entry_able a g p = by (is_ready a.state)
   where
     none : (x y z : Bool) → false ≡ (x && (y && (z && false)))
     none true true true = refl
     none true true false = refl
     none true false z = refl
     none false y z = refl
-
-    none' : (x y z : Bool) → false ≡ (x && (y && (false && z)))
-    none' true true z = refl
-    none' true false z = refl
-    none' false y z = refl
 
     all : (x y z : Bool) → (z && (y && x)) ≡ (x && (y && (z && true)))
     all true true true = refl
@@ -223,14 +224,13 @@ entry_able a g p = by (is_ready a.state) a.group
     all false false true = refl
     all false false false = refl
 
-    by : (b : Bool) (o : Option ℕ) → is_entry pair_cmp (cond b (entry_in o a) None) g p ≡ ((a.agent == p.1) && ((a.stamp == p.0) && (has o g && b)))
-    by false o = none (a.agent == p.1) (a.stamp == p.0) (has o g)
-    by true None = none' (a.agent == p.1) (a.stamp == p.0) true
-    by true (Some h) = entry_test a.stamp a.agent g h p ∙ all (a.agent == p.1) (a.stamp == p.0) (h == g)
+    by : (b : Bool) → is_entry pair_cmp (cond b (Some (a.groups, (a.stamp, a.agent))) None) g p ≡ ((a.agent == p.1) && ((a.stamp == p.0) && (is_one_of a.groups g && b)))
+    by false = none (a.agent == p.1) (a.stamp == p.0) (is_one_of a.groups g)
+    by true = entry_test a.stamp a.agent g a.groups p ∙ all (a.agent == p.1) (a.stamp == p.0) (is_one_of a.groups g)
 
 -- the entry is of an agent who isn't the one with the number
 pub entry_other : (a : AgentRecord) (g : ℕ) (p : ℕ × ℕ) → (a.agent == p.1) ≡ false → is_entry pair_cmp (ready_entry (Some a)) g p ≡ false
-entry_other a g p h = entry_able a g p ∙ and_left (a.agent == p.1) ((a.stamp == p.0) && (has a.group g && is_ready a.state)) h
+entry_other a g p h = entry_able a g p ∙ and_left (a.agent == p.1) ((a.stamp == p.0) && (is_one_of a.groups g && is_ready a.state)) h
 
 still : (e l : Bool) (x : Bool) → e ≡ false → l ≡ false → x ≡ (not l && (e || x))
 still e l x h k = rw (h, k) refl
@@ -274,44 +274,44 @@ able-turned s t call device new seats ascending agents listed at r busy is g p =
         other true = h
         other false = refl
 
-    here : (a : AgentRecord) → a.agent ≡ p.1 → agent_at s device ≡ Some a → (x : Bool) → (b : Bool) → ((a.stamp == p.0) && (has a.group g && (is_ready a.state && not b)))
-        ≡ (not (is_entry pair_cmp (cond b (ready_entry (agent_at s device)) None) g p) && (is_entry pair_cmp (cond b None (ready_entry (agent_at s device))) g p || ((a.stamp == p.0) && (has a.group g && (is_ready a.state && x)))))
+    here : (a : AgentRecord) → a.agent ≡ p.1 → agent_at s device ≡ Some a → (x : Bool) → (b : Bool) → ((a.stamp == p.0) && (is_one_of a.groups g && (is_ready a.state && not b)))
+        ≡ (not (is_entry pair_cmp (cond b (ready_entry (agent_at s device)) None) g p) && (is_entry pair_cmp (cond b None (ready_entry (agent_at s device))) g p || ((a.stamp == p.0) && (is_one_of a.groups g && (is_ready a.state && x)))))
     here a n f x true =
-        let seat : is_entry pair_cmp (ready_entry (agent_at s device)) g p ≡ ((a.stamp == p.0) && (has a.group g && is_ready a.state)) =
-        ap (λ o. is_entry pair_cmp (ready_entry o) g p) f ∙ entry_able a g p ∙ ap (λ b. b && ((a.stamp == p.0) && (has a.group g && is_ready a.state))) (eq-eqb a.agent p.1 n) in
-        becomes_busy (a.stamp == p.0) (has a.group g) (is_ready a.state) x ∙ ap (λ b. not b && (false || ((a.stamp == p.0) && (has a.group g && (is_ready a.state && x))))) (sym seat)
+        let seat : is_entry pair_cmp (ready_entry (agent_at s device)) g p ≡ ((a.stamp == p.0) && (is_one_of a.groups g && is_ready a.state)) =
+        ap (λ o. is_entry pair_cmp (ready_entry o) g p) f ∙ entry_able a g p ∙ ap (λ b. b && ((a.stamp == p.0) && (is_one_of a.groups g && is_ready a.state))) (eq-eqb a.agent p.1 n) in
+        becomes_busy (a.stamp == p.0) (is_one_of a.groups g) (is_ready a.state) x ∙ ap (λ b. not b && (false || ((a.stamp == p.0) && (is_one_of a.groups g && (is_ready a.state && x))))) (sym seat)
     here a n f x false =
-        let seat : is_entry pair_cmp (ready_entry (agent_at s device)) g p ≡ ((a.stamp == p.0) && (has a.group g && is_ready a.state)) =
-        ap (λ o. is_entry pair_cmp (ready_entry o) g p) f ∙ entry_able a g p ∙ ap (λ b. b && ((a.stamp == p.0) && (has a.group g && is_ready a.state))) (eq-eqb a.agent p.1 n) in
-        becomes_free (a.stamp == p.0) (has a.group g) (is_ready a.state) x ∙ ap (λ b. true && (b || ((a.stamp == p.0) && (has a.group g && (is_ready a.state && x))))) (sym seat)
+        let seat : is_entry pair_cmp (ready_entry (agent_at s device)) g p ≡ ((a.stamp == p.0) && (is_one_of a.groups g && is_ready a.state)) =
+        ap (λ o. is_entry pair_cmp (ready_entry o) g p) f ∙ entry_able a g p ∙ ap (λ b. b && ((a.stamp == p.0) && (is_one_of a.groups g && is_ready a.state))) (eq-eqb a.agent p.1 n) in
+        becomes_free (a.stamp == p.0) (is_one_of a.groups g) (is_ready a.state) x ∙ ap (λ b. true && (b || ((a.stamp == p.0) && (is_one_of a.groups g && (is_ready a.state && x))))) (sym seat)
 
     by : (o : Option AgentRecord) → agent_of s p.1 ≡ o → is_able_since t g p.0 o
         ≡ (not (is_entry pair_cmp (cond busy (ready_entry (agent_at s device)) None) g p) && (is_entry pair_cmp (cond busy None (ready_entry (agent_at s device))) g p || is_able_since s g p.0 o))
     by None e = kept false (apart None e (λ b f h. cc (f)))
     by (Some a) e = station a.station refl
       where
-        station : (o : Option ℕ) → a.station ≡ o → ((a.stamp == p.0) && (has a.group g && (is_ready a.state && is_free t a.station)))
-            ≡ (not (is_entry pair_cmp (cond busy (ready_entry (agent_at s device)) None) g p) && (is_entry pair_cmp (cond busy None (ready_entry (agent_at s device))) g p || ((a.stamp == p.0) && (has a.group g && (is_ready a.state && is_free s a.station)))))
+        station : (o : Option ℕ) → a.station ≡ o → ((a.stamp == p.0) && (is_one_of a.groups g && (is_ready a.state && is_free t a.station)))
+            ≡ (not (is_entry pair_cmp (cond busy (ready_entry (agent_at s device)) None) g p) && (is_entry pair_cmp (cond busy None (ready_entry (agent_at s device))) g p || ((a.stamp == p.0) && (is_one_of a.groups g && (is_ready a.state && is_free s a.station)))))
         station None f =
-            ap (λ b. (a.stamp == p.0) && (has a.group g && (is_ready a.state && b))) (ap (is_free t) f ∙ sym (ap (is_free s) f))
+            ap (λ b. (a.stamp == p.0) && (is_one_of a.groups g && (is_ready a.state && b))) (ap (is_free t) f ∙ sym (ap (is_free s) f))
             ∙ kept _ (apart (Some a) e (λ b h k. let same : a ≡ b = some_is a b h in let l : b.station ≡ None = ap (λ (z : AgentRecord). z.station) (sym same) ∙ f in cc (k, l)))
         station (Some d) f = at_device (device == d) refl
           where
-            at_device : (v : Bool) → (device == d) ≡ v → ((a.stamp == p.0) && (has a.group g && (is_ready a.state && is_free t a.station)))
-                ≡ (not (is_entry pair_cmp (cond busy (ready_entry (agent_at s device)) None) g p) && (is_entry pair_cmp (cond busy None (ready_entry (agent_at s device))) g p || ((a.stamp == p.0) && (has a.group g && (is_ready a.state && is_free s a.station)))))
+            at_device : (v : Bool) → (device == d) ≡ v → ((a.stamp == p.0) && (is_one_of a.groups g && (is_ready a.state && is_free t a.station)))
+                ≡ (not (is_entry pair_cmp (cond busy (ready_entry (agent_at s device)) None) g p) && (is_entry pair_cmp (cond busy None (ready_entry (agent_at s device))) g p || ((a.stamp == p.0) && (is_one_of a.groups g && (is_ready a.state && is_free s a.station)))))
             at_device false h =
-                ap (λ b. (a.stamp == p.0) && (has a.group g && (is_ready a.state && b))) (ap (is_free t) f ∙ ap not (busy-there s t call device new ascending at r d h) ∙ sym (ap (is_free s) f))
+                ap (λ b. (a.stamp == p.0) && (is_one_of a.groups g && (is_ready a.state && b))) (ap (is_free t) f ∙ ap not (busy-there s t call device new ascending at r d h) ∙ sym (ap (is_free s) f))
                 ∙ kept _ (apart (Some a) e (λ b w k.
                 let same : a ≡ b = some_is a b w in
                 let l : d ≡ device = some_is d device (sym f ∙ ap (λ (z : AgentRecord). z.station) same ∙ k) in
                 let m = eq-eqb device d (sym l) in cc (h, m)))
             at_device true h =
                 let same : device ≡ d = eqb-true device d h in
-                ap (λ b. (a.stamp == p.0) && (has a.group g && (is_ready a.state && b))) (ap (is_free t) f ∙ ap not (ap (is_busy_at t) (sym same) ∙ sym is))
+                ap (λ b. (a.stamp == p.0) && (is_one_of a.groups g && (is_ready a.state && b))) (ap (is_free t) f ∙ ap not (ap (is_busy_at t) (sym same) ∙ sym is))
                 ∙ here a (agent_key s p.1 a e) (seated s seats agents listed p.1 device a e (f ∙ ap Some (sym same))) (is_free s a.station) busy
 
 -- an agent's record is put
-module _ (s : Rows) (item : AgentRecord) (after leaving : Option (ℕ × (ℕ × ℕ))) (entered : after ≡ cond (is_free s item.station) (ready_entry (Some item)) None) (out : LeavesBut pair_cmp (ready_entry (agent_of s item.agent)) after leaving) where
+module _ (s : Rows) (item : AgentRecord) (after leaving : Option (List ℕ × (ℕ × ℕ))) (entered : after ≡ cond (is_free s item.station) (ready_entry (Some item)) None) (out : LeavesBut pair_cmp (ready_entry (agent_of s item.agent)) after leaving) where
   same_free : (o : Option ℕ) → is_free (with_agent s item) o ≡ is_free s o
   unfolding with_agent is_busy_at
   same_free None = refl
@@ -319,7 +319,7 @@ module _ (s : Rows) (item : AgentRecord) (after leaving : Option (ℕ × (ℕ ×
 
   same_able : (g n : ℕ) (o : Option AgentRecord) → is_able_since (with_agent s item) g n o ≡ is_able_since s g n o
   same_able g n None = refl
-  same_able g n (Some a) = ap (λ b. (a.stamp == n) && (has a.group g && (is_ready a.state && b))) (same_free a.station)
+  same_able g n (Some a) = ap (λ b. (a.stamp == n) && (is_one_of a.groups g && (is_ready a.state && b))) (same_free a.station)
 
   -- the item enters where it is able
   enters : (g : ℕ) (p : ℕ × ℕ) → is_entry pair_cmp after g p ≡ ((item.agent == p.1) && is_able_since s g p.0 (Some item))
@@ -339,19 +339,19 @@ module _ (s : Rows) (item : AgentRecord) (after leaving : Option (ℕ × (ℕ ×
       all true false z w = refl
       all false y z w = refl
 
-      by : (b : Bool) → is_entry pair_cmp (cond b (ready_entry (Some item)) None) g p ≡ ((item.agent == p.1) && ((item.stamp == p.0) && (has item.group g && (is_ready item.state && b))))
-      by true = entry_able item g p ∙ all (item.agent == p.1) (item.stamp == p.0) (has item.group g) (is_ready item.state)
-      by false = none (item.agent == p.1) (item.stamp == p.0) (has item.group g) (is_ready item.state)
+      by : (b : Bool) → is_entry pair_cmp (cond b (ready_entry (Some item)) None) g p ≡ ((item.agent == p.1) && ((item.stamp == p.0) && (is_one_of item.groups g && (is_ready item.state && b))))
+      by true = entry_able item g p ∙ all (item.agent == p.1) (item.stamp == p.0) (is_one_of item.groups g) (is_ready item.state)
+      by false = none (item.agent == p.1) (item.stamp == p.0) (is_one_of item.groups g) (is_ready item.state)
 
   -- who was able had an entry
   had : (g : ℕ) (p : ℕ × ℕ) → (o : Option AgentRecord) → agent_of s p.1 ≡ o → is_able_since s g p.0 o ≡ true → is_entry pair_cmp (ready_entry o) g p ≡ true
   had g p None e h = h
   had g p (Some a) e h =
-      let one = and_parts (a.stamp == p.0) (has a.group g && (is_ready a.state && is_free s a.station)) h in
-      let two = and_parts (has a.group g) (is_ready a.state && is_free s a.station) one.1 in
+      let one = and_parts (a.stamp == p.0) (is_one_of a.groups g && (is_ready a.state && is_free s a.station)) h in
+      let two = and_parts (is_one_of a.groups g) (is_ready a.state && is_free s a.station) one.1 in
       let three = and_parts (is_ready a.state) (is_free s a.station) two.1 in
-      entry_able a g p ∙ and_from (a.agent == p.1) ((a.stamp == p.0) && (has a.group g && is_ready a.state)) (eq-eqb a.agent p.1 (agent_key s p.1 a e))
-      (and_from (a.stamp == p.0) (has a.group g && is_ready a.state) one.0 (and_from (has a.group g) (is_ready a.state) two.0 three.0))
+      entry_able a g p ∙ and_from (a.agent == p.1) ((a.stamp == p.0) && (is_one_of a.groups g && is_ready a.state)) (eq-eqb a.agent p.1 (agent_key s p.1 a e))
+      (and_from (a.stamp == p.0) (is_one_of a.groups g && is_ready a.state) one.0 (and_from (is_one_of a.groups g) (is_ready a.state) two.0 three.0))
 
   other_entry : (g : ℕ) (p : ℕ × ℕ) → (item.agent == p.1) ≡ false → (o : Option AgentRecord) → agent_of s item.agent ≡ o → is_entry pair_cmp (ready_entry o) g p ≡ false
   other_entry g p h None e = refl
@@ -387,18 +387,18 @@ module _ (s : Rows) (item : AgentRecord) (after leaving : Option (ℕ × (ℕ ×
           (enters g p ∙ ap (λ b. b && is_able_since s g p.0 (Some item)) h) (other_entry g p h (agent_of s item.agent) refl)
 
 -- where there is no entry, nothing is asked
-none_enters : (seat : Option (ℕ × (ℕ × ℕ))) (b : Bool) → cond (is_some seat && b) None seat ≡ cond b None seat
+none_enters : (seat : Option (List ℕ × (ℕ × ℕ))) (b : Bool) → cond (is_some seat && b) None seat ≡ cond b None seat
 none_enters None true = refl
 none_enters None false = refl
 none_enters (Some k) b = refl
 
-none_leaves : (seat : Option (ℕ × (ℕ × ℕ))) (b : Bool) → cond (is_some seat && b) seat None ≡ cond b seat None
+none_leaves : (seat : Option (List ℕ × (ℕ × ℕ))) (b : Bool) → cond (is_some seat && b) seat None ≡ cond b seat None
 none_leaves None true = refl
 none_leaves None false = refl
 none_leaves (Some k) b = refl
 
 -- the turn of a connection, by its parts
-pub connection-turn : (s : Rows) (seats : SeatMap) (call device : ℕ) (old new : Option ConnectionRecord) (turn : Turn) (before seat : Option (ℕ × (ℕ × ℕ))) (busy : Bool)
+pub connection-turn : (s : Rows) (seats : SeatMap) (call device : ℕ) (old new : Option ConnectionRecord) (turn : Turn) (before seat : Option (List ℕ × (ℕ × ℕ))) (busy : Bool)
     → IsAscending connection_order s.connections → IsAscending agent_order s.agents → Seats s seats → IsAt call device new → old ≡ connection_of s call device
     → before ≡ queue_entry old → turn.entering.queue ≡ queue_entry new → LeavesBut pair_cmp before turn.entering.queue turn.leaving.queue
     → seat ≡ cond (differ (is_there_and is_busying old) (is_there_and is_busying new)) (ready_entry (agent_at s device)) None
@@ -445,7 +445,7 @@ connection-turn s seats call device old new turn before seat busy ascending agen
         ∙ ap (λ o. not (is_entry pair_cmp (cond now o None) g p) && (is_entry pair_cmp (cond now None o) g p || is_able_since s g p.0 (agent_of s p.1))) (sym k)
 
 -- the turn of an agent, by its parts
-pub agent-turn : (s : Rows) (item : AgentRecord) (turn : Turn) (before entry : Option (ℕ × (ℕ × ℕ))) (free : Bool) → turn.entering.queue ≡ None → turn.leaving.queue ≡ None
+pub agent-turn : (s : Rows) (item : AgentRecord) (turn : Turn) (before entry : Option (List ℕ × (ℕ × ℕ))) (free : Bool) → turn.entering.queue ≡ None → turn.leaving.queue ≡ None
     → before ≡ ready_entry (agent_of s item.agent) → entry ≡ ready_entry (Some item) → free ≡ (is_some entry && is_free s item.station) → turn.entering.ready ≡ cond free entry None → LeavesBut pair_cmp before turn.entering.ready turn.leaving.ready
     → TurnsTo s (with_agent s item) turn
 unfolding with_agent connection_of
@@ -455,3 +455,53 @@ agent-turn s item turn before entry free a b o e f h out = record {
   able = agent-turned s item turn.entering.ready turn.leaving.ready (h ∙ ap (λ v. cond v entry None) f ∙ none_leaves entry (is_free s item.station) ∙ ap (λ u. cond (is_free s item.station) u None) e)
       (λ g p. out g p ∙ ap (λ u. is_entry pair_cmp u g p && not (is_entry pair_cmp turn.entering.ready g p)) o);
 }
+
+-- what is left of the groups of an entry
+any_filtered : (p : ℕ → Bool) (gs : List ℕ) (g : ℕ) → is_one_of (filter p gs) g ≡ (is_one_of gs g && p g)
+any_filtered p [] g = refl
+any_filtered p (x ∷ gs) g = by (p x) refl (x == g) refl (any_filtered p gs g)
+  where
+    by : (b : Bool) → p x ≡ b → (c : Bool) → (x == g) ≡ c → is_one_of (filter p gs) g ≡ (is_one_of gs g && p g) → is_one_of (cond b (x ∷ filter p gs) (filter p gs)) g ≡ ((c || is_one_of gs g) && p g)
+    by true e true f more = rw f (sym (ap p (sym (eqb-true x g f)) ∙ e))
+    by true e false f more = rw f more
+    by false e true f more =
+        let gone : p g ≡ false = ap p (sym (eqb-true x g f)) ∙ e in
+        more ∙ ap (λ b. is_one_of gs g && b) gone ∙ and_right (is_one_of gs g) false refl ∙ sym gone
+    by false e false f more = more
+
+module _ {E : Type 0} (cmp : E → E → Ordering) (total : IsTotalOrder cmp) where
+  same_as : (k l e : E) → is_eq (cmp k l) ≡ true → is_eq (cmp k e) ≡ is_eq (cmp l e)
+  same_as k l e h = ap (λ (f : E → Ordering). is_eq (f e)) (λ i z. total.congr k l z (eq_is (cmp k l) h) i)
+
+  other_than : (k l e : E) → is_eq (cmp k l) ≡ false → is_eq (cmp k e) ≡ true → is_eq (cmp l e) ≡ false
+  other_than k l e h f = false_from_ne_true (is_eq (cmp l e)) (λ q.
+      let to_l : is_eq (cmp e l) ≡ true = is_eq_of (cmp e l) (total.antisymm e l ∙ ap ordering_reverse (eq_is (cmp l e) q)) in
+      let there : is_eq (cmp k l) ≡ is_eq (cmp e l) = same_as k e l f in cc (h, there, to_l))
+
+  pub left_but : (gs : List ℕ) (k : E) (after : Option (List ℕ × E)) → LeavesBut cmp (Some (gs, k)) after (Some (left_of cmp gs k after, k))
+  left_but gs k None g e = sym (and_right' (is_one_of gs g && is_eq (cmp k e)))
+    where
+      and_right' : (b : Bool) → (b && true) ≡ b
+      and_right' true = refl
+      and_right' false = refl
+  left_but gs k (Some other) g e = by (is_eq (cmp k other.1)) refl
+    where
+      kept : (a q b w : Bool) → (q ≡ true → w ≡ false) → (a && q) ≡ ((a && q) && not (b && w))
+      kept true true b w h = rw (h refl) (sym (ap not (and_right b false refl)))
+      kept true false b w h = refl
+      kept false q b w h = refl
+
+      less : (a b q : Bool) → ((a && not b) && q) ≡ ((a && q) && not (b && q))
+      less true true true = refl
+      less true true false = refl
+      less true false true = refl
+      less true false false = refl
+      less false b q = refl
+
+      by : (v : Bool) → is_eq (cmp k other.1) ≡ v → (is_one_of (cond v (filter (λ (x : ℕ). not (is_one_of other.0 x)) gs) gs) g && is_eq (cmp k e))
+          ≡ ((is_one_of gs g && is_eq (cmp k e)) && not (is_one_of other.0 g && is_eq (cmp other.1 e)))
+      by true h =
+          ap (λ b. b && is_eq (cmp k e)) (any_filtered (λ (x : ℕ). not (is_one_of other.0 x)) gs g)
+          ∙ less (is_one_of gs g) (is_one_of other.0 g) (is_eq (cmp k e))
+          ∙ ap (λ q. (is_one_of gs g && is_eq (cmp k e)) && not (is_one_of other.0 g && q)) (same_as k other.1 e h)
+      by false h = kept (is_one_of gs g) (is_eq (cmp k e)) (is_one_of other.0 g) (is_eq (cmp other.1 e)) (λ f. other_than k other.1 e h f)

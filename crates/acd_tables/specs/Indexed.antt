@@ -8,13 +8,16 @@ use Rattle.std.specs.HashMap.{HashMap, get_by}
 use Rattle.std.specs.declared.hash.FoldHasher.{FoldHasher}
 use Rattle.std.specs.declared.hash.BuildHasherDefault.{BuildHasherDefault}
 use Rattle.std.specs.BTreeSet.{BTreeSet, contains}
+use Rattle.std.specs.declared.cmp.Reverse.{Reverse}
 use Rattle.acd_terms.specs.Lists.{IsAscending}
+use Rattle.acd_terms.specs.Groups.{is_one_of}
 use Rattle.acd_terms.specs.States.{is_distributed, is_queued, is_alerting, is_ready, is_working_after_call, is_occupying}
 use Rattle.acd_terms.specs.declared.rows.Rows.{Rows}
+use Rattle.acd_terms.specs.declared.record.GroupRecord.{GroupRecord}
 use Rattle.acd_terms.specs.declared.record.AgentRecord.{AgentRecord}
 use Rattle.acd_terms.specs.declared.record.ConnectionRecord.{ConnectionRecord}
 use Rattle.acd_model.specs.Rules.Plan.{group_order, agent_order, connection_order}
-use Rattle.acd_model.specs.Scans.{is_group, agent_of, connection_of, queued_in_all, has}
+use Rattle.acd_model.specs.Scans.{is_group, group_of, agent_of, connection_of, queued_in_all, has}
 use Rattle.acd_tables.specs.Sets.{holds, has_set, Notes}
 use Rattle.acd_tables.specs.declared.indexes.Indexes.{Indexes}
 
@@ -55,16 +58,28 @@ is_free s (Some station) = not (is_busy_at s station)
 
 -- of the group, ready, and at a station that takes an offer
 abbrev pub is_able : Rows → ℕ → AgentRecord → Bool
-is_able s group a = has a.group group && (is_ready a.state && is_free s a.station)
+is_able s group a = is_one_of a.groups group && (is_ready a.state && is_free s a.station)
 
 -- the agent is able since the stamp
 abbrev pub is_able_since : Rows → ℕ → ℕ → Option AgentRecord → Bool
 is_able_since s group stamp None = false
 is_able_since s group stamp (Some a) = a.stamp == stamp && is_able s group a
 
--- a group with members in both has its number in the third
-abbrev pub ListsOffers : PairSets → PairSets → BTreeSet ℕ → Type 0
-ListsOffers queues ready offering = (g : ℕ) (p q : ℕ × ℕ) → lists queues g p ≡ true → lists ready g q ≡ true → contains nat_cmp offering g ≡ true
+-- a group's place among those that may have an offer
+abbrev pub OfferKey : Type 0
+OfferKey = Reverse ℕ × ℕ
+
+-- by descending priority, and then by ascending number
+abbrev pub offer_cmp : OfferKey → OfferKey → Ordering
+offer_cmp x y = ordering_then (nat_cmp y.0.0 x.0.0) (nat_cmp x.1 y.1)
+
+abbrev pub offer_key : GroupRecord → OfferKey
+offer_key g = (record { 0 = g.priority }, g.device)
+
+-- a planned group with members in both is noted at its priority
+abbrev pub ListsOffers : Rows → PairSets → PairSets → BTreeSet OfferKey → Type 0
+ListsOffers s queues ready offering = (g : ℕ) (r : GroupRecord) (p q : ℕ × ℕ) → group_of s g ≡ Some r → lists queues g p ≡ true → lists ready g q ≡ true
+    → contains offer_cmp offering (offer_key r) ≡ true
 
 -- each agent at a station has its number there
 -- stations and the agents there
@@ -118,7 +133,7 @@ pub record IsIndexed (s : Rows) (x : Indexes) : Type 0 where
   -- who waits, and who is able
   pub waiting : (g : ℕ) (p : ℕ × ℕ) → lists x.queues g p ≡ waits_at p.0 (connection_of s p.1 g)
   pub able : (g : ℕ) (p : ℕ × ℕ) → lists x.ready g p ≡ is_able_since s g p.0 (agent_of s p.1)
-  pub offers : ListsOffers x.queues x.ready x.offering
+  pub offers : ListsOffers s x.queues x.ready x.offering
   -- who is at a station, and the calls at a device; more may be listed
   pub seats : Seats s x.seats
   pub lines : Lines s x.lines

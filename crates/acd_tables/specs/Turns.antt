@@ -1,65 +1,67 @@
 -- What a change takes into the exact sets, and out of them.
-use Rattle.std.specs.Prelude.{◌≡◌, ℕ, Bool, false, not, ◌&&◌, ◌||◌, [], Option, Some, None, if◌then◌else◌}
+use Rattle.std.specs.Prelude.{◌≡◌, ℕ, Bool, false, not, ◌&&◌, ◌||◌, ◌==◌, true, List, [], ◌∷◌, filter, Option, Some, None, if◌then◌else◌}
 use Rattle.std.specs.declared.cmp.Ordering.{Ordering}
 use Rattle.std.specs.Ordering.{nat_cmp, is_eq}
 use Rattle.std.specs.BTreeMap.{BTreeMap}
-use Rattle.std.specs.BTreeSet.{BTreeSet}
+use Rattle.std.specs.BTreeSet.{BTreeSet, contains}
+use Rattle.acd_terms.specs.Groups.{is_one_of}
 use Rattle.acd_terms.specs.States.{is_queued, is_ready}
 use Rattle.acd_terms.specs.declared.rows.Rows.{Rows}
+use Rattle.acd_terms.specs.declared.record.GroupRecord.{GroupRecord}
 use Rattle.acd_terms.specs.declared.record.AgentRecord.{AgentRecord}
 use Rattle.acd_terms.specs.declared.record.ConnectionRecord.{ConnectionRecord}
-use Rattle.acd_model.specs.Scans.{agent_of, agent_at, connection_of, has}
+use Rattle.acd_model.specs.Scans.{group_of, agent_of, agent_at, connection_of, has}
 use Rattle.acd_model.specs.Choice.{waiting_pair, ready_pair}
 use Rattle.acd_model.specs.Writes.{with_connection, without_connection}
-use Rattle.acd_tables.specs.Sets.{holds, has_set, is_at_key, Stays}
-use Rattle.acd_tables.specs.Indexed.{pair_cmp, waits_at, is_able_since, ListsOffers}
+use Rattle.acd_tables.specs.Sets.{holds, has_set, Stays}
+use Rattle.acd_tables.specs.Indexed.{pair_cmp, waits_at, is_able_since, OfferKey, offer_cmp, offer_key, ListsOffers}
 use Rattle.acd_tables.specs.declared.indexes.Indexes.{Indexes}
 use Rattle.acd_tables.specs.declared.indexes.Entries.{Entries}
 use Rattle.acd_tables.specs.declared.indexes.Turn.{Turn}
 
 -- the entry is of the group
-abbrev pub is_of_group : {E : Type 0} → Option (ℕ × E) → ℕ → Bool
+abbrev pub is_of_group : {E : Type 0} → Option (List ℕ × E) → ℕ → Bool
 is_of_group None g = false
-is_of_group (Some k) g = is_eq (nat_cmp k.0 g)
+is_of_group (Some k) g = is_one_of k.0 g
 
 module _ {E : Type 0} (cmp : E → E → Ordering) where
-  -- the entry is this one
-  abbrev pub is_entry : Option (ℕ × E) → ℕ → E → Bool
+  -- the entry is this member, in the set of one of its groups
+  abbrev pub is_entry : Option (List ℕ × E) → ℕ → E → Bool
   is_entry None g e = false
-  is_entry (Some k) g e = is_at_key nat_cmp cmp k.0 k.1 g e
+  is_entry (Some k) g e = is_one_of k.0 g && is_eq (cmp k.1 e)
 
   -- the sets with the entry
-  pub record Enters (old new : BTreeMap ℕ (BTreeSet E)) (entry : Option (ℕ × E)) : Type 0 where
+  pub record Enters (old new : BTreeMap ℕ (BTreeSet E)) (entry : Option (List ℕ × E)) : Type 0 where
     pub sets : (g : ℕ) → has_set nat_cmp cmp new g ≡ has_set nat_cmp cmp old g
     pub members : (g : ℕ) (e : E) → holds nat_cmp cmp new g e ≡ (is_entry entry g e || holds nat_cmp cmp old g e)
 
   -- the sets without the entry
-  pub record Leaves (old new : BTreeMap ℕ (BTreeSet E)) (entry : Option (ℕ × E)) : Type 0 where
+  pub record Leaves (old new : BTreeMap ℕ (BTreeSet E)) (entry : Option (List ℕ × E)) : Type 0 where
     pub sets : (g : ℕ) → has_set nat_cmp cmp new g ≡ has_set nat_cmp cmp old g
     pub members : (g : ℕ) (e : E) → holds nat_cmp cmp new g e ≡ (not (is_entry entry g e) && holds nat_cmp cmp old g e)
 
   -- the entry taken out gives the sets of before
-  abbrev pub Undoes : BTreeMap ℕ (BTreeSet E) → BTreeMap ℕ (BTreeSet E) → Option (ℕ × E) → Type 0
+  abbrev pub Undoes : BTreeMap ℕ (BTreeSet E) → BTreeMap ℕ (BTreeSet E) → Option (List ℕ × E) → Type 0
   Undoes old new entry = (g : ℕ) (e : E) → holds nat_cmp cmp old g e ≡ (not (is_entry entry g e) && holds nat_cmp cmp new g e)
 
+  -- the groups of the member, but for those of the other entry where it is the same member's
+  abbrev pub left_of : List ℕ → E → Option (List ℕ × E) → List ℕ
+  left_of gs k None = gs
+  left_of gs k (Some other) = if is_eq (cmp k other.1) then filter (λ (g : ℕ). not (is_one_of other.0 g)) gs else gs
+
   -- the first entry, but where it is the second too
-  abbrev pub LeavesBut : Option (ℕ × E) → Option (ℕ × E) → Option (ℕ × E) → Type 0
+  abbrev pub LeavesBut : Option (List ℕ × E) → Option (List ℕ × E) → Option (List ℕ × E) → Type 0
   LeavesBut before after leaving = (g : ℕ) (e : E) → is_entry leaving g e ≡ (is_entry before g e && not (is_entry after g e))
 
 -- the place of a queued connection
-abbrev pub queue_entry : Option ConnectionRecord → Option (ℕ × (ℕ × ℕ))
+abbrev pub queue_entry : Option ConnectionRecord → Option (List ℕ × (ℕ × ℕ))
 queue_entry None = None
-queue_entry (Some c) = if is_queued c.state then Some (c.device, waiting_pair c) else None
+queue_entry (Some c) = if is_queued c.state then Some (c.device ∷ [], waiting_pair c) else None
 
--- the place of an agent of the group
-abbrev pub entry_in : Option ℕ → AgentRecord → Option (ℕ × (ℕ × ℕ))
-entry_in None a = None
-entry_in (Some g) a = Some (g, ready_pair a)
-
--- the place of a ready agent in the group
-abbrev pub ready_entry : Option AgentRecord → Option (ℕ × (ℕ × ℕ))
+-- the place of a ready agent in each of its groups
+abbrev pub ready_entry : Option AgentRecord → Option (List ℕ × (ℕ × ℕ))
 ready_entry None = None
-ready_entry (Some a) = if is_ready a.state then entry_in a.group a else None
+ready_entry (Some a) = if is_ready a.state then Some (a.groups, ready_pair a) else None
 
 -- all but the exact sets and the offers is as before
 pub record KeepsRest (old new : Indexes) : Type 0 where
@@ -69,14 +71,18 @@ pub record KeepsRest (old new : Indexes) : Type 0 where
   pub working : new.working ≡ old.working
   pub queued : new.queued ≡ old.queued
 
-abbrev pub Offers : Indexes → Type 0
-Offers x = ListsOffers x.queues x.ready x.offering
+abbrev pub Offers : Rows → Indexes → Type 0
+Offers s x = ListsOffers s x.queues x.ready x.offering
+
+-- the groups are noted, each at its priority
+abbrev pub NotesGroups : Rows → BTreeSet OfferKey → List ℕ → Type 0
+NotesGroups s offering gs = (g : ℕ) (r : GroupRecord) → is_one_of gs g ≡ true → group_of s g ≡ Some r → contains offer_cmp offering (offer_key r) ≡ true
 
 -- the indexes with the entries
-pub record Entered (old new : Indexes) (entries : Entries) : Type 0 where
+pub record Entered (s : Rows) (old new : Indexes) (entries : Entries) : Type 0 where
   pub queues : Enters pair_cmp old.queues new.queues entries.queue
   pub ready : Enters pair_cmp old.ready new.ready entries.ready
-  pub offers : Offers new
+  pub offers : Offers s new
   pub rest : KeepsRest old new
 
 -- what is to be taken out gives the indexes of before
@@ -85,17 +91,17 @@ pub record Undone (old new : Indexes) (entries : Entries) : Type 0 where
   pub ready : Undoes pair_cmp old.ready new.ready entries.ready
 
 -- nothing but the offers may have changed
-pub record Untouched (old new : Indexes) : Type 0 where
+pub record Untouched (s : Rows) (old new : Indexes) : Type 0 where
   pub queues : Stays nat_cmp pair_cmp old.queues new.queues
   pub ready : Stays nat_cmp pair_cmp old.ready new.ready
-  pub offers : Offers new
+  pub offers : Offers s new
   pub rest : KeepsRest old new
 
 -- the indexes without the entries
-pub record TakenOut (old new : Indexes) (entries : Entries) : Type 0 where
+pub record TakenOut (s : Rows) (old new : Indexes) (entries : Entries) : Type 0 where
   pub queues : Leaves pair_cmp old.queues new.queues entries.queue
   pub ready : Leaves pair_cmp old.ready new.ready entries.ready
-  pub offers : Offers new
+  pub offers : Offers s new
   pub rest : KeepsRest old new
 
 -- one of the two
@@ -137,3 +143,8 @@ pub record IsBlank (x : Indexes) : Type 0 where
   pub queues : x.queues.entries ≡ []
   pub ready : x.ready.entries ≡ []
   pub queued : x.queued ≡ 0
+
+-- the key is that of the group before, and it has another priority now
+abbrev pub loses_rank : Option GroupRecord → ℕ → OfferKey → Bool
+loses_rank None priority k = false
+loses_rank (Some g) priority k = not (g.priority == priority) && is_eq (offer_cmp (offer_key g) k)

@@ -1,24 +1,25 @@
 //! Changes of one record that keep the indexes.
 
-ghost use Rattle.std.specs.Prelude.{◌≡◌, ℕ, Some, true, not, ◌&&◌, length, OnOk, OnErr, if◌then◌else◌};
+ghost use Rattle.std.specs.Prelude.{◌≡◌, ℕ, Some, true, false, not, ◌&&◌, length, OnOk, OnErr, if◌then◌else◌};
 ghost use Rattle.acd_terms.specs.Lists.{IsAscending};
 ghost use Rattle.acd_model.specs.Rules.Plan.{agent_order};
 ghost use Rattle.acd_model.specs.Scans.{agent_of, agent_at, connection_of, queued_in_all, has};
 ghost use Rattle.acd_model.specs.Writes.{with_group, with_agent, with_connection, without_connection};
-ghost use Rattle.acd_tables.specs.Indexed.{IsIndexed, seat_of, Seats, rings, works};
-ghost use Rattle.acd_tables.specs.Turns.{IsAt, with_or_without, one_queued, stays, IsFreeFor};
+ghost use Rattle.std.specs.BTreeSet.{contains};
+ghost use Rattle.acd_tables.specs.Indexed.{IsIndexed, OfferKey, offer_cmp, seat_of, Seats, rings, works};
+ghost use Rattle.acd_tables.specs.Turns.{IsAt, with_or_without, one_queued, stays, IsFreeFor, loses_rank};
 
-use crate::indexes::Indexes;
+use crate::indexes::{Indexes, OfferKey, may_offer, offer_key};
 use crate::lines::{list, unlist};
 use crate::records::Records;
 use crate::sets::{add_set, forget, note};
 use crate::turns::{agent_turn, connection_turn};
 use crate::uses::{agent_at, is_at, is_ringing};
-use acd_terms::{AgentId, AgentRecord, ConnectionRecord, DeviceId, GroupRecord};
+use acd_terms::{AgentId, AgentRecord, ConnectionRecord, DeviceId, Few, GroupRecord, Priority};
 use std::alloc::{AllocError, Global};
-use std::collections::HashMap;
+use std::collections::{BTreeSet, HashMap};
 
-/// Puts the group. A new one gets its two sets before.
+/// Puts the group. A new one gets its two sets before, and one that has an offer its place by its priority.
 pub(crate) fn put_group(
     alloc: Global,
     records: &mut Records,
@@ -32,7 +33,21 @@ pub(crate) fn put_group(
 {
     add_set(alloc, &mut indexes.queues, item.device)?;
     add_set(alloc, &mut indexes.ready, item.device)?;
-    records.put_group(item)
+    let old = records.group(item.device);
+    let offers = may_offer(&indexes.queues, &indexes.ready, item.device);
+    note(&mut indexes.offering, offer_key(&item), offers)?;
+    records.put_group(item)?;
+    forget_rank(&mut indexes.offering, &old, item.priority);
+    Ok(())
+}
+
+// The group is no longer among those of its priority of before, where that is another.
+fn forget_rank(offering: &mut BTreeSet<OfferKey>, old: &Option<GroupRecord>, priority: Priority)
+    ensures { (k : OfferKey) → loses_rank old.now priority k ≡ false → contains offer_cmp offering.new k ≡ contains offer_cmp offering.old k }
+{
+    if let Some(old) = old {
+        forget(offering, offer_key(old), old.priority != priority);
+    }
 }
 
 // No other agent has the station of this one.
@@ -128,20 +143,21 @@ pub(crate) fn put_agent(
     ensures ok { OnOk result (records.new ≡ with_agent records.old item) }
     ensures err { OnErr result (records.new ≡ records.old) }
 {
+    let _few = Few::none();
     let old = records.agent(item.agent);
     sit(records, &mut indexes.seats, &old, &item)?;
     let works = item.state.is_working_after_call();
     note(&mut indexes.working, item.agent, works)?;
     let turn = agent_turn(records, indexes, &old, &item);
-    let undo = indexes.enter(&turn.entering)?;
+    let undo = indexes.enter(records, turn.entering)?;
     match records.put_agent(item) {
         Ok(()) => {
-            indexes.settle(&turn);
+            indexes.settle(records, turn);
             forget(&mut indexes.working, item.agent, ends_work(&old, works));
             Ok(())
         }
         Err(error) => {
-            indexes.take_out(&undo);
+            indexes.take_out(records, undo);
             Err(error)
         }
     }
@@ -197,6 +213,7 @@ pub(crate) fn put_connection(
     ensures ok { OnOk result (records.new ≡ with_connection records.old item.now) }
     ensures err { OnErr result (records.new ≡ records.old) }
 {
+    let _few = Few::none();
     let (call, device) = (item.call, item.device);
     let old = records.connection(call, device);
     list(&mut indexes.lines, device, call, &old)?;
@@ -205,10 +222,10 @@ pub(crate) fn put_connection(
     let new = Some(*item);
     let turn = connection_turn(records, indexes, call, device, &old, &new);
     let queued = queued_after(records, indexes, call, device, &old, &new);
-    let undo = indexes.enter(&turn.entering)?;
+    let undo = indexes.enter(records, turn.entering)?;
     match records.put_connection(*item) {
         Ok(()) => {
-            indexes.settle(&turn);
+            indexes.settle(records, turn);
             indexes.queued = queued;
             forget(
                 &mut indexes.ringing,
@@ -218,7 +235,7 @@ pub(crate) fn put_connection(
             Ok(())
         }
         Err(error) => {
-            indexes.take_out(&undo);
+            indexes.take_out(records, undo);
             Err(error)
         }
     }
@@ -236,12 +253,13 @@ pub(crate) fn remove_connection(
     ensures ok { OnOk result (records.new ≡ without_connection records.old call device) }
     ensures err { OnErr result (records.new ≡ records.old) }
 {
+    let _few = Few::none();
     let old = records.connection(call, device);
     let turn = connection_turn(records, indexes, call, device, &old, &None);
     let queued = queued_after(records, indexes, call, device, &old, &None);
-    indexes.enter(&turn.entering)?;
+    indexes.enter(records, turn.entering)?;
     records.remove_connection(call, device);
-    indexes.settle(&turn);
+    indexes.settle(records, turn);
     indexes.queued = queued;
     forget(
         &mut indexes.ringing,

@@ -1,17 +1,25 @@
 //! The indexes: who waits and who is able to take a call in each group, who is at a station, the calls at a device,
 //! and what tick may end.
 
-ghost use Rattle.std.specs.Prelude.{◌≡◌, ℕ, ◌||◌, true, false, OnOk, OnErr, IfOk};
+ghost use Rattle.std.specs.Prelude.{◌≡◌, ◌≤◌, ℕ, true, false, not, filter, length, Some, OnOk, OnErr, IfOk};
 ghost use Rattle.std.specs.Ordering.{nat_cmp};
+ghost use Rattle.acd_terms.specs.Groups.{is_one_of};
+ghost use Rattle.acd_terms.specs.declared.record.GroupRecord.{GroupRecord};
+ghost use Rattle.acd_model.specs.Scans.{group_of};
 ghost use Rattle.std.specs.BTreeSet.{contains};
-ghost use Rattle.acd_tables.specs.Sets.{holds, is_at_key, Stays};
-ghost use Rattle.acd_tables.specs.Indexed.{lists, ListsOffers};
-ghost use Rattle.acd_tables.specs.Turns.{Enters, Leaves, Undoes, LeavesBut, is_entry, is_of_group, Offers, Entered, Undone, Untouched, TakenOut, IsBlank};
+ghost use Rattle.acd_tables.specs.Sets.{holds, Stays};
+ghost use Rattle.acd_tables.specs.Indexed.{lists, OfferKey, offer_cmp, offer_key, ListsOffers};
+ghost use Rattle.acd_tables.specs.Turns.{Enters, Leaves, Undoes, LeavesBut, NotesGroups, left_of, is_of_group, Offers, Entered, Undone, Untouched, TakenOut, IsBlank};
 
-use crate::sets::{enter, leave};
-use acd_terms::{AgentId, DeviceId};
+use crate::records::Records;
+use crate::sets::{enter_all, forget, leave_all, note, push_if};
+use acd_terms::{AgentId, DeviceId, Few, GroupRecord, Priority};
 use std::alloc::{AllocError, Global};
+use std::cmp::Reverse;
 use std::collections::{BTreeMap, BTreeSet, HashMap};
+
+/// A group's place among those that may have an offer: by descending priority, and then by ascending number.
+pub type OfferKey = (Reverse<Priority>, DeviceId);
 
 /// What is kept beside the records, so that look-ups needn't go through them.
 #[derive(Drop)]
@@ -20,8 +28,8 @@ pub struct Indexes {
     pub(crate) queues: BTreeMap<DeviceId, BTreeSet<(u64, u64)>>,
     /// For each group stamp and number of the agents that may be offered a call.
     pub(crate) ready: BTreeMap<DeviceId, BTreeSet<(u64, AgentId)>>,
-    /// The groups that have both; there may be more.
-    pub(crate) offering: BTreeSet<DeviceId>,
+    /// The groups that have both, each at its priority; there may be more.
+    pub(crate) offering: BTreeSet<OfferKey>,
     /// The agent at a station. One that has left may still stand there.
     pub(crate) seats: HashMap<DeviceId, AgentId>,
     /// Number of the device, and call, of the connections; there may be more.
@@ -34,11 +42,11 @@ pub struct Indexes {
     pub(crate) queued: usize,
 }
 
-/// One place in a queue and one among the ready agents, if there are such.
+/// One place in a queue and one among the ready agents of some groups, if there are such.
 #[derive(Clone, Copy)]
 pub struct Entries {
-    pub(crate) queue: Option<(DeviceId, (u64, u64))>,
-    pub(crate) ready: Option<(DeviceId, (u64, AgentId))>,
+    pub(crate) queue: Option<(Few, (u64, u64))>,
+    pub(crate) ready: Option<(Few, (u64, AgentId))>,
 }
 
 /// What a change takes in and then takes out.
@@ -64,91 +72,190 @@ impl Indexes {
         }
     }
 
-    /// Takes the entries in, and gives those that are to be taken out to undo it. Where one finds no
-    /// memory or no set, nothing is taken in.
-    pub(crate) fn enter(&mut self, entries: &Entries) -> Result<Entries, AllocError>
-        requires { Offers self.old }
-        ensures ok { OnOk result (Entered self.old self.new entries.now) }
+    /// Takes in what enters, and gives what is to be taken out to undo it. Where it finds no memory or no
+    /// set, nothing is taken in.
+    pub(crate) fn enter(
+        &mut self,
+        records: &Records,
+        entries: Entries,
+    ) -> Result<Entries, AllocError>
+        requires { Offers records.now self.old }
+        ensures ok { OnOk result (Entered records.now self.old self.new entries) }
         ensures undo { IfOk result (Undone self.old self.new) }
-        ensures err { OnErr result (Untouched self.old self.new) }
+        ensures err { OnErr result (Untouched records.now self.old self.new) }
     {
-        note_group(&mut self.offering, entries.queue)?;
-        note_group(&mut self.offering, entries.ready)?;
-        let queue = enter_entry(&mut self.queues, entries.queue)?;
-        match enter_entry(&mut self.ready, entries.ready) {
+        note_groups(records, &mut self.offering, &entries.queue)?;
+        let waiting = with_waiting(&self.queues, &entries.ready);
+        note_groups(records, &mut self.offering, &waiting)?;
+        let queue = enter_entry(&mut self.queues, &entries.queue)?;
+        match enter_entry(&mut self.ready, &entries.ready) {
             Ok(ready) => Ok(Entries { queue, ready }),
             Err(error) => {
-                leave_entry(&mut self.queues, queue);
+                leave_entry(&mut self.queues, &queue);
                 Err(error)
             }
         }
     }
 
     /// Takes the entries out.
-    pub(crate) fn take_out(&mut self, entries: &Entries)
-        requires { Offers self.old }
-        ensures { TakenOut self.old self.new entries.now }
+    pub(crate) fn take_out(&mut self, records: &Records, entries: Entries)
+        requires { Offers records.now self.old }
+        ensures { TakenOut records.now self.old self.new entries }
     {
-        leave_entry(&mut self.queues, entries.queue);
-        leave_entry(&mut self.ready, entries.ready);
-        prune(&self.queues, &self.ready, &mut self.offering, entries.queue);
-        prune(&self.queues, &self.ready, &mut self.offering, entries.ready);
+        leave_entry(&mut self.queues, &entries.queue);
+        leave_entry(&mut self.ready, &entries.ready);
+        self.prune(records, &entries);
     }
 
     /// Takes out what leaves, and the groups of the turn that have no offer.
-    pub(crate) fn settle(&mut self, turn: &Turn)
-        requires { Offers self.old }
-        ensures { TakenOut self.old self.new turn.now.leaving }
+    pub(crate) fn settle(&mut self, records: &Records, turn: Turn)
+        requires { Offers records.now self.old }
+        ensures { TakenOut records.now self.old self.new turn.leaving }
     {
-        self.take_out(&turn.leaving);
-        prune(
+        self.take_out(records, turn.leaving);
+        self.prune(records, &turn.entering);
+    }
+
+    // Takes the groups of the entries that have no offer out of those that may have one.
+    fn prune(&mut self, records: &Records, entries: &Entries)
+        requires { Offers records.now self.old }
+        ensures offers { ListsOffers records.now self.old.queues self.old.ready self.new.offering }
+        ensures rest { self.new ≡ record self.old { offering = self.new.offering } }
+    {
+        prune_entry(
+            records,
             &self.queues,
             &self.ready,
             &mut self.offering,
-            turn.entering.queue,
+            &entries.queue,
         );
-        prune(
+        prune_entry(
+            records,
             &self.queues,
             &self.ready,
             &mut self.offering,
-            turn.entering.ready,
+            &entries.ready,
         );
     }
 }
 
-// Puts the group of the entry among those that may have an offer.
-fn note_group<E: Copy>(
-    offering: &mut BTreeSet<DeviceId>,
-    entry: Option<(DeviceId, E)>,
+/// The place of the group among those that may have an offer.
+pub(crate) fn offer_key(group: &GroupRecord) -> OfferKey
+    ensures { result ≡ offer_key group.now }
+{
+    (Reverse(group.priority), group.device)
+}
+
+// Puts the group among those that may have an offer.
+fn note_group(
+    records: &Records,
+    offering: &mut BTreeSet<OfferKey>,
+    group: DeviceId,
 ) -> Result<(), AllocError>
-    ensures ok { OnOk result ((g : ℕ) → contains nat_cmp offering.new g ≡ (is_of_group entry g || contains nat_cmp offering.old g)) }
-    ensures err { OnErr result ((g : ℕ) → contains nat_cmp offering.new g ≡ contains nat_cmp offering.old g) }
+    ensures kept { (k : OfferKey) → contains offer_cmp offering.old k ≡ true → contains offer_cmp offering.new k ≡ true }
+    ensures ok { OnOk result ((r : GroupRecord) → group_of records.now group ≡ Some r → contains offer_cmp offering.new (offer_key r) ≡ true) }
 {
-    if let Some((group, _)) = entry {
-        offering.insert(group)?;
-    }
-    Ok(())
-}
-
-// Takes the group of the entry out of those that may have an offer, where it has none.
-fn prune<E: Copy>(
-    queues: &BTreeMap<DeviceId, BTreeSet<(u64, u64)>>,
-    ready: &BTreeMap<DeviceId, BTreeSet<(u64, AgentId)>>,
-    offering: &mut BTreeSet<DeviceId>,
-    entry: Option<(DeviceId, E)>,
-)
-    requires { ListsOffers queues.now ready.now offering.old }
-    ensures { ListsOffers queues.now ready.now offering.new }
-{
-    if let Some((group, _)) = entry {
-        if !may_offer(queues, ready, group) {
-            offering.remove(&group);
+    match records.group(group) {
+        None => Ok(()),
+        Some(record) => {
+            note(offering, offer_key(&record), true)?;
+            Ok(())
         }
     }
 }
 
-// The group has one who waits and an agent.
-fn may_offer(
+fn note_each(
+    records: &Records,
+    offering: &mut BTreeSet<OfferKey>,
+    groups: &[DeviceId],
+) -> Result<(), AllocError>
+    ensures kept { (k : OfferKey) → contains offer_cmp offering.old k ≡ true → contains offer_cmp offering.new k ≡ true }
+    ensures ok { OnOk result (NotesGroups records.now offering.new groups.now) }
+{
+    for group in groups {
+        note_group(records, offering, *group)?;
+    }
+    Ok(())
+}
+
+// Puts the groups of the entry among those that may have an offer.
+fn note_groups<E: Copy>(
+    records: &Records,
+    offering: &mut BTreeSet<OfferKey>,
+    entry: &Option<(Few, E)>,
+) -> Result<(), AllocError>
+    ensures kept { (k : OfferKey) → contains offer_cmp offering.old k ≡ true → contains offer_cmp offering.new k ≡ true }
+    ensures ok { OnOk result ((g : ℕ) (r : GroupRecord) → is_of_group entry.now g ≡ true → group_of records.now g ≡ Some r → contains offer_cmp offering.new (offer_key r) ≡ true) }
+{
+    match entry {
+        None => Ok(()),
+        Some((groups, _)) => note_each(records, offering, groups.as_slice()),
+    }
+}
+
+// The groups in which somebody waits.
+fn waiting_groups(queues: &BTreeMap<DeviceId, BTreeSet<(u64, u64)>>, groups: &[DeviceId]) -> Few
+    requires { length groups.now ≤ 8 }
+    ensures { (g : ℕ) (p : ℕ × ℕ) → is_one_of groups.now g ≡ true → lists queues.now g p ≡ true → is_one_of result g ≡ true }
+{
+    let mut waiting = Few::none();
+    for group in groups {
+        let is_waiting = !has_none(queues, *group);
+        push_if(&mut waiting, *group, is_waiting);
+    }
+    waiting
+}
+
+// The entry in the groups in which somebody waits.
+fn with_waiting<E: Copy>(
+    queues: &BTreeMap<DeviceId, BTreeSet<(u64, u64)>>,
+    entry: &Option<(Few, E)>,
+) -> Option<(Few, E)>
+    ensures { (g : ℕ) (p : ℕ × ℕ) → is_of_group entry.now g ≡ true → lists queues.now g p ≡ true → is_of_group result g ≡ true }
+{
+    match entry {
+        None => None,
+        Some((groups, member)) => Some((waiting_groups(queues, groups.as_slice()), *member)),
+    }
+}
+
+// Takes the group out of those that may have an offer, where it has none.
+fn prune_group(
+    records: &Records,
+    queues: &BTreeMap<DeviceId, BTreeSet<(u64, u64)>>,
+    ready: &BTreeMap<DeviceId, BTreeSet<(u64, AgentId)>>,
+    offering: &mut BTreeSet<OfferKey>,
+    group: DeviceId,
+)
+    requires { ListsOffers records.now queues.now ready.now offering.old }
+    ensures { ListsOffers records.now queues.now ready.now offering.new }
+{
+    if let Some(record) = records.group(group) {
+        let gone = !may_offer(queues, ready, group);
+        forget(offering, offer_key(&record), gone);
+    }
+}
+
+// Takes the groups of the entry out of those that may have an offer, where they have none.
+fn prune_entry<E: Copy>(
+    records: &Records,
+    queues: &BTreeMap<DeviceId, BTreeSet<(u64, u64)>>,
+    ready: &BTreeMap<DeviceId, BTreeSet<(u64, AgentId)>>,
+    offering: &mut BTreeSet<OfferKey>,
+    entry: &Option<(Few, E)>,
+)
+    requires { ListsOffers records.now queues.now ready.now offering.old }
+    ensures { ListsOffers records.now queues.now ready.now offering.new }
+{
+    if let Some((groups, _)) = entry {
+        for group in groups.as_slice() {
+            prune_group(records, queues, ready, offering, *group);
+        }
+    }
+}
+
+/// The group has one who waits and an agent.
+pub(crate) fn may_offer(
     queues: &BTreeMap<DeviceId, BTreeSet<(u64, u64)>>,
     ready: &BTreeMap<DeviceId, BTreeSet<(u64, AgentId)>>,
     group: DeviceId,
@@ -169,70 +276,76 @@ fn has_none<E: Ord + Copy>(sets: &BTreeMap<DeviceId, BTreeSet<E>>, group: Device
     }
 }
 
-/// The first entry, but where it is the second too.
-pub(crate) fn leaving_but<E: Ord + Copy>(
-    before: &Option<(DeviceId, E)>,
-    after: &Option<(DeviceId, E)>,
-) -> Option<(DeviceId, E)>
-    ensures { LeavesBut E.cmp before.now after.now result }
+fn is_among(groups: &[DeviceId], group: DeviceId) -> bool
+    ensures { result ≡ is_one_of groups.now group }
 {
-    match before {
-        None => None,
-        Some(entry) => {
-            if is_entry(after, entry) {
-                None
+    groups.iter().any(|one| *one == group)
+}
+
+// The groups that are none of the others.
+fn without(groups: &Few, others: &[DeviceId]) -> Few
+    ensures { result ≡ filter (λ (g : ℕ). not (is_one_of others.now g)) groups.now }
+{
+    let mut left = Few::none();
+    for group in groups.as_slice() {
+        let is_left = !is_among(others, *group);
+        push_if(&mut left, *group, is_left);
+    }
+    left
+}
+
+// The groups of the member, but for those of the other entry where it is the same member's.
+fn left_of<E: Ord + Copy>(groups: &Few, member: E, other: &Option<(Few, E)>) -> Few
+    ensures { result ≡ left_of E.cmp groups.now member other.now }
+{
+    match other {
+        None => *groups,
+        Some((others, same)) => {
+            if member.cmp(same).is_eq() {
+                without(groups, others.as_slice())
             } else {
-                Some(*entry)
+                *groups
             }
         }
     }
 }
 
-fn is_entry<E: Ord + Copy>(entry: &Option<(DeviceId, E)>, other: &(DeviceId, E)) -> bool
-    ensures { result ≡ is_entry E.cmp entry.now other.now.0 other.now.1 }
+/// The first entry, but where it is the second too.
+pub(crate) fn leaving_but<E: Ord + Copy>(
+    before: &Option<(Few, E)>,
+    after: &Option<(Few, E)>,
+) -> Option<(Few, E)>
+    ensures { LeavesBut E.cmp before.now after.now result }
 {
-    match entry {
-        None => false,
-        Some(entry) => is_same(entry, other),
+    match before {
+        None => None,
+        Some((groups, member)) => Some((left_of(groups, *member, after), *member)),
     }
 }
 
-fn is_same<E: Ord + Copy>(a: &(DeviceId, E), b: &(DeviceId, E)) -> bool
-    ensures { result ≡ is_at_key nat_cmp E.cmp a.now.0 a.now.1 b.now.0 b.now.1 }
-{
-    a.0.cmp(&b.0).is_eq() && a.1.cmp(&b.1).is_eq()
-}
-
-// Puts the entry into its set, and gives what is to be taken out to undo it.
-#[tactic(auto, unfolding(crate::specs::Sets::holds, crate::specs::Sets::has_set))]
+// Puts the entry into its sets, and gives what is to be taken out to undo it.
 fn enter_entry<E: Ord + Copy>(
     sets: &mut BTreeMap<DeviceId, BTreeSet<E>>,
-    entry: Option<(DeviceId, E)>,
-) -> Result<Option<(DeviceId, E)>, AllocError>
-    ensures ok { OnOk result (Enters E.cmp sets.old sets.new entry) }
+    entry: &Option<(Few, E)>,
+) -> Result<Option<(Few, E)>, AllocError>
+    ensures ok { OnOk result (Enters E.cmp sets.old sets.new entry.now) }
     ensures undo { IfOk result (Undoes E.cmp sets.old sets.new) }
     ensures err { OnErr result (Stays nat_cmp E.cmp sets.old sets.new) }
 {
     match entry {
         None => Ok(None),
-        Some((group, member)) => {
-            if enter(sets, group, member)? {
-                Ok(Some((group, member)))
-            } else {
-                Ok(None)
-            }
+        Some((groups, member)) => {
+            let entered = enter_all(sets, groups.as_slice(), *member)?;
+            Ok(Some((entered, *member)))
         }
     }
 }
 
-// Takes the entry out of its set.
-fn leave_entry<E: Ord + Copy>(
-    sets: &mut BTreeMap<DeviceId, BTreeSet<E>>,
-    entry: Option<(DeviceId, E)>,
-)
-    ensures { Leaves E.cmp sets.old sets.new entry }
+// Takes the entry out of its sets.
+fn leave_entry<E: Ord + Copy>(sets: &mut BTreeMap<DeviceId, BTreeSet<E>>, entry: &Option<(Few, E)>)
+    ensures { Leaves E.cmp sets.old sets.new entry.now }
 {
-    if let Some((group, member)) = entry {
-        leave(sets, group, member);
+    if let Some((groups, member)) = entry {
+        leave_all(sets, groups.as_slice(), *member);
     }
 }

@@ -7,10 +7,11 @@ ghost use Rattle.acd_model.specs.Scans.{is_group, agent_of, agent_at, connection
 ghost use Rattle.acd_model.specs.Choice.{first_waiting, first_eligible, waiting_pair, ready_pair, offer_of};
 ghost use Rattle.acd_tables.specs.Indexed.{pair_cmp, is_ringing, is_working};
 ghost use Rattle.acd_tables.specs.Uses.{kept, is_in_use};
-ghost use Rattle.acd_tables.specs.FirstOffer.{offer_in_group};
+ghost use Rattle.acd_tables.specs.FirstOffer.{offer_at};
 ghost use Rattle.acd_tables.specs.AtDevice.{line_at, connections_at};
 ghost use Rattle.std.specs.List.{filter_map};
 
+use crate::indexes::OfferKey;
 use crate::lines::lines_at;
 use crate::sets::first_in;
 use crate::tables::Tables;
@@ -142,7 +143,7 @@ impl Tables {
         let Some(station) = agent.station else {
             return false;
         };
-        agent.group == Some(group)
+        agent.groups.contains(group)
             && agent.state.is_ready()
             && !self.is_occupied(agent)
             && self.is_idle(station)
@@ -186,25 +187,31 @@ impl Tables {
         first_in(&self.indexes.ready, group)
     }
 
-    // The offer in the group, if it is planned and has both.
-    fn offer_in_group(&self, group: DeviceId) -> Option<Offer>
-        ensures { result ≡ offer_in_group self.now group }
+    // The offer in the group of the key, if it still has that priority, and has both.
+    fn offer_at(&self, key: &OfferKey) -> Option<Offer>
+        ensures { result ≡ offer_at self.now key.now }
     {
-        if !self.is_group(group) {
+        let group = self.group(key.1)?;
+        if group.priority != key.0.0 {
             return None;
         }
-        let (_, call) = self.first_waiting(group)?;
-        let (_, agent) = self.first_eligible(group)?;
-        Some(Offer { group, call, agent })
+        let (_, call) = self.first_waiting(group.device)?;
+        let (_, agent) = self.first_eligible(group.device)?;
+        Some(Offer {
+            group: group.device,
+            call,
+            agent,
+        })
     }
 
-    /// The offer that is to be made next: in the first group that has a waiting call and an eligible
-    /// agent, the call of least place and the agent of least stamp. It goes through the groups that may have one.
+    /// The offer that is to be made next: of the groups that have a waiting call and an eligible agent, in the one of
+    /// highest priority, and of equal priority of least number; the call of least place and the agent of least stamp.
+    /// It goes through the groups that may have an offer, as they are served.
     pub fn first_offer(&self) -> Option<Offer>
         ensures { result ≡ offer_of self.now }
     {
-        for group in &self.indexes.offering {
-            let offer = self.offer_in_group(*group);
+        for key in &self.indexes.offering {
+            let offer = self.offer_at(key);
             if offer.is_some() {
                 return offer;
             }

@@ -1,18 +1,20 @@
 //! Sets, and sets by key.
 
-ghost use Rattle.std.specs.Prelude.{◌≡◌, true, false, not, OnOk, OnErr, IfOk};
+ghost use Rattle.std.specs.Prelude.{◌≡◌, ◌≤◌, ◌<◌, ◌++◌, [], ◌∷◌, length, true, false, not, Some, OnOk, OnErr, IfOk, if◌then◌else◌};
+ghost use Rattle.std.specs.Ordering.{nat_cmp};
 ghost use Rattle.acd_tables.specs.Indexed.{IsFirstIn};
 ghost use Rattle.acd_tables.specs.Sets.{holds, Sets, Stays, HasSet, Noted, Forgotten};
+ghost use Rattle.acd_tables.specs.Turns.{Enters, Leaves, Undoes};
 ghost use Rattle.std.specs.BTreeSet.{contains};
 
-use acd_terms::DeviceId;
+use acd_terms::{DeviceId, Few};
 use std::alloc::{AllocError, Global};
 use std::collections::{BTreeMap, BTreeSet};
 
-/// Puts the member into the set at the key, and says whether it is new there. Where the key has no set
-/// it fails as if there were no memory.
+// Puts the member into the set at the key, and says whether it is new there. Where the key has no set
+// it fails as if there were no memory.
 #[tactic(auto, unfolding(crate::specs::Sets::holds, crate::specs::Sets::has_set))]
-pub(crate) fn enter<K: Ord + Copy, E: Ord + Copy>(
+fn enter<K: Ord + Copy, E: Ord + Copy>(
     sets: &mut BTreeMap<K, BTreeSet<E>>,
     key: K,
     member: E,
@@ -27,18 +29,62 @@ pub(crate) fn enter<K: Ord + Copy, E: Ord + Copy>(
     }
 }
 
-/// Takes the member out of the set at the key.
+// Takes the member out of the set at the key.
 #[tactic(auto, unfolding(crate::specs::Sets::holds, crate::specs::Sets::has_set))]
-pub(crate) fn leave<K: Ord + Copy, E: Ord + Copy>(
-    sets: &mut BTreeMap<K, BTreeSet<E>>,
-    key: K,
-    member: E,
-)
+fn leave<K: Ord + Copy, E: Ord + Copy>(sets: &mut BTreeMap<K, BTreeSet<E>>, key: K, member: E)
     ensures { Sets K.cmp E.cmp sets.old sets.new key member false }
 {
     if let Some(set) = sets.get_mut(&key) {
         set.remove(&member);
     }
+}
+
+/// Takes the member out of the set of each of the groups.
+pub(crate) fn leave_all<E: Ord + Copy>(
+    sets: &mut BTreeMap<DeviceId, BTreeSet<E>>,
+    groups: &[DeviceId],
+    member: E,
+)
+    ensures { Leaves E.cmp sets.old sets.new (Some (groups.now, member)) }
+{
+    for group in groups {
+        leave(sets, *group, member);
+    }
+}
+
+/// Puts the group behind the others, if it is new.
+pub(crate) fn push_if(entered: &mut Few, group: DeviceId, new: bool)
+    requires { length entered.old < 8 }
+    ensures { entered.new ≡ (if new then entered.old ++ group ∷ [] else entered.old) }
+{
+    if new {
+        entered.push(group);
+    }
+}
+
+/// Puts the member into the set of each of the groups, and tells those where it is new. Where one finds no memory
+/// or no set, it is put into none.
+pub(crate) fn enter_all<E: Ord + Copy>(
+    sets: &mut BTreeMap<DeviceId, BTreeSet<E>>,
+    groups: &[DeviceId],
+    member: E,
+) -> Result<Few, AllocError>
+    requires { length groups.now ≤ 8 }
+    ensures ok { OnOk result (Enters E.cmp sets.old sets.new (Some (groups.now, member))) }
+    ensures undo { IfOk result (λ new. Undoes E.cmp sets.old sets.new (Some (new, member))) }
+    ensures err { OnErr result (Stays nat_cmp E.cmp sets.old sets.new) }
+{
+    let mut entered = Few::none();
+    for group in groups {
+        match enter(sets, *group, member) {
+            Ok(new) => push_if(&mut entered, *group, new),
+            Err(error) => {
+                leave_all(sets, entered.as_slice(), member);
+                return Err(error);
+            }
+        }
+    }
+    Ok(entered)
 }
 
 /// Makes sure that there is a set at the key.

@@ -6,22 +6,22 @@ ghost use Rattle.acd_model.specs.Writes.{with_agent};
 ghost use Rattle.acd_tables.specs.Indexed.{IsIndexed, is_free, is_busying};
 ghost use Rattle.acd_tables.specs.Uses.{is_there_and, is_in_use};
 ghost use Rattle.acd_tables.specs.declared.uses.Use.TheVariants.{Busying};
-ghost use Rattle.acd_tables.specs.Turns.{TurnsTo, differ, IsAt, queue_entry, entry_in, ready_entry, with_or_without};
+ghost use Rattle.acd_tables.specs.Turns.{TurnsTo, differ, IsAt, queue_entry, ready_entry, with_or_without};
 
 use crate::indexes::{Entries, Indexes, Turn, leaving_but};
 use crate::records::Records;
 use crate::uses::{Use, agent_at, is_in_use, uses};
-use acd_terms::{AgentId, AgentRecord, ConnectionRecord, DeviceId};
+use acd_terms::{AgentId, AgentRecord, ConnectionRecord, DeviceId, Few};
 
 // The place of a queued connection.
-fn queue_entry(connection: &Option<ConnectionRecord>) -> Option<(DeviceId, (u64, u64))>
+fn queue_entry(connection: &Option<ConnectionRecord>) -> Option<(Few, (u64, u64))>
     ensures { result ≡ queue_entry connection.now }
 {
     match connection {
         None => None,
         Some(c) => {
             if c.state.is_queued() {
-                Some((c.device, (c.place.unwrap_or(0), c.call)))
+                Some((Few::one(c.device), (c.place.unwrap_or(0), c.call)))
             } else {
                 None
             }
@@ -29,27 +29,18 @@ fn queue_entry(connection: &Option<ConnectionRecord>) -> Option<(DeviceId, (u64,
     }
 }
 
-fn entry_in(group: Option<DeviceId>, agent: &AgentRecord) -> Option<(DeviceId, (u64, AgentId))>
-    ensures { result ≡ entry_in group agent.now }
-{
-    match group {
-        None => None,
-        Some(group) => Some((group, (agent.stamp, agent.agent))),
-    }
-}
-
-// The place of the agent in the group, if ready.
-fn able_entry(agent: &AgentRecord) -> Option<(DeviceId, (u64, AgentId))>
+// The place of the agent in each of its groups, if ready.
+fn able_entry(agent: &AgentRecord) -> Option<(Few, (u64, AgentId))>
     ensures { result ≡ ready_entry (Some agent.now) }
 {
     if agent.state.is_ready() {
-        entry_in(agent.group, agent)
+        Some((agent.groups.to_few(), (agent.stamp, agent.agent)))
     } else {
         None
     }
 }
 
-fn ready_entry(agent: &Option<AgentRecord>) -> Option<(DeviceId, (u64, AgentId))>
+fn ready_entry(agent: &Option<AgentRecord>) -> Option<(Few, (u64, AgentId))>
     ensures { result ≡ ready_entry agent.now }
 {
     match agent {
@@ -101,7 +92,7 @@ fn is_kept(
     call: u64,
     device: DeviceId,
     new: &Option<ConnectionRecord>,
-    seat: &Option<(DeviceId, (u64, AgentId))>,
+    seat: &Option<(Few, (u64, AgentId))>,
 ) -> bool
     requires { IsIndexed records.now indexes.now }
     ensures { result ≡ (is_some seat.now && (is_there_and is_busying new.now || is_in_use records.now device (Some call) Busying)) }
@@ -123,7 +114,7 @@ fn turning_seat(
     device: DeviceId,
     old: &Option<ConnectionRecord>,
     new: &Option<ConnectionRecord>,
-) -> Option<(DeviceId, (u64, AgentId))>
+) -> Option<(Few, (u64, AgentId))>
     requires { IsIndexed records.now indexes.now }
     ensures { result ≡ (if differ (is_there_and is_busying old.now) (is_there_and is_busying new.now) then ready_entry (agent_at records.now device) else None) }
 {
@@ -181,7 +172,7 @@ fn is_free(records: &Records, indexes: &Indexes, station: Option<DeviceId>) -> b
 fn may_be_offered(
     records: &Records,
     indexes: &Indexes,
-    entry: &Option<(DeviceId, (u64, AgentId))>,
+    entry: &Option<(Few, (u64, AgentId))>,
     station: Option<DeviceId>,
 ) -> bool
     requires { IsIndexed records.now indexes.now }

@@ -1,3 +1,5 @@
 pub mod Texts
 pub mod Identifiers
 pub mod ReadBack
+mod Placing
+mod Held

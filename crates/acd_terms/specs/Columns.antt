@@ -35,7 +35,7 @@ columns_of (report.Transferred call station to) = record (at_device kind.Transfe
 columns_of (report.Failed call station) = record (at_device kind.Failed call station) { cause = Some StationBusy }
 columns_of (report.ConnectionCleared call device) = at_device kind.ConnectionCleared call device
 columns_of (report.CallCleared call group) = record { kind = kind.CallCleared; device = None; call = Some call; agent = None; group = group; to = None; cause = None; waited = None }
-columns_of (report.AgentLoggedOn agent station group) = record (of_agent kind.AgentLoggedOn agent station) { group = Some group }
+columns_of (report.AgentLoggedOn agent station group) = record (of_agent kind.AgentLoggedOn agent station) { group = group }
 columns_of (report.AgentLoggedOff agent station) = of_agent kind.AgentLoggedOff agent station
 columns_of (report.AgentNotReady agent station) = of_agent kind.AgentNotReady agent station
 columns_of (report.AgentReady agent station) = of_agent kind.AgentReady agent station

@@ -6,4 +6,6 @@ pub mod Limits
 pub mod Rows
 pub mod Columns
 pub mod Lists
+pub mod Few
+pub mod Groups
 pub mod EventNames

@@ -1,6 +1,10 @@
 -- How much a desk may hold at most.
-use Rattle.std.specs.Prelude.{Bool, ◌&&◌, nat_le}
+use Rattle.std.specs.Prelude.{ℕ, Bool, ◌&&◌, nat_le}
 use Rattle.acd_terms.specs.declared.rows.Limits.{Limits}
+
+-- the highest priority of a group
+abbrev pub greatest_priority : ℕ
+greatest_priority = 9
 
 abbrev pub greatest_limits : Limits
 greatest_limits = record { requests = 1000000000; calls = 2000; groups = 64; stations = 1000; agents = 1000; monitors = 256 }

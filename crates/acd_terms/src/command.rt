@@ -1,14 +1,18 @@
 //! What is asked of the switch.
 
+use crate::groups::SomeGroups;
 use crate::id::{AgentId, DeviceId};
 use crate::name::{Name, Requester};
-use crate::number::{Invoke, Seconds, Serial};
+use crate::number::{Invoke, Priority, Seconds, Serial};
 use crate::state::Pending;
 
 /// What Set Agent State asks for.
 #[derive(Clone, Copy, Debug, PartialEq, Eq)]
 pub enum Requested {
-    LoggedOn { device: DeviceId, group: DeviceId },
+    LoggedOn {
+        device: DeviceId,
+        groups: SomeGroups,
+    },
     State(Pending),
 }
 
@@ -82,6 +86,10 @@ pub enum Command {
     },
     /// Time has passed: offers and after-call work that lasted long enough end.
     Tick,
+    SetGroupPriority {
+        device: DeviceId,
+        priority: Priority,
+    },
 }
 
 /// A command with its key: who sends it, and its number among the sender's requests.

@@ -108,7 +108,8 @@ pub enum Report {
     AgentLoggedOn {
         agent: AgentId,
         station: DeviceId,
-        group: DeviceId,
+        /// Of an agent who serves just one.
+        group: Option<DeviceId>,
     },
     AgentLoggedOff {
         agent: AgentId,
@@ -318,7 +319,7 @@ impl Report {
                 station,
                 group,
             } => Columns {
-                group: Some(group),
+                group,
                 ..of_agent(EventKind::AgentLoggedOn, agent, station)
             },
             Report::AgentLoggedOff { agent, station } => {

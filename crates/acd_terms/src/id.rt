@@ -42,6 +42,9 @@ impl Model for DeviceId {
     ghost inverse = { λ n. record { value = n } };
 }
 
+/// What stands in cells that hold no device: the device of the one digit 0.
+pub(crate) const FILLER: DeviceId = DeviceId { value: 10 };
+
 impl DeviceId {
     /// Reads the digits of a device.
     pub fn read(bytes: &[u8]) -> Result<DeviceId, IdFault>

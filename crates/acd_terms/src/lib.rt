@@ -15,6 +15,8 @@
 mod answer;
 mod command;
 mod event;
+mod few;
+mod groups;
 mod id;
 mod keyed;
 mod listed;
@@ -28,11 +30,13 @@ mod state;
 pub use answer::{Answer, Outcome, Refusal};
 pub use command::{Arrival, Command, Request, Requested, Turn};
 pub use event::{Cause, Columns, Event, EventKind, Report, Waited};
+pub use few::Few;
+pub use groups::{Groups, SomeGroups};
 pub use id::{AgentId, DeviceId, IdFault};
 pub use keyed::{Keyed, ascends, find};
 pub use listed::Listed;
 pub use name::{Name, NameFault, Requester};
-pub use number::{Between, Invoke, Seconds, Serial};
+pub use number::{Between, Invoke, Priority, Seconds, Serial};
 pub use record::{
     AgentRecord, CallRecord, ConnectionRecord, Figures, GroupRecord, MonitorRecord, StationRecord,
 };

@@ -64,6 +64,25 @@ impl Seconds {
     }
 }
 
+/// How soon a group is served: 0 to 9, and 9 is served first.
+pub type Priority = Between<0, 9>;
+
+impl Priority {
+    /// That of a group to which none was given: 0.
+    pub fn lowest() -> Priority
+        ensures { result ≡ 0 }
+    {
+        Between { number: 0 }
+    }
+
+    pub fn number(self) -> u8
+        ensures value { result ≡ self }
+        ensures formed { IsBetween 0 9 self }
+    {
+        self.number as u8
+    }
+}
+
 /// A call or a monitor as a request names it: 1 to 1000000000.
 pub type Serial = Between<1, 1_000_000_000>;
 

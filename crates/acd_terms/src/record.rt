@@ -7,9 +7,10 @@
 ghost use Rattle.std.specs.Prelude.{◌≡◌};
 ghost use Rattle.acd_terms.specs.States.{is_distributed};
 
+use crate::groups::Groups;
 use crate::id::{AgentId, DeviceId};
 use crate::name::Name;
-use crate::number::Seconds;
+use crate::number::{Priority, Seconds};
 use crate::state::{AgentState, ConnectionState, Pending};
 
 /// What a group has counted since it was added.
@@ -36,6 +37,8 @@ pub struct GroupRecord {
     pub ring: Seconds,
     /// How long after-call work lasts.
     pub wrap: Seconds,
+    /// Among groups that have a waiting call and an eligible agent, the highest is served first.
+    pub priority: Priority,
     pub figures: Figures,
 }
 
@@ -55,7 +58,7 @@ pub struct AgentRecord {
     pub pending: Option<Pending>,
     /// Where the agent is logged on.
     pub station: Option<DeviceId>,
-    pub group: Option<DeviceId>,
+    pub groups: Groups,
     /// The stamp of the executed request that last changed the state.
     pub stamp: u64,
     /// The moment of that request, in seconds.

@@ -1,8 +1,10 @@
 //! What no clause says: that the definitions of what is read are the formats, and that reading succeeds. The texts of
-//! replies, of event reports and of what is read of a desk stand in the scenes.
+//! replies, of event reports and of what is read of a desk stand in the scenes; those of several groups and of
+//! priorities are shown here.
 
 mod faulty;
 mod read;
+mod shown;
 
 use acd_codec::{ReadFault, read_request, request_text};
 use std::alloc::Global;

@@ -72,10 +72,10 @@ fn help() -> &'static str {
 < the command ends. A file that isn't there, or has no bytes, is made.
 
 0 acd --version
-< acd 0.9 (rattle-kit-13f)
+< acd 1.0 (rattle-kit-13f)
 
 0 acd -V
-< acd 0.9 (rattle-kit-13f)
+< acd 1.0 (rattle-kit-13f)
 
 2 acd report
 ! error: the following required arguments were not provided:
@@ -310,6 +310,56 @@ fn desk_in_a_file() -> &'static str {
 "#
 }
 
+// An agent of two groups, of which one has priority 5: the program ends before the agent is offered the call of that one.
+fn several_groups_in_a_file() -> &'static str {
+    r#"0 acd lines --file {file}
+> 0 {"requester":"plan","invoke":1,"service":"addGroup","device":"100","name":"Billing","ring":20,"wrap":30}
+> 0 {"requester":"plan","invoke":2,"service":"addStation","device":"201"}
+> 0 {"requester":"plan","invoke":3,"service":"addAgent","agent":"7","name":"Ana"}
+> 0 {"requester":"plan","invoke":4,"service":"addGroup","device":"110","name":"Claims","ring":20,"wrap":45}
+> 0 {"requester":"plan","invoke":5,"service":"setGroupPriority","device":"110","priority":5}
+> 10 {"requester":"pbx","invoke":1,"service":"arriveCall","caller":"0301234","called":"100"}
+> 11 {"requester":"pbx","invoke":2,"service":"arriveCall","caller":"0309999","called":"110"}
+> 15 {"requester":"desk","invoke":1,"service":"setAgentState","agent":"7","requested":"loggedOn","device":"201","groups":["110","100"]}
+< 200 {"invoke":1,"requester":"plan","result":{}}
+< 200 {"invoke":2,"requester":"plan","result":{}}
+< 200 {"invoke":3,"requester":"plan","result":{}}
+< 200 {"invoke":4,"requester":"plan","result":{}}
+< 200 {"invoke":5,"requester":"plan","result":{}}
+< 200 {"invoke":1,"requester":"pbx","result":{"call":1}}
+< 200 {"invoke":2,"requester":"pbx","result":{"call":2}}
+< 200 {"invoke":1,"requester":"desk","result":{"state":"notReady"}}
+
+0 acd lines --file {file}
+> 18 {"requester":"desk","invoke":2,"service":"setAgentState","agent":"7","requested":"ready"}
+> 20 {"requester":"desk","invoke":3,"service":"answerCall","call":2,"device":"201"}
+> 20 {"requester":"desk","invoke":1,"service":"setAgentState","agent":"7","requested":"loggedOn","device":"201","groups":["100","110"]}
+< 200 {"invoke":2,"requester":"desk","result":{"state":"ready"}}
+< 200 {"invoke":3,"requester":"desk","result":{}}
+< 200 {"invoke":1,"requester":"desk","result":{"state":"notReady"}}
+
+0 acd report --file {file}
+< group           waiting ringing    entered   answered  abandoned      moved    average    longest name
+< 100                   1       0          1          0          0          0          -         10 Billing
+< 110                   0       0          1          1          0          0          9          - Claims
+
+0 acd export --file {file}
+< number,moment,event,call,device,agent,group,to,cause,waited
+< 1,10,queued,1,100,,,,newCall,
+< 2,11,queued,2,110,,,,newCall,
+< 3,15,agentLoggedOn,,201,7,,,,
+< 4,18,agentReady,,201,7,,,,
+< 5,18,diverted,2,110,,110,201,distributed,
+< 6,18,delivered,2,201,,110,,distributed,
+< 7,20,established,2,201,,110,,,9
+< 8,20,agentBusy,,201,7,,,,
+
+0 acd audit --file {file} --count
+< sound
+< executed 10
+"#
+}
+
 // Behind it a new file whose making was stopped at its first byte. It is made to its end, and holds no desk.
 fn new_files() -> &'static str {
     r#"0 acd lines --file {file}
@@ -476,6 +526,7 @@ fn runs_of_the_program(rt: HostRuntime) {
         no_databases(),
         plans(),
         desk_in_a_file(),
+        several_groups_in_a_file(),
         new_files(),
         streams_that_fail(),
         altered_file(),

@@ -2,7 +2,7 @@
 
 use super::{altered, changed, empty};
 use acd_sqlbook::SqlBook;
-use sqlite::{Alter, Connection};
+use sqlite::{Alter, Connection, MemStore};
 use std::alloc::Global;
 use std::process::Abort;
 
@@ -37,12 +37,6 @@ CREATE TABLE monitors (monitor INTEGER NOT NULL PRIMARY KEY, device INTEGER NOT 
 CREATE TABLE events (number INTEGER NOT NULL PRIMARY KEY, moment INTEGER NOT NULL, kind INTEGER NOT NULL CHECK (kind BETWEEN 1 AND 18), device INTEGER, call INTEGER, agent INTEGER, grp INTEGER, target INTEGER, cause INTEGER, waited INTEGER) STRICT;
 CREATE TABLE kept (stamp INTEGER NOT NULL PRIMARY KEY, requester TEXT NOT NULL, invoke INTEGER NOT NULL, moment INTEGER NOT NULL, request TEXT NOT NULL, status INTEGER NOT NULL, body TEXT NOT NULL, UNIQUE (requester, invoke)) STRICT;
 INSERT INTO meta VALUES (1, 1, 1000000000, 2000, 64, 1000, 1000, 256, 0, 0, 0, 0, 0)"
-}
-
-// Behind rows of version 2 alone.
-fn of_new_tables() -> &'static str {
-    "BadRow(AgentGroups) INSERT INTO agent_groups VALUES (17, 1501)
-BadRow(GroupPriority) INSERT INTO group_priority VALUES (1501, 5)"
 }
 
 // A row of each table, as a book may hold it.
@@ -135,6 +129,41 @@ book UPDATE events SET kind = 3, cause = 1
 book UPDATE events SET kind = 6, grp = 1501, waited = 0"
 }
 
+// Besides these rows nine groups, from one of a lower number on, and an agent who is logged off.
+fn more_rows() -> &'static str {
+    r#"INSERT INTO acd_groups WITH RECURSIVE n (i) AS (SELECT 1 UNION ALL SELECT i + 1 FROM n WHERE i < 8) SELECT 1501 + i, 'Sales', 20, 30, 0, 0, 0, 0, 0 FROM n;
+INSERT INTO acd_groups VALUES (1100, 'Claims', 20, 30, 0, 0, 0, 0, 0);
+INSERT INTO agents VALUES (18, 'Ben', 0, NULL, NULL, NULL, 1, 0)"#
+}
+
+// With these, rows of the two tables that version 2 has more. A value that is out of its range is in one of them only
+// where a key is, whose table is read first.
+fn of_new_tables() -> &'static str {
+    "book UPDATE meta SET id = 1
+book INSERT INTO agent_groups VALUES (17, 1502)
+book INSERT INTO agent_groups SELECT 17, device FROM acd_groups WHERE device BETWEEN 1502 AND 1508
+BadRow(AgentGroups) INSERT INTO agent_groups SELECT 17, device FROM acd_groups WHERE device BETWEEN 1502 AND 1509
+BadRow(AgentGroups) INSERT INTO agent_groups VALUES (17, 1501)
+BadRow(AgentGroups) INSERT INTO agent_groups VALUES (17, 1100)
+BadRow(AgentGroups) INSERT INTO agent_groups VALUES (17, 1502); INSERT INTO agent_groups VALUES (17, 1100)
+BadRow(AgentGroups) INSERT INTO agent_groups VALUES (18, 1501)
+BadRow(AgentGroups) INSERT INTO agent_groups VALUES (17, 1502); UPDATE agents SET grp = NULL WHERE agent = 17
+BadRow(AgentGroups) INSERT INTO agent_groups VALUES (17, 1502); UPDATE agents SET grp = 1502 WHERE agent = 17
+BadRow(Groups) INSERT INTO acd_groups VALUES (7, 'Other', 20, 30, 0, 0, 0, 0, 0); INSERT INTO agent_groups VALUES (17, 7)
+BadRow(Agents) INSERT INTO agents VALUES (7, 'Cem', 0, NULL, NULL, NULL, 1, 0); INSERT INTO agent_groups VALUES (7, 1502)
+book INSERT INTO group_priority VALUES (1501, 1); INSERT INTO group_priority VALUES (1100, 9)
+BadRow(Groups) INSERT INTO acd_groups VALUES (7, 'Other', 20, 30, 0, 0, 0, 0, 0); INSERT INTO group_priority VALUES (7, 5)"
+}
+
+// What the store takes in no database with these rows.
+fn refused_by_the_store() -> &'static str {
+    "INSERT INTO group_priority VALUES (1501, 0)
+INSERT INTO group_priority VALUES (1501, 10)
+INSERT INTO group_priority VALUES (1601, 5)
+INSERT INTO agent_groups VALUES (19, 1502)
+INSERT INTO agent_groups VALUES (17, 1601)"
+}
+
 // Events and kept records from 1 to 2200: they are read in three pages, for a page has a thousand rows.
 fn history() -> &'static str {
     r#"INSERT INTO events WITH RECURSIVE n (i) AS (SELECT 1 UNION ALL SELECT i + 1 FROM n WHERE i < 2200) SELECT i, 10, 7, 1201, 1, NULL, NULL, NULL, NULL, NULL FROM n;
@@ -175,13 +204,30 @@ fn databases_that_are_books(rt: HostRuntime) {
     for (first, lines) in [
         ("", of_new_book()),
         (rows(), of_rows()),
-        (rows(), of_new_tables()),
         (history(), of_history()),
     ] {
         for line in lines.lines() {
             let conn = altered(&rt, alloc, empty(&rt, alloc), first);
             expect_told(&rt, alloc, conn, line);
         }
+    }
+}
+
+// A connection to a new book's database that holds these rows, and more.
+fn more(rt: &impl Abort, alloc: Global) -> Connection<MemStore> {
+    let conn = altered(rt, alloc, empty(rt, alloc), rows());
+    changed(rt, conn, more_rows())
+}
+
+#[test]
+fn further_groups_and_priorities(rt: HostRuntime) {
+    let alloc = rt.alloc();
+    for line in of_new_tables().lines() {
+        expect_told(&rt, alloc, more(&rt, alloc), line);
+    }
+    let mut conn = more(&rt, alloc);
+    for sql in refused_by_the_store().lines() {
+        assert!(rt; conn.execute_batch(sql).is_err(), "{sql}");
     }
 }
 

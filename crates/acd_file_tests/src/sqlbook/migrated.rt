@@ -8,9 +8,9 @@ use acd_desk::{Audit, Desk};
 use std::alloc::Global;
 use std::process::Abort;
 
-// The rows of that file, as stock sqlite3 dumped them: the plan, a call that waited, an agent who logged on, got
-// ready and answered it.
-fn left() -> &'static str {
+/// The rows of that file, as stock sqlite3 dumped them: the plan, a call that waited, an agent who logged on, got
+/// ready and answered it.
+pub fn left() -> &'static str {
     r#"UPDATE meta SET last_stamp = 9, last_moment = 25, last_call = 1, last_event = 7;
 INSERT INTO acd_groups VALUES (1100,'Billing',20,30,1,1,0,0,15);
 INSERT INTO stations VALUES (1201);
@@ -38,8 +38,8 @@ INSERT INTO kept VALUES (8,'desk',2,18,'{"agent":"7","invoke":2,"requested":"rea
 INSERT INTO kept VALUES (9,'desk',3,25,'{"call":1,"device":"201","invoke":3,"requester":"desk","service":"answerCall"}',200,'{"invoke":3,"requester":"desk","result":{}}')"#
 }
 
-// The desk over the book is as its records make it, and has executed so many requests.
-fn expect_sound<B: Book + Drop>(rt: &impl Abort, alloc: Global, book: B) -> B {
+/// The desk over the book is as its records make it.
+pub fn expect_sound<B: Book + Drop>(rt: &impl Abort, alloc: Global, book: B) -> B {
     match Desk::open(alloc, book) {
         Ok(mut desk) => {
             same(rt, &desk.audit(), &Ok(Audit::Sound));

@@ -53,7 +53,7 @@ abbrev pub DeflectedToItsOwnGroup : Type 0
 DeflectedToItsOwnGroup =
     let r = run_after plan to_its_own_group in
     (r.outcomes ≡ Done (answer.State NotReady) ∷ Done (answer.State Ready) ∷ Done (answer.Call 1) ∷ Done answer.Nothing ∷ [])
-    × (r.events ≡ event 1 5 (AgentLoggedOn ana first_station billing) ∷ event 2 6 (AgentReady ana first_station)
+    × (r.events ≡ event 1 5 (AgentLoggedOn ana first_station (Some billing)) ∷ event 2 6 (AgentReady ana first_station)
     ∷ event 3 10 (Queued 1 billing cause.NewCall)
     ∷ event 4 10 (Diverted 1 billing first_station cause.Distributed (Some billing))
     ∷ event 5 10 (Delivered 1 first_station cause.Distributed (Some billing))
@@ -88,7 +88,7 @@ TransferredWhileHeld =
     let r = run_after plan between_two_agents in
     (r.outcomes ≡ Done answer.Nothing ∷ Done (answer.State NotReady) ∷ Done (answer.State NotReady) ∷ Done (answer.State Ready) ∷ Done (answer.State Ready)
     ∷ Done (answer.Call 1) ∷ Done answer.Nothing ∷ Done answer.Nothing ∷ Done answer.Nothing ∷ Done answer.Nothing ∷ [])
-    × (r.events ≡ event 1 5 (AgentLoggedOn ana first_station billing) ∷ event 2 5 (AgentLoggedOn ben second_station billing)
+    × (r.events ≡ event 1 5 (AgentLoggedOn ana first_station (Some billing)) ∷ event 2 5 (AgentLoggedOn ben second_station (Some billing))
     ∷ event 3 6 (AgentReady ana first_station) ∷ event 4 7 (AgentReady ben second_station)
     ∷ event 5 10 (ServiceInitiated 1 third_station) ∷ event 6 14 (Originated 1 third_station billing) ∷ event 7 14 (Queued 1 billing cause.NewCall)
     ∷ event 8 14 (Diverted 1 billing first_station cause.Distributed (Some billing))

@@ -28,7 +28,7 @@ abbrev pub OfferedToTheReadyAgent : Type 0
 OfferedToTheReadyAgent =
     let r = run_after (plan ++ call_arrives) ana_becomes_ready in
     (r.outcomes ≡ Done (answer.State NotReady) ∷ Done (answer.State Ready) ∷ [])
-    × (r.events ≡ event 2 15 (AgentLoggedOn ana first_station billing) ∷ event 3 18 (AgentReady ana first_station)
+    × (r.events ≡ event 2 15 (AgentLoggedOn ana first_station (Some billing)) ∷ event 3 18 (AgentReady ana first_station)
     ∷ event 4 18 (Diverted 1 billing first_station cause.Distributed (Some billing))
     ∷ event 5 18 (Delivered 1 first_station cause.Distributed (Some billing)) ∷ [])
     × (connections_of r.rows 1 ≡ ringing_from billing 1 first_station 6 10 18 ∷ plain 1 caller Connected ∷ [])
@@ -55,7 +55,7 @@ abbrev pub LongestReadyFirst : Type 0
 LongestReadyFirst =
     let r = run_after plan two_ready in
     (r.outcomes ≡ Done (answer.State NotReady) ∷ Done (answer.State NotReady) ∷ Done (answer.State Ready) ∷ Done (answer.State Ready) ∷ Done (answer.Call 1) ∷ [])
-    × (r.events ≡ event 1 5 (AgentLoggedOn ana first_station billing) ∷ event 2 5 (AgentLoggedOn ben second_station billing)
+    × (r.events ≡ event 1 5 (AgentLoggedOn ana first_station (Some billing)) ∷ event 2 5 (AgentLoggedOn ben second_station (Some billing))
     ∷ event 3 6 (AgentReady ben second_station) ∷ event 4 7 (AgentReady ana first_station)
     ∷ event 5 10 (Queued 1 billing cause.NewCall)
     ∷ event 6 10 (Diverted 1 billing second_station cause.Distributed (Some billing))
@@ -166,7 +166,7 @@ LeastPlaceFirst =
     × (r.events ≡ event 1 10 (Queued 1 billing cause.NewCall) ∷ event 2 11 (Queued 2 billing cause.NewCall)
     ∷ event 3 12 (Diverted 1 billing first_station cause.Deflected (Some billing)) ∷ event 4 12 (Delivered 1 first_station cause.Deflected None)
     ∷ event 5 13 (Diverted 1 first_station billing cause.Deflected None) ∷ event 6 13 (Queued 1 billing cause.Deflected)
-    ∷ event 7 14 (AgentLoggedOn ana first_station billing) ∷ event 8 15 (AgentReady ana first_station)
+    ∷ event 7 14 (AgentLoggedOn ana first_station (Some billing)) ∷ event 8 15 (AgentReady ana first_station)
     ∷ event 9 15 (Diverted 2 billing first_station cause.Distributed (Some billing)) ∷ event 10 15 (Delivered 2 first_station cause.Distributed (Some billing)) ∷ [])
     × (connection_of r.rows 2 first_station ≡ Some (ringing_from billing 2 first_station 7 11 15))
     × (waiting_in r.rows billing ≡ queueing 1 billing (Some 9) (Some 13) ∷ [])

@@ -4,7 +4,7 @@ use Rattle.acd_terms.specs.Rows.{empty_rows}
 use Rattle.acd_terms.specs.declared.rows.Limits.{Limits}
 use Rattle.acd_terms.specs.declared.rows.Rows.{Rows}
 use Rattle.acd_terms.specs.declared.command.Command.{Command}
-use Rattle.acd_terms.specs.declared.command.Command.TheVariants.{AddGroup, AddStation, AddAgent, ArriveCall, MakeCall, PhoneOffHook, AnswerCall, HoldCall, RetrieveCall, ClearConnection, DeflectCall, SingleStepTransfer, SetAgentState, MonitorStart, MonitorStop}
+use Rattle.acd_terms.specs.declared.command.Command.TheVariants.{AddGroup, AddStation, AddAgent, ArriveCall, MakeCall, PhoneOffHook, AnswerCall, HoldCall, RetrieveCall, ClearConnection, DeflectCall, SingleStepTransfer, SetAgentState, SetGroupPriority, MonitorStart, MonitorStop}
 use Rattle.acd_terms.specs.declared.command.Requested.TheVariants.{LoggedOn, State}
 use Rattle.acd_terms.specs.declared.state.Pending.TheVariants as pending
 use Rattle.acd_terms.specs.declared.answer.Outcome.TheVariants.{Refused}
@@ -28,6 +28,10 @@ nowhere = 1999
 abbrev pub nobody : ℕ
 nobody = 19
 
+-- a number between those of a group and a station that isn't planned
+abbrev pub unplanned : ℕ
+unplanned = 1150
+
 -- just as many places as the scene takes
 abbrev pub few : Limits
 few = record { requests = 100; calls = 1; groups = 1; stations = 2; agents = 2; monitors = 1 }
@@ -37,6 +41,7 @@ RefusalsOfPlanAndCalls =
     Refuses (run (empty_rows few) (answered ++ at 30 (MonitorStart first_station) ∷ [])).rows (
     (AddGroup billing (codes "Again") 0 0, DeviceExists) ∷ (AddGroup first_station (codes "Again") 0 0, DeviceExists)
     ∷ (AddGroup caller (codes "Caller") 0 0, DeviceExists) ∷ (AddGroup claims (codes "Claims") 0 0, PlanFull)
+    ∷ (SetGroupPriority nowhere 1, UnknownDevice) ∷ (SetGroupPriority caller 1, UnknownDevice) ∷ (SetGroupPriority first_station 1, NotGroup)
     ∷ (AddStation billing, DeviceExists) ∷ (AddStation first_station, DeviceExists) ∷ (AddStation caller, DeviceExists) ∷ (AddStation third_station, PlanFull)
     ∷ (AddAgent ana (codes "Ana"), AgentExists) ∷ (AddAgent nobody (codes "Cid"), PlanFull)
     ∷ (ArriveCall first_station nowhere, CallerPlanned) ∷ (ArriveCall billing billing, CallerPlanned)
@@ -93,10 +98,14 @@ RefusalsOfAnUnansweredCall =
 abbrev pub RefusalsOfAgents : Type 0
 RefusalsOfAgents =
     Refuses (after answered) (
-    (SetAgentState nobody (State pending.Ready), UnknownAgent) ∷ (SetAgentState nobody (LoggedOn nowhere nowhere), UnknownAgent)
+    (SetAgentState nobody (State pending.Ready), UnknownAgent) ∷ (SetAgentState nobody (LoggedOn nowhere (nowhere ∷ [])), UnknownAgent)
     ∷ (SetAgentState ben (State pending.Ready), WrongAgentState) ∷ (SetAgentState ben (State pending.NotReady), WrongAgentState)
     ∷ (SetAgentState ben (State pending.WorkingAfterCall), WrongAgentState) ∷ (SetAgentState ben (State pending.LoggedOff), WrongAgentState)
-    ∷ (SetAgentState ana (LoggedOn nowhere nowhere), WrongAgentState)
-    ∷ (SetAgentState ben (LoggedOn nowhere nowhere), UnknownDevice) ∷ (SetAgentState ben (LoggedOn billing nowhere), NotStation)
-    ∷ (SetAgentState ben (LoggedOn first_station nowhere), StationTaken) ∷ (SetAgentState ben (LoggedOn second_station nowhere), UnknownDevice)
-    ∷ (SetAgentState ben (LoggedOn second_station first_station), NotGroup) ∷ [])
+    ∷ (SetAgentState ana (LoggedOn nowhere (nowhere ∷ [])), WrongAgentState)
+    ∷ (SetAgentState ben (LoggedOn nowhere (nowhere ∷ [])), UnknownDevice) ∷ (SetAgentState ben (LoggedOn billing (nowhere ∷ [])), NotStation)
+    ∷ (SetAgentState ben (LoggedOn first_station (nowhere ∷ [])), StationTaken) ∷ (SetAgentState ben (LoggedOn second_station (nowhere ∷ [])), UnknownDevice)
+    ∷ (SetAgentState ben (LoggedOn second_station (first_station ∷ [])), NotGroup)
+    -- of several groups in ascending number: of each first that it is planned
+    ∷ (SetAgentState ben (LoggedOn second_station (billing ∷ first_station ∷ nowhere ∷ [])), NotGroup)
+    ∷ (SetAgentState ben (LoggedOn second_station (billing ∷ unplanned ∷ first_station ∷ [])), UnknownDevice)
+    ∷ (SetAgentState ben (LoggedOn second_station (unplanned ∷ first_station ∷ nowhere ∷ [])), UnknownDevice) ∷ [])

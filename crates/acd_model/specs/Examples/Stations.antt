@@ -29,7 +29,7 @@ PrivateCallThenDistribution =
     let r = run_after plan (logs_on 5 ana first_station billing ∷ asks_for 6 ana pending.Ready
     ∷ at 7 (MakeCall first_station second_station) ∷ at 8 (PhoneOffHook 1 first_station) ∷ at 9 (ArriveCall caller billing) ∷ at 20 (ClearConnection 1 first_station) ∷ []) in
     (r.outcomes ≡ Done (answer.State NotReady) ∷ Done (answer.State Ready) ∷ Done (answer.Call 1) ∷ Done answer.Nothing ∷ Done (answer.Call 2) ∷ Done answer.Nothing ∷ [])
-    × (r.events ≡ event 1 5 (AgentLoggedOn ana first_station billing) ∷ event 2 6 (AgentReady ana first_station)
+    × (r.events ≡ event 1 5 (AgentLoggedOn ana first_station (Some billing)) ∷ event 2 6 (AgentReady ana first_station)
     ∷ event 3 7 (ServiceInitiated 1 first_station) ∷ event 4 8 (Originated 1 first_station second_station) ∷ event 5 8 (Delivered 1 second_station cause.NewCall None)
     ∷ event 6 9 (Queued 2 billing cause.NewCall)
     ∷ event 7 20 (ConnectionCleared 1 first_station) ∷ event 8 20 (ConnectionCleared 1 second_station) ∷ event 9 20 (CallCleared 1 None)
@@ -45,7 +45,7 @@ LoggedOffWithAPrivateCall =
     ∷ at 9 (ClearConnection 1 first_station) ∷ at 10 (ArriveCall caller billing) ∷ []) in
     (r.outcomes ≡ Done (answer.State NotReady) ∷ Done (answer.State Ready) ∷ Done (answer.Call 1) ∷ Done (answer.State Null)
     ∷ Done answer.Nothing ∷ Done (answer.Call 2) ∷ [])
-    × (r.events ≡ event 1 5 (AgentLoggedOn ana first_station billing) ∷ event 2 6 (AgentReady ana first_station)
+    × (r.events ≡ event 1 5 (AgentLoggedOn ana first_station (Some billing)) ∷ event 2 6 (AgentReady ana first_station)
     ∷ event 3 7 (ServiceInitiated 1 first_station) ∷ event 4 8 (AgentLoggedOff ana first_station)
     ∷ event 5 9 (ConnectionCleared 1 first_station) ∷ event 6 9 (CallCleared 1 None) ∷ event 7 10 (Queued 2 billing cause.NewCall) ∷ [])
     × (agent_of r.rows ana ≡ ana_logged_off 9 8)
@@ -58,7 +58,7 @@ HeldPrivateCall =
     ∷ at 11 (ArriveCall caller billing) ∷ at 12 (ArriveCall late_caller first_station) ∷ at 13 (ClearConnection 1 second_station) ∷ []) in
     (r.outcomes ≡ Done (answer.State NotReady) ∷ Done (answer.State Ready) ∷ Done (answer.Call 1) ∷ Done answer.Nothing ∷ Done answer.Nothing
     ∷ Done answer.Nothing ∷ Done (answer.Call 2) ∷ Done (answer.Call 3) ∷ Done answer.Nothing ∷ [])
-    × (r.events ≡ event 1 5 (AgentLoggedOn ana first_station billing) ∷ event 2 6 (AgentReady ana first_station)
+    × (r.events ≡ event 1 5 (AgentLoggedOn ana first_station (Some billing)) ∷ event 2 6 (AgentReady ana first_station)
     ∷ event 3 7 (ServiceInitiated 1 second_station) ∷ event 4 8 (Originated 1 second_station first_station) ∷ event 5 8 (Delivered 1 first_station cause.NewCall None)
     ∷ event 6 9 (Established 1 first_station None) ∷ event 7 10 (Held 1 first_station)
     ∷ event 8 11 (Queued 2 billing cause.NewCall) ∷ event 9 12 (Failed 3 first_station)
@@ -80,7 +80,7 @@ CallToABusyAgentStation =
     (r.outcomes ≡ Done answer.Nothing ∷ Done (answer.Call 1) ∷ Done (answer.State NotReady) ∷ Done (answer.State Ready)
     ∷ Done (answer.Call 2) ∷ Done answer.Nothing ∷ [])
     × (r.events ≡ event 1 4 (ServiceInitiated 1 first_station)
-    ∷ event 2 5 (AgentLoggedOn ana first_station billing) ∷ event 3 6 (AgentReady ana first_station)
+    ∷ event 2 5 (AgentLoggedOn ana first_station (Some billing)) ∷ event 3 6 (AgentReady ana first_station)
     ∷ event 4 7 (ServiceInitiated 2 third_station) ∷ event 5 8 (Originated 2 third_station first_station) ∷ event 6 8 (Failed 2 first_station) ∷ [])
     × (connections_of r.rows 1 ≡ plain 1 first_station Initiated ∷ [])
     × (connections_of r.rows 2 ≡ plain 2 first_station Fail ∷ plain 2 third_station Connected ∷ [])

@@ -24,7 +24,7 @@ OffersGoBack =
     let r = run_after plan two_offers_in_vain in
     (r.outcomes ≡ Done (answer.State NotReady) ∷ Done (answer.State NotReady) ∷ Done (answer.Call 1) ∷ Done (answer.Call 2)
     ∷ Done (answer.State Ready) ∷ Done answer.Nothing ∷ Done (answer.State Ready) ∷ Done answer.Nothing ∷ [])
-    × (r.events ≡ event 1 5 (AgentLoggedOn ana first_station billing) ∷ event 2 5 (AgentLoggedOn ben second_station billing)
+    × (r.events ≡ event 1 5 (AgentLoggedOn ana first_station (Some billing)) ∷ event 2 5 (AgentLoggedOn ben second_station (Some billing))
     ∷ event 3 10 (Queued 1 billing cause.NewCall) ∷ event 4 11 (Queued 2 billing cause.NewCall)
     ∷ event 5 40 (AgentReady ana first_station)
     ∷ event 6 40 (Diverted 1 billing first_station cause.Distributed (Some billing)) ∷ event 7 40 (Delivered 1 first_station cause.Distributed (Some billing))
@@ -72,7 +72,7 @@ Never =
     ∷ at 10 (ArriveCall caller claims) ∷ at 9000 Tick ∷ at 9001 (AnswerCall 1 first_station) ∷ at 9002 (ClearConnection 1 first_station) ∷ at 19000 Tick ∷ []) in
     (r.outcomes ≡ Done answer.Nothing ∷ Done (answer.State NotReady) ∷ Done (answer.State Ready)
     ∷ Done (answer.Call 1) ∷ Done answer.Nothing ∷ Done answer.Nothing ∷ Done answer.Nothing ∷ Done answer.Nothing ∷ [])
-    × (r.events ≡ event 1 2 (AgentLoggedOn ana first_station claims) ∷ event 2 3 (AgentReady ana first_station)
+    × (r.events ≡ event 1 2 (AgentLoggedOn ana first_station (Some claims)) ∷ event 2 3 (AgentReady ana first_station)
     ∷ event 3 10 (Queued 1 claims cause.NewCall)
     ∷ event 4 10 (Diverted 1 claims first_station cause.Distributed (Some claims)) ∷ event 5 10 (Delivered 1 first_station cause.Distributed (Some claims))
     ∷ event 6 9001 (Established 1 first_station (Some (record { group = claims; seconds = 8991 }))) ∷ event 7 9001 (AgentBusy ana first_station)
@@ -92,7 +92,7 @@ WhoIsReadyLongest =
     (r.outcomes ≡ Done (answer.State NotReady) ∷ Done (answer.State NotReady) ∷ Done (answer.State Ready) ∷ Done (answer.State Ready) ∷ Done (answer.State Ready)
     ∷ Done (answer.Call 1) ∷ Done answer.Nothing ∷ Done (answer.Call 2)
     ∷ Done (answer.Pending Ready pending.NotReady) ∷ Done answer.Nothing ∷ Done answer.Nothing ∷ [])
-    × (r.events ≡ event 1 5 (AgentLoggedOn ana first_station billing) ∷ event 2 5 (AgentLoggedOn ben second_station billing)
+    × (r.events ≡ event 1 5 (AgentLoggedOn ana first_station (Some billing)) ∷ event 2 5 (AgentLoggedOn ben second_station (Some billing))
     ∷ event 3 6 (AgentReady ana first_station) ∷ event 4 7 (AgentReady ben second_station)
     ∷ event 5 10 (Queued 1 billing cause.NewCall)
     ∷ event 6 10 (Diverted 1 billing first_station cause.Distributed (Some billing)) ∷ event 7 10 (Delivered 1 first_station cause.Distributed (Some billing))
@@ -114,7 +114,7 @@ TwoGroupsAtOnce =
     ∷ at 10 (ArriveCall caller claims) ∷ at 11 (ArriveCall second_caller billing) ∷ at 36 Tick ∷ []) in
     (r.outcomes ≡ Done answer.Nothing ∷ Done (answer.State NotReady) ∷ Done (answer.State NotReady)
     ∷ Done (answer.State WorkingAfterCall) ∷ Done (answer.State WorkingAfterCall) ∷ Done (answer.Call 1) ∷ Done (answer.Call 2) ∷ Done answer.Nothing ∷ [])
-    × (r.events ≡ event 1 2 (AgentLoggedOn ana first_station claims) ∷ event 2 3 (AgentLoggedOn ben second_station billing)
+    × (r.events ≡ event 1 2 (AgentLoggedOn ana first_station (Some claims)) ∷ event 2 3 (AgentLoggedOn ben second_station (Some billing))
     ∷ event 3 6 (AgentWorkingAfterCall ana first_station) ∷ event 4 6 (AgentWorkingAfterCall ben second_station)
     ∷ event 5 10 (Queued 1 claims cause.NewCall) ∷ event 6 11 (Queued 2 billing cause.NewCall)
     ∷ event 7 36 (AgentReady ana first_station) ∷ event 8 36 (AgentReady ben second_station)

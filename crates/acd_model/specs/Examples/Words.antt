@@ -68,7 +68,7 @@ at moment command = record { moment = moment; command = command }
 
 -- an agent logs on at a station in a group, and asks for another state
 abbrev pub logs_on : ℕ → ℕ → ℕ → ℕ → TimedCommand
-logs_on moment agent station group = at moment (SetAgentState agent (LoggedOn station group))
+logs_on moment agent station group = at moment (SetAgentState agent (LoggedOn station (group ∷ [])))
 
 abbrev pub asks_for : ℕ → ℕ → Pending → TimedCommand
 asks_for moment agent wanted = at moment (SetAgentState agent (State wanted))
@@ -96,16 +96,16 @@ counts entered answered abandoned moved waited = Some (record { entered = entere
 -- Ana at the first station and Ben at the second, in a group: the state, what is pending, and the stamp and moment of the state
 abbrev pub ana_in : ℕ → AgentState → Option Pending → ℕ → ℕ → Option AgentRecord
 ana_in group state pending stamp since =
-    Some (record { agent = ana; name = codes "Ana"; state = state; pending = pending; station = Some first_station; group = Some group; stamp = stamp; since = since })
+    Some (record { agent = ana; name = codes "Ana"; state = state; pending = pending; station = Some first_station; groups = group ∷ []; stamp = stamp; since = since })
 
 abbrev pub ben_in : ℕ → AgentState → Option Pending → ℕ → ℕ → Option AgentRecord
 ben_in group state pending stamp since =
-    Some (record { agent = ben; name = codes "Ben"; state = state; pending = pending; station = Some second_station; group = Some group; stamp = stamp; since = since })
+    Some (record { agent = ben; name = codes "Ben"; state = state; pending = pending; station = Some second_station; groups = group ∷ []; stamp = stamp; since = since })
 
 -- Ana is logged on nowhere
 abbrev pub ana_logged_off : ℕ → ℕ → Option AgentRecord
 ana_logged_off stamp since =
-    Some (record { agent = ana; name = codes "Ana"; state = Null; pending = None; station = None; group = None; stamp = stamp; since = since })
+    Some (record { agent = ana; name = codes "Ana"; state = Null; pending = None; station = None; groups = []; stamp = stamp; since = since })
 
 -- a call that rings at a station, offered from a group at a moment, with the place and the moment at which it entered the queue there
 abbrev pub ringing_from : ℕ → ℕ → ℕ → ℕ → ℕ → ℕ → ConnectionRecord
@@ -122,7 +122,7 @@ call_arrives = at 10 (ArriveCall caller billing) ∷ []
 
 -- Ana logs on and becomes ready
 abbrev pub ana_becomes_ready : List TimedCommand
-ana_becomes_ready = at 15 (SetAgentState ana (LoggedOn first_station billing)) ∷ at 18 (SetAgentState ana (State pending.Ready)) ∷ []
+ana_becomes_ready = at 15 (SetAgentState ana (LoggedOn first_station (billing ∷ []))) ∷ at 18 (SetAgentState ana (State pending.Ready)) ∷ []
 
 -- up to the offer, and up to the answer
 abbrev pub offered : List TimedCommand

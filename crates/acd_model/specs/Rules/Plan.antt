@@ -1,11 +1,12 @@
 -- The rules limits, order, device, agent and monitor.
-use Rattle.std.specs.Prelude.{ℕ, Bool, true, false, not, ◌&&◌, Option, Some, None, is_none, length, nat_le, if◌then◌else◌}
+use Rattle.std.specs.Prelude.{ℕ, Bool, true, false, not, ◌&&◌, List, Option, Some, None, is_none, length, nat_le, if◌then◌else◌}
 use Rattle.std.specs.List.{list_all}
 use Rattle.std.specs.Ordering.{nat_cmp, ordering_then}
 use Rattle.std.specs.declared.cmp.Ordering.{Ordering}
 use Rattle.acd_terms.specs.Lists.{count, ascends}
 use Rattle.acd_terms.specs.States.{is_null}
-use Rattle.acd_terms.specs.Limits.{limits_fit}
+use Rattle.acd_terms.specs.Limits.{limits_fit, greatest_priority}
+use Rattle.acd_terms.specs.Groups.{is_choice}
 use Rattle.acd_terms.specs.declared.rows.Rows.{Rows}
 use Rattle.acd_terms.specs.declared.record.GroupRecord.{GroupRecord}
 use Rattle.acd_terms.specs.declared.record.StationRecord.{StationRecord}
@@ -14,8 +15,10 @@ use Rattle.acd_terms.specs.declared.record.CallRecord.{CallRecord}
 use Rattle.acd_terms.specs.declared.record.ConnectionRecord.{ConnectionRecord}
 use Rattle.acd_terms.specs.declared.record.MonitorRecord.{MonitorRecord}
 use Rattle.acd_model.specs.Scans.{is_group, is_station, is_planned, has}
+use Rattle.acd_model.specs.Rules.Occupied.{is_empty}
 
--- no limit above its greatest, no list above its limit, the last stamp within the limit, no last call or monitor above it
+-- no limit above its greatest, no list above its limit, the last stamp within the limit, no last call or monitor above it,
+-- and no priority above 9
 unfoldable pub keeps_limits : Rows → Bool
 keeps_limits s =
     limits_fit s.limits
@@ -23,6 +26,7 @@ keeps_limits s =
     && nat_le (length s.agents) s.limits.agents && nat_le (length s.calls) s.limits.calls
     && nat_le (length s.monitors) s.limits.monitors && nat_le s.last_stamp s.limits.requests
     && nat_le s.last_call s.last_stamp && nat_le s.last_monitor s.last_stamp
+    && list_all (λ (g : GroupRecord). nat_le g.priority greatest_priority) s.groups
 
 abbrev pub group_order : GroupRecord → GroupRecord → Ordering
 group_order x y = nat_cmp x.device y.device
@@ -56,20 +60,20 @@ abbrev pub is_station_there : Rows → Option ℕ → Bool
 is_station_there s None = false
 is_station_there s (Some d) = is_station s d
 
-abbrev pub is_group_there : Rows → Option ℕ → Bool
-is_group_there s None = false
-is_group_there s (Some d) = is_group s d
+-- one to eight, in ascending number, and each is a planned group
+abbrev pub are_planned_groups : Rows → List ℕ → Bool
+are_planned_groups s gs = is_choice gs && list_all (is_group s) gs
 
 -- no other agent is logged on there
 abbrev pub is_alone_at : Rows → Option ℕ → Bool
 is_alone_at s None = true
 is_alone_at s (Some d) = nat_le (count (λ (b : AgentRecord). has b.station d) s.agents) 1
 
--- an agent in null has no station, group or pending state, any other a planned station, its own, and a planned group
+-- an agent in null has no station, group or pending state, any other a planned station, its own, and one to eight planned groups
 abbrev pub is_seated : Rows → AgentRecord → Bool
 is_seated s a =
-    (if is_null a.state then is_none a.station && is_none a.group && is_none a.pending
-    else is_station_there s a.station && is_group_there s a.group)
+    (if is_null a.state then is_none a.station && is_empty a.groups && is_none a.pending
+    else is_station_there s a.station && are_planned_groups s a.groups)
     && is_alone_at s a.station
 
 unfoldable pub keeps_agent : Rows → Bool

@@ -12,7 +12,7 @@ use Rattle.acd_model.specs.declared.moves.Change.TheVariants.{PutAgent}
 
 -- an agent as it is planned: logged on nowhere
 abbrev pub new_agent : ℕ → ℕ → ℕ → List ℕ → AgentRecord
-new_agent m k agent name = record { agent = agent; name = name; state = Null; pending = None; station = None; group = None; stamp = k; since = m }
+new_agent m k agent name = record { agent = agent; name = name; state = Null; pending = None; station = None; groups = []; stamp = k; since = m }
 
 unfoldable pub add_agent : Rows → ℕ → ℕ → ℕ → List ℕ → Served
 add_agent s m k agent name = do

@@ -13,9 +13,9 @@ use Rattle.acd_model.specs.declared.moves.Change.TheVariants.{PutGroup}
 abbrev pub no_figures : Figures
 no_figures = record { entered = 0; answered = 0; abandoned = 0; moved = 0; waited = 0 }
 
--- a group as it is planned
+-- a group as it is planned: of the lowest priority
 abbrev pub new_group : ℕ → List ℕ → ℕ → ℕ → GroupRecord
-new_group device name ring wrap = record { device = device; name = name; ring = ring; wrap = wrap; figures = no_figures }
+new_group device name ring wrap = record { device = device; name = name; ring = ring; wrap = wrap; priority = 0; figures = no_figures }
 
 unfoldable pub add_group : Rows → ℕ → List ℕ → ℕ → ℕ → Served
 add_group s device name ring wrap = do

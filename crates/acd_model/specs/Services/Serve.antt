@@ -3,7 +3,7 @@ use Rattle.std.specs.Prelude.{ℕ}
 use Rattle.acd_terms.specs.declared.rows.Rows.{Rows}
 use Rattle.acd_terms.specs.declared.answer.Answer.TheVariants.{Nothing}
 use Rattle.acd_terms.specs.declared.command.Command.{Command}
-use Rattle.acd_terms.specs.declared.command.Command.TheVariants.{AddGroup, AddStation, AddAgent, ArriveCall, MakeCall, PhoneOffHook, AnswerCall, HoldCall, RetrieveCall, ClearConnection, DeflectCall, SingleStepTransfer, SetAgentState, MonitorStart, MonitorStop, Tick}
+use Rattle.acd_terms.specs.declared.command.Command.TheVariants.{AddGroup, AddStation, AddAgent, ArriveCall, MakeCall, PhoneOffHook, AnswerCall, HoldCall, RetrieveCall, ClearConnection, DeflectCall, SingleStepTransfer, SetAgentState, MonitorStart, MonitorStop, Tick, SetGroupPriority}
 use Rattle.acd_model.specs.Services.AddGroup.{add_group}
 use Rattle.acd_model.specs.Services.AddStation.{add_station}
 use Rattle.acd_model.specs.Services.AddAgent.{add_agent}
@@ -19,6 +19,7 @@ use Rattle.acd_model.specs.Services.SingleStepTransfer.{single_step_transfer}
 use Rattle.acd_model.specs.Services.SetAgentState.{set_agent_state}
 use Rattle.acd_model.specs.Services.MonitorStart.{monitor_start}
 use Rattle.acd_model.specs.Services.MonitorStop.{monitor_stop}
+use Rattle.acd_model.specs.Services.SetGroupPriority.{set_group_priority}
 use Rattle.acd_model.specs.Tick.{tick}
 use Rattle.acd_model.specs.Served.{Served, gives}
 
@@ -39,3 +40,4 @@ serve s m k (SetAgentState agent requested) = set_agent_state s m k agent reques
 serve s m k (MonitorStart device) = monitor_start s device
 serve s m k (MonitorStop monitor) = monitor_stop s monitor
 serve s m k Tick = gives Nothing (tick s m k)
+serve s m k (SetGroupPriority device priority) = set_group_priority s device priority

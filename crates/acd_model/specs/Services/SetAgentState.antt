@@ -1,6 +1,7 @@
 -- setAgentState, for loggedOn and for the other values.
-use Rattle.std.specs.Prelude.{ℕ, not, [], ◌∷◌, is_some, Some, if◌then◌else◌}
+use Rattle.std.specs.Prelude.{ℕ, not, List, [], ◌∷◌, is_some, Some, Result, Ok, if◌then◌else◌}
 use Rattle.std.specs.Option.{ok_or}
+use Rattle.acd_terms.specs.Groups.{is_choice}
 use Rattle.acd_terms.specs.States.{is_null, is_in, state_wanted}
 use Rattle.acd_terms.specs.declared.rows.Rows.{Rows}
 use Rattle.acd_terms.specs.declared.record.AgentRecord.{AgentRecord}
@@ -9,21 +10,32 @@ use Rattle.acd_terms.specs.declared.state.Pending.{Pending}
 use Rattle.acd_terms.specs.declared.command.Requested.{Requested}
 use Rattle.acd_terms.specs.declared.command.Requested.TheVariants as requested
 use Rattle.acd_terms.specs.declared.answer.Answer.TheVariants as answer
+use Rattle.acd_terms.specs.declared.answer.Refusal.{Refusal}
 use Rattle.acd_terms.specs.declared.answer.Refusal.TheVariants.{UnknownAgent, WrongAgentState, UnknownDevice, NotStation, StationTaken, NotGroup}
 use Rattle.acd_model.specs.Scans.{agent_of, agent_at, is_group, is_station, is_planned, is_occupied}
 use Rattle.acd_model.specs.AgentMoves.{go_from, log_on_at, wait_for}
 use Rattle.acd_model.specs.Served.{Served, refuse_if, ◌>>=◌, ◌>>◌, gives}
 
-unfoldable pub log_on : Rows → ℕ → ℕ → ℕ → ℕ → ℕ → Served
-log_on s m k agent device group = do
+-- each is a planned group: tested in their order, and of each first that it is planned
+abbrev pub all_groups : Rows → List ℕ → Result (Unit {0}) Refusal
+all_groups s [] = Ok tt
+all_groups s (g ∷ gs) = do
+  refuse_if (not (is_planned s g)) UnknownDevice
+  refuse_if (not (is_group s g)) NotGroup
+  all_groups s gs
+
+-- the last refusal is never one of a request, whose groups are one to eight in ascending number: with it a log-on keeps the
+-- rules for any numbers
+unfoldable pub log_on : Rows → ℕ → ℕ → ℕ → ℕ → List ℕ → Served
+log_on s m k agent device groups = do
   a ← ok_or (agent_of s agent) UnknownAgent
   refuse_if (not (is_null a.state)) WrongAgentState
   refuse_if (not (is_planned s device)) UnknownDevice
   refuse_if (not (is_station s device)) NotStation
   refuse_if (is_some (agent_at s device)) StationTaken
-  refuse_if (not (is_planned s group)) UnknownDevice
-  refuse_if (not (is_group s group)) NotGroup
-  gives (answer.State NotReady) (log_on_at m k a device group ∷ [])
+  all_groups s groups
+  refuse_if (not (is_choice groups)) NotGroup
+  gives (answer.State NotReady) (log_on_at m k a device groups ∷ [])
 
 -- an occupied agent waits for the state, any other goes to it; asking for the present state changes nothing
 abbrev pub go_or_wait : Rows → ℕ → ℕ → AgentRecord → Pending → Served
@@ -39,5 +51,5 @@ change_state s m k agent wanted = do
   go_or_wait s m k a wanted
 
 abbrev pub set_agent_state : Rows → ℕ → ℕ → ℕ → Requested → Served
-set_agent_state s m k agent (requested.LoggedOn device group) = log_on s m k agent device group
+set_agent_state s m k agent (requested.LoggedOn device groups) = log_on s m k agent device groups
 set_agent_state s m k agent (requested.State wanted) = change_state s m k agent wanted

@@ -91,12 +91,18 @@ fn records_of_an_answer() -> &'static str {
     "1,9,established,3,201,,100,,,15\n2,9,established,3,201,,,,,\n3,9,held,3,201,,,,,\n4,9,retrieved,3,201,,,,,\n5,9,transferred,3,201,,,202,,\n6,9,failed,3,201,,,,busy,\n7,9,connectionCleared,3,201,,,,,\n8,9,callCleared,3,,,100,,,\n9,9,callCleared,3,,,,,,\n"
 }
 
-fn reports_of_agents(agent: AgentId, station: DeviceId, group: DeviceId) -> [Report; 6] {
+// The second one logs on in several groups.
+fn reports_of_agents(agent: AgentId, station: DeviceId, group: DeviceId) -> [Report; 7] {
     [
         Report::AgentLoggedOn {
             agent,
             station,
-            group,
+            group: Some(group),
+        },
+        Report::AgentLoggedOn {
+            agent,
+            station,
+            group: None,
         },
         Report::AgentLoggedOff { agent, station },
         Report::AgentNotReady { agent, station },
@@ -107,7 +113,7 @@ fn reports_of_agents(agent: AgentId, station: DeviceId, group: DeviceId) -> [Rep
 }
 
 fn agent_records() -> &'static str {
-    "1,9,agentLoggedOn,,201,7,100,,,\n2,9,agentLoggedOff,,201,7,,,,\n3,9,agentNotReady,,201,7,,,,\n4,9,agentReady,,201,7,,,,\n5,9,agentBusy,,201,7,,,,\n6,9,agentWorkingAfterCall,,201,7,,,,\n"
+    "1,9,agentLoggedOn,,201,7,100,,,\n2,9,agentLoggedOn,,201,7,,,,\n3,9,agentLoggedOff,,201,7,,,,\n4,9,agentNotReady,,201,7,,,,\n5,9,agentReady,,201,7,,,,\n6,9,agentBusy,,201,7,,,,\n7,9,agentWorkingAfterCall,,201,7,,,,\n"
 }
 
 // These reports, numbered from 1, at the moment 9.

@@ -84,7 +84,7 @@ service {"requester":"pbx","invoke":1,"service":""}
 service {"requester":"pbx","invoke":1,"service":"Tick"}
 service {"requester":"pbx","invoke":1,"service":"tick "}
 service {"requester":"pbx","invoke":1,"service":"tick\u0000"}
-service {"requester":"pbx","invoke":1,"service":"setGroupPriority"}
+service {"requester":"pbx","invoke":1,"service":"setgroupPriority","device":"110","priority":5}
 service {"requester":"pbx","invoke":1,"service":["tick"]}
 service {"requester":"pbx","invoke":1,"service":"tick","service":"tock"}
 service {"requester":"pbx","invoke":1,"service":"tock","device":""}
@@ -134,6 +134,38 @@ requested {"requester":"pbx","invoke":1,"service":"setAgentState","agent":"7","r
 device {"requester":"pbx","invoke":1,"service":"setAgentState","agent":"7","requested":"loggedOn","group":""}
 group {"requester":"pbx","invoke":1,"service":"setAgentState","agent":"7","requested":"loggedOn","device":"201"}
 group {"requester":"pbx","invoke":1,"service":"setAgentState","agent":"7","requested":"loggedOn","device":"201","group":null}
+# the groups of a log-on
+group {"requester":"desk","invoke":1,"service":"setAgentState","agent":"7","requested":"loggedOn","device":"201","Groups":["100","110"]}
+group {"requester":"desk","invoke":1,"service":"setAgentState","agent":"7","requested":"loggedOn","device":"201","group":null,"groups":["100","110"]}
+group {"requester":"desk","invoke":1,"service":"setAgentState","agent":"7","requested":"loggedOn","device":"201","group":"","groups":["100","110"]}
+group {"requester":"desk","invoke":1,"service":"setAgentState","agent":"7","requested":"loggedOn","device":"201","group":["100"],"groups":["100"]}
+groups {"requester":"desk","invoke":1,"service":"setAgentState","agent":"7","requested":"loggedOn","device":"201","groups":[]}
+groups {"requester":"desk","invoke":1,"service":"setAgentState","agent":"7","requested":"loggedOn","device":"201","groups":["100","101","102","103","104","105","106","107","108"]}
+groups {"requester":"desk","invoke":1,"service":"setAgentState","agent":"7","requested":"loggedOn","device":"201","groups":["100","100"]}
+groups {"requester":"desk","invoke":1,"service":"setAgentState","agent":"7","requested":"loggedOn","device":"201","groups":["110","100","110"]}
+groups {"requester":"desk","invoke":1,"service":"setAgentState","agent":"7","requested":"loggedOn","device":"201","groups":["100","100","101","102","103","104","105","106","107"]}
+groups {"requester":"desk","invoke":1,"service":"setAgentState","agent":"7","requested":"loggedOn","device":"201","groups":null}
+groups {"requester":"desk","invoke":1,"service":"setAgentState","agent":"7","requested":"loggedOn","device":"201","groups":"100"}
+groups {"requester":"desk","invoke":1,"service":"setAgentState","agent":"7","requested":"loggedOn","device":"201","groups":{"100":"110"}}
+groups {"requester":"desk","invoke":1,"service":"setAgentState","agent":"7","requested":"loggedOn","device":"201","groups":["100",110]}
+groups {"requester":"desk","invoke":1,"service":"setAgentState","agent":"7","requested":"loggedOn","device":"201","groups":[null]}
+groups {"requester":"desk","invoke":1,"service":"setAgentState","agent":"7","requested":"loggedOn","device":"201","groups":[["100"]]}
+groups {"requester":"desk","invoke":1,"service":"setAgentState","agent":"7","requested":"loggedOn","device":"201","groups":["100",""]}
+groups {"requester":"desk","invoke":1,"service":"setAgentState","agent":"7","requested":"loggedOn","device":"201","groups":["10a","100"]}
+groups {"requester":"desk","invoke":1,"service":"setAgentState","agent":"7","requested":"loggedOn","device":"201","groups":["1111111111111111"]}
+groups {"requester":"desk","invoke":1,"service":"setAgentState","agent":"7","requested":"loggedOn","device":"201","groups":["100"],"groups":[]}
+device {"requester":"desk","invoke":1,"service":"setAgentState","agent":"7","requested":"loggedOn","device":"","groups":[]}
+requested {"requester":"desk","invoke":1,"service":"setAgentState","agent":"7","device":"201","groups":["100","110"]}
+# the priority of a group
+device {"requester":"plan","invoke":1,"service":"setGroupPriority","priority":10}
+device {"requester":"plan","invoke":1,"service":"setGroupPriority","device":110,"priority":5}
+priority {"requester":"plan","invoke":1,"service":"setGroupPriority","device":"110"}
+priority {"requester":"plan","invoke":1,"service":"setGroupPriority","device":"110","priority":10}
+priority {"requester":"plan","invoke":1,"service":"setGroupPriority","device":"110","priority":-1}
+priority {"requester":"plan","invoke":1,"service":"setGroupPriority","device":"110","priority":"5"}
+priority {"requester":"plan","invoke":1,"service":"setGroupPriority","device":"110","priority":5.0}
+priority {"requester":"plan","invoke":1,"service":"setGroupPriority","device":"110","priority":-0}
+priority {"requester":"plan","invoke":1,"service":"setGroupPriority","device":"110","priority":null}
 device {"requester":"pbx","invoke":1,"service":"monitorStart"}
 monitor {"requester":"pbx","invoke":1,"service":"monitorStop","device":"100"}
 monitor {"requester":"pbx","invoke":1,"service":"monitorStop","monitor":0}

@@ -22,9 +22,14 @@ fn requests() -> &'static str {
 {"agent":"7","invoke":2,"requested":"notReady","requester":"desk","service":"setAgentState"}
 {"agent":"7","invoke":2,"requested":"workingAfterCall","requester":"desk","service":"setAgentState"}
 {"agent":"7","invoke":4,"requested":"loggedOff","requester":"desk","service":"setAgentState"}
+{"agent":"7","device":"201","groups":["100","110"],"invoke":1,"requested":"loggedOn","requester":"desk","service":"setAgentState"}
+{"agent":"999999999","device":"999999999999999","groups":["900000000000000","900000000000001","900000000000002","900000000000003","900000000000004","900000000000005","900000000000006","900000000000007"],"invoke":999999999,"requested":"loggedOn","requester":"a-9a-9a-9a-9a-9a-9a-9a-9a-9a-9zz","service":"setAgentState"}
 {"device":"100","invoke":9,"requester":"desk","service":"monitorStart"}
 {"invoke":9,"monitor":1,"requester":"desk","service":"monitorStop"}
 {"invoke":2,"requester":"clock","service":"tick"}
+{"device":"110","invoke":7,"priority":5,"requester":"plan","service":"setGroupPriority"}
+{"device":"110","invoke":7,"priority":0,"requester":"plan","service":"setGroupPriority"}
+{"device":"110","invoke":7,"priority":9,"requester":"plan","service":"setGroupPriority"}
 {"device":"999999999999999","invoke":999999999,"name":"~~~~~~~~~~~~~~~~~~~~~~~~~~~~~~~~~~~~~~~~","requester":"a-9a-9a-9a-9a-9a-9a-9a-9a-9a-9zz","ring":3600,"service":"addGroup","wrap":0}
 {"agent":"000000000","invoke":1,"name":"   ","requester":"-","service":"addAgent"}
 {"agent":"7","invoke":1,"name":"\"Ana\\","requester":"plan","service":"addAgent"}
@@ -36,6 +41,14 @@ fn requests() -> &'static str {
 {"":0,"\ud83d\ude00":1e300,"requester":"pbx","invoke":1,"service":"tick"} => {"invoke":1,"requester":"pbx","service":"tick"}
 {"requester":"pbx","invoke":1,"service":"tick","x":123456789012345678901234567890} => {"invoke":1,"requester":"pbx","service":"tick"}
 {"requester":"desk","invoke":2,"service":"setAgentState","agent":"7","requested":"ready","device":"x","group":1} => {"agent":"7","invoke":2,"requested":"ready","requester":"desk","service":"setAgentState"}
+{"requester":"desk","invoke":1,"service":"setAgentState","agent":"7","requested":"loggedOn","device":"201","groups":["110","100"]} => {"agent":"7","device":"201","groups":["100","110"],"invoke":1,"requested":"loggedOn","requester":"desk","service":"setAgentState"}
+{"requester":"desk","invoke":1,"service":"setAgentState","agent":"7","requested":"loggedOn","device":"201","groups":["110"]} => {"agent":"7","device":"201","group":"110","invoke":1,"requested":"loggedOn","requester":"desk","service":"setAgentState"}
+{"requester":"desk","invoke":1,"service":"setAgentState","agent":"7","requested":"loggedOn","device":"201","groups":["100","99","0","07","7","007","00","8"]} => {"agent":"7","device":"201","groups":["0","7","8","00","07","99","007","100"],"invoke":1,"requested":"loggedOn","requester":"desk","service":"setAgentState"}
+{"requester":"desk","invoke":1,"service":"setAgentState","agent":"7","requested":"loggedOn","device":"201","group":"100","groups":["100","110"]} => {"agent":"7","device":"201","group":"100","invoke":1,"requested":"loggedOn","requester":"desk","service":"setAgentState"}
+{"requester":"desk","invoke":1,"service":"setAgentState","agent":"7","requested":"loggedOn","device":"201","groups":[],"group":"100"} => {"agent":"7","device":"201","group":"100","invoke":1,"requested":"loggedOn","requester":"desk","service":"setAgentState"}
+{"requester":"desk","invoke":1,"service":"setAgentState","agent":"7","requested":"loggedOn","device":"201","groups":["100","100"],"gro\u0075ps":["1\u00310"]} => {"agent":"7","device":"201","group":"110","invoke":1,"requested":"loggedOn","requester":"desk","service":"setAgentState"}
+{"requester":"desk","invoke":2,"service":"setAgentState","agent":"7","requested":"ready","groups":[1]} => {"agent":"7","invoke":2,"requested":"ready","requester":"desk","service":"setAgentState"}
+{"requester":"plan","invoke":7,"service":"setGroupPriority","device":"110","priority":10,"priority":5,"group":""} => {"device":"110","invoke":7,"priority":5,"requester":"plan","service":"setGroupPriority"}
 {"requester":"plan","invoke":1,"service":"addAgent","agent":"7","name":"\u0022Ana\u005c"} => {"agent":"7","invoke":1,"name":"\"Ana\\","requester":"plan","service":"addAgent"}
 {"requester":"plan","invoke":2,"service":"addStation","device":"202","device":"201"} => {"device":"201","invoke":2,"requester":"plan","service":"addStation"}
 {"requester":"pbx","invoke":1,"invoke":2,"service":"tick"} => {"invoke":2,"requester":"pbx","service":"tick"}

@@ -1,12 +1,13 @@
-use Rattle.acd_codec.proofs.Adding.{adds_then}
+use Rattle.acd_codec.specs.Parts.{groups_parts}
+use Rattle.acd_codec.proofs.Adding.{adds_then, adds_before}
 use Rattle.acd_codec.proofs.requests.put_set_agent_state.Goals as goal
 
-pub returns-in_ok-put_device-in-LoggedOn-2 : goal.returns-in_ok-put_device-in-LoggedOn-2
-returns-in_ok-put_device-in-LoggedOn-2 c =
+pub returns-in_ok-put_groups-in-LoggedOn : goal.returns-in_ok-put_groups-in-LoggedOn
+returns-in_ok-put_groups-in-LoggedOn c =
     let r = c.put_asked.result in
     let end = c.put_asked.new.out in
-    let group = adds_then r c.put_device.new.out c.put_device-in-LoggedOn.new.out end _ _ c.in_ok-put_device-in-LoggedOn-2.ensures c.put_asked.ensures in
-    let device = adds_then r c.put_agent.new.out c.put_device.new.out end _ _ c.in_ok-put_device-in-LoggedOn.ensures group in
+    let groups = adds_before r c.put_device.new.out c.put_groups.new.out end (groups_parts c.in-LoggedOn.groups) _ (rw c.groups.ensures.value at c.in_ok-put_groups-in-LoggedOn.ensures) c.put_asked.ensures in
+    let device = adds_then r c.put_agent.new.out c.put_device.new.out end _ _ c.in_ok-put_device-in-LoggedOn.ensures groups in
     rw c.in-LoggedOn.is (adds_then r c.args.out.now c.put_agent.new.out end _ _ c.in_ok-put_agent.ensures device)
 
 pub returns-in-State : goal.returns-in-State

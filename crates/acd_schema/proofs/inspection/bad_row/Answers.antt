@@ -2,7 +2,7 @@ use Rattle.std.proofs.Common.{◌≡◌, Err, rules, subst, sym}
 use Rattle.sqlite.specs.Held.{state}
 use Rattle.acd_schema.specs.Inspecting.{IsRowFound}
 use Rattle.acd_columns.specs.Seeing.{Sees}
-use Rattle.acd_schema.proofs.Looks.{bad_told, good_told, covered}
+use Rattle.acd_schema.proofs.Looks.{bad_told, place_behind, covered}
 use Rattle.acd_columns.proofs.Seen.{sees_fail}
 use Rattle.acd_schema.proofs.inspection.bad_row.Goals as goal
 
@@ -17,4 +17,6 @@ returns-in-Some-clause-seen g c d is =
     bad_told c.args.version d (state g.S.Store c.args.conn.now) (state g.S.Store c.bad_table.new.conn) c.in-Some.table (rw c.in-Some.is at ((rw c.tables_of.ensures at c.in_ok-bad.ensures.seen) d (covered c.args.version d.schema is)))
 
 pub returns-clause-seen : goal.returns-clause-seen
-returns-clause-seen g c d is = good_told c.args.version d (state g.S.Store c.args.conn.now) (state g.S.Store c.bad_table.new.conn) (rw c.in-None.is at ((rw c.tables_of.ensures at c.in_ok-bad.ensures.seen) d (covered c.args.version d.schema is)))
+returns-clause-seen g c d is =
+    place_behind c.args.version d (state g.S.Store c.args.conn.now) (state g.S.Store c.bad_table.new.conn) (state g.S.Store c.misplaced.new.conn) c.misplaced.result
+    (rw c.in-None.is at ((rw c.tables_of.ensures at c.in_ok-bad.ensures.seen) d (covered c.args.version d.schema is))) (c.misplaced.ensures.seen d is)

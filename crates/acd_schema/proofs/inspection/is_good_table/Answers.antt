@@ -2,6 +2,7 @@ use Rattle.std.proofs.Common.{sym, subst}
 use Rattle.sqlite.specs.Held.{state}
 use Rattle.acd_columns.specs.AnyRows.{Covers, TellsGood}
 use Rattle.acd_columns.specs.Seeing.{Sees}
+use Rattle.acd_columns.proofs.Listings.{whole_begins}
 use Rattle.acd_schema.proofs.inspection.is_good_table.Goals as goal
 
 pub returns-in-Meta-clause-seen : goal.returns-in-Meta-clause-seen
@@ -32,7 +33,7 @@ pub returns-in-Kept-clause-seen : goal.returns-in-Kept-clause-seen
 returns-in-Kept-clause-seen g c d is = subst (λ t. Sees d (state g.S.Store c.args.conn.now) (state g.S.Store c.is_good_log-in-Kept.new.conn) c.is_good_log-in-Kept.result (λ good. TellsGood t d.trees good)) (sym c.in-Kept.is) (c.is_good_log-in-Kept.ensures.seen d (subst (Covers d.schema) c.in-Kept.is is))
 
 pub returns-in-AgentGroups-clause-seen : goal.returns-in-AgentGroups-clause-seen
-returns-in-AgentGroups-clause-seen g c d is = subst (λ t. Sees d (state g.S.Store c.args.conn.now) (state g.S.Store c.has_no_further.new.conn) c.has_no_further.result (λ good. TellsGood t d.trees good)) (sym c.in-AgentGroups.is) (c.has_no_further.ensures.seen d (subst (Covers d.schema) c.in-AgentGroups.is is))
+returns-in-AgentGroups-clause-seen g c d is = subst (λ t. Sees d (state g.S.Store c.args.conn.now) (state g.S.Store c.are_good_further.new.conn) c.are_good_further.result (λ good. TellsGood t d.trees good)) (sym c.in-AgentGroups.is) (c.are_good_further.ensures.seen d (subst (Covers d.schema) c.in-AgentGroups.is is))
 
 pub returns-in-GroupPriority-clause-seen : goal.returns-in-GroupPriority-clause-seen
-returns-in-GroupPriority-clause-seen g c d is = subst (λ t. Sees d (state g.S.Store c.args.conn.now) (state g.S.Store c.has_no_priority.new.conn) c.has_no_priority.result (λ good. TellsGood t d.trees good)) (sym c.in-GroupPriority.is) (c.has_no_priority.ensures.seen d (subst (Covers d.schema) c.in-GroupPriority.is is))
+returns-in-GroupPriority-clause-seen g c d is = subst (λ t. Sees d (state g.S.Store c.args.conn.now) (state g.S.Store c.is_good-in-GroupPriority.new.conn) c.is_good-in-GroupPriority.result (λ good. TellsGood t d.trees good)) (sym c.in-GroupPriority.is) (c.is_good-in-GroupPriority.ensures.seen d (whole_begins d.schema (subst (Covers d.schema) c.in-GroupPriority.is is)))

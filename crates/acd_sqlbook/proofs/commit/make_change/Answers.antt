@@ -1,10 +1,17 @@
 use Rattle.sqlite.specs.Held.{state}
-use Rattle.acd_sqlbook.proofs.Filing.{filing, group_filed, station_filed, agent_filed, call_filed, connection_filed, monitor_filed, call_gone, monitor_gone, connection_gone}
+use Rattle.acd_sqlbook.specs.Commit.{filed}
+use Rattle.acd_columns.specs.Relations.{with_group_parts}
+use Rattle.acd_model.specs.declared.moves.Change.TheVariants.{PutGroup, PutAgent}
+use Rattle.acd_sqlbook.proofs.Filing.{leaving, named, filing, group_filed, station_filed, call_filed, connection_filed, monitor_filed, call_gone, monitor_gone, connection_gone}
 use Rattle.acd_sqlbook.proofs.commit.make_change.Goals as goal
 
 pub returns-in-PutGroup-clause-put : goal.returns-in-PutGroup-clause-put
 returns-in-PutGroup-clause-put g c clean =
-    filing (state g.S.Store c.args.tx.now.conn.now) (state g.S.Store c.put.new.tx.conn.now) c.put.result c.args.change.now _ _ c.in-PutGroup.is (group_filed c.in-PutGroup.group) (c.put.ensures.put clean)
+    let old = state g.S.Store c.args.tx.now.conn.now in
+    let new = state g.S.Store c.put_group.new.tx.conn.now in
+    let group = c.in-PutGroup.group in
+    named old new c.put_group.result c.args.change.now (PutGroup group) c.in-PutGroup.is
+    (leaving old new c.put_group.result (with_group_parts group) (λ x. filed x (PutGroup group)) (group_filed group old) (c.put_group.ensures.put clean))
 
 pub returns-in-PutStation-clause-put : goal.returns-in-PutStation-clause-put
 returns-in-PutStation-clause-put g c clean =
@@ -12,7 +19,7 @@ returns-in-PutStation-clause-put g c clean =
 
 pub returns-in-PutAgent-clause-put : goal.returns-in-PutAgent-clause-put
 returns-in-PutAgent-clause-put g c clean =
-    filing (state g.S.Store c.args.tx.now.conn.now) (state g.S.Store c.put-in-PutAgent.new.tx.conn.now) c.put-in-PutAgent.result c.args.change.now _ _ c.in-PutAgent.is (agent_filed c.in-PutAgent.agent) (c.put-in-PutAgent.ensures.put clean)
+    named (state g.S.Store c.args.tx.now.conn.now) (state g.S.Store c.file_agent.new.tx.conn.now) c.file_agent.result c.args.change.now (PutAgent c.in-PutAgent.agent) c.in-PutAgent.is (c.file_agent.ensures.put clean)
 
 pub returns-in-PutCall-clause-put : goal.returns-in-PutCall-clause-put
 returns-in-PutCall-clause-put g c clean =
@@ -20,7 +27,7 @@ returns-in-PutCall-clause-put g c clean =
 
 pub returns-in-PutCall-2-clause-put : goal.returns-in-PutCall-2-clause-put
 returns-in-PutCall-2-clause-put g c clean =
-    filing (state g.S.Store c.args.tx.now.conn.now) (state g.S.Store c.put-in-PutCall-2.new.tx.conn.now) c.put-in-PutCall-2.result c.args.change.now _ _ c.in-PutCall-2.is (call_filed c.in-PutCall-2.call) (c.put-in-PutCall-2.ensures.put clean)
+    filing (state g.S.Store c.args.tx.now.conn.now) (state g.S.Store c.put.new.tx.conn.now) c.put.result c.args.change.now _ _ c.in-PutCall-2.is (call_filed c.in-PutCall-2.call) (c.put.ensures.put clean)
 
 pub returns-in-PutConnection-clause-put : goal.returns-in-PutConnection-clause-put
 returns-in-PutConnection-clause-put g c clean =

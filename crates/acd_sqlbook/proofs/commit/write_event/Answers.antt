@@ -8,4 +8,4 @@ use Rattle.acd_sqlbook.proofs.commit.write_event.Goals as goal
 
 pub returns-clause-put : goal.returns-clause-put
 returns-clause-put g c clean =
-    leaving (state g.S.Store c.args.tx.now.conn.now) (state g.S.Store c.insert.new.tx.conn.now) c.insert.result (with_put events c.args.event.now) (λ x. with_event x c.args.event.now) (λ x. refl) (c.insert.ensures.put clean)
+    leaving (state g.S.Store c.args.tx.now.conn.now) (state g.S.Store c.insert.new.tx.conn.now) c.insert.result (with_put events c.args.event.now) (λ x. with_event x c.args.event.now) (λ x seen. refl) (c.insert.ensures.put clean)

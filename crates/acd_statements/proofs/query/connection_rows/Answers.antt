@@ -1,7 +1,7 @@
 use Rattle.sqlite.specs.Held.{state}
 use Rattle.acd_columns.specs.Schema.{nine}
 use Rattle.acd_columns.proofs.Listings.{finds, plain_of}
-use Rattle.acd_columns.proofs.ConnectionRows.{connections_plain, shows_connections, connections_listing}
+use Rattle.acd_columns.proofs.Connections.{connections_plain, shows_connections, connections_listing}
 use Rattle.acd_columns.specs.declared.tables.Table.TheVariants as table
 use Rattle.acd_columns.proofs.Seeing.{sees_all}
 use Rattle.acd_columns.proofs.Looked.{asks_connections}

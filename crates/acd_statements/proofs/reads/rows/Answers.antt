@@ -23,19 +23,19 @@ returns-in_err-meta-clause-found g c =
 pub returns-in_err-planned-clause-found : goal.returns-in_err-planned-clause-found
 returns-in_err-planned-clause-found g c =
     let is : c.from_residual-in_err-planned.result ≡ Err c.in_err-planned.field-0.0 = search rules in
-    subst (λ r. Finds (state g.S.Store c.args.conn.now) (state g.S.Store c.plan.new.conn) r (λ (x : Content) (s : Rows). s ≡ x.rows)) (sym is)
-    (broken (state g.S.Store c.args.conn.now) (state g.S.Store c.read_meta.new.conn) (state g.S.Store c.plan.new.conn) c.in_ok-meta.meta _ _ c.in_ok-meta.ensures.found c.in_err-planned.field-0.0 (λ (x : Content) (s : Rows). s ≡ x.rows) c.in_err-planned.ensures.found)
+    subst (λ r. Finds (state g.S.Store c.args.conn.now) (state g.S.Store c.planned.new.conn) r (λ (x : Content) (s : Rows). s ≡ x.rows)) (sym is)
+    (broken (state g.S.Store c.args.conn.now) (state g.S.Store c.read_meta.new.conn) (state g.S.Store c.planned.new.conn) c.in_ok-meta.meta _ _ c.in_ok-meta.ensures.found c.in_err-planned.field-0.0 (λ (x : Content) (s : Rows). s ≡ x.rows) c.in_err-planned.ensures.found)
 
 pub returns-in_err-live-clause-found : goal.returns-in_err-live-clause-found
 returns-in_err-live-clause-found g c =
     let is : c.from_residual-in_err-live.result ≡ Err c.in_err-live.field-0.0 = search rules in
     subst (λ r. Finds (state g.S.Store c.args.conn.now) (state g.S.Store c.traffic.new.conn) r (λ (x : Content) (s : Rows). s ≡ x.rows)) (sym is)
-    (broken (state g.S.Store c.args.conn.now) (state g.S.Store c.plan.new.conn) (state g.S.Store c.traffic.new.conn) (c.in_ok-meta.meta, c.in_ok-planned.planned) (λ (x : Content) (t : Meta × (Vec GroupRecord Global × Vec StationRecord Global × Vec AgentRecord Global)). (t.0 ≡ meta_of x.rows) × ((t.1.0.items ≡ x.rows.groups) × (t.1.1.items ≡ x.rows.stations) × (t.1.2.items ≡ x.rows.agents))) _
-    (chained (state g.S.Store c.args.conn.now) (state g.S.Store c.read_meta.new.conn) (state g.S.Store c.plan.new.conn) c.in_ok-meta.meta _ _ c.in_ok-meta.ensures.found c.in_ok-planned.planned (c.in_ok-meta.meta, c.in_ok-planned.planned) (λ (x : Content) (t : Meta × (Vec GroupRecord Global × Vec StationRecord Global × Vec AgentRecord Global)). (t.0 ≡ meta_of x.rows) × ((t.1.0.items ≡ x.rows.groups) × (t.1.1.items ≡ x.rows.stations) × (t.1.2.items ≡ x.rows.agents))) (λ x p q. (p, q)) c.in_ok-planned.ensures.found)
+    (broken (state g.S.Store c.args.conn.now) (state g.S.Store c.planned.new.conn) (state g.S.Store c.traffic.new.conn) (c.in_ok-meta.meta, c.in_ok-planned.planned) (λ (x : Content) (t : Meta × (Vec GroupRecord Global × Vec StationRecord Global × Vec AgentRecord Global)). (t.0 ≡ meta_of x.rows) × ((t.1.0.items ≡ x.rows.groups) × (t.1.1.items ≡ x.rows.stations) × (t.1.2.items ≡ x.rows.agents))) _
+    (chained (state g.S.Store c.args.conn.now) (state g.S.Store c.read_meta.new.conn) (state g.S.Store c.planned.new.conn) c.in_ok-meta.meta _ _ c.in_ok-meta.ensures.found c.in_ok-planned.planned (c.in_ok-meta.meta, c.in_ok-planned.planned) (λ (x : Content) (t : Meta × (Vec GroupRecord Global × Vec StationRecord Global × Vec AgentRecord Global)). (t.0 ≡ meta_of x.rows) × ((t.1.0.items ≡ x.rows.groups) × (t.1.1.items ≡ x.rows.stations) × (t.1.2.items ≡ x.rows.agents))) (λ x p q. (p, q)) c.in_ok-planned.ensures.found)
     c.in_err-live.field-0.0 (λ (x : Content) (s : Rows). s ≡ x.rows) c.in_err-live.ensures.found)
 
 pub returns-clause-found : goal.returns-clause-found
 returns-clause-found g c =
-    chained (state g.S.Store c.args.conn.now) (state g.S.Store c.plan.new.conn) (state g.S.Store c.traffic.new.conn) (c.in_ok-meta.meta, c.in_ok-planned.planned) (λ (x : Content) (t : Meta × (Vec GroupRecord Global × Vec StationRecord Global × Vec AgentRecord Global)). (t.0 ≡ meta_of x.rows) × ((t.1.0.items ≡ x.rows.groups) × (t.1.1.items ≡ x.rows.stations) × (t.1.2.items ≡ x.rows.agents))) _
-    (chained (state g.S.Store c.args.conn.now) (state g.S.Store c.read_meta.new.conn) (state g.S.Store c.plan.new.conn) c.in_ok-meta.meta _ _ c.in_ok-meta.ensures.found c.in_ok-planned.planned (c.in_ok-meta.meta, c.in_ok-planned.planned) (λ (x : Content) (t : Meta × (Vec GroupRecord Global × Vec StationRecord Global × Vec AgentRecord Global)). (t.0 ≡ meta_of x.rows) × ((t.1.0.items ≡ x.rows.groups) × (t.1.1.items ≡ x.rows.stations) × (t.1.2.items ≡ x.rows.agents))) (λ x p q. (p, q)) c.in_ok-planned.ensures.found)
+    chained (state g.S.Store c.args.conn.now) (state g.S.Store c.planned.new.conn) (state g.S.Store c.traffic.new.conn) (c.in_ok-meta.meta, c.in_ok-planned.planned) (λ (x : Content) (t : Meta × (Vec GroupRecord Global × Vec StationRecord Global × Vec AgentRecord Global)). (t.0 ≡ meta_of x.rows) × ((t.1.0.items ≡ x.rows.groups) × (t.1.1.items ≡ x.rows.stations) × (t.1.2.items ≡ x.rows.agents))) _
+    (chained (state g.S.Store c.args.conn.now) (state g.S.Store c.read_meta.new.conn) (state g.S.Store c.planned.new.conn) c.in_ok-meta.meta _ _ c.in_ok-meta.ensures.found c.in_ok-planned.planned (c.in_ok-meta.meta, c.in_ok-planned.planned) (λ (x : Content) (t : Meta × (Vec GroupRecord Global × Vec StationRecord Global × Vec AgentRecord Global)). (t.0 ≡ meta_of x.rows) × ((t.1.0.items ≡ x.rows.groups) × (t.1.1.items ≡ x.rows.stations) × (t.1.2.items ≡ x.rows.agents))) (λ x p q. (p, q)) c.in_ok-planned.ensures.found)
     c.in_ok-live.live c.joined.result (λ (x : Content) (s : Rows). s ≡ x.rows) (λ x p q. c.joined.ensures ∙ joined_is x.rows _ _ _ _ _ _ _ p.0 p.1.0 p.1.1 p.1.2 q.0 q.1 q.2) c.in_ok-live.ensures.found

@@ -1,6 +1,17 @@
+use Rattle.std.proofs.Common.{refl, sym, subst}
+use Rattle.acd_tables.specs.Turns.{TakenOut}
 use Rattle.acd_tables.proofs.OfferLemmas.{offers-left}
 use Rattle.acd_tables.proofs.indexes.Indexes.take_out.Goals as goal
 
 pub prune-requires : goal.prune-requires
 prune-requires c =
-    offers-left c.args.self.now.queues c.leave_entry.new.sets c.args.self.now.ready c.leave_entry-2.new.sets c.args.self.now.offering c.args.entries.now.queue c.args.entries.now.ready c.requires c.leave_entry.ensures c.leave_entry-2.ensures
+    let x = c.args.self.now in
+    offers-left c.args.records.now x.queues c.leave_entry.new.sets x.ready c.leave_entry-2.new.sets x.offering c.args.entries.queue c.args.entries.ready c.requires c.leave_entry.ensures c.leave_entry-2.ensures
+
+pub returns : goal.returns
+returns c = subst (λ z. TakenOut c.args.records.now c.args.self.now z c.args.entries) (sym c.prune.ensures.rest) (record {
+  queues = c.leave_entry.ensures;
+  ready = c.leave_entry-2.ensures;
+  offers = c.prune.ensures.offers;
+  rest = record { seats = refl; lines = refl; ringing = refl; working = refl; queued = refl };
+})

@@ -1,0 +1,90 @@
+-- Reading as it was while an agent served one group and groups had no priority. What has not changed since is shared.
+use Rattle.std.specs.Prelude.{◌≡◌, ℕ, List, [], ◌∷◌, Option, Some, None, Result, Ok, Err, if◌then◌else◌}
+use Rattle.std.specs.Option.{is_some}
+use Rattle.std.specs.List.{find}
+use Rattle.std.specs.Str.{is_utf8, bytes_eq}
+use Rattle.serde_json.specs.Data.{Data}
+use Rattle.serde_json.specs.Read.{read}
+use Rattle.serde_json.specs.Find.{as_object}
+use Rattle.acd_terms.specs.declared.command.Request.{Request}
+use Rattle.acd_terms.specs.declared.command.Requested.{Requested}
+use Rattle.acd_terms.specs.declared.command.Requested.TheVariants as requested
+use Rattle.acd_terms.specs.declared.command.Command.{Command}
+use Rattle.acd_terms.specs.declared.command.Command.TheVariants.{AddStation, ArriveCall, MakeCall, PhoneOffHook, AnswerCall, HoldCall, RetrieveCall, ClearConnection, DeflectCall, SingleStepTransfer, SetAgentState, MonitorStart, Tick}
+use Rattle.acd_codec.specs.declared.member.Member.{Member}
+use Rattle.acd_codec.specs.declared.member.Member.TheVariants as member
+use Rattle.acd_codec.specs.declared.service.RequestedState.{RequestedState}
+use Rattle.acd_codec.specs.declared.service.RequestedState.TheVariants as requested_state
+use Rattle.acd_codec.specs.declared.service.Service.{Service}
+use Rattle.acd_codec.specs.declared.service.Service.TheVariants as service
+use Rattle.acd_codec.specs.Services.{service_name}
+use Rattle.acd_codec.specs.MemberReading.{read_in, agent_in, requester_in, invoke_in, requested_state_in}
+use Rattle.acd_codec.specs.Reading.{◌>>=◌, add_group_in, add_agent_in, two_devices_in, at_device, at_devices, at_connection, to_device, monitor_stop_in, reads_as}
+
+-- the sixteen services
+abbrev pub old_services : List Service
+old_services =
+    service.AddGroup ∷ service.AddStation ∷ service.AddAgent ∷ service.ArriveCall ∷ service.MakeCall
+    ∷ service.PhoneOffHook ∷ service.AnswerCall ∷ service.HoldCall ∷ service.RetrieveCall
+    ∷ service.ClearConnection ∷ service.DeflectCall ∷ service.SingleStepTransfer ∷ service.SetAgentState
+    ∷ service.MonitorStart ∷ service.MonitorStop ∷ service.Tick ∷ []
+
+abbrev pub old_service_of : List ℕ → Option Service
+old_service_of text = find (λ s. bytes_eq text (service_name s)) old_services
+
+unfoldable pub old_service_in : Data → Result Service Member
+old_service_in d = read_in old_service_of member.Service d
+
+-- a log-on named one group
+unfoldable pub old_requested_in : Data → RequestedState → Result Requested Member
+old_requested_in d requested_state.LoggedOn = do
+  place ← two_devices_in member.Device member.Group d
+  Ok (requested.LoggedOn place.0 (place.1 ∷ []))
+old_requested_in d (requested_state.State state) = Ok (requested.State state)
+
+unfoldable pub old_set_agent_state_in : Data → Result Command Member
+old_set_agent_state_in d = do
+  agent ← agent_in d
+  state ← requested_state_in d
+  requested ← old_requested_in d state
+  Ok (SetAgentState agent requested)
+
+-- the seventeenth service had no name that could be read
+unfoldable pub old_command_in : Service → Data → Result Command Member
+old_command_in service.AddGroup d = add_group_in d
+old_command_in service.AddStation d = at_device AddStation d
+old_command_in service.AddAgent d = add_agent_in d
+old_command_in service.ArriveCall d = at_devices ArriveCall member.Caller member.Called d
+old_command_in service.MakeCall d = at_devices MakeCall member.Device member.Called d
+old_command_in service.PhoneOffHook d = at_connection PhoneOffHook d
+old_command_in service.AnswerCall d = at_connection AnswerCall d
+old_command_in service.HoldCall d = at_connection HoldCall d
+old_command_in service.RetrieveCall d = at_connection RetrieveCall d
+old_command_in service.ClearConnection d = at_connection ClearConnection d
+old_command_in service.DeflectCall d = to_device DeflectCall d
+old_command_in service.SingleStepTransfer d = to_device SingleStepTransfer d
+old_command_in service.SetAgentState d = old_set_agent_state_in d
+old_command_in service.MonitorStart d = at_device MonitorStart d
+old_command_in service.MonitorStop d = monitor_stop_in d
+old_command_in service.Tick d = Ok Tick
+old_command_in service.SetGroupPriority d = Err member.Service
+
+unfoldable pub old_request_in : Data → Result Request Member
+old_request_in d = do
+  requester ← requester_in d
+  invoke ← invoke_in d
+  service ← old_service_in d
+  command ← old_command_in service d
+  Ok (record { requester = requester; invoke = invoke; command = command })
+
+abbrev pub old_request_from : Option Data → Result Request Member
+old_request_from None = Err member.Json
+old_request_from (Some d) = if is_some (as_object d) then old_request_in d else Err member.Json
+
+-- the request that the bytes stood for
+unfoldable pub old_reads_as : List ℕ → Result Request Member
+old_reads_as bytes = if is_utf8 bytes then old_request_from (read bytes) else Err member.Json
+
+-- bytes that were read as a request are read as the same request
+abbrev pub OldReadsTheSame : Type 0
+OldReadsTheSame = (bytes : List ℕ) (r : Request) → old_reads_as bytes ≡ Ok r → reads_as bytes ≡ Ok r

@@ -1,0 +1,291 @@
+//! Several groups for an agent, and groups with priority.
+
+/// The lines of a [script](crate::script).
+pub fn lines() -> &'static str {
+    r#"part claims
+# Group 110 with a ring of 20, a wrap of 45 seconds, and priority 5.
+> 0 {"device":"110","invoke":6,"name":"Claims","requester":"plan","ring":20,"service":"addGroup","wrap":45}
+< 200 {"invoke":6,"requester":"plan","result":{}}
+> 0 {"device":"110","invoke":7,"priority":5,"requester":"plan","service":"setGroupPriority"}
+< 200 {"invoke":7,"requester":"plan","result":{}}
+
+part a_call_in_each
+# A call comes to each of the two groups.
+> 10 {"called":"100","caller":"0301234","invoke":1,"requester":"pbx","service":"arriveCall"}
+< 200 {"invoke":1,"requester":"pbx","result":{"call":1}}
+! {"call":1,"cause":"newCall","device":"100","event":"queued","moment":10,"number":1}
+> 11 {"called":"110","caller":"0309999","invoke":2,"requester":"pbx","service":"arriveCall"}
+< 200 {"invoke":2,"requester":"pbx","result":{"call":2}}
+! {"call":2,"cause":"newCall","device":"110","event":"queued","moment":11,"number":2}
+
+part ana_serves_both
+# Agent 7 logs on in both and becomes ready: the group of higher priority is served first.
+> 15 {"agent":"7","device":"201","groups":["110","100"],"invoke":1,"requested":"loggedOn","requester":"desk","service":"setAgentState"}
+< 200 {"invoke":1,"requester":"desk","result":{"state":"notReady"}}
+! {"agent":"7","device":"201","event":"agentLoggedOn","moment":15,"number":3}
+> 18 {"agent":"7","invoke":2,"requested":"ready","requester":"desk","service":"setAgentState"}
+< 200 {"invoke":2,"requester":"desk","result":{"state":"ready"}}
+! {"agent":"7","device":"201","event":"agentReady","moment":18,"number":4}
+! {"call":2,"cause":"distributed","device":"110","event":"diverted","group":"110","moment":18,"number":5,"to":"201"}
+! {"call":2,"cause":"distributed","device":"201","event":"delivered","group":"110","moment":18,"number":6}
+? agent 7
+. {"agent":"7","device":"201","groups":["100","110"],"name":"Ana","since":18,"state":"ready"}
+
+part ana_answers_claims
+# After the call she is ready again when the wrap of the group of least number is over, which is 30.
+> 20 {"call":2,"device":"201","invoke":3,"requester":"desk","service":"answerCall"}
+< 200 {"invoke":3,"requester":"desk","result":{}}
+! {"call":2,"device":"201","event":"established","group":"110","moment":20,"number":7,"waited":9}
+! {"agent":"7","device":"201","event":"agentBusy","moment":20,"number":8}
+> 50 {"call":2,"device":"0309999","invoke":3,"requester":"pbx","service":"clearConnection"}
+< 200 {"invoke":3,"requester":"pbx","result":{}}
+! {"call":2,"device":"0309999","event":"connectionCleared","moment":50,"number":9}
+! {"call":2,"device":"201","event":"connectionCleared","moment":50,"number":10}
+! {"call":2,"event":"callCleared","moment":50,"number":11}
+! {"agent":"7","device":"201","event":"agentWorkingAfterCall","moment":50,"number":12}
+> 79 {"invoke":1,"requester":"clock","service":"tick"}
+< 200 {"invoke":1,"requester":"clock","result":{}}
+> 80 {"invoke":2,"requester":"clock","service":"tick"}
+< 200 {"invoke":2,"requester":"clock","result":{}}
+! {"agent":"7","device":"201","event":"agentReady","moment":80,"number":13}
+! {"call":1,"cause":"distributed","device":"100","event":"diverted","group":"100","moment":80,"number":14,"to":"201"}
+! {"call":1,"cause":"distributed","device":"201","event":"delivered","group":"100","moment":80,"number":15}
+? device 110
+. {"device":"110","kind":"group","name":"Claims","priority":5,"ring":20,"wrap":45}
+? device 100
+. {"device":"100","kind":"group","name":"Billing","ring":20,"wrap":30}
+
+part groups_in_another_order
+# The same groups in another order are the same request, and one group is another.
+> 90 {"agent":"7","device":"201","groups":["100","110"],"invoke":1,"requested":"loggedOn","requester":"desk","service":"setAgentState"}
+< 200 {"invoke":1,"requester":"desk","result":{"state":"notReady"}}
+> 91 {"agent":"7","device":"201","group":"100","groups":["100","110"],"invoke":1,"requested":"loggedOn","requester":"desk","service":"setAgentState"}
+< 422 {"error":{"code":31,"name":"invokeReused"},"invoke":1,"requester":"desk"}
+
+scene several_groups: plan claims a_call_in_each ana_serves_both ana_answers_claims groups_in_another_order
+
+part refusals_of_groups
+# The groups are tested in ascending number, each first whether it is planned. Identifiers of fewer digits are the lower ones, and
+# of as many the digits tell.
+- 5 10 notGroup {"agent":"7","device":"201","groups":["110","999","202"],"invoke":201,"requested":"loggedOn","requester":"sup","service":"setAgentState"}
+- 5 1 unknownDevice {"agent":"7","device":"201","groups":["110","150","202"],"invoke":202,"requested":"loggedOn","requester":"sup","service":"setAgentState"}
+- 5 10 notGroup {"agent":"7","device":"201","groups":["202","100"],"invoke":203,"requested":"loggedOn","requester":"sup","service":"setAgentState"}
+- 5 1 unknownDevice {"agent":"7","device":"201","groups":["0301234","110","100"],"invoke":204,"requested":"loggedOn","requester":"sup","service":"setAgentState"}
+- 5 1 unknownDevice {"agent":"7","device":"201","groups":["100","110","120","130","140","150","160","170"],"invoke":205,"requested":"loggedOn","requester":"sup","service":"setAgentState"}
+- 5 1 unknownDevice {"device":"999","invoke":206,"priority":3,"requester":"sup","service":"setGroupPriority"}
+- 5 10 notGroup {"device":"201","invoke":207,"priority":3,"requester":"sup","service":"setGroupPriority"}
+? agent 7
+. {"agent":"7","name":"Ana","since":0,"state":"null"}
+
+scene groups_that_are_none: plan claims refusals_of_groups
+
+part equal_priorities
+# Two groups of one priority: the one of lower number is served first. Then the other one gets a higher priority.
+> 1 {"device":"100","invoke":8,"priority":5,"requester":"plan","service":"setGroupPriority"}
+< 200 {"invoke":8,"requester":"plan","result":{}}
+> 10 {"called":"110","caller":"0301","invoke":1,"requester":"pbx","service":"arriveCall"}
+< 200 {"invoke":1,"requester":"pbx","result":{"call":1}}
+! {"call":1,"cause":"newCall","device":"110","event":"queued","moment":10,"number":1}
+> 11 {"called":"100","caller":"0302","invoke":2,"requester":"pbx","service":"arriveCall"}
+< 200 {"invoke":2,"requester":"pbx","result":{"call":2}}
+! {"call":2,"cause":"newCall","device":"100","event":"queued","moment":11,"number":2}
+> 12 {"called":"100","caller":"0303","invoke":3,"requester":"pbx","service":"arriveCall"}
+< 200 {"invoke":3,"requester":"pbx","result":{"call":3}}
+! {"call":3,"cause":"newCall","device":"100","event":"queued","moment":12,"number":3}
+> 15 {"agent":"7","device":"201","groups":["100","110"],"invoke":1,"requested":"loggedOn","requester":"desk","service":"setAgentState"}
+< 200 {"invoke":1,"requester":"desk","result":{"state":"notReady"}}
+! {"agent":"7","device":"201","event":"agentLoggedOn","moment":15,"number":4}
+> 18 {"agent":"7","invoke":2,"requested":"ready","requester":"desk","service":"setAgentState"}
+< 200 {"invoke":2,"requester":"desk","result":{"state":"ready"}}
+! {"agent":"7","device":"201","event":"agentReady","moment":18,"number":5}
+! {"call":2,"cause":"distributed","device":"100","event":"diverted","group":"100","moment":18,"number":6,"to":"201"}
+! {"call":2,"cause":"distributed","device":"201","event":"delivered","group":"100","moment":18,"number":7}
+> 19 {"device":"110","invoke":9,"priority":6,"requester":"plan","service":"setGroupPriority"}
+< 200 {"invoke":9,"requester":"plan","result":{}}
+> 19 {"device":"110","invoke":10,"priority":6,"requester":"plan","service":"setGroupPriority"}
+< 200 {"invoke":10,"requester":"plan","result":{}}
+> 20 {"call":2,"device":"0302","invoke":4,"requester":"pbx","service":"clearConnection"}
+< 200 {"invoke":4,"requester":"pbx","result":{}}
+! {"call":2,"device":"0302","event":"connectionCleared","moment":20,"number":8}
+! {"call":2,"device":"201","event":"connectionCleared","moment":20,"number":9}
+! {"call":2,"event":"callCleared","group":"100","moment":20,"number":10}
+! {"call":1,"cause":"distributed","device":"110","event":"diverted","group":"110","moment":20,"number":11,"to":"201"}
+! {"call":1,"cause":"distributed","device":"201","event":"delivered","group":"110","moment":20,"number":12}
+> 21 {"device":"110","invoke":11,"priority":0,"requester":"plan","service":"setGroupPriority"}
+< 200 {"invoke":11,"requester":"plan","result":{}}
+? device 110
+. {"device":"110","kind":"group","name":"Claims","ring":20,"wrap":45}
+? device 100
+. {"device":"100","kind":"group","name":"Billing","priority":5,"ring":20,"wrap":30}
+
+scene priorities_that_change: plan claims equal_priorities
+
+part other_groups
+# Who logs off and on in another group is offered no call of the old one.
+> 20 {"agent":"7","device":"201","groups":["110","100"],"invoke":1,"requested":"loggedOn","requester":"desk","service":"setAgentState"}
+< 200 {"invoke":1,"requester":"desk","result":{"state":"notReady"}}
+! {"agent":"7","device":"201","event":"agentLoggedOn","moment":20,"number":1}
+> 21 {"agent":"7","invoke":2,"requested":"ready","requester":"desk","service":"setAgentState"}
+< 200 {"invoke":2,"requester":"desk","result":{"state":"ready"}}
+! {"agent":"7","device":"201","event":"agentReady","moment":21,"number":2}
+> 22 {"agent":"7","invoke":3,"requested":"loggedOff","requester":"desk","service":"setAgentState"}
+< 200 {"invoke":3,"requester":"desk","result":{"state":"null"}}
+! {"agent":"7","device":"201","event":"agentLoggedOff","moment":22,"number":3}
+? agent 7
+. {"agent":"7","name":"Ana","since":22,"state":"null"}
+> 23 {"agent":"7","device":"202","group":"110","invoke":4,"requested":"loggedOn","requester":"desk","service":"setAgentState"}
+< 200 {"invoke":4,"requester":"desk","result":{"state":"notReady"}}
+! {"agent":"7","device":"202","event":"agentLoggedOn","group":"110","moment":23,"number":4}
+> 24 {"agent":"7","invoke":5,"requested":"ready","requester":"desk","service":"setAgentState"}
+< 200 {"invoke":5,"requester":"desk","result":{"state":"ready"}}
+! {"agent":"7","device":"202","event":"agentReady","moment":24,"number":5}
+> 25 {"called":"100","caller":"0301234","invoke":1,"requester":"pbx","service":"arriveCall"}
+< 200 {"invoke":1,"requester":"pbx","result":{"call":1}}
+! {"call":1,"cause":"newCall","device":"100","event":"queued","moment":25,"number":6}
+? agent 7
+. {"agent":"7","device":"202","group":"110","name":"Ana","since":24,"state":"ready"}
+
+scene other_groups_after_a_log_off: plan claims other_groups
+
+part eight_groups
+# An agent of eight groups, in each of which a call waits: 9 is served first, and of one priority the lower number.
+> 0 {"device":"120","invoke":20,"name":"Group 120","requester":"plan","ring":20,"service":"addGroup","wrap":30}
+< 200 {"invoke":20,"requester":"plan","result":{}}
+> 0 {"device":"130","invoke":21,"name":"Group 130","requester":"plan","ring":20,"service":"addGroup","wrap":30}
+< 200 {"invoke":21,"requester":"plan","result":{}}
+> 0 {"device":"140","invoke":22,"name":"Group 140","requester":"plan","ring":20,"service":"addGroup","wrap":30}
+< 200 {"invoke":22,"requester":"plan","result":{}}
+> 0 {"device":"150","invoke":23,"name":"Group 150","requester":"plan","ring":20,"service":"addGroup","wrap":30}
+< 200 {"invoke":23,"requester":"plan","result":{}}
+> 0 {"device":"160","invoke":24,"name":"Group 160","requester":"plan","ring":20,"service":"addGroup","wrap":30}
+< 200 {"invoke":24,"requester":"plan","result":{}}
+> 0 {"device":"170","invoke":25,"name":"Group 170","requester":"plan","ring":20,"service":"addGroup","wrap":30}
+< 200 {"invoke":25,"requester":"plan","result":{}}
+> 0 {"device":"130","invoke":26,"priority":9,"requester":"plan","service":"setGroupPriority"}
+< 200 {"invoke":26,"requester":"plan","result":{}}
+> 0 {"device":"150","invoke":27,"priority":3,"requester":"plan","service":"setGroupPriority"}
+< 200 {"invoke":27,"requester":"plan","result":{}}
+> 0 {"device":"170","invoke":28,"priority":9,"requester":"plan","service":"setGroupPriority"}
+< 200 {"invoke":28,"requester":"plan","result":{}}
+> 0 {"device":"120","invoke":29,"priority":1,"requester":"plan","service":"setGroupPriority"}
+< 200 {"invoke":29,"requester":"plan","result":{}}
+> 10 {"called":"100","caller":"0300","invoke":1,"requester":"pbx","service":"arriveCall"}
+< 200 {"invoke":1,"requester":"pbx","result":{"call":1}}
+! {"call":1,"cause":"newCall","device":"100","event":"queued","moment":10,"number":1}
+> 10 {"called":"110","caller":"0301","invoke":2,"requester":"pbx","service":"arriveCall"}
+< 200 {"invoke":2,"requester":"pbx","result":{"call":2}}
+! {"call":2,"cause":"newCall","device":"110","event":"queued","moment":10,"number":2}
+> 10 {"called":"120","caller":"0302","invoke":3,"requester":"pbx","service":"arriveCall"}
+< 200 {"invoke":3,"requester":"pbx","result":{"call":3}}
+! {"call":3,"cause":"newCall","device":"120","event":"queued","moment":10,"number":3}
+> 10 {"called":"130","caller":"0303","invoke":4,"requester":"pbx","service":"arriveCall"}
+< 200 {"invoke":4,"requester":"pbx","result":{"call":4}}
+! {"call":4,"cause":"newCall","device":"130","event":"queued","moment":10,"number":4}
+> 10 {"called":"140","caller":"0304","invoke":5,"requester":"pbx","service":"arriveCall"}
+< 200 {"invoke":5,"requester":"pbx","result":{"call":5}}
+! {"call":5,"cause":"newCall","device":"140","event":"queued","moment":10,"number":5}
+> 10 {"called":"150","caller":"0305","invoke":6,"requester":"pbx","service":"arriveCall"}
+< 200 {"invoke":6,"requester":"pbx","result":{"call":6}}
+! {"call":6,"cause":"newCall","device":"150","event":"queued","moment":10,"number":6}
+> 10 {"called":"160","caller":"0306","invoke":7,"requester":"pbx","service":"arriveCall"}
+< 200 {"invoke":7,"requester":"pbx","result":{"call":7}}
+! {"call":7,"cause":"newCall","device":"160","event":"queued","moment":10,"number":7}
+> 10 {"called":"170","caller":"0307","invoke":8,"requester":"pbx","service":"arriveCall"}
+< 200 {"invoke":8,"requester":"pbx","result":{"call":8}}
+! {"call":8,"cause":"newCall","device":"170","event":"queued","moment":10,"number":8}
+> 15 {"agent":"7","device":"201","groups":["170","100","110","120","160","150","140","130"],"invoke":1,"requested":"loggedOn","requester":"desk","service":"setAgentState"}
+< 200 {"invoke":1,"requester":"desk","result":{"state":"notReady"}}
+! {"agent":"7","device":"201","event":"agentLoggedOn","moment":15,"number":9}
+> 20 {"agent":"7","invoke":2,"requested":"ready","requester":"desk","service":"setAgentState"}
+< 200 {"invoke":2,"requester":"desk","result":{"state":"ready"}}
+! {"agent":"7","device":"201","event":"agentReady","moment":20,"number":10}
+! {"call":4,"cause":"distributed","device":"130","event":"diverted","group":"130","moment":20,"number":11,"to":"201"}
+! {"call":4,"cause":"distributed","device":"201","event":"delivered","group":"130","moment":20,"number":12}
+> 21 {"call":4,"device":"0303","invoke":9,"requester":"pbx","service":"clearConnection"}
+< 200 {"invoke":9,"requester":"pbx","result":{}}
+! {"call":4,"device":"0303","event":"connectionCleared","moment":21,"number":13}
+! {"call":4,"device":"201","event":"connectionCleared","moment":21,"number":14}
+! {"call":4,"event":"callCleared","group":"130","moment":21,"number":15}
+! {"call":8,"cause":"distributed","device":"170","event":"diverted","group":"170","moment":21,"number":16,"to":"201"}
+! {"call":8,"cause":"distributed","device":"201","event":"delivered","group":"170","moment":21,"number":17}
+> 22 {"call":8,"device":"0307","invoke":10,"requester":"pbx","service":"clearConnection"}
+< 200 {"invoke":10,"requester":"pbx","result":{}}
+! {"call":8,"device":"0307","event":"connectionCleared","moment":22,"number":18}
+! {"call":8,"device":"201","event":"connectionCleared","moment":22,"number":19}
+! {"call":8,"event":"callCleared","group":"170","moment":22,"number":20}
+! {"call":2,"cause":"distributed","device":"110","event":"diverted","group":"110","moment":22,"number":21,"to":"201"}
+! {"call":2,"cause":"distributed","device":"201","event":"delivered","group":"110","moment":22,"number":22}
+> 23 {"call":2,"device":"0301","invoke":11,"requester":"pbx","service":"clearConnection"}
+< 200 {"invoke":11,"requester":"pbx","result":{}}
+! {"call":2,"device":"0301","event":"connectionCleared","moment":23,"number":23}
+! {"call":2,"device":"201","event":"connectionCleared","moment":23,"number":24}
+! {"call":2,"event":"callCleared","group":"110","moment":23,"number":25}
+! {"call":6,"cause":"distributed","device":"150","event":"diverted","group":"150","moment":23,"number":26,"to":"201"}
+! {"call":6,"cause":"distributed","device":"201","event":"delivered","group":"150","moment":23,"number":27}
+> 24 {"call":6,"device":"0305","invoke":12,"requester":"pbx","service":"clearConnection"}
+< 200 {"invoke":12,"requester":"pbx","result":{}}
+! {"call":6,"device":"0305","event":"connectionCleared","moment":24,"number":28}
+! {"call":6,"device":"201","event":"connectionCleared","moment":24,"number":29}
+! {"call":6,"event":"callCleared","group":"150","moment":24,"number":30}
+! {"call":3,"cause":"distributed","device":"120","event":"diverted","group":"120","moment":24,"number":31,"to":"201"}
+! {"call":3,"cause":"distributed","device":"201","event":"delivered","group":"120","moment":24,"number":32}
+> 25 {"call":3,"device":"0302","invoke":13,"requester":"pbx","service":"clearConnection"}
+< 200 {"invoke":13,"requester":"pbx","result":{}}
+! {"call":3,"device":"0302","event":"connectionCleared","moment":25,"number":33}
+! {"call":3,"device":"201","event":"connectionCleared","moment":25,"number":34}
+! {"call":3,"event":"callCleared","group":"120","moment":25,"number":35}
+! {"call":1,"cause":"distributed","device":"100","event":"diverted","group":"100","moment":25,"number":36,"to":"201"}
+! {"call":1,"cause":"distributed","device":"201","event":"delivered","group":"100","moment":25,"number":37}
+> 26 {"call":1,"device":"0300","invoke":14,"requester":"pbx","service":"clearConnection"}
+< 200 {"invoke":14,"requester":"pbx","result":{}}
+! {"call":1,"device":"0300","event":"connectionCleared","moment":26,"number":38}
+! {"call":1,"device":"201","event":"connectionCleared","moment":26,"number":39}
+! {"call":1,"event":"callCleared","group":"100","moment":26,"number":40}
+! {"call":5,"cause":"distributed","device":"140","event":"diverted","group":"140","moment":26,"number":41,"to":"201"}
+! {"call":5,"cause":"distributed","device":"201","event":"delivered","group":"140","moment":26,"number":42}
+> 27 {"call":5,"device":"0304","invoke":15,"requester":"pbx","service":"clearConnection"}
+< 200 {"invoke":15,"requester":"pbx","result":{}}
+! {"call":5,"device":"0304","event":"connectionCleared","moment":27,"number":43}
+! {"call":5,"device":"201","event":"connectionCleared","moment":27,"number":44}
+! {"call":5,"event":"callCleared","group":"140","moment":27,"number":45}
+! {"call":7,"cause":"distributed","device":"160","event":"diverted","group":"160","moment":27,"number":46,"to":"201"}
+! {"call":7,"cause":"distributed","device":"201","event":"delivered","group":"160","moment":27,"number":47}
+> 28 {"call":7,"device":"0306","invoke":16,"requester":"pbx","service":"clearConnection"}
+< 200 {"invoke":16,"requester":"pbx","result":{}}
+! {"call":7,"device":"0306","event":"connectionCleared","moment":28,"number":48}
+! {"call":7,"device":"201","event":"connectionCleared","moment":28,"number":49}
+! {"call":7,"event":"callCleared","group":"160","moment":28,"number":50}
+? agent 7
+. {"agent":"7","device":"201","groups":["100","110","120","130","140","150","160","170"],"name":"Ana","since":20,"state":"ready"}
+
+scene eight_groups_of_an_agent: plan claims eight_groups
+
+# A desk over files that is closed and opened between any two requests.
+
+files several_groups_between_requests: plan claims a_call_in_each ana_serves_both ana_answers_claims
+
+part a_third_group
+# A third group, agent 7 in the two others, and agent 8 in one of these.
+> 1 {"device":"120","invoke":8,"name":"Sales","requester":"plan","ring":20,"service":"addGroup","wrap":30}
+< 200 {"invoke":8,"requester":"plan","result":{}}
+> 2 {"agent":"7","device":"201","groups":["110","100"],"invoke":1,"requested":"loggedOn","requester":"desk","service":"setAgentState"}
+< 200 {"invoke":1,"requester":"desk","result":{"state":"notReady"}}
+> 3 {"agent":"8","device":"202","group":"100","invoke":2,"requested":"loggedOn","requester":"desk","service":"setAgentState"}
+< 200 {"invoke":2,"requester":"desk","result":{"state":"notReady"}}
+
+part changes_of_further_groups_and_priorities
+# Each column of further groups and of priorities, and a row that is missing or too many.
+~ sound UPDATE meta SET version = 2
+~ 11 DELETE FROM agent_groups
+~ 11 UPDATE agent_groups SET agent = 18
+~ 11 UPDATE agent_groups SET grp = 1120
+~ 11 INSERT INTO agent_groups VALUES (17, 1120)
+~ 11 INSERT INTO agent_groups VALUES (18, 1110)
+~ 11 DELETE FROM group_priority
+~ 11 UPDATE group_priority SET device = 1120
+~ 11 UPDATE group_priority SET priority = 6
+~ 11 INSERT INTO group_priority VALUES (1100, 1)
+
+altered altered_further_groups_and_priorities: plan claims a_third_group changes_of_further_groups_and_priorities
+"#
+}

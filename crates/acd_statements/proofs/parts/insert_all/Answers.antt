@@ -1,0 +1,34 @@
+use Rattle.std.proofs.Common.{ℕ, List, map, sym, subst, ap, ◌∙◌, arith}
+use Rattle.sqlite.specs.State.{HasCleanDisk}
+use Rattle.sqlite.specs.Held.{state}
+use Rattle.acd_columns.specs.Content.{with_part}
+use Rattle.acd_columns.specs.declared.tables.Table.TheVariants as table
+use Rattle.acd_columns.specs.Relations.{all_put}
+use Rattle.acd_columns.specs.Draft.{Drafts}
+use Rattle.acd_columns.proofs.Endings.{works_on}
+use Rattle.acd_statements.proofs.Planned.{pairs_more, all_taken}
+use Rattle.acd_statements.proofs.parts.insert_all.Goals as goal
+
+pub loop-group-preserved : goal.loop-group-preserved
+loop-group-preserved g c =
+    let inv = c.loop-group.invariant in
+    let e = c.insert_further.ensures in
+    record {
+      same = e.same ∙ inv.same;
+      works = works_on _ _ _ inv.works e.works;
+      put = λ clean r d.
+          let before : HasCleanDisk (state g.S.Store c.loop-group.tx.conn.now) = omega (arith, clean, e.works.survives.clean) in
+          subst (λ (ps : List (ℕ × ℕ)). Drafts (state g.S.Store c.insert_further.new.tx.conn.now) (with_part table.AgentGroups ps r)) (sym (pairs_more c.args.agent c.loop-group.group-index c.args.groups.now _ _ r.further c.group-item.is c.loop-group-test.true))
+          (c.in_ok-insert_further.ensures.put clean _ (inv.put before r d));
+    }
+
+pub returns-clause-put : goal.returns-clause-put
+returns-clause-put g c clean r d =
+    subst (λ (gs : List ℕ). Drafts (state g.S.Store c.loop-group.tx.conn.now) (with_part table.AgentGroups (all_put (map (λ (k : ℕ). (c.args.agent, k)) gs) r.further) r)) (all_taken c.loop-group.group-index c.args.groups.now c.loop-group-test.false)
+    (c.loop-group.invariant.put clean r d)
+
+pub returns-in_err-insert_further-clause-same : goal.returns-in_err-insert_further-clause-same
+returns-in_err-insert_further-clause-same g c = c.insert_further.ensures.same ∙ c.loop-group.invariant.same
+
+pub returns-in_err-insert_further-clause-works : goal.returns-in_err-insert_further-clause-works
+returns-in_err-insert_further-clause-works g c = works_on _ _ _ c.loop-group.invariant.works c.insert_further.ensures.works

@@ -1,0 +1,16 @@
+use Rattle.std.proofs.Common.{◌≡◌, map, ◌∙◌}
+use Rattle.std.specs.Prelude.{Vec}
+use Rattle.std.specs.declared.alloc.Global.{Global}
+use Rattle.sqlite.specs.Held.{state}
+use Rattle.acd_terms.specs.declared.record.AgentRecord.{AgentRecord}
+use Rattle.acd_book.specs.Content.{Content}
+use Rattle.acd_columns.specs.declared.relations.AgentRow.{AgentRow}
+use Rattle.acd_columns.specs.Relations.{agent_part}
+use Rattle.acd_statements.proofs.Chained.{behind}
+use Rattle.acd_statements.proofs.plan.agents.Goals as goal
+
+pub returns-in-Ok-clause-found : goal.returns-in-Ok-clause-found
+returns-in-Ok-clause-found g c =
+    behind (state g.S.Store c.args.conn.now) (state g.S.Store c.records.new.conn) (state g.S.Store c.grouped.new.conn) c.in-Ok.parts c.grouped.result (λ (x : Content) (parts : Vec AgentRow Global). parts.items ≡ map agent_part x.rows.agents)
+    (λ (x : Content) (found : Vec AgentRecord Global). c.deref.result.now ≡ map agent_part x.rows.agents → found.items ≡ x.rows.agents) (λ (x : Content) (found : Vec AgentRecord Global). found.items ≡ x.rows.agents) c.in-Ok.ensures.found
+    (λ x found p q. q (c.deref.ensures.value ∙ p)) c.grouped.ensures.found

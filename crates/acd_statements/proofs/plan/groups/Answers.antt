@@ -1,0 +1,16 @@
+use Rattle.std.proofs.Common.{◌≡◌, map, ◌∙◌}
+use Rattle.std.specs.Prelude.{Vec}
+use Rattle.std.specs.declared.alloc.Global.{Global}
+use Rattle.sqlite.specs.Held.{state}
+use Rattle.acd_terms.specs.declared.record.GroupRecord.{GroupRecord}
+use Rattle.acd_book.specs.Content.{Content}
+use Rattle.acd_columns.specs.declared.relations.GroupRow.{GroupRow}
+use Rattle.acd_columns.specs.Relations.{group_part}
+use Rattle.acd_statements.proofs.Chained.{behind}
+use Rattle.acd_statements.proofs.plan.groups.Goals as goal
+
+pub returns-in-Ok-clause-found : goal.returns-in-Ok-clause-found
+returns-in-Ok-clause-found g c =
+    behind (state g.S.Store c.args.conn.now) (state g.S.Store c.records.new.conn) (state g.S.Store c.ranked.new.conn) c.in-Ok.parts c.ranked.result (λ (x : Content) (parts : Vec GroupRow Global). parts.items ≡ map group_part x.rows.groups)
+    (λ (x : Content) (found : Vec GroupRecord Global). c.deref.result.now ≡ map group_part x.rows.groups → found.items ≡ x.rows.groups) (λ (x : Content) (found : Vec GroupRecord Global). found.items ≡ x.rows.groups) c.in-Ok.ensures.found
+    (λ x found p q. q (c.deref.ensures.value ∙ p)) c.ranked.ensures.found

@@ -1,0 +1,38 @@
+use Rattle.std.proofs.Common.{◌≡◌, Err, rules, subst, sym}
+use Rattle.std.specs.Prelude.{Vec}
+use Rattle.std.specs.declared.alloc.Global.{Global}
+use Rattle.sqlite.specs.Held.{state}
+use Rattle.acd_terms.specs.declared.record.GroupRecord.{GroupRecord}
+use Rattle.acd_terms.specs.declared.record.StationRecord.{StationRecord}
+use Rattle.acd_terms.specs.declared.record.AgentRecord.{AgentRecord}
+use Rattle.acd_book.specs.Content.{Content}
+use Rattle.acd_statements.proofs.Chained.{chained, broken}
+use Rattle.acd_columns.proofs.Recorded.{found_none}
+use Rattle.acd_columns.specs.Finding.{Finds}
+use Rattle.acd_statements.proofs.reads.planned.Goals as goal
+
+pub returns-in_err-groups-clause-found : goal.returns-in_err-groups-clause-found
+returns-in_err-groups-clause-found g c =
+    let is : c.from_residual.result ≡ Err c.in_err-groups.field-0.0 = search rules in
+    subst (λ r. Finds (state g.S.Store c.args.conn.now) (state g.S.Store c.groups.new.conn) r (λ (x : Content) (t : Vec GroupRecord Global × Vec StationRecord Global × Vec AgentRecord Global). (t.0.items ≡ x.rows.groups) × (t.1.items ≡ x.rows.stations) × (t.2.items ≡ x.rows.agents))) (sym is)
+    (found_none (state g.S.Store c.args.conn.now) (state g.S.Store c.groups.new.conn) c.in_err-groups.field-0.0 _ (λ (x : Content) (t : Vec GroupRecord Global × Vec StationRecord Global × Vec AgentRecord Global). (t.0.items ≡ x.rows.groups) × (t.1.items ≡ x.rows.stations) × (t.2.items ≡ x.rows.agents)) c.in_err-groups.ensures.found)
+
+pub returns-in_err-stations-clause-found : goal.returns-in_err-stations-clause-found
+returns-in_err-stations-clause-found g c =
+    let is : c.from_residual-in_err-stations.result ≡ Err c.in_err-stations.field-0.0 = search rules in
+    subst (λ r. Finds (state g.S.Store c.args.conn.now) (state g.S.Store c.records.new.conn) r (λ (x : Content) (t : Vec GroupRecord Global × Vec StationRecord Global × Vec AgentRecord Global). (t.0.items ≡ x.rows.groups) × (t.1.items ≡ x.rows.stations) × (t.2.items ≡ x.rows.agents))) (sym is)
+    (broken (state g.S.Store c.args.conn.now) (state g.S.Store c.groups.new.conn) (state g.S.Store c.records.new.conn) c.in_ok-groups.groups _ _ c.in_ok-groups.ensures.found c.in_err-stations.field-0.0 (λ (x : Content) (t : Vec GroupRecord Global × Vec StationRecord Global × Vec AgentRecord Global). (t.0.items ≡ x.rows.groups) × (t.1.items ≡ x.rows.stations) × (t.2.items ≡ x.rows.agents)) c.in_err-stations.ensures.found)
+
+pub returns-in_err-agents-clause-found : goal.returns-in_err-agents-clause-found
+returns-in_err-agents-clause-found g c =
+    let is : c.from_residual-in_err-agents.result ≡ Err c.in_err-agents.field-0.0 = search rules in
+    subst (λ r. Finds (state g.S.Store c.args.conn.now) (state g.S.Store c.agents.new.conn) r (λ (x : Content) (t : Vec GroupRecord Global × Vec StationRecord Global × Vec AgentRecord Global). (t.0.items ≡ x.rows.groups) × (t.1.items ≡ x.rows.stations) × (t.2.items ≡ x.rows.agents))) (sym is)
+    (broken (state g.S.Store c.args.conn.now) (state g.S.Store c.records.new.conn) (state g.S.Store c.agents.new.conn) (c.in_ok-groups.groups, c.in_ok-stations.stations) (λ (x : Content) (t : Vec GroupRecord Global × Vec StationRecord Global). (t.0.items ≡ x.rows.groups) × (t.1.items ≡ x.rows.stations)) _
+    (chained (state g.S.Store c.args.conn.now) (state g.S.Store c.groups.new.conn) (state g.S.Store c.records.new.conn) c.in_ok-groups.groups _ _ c.in_ok-groups.ensures.found c.in_ok-stations.stations (c.in_ok-groups.groups, c.in_ok-stations.stations) (λ (x : Content) (t : Vec GroupRecord Global × Vec StationRecord Global). (t.0.items ≡ x.rows.groups) × (t.1.items ≡ x.rows.stations)) (λ x p q. (p, q)) c.in_ok-stations.ensures.found)
+    c.in_err-agents.field-0.0 (λ (x : Content) (t : Vec GroupRecord Global × Vec StationRecord Global × Vec AgentRecord Global). (t.0.items ≡ x.rows.groups) × (t.1.items ≡ x.rows.stations) × (t.2.items ≡ x.rows.agents)) c.in_err-agents.ensures.found)
+
+pub returns-clause-found : goal.returns-clause-found
+returns-clause-found g c =
+    chained (state g.S.Store c.args.conn.now) (state g.S.Store c.records.new.conn) (state g.S.Store c.agents.new.conn) (c.in_ok-groups.groups, c.in_ok-stations.stations) (λ (x : Content) (t : Vec GroupRecord Global × Vec StationRecord Global). (t.0.items ≡ x.rows.groups) × (t.1.items ≡ x.rows.stations)) _
+    (chained (state g.S.Store c.args.conn.now) (state g.S.Store c.groups.new.conn) (state g.S.Store c.records.new.conn) c.in_ok-groups.groups _ _ c.in_ok-groups.ensures.found c.in_ok-stations.stations (c.in_ok-groups.groups, c.in_ok-stations.stations) (λ (x : Content) (t : Vec GroupRecord Global × Vec StationRecord Global). (t.0.items ≡ x.rows.groups) × (t.1.items ≡ x.rows.stations)) (λ x p q. (p, q)) c.in_ok-stations.ensures.found)
+    c.in_ok-agents.agents (c.in_ok-groups.groups, c.in_ok-stations.stations, c.in_ok-agents.agents) (λ (x : Content) (t : Vec GroupRecord Global × Vec StationRecord Global × Vec AgentRecord Global). (t.0.items ≡ x.rows.groups) × (t.1.items ≡ x.rows.stations) × (t.2.items ≡ x.rows.agents)) (λ x p q. (p.0, p.1, q)) c.in_ok-agents.ensures.found
