@@ -9,10 +9,10 @@ use acd_terms::Event;
 use std::alloc::AllocError;
 
 /// Makes one change. After an error the tables are only to be dropped.
-pub fn change(tables: &mut Tables, change: Change) -> Result<(), AllocError>
-    ensures { OnOk result (tables.new ≡ changed tables.old change) }
+pub fn change(tables: &mut Tables, change: &Change) -> Result<(), AllocError>
+    ensures { OnOk result (tables.new ≡ changed tables.old change.now) }
 {
-    match change {
+    match *change {
         Change::Nothing => Ok(()),
         Change::PutGroup(record) => tables.put_group(record),
         Change::PutStation(record) => tables.put_station(record),
@@ -30,13 +30,13 @@ pub fn change(tables: &mut Tables, change: Change) -> Result<(), AllocError>
 pub fn make(
     tables: &mut Tables,
     moment: u32,
-    one: Move,
+    one: &Move,
     events: &mut Vec<Event>,
 ) -> Result<(), AllocError>
-    ensures rows { OnOk result (tables.new ≡ changed tables.old one.change) }
-    ensures events { OnOk result (events.new.items ≡ events.old.items ++ with_event moment one.report []) }
+    ensures rows { OnOk result (tables.new ≡ changed tables.old one.now.change) }
+    ensures events { OnOk result (events.new.items ≡ events.old.items ++ with_event moment one.now.report []) }
 {
-    change(tables, one.change)?;
+    change(tables, &one.change)?;
     if let Some(report) = one.report {
         events.push(Event {
             number: 0,
@@ -58,7 +58,7 @@ pub fn make_all(
     ensures events { OnOk result (events.new.items ≡ events.old.items ++ events_of moment moves.now) }
 {
     for one in moves {
-        make(tables, moment, *one, events)?;
+        make(tables, moment, one, events)?;
     }
     Ok(())
 }

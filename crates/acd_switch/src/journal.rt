@@ -16,7 +16,7 @@ use acd_terms::Event;
 use std::alloc::{AllocError, Global};
 
 // Few steps make more events or changes, so most journals never grow.
-const ROOM: usize = 8;
+const ROOM: usize = 6;
 
 /// The events and the changes of a step, in order. The numbers of the events are 0.
 #[derive(Debug, Drop)]
@@ -95,7 +95,7 @@ fn make_change(
     if let Change::Nothing = one {
         return Ok(());
     }
-    change(tables, *one)?;
+    change(tables, one)?;
     note(one, changes)
 }
 

@@ -1,5 +1,5 @@
 -- A member in the sets of one group more.
-use Rattle.std.proofs.Common.{◌≡◌, ℕ, ◌+◌, ◌≤◌, Bool, true, false, cond, not, ◌&&◌, ◌||◌, List, [], ◌∷◌, ◌++◌, Some, length, length-append, drop, suc, append_assoc, add-one, refl, ap, sym, ◌∙◌, arith}
+use Rattle.std.proofs.Common.{◌≡◌, ℕ, ◌+◌, ◌≤◌, Bool, true, false, cond, not, ◌&&◌, ◌||◌, List, [], ◌∷◌, ◌++◌, Some, None, length, length-append, drop, suc, append_assoc, add-one, refl, ap, sym, ◌∙◌, arith}
 use Rattle.std.specs.Prelude.{◌==◌, filter}
 use Rattle.std.specs.List.{list_any}
 use Rattle.std.specs.Ordering.{is_eq, nat_cmp}
@@ -71,6 +71,13 @@ module _ {E : Type 0} (cmp : E → E → Ordering) where
         ∙ ap (λ b. b || holds nat_cmp cmp old g e) (sym (entry_last gs x k g e));
   }
 
+  -- a member in the set of one group alone
+  pub leaves_one : (old new : BTreeMap ℕ (BTreeSet E)) (x : ℕ) (k : E) → Sets nat_cmp cmp old new x k false → Leaves cmp old new (Some (x ∷ [], k))
+  leaves_one old new x k s = leaves_more old old new [] x k (record { sets = λ g. refl; members = λ g e. refl }) s
+
+  pub enters_one : (old new : BTreeMap ℕ (BTreeSet E)) (x : ℕ) (k : E) → Sets nat_cmp cmp old new x k true → Enters cmp old new (Some (x ∷ [], k))
+  enters_one old new x k s = enters_more old old new [] x k (record { sets = λ g. refl; members = λ g e. refl }) s
+
   -- where it was new, it is to be taken out there too
   pub undoes_more : (old mid new : BTreeMap ℕ (BTreeSet E)) (done : List ℕ) (x : ℕ) (k : E) (fresh : Bool) → IsTotalOrder cmp
       → Undoes cmp old mid (Some (done, k)) → fresh ≡ not (holds nat_cmp cmp mid x k) → Sets nat_cmp cmp mid new x k true
@@ -114,6 +121,14 @@ module _ {E : Type 0} (cmp : E → E → Ordering) where
           flipped : (h : Bool) → false ≡ not h → h ≡ true
           flipped true n = refl
           flipped false n = absurd (cc (n))
+
+  pub undoes_one : (old new : BTreeMap ℕ (BTreeSet E)) (x : ℕ) (k : E) (fresh : Bool) → IsTotalOrder cmp → fresh ≡ not (holds nat_cmp cmp old x k) → Sets nat_cmp cmp old new x k true
+      → Undoes cmp old new (cond fresh (Some (x ∷ [], k)) None)
+  undoes_one old new x k fresh total f s = by fresh (undoes_more old old new [] x k fresh total (λ g e. refl) f s)
+    where
+      by : (w : Bool) → Undoes cmp old new (Some (cond w (x ∷ []) [], k)) → Undoes cmp old new (cond w (Some (x ∷ [], k)) None)
+      by true u = u
+      by false u = u
 
   -- a failure that changed nothing, and what had entered taken out again
   pub all_undone : (old mid new back : BTreeMap ℕ (BTreeSet E)) (gs done : List ℕ) (k : E) → Enters cmp old mid (Some (gs, k)) → Undoes cmp old mid (Some (done, k)) → Stays nat_cmp cmp mid new → Leaves cmp new back (Some (done, k))

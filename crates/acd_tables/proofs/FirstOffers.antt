@@ -1,5 +1,5 @@
 -- What is found among the groups that are noted is the offer that is to be made.
-use Rattle.std.proofs.Common.{◌≡◌, ℕ, Bool, true, false, cond, ◌&&◌, ◌||◌, List, [], ◌∷◌, Option, Some, None, refl, ap, ap₂, sym, ◌∙◌, subst, arith}
+use Rattle.std.proofs.Common.{◌≡◌, ℕ, Bool, true, false, cond, ◌&&◌, Option, Some, None, refl, ap, ap₂, sym, ◌∙◌, subst, arith}
 use Rattle.std.specs.Prelude.{◌==◌, is_some, option_and_then, filter}
 use Rattle.std.specs.List.Sorted.{IsStrictlySortedBy}
 use Rattle.std.specs.declared.cmp.Ordering.{Ordering}
@@ -18,7 +18,7 @@ use Rattle.acd_model.specs.Rules.Plan.{group_order}
 use Rattle.acd_model.specs.Scans.{group_of}
 use Rattle.acd_model.specs.Choice.{first_waiting, first_eligible, is_served_before, first_served, has_both, offer_by, offer_in, offer_of}
 use Rattle.acd_model.specs.declared.moves.Offer.{Offer}
-use Rattle.acd_laws.proofs.OfferFound.{least_is, IsServedFirst, none_served, served_is}
+use Rattle.acd_laws.proofs.OfferFound.{least_is, none_served, served_is}
 use Rattle.acd_laws.proofs.Lists.{none_from, filter_among, among-filter, eq_is}
 use Rattle.acd_laws.proofs.State.{group_among, group_key, group_found}
 use Rattle.acd_tables.specs.Indexed.{IsIndexed, OfferKey, offer_cmp, offer_key}

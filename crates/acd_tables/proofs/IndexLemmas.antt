@@ -4,7 +4,7 @@ use Rattle.std.specs.Prelude.{◌==◌, filter}
 use Rattle.std.specs.List.{list_any}
 use Rattle.std.specs.declared.cmp.Ordering.{Ordering}
 use Rattle.std.specs.Ordering.{is_eq, nat_cmp}
-use Rattle.std.specs.BTreeMap.{BTreeMap, get, is_at}
+use Rattle.std.specs.BTreeMap.{is_at}
 use Rattle.std.specs.Map.{lookup}
 use Rattle.std.specs.BTreeSet.{BTreeSet, contains}
 use Rattle.std.proofs.lemmas.Bool.{and_from, and_parts, and_left, and_right, or_left, or_right, eqb-true, eq-eqb, not-true, false_from_ne_true}
@@ -23,9 +23,9 @@ use Rattle.acd_terms.specs.declared.record.ConnectionRecord.{ConnectionRecord}
 use Rattle.acd_model.specs.Rules.Plan.{group_order, agent_order, connection_order}
 use Rattle.acd_model.specs.Scans.{is_group, group_of, agent_of, connection_of, at_group, at_agent, at_connection, queued_in_all, has}
 use Rattle.acd_model.specs.Writes.{with_group, with_station, with_agent, with_call, with_connection, with_monitor, without_call, without_connection, without_monitor, with_last, with_last_ids}
-use Rattle.acd_tables.specs.Sets.{holds, holds_in, has_set, is_at_key, Stays, SameMembers, HasSet, Noted, Forgotten}
+use Rattle.acd_tables.specs.Sets.{holds, holds_in, has_set, Stays, SameMembers, HasSet, Noted, Forgotten}
 use Rattle.acd_tables.specs.Indexed.{PairSets, pair_cmp, lists, joins, waits_at, is_busying, is_busy_at, is_free, is_able_since, rings, works, Seats, Lines, Ringing, Working, IsIndexed, SeatMap, seat_of, OfferKey, offer_cmp, offer_key, ListsOffers}
-use Rattle.acd_tables.specs.Turns.{is_entry, Entered, Undone, Untouched, TakenOut, TurnsTo, IsAt, IsFreeFor, with_or_without, one_queued, stays, IsBlank, loses_rank}
+use Rattle.acd_tables.specs.Turns.{is_entry, Entered, Undone, Untouched, TakenOut, TurnsTo, IsAt, IsFreeFor, with_or_without, one_queued, stays, IsBlank, has_rank, loses_rank}
 use Rattle.acd_tables.specs.declared.indexes.Indexes.{Indexes}
 use Rattle.acd_tables.specs.declared.indexes.Entries.{Entries}
 use Rattle.acd_tables.specs.declared.indexes.Turn.{Turn}
@@ -362,6 +362,40 @@ IsIndexed-group s item old x queues ready noted ranked belongs found h hq hr non
     there : (g : ℕ) (a b : Bool) → a ≡ (item.device == g) → (is_group s g ≡ true → b ≡ true) → is_group (with_group s item) g ≡ true → (a || b) ≡ true
     there g true b k f e = refl
     there g false b k f e = f (sym (group_put s item g ∙ ap (λ v. v || is_group s g) (sym k)) ∙ e)
+
+-- a group's record is put at the priority that it has
+pub IsIndexed-ranked : (s : Rows) (item : GroupRecord) (x : Indexes) (old : Option GroupRecord) → old ≡ group_of s item.device → has_rank old item.priority ≡ true → IsIndexed s x → IsIndexed (with_group s item) x
+unfolding with_group
+IsIndexed-ranked s item x None f e h = absurd (cc (e))
+IsIndexed-ranked s item x (Some z) f e h =
+    IsIndexed-lists s (with_group s item) refl refl x x.queues x.ready h (ascending-put group_order groups_total item s.groups h.groups) (λ g p. refl) (λ g p. refl)
+    (λ g k. h.queues g (planned g k)) (λ g k. h.readies g (planned g k)) x.offering offers
+  where
+    there : is_group s item.device ≡ true
+    there = ap (λ (o : Option GroupRecord). is_some o) (sym f)
+
+    planned : (g : ℕ) → is_group (with_group s item) g ≡ true → is_group s g ≡ true
+    planned g k = by (item.device == g) refl
+      where
+        by : (b : Bool) → (item.device == g) ≡ b → is_group s g ≡ true
+        by true i = ap (is_group s) (sym (eqb-true item.device g i)) ∙ there
+        by false i = ap (λ b. b || is_group s g) (sym i) ∙ sym (group_put s item g) ∙ k
+
+    same_key : offer_key z ≡ offer_key item
+    same_key = ap (λ (n : ℕ). offer_key (record z { priority = n })) (eqb-true z.priority item.priority e) ∙ ap (λ (n : ℕ). offer_key (record item { device = n })) (group_key s item.device z (sym f))
+
+    offers : ListsOffers (with_group s item) x.queues x.ready x.offering
+    offers g r p q found k l = by (item.device == g) refl
+      where
+        at : (b : Bool) → (item.device == g) ≡ b → cond b (Some item) (group_of s g) ≡ Some r
+        at b i = ap (λ v. cond v (Some item) (group_of s g)) (sym i) ∙ sym (group_put_found s item g) ∙ found
+
+        by : (b : Bool) → (item.device == g) ≡ b → contains offer_cmp x.offering (offer_key r) ≡ true
+        by true i =
+            let same : item.device ≡ g = eqb-true item.device g i in
+            ap (λ (y : GroupRecord). contains offer_cmp x.offering (offer_key y)) (sym (some_is item r (at true i))) ∙ ap (contains offer_cmp x.offering) (sym same_key)
+            ∙ h.offers item.device z p q (sym f) (ap (λ v. lists x.queues v p) same ∙ k) (ap (λ v. lists x.ready v q) same ∙ l)
+        by false i = h.offers g r p q (at false i) k l
 
 -- sets may come for what is no group
 pub IsIndexed-sets : (s : Rows) (x : Indexes) (queues ready : PairSets) (k : ℕ) → IsIndexed s x → HasSet nat_cmp pair_cmp x.queues queues k → Stays nat_cmp pair_cmp x.ready ready → IsIndexed s (record x { queues = queues; ready = ready })

@@ -1,5 +1,5 @@
 -- The keys of connections, and the connections of a call.
-use Rattle.std.proofs.Common.{◌≡◌, ◌<◌, ℕ, length, arith, inl, inr, Bool, true, false, cond, not, ◌&&◌, ◌||◌, List, [], ◌∷◌, Option, Some, None, refl, sym, ap, subst, ◌∙◌}
+use Rattle.std.proofs.Common.{◌≡◌, ◌<◌, ℕ, length, arith, inl, Bool, true, false, cond, not, ◌&&◌, ◌||◌, List, [], ◌∷◌, Some, None, refl, sym, ap, subst, ◌∙◌}
 use Rattle.std.specs.Prelude.{◌==◌, find, filter, is_some}
 use Rattle.std.specs.List.{filter_map}
 use Rattle.std.specs.List.Sorted.{IsStrictlySortedBy}
@@ -7,7 +7,7 @@ use Rattle.std.specs.Ordering.{is_eq}
 use Rattle.std.specs.BTreeSet.{BTreeSet, contains}
 use Rattle.std.specs.Cmp.{both_ways}
 use Rattle.std.specs.List.{list_any}
-use Rattle.std.proofs.lemmas.Bool.{and_parts, and_from, or_left, or_right, eqb-true, eq-eqb}
+use Rattle.std.proofs.lemmas.Bool.{and_from, or_left, or_right, eqb-true, eq-eqb}
 use Rattle.acd_terms.specs.Lists.{find_by, put_by, remove_by, Among, IsAscending}
 use Rattle.acd_terms.specs.declared.record.ConnectionRecord.{ConnectionRecord}
 use Rattle.acd_model.specs.Rules.Plan.{connection_order}
@@ -16,7 +16,7 @@ use Rattle.acd_laws.proofs.Lists.{any_found, any_some, find_passes, find_among, 
 use Rattle.acd_laws.proofs.Keyed.{found_among, found_has, found_own, some_put}
 use Rattle.acd_laws.proofs.State.{by_connection, connections_total, is_of, is_of_true, left_at}
 use Rattle.acd_tables.specs.Indexed.{pair_cmp}
-use Rattle.acd_tables.specs.Sets.{Notes, Noted, Forgotten}
+use Rattle.acd_tables.specs.Sets.{Noted, Forgotten}
 use Rattle.acd_tables.specs.Near.{of_key, HasKeys}
 use Rattle.acd_tables.proofs.NoteLemmas.{notes-left}
 use Rattle.acd_tables.proofs.Picked.{picked, contained, exact_pair}

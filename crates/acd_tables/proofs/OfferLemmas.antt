@@ -1,16 +1,16 @@
 -- The groups that may have an offer, through the changes of sets.
-use Rattle.std.proofs.Common.{◌≡◌, ℕ, Bool, true, false, cond, ◌&&◌, ◌||◌, not, List, Option, Some, None, refl, ap, sym, ◌∙◌}
+use Rattle.std.proofs.Common.{◌≡◌, ℕ, Bool, true, false, ◌&&◌, ◌||◌, not, List, Option, Some, None, refl, ap, sym, ◌∙◌}
 use Rattle.std.specs.Ordering.{is_eq, nat_cmp, ordering_then}
 use Rattle.std.specs.declared.cmp.Ordering.{Ordering}
 use Rattle.std.specs.declared.cmp.Ordering.TheVariants.{Less, Equal, Greater}
 use Rattle.std.specs.BTreeSet.{BTreeSet, contains}
-use Rattle.std.proofs.lemmas.Bool.{and_parts, and_from, or_left, or_right, false_from_ne_true}
+use Rattle.std.proofs.lemmas.Bool.{and_parts}
 use Rattle.std.proofs.lemmas.Map.Lookups.{exact_unsigned}
 use Rattle.acd_terms.specs.Groups.{is_one_of}
 use Rattle.acd_terms.specs.declared.rows.Rows.{Rows}
 use Rattle.acd_terms.specs.declared.record.GroupRecord.{GroupRecord}
 use Rattle.acd_model.specs.Scans.{group_of}
-use Rattle.acd_laws.proofs.Lists.{eq_is, is_eq_of, some_is}
+use Rattle.acd_laws.proofs.Lists.{eq_is}
 use Rattle.acd_laws.proofs.Keyed.{cmp_self}
 use Rattle.acd_laws.proofs.State.{group_key}
 use Rattle.acd_tables.specs.Sets.{Forgotten}

@@ -6,7 +6,6 @@ use Rattle.std.specs.List.Sorted.{IsStrictlySortedBy}
 use Rattle.std.specs.declared.cmp.Ordering.{Ordering}
 use Rattle.std.specs.declared.cmp.Ordering.TheVariants.{Less, Equal, Greater}
 use Rattle.std.specs.Ordering.{is_eq, nat_cmp, ordering_reverse, ordering_then}
-use Rattle.std.specs.BTreeMap.{BTreeMap, get}
 use Rattle.std.specs.Cmp.{IsTotalOrder}
 use Rattle.std.specs.BTreeSet.{BTreeSet, contains}
 use Rattle.std.proofs.lemmas.Bool.{and_parts, eqb-true, eq-eqb}
@@ -22,8 +21,7 @@ use Rattle.acd_laws.proofs.Lists.{eq_is, after_among, any_found, find_passes, fi
 use Rattle.acd_laws.proofs.Keyed.{cmp_self}
 use Rattle.acd_laws.proofs.State.{connections_total, agents_total, connection_among, connection_found, found_key, agent_among, agent_found, agent_key}
 use Rattle.acd_tables.specs.AtDevice.{is_at_device, connections_at, line_at}
-use Rattle.acd_tables.specs.Sets.{holds, holds_in}
-use Rattle.acd_tables.specs.Indexed.{pair_cmp, is_ringing, is_working, rings, works, Ringing, Working, Lines}
+use Rattle.acd_tables.specs.Indexed.{pair_cmp, is_ringing, is_working, rings, works, Ringing, Working}
 use Rattle.acd_tables.specs.Uses.{kept}
 use Rattle.acd_tables.proofs.TurnLemmas.{pair_key}
 

@@ -1,5 +1,5 @@
 -- Maps that keep no order, whose records hold their keys, against lists in ascending key.
-use Rattle.std.proofs.Common.{◌≡◌, ℕ, suc, ◌+◌, inl, inr, Bool, true, false, cond, List, [], ◌∷◌, Option, Some, None, length, refl, sym, ap, subst, ◌∙◌, arith}
+use Rattle.std.proofs.Common.{◌≡◌, ◌+◌, inl, inr, Bool, true, false, cond, List, [], ◌∷◌, Option, Some, None, length, refl, sym, ap, subst, ◌∙◌, arith}
 use Rattle.std.specs.Prelude.{is_some}
 use Rattle.std.specs.Cmp.{IsTotalOrder, both_ways}
 use Rattle.std.specs.List.{AllByRecursion, IsDistinct}
@@ -10,7 +10,6 @@ use Rattle.std.specs.declared.cmp.Ordering.TheVariants.{Less, Equal, Greater}
 use Rattle.std.proofs.lemmas.Cmp.{on_total}
 use Rattle.std.proofs.lemmas.Map.Lookups.{CmpEqualImpliesEq}
 use Rattle.acd_terms.specs.Lists.{find_by, put_by, remove_by, Among, IsAscending}
-use Rattle.acd_laws.proofs.Words.{count}
 use Rattle.acd_laws.proofs.Lists.{eq_is, is_eq_of, ascending-put, ascending-remove}
 use Rattle.acd_laws.proofs.Keyed.{Keyed, found_among, found_own, found_put, found_left, counted_new}
 use Rattle.acd_laws.proofs.Orderly.{count_all}

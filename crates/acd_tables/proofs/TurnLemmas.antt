@@ -6,7 +6,6 @@ use Rattle.std.specs.Cmp.{both_ways, IsTotalOrder}
 use Rattle.std.specs.declared.cmp.Ordering.{Ordering}
 use Rattle.std.specs.declared.cmp.Ordering.TheVariants.{Less, Equal, Greater}
 use Rattle.std.specs.Ordering.{is_eq, nat_cmp, ordering_then, ordering_reverse}
-use Rattle.std.specs.BTreeMap.{BTreeMap}
 use Rattle.std.proofs.lemmas.Bool.{and_parts, and_from, and_left, and_right, or_cases, or_left, or_right, eqb-true, eq-eqb, false_from_ne_true, not-true}
 use Rattle.acd_terms.specs.Lists.{IsAscending}
 use Rattle.acd_terms.specs.Groups.{is_one_of}
@@ -15,7 +14,7 @@ use Rattle.acd_terms.specs.declared.rows.Rows.{Rows}
 use Rattle.acd_terms.specs.declared.record.AgentRecord.{AgentRecord}
 use Rattle.acd_terms.specs.declared.record.ConnectionRecord.{ConnectionRecord}
 use Rattle.acd_model.specs.Rules.Plan.{agent_order, connection_order}
-use Rattle.acd_model.specs.Scans.{agent_of, agent_at, connection_of, has}
+use Rattle.acd_model.specs.Scans.{agent_of, agent_at, connection_of}
 use Rattle.acd_model.specs.Writes.{with_agent, with_connection, without_connection}
 use Rattle.acd_laws.proofs.Lists.{eq_is, is_eq_of, some_is, ascending-put, ascending-remove}
 use Rattle.acd_laws.proofs.Keyed.{cmp_equal, cmp_self}
@@ -505,3 +504,22 @@ module _ {E : Type 0} (cmp : E → E → Ordering) (total : IsTotalOrder cmp) wh
           ∙ less (is_one_of gs g) (is_one_of other.0 g) (is_eq (cmp k e))
           ∙ ap (λ q. (is_one_of gs g && is_eq (cmp k e)) && not (is_one_of other.0 g && q)) (same_as k other.1 e h)
       by false h = kept (is_one_of gs g) (is_eq (cmp k e)) (is_one_of other.0 g) (is_eq (cmp other.1 e)) (λ f. other_than k other.1 e h f)
+
+  -- of one group
+  pub left_alone : (x : ℕ) (k : E) (after : Option (List ℕ × E)) → LeavesBut cmp (Some (x ∷ [], k)) after (cond (is_entry cmp after x k) None (Some (x ∷ [], k)))
+  left_alone x k after g e = by (x == g) refl (is_eq (cmp k e)) refl (is_entry cmp after x k) refl
+    where
+      same : (x == g) ≡ true → is_eq (cmp k e) ≡ true → (o : Option (List ℕ × E)) → is_entry cmp o g e ≡ is_entry cmp o x k
+      same a b None = refl
+      same a b (Some o) =
+          let k_is : is_eq (cmp o.1 e) ≡ is_eq (cmp o.1 k) = ap is_eq (total.antisymm o.1 e ∙ ap ordering_reverse (sym (ap (λ (f : E → Ordering). f o.1) (λ i z. total.congr k e z (eq_is (cmp k e) b) i))) ∙ sym (total.antisymm o.1 k)) in
+          ap (λ y. is_one_of o.0 y && is_eq (cmp o.1 e)) (sym (eqb-true x g a)) ∙ ap (λ q. is_one_of o.0 x && q) k_is
+
+      by : (a : Bool) → (x == g) ≡ a → (b : Bool) → is_eq (cmp k e) ≡ b → (w : Bool) → is_entry cmp after x k ≡ w
+          → is_entry cmp (cond w None (Some (x ∷ [], k))) g e ≡ (is_entry cmp (Some (x ∷ [], k)) g e && not (is_entry cmp after g e))
+      by true f true h true j = rw (f, h, same f h after ∙ j) refl
+      by true f true h false j = rw (f, h, same f h after ∙ j) refl
+      by true f false h true j = rw (f, h) refl
+      by true f false h false j = rw (f, h) refl
+      by false f b h true j = rw f refl
+      by false f b h false j = rw f refl

@@ -17,7 +17,7 @@ use Rattle.acd_terms.specs.declared.record.GroupRecord.{GroupRecord}
 use Rattle.acd_terms.specs.declared.record.AgentRecord.{AgentRecord}
 use Rattle.acd_terms.specs.declared.record.ConnectionRecord.{ConnectionRecord}
 use Rattle.acd_model.specs.Rules.Plan.{group_order, agent_order, connection_order}
-use Rattle.acd_model.specs.Scans.{is_group, group_of, agent_of, connection_of, queued_in_all, has}
+use Rattle.acd_model.specs.Scans.{is_group, group_of, agent_of, connection_of, queued_in_all}
 use Rattle.acd_tables.specs.Sets.{holds, has_set, Notes}
 use Rattle.acd_tables.specs.declared.indexes.Indexes.{Indexes}
 

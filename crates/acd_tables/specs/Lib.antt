@@ -3,6 +3,7 @@ pub mod KeyedMaps
 pub mod Sets
 pub mod Indexed
 pub mod Uses
+pub mod Alone
 pub mod Turns
 pub mod Near
 pub mod FirstOffer

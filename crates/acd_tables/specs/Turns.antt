@@ -144,6 +144,11 @@ pub record IsBlank (x : Indexes) : Type 0 where
   pub ready : x.ready.entries ≡ []
   pub queued : x.queued ≡ 0
 
+-- the group that may be there has the priority
+abbrev pub has_rank : Option GroupRecord → ℕ → Bool
+has_rank None priority = false
+has_rank (Some g) priority = g.priority == priority
+
 -- the key is that of the group before, and it has another priority now
 abbrev pub loses_rank : Option GroupRecord → ℕ → OfferKey → Bool
 loses_rank None priority k = false

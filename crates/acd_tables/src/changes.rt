@@ -7,8 +7,9 @@ ghost use Rattle.acd_model.specs.Scans.{agent_of, agent_at, connection_of, queue
 ghost use Rattle.acd_model.specs.Writes.{with_group, with_agent, with_connection, without_connection};
 ghost use Rattle.std.specs.BTreeSet.{contains};
 ghost use Rattle.acd_tables.specs.Indexed.{IsIndexed, OfferKey, offer_cmp, seat_of, Seats, rings, works};
-ghost use Rattle.acd_tables.specs.Turns.{IsAt, with_or_without, one_queued, stays, IsFreeFor, loses_rank};
+ghost use Rattle.acd_tables.specs.Turns.{IsAt, with_or_without, one_queued, stays, IsFreeFor, has_rank, loses_rank};
 
+use crate::alone::Alone;
 use crate::indexes::{Indexes, OfferKey, may_offer, offer_key};
 use crate::lines::{list, unlist};
 use crate::records::Records;
@@ -19,7 +20,8 @@ use acd_terms::{AgentId, AgentRecord, ConnectionRecord, DeviceId, Few, GroupReco
 use std::alloc::{AllocError, Global};
 use std::collections::{BTreeSet, HashMap};
 
-/// Puts the group. A new one gets its two sets before, and one that has an offer its place by its priority.
+/// Puts the group. A new one gets its two sets before, and one that has an offer its place by its priority,
+/// where that is new.
 pub(crate) fn put_group(
     alloc: Global,
     records: &mut Records,
@@ -31,14 +33,27 @@ pub(crate) fn put_group(
     ensures ok { OnOk result (records.new ≡ with_group records.old item) }
     ensures err { OnErr result (records.new ≡ records.old) }
 {
+    let old = records.group(item.device);
+    if has_rank(&old, item.priority) {
+        return records.put_group(item);
+    }
     add_set(alloc, &mut indexes.queues, item.device)?;
     add_set(alloc, &mut indexes.ready, item.device)?;
-    let old = records.group(item.device);
     let offers = may_offer(&indexes.queues, &indexes.ready, item.device);
     note(&mut indexes.offering, offer_key(&item), offers)?;
     records.put_group(item)?;
     forget_rank(&mut indexes.offering, &old, item.priority);
     Ok(())
+}
+
+// The group is there, at the priority.
+fn has_rank(group: &Option<GroupRecord>, priority: Priority) -> bool
+    ensures { result ≡ has_rank group.now priority }
+{
+    match group {
+        None => false,
+        Some(group) => group.priority == priority,
+    }
 }
 
 // The group is no longer among those of its priority of before, where that is another.
@@ -136,28 +151,28 @@ fn sit(
 pub(crate) fn put_agent(
     records: &mut Records,
     indexes: &mut Indexes,
-    item: AgentRecord,
+    item: &AgentRecord,
 ) -> Result<(), AllocError>
     requires { IsIndexed records.old indexes.old }
     ensures indexed { IsIndexed records.new indexes.new }
-    ensures ok { OnOk result (records.new ≡ with_agent records.old item) }
+    ensures ok { OnOk result (records.new ≡ with_agent records.old item.now) }
     ensures err { OnErr result (records.new ≡ records.old) }
 {
-    let _few = Few::none();
+    let (_few, _alone) = (Few::none(), None::<Alone>);
     let old = records.agent(item.agent);
-    sit(records, &mut indexes.seats, &old, &item)?;
+    sit(records, &mut indexes.seats, &old, item)?;
     let works = item.state.is_working_after_call();
     note(&mut indexes.working, item.agent, works)?;
-    let turn = agent_turn(records, indexes, &old, &item);
-    let undo = indexes.enter(records, turn.entering)?;
-    match records.put_agent(item) {
+    let turn = agent_turn(records, indexes, &old, item);
+    let undo = indexes.enter(records, &turn.entering)?;
+    match records.put_agent(*item) {
         Ok(()) => {
-            indexes.settle(records, turn);
+            indexes.settle(records, &turn);
             forget(&mut indexes.working, item.agent, ends_work(&old, works));
             Ok(())
         }
         Err(error) => {
-            indexes.take_out(records, undo);
+            indexes.take_out(records, &undo);
             Err(error)
         }
     }
@@ -213,7 +228,7 @@ pub(crate) fn put_connection(
     ensures ok { OnOk result (records.new ≡ with_connection records.old item.now) }
     ensures err { OnErr result (records.new ≡ records.old) }
 {
-    let _few = Few::none();
+    let (_few, _alone) = (Few::none(), None::<Alone>);
     let (call, device) = (item.call, item.device);
     let old = records.connection(call, device);
     list(&mut indexes.lines, device, call, &old)?;
@@ -222,10 +237,10 @@ pub(crate) fn put_connection(
     let new = Some(*item);
     let turn = connection_turn(records, indexes, call, device, &old, &new);
     let queued = queued_after(records, indexes, call, device, &old, &new);
-    let undo = indexes.enter(records, turn.entering)?;
+    let undo = indexes.enter(records, &turn.entering)?;
     match records.put_connection(*item) {
         Ok(()) => {
-            indexes.settle(records, turn);
+            indexes.settle(records, &turn);
             indexes.queued = queued;
             forget(
                 &mut indexes.ringing,
@@ -235,7 +250,7 @@ pub(crate) fn put_connection(
             Ok(())
         }
         Err(error) => {
-            indexes.take_out(records, undo);
+            indexes.take_out(records, &undo);
             Err(error)
         }
     }
@@ -253,13 +268,13 @@ pub(crate) fn remove_connection(
     ensures ok { OnOk result (records.new ≡ without_connection records.old call device) }
     ensures err { OnErr result (records.new ≡ records.old) }
 {
-    let _few = Few::none();
+    let (_few, _alone) = (Few::none(), None::<Alone>);
     let old = records.connection(call, device);
     let turn = connection_turn(records, indexes, call, device, &old, &None);
     let queued = queued_after(records, indexes, call, device, &old, &None);
-    indexes.enter(records, turn.entering)?;
+    indexes.enter(records, &turn.entering)?;
     records.remove_connection(call, device);
-    indexes.settle(records, turn);
+    indexes.settle(records, &turn);
     indexes.queued = queued;
     forget(
         &mut indexes.ringing,

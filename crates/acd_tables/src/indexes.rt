@@ -1,7 +1,7 @@
 //! The indexes: who waits and who is able to take a call in each group, who is at a station, the calls at a device,
 //! and what tick may end.
 
-ghost use Rattle.std.specs.Prelude.{◌≡◌, ◌≤◌, ℕ, true, false, not, filter, length, Some, OnOk, OnErr, IfOk};
+ghost use Rattle.std.specs.Prelude.{◌≡◌, ◌≤◌, ℕ, true, false, not, filter, length, Some, None, OnOk, OnErr, IfOk, if◌then◌else◌};
 ghost use Rattle.std.specs.Ordering.{nat_cmp};
 ghost use Rattle.acd_terms.specs.Groups.{is_one_of};
 ghost use Rattle.acd_terms.specs.declared.record.GroupRecord.{GroupRecord};
@@ -9,10 +9,11 @@ ghost use Rattle.acd_model.specs.Scans.{group_of};
 ghost use Rattle.std.specs.BTreeSet.{contains};
 ghost use Rattle.acd_tables.specs.Sets.{holds, Stays};
 ghost use Rattle.acd_tables.specs.Indexed.{lists, OfferKey, offer_cmp, offer_key, ListsOffers};
-ghost use Rattle.acd_tables.specs.Turns.{Enters, Leaves, Undoes, LeavesBut, NotesGroups, left_of, is_of_group, Offers, Entered, Undone, Untouched, TakenOut, IsBlank};
+ghost use Rattle.acd_tables.specs.Turns.{is_entry, Enters, Leaves, Undoes, LeavesBut, NotesGroups, left_of, is_of_group, Offers, Entered, Undone, Untouched, TakenOut, IsBlank};
 
+use crate::alone::Alone;
 use crate::records::Records;
-use crate::sets::{enter_all, forget, leave_all, note, push_if};
+use crate::sets::{enter, enter_all, forget, leave, leave_all, note, push_if};
 use acd_terms::{AgentId, DeviceId, Few, GroupRecord, Priority};
 use std::alloc::{AllocError, Global};
 use std::cmp::Reverse;
@@ -45,7 +46,7 @@ pub struct Indexes {
 /// One place in a queue and one among the ready agents of some groups, if there are such.
 #[derive(Clone, Copy)]
 pub struct Entries {
-    pub(crate) queue: Option<(Few, (u64, u64))>,
+    pub(crate) queue: Option<(Alone, (u64, u64))>,
     pub(crate) ready: Option<(Few, (u64, AgentId))>,
 }
 
@@ -77,42 +78,42 @@ impl Indexes {
     pub(crate) fn enter(
         &mut self,
         records: &Records,
-        entries: Entries,
+        entries: &Entries,
     ) -> Result<Entries, AllocError>
         requires { Offers records.now self.old }
-        ensures ok { OnOk result (Entered records.now self.old self.new entries) }
+        ensures ok { OnOk result (Entered records.now self.old self.new entries.now) }
         ensures undo { IfOk result (Undone self.old self.new) }
         ensures err { OnErr result (Untouched records.now self.old self.new) }
     {
-        note_groups(records, &mut self.offering, &entries.queue)?;
+        note_alone(records, &mut self.offering, &entries.queue)?;
         let waiting = with_waiting(&self.queues, &entries.ready);
         note_groups(records, &mut self.offering, &waiting)?;
-        let queue = enter_entry(&mut self.queues, &entries.queue)?;
+        let queue = enter_alone(&mut self.queues, &entries.queue)?;
         match enter_entry(&mut self.ready, &entries.ready) {
             Ok(ready) => Ok(Entries { queue, ready }),
             Err(error) => {
-                leave_entry(&mut self.queues, &queue);
+                leave_alone(&mut self.queues, &queue);
                 Err(error)
             }
         }
     }
 
     /// Takes the entries out.
-    pub(crate) fn take_out(&mut self, records: &Records, entries: Entries)
+    pub(crate) fn take_out(&mut self, records: &Records, entries: &Entries)
         requires { Offers records.now self.old }
-        ensures { TakenOut records.now self.old self.new entries }
+        ensures { TakenOut records.now self.old self.new entries.now }
     {
-        leave_entry(&mut self.queues, &entries.queue);
+        leave_alone(&mut self.queues, &entries.queue);
         leave_entry(&mut self.ready, &entries.ready);
-        self.prune(records, &entries);
+        self.prune(records, entries);
     }
 
     /// Takes out what leaves, and the groups of the turn that have no offer.
-    pub(crate) fn settle(&mut self, records: &Records, turn: Turn)
+    pub(crate) fn settle(&mut self, records: &Records, turn: &Turn)
         requires { Offers records.now self.old }
-        ensures { TakenOut records.now self.old self.new turn.leaving }
+        ensures { TakenOut records.now self.old self.new turn.now.leaving }
     {
-        self.take_out(records, turn.leaving);
+        self.take_out(records, &turn.leaving);
         self.prune(records, &turn.entering);
     }
 
@@ -122,7 +123,7 @@ impl Indexes {
         ensures offers { ListsOffers records.now self.old.queues self.old.ready self.new.offering }
         ensures rest { self.new ≡ record self.old { offering = self.new.offering } }
     {
-        prune_entry(
+        prune_alone(
             records,
             &self.queues,
             &self.ready,
@@ -176,6 +177,21 @@ fn note_each(
         note_group(records, offering, *group)?;
     }
     Ok(())
+}
+
+// Puts the group of the entry among those that may have an offer.
+fn note_alone<E: Copy>(
+    records: &Records,
+    offering: &mut BTreeSet<OfferKey>,
+    entry: &Option<(Alone, E)>,
+) -> Result<(), AllocError>
+    ensures kept { (k : OfferKey) → contains offer_cmp offering.old k ≡ true → contains offer_cmp offering.new k ≡ true }
+    ensures ok { OnOk result ((g : ℕ) (r : GroupRecord) → is_of_group entry.now g ≡ true → group_of records.now g ≡ Some r → contains offer_cmp offering.new (offer_key r) ≡ true) }
+{
+    match entry {
+        None => Ok(()),
+        Some((alone, _)) => note_group(records, offering, alone.group()),
+    }
 }
 
 // Puts the groups of the entry among those that may have an offer.
@@ -233,6 +249,22 @@ fn prune_group(
     if let Some(record) = records.group(group) {
         let gone = !may_offer(queues, ready, group);
         forget(offering, offer_key(&record), gone);
+    }
+}
+
+// Takes the group of the entry out of those that may have an offer, where it has none.
+fn prune_alone<E: Copy>(
+    records: &Records,
+    queues: &BTreeMap<DeviceId, BTreeSet<(u64, u64)>>,
+    ready: &BTreeMap<DeviceId, BTreeSet<(u64, AgentId)>>,
+    offering: &mut BTreeSet<OfferKey>,
+    entry: &Option<(Alone, E)>,
+)
+    requires { ListsOffers records.now queues.now ready.now offering.old }
+    ensures { ListsOffers records.now queues.now ready.now offering.new }
+{
+    if let Some((alone, _)) = entry {
+        prune_group(records, queues, ready, offering, alone.group());
     }
 }
 
@@ -320,6 +352,72 @@ pub(crate) fn leaving_but<E: Ord + Copy>(
     match before {
         None => None,
         Some((groups, member)) => Some((left_of(groups, *member, after), *member)),
+    }
+}
+
+// The entry is this member, in the set of the group.
+fn is_entry<E: Ord + Copy>(entry: &Option<(Alone, E)>, group: DeviceId, member: E) -> bool
+    ensures { result ≡ is_entry E.cmp entry.now group member }
+{
+    match entry {
+        None => false,
+        Some((alone, own)) => alone.group() == group && own.cmp(&member).is_eq(),
+    }
+}
+
+/// The first entry, but where it is the second too.
+pub(crate) fn leaving_alone<E: Ord + Copy>(
+    before: &Option<(Alone, E)>,
+    after: &Option<(Alone, E)>,
+) -> Option<(Alone, E)>
+    ensures { LeavesBut E.cmp before.now after.now result }
+{
+    match before {
+        None => None,
+        Some((alone, member)) => {
+            if is_entry(after, alone.group(), *member) {
+                None
+            } else {
+                *before
+            }
+        }
+    }
+}
+
+/// The entry, if it is taken.
+pub(crate) fn only<E: Copy>(entry: &Option<E>, taken: bool) -> Option<E>
+    ensures { result ≡ (if taken then entry.now else None) }
+{
+    if taken { *entry } else { None }
+}
+
+// Puts the entry into its set, and gives what is to be taken out to undo it.
+fn enter_alone<E: Ord + Copy>(
+    sets: &mut BTreeMap<DeviceId, BTreeSet<E>>,
+    entry: &Option<(Alone, E)>,
+) -> Result<Option<(Alone, E)>, AllocError>
+    ensures ok { OnOk result (Enters E.cmp sets.old sets.new entry.now) }
+    ensures undo { IfOk result (Undoes E.cmp sets.old sets.new) }
+    ensures err { OnErr result (Stays nat_cmp E.cmp sets.old sets.new) }
+{
+    match entry {
+        None => Ok(None),
+        Some((alone, member)) => {
+            let new = enter(sets, alone.group(), *member)?;
+            Ok(only(entry, new))
+        }
+    }
+}
+
+// Takes the entry out of its set.
+fn leave_alone<E: Ord + Copy>(
+    sets: &mut BTreeMap<DeviceId, BTreeSet<E>>,
+    entry: &Option<(Alone, E)>,
+)
+    ensures { Leaves E.cmp sets.old sets.new entry.now }
+{
+    if let Some((alone, member)) = entry {
+        leave(sets, alone.group(), *member);
     }
 }
 

@@ -12,6 +12,7 @@
 //! ```
 #![tactic(auto)]
 
+mod alone;
 mod changes;
 mod connections;
 mod filling;

@@ -11,10 +11,10 @@ use acd_terms::{DeviceId, Few};
 use std::alloc::{AllocError, Global};
 use std::collections::{BTreeMap, BTreeSet};
 
-// Puts the member into the set at the key, and says whether it is new there. Where the key has no set
-// it fails as if there were no memory.
+/// Puts the member into the set at the key, and says whether it is new there. Where the key has no set
+/// it fails as if there were no memory.
 #[tactic(auto, unfolding(crate::specs::Sets::holds, crate::specs::Sets::has_set))]
-fn enter<K: Ord + Copy, E: Ord + Copy>(
+pub(crate) fn enter<K: Ord + Copy, E: Ord + Copy>(
     sets: &mut BTreeMap<K, BTreeSet<E>>,
     key: K,
     member: E,
@@ -29,9 +29,13 @@ fn enter<K: Ord + Copy, E: Ord + Copy>(
     }
 }
 
-// Takes the member out of the set at the key.
+/// Takes the member out of the set at the key.
 #[tactic(auto, unfolding(crate::specs::Sets::holds, crate::specs::Sets::has_set))]
-fn leave<K: Ord + Copy, E: Ord + Copy>(sets: &mut BTreeMap<K, BTreeSet<E>>, key: K, member: E)
+pub(crate) fn leave<K: Ord + Copy, E: Ord + Copy>(
+    sets: &mut BTreeMap<K, BTreeSet<E>>,
+    key: K,
+    member: E,
+)
     ensures { Sets K.cmp E.cmp sets.old sets.new key member false }
 {
     if let Some(set) = sets.get_mut(&key) {

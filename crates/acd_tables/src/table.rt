@@ -76,6 +76,10 @@ impl<R: Keyed> Table<R> {
         ensures ok { OnOk result (self.new ≡ put_by (λ x. R.Key.cmp (R.key_of item) (R.key_of x)) self.old item) }
         ensures err { OnErr result (self.new ≡ self.old) }
     {
+        if let Some(old) = self.map.get_mut(&item.key()) {
+            *old = item;
+            return Ok(());
+        }
         self.map.insert(item.key(), item)?;
         Ok(())
     }

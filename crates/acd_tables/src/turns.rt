@@ -8,20 +8,21 @@ ghost use Rattle.acd_tables.specs.Uses.{is_there_and, is_in_use};
 ghost use Rattle.acd_tables.specs.declared.uses.Use.TheVariants.{Busying};
 ghost use Rattle.acd_tables.specs.Turns.{TurnsTo, differ, IsAt, queue_entry, ready_entry, with_or_without};
 
-use crate::indexes::{Entries, Indexes, Turn, leaving_but};
+use crate::alone::Alone;
+use crate::indexes::{Entries, Indexes, Turn, leaving_alone, leaving_but, only};
 use crate::records::Records;
 use crate::uses::{Use, agent_at, is_in_use, uses};
 use acd_terms::{AgentId, AgentRecord, ConnectionRecord, DeviceId, Few};
 
 // The place of a queued connection.
-fn queue_entry(connection: &Option<ConnectionRecord>) -> Option<(Few, (u64, u64))>
+fn queue_entry(connection: &Option<ConnectionRecord>) -> Option<(Alone, (u64, u64))>
     ensures { result ≡ queue_entry connection.now }
 {
     match connection {
         None => None,
         Some(c) => {
             if c.state.is_queued() {
-                Some((Few::one(c.device), (c.place.unwrap_or(0), c.call)))
+                Some((Alone::new(c.device), (c.place.unwrap_or(0), c.call)))
             } else {
                 None
             }
@@ -47,12 +48,6 @@ fn ready_entry(agent: &Option<AgentRecord>) -> Option<(Few, (u64, AgentId))>
         None => None,
         Some(agent) => able_entry(agent),
     }
-}
-
-fn only<E: Copy>(entry: &Option<E>, taken: bool) -> Option<E>
-    ensures { result ≡ (if taken then entry.now else None) }
-{
-    if taken { *entry } else { None }
 }
 
 fn only_not<E: Copy>(entry: &Option<E>, taken: bool) -> Option<E>
@@ -143,7 +138,7 @@ pub(crate) fn connection_turn(
     let after = queue_entry(new);
     let seat = turning_seat(records, indexes, device, old, new);
     let busy = is_kept(records, indexes, call, device, new, &seat);
-    let leaving = leaving_but(&before, &after);
+    let leaving = leaving_alone(&before, &after);
     Turn {
         entering: Entries {
             queue: after,

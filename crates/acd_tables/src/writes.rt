@@ -29,7 +29,7 @@ impl Tables {
         ensures ok { OnOk result (self.new ≡ with_agent self.old item) }
         ensures err { OnErr result (self.new ≡ self.old) }
     {
-        put_agent(&mut self.records, &mut self.indexes, item)
+        put_agent(&mut self.records, &mut self.indexes, &item)
     }
 
     /// Puts the call, and raises the last call to a greater one.

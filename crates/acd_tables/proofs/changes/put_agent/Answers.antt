@@ -24,7 +24,7 @@ agent_turn-turn-requires-clause-indexed c =
     let s = c.args.records.now in
     let x = c.args.indexes.now in
     let seats = c.sit.ensures.kept in
-    let working = notes-more nat_cmp (λ n. works (agent_of s n)) x.working c.note.new.noted c.args.item.agent c.is_working_after_call-works.result c.requires.working c.in_ok-note.ensures.ok in
+    let working = notes-more nat_cmp (λ n. works (agent_of s n)) x.working c.note.new.noted c.args.item.now.agent c.is_working_after_call-works.result c.requires.working c.in_ok-note.ensures.ok in
     let before = IsIndexed-seated s x c.sit.new.seats c.note.new.noted c.requires seats working in
     before
 
@@ -33,7 +33,7 @@ returns-in_err-undo-clause-indexed c =
     let s = c.args.records.now in
     let x = c.args.indexes.now in
     let seats = c.sit.ensures.kept in
-    let working = notes-more nat_cmp (λ n. works (agent_of s n)) x.working c.note.new.noted c.args.item.agent c.is_working_after_call-works.result c.requires.working c.in_ok-note.ensures.ok in
+    let working = notes-more nat_cmp (λ n. works (agent_of s n)) x.working c.note.new.noted c.args.item.now.agent c.is_working_after_call-works.result c.requires.working c.in_ok-note.ensures.ok in
     let before = IsIndexed-seated s x c.sit.new.seats c.note.new.noted c.requires seats working in
     IsIndexed-untouched s (record x { seats = c.sit.new.seats; working = c.note.new.noted }) c.enter.new.self before c.in_err-undo.ensures.err
 
@@ -42,12 +42,12 @@ returns-in-Ok-clause-indexed c =
     let s = c.args.records.now in
     let x = c.args.indexes.now in
     let seats = c.sit.ensures.kept in
-    let working = notes-more nat_cmp (λ n. works (agent_of s n)) x.working c.note.new.noted c.args.item.agent c.is_working_after_call-works.result c.requires.working c.in_ok-note.ensures.ok in
+    let working = notes-more nat_cmp (λ n. works (agent_of s n)) x.working c.note.new.noted c.args.item.now.agent c.is_working_after_call-works.result c.requires.working c.in_ok-note.ensures.ok in
     let before = IsIndexed-seated s x c.sit.new.seats c.note.new.noted c.requires seats working in
-    let now = IsIndexed-agent s c.args.item (record x { seats = c.sit.new.seats; working = c.note.new.noted }) c.enter.new.self c.settle.new.self c.agent_turn-turn.result before c.in_ok-undo.ensures.ok
+    let now = IsIndexed-agent s c.args.item.now (record x { seats = c.sit.new.seats; working = c.note.new.noted }) c.enter.new.self c.settle.new.self c.agent_turn-turn.result before c.in_ok-undo.ensures.ok
     (subst (λ t. TakenOut t c.enter.new.self c.settle.new.self c.agent_turn-turn.result.leaving) c.in-Ok.ensures.ok c.settle.ensures) c.agent_turn-turn.ensures
-    c.in_ok-sit.ensures.ok (Working-put s c.args.item x.working c.note.new.noted c.is_working_after_call-works.result c.is_working_after_call-works.ensures c.requires.working c.in_ok-note.ensures.ok) in
-    let left = Working-left s c.args.item _ c.forget.new.noted c.ends_work.result (λ g. sym c.is_working_after_call-works.ensures ∙ left_only _ _ (sym c.ends_work.ensures ∙ g)) now.working c.forget.ensures in
+    c.in_ok-sit.ensures.ok (Working-put s c.args.item.now x.working c.note.new.noted c.is_working_after_call-works.result c.is_working_after_call-works.ensures c.requires.working c.in_ok-note.ensures.ok) in
+    let left = Working-left s c.args.item.now _ c.forget.new.noted c.ends_work.result (λ g. sym c.is_working_after_call-works.ensures ∙ left_only _ _ (sym c.ends_work.ensures ∙ g)) now.working c.forget.ensures in
     rw c.in-Ok.ensures.ok (IsIndexed-working _ _ c.forget.new.noted now left)
 
 pub returns-in-Err-clause-indexed : goal.returns-in-Err-clause-indexed
@@ -55,7 +55,7 @@ returns-in-Err-clause-indexed c =
     let s = c.args.records.now in
     let x = c.args.indexes.now in
     let seats = c.sit.ensures.kept in
-    let working = notes-more nat_cmp (λ n. works (agent_of s n)) x.working c.note.new.noted c.args.item.agent c.is_working_after_call-works.result c.requires.working c.in_ok-note.ensures.ok in
+    let working = notes-more nat_cmp (λ n. works (agent_of s n)) x.working c.note.new.noted c.args.item.now.agent c.is_working_after_call-works.result c.requires.working c.in_ok-note.ensures.ok in
     let before = IsIndexed-seated s x c.sit.new.seats c.note.new.noted c.requires seats working in
     let back = Untouched-undone s (record x { seats = c.sit.new.seats; working = c.note.new.noted }) c.enter.new.self c.take_out.new.self c.agent_turn-turn.result.entering c.in_ok-undo.undo c.in_ok-undo.ensures.ok c.in_ok-undo.ensures.undo
     (subst (λ t. TakenOut t c.enter.new.self c.take_out.new.self c.in_ok-undo.undo) c.in-Err.ensures.err c.take_out.ensures) in
@@ -65,7 +65,7 @@ pub settle-requires : goal.settle-requires
 settle-requires c =
     let s = c.args.records.now in
     let y = c.enter.new.self in
-    rw c.in-Ok.ensures.ok (offers-of s (with_agent s c.args.item) y.queues y.ready y.offering (group_same s (with_agent s c.args.item) (groups_seated s c.args.item)) c.in_ok-undo.ensures.ok.offers)
+    rw c.in-Ok.ensures.ok (offers-of s (with_agent s c.args.item.now) y.queues y.ready y.offering (group_same s (with_agent s c.args.item.now) (groups_seated s c.args.item.now)) c.in_ok-undo.ensures.ok.offers)
 
 pub take_out-requires : goal.take_out-requires
 take_out-requires c = subst (λ t. Offers t c.enter.new.self) (sym c.in-Err.ensures.err) c.in_ok-undo.ensures.ok.offers

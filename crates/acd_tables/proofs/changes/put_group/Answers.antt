@@ -1,11 +1,19 @@
-use Rattle.std.proofs.Common.{◌&&◌, subst, ◌∙◌}
+use Rattle.std.proofs.Common.{◌&&◌, subst, sym, ◌∙◌}
 use Rattle.std.specs.Ordering.{is_eq}
 use Rattle.std.specs.BTreeSet.{contains}
 use Rattle.std.proofs.lemmas.Bool.{or_right}
 use Rattle.acd_tables.specs.Sets.{Noted}
-use Rattle.acd_tables.specs.Indexed.{OfferKey, offer_cmp}
-use Rattle.acd_tables.proofs.IndexLemmas.{IsIndexed-group, IsIndexed-sets, IsIndexed-both, IsIndexed-stays, IsIndexed-noted_more}
+use Rattle.acd_tables.specs.Indexed.{IsIndexed, OfferKey, offer_cmp}
+use Rattle.acd_tables.proofs.Results.{either}
+use Rattle.acd_tables.proofs.IndexLemmas.{IsIndexed-group, IsIndexed-sets, IsIndexed-both, IsIndexed-stays, IsIndexed-noted_more, IsIndexed-ranked}
 use Rattle.acd_tables.proofs.changes.put_group.Goals as goal
+
+pub returns-then-has_rank-clause-indexed : goal.returns-then-has_rank-clause-indexed
+returns-then-has_rank-clause-indexed c =
+    let s = c.args.records.now in
+    let x = c.args.indexes.now in
+    let now = IsIndexed-ranked s c.args.item x c.group-old.result c.group-old.ensures (sym c.has_rank.ensures ∙ c.if-has_rank.true) c.requires in
+    either c.put_group.result c.put_group.ensures.ok c.put_group.ensures.err (λ e. subst (λ t. IsIndexed t x) (sym e) now) (λ e. subst (λ t. IsIndexed t x) (sym e) c.requires)
 
 pub returns-in_err-add_set-clause-indexed : goal.returns-in_err-add_set-clause-indexed
 returns-in_err-add_set-clause-indexed c = IsIndexed-stays c.args.records.now c.args.indexes.now c.add_set.new.sets c.requires c.in_err-add_set.ensures.err

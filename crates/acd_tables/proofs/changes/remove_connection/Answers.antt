@@ -1,6 +1,6 @@
-use Rattle.std.proofs.Common.{refl, subst}
+use Rattle.std.proofs.Common.{subst}
 use Rattle.acd_model.specs.Writes.{without_connection}
-use Rattle.acd_tables.specs.Turns.{TakenOut, Offers}
+use Rattle.acd_tables.specs.Turns.{TakenOut}
 use Rattle.acd_tables.proofs.OfferLemmas.{offers-of}
 use Rattle.acd_tables.proofs.IndexLemmas.{IsIndexed-removed, group_same, groups_less}
 use Rattle.acd_tables.proofs.changes.remove_connection.Goals as goal

@@ -7,7 +7,7 @@ returns c =
     connection-turn c.args.records.now c.args.indexes.now.seats c.args.call c.args.device c.args.old.now c.args.new.now
     (record {
       entering = record { queue = c.queue_entry-after.result; ready = c.only_not.result };
-      leaving = record { queue = c.leaving_but-leaving.result; ready = c.only.result };
+      leaving = record { queue = c.leaving_alone-leaving.result; ready = c.only.result };
     })
     c.queue_entry-before.result c.turning_seat-seat.result c.is_kept-busy.result h.connections h.agents h.seats c.requires.at c.requires.found
-    c.queue_entry-before.ensures c.queue_entry-after.ensures c.leaving_but-leaving.ensures c.turning_seat-seat.ensures c.is_kept-busy.ensures c.only_not.ensures c.only.ensures
+    c.queue_entry-before.ensures c.queue_entry-after.ensures c.leaving_alone-leaving.ensures c.turning_seat-seat.ensures c.is_kept-busy.ensures c.only_not.ensures c.only.ensures

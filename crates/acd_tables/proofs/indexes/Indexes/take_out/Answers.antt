@@ -6,12 +6,12 @@ use Rattle.acd_tables.proofs.indexes.Indexes.take_out.Goals as goal
 pub prune-requires : goal.prune-requires
 prune-requires c =
     let x = c.args.self.now in
-    offers-left c.args.records.now x.queues c.leave_entry.new.sets x.ready c.leave_entry-2.new.sets x.offering c.args.entries.queue c.args.entries.ready c.requires c.leave_entry.ensures c.leave_entry-2.ensures
+    offers-left c.args.records.now x.queues c.leave_alone.new.sets x.ready c.leave_entry.new.sets x.offering c.args.entries.now.queue c.args.entries.now.ready c.requires c.leave_alone.ensures c.leave_entry.ensures
 
 pub returns : goal.returns
-returns c = subst (λ z. TakenOut c.args.records.now c.args.self.now z c.args.entries) (sym c.prune.ensures.rest) (record {
-  queues = c.leave_entry.ensures;
-  ready = c.leave_entry-2.ensures;
+returns c = subst (λ z. TakenOut c.args.records.now c.args.self.now z c.args.entries.now) (sym c.prune.ensures.rest) (record {
+  queues = c.leave_alone.ensures;
+  ready = c.leave_entry.ensures;
   offers = c.prune.ensures.offers;
   rest = record { seats = refl; lines = refl; ringing = refl; working = refl; queued = refl };
 })

@@ -1,5 +1,4 @@
-use Rattle.std.proofs.Common.{◌≡◌, sym, ap, subst, ◌∙◌, IfOk}
-use Rattle.acd_tables.specs.AtDevice.{connections_at, line_at}
+use Rattle.std.proofs.Common.{◌≡◌, subst, IfOk}
 use Rattle.acd_tables.proofs.Picked.{picks-at}
 use Rattle.acd_tables.proofs.tables.Tables.connections_at.Goals as goal
 
