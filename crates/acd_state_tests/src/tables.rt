@@ -53,7 +53,7 @@ fn changes(rt: &impl Abort) -> [(Change, bool); 8] {
 fn refused_changes(rt: HostRuntime) {
     let mut tables = Tables::new(rt.alloc(), Limits::GREATEST);
     for (place, (one, is_made)) in changes(&rt).iter().enumerate() {
-        let made = change(&mut tables, *one).is_ok();
+        let made = change(&mut tables, one).is_ok();
         same(&rt, &(place, made), &(place, *is_made));
     }
 }
