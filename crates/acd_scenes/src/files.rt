@@ -236,8 +236,8 @@ fn executed(rt: &impl Abort, alloc: Global, scene: &Scene) -> (Files<Fuse<Memory
     (Files::put(book), before)
 }
 
-/// The requests are one session, as `play` has it, over two files in which all but those of the last transcript were executed before,
-/// and of which one stops behind each number of its calls in turn.
+/// The requests are one session, as `play` has it, over two files in which all but those of the last transcript were
+/// executed before, and of which one stops behind each number of its calls in turn.
 pub fn play_last(rt: &impl Abort, alloc: Global, texts: &[&str]) {
     let (_, first) = texts.split_last().expect(rt, "a transcript");
     let (files, before) = executed(rt, alloc, &Scene::new(rt, alloc, first));

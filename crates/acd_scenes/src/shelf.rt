@@ -88,9 +88,12 @@ impl Shelf for Files<Fuse<Memory>> {
         alloc: Global,
         limits: Option<Limits>,
     ) -> Result<SqlBook<FileStore<Fuse<Memory>>>, Files<Fuse<Memory>>> {
-        match opened_files(alloc, self)?.take(alloc, limits) {
-            Ok(book) => Ok(book),
-            Err(conn) => Err(closed_files(conn).0),
+        match opened_files(alloc, self) {
+            Ok(conn) => match conn.take(alloc, limits) {
+                Ok(book) => Ok(book),
+                Err(conn) => Err(closed_files(conn).0),
+            },
+            Err(files) => Err(files),
         }
     }
 
