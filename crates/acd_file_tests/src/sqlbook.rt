@@ -5,6 +5,7 @@ mod changes;
 mod commits;
 mod further;
 mod migrated;
+mod several;
 
 use crate::comparing::same;
 use acd_book::BookFault;

@@ -9,8 +9,8 @@ use sqlite::{Alter, Connection};
 use std::alloc::Global;
 use std::process::Abort;
 
-// The connection behind these lines, which get just these answers, and behind which just these rows are there.
-fn served<S: Alter + Drop>(
+/// The connection behind these lines, which get just these answers, and behind which just these rows are there.
+pub fn served<S: Alter + Drop>(
     rt: &impl Abort,
     alloc: Global,
     conn: Connection<S>,
