@@ -1,14 +1,14 @@
 #!/usr/bin/env python3
 """Input lines of a busy call centre for `acd lines`: the same arguments print the same lines.
 
-usage: busy.py REQUESTS [--plan small|full] [--groups N] [--agents N] [--calls N] [--seed N]
+usage: busy.py REQUESTS [--plan small|full] [--groups N] [--agents N] [--calls N] [--each N] [--seed N]
 
 First comes the opening: the plan, agents who log on and become ready, calls up to the wanted number, and an answer
 to each call that rings. Then REQUESTS lines of a working day follow: calls that arrive, are answered, held, retrieved
 and cleared, agents who become ready again, and ticks. `busy.py 0` prints the opening alone.
 
 small: 2 groups, 10 stations, 10 agents, 18 live calls; full: 64 groups, 1000 stations, 1000 agents, 1800 live calls.
-The other words change one of these; there are as many stations as agents.
+The other words change one of these; there are as many stations as agents, and each agent serves one group, or as many as --each says.
 The generator keeps count of who rings where, so that each line is a request that the desk grants."""
 import argparse
 import heapq
@@ -22,10 +22,10 @@ RING, WRAP = 20, 30
 
 
 class Agent:
-    """An agent, who stays at one station and in one group."""
+    """An agent, who stays at one station and in the same groups."""
 
-    def __init__(self, number, group):
-        self.number, self.group = number, group
+    def __init__(self, number, groups):
+        self.number, self.groups = number, groups
         self.state, self.stamp, self.since = "null", 0, 0
 
 
@@ -63,11 +63,11 @@ class Members:
 class Centre:
     """The call centre as far as the generator has to know it. Each request is printed as it is made."""
 
-    def __init__(self, plan, rng):
+    def __init__(self, plan, each, rng):
         self.plan, self.rng = plan, rng
         self.now = self.stamp = self.calls = self.printed = 0
         self.invokes = {}
-        self.agents = [Agent(a + 1, a % plan.groups) for a in range(plan.stations)]
+        self.agents = [Agent(a + 1, sorted({(a + n) % plan.groups for n in range(each)})) for a in range(plan.stations)]
         self.waiting = [[] for _ in range(plan.groups)]
         self.ready = [[] for _ in range(plan.groups)]
         self.queued, self.ringing, self.talking, self.held = Members(), Members(), Members(), Members()
@@ -92,7 +92,8 @@ class Centre:
 
     def become_ready(self, agent):
         agent.state, agent.stamp = "ready", self.stamp
-        heapq.heappush(self.ready[agent.group], (agent.stamp, agent.number, agent))
+        for group in agent.groups:
+            heapq.heappush(self.ready[group], (agent.stamp, agent.number, agent))
 
     def wait(self, call):
         call.state = "queued"
@@ -101,10 +102,13 @@ class Centre:
 
     def distribute(self):
         for waiting, ready in zip(self.waiting, self.ready):
-            while ready:
+            while True:
+                # (an agent may have gone, by an offer in another group)
+                while ready and (ready[0][2].state, ready[0][2].stamp) != ("ready", ready[0][0]):
+                    heapq.heappop(ready)
                 while waiting and waiting[0][1].state != "queued":
                     heapq.heappop(waiting)
-                if not waiting:
+                if not ready or not waiting:
                     break
                 call, agent = heapq.heappop(waiting)[1], heapq.heappop(ready)[2]
                 self.queued.remove(call)
@@ -133,8 +137,9 @@ class Centre:
         return len(self.queued) + len(self.ringing) + len(self.talking) + len(self.held)
 
     def log_on(self, agent):
-        self.ask("desk", "setAgentState", agent=str(agent.number), requested="loggedOn",
-                 device=self.station(agent), group=self.group(agent.group))
+        groups = [self.group(group) for group in agent.groups]
+        named = {"group": groups[0]} if len(groups) == 1 else {"groups": groups}
+        self.ask("desk", "setAgentState", agent=str(agent.number), requested="loggedOn", device=self.station(agent), **named)
         agent.state = "notReady"
         self.idle.add(agent)
 
@@ -223,10 +228,11 @@ def main():
     parser.add_argument("--groups", type=int, dest="groups")
     parser.add_argument("--agents", type=int, dest="stations")
     parser.add_argument("--calls", type=int, dest="live")
+    parser.add_argument("--each", type=int, default=1, choices=range(1, 9))
     parser.add_argument("--seed", type=int, default=1)
     args = parser.parse_args()
     changed = {name: vars(args)[name] for name in Plan._fields if vars(args)[name] is not None}
-    centre = Centre(PLANS[args.plan]._replace(**changed), random.Random(args.seed))
+    centre = Centre(PLANS[args.plan]._replace(**changed), args.each, random.Random(args.seed))
     centre.open()
     for _ in range(args.requests):
         centre.work()
