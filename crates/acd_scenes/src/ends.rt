@@ -121,8 +121,8 @@ fn same_held(rt: &impl Abort, found: &Held, wanted: &Held) {
     same(rt, &found.1, &wanted.1);
 }
 
-/// The book holds that.
-pub fn expect_held<B: Book>(rt: &impl Abort, book: &mut B, held: &Held) {
+// The book holds that.
+fn expect_held<B: Book>(rt: &impl Abort, book: &mut B, held: &Held) {
     same_held(rt, &held_by(rt, book), held);
 }
 

@@ -5,7 +5,7 @@ use crate::ends::count_kept;
 use crate::fused::{closed, closed_files, connected, copied, empty_files, opened_files};
 use crate::look_ups::same;
 use crate::sessions::{Scene, answered, answers_so, arrivals, opened};
-use crate::shelf::{OLDER, Shelf, book_in, taken};
+use crate::shelf::{Shelf, book_in};
 use crate::texts::{joined, push, same_text};
 use acd_book::Book;
 use acd_desk::{Audit, Desk, Taken};
@@ -39,13 +39,6 @@ fn play_closed(rt: &impl Abort, alloc: Global, new: Files<Fuse<Memory>>, scene: 
         files = closed(rt, answer(rt, alloc, conn, line, &mut answers));
     }
     same_text(rt, answers.as_str(), scene.output.as_str());
-}
-
-// The requests of a session, of which the book has executed so many before.
-#[derive(Drop)]
-struct Course {
-    scene: Scene,
-    before: u64,
 }
 
 // How many requests were answered 200, which are the first of them. All behind them are answered storeFault.
@@ -112,18 +105,13 @@ fn run_over(
     }
 }
 
-/// What the book keeps is sound.
-pub fn expect_sound<B: Book + Drop>(rt: &impl Abort, alloc: Global, book: B) -> B {
+// What the book keeps is sound, and all that was answered, or one request more.
+fn expect_kept<B: Book + Drop>(rt: &impl Abort, alloc: Global, book: B, replied: u64) -> B {
     let mut desk = opened(rt, alloc, book);
     same(rt, &desk.audit(), &Ok(Audit::Sound));
-    desk.close()
-}
-
-// So it is, and it has so many requests, or one more.
-fn expect_kept<B: Book + Drop>(rt: &impl Abort, alloc: Global, book: B, executed: u64) -> B {
-    let mut book = expect_sound(rt, alloc, book);
+    let mut book = desk.close();
     let kept = count_kept(rt, &mut book);
-    assert!(rt; kept == executed || kept == executed.saturating_add(1));
+    assert!(rt; kept == replied || kept == replied.saturating_add(1));
     book
 }
 
@@ -133,21 +121,20 @@ fn expect_answered<S: Alter + Drop>(
     alloc: Global,
     conn: Connection<S>,
     replied: u64,
-    course: &Course,
+    scene: &Scene,
 ) {
-    let scene = &course.scene;
     let book = book_in(rt, alloc, conn, None);
-    let book = expect_kept(rt, alloc, book, replied.max(course.before));
+    let book = expect_kept(rt, alloc, book, replied);
     let _ = answers_so(rt, alloc, book, scene.input.as_str(), scene.output.as_str());
 }
 
 // Whether the session ends without a stop, over these files.
-fn ends_whole(rt: &impl Abort, alloc: Global, files: Files<Fuse<Memory>>, course: &Course) -> bool {
-    let arrivals = arrivals(rt, alloc, course.scene.input.as_str());
+fn ends_whole(rt: &impl Abort, alloc: Global, files: Files<Fuse<Memory>>, scene: &Scene) -> bool {
+    let arrivals = arrivals(rt, alloc, scene.input.as_str());
     let ended = run_over(rt, alloc, files, &arrivals);
     let left = copied(rt, alloc, &ended.files, u64::MAX, u64::MAX);
     let conn = connected(rt, alloc, left);
-    expect_answered(rt, alloc, conn, ended.replied, course);
+    expect_answered(rt, alloc, conn, ended.replied, scene);
     ended.replied == arrivals.len() as u64 && ended.is_closed
 }
 
@@ -181,11 +168,11 @@ fn stop_at_each(
     alloc: Global,
     files: &Files<Fuse<Memory>>,
     which: Stops,
-    course: &Course,
+    scene: &Scene,
 ) {
     for calls in 0..CALLS {
         let copy = stopping(rt, alloc, files, which, calls);
-        if ends_whole(rt, alloc, copy, course) {
+        if ends_whole(rt, alloc, copy, scene) {
             return;
         }
     }
@@ -193,9 +180,9 @@ fn stop_at_each(
 }
 
 // Each of the two files stops at each of its calls in turn.
-fn play_stopping(rt: &impl Abort, alloc: Global, files: Files<Fuse<Memory>>, course: &Course) {
-    stop_at_each(rt, alloc, &files, Stops::Log, course);
-    stop_at_each(rt, alloc, &files, Stops::Database, course);
+fn play_stopping(rt: &impl Abort, alloc: Global, files: Files<Fuse<Memory>>, scene: &Scene) {
+    stop_at_each(rt, alloc, &files, Stops::Log, scene);
+    stop_at_each(rt, alloc, &files, Stops::Database, scene);
 }
 
 // A connection whose database has a new book.
@@ -206,6 +193,10 @@ fn with_new_book<S: Alter + Drop>(
 ) -> Connection<S> {
     book_in(rt, alloc, conn, Some(Limits::GREATEST)).into_connection()
 }
+
+// What makes version 1 of a new book.
+const OLDER: &str =
+    "DROP TABLE group_priority; DROP TABLE agent_groups; UPDATE meta SET version = 1";
 
 // A connection whose database has a new book as version 1 had it.
 fn with_old_book<S: Alter + Drop>(
@@ -224,25 +215,7 @@ pub fn play_old(rt: &impl Abort, alloc: Global, texts: &[&str]) {
     let scene = Scene::new(rt, alloc, texts);
     let conn = connected(rt, alloc, empty_files(alloc));
     let files = closed(rt, with_old_book(rt, alloc, conn));
-    play_stopping(rt, alloc, files, &Course { scene, before: 0 });
-}
-
-// A new book in files that has executed these requests, and how many they are.
-fn executed(rt: &impl Abort, alloc: Global, scene: &Scene) -> (Files<Fuse<Memory>>, u64) {
-    let book = taken(rt, alloc, empty_files(alloc), Some(Limits::GREATEST));
-    let (input, output) = (scene.input.as_str(), scene.output.as_str());
-    let mut book = answers_so(rt, alloc, book, input, output);
-    let before = count_kept(rt, &mut book);
-    (Files::put(book), before)
-}
-
-/// The requests are one session, as `play` has it, over two files in which all but those of the last transcript were
-/// executed before, and of which one stops behind each number of its calls in turn.
-pub fn play_last(rt: &impl Abort, alloc: Global, texts: &[&str]) {
-    let (_, first) = texts.split_last().expect(rt, "a transcript");
-    let (files, before) = executed(rt, alloc, &Scene::new(rt, alloc, first));
-    let scene = Scene::new(rt, alloc, texts);
-    play_stopping(rt, alloc, files, &Course { scene, before });
+    play_stopping(rt, alloc, files, &scene);
 }
 
 /// Each request of the transcripts is answered by a desk that was opened for it, over the files that the one before it has
@@ -254,7 +227,7 @@ pub fn play(rt: &impl Abort, alloc: Global, texts: &[&str], stops: bool) {
     let conn = connected(rt, alloc, empty_files(alloc));
     let files = closed(rt, with_new_book(rt, alloc, conn));
     if stops {
-        play_stopping(rt, alloc, files, &Course { scene, before: 0 });
+        play_stopping(rt, alloc, files, &scene);
     } else {
         play_closed(rt, alloc, files, &scene);
     }

@@ -13,15 +13,11 @@ mod files;
 #[cfg(test)]
 mod fused;
 #[cfg(test)]
-mod groups_in_files;
-#[cfg(test)]
 mod held;
 #[cfg(test)]
 mod look_ups;
 #[cfg(test)]
 mod many_events;
-#[cfg(test)]
-mod migrated;
 #[cfg(test)]
 mod player;
 #[cfg(test)]

@@ -15,7 +15,6 @@
 
 use crate::reference::Reference;
 use crate::sessions::{answered, arrival, opened};
-use crate::shelf::{Changing, OLDER, taken};
 use crate::texts::{joined, push, push_both};
 use crate::{ends, held, reads, reports};
 use acd_book::Book;
@@ -305,29 +304,10 @@ impl Player {
         }
     }
 
-    // Transcripts, one after the other, to the first line that isn't what happens.
-    fn play_texts<B: Book + Drop>(&mut self, rt: &impl Abort, book: B, texts: &[&str]) -> B {
-        let mut book = book;
-        for text in texts {
-            if self.wrong.is_empty() {
-                book = self.play_text(rt, book, text);
-            }
-        }
-        book
-    }
-
     // Where a line isn't what happens.
     fn mismatch(&self, rt: &impl Abort) -> String {
         let mismatch = format!(in self.alloc; "line {}: {}", self.line, self.wrong.as_str());
         mismatch.expect(rt, "memory")
-    }
-
-    // The end of the transcripts: what each scene tests there, or where a line isn't what happens.
-    fn end<B: Book + Drop>(&self, rt: &impl Abort, book: B, texts: &[&str]) -> (B, Option<String>) {
-        if self.wrong.is_empty() {
-            return (ends::compare(rt, self.alloc, book, texts), None);
-        }
-        (book, Some(self.mismatch(rt)))
     }
 }
 
@@ -343,22 +323,13 @@ pub fn play<B: Book + Drop>(
     let mut book = book;
     let limits = limits_of(rt, &mut book);
     let mut player = Player::new(rt, alloc, limits);
-    let book = player.play_texts(rt, book, texts);
-    player.end(rt, book, texts)
-}
-
-/// The same, the first transcript over a new book, whose database is then as version 1 had it, and the others over the
-/// book that is taken from that.
-pub fn play_older<P: Changing>(
-    rt: &impl Abort,
-    alloc: Global,
-    shelf: P,
-    texts: &[&str],
-) -> (P::Taken, Option<String>) {
-    let (first, others) = texts.split_first().expect(rt, "a transcript");
-    let mut book = taken(rt, alloc, shelf, Some(Limits::GREATEST));
-    let mut player = Player::new(rt, alloc, limits_of(rt, &mut book));
-    let older = P::put(player.play_text(rt, book, first)).changed(rt, alloc, OLDER);
-    let book = player.play_texts(rt, taken(rt, alloc, older, None), others);
-    player.end(rt, book, texts)
+    for text in texts {
+        if player.wrong.is_empty() {
+            book = player.play_text(rt, book, text);
+        }
+    }
+    if player.wrong.is_empty() {
+        return (ends::compare(rt, alloc, book, texts), None);
+    }
+    (book, Some(player.mismatch(rt)))
 }

@@ -13,18 +13,14 @@
 //! | `wrong NAME: PART` | isn't what happens, and the player says where |
 //! | `files NAME: PART` | is played over files that are closed and opened between any two requests |
 //! | `stops NAME: PART` | is played over files of which one stops at each of its calls in turn ([`files`](crate::files)) |
-//! | `stops_late NAME: PART PART` | is played over files that have the parts but the last, of which one stops at each of its calls in turn |
-//! | `old NAME: PART` | is played over files of version 1, of which one stops at each of its calls in turn |
-//! | `migrated NAME: PART PART` | the first part is played over new files, which are then as version 1 had them, and the others over these ([`migrated`](crate::migrated)) |
 //! | `altered NAME: PART` | is taken by a book whose database is then changed by each of its lines `~ TOLD SQL` ([`altered`](crate::altered)) |
 
 use crate::altered::database;
 use crate::ends::{Held, expect_committed, expect_run, held_by};
-use crate::fused::empty_files;
 use crate::player::play;
 use crate::shelf::taken;
 use crate::texts::{halves, joined, number, push};
-use crate::{altered, files, migrated};
+use crate::{altered, files};
 use acd_book::{Book, BookFault, MemoryBook};
 use acd_codec::read_request;
 use acd_sqlbook::SqlBook;
@@ -121,12 +117,6 @@ fn played(rt: &impl Abort, alloc: Global, limits: Limits, texts: &[&str]) -> Opt
 // Over files that don't stop, or that do.
 fn played_in_files(rt: &impl Abort, alloc: Global, texts: &[&str], stops: bool) -> Option<String> {
     files::play(rt, alloc, texts, stops);
-    None
-}
-
-// Over files that stop, in which all but the last were executed.
-fn played_late_in_files(rt: &impl Abort, alloc: Global, texts: &[&str]) -> Option<String> {
-    files::play_last(rt, alloc, texts);
     None
 }
 
@@ -292,12 +282,8 @@ fn mismatch(
 ) -> Option<String> {
     if word == "files" || word == "stops" {
         played_in_files(rt, alloc, texts, word == "stops")
-    } else if word == "stops_late" {
-        played_late_in_files(rt, alloc, texts)
     } else if word == "old" {
         played_in_old_files(rt, alloc, texts)
-    } else if word == "migrated" {
-        migrated::play(rt, alloc, empty_files(alloc), texts)
     } else if word == "altered" {
         altered::play(rt, alloc, texts)
     } else {
@@ -403,31 +389,16 @@ impl<'a> Script<'a> {
         add_line(rt, alloc, &mut part.text, line);
     }
 
-    // A line that is no scene.
-    fn read_line(&mut self, rt: &impl Abort, line: &'a str) {
+    fn play_line(&mut self, rt: &impl Abort, line: &'a str) {
         let (word, said) = line.split_once(' ').unwrap_or(("", ""));
         if word == "part" || word == "table" {
             self.begin(rt, said);
-        } else if word != "row" && !is_scene(word) {
-            self.add(rt, line);
-        }
-    }
-
-    fn play_line(&mut self, rt: &impl Abort, line: &'a str) {
-        let (word, said) = line.split_once(' ').unwrap_or(("", ""));
-        if word == "row" {
+        } else if word == "row" {
             self.play_row(rt, said);
         } else if is_scene(word) {
             self.play_scene(rt, word, said);
         } else {
-            self.read_line(rt, line);
-        }
-    }
-
-    /// Takes its parts, and plays none of its scenes.
-    pub fn read(&mut self, rt: &impl Abort, lines: &'a str) {
-        for line in lines.lines() {
-            self.read_line(rt, line);
+            self.add(rt, line);
         }
     }
 
@@ -440,16 +411,7 @@ impl<'a> Script<'a> {
 }
 
 fn is_scene(word: &str) -> bool {
-    for known in [
-        "scene",
-        "wrong",
-        "files",
-        "stops",
-        "stops_late",
-        "old",
-        "migrated",
-        "altered",
-    ] {
+    for known in ["scene", "wrong", "files", "stops", "old", "altered"] {
         if word == known {
             return true;
         }

@@ -1,12 +1,10 @@
 //! Where a book lies while nobody has it: a connection, or the files of one. A shelf promises nothing, so what works
 //! over it is proved without the clauses of a store, and those that name a store only take the book and put it back.
 
-use crate::fused::{closed, closed_files, connected, opened_files};
 use acd_book::Book;
 use acd_sqlbook::SqlBook;
 use acd_terms::Limits;
-use sqlite::{Alter, Connection, FileStore, Files};
-use sqlite_disk::{Fuse, Memory};
+use sqlite::{Alter, Connection};
 use std::alloc::Global;
 use std::process::Abort;
 
@@ -79,39 +77,6 @@ impl<S: Alter + Drop> Changing for Connection<S> {
         conn
     }
 }
-
-impl Shelf for Files<Fuse<Memory>> {
-    type Taken = SqlBook<FileStore<Fuse<Memory>>>;
-
-    fn take(
-        self,
-        alloc: Global,
-        limits: Option<Limits>,
-    ) -> Result<SqlBook<FileStore<Fuse<Memory>>>, Files<Fuse<Memory>>> {
-        match opened_files(alloc, self) {
-            Ok(conn) => match conn.take(alloc, limits) {
-                Ok(book) => Ok(book),
-                Err(conn) => Err(closed_files(conn).0),
-            },
-            Err(files) => Err(files),
-        }
-    }
-
-    fn put(book: SqlBook<FileStore<Fuse<Memory>>>) -> Files<Fuse<Memory>> {
-        closed_files(book.into_connection()).0
-    }
-}
-
-impl Changing for Files<Fuse<Memory>> {
-    fn changed(self, rt: &impl Abort, alloc: Global, sql: &str) -> Files<Fuse<Memory>> {
-        let conn = connected(rt, alloc, self);
-        closed(rt, conn.changed(rt, alloc, sql))
-    }
-}
-
-/// What makes version 1 of a book that has no further groups and no priorities.
-pub const OLDER: &str =
-    "DROP TABLE group_priority; DROP TABLE agent_groups; UPDATE meta SET version = 1";
 
 /// The book in the database of a connection.
 pub fn book_in<S: Alter + Drop>(

@@ -1,9 +1,9 @@
 //! All scenes.
 
+use crate::many_events;
 use crate::scenes::{self, agents, calls, morning, office, priorities, refusals, told};
 use crate::script::Script;
 use crate::texts::same_text;
-use crate::{groups_in_files, many_events};
 
 #[test]
 fn all_scenes(rt: HostRuntime) {
@@ -24,13 +24,4 @@ fn offices(rt: HostRuntime) {
     script.play(&rt, morning::last_lines());
     same_text(&rt, script.told(), "office\nmorning\n");
     many_events::export_of_many_events(&rt, rt.alloc());
-}
-
-#[test]
-fn several_groups_in_files(rt: HostRuntime) {
-    let mut script = Script::new(rt.alloc());
-    script.read(&rt, calls::lines());
-    script.read(&rt, priorities::lines());
-    script.play(&rt, groups_in_files::lines());
-    same_text(&rt, script.told(), groups_in_files::names());
 }
