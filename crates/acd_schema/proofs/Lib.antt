@@ -1,5 +1,6 @@
 mod Making
 mod Building
+mod Stopping
 pub mod Contents
 mod Paged
 mod Places

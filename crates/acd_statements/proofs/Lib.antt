@@ -5,3 +5,5 @@ mod Planned
 mod Beside
 mod FirstFound
 mod Pages
+pub mod Failures
+pub mod Blamed

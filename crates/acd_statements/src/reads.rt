@@ -1,12 +1,15 @@
 //! Reads between transactions, as records. A row with a value out of its range is a failure of the store.
 
-ghost use Rattle.std.specs.Prelude.{◌≡◌, ◌++◌, ◌∷◌, [], Option, Some, false, map, take, option_to_list, IfOk, OnOk};
+ghost use Rattle.std.specs.Prelude.{◌≡◌, ◌++◌, ◌∷◌, [], Option, Some, false, map, take, option_to_list, IfErr, IfOk, OnOk};
 ghost use Rattle.sqlite.specs.Held.{state};
 ghost use Rattle.sqlite_value.specs.Order.{Row as Values};
 ghost use Rattle.acd_columns.specs.Relations.{meta_of};
 ghost use Rattle.acd_columns.specs.Finding.{Finds, joined_rows};
 ghost use Rattle.acd_columns.specs.Rows.{meta_shown};
 ghost use Rattle.acd_columns.specs.declared.meta.Meta.{Meta as MetaRow};
+ghost use Rattle.acd_columns.specs.declared.tables.Table.TheVariants as table;
+ghost use Rattle.acd_columns.specs.AnyRows.{is_good};
+ghost use Rattle.acd_statements.specs.Reading.{Blames};
 ghost use Rattle.acd_columns.specs.Ranges.{further_in, connection_in, monitor_in, event_in, kept_in};
 
 use crate::query::connection_rows;
@@ -117,7 +120,8 @@ pub(crate) fn first<R: Decoded>(alloc: Global, rows: &[Row]) -> Result<Option<R>
 
 // What the one row of the table holds. Neither more rows nor a value out of its range is the book's.
 fn only_meta(rows: &[Row]) -> Result<Meta, Error>
-    ensures { IfOk result (λ meta. (m : MetaRow) → rows.now ≡ meta_shown m ∷ [] → meta ≡ m) }
+    ensures found { IfOk result (λ meta. (m : MetaRow) → rows.now ≡ meta_shown m ∷ [] → meta ≡ m) }
+    ensures bad { IfErr result (λ e. (m : MetaRow) → rows.now ≡ meta_shown m ∷ [] → is_good table.Meta (meta_shown m) ≡ false) }
 {
     match rows {
         [row] => match decode::counters_in(row) {
@@ -133,6 +137,7 @@ pub fn read_meta<S: Alter>(conn: &mut Connection<S>) -> Result<Meta, Error>
     requires { conn.old.in_transaction ≡ false }
     ensures idle { conn.new.in_transaction ≡ false }
     ensures found { Finds (state S.Store conn.old) (state S.Store conn.new) result (λ c meta. meta ≡ meta_of c.rows) }
+    ensures blamed { Blames (state S.Store conn.old) (state S.Store conn.new) result }
 {
     match meta_rows(conn) {
         Ok(rows) => only_meta(&rows),
