@@ -28,7 +28,7 @@ use Rattle.acd_sqlbook.proofs.BookStates.{held_is}
 
 -- want of memory is no failure of the store
 pub not_memory : (e : Error) (f : BookFault) → f ≡ fault_of e → f ≡ Store → IsMemory e → ⊥
-not_memory e f is store memory = absurd (let no = sym store ∙ is ∙ ap fault_of memory in cc)
+not_memory e f is store memory = absurd (let apart = sym store ∙ is ∙ ap fault_of memory in cc)
 
 pub store_cause : (asked : Asked) (old new : State) → HasFailed old new → StoreCause asked old new
 store_cause asked old new (inl more) = failed more
@@ -37,13 +37,13 @@ store_cause asked old new (inr down) = shut down
 pub create_cause : (limits : Limits) (old new : State) (e : Error) (f : BookFault) → f ≡ fault_of e → f ≡ Store → FailsToSetUp old new limits e → StoreCause (create limits) old new
 create_cause limits old new e f is store (inl memory) = absurd (not_memory e f is store memory)
 create_cause limits old new e f is store (inr (inl fails)) = store_cause (create limits) old new fails
-create_cause limits old new e f is store (inr (inr no)) = refused no
+create_cause limits old new e f is store (inr (inr refusal)) = refused refusal
 
 -- ---- reads
 
 bad_table : (t : Table) (c : Content) (row : Row) → Has (values_of t c) row → is_good t row ≡ false → IsInRange c → ⊥
 unfolding is_good_table
-bad_table t c row has bad range = absurd (let no = sym (bad_among t (values_of t c) row has bad) ∙ range.tables t in cc)
+bad_table t c row has bad range = absurd (let apart = sym (bad_among t (values_of t c) row has bad) ∙ range.tables t in cc)
 
 pub bad_value : (c : Content) → IsUnreadable c → ¬ (IsInRange c)
 bad_value c (meta bad) = bad_table table.Meta c _ (inl refl) bad
@@ -54,11 +54,11 @@ read_cause : (old new : State) (c : Content) → content_of old.committed.trees 
 read_cause old new c is e store (inl memory) = absurd (not_memory e (fault_of e) refl store memory)
 read_cause old new c is e store (inr (inl more)) = failed more
 read_cause old new c is e store (inr (inr (inl steps))) = limited steps
-read_cause old new c is e store (inr (inr (inr (inl no)))) = refused (subst IsUnshown (sym is) no)
+read_cause old new c is e store (inr (inr (inr (inl refusal)))) = refused (subst IsUnshown (sym is) refusal)
 read_cause old new c is e store (inr (inr (inr (inr bad)))) = unreadable (λ range. bad_value c bad (subst IsInRange is range))
 
 pub reads_caused : {A : Type 0} (old new : State) (r : Result A Error) (answer : Result A BookFault) → answer ≡ answered r → Blames old new r → HasCleanDisk new → IsSound old → answer ≡ Err Store → StoreCause read old new
-reads_caused old new (Ok a) answer is h clean sound store = absurd (let no = sym store ∙ is in cc)
+reads_caused old new (Ok a) answer is h clean sound store = absurd (let apart = sym store ∙ is in cc)
 reads_caused old new (Err e) answer is h clean sound store =
     let fault : fault_of e ≡ Store = cc in
     elim (cases_Bool old.is_open) [

@@ -41,13 +41,13 @@ module _ (sql : List ℕ) (params : Row) (old new : State) where
   unfolding RefusesToShow
   shows e c it None none h = elim (unanswered old.step_limit c.command h.0 (timed params c.formats it.now) e h.2) [
     | inl steps ↦ inl steps
-    | inr no ↦ inr (inr (c, it.is, inr (it.now, h.0, h.1, no)))
+    | inr refused ↦ inr (inr (c, it.is, inr (it.now, h.0, h.1, refused)))
   ]
   shows e c it (Some what) is h = inr (inr (c, it.is, inl (what, is)))
 
   pub query_failed : (e : Error) → FailsToQuery sql params old new e → FailsToShow old new sql params e
   unfolding FailsToQuery RefusesToShow
-  query_failed e (inl no) = elim (not_run old new sql params e no) [
+  query_failed e (inl unrun) = elim (not_run old new sql params e unrun) [
     | inl memory ↦ inl memory
     | inr other ↦ elim other [ inl failed ↦ inr (inl failed) | inr unread ↦ inr (inr (inr (inl unread))) ]
   ]
@@ -72,7 +72,7 @@ module _ (sql : List ℕ) (params : Row) (old new : State) where
   module _ (c : Content) (held : Holds old c) where
     not_shut : HasFailed old new → MoreFaults old.faults new.faults
     not_shut (inl more) = more
-    not_shut (inr shut) = absurd (let no = sym held.is_open ∙ shut in cc)
+    not_shut (inr shut) = absurd (let e = sym held.is_open ∙ shut in cc)
 
     encoded : Encodes old.now.trees c
     encoded = subst (λ (d : Database). Encodes d.trees c) (sym held.idle) held.encodes
@@ -94,7 +94,7 @@ module _ (sql : List ℕ) (params : Row) (old new : State) where
       each (Err e) h c held = read_failed c held asked e (query_failed e h)
 
 -- the query that reads no table
-pub blames_probe : {A : Type 0} {P : Trees → Type 0} (old new : State) (e : Error) → Survives old new P → (HasCleanDisk new → QueriesRow probe_text [] old new (Err e)) → Blames {A} old new (Err e)
+pub blames_probe : {A : Type 0} {P : Trees → Type 0} (old new : State) (e : Error) → Survives old new P → (HasCleanDisk new → QueriesRow probe_text [] old new (Err e)) → Blames {A = A} old new (Err e)
 blames_probe old new e s fails = record {
   counts = s.counts;
   limit = s.limit;
@@ -112,7 +112,7 @@ blames_none old new a s = record { counts = s.counts; limit = s.limit; cause = �
 pub blames_still : {A : Type 0} (s : State) (a : A) → Blames s s (Ok a)
 blames_still s a = record { counts = omega arith; limit = refl; cause = λ k c held. tt }
 
-pub blames_fail : {A B : Type 0} (old new : State) (e : Error) → Blames {A} old new (Err e) → Blames {B} old new (Err e)
+pub blames_fail : {A B : Type 0} (old new : State) (e : Error) → Blames {A = A} old new (Err e) → Blames {A = B} old new (Err e)
 blames_fail old new e h = record { counts = h.counts; limit = h.limit; cause = h.cause }
 
 -- what was read goes on to what is made of it
@@ -126,7 +126,7 @@ later c old mid new e counts limit (inr (inr (inl steps))) = inr (inr (inl (subs
 later c old mid new e counts limit (inr (inr (inr other))) = inr (inr (inr other))
 
 pub blames_behind : {A B : Type 0} (old mid new : State) (a : A) (r : Result B Error) → Blames old mid (Ok a) → Quiet old mid → (HasCleanDisk mid → IsTrue mid.is_open) → (HasCleanDisk new → HasCleanDisk mid) → Blames mid new r → Blames old new r
-blames_behind old mid new a r first quiet live clean next = record {
+blames_behind {B = B} old mid new a r first quiet live clean next = record {
   counts = omega (arith, first.counts, next.counts);
   limit = next.limit ∙ first.limit;
   cause = λ k c held. each r c (next.cause k c (quiet.same (clean k) c held (live (clean k))));

@@ -95,7 +95,7 @@ module _ (old new : State) where
       only (inl memory) = inl memory
       only (inr (inl failed)) = inr failed
       only (inr (inr none)) = absurd none
-  commit_failed e inside (inr h) = absurd (let no = sym inside ∙ h.1 in cc)
+  commit_failed e inside (inr h) = absurd (let apart = sym inside ∙ h.1 in cc)
 
 -- ---- one call behind another
 
@@ -107,7 +107,7 @@ pub failed_after : {P : Trees → Type 0} (old mid new : State) → Survives old
 failed_after old mid new first k counts (inl more) = inl (omega (arith, more, first.counts))
 failed_after old mid new first k counts (inr shut) = elim (cases_Bool old.is_open) [
   | inl up ↦ elim (first.closes k up) [
-    | inl still ↦ absurd (let no = sym still ∙ shut in cc)
+    | inl still ↦ absurd (let apart = sym still ∙ shut in cc)
     | inr more ↦ inl (omega (arith, more, counts))
   ]
   | inr down ↦ inr down
