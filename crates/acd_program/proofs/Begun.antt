@@ -6,11 +6,18 @@ use Rattle.sqlite_disk.specs.declared.Files.{Files}
 use Rattle.sqlite_wal.specs.Reads.{IsClean, AreClean, OnlyReads, are_clean}
 use Rattle.sqlite_store.specs.declared.store.FileStore.{FileStore}
 use Rattle.sqlite_store.specs.declared.store.open.Unopened.{Unopened}
+use Rattle.sqlite_store.specs.declared.error.OpenError.{OpenError}
+use Rattle.sqlite_store.specs.declared.error.OpenError.TheVariants.{Refused}
+use Rattle.sqlite_store.specs.Opening.{FailsToOpen}
 use Rattle.sqlite_store.specs.FileStore as store
 use Rattle.sqlite_store.specs.Unopened.{state_of, files_of}
 use Rattle.sqlite.proofs.FileLemmas.{reads_then}
 use Rattle.sqlite.proofs.OpenLemmas.{pool_files}
 use Rattle.acd_program.specs.Files.{new_page, AreReadOnly, IsCreated, IsBegun}
+
+-- the store refused to make a database
+pub refused_so : (a b : ℕ) (L P : Type 0) (e : OpenError) → e ≡ Refused → FailsToOpen a b L P e → ¬ P
+refused_so a b L P e is h = subst (FailsToOpen a b L P) is h
 
 too_many : (n : ℕ) → new_page < n → n ≤ new_page → ⊥
 too_many n more few = omega (arith, more, few)

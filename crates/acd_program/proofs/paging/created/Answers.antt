@@ -1,5 +1,6 @@
 use Rattle.std.proofs.Common.{◌∙◌, sym, inl, inr}
-use Rattle.acd_program.proofs.Begun.{unopened_clean, store_clean}
+use Rattle.sqlite_store.specs.Unopened.{state_of, StopsCreating, CanCreate}
+use Rattle.acd_program.proofs.Begun.{refused_so, unopened_clean, store_clean}
 use Rattle.acd_program.proofs.paging.created.Goals as goal
 
 pub returns-in-Ok-create-clause-created : goal.returns-in-Ok-create-clause-created
@@ -23,7 +24,8 @@ returns-in-Err-Refused-default-clause-created g c = record {
   after = inr (record {
     rest = c.in-Err-Refused-default.left;
     of_rest = sym c.close-in-Err-Refused-default.ensures;
-    refuses = c.in-Err-Refused-default.ensures.cause;
+    refuses = λ clean. refused_so (state_of c.in-Ok-new.unopened).faults (state_of c.in-Err-Refused-default.left).faults (StopsCreating c.in-Err-Refused-default.left) (CanCreate c.in-Ok-new.unopened)
+        c.in-Err-Refused-default.field-0-0 c.in-Err-Refused-default.field-0-0-is (c.in-Err-Refused-default.ensures.cause clean);
     creates = c.in-Err-Refused-default.ensures.unharmed;
   });
 }
