@@ -1,5 +1,5 @@
 -- That a task was done, by the work over a connection to files.
-use Rattle.std.proofs.Common.{◌≡◌, ℕ, Bool, true, List, [], Option, sym, ap, subst, ◌∙◌, refl}
+use Rattle.std.proofs.Common.{◌≡◌, ℕ, Bool, true, List, [], Option, Result, Ok, Err, IfOk, OnOk, sym, ap, subst, ◌∙◌, refl}
 use Rattle.std.specs.Io.KnownBytes.{Appends}
 use Rattle.sqlite_disk.specs.declared.Disk.{Ghosts}
 use Rattle.sqlite_store.specs.declared.store.FileStore.{FileStore}
@@ -18,8 +18,8 @@ use Rattle.acd_program.specs.declared.desk.Done.TheVariants.{Nothing, Told, Audi
 use Rattle.acd_program.specs.Found.{IsFindingOf, HasCount, finding_line}
 use Rattle.acd_program.specs.Statuses.{finding_status}
 use Rattle.acd_program.specs.Over.{AnswersOver, OverConnection}
-use Rattle.acd_program.specs.Work.{Asked, IsText, ImportsOver, TellsOver, AuditsOver, WorkDone, text_left, status_left}
-use Rattle.acd_program.specs.InFiles.{WorkedOver}
+use Rattle.acd_program.specs.Work.{Asked, IsText, ImportsOver, TellsOver, AuditsOver, WorkDone, IsPrinted, text_left, status_left}
+use Rattle.acd_program.specs.InFiles.{IsLaidIn, WorkedOver}
 use Rattle.acd_program.specs.Tasks.{WorkedIn, InFile}
 use Rattle.acd_program.proofs.InFiles.{over_so, over_fact, over_makes, appends_nothing}
 
@@ -148,4 +148,19 @@ worked_in is_new makes work conn had before behind status may w = record {
   closed = w.closed;
   printed = w.printed;
   told = w.told;
+}
+
+-- the work was done, its file closed, and what was left printed
+pub worked_over : {D : Type 0} {g : Ghosts D} {F : Type 0} (r : Result ℕ F) (work : Work) (makes : Bool) (conn last : Held (FileStore D g)) (done : Result Done F) (closed : Result (Unit {0}) F) (had before between behind : Option (List ℕ))
+    → IfOk done (λ (l : Done). OverConnection (λ (old new : BookState). WorkDone work old had before between l new) makes (file_state conn) (file_state last)) → OnOk closed (IsLaidIn last)
+    → IfOk r (λ (status : ℕ). IsPrinted done closed between behind status) → IfOk r (λ (status : ℕ). WorkedOver makes work conn had before behind status)
+worked_over (Err e) work makes conn last done closed had before between behind d k p = tt
+worked_over {F = F} (Ok status) work makes conn last done closed had before between behind d k p = record {
+  last = last;
+  left = p.left;
+  between = between;
+  done = subst (λ (x : Result Done F). IfOk x (λ (l : Done). OverConnection (λ (old new : BookState). WorkDone work old had before between l new) makes (file_state conn) (file_state last))) p.ended d;
+  closed = subst (λ (x : Result (Unit {0}) F). OnOk x (IsLaidIn last)) p.shut k;
+  printed = p.printed;
+  told = p.told;
 }
