@@ -33,23 +33,26 @@ PHRASES = {200: "OK", 400: "Bad Request", 404: "Not Found", 409: "Conflict", 413
 
 
 class Ends(dict):
-    """The connections of a call by device, which are noted at the device too."""
+    """The connections of a call by device, which the switch notes at the device too. A connection that failed stays so, and no other one fails
+    later: those that keep a station from being idle are counted as they come and go."""
 
-    def __init__(self, call, at, ends):
+    def __init__(self, switch, call, ends):
         super().__init__()
-        self.call, self.at = call, at
+        self.switch, self.call = switch, call
         for device, end in ends.items():
             self[device] = end
 
     def __setitem__(self, device, end):
         super().__setitem__(device, end)
-        self.at[device][self.call] = end
+        self.switch.ends[device][self.call] = end
+        self.switch.occupying[device] += end.state != "fail"
 
     def __delitem__(self, device):
         self.pop(device)
 
     def pop(self, device):
-        del self.at[device][self.call]
+        self.switch.occupying[device] -= self[device].state != "fail"
+        del self.switch.ends[device][self.call]
         return super().pop(device)
 
 
@@ -58,10 +61,13 @@ class Quick(Switch):
 
     def __init__(self, limits=None):
         super().__init__(limits)
-        self.ends, self.seats, self.ready = defaultdict(dict), {}, set()
+        self.ends, self.occupying, self.seats, self.ready = defaultdict(dict), Counter(), {}, set()
 
     def at(self, device):
         return self.ends[device].values()
+
+    def idle(self, station):
+        return self.occupying[station] == 0
 
     def agent_at(self, station):
         return self.seats.get(station)
@@ -70,7 +76,8 @@ class Quick(Switch):
         return sorted((end.place, call) for call, end in self.ends[group].items())
 
     def free(self):
-        return [agent for agent in self.ready if not self.occupied(agent) and self.idle(self.agents[agent].station)]
+        """Those who are ready at an idle station: there nobody is occupied."""
+        return [agent for agent in self.ready if self.idle(self.agents[agent].station)]
 
     def eligible(self, group):
         return sorted((self.agents[agent].stamp, tables.order(agent), agent) for agent in self.free() if group in self.agents[agent].groups)
@@ -80,7 +87,7 @@ class Quick(Switch):
 
     def new_call(self, device, state, called):
         number = super().new_call(device, state, called)
-        self.calls[number].connections = Ends(number, self.ends, self.calls[number].connections)
+        self.calls[number].connections = Ends(self, number, self.calls[number].connections)
         return number
 
     def become(self, agent, state):
@@ -145,6 +152,9 @@ class Course:
 
     def state(self, agent, requested):
         self.by_desk("setAgentState", agent=agent, requested=requested)
+
+    def pass_by(self, seconds):
+        self.now = min(LAST, self.now + seconds)
 
     # what is there
 
@@ -218,7 +228,7 @@ class Course:
 
     def work(self):
         """Calls are answered, held, retrieved, given away and cleared, others come, and the wrap and the ring pass."""
-        self.now += 7
+        self.pass_by(7)
         for call, device in self.ends("alerting")[:500]:
             self.by_desk("answerCall", call=call, device=device)
         for call, device in self.some(self.at_agents("connected"), 150):
@@ -234,7 +244,7 @@ class Course:
         for agent in self.some(self.agents("notReady"), 200):
             self.state(agent, "ready")
         self.arrive()
-        self.now += self.rng.choice([12, 23, 30])
+        self.pass_by(self.rng.choice([12, 23, 30]))
         self.ask(CLOCK, "tick")
 
     def rows(self):

@@ -2,7 +2,7 @@
 
 use crate::ends::send_again;
 use crate::files::expect_sound;
-use crate::player::rows_of;
+use crate::player::{has_line, rows_of};
 use crate::sessions::{answers, answers_so, opened, requests};
 use crate::texts::joined;
 use crate::{held, reads};
@@ -18,15 +18,6 @@ fn last_line(text: &str) -> &str {
         last = line;
     }
     last
-}
-
-fn has_line(text: &str, line: &str) -> bool {
-    for known in text.lines() {
-        if known == line {
-            return true;
-        }
-    }
-    false
 }
 
 // The first line of the transcript that isn't the last one of what the desk tells.
@@ -89,8 +80,8 @@ pub fn play<B: Book + Drop>(
     let input = requests(rt, alloc, texts);
     let output = answers(rt, alloc, texts);
     let book = answers_so(rt, alloc, book, input.as_str(), output.as_str());
-    let text = *texts.last().expect(rt, "a transcript");
-    let (book, line) = unmet(rt, alloc, book, text);
+    let text = texts.last().expect(rt, "a transcript");
+    let (book, line) = unmet(rt, alloc, book, *text);
     if let Some(line) = line {
         return (book, Some(joined(rt, alloc, &[line])));
     }

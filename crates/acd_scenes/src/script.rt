@@ -122,7 +122,7 @@ fn played(rt: &impl Abort, alloc: Global, limits: Limits, texts: &[&str]) -> Opt
 // All requests as one input, over both. The database is opened once more at the end.
 fn played_full(rt: &impl Abort, alloc: Global, texts: &[&str]) -> Option<String> {
     let limits = Limits::GREATEST;
-    let (_, wrong) = full::play(rt, alloc, book_in_memory(alloc, limits), texts);
+    let (_book, wrong) = full::play(rt, alloc, book_in_memory(alloc, limits), texts);
     if wrong.is_some() {
         return wrong;
     }
