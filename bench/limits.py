@@ -2,9 +2,10 @@
 
 64 groups, 1,000 stations and agents, 2,000 live calls and 256 monitors, all with names, requesters and numbers of full length; agents
 of eight groups; hundreds of offers that go back, of rested agents and of new offers at one tick; invokes to 999999999 and
-moments to 4294967295; requests until the file has 100,000 rows. PROGRAM answers them over memory and over a file, and what it writes has to be
-that of the switch, also in the tables; then over a file that stock SQLite makes of the foreseen rows, where each request is sent again, in
-lines and over HTTP, each read is read over HTTP, and alterations far behind are looked for by the audit."""
+moments to 4294967295; requests until the file has 100,000 rows. PROGRAM answers them over memory and over a file, and what it
+writes has to be that of the switch, also in the tables; then over a file that stock SQLite makes of the foreseen rows, where each
+request is sent again, in lines and over HTTP, each read is read over HTTP, and alterations far behind are looked for by the audit.
+A file is made where tempfile makes it: on a disk each request waits for it."""
 import bisect
 import csv
 import io
@@ -33,8 +34,8 @@ PHRASES = {200: "OK", 400: "Bad Request", 404: "Not Found", 409: "Conflict", 413
 
 
 class Ends(dict):
-    """The connections of a call by device, which the switch notes at the device too. A connection that failed stays so, and no other one fails
-    later: those that keep a station from being idle are counted as they come and go."""
+    """The connections of a call by device, which the switch notes at the device too. A connection that failed stays so, and no
+    other one fails later: those that keep a station from being idle are counted as they come and go."""
 
     def __init__(self, switch, call, ends):
         super().__init__()
@@ -278,8 +279,8 @@ class Course:
             for at, requester, invoke, service, members in self.asked[first:]]
 
 
-WANTED = {"offers that go back at one tick": 400, "agents who become ready at one tick": 300, "offers at one tick": 300, "most events of one request": 2000,
-          "planFull": 4, "tooManyCalls": 2, "monitorStart": 256, "addGroup": 64, "addStation": 1000, "addAgent": 1000}
+WANTED = {"offers that go back at one tick": 400, "agents who become ready at one tick": 300, "offers at one tick": 300,
+          "most events of one request": 2000, "planFull": 4, "tooManyCalls": 2, "monitorStart": 256, "addGroup": 64, "addStation": 1000, "addAgent": 1000}
 
 
 def wide(moment, members, length):
@@ -290,7 +291,7 @@ def wide(moment, members, length):
 
 def faulty(course):
     """Lines at the limits of lines, which are no new requests, and their answers."""
-    at, requester, invoke, service, members = course.asked[-1]
+    _, requester, invoke, service, members = course.asked[-1]
     request = {"requester": requester, "invoke": invoke, "service": service, **members}
     malformed = "400 {\"error\":{\"code\":30,\"member\":\"%s\",\"name\":\"malformed\"}}"
     return [
@@ -344,23 +345,13 @@ class Trial:
             self.see_each(f"{what}: rows of {table}", found[table], rows)
 
 
-def plan_text():
-    text = io.StringIO()
-    writer = csv.writer(text, lineterminator="\n")
-    writer.writerow(["kind", "number", "name", "ring", "wrap"])
-    return text, writer
-
-
 def write_plan(course, path):
-    text, writer = plan_text()
-    for _, _, _, service, it in course.asked[:course.planned]:
-        if service == "addGroup":
-            writer.writerow(["group", it["device"], it["name"], it["ring"], it["wrap"]])
-        elif service == "addStation":
-            writer.writerow(["station", it["device"], "", "", ""])
-        else:
-            writer.writerow(["agent", it["agent"], it["name"], "", ""])
-    path.write_text(text.getvalue())
+    with path.open("w") as text:
+        writer = csv.writer(text, lineterminator="\n")
+        writer.writerow(["kind", "number", "name", "ring", "wrap"])
+        for _, _, _, service, it in course.asked[:course.planned]:
+            number = it.get("device") or it["agent"]
+            writer.writerow([service.removeprefix("add").lower(), number, it.get("name"), it.get("ring"), it.get("wrap")])
 
 
 def export(course):
