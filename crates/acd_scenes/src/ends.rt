@@ -13,8 +13,8 @@ use acd_terms::{Arrival, Command, Event, Invoke, Request, Requester, Rows};
 use std::alloc::Global;
 use std::process::Abort;
 
-// The greatest moment.
-const AT_LAST: &str = "4294967295";
+/// The greatest moment.
+pub const AT_LAST: &str = "4294967295";
 
 // The records of these rows, as rows.
 fn through_records(rt: &impl Abort, alloc: Global, rows: &Rows) -> Rows {
@@ -102,8 +102,8 @@ fn answers_again(rt: &impl Abort, alloc: Global, texts: &[&str]) -> String {
     joined(rt, alloc, &[output.as_str(), output.as_str()])
 }
 
-/// One desk is sent all requests again, at the moments and at the greatest one: each gets its answer.
-pub fn send_again<B: Book + Drop>(rt: &impl Abort, alloc: Global, book: B, texts: &[&str]) -> B {
+// One desk is sent all requests again, at the moments and at the greatest one: each gets its answer.
+fn send_again<B: Book + Drop>(rt: &impl Abort, alloc: Global, book: B, texts: &[&str]) -> B {
     let input = requests_again(rt, alloc, texts);
     let output = answers_again(rt, alloc, texts);
     answers_so(rt, alloc, book, input.as_str(), output.as_str())

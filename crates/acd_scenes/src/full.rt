@@ -1,9 +1,9 @@
 //! A desk that has as many of all as there may be. All requests come as one input: behind each its answer alone is compared.
 
-use crate::ends::send_again;
+use crate::ends::AT_LAST;
 use crate::files::expect_sound;
 use crate::player::{has_line, rows_of};
-use crate::sessions::{answers, answers_so, opened, requests};
+use crate::sessions::{answers, answers_so, opened, requests, requests_at};
 use crate::texts::joined;
 use crate::{held, reads};
 use acd_book::Book;
@@ -69,8 +69,8 @@ fn unmet<'a, B: Book + Drop>(
 }
 
 /// A desk over a new book answers the requests of the transcripts, which come as one input. Then the rows hold the lines
-/// of the last one, its reads end with the lines behind them, all requests that are sent again get their answers, and the
-/// audit is sound. Answers the book, and the line that isn't so.
+/// of the last one, its reads end with the lines behind them, all requests that are sent again at the greatest moment get
+/// their answers, and the audit is sound. Answers the book, and the line that isn't so.
 pub fn play<B: Book + Drop>(
     rt: &impl Abort,
     alloc: Global,
@@ -85,6 +85,7 @@ pub fn play<B: Book + Drop>(
     if let Some(line) = line {
         return (book, Some(joined(rt, alloc, &[line])));
     }
-    let book = send_again(rt, alloc, book, texts);
+    let again = requests_at(rt, alloc, input.as_str(), AT_LAST);
+    let book = answers_so(rt, alloc, book, again.as_str(), output.as_str());
     (expect_sound(rt, alloc, book), None)
 }
