@@ -20,8 +20,8 @@ PAGE = """<!DOCTYPE html><html><body><div id="ui"></div><script src="swagger-ui-
 READS = [("getAgent", ["agent=7"], "/agents/7"), ("getCall", ["call=1"], "/calls/1"), ("getDevice", ["device=201"], "/devices/201"),
          ("getQueue", ["group=100"], "/queues/100"), ("getEvents", ["after=2"], "/events?after=2"), ("getMonitorEvents", ["monitor=1"], "/monitors/1/events"),
          ("getQueueReport", [], "/reports/queues"), ("getSnapshot", [], "/snapshot"), ("getHistory", ["after=1"], "/history?after=1")]
-WRONG = [("sendRequest", ["-c", '{"requester":"desk","invoke":90,"service":"parkCall","call":1}']), ("sendRequest", ["-c", '{"requester":"desk","invoke":90,"service":"tick"']),
-         ("sendRequest", ["-c", '{"requester":"desk","invoke":0,"service":"tick"}']), ("getAgent", ["-p", "agent=x"]), ("getCall", ["-p", "call=0"]), ("getDevice", [])]
+WRONG = [("sendRequest", ["-c", '{"requester":"desk","invoke":90,"service":"parkCall","call":1}']),
+         ("sendRequest", ["-c", '{"requester":"desk","invoke":0,"service":"tick"}']), ("getAgent", ["-p", "agent=x"])]
 
 
 def mojo(file, operation, *words):

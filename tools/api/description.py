@@ -146,6 +146,10 @@ class Description:
         """The names of the schemas of requests."""
         return [name for name, schema in self.schemas.items() if "x-result" in schema]
 
+    def examples(self):
+        """The examples of requests, by name; over a new desk they have the replies of the same names."""
+        return self.document["paths"]["/csta"]["post"]["requestBody"]["content"]["application/json"]["examples"]
+
     # what comes up in a reply
 
     def uses(self, schema, value, place):

@@ -1,5 +1,6 @@
 """A desk that serves, and what is asked of it."""
 import http.client
+import os
 import resource
 import socket
 import subprocess
@@ -26,18 +27,19 @@ def free_port():
 
 
 class Desk:
-    """A program that serves a file; room is how many bytes its files may have."""
+    """A program that serves a file; room is how many bytes a file of it may have, preloaded what is loaded before the C library, with its environment."""
 
-    def __init__(self, program, file, room=None):
+    def __init__(self, program, file, room=None, connections=1000000, preloaded=()):
         self.port = free_port()
-        words = [program, "serve", "--file", file, "--port", str(self.port), "--connections", "1000000"]
+        words = [program, "serve", "--file", file, "--port", str(self.port), "--connections", str(connections)]
 
         def narrow():
             if room:
                 resource.setrlimit(resource.RLIMIT_FSIZE, (room, room))
 
         # without restoring signals the desk is told of a write beyond its room, and not ended by it
-        self.server = subprocess.Popen(words, stdout=subprocess.PIPE, text=True, restore_signals=room is None, preexec_fn=narrow)
+        self.server = subprocess.Popen(words, stdout=subprocess.PIPE, stderr=subprocess.PIPE, text=True, restore_signals=room is None, preexec_fn=narrow,
+                                       env={**os.environ, **dict(preloaded)})
         told = self.server.stdout.readline()
         if not told.startswith("listening on "):
             raise SystemExit(f"try-api: {program} doesn't serve: {told!r}")

@@ -122,7 +122,7 @@ class Judge:
 
     # what has to come up
 
-    def missing(self, unreachable):
+    def missing(self):
         """What the description names and no exchange had: statuses, fixed texts, members that may be there or not."""
         for path, method, operation in self.description.operations():
             if self.not_there[path]:
@@ -132,4 +132,4 @@ class Judge:
                     yield f"{method} {path} {status}"
             for response in self.responses(path, method).values():
                 for content in response["content"].values():
-                    yield from (f"{fact}" for fact in self.description.facts(content["schema"], "reply") if fact not in self.seen | unreachable)
+                    yield from (fact for fact in self.description.facts(content["schema"], "reply") if fact not in self.seen)

@@ -1,5 +1,6 @@
 """What is asked of a desk, as exchanges: examples, a day, edges, faults, bad heads, the same day at its own moments, a full desk and a failing store."""
 import contextlib
+import http.client
 import json
 import random
 import sqlite3
@@ -11,7 +12,9 @@ from pathlib import Path
 from exchange import Desk
 from bodies import edges, mutated
 
-OFFICE = Path(__file__).resolve().parents[2] / "bench/office.py"
+TOOLS = Path(__file__).resolve().parents[1]
+OFFICE = TOOLS.parent / "bench/office.py"
+READS = ("/agents/7", "/calls/1", "/devices/100", "/queues/100", "/events", "/monitors/1/events", "/reports/queues", "/snapshot", "/history")
 METHODS = ("GET", "HEAD", "POST", "PUT", "DELETE", "OPTIONS", "PATCH")
 BAD = ["/events?after=x", "/events?after=1&after=2", "/events?after=1234567890123456", "/events?after=", "/events?after=-1", "/events?after=007&other=x",
        "/history?after=x", "/history?after=1&after=2", "/monitors/1/events?after=", "/nothing", "/", "/agents/", "/agents/x", "/agents/1234567890", "/agents/7/",
@@ -61,7 +64,7 @@ def ask_day(desk, bodies, things):
         asked = desk.ask("POST", "/csta", body)
         things.note(json.loads(body), json.loads(asked.reply))
         yield asked
-        if number % 2 == 0:
+        if number % 4 == 0:
             yield desk.ask(chance.choice(["GET", "GET", "GET", "HEAD"]), things.read(chance))
 
 
@@ -75,7 +78,7 @@ def ask_heads(desk):
     heads = [[("Host", None)], [("Host", "a"), ("Host", "b")], [("X", "y" * 9000)], [(f"X-{number}", "y") for number in range(40)], [("Transfer-Encoding", "chunked")],
              [("Content-Length", "x")], [("Content-Length", "2"), ("Content-Length", "2")], [("X y", "z")]]
     for fields in heads:
-        for target in ("/csta", "/agents/7", "/calls/1", "/devices/100", "/queues/100", "/events", "/monitors/1/events", "/reports/queues", "/snapshot", "/history"):
+        for target in ("/csta", *READS):
             method, body = ("POST", b"{}") if target == "/csta" else ("GET", None)
             yield desk.ask(method, target, body, fields)
 
@@ -86,17 +89,18 @@ def ask_all_pages(desk, route, size):
         yield desk.ask("GET", f"{route}?after={after}")
 
 
-def fill(desk, file):
-    """A desk whose limits are reached: of calls, of each kind of a plan, and of requests."""
+def fill(desk):
+    """A desk whose limits are reached: of calls, of each kind of a plan, and of requests; what was executed before still gets its reply."""
     requests = [{"service": "arriveCall", "caller": "0309", "called": "100"}, {"service": "addGroup", "device": "190", "name": "G", "ring": 1, "wrap": 1},
-                {"service": "addStation", "device": "290"}, {"service": "addAgent", "agent": "90", "name": "A"}, {"service": "monitorStart", "device": "100"}]
-    for invoke in (1, 2):
-        for request in requests:
-            yield desk.ask("POST", "/csta", json.dumps({"requester": "full", "invoke": invoke, **request}).encode())
+                {"service": "addStation", "device": "290"}, {"service": "addAgent", "agent": "90", "name": "A"}, {"service": "monitorStart", "device": "100"},
+                {"service": "tick"}, {"service": "tick"}]
+    bodies = [json.dumps({"requester": "full", "invoke": invoke, **request}).encode() for invoke, request in enumerate(requests, 1)]
+    for body in [*bodies, bodies[0]]:
+        yield desk.ask("POST", "/csta", body)
 
 
 def narrow(file):
-    """Gives a desk's file limits that its rows reach; three more requests are executed."""
+    """Gives a desk's file limits that its rows reach; six more requests are executed."""
     with contextlib.closing(sqlite3.connect(file)) as book, book:
         counts = {name: book.execute(f"SELECT count(*) FROM {table}").fetchone()[0] for name, table in
                   (("calls", "calls"), ("groups", "acd_groups"), ("stations", "stations"), ("agents", "agents"), ("monitors", "monitors"))}
@@ -104,15 +108,31 @@ def narrow(file):
 
 
 def ask_failing(desk):
-    """A desk whose store has no room: from the first request on that has to be kept all is answered storeFault."""
-    for invoke in range(1, 40):
-        asked = desk.ask("POST", "/csta", json.dumps({"requester": "none", "invoke": invoke, "service": "tick"}).encode())
-        yield asked
-        if asked.status == 503:
-            break
-    for target in ("/agents/7", "/calls/1", "/devices/100", "/queues/100", "/events", "/monitors/1/events", "/reports/queues", "/snapshot", "/history"):
+    """A desk whose store has no room: the first request that it has to keep is answered storeFault, and all behind it."""
+    yield desk.ask("POST", "/csta", json.dumps({"requester": "none", "invoke": 1, "service": "tick"}).encode())
+    for target in READS:
         yield desk.ask("GET", target)
         yield desk.ask("HEAD", target)
+
+
+def ask_without_memory(program, folder):
+    """A request that memory was refused to: of a desk's growths the last one that is answered by noMemory."""
+    library = f"{folder}/refuse.so"
+    subprocess.run(["gcc", "-shared", "-fPIC", "-o", library, TOOLS / "refuse.c", "-ldl"], check=True)
+    body = json.dumps({"requester": "none", "invoke": 1, "service": "tick"}).encode()
+
+    def serve(name, refused):
+        return Desk(program, f"{folder}/{name}.db", connections=1, preloaded={"LD_PRELOAD": library, "REFUSE": str(refused)})
+
+    with serve("counted", 0) as desk:
+        desk.ask("POST", "/csta", body)
+        growths = int(desk.server.communicate()[1].split()[-1])
+    for refused in range(growths, max(growths - 100, 0), -1):
+        with contextlib.suppress(http.client.HTTPException), serve(f"refused-{refused}", refused) as desk:
+            asked = desk.ask("POST", "/csta", body)
+            if asked.status == 503:
+                yield asked
+                return
 
 
 def exchanges(program, description, faults):
@@ -122,21 +142,20 @@ def exchanges(program, description, faults):
     things = Things()
     with tempfile.TemporaryDirectory() as folder:
         with Desk(program, f"{folder}/new.db") as desk:
-            examples = description.document["paths"]["/csta"]["post"]["requestBody"]["content"]["application/json"]["examples"]
-            yield "examples", (desk.ask("POST", "/csta", json.dumps(it["value"]).encode(), example=name) for name, it in examples.items())
+            yield "examples", (desk.ask("POST", "/csta", json.dumps(it["value"]).encode(), example=name) for name, it in description.examples().items())
             yield "a day over HTTP, with reads", ask_day(desk, bodies, things)
             yield "members at their edges", (desk.ask("POST", "/csta", body) for body in edges(description))
             yield "mutated requests", (desk.ask("POST", "/csta", body) for body in mutated(bodies, faults))
             yield "bad paths, methods and heads", ask_heads(desk)
         # over HTTP the moment is the clock's, so that no tick finds anything overdue
         subprocess.run([program, "lines", "--file", f"{folder}/day.db"], input=lines, text=True, stdout=subprocess.DEVNULL, check=True)
-        with Desk(program, f"{folder}/day.db") as desk:
-            yield "a day at its own moments: pages", ask_all_pages(desk, "/events", 100)
-            yield "long pages", ask_all_pages(desk, "/history", 1000)
-            yield "reads of all that it named", (desk.ask("GET", target) for target in [*things.reads(), "/snapshot", "/reports/queues"])
-            room = sum(path.stat().st_size for path in Path(folder).glob("day.db*"))
-        with Desk(program, f"{folder}/day.db", room) as desk:
+        with Desk(program, f"{folder}/day.db", room=4096) as desk:
             yield "a store without room", ask_failing(desk)
+        with Desk(program, f"{folder}/day.db") as desk:
+            yield "a day at its own moments, in pages", ask_all_pages(desk, "/events", 100)
+            yield "in long pages", ask_all_pages(desk, "/history", 1000)
+            yield "reads of all that it named", (desk.ask("GET", target) for target in [*things.reads(), "/snapshot", "/reports/queues"])
         narrow(f"{folder}/day.db")
         with Desk(program, f"{folder}/day.db") as desk:
-            yield "a full desk", fill(desk, f"{folder}/day.db")
+            yield "a full desk", fill(desk)
+        yield "no memory", ask_without_memory(program, folder)
