@@ -26,7 +26,7 @@ class Judge:
     def __init__(self, description):
         self.description = description
         self.statuses, self.spelt, self.not_there, self.kinds = Counter(), 0, Counter(), Counter()
-        self.seen, self.read = set(), set()
+        self.seen = set()
         examples = self.responses("/csta", "post")
         self.examples = {name: (int(status), it["value"]) for status, response in examples.items()
                          for content in response.get("content", {}).values() for name, it in content.get("examples", {}).items()}
@@ -121,6 +121,10 @@ class Judge:
         return bool(self.description.errors(schema, int(text) if whole else text, False))
 
     # what has to come up
+
+    def known(self):
+        """How many different things have come up so far."""
+        return len(self.seen) + len(self.statuses) + len(self.kinds)
 
     def missing(self):
         """What the description names and no exchange had: statuses, fixed texts, members that may be there or not."""

@@ -1,4 +1,9 @@
-"""Types for TypeScript, and for JavaScript that tsc checks, out of the description."""
+#!/usr/bin/python3
+"""Types for TypeScript, and for JavaScript that tsc checks, out of the description: prints them."""
+import sys
+from pathlib import Path
+
+TOP = Path(__file__).resolve().parents[2]
 
 
 def literal(value):
@@ -29,3 +34,12 @@ def type_of(schema):
 
 def declarations(document):
     return "".join(f"export type {name} = {type_of(schema)};\n" for name, schema in document["components"]["schemas"].items())
+
+
+def main():
+    import yaml
+    sys.stdout.write(declarations(yaml.safe_load((TOP / "docs/openapi.yaml").read_text())))
+
+
+if __name__ == "__main__":
+    main()
