@@ -122,10 +122,6 @@ class Judge:
 
     # what has to come up
 
-    def known(self):
-        """How many different things have come up so far."""
-        return len(self.seen) + len(self.statuses) + len(self.kinds)
-
     def missing(self):
         """What the description names and no exchange had: statuses, fixed texts, members that may be there or not."""
         for path, method, operation in self.description.operations():

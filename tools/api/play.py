@@ -15,7 +15,6 @@ from bodies import edges, mutated
 TOOLS = Path(__file__).resolve().parents[1]
 OFFICE = TOOLS.parent / "bench/office.py"
 READS = ("/agents/7", "/calls/1", "/devices/100", "/queues/100", "/events", "/monitors/1/events", "/reports/queues", "/snapshot", "/history")
-EDGES = "members at their edges"
 METHODS = ("GET", "HEAD", "POST", "PUT", "DELETE", "OPTIONS", "PATCH")
 BAD = ["/events?after=x", "/events?after=1&after=2", "/events?after=1234567890123456", "/events?after=", "/events?after=-1", "/events?after=007&other=x",
        "/history?after=x", "/history?after=1&after=2", "/monitors/1/events?after=", "/nothing", "/", "/agents/", "/agents/x", "/agents/1234567890", "/agents/7/",
@@ -145,7 +144,7 @@ def exchanges(program, description, faults):
         with Desk(program, f"{folder}/new.db") as desk:
             yield "examples", (desk.ask("POST", "/csta", json.dumps(it["value"]).encode(), example=name) for name, it in description.examples().items())
             yield "a day over HTTP, with reads", ask_day(desk, bodies, things)
-            yield EDGES, (desk.ask("POST", "/csta", body) for body in edges(description))
+            yield "members at their edges", (desk.ask("POST", "/csta", body) for body in edges(description))
             yield "mutated requests", (desk.ask("POST", "/csta", body) for body in mutated(bodies, faults))
             yield "bad paths, methods and heads", ask_heads(desk)
         # over HTTP the moment is the clock's, so that no tick finds anything overdue
