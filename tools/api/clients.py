@@ -87,4 +87,5 @@ def by_swagger_ui(description, folder):
     server.shutdown()
     wanted = [f'operations-{operation["tags"][0]}-{operation["operationId"]}' for _, _, operation in description.operations()]
     wanted += [f'model-{name}"' for name in description.schemas]
-    return [f"Swagger UI doesn't show {name}" for name in wanted if name not in shown] + ["Swagger UI shows an error"] * ("Unable to render" in shown or "errors-wrapper" in shown)
+    faults = [f"Swagger UI shows {sign}" for sign in ("Unable to render", "errors-wrapper") if sign in shown]
+    return faults + [f"Swagger UI doesn't show {name}" for name in wanted if name not in shown]

@@ -93,7 +93,8 @@ class Judge:
         if malformed and not errors and SPELLING.search(exchange.body.decode()):
             self.spelt += 1
         elif malformed == (not errors):
-            yield f"request {exchange.body[:300]!r} is {'malformed: ' + str(reply['error']) if malformed else 'taken'}, and by its schema {[e.message for e in errors][:1] or 'valid'}"
+            told = f"malformed, {reply['error']}" if malformed else "taken"
+            yield f"request {exchange.body[:300]!r} is {told}, and by its schema {errors[0].message[:200] if errors else 'valid'}"
         if exchange.status == 200 and not malformed and not errors:
             result = self.description.schemas[self.description.variant(request)]["x-result"]
             for error in self.description.errors({"$ref": f"#/components/schemas/{result}"}, reply["result"], True):
