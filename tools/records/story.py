@@ -15,9 +15,9 @@ LINES = """\
 86350 {"requester":"pbx","invoke":2,"service":"arriveCall","caller":"0302","called":"100"}
 86360 {"requester":"pbx","invoke":3,"service":"clearConnection","call":1,"device":"0301"}
 86380 {"requester":"desk","invoke":6,"service":"setAgentState","agent":"7","requested":"ready"}
+86390 {"requester":"desk","invoke":7,"service":"setAgentState","agent":"8","requested":"loggedOn","device":"202","group":"100"}
 86400 {"requester":"clock","invoke":1,"service":"tick"}
 86410 {"requester":"pbx","invoke":4,"service":"clearConnection","call":2,"device":"0302"}
-86415 {"requester":"desk","invoke":7,"service":"setAgentState","agent":"8","requested":"loggedOn","device":"202","group":"100"}
 86420 {"requester":"desk","invoke":8,"service":"makeCall","device":"202","called":"201"}
 86425 {"requester":"desk","invoke":9,"service":"phoneOffHook","call":3,"device":"202"}
 86430 {"requester":"desk","invoke":10,"service":"answerCall","call":3,"device":"201"}
@@ -44,10 +44,12 @@ number,caller,called,entered,groups,rings,agent,station,waited,talked,held,wrapp
 5,0304,201,1970-01-02 00:01:22,,0,,,0,0,0,0,busy
 6,0305,100,1970-01-02 00:01:50,100,1,,,10,0,0,0,live
 """
-# ready from 86310 to 86325 and from 86380 to midnight; busy up to 86360; and on the next day ready from 86450 to 86455 and from 86500 on
+# ready from 86310 to 86325 and from 86380 to midnight; busy up to 86360; and on the next day ready from 86450 to 86455 and from 86500 on.
+# Ben was logged on from 86390 to 86520, and nothing else
 DAYS = """\
 day,agent,name,logged_on,ready,talking,wrap_up,rings_not_answered
 1970-01-01,7,Ana,90,35,35,20,0
+1970-01-01,8,"Ben, senior",10,0,0,0,0
 1970-01-02,7,Ana,120,25,15,30,1
-1970-01-02,8,"Ben, senior",105,0,0,0,0
+1970-01-02,8,"Ben, senior",120,0,0,0,0
 """
