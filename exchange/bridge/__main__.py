@@ -1,0 +1,105 @@
+"""The command line, and the loop in which the exchange runs."""
+from __future__ import annotations
+
+import argparse
+import asyncio
+import json
+import signal
+import socket
+import sqlite3
+import sys
+from pathlib import Path
+
+from acd_client import AnotherHistory, Client
+
+from .desk import DeskLine
+from .exchange import Exchange, Settings
+from .message import host_port
+from .music import Music
+from .start import resume
+from .store import Store
+
+
+def arguments() -> argparse.Namespace:
+    parser = argparse.ArgumentParser(prog="acd-exchange", description="A telephone exchange that is driven by the desk.", allow_abbrev=False)
+    who = parser.add_mutually_exclusive_group(required=True)
+    who.add_argument("--edge", default="", metavar="HOST:PORT", help="the proxy in front, which alone is heard, and which knows where phones are")
+    who.add_argument("--phones", type=Path, metavar="FILE", help='without a proxy, for a trial: JSON {"201": "sip:201@127.0.0.1:5201"}; everybody is heard')
+    parser.add_argument("--listen", default="127.0.0.1:5070", metavar="HOST:PORT", help="where it speaks SIP over UDP (%(default)s)")
+    parser.add_argument("--desk", default="http://127.0.0.1:8080", metavar="URL", help="the desk (%(default)s)")
+    parser.add_argument("--file", default="exchange.db", help="its own file (%(default)s)")
+    parser.add_argument("--requester", default="exchange", help="its name at the desk (%(default)s)")
+    parser.add_argument("--poll", type=float, default=0.1, metavar="SECONDS", help="how often events are asked for (%(default)s)")
+    parser.add_argument("--tick", type=int, default=0, metavar="SECONDS", help="sends the desk's ticks too; 0: acd-tick does (%(default)s)")
+    parser.add_argument("--waiting", choices=["queued", "music"], default="queued", help="callers who wait get 182, or are answered with music (%(default)s)")
+    parser.add_argument("--refused", choices=["wait", "deflect"], default="wait",
+                        help="an offer that a phone refuses waits for the end of its ring, or goes back to its group, the agent not ready (%(default)s)")
+    parser.add_argument("--music", type=Path, metavar="WAV", help="8000 Hz, 16 bits, one channel; without it silence")
+    parser.add_argument("--music-port", type=int, default=16000, help="where the music is sent from (%(default)s)")
+    parser.add_argument("--session", type=int, default=1800, metavar="SECONDS", help="the session interval, at least 90 (%(default)s)")
+    parser.add_argument("--ack-wait", type=float, default=2.5, metavar="SECONDS", help="how long an answered caller may owe its ACK (%(default)s)")
+    parser.add_argument("--trace", action="store_true", help="writes what comes and goes to standard error")
+    parser.add_argument("--stop-at", default="", help=argparse.SUPPRESS)
+    options = parser.parse_args()
+    if any(place and not host_port(f"sip:{place}") for place in (options.edge, options.listen)) or options.session < 90:
+        parser.error("a place is an IPv4 address and a port, and a session at least 90 seconds")
+    return options
+
+
+class Wire(asyncio.DatagramProtocol):
+    def __init__(self, exchange: Exchange):
+        self.exchange = exchange
+
+    def datagram_received(self, data: bytes, source: tuple[str, int]) -> None:
+        self.exchange.receive(data, f"{source[0]}:{source[1]}")
+
+
+async def ring(exchange: Exchange) -> None:
+    while True:
+        await asyncio.sleep(min(0.02, max(0.001, exchange.ring_alarms())))
+
+
+async def run(options: argparse.Namespace, store: Store) -> None:
+    loop = asyncio.get_running_loop()
+    host, port = options.listen.split(":")
+    settings = Settings(host, int(port), options.edge, json.loads(options.phones.read_text()) if options.phones else {}, options.requester, options.waiting,
+                        options.refused, options.ack_wait, session=options.session, music_port=options.music_port, stop_at=options.stop_at, trace=options.trace)
+    wire: asyncio.DatagramTransport
+
+    def send(data: bytes, to: str) -> None:
+        where, _, door = to.rpartition(":")
+        wire.sendto(data, (where, int(door)))
+
+    exchange = Exchange(settings, store, send)
+    music = Music(exchange.legs, options.music)
+    exchange.see_leg = music.see
+    wire, _ = await loop.create_datagram_endpoint(lambda: Wire(exchange), local_addr=(host, int(port)))
+    wire.get_extra_info("socket").setsockopt(socket.SOL_SOCKET, socket.SO_RCVBUF, 4 << 20)
+    tune, _ = await loop.create_datagram_endpoint(asyncio.DatagramProtocol, local_addr=(host, options.music_port))
+    for leg in exchange.legs.values():
+        music.see(leg)
+    exchange.step(resume, exchange)
+    line = DeskLine(exchange, Client(options.desk), options.poll, options.tick)
+    print(f"listening on {options.listen}", flush=True)
+    tasks = [asyncio.create_task(work) for work in (line.run(), line.watch(), ring(exchange), music.play(tune.sendto))]
+    for number in (signal.SIGTERM, signal.SIGINT):
+        loop.add_signal_handler(number, lambda: [task.cancel() for task in tasks])
+    await asyncio.gather(*tasks)
+
+
+def main() -> None:
+    options = arguments()
+    try:
+        asyncio.run(run(options, Store(options.file)))
+    except asyncio.CancelledError:
+        pass
+    except AnotherHistory as fault:
+        print(f"acd-exchange: the desk has another history: {fault}; see docs/EXCHANGE.md", file=sys.stderr)
+        sys.exit(3)
+    except (OSError, ValueError, sqlite3.Error) as fault:
+        print(f"acd-exchange: {fault}", file=sys.stderr)
+        sys.exit(1)
+
+
+if __name__ == "__main__":
+    main()

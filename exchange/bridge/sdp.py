@@ -1,0 +1,49 @@
+"""Descriptions of media (SDP): what is read of them, and the one of the music."""
+from __future__ import annotations
+
+import re
+from typing import NamedTuple
+
+from .message import is_ipv4
+
+ULAW, ALAW = 0, 8
+
+
+class Media(NamedTuple):
+    host: str
+    port: int
+    types: tuple[int, ...]
+
+
+def media(body: str) -> Media | None:
+    """Where a body asks for its audio; None where it doesn't, or by no address of IPv4."""
+    line = re.search(r"^m=audio ([0-9]{1,5}) [!-~]+((?: [0-9]{1,3})+)", body, re.MULTILINE)
+    host = re.search(r"^c=IN IP4 ([0-9.]+)", body, re.MULTILINE)
+    if not line or not host or not is_ipv4(host[1]) or int(line[1]) > 65535:
+        return None
+    return Media(host[1], int(line[1]), tuple(map(int, line[2].split())))
+
+
+def is_held(body: str) -> bool:
+    return bool(re.search(r"^a=(?:sendonly|inactive)|^c=IN IP4 0\.0\.0\.0", body, re.MULTILINE))
+
+
+def music_type(body: str) -> int | None:
+    """The form of G.711 that is put first; A-law where nothing is asked for yet, None where there is neither."""
+    asked = media(body)
+    return next((kind for kind in (asked.types if asked else (ALAW,)) if kind in (ULAW, ALAW)), None)
+
+
+def music(host: str, port: int, offer: str) -> str:
+    """The answer of the music to an offer, or an offer of it; empty where they have no form in common."""
+    kind = music_type(offer)
+    if kind is None:
+        return ""
+    name = "PCMU" if kind == ULAW else "PCMA"
+    return (f"v=0\r\no=acd 1 1 IN IP4 {host}\r\ns=acd\r\nc=IN IP4 {host}\r\nt=0 0\r\nm=audio {port} RTP/AVP {kind}\r\n"
+            f"a=rtpmap:{kind} {name}/8000\r\na=sendrecv\r\n")
+
+
+def with_origin(body: str, host: str, session: int, version: int) -> str:
+    """A body as one leg gets it: the origin is one a leg, and its version grows (RFC 3264, 8)."""
+    return re.sub(r"^o=[^\r\n]*", f"o=acd {session} {version} IN IP4 {host}", body, count=1, flags=re.MULTILINE)
