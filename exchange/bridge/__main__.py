@@ -53,27 +53,24 @@ class Wire(asyncio.DatagramProtocol):
     def datagram_received(self, data: bytes, source: tuple[str, int]) -> None:
         self.exchange.receive(data, f"{source[0]}:{source[1]}")
 
-
-async def ring(exchange: Exchange) -> None:
-    while True:
-        await asyncio.sleep(min(0.02, max(0.001, exchange.ring_alarms())))
+    async def ring(self) -> None:
+        while True:
+            await asyncio.sleep(min(0.02, max(0.001, self.exchange.ring_alarms())))
 
 
 async def run(options: argparse.Namespace, store: Store) -> None:
-    loop = asyncio.get_running_loop()
-    host, port = options.listen.split(":")
-    settings = Settings(host, int(port), options.edge, json.loads(options.phones.read_text()) if options.phones else {}, options.requester, options.waiting,
-                        options.refused, options.ack_wait, session=options.session, music_port=options.music_port, stop_at=options.stop_at, trace=options.trace)
+    loop, (host, port) = asyncio.get_running_loop(), options.listen.split(":")
+    named = {name: getattr(options, name) for name in ("edge", "requester", "waiting", "refused", "ack_wait", "session", "music_port", "stop_at", "trace")}
+    settings = Settings(host, int(port), phones=json.loads(options.phones.read_text()) if options.phones else {}, **named)
     wire: asyncio.DatagramTransport
 
     def send(data: bytes, to: str) -> None:
-        where, _, door = to.rpartition(":")
-        wire.sendto(data, (where, int(door)))
+        wire.sendto(data, (to.partition(":")[0], int(to.partition(":")[2])))
 
     exchange = Exchange(settings, store, send)
     music = Music(exchange.legs, options.music)
     exchange.see_leg = music.see
-    wire, _ = await loop.create_datagram_endpoint(lambda: Wire(exchange), local_addr=(host, int(port)))
+    wire, heard = await loop.create_datagram_endpoint(lambda: Wire(exchange), local_addr=(host, int(port)))
     wire.get_extra_info("socket").setsockopt(socket.SOL_SOCKET, socket.SO_RCVBUF, 4 << 20)
     tune, _ = await loop.create_datagram_endpoint(asyncio.DatagramProtocol, local_addr=(host, options.music_port))
     for leg in exchange.legs.values():
@@ -81,7 +78,7 @@ async def run(options: argparse.Namespace, store: Store) -> None:
     exchange.step(resume, exchange)
     line = DeskLine(exchange, Client(options.desk), options.poll, options.tick)
     print(f"listening on {options.listen}", flush=True)
-    tasks = [asyncio.create_task(work) for work in (line.run(), line.watch(), ring(exchange), music.play(tune.sendto))]
+    tasks = [asyncio.create_task(work) for work in (line.run(), line.watch(), heard.ring(), music.play(tune.sendto))]
     for number in (signal.SIGTERM, signal.SIGINT):
         loop.add_signal_handler(number, lambda: [task.cancel() for task in tasks])
     await asyncio.gather(*tasks)

@@ -7,10 +7,10 @@ from collections.abc import Callable
 from concurrent.futures import ThreadPoolExecutor
 from typing import Any, TypeVar
 
-from acd_client import Answer, Client, Event, Unanswered
+from acd_client import Client, Event, Unanswered
 
 from .exchange import Exchange
-from .start import Start
+from .start import compare, connections, see_strangers
 
 SLOW, SILENT = 2.0, 5.0
 T = TypeVar("T")
@@ -22,43 +22,36 @@ class DeskLine:
         # one thread, so that what is asked stays in its order
         self.thread = ThreadPoolExecutor(1)
         self.wake, self.heard, self.ticked = asyncio.Event(), time.monotonic(), 0
-        self.loop = asyncio.get_running_loop()
         exchange.wake = self.wake.set
 
     async def call(self, work: Callable[..., T], *rest: Any) -> T:
-        result = await self.loop.run_in_executor(self.thread, work, *rest)
+        result = await asyncio.get_running_loop().run_in_executor(self.thread, work, *rest)
         self.heard = time.monotonic()
-        self.mark(False)
+        if self.x.desk_is_silent:
+            self.x.desk_is_silent = False
+            self.x.say("the desk answers again")
         return result
-
-    def mark(self, silent: bool) -> None:
-        if silent != self.x.desk_is_silent:
-            self.x.desk_is_silent = silent
-            self.x.say("the desk is silent: new callers get 503" if silent else "the desk answers again")
 
     async def watch(self) -> None:
         """Says that the desk is slow, and closes the exchange for new callers while it is silent."""
-        told = False
+        told = 0.0
         while True:
             await asyncio.sleep(0.25)
-            since = time.monotonic() - self.heard
-            if since > SLOW + self.poll and not told:
+            since = time.monotonic() - self.heard - self.poll
+            if since > SLOW and told != self.heard:
+                told = self.heard
                 self.x.say(f"the desk hasn't answered for {since:.1f} s")
-            told = since > SLOW + self.poll
-            if since > SILENT + self.poll:
-                self.mark(True)
+            if since > SILENT and not self.x.desk_is_silent:
+                self.x.desk_is_silent = True
+                self.x.say("the desk is silent: new callers get 503")
 
     async def run(self) -> None:
-        """Until the task is cancelled; it comes back by itself only where the desk has another history."""
-        started = False
+        """Until its task is cancelled, or the desk has another history."""
+        work = self.start
         while True:
             try:
-                await self.flush()
-                if not started:
-                    await Start(self.x, self).run()
-                    started = True
-                await self.send_tick()
-                await self.follow()
+                await work()
+                work = self.once
                 if not self.x.requests:
                     self.wake.clear()
                     await asyncio.wait_for(self.wake.wait(), self.poll)
@@ -68,25 +61,45 @@ class DeskLine:
             except asyncio.TimeoutError:
                 pass
 
-    async def flush(self) -> None:
+    async def start(self) -> None:
+        """Behind all replies and events that were missing: calls that no phone has a part in are found, and cleared."""
+        self.x.switch.learning = not self.x.place.known and not self.x.place.invoke
+        while self.x.requests:
+            await self.send()
+        await self.follow()
+        self.x.switch.learning = False
+        shown = await self.call(self.client.attempt, "GET", "/snapshot")
+        if shown.status == 200:
+            self.x.step(see_strangers, self.x, shown.body)
+        for key in [*self.x.strangers, *self.x.calls]:
+            answer = await self.call(self.client.attempt, "GET", f"/calls/{key}")
+            self.x.step(compare, self.x, key, connections(answer))
+
+    async def once(self) -> None:
+        now = int(time.time()) // self.tick if self.tick else 0
+        if now != self.ticked:
+            await self.call(self.client.send, {"requester": self.x.settings.requester + "-tick", "invoke": now, "service": "tick"})
+            self.ticked = now
         for _ in range(16):
-            if not self.x.requests:
-                return
-            row = self.x.requests[min(self.x.requests, key=int)]
-            answer: Answer = await self.call(self.client.send, row.body)
-            self.x.trace("=", "desk", f"{row.body} {answer.status} {answer.body}")
-            if not self.x.step(self.x.switch.take_reply, row, answer):
-                self.x.step(self.x.switch.pass_over, row)
+            if self.x.requests:
+                await self.send()
+        await self.follow()
+
+    async def send(self) -> None:
+        row = self.x.requests[min(self.x.requests, key=int)]
+        answer = await self.call(self.client.send, row.body)
+        self.x.trace("=", "desk", f"{row.body} {answer.status} {answer.body}")
+        if not self.x.step(self.x.switch.take_reply, row, answer):
+            self.x.step(self.x.switch.pass_over, row)
 
     async def follow(self) -> None:
-        known: Any = self.x.place.known
         while True:
-            page = await self.call(self.client.page, self.x.place.last, known or None)
+            known: Any = self.x.place.known or None
+            page = await self.call(self.client.page, self.x.place.last, known)
             if not page["events"]:
                 return
             self.x.trace("*", "desk", str(page["events"]))
             self.take(page["events"])
-            known = self.x.place.known
 
     def take(self, events: list[Event]) -> None:
         """A page is a step. Where it fails each event is one, and the one that fails is passed over."""
@@ -94,9 +107,3 @@ class DeskLine:
             for event in events:
                 if not self.x.step(self.x.switch.take_events, [event]):
                     self.x.step(self.x.switch.pass_event, event)
-
-    async def send_tick(self) -> None:
-        now = int(time.time()) // self.tick if self.tick else 0
-        if now != self.ticked:
-            await self.call(self.client.send, {"requester": self.x.settings.requester + "-tick", "invoke": now, "service": "tick"})
-            self.ticked = now

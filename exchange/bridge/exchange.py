@@ -22,6 +22,7 @@ from .transactions import Transactions
 
 @dataclass(frozen=True)
 class Settings:
+    """What the command line says; `edge` is empty where everybody is heard, and `phones` lists the phones then."""
     host: str = "127.0.0.1"
     port: int = 5070
     edge: str = ""
@@ -54,23 +55,15 @@ class Exchange:
         # these are told of a step that was kept: there are requests for the desk; a leg changed
         self.wake: Callable[[], None] = lambda: None
         self.see_leg: Callable[[Leg], None] = lambda leg: None
-        self.transactions, self.dialogs = Transactions(self), Dialogs(self)
-        self.phones = Phones(self)
+        self.transactions, self.dialogs, self.phones = Transactions(self), Dialogs(self), Phones(self)
         self.switch = Calls(self)
         self.due: dict[str, Callable[[Any], None]] = {
-            "leg": self.dialogs.leg_due, "call": self.switch.settle,
-            "served": self.transactions.served_due, "asked": self.transactions.asked_due}
+            "leg": self.dialogs.leg_due, "call": self.switch.settle, "served": self.transactions.served_due, "asked": self.transactions.asked_due}
         store.load()
-        if "1" not in self.places:
-            self.places.add(Place())
-            store.commit()
+        self.place = self.places.get("1") or self.places.add(Place("1"))
         for table in store.tables.values():
             for row in table.values():
                 self.arm(row)
-
-    @property
-    def place(self) -> Place:
-        return self.places["1"]
 
     def step(self, work: Callable[..., None], *rest: Any) -> bool:
         """One input: kept and then sent, or undone whole."""
@@ -99,7 +92,7 @@ class Exchange:
         return True
 
     def stop(self, when: str) -> None:
-        """For a trial: as by a power cut, before or behind the commit of one step."""
+        """For a trial: as by kill, before or behind the commit of one step."""
         if self.settings.stop_at == f"{self.steps}-{when}":
             os.kill(os.getpid(), signal.SIGKILL)
 
@@ -107,21 +100,20 @@ class Exchange:
         """Puts a datagram aside, for when the step was kept."""
         self.out.append((text.encode("latin-1"), to))
 
-    # inputs
-
     def receive(self, data: bytes, source: str) -> None:
         """A datagram. Only the edge is heard, or without one whoever reaches the address."""
-        if not data.strip(b"\r\n\0 ") or self.settings.edge not in ("", source):
-            self.dropped += bool(data.strip())
-            return
         self.trace("<", source, data)
         try:
+            if self.settings.edge not in ("", source):
+                raise ValueError("not from the edge")
             message = Message.read(data)
         except ValueError:
             self.dropped += 1
             return
         if not self.step(self.transactions.take, message, source) and message.is_request and message.method != "ACK":
             self.step(self.transactions.fail, message, source)
+
+    # alarms
 
     def arm(self, row: Row) -> None:
         if row.due:
@@ -133,18 +125,13 @@ class Exchange:
             due, kind, key = heapq.heappop(self.alarms)
             row = self.store.tables[kind].get(key)
             # an alarm that was put off has another entry
-            if row is not None and row.due == due and not self.step(self.rang, row):
-                self.step(self.silence, row)
+            if row is not None and row.due == due and not self.step(self.rang, row, self.due[kind]):
+                self.step(self.rang, row, lambda row: None)
         return self.alarms[0][0] - self.now() if self.alarms else 60.0
 
-    def rang(self, row: Row) -> None:
+    def rang(self, row: Row, work: Callable[[Any], None]) -> None:
         row.due = 0.0
-        self.due[row.kind](row)
-
-    def silence(self, row: Row) -> None:
-        row.due = 0.0
-
-    # what is said
+        work(row)
 
     def say(self, text: str) -> None:
         print(text, file=sys.stderr, flush=True)

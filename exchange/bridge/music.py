@@ -3,12 +3,10 @@ from __future__ import annotations
 
 import asyncio
 import audioop
-import secrets
 import struct
 import time
 import wave
-from collections.abc import Callable
-from dataclasses import dataclass
+from collections.abc import Callable, Iterator
 from pathlib import Path
 
 from . import sdp
@@ -17,51 +15,42 @@ from .records import Leg
 PACKET = 160
 
 
-@dataclass
-class Tune:
-    """Where one leg's packets go, and their numbers."""
-    to: tuple[str, int]
-    kind: int
-    sequence: int
-    stamp: int
-    source: int
-
-
 class Music:
     def __init__(self, legs: dict[str, Leg], file: Path | None):
-        self.legs, self.tunes = legs, dict[str, Tune]()
+        self.legs, self.count = legs, 0
+        self.listeners: dict[str, tuple[tuple[str, int], int]] = {}
         # without a file a second of silence
-        self.sound = {sdp.ULAW: b"\xff" * 8000, sdp.ALAW: b"\xd5" * 8000}
+        self.sound = {0: b"\xff" * 8000, 8: b"\xd5" * 8000}
         if file is not None:
             with wave.open(str(file)) as played:
                 if (played.getframerate(), played.getsampwidth(), played.getnchannels()) != (8000, 2, 1):
                     raise ValueError(f"{file} isn't of 8000 Hz, 16 bits and one channel")
                 frames = played.readframes(played.getnframes())
-            self.sound = {sdp.ULAW: audioop.lin2ulaw(frames, 2), sdp.ALAW: audioop.lin2alaw(frames, 2)}
+            self.sound = {0: audioop.lin2ulaw(frames, 2), 8: audioop.lin2alaw(frames, 2)}
 
     def see(self, leg: Leg) -> None:
         """A leg changed: it is played to, or not any more."""
         to, kind = sdp.media(leg.sdp), sdp.music_type(leg.sdp)
-        if not leg.music or to is None or not to.port or kind is None:
-            self.tunes.pop(leg.key, None)
-        elif leg.key not in self.tunes or self.tunes[leg.key].to != to[:2]:
-            self.tunes[leg.key] = Tune(to[:2], kind, secrets.randbelow(1 << 16), 0, secrets.randbits(32))
+        if leg.music and to and to[1] and kind is not None:
+            self.listeners[leg.key] = (to[:2], kind)
+        else:
+            self.listeners.pop(leg.key, None)
 
-    def packets(self, at: int) -> list[tuple[bytes, tuple[str, int]]]:
-        for key in [key for key in self.tunes if key not in self.legs]:
-            del self.tunes[key]
-        packets = []
-        for tune in self.tunes.values():
-            head = struct.pack("!BBHII", 0x80, tune.kind, tune.sequence, tune.stamp, tune.source)
-            packets.append((head + self.sound[tune.kind][at:at + PACKET], tune.to))
-            tune.sequence, tune.stamp = (tune.sequence + 1) & 0xffff, (tune.stamp + PACKET) & 0xffffffff
-        return packets
+    def packets(self) -> Iterator[tuple[bytes, tuple[str, int]]]:
+        """The next packet of each; all hear the same place of the music."""
+        at = self.count * PACKET % (len(self.sound[8]) - PACKET)
+        for key, (to, kind) in list(self.listeners.items()):
+            if key not in self.legs:
+                del self.listeners[key]
+                continue
+            head = struct.pack("!BBHII", 0x80, kind, self.count & 0xffff, self.count * PACKET & 0xffffffff, int(key[:8], 16))
+            yield head + self.sound[kind][at:at + PACKET], to
+        self.count += 1
 
     async def play(self, send: Callable[[bytes, tuple[str, int]], None]) -> None:
-        due, at = time.monotonic(), 0
+        due = time.monotonic()
         while True:
-            for packet, to in self.packets(at):
+            for packet, to in self.packets():
                 send(packet, to)
-            at = at + PACKET if at + 2 * PACKET <= len(self.sound[sdp.ALAW]) else 0
             due = max(due + 0.02, time.monotonic() - 1)
             await asyncio.sleep(max(0.0, due - time.monotonic()))

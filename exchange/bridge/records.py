@@ -2,16 +2,14 @@
 from __future__ import annotations
 
 from dataclasses import dataclass, field
-from typing import Any, ClassVar
+from typing import Any
 
 from .store import Row
 
 
 @dataclass
 class Place(Row):
-    """How far the desk was followed, and which numbers were used."""
-    kind: ClassVar[str] = "place"
-    key: str = "1"
+    """The last event that was taken, and which invokes were used and set aside."""
     invoke: int = 0
     reserved: int = 0
     known: dict[str, Any] = field(default_factory=dict)
@@ -26,8 +24,6 @@ class Leg(Row):
     """A dialog with a phone or a caller; its key is the exchange's own tag.
 
     state: `in` (a caller who isn't answered), `out` (a phone that rings), `up`, `closing`."""
-    kind: ClassVar[str] = "leg"
-    key: str
     device: str
     station: bool
     state: str
@@ -40,7 +36,7 @@ class Leg(Row):
     remote_tag: str = ""
     routes: list[str] = field(default_factory=list)
     call: str = ""
-    asked: int = 1
+    asked: int = 0
     heard: int = 0
     sdp: str = ""
     own: str = ""
@@ -51,8 +47,7 @@ class Leg(Row):
     cancelled: bool = False
     hangs_up: bool = False
     session: int = 0
-    refreshes: bool = False
-    due: float = 0.0
+    refreshes: bool = True
 
 
 @dataclass
@@ -60,8 +55,6 @@ class Call(Row):
     """A call of the desk with a leg of ours: its legs by device, and the group that the offer of a ringing device came from.
 
     `connected` says that the desk connected both sides, `joined` that their media were."""
-    kind: ClassVar[str] = "call"
-    key: str
     caller: str
     called: str
     legs: dict[str, str] = field(default_factory=dict)
@@ -69,7 +62,6 @@ class Call(Row):
     failure: int = 480
     connected: bool = False
     joined: bool = False
-    due: float = 0.0
 
     @property
     def number(self) -> int:
@@ -79,23 +71,17 @@ class Call(Row):
 @dataclass
 class Stranger(Row):
     """A live call of the desk that the exchange has no leg of."""
-    kind: ClassVar[str] = "stranger"
-    key: str
 
 
 @dataclass
 class Agent(Row):
     """Who is logged on at a station."""
-    kind: ClassVar[str] = "agent"
-    key: str
     agent: str
 
 
 @dataclass
 class Request(Row):
     """A request to the desk that has no reply yet; its key is its invoke. `then` names who takes the reply."""
-    kind: ClassVar[str] = "request"
-    key: str
     then: str
     context: dict[str, Any]
     body: dict[str, Any]
@@ -104,22 +90,17 @@ class Request(Row):
 @dataclass
 class Served(Row):
     """A peer's request and the last reply to it; with an interval the reply is sent again until its ACK comes."""
-    kind: ClassVar[str] = "served"
-    key: str
     back: str
     request: str
     leg: str = ""
     reply: str = ""
     interval: float = 0.0
     ends: float = 0.0
-    due: float = 0.0
 
 
 @dataclass
 class Asked(Row):
     """A request to a peer; with an interval it is sent again until a reply comes. Once it is over, `ack` is what a reply that comes again gets."""
-    kind: ClassVar[str] = "asked"
-    key: str
     to: str
     text: str
     leg: str
@@ -129,4 +110,3 @@ class Asked(Row):
     ends: float
     over: bool = False
     ack: str = ""
-    due: float = 0.0

@@ -2,26 +2,19 @@
 from __future__ import annotations
 
 import re
-from typing import NamedTuple
 
 from .message import is_ipv4
 
-ULAW, ALAW = 0, 8
+NAMES = {0: "PCMU", 8: "PCMA"}
 
 
-class Media(NamedTuple):
-    host: str
-    port: int
-    types: tuple[int, ...]
-
-
-def media(body: str) -> Media | None:
-    """Where a body asks for its audio; None where it doesn't, or by no address of IPv4."""
+def media(body: str) -> tuple[str, int, tuple[int, ...]] | None:
+    """Where a body asks for its audio, and in which forms; None where it doesn't, or by no address of IPv4."""
     line = re.search(r"^m=audio ([0-9]{1,5}) [!-~]+((?: [0-9]{1,3})+)", body, re.MULTILINE)
     host = re.search(r"^c=IN IP4 ([0-9.]+)", body, re.MULTILINE)
     if not line or not host or not is_ipv4(host[1]) or int(line[1]) > 65535:
         return None
-    return Media(host[1], int(line[1]), tuple(map(int, line[2].split())))
+    return host[1], int(line[1]), tuple(map(int, line[2].split()))
 
 
 def is_held(body: str) -> bool:
@@ -31,17 +24,14 @@ def is_held(body: str) -> bool:
 def music_type(body: str) -> int | None:
     """The form of G.711 that is put first; A-law where nothing is asked for yet, None where there is neither."""
     asked = media(body)
-    return next((kind for kind in (asked.types if asked else (ALAW,)) if kind in (ULAW, ALAW)), None)
+    return next((kind for kind in (asked[2] if asked else (8,)) if kind in NAMES), None)
 
 
 def music(host: str, port: int, offer: str) -> str:
     """The answer of the music to an offer, or an offer of it; empty where they have no form in common."""
     kind = music_type(offer)
-    if kind is None:
-        return ""
-    name = "PCMU" if kind == ULAW else "PCMA"
     return (f"v=0\r\no=acd 1 1 IN IP4 {host}\r\ns=acd\r\nc=IN IP4 {host}\r\nt=0 0\r\nm=audio {port} RTP/AVP {kind}\r\n"
-            f"a=rtpmap:{kind} {name}/8000\r\na=sendrecv\r\n")
+            f"a=rtpmap:{kind} {NAMES[kind]}/8000\r\na=sendrecv\r\n") if kind is not None else ""
 
 
 def with_origin(body: str, host: str, session: int, version: int) -> str:

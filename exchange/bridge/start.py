@@ -1,23 +1,20 @@
 """A start: transactions go on, each leg is probed, and what desk and phones hold is compared."""
 from __future__ import annotations
 
-from typing import TYPE_CHECKING, Any, cast
+from typing import Any
 
-from acd_client import Answer, Event
+from acd_client import Answer
 
 from .exchange import Exchange
-from .records import Agent, Call, Stranger
+from .records import Stranger
 from .transactions import T1
-
-if TYPE_CHECKING:
-    from .desk import DeskLine
 
 GRACE = 3 * T1
 
 
 def resume(x: Exchange) -> None:
     """What came to nobody while the exchange was down may come again now; what isn't heard soon is asked for, and then given up."""
-    now = x.now()
+    now, x.place.invoke = x.now(), x.place.reserved
     for asked in list(x.asked.values()):
         if not asked.over:
             # a phone that rings says so again; one that is gone doesn't
@@ -27,97 +24,39 @@ def resume(x: Exchange) -> None:
             served.due, served.ends = now, max(served.ends, now + x.settings.ack_wait)
     for leg in list(x.legs.values()):
         if leg.state == "up":
-            x.dialogs.ask(leg, "OPTIONS", "probed", patience=x.settings.probe_wait)
-
-
-class Start:
-    """What is asked of the desk once, behind all replies that were missing."""
-
-    def __init__(self, exchange: Exchange, line: DeskLine):
-        self.x, self.line, self.client = exchange, line, line.client
-
-    async def run(self) -> None:
-        shown = await self.read("/snapshot")
-        if not self.x.place.known:
-            await self.learn(shown.body if shown.status == 200 else None)
-        await self.line.follow()
-        if shown.status == 200:
-            self.x.step(self.see_strangers, shown.body)
-        for key in [*self.x.strangers, *self.x.calls]:
-            answer = await self.read(f"/calls/{key}")
-            self.x.step(self.compare, key, connections(answer))
-
-    async def read(self, path: str) -> Answer:
-        return await self.line.call(self.client.attempt, "GET", path)
-
-    async def learn(self, shown: dict[str, Any] | None) -> None:
-        """A new file at a desk that has a history: who is logged on and which calls live, and nothing of it is done again."""
-        while True:
-            after = shown["last"] - 1 if shown and shown["last"] else self.x.place.last
-            page = await self.line.call(self.client.page, after, cast(Event, self.x.place.known) or None)
-            self.x.step(self.fold, page["events"])
-            if not page["events"] or shown:
-                break
-        if shown:
-            self.x.step(self.see_agents, shown)
-
-    def fold(self, events: list[Event]) -> None:
-        for event in events:
-            key, device, kind = str(event.get("call", "")), event.get("device", ""), event["event"]
-            if kind == "agentLoggedOn":
-                self.x.agents.add(Agent(device, event.get("agent", "")))
-            elif kind == "agentLoggedOff":
-                self.x.agents.remove(device)
-            elif kind == "callCleared":
-                self.x.strangers.remove(key)
-            elif key and key not in self.x.strangers:
-                self.x.strangers.add(Stranger(key))
-            self.x.place.known = dict(event)
-
-    def see_agents(self, shown: dict[str, Any]) -> None:
-        for agent in shown["agents"]:
-            if "device" in agent:
-                self.x.agents.add(Agent(agent["device"], agent["agent"]))
-
-    def see_strangers(self, shown: dict[str, Any]) -> None:
-        for call in shown["calls"]:
-            if str(call["call"]) not in self.x.calls:
-                self.x.strangers.add(Stranger(str(call["call"])))
-
-    def compare(self, key: str, states: dict[str, str]) -> None:
-        """A call that no phone has a part in is cleared; what the file lost behind a power cut is made up for."""
-        call = self.x.calls.get(key)
-        if call is None:
-            self.x.strangers.remove(key)
-            self.clear(key, states)
-            return
-        for device in list(call.legs):
-            leg = self.x.legs.get(call.legs[device])
-            if device not in states:
-                self.x.switch.detach(call, device)
-                if leg is not None:
-                    self.x.dialogs.end(leg, call.failure)
-            elif leg is not None and leg.state == "up" and states[device] == "alerting":
-                self.x.switch.ask("answered", {"leg": leg.key}, "answerCall", call=call.number, device=device)
-        if not states:
-            self.x.calls.remove(key)
-        elif any(state in ("connected", "hold") and call.legs.get(device) not in self.x.legs for device, state in states.items()):
-            self.clear(key, states)
-        else:
-            self.ring_and_settle(call, states)
-
-    def clear(self, key: str, states: dict[str, str]) -> None:
-        if states:
-            self.x.switch.ask("nothing", {}, "clearConnection", call=int(key), device=min(states))
-
-    def ring_and_settle(self, call: Call, states: dict[str, str]) -> None:
-        for device, state in states.items():
-            if state == "alerting" and device not in call.legs and device not in call.offers:
-                self.x.switch.delivered({"number": 0, "moment": 0, "event": "delivered"}, call, device)
-        call.connected = len(states) == 2 and set(states.values()) <= {"connected", "hold"}
-        # by then a re-INVITE of before has come to its end
-        call.due = self.x.now() + GRACE
+            x.dialogs.ask(leg, "OPTIONS", "kept", patience=x.settings.probe_wait)
 
 
 def connections(answer: Answer) -> dict[str, str]:
     return {each["device"]: each["state"] for each in answer.body["connections"]} if answer.status == 200 else {}
+
+
+def see_strangers(x: Exchange, shown: dict[str, Any]) -> None:
+    for call in shown["calls"]:
+        if str(call["call"]) not in x.calls:
+            x.strangers.add(Stranger(str(call["call"])))
+
+
+def compare(x: Exchange, key: str, states: dict[str, str]) -> None:
+    """Holds the desk's connections of a call against its legs: what lacks the other ends, and so does a call that no phone has a part in.
+    What the file lost by a power cut is made up for."""
+    call = x.calls.get(key)
+    legs = {device: x.legs.get(leg) for device, leg in call.legs.items()} if call is not None else {}
+    if call is None or not states:
+        x.strangers.remove(key)
+        x.calls.remove(key)
+    for device, leg in legs.items():
+        if leg is not None and device not in states:
+            x.dialogs.end(leg)
+        elif leg is not None and leg.state == "up" and states[device] == "alerting":
+            x.switch.ask("answered", {"leg": leg.key}, "answerCall", call=int(key), device=device)
+    if any(state in ("initiated", "connected", "hold") and legs.get(device) is None for device, state in states.items()):
+        x.switch.ask("nothing", {}, "clearConnection", call=int(key), device=min(states))
+    elif call is not None and states:
+        call.legs = {device: leg for device, leg in call.legs.items() if device in states}
+        for device, state in states.items():
+            if state == "alerting" and device not in legs:
+                x.switch.delivered({"number": 0, "moment": 0, "event": "delivered"}, call, device)
+        call.connected = len(states) == 2 and set(states.values()) <= {"connected", "hold"}
+        # by then a re-INVITE of before has come to its end
+        call.due = x.now() + GRACE

@@ -3,30 +3,33 @@ from __future__ import annotations
 
 import json
 import sqlite3
-from collections.abc import Iterable
+from dataclasses import dataclass, field
 from typing import Any, ClassVar, Generic, TypeVar
 
 ABSENT = object()
-BLOCK = 1000
-
-R = TypeVar("R", bound="Row")
 
 
+@dataclass
 class Row:
-    """A record of the file. Its members are set, and never changed in place."""
+    """A record of the file. Its members are set, and never changed in place; `due` is when its alarm rings, 0 is never."""
     kind: ClassVar[str]
     key: str
-    due: float = 0.0
+    due: float = field(default=0.0, kw_only=True)
+
+    def __init_subclass__(cls) -> None:
+        cls.kind = cls.__name__.lower()
 
     def __setattr__(self, name: str, value: Any) -> None:
         store: Store | None = self.__dict__.get("store")
         if store is not None:
-            store.before(self.__dict__, name)
-            store.changed.add((self.kind, self.key))
+            store.change(self.__dict__, name, self.kind, self.key)
         self.__dict__[name] = value
 
-    def members(self) -> dict[str, Any]:
-        return {name: value for name, value in self.__dict__.items() if name != "store"}
+    def as_json(self) -> str:
+        return json.dumps({name: value for name, value in self.__dict__.items() if name != "store"})
+
+
+R = TypeVar("R", bound=Row)
 
 
 class Table(dict[str, R], Generic[R]):
@@ -38,16 +41,14 @@ class Table(dict[str, R], Generic[R]):
         store.tables[row.kind] = self
 
     def add(self, row: R) -> R:
-        self.store.before(self, row.key)
-        self.store.changed.add((row.kind, row.key))
+        self.store.change(self, row.key, row.kind, row.key)
         row.__dict__["store"] = self.store
         self[row.key] = row
         return row
 
     def remove(self, key: str) -> None:
         if key in self:
-            self.store.before(self, key)
-            self.store.changed.add((self.row.kind, key))
+            self.store.change(self, key, self.row.kind, key)
             del self[key]
 
 
@@ -55,31 +56,30 @@ class Store:
     def __init__(self, path: str):
         self.tables: dict[str, Table[Any]] = {}
         self.journal: list[tuple[dict[str, Any], str, Any]] = []
-        self.changed: set[tuple[str, str]] = set()
+        self.changed: dict[tuple[str, str], None] = {}
         self.durable = False
-        self.base = sqlite3.connect(path, isolation_level=None, check_same_thread=False)
-        self.base.execute("PRAGMA journal_mode=WAL")
-        # a second program over this file is refused, and no other reads it meanwhile
-        self.base.execute("PRAGMA locking_mode=EXCLUSIVE")
+        self.base = sqlite3.connect(path, isolation_level=None)
+        # a second program over this file is refused
+        for line in ("locking_mode=EXCLUSIVE", "journal_mode=WAL", "synchronous=NORMAL"):
+            self.base.execute(f"PRAGMA {line}")
         self.base.execute("CREATE TABLE IF NOT EXISTS rows(kind TEXT, key TEXT, row TEXT NOT NULL, PRIMARY KEY(kind, key)) STRICT")
-        self.base.execute("PRAGMA synchronous=NORMAL")
 
     def load(self) -> None:
-        for kind, key, text in self.base.execute("SELECT kind, key, row FROM rows").fetchall():
-            table = self.tables[kind]
-            table[key] = table.row(**json.loads(text))
-            table[key].__dict__["store"] = self
+        for kind, _, text in self.base.execute("SELECT * FROM rows").fetchall():
+            self.tables[kind].add(self.tables[kind].row(**json.loads(text)))
+        self.forget()
 
-    def before(self, mapping: dict[str, Any], name: str) -> None:
+    def change(self, mapping: dict[str, Any], name: str, kind: str, key: str) -> None:
         """Writes down what a member, or a row of a table, is before it is changed."""
         self.journal.append((mapping, name, mapping.get(name, ABSENT)))
+        self.changed[kind, key] = None
 
     def undo(self) -> None:
         for mapping, name, value in reversed(self.journal):
             if value is ABSENT:
                 mapping.pop(name, None)
             else:
-                dict.__setitem__(mapping, name, value)
+                mapping[name] = value
         self.forget()
 
     def forget(self) -> None:
@@ -91,25 +91,19 @@ class Store:
         """Keeps what was changed, and returns the rows of it that are there. Behind a power cut the last commits may be gone, but none
         that was to be durable, and none before it. Where this fails the program ends: what was kept before is right."""
         rows = [self.tables[kind][key] for kind, key in self.changed if key in self.tables[kind]]
-        gone = [(kind, key) for kind, key in self.changed if key not in self.tables[kind]]
-        if rows or gone:
+        if self.changed:
             if self.durable:
                 self.base.execute("PRAGMA synchronous=FULL")
             self.base.execute("BEGIN IMMEDIATE")
-            self.base.executemany("INSERT OR REPLACE INTO rows VALUES(?, ?, ?)", texts(rows))
-            self.base.executemany("DELETE FROM rows WHERE kind = ? AND key = ?", gone)
+            self.base.executemany("DELETE FROM rows WHERE kind = ? AND key = ?", [each for each in self.changed if each[1] not in self.tables[each[0]]])
+            self.base.executemany("INSERT OR REPLACE INTO rows VALUES(?, ?, ?)", ((row.kind, row.key, row.as_json()) for row in rows))
             self.base.execute("COMMIT")
-            if self.durable:
-                self.base.execute("PRAGMA synchronous=NORMAL")
+            self.base.execute("PRAGMA synchronous=NORMAL")
         self.forget()
         return rows
 
     def differences(self) -> list[tuple[str, str]]:
         """The rows that aren't in memory as they are in the file: none between two steps."""
-        kept = {(kind, key): json.loads(text) for kind, key, text in self.base.execute("SELECT kind, key, row FROM rows")}
-        held = {(row.kind, row.key): json.loads(json.dumps(row.members())) for table in self.tables.values() for row in table.values()}
+        kept = {(kind, key): json.loads(text) for kind, key, text in self.base.execute("SELECT * FROM rows")}
+        held = {(row.kind, row.key): json.loads(row.as_json()) for table in self.tables.values() for row in table.values()}
         return sorted(place for place in kept.keys() | held.keys() if kept.get(place) != held.get(place))
-
-
-def texts(rows: Iterable[Row]) -> Iterable[tuple[str, str, str]]:
-    return ((row.kind, row.key, json.dumps(row.members())) for row in rows)

@@ -4,13 +4,11 @@ from __future__ import annotations
 import re
 import secrets
 from collections.abc import Iterable
-from typing import TYPE_CHECKING, Any
+from typing import Any
 
 from .message import Message, address, host_port, parameter, read_text, response
+from .part import Part
 from .records import Asked, Leg, Served
-
-if TYPE_CHECKING:
-    from .exchange import Exchange
 
 T1, T2, LIFE = 0.5, 4.0, 32.0
 
@@ -19,10 +17,13 @@ def new_branch() -> str:
     return "z9hG4bK" + secrets.token_hex(8)
 
 
-class Transactions:
-    def __init__(self, exchange: Exchange):
-        self.x = exchange
+def served_key(message: Message) -> str:
+    """What tells a request from another: its branch, who shows it, its method; an ACK is told as its INVITE."""
+    shown = re.match(r"SIP/2\.0/\w+\s+([^;\s]+)", message.get("via"))
+    return f"{message.branch} {shown[1] if shown else ''} {message.method.replace('ACK', 'INVITE')}"
 
+
+class Transactions(Part):
     def take(self, message: Message, source: str) -> None:
         if message.is_request:
             self.take_request(message, source)
@@ -37,11 +38,10 @@ class Transactions:
         if leg is not None and leg.call_id != message.get("call-id"):
             leg = None
         if message.method == "ACK":
-            self.acked(message, self.x.served.get(key) or self.x.served.get(leg.transaction if leg else ""), leg)
+            self.take_ack(message, self.x.served.get(key) or self.x.served.get(leg.transaction if leg else ""), leg)
         elif key in self.x.served:
-            row = self.x.served[key]
-            if row.reply:
-                self.x.put(row.reply, row.back)
+            if self.x.served[key].reply:
+                self.x.put(self.x.served[key].reply, source)
         elif not parameter(message.get("to"), "tag") or message.method == "CANCEL":
             self.x.phones.begin(message, self.serve(message, source))
         elif leg is None:
@@ -53,16 +53,7 @@ class Transactions:
             self.x.phones.go_on(message, self.serve(message, source), leg)
 
     def serve(self, message: Message, source: str) -> Served:
-        back, via = source, message.get("via")
-        asks_back = re.search(r";\s*rport\s*(?=;|$)", via)
-        if asks_back:
-            host, _, port = source.partition(":")
-            via = f"{via[:asks_back.start()]};received={host};rport={port}{via[asks_back.end():]}"
-            message.fields[message.fields.index(("via", message.get("via")))] = ("via", via)
-        elif not self.x.settings.edge:
-            shown = re.match(r"SIP/2\.0/UDP\s+[^:;\s]+:([0-9]{1,5})", via)
-            back = f"{source.partition(':')[0]}:{shown[1] if shown and 0 < int(shown[1]) < 65536 else 5060}"
-        return self.x.served.add(Served(served_key(message), back, Message(message.first, message.fields).text()))
+        return self.x.served.add(Served(served_key(message), source, Message(message.first, message.fields).text()))
 
     def fail(self, message: Message, source: str) -> None:
         """The step of a request failed, and was undone."""
@@ -71,24 +62,20 @@ class Transactions:
 
     def answer(self, row: Served, status: int, tag: str = "", fields: Iterable[tuple[str, str]] = (), body: str = "") -> None:
         """Answers a request; a last answer to an INVITE is sent again until its ACK comes."""
-        request = read_text(row.request)
-        row.reply = response(request, status, tag, fields, body).text()
+        request, now = read_text(row.request), self.x.now()
+        row.reply = response(request, status, tag or secrets.token_hex(8) if status > 100 else "", fields, body).text()
         self.x.put(row.reply, row.back)
-        if status < 200:
-            return
-        now = self.x.now()
-        row.due = now + LIFE
-        if request.method == "INVITE":
+        if status >= 200 and request.method == "INVITE":
             row.interval, row.due = T1, now + T1
             row.ends = now + (self.x.settings.ack_wait if status < 300 else LIFE)
-        row.request = request.first.partition(" ")[0]
+        elif status >= 200:
+            row.due = now + LIFE
 
-    def acked(self, message: Message, row: Served | None, leg: Leg | None) -> None:
-        if row is None or not row.interval or read_text(row.reply).cseq != message.cseq:
-            return
-        row.interval, row.due = 0.0, self.x.now() + LIFE
-        if leg is not None:
-            self.x.dialogs.acked(leg, message)
+    def take_ack(self, message: Message, row: Served | None, leg: Leg | None) -> None:
+        if row is not None and row.interval and read_text(row.reply).cseq == message.cseq:
+            row.interval, row.due = 0.0, self.x.now() + LIFE
+            if leg is not None and leg.hangs_up:
+                self.x.dialogs.end(leg)
 
     def served_due(self, row: Served) -> None:
         now = self.x.now()
@@ -108,10 +95,21 @@ class Transactions:
 
     def ask(self, message: Message, to: str, leg: Leg, then: str, context: dict[str, Any] | None = None, patience: float = LIFE) -> Asked:
         """Asks a peer; the dialogs' outcome `then` gets its last answer, or None where none comes."""
-        row = Asked(f"{message.branch} {message.method}", to, message.text(), leg.key, then, context or {}, T1, self.x.now() + patience)
-        row.due = self.x.now() + min(T1, patience)
+        now = self.x.now()
+        row = Asked(f"{message.branch} {message.method}", to, message.text(), leg.key, then, context or {}, T1, now + patience, due=now + min(T1, patience))
         self.x.put(row.text, to)
         return self.x.asked.add(row)
+
+    def asked_due(self, row: Asked) -> None:
+        now, leg = self.x.now(), self.x.legs.get(row.leg)
+        if row.over or now >= row.ends:
+            self.x.asked.remove(row.key)
+            if leg is not None and not row.over:
+                self.x.dialogs.outcomes[row.then](leg, None, row.context)
+        else:
+            self.x.put(row.text, row.to)
+            row.interval = 2 * row.interval if row.key.endswith(" INVITE") else min(2 * row.interval, T2)
+            row.due = min(now + row.interval, row.ends)
 
     def take_response(self, message: Message) -> None:
         row = self.x.asked.get(f"{message.branch} {message.method}")
@@ -123,8 +121,8 @@ class Transactions:
                 self.x.put(row.ack, row.to)
         elif message.status < 200:
             if message.method == "INVITE":
-                row.interval = 0.0
-                row.due = row.ends if row.then != "invited" or leg is None or leg.cancelled else 0.0
+                # it isn't sent again; a phone may ring for as long as the desk lets it
+                row.interval, row.due = 0.0, row.ends if row.then != "invited" or leg is None or leg.cancelled else 0.0
             if leg is not None and row.then == "invited":
                 self.x.dialogs.progressed(leg, message)
         else:
@@ -137,8 +135,8 @@ class Transactions:
     def acknowledge(self, row: Asked, leg: Leg | None, message: Message) -> None:
         if message.status >= 300:
             request = read_text(row.text)
-            fields = request.some("via", "from", "call-id", "max-forwards", "route")
-            row.ack = Message(request.first.replace("INVITE", "ACK", 1), [*fields, ("to", message.get("to")), ("cseq", f"{message.cseq} ACK")]).text()
+            fields = [*request.some("via", "from", "call-id", "max-forwards", "route"), ("to", message.get("to")), ("cseq", f"{message.cseq} ACK")]
+            row.ack = Message(request.first.replace("INVITE", "ACK", 1), fields).text()
         elif leg is None:
             return self.turn_away(message)
         else:
@@ -147,37 +145,15 @@ class Transactions:
         self.x.put(row.ack, row.to)
 
     def turn_away(self, message: Message) -> None:
-        """A phone answered where nobody waits for it any more, or a second one by a fork: it is told so, once for each of its answers."""
-        to = self.x.settings.edge or host_port(address(message.get("contact")))
+        """A phone answered where nobody waits for it any more, or a second one by a fork: it is told so, at each of its answers."""
+        to, uri = self.x.settings.edge or host_port(address(message.get("contact"))), address(message.get("contact"))
         routes = [("route", route) for route in reversed(message.all("record-route"))]
-        if not to:
-            return
-        for method, cseq in (("ACK", message.cseq), ("BYE", message.cseq + 1)):
+        for method, cseq in (("ACK", message.cseq), ("BYE", message.cseq + 1)) if to else ():
             fields = [("via", f"SIP/2.0/UDP {self.x.settings.here};rport;branch={new_branch()}"), *routes, ("max-forwards", "70"),
                       *message.some("from", "to", "call-id"), ("cseq", f"{cseq} {method}")]
-            self.x.put(Message(f"{method} {address(message.get('contact'))} SIP/2.0", fields).text(), to)
-
-    def asked_due(self, row: Asked) -> None:
-        now = self.x.now()
-        if row.over:
-            self.x.asked.remove(row.key)
-        elif now >= row.ends:
-            self.x.asked.remove(row.key)
-            leg = self.x.legs.get(row.leg)
-            if leg is not None:
-                self.x.dialogs.outcomes[row.then](leg, None, row.context)
-        else:
-            self.x.put(row.text, row.to)
-            row.interval = 2 * row.interval if row.key.endswith(" INVITE") else min(2 * row.interval, T2)
-            row.due = min(now + row.interval, row.ends)
+            self.x.put(Message(f"{method} {uri} SIP/2.0", fields).text(), to)
 
     def is_open(self, key: str) -> bool:
         """Whether this transaction of an INVITE isn't over yet, at either side."""
         asked, served = self.x.asked.get(key), self.x.served.get(key)
         return asked is not None and not asked.over or served is not None and (bool(served.interval) or not served.due)
-
-
-def served_key(message: Message) -> str:
-    """What tells a request from another: its branch, who shows it, its method; an ACK is told as its INVITE."""
-    shown = re.match(r"SIP/2\.0/\w+\s+([^;\s]+)", message.get("via"))
-    return f"{message.branch} {shown[1] if shown else ''} {message.method.replace('ACK', 'INVITE')}"
