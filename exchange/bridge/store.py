@@ -53,12 +53,12 @@ class Table(dict[str, R], Generic[R]):
 
 
 class Store:
-    def __init__(self, path: str):
+    def __init__(self, path: str, wait: float = 5.0):
         self.tables: dict[str, Table[Any]] = {}
         self.journal: list[tuple[dict[str, Any], str, Any]] = []
         self.changed: dict[tuple[str, str], None] = {}
         self.durable = False
-        self.base = sqlite3.connect(path, isolation_level=None)
+        self.base = sqlite3.connect(path, timeout=wait, isolation_level=None)
         # a second program over this file is refused
         for line in ("locking_mode=EXCLUSIVE", "journal_mode=WAL", "synchronous=NORMAL"):
             self.base.execute(f"PRAGMA {line}")

@@ -32,7 +32,8 @@ def label(name: str) -> str:
     return f'<label id="{name}"/>'
 
 
-def reply(line: str, body: str = EMPTY, to: str = "[last_To:]", cseq: str = "[last_CSeq:]", fields: str = "") -> str:
+def reply(line: str, body: str = EMPTY, to: str = "[last_To:]", cseq: str = "[last_CSeq:]",
+          contact: str = "<sip:phone@[local_ip]:[local_port]>") -> str:
     return f"""
       SIP/2.0 {line}
       [last_Via:]
@@ -41,8 +42,8 @@ def reply(line: str, body: str = EMPTY, to: str = "[last_To:]", cseq: str = "[la
       {to}
       [last_Call-ID:]
       {cseq}
-      Contact: <sip:phone@[local_ip]:[local_port]>
-      {fields}{body}"""
+      Contact: {contact}
+      {body}"""
 
 
 def inside(method: str, cseq: int, rest: str = EMPTY) -> str:
@@ -72,20 +73,19 @@ RUNG = ('<recv request="INVITE" rrs="true"><action>'
         '<ereg regexp="[0-9]+ INVITE" search_in="hdr" header="CSeq:" assign_to="2"/>'
         '<ereg regexp="[^ ].*" search_in="hdr" header="From:" assign_to="3"/>'
         '<ereg regexp="&lt;[^&gt;]*&gt;" search_in="hdr" header="To:" assign_to="4"/>%s</action></recv>')
-DRAWN = ('<sample assign_to="5" distribution="uniform" min="0" max="100"/>'
-         '<test assign_to="6" variable="5" compare="less_than" value="%d"/>'
-         '<test assign_to="7" variable="5" compare="less_than" value="%d"/>')
 MINE = "[last_To:];tag=[pid]P[call_number]"
 
 
-def phone(delay: int, silent: int = 0, talks: int = LONG, extra: tuple[str, ...] = ()) -> str:
-    """Rings for delay ms, half the time for three times as long; of 100 calls lets `silent` ring; hangs up after talks ms unless the caller has."""
+def phone(delay: int, silent: str = "", talks: int = LONG, extra: tuple[str, ...] = ()) -> str:
+    """Rings for delay ms, for callers of an even last digit but one three times as long; lets callers with these last digits ring;
+    hangs up after talks ms unless the caller has."""
     def ringing(ms: int, name: str) -> list[str]:
         return [label(name), receive("CANCEL", False, ms, "answer", "cancelled")]
 
+    told = "".join(f'<ereg regexp="{text}@" search_in="hdr" header="From:" assign_to="{place}"/>' for text, place in ((f"[{silent or 'x'}]", 6), ("[02468].", 7)))
     answer = reply("200 OK", BODY % "", to=MINE, cseq="CSeq: [$2]")
     return scenario(
-        RUNG % (DRAWN % (silent, silent + (100 - silent) // 2)),
+        RUNG % told,
         send(reply("180 Ringing", to=MINE), next="silent", test="6"), '<nop next="slow" test="7"/>',
         *ringing(delay, "quick"), *ringing(3 * delay, "slow"), *ringing(LONG, "silent"),
         label("answer"), send(answer, retrans="500"), receive("ACK"), *extra, *talk(talks),
@@ -95,9 +95,9 @@ def phone(delay: int, silent: int = 0, talks: int = LONG, extra: tuple[str, ...]
         label("over"))
 
 
-def refusing(line: str, fields: str = "") -> str:
+def refusing(line: str, contact: str = "<sip:phone@[local_ip]:[local_port]>") -> str:
     """A phone that says at once that it is busy, or has moved."""
-    return scenario(RUNG % "", send(reply(line, to=MINE, fields=fields), retrans="500"), receive("ACK"))
+    return scenario(RUNG % "", send(reply(line, to=MINE, contact=contact), retrans="500"), receive("ACK"), '<Reference variables="2,3,4"/>')
 
 
 def hold(ms: int) -> tuple[str, ...]:

@@ -1,0 +1,176 @@
+"""Steps: kept before anything is sent, undone whole where they fail, taken up again behind a stop."""
+from __future__ import annotations
+
+import sqlite3
+import unittest
+from typing import Any
+
+from acd_client import Answer
+from bench import CALLER, PHONE, Bench, body
+from bridge.start import compare, see_strangers
+from bridge.store import Store
+
+
+def fail(*_: Any) -> None:
+    raise RuntimeError("planted")
+
+
+class Steps(unittest.TestCase):
+    def setUp(self) -> None:
+        self.bench = Bench()
+        self.addCleanup(self.bench.close)
+
+    def test_a_step_that_fails_is_undone(self) -> None:
+        """A fault is planted behind all that a step does, in each kind of input."""
+        b = self.bench
+        b.ringing()
+        before = {row.key: row.as_json() for table in b.x.store.tables.values() for row in table.values()}
+
+        def work() -> None:
+            [leg] = [leg for leg in b.x.legs.values() if leg.state == "in"]
+            b.x.dialogs.accept(leg, body(1))
+            b.x.switch.hang_up(leg)
+            b.x.dialogs.end(leg)
+            b.x.calls.remove("1")
+            b.x.switch.new("2", "0301", "100").legs = {"0301": leg.key}
+            raise RuntimeError("planted")
+
+        b.take()
+        self.assertFalse(b.x.step(work))
+        b.check()
+        self.assertEqual({row.key: row.as_json() for table in b.x.store.tables.values() for row in table.values()}, before)
+        self.assertEqual((b.take(), b.x.out, b.x.faults), ([], [], 1))
+
+    def test_nothing_is_sent_before_it_is_kept(self) -> None:
+        b, order = self.bench, list[str]()
+        commit, send = b.x.store.commit, b.x.send
+        b.x.store.commit = lambda: (order.append("kept"), commit())[1]  # type: ignore[method-assign,assignment,return-value,func-returns-value]
+        b.x.send = lambda data, to: (order.append("sent"), send(data, to))[1]  # type: ignore[func-returns-value]
+        b.waiting()
+        self.assertEqual(order, ["kept", "sent", "kept", "kept", "sent"])
+
+    def test_a_request_whose_step_fails_is_answered(self) -> None:
+        b = self.bench
+        b.x.phones.first.update(INVITE=fail)
+        b.invite()
+        self.assertEqual((b.firsts(), len(b.x.served)), (["SIP/2.0 500"], 1))
+
+    def test_an_event_whose_step_fails_is_passed_over(self) -> None:
+        b = self.bench
+        b.waiting()
+        b.x.switch.on_event["delivered"] = fail
+        with self.assertRaises(AssertionError):
+            b.tell("diverted@100/100", "delivered@201/100")
+        b.check()
+        self.assertEqual(b.x.place.last, 1)
+
+    def test_a_reply_whose_step_fails(self) -> None:
+        b = self.bench
+        b.invite()
+        row = b.first_request()
+        self.assertFalse(b.x.step(b.x.switch.take_reply, row, Answer(200, {"result": {}})))
+        b.check()
+        b.take()
+        self.assertTrue(b.x.step(b.x.switch.pass_over, row))
+        self.assertEqual((b.asked(), b.firsts()), ([], ["SIP/2.0 500"]))
+
+    def test_an_alarm_whose_step_fails_rings_once(self) -> None:
+        b = self.bench
+        b.waiting()
+        b.x.due["leg"] = fail
+        b.pass_time(200)
+        self.assertEqual(b.x.faults, 1)
+
+    def test_invokes_are_never_used_again(self) -> None:
+        b = self.bench
+        b.invite()
+        first = b.first_request().body["invoke"]
+        b.restart()
+        b.invite(call_id="c2")
+        invokes = sorted(int(key) for key in b.x.requests)
+        self.assertEqual((first, invokes), (1, [1, 1001]))
+
+    def test_one_program_at_a_file(self) -> None:
+        b = self.bench
+        path = b.folder.name + "/exchange.db"
+        with self.assertRaises(sqlite3.OperationalError):
+            Store(path, wait=0.1)
+
+
+class Restarts(unittest.TestCase):
+    def setUp(self) -> None:
+        self.bench = Bench()
+        self.addCleanup(self.bench.close)
+
+    def test_a_talk_is_probed(self) -> None:
+        """A caller that is gone is found by its silence, an agent's phone that lost the talk by 481."""
+        for status, device in ((481, "201"), (0, "0301")):
+            b = Bench()
+            told = b.talking()
+            caller = next(message for to, message in b.take() if to == CALLER)
+            b.request("ACK", "sip:acd@x", to=caller.get("to"))
+            b.restart()
+            probes = {to: message for to, message in b.take() if message.method == "OPTIONS"}
+            self.assertEqual(sorted(probes), [PHONE, CALLER], told)
+            b.reply(probes[PHONE], status or 200)
+            if status:
+                b.reply(probes[CALLER], 200, source=CALLER)
+            b.pass_time(2.1)
+            self.assertEqual(b.asked(), [("clearConnection", {"call": 1, "device": device})])
+            b.close()
+
+    def test_a_ringing_phone_is_asked_again(self) -> None:
+        b = self.bench
+        b.ringing()
+        b.restart()
+        b.take()
+        b.pass_time(2)
+        self.assertEqual([(to, message.method) for to, message in b.take()], [(PHONE, "INVITE")])
+
+    def test_an_answer_is_sent_again(self) -> None:
+        b = self.bench
+        b.talking()
+        b.restart()
+        b.take()
+        b.pass_time(0.1)
+        self.assertIn((CALLER, "200"), [(to, message.first.split(" ")[1]) for to, message in b.take()])
+
+    def test_orphans(self) -> None:
+        """Calls that the exchange doesn't know, from events and from a snapshot; one that is gone by then."""
+        b = self.bench
+        b.x.switch.learning = True
+        b.tell("queued@100", call=7)
+        b.tell("serviceInitiated@201", "originated@201", call=8)
+        b.tell("queued@100", "callCleared", call=9)
+        b.x.switch.learning = False
+        self.assertEqual((sorted(b.x.strangers), b.take()), (["7", "8"], []))
+        b.x.step(see_strangers, b.x, {"calls": [{"call": 7}, {"call": 10}]})
+        self.assertEqual(sorted(b.x.strangers), ["10", "7", "8"])
+        b.x.step(compare, b.x, "7", {"0301": "connected", "100": "queued"})
+        b.x.step(compare, b.x, "8", {"201": "connected", "202": "alerting"})
+        b.x.step(compare, b.x, "10", {})
+        self.assertEqual(b.asked(), [("clearConnection", {"call": 7, "device": "0301"}), ("clearConnection", {"call": 8, "device": "201"})])
+        self.assertEqual(sorted(b.x.strangers), [])
+
+    def test_what_a_power_cut_lost(self) -> None:
+        """The desk has gone on: an offer that no phone heard of is rung, a talk that it ended is ended, an answer that it lacks is asked."""
+        b = self.bench
+        b.waiting()
+        b.take()
+        b.x.step(compare, b.x, "1", {"0301": "connected", "201": "alerting"})
+        self.assertEqual([(to, message.method) for to, message in b.take()], [(PHONE, "INVITE")])
+        b.x.step(compare, b.x, "1", {})
+        self.assertEqual((len(b.x.calls), b.firsts()), (0, ["SIP/2.0 480"]))
+
+    def test_an_answer_that_the_desk_lacks(self) -> None:
+        b = self.bench
+        b.reply(b.ringing(), 200, body(7201))
+        b.x.step(b.x.switch.pass_over, b.first_request())
+        leg = next(leg for leg in b.x.legs.values() if leg.device == "201")
+        leg.state = "up"
+        b.x.step(compare, b.x, "1", {"0301": "connected", "201": "alerting"})
+        self.assertEqual(b.asked(), [("answerCall", {"call": 1, "device": "201"})])
+
+
+if __name__ == "__main__":
+    unittest.main()
