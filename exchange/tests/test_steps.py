@@ -44,14 +44,23 @@ class Steps(unittest.TestCase):
     def test_nothing_is_sent_before_it_is_kept(self) -> None:
         b, order = self.bench, list[str]()
         commit, send = b.x.store.commit, b.x.send
-        b.x.store.commit = lambda: (order.append("kept"), commit())[1]  # type: ignore[method-assign,assignment,return-value,func-returns-value]
-        b.x.send = lambda data, to: (order.append("sent"), send(data, to))[1]  # type: ignore[func-returns-value]
+
+        def kept() -> list[Any]:
+            order.append("kept")
+            return commit()
+
+        def sent(data: bytes, to: str) -> None:
+            order.append("sent")
+            send(data, to)
+
+        setattr(b.x.store, "commit", kept)
+        b.x.send = sent
         b.waiting()
         self.assertEqual(order, ["kept", "sent", "kept", "kept", "sent"])
 
     def test_a_request_whose_step_fails_is_answered(self) -> None:
         b = self.bench
-        b.x.phones.first.update(INVITE=fail)
+        b.x.phones.first.update({"INVITE": lambda message, row: fail()})
         b.invite()
         self.assertEqual((b.firsts(), len(b.x.served)), (["SIP/2.0 500"], 1))
 

@@ -20,8 +20,9 @@ NEAR = 0.3
 
 @dataclass
 class Caller:
-    """What a caller saw."""
+    """What a caller saw: its INVITE was sent, and surely heard."""
     invited: float
+    heard: float = NEVER
     answered: float = NEVER
     moved: float = NEVER
     cancelled: float = NEVER
@@ -84,6 +85,7 @@ def callers_of(folder: Path) -> dict[str, Caller]:
 def see_caller(caller: Caller, at: float, sent: bool, first: str, fields: dict[str, str]) -> None:
     if not sent and first.startswith("SIP/2.0") and fields["cseq"].endswith("INVITE"):
         caller.statuses.append(int(first.split()[1]))
+        caller.heard = min(caller.heard, at)
         if caller.statuses[-1] == 200:
             caller.answered = min(caller.answered, at)
     if not sent and first.startswith("INVITE"):
@@ -167,21 +169,23 @@ class Comparison:
         self.must("given up at sipp = cleared in the queue or ringing", reached != booked.abandoned, note)
         self.must("phones rung, in order = delivered", [ring.station for ring in rings] == booked.delivered, note)
         ended_by_caller = booked.abandoned and len(booked.delivered) > booked.unanswered
-        self.must("rings taken back = noAnswer", sum(ring.cancelled < NEVER for ring in rings) == booked.unanswered + ended_by_caller, note)
+        # a phone that answers too late is told so by a BYE
+        taken_back = sum(ring.cancelled < NEVER or ring.answered < NEVER and ring is not rings[-1] for ring in rings)
+        self.must("rings taken back = noAnswer", taken_back == booked.unanswered + ended_by_caller, note)
         self.must("each call is cleared once", booked.cleared == 1, note)
 
     def waits(self, name: str, at: float) -> bool:
         """Whether a caller surely waits, and rings nowhere, at a moment."""
         caller = self.callers[name]
         rung = any(abs(ring.at - at) < NEAR or ring.at < at and ring.cancelled > at - NEAR for ring in self.rings[name])
-        return caller.invited < at - NEAR and min(caller.cancelled, caller.ended) > at + NEAR and not rung
+        return caller.heard < at - NEAR and min(caller.cancelled, caller.ended) > at + NEAR and not rung
 
     def compare_order(self) -> None:
         """From the wire alone: nobody has waited longer than the caller that a phone rings for."""
         for name, rings in self.rings.items():
             for ring in rings:
                 before = [other for other in self.callers if name in self.callers and other != name
-                          and self.callers[other].invited < self.callers[name].invited - 0.02 and self.waits(other, ring.at)]
+                          and self.callers[other].heard < self.callers[name].invited and self.waits(other, ring.at)]
                 self.must("each ring is for who has waited longest", not before, f"at {ring.at:.3f} {name} rang before {before}")
 
     def compare_report(self) -> None:

@@ -174,7 +174,7 @@ def cleared_by_a_supervisor(self: Features, ground: Ground, music: bool) -> None
 def strange_numbers(self: Features, ground: Ground, music: bool) -> None:
     """What callers show: a number of the desk's own, nothing, a country's code, a long number, the same one twice."""
     shown = ["100", "anonymous", "+49301", "12345678901234567890", "0308888", "0308888"]
-    callers = [ground.caller(f"caller{place}", scenarios.caller(patience=2500, music=music), [number]) for place, number in enumerate(shown)]
+    callers = [ground.caller(f"caller{place}", scenarios.caller(patience=8000, music=music), [number]) for place, number in enumerate(shown)]
     self.arise(ground, "queued", 6)
     told = sorted((ground.client.read(f"/calls/{call}") or {}).get("caller", "") for call in range(1, 7))
     self.see("callers", told, sorted(["0100", "0", "49301", "678901234567890", "0308888", "0308888"]))

@@ -91,7 +91,8 @@ def phone(delay: int, silent: str = "", talks: int = LONG, extra: tuple[str, ...
         label("answer"), send(answer, retrans="500"), receive("ACK"), *extra, *talk(talks),
         label("hangup"), send(inside("BYE", 11), retrans="500"), receive("OPTIONS", True, 0, "", "hangup"), receive("200", then="over"),
         label("byed"), send(reply("200 OK"), next="over"),
-        label("cancelled"), send(reply("200 OK")), send(reply("487 Request Terminated", to=MINE, cseq="CSeq: [$2]"), retrans="500"), receive("ACK"),
+        label("cancelled"), send(reply("200 OK")), send(reply("487 Request Terminated", to=MINE, cseq="CSeq: [$2]"), retrans="500"),
+        label("unheard"), receive("CANCEL", True, then="again"), receive("ACK", then="over"), label("again"), send(reply("200 OK"), next="unheard"),
         label("over"))
 
 
@@ -158,6 +159,6 @@ def caller(called: str = "100", patience: int = LONG, talks: int = 2000, music: 
         *first, *(receive(status, True, patience, "giveup") for status in ("100", "180", "182")), *refused,
         receive("200", False, patience, "giveup", more='rtd="1" rrs="true"'), send(mine("ACK", f"{cseq} ACK", "a", "[peer_tag_param]")),
         *waiting, *talk(talks or LONG), label("hangup"), *([label("bye")] if music else []), *bye, label("byed"), send(reply("200 OK"), next="over"),
-        label("giveup"), send(mine("CANCEL", f"{cseq} CANCEL", branch), retrans="500"), receive("200"), receive("487"),
+        label("giveup"), send(mine("CANCEL", f"{cseq} CANCEL", branch), retrans="500"), *(receive(status, True) for status in ("100", "180", "182", "200")), receive("487"),
         send(mine("ACK", f"{cseq} ACK", branch, "[peer_tag_param]"), next="over"),
         label("refused"), send(mine("ACK", f"{cseq} ACK", branch, "[peer_tag_param]"), next="over"), label("over"))
