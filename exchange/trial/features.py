@@ -16,10 +16,11 @@ BUSY = "486 Busy Here"
 
 
 class Features:
-    """One ground with three phones, two agents and two groups; each scenario begins with everybody logged off and nothing live."""
+    """Each scenario has a ground of its own, with three phones, two agents and two groups, and everybody is logged off at first. `down` is how many
+    seconds an exchange is down that phones hang up meanwhile."""
 
-    def __init__(self, folder: Path, program: str, base: int):
-        self.folder, self.program, self.base = folder, program, base
+    def __init__(self, folder: Path, program: str, base: int, down: float = 12):
+        self.folder, self.program, self.base, self.down = folder, program, base, down
         self.tried, self.wrong = 0, list[str]()
 
     def see(self, what: str, has: object, wanted: object) -> None:
@@ -267,7 +268,7 @@ def silent_desk(self: Features, ground: Ground, music: bool) -> None:
     self.see("a silent desk: everything ends", ground.wait_until_quiet(), True)
 
 
-def hang_ups_while_it_is_down(self: Features, ground: Ground, music: bool, seconds: float = 12) -> None:
+def hang_ups_while_it_is_down(self: Features, ground: Ground, music: bool) -> None:
     """The bridge is killed in two talks; one caller and the other one's agent hang up, and are gone. After the start nobody hears nobody."""
     ground.log_on(1, 2)
     phones = [ground.phone("201", scenarios.phone(300)), ground.phone("202", scenarios.phone(300))]
@@ -278,7 +279,7 @@ def hang_ups_while_it_is_down(self: Features, ground: Ground, music: bool, secon
     gone = next(place for place in range(2) if f'"030{place}"' in ground.trace("phone-201"))
     for process in (callers[gone], phones[1]):
         ground.end(process, 9)
-    time.sleep(seconds)
+    time.sleep(self.down)
     began = time.monotonic()
     ground.exchange = ground.start_exchange()
     self.ends("hang-ups while it is down", phones[0], callers[1 - gone], seconds=10)
