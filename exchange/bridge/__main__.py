@@ -46,39 +46,52 @@ def arguments() -> argparse.Namespace:
     return options
 
 
-class Wire(asyncio.DatagramProtocol):
-    def __init__(self, exchange: Exchange):
-        self.exchange = exchange
+class Wire:
+    """The address at which SIP is spoken. What has come is heard before any alarm rings, so that a late process doesn't find its peers gone."""
 
-    def datagram_received(self, data: bytes, source: tuple[str, int]) -> None:
-        self.exchange.receive(data, f"{source[0]}:{source[1]}")
+    def __init__(self, host: str, port: int):
+        self.socket = socket.socket(socket.AF_INET, socket.SOCK_DGRAM)
+        self.socket.setsockopt(socket.SOL_SOCKET, socket.SO_RCVBUF, 4 << 20)
+        self.socket.setblocking(False)
+        self.socket.bind((host, port))
 
-    async def ring(self) -> None:
+    def send(self, data: bytes, to: str) -> None:
+        try:
+            self.socket.sendto(data, (to.partition(":")[0], int(to.partition(":")[2])))
+        except OSError:
+            # as if it were lost on its way: it is sent again
+            pass
+
+    def hear(self, exchange: Exchange) -> None:
+        for _ in range(1000):
+            try:
+                data, source = self.socket.recvfrom(65535)
+            except BlockingIOError:
+                return
+            exchange.receive(data, f"{source[0]}:{source[1]}")
+
+    async def run(self, exchange: Exchange) -> None:
+        asyncio.get_running_loop().add_reader(self.socket, self.hear, exchange)
         while True:
-            await asyncio.sleep(min(0.02, max(0.001, self.exchange.ring_alarms())))
+            self.hear(exchange)
+            await asyncio.sleep(min(0.02, max(0.0, exchange.ring_alarms())))
 
 
 async def run(options: argparse.Namespace, store: Store) -> None:
     loop, (host, port) = asyncio.get_running_loop(), options.listen.split(":")
     named = {name: getattr(options, name) for name in ("edge", "requester", "waiting", "refused", "ack_wait", "session", "music_port", "stop_at", "trace")}
     settings = Settings(host, int(port), phones=json.loads(options.phones.read_text()) if options.phones else {}, **named)
-    wire: asyncio.DatagramTransport
-
-    def send(data: bytes, to: str) -> None:
-        wire.sendto(data, (to.partition(":")[0], int(to.partition(":")[2])))
-
-    exchange = Exchange(settings, store, send)
+    wire = Wire(host, int(port))
+    exchange = Exchange(settings, store, wire.send)
     music = Music(exchange.legs, options.music)
     exchange.see_leg = music.see
-    wire, heard = await loop.create_datagram_endpoint(lambda: Wire(exchange), local_addr=(host, int(port)))
-    wire.get_extra_info("socket").setsockopt(socket.SOL_SOCKET, socket.SO_RCVBUF, 4 << 20)
     tune, _ = await loop.create_datagram_endpoint(asyncio.DatagramProtocol, local_addr=(host, options.music_port))
     for leg in exchange.legs.values():
         music.see(leg)
     exchange.step(resume, exchange)
     line = DeskLine(exchange, Client(options.desk), options.poll, options.tick)
     print(f"listening on {options.listen}", flush=True)
-    tasks = [asyncio.create_task(work) for work in (line.run(), line.watch(), heard.ring(), music.play(tune.sendto))]
+    tasks = [asyncio.create_task(work) for work in (line.run(), line.watch(), wire.run(exchange), music.play(tune.sendto))]
     for number in (signal.SIGTERM, signal.SIGINT):
         loop.add_signal_handler(number, lambda: [task.cancel() for task in tasks])
     await asyncio.gather(*tasks)

@@ -120,8 +120,10 @@ class Exchange:
             heapq.heappush(self.alarms, (row.due, row.kind, row.key))
 
     def ring_alarms(self) -> float:
-        """Takes what is due, and returns how many seconds lie before the next."""
-        while self.alarms and self.alarms[0][0] <= self.now():
+        """Takes some of what is due, and returns how many seconds lie before the next."""
+        for _ in range(20):
+            if not self.alarms or self.alarms[0][0] > self.now():
+                break
             due, kind, key = heapq.heappop(self.alarms)
             row = self.store.tables[kind].get(key)
             # an alarm that was put off has another entry

@@ -16,14 +16,17 @@ def resume(x: Exchange) -> None:
     """What came to nobody while the exchange was down may come again now; what isn't heard soon is asked for, and then given up."""
     now, x.place.invoke = x.now(), x.place.reserved
     for asked in list(x.asked.values()):
-        if not asked.over:
+        if asked.over and asked.ack:
+            x.put(asked.ack, asked.to)
+        elif not asked.over:
             # a phone that rings says so again; one that is gone doesn't
             asked.interval, asked.due, asked.ends = asked.interval or T1, now + GRACE, max(asked.ends, now + 4 * GRACE)
     for served in list(x.served.values()):
         if served.interval:
             served.due, served.ends = now, max(served.ends, now + x.settings.ack_wait)
     for leg in list(x.legs.values()):
-        if leg.state == "up":
+        unheard = x.served.get(leg.transaction)
+        if leg.state == "up" and not (unheard and unheard.interval):
             x.dialogs.ask(leg, "OPTIONS", "kept", patience=x.settings.probe_wait)
 
 

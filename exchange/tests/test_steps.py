@@ -139,8 +139,10 @@ class Restarts(unittest.TestCase):
     def test_an_answer_is_sent_again(self) -> None:
         b = self.bench
         b.talking()
-        b.restart()
         b.take()
+        b.restart()
+        # no probe where the answer itself waits for its ACK
+        self.assertEqual([(to, message.method) for to, message in b.take()], [(PHONE, "ACK"), (PHONE, "OPTIONS")])
         b.pass_time(0.1)
         self.assertIn((CALLER, "200"), [(to, message.first.split(" ")[1]) for to, message in b.take()])
 

@@ -88,6 +88,8 @@ def see_caller(caller: Caller, at: float, sent: bool, first: str, fields: dict[s
         caller.heard = min(caller.heard, at)
         if caller.statuses[-1] == 200:
             caller.answered = min(caller.answered, at)
+        elif caller.statuses[-1] >= 300:
+            caller.ended = min(caller.ended, at)
     if not sent and first.startswith("INVITE"):
         caller.moved = min(caller.moved, at)
     if sent and first.startswith("CANCEL"):
