@@ -143,7 +143,8 @@ class Calls(Part):
 
     def queued(self, event: Event, call: Call, device: str) -> None:
         call.connected = call.joined = False
-        self.settle(call)
+        for leg in self.of(call):
+            self.x.dialogs.entertain(leg)
 
     def delivered(self, event: Event, call: Call, device: str) -> None:
         if device in call.legs:
@@ -199,11 +200,12 @@ class Calls(Part):
             self.ask("nothing", {}, "clearConnection", call=call.number, device=leg.device)
 
     def settle(self, call: Call) -> None:
-        """Each leg gets somebody to hear: the other one, once the desk says that they are connected, else music or 182."""
+        """Each leg that is up gets somebody to hear: the other one, once the desk says that they are connected, else music."""
         legs = sorted(self.of(call), key=lambda leg: leg.device != call.caller)
         if not call.connected or len(legs) != 2:
             for leg in legs:
-                self.x.dialogs.entertain(leg)
+                if leg.state == "up":
+                    self.x.dialogs.entertain(leg)
         elif not call.joined and legs[0].state == "in":
             call.joined, legs[1].music = True, False
             self.x.dialogs.accept(legs[0], legs[1].sdp)

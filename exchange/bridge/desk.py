@@ -74,6 +74,7 @@ class DeskLine:
         for key in [*self.x.strangers, *self.x.calls]:
             answer = await self.call(self.client.attempt, "GET", f"/calls/{key}")
             self.x.step(compare, self.x, key, connections(answer))
+        print(f"following the desk from event {self.x.place.last}", flush=True)
 
     async def once(self) -> None:
         now = int(time.time()) // self.tick if self.tick else 0

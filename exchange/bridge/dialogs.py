@@ -180,7 +180,7 @@ class Dialogs(Part):
     def entertain(self, leg: Leg) -> None:
         """A leg that has nobody to talk to yet: Queued to a caller who isn't answered, else music."""
         music = self.music_for(leg.sdp)
-        if leg.state == "in" and not leg.station and self.x.settings.waiting == "music" and music:
+        if leg.state == "in" and self.x.settings.waiting == "music" and music:
             leg.music = True
             self.accept(leg, music)
         elif leg.state == "in":

@@ -90,11 +90,11 @@ class Ground:
 
     def start_exchange(self, *more: str) -> subprocess.Popen[bytes]:
         who = ["--edge", f"127.0.0.1:{self.edge_port}"] if self.by_edge else ["--phones", "phones.json"]
-        before = self.said("exchange").count("listening on")
+        before = self.said("exchange").count("following")
         exchange = self.start([sys.executable, str(EXCHANGE / "acd-exchange"), *who, "--listen", f"127.0.0.1:{self.port}", "--desk", f"http://127.0.0.1:{self.desk_port}",
                                "--music-port", str(self.music_port), *self.options, *more], "exchange")
         for _ in range(200):
-            if self.said("exchange").count("listening on") > before or exchange.poll() is not None:
+            if self.said("exchange").count("following") > before or exchange.poll() is not None:
                 break
             time.sleep(0.02)
         return exchange
