@@ -25,6 +25,49 @@ from acd_client import Answer, Client, Event  # noqa: E402
 PASSWORD = "open-sesame"
 
 
+class Phone:
+    """Sends requests that aren't INVITEs by hand, each until it is answered, with a password where one is asked for."""
+
+    def __init__(self, to: int, port: int = 0):
+        self.to = to
+        self.socket = socket.socket(socket.AF_INET, socket.SOCK_DGRAM)
+        self.socket.bind(("127.0.0.1", port))
+
+    def __enter__(self) -> Phone:
+        return self
+
+    def __exit__(self, *_: object) -> None:
+        self.socket.close()
+
+    def request(self, method: str, uri: str, number: str, more: str = "", account: str = "", password: str = PASSWORD,
+                waits: tuple[float, ...] = (0.5, 1, 2, 4, 4, 4)) -> tuple[int, str]:
+        """The status, 0 where no answer comes, and the reply."""
+        head, tag, call_id = "", secrets.token_hex(4), secrets.token_hex(8)
+        for cseq in (1, 2):
+            rest = f"From: <sip:{number}@127.0.0.1>;tag={tag}\r\nCall-ID: {call_id}\r\nCSeq: {cseq} {method}\r\n{head}{more}"
+            status, text = self.exchange(method, uri, f"sip:{number}@127.0.0.1" if method == "REGISTER" else uri, rest, waits)
+            if status not in (401, 407):
+                break
+            head = credentials(text, status, method, uri, account or number, password)
+        return status, text
+
+    def exchange(self, method: str, uri: str, to: str, rest: str, waits: tuple[float, ...]) -> tuple[int, str]:
+        branch = "z9hG4bK" + secrets.token_hex(8)
+        data = (f"{method} {uri} SIP/2.0\r\nVia: SIP/2.0/UDP 127.0.0.1:{self.socket.getsockname()[1]};rport;branch={branch}\r\nTo: <{to}>\r\n{rest}"
+                f"Max-Forwards: 70\r\nContent-Length: 0\r\n\r\n").encode()
+        for wait in waits:
+            self.socket.sendto(data, ("127.0.0.1", self.to))
+            self.socket.settimeout(wait)
+            try:
+                while True:
+                    text = self.socket.recv(8192).decode("latin-1")
+                    if branch in text and not text.startswith("SIP/2.0 1"):
+                        return int(text.split(" ")[1]), text
+            except (TimeoutError, ConnectionRefusedError):
+                pass
+        return 0, ""
+
+
 class Ground:
     """Ports: desk, exchange, music and edge from base on; callers from base + 50, phones from base + 100, media from base + 300."""
 
@@ -44,8 +87,7 @@ class Ground:
         (folder / "phones.json").write_text(json.dumps({number: f"sip:{number}@127.0.0.1:{self.phone_port(number)}" for number in self.stations}))
         self.acd("import", "--file", "desk.db", "--plan", "plan.csv")
         self.client = Client(f"http://127.0.0.1:{self.desk_port}", requester="supervisor")
-        self.keys = socket.socket(socket.AF_INET, socket.SOCK_DGRAM)
-        self.keys.bind(("127.0.0.1", 0))
+        self.keys = Phone(self.edge_port if edge else self.port)
         self.by_edge = edge
         self.desk, self.exchange = self.start_desk(), self.start_exchange()
         if edge:
@@ -58,7 +100,7 @@ class Ground:
 
     def __exit__(self, kind: type[BaseException] | None, value: BaseException | None, where: TracebackType | None) -> None:
         self.client.disconnect()
-        self.keys.close()
+        self.keys.socket.close()
         for process in self.running:
             if process.poll() is None:
                 process.kill()
@@ -145,48 +187,15 @@ class Ground:
 
     # requests by hand
 
-    def request(self, method: str, uri: str, number: str, more: str = "") -> tuple[int, str]:
-        """One request that isn't an INVITE, sent until it is answered; with a password where the edge asks for one. Its status, and the reply."""
-        head, cseq = "", 0
-        tag, call_id = secrets.token_hex(4), secrets.token_hex(8)
-        for _ in range(2):
-            cseq += 1
-            status, text = self.exchange_one(method, uri, number, f"From: <sip:{number}@127.0.0.1>;tag={tag}\r\nCall-ID: {call_id}\r\nCSeq: {cseq} {method}\r\n{head}{more}")
-            if status not in (401, 407):
-                break
-            head = credentials(text, status, method, uri, number)
-        return status, text
-
-    def exchange_one(self, method: str, uri: str, number: str, rest: str) -> tuple[int, str]:
-        port = self.keys.getsockname()[1]
-        to = uri if method != "REGISTER" else f"sip:{number}@127.0.0.1"
-        data = (f"{method} {uri} SIP/2.0\r\nVia: SIP/2.0/UDP 127.0.0.1:{port};rport;branch=z9hG4bK{secrets.token_hex(8)}\r\nTo: <{to}>\r\n{rest}"
-                f"Max-Forwards: 70\r\nContent-Length: 0\r\n\r\n").encode()
-        for wait in (0.5, 1.0, 2.0, 4.0, 4.0, 4.0):
-            self.keys.sendto(data, ("127.0.0.1", self.edge_port if self.by_edge else self.port))
-            self.keys.settimeout(wait)
-            try:
-                while True:
-                    text = self.keys.recv(8192).decode("latin-1")
-                    if data.decode().partition("branch=")[2].partition("\r")[0] in text and not text.startswith("SIP/2.0 1"):
-                        return int(text.split(" ")[1]), text
-            except TimeoutError:
-                pass
-        return 0, ""
-
     def key(self, station: str, code: str) -> int:
         """A feature code, sent as a message: its status."""
-        return self.request("MESSAGE", f"sip:{code}@127.0.0.1", station)[0]
+        return self.keys.request("MESSAGE", f"sip:{code}@127.0.0.1", station)[0]
 
     def register(self, station: str) -> int:
         """From the phone's own port, before its program has it."""
-        self.keys, keys = socket.socket(socket.AF_INET, socket.SOCK_DGRAM), self.keys
-        self.keys.bind(("127.0.0.1", self.phone_port(station)))
-        contact = f"Contact: <sip:{station}@127.0.0.1:{self.phone_port(station)}>;expires=3600\r\n"
-        status, _ = self.request("REGISTER", "sip:127.0.0.1", station, contact)
-        self.keys.close()
-        self.keys = keys
-        return status
+        with Phone(self.edge_port, self.phone_port(station)) as phone:
+            contact = f"Contact: <sip:{station}@127.0.0.1:{self.phone_port(station)}>;expires=3600\r\n"
+            return phone.request("REGISTER", "sip:127.0.0.1", station, contact)[0]
 
     def log_on(self, *agents: int, group: str = "100") -> None:
         for agent in agents:
@@ -240,7 +249,7 @@ def write_accounts(file: Path, accounts: list[tuple[str, str]]) -> None:
     file.write_text("\n".join(rows) + "\n")
 
 
-def credentials(challenge: str, status: int, method: str, uri: str, name: str, password: str = PASSWORD) -> str:
+def credentials(challenge: str, status: int, method: str, uri: str, name: str, password: str) -> str:
     """The field that answers a challenge (RFC 2617, MD5, without qop)."""
     parts = dict(re.findall(r'(\w+)="([^"]*)"', challenge))
 
