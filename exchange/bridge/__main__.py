@@ -4,6 +4,7 @@ from __future__ import annotations
 import argparse
 import asyncio
 import json
+import re
 import signal
 import socket
 import sqlite3
@@ -43,6 +44,8 @@ def arguments() -> argparse.Namespace:
     options = parser.parse_args()
     if any(place and not host_port(f"sip:{place}") for place in (options.edge, options.listen)) or options.session < 90:
         parser.error("a place is an IPv4 address and a port, and a session at least 90 seconds")
+    if not re.fullmatch("[a-z0-9-]{1,20}", options.requester):
+        parser.error("a requester is 1 to 20 characters of a-z, 0-9 and hyphen")
     return options
 
 

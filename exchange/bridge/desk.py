@@ -10,9 +10,11 @@ from typing import Any, TypeVar
 from acd_client import Client, Event, Unanswered
 
 from .exchange import Exchange
-from .start import compare, connections, see_strangers
+from .start import compare, see_strangers
 
 SLOW, SILENT = 2.0, 5.0
+# an invoke has nine digits: seconds since 2020
+EPOCH = 1577836800
 T = TypeVar("T")
 
 
@@ -73,13 +75,15 @@ class DeskLine:
             self.x.step(see_strangers, self.x, shown.body)
         for key in [*self.x.strangers, *self.x.calls]:
             answer = await self.call(self.client.attempt, "GET", f"/calls/{key}")
-            self.x.step(compare, self.x, key, connections(answer))
+            if answer.status not in (200, 404):
+                raise Unanswered(f"the call is answered {answer.status}")
+            self.x.step(compare, self.x, key, answer)
         print(f"following the desk from event {self.x.place.last}", flush=True)
 
     async def once(self) -> None:
-        now = int(time.time()) // self.tick if self.tick else 0
+        now = (int(time.time()) - EPOCH) // self.tick if self.tick else 0
         if now != self.ticked:
-            await self.call(self.client.send, {"requester": self.x.settings.requester + "-tick", "invoke": now, "service": "tick"})
+            await self.call(self.client.send, {"requester": f"{self.x.settings.requester}-tick{self.tick}", "invoke": now, "service": "tick"})
             self.ticked = now
         for _ in range(16):
             if self.x.requests:

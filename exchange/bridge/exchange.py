@@ -4,6 +4,7 @@ from __future__ import annotations
 import heapq
 import os
 import signal
+import sqlite3
 import sys
 import time
 import traceback
@@ -77,7 +78,11 @@ class Exchange:
             self.say("a step was undone:\n" + traceback.format_exc())
             return False
         self.stop("before")
-        rows = self.store.commit()
+        try:
+            rows = self.store.commit()
+        except sqlite3.Error as fault:
+            self.say(f"acd-exchange: the file can't be written: {fault}")
+            raise SystemExit(1) from fault
         self.stop("after")
         out, self.out = self.out, []
         for data, to in out:

@@ -6,8 +6,9 @@ from typing import Any
 from acd_client import Answer
 
 from .exchange import Exchange
+from .phones import DESK_WAIT
 from .records import Stranger
-from .transactions import T1
+from .transactions import T1, T2
 
 GRACE = 3 * T1
 
@@ -18,20 +19,19 @@ def resume(x: Exchange) -> None:
     for asked in list(x.asked.values()):
         if asked.over and asked.ack:
             x.put(asked.ack, asked.to)
-        elif not asked.over:
-            # a phone that rings says so again; one that is gone doesn't
-            asked.interval, asked.due, asked.ends = asked.interval or T1, now + GRACE, max(asked.ends, now + 4 * GRACE)
+        elif not asked.over and not (asked.then == "invited" and asked.leg in x.legs and x.legs[asked.leg].cancelled):
+            # a phone that answered meanwhile says so again within T2; one that rings says so when it is asked, and one that is gone doesn't
+            wait = GRACE if asked.interval else T2 + T1
+            asked.interval, asked.due, asked.ends = asked.interval or T1, now + wait, max(asked.ends, now + wait + 4 * GRACE)
     for served in list(x.served.values()):
         if served.interval:
             served.due, served.ends = now, max(served.ends, now + x.settings.ack_wait)
     for leg in list(x.legs.values()):
         unheard = x.served.get(leg.transaction)
-        if leg.state == "up" and not (unheard and unheard.interval):
+        if leg.state == "in" and not leg.call:
+            leg.due = now + DESK_WAIT
+        elif leg.state == "up" and not (unheard and unheard.interval):
             x.dialogs.ask(leg, "OPTIONS", "kept", patience=x.settings.probe_wait)
-
-
-def connections(answer: Answer) -> dict[str, str]:
-    return {each["device"]: each["state"] for each in answer.body["connections"]} if answer.status == 200 else {}
 
 
 def see_strangers(x: Exchange, shown: dict[str, Any]) -> None:
@@ -40,9 +40,10 @@ def see_strangers(x: Exchange, shown: dict[str, Any]) -> None:
             x.strangers.add(Stranger(str(call["call"])))
 
 
-def compare(x: Exchange, key: str, states: dict[str, str]) -> None:
+def compare(x: Exchange, key: str, answer: Answer) -> None:
     """Holds the desk's connections of a call against its legs: what lacks the other ends, and so does a call that no phone has a part in.
     What the file lost by a power cut is made up for."""
+    states = {each["device"]: each["state"] for each in answer.body["connections"]} if answer.status == 200 else {}
     call = x.calls.get(key)
     legs = {device: x.legs.get(leg) for device, leg in call.legs.items()} if call is not None else {}
     if call is None or not states:

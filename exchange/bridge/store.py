@@ -89,7 +89,7 @@ class Store:
 
     def commit(self) -> list[Any]:
         """Keeps what was changed, and returns the rows of it that are there. Behind a power cut the last commits may be gone, but none
-        that was to be durable, and none before it. Where this fails the program ends: what was kept before is right."""
+        that was to be durable, and none before it. Where this fails the program has to end: what was kept before is right."""
         rows = [self.tables[kind][key] for kind, key in self.changed if key in self.tables[kind]]
         if self.changed:
             if self.durable:

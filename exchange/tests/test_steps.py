@@ -15,6 +15,12 @@ def fail(*_: Any) -> None:
     raise RuntimeError("planted")
 
 
+def shown(states: dict[str, str]) -> Answer:
+    """The desk's text of a call, or that it has none."""
+    rows = [{"device": device, "state": state} for device, state in states.items()]
+    return Answer(200, {"connections": rows}) if rows else Answer(404, {})
+
+
 class Steps(unittest.TestCase):
     def setUp(self) -> None:
         self.bench = Bench()
@@ -99,6 +105,15 @@ class Steps(unittest.TestCase):
         invokes = sorted(int(key) for key in b.x.requests)
         self.assertEqual((first, invokes), (1, [1, 1001]))
 
+    def test_a_file_that_cant_be_written_ends_the_program(self) -> None:
+        b = self.bench
+        b.waiting()
+        b.take()
+        b.x.store.base.execute("PRAGMA query_only=ON")
+        with self.assertRaises(SystemExit):
+            b.request("CANCEL", "sip:100@x", branch="z9hG4bKc1")
+        self.assertEqual(b.take(), [])
+
     def test_one_program_at_a_file(self) -> None:
         b = self.bench
         path = b.folder.name + "/exchange.db"
@@ -133,7 +148,9 @@ class Restarts(unittest.TestCase):
         b.ringing()
         b.restart()
         b.take()
-        b.pass_time(2)
+        b.pass_time(4)
+        self.assertEqual(b.take(), [])
+        b.pass_time(0.8)
         self.assertEqual([(to, message.method) for to, message in b.take()], [(PHONE, "INVITE")])
 
     def test_an_answer_is_sent_again(self) -> None:
@@ -157,9 +174,9 @@ class Restarts(unittest.TestCase):
         self.assertEqual((sorted(b.x.strangers), b.take()), (["7", "8"], []))
         b.x.step(see_strangers, b.x, {"calls": [{"call": 7}, {"call": 10}]})
         self.assertEqual(sorted(b.x.strangers), ["10", "7", "8"])
-        b.x.step(compare, b.x, "7", {"0301": "connected", "100": "queued"})
-        b.x.step(compare, b.x, "8", {"201": "connected", "202": "alerting"})
-        b.x.step(compare, b.x, "10", {})
+        b.x.step(compare, b.x, "7", shown({"0301": "connected", "100": "queued"}))
+        b.x.step(compare, b.x, "8", shown({"201": "connected", "202": "alerting"}))
+        b.x.step(compare, b.x, "10", shown({}))
         self.assertEqual(b.asked(), [("clearConnection", {"call": 7, "device": "0301"}), ("clearConnection", {"call": 8, "device": "201"})])
         self.assertEqual(sorted(b.x.strangers), [])
 
@@ -168,9 +185,9 @@ class Restarts(unittest.TestCase):
         b = self.bench
         b.waiting()
         b.take()
-        b.x.step(compare, b.x, "1", {"0301": "connected", "201": "alerting"})
+        b.x.step(compare, b.x, "1", shown({"0301": "connected", "201": "alerting"}))
         self.assertEqual([(to, message.method) for to, message in b.take()], [(PHONE, "INVITE")])
-        b.x.step(compare, b.x, "1", {})
+        b.x.step(compare, b.x, "1", shown({}))
         self.assertEqual((len(b.x.calls), b.firsts()), (0, ["SIP/2.0 480"]))
 
     def test_an_answer_that_the_desk_lacks(self) -> None:
@@ -179,7 +196,7 @@ class Restarts(unittest.TestCase):
         b.x.step(b.x.switch.pass_over, b.first_request())
         leg = next(leg for leg in b.x.legs.values() if leg.device == "201")
         leg.state = "up"
-        b.x.step(compare, b.x, "1", {"0301": "connected", "201": "alerting"})
+        b.x.step(compare, b.x, "1", shown({"0301": "connected", "201": "alerting"}))
         self.assertEqual(b.asked(), [("answerCall", {"call": 1, "device": "201"})])
 
 
