@@ -3,6 +3,7 @@ from __future__ import annotations
 
 import hashlib
 import json
+import os
 import re
 import secrets
 import shutil
@@ -45,7 +46,7 @@ class Phone:
         head, tag, call_id = "", secrets.token_hex(4), secrets.token_hex(8)
         for cseq in (1, 2):
             rest = f"From: <sip:{number}@127.0.0.1>;tag={tag}\r\nCall-ID: {call_id}\r\nCSeq: {cseq} {method}\r\n{head}{more}"
-            status, text = self.exchange(method, uri, f"sip:{number}@127.0.0.1" if method == "REGISTER" else uri, rest, waits)
+            status, text = self.exchange(method, uri, f"<sip:{number}@127.0.0.1>" if method == "REGISTER" else f"<{uri}>", rest, waits)
             if status not in (401, 407):
                 break
             head = credentials(text, status, method, uri, account or number, password)
@@ -53,7 +54,7 @@ class Phone:
 
     def exchange(self, method: str, uri: str, to: str, rest: str, waits: tuple[float, ...]) -> tuple[int, str]:
         branch = "z9hG4bK" + secrets.token_hex(8)
-        data = (f"{method} {uri} SIP/2.0\r\nVia: SIP/2.0/UDP 127.0.0.1:{self.socket.getsockname()[1]};rport;branch={branch}\r\nTo: <{to}>\r\n{rest}"
+        data = (f"{method} {uri} SIP/2.0\r\nVia: SIP/2.0/UDP 127.0.0.1:{self.socket.getsockname()[1]};rport;branch={branch}\r\nTo: {to}\r\n{rest}"
                 f"Max-Forwards: 70\r\nContent-Length: 0\r\n\r\n").encode()
         for wait in waits:
             self.socket.sendto(data, ("127.0.0.1", self.to))
@@ -76,7 +77,7 @@ class Ground:
         shutil.rmtree(folder, ignore_errors=True)
         folder.mkdir(parents=True)
         self.folder, self.program, self.base, self.options = folder, program, base, options
-        self.desk_port, self.port, self.music_port, self.edge_port = range(base, base + 4)
+        self.desk_port, self.port, self.music_port, self.edge_port, self.tls_port = range(base, base + 5)
         self.stations = [str(201 + each) for each in range(stations)]
         self.running: list[subprocess.Popen[bytes]] = []
         self.files: list[IO[bytes]] = []
@@ -102,8 +103,11 @@ class Ground:
         self.client.disconnect()
         self.keys.socket.close()
         for process in self.running:
-            if process.poll() is None:
-                process.kill()
+            # each is a group of its own, since kamailio is several processes
+            try:
+                os.killpg(process.pid, signal.SIGKILL)
+            except ProcessLookupError:
+                pass
             process.wait()
         for file in self.files:
             file.close()
@@ -116,7 +120,7 @@ class Ground:
     def start(self, words: list[str], name: str) -> subprocess.Popen[bytes]:
         said = (self.folder / f"{name}.out").open("ab")
         self.files.append(said)
-        process = subprocess.Popen(words, cwd=self.folder, stdin=subprocess.DEVNULL, stdout=said, stderr=said)
+        process = subprocess.Popen(words, cwd=self.folder, stdin=subprocess.DEVNULL, stdout=said, stderr=said, start_new_session=True)
         self.running.append(process)
         return process
 
@@ -148,11 +152,12 @@ class Ground:
         folder = self.folder / "edge"
         folder.mkdir()
         config = (EXCHANGE / "kamailio.cfg").read_text()
-        for name, value in {"EDGE_PORT": self.edge_port, "EXCHANGE_PORT": self.port, "FOLDER": folder}.items():
+        for name, value in {"EDGE_PORT": self.edge_port, "TLS_PORT": self.tls_port, "EXCHANGE_PORT": self.port, "FOLDER": folder}.items():
             config = re.sub(rf'(?m)^(#!substdef "!{name}!)[^!]*', rf"\g<1>{value}", config)
-        config = config.replace("#!define WITH_TLS\n", "")
         (folder / "kamailio.cfg").write_text(config)
         accounts = [(number, PASSWORD) for number in self.stations] + [("trunk", PASSWORD)]
+        subprocess.run(["openssl", "req", "-x509", "-newkey", "rsa:2048", "-nodes", "-subj", "/CN=edge", "-keyout", "edge.key", "-out", "edge.crt"],
+                       cwd=folder, check=True, capture_output=True)
         write_accounts(folder / "subscriber", accounts)
         self.edge = self.start(["kamailio", "-DD", "-E", "-f", str(folder / "kamailio.cfg"), "-P", str(folder / "pid"), "-w", str(folder)], "edge")
         time.sleep(1.5)
