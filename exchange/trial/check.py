@@ -171,8 +171,8 @@ class Comparison:
         self.must("given up at sipp = cleared in the queue or ringing", reached != booked.abandoned, note)
         self.must("phones rung, in order = delivered", [ring.station for ring in rings] == booked.delivered, note)
         ended_by_caller = booked.abandoned and len(booked.delivered) > booked.unanswered
-        # a phone that answers too late is told so by a BYE
-        taken_back = sum(ring.cancelled < NEVER or ring.answered < NEVER and ring is not rings[-1] for ring in rings)
+        # a phone that answers too late, or just as the caller gives up, is told so by a BYE
+        taken_back = sum(ring.cancelled < NEVER or ring.answered < NEVER and not (reached and ring is rings[-1]) for ring in rings)
         self.must("rings taken back = noAnswer", taken_back == booked.unanswered + ended_by_caller, note)
         self.must("each call is cleared once", booked.cleared == 1, note)
 

@@ -93,6 +93,16 @@ def processor_seconds(process: int) -> float:
     return sum(int(word) for word in Path(f"/proc/{process}/stat").read_text().rsplit(")", 1)[1].split()[11:13]) / 100
 
 
+def idle(folder: Path, program: str, base: int, seconds: int = 20) -> tuple[float, float]:
+    """The shares of a processor that bridge and desk take while nothing happens but polling."""
+    with Ground(folder, program, base) as ground:
+        time.sleep(2)
+        before = processor_seconds(ground.exchange.pid), processor_seconds(ground.desk.pid)
+        time.sleep(seconds)
+        after = processor_seconds(ground.exchange.pid), processor_seconds(ground.desk.pid)
+    return (after[0] - before[0]) / seconds, (after[1] - before[1]) / seconds
+
+
 def load(folder: Path, program: str, base: int, rate: float, seconds: int) -> Carried:
     """Whole calls at a rate: a ring of 50 ms, a talk of half a second, over so many agents that none waits for one."""
     agents = min(1000, int(12 * rate) + 20)
