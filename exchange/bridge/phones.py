@@ -62,7 +62,8 @@ class Phones(Part):
             return self.x.transactions.answer(row, 422, fields=[("min-se", str(LEAST_SESSION))])
         if self.x.desk_is_silent:
             return self.x.transactions.answer(row, 503, fields=[("retry-after", "10")])
-        leg = self.x.dialogs.new(device, station, "in", message.get("call-id"), without_tag(message.get("to")), without_tag(message.get("from")), contact, row.back)
+        ours, theirs = without_tag(message.get("to")), without_tag(message.get("from"))
+        leg = self.x.dialogs.new(device, station, "in", message.get("call-id"), ours, theirs, contact, row.back)
         leg.remote_tag, leg.routes, leg.heard, leg.sdp = parameter(message.get("from"), "tag"), message.all("record-route"), message.cseq, message.body
         leg.hop, leg.transaction, leg.due, row.leg = self.x.dialogs.hop(leg), row.key, self.x.now() + DESK_WAIT, leg.key
         self.x.transactions.answer(row, 100)

@@ -81,8 +81,10 @@ class Bench:
     def request(self, method: str, uri: str, source: str = CALLER, number: str = "0301", call_id: str = "c1", to: str = "", cseq: int = 1, branch: str = "",
                 fields: str = "", text: str = "") -> None:
         self.branch += 1
-        self.receive(f"{method} {uri} SIP/2.0\r\nVia: SIP/2.0/UDP {source};branch={branch or f'z9hG4bKt{self.branch}'}\r\nFrom: <sip:{number}@h>;tag=t-{call_id}\r\n"
-                     f"To: {to or f'<{uri}>'}\r\nCall-ID: {call_id}\r\nCSeq: {cseq} {method}\r\nContact: <sip:{number}@{source}>\r\nMax-Forwards: 70\r\n{fields}"
+        branch = branch or f"z9hG4bKt{self.branch}"
+        self.receive(f"{method} {uri} SIP/2.0\r\nVia: SIP/2.0/UDP {source};branch={branch}\r\nFrom: <sip:{number}@h>;tag=t-{call_id}\r\n"
+                     f"To: {to or f'<{uri}>'}\r\nCall-ID: {call_id}\r\nCSeq: {cseq} {method}\r\n"
+                     f"Contact: <sip:{number}@{source}>\r\nMax-Forwards: 70\r\n{fields}"
                      f"Content-Length: {len(text)}\r\n\r\n{text}", source)
 
     def invite(self, called: str = "100", number: str = "0301", call_id: str = "c1", fields: str = "", port: int = 7000) -> None:

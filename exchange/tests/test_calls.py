@@ -247,7 +247,8 @@ class Edge(OnABench):
     def test_who_is_a_phone(self) -> None:
         """Only what the edge says makes a phone; a trunk that shows a station's number stays a trunk."""
         b = self.bench
-        for field, wanted in (("", ("arriveCall", {"caller": "201", "called": "100"})), ("X-ACD-Phone: 201\r\n", ("makeCall", {"device": "201", "called": "100"}))):
+        for field, wanted in (("", ("arriveCall", {"caller": "201", "called": "100"})),
+                              ("X-ACD-Phone: 201\r\n", ("makeCall", {"device": "201", "called": "100"}))):
             b.request("INVITE", "sip:100@x", "127.0.0.1:5060", "201", f"c{field}".strip(), fields=field, text=body(7000))
             self.assertEqual(b.asked()[-1], wanted)
 
@@ -312,7 +313,8 @@ class Sessions(OnABench):
 class Codes(OnABench):
     def test_codes(self) -> None:
         b = self.bench
-        for code, wanted in (("*221*100*101", {"agent": "1", "requested": "loggedOn", "device": "201", "groups": ["100", "101"]}), ("*24", {"agent": "1", "requested": "ready"})):
+        for code, wanted in (("*221*100*101", {"agent": "1", "requested": "loggedOn", "device": "201", "groups": ["100", "101"]}),
+                             ("*24", {"agent": "1", "requested": "ready"})):
             b.request("MESSAGE", f"sip:{code}@x", number="201", call_id=code)
             self.assertEqual(b.asked(), [("setAgentState", wanted)])
             b.answer(state="notReady")

@@ -18,12 +18,15 @@ class Messages(unittest.TestCase):
         self.assertEqual(message.all("route"), ["<sip:r1;lr>", "<sip:r2;lr>"])
         self.assertEqual((message.branch, message.method, message.cseq, message.uri, message.body), ("z1", "INVITE", 1, "sip:100@x", "abc"))
         self.assertEqual(parameter(message.get("from"), "tag"), "yes")
-        self.assertEqual(Message.read(message.text().encode()).fields, [each for each in message.fields if each[0] != "content-length"] + [("content-length", "3")])
+        fields = [each for each in message.fields if each[0] != "content-length"]
+        self.assertEqual(Message.read(message.text().encode()).fields, fields + [("content-length", "3")])
 
     def test_what_is_no_message(self) -> None:
-        for text in ("", "\r\n\r\n", HEAD, "NOTHING\r\n\r\n", HEAD + "no colon\r\n\r\n", HEAD + "l: 9\r\n\r\nabc", HEAD + "l: -1\r\n\r\n", HEAD + "A: b\nc\r\n\r\n",
+        for text in ("", "\r\n\r\n", HEAD, "NOTHING\r\n\r\n", HEAD + "no colon\r\n\r\n", HEAD + "l: 9\r\n\r\nabc", HEAD + "l: -1\r\n\r\n",
+                     HEAD + "A: b\nc\r\n\r\n",
                      HEAD.replace("CSeq: 1 INVITE", "CSeq: x INVITE") + "\r\n", HEAD.replace("CSeq: 1 INVITE", "CSeq: 1 BYE") + "\r\n",
-                     HEAD.replace("i: id", "i:") + "\r\n", HEAD.replace("SIP/2.0\r", "SIP/3.0\r", 1) + "\r\n", HEAD.replace("INVITE sip", "SIP/2.0 700 sip") + "\r\n"):
+                     HEAD.replace("i: id", "i:") + "\r\n", HEAD.replace("SIP/2.0\r", "SIP/3.0\r", 1) + "\r\n",
+                     HEAD.replace("INVITE sip", "SIP/2.0 700 sip") + "\r\n"):
             with self.assertRaises(ValueError, msg=text):
                 Message.read(text.encode())
 
@@ -38,7 +41,8 @@ class Messages(unittest.TestCase):
         self.assertEqual([address(text) for text in ('"x" <sip:1@h;p=1>;tag=2', "sip:1@h;tag=2")], ["sip:1@h;p=1", "sip:1@h"])
         self.assertEqual([user(text) for text in ("sip:1:secret@h", "sips:+49@h;user=phone", "tel:+49-30;x=y", "sip:%2A24@h", "sip:h", "http://x@y")],
                          ["1", "+49", "+49-30", "*24", "", ""])
-        self.assertEqual([host_port(text) for text in ("sip:1@10.0.0.1", "sip:10.0.0.1:5080;lr", "<sip:x>", "sip:1@name:5060", "sip:1@10.0.0.256", "sip:1@1.2.3.4:0",
+        self.assertEqual([host_port(text) for text in ("sip:1@10.0.0.1", "sip:10.0.0.1:5080;lr", "<sip:x>", "sip:1@name:5060", "sip:1@10.0.0.256",
+                                                       "sip:1@1.2.3.4:0",
                                                        "sip:1@1.2.3.4:99999")], ["10.0.0.1:5060", "10.0.0.1:5080", "", "", "", "", ""])
         self.assertEqual(split('"a,b" <sip:1,2@h>, c,d'), ['"a,b" <sip:1,2@h>', "c", "d"])
 

@@ -108,8 +108,10 @@ def abandoned(text: str) -> str:
 
 
 PLANTS: list[tuple[str, str, Callable[[str], str], str]] = [
-    ("an established at another station", "export.csv", lambda text: change_line(text, ",established,", other_station), "the phone that answered is the desk's"),
-    ("an established left out", "export.csv", lambda text: change_line(text, ",established,", lambda fields: None), "answered at sipp = established at the desk"),
+    ("an established at another station", "export.csv", lambda text: change_line(text, ",established,", other_station),
+     "the phone that answered is the desk's"),
+    ("an established left out", "export.csv", lambda text: change_line(text, ",established,", lambda fields: None),
+     "answered at sipp = established at the desk"),
     ("an abandoned call told as answered", "export.csv", lambda text: change_line(text, abandoned(text), with_field(6, "")),
      "given up at sipp = cleared in the queue or ringing"),
     ("a noAnswer left out", "export.csv", lambda text: change_line(text, ",noAnswer,", lambda fields: None if fields[2] == "queued" else fields, next(

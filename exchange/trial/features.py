@@ -47,8 +47,7 @@ class Features:
     def story(self, what: str, ground: Ground, wanted: str) -> None:
         """The desk's events: as name@device, without those of agents."""
         self.see(f"{what}: everything ends", ground.wait_until_quiet(), True)
-        told = [event["event"] + (f"@{event['device']}" if "device" in event else "") for event in ground.events() if not event["event"].startswith("agent")]
-        self.see(what, " ".join(told), wanted)
+        self.see(what, ground.story(), wanted)
 
     def arise(self, ground: Ground, kind: str, count: int) -> None:
         """Waits until the desk has told so many events of a kind."""
@@ -143,7 +142,8 @@ def between_phones(self: Features, ground: Ground, music: bool) -> None:
     time.sleep(1.5)
     second = ground.caller("second", scenarios.caller("202"), ["0305555"])
     self.ends("private", second, first, phone)
-    self.story("private", ground, f"serviceInitiated@203 originated@203 delivered@202 established@202 failed@202 {cleared('0305555', '202')} {cleared('203', '202')}")
+    ends = f"{cleared('0305555', '202')} {cleared('203', '202')}"
+    self.story("private", ground, f"serviceInitiated@203 originated@203 delivered@202 established@202 failed@202 {ends}")
     self.see("busy", statuses(ground, "second")[-1:], ["486"])
 
 
@@ -242,7 +242,8 @@ def without_an_ack(self: Features, ground: Ground, music: bool) -> None:
 def invitation(ground: Ground, port: int, number: str = "0307070") -> bytes:
     body = f"v=0\r\no=- 1 1 IN IP4 127.0.0.1\r\ns=-\r\nc=IN IP4 127.0.0.1\r\nt=0 0\r\nm=audio {port} RTP/AVP 8\r\n"
     return (f"INVITE sip:100@127.0.0.1:{ground.port} SIP/2.0\r\nVia: SIP/2.0/UDP 127.0.0.1:{port};rport;branch=z9hG4bKghost\r\nFrom: <sip:{number}@x>;tag=1\r\n"
-            f"To: <sip:100@x>\r\nCall-ID: ghost\r\nCSeq: 1 INVITE\r\nContact: <sip:x@127.0.0.1:{port}>\r\nMax-Forwards: 70\r\nContent-Length: {len(body)}\r\n\r\n{body}").encode()
+            f"To: <sip:100@x>\r\nCall-ID: ghost\r\nCSeq: 1 INVITE\r\nContact: <sip:x@127.0.0.1:{port}>\r\nMax-Forwards: 70\r\n"
+            f"Content-Length: {len(body)}\r\n\r\n{body}").encode()
 
 
 def seconds_between(trace: str, one: str, other: str) -> float:

@@ -137,8 +137,8 @@ class Ground:
     def start_exchange(self, *more: str) -> subprocess.Popen[bytes]:
         who = ["--edge", f"127.0.0.1:{self.edge_port}"] if self.by_edge else ["--phones", "phones.json"]
         before = self.said("exchange").count("following")
-        exchange = self.start([sys.executable, str(EXCHANGE / "acd-exchange"), *who, "--listen", f"127.0.0.1:{self.port}", "--desk", f"http://127.0.0.1:{self.desk_port}",
-                               "--music-port", str(self.music_port), *self.options, *more], "exchange")
+        exchange = self.start([sys.executable, str(EXCHANGE / "acd-exchange"), *who, "--listen", f"127.0.0.1:{self.port}",
+                               "--desk", f"http://127.0.0.1:{self.desk_port}", "--music-port", str(self.music_port), *self.options, *more], "exchange")
         for _ in range(200):
             if self.said("exchange").count("following") > before or exchange.poll() is not None:
                 break
@@ -174,8 +174,8 @@ class Ground:
     def sipp(self, name: str, scenario: str, words: list[str]) -> subprocess.Popen[bytes]:
         (self.folder / f"{name}.xml").write_text(scenario)
         self.media += 4
-        return self.start(["sipp", "-sf", f"{name}.xml", "-i", "127.0.0.1", "-nostdin", "-trace_msg", "-message_file", f"{name}.msg", "-trace_err", "-error_file",
-                           f"{name}.err", "-mp", str(self.media), *words], name)
+        return self.start(["sipp", "-sf", f"{name}.xml", "-i", "127.0.0.1", "-nostdin", "-trace_msg", "-message_file", f"{name}.msg",
+                           "-trace_err", "-error_file", f"{name}.err", "-mp", str(self.media), *words], name)
 
     def phone(self, station: str, scenario: str, calls: int = 1, name: str = "") -> subprocess.Popen[bytes]:
         return self.sipp(name or f"phone-{station}", scenario, ["-p", str(self.phone_port(station)), "-m", str(calls)])
@@ -183,7 +183,8 @@ class Ground:
     def caller(self, name: str, scenario: str, numbers: list[str], rate: float = 1.0) -> subprocess.Popen[bytes]:
         (self.folder / f"{name}.csv").write_text("SEQUENTIAL\n" + "".join(f"{number};\n" for number in numbers))
         self.callers += 1
-        return self.sipp(name, scenario, ["-inf", f"{name}.csv", "-p", str(self.base + 50 + self.callers), f"127.0.0.1:{self.edge_port if self.by_edge else self.port}",
+        to = f"127.0.0.1:{self.edge_port if self.by_edge else self.port}"
+        return self.sipp(name, scenario, ["-inf", f"{name}.csv", "-p", str(self.base + 50 + self.callers), to,
                                           "-m", str(len(numbers)), "-r", str(max(1, int(1000 * rate))), "-rp", "1000000", "-l", "3000"])
 
     def trace(self, name: str) -> str:
@@ -218,6 +219,11 @@ class Ground:
         while page := self.client.page(found[-1]["number"] if found else after)["events"]:
             found += page
         return found
+
+    def story(self) -> str:
+        """The events as name@device, without those of agents."""
+        told = (event["event"] + (f"@{event['device']}" if "device" in event else "") for event in self.events())
+        return " ".join(word for word in told if not word.startswith("agent"))
 
     def wait_until_quiet(self, seconds: float = 15) -> bool:
         """Until no call lives at the desk: each event's call is cleared."""

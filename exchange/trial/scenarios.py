@@ -82,7 +82,8 @@ def phone(delay: int, silent: str = "", talks: int = LONG, extra: tuple[str, ...
     def ringing(ms: int, name: str) -> list[str]:
         return [label(name), receive("CANCEL", False, ms, "answer", "cancelled")]
 
-    told = "".join(f'<ereg regexp="{text}@" search_in="hdr" header="From:" assign_to="{place}"/>' for text, place in ((f"[{silent or 'x'}]", 6), ("[02468].", 7)))
+    told = "".join(f'<ereg regexp="{text}@" search_in="hdr" header="From:" assign_to="{place}"/>'
+                   for text, place in ((f"[{silent or 'x'}]", 6), ("[02468].", 7)))
     answer = reply("200 OK", BODY % "", to=MINE, cseq="CSeq: [$2]")
     return scenario(
         RUNG % told,
@@ -159,6 +160,7 @@ def caller(called: str = "100", patience: int = LONG, talks: int = 2000, music: 
         *first, *(receive(status, True, patience, "giveup") for status in ("100", "180", "182")), *refused,
         receive("200", False, patience, "giveup", more='rtd="1" rrs="true"'), send(mine("ACK", f"{cseq} ACK", "a", "[peer_tag_param]")),
         *waiting, *talk(talks or LONG), label("hangup"), *([label("bye")] if music else []), *bye, label("byed"), send(reply("200 OK"), next="over"),
-        label("giveup"), send(mine("CANCEL", f"{cseq} CANCEL", branch), retrans="500"), *(receive(status, True) for status in ("100", "180", "182", "200")), receive("487"),
+        label("giveup"), send(mine("CANCEL", f"{cseq} CANCEL", branch), retrans="500"),
+        *(receive(status, True) for status in ("100", "180", "182", "200")), receive("487"),
         send(mine("ACK", f"{cseq} ACK", branch, "[peer_tag_param]"), next="over"),
         label("refused"), send(mine("ACK", f"{cseq} ACK", branch, "[peer_tag_param]"), next="over"), label("over"))

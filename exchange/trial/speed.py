@@ -116,14 +116,16 @@ def load(folder: Path, program: str, base: int, rate: float, seconds: int) -> Ca
         ground.exchange = ground.start_exchange()
         quiet = ["-l", "3000", "-trace_stat", "-fd", "1"]
         (folder / "phone.xml").write_text(scenarios.phone(50))
-        ground.start(["sipp", "-sf", "phone.xml", "-i", "127.0.0.1", "-p", str(base + 100), "-nostdin", "-mp", str(base + 300), *quiet, "-stf", "phone.csv"], "phones")
+        ground.start(["sipp", "-sf", "phone.xml", "-i", "127.0.0.1", "-p", str(base + 100), "-nostdin", "-mp", str(base + 300), *quiet,
+                      "-stf", "phone.csv"], "phones")
         (folder / "caller.xml").write_text(scenarios.caller(patience=30000, talks=500))
         count = int(rate * seconds)
         (folder / "numbers.csv").write_text("SEQUENTIAL\n" + "".join(f"03{each:06d};\n" for each in range(count)))
         time.sleep(2)
         before = processor_seconds(ground.exchange.pid), processor_seconds(ground.desk.pid)
         began = time.monotonic()
-        caller = ground.start(["sipp", "-sf", "caller.xml", "-inf", "numbers.csv", "-i", "127.0.0.1", "-p", str(base + 50), f"127.0.0.1:{ground.port}", "-nostdin",
+        caller = ground.start(["sipp", "-sf", "caller.xml", "-inf", "numbers.csv", "-i", "127.0.0.1", "-p", str(base + 50),
+                               f"127.0.0.1:{ground.port}", "-nostdin",
                                "-m", str(count), "-r", str(int(rate)), "-mp", str(base + 400), *quiet, "-stf", "caller.csv"], "callers")
         wait_for([caller], 3 * seconds + 60)
         took = time.monotonic() - began

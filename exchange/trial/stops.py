@@ -31,7 +31,8 @@ class Stopped:
 
 def run_one(folder: Path, program: str, base: int, kind: str, at: str) -> Stopped:
     waiting = "music" if kind == "music" else "queued"
-    with Ground(folder / f"{kind.replace(' ', '-')}-{at}", program, base, 2, 2, ring=3 if kind == "taken back" else 60, options=("--waiting", waiting)) as ground:
+    ring, name = 3 if kind == "taken back" else 60, f"{kind.replace(' ', '-')}-{at}"
+    with Ground(folder / name, program, base, 2, 2, ring=ring, options=("--waiting", waiting)) as ground:
         for agent in (1, 2):
             ground.ask("setAgentState", agent=str(agent), requested="loggedOn", device=ground.stations[agent - 1], group="100")
             if agent == 1 or kind == "taken back":
@@ -44,7 +45,8 @@ def run_one(folder: Path, program: str, base: int, kind: str, at: str) -> Stoppe
             rung.append(ground.phone("202", scenarios.phone(400, talks=1500)))
         ground.exchange = ground.start_exchange("--stop-at", at)
         talks = {"answered": 1500, "music": 1500}.get(kind, 0)
-        caller = ground.caller("caller", scenarios.caller(patience=4000 if kind == "given up" else scenarios.LONG, talks=talks, music=kind == "music"), ["0301234"])
+        patience = 4000 if kind == "given up" else scenarios.LONG
+        caller = ground.caller("caller", scenarios.caller(patience=patience, talks=talks, music=kind == "music"), ["0301234"])
         reached, deadline = False, time.monotonic() + 45
         while time.monotonic() < deadline and any(process.poll() is None for process in (caller, *rung)):
             time.sleep(0.1)
@@ -55,7 +57,7 @@ def run_one(folder: Path, program: str, base: int, kind: str, at: str) -> Stoppe
         if ground.exchange.poll() is not None:
             reached, ground.exchange = True, ground.start_exchange()
         quiet = ground.wait_until_quiet(5)
-        told = " ".join(event["event"] + (f"@{event['device']}" if "device" in event else "") for event in ground.events() if not event["event"].startswith("agent"))
+        told = ground.story()
         ends = [process.poll() for process in (caller, *rung)]
         ground.end(ground.exchange)
         wrong = "" if quiet and told == KINDS[kind] and set(ends) == {0} and "undone" not in ground.said("exchange") else f"sipp {ends}, {told}"
