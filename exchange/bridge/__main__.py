@@ -33,8 +33,7 @@ def arguments() -> argparse.Namespace:
     parser.add_argument("--poll", type=float, default=0.1, metavar="SECONDS", help="how often events are asked for (%(default)s)")
     parser.add_argument("--tick", type=int, default=0, metavar="SECONDS", help="sends the desk's ticks too; 0: acd-tick does (%(default)s)")
     parser.add_argument("--waiting", choices=["queued", "music"], default="queued", help="callers who wait get 182, or are answered with music (%(default)s)")
-    parser.add_argument("--refused", choices=["wait", "deflect"], default="wait",
-                        help="an offer that a phone refuses waits for the end of its ring, or goes back to its group, the agent not ready (%(default)s)")
+    parser.add_argument("--refused", choices=["wait", "deflect"], default="wait", help="an offer that a phone refuses: its ring ends, or it is deflected")
     parser.add_argument("--music", type=Path, metavar="WAV", help="8000 Hz, 16 bits, one channel; without it silence")
     parser.add_argument("--music-port", type=int, default=16000, help="where the music is sent from (%(default)s)")
     parser.add_argument("--session", type=int, default=1800, metavar="SECONDS", help="the session interval, at least 90 (%(default)s)")

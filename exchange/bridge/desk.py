@@ -7,7 +7,7 @@ from collections.abc import Callable
 from concurrent.futures import ThreadPoolExecutor
 from typing import Any, TypeVar
 
-from acd_client import Client, Event, Unanswered
+from acd_client import Client, Unanswered
 
 from .exchange import Exchange
 from .start import compare, see_strangers
@@ -104,11 +104,8 @@ class DeskLine:
             if not page["events"]:
                 return
             self.x.trace("*", "desk", str(page["events"]))
-            self.take(page["events"])
-
-    def take(self, events: list[Event]) -> None:
-        """A page is a step. Where it fails each event is one, and the one that fails is passed over."""
-        if not self.x.step(self.x.switch.take_events, events):
-            for event in events:
-                if not self.x.step(self.x.switch.take_events, [event]):
-                    self.x.step(self.x.switch.pass_event, event)
+            if not self.x.step(self.x.switch.take_events, page["events"]):
+                # each event is a step then, and the one that fails is passed over
+                for event in page["events"]:
+                    if not self.x.step(self.x.switch.take_events, [event]):
+                        self.x.step(self.x.switch.pass_event, event)

@@ -30,8 +30,8 @@ class Dialogs(Part):
         super().__init__(exchange)
         # what becomes of the last answer to a request, None where none came
         self.outcomes: dict[str, Callable[[Leg, Message | None, dict[str, Any]], None]] = {
-            "invited": self.invited, "closed": self.closed, "tuned": self.tuned, "joined": self.joined, "kept": self.kept,
-            "passed": self.passed, "told": lambda leg, message, context: None}
+            "invited": self.invited, "tuned": self.tuned, "joined": self.joined, "passed": self.passed, "kept": self.kept,
+            "closed": lambda leg, message, context: self.x.legs.remove(leg.key), "told": lambda leg, message, context: None}
         self.contact = ("contact", f"<sip:acd@{exchange.settings.here}>")
 
     # requests in a dialog
@@ -220,9 +220,6 @@ class Dialogs(Part):
             self.x.legs.remove(leg.key)
         else:
             self.end(leg)
-
-    def closed(self, leg: Leg, message: Message | None, context: dict[str, Any]) -> None:
-        self.x.legs.remove(leg.key)
 
     # media moved: to music, to the other phone, or as the other side asked
 

@@ -86,7 +86,7 @@ class Exchange:
         self.stop("after")
         out, self.out = self.out, []
         for data, to in out:
-            self.trace(">", to, data)
+            self.trace(">", to, data.decode("latin-1"))
             self.send(data, to)
         for row in rows:
             self.arm(row)
@@ -107,7 +107,7 @@ class Exchange:
 
     def receive(self, data: bytes, source: str) -> None:
         """A datagram. Only the edge is heard, or without one whoever reaches the address."""
-        self.trace("<", source, data)
+        self.trace("<", source, data.decode("latin-1"))
         try:
             if self.settings.edge not in ("", source):
                 raise ValueError("not from the edge")
@@ -115,7 +115,9 @@ class Exchange:
         except ValueError:
             self.dropped += 1
             return
-        if not self.step(self.transactions.take, message, source) and message.is_request and message.method != "ACK":
+        if not message.is_request:
+            self.step(self.transactions.take_response, message, source)
+        elif not self.step(self.transactions.take_request, message, source) and message.method != "ACK":
             self.step(self.transactions.fail, message, source)
 
     # alarms
@@ -143,7 +145,6 @@ class Exchange:
     def say(self, text: str) -> None:
         print(text, file=sys.stderr, flush=True)
 
-    def trace(self, mark: str, where: str, data: bytes | str) -> None:
+    def trace(self, mark: str, where: str, text: str) -> None:
         if self.settings.trace:
-            text = data if isinstance(data, str) else data.partition(b"\r\n")[0].decode("latin-1")
-            self.say(f"{self.now():.3f} {self.steps} {mark} {where} {text}")
+            self.say(f"{self.now():.3f} {self.steps} {mark} {where} {text.partition(chr(13))[0]}")

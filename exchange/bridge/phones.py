@@ -26,18 +26,14 @@ class Phones(Part):
         self.later = {"INVITE": self.offer, "BYE": self.bye, "REFER": self.refer, "OPTIONS": self.alive}
         self.replies = {"feature": self.featured, "held": self.held, "transferred": self.transferred}
 
-    def begin(self, message: Message, row: Served) -> None:
-        self.first.get(message.method, self.unknown)(message, row)
-
-    def go_on(self, message: Message, row: Served, leg: Leg) -> None:
-        row.leg = leg.key
-        if message.method in self.later:
+    def take(self, message: Message, row: Served, leg: Leg | None) -> None:
+        if leg is None and message.method in self.first:
+            self.first[message.method](message, row)
+        elif leg is not None and message.method in self.later:
+            row.leg = leg.key
             self.later[message.method](message, row, leg)
         else:
-            self.unknown(message, row)
-
-    def unknown(self, message: Message, row: Served) -> None:
-        self.x.transactions.answer(row, 501, fields=[ALLOW])
+            self.x.transactions.answer(row, 501, fields=[ALLOW])
 
     def options(self, message: Message, row: Served) -> None:
         self.x.transactions.answer(row, 503 if self.x.desk_is_silent else 200, fields=[ALLOW])

@@ -24,12 +24,6 @@ def served_key(message: Message) -> str:
 
 
 class Transactions(Part):
-    def take(self, message: Message, source: str) -> None:
-        if message.is_request:
-            self.take_request(message, source)
-        else:
-            self.take_response(message)
-
     # what peers ask
 
     def take_request(self, message: Message, source: str) -> None:
@@ -43,14 +37,14 @@ class Transactions(Part):
             if self.x.served[key].reply:
                 self.x.put(self.x.served[key].reply, source)
         elif not parameter(message.get("to"), "tag") or message.method == "CANCEL":
-            self.x.phones.begin(message, self.serve(message, source))
+            self.x.phones.take(message, self.serve(message, source), None)
         elif leg is None:
             self.answer(self.serve(message, source), 481)
         elif message.method != "INVITE" and message.cseq < leg.heard:
             self.answer(self.serve(message, source), 500)
         else:
             leg.heard = message.cseq
-            self.x.phones.go_on(message, self.serve(message, source), leg)
+            self.x.phones.take(message, self.serve(message, source), leg)
 
     def serve(self, message: Message, source: str) -> Served:
         return self.x.served.add(Served(served_key(message), source, Message(message.first, message.fields).text()))
@@ -111,7 +105,7 @@ class Transactions(Part):
             row.interval = 2 * row.interval if row.key.endswith(" INVITE") else min(2 * row.interval, T2)
             row.due = min(now + row.interval, row.ends)
 
-    def take_response(self, message: Message) -> None:
+    def take_response(self, message: Message, source: str) -> None:
         row = self.x.asked.get(f"{message.branch} {message.method}")
         leg = self.x.legs.get(row.leg if row else parameter(message.get("from"), "tag"))
         if row is None or row.over:
