@@ -29,7 +29,7 @@ def arguments() -> argparse.Namespace:
     parser.add_argument("--listen", default="127.0.0.1:5070", metavar="HOST:PORT", help="where it speaks SIP over UDP (%(default)s)")
     parser.add_argument("--desk", default="http://127.0.0.1:8080", metavar="URL", help="the desk (%(default)s)")
     parser.add_argument("--file", default="exchange.db", help="its own file (%(default)s)")
-    parser.add_argument("--requester", default="exchange", help="its name at the desk (%(default)s)")
+    parser.add_argument("--requester", default="exchange", help="what its name at the desk begins with (%(default)s)")
     parser.add_argument("--poll", type=float, default=0.1, metavar="SECONDS", help="how often events are asked for (%(default)s)")
     parser.add_argument("--tick", type=int, default=0, metavar="SECONDS", help="sends the desk's ticks too; 0: acd-tick does (%(default)s)")
     parser.add_argument("--waiting", choices=["queued", "music"], default="queued", help="callers who wait get 182, or are answered with music (%(default)s)")
@@ -43,8 +43,8 @@ def arguments() -> argparse.Namespace:
     options = parser.parse_args()
     if any(place and not host_port(f"sip:{place}") for place in (options.edge, options.listen)) or options.session < 90:
         parser.error("a place is an IPv4 address and a port, and a session at least 90 seconds")
-    if not re.fullmatch("[a-z0-9-]{1,20}", options.requester):
-        parser.error("a requester is 1 to 20 characters of a-z, 0-9 and hyphen")
+    if not re.fullmatch("[a-z0-9-]{1,16}", options.requester) or not 0 <= options.tick <= 60:
+        parser.error("a requester is 1 to 16 characters of a-z, 0-9 and hyphen, and a tick at most 60 seconds")
     return options
 
 

@@ -38,7 +38,7 @@ class Calls(Part):
         if place.invoke >= place.reserved:
             place.reserved, self.x.store.durable = place.reserved + BLOCK, True
         place.invoke += 1
-        body = {"requester": self.x.settings.requester, "invoke": place.invoke, "service": service, **members}
+        body = {"requester": place.requester, "invoke": place.invoke, "service": service, **members}
         self.x.requests.add(Request(str(place.invoke), then, context, body))
 
     def take_reply(self, row: Request, answer: Answer) -> None:

@@ -83,7 +83,7 @@ class DeskLine:
     async def once(self) -> None:
         now = (int(time.time()) - EPOCH) // self.tick if self.tick else 0
         if now != self.ticked:
-            await self.call(self.client.send, {"requester": f"{self.x.settings.requester}-tick{self.tick}", "invoke": now, "service": "tick"})
+            await self.call(self.client.send, {"requester": f"{self.x.place.requester}-t{self.tick}", "invoke": now, "service": "tick"})
             self.ticked = now
         for _ in range(16):
             if self.x.requests:

@@ -3,6 +3,7 @@ from __future__ import annotations
 
 import heapq
 import os
+import secrets
 import signal
 import sqlite3
 import sys
@@ -61,7 +62,7 @@ class Exchange:
         self.due: dict[str, Callable[[Any], None]] = {
             "leg": self.dialogs.leg_due, "call": self.switch.settle, "served": self.transactions.served_due, "asked": self.transactions.asked_due}
         store.load()
-        self.place = self.places.get("1") or self.places.add(Place("1"))
+        self.place = self.places.get("1") or self.places.add(Place("1", f"{settings.requester}-{secrets.token_hex(4)}"))
         for table in store.tables.values():
             for row in table.values():
                 self.arm(row)

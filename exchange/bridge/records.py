@@ -9,7 +9,8 @@ from .store import Row
 
 @dataclass
 class Place(Row):
-    """The last event that was taken, and which invokes were used and set aside."""
+    """The last event that was taken; the requester, which is this file's own, and which of its invokes were used and set aside."""
+    requester: str
     invoke: int = 0
     reserved: int = 0
     known: dict[str, Any] = field(default_factory=dict)

@@ -105,6 +105,18 @@ class Steps(unittest.TestCase):
         invokes = sorted(int(key) for key in b.x.requests)
         self.assertEqual((first, invokes), (1, [1, 1001]))
 
+    def test_each_file_is_a_requester_of_its_own(self) -> None:
+        names = set()
+        for _ in range(2):
+            b = Bench()
+            b.invite()
+            names.add(b.first_request().body["requester"])
+            b.restart()
+            b.invite(call_id="c2")
+            names.add(b.last_request().body["requester"])
+            b.close()
+        self.assertEqual((len(names), {name.rpartition("-")[0] for name in names}), (2, {"exchange"}))
+
     def test_a_file_that_cant_be_written_ends_the_program(self) -> None:
         b = self.bench
         b.waiting()

@@ -297,7 +297,7 @@ def orphans(self: Features, ground: Ground, music: bool) -> None:
     ground.ask("arriveCall", caller="0304040", called="100")
     call = ground.ask("makeCall", device="201", called="202").result["call"]
     ground.ask("phoneOffHook", call=call, device="201")
-    ground.exchange = ground.start_exchange("--requester", "another")
+    ground.exchange = ground.start_exchange()
     self.see("orphans: everything ends", ground.wait_until_quiet(5), True)
 
 
@@ -321,11 +321,11 @@ def another_history(self: Features, ground: Ground, music: bool) -> None:
         for _ in range(further):
             ground.ask("arriveCall", caller="0306060", called="100")
         if further:
-            ground.exchange = ground.start_exchange("--requester", "third")
+            ground.exchange = ground.start_exchange()
         self.see("another history", wait_for([ground.exchange], 10), [3])
         for file in ground.folder.glob("exchange.db*"):
             file.unlink()
-        ground.exchange = ground.start_exchange("--requester", f"new{turn}")
+        ground.exchange = ground.start_exchange()
         time.sleep(1)
 
 
