@@ -14,6 +14,7 @@ import time
 import unittest
 from collections.abc import Callable
 from pathlib import Path
+from typing import Any
 
 TOP = Path(__file__).resolve().parents[3]
 sys.path.insert(0, str(TOP / "clients/python"))
@@ -192,7 +193,7 @@ class AgainstAFalseDesk(unittest.TestCase):
         client.disconnect()
 
     def test_what_is_no_answer(self) -> None:
-        good: dict[str, object] = {"requester": "pbx", "invoke": 5, "result": {}}
+        good: dict[str, Any] = {"requester": "pbx", "invoke": 5, "result": {}}
         answers = [b"", b"HTTP/1.1 200 OK\r\n", reply(good, length=1), reply(good, "502 Bad Gateway"), reply("<html>", "504 Gateway Timeout"), reply("no JSON"),
                    reply("[]"), reply({**good, "invoke": 6}), reply({**good, "requester": "plan"}), reply({"requester": "pbx", "invoke": 5}),
                    reply({**good, "result": 7}), reply({**good, "error": {}}), reply({"error": {"code": 33, "name": "noMemory"}}, "503 Service Unavailable")]
@@ -201,6 +202,20 @@ class AgainstAFalseDesk(unittest.TestCase):
         client = Client(FalseDesk(answers + [reply(good)]).address, requester="pbx", invoke=4, pause=0.01)
         self.assertEqual(client.ask("tick").body, good)
         client.disconnect()
+
+    def test_from_a_snapshot_on(self) -> None:
+        """What a snapshot shows, and then the events behind its last one; a page that fails is asked for again."""
+        shown = {"agents": [], "calls": [], "groups": [], "last": 7, "moment": 5, "monitors": [], "stations": []}
+        event = {"number": 8, "moment": 6, "event": "queued", "call": 1, "device": "100"}
+        page = {"events": [event], "last": 8}
+        with Client(FalseDesk([reply(shown), b"", reply(page), reply({"events": [event], "last": 8})]).address, pause=0.01) as client:
+            snapshot = client.snapshot()
+            assert snapshot is not None
+            self.assertEqual(snapshot, shown)
+            pages = client.follow(snapshot["last"], poll=0.01)
+            self.assertEqual(next(pages), [event])
+            client.stop()
+            self.assertEqual(list(pages), [])
 
     def test_what_is_no_page(self) -> None:
         event: dict[str, object] = {"number": 1, "moment": 5, "event": "queued", "call": 1, "device": "100"}
