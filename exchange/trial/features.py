@@ -281,8 +281,8 @@ def hang_ups_while_it_is_down(self: Features, ground: Ground, music: bool) -> No
     for process in (callers[gone], phones[1]):
         ground.end(process, 9)
     time.sleep(self.down)
-    began = time.monotonic()
     ground.exchange = ground.start_exchange()
+    began = time.monotonic()
     self.ends("hang-ups while it is down", phones[0], callers[1 - gone], seconds=10)
     took = time.monotonic() - began
     self.see(f"the last one is told after {took:.1f} s", took < 4, True)

@@ -139,7 +139,7 @@ class Ground:
         before = self.said("exchange").count("following")
         exchange = self.start([sys.executable, str(EXCHANGE / "acd-exchange"), *who, "--listen", f"127.0.0.1:{self.port}",
                                "--desk", f"http://127.0.0.1:{self.desk_port}", "--music-port", str(self.music_port), *self.options, *more], "exchange")
-        for _ in range(200):
+        for _ in range(1500):
             if self.said("exchange").count("following") > before or exchange.poll() is not None:
                 break
             time.sleep(0.02)
