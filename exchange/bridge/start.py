@@ -44,7 +44,7 @@ def compare(x: Exchange, key: str, answer: Answer) -> None:
     """Holds the desk's connections of a call against its legs: what lacks the other ends, and so does a call that no phone has a part in.
     What the file lost by a power cut is made up for."""
     states = {each["device"]: each["state"] for each in answer.body["connections"]} if answer.status == 200 else {}
-    call = x.calls.get(key)
+    call, asked = x.calls.get(key), {row.context["leg"] for row in x.requests.values() if row.then == "answered"}
     legs = {device: x.legs.get(leg) for device, leg in call.legs.items()} if call is not None else {}
     if call is None or not states:
         x.strangers.remove(key)
@@ -52,7 +52,7 @@ def compare(x: Exchange, key: str, answer: Answer) -> None:
     for device, leg in legs.items():
         if leg is not None and device not in states:
             x.dialogs.end(leg)
-        elif leg is not None and leg.state == "up" and states[device] == "alerting":
+        elif leg is not None and leg.state == "up" and states[device] == "alerting" and leg.key not in asked:
             x.switch.ask("answered", {"leg": leg.key}, "answerCall", call=int(key), device=device)
     if any(state in ("initiated", "connected", "hold") and legs.get(device) is None for device, state in states.items()):
         x.switch.ask("nothing", {}, "clearConnection", call=int(key), device=min(states))

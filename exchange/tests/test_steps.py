@@ -209,7 +209,9 @@ class Restarts(unittest.TestCase):
         leg = next(leg for leg in b.x.legs.values() if leg.device == "201")
         leg.state = "up"
         b.x.step(compare, b.x, "1", shown({"0301": "connected", "201": "alerting"}))
-        self.assertEqual(b.asked(), [("answerCall", {"call": 1, "device": "201"})])
+        for _ in range(2):
+            self.assertEqual(b.asked(), [("answerCall", {"call": 1, "device": "201"})])
+            b.x.step(compare, b.x, "1", shown({"0301": "connected", "201": "alerting"}))
 
 
 if __name__ == "__main__":

@@ -66,7 +66,8 @@ def talk(ms: int) -> list[str]:
     return [label("talk"), receive("OPTIONS", True, ms, "hangup", "options"), receive("INVITE", True, ms, "hangup", "moved"),
             receive("BYE", False, ms, "hangup", "byed"),
             label("options"), send(reply("200 OK"), next="talk"),
-            label("moved"), send(reply("200 OK", BODY % ""), retrans="500"), receive("ACK", then="talk")]
+            label("moved"), send(reply("200 OK", BODY % ""), retrans="500"),
+            label("unsettled"), receive("OPTIONS", True, then="probed"), receive("ACK", then="talk"), label("probed"), send(reply("200 OK"), next="unsettled")]
 
 
 RUNG = ('<recv request="INVITE" rrs="true"><action>'
@@ -89,8 +90,8 @@ def phone(delay: int, silent: str = "", talks: int = LONG, extra: tuple[str, ...
         RUNG % told,
         send(reply("180 Ringing", to=MINE), next="silent", test="6"), '<nop next="slow" test="7"/>',
         *ringing(delay, "quick"), *ringing(3 * delay, "slow"), *ringing(LONG, "silent"),
-        label("answer"), send(answer, retrans="500"), receive("ACK"), *extra, *talk(talks),
-        label("hangup"), send(inside("BYE", 11), retrans="500"), receive("OPTIONS", True, 0, "", "hangup"), receive("200", then="over"),
+        label("answer"), send(answer, retrans="500"), receive("INVITE", True, then="answer"), receive("ACK"), *extra, *talk(talks),
+        label("hangup"), send(inside("BYE", 11), retrans="500"), receive("OPTIONS", True), receive("481", True, then="over"), receive("200", then="over"),
         label("byed"), send(reply("200 OK"), next="over"),
         label("cancelled"), send(reply("200 OK")), send(reply("487 Request Terminated", to=MINE, cseq="CSeq: [$2]"), retrans="500"),
         label("unheard"), receive("CANCEL", True, then="again"), receive("ACK", then="over"), label("again"), send(reply("200 OK"), next="unheard"),
@@ -113,9 +114,9 @@ def hold(ms: int) -> tuple[str, ...]:
 
 def refer(to: str) -> tuple[str, ...]:
     """A phone that gives its call to another device; the exchange takes its leg down."""
-    ok = send(reply("200 OK"))
-    return ('<pause milliseconds="500"/>', send(inside("REFER", 5, f"Refer-To: <sip:{to}@exchange>\n      {EMPTY}"), retrans="500"), receive("202"),
-            label("news"), receive("NOTIFY", True, then="heard"), receive("BYE", then="byed"), label("heard"), send(reply("200 OK"), next="news"), ok)
+    return ('<pause milliseconds="500"/>', send(inside("REFER", 5, f"Refer-To: <sip:{to}@exchange>\n      {EMPTY}"), retrans="500"),
+            label("news"), receive("202", True, then="news"), receive("NOTIFY", True, then="heard"), receive("OPTIONS", True, then="heard"),
+            receive("BYE", then="byed"), label("heard"), send(reply("200 OK"), next="news"), send(reply("200 OK")))
 
 
 def moved() -> tuple[str, ...]:
@@ -155,7 +156,7 @@ def caller(called: str = "100", patience: int = LONG, talks: int = 2000, music: 
     waiting = [label("wait"), receive("OPTIONS", True, patience, late, "asked"), receive("INVITE", True, patience, late, "moved"),
                receive("BYE", False, patience, late, "byed"), label("asked"), send(reply("200 OK"), next="wait")] if music else []
     bye = [send(mine("BYE", f"{cseq + 1} BYE", "b", "[peer_tag_param]"), retrans="500"), receive("OPTIONS", True), receive("INVITE", True),
-           receive("200", then="over")]
+           receive("481", True, then="over"), receive("200", then="over")]
     return scenario(
         *first, *(receive(status, True, patience, "giveup") for status in ("100", "180", "182")), *refused,
         receive("200", False, patience, "giveup", more='rtd="1" rrs="true"'), send(mine("ACK", f"{cseq} ACK", "a", "[peer_tag_param]")),
