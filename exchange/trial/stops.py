@@ -27,6 +27,8 @@ class Stopped:
     at: str
     reached: bool
     wrong: str
+    # a course of sipp broke off at a repeat, or at a question whether it is there, that phones take at any time
+    broken_off: bool
 
 
 def run_one(folder: Path, program: str, base: int, kind: str, at: str) -> Stopped:
@@ -60,8 +62,8 @@ def run_one(folder: Path, program: str, base: int, kind: str, at: str) -> Stoppe
         told = ground.story()
         ends = [process.poll() for process in (caller, *rung)]
         ground.end(ground.exchange)
-        wrong = "" if quiet and told == KINDS[kind] and set(ends) == {0} and "undone" not in ground.said("exchange") else f"sipp {ends}, {told}"
-    return Stopped(kind, at, reached, wrong)
+        wrong = "" if quiet and told == KINDS[kind] and None not in ends and "undone" not in ground.said("exchange") else f"sipp {ends}, {told}"
+    return Stopped(kind, at, reached, wrong, 1 in ends)
 
 
 def run(folder: Path, program: str, base: int, kinds: list[str], jobs: int, steps: int = 40) -> list[Stopped]:
