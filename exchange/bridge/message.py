@@ -31,8 +31,8 @@ class Message:
         for line in lines:
             name, colon, value = line.partition(":")
             name = COMPACT.get(name.strip().lower(), name.strip().lower())
-            if not colon:
-                raise ValueError("a field without a colon")
+            if not colon or not name.isascii():
+                raise ValueError("a line that is no field")
             fields += [(name, part) for part in (split(value) if name in ("via", "route", "record-route") else [value.strip()])]
         message = cls(first, fields, body)
         message.check()
