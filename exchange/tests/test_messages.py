@@ -22,7 +22,8 @@ class Messages(unittest.TestCase):
         self.assertEqual(Message.read(message.text().encode()).fields, fields + [("content-length", "3")])
 
     def test_what_is_no_message(self) -> None:
-        for text in ("", "\r\n\r\n", HEAD, "NOTHING\r\n\r\n", HEAD + "no colon\r\n\r\n", HEAD + "\xffx: 1\r\n\r\n", HEAD + "l: 9\r\n\r\nabc", HEAD + "l: -1\r\n\r\n",
+        for text in ("", "\r\n\r\n", HEAD, "NOTHING\r\n\r\n", HEAD + "no colon\r\n\r\n", HEAD + "\xffx: 1\r\n\r\n",
+                     HEAD + "l: 9\r\n\r\nabc", HEAD + "l: -1\r\n\r\n",
                      HEAD + "A: b\nc\r\n\r\n",
                      HEAD.replace("CSeq: 1 INVITE", "CSeq: x INVITE") + "\r\n", HEAD.replace("CSeq: 1 INVITE", "CSeq: 1 BYE") + "\r\n",
                      HEAD.replace("i: id", "i:") + "\r\n", HEAD.replace("SIP/2.0\r", "SIP/3.0\r", 1) + "\r\n",
