@@ -27,6 +27,9 @@ Request = dict[str, Any]
 # what a proxy says where the desk gave no reply, what it says to one who asks too much, and the desk's noMemory and storeFault
 SEND_AGAIN = (429, 502, 503, 504)
 
+# bytes: more than any reply of a desk has
+MOST = 1 << 24
+
 
 class Event(TypedDict):
     number: int
@@ -134,7 +137,9 @@ class Client:
             text = json.dumps(body, separators=(",", ":")) if body is not None else None
             connection.request(method, path, text, credentials(self.addresses[0]))
             reply = connection.getresponse()
-            data = reply.read()
+            data = reply.read(MOST)
+            if reply.length:
+                raise Unanswered("the reply is cut off, or longer than any")
             if reply.status in SEND_AGAIN:
                 raise Unanswered(f"status {reply.status}")
             told = json.loads(data)

@@ -194,7 +194,7 @@ class AgainstAFalseDesk(unittest.TestCase):
 
     def test_what_is_no_answer(self) -> None:
         good: dict[str, Any] = {"requester": "pbx", "invoke": 5, "result": {}}
-        answers = [b"", b"HTTP/1.1 200 OK\r\n", reply(good, length=1), reply(good, "502 Bad Gateway"), reply("<html>", "504 Gateway Timeout"), reply("no JSON"),
+        answers = [b"", b"HTTP/1.1 200 OK\r\n", reply(good, length=1), reply(good, length=10**15), reply(good, "502 Bad Gateway"), reply("<html>", "504 Gateway Timeout"), reply("no JSON"),
                    reply("[]"), reply({**good, "invoke": 6}), reply({**good, "requester": "plan"}), reply({"requester": "pbx", "invoke": 5}),
                    reply({**good, "result": 7}), reply({**good, "error": {}}), reply({"error": {"code": 33, "name": "noMemory"}}, "503 Service Unavailable")]
         request = {"requester": "pbx", "invoke": 5, "service": "tick"}
