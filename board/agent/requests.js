@@ -1,0 +1,80 @@
+// Sends requests one after the other, each until it is answered. One that isn't is kept in the browser and sent again, the same bytes, so that it acts once.
+// @ts-check
+import {refusal} from '../words.js';
+
+/** @typedef {{body:string, words:string}} Kept */
+/** @typedef {{kind:'sent'|'waits'|'done'|'refused', words:string}} Told */
+const PATIENCE = 10000;
+
+/**
+ * A name that no other page has: with an old page's, a count from 1 would get kept replies and do nothing.
+ * @param {string} agent
+ */
+function newRequester(agent) {
+  const letters = 'abcdefghijklmnopqrstuvwxyz012345';
+  return `agent${agent}-${[...crypto.getRandomValues(new Uint8Array(16))].map(number => letters[number % 32]).join('')}`;
+}
+
+export class Requests {
+  /**
+   * @param {string} address
+   * @param {string} agent
+   * @param {Storage} storage
+   * @param {(told:Told) => void} tell
+   */
+  constructor(address, agent, storage, tell) {
+    this.address = address;
+    this.requester = newRequester(agent);
+    this.invoke = 0;
+    this.storage = storage;
+    this.place = `acd-unanswered-${agent}`;
+    this.tell = tell;
+    this.waiting = this.kept();
+    this.turn = this.waiting.reduce((turn, one) => turn.then(() => this.deliver(one)), Promise.resolve());
+  }
+
+  /** @returns {Kept[]} */
+  kept() {
+    try { return JSON.parse(this.storage.getItem(this.place) ?? '[]'); } catch { return []; }
+  }
+
+  keep() { this.storage.setItem(this.place, JSON.stringify(this.waiting)); }
+
+  /**
+   * @param {string} service
+   * @param {Record<string, unknown>} members
+   * @param {string} words what it asks for
+   */
+  send(service, members, words) {
+    const one = {body: JSON.stringify({requester: this.requester, invoke: ++this.invoke, service, ...members}), words};
+    this.waiting.push(one);
+    this.keep();
+    return this.turn = this.turn.then(() => this.deliver(one));
+  }
+
+  /** @param {Kept} one */
+  async deliver(one) {
+    for (let times = 0; ; times++) {
+      this.tell(times ? {kind: 'waits', words: `${one.words}: no answer yet, it is sent again`} : {kind: 'sent', words: one.words});
+      const reply = await this.post(one.body);
+      if (reply) {
+        this.waiting = this.waiting.filter(other => other !== one);
+        this.keep();
+        return this.tell(reply.status === 200 ? {kind: 'done', words: one.words} : {kind: 'refused', words: `${one.words}: ${refusal(reply.status, reply.text)}`});
+      }
+      await new Promise(done => setTimeout(done, Math.min(PATIENCE, 1000 * 2 ** times)));
+    }
+  }
+
+  /**
+   * The reply, or nothing where it says no more than that none came: the proxy's, or that memory or the store failed.
+   * @param {string} body
+   */
+  async post(body) {
+    const giving = new AbortController(), timer = setTimeout(() => giving.abort(), PATIENCE);
+    try {
+      const reply = await fetch(this.address, {method: 'POST', body, headers: {'content-type': 'application/json'}, signal: giving.signal}), text = await reply.text();
+      return [429, 500, 502, 503, 504].includes(reply.status) ? null : {status: reply.status, text};
+    } catch { return null; } finally { clearTimeout(timer); }
+  }
+}
