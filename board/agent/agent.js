@@ -46,7 +46,9 @@ const feed = new Feed(base, RENEW, {
 function tell(told) {
   mark(byId('told'), 'data-kind', told.kind);
   put(byId('told'), {sent: `… ${told.words}`, waits: `▲ ${told.words}`, done: `✓ ${told.words}`, refused: `■ ${told.words}`}[told.kind]);
-  feed.wake();   // what it did comes with the next events
+  const agent = me();
+  if (told.result?.pending && agent) agent.pending = told.result.pending;   // which no event tells
+  feed.wake();   // what else it did comes with the next events
 }
 
 /** What one may choose: stations where nobody is, groups, and numbers to give a call to. */

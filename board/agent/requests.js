@@ -3,7 +3,7 @@
 import {refusal} from '../words.js';
 
 /** @typedef {{body:string, words:string}} Kept */
-/** @typedef {{kind:'sent'|'waits'|'done'|'refused', words:string}} Told */
+/** @typedef {{kind:'sent'|'waits'|'done'|'refused', words:string, result?:{pending?:string}}} Told */
 const PATIENCE = 10000;
 
 /**
@@ -60,7 +60,7 @@ export class Requests {
       if (reply) {
         this.waiting = this.waiting.filter(other => other !== one);
         this.keep();
-        return this.tell(reply.status === 200 ? {kind: 'done', words: one.words} : {kind: 'refused', words: `${one.words}: ${refusal(reply.status, reply.text)}`});
+        return this.tell(reply.status === 200 ? {kind: 'done', words: one.words, result: JSON.parse(reply.text).result} : {kind: 'refused', words: `${one.words}: ${refusal(reply.status, reply.text)}`});
       }
       await new Promise(done => setTimeout(done, Math.min(PATIENCE, 1000 * 2 ** times)));
     }
