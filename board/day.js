@@ -1,10 +1,8 @@
 // The figures of a day, by steps of a quarter of an hour, counted from event reports. No document, no network.
 // @ts-check
 
-/** @typedef {import('./types.js').Figures} Figures */
-/** waits: the seconds of each answered call; top, end: how many more wait than at the day's begin, at most and in the end
- * @typedef {Figures & {waits:number[], top:number, end:number}} Step */
-/** @typedef {{steps:Map<number,Step>, sum:Figures, waits:number[], balance:number}} Line */
+/** @typedef {import('./types').Line} Line */
+/** @typedef {import('./types').Step} Step */
 
 export const STEP = 900;
 
@@ -30,7 +28,7 @@ export class Day {
     return line;
   }
 
-  /** @param {import('./types.js').Report} report */
+  /** @param {import('./types').Report} report */
   apply(report) {
     this.last = report.number;
     this.moment = report.moment;

@@ -25,12 +25,9 @@ export function make(tag, attributes = {}, ...children) {
   return element;
 }
 
-/** text: what stands in a line's cell; wide: left out on a small screen
- * @typedef {{head:string, about?:string, text:(line:any) => string|number, kind?:'words'|'state', wide?:boolean, least?:boolean}} Column */
-
 /** A table with a row for each line, known by its key. */
 export class Table {
-  /** @param {HTMLTableElement} table @param {Column[]} columns */
+  /** @param {HTMLTableElement} table @param {import('./types').Column[]} columns */
   constructor(table, columns) {
     this.columns = columns;
     /** @type {Map<string, HTMLTableRowElement>} */ this.rows = new Map();
@@ -39,7 +36,7 @@ export class Table {
     table.append(make('thead', {}, make('tr', {}, ...heads)), this.body);
   }
 
-  /** @param {Column} column */
+  /** @param {import('./types').Column} column */
   cell(column) { return {class: [column.kind ?? '', column.wide ? 'wide' : '', column.least ? 'least' : ''].join(' ').trim()}; }
 
   /** @param {string} key */

@@ -2,8 +2,8 @@
 // @ts-check
 import {refusal} from './words.js';
 
-/** @typedef {import('./types.js').Report} Report */
-/** @typedef {import('./types.js').Snapshot} Snapshot */
+/** @typedef {import('./types').Report} Report */
+/** @typedef {import('./types').Snapshot} Snapshot */
 /** @typedef {{kind:'begins'} | {kind:'live'} | {kind:'lost', why:string} | {kind:'anew'}} Told */
 
 const EVERY = 1000, PATIENCE = 10000, FULL = 1000, SEVERAL = 6;
@@ -84,7 +84,7 @@ export class Feed {
 
   /** The events behind the last one, and that one again. True where there may be more. */
   async poll() {
-    const {events, last} = /** @type {import('./types.js').Page} */ (await this.get(`/history?after=${Math.max(0, this.last - 1)}`));
+    const {events, last} = /** @type {import('./types').Page} */ (await this.get(`/history?after=${Math.max(0, this.last - 1)}`));
     if (this.last > 0) {
       const again = JSON.stringify(events.shift());
       if (last < this.last || (this.seen && again !== this.seen)) {
@@ -128,7 +128,7 @@ export async function lastBefore(base, last, moment) {
   let low = 0, high = last;
   while (low < high) {
     const middle = Math.floor((low + high) / 2);
-    const {events} = /** @type {import('./types.js').Page} */ (await read(`${base}/events?after=${middle}`));
+    const {events} = /** @type {import('./types').Page} */ (await read(`${base}/events?after=${middle}`));
     const first = events.findIndex(event => event.moment >= moment);
     if (first < 0 && events.length) low = events[events.length - 1].number;
     else if (first === 0 || !events.length) high = middle;
@@ -145,7 +145,7 @@ export async function lastBefore(base, last, moment) {
  * @param {(events:Report[]) => boolean} take says whether to go on
  */
 export async function history(base, after, last, take) {
-  /** @type {Promise<import('./types.js').Page>[]} */ const asked = [];
+  /** @type {Promise<import('./types').Page>[]} */ const asked = [];
   let next = after;
   const ask = () => {
     if (next >= last) return;

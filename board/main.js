@@ -16,18 +16,18 @@ import * as totalsView from './views/totals.js';
 import * as wall from './views/wall.js';
 
 /** counted: whether the day's events have been read; all: all groups together; lines: one a group
- * @typedef {{state:State, day:Day, counted:boolean, settings:import('./settings.js').Settings, now:number, recent:import('./types.js').Report[],
- *   lines:import('./reckon.js').GroupLine[], all:ReturnType<typeof totals>}} Drawn */
+ * @typedef {{state:State, day:Day, counted:boolean, settings:import('./settings.js').Settings, now:number, recent:Report[], lines:import('./types').GroupLine[], all:ReturnType<typeof totals>}} Drawn */
+/** @typedef {import('./types').Report} Report */
 
 /** @type {Record<string, {draw:(drawn:Drawn, anew:boolean) => void}>} */
 const VIEWS = {wall, queues, agents, calls, day, events};
-const OLD = 5000, GREY = 10000, RENEW = 30000, RECENT = 400, SAID_EVERY = 30000;
+const OLD = 5000, GREY = 10000, RENEW = 30000, RECENT = 400;
 
 const settings = settingsOf(location.search);
 // an address may have a name and password in it, and what is asked for relative to that is refused
 const base = location.origin;
 let view = 'wall', state = new State(), counting = new Day(0), counted = false;
-/** @type {import('./types.js').Report[]} */ let recent = [];
+/** @type {Report[]} */ let recent = [];
 // the server's clock less this one's, and when the desk last answered, in milliseconds
 let offset = 0, answered = 0;
 /** @type {import('./feed.js').Told} */ let told = {kind: 'begins'};
@@ -74,28 +74,25 @@ const feed = new Feed(base, RENEW, {
 /** Reads the day's events behind the first of it, up to those that the feed has; from then on the feed goes on with them. */
 async function count() {
   const mine = counting = new Day(dayBegin(settings.since, now()));
+  /** @type {Report[]} */ let found = [];
   counted = false;
   share = 0;
   try {
     const from = await lastBefore(base, state.last, mine.begin);
     mine.last = from;
     while (mine === counting && mine.last < feed.last) await history(base, mine.last, feed.last, reports => {
-      for (const report of reports) if (report.number <= feed.last) mine.apply(report);
+      const taken = reports.filter(report => report.number <= feed.last);
+      for (const report of taken) mine.apply(report);
+      found = [...found, ...taken].slice(-RECENT);
       share = (mine.last - from) / Math.max(1, feed.last - from);
       return mine === counting;
     });
     if (mine !== counting) return;
     counted = true;
-    recent = recent.length ? recent : await lastEvents();
+    recent = found;
     performance.mark('counted');
     draw(true);
   } catch { if (mine === counting) setTimeout(count, OLD); }
-}
-
-async function lastEvents() {
-  /** @type {import('./types.js').Report[]} */ let found = [];
-  await history(base, Math.max(0, feed.last - RECENT), feed.last, reports => { found = reports.filter(report => report.number <= feed.last); return false; });
-  return recent.length ? recent : found;
 }
 
 let due = false;
@@ -113,7 +110,6 @@ function draw(anew) {
   totalsView.draw(drawn);
   VIEWS[view].draw(drawn, anew);
   drawAlarm(moment);
-  if (settings.say) say(lines);
   if (counted && dayBegin(settings.since, moment) !== counting.begin && told.kind === 'live') count();   // another day has begun
 }
 
@@ -136,16 +132,6 @@ function drawAlarm(moment) {
   toggle(byId('alarm'), 'hidden', !found);
 }
 
-let said = 0;
-/** @param {import('./reckon.js').GroupLine[]} lines */
-function say(lines) {
-  const [worst, ...others] = lines.filter(line => line.severity === 'bad').sort((one, other) => (other.wait ?? 0) - (one.wait ?? 0));
-  if (!worst || Date.now() - said < SAID_EVERY) return;
-  said = Date.now();
-  const minutes = Math.floor((worst.wait ?? 0) / 60);
-  put(byId('say'), `${worst.name}: ${worst.waiting} waiting, the longest for ${minutes} ${minutes === 1 ? 'minute' : 'minutes'}${others.length ? `; ${others.length} more groups wait too long` : ''}`);
-}
-
 function show() {
   const asked = location.hash.slice(1);
   if (asked === 'main') return byId('main').focus();
@@ -165,13 +151,13 @@ function useSettings() {
 const form = document.querySelector('#settings form');
 for (const [name, value] of Object.entries(settings)) {
   const field = /** @type {any} */ (form).elements[name];
-  if (field.type === 'checkbox') field.checked = value; else field.value = value;
+  field.value = value;
 }
 form?.addEventListener('change', () => {
   const since = settings.since;
   for (const name of Object.keys(settings)) {
     const field = /** @type {any} */ (form).elements[name];
-    if (field.checkValidity()) Object.assign(settings, {[name]: field.type === 'checkbox' ? field.checked : field.type === 'number' ? Number(field.value) : field.value});
+    if (field.checkValidity()) Object.assign(settings, {[name]: field.type === 'number' ? Number(field.value) : field.value});
   }
   window.history.replaceState(null, '', location.pathname + searchOf(settings) + location.hash);
   useSettings();

@@ -4,15 +4,10 @@ import {order} from './state.js';
 import {level} from './day.js';
 
 /** @typedef {import('./state.js').State} State */
-/** @typedef {import('./state.js').Agent} Agent */
-/** @typedef {import('./words.js').Doing} Doing */
-/** @typedef {import('./words.js').Severity} Severity */
-/** @typedef {import('./types.js').Figures} Figures */
-/** @typedef {{limit:number, long:number, bad:number}} Limits  seconds: of the service level, and from which a wait is long, and too long */
-
-/** wait: of the call that waits longest, or null; next: the agent who gets the next call; level: the share answered in time
- * @typedef {Figures & {id:string, name:string, priority:number, waiting:number, ringing:number, wait:number|null, severity:Severity,
- *   counts:Record<Doing,number>, next:Agent|null, level:number|null}} GroupLine */
+/** @typedef {import('./types').Agent} Agent */
+/** @typedef {import('./types').Doing} Doing */
+/** @typedef {import('./types').GroupLine} GroupLine */
+/** @typedef {import('./types').Limits} Limits */
 
 // a tick comes each ten seconds, so what is this much overdue nobody ends
 const GRACE = 25;
@@ -40,7 +35,7 @@ export function doing(state, agent) {
 
 /**
  * How long the call has waited that has waited longest in a group, or null.
- * @param {import('./state.js').Group} group
+ * @param {import('./types').Group} group
  * @param {number} now
  */
 export function longestWait(group, now) {
@@ -52,7 +47,7 @@ export function longestWait(group, now) {
 /**
  * @param {number|null} wait
  * @param {Limits} limits
- * @returns {Severity}
+ * @returns {import('./types').Severity}
  */
 export function severity(wait, limits) {
   return wait === null ? 'none' : wait >= limits.bad ? 'bad' : wait >= limits.long ? 'long' : 'calm';
@@ -124,17 +119,14 @@ export function overdue(state, now) {
   return null;
 }
 
-/** a call's state in a word, by its busiest connection
- * @typedef {{number:number, words:string, sign:string, since:number, group:string|null, device:string, caller:string, begun:number, rank:number}} CallLine */
-
 /**
  * The live calls: those that wait first, the longest first.
  * @param {State} state
- * @returns {CallLine[]}
+ * @returns {import('./types').CallLine[]}
  */
 export function callLines(state) {
   const found = [...state.calls.values()].map(call => {
-    /** @type {CallLine} */ let line = {number: call.number, words: 'is made', sign: '○', since: call.since, group: null, device: '', caller: call.caller, begun: call.since, rank: 9};
+    /** @type {import('./types').CallLine} */ let line = {number: call.number, words: 'is made', sign: '○', since: call.since, group: null, device: '', caller: call.caller, begun: call.since, rank: 9};
     for (const connection of call.connections.values()) {
       const [rank, sign, words] = CONNECTION[connection.state];
       if (rank >= line.rank || state.isOutside(call, connection.device)) continue;
@@ -146,5 +138,5 @@ export function callLines(state) {
   return found.sort((one, other) => one.rank - other.rank || one.since - other.since || one.number - other.number);
 }
 
-/** @type {Record<import('./types.js').ConnectionState, [number, string, string]>} */
+/** @type {Record<import('./types').ConnectionState, [number, string, string]>} */
 const CONNECTION = {queued: [0, '●', 'waiting'], alerting: [1, '◆', 'ringing'], hold: [2, '‖', 'on hold'], fail: [3, '×', 'busy signal'], connected: [4, '▶', 'talking'], initiated: [5, '○', 'dials']};

@@ -1,7 +1,7 @@
 // The settings of a board stand in its address, so that a board is a bookmark.
 // @ts-check
 
-export const DEFAULTS = {title: 'Help line', limit: 20, goal: 80, long: 60, bad: 120, since: '00:00', theme: '', say: false};
+export const DEFAULTS = {title: 'Help line', limit: 20, goal: 80, long: 60, bad: 120, since: '00:00', theme: ''};
 /** @typedef {typeof DEFAULTS} Settings */
 
 /**
@@ -15,7 +15,7 @@ export function settingsOf(search) {
     if (given === null) continue;
     const number = Number(given);
     if (typeof usual === 'number' && !(number > 0)) continue;
-    Object.assign(settings, {[name]: typeof usual === 'number' ? number : typeof usual === 'boolean' ? given === 'true' : given});
+    Object.assign(settings, {[name]: typeof usual === 'number' ? number : given});
   }
   return settings;
 }

@@ -2,23 +2,16 @@
 // It has no document and no network, so that node runs the same file as a browser.
 // @ts-check
 
-/** @typedef {import('./types.js').Figures} Figures */
-/** @typedef {import('./types.js').Report} Report */
-/** @typedef {import('./types.js').Snapshot} Snapshot */
-/** @typedef {import('./types.js').AgentState} AgentState */
-/** @typedef {import('./types.js').ConnectionState} ConnectionState */
-
-/** @typedef {{id:string, name:string, ring:number, wrap:number, priority:number, figures:Figures, waiting:Set<Call>, ringing:Set<Call>}} Group */
-/** @typedef {{id:string, name:string, state:AgentState, since:number, rank:number, station:string|null, groups:string[], pending:string|null}} Agent */
-/** @typedef {{device:string, state:ConnectionState, group:string|null, since:number}} Connection */
-/** rank: of the calls of a queue the least is first; ended: the report that began to clear it
- * @typedef {{number:number, caller:string, called:string, since:number, rank:number, queued:number, connections:Map<string,Connection>, ended:number}} Call */
-/** @typedef {{id:string, agent:string|null, calls:Set<number>}} Station */
+/** @typedef {import('./types').Snapshot} Snapshot */
+/** @typedef {import('./types').Group} Group */
+/** @typedef {import('./types').Agent} Agent */
+/** @typedef {import('./types').Call} Call */
+/** @typedef {import('./types').ConnectionState} ConnectionState */
 
 // Stamps, by which a snapshot ranks calls and agents, are at most 1000000000. Less this they come before all numbers of events, which rank what follows.
 const EARLIER = 2000000000;
 
-/** @type {Record<string,AgentState>} */
+/** @type {Record<string,import('./types').AgentState>} */
 const STATE_AFTER = {
   agentLoggedOn: 'notReady', agentLoggedOff: 'null', agentNotReady: 'notReady', agentReady: 'ready', agentBusy: 'busy', agentWorkingAfterCall: 'workingAfterCall',
 };
@@ -41,7 +34,7 @@ export class State {
     /** @type {Map<string,Group>} */ this.groups = new Map();
     /** @type {Map<string,Agent>} */ this.agents = new Map();
     /** @type {Map<number,Call>} */ this.calls = new Map();
-    /** @type {Map<string,Station>} */ this.stations = new Map();
+    /** @type {Map<string,import('./types').Station>} */ this.stations = new Map();
     // agents who logged on in several groups, and which ones no event told
     /** @type {Set<string>} */ this.unknown = new Set();
     // agents who leave a call that is being cleared, with the rank that they get
@@ -110,7 +103,7 @@ export class State {
     return id ? this.agents.get(id) : undefined;
   }
 
-  /** @param {Report} report */
+  /** @param {import('./types').Report} report */
   apply(report) {
     if (report.number <= this.last) return;   // a snapshot had it already
     this.last = report.number;
@@ -118,7 +111,7 @@ export class State {
     if ('agent' in report) this.changeAgent(report); else this.changeCall(report);
   }
 
-  /** @param {import('./types.js').LoggedOn|import('./types.js').Changed} report */
+  /** @param {import('./types').AgentReport} report */
   changeAgent(report) {
     const agent = this.agent(report.agent);
     if (report.event === 'agentLoggedOn') {
@@ -138,7 +131,7 @@ export class State {
     this.leaving.delete(agent.id);
   }
 
-  /** @param {Exclude<Report, import('./types.js').LoggedOn|import('./types.js').Changed>} report */
+  /** @param {import('./types').CallReport} report */
   changeCall(report) {
     const moment = report.moment, call = this.call(report.call, moment);
     switch (report.event) {
@@ -173,7 +166,7 @@ export class State {
     }
   }
 
-  /** @param {Call} call @param {import('./types.js').Queued} report */
+  /** @param {Call} call @param {import('./types').Queued} report */
   enqueue(call, report) {
     if (report.cause !== 'noAnswer') {   // one that comes back keeps its place, and waits since it entered
       call.rank = report.number;

@@ -23,11 +23,9 @@ export function timeOfDay(moment, short) {
 /** @param {number|null} share */
 export function percent(share) { return share === null ? '–' : `${Math.round(100 * share)} %`; }
 
-/** @typedef {'ready'|'ringing'|'busy'|'hold'|'own'|'workingAfterCall'|'notReady'|'null'} Doing */
-
 /**
  * What an agent does: a sign, words, and from how many seconds on it is long.
- * @type {Record<Doing, {sign:string, words:string, long:number}>}
+ * @type {Record<import('./types').Doing, {sign:string, words:string, long:number}>}
  */
 export const DOING = {
   ready: {sign: '●', words: 'ready', long: Infinity},
@@ -40,13 +38,12 @@ export const DOING = {
   null: {sign: '○', words: 'logged off', long: Infinity},
 };
 
-/** @typedef {'none'|'calm'|'long'|'bad'} Severity */
-
+const WAITS = {none: '○ empty', calm: '● waiting', long: '▲ long', bad: '■ too long'};
 /**
  * How long callers wait.
- * @type {Record<Severity, {sign:string, words:string}>}
+ * @param {{severity:import('./types').Severity}} line
  */
-export const WAITS = {none: {sign: '○', words: 'empty'}, calm: {sign: '●', words: 'waiting'}, long: {sign: '▲', words: 'long'}, bad: {sign: '■', words: 'too long'}};
+export const waits = line => WAITS[line.severity];
 
 /** @type {Record<string,string>} */
 export const PENDING = {ready: 'ready after this call', notReady: 'a break after this call', workingAfterCall: 'after-call work after this call', loggedOff: 'logs off after this call'};

@@ -8,7 +8,7 @@ import {clock, DOING, PENDING} from '../words.js';
 import {services, states} from './allowed.js';
 import {Requests} from './requests.js';
 
-/** @typedef {import('../state.js').Call} Call */
+/** @typedef {import('../types').Call} Call */
 /** @typedef {import('./allowed.js').CallService} CallService */
 // events tell an agent's page what it needs, so a snapshot is seldom wanted anew
 const RENEW = 300000, MOST_GROUPS = 8;

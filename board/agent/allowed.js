@@ -22,7 +22,7 @@ export function states(state, id) {
 /**
  * What may be asked for a call at a station.
  * @param {State} state
- * @param {import('../state.js').Call} call
+ * @param {import('../types').Call} call
  * @param {string} station
  * @returns {Set<CallService>}
  */

@@ -6,7 +6,7 @@ import {order} from '../state.js';
 import {clock, DOING, PENDING} from '../words.js';
 import {choose} from './groups.js';
 
-/** @typedef {import('../words.js').Doing} Doing */
+/** @typedef {import('../types').Doing} Doing */
 /** @typedef {{tile:HTMLElement, name:Element, sign:Element, words:Element, time:Element, place:Element, seen:boolean}} Tile */
 /** @type {Map<string,Tile>} */ const tiles = new Map();
 /** @type {Map<Element,Tile>} */ const byElement = new Map();
@@ -38,17 +38,14 @@ export function draw({state, all, now}) {
   choose(byId('agents-group'), state);
   build(state);
   const group = byId('agents-group').value, find = byId('agents-find').value.trim().toLowerCase();
-  let shown = 0;
   for (const [id, tile] of tiles) {
     const agent = state.agent(id), does = doing(state, agent);
     const off = (group && !agent.groups.includes(group)) || (wanted.size ? !wanted.has(does.doing) : does.doing === 'null')
       || (find && !`${agent.name} ${id} ${agent.station ?? ''}`.toLowerCase().includes(find));
     toggle(tile.tile, 'hidden', Boolean(off));
     if (off) continue;
-    shown++;
     if (tile.seen) write(tile, state, agent, does, now - does.since);
   }
-  put(byId('agents-none'), shown ? '' : 'No agent is like that.');
   for (const button of byId('agents-states').children) {
     const name = /** @type {Doing} */ (button.getAttribute('data-doing'));
     put(button, `${DOING[name].sign} ${DOING[name].words} ${all.counts[name]}`);
@@ -71,7 +68,7 @@ function build(state) {
   byId('agents').replaceChildren(...byElement.keys());
 }
 
-/** @param {Tile} tile @param {import('../state.js').State} state @param {import('../state.js').Agent} agent @param {{doing:Doing, group:string|null}} does @param {number} age */
+/** @param {Tile} tile @param {import('../state.js').State} state @param {import('../types').Agent} agent @param {{doing:Doing, group:string|null}} does @param {number} age */
 function write(tile, state, agent, does, age) {
   const named = (/** @type {string} */ group) => state.groups.get(group)?.name || group;
   mark(tile.tile, 'data-doing', does.doing);

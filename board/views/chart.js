@@ -3,8 +3,7 @@
 import {make} from '../draw.js';
 import {timeOfDay} from '../words.js';
 
-/** look: first, second or third, by which the style tells them apart, with colour and without
- * @typedef {{name:string, look:string, bar?:(step:any) => number, line?:(step:any) => number|null}} Series */
+/** @typedef {import('../types').Series} Series */
 
 const HEIGHT = 220, LEFT = 44, BELOW = 24, ABOVE = 12;
 

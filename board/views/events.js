@@ -27,7 +27,7 @@ export function draw({state, recent}) {
 /**
  * What an event says; nothing for those that only go along with another.
  * @param {State} state
- * @param {import('../types.js').Report} report
+ * @param {import('../types').Report} report
  */
 export function sentence(state, report) {
   const named = (/** @type {string} */ device) => state.agentAt(device)?.name || state.groups.get(device)?.name || device;

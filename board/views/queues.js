@@ -1,16 +1,16 @@
 // All groups, in their order, with all that is known of each.
 // @ts-check
 import {byId, Table} from '../draw.js';
-import {clock, percent, WAITS} from '../words.js';
+import {clock, percent, waits} from '../words.js';
 
-/** @typedef {import('../reckon.js').GroupLine} GroupLine */
+/** @typedef {import('../types').GroupLine} GroupLine */
 let counted = false;
 /** @param {(line:GroupLine) => string|number} text */
 const figure = text => (/** @type {GroupLine} */ line) => counted ? text(line) : '…';
 
 const table = new Table(byId('queues'), [
   {head: 'Group', kind: 'words', text: line => line.name === line.id ? line.id : `${line.name} (${line.id})`},
-  {head: 'State', kind: 'state', least: true, text: line => `${WAITS[/** @type {GroupLine} */ (line).severity].sign} ${WAITS[/** @type {GroupLine} */ (line).severity].words}`},
+  {head: 'State', kind: 'state', least: true, text: waits},
   {head: 'Waiting', text: line => line.waiting},
   {head: 'Longest', text: line => line.wait === null ? '–' : clock(line.wait)},
   {head: 'Ringing', wide: true, text: line => line.ringing},

@@ -1,7 +1,7 @@
 // All groups together, as a few large numbers.
 // @ts-check
 import {byId, make, mark, put} from '../draw.js';
-import {clock, percent, WAITS} from '../words.js';
+import {clock, percent, waits} from '../words.js';
 
 /** @typedef {import('../main.js').Drawn} Drawn */
 /** @type {{tile:Element, name:Element, value:Element, note:Element}[]} */
@@ -15,7 +15,7 @@ export function draw({all, settings, counted}) {
   /** @type {[string, string|number, string, string][]} */
   const told = [
     ['Waiting', all.waiting, all.ringing ? `and ${all.ringing} ringing` : '', all.severity],
-    ['Longest wait', all.wait === null ? '–' : clock(all.wait), all.wait === null ? '' : `${WAITS[all.severity].sign} ${WAITS[all.severity].words}`, all.severity],
+    ['Longest wait', all.wait === null ? '–' : clock(all.wait), all.wait === null ? '' : waits(all), all.severity],
     ['Agents ready', counts.ready, `of ${all.loggedOn} logged on`, all.waiting && !counts.ready ? 'long' : 'none'],
     [`Within ${settings.limit} s`, counted ? percent(all.level) : '…', `${word}goal ${settings.goal} %`, counted ? share : 'none'],
     ['Abandoned', counted ? all.abandoned : '…', counted && lost ? percent(all.abandoned / lost) : '', 'none'],

@@ -1,19 +1,17 @@
 // The wall: the groups whose callers wait longest, as many as fit, to be read from three metres.
 // @ts-check
 import {byId, put, Table, toggle} from '../draw.js';
-import {clock, percent, WAITS} from '../words.js';
+import {clock, percent, waits} from '../words.js';
 import {order} from '../state.js';
 
-/** @typedef {import('../reckon.js').GroupLine} GroupLine */
+/** @typedef {import('../types').GroupLine} GroupLine */
 const SORTED_EVERY = 5000;
 
-/** @param {GroupLine} line */
-const state = line => `${WAITS[line.severity].sign} ${WAITS[line.severity].words}`;
 let counted = false;
 
 const table = new Table(byId('wall'), [
   {head: 'Group', kind: 'words', text: line => line.name},
-  {head: 'State', kind: 'state', text: state},
+  {head: 'State', kind: 'state', text: waits},
   {head: 'Waiting', text: line => line.waiting},
   {head: 'Longest', text: line => line.wait === null ? '–' : clock(line.wait)},
   {head: 'Ready', text: line => line.counts.ready},
