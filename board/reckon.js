@@ -139,4 +139,4 @@ export function callLines(state) {
 }
 
 /** @type {Record<import('./types').ConnectionState, [number, string, string]>} */
-const CONNECTION = {queued: [0, '●', 'waiting'], alerting: [1, '◆', 'ringing'], hold: [2, '‖', 'on hold'], fail: [3, '×', 'busy signal'], connected: [4, '▶', 'talking'], initiated: [5, '○', 'dials']};
+export const CONNECTION = {queued: [0, '●', 'waiting'], alerting: [1, '◆', 'ringing'], hold: [2, '‖', 'on hold'], fail: [3, '×', 'busy signal'], connected: [4, '▶', 'talking'], initiated: [5, '○', 'dials']};

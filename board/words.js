@@ -53,8 +53,8 @@ export const PENDING = {ready: 'ready after this call', notReady: 'a break after
  * @type {Record<string,string>}
  */
 const REFUSALS = {
-  unknownDevice: 'no such number is planned', unknownAgent: 'no such agent is planned', unknownCall: 'the call has ended', unknownConnection: 'the call is no longer here',
-  wrongConnectionState: 'the call is in another state by now', wrongAgentState: 'you are in another state by now', notStation: 'that number is no station', notGroup: 'that number is no group',
+  unknownDevice: 'no such number is planned', unknownCall: 'the call has ended', unknownConnection: 'the call is no longer here',
+  wrongConnectionState: 'the call is in another state by now', wrongAgentState: 'you are in another state by now', notStation: 'that number is no station',
   destinationBusy: 'that station is busy', sameDevice: 'the call is there already', stationTaken: 'another agent is logged on there', stationBusy: 'the station has another call',
   tooManyCalls: 'the desk has as many calls as it can', malformed: 'the desk could not read the request', invokeReused: 'the number of the request was used before', deskFull: 'the desk is full',
   noMemory: 'the desk wants memory', storeFault: 'the desk has stopped (storeFault)', forbidden: 'you may not do that', unauthorized: 'nobody is logged in', tooManyRequests: 'it was asked too often',

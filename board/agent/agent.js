@@ -2,7 +2,7 @@
 // @ts-check
 import {byId, make, mark, put, Table, toggle} from '../draw.js';
 import {Feed, read} from '../feed.js';
-import {doing, longestWait} from '../reckon.js';
+import {CONNECTION, doing, longestWait} from '../reckon.js';
 import {order, State} from '../state.js';
 import {clock, DOING, PENDING} from '../words.js';
 import {services, states} from './allowed.js';
@@ -15,8 +15,6 @@ const RENEW = 300000, MOST_GROUPS = 8;
 
 /** @type {Record<CallService, string>} */
 const BUTTONS = {answerCall: 'Answer', holdCall: 'Hold', retrieveCall: 'Retrieve', clearConnection: 'Hang up', singleStepTransfer: 'Transfer', deflectCall: 'Deflect'};
-/** @type {Record<string, string>} */
-const CALLS = {alerting: '◆ rings', connected: '▶ talking', hold: '‖ on hold', initiated: '○ dials', fail: '× busy signal'};
 
 const query = new URLSearchParams(location.search), base = location.origin;
 let id = query.get('agent') ?? '', state = new State(), offset = 0, live = false;
@@ -60,9 +58,7 @@ function offer() {
   if (box.children.length === groups.length) return;
   const wanted = (query.get('groups') ?? '').split(',');
   box.replaceChildren(...groups.map(group => {
-    const input = /** @type {HTMLInputElement} */ (make('input', {type: 'checkbox', value: group.id}));
-    input.checked = wanted.includes(group.id);
-    return make('label', {}, input, `${group.name} (${group.id})`);
+    return make('label', {}, make('input', {type: 'checkbox', value: group.id, ...(wanted.includes(group.id) && {checked: ''})}), `${group.name} (${group.id})`);
   }));
 }
 
@@ -72,8 +68,7 @@ function draw() {
   for (const button of /** @type {Iterable<HTMLButtonElement>} */ (byId('states').children)) button.disabled = !may.has(/** @type {any} */ (button.dataset.requested));
   byId('log-on-button').disabled = !may.has('loggedOn');
   toggle(byId('log-on'), 'hidden', agent?.state !== 'null');
-  const own = ['#states', '#calls-title', '#queues-title', '#queues'];
-  for (const selector of own) toggle(/** @type {Element} */ (document.querySelector(selector)), 'hidden', agent?.state === 'null');
+  for (const part of ['states', 'calls-title', 'queues-title', 'queues']) toggle(byId(part), 'hidden', agent?.state === 'null');
   if (!agent) return put(byId('state').children[1], live ? 'No such agent is planned' : '');
   const does = doing(state, agent), shown = DOING[does.doing];
   put(byId('state').children[0], shown.sign);
@@ -115,7 +110,7 @@ function drawCall(call, station) {
   if (!here) return;
   const may = services(state, call, station), group = here.group && (state.groups.get(here.group)?.name || here.group);
   mark(card.card, 'data-state', here.state);
-  put(card.line, `${CALLS[here.state]} for ${clock(now() - here.since)}${group ? `, ${group}` : ', your own'}`);
+  put(card.line, `${CONNECTION[here.state].slice(1).join(' ')} for ${clock(now() - here.since)}${group ? `, ${group}` : ', your own'}`);
   const from = call.caller === station ? `to ${call.called}` : `from ${call.caller || '…'}`;
   put(card.about, `Call ${call.number} ${from}${here.state === 'alerting' && group ? `; the caller has waited ${clock(now() - call.queued)}` : ''}`);
   for (const [service, button] of card.buttons) {

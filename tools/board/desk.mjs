@@ -1,8 +1,8 @@
 // A desk over a file in a folder, fed by lines and served; with a gate and nginx before it where a browser is to see it.
-import {spawn} from 'node:child_process';
+import {execFileSync, spawn} from 'node:child_process';
+import {existsSync} from 'node:fs';
 import {mkdir, readFile, rm, symlink, writeFile} from 'node:fs/promises';
 import {join} from 'node:path';
-import {execFileSync} from 'node:child_process';
 import {freePort, sleep, until} from './browser.mjs';
 
 const HERE = new URL('.', import.meta.url).pathname;
@@ -18,6 +18,18 @@ export function run(program, words, input = '') {
     child.on('error', fail);
     child.on('close', () => done(Buffer.concat(parts).toString()));
   });
+}
+
+/** Which of these programs aren't there, in a line, or nothing. */
+export function missing(needed) {
+  const without = Object.entries(needed).filter(([name]) => !process.env.PATH.split(':').some(folder => existsSync(join(folder, name))));
+  return without.length ? `not found: ${without.map(([name, from]) => `${name} (Debian package ${from})`).join(', ')}` : '';
+}
+
+/** The lines of a made-up day of some hours that ends now. */
+export async function aDay(hours, ...words) {
+  const end = Math.floor(Date.now() / 1000);
+  return (await run('python3', ['-B', join(HERE, 'day.py'), '--begin', end - Math.round(3600 * hours), '--end', end, ...words])).trim().split('\n');
 }
 
 export class Desk {
@@ -69,8 +81,8 @@ export class Desk {
 
 /** A gate and nginx before a desk, by the configuration of tools/operating/nginx.conf on other ports. */
 export class Front {
-  static async start(folder, desk, roles) {
-    const front = new Front(), [gate, site] = [await freePort(), await freePort()], file = join(folder, `front${site}`);
+  static async start(folder, desk, roles, port) {
+    const front = new Front(), [gate, site] = [await freePort(), port ?? await freePort()], file = join(folder, `front${site}`);
     await mkdir(join(file, 'share'), {recursive: true});
     await symlink(join(TOP, 'board'), join(file, 'share/board'));
     execFileSync('openssl', ['req', '-x509', '-newkey', 'rsa:2048', '-nodes', '-subj', '/CN=desk', '-days', '2', '-keyout', `${file}/desk.key`, '-out', `${file}/desk.crt`], {stdio: 'ignore'});

@@ -30,7 +30,7 @@ export async function shift(see, browser, desk, front, folder) {
   await click('#log-on-button:enabled', '✓ Log on');
   await click(requested('ready'), '✓ Ready');
   const first = await call();
-  see('what rings, for how long and from where', Boolean(await until(async () => /rings for .*Claims.*from 0301234567; the caller has waited 0:0/.test(await browser.text('#calls li')), 10)), await browser.text('#calls li'));
+  see('what rings, for how long and from where', Boolean(await until(async () => /ringing for .*Claims.*from 0301234567; the caller has waited 0:0/.test(await browser.text('#calls li')), 10)), await browser.text('#calls li'));
   await browser.picture(`${folder}/agent-light.png`);
   await looks(see, browser);
   await click(service('answerCall'), `✓ Answer call ${first}`);
@@ -109,7 +109,7 @@ async function elsewhere(see, browser, front, desk) {
   await new Promise(done => server.listen(port, '127.0.0.1', done));
   await browser.open(front.page('pbx', '/who'));   // now the browser knows the password of one who may all
   const body = invoke => JSON.stringify({requester: 'elsewhere', invoke, service: 'arriveCall', caller: '0666', called: '100'}), {last} = await desk.get('/events?after=999999999999999');
-  const own = await browser.run(`return fetch('/csta', {method: 'POST', body: arguments[0]}).then(reply => reply.status)`, body(1));
+  const own = await browser.run(`return fetch(location.origin + '/csta', {method: 'POST', body: arguments[0]}).then(reply => reply.status)`, body(1));
   see('the own page of that login is answered', own === 200, own);
   for (const [number, host] of ['127.0.0.1', 'localhost'].entries()) {
     await browser.open(`http://${host}:${port}/`);

@@ -6,7 +6,7 @@ import {existsSync} from 'node:fs';
 import {join, resolve} from 'node:path';
 import {pathToFileURL} from 'node:url';
 import {Browser, sleep} from './browser.mjs';
-import {Desk, Front, run, TOP} from './desk.mjs';
+import {aDay, Desk, Front, missing, run, TOP} from './desk.mjs';
 import {full} from './full.mjs';
 import {inLoad, record, replay, unseenFaults} from './model.mjs';
 import {alarm, looks, losses, numbers, people, settings} from './page.mjs';
@@ -51,12 +51,6 @@ class Trial {
 
   async front(desk) { return this.keep(await Front.start(this.folder, desk, ROLES), front => front.stop()); }
   async browser() { return this.keep(await Browser.start(1920, 1080), browser => browser.end()); }
-
-  /** A day that ends now. */
-  async day(hours, ...words) {
-    const end = Math.floor(Date.now() / 1000);
-    return (await run('python3', ['-B', join(TOP, 'tools/board/day.py'), '--begin', end - Math.round(3600 * hours), '--end', end, ...words])).trim().split('\n');
-  }
 
   /** The types, and how much a browser loads at most. */
   async files() {
@@ -103,7 +97,7 @@ class Trial {
   }
 
   async board() {
-    const [lines, others] = [await this.day(1.5, '--groups', 10, '--agents', 60), await this.day(1, '--groups', 4, '--agents', 12, '--seed', 2)];
+    const [lines, others] = [await aDay(1.5, '--groups', 10, '--agents', 60), await aDay(1, '--groups', 4, '--agents', 12, '--seed', 2)];
     const desk = await this.desk('day.db', lines), other = await this.desk('other.db', others);
     await other.stop();
     const front = await this.front(desk), browser = await this.browser(), folks = this.keep(people(desk, 12), one => one.end()), address = front.page('sup', '/board/');
@@ -124,7 +118,7 @@ class Trial {
   }
 
   async full() {
-    const desk = await this.desk('full.db', await this.day(2.5, '--groups', 64, '--agents', 1000, '--load', 0.9)), front = await this.front(desk), browser = await this.browser();
+    const desk = await this.desk('full.db', await aDay(2.5, '--groups', 64, '--agents', 1000, '--load', 0.9)), front = await this.front(desk), browser = await this.browser();
     await full(this.see, browser, desk, front.page('sup', '/board/'), this.figure);
   }
 }
@@ -132,8 +126,8 @@ class Trial {
 export async function main(words) {
   const given = name => { const place = words.indexOf(name); return place < 0 ? undefined : words.splice(place, 2)[1]; };
   const [only, pictures] = [given('--only'), resolve(given('--pictures') ?? 'out/board')], program = resolve(words[0] ?? join(TOP, 'release/acd'));
-  const missing = Object.entries(NEEDED).filter(([name]) => !process.env.PATH.split(':').some(folder => existsSync(join(folder, name))));
-  if (missing.length) throw new Error(`not found: ${missing.map(([name, from]) => `${name} (Debian package ${from})`).join(', ')}`);
+  const without = missing(NEEDED);
+  if (without) throw new Error(without);
   const parts = only ? only.split(',') : PARTS, begin = Date.now();
   // a file is synced with each request, which costs nothing in memory
   const folder = await mkdtemp(join(existsSync('/dev/shm') ? '/dev/shm' : '/tmp', 'try-board-'));
