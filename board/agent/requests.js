@@ -27,18 +27,12 @@ export class Requests {
     this.requester = newRequester(agent);
     this.invoke = 0;
     this.storage = storage;
-    this.place = `acd-unanswered-${agent}`;
+    this.place = `acd-unanswered-${agent} `;
     this.tell = tell;
-    this.waiting = this.kept();
-    this.turn = this.waiting.reduce((turn, one) => turn.then(() => this.deliver(one)), Promise.resolve());
+    this.turn = Promise.resolve();
+    // of an earlier load, in their order
+    for (const place of Object.keys(storage).filter(place => place.startsWith(this.place)).sort()) this.queue(place, JSON.parse(storage[place]));
   }
-
-  /** @returns {Kept[]} */
-  kept() {
-    try { return JSON.parse(this.storage.getItem(this.place) ?? '[]'); } catch { return []; }
-  }
-
-  keep() { this.storage.setItem(this.place, JSON.stringify(this.waiting)); }
 
   /**
    * @param {string} service
@@ -46,21 +40,22 @@ export class Requests {
    * @param {string} words what it asks for
    */
   send(service, members, words) {
-    const one = {body: JSON.stringify({requester: this.requester, invoke: ++this.invoke, service, ...members}), words};
-    this.waiting.push(one);
-    this.keep();
-    return this.turn = this.turn.then(() => this.deliver(one));
+    const one = {body: JSON.stringify({requester: this.requester, invoke: ++this.invoke, service, ...members}), words}, place = `${this.place}${Date.now()} ${this.requester} ${this.invoke}`;
+    this.storage.setItem(place, JSON.stringify(one));
+    this.queue(place, one);
   }
 
-  /** @param {Kept} one */
-  async deliver(one) {
+  /** @param {string} place @param {Kept} one */
+  queue(place, one) { this.turn = this.turn.then(() => this.deliver(place, one)); }
+
+  /** @param {string} place @param {Kept} one */
+  async deliver(place, {body, words}) {
     for (let times = 0; ; times++) {
-      this.tell(times ? {kind: 'waits', words: `${one.words}: no answer yet, it is sent again`} : {kind: 'sent', words: one.words});
-      const reply = await this.post(one.body);
+      this.tell(times ? {kind: 'waits', words: `${words}: no answer yet, it is sent again`} : {kind: 'sent', words});
+      const reply = await this.post(body);
       if (reply) {
-        this.waiting = this.waiting.filter(other => other !== one);
-        this.keep();
-        return this.tell(reply.status === 200 ? {kind: 'done', words: one.words, result: JSON.parse(reply.text).result} : {kind: 'refused', words: `${one.words}: ${refusal(reply.status, reply.text)}`});
+        this.storage.removeItem(place);
+        return this.tell(reply.status === 200 ? {kind: 'done', words, result: JSON.parse(reply.text).result} : {kind: 'refused', words: `${words}: ${refusal(reply.status, reply.text)}`});
       }
       await new Promise(done => setTimeout(done, Math.min(PATIENCE, 1000 * 2 ** times)));
     }

@@ -10,7 +10,7 @@ const figure = text => (/** @type {GroupLine} */ line) => counted ? text(line) :
 
 const table = new Table(byId('queues'), [
   {head: 'Group', kind: 'words', text: line => line.name === line.id ? line.id : `${line.name} (${line.id})`},
-  {head: 'State', kind: 'state', least: true, text: waits},
+  {head: 'State', kind: 'state', text: waits},
   {head: 'Waiting', text: line => line.waiting},
   {head: 'Longest', text: line => line.wait === null ? '–' : clock(line.wait)},
   {head: 'Ringing', wide: true, text: line => line.ringing},
@@ -19,7 +19,7 @@ const table = new Table(byId('queues'), [
   {head: 'Talking', wide: true, text: line => line.counts.busy + line.counts.hold},
   {head: 'After-call', wide: true, text: line => line.counts.workingAfterCall},
   {head: 'Not ready', wide: true, text: line => line.counts.notReady},
-  {head: 'In time', about: 'share of the answered calls that waited no longer than the service level gives', text: figure(line => percent(line.level))},
+  {head: 'In time', about: 'share of the answered calls that waited no longer than the service level gives', least: true, text: figure(line => percent(line.level))},
   {head: 'Entered', wide: true, text: figure(line => line.entered)},
   {head: 'Answered', wide: true, text: figure(line => line.answered)},
   {head: 'Abandoned', about: 'callers who gave up before an answer', wide: true, text: figure(line => line.abandoned)},

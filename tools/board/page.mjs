@@ -18,6 +18,7 @@ export function people(desk, calls) {
 
 /** Each number on the wall and in the queues against the desk's report, its reads and its events. */
 export async function numbers(see, browser, desk, folks, moments) {
+  see('the board is live, and has the whole day', await live(browser));
   for (let moment = 1; moment <= moments; moment++) {
     await sleep(1500);
     folks.stop();

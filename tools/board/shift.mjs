@@ -74,7 +74,7 @@ export async function lostReply(see, browser, desk, front) {
   desk.child.kill('SIGSTOP');
   await browser.click('#log-on-button');
   see('a request without an answer is said to be sent again', Boolean(await until(async () => /no answer yet/.test(await browser.text('#told')), 20)), await browser.text('#told'));
-  const kept = () => browser.run(`return JSON.parse(localStorage.getItem('acd-unanswered-${AGENT}') ?? '[]').map(one => one.body)`), before = await kept();
+  const kept = () => browser.run(`return Object.keys(localStorage).filter(place => place.startsWith('acd-unanswered-${AGENT} ')).map(place => JSON.parse(localStorage[place]).body)`), before = await kept();
   see('it is kept in the browser', before.length === 1 && before[0].includes('loggedOn'), String(before));
   await browser.open(front.page('ana', '/board/agent/'));
   see('over a new load', String(await kept()) === String(before));

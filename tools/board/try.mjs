@@ -118,7 +118,7 @@ class Trial {
   }
 
   async full() {
-    const desk = await this.desk('full.db', await aDay(2.5, '--groups', 64, '--agents', 1000, '--load', 0.9)), front = await this.front(desk), browser = await this.browser();
+    const desk = await this.desk('full.db', await aDay(1, '--groups', 64, '--agents', 1000, '--load', 0.9)), front = await this.front(desk), browser = await this.browser();
     await full(this.see, browser, desk, front.page('sup', '/board/'), this.figure);
   }
 }
