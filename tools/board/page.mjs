@@ -81,6 +81,7 @@ export async function looks(see, browser, address, folder) {
     await sleep(600);
     const {texts, least, low, sideways} = await contrast(browser);
     see(`${view}, ${theme}: contrast of ${texts} texts, least ${least.toFixed(2)}`, texts > 20 && !low.length && !sideways, low.slice(0, 3).join('; '));
+    await browser.run('document.activeElement.blur()');
     await browser.picture(join(folder, `${view}-${theme}.png`));
     if (theme === 'light') continue;
     const unseen = await unreached(browser);
