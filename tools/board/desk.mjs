@@ -88,8 +88,10 @@ export class Front {
     execFileSync('openssl', ['req', '-x509', '-newkey', 'rsa:2048', '-nodes', '-subj', '/CN=desk', '-days', '2', '-keyout', `${file}/desk.key`, '-out', `${file}/desk.crt`], {stdio: 'ignore'});
     await writeFile(`${file}/roles`, roles.map(([login, ...role]) => `${login} ${role.join(' ')}\n`).join(''));
     await writeFile(`${file}/users`, roles.map(([login]) => `${login}:{PLAIN}secret\n`).join(''));
-    const conf = (await readFile(join(TOP, 'tools/operating/nginx.conf'), 'utf8')).replaceAll('8080', desk.port).replaceAll('8081', gate).replaceAll('8443', site).replaceAll('/etc/acd', file).replaceAll('/usr/share/acd', `${file}/share`);
-    await writeFile(`${file}/nginx.conf`, `daemon off; user root; pid ${file}/pid; error_log ${file}/errors; worker_processes 1; events {}\nhttp { include /etc/nginx/mime.types; access_log off; client_body_temp_path ${file}; proxy_temp_path ${file}; ${conf} }\n`);
+    let conf = await readFile(join(TOP, 'tools/operating/nginx.conf'), 'utf8');
+    for (const [named, here] of [['8080', desk.port], ['8081', gate], ['8443', site], ['/etc/acd', file], ['/usr/share/acd', `${file}/share`]]) conf = conf.replaceAll(named, here);
+    await writeFile(`${file}/nginx.conf`, `daemon off; user root; pid ${file}/pid; error_log ${file}/errors; worker_processes 1; events {}
+http { include /etc/nginx/mime.types; access_log off; client_body_temp_path ${file}; proxy_temp_path ${file}; ${conf} }\n`);
     Object.assign(front, {file, address: `https://127.0.0.1:${site}`, children: [
       spawn('python3', ['-B', join(TOP, 'board/gate/acd-gate'), '--port', gate, '--desk', desk.port, '--roles', `${file}/roles`].map(String), {stdio: ['ignore', 'ignore', 'inherit']}),
       spawn('nginx', ['-c', `${file}/nginx.conf`], {stdio: 'ignore'}),
@@ -103,7 +105,8 @@ export class Front {
 
   /** By curl, since the certificate is nobody's. */
   async ask(login, path, body, ...more) {
-    const text = await run('curl', ['-sk', '--max-time', '20', '-u', `${login}:secret`, '-w', '\n%{http_code}', ...more, ...(body === undefined ? [] : ['-d', typeof body === 'string' ? body : JSON.stringify(body)]), `${this.address}${path}`]);
+    const given = body === undefined ? [] : ['-d', typeof body === 'string' ? body : JSON.stringify(body)];
+    const text = await run('curl', ['-sk', '--max-time', '20', '-u', `${login}:secret`, '-w', '\n%{http_code}', ...more, ...given, `${this.address}${path}`]);
     const cut = text.lastIndexOf('\n');
     return {status: Number(text.slice(cut + 1)), text: text.slice(0, cut)};
   }

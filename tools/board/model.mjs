@@ -59,7 +59,10 @@ function againstReads(State, state, reads) {
       [Number(waiting), Number(ringing), Number(entered), Number(answered), Number(abandoned), Number(moved), average]);
   }
   for (const agent of reads.agents) see(`agent ${agent.agent}`, [state.agent(agent.agent).state, state.agent(agent.agent).station], [agent.state, agent.device ?? null]);
-  for (const {device, connections} of reads.stations) see(`station ${device}`, [...state.station(device).calls].sort((one, other) => one - other).map(call => [call, state.calls.get(call)?.connections.get(device)?.state]), connections.map(one => [one.call, one.state]));
+  for (const {device, connections} of reads.stations) {
+    const calls = [...state.station(device).calls].sort((one, other) => one - other);
+    see(`station ${device}`, calls.map(call => [call, state.calls.get(call)?.connections.get(device)?.state]), connections.map(one => [one.call, one.state]));
+  }
   return wrong;
 }
 

@@ -13,7 +13,8 @@ export const live = browser => until(() => browser.run('return window.board?.cou
 /** People who carry the day on; their program can be stopped and let go on. */
 export function people(desk, calls) {
   const child = spawn('python3', ['-B', join(HERE, 'live.py'), '--desk', desk.port, '--calls', calls].map(String), {stdio: 'ignore'});
-  return {stop: () => child.kill('SIGSTOP'), goOn: () => child.kill('SIGCONT'), end: () => new Promise(done => { child.on('exit', done); child.kill('SIGCONT'); child.kill('SIGKILL'); })};
+  const ended = new Promise(done => child.on('exit', done));
+  return {stop: () => child.kill('SIGSTOP'), goOn: () => child.kill('SIGCONT'), end: () => { child.kill('SIGKILL'); return ended; }};
 }
 
 /** Each number on the wall and in the queues against the desk's report, its reads and its events. */
@@ -29,9 +30,9 @@ export async function numbers(see, browser, desk, folks, moments) {
     for (const view of ['wall', 'queues']) {
       await browser.run(`location.hash = '${view}'`);
       await sleep(250);
-      const shown = await browser.run(`return {tiles: [...document.querySelectorAll('#totals div')].map(tile => [tile.querySelector('dt').textContent, tile.querySelector('b').textContent, tile.querySelector('small').textContent]),
+      const begin = Date.now(), shown = await browser.run(`return {tiles: [...document.querySelectorAll('#totals div')].map(tile => [tile.querySelector('dt').textContent, tile.querySelector('b').textContent, tile.querySelector('small').textContent]),
         rows: [...document.querySelectorAll('#${view} tbody tr')].map(row => [...row.children].map(cell => cell.textContent))}`);
-      const wrong = await wrongNumbers(desk, view, shown);
+      const wrong = await wrongNumbers(desk, view, shown, begin);
       see(`moment ${moment}: the numbers of ${view}`, wrong.length === 0, wrong.slice(0, 3).join('; '));
     }
     folks.goOn();
@@ -41,10 +42,10 @@ export async function numbers(see, browser, desk, folks, moments) {
 const seconds = text => text === '–' ? null : text.split(':').reduce((sum, part) => 60 * sum + Number(part), 0);
 const percent = (part, whole) => whole ? `${Math.round(100 * part / whole)} %` : '–';
 
-async function wrongNumbers(desk, view, {tiles, rows}) {
-  const wrong = [], snapshot = await desk.get('/snapshot'), events = await desk.events(0), report = reportLines(await desk.get('/reports/queues'));
+async function wrongNumbers(desk, view, {tiles, rows}, begin) {
+  const wrong = [], report = reportLines(await desk.get('/reports/queues')), passed = (Date.now() - begin) / 1000, snapshot = await desk.get('/snapshot'), events = await desk.events(0);
   const see = (what, has, wanted) => { if (String(has) !== String(wanted)) wrong.push(`${what} is ${has} and not ${wanted}`); };
-  const near = (what, has, wanted) => { if ((has === null) !== (wanted === null) || Math.abs(has - wanted) > 3) wrong.push(`${what} is ${has} s and not ${wanted} s`); };
+  const near = (what, has, wanted) => { if ((has === null) !== (wanted === null) || Math.abs(has - wanted) > 2.5 + passed) wrong.push(`${what} is ${has} s and not ${wanted} s`); };
   const answered = group => events.filter(event => event.event === 'established' && event.group && (!group || event.group === group));
   const level = group => percent(answered(group).filter(event => event.waited <= 20).length, answered(group).length);
   const idle = device => !device.connections.some(one => one.state !== 'fail');

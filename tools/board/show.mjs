@@ -27,7 +27,9 @@ export async function main(words) {
     ends.push(() => front.stop());
     const folks = people(desk, 12);
     ends.push(() => folks.end());
-    console.log(`The board:        ${front.address}/board/         name sup, password secret\nAn agent's page:  ${front.address}/board/agent/   name ana or ben, password secret\nThe certificate was made just now, so a browser asks whether to trust it. Ctrl-C ends all of it.`);
+    console.log(`The board:        ${front.address}/board/         name sup, password secret
+An agent's page:  ${front.address}/board/agent/   name ana or ben, password secret
+The certificate was made just now, so a browser asks whether to trust it. Ctrl-C ends all of it.`);
   } catch (error) {
     console.error(`tools/show-board: ${error.message}`);
     await end(1);
