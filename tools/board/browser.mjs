@@ -58,7 +58,12 @@ export class Browser {
     return this.ask('POST', '/actions', {actions: [{type: 'key', id: 'keys', actions}]});
   }
 
-  async picture(file) { await writeFile(file, Buffer.from(await this.ask('GET', '/screenshot'), 'base64')); }
+  /** On a busy machine the browser at times gives none within the time that its driver grants. */
+  async picture(file) {
+    const shot = await until(() => this.ask('GET', '/screenshot'), 60);
+    if (!shot) throw new Error(`no picture for ${file}`);
+    await writeFile(file, Buffer.from(shot, 'base64'));
+  }
 
   /** What the page wrote to its console since this was asked for last. */
   async said() { return (await this.ask('POST', '/se/log', {type: 'browser'})).map(entry => `${entry.level} ${entry.message}`); }

@@ -7,13 +7,14 @@ import {join, resolve} from 'node:path';
 import {pathToFileURL} from 'node:url';
 import {Browser, sleep} from './browser.mjs';
 import {aDay, Desk, Front, missing, run, TOP} from './desk.mjs';
+import {buttons} from './buttons.mjs';
 import {full} from './full.mjs';
 import {inLoad, record, replay, unseenFaults} from './model.mjs';
 import {alarm, looks, losses, numbers, people, settings} from './page.mjs';
 import {lostReply, PLAN, refused, shift} from './shift.mjs';
 
 const NEEDED = {chromedriver: 'chromium-driver', chromium: 'chromium', nginx: 'nginx-light', tsc: 'node-typescript', openssl: 'openssl', curl: 'curl', python3: 'python3'};
-const PARTS = ['files', 'gate', 'state', 'load', 'board', 'agent', 'full'], MOST_BYTES = 100000, ROUNDS = 50;
+const PARTS = ['files', 'gate', 'state', 'load', 'buttons', 'board', 'agent', 'full'], MOST_BYTES = 100000, ROUNDS = 50;
 const ROLES = [['pbx', 'exchange'], ['planner', 'office'], ['sup', 'supervisor'], ['ana', 'agent', '7']];
 
 class Trial {
@@ -73,7 +74,8 @@ class Trial {
       await cp(join(TOP, 'board'), copy, {recursive: true});
       await writeFile(join(copy, 'package.json'), '{"type":"module"}');
     }
-    return {...await import(pathToFileURL(join(copy, 'state.js'))), ...await import(pathToFileURL(join(copy, 'day.js')))};
+    const modules = await Promise.all(['state.js', 'day.js', 'agent/allowed.js'].map(name => import(pathToFileURL(join(copy, name)))));
+    return Object.assign({}, ...modules);
   }
 
   async state() {
@@ -84,6 +86,16 @@ class Trial {
     const {planted, unseen} = await unseenFaults(join(TOP, 'board'), await mkdtemp(join(this.folder, 'faults')), told);
     this.see('each planted fault is seen', unseen.length === 0, unseen.join('; '));
     console.log(`    ${told.length} snapshots of an office's day, carried on to its end: ${compared} comparisons, ${wrong.length} differ; ${planted} faults planted in state.js, ${unseen.length} unseen`);
+  }
+
+  async buttons() {
+    const lines = (await run('python3', ['-B', join(TOP, 'bench/office.py'), 'given'])).trim().split('\n'), desk = await Desk.make(this.program, join(this.folder, 'buttons.db'));
+    await desk.feed(lines.slice(0, 1500));
+    await desk.serve();
+    this.keep(desk, () => desk.stop());
+    const {refused, granted, wrong} = await buttons(await this.modules(), desk, ROUNDS);
+    this.see('each button is enabled where the desk grants it', wrong.length === 0 && refused > 0 && granted > 0, wrong.slice(0, 5).join('\n'));
+    console.log(`    ${refused} requests of disabled buttons were refused, ${granted} of enabled ones granted, ${wrong.length} otherwise`);
   }
 
   async load() {
