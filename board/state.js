@@ -8,7 +8,7 @@
 /** @typedef {import('./types').Call} Call */
 /** @typedef {import('./types').ConnectionState} ConnectionState */
 
-// Stamps, by which a snapshot ranks calls and agents, are at most 1000000000. Less this they come before all numbers of events, which rank what follows.
+// A snapshot ranks by stamps, of at most 1000000000. Less this they come before all numbers of events, which rank what follows.
 const EARLIER = 2000000000;
 
 /** @type {Record<string,import('./types').AgentState>} */

@@ -9,14 +9,14 @@ const tiles = [];
 
 /** @param {Drawn} drawn */
 export function draw({all, settings, counted}) {
-  const {counts} = all, lost = all.answered + all.abandoned;
+  const {counts} = all, lost = all.answered + all.abandoned, none = all.waiting && !counts.ready;
   const share = all.level === null ? 'none' : 100 * all.level >= settings.goal ? 'calm' : 100 * all.level >= settings.goal - 15 ? 'long' : 'bad';
   const word = {none: '', calm: '● ', long: '▲ ', bad: '■ '}[share];
   /** @type {[string, string|number, string, string][]} */
   const told = [
-    ['Waiting', all.waiting, all.ringing ? `and ${all.ringing} ringing` : '', all.severity],
+    ['Waiting', all.waiting, all.ringing ? `and ${all.ringing} ringing` : '', 'none'],
     ['Longest wait', all.wait === null ? '–' : clock(all.wait), all.wait === null ? '' : waits(all), all.severity],
-    ['Agents ready', counts.ready, `of ${all.loggedOn} logged on`, all.waiting && !counts.ready ? 'long' : 'none'],
+    ['Agents ready', counts.ready, `${none ? '▲ ' : ''}of ${all.loggedOn} logged on`, none ? 'long' : 'none'],
     [`Within ${settings.limit} s`, counted ? percent(all.level) : '…', `${word}goal ${settings.goal} %`, counted ? share : 'none'],
     ['Abandoned', counted ? all.abandoned : '…', counted && lost ? percent(all.abandoned / lost) : '', 'none'],
     ['Answered', counted ? all.answered : '…', `since ${settings.since}`, 'none'],

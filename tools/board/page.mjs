@@ -56,7 +56,7 @@ async function wrongNumbers(desk, view, {tiles, rows}, begin) {
   see('Waiting', tile('Waiting')[1], sum(1));
   see('Ringing', tile('Waiting')[2], sum(2) ? `and ${sum(2)} ringing` : '');
   near('Longest wait', seconds(tile('Longest wait')[1] ?? ''), report.map(line => longest(line[8])).reduce((most, one) => one === null ? most : Math.max(most ?? 0, one), null));
-  see('Agents ready', tile('Agents ready').slice(1), [ready.length, `of ${snapshot.agents.filter(agent => agent.state !== 'null').length} logged on`]);
+  see('Agents ready', tile('Agents ready').slice(1).map(text => text.replace('▲ ', '')), [ready.length, `of ${snapshot.agents.filter(agent => agent.state !== 'null').length} logged on`]);
   see('Within 20 s', tile('Within 20 s')[1], level());
   see('Abandoned', tile('Abandoned').slice(1), [sum(5), percent(sum(5), sum(4) + sum(5)).replace('–', '')]);
   see('Answered', tile('Answered')[1], sum(4));
