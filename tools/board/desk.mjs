@@ -41,7 +41,7 @@ export class Desk {
 
   async serve() {
     this.child = spawn(this.program, ['serve', '--file', this.file, '--port', this.port, '--connections', 1000000].map(String), {stdio: ['ignore', 'pipe', 'ignore']});
-    if (!await until(() => fetch(`http://127.0.0.1:${this.port}/events?after=999999999`).then(reply => reply.ok))) throw new Error('the desk does not serve');
+    if (!await until(() => fetch(`http://127.0.0.1:${this.port}/events?after=999999999`).then(reply => reply.ok), 60)) throw new Error('the desk does not serve');
   }
 
   async stop(signal = 'SIGKILL') {
@@ -96,7 +96,7 @@ http { include /etc/nginx/mime.types; access_log off; client_body_temp_path ${fi
       spawn('python3', ['-B', join(TOP, 'board/gate/acd-gate'), '--port', gate, '--desk', desk.port, '--roles', `${file}/roles`].map(String), {stdio: ['ignore', 'ignore', 'inherit']}),
       spawn('nginx', ['-c', `${file}/nginx.conf`], {stdio: 'ignore'}),
     ]});
-    if (!await until(async () => (await front.ask(roles[0][0], '/who')).status === 200)) throw new Error('the gate or nginx does not start');
+    if (!await until(async () => (await front.ask(roles[0][0], '/who')).status === 200, 60)) throw new Error('the gate or nginx does not start');
     return front;
   }
 
