@@ -31,7 +31,7 @@ mod telling;
 mod wanted;
 
 pub use asked::Asked;
-pub use listening::{ServeFault, serve_on};
+pub use listening::{ServeFault, serve_on, serve_until_failed};
 pub use lookup::Lookup;
 pub use refused::{Allow, Part, Refused};
 pub use routes::Routes;

@@ -29,8 +29,10 @@ fn tell<B: Book>(
         Lookup::Device(device) => desk.device(device),
         Lookup::Queue(group) => desk.queue(group),
         Lookup::Events(after) => desk.events(after),
+        Lookup::History(after) => desk.history(after),
         Lookup::MonitorEvents(monitor, after) => desk.monitor_events(monitor.number(), after),
         Lookup::Report => desk.report(moment),
+        Lookup::Snapshot => desk.snapshot(),
     }
 }
 

@@ -62,7 +62,7 @@ fn serve_file<'a, W: Write, E: Write>(
     rt: &HostRuntime,
     file: &'a str,
     port: u16,
-    connections: u32,
+    connections: Option<u32>,
     writer: &mut W,
     errors: &mut E,
 ) -> Result<(), Fault<'a>>

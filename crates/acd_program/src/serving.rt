@@ -1,13 +1,14 @@
 //! The desk of a database, over HTTP.
 
 ghost use Rattle.std.specs.Prelude.{◌≡◌, false, OnOk};
+ghost use Rattle.acd_desk.specs.Ran.{standing};
 ghost use Rattle.acd_program.specs.Statuses.{TellsConnections};
 
 use crate::connection::book_over;
 use crate::fault::Fault;
 use acd_book::Book;
 use acd_desk::Desk;
-use acd_http::{ServeFault, serve_on};
+use acd_http::{ServeFault, serve_on, serve_until_failed};
 use sqlite::{Alter, Connection};
 use std::io::{ErrorKind, Write};
 use std::net::{Ipv4Addr, SocketAddr, TcpListener};
@@ -28,8 +29,8 @@ fn say<'a, W: Write>(port: u16, writer: &mut W) -> Result<(), Fault<'a>> {
     }
 }
 
-// A line of a connection that could not be written is no fault of the command.
-fn answer<'a, B: Book, E: Write>(
+// Answers so many connections. A line of one of them that could not be written is no fault of the command.
+fn answer_some<'a, B: Book, E: Write>(
     rt: &HostRuntime,
     listener: &TcpListener,
     desk: &mut Desk<B>,
@@ -52,11 +53,53 @@ fn answer<'a, B: Book, E: Write>(
     }
 }
 
+// That the store has failed is a fault of the command.
+fn unless_failed<'a, B: Book>(desk: &Desk<B>) -> Result<(), Fault<'a>>
+    ensures { OnOk result ((standing B.Book desk.now).failed ≡ false) }
+{
+    if desk.has_failed() {
+        return Err(Fault::Store);
+    }
+    Ok(())
+}
+
+// Answers connections until the store has failed, so that whoever started the command may start it again.
+fn answer_until_failed<'a, B: Book, E: Write>(
+    rt: &HostRuntime,
+    listener: &TcpListener,
+    desk: &mut Desk<B>,
+    errors: &mut E,
+) -> Result<(), Fault<'a>>
+    ensures told { OnOk result (TellsConnections (E.contents errors.old) (E.contents errors.new)) }
+    ensures well { OnOk result ((standing B.Book desk.new).failed ≡ false) }
+{
+    match serve_until_failed(rt, rt.alloc(), listener, desk, errors) {
+        Ok(()) => unless_failed(desk),
+        Err(ServeFault::Write) => unless_failed(desk),
+        Err(ServeFault::NoMemory) => Err(Fault::NoMemory),
+    }
+}
+
+fn answer<'a, B: Book, E: Write>(
+    rt: &HostRuntime,
+    listener: &TcpListener,
+    desk: &mut Desk<B>,
+    connections: Option<u32>,
+    errors: &mut E,
+) -> Result<(), Fault<'a>>
+    ensures { OnOk result (TellsConnections (E.contents errors.old) (E.contents errors.new)) }
+{
+    match connections {
+        Some(connections) => answer_some(rt, listener, desk, connections, errors),
+        None => answer_until_failed(rt, listener, desk, errors),
+    }
+}
+
 fn serve_desk<'a, B: Book, W: Write, E: Write>(
     rt: &HostRuntime,
     desk: &mut Desk<B>,
     port: u16,
-    connections: u32,
+    connections: Option<u32>,
     writer: &mut W,
     errors: &mut E,
 ) -> Result<(), Fault<'a>>
@@ -71,7 +114,7 @@ fn serve_book<'a, B: Book, W: Write, E: Write>(
     rt: &HostRuntime,
     book: B,
     port: u16,
-    connections: u32,
+    connections: Option<u32>,
     writer: &mut W,
     errors: &mut E,
 ) -> (Result<(), Fault<'a>>, B)
@@ -85,14 +128,14 @@ fn serve_book<'a, B: Book, W: Write, E: Write>(
     (done, desk.close())
 }
 
-/// Serves so many connections over the desk of a database, which is made where there is none and one is to be made.
+/// Serves connections, so many or until the store has failed, over the desk of a database, which is made where there is none and one is to be made.
 /// The faults of connections are lines on `errors`.
 pub(crate) fn serve<'a, S: Alter, W: Write, E: Write>(
     rt: &HostRuntime,
     conn: Connection<S>,
     makes: bool,
     port: u16,
-    connections: u32,
+    connections: Option<u32>,
     writer: &mut W,
     errors: &mut E,
 ) -> (Result<(), Fault<'a>>, Connection<S>)

@@ -15,11 +15,11 @@ pub(crate) enum Task<'a> {
         file: Option<&'a str>,
         ends_on_store_fault: bool,
     },
-    /// Answer so many connections over HTTP.
+    /// Answer connections over HTTP: so many, or until the store has failed.
     Serve {
         file: &'a str,
         port: u16,
-        connections: u32,
+        connections: Option<u32>,
     },
     /// Take the requests of a plan.
     Import {
@@ -43,6 +43,8 @@ const PLAN: &str = "plan";
 const PORT: &str = "port";
 
 const CONNECTIONS: &str = "connections";
+
+const ENDLESS: &str = "endless";
 
 const END_ON_STORE_FAULT: &str = "end-on-store-fault";
 
@@ -74,7 +76,7 @@ fn flag<'a>(alloc: Global, name: &'a str, help: &'a str) -> Arg<'a> {
         .action(ArgAction::SetTrue)
 }
 
-// An option for a number from 1 on. It is required.
+// An option for a number from 1 on.
 fn number_option<'a>(
     alloc: Global,
     name: &'a str,
@@ -87,7 +89,6 @@ fn number_option<'a>(
         .value_name(letter)
         .help(help)
         .value_parser(ValueParser::Unsigned(1, most))
-        .required(true)
         .action(ArgAction::Set)
 }
 
@@ -105,26 +106,39 @@ fn lines_command<'a>(alloc: Global) -> Result<Command<'a>, AllocError> {
         ))
 }
 
+// How many connections are to be served.
+fn connections_option<'a>(alloc: Global) -> Result<Arg<'a>, AllocError> {
+    number_option(
+        alloc,
+        CONNECTIONS,
+        "N",
+        "How many connections to serve, from 1 to 1000000",
+        MOST_CONNECTIONS,
+    )
+    .required_unless_present(ENDLESS)?
+    .conflicts_with(ENDLESS)
+}
+
 fn serve_command<'a>(alloc: Global) -> Result<Command<'a>, AllocError> {
+    let port = number_option(
+        alloc,
+        PORT,
+        "P",
+        "The port to listen on, from 1 to 65535",
+        u64::from(u16::MAX),
+    );
     Command::new(alloc, "serve")
         .about("Answer requests over HTTP on 127.0.0.1")
         .after_help(
-            "Example:\n  acd serve --file desk.db --port 8080 --connections 1000\n\nConnections are served one after the other, each with one request; behind the last one\nthe command ends. A file that isn't there, or has no bytes, is made.",
+            "Example:\n  acd serve --file desk.db --port 8080 --connections 1000\n\nConnections are served one after the other, each with one request; behind the last one\nthe command ends. With --endless in the place of --connections it ends, with status 1,\nonce its store has failed. A file that isn't there, or has no bytes, is made.",
         )
         .arg(file_option(alloc).required(true))?
-        .arg(number_option(
+        .arg(port.required(true))?
+        .arg(connections_option(alloc)?)?
+        .arg(flag(
             alloc,
-            PORT,
-            "P",
-            "The port to listen on, from 1 to 65535",
-            u64::from(u16::MAX),
-        ))?
-        .arg(number_option(
-            alloc,
-            CONNECTIONS,
-            "N",
-            "How many connections to serve, from 1 to 1000000",
-            MOST_CONNECTIONS,
+            ENDLESS,
+            "Serve until the store fails, or the command is ended",
         ))
 }
 
@@ -198,7 +212,7 @@ fn serving_of<'a>(options: &ArgMatches<'a>) -> Option<Task<'a>> {
     Some(Task::Serve {
         file: options.get_str(FILE)?,
         port: options.get_one(PORT)?,
-        connections: options.get_one(CONNECTIONS)?,
+        connections: options.get_one(CONNECTIONS),
     })
 }
 

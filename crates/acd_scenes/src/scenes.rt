@@ -87,6 +87,8 @@ what_is_told_of_calls
 events_of_a_monitor
 head_of_queue
 ready_agents_in_order
+snapshot_of_an_answered_call
+snapshot_of_each_kind_of_record
 closed_between_requests
 answered_call_stops
 migration_stops

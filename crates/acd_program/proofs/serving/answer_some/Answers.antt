@@ -1,5 +1,5 @@
 use Rattle.acd_program.proofs.Telling.{tells_ok}
-use Rattle.acd_program.proofs.serving.answer.Goals as goal
+use Rattle.acd_program.proofs.serving.answer_some.Goals as goal
 
 pub returns-in-Ok : goal.returns-in-Ok
 returns-in-Ok g c =
