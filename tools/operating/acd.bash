@@ -13,7 +13,7 @@ _acd() {
     else
         case $command in
             lines) offered='--file --end-on-store-fault --help' ;;
-            serve) offered='--file --port --connections --help' ;;
+            serve) offered='--file --port --connections --endless --help' ;;
             import) offered='--file --plan --help' ;;
             report | export) offered='--file --help' ;;
             audit) offered='--file --count --help' ;;
