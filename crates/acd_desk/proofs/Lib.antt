@@ -27,3 +27,4 @@ pub mod Feeding
 pub mod OldStates
 pub mod OldOffers
 pub mod OldRuns
+pub mod Following
