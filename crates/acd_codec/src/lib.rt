@@ -32,7 +32,9 @@ pub use events::{event_text, page_text};
 pub use fault::{FixedAnswer, ReadFault};
 pub use laws::{old_reads_the_same, reads_back, request_formed, same_text};
 pub use member::{MALFORMED_STATUS, Member};
-pub use read_texts::{PlannedDevice, PlannedStation, agent_text, call_text, device_text, queue_text};
+pub use read_texts::{
+    PlannedDevice, PlannedStation, agent_text, call_text, device_text, queue_text,
+};
 pub use reading::{RequestReader, read_request};
 pub use replies::{Rejected, outcome_status, rejected_text, reply_text};
 pub use requests::request_text;

@@ -115,9 +115,17 @@ fn put_party(
 {
     put_device(out, "device", Some(connection.device))?;
     put_device(out, "group", distributed_from(connection))?;
-    put_number_if(out, "offered", in_full(extent, connection.offered.map(u64::from)))?;
+    put_number_if(
+        out,
+        "offered",
+        in_full(extent, connection.offered.map(u64::from)),
+    )?;
     put_number_if(out, "place", in_full(extent, connection.place))?;
-    put_number_if(out, "queued", in_full(extent, connection.queued.map(u64::from)))?;
+    put_number_if(
+        out,
+        "queued",
+        in_full(extent, connection.queued.map(u64::from)),
+    )?;
     put_text(out, "state", state_name(connection.state))
 }
 
@@ -208,15 +216,19 @@ fn above_0(priority: Priority) -> Option<u64>
 }
 
 // Writes the members of a group up to what it is.
-fn put_group_first(
-    out: &mut Writer,
-    extent: Extent,
-    group: &GroupRecord,
-) -> Result<(), AllocError>
+fn put_group_first(out: &mut Writer, extent: Extent, group: &GroupRecord) -> Result<(), AllocError>
     ensures { Adds result out.old out.new (parts_tokens (group_parts_first extent group.now)) }
 {
-    put_number_if(out, "abandoned", in_full(extent, Some(group.figures.abandoned)))?;
-    put_number_if(out, "answered", in_full(extent, Some(group.figures.answered)))?;
+    put_number_if(
+        out,
+        "abandoned",
+        in_full(extent, Some(group.figures.abandoned)),
+    )?;
+    put_number_if(
+        out,
+        "answered",
+        in_full(extent, Some(group.figures.answered)),
+    )?;
     put_device(out, "device", Some(group.device))?;
     put_number_if(out, "entered", in_full(extent, Some(group.figures.entered)))?;
     put_text(out, "kind", "group")

@@ -9,9 +9,7 @@ use crate::read_texts::{
     put_station_members,
 };
 use crate::writing::{Form, begun, ended, put_device, put_list, put_number};
-use acd_terms::{
-    AgentRecord, CallRecord, ConnectionRecord, GroupRecord, Listed, MonitorRecord,
-};
+use acd_terms::{AgentRecord, CallRecord, ConnectionRecord, GroupRecord, Listed, MonitorRecord};
 use json::Writer;
 use std::alloc::{AllocError, Global};
 

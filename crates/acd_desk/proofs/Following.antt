@@ -183,43 +183,40 @@ queue_order c d g sound group first second p q a b =
     elim (known_or group first low (last_entry group first 0 old) g.new g.behind) [
       | inl x ↦ elim (known_or group second low (last_entry group second 0 old) g.new g.behind) [
         | inl y ↦ (
-          let x0 = x.0 in let x1 = x.1 in let y0 = y.0 in let y1 = y.1 in
-          let pa = held_before c d g rules group first p a x1 in
-          let pb = held_before c d g rules group second q b y1 in
-          (
-            λ l. let o = order.0 l in inr (x0, y0, pa.0, pb.0, pa.1, pb.1, (before.queues group first second pa.0 pb.0 pa.1 pb.1).1 (omega (arith, o, fa, fb, x1, y1))),
-            λ i. elim i [
-              | inl l ↦ absurd (omega (arith, l, x0, y0))
-              | inr r ↦ (let o = (before.queues group first second r.2 r.3 r.4 r.5).0 r.6 in order.1 (omega (arith, o, fa, fb, x1, y1)))
-            ],
-          )
-        )
+            let x0 = x.0 in let x1 = x.1 in let y0 = y.0 in let y1 = y.1 in
+            let pa = held_before c d g rules group first p a x1 in
+            let pb = held_before c d g rules group second q b y1 in (
+              λ l. let o = order.0 l in inr (x0, y0, pa.0, pb.0, pa.1, pb.1, (before.queues group first second pa.0 pb.0 pa.1 pb.1).1 (omega (arith, o, fa, fb, x1, y1))),
+              λ i. elim i [
+                | inl l ↦ absurd (omega (arith, l, x0, y0))
+                | inr r ↦ (let o = (before.queues group first second r.2 r.3 r.4 r.5).0 r.6 in order.1 (omega (arith, o, fa, fb, x1, y1)))
+              ],
+            )
+            )
         | inr y ↦ (
-          let x0 = x.0 in let x1 = x.1 in let y0 = y.0 in let y1 = y.1 in
-          (λ l. inl (omega (arith, x0, y0)), λ i. order.1 (omega (arith, fa, fb, la, x1, y0, y1)))
-        )
+            let x0 = x.0 in let x1 = x.1 in let y0 = y.0 in let y1 = y.1 in
+            (λ l. inl (omega (arith, x0, y0)), λ i. order.1 (omega (arith, fa, fb, la, x1, y0, y1)))
+            )
       ]
       | inr x ↦ elim (known_or group second low (last_entry group second 0 old) g.new g.behind) [
         | inl y ↦ (
-          let x0 = x.0 in let x1 = x.1 in let y0 = y.0 in let y1 = y.1 in
-          (
-            λ l. let o = order.0 l in absurd (omega (arith, o, fa, fb, lb, x0, x1, y1)),
-            λ i. elim i [
-              | inl l ↦ absurd (omega (arith, l, y0))
-              | inr r ↦ (let r0 = r.0 in absurd (omega (arith, r0, x0)))
-            ],
-          )
-        )
+            let x0 = x.0 in let x1 = x.1 in let y0 = y.0 in let y1 = y.1 in (
+              λ l. let o = order.0 l in absurd (omega (arith, o, fa, fb, lb, x0, x1, y1)),
+              λ i. elim i [
+                | inl l ↦ absurd (omega (arith, l, y0))
+                | inr r ↦ (let r0 = r.0 in absurd (omega (arith, r0, x0)))
+              ],
+            )
+            )
         | inr y ↦ (
-          let x0 = x.0 in let x1 = x.1 in let y1 = y.1 in
-          (
-            λ l. let o = order.0 l in inl (omega (arith, o, fa, fb, x1, y1)),
-            λ i. elim i [
-              | inl l ↦ order.1 (omega (arith, l, fa, fb, x1, y1))
-              | inr r ↦ (let r0 = r.0 in absurd (omega (arith, r0, x0)))
-            ],
-          )
-        )
+            let x0 = x.0 in let x1 = x.1 in let y1 = y.1 in (
+              λ l. let o = order.0 l in inl (omega (arith, o, fa, fb, x1, y1)),
+              λ i. elim i [
+                | inl l ↦ order.1 (omega (arith, l, fa, fb, x1, y1))
+                | inr r ↦ (let r0 = r.0 in absurd (omega (arith, r0, x0)))
+              ],
+            )
+            )
       ]
     ]
 
