@@ -1,6 +1,6 @@
 -- The texts of agents, calls, devices and queues. The members of each object stand in the order of their names.
 use Rattle.std.specs.Prelude.{ℕ, nat_lt, List, [], ◌∷◌, ◌++◌, codes, Option, Some, None, option_map, if◌then◌else◌}
-use Rattle.serde_json.specs.Data.{Data}
+use Rattle.serde_json.specs.Data.{Data, string}
 use Rattle.serde_json.specs.Written.{compact_text}
 use Rattle.acd_terms.specs.States.{is_distributed, agent_state_name, pending_name}
 use Rattle.acd_terms.specs.declared.record.AgentRecord.{AgentRecord}
@@ -142,3 +142,7 @@ queue_parts group waiting ready =
 -- a group, the connections that wait there and the agents who may be offered a call, as they are given
 unfoldable pub queue_text : ℕ → List ConnectionRecord → List ℕ → List ℕ
 queue_text group waiting ready = compact_text (object_of (queue_parts group waiting ready))
+
+-- a text that is no JSON, as JSON
+unfoldable pub quoted : List ℕ → List ℕ
+quoted text = compact_text (string text)

@@ -3,11 +3,11 @@
 ghost use Rattle.std.specs.Prelude.{◌≡◌, codes, IfOk, string_bytes};
 ghost use Rattle.acd_codec.specs.Parts.{list_part, items_of};
 ghost use Rattle.acd_codec.specs.Tokens.{part_tokens, parts_tokens, Adds};
-ghost use Rattle.acd_codec.specs.ReadTexts.{connection_state_name, in_full, distributed_from, agent_parts, agent_text, party_parts, party_data, call_parts, call_text, group_parts_first, group_parts_last, group_parts, group_text, line_parts, station_parts, station_text, device_text, waiting_parts, queue_parts, queue_text, above_0};
+ghost use Rattle.acd_codec.specs.ReadTexts.{connection_state_name, in_full, distributed_from, agent_parts, agent_text, party_parts, party_data, call_parts, call_text, group_parts_first, group_parts_last, group_parts, group_text, line_parts, station_parts, station_text, device_text, waiting_parts, queue_parts, queue_text, quoted, above_0};
 
 use crate::writing::{
     Form, begun, ended, put_agent, put_device, put_groups, put_list, put_number, put_number_if,
-    put_seconds, put_text, put_text_if,
+    put_seconds, put_text, put_text_if, text_of,
 };
 use acd_terms::{
     AgentId, AgentRecord, CallRecord, ConnectionRecord, ConnectionState, DeviceId, GroupRecord,
@@ -388,4 +388,13 @@ pub fn queue_text(
     let mut out = begun(alloc, ROOM)?;
     put_queue_members(&mut out, group, waiting, ready)?;
     ended(out)
+}
+
+/// A text that is no JSON, as JSON.
+pub fn quoted(alloc: Global, text: &str) -> Result<String, AllocError>
+    ensures { IfOk result (λ s. string_bytes s ≡ quoted text.now) }
+{
+    let mut out = Writer::new(Vec::with_capacity(alloc, text.len())?);
+    out.string(text)?;
+    text_of(out)
 }

@@ -3,7 +3,7 @@
 use crate::desk::{BookWork, Telling};
 use clap::builder::ValueParser;
 use clap::error::ErrorKind;
-use clap::{Arg, ArgAction, ArgMatches, Command, Error};
+use clap::{Arg, ArgAction, ArgGroup, ArgMatches, Command, Error};
 use std::alloc::{AllocError, Global};
 use std::convert::AsStr;
 
@@ -45,6 +45,9 @@ const PORT: &str = "port";
 const CONNECTIONS: &str = "connections";
 
 const ENDLESS: &str = "endless";
+
+// Of these one is given.
+const SPAN: &str = "span";
 
 const END_ON_STORE_FAULT: &str = "end-on-store-fault";
 
@@ -106,19 +109,6 @@ fn lines_command<'a>(alloc: Global) -> Result<Command<'a>, AllocError> {
         ))
 }
 
-// How many connections are to be served.
-fn connections_option<'a>(alloc: Global) -> Result<Arg<'a>, AllocError> {
-    number_option(
-        alloc,
-        CONNECTIONS,
-        "N",
-        "How many connections to serve, from 1 to 1000000",
-        MOST_CONNECTIONS,
-    )
-    .required_unless_present(ENDLESS)?
-    .conflicts_with(ENDLESS)
-}
-
 fn serve_command<'a>(alloc: Global) -> Result<Command<'a>, AllocError> {
     let port = number_option(
         alloc,
@@ -134,12 +124,23 @@ fn serve_command<'a>(alloc: Global) -> Result<Command<'a>, AllocError> {
         )
         .arg(file_option(alloc).required(true))?
         .arg(port.required(true))?
-        .arg(connections_option(alloc)?)?
+        .arg(number_option(
+            alloc,
+            CONNECTIONS,
+            "N",
+            "How many connections to serve, from 1 to 1000000",
+            MOST_CONNECTIONS,
+        ))?
         .arg(flag(
             alloc,
             ENDLESS,
             "Serve until the store fails, or the command is ended",
-        ))
+        ))?
+        .group(
+            ArgGroup::new(alloc, SPAN)
+                .args(&[CONNECTIONS, ENDLESS])?
+                .required(true),
+        )
 }
 
 fn import_command<'a>(alloc: Global) -> Result<Command<'a>, AllocError> {

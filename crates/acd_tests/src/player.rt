@@ -250,12 +250,17 @@ fn play_exchanges<B: Book>(rt: &impl Abort, alloc: Global, desk: &mut Desk<B>, p
     }
 }
 
-/// A new desk with the greatest limits.
-pub fn new_desk(rt: &impl Abort, alloc: Global) -> Desk<MemoryBook> {
-    match Desk::open(alloc, MemoryBook::new(alloc, Limits::GREATEST)) {
+/// A desk over the book.
+pub fn desk_over<B: Book + Drop>(rt: &impl Abort, alloc: Global, book: B) -> Desk<B> {
+    match Desk::open(alloc, book) {
         Ok(desk) => desk,
         Err(_) => panic!(rt; "no desk"),
     }
+}
+
+/// A new desk with the greatest limits.
+pub fn new_desk(rt: &impl Abort, alloc: Global) -> Desk<MemoryBook> {
+    desk_over(rt, alloc, MemoryBook::new(alloc, Limits::GREATEST))
 }
 
 // A desk over the book plays the exchanges, and gives the book back.

@@ -57,19 +57,21 @@ fn help() -> &'static str {
 0 acd serve --help
 < Answer requests over HTTP on 127.0.0.1
 <
-< Usage: acd serve --file <F> --port <P> --connections <N>
+< Usage: acd serve --file <F> --port <P> <--connections <N>|--endless>
 <
 < Options:
 <       --file <F>         The file of the desk
 <       --port <P>         The port to listen on, from 1 to 65535
 <       --connections <N>  How many connections to serve, from 1 to 1000000
+<       --endless          Serve until the store fails, or the command is ended
 <   -h, --help             Print help
 <
 < Example:
 <   acd serve --file desk.db --port 8080 --connections 1000
 <
 < Connections are served one after the other, each with one request; behind the last one
-< the command ends. A file that isn't there, or has no bytes, is made.
+< the command ends. With --endless in the place of --connections it ends, with status 1,
+< once its store has failed. A file that isn't there, or has no bytes, is made.
 
 0 acd --version
 < acd 1.0 (rattle-kit-13f)
@@ -82,6 +84,21 @@ fn help() -> &'static str {
 !   --file <F>
 !
 ! Usage: acd report --file <F>
+!
+! For more information, try '--help'.
+
+2 acd serve --file a.db --port 1 --connections 1 --endless
+! error: the argument '--connections <N>' cannot be used with '--endless'
+!
+! Usage: acd serve --file <F> --port <P> <--connections <N>|--endless>
+!
+! For more information, try '--help'.
+
+2 acd serve --file a.db --port 1
+! error: the following required arguments were not provided:
+!   <--connections <N>|--endless>
+!
+! Usage: acd serve --file <F> --port <P> <--connections <N>|--endless>
 !
 ! For more information, try '--help'.
 
@@ -98,6 +115,9 @@ fn no_databases() -> &'static str {
 ! acd: cannot open /absent/a.db
 
 1 acd serve --file /absent/a.db --port 65535 --connections 1000000
+! acd: cannot open /absent/a.db
+
+1 acd serve --file /absent/a.db --port 65535 --endless
 ! acd: cannot open /absent/a.db
 
 1 acd import --plan=/absent/p.csv --file=/absent/a.db
