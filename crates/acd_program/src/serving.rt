@@ -1,7 +1,11 @@
 //! The desk of a database, over HTTP.
 
 ghost use Rattle.std.specs.Prelude.{◌≡◌, false, OnOk};
-ghost use Rattle.acd_program.specs.Statuses.{TellsConnections};
+ghost use Rattle.sqlite.specs.Held.{state};
+ghost use Rattle.acd_desk.specs.Standing.{standing};
+ghost use Rattle.acd_lines.specs.Sent.{Begins};
+ghost use Rattle.acd_http.specs.Listening.{ServedAll};
+ghost use Rattle.acd_program.specs.Serving.{ServesOver, ServesDatabase};
 
 use crate::connection::book_over;
 use crate::fault::Fault;
@@ -36,7 +40,7 @@ fn answer<'a, B: Book, E: Write>(
     connections: u32,
     errors: &mut E,
 ) -> Result<(), Fault<'a>>
-    ensures { OnOk result (TellsConnections (E.contents errors.old) (E.contents errors.new)) }
+    ensures { OnOk result (ServedAll (standing B.Book) connections desk.old desk.new (Begins (E.contents errors.old) (E.contents errors.new))) }
 {
     match serve_on(
         rt,
@@ -60,7 +64,7 @@ fn serve_desk<'a, B: Book, W: Write, E: Write>(
     writer: &mut W,
     errors: &mut E,
 ) -> Result<(), Fault<'a>>
-    ensures { OnOk result (TellsConnections (E.contents errors.old) (E.contents errors.new)) }
+    ensures { OnOk result (ServedAll (standing B.Book) connections desk.old desk.new (Begins (E.contents errors.old) (E.contents errors.new))) }
 {
     let listener = listen(rt, port)?;
     say(port, writer)?;
@@ -75,7 +79,7 @@ fn serve_book<'a, B: Book, W: Write, E: Write>(
     writer: &mut W,
     errors: &mut E,
 ) -> (Result<(), Fault<'a>>, B)
-    ensures { OnOk result.0 (TellsConnections (E.contents errors.old) (E.contents errors.new)) }
+    ensures { OnOk result.0 (ServesOver B.Book (B.state book) connections (E.contents errors.old) (E.contents errors.new) result.1) }
 {
     let mut desk = match Desk::open(rt.alloc(), book) {
         Ok(desk) => desk,
@@ -97,7 +101,7 @@ pub(crate) fn serve<'a, S: Alter, W: Write, E: Write>(
     errors: &mut E,
 ) -> (Result<(), Fault<'a>>, Connection<S>)
     requires { conn.in_transaction ≡ false }
-    ensures { OnOk result.0 (TellsConnections (E.contents errors.old) (E.contents errors.new)) }
+    ensures { OnOk result.0 (ServesDatabase S.Store makes connections (state S.Store conn) (E.contents errors.old) (E.contents errors.new) result.1) }
 {
     let book = match book_over(rt.alloc(), conn, makes) {
         Ok(book) => book,
