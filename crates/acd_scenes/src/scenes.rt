@@ -2,6 +2,7 @@
 
 pub mod agents;
 pub mod calls;
+pub mod limits;
 pub mod morning;
 pub mod office;
 pub mod priorities;
