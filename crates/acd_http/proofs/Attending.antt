@@ -1,5 +1,6 @@
 -- That connections lead to the run of the requests that they brought.
-use Rattle.std.proofs.Common.{◌≡◌, ℕ, List, [], ◌∷◌, ◌++◌, map, map-append, Ok, Err, refl, sym, ap, subst, ◌∙◌, inl, inr, append_assoc, append-nil}
+use Rattle.std.proofs.Common.{◌≡◌, ℕ, List, [], ◌∷◌, ◌++◌, map, Ok, Err, refl, sym, ap, subst, ◌∙◌, inl, inr, append_assoc, append-nil}
+use Rattle.std.proofs.lemmas.List.{map-append}
 use Rattle.acd_terms.specs.declared.command.Arrival.{Arrival}
 use Rattle.acd_book.specs.Content.{Content}
 use Rattle.acd_desk.specs.declared.taken.Taken.{Taken}
@@ -14,10 +15,10 @@ use Rattle.acd_http.specs.Exchanging.{Answers, told_of}
 use Rattle.acd_http.specs.Listening.{Outcome, Served, Serves}
 use Rattle.acd_http.specs.Attending.{posted, posted_by, all_posted, LeadsToTheRun}
 
-arrived : Arrival × Taken → Arrival
+abbrev arrived : Arrival × Taken → Arrival
 arrived p = p.0
 
-answered : Arrival × Taken → Taken
+abbrev answered : Arrival × Taken → Taken
 answered p = p.1
 
 module _ {D : Type 0} (stands : D → Standing) (settles : (d : D) → Settles (stands d)) where

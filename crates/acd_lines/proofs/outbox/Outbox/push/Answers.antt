@@ -8,4 +8,4 @@ pub returns-then-text-capacity-2-clause-ok : goal.returns-then-text-capacity-2-c
 returns-then-text-capacity-2-clause-ok g c = OnOk-weaker c.send.result _ _ (λ h. passes_sent _ _ _ c.args.self.now.waiting.items _ c.args.text.now c.in_ok-flush.ensures.ok h c.in_ok-flush.ensures.none) c.send.ensures.ok
 
 pub returns-then-text-capacity-2-clause-err : goal.returns-then-text-capacity-2-clause-err
-returns-then-text-capacity-2-clause-err g c = OnErr-weaker c.send.result _ _ (λ h. breaks_sent _ _ _ c.args.self.now.waiting.items c.args.text.now c.in_ok-flush.ensures.ok h) c.send.ensures.err
+returns-then-text-capacity-2-clause-err g c = OnErr-weaker c.send.result _ _ (λ h. breaks_sent _ _ _ c.args.self.now.waiting.items c.args.text.now c.in_ok-flush.ensures.ok h) c.send.ensures.short
