@@ -1,12 +1,13 @@
 #!/usr/bin/env python3
 """A day in an office of working size, and a morning in a small one: input lines for `acd lines`, and what has to come.
 
-usage: office.py given | wanted | seen | scene | try [PROGRAM]
+usage: office.py given | wanted | seen | scene | try [PROGRAM] | limits [PROGRAM]
 
 given prints the day's input lines, wanted its answer lines and then all event reports, seen how often each situation came
 up. 12 groups of three priorities, 40 stations, 40 agents of one to eight groups, some 60 live calls, 3000 requests of eight
 requesters; then 300 repeats, other requests under keys that are used, and a last call. try has PROGRAM (release/acd) answer
 the day over memory and over a file, and export the file's event reports: it counts the lines that weren't foreseen.
+limits tries PROGRAM with as many of everything as there may be (bench/limits.py), over memory, files and HTTP.
 scene prints the morning as crates/acd_scenes has it in src/scenes/morning.rt: each request with its answer and its event
 reports, and what the rows then hold.
 What has to come is foreseen by bench/switch.py, which knows nothing of the verified program. The same lines come at each run."""
@@ -20,6 +21,7 @@ import tempfile
 from collections import Counter, namedtuple
 from pathlib import Path
 
+import limits
 from switch import REFUSALS, Desk, compact
 
 GROUPS = [("100", 20, 30), ("101", 20, 30), ("0100", 15, 20), ("110", 30, 45), ("9", 20, 0), ("120", 0, 30), ("00", 25, 40),
@@ -46,6 +48,7 @@ Size = namedtuple("Size", "seed requests repeats reused live_calls wild signs gr
 DAY = Size(3000, 3000, 300, 10, 60, 3, "\"\\", GROUPS, STATIONS, AGENTS, WANTED | MIXED, set(REFUSALS) - UNREACHED, True)
 MORNING = Size(12, 280, 5, 2, 8, 8, "'/", GROUPS[2:6], STATIONS[::5], AGENTS[::5], dict.fromkeys(WANTED, 1), DAY.named, False)
 PRIORITIES = [0, 5, 9]
+RELEASE = Path(__file__).resolve().parent.parent / "release/acd"
 COLUMNS = "number,moment,event,call,device,agent,group,to,cause,waited".split(",")
 
 
@@ -481,8 +484,10 @@ def main():
         print(*office.wanted, *map(compact, office.switch.events), sep="\n")
     elif what == ["seen"]:
         print(*(f"{count:6} {what}" for what, count in sorted(office.seen.items())), sep="\n")
+    elif what == ["limits"]:
+        return limits.main(*(rest or [RELEASE]), office)
     elif what == ["try"]:
-        count = tried(office, *(rest or [Path(__file__).resolve().parent.parent / "release/acd"]))
+        count = tried(office, *(rest or [RELEASE]))
         print(f"{len(office.given)} requests, {len(office.switch.events)} event reports, {count} lines wrong")
         return count > 0
     else:

@@ -360,11 +360,12 @@ class Switch:
             if record.state == "workingAfterCall" and 0 < self.groups[record.groups[0]].wrap <= self.moment - record.since:
                 self.become(agent, "ready")
 
+    def open_groups(self):
+        """The groups where a call waits and an agent is eligible."""
+        return [group for group in self.groups if self.waiting(group) and self.eligible(group)]
+
     def distribute(self):
-        while True:
-            open_groups = [group for group in self.groups if self.waiting(group) and self.eligible(group)]
-            if not open_groups:
-                return
+        while open_groups := self.open_groups():
             group = min(open_groups, key=lambda each: (-self.groups[each].priority, order(each)))
             number, agent = self.waiting(group)[0][1], self.eligible(group)[0][2]
             station, connections = self.agents[agent].station, self.calls[number].connections

@@ -1,7 +1,12 @@
 -- What a book in memory holds.
+use Rattle.std.specs.Prelude.{ℕ, vec_len}
 use Rattle.acd_book.specs.Content.{Content}
 use Rattle.acd_book.specs.Ledger.{rows_of}
 use Rattle.acd_book.specs.declared.contents.Contents.{Contents}
 
 abbrev pub content_of : Contents → Content
 content_of h = record { rows = rows_of h.ledger; events = h.log.events.items; kept = h.replies.records.items }
+
+-- how many changes are in the journal of its tables
+abbrev pub waiting : Contents → ℕ
+waiting h = vec_len h.ledger.journal

@@ -1,6 +1,6 @@
 //! What a book in memory holds, and how a commit changes it: whole or not at all.
 
-ghost use Rattle.std.specs.Prelude.{◌≡◌, Some, IfOk, OnOk, OnErr, take, filter};
+ghost use Rattle.std.specs.Prelude.{◌≡◌, ◌≤◌, ◌<◌, ◌+◌, Some, IfOk, OnOk, OnErr, take, filter, length};
 ghost use Rattle.acd_model.specs.Scans.{monitor_of};
 ghost use Rattle.acd_book.specs.Content.{empty_content, is_at, kept_of, IsKeptAfter, events_behind, events_of_monitor, committed, committed_by};
 
@@ -22,10 +22,11 @@ pub(crate) struct Contents {
 }
 
 impl Contents {
-    ghost use Rattle.acd_book.specs.Held.{content_of};
+    ghost use Rattle.acd_book.specs.Held.{content_of, waiting};
 
     pub(crate) fn new(alloc: Global, limits: Limits) -> Contents
-        ensures { content_of result ≡ empty_content limits }
+        ensures empty { content_of result ≡ empty_content limits }
+        ensures none_wait { waiting result ≡ 0 }
     {
         Contents {
             alloc,
@@ -74,6 +75,7 @@ impl Contents {
     ) -> Result<Vec<Event>, AllocError>
         ensures found { IfOk result (λ found. found.items ≡ events_of_monitor (content_of self.old) monitor number limit) }
         ensures same { content_of self.new ≡ content_of self.old }
+        ensures no_longer { waiting self.new ≤ waiting self.old }
     {
         let Some(watched) = self.ledger.monitor(monitor)? else {
             return Ok(Vec::new(self.alloc));
@@ -90,6 +92,7 @@ impl Contents {
     ) -> Result<(), AllocError>
         ensures ok { OnOk result (content_of self.new ≡ committed rows.now events.now kept.now (content_of self.old)) }
         ensures err { OnErr result (content_of self.new ≡ content_of self.old) }
+        ensures no_longer { waiting self.new ≤ waiting self.old }
     {
         if !self.log.precedes(events) {
             return Err(AllocError);
@@ -103,6 +106,7 @@ impl Contents {
         Ok(())
     }
 
+    /// Fewer than 256 changes wait before it, or it is refused as if there were no memory.
     pub(crate) fn commit_changes(
         &mut self,
         changes: &[Change],
@@ -111,6 +115,8 @@ impl Contents {
     ) -> Result<(), AllocError>
         ensures ok { OnOk result (content_of self.new ≡ committed_by changes.now events.now kept.now (content_of self.old)) }
         ensures err { OnErr result (content_of self.new ≡ content_of self.old) }
+        ensures bounded { OnOk result (waiting self.new < 256 + length changes.now) }
+        ensures no_longer { OnErr result (waiting self.new ≤ waiting self.old) }
     {
         if !self.log.precedes(events) || !self.ledger.counts(events.len() as u64) {
             return Err(AllocError);

@@ -15,7 +15,8 @@ use std::alloc::{AllocError, Global};
 const LONG: usize = 256;
 
 /// The tables, and a journal of changes that wait to be made in them. What it holds is the tables with
-/// those changes made. A change that finds no memory stays in the journal, and is tried again later.
+/// those changes made. A change that finds no memory stays in the journal, and is tried again later; where
+/// as many wait as are made together, no more are taken in.
 #[derive(Drop)]
 pub(crate) struct Ledger {
     pub(crate) alloc: Global,
@@ -30,7 +31,8 @@ impl Ledger {
     ghost use Rattle.acd_book.specs.Ledger.{rows_of};
 
     pub(crate) fn new(alloc: Global, limits: Limits) -> Ledger
-        ensures { rows_of result ≡ empty_rows limits }
+        ensures rows { rows_of result ≡ empty_rows limits }
+        ensures none_wait { vec_len result.journal ≡ 0 }
     {
         Ledger {
             alloc,
@@ -41,7 +43,8 @@ impl Ledger {
     }
 
     pub(crate) fn from_rows(alloc: Global, rows: &Rows) -> Result<Ledger, AllocError>
-        ensures { IfOk result (λ ledger. rows_of ledger ≡ rows.now) }
+        ensures rows { IfOk result (λ ledger. rows_of ledger ≡ rows.now) }
+        ensures none_wait { IfOk result (λ ledger. vec_len ledger.journal ≡ 0) }
     {
         Ok(Ledger {
             alloc,
@@ -68,6 +71,7 @@ impl Ledger {
     pub(crate) fn rows(&mut self) -> Result<Rows, AllocError>
         ensures ok { IfOk result (λ rows. rows ≡ rows_of self.old) }
         ensures same { rows_of self.new ≡ rows_of self.old }
+        ensures no_longer { vec_len self.new.journal ≤ vec_len self.old.journal }
     {
         self.settle();
         if self.made < self.journal.len() {
@@ -80,6 +84,7 @@ impl Ledger {
     pub(crate) fn monitor(&mut self, monitor: u64) -> Result<Option<MonitorRecord>, AllocError>
         ensures ok { IfOk result (λ found. found ≡ monitor_of (rows_of self.old) monitor) }
         ensures same { rows_of self.new ≡ rows_of self.old }
+        ensures no_longer { vec_len self.new.journal ≤ vec_len self.old.journal }
     {
         self.settle();
         if self.made < self.journal.len() {
@@ -90,7 +95,8 @@ impl Ledger {
 
     /// Makes the changes that wait, as far as there is memory.
     pub(crate) fn settle(&mut self)
-        ensures { rows_of self.new ≡ rows_of self.old }
+        ensures same { rows_of self.new ≡ rows_of self.old }
+        ensures no_longer { vec_len self.new.journal ≤ vec_len self.old.journal }
     {
         while self.made < self.journal.len() {
             if self.records.change(&self.journal[self.made]).is_err() {
@@ -104,18 +110,25 @@ impl Ledger {
 
     /// Makes the changes that wait, where they are many.
     pub(crate) fn settle_many(&mut self)
-        ensures { rows_of self.new ≡ rows_of self.old }
+        ensures same { rows_of self.new ≡ rows_of self.old }
+        ensures no_longer { vec_len self.new.journal ≤ vec_len self.old.journal }
     {
         if self.journal.len() >= LONG {
             self.settle();
         }
     }
 
-    /// Takes room for so many more changes.
+    /// Takes room for so many more changes, once few wait.
     pub(crate) fn reserve(&mut self, changes: usize) -> Result<(), AllocError>
         ensures same { rows_of self.new ≡ rows_of self.old }
+        ensures few { OnOk result (vec_len self.new.journal < 256) }
         ensures room { OnOk result (vec_len self.new.journal + changes ≤ vec_capacity self.new.journal) }
+        ensures no_longer { vec_len self.new.journal ≤ vec_len self.old.journal }
     {
+        self.settle_many();
+        if self.journal.len() >= LONG {
+            return Err(AllocError);
+        }
         self.journal.reserve(changes)
     }
 
@@ -123,7 +136,8 @@ impl Ledger {
     pub(crate) fn append(&mut self, changes: &[Change], stamp: u64, moment: u32, events: u64)
         requires room { vec_len self.old.journal + length changes.now ≤ vec_capacity self.old.journal }
         requires countable { (rows_of self.old).last_event + events < 2 ^ 64 }
-        ensures { rows_of self.new ≡ rows_made (rows_of self.old) changes.now stamp moment events }
+        ensures made { rows_of self.new ≡ rows_made (rows_of self.old) changes.now stamp moment events }
+        ensures added { vec_len self.new.journal ≤ vec_len self.old.journal + length changes.now }
     {
         let last_event = self.records.last_event() + events;
         self.records.set_last(stamp, moment, last_event);

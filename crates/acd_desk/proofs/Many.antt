@@ -1,5 +1,5 @@
 -- Many calls of a desk, one after the other.
-use Rattle.std.proofs.Common.{◌≡◌, ℕ, ◌+◌, ◌≤◌, List, [], ◌∷◌, ◌++◌, true, false, cond, refl, sym, ap, subst, ◌∙◌, arith, inl, inr, ◌⊎◌, Bool, length-append, true≢false}
+use Rattle.std.proofs.Common.{◌≡◌, ℕ, ◌+◌, ◌≤◌, List, [], ◌∷◌, ◌++◌, true, false, cond, refl, sym, ap, subst, ◌∙◌, arith, inl, inr, ◌⊎◌, Bool, length-append, true≢false, Result}
 use Rattle.std.proofs.lemmas.List.Elements.{Contains-push_cases, Contains-push, Contains-append_left, Contains-append_right}
 use Rattle.std.specs.List.{Contains}
 use Rattle.acd_terms.specs.Lists.{Every}
@@ -12,6 +12,9 @@ use Rattle.acd_desk.specs.Served.{is_fault, is_rejection, is_reply, served, mayb
 use Rattle.acd_desk.specs.Stands.{IsSound, ran_after, replies, StopsAt}
 use Rattle.acd_desk.specs.Standing.{Standing, InStep, Starts}
 use Rattle.acd_desk.specs.Ran.{IsCause, IsDeceived, WasUnloaded, EndsIn, IsFault, EndsUp, Took, Ran}
+use Rattle.acd_desk.specs.Attended.{Attended}
+use Rattle.acd_desk.specs.Told.{Told}
+use Rattle.acd_desk.specs.declared.fault.DeskFault.{DeskFault}
 use Rattle.acd_desk.proofs.Longer.{ran_none, one_said, one_content, one_stop, served-push, maybe_stays, maybe_this}
 use Rattle.acd_desk.proofs.Sound.{ran_sound, stop_sound}
 use Rattle.acd_desk.proofs.ContentLaws.{sound_keeps_laws}
@@ -179,42 +182,25 @@ idle s m n l ts a t ran took clean sound shut c at =
       ]
     ]
 
+-- what is said of a run is said of it where the desk was read, too
+pub attended_ran : (old new : Standing) (l : List Arrival) (ts : List Taken) → Ran old l ts new → Attended old l ts new
+attended_ran old new l ts ran = record {
+  even = ran.even;
+  clean = ran.clean;
+  sound = ran.sound;
+  in_step = ran.in_step;
+  replies = ran.replies;
+  content = ran.content;
+  stops = ran.stops;
+  shuts = ran.shuts;
+}
+
 -- one more call
-pub ran_more : (s m n : Standing) (l : List Arrival) (ts : List Taken) (a : Arrival) (t : Taken) → Settles n → Ran s l ts m → Took m a t n → Ran s (l ++ a ∷ []) (ts ++ t ∷ []) n
-ran_more s m n l ts a t settles ran took =
+pub attended_more : (s m n : Standing) (l : List Arrival) (ts : List Taken) (a : Arrival) (t : Taken) → Settles n → Attended s l ts m → Took m a t n → Attended s (l ++ a ∷ []) (ts ++ t ∷ []) n
+attended_more s m n l ts a t settles ran took =
     let start : Content = s.book.content in
     let yes : served (l ++ a ∷ []) (ts ++ t ∷ []) ≡ served l ts ++ cond (is_fault t) [] (a ∷ []) = served-push l ts a t ran.even in
-    let content : n.book.is_clean → Starts s → n.book.is_open → n.book.content ≡ ran_after start (served (l ++ a ∷ []) (ts ++ t ∷ []))
-    = λ clean starts opened.
-    let before = took.clean clean in
-    let sound = ran.sound before starts.0 in
-    let step = ran.in_step before starts.0 starts.2 in
-    one_content start (served l ts) a t n.book.content
-    (λ (fine : is_fault t ≡ false). (took.sent fine clean sound step).1 ∙ ap (λ (x : Content). after x a) (ran.content before starts (took.up fine clean sound).0))
-    (λ (bad : is_fault t ≡ true). (took.unmoved (fault_no_reply t bad) clean sound opened).1 ∙ ran.content before starts (took.unmoved (fault_no_reply t bad) clean sound opened).0)
-    ∙ ap (ran_after start) (sym yes) in
     let maybe : List Arrival = maybe_last (l ++ a ∷ []) (ts ++ t ∷ []) in
-    let stops : n.book.is_clean → Starts s → (c : Content) → n.book.stops c → StopsAt start (served (l ++ a ∷ []) (ts ++ t ∷ [])) maybe c
-    = λ clean starts c stop.
-    let before = took.clean clean in
-    let sound = ran.sound before starts.0 in
-    let step = ran.in_step before starts.0 starts.2 in
-    subst (λ (y : List Arrival). StopsAt start y maybe c) (sym yes)
-    (one_stop start (served l ts) (maybe_last l ts) maybe a t c (maybe_stays l ts a t)
-    (λ (fine : is_fault t ≡ false).
-    settles c clean (took.sound clean sound) (took.up fine clean sound).1 stop
-    ∙ (took.sent fine clean sound step).1 ∙ ap (λ (x : Content). after x a) (ran.content before starts (took.up fine clean sound).0))
-    (λ (bad : is_fault t ≡ true). elim (took.stops clean sound step c stop) [
-      | inl old ↦ inl (ran.stops before starts c old)
-      | inr made ↦ inr (
-        maybe_this l ts a t ran.even (λ found. true≢false (sym (ran.shuts found) ∙ made.0)) bad,
-        made.2 ∙ ap (λ (x : Content). after x a) (ran.content before starts made.1),
-      )
-    ])) in
-    let whole : n.book.is_clean → Starts s → n.book.is_open → IsSound n.book.content
-    = λ clean starts opened. subst IsSound (sym (content clean starts opened)) (ran_sound start (served (l ++ a ∷ []) (ts ++ t ∷ [])) starts.3) in
-    let up : n.book.is_clean → s.book.is_sound → EndsUp s (ts ++ t ∷ []) → n.book.is_open
-    = λ clean sound ended. (took.up (last_served s ts t ended) clean (ran.sound (took.clean clean) sound)).1 in
     record {
       even = length-append l (a ∷ []) ∙ ap (λ (k : ℕ). k + 1) ran.even ∙ sym (length-append ts (t ∷ []));
       clean = λ clean. ran.clean (took.clean clean);
@@ -226,31 +212,73 @@ ran_more s m n l ts a t settles ran took =
           one_said start (served l ts) ts a t (ran.replies before starts) (λ (fine : is_fault t ≡ false).
           (took.sent fine clean sound (ran.in_step before starts.0 starts.2)).0 ∙ ap (λ (x : Content). answer_in (after x a) a.request) (ran.content before starts (took.up fine clean sound).0))
           ∙ ap (replies start) (sym yes);
-      content = content;
+      content = λ clean starts opened.
+          let before = took.clean clean in
+          let sound = ran.sound before starts.0 in
+          let step = ran.in_step before starts.0 starts.2 in
+          one_content start (served l ts) a t n.book.content
+          (λ (fine : is_fault t ≡ false). (took.sent fine clean sound step).1 ∙ ap (λ (x : Content). after x a) (ran.content before starts (took.up fine clean sound).0))
+          (λ (bad : is_fault t ≡ true). (took.unmoved (fault_no_reply t bad) clean sound opened).1 ∙ ran.content before starts (took.unmoved (fault_no_reply t bad) clean sound opened).0)
+          ∙ ap (ran_after start) (sym yes);
+      stops = λ clean starts c stop.
+          let before = took.clean clean in
+          let sound = ran.sound before starts.0 in
+          let step = ran.in_step before starts.0 starts.2 in
+          subst (λ (y : List Arrival). StopsAt start y maybe c) (sym yes)
+          (one_stop start (served l ts) (maybe_last l ts) maybe a t c (maybe_stays l ts a t)
+          (λ (fine : is_fault t ≡ false).
+          settles c clean (took.sound clean sound) (took.up fine clean sound).1 stop
+          ∙ (took.sent fine clean sound step).1 ∙ ap (λ (x : Content). after x a) (ran.content before starts (took.up fine clean sound).0))
+          (λ (bad : is_fault t ≡ true). elim (took.stops clean sound step c stop) [
+            | inl old ↦ inl (ran.stops before starts c old)
+            | inr made ↦ inr (
+              maybe_this l ts a t ran.even (λ found. true≢false (sym (ran.shuts found) ∙ made.0)) bad,
+              made.2 ∙ ap (λ (x : Content). after x a) (ran.content before starts made.1),
+            )
+          ]));
+      shuts = λ h. elim (Contains-push_cases ts t StoreFault h) [
+        | inl old ↦ (took.shut (ran.shuts old)).0
+        | inr now ↦ took.shuts now
+      ];
+    }
+
+pub ran_more : (s m n : Standing) (l : List Arrival) (ts : List Taken) (a : Arrival) (t : Taken) → Settles n → Ran s l ts m → Took m a t n → Ran s (l ++ a ∷ []) (ts ++ t ∷ []) n
+ran_more s m n l ts a t settles ran took =
+    let start : Content = s.book.content in
+    let yes : List Arrival = served (l ++ a ∷ []) (ts ++ t ∷ []) in
+    let more : Attended s (l ++ a ∷ []) (ts ++ t ∷ []) n = attended_more s m n l ts a t settles (attended_ran s m l ts ran) took in
+    let whole : n.book.is_clean → Starts s → n.book.is_open → IsSound n.book.content
+    = λ clean starts opened. subst IsSound (sym (more.content clean starts opened)) (ran_sound start yes starts.3) in
+    let up : n.book.is_clean → s.book.is_sound → EndsUp s (ts ++ t ∷ []) → n.book.is_open
+    = λ clean sound ended. (took.up (last_served s ts t ended) clean (ran.sound (took.clean clean) sound)).1 in
+    record {
+      even = more.even;
+      clean = more.clean;
+      sound = more.sound;
+      in_step = more.in_step;
+      replies = more.replies;
+      content = more.content;
       whole = whole;
       laws = λ clean starts opened. sound_keeps_laws n.book.content (whole clean starts opened);
       up = up;
       holds = λ clean starts ended.
           let opened = up clean starts.0 ended in
           record {
-            content = content clean starts opened;
+            content = more.content clean starts opened;
             whole = whole clean starts opened;
             laws = sound_keeps_laws n.book.content (whole clean starts opened);
-            alone = λ c stop. settles c clean (took.sound clean (ran.sound (took.clean clean) starts.0)) opened stop;
+            alone = λ c stop. settles c clean (more.sound clean starts.0) opened stop;
           };
       opened = λ clean sound opened. ran.opened (took.clean clean) sound (was_open m n a t took clean (ran.sound (took.clean clean) sound) opened);
-      stops = stops;
-      sound_stops = λ clean starts c stop. stop_sound start (served (l ++ a ∷ []) (ts ++ t ∷ [])) maybe c starts.3 (stops clean starts c stop);
+      stops = more.stops;
+      sound_stops = λ clean starts c stop. stop_sound start yes (maybe_last (l ++ a ∷ []) (ts ++ t ∷ [])) c starts.3 (more.stops clean starts c stop);
       still = idle s m n l ts a t ran took;
       fault = λ h. elim (Contains-push_cases ts t StoreFault h) [
         | inl old ↦ lasts s m n ts a t took (ran.fault old)
         | inr now ↦ caused s m n l ts a t ran took (took.shuts now)
       ];
       cause = λ h. caused s m n l ts a t ran took h;
-      shuts = λ h. elim (Contains-push_cases ts t StoreFault h) [
-        | inl old ↦ (took.shut (ran.shuts old)).0
-        | inr now ↦ took.shuts now
-      ];
+      shuts = more.shuts;
       tells = λ h. elim (took.tells h) [
         | inl before ↦ elim (ran.tells before) [
           | inl first ↦ inl first
@@ -270,6 +298,22 @@ ran_more s m n l ts a t settles ran took =
         | inr now ↦ inr (at_end ts t NoMemory now)
       ];
     }
+
+-- a read between two calls
+pub attended_told : {A : Type 0} (s m n : Standing) (l : List Arrival) (ts : List Taken) (r : Result A DeskFault) (P : Content → A → Type 0) → Attended s l ts m → Told m n r P → Attended s l ts n
+attended_told s m n l ts r P ran told = record {
+  even = ran.even;
+  clean = λ clean. ran.clean (told.clean clean);
+  sound = λ clean sound. told.sound clean (ran.sound (told.clean clean) sound);
+  in_step = λ clean sound step. told.in_step clean (ran.sound (told.clean clean) sound) (ran.in_step (told.clean clean) sound step);
+  replies = λ clean starts. ran.replies (told.clean clean) starts;
+  content = λ clean starts opened.
+      let before = told.clean clean in
+      let same = told.same clean (ran.sound before starts.0) opened in
+      same.1 ∙ ran.content before starts same.0;
+  stops = λ clean starts c stop. let before = told.clean clean in ran.stops before starts c (told.stops clean (ran.sound before starts.0) c stop);
+  shuts = λ found. told.shuts (told.shut (ran.shuts found));
+}
 
 -- one call alone
 pub ran_one : (s n : Standing) (a : Arrival) (t : Taken) → Settles s → Settles n → Took s a t n → Ran s (a ∷ []) (t ∷ []) n

@@ -196,22 +196,22 @@ same_station_record a b h =
 
 same_agent_record : (a b : AgentRecord) → (agent_record.eq-value).it a b ≡ true → a ≡ b
 same_agent_record a b h =
-    let h1 = two ((a.agent == b.agent)) (bytes_eq a.name b.name && ((agent_state.eq-value).it a.state b.state && (option_eq ((pending.eq-value).it) a.pending b.pending && (option_eq nat_eq a.station b.station && (pointwise nat_eq a.groups b.groups && ((a.stamp == b.stamp) && (a.since == b.since))))))) h in
-    let h2 = two (bytes_eq a.name b.name) ((agent_state.eq-value).it a.state b.state && (option_eq ((pending.eq-value).it) a.pending b.pending && (option_eq nat_eq a.station b.station && (pointwise nat_eq a.groups b.groups && ((a.stamp == b.stamp) && (a.since == b.since)))))) h1.1 in
-    let h3 = two ((agent_state.eq-value).it a.state b.state) (option_eq ((pending.eq-value).it) a.pending b.pending && (option_eq nat_eq a.station b.station && (pointwise nat_eq a.groups b.groups && ((a.stamp == b.stamp) && (a.since == b.since))))) h2.1 in
-    let h4 = two (option_eq ((pending.eq-value).it) a.pending b.pending) (option_eq nat_eq a.station b.station && (pointwise nat_eq a.groups b.groups && ((a.stamp == b.stamp) && (a.since == b.since)))) h3.1 in
-    let h5 = two (option_eq nat_eq a.station b.station) (pointwise nat_eq a.groups b.groups && ((a.stamp == b.stamp) && (a.since == b.since))) h4.1 in
-    let h6 = two (pointwise nat_eq a.groups b.groups) ((a.stamp == b.stamp) && (a.since == b.since)) h5.1 in
-    let h7 = two ((a.stamp == b.stamp)) ((a.since == b.since)) h6.1 in
-    let whole : ℕ → List ℕ → AgentState → Option Pending → Option ℕ → List ℕ → ℕ → ℕ → AgentRecord = λ (x1 : ℕ) (x2 : List ℕ) (x3 : AgentState) (x4 : Option Pending) (x5 : Option ℕ) (x6 : List ℕ) (x7 : ℕ) (x8 : ℕ). record { agent = x1; name = x2; state = x3; pending = x4; station = x5; groups = x6; stamp = x7; since = x8 } in
-    ap (λ (x : ℕ). whole x a.name a.state a.pending a.station a.groups a.stamp a.since) (eqb-true a.agent b.agent h1.0)
-    ∙ ap (λ (x : List ℕ). whole b.agent x a.state a.pending a.station a.groups a.stamp a.since) (same_text a.name b.name (sym h2.0))
-    ∙ ap (λ (x : AgentState). whole b.agent b.name x a.pending a.station a.groups a.stamp a.since) (same_agent_state a.state b.state h3.0)
-    ∙ ap (λ (x : Option Pending). whole b.agent b.name b.state x a.station a.groups a.stamp a.since) (same_option ((pending.eq-value).it) same_pending a.pending b.pending h4.0)
-    ∙ ap (λ (x : Option ℕ). whole b.agent b.name b.state b.pending x a.groups a.stamp a.since) (same_option nat_eq eqb-true a.station b.station h5.0)
-    ∙ ap (λ (x : List ℕ). whole b.agent b.name b.state b.pending b.station x a.stamp a.since) (same_list nat_eq eqb-true a.groups b.groups h6.0)
-    ∙ ap (λ (x : ℕ). whole b.agent b.name b.state b.pending b.station b.groups x a.since) (eqb-true a.stamp b.stamp h7.0)
-    ∙ ap (λ (x : ℕ). whole b.agent b.name b.state b.pending b.station b.groups b.stamp x) (eqb-true a.since b.since h7.1)
+    let h1 = two ((a.agent == b.agent)) (bytes_eq a.name b.name && (option_eq nat_eq a.station b.station && (pointwise nat_eq a.groups b.groups && ((a.stamp == b.stamp) && ((a.since == b.since) && ((agent_state.eq-value).it a.state b.state && option_eq ((pending.eq-value).it) a.pending b.pending)))))) h in
+    let h2 = two (bytes_eq a.name b.name) (option_eq nat_eq a.station b.station && (pointwise nat_eq a.groups b.groups && ((a.stamp == b.stamp) && ((a.since == b.since) && ((agent_state.eq-value).it a.state b.state && option_eq ((pending.eq-value).it) a.pending b.pending))))) h1.1 in
+    let h3 = two (option_eq nat_eq a.station b.station) (pointwise nat_eq a.groups b.groups && ((a.stamp == b.stamp) && ((a.since == b.since) && ((agent_state.eq-value).it a.state b.state && option_eq ((pending.eq-value).it) a.pending b.pending)))) h2.1 in
+    let h4 = two (pointwise nat_eq a.groups b.groups) ((a.stamp == b.stamp) && ((a.since == b.since) && ((agent_state.eq-value).it a.state b.state && option_eq ((pending.eq-value).it) a.pending b.pending))) h3.1 in
+    let h5 = two ((a.stamp == b.stamp)) ((a.since == b.since) && ((agent_state.eq-value).it a.state b.state && option_eq ((pending.eq-value).it) a.pending b.pending)) h4.1 in
+    let h6 = two ((a.since == b.since)) ((agent_state.eq-value).it a.state b.state && option_eq ((pending.eq-value).it) a.pending b.pending) h5.1 in
+    let h7 = two ((agent_state.eq-value).it a.state b.state) (option_eq ((pending.eq-value).it) a.pending b.pending) h6.1 in
+    let whole : ℕ → List ℕ → Option ℕ → List ℕ → ℕ → ℕ → AgentState → Option Pending → AgentRecord = λ (x1 : ℕ) (x2 : List ℕ) (x3 : Option ℕ) (x4 : List ℕ) (x5 : ℕ) (x6 : ℕ) (x7 : AgentState) (x8 : Option Pending). record { agent = x1; name = x2; station = x3; groups = x4; stamp = x5; since = x6; state = x7; pending = x8 } in
+    ap (λ (x : ℕ). whole x a.name a.station a.groups a.stamp a.since a.state a.pending) (eqb-true a.agent b.agent h1.0)
+    ∙ ap (λ (x : List ℕ). whole b.agent x a.station a.groups a.stamp a.since a.state a.pending) (same_text a.name b.name (sym h2.0))
+    ∙ ap (λ (x : Option ℕ). whole b.agent b.name x a.groups a.stamp a.since a.state a.pending) (same_option nat_eq eqb-true a.station b.station h3.0)
+    ∙ ap (λ (x : List ℕ). whole b.agent b.name b.station x a.stamp a.since a.state a.pending) (same_list nat_eq eqb-true a.groups b.groups h4.0)
+    ∙ ap (λ (x : ℕ). whole b.agent b.name b.station b.groups x a.since a.state a.pending) (eqb-true a.stamp b.stamp h5.0)
+    ∙ ap (λ (x : ℕ). whole b.agent b.name b.station b.groups b.stamp x a.state a.pending) (eqb-true a.since b.since h6.0)
+    ∙ ap (λ (x : AgentState). whole b.agent b.name b.station b.groups b.stamp b.since x a.pending) (same_agent_state a.state b.state h7.0)
+    ∙ ap (λ (x : Option Pending). whole b.agent b.name b.station b.groups b.stamp b.since b.state x) (same_option ((pending.eq-value).it) same_pending a.pending b.pending h7.1)
 
 same_call_record : (a b : CallRecord) → (call_record.eq-value).it a b ≡ true → a ≡ b
 same_call_record a b h =

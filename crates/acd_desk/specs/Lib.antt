@@ -11,6 +11,7 @@ pub mod Laws
 pub mod Opening
 pub mod DeskLaws
 pub mod Ran
+pub mod Attended
 pub mod Tells
 pub mod Told
 pub mod Session

@@ -119,20 +119,20 @@ pub same_agent : (x y : AgentRecord) → (agent_eq.eq-value).it x y ≡ true →
 same_agent x y h =
     let number = two h in
     let name = two number.1 in
-    let state = two name.1 in
-    let wanted = two state.1 in
-    let station = two wanted.1 in
+    let station = two name.1 in
     let groups = two station.1 in
     let stamp = two groups.1 in
+    let since = two stamp.1 in
+    let state = two since.1 in
     λ i. record {
       agent = eqb-true x.agent y.agent number.0 i;
       name = numbers x.name y.name name.0 i;
-      state = same_state x.state y.state state.0 i;
-      pending = option_same (pending_eq.eq-value).it same_pending x.pending y.pending wanted.0 i;
       station = number_same x.station y.station station.0 i;
       groups = numbers x.groups y.groups groups.0 i;
       stamp = eqb-true x.stamp y.stamp stamp.0 i;
-      since = eqb-true x.since y.since stamp.1 i;
+      since = eqb-true x.since y.since since.0 i;
+      state = same_state x.state y.state state.0 i;
+      pending = option_same (pending_eq.eq-value).it same_pending x.pending y.pending state.1 i;
     }
 
 pub same_connection : (x y : ConnectionRecord) → (connection_eq.eq-value).it x y ≡ true → x ≡ y

@@ -1,6 +1,7 @@
 //! What command lines ask for, and the program over three streams, with the bytes that the formats prescribe.
 
 mod broken;
+mod copying;
 mod files;
 mod runs;
 mod scripts;

@@ -5,6 +5,7 @@ mod changes;
 mod commits;
 mod further;
 mod migrated;
+mod numbers;
 mod several;
 
 use crate::comparing::same;

@@ -13,8 +13,8 @@ use Rattle.acd_desk.specs.Tells.{told}
 use Rattle.acd_desk.specs.declared.fault.DeskFault.{DeskFault}
 use Rattle.acd_desk.proofs.Many.{Settles, ran_one, forgets}
 use Rattle.acd_desk.proofs.Telling.{told_so, told_nothing}
-use Rattle.acd_lines.specs.Sent.{Begins}
-use Rattle.acd_lines.proofs.Sends.{begins_front}
+use Rattle.acd_lines.specs.Sent.{Begins, Breaks}
+use Rattle.acd_lines.proofs.Sends.{begins_front, breaks_front}
 use Rattle.acd_http.specs.declared.answer.Reply.{Reply}
 use Rattle.acd_http.specs.declared.answer.Reply.TheVariants.{Made, Fixed}
 use Rattle.acd_http.specs.declared.asked.Asked.TheVariants as ask
@@ -79,6 +79,14 @@ first_begun a c out xs ys e h = subst (Begins a c) (sym e) (begins_front a c xs 
 pub then_begun : (a b c : Option (List ℕ)) (out xs ys : List ℕ) → out ≡ xs ++ ys → Appends a b xs → Begins b c ys → Begins a c out
 then_begun a b c out xs ys e h k =
     subst (Begins a c) (sym e) (record { front = xs ++ k.front; rest = k.rest; whole = ap (λ (l : List ℕ). xs ++ l) k.whole ∙ sym (append_assoc xs k.front k.rest); written = Appends-trans a b c xs k.front h k.written })
+
+pub first_broken : (a c : Option (List ℕ)) (out xs ys : List ℕ) → out ≡ xs ++ ys → Breaks a c xs → Breaks a c out
+first_broken a c out xs ys e h = subst (Breaks a c) (sym e) (breaks_front a c xs ys h)
+
+pub then_broken : (a b c : Option (List ℕ)) (out xs ys : List ℕ) → out ≡ xs ++ ys → Appends a b xs → Breaks b c ys → Breaks a c out
+then_broken a b c out xs ys e h k =
+    subst (Breaks a c) (sym e)
+    (record { front = xs ++ k.front; rest = k.rest; short = k.short; whole = ap (λ (l : List ℕ). xs ++ l) k.whole ∙ sym (append_assoc xs k.front k.rest); written = Appends-trans a b c xs k.front h k.written })
 
 -- where there was no memory to see what is asked
 module _ {D : Type 0} (stands : D → Standing) (moment : ℕ) where

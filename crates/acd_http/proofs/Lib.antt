@@ -8,3 +8,4 @@ pub mod SmallBodies
 pub mod AskLaws
 pub mod Exchanges
 pub mod Visits
+pub mod Attending

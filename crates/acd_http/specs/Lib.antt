@@ -12,3 +12,4 @@ pub mod Replying
 pub mod Exchanging
 pub mod Laws
 pub mod Listening
+pub mod Attending

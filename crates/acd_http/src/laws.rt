@@ -1,6 +1,10 @@
 //! What holds of the definitions. Each law is the contract of a function with an empty body.
 
+ghost use Rattle.acd_desk.specs.Standing.{standing};
 ghost use Rattle.acd_http.specs.Laws.{AsksOneThing, AsksByABeginning, PhrasesAreCanonical};
+ghost use Rattle.acd_http.specs.Attending.{LeadsToTheRun};
+
+use acd_book::Book;
 
 /// Bytes ask one thing.
 pub fn asks_one_thing()
@@ -15,4 +19,10 @@ pub fn asks_by_a_beginning()
 /// The phrases are those that the crate `http` gives.
 pub fn phrases_are_canonical()
     ensures { PhrasesAreCanonical }
+{}
+
+/// Connections that were served one after another leave the desk as a run of the requests that they brought leaves it, whatever was
+/// read between them: each reply is the abstract desk's at its place, and so is what the book holds, and what a stop leaves of it.
+pub fn connections_lead_to_the_run<B: Book>()
+    ensures { LeadsToTheRun (standing B.Book) }
 {}

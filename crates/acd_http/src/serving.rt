@@ -2,7 +2,7 @@
 
 ghost use Rattle.std.specs.Prelude.{◌≡◌, ◌≢◌, OnOk, IfErr, cond, []};
 ghost use Rattle.std.specs.Io.KnownBytes.{Appends};
-ghost use Rattle.acd_lines.specs.Sent.{Begins};
+ghost use Rattle.acd_lines.specs.Sent.{Begins, Breaks};
 ghost use Rattle.acd_desk.specs.Ran.{standing};
 ghost use Rattle.acd_http.specs.declared.asked.Asked.{Asked};
 ghost use Rattle.acd_http.specs.Asking.{IsAsked};
@@ -49,6 +49,7 @@ fn body_sent(bodiless: bool, body: &[u8]) -> &[u8]
 fn respond<W: Write>(writer: &mut W, bodiless: bool, reply: &Reply) -> Result<(), ExchangeFault>
     ensures ok { OnOk result (Appends (W.contents writer.old) (W.contents writer.new) (reply_out bodiless reply.now)) }
     ensures err { IfErr result (λ fault. (fault ≡ ExchangeFault.Write) × Begins (W.contents writer.old) (W.contents writer.new) (reply_out bodiless reply.now)) }
+    ensures short { IfErr result (λ fault. (fault ≡ ExchangeFault.Write) × Breaks (W.contents writer.old) (W.contents writer.new) (reply_out bodiless reply.now)) }
 {
     let mut calls = CALLS;
     let body = reply.body();
@@ -77,6 +78,8 @@ pub fn exchange<B: Book, R: Read, W: Write>(
     ensures ok { OnOk result (Exchanged (standing B.Book) moment (R.remaining reader.old) desk.old desk.new (Appends (W.contents writer.old) (W.contents writer.new))) }
     // a beginning of the reply was written
     ensures write { result ≡ Err ExchangeFault.Write → Exchanged (standing B.Book) moment (R.remaining reader.old) desk.old desk.new (Begins (W.contents writer.old) (W.contents writer.new)) }
+    // and not all of it
+    ensures short { result ≡ Err ExchangeFault.Write → Exchanged (standing B.Book) moment (R.remaining reader.old) desk.old desk.new (Breaks (W.contents writer.old) (W.contents writer.new)) }
     ensures truncated { result ≡ Err ExchangeFault.Truncated → IsAsked (R.remaining reader.old) Asked.Truncated }
     ensures quiet { IfErr result (λ fault. fault ≢ ExchangeFault.Write → (desk.new ≡ desk.old) × (writer.new ≡ writer.old)) }
     ensures memory { result ≡ Err ExchangeFault.NoMemory → reader.new ≡ reader.old }

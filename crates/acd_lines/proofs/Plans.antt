@@ -12,10 +12,10 @@ use Rattle.acd_desk.specs.Ran.{Standing, Ran}
 use Rattle.acd_desk.proofs.Many.{Settles, ran_nothing, ran_more}
 use Rattle.acd_lines.specs.Input.{arrival}
 use Rattle.acd_lines.specs.Answers.{Answers, taken_line}
-use Rattle.acd_lines.specs.Output.{AnswerLines, IsOutput, IsBegun, imported}
-use Rattle.acd_lines.specs.Sent.{Passes, Begins}
+use Rattle.acd_lines.specs.Output.{AnswerLines, IsOutput, IsBegun, IsShort, imported}
+use Rattle.acd_lines.specs.Sent.{Passes, Breaks}
 use Rattle.acd_lines.specs.Parts.{LineDone, LineStops, Imports, ImportStops}
-use Rattle.acd_lines.proofs.Sends.{passes_nothing, passes_then, passes_out, passes_whole, begins_then, begins_out}
+use Rattle.acd_lines.proofs.Sends.{passes_nothing, passes_then, passes_out, passes_whole, breaks_then, breaks_out}
 
 -- one answer line more
 answered_more : (rs : List Request) (ts : List Taken) (outs : List (List ℕ)) (r : Request) (t : Taken) (out : List ℕ) → out ≡ taken_line r t → AnswerLines (imported rs) ts outs
@@ -71,15 +71,16 @@ module _ {D : Type 0} (stands : D → Standing) (settles : (d : D) → Settles (
   import_stopped d mid e all rs r n a b c waiting is h stopped =
       let out = stopped.0 in
       let answer = stopped.1 in
-      let begins = begins_then a b c [] waiting (concat h.outs) out h.passes stopped.2 in
+      let begins = breaks_then a b c [] waiting (concat h.outs) out h.passes stopped.2 in
       let ran = subst (λ (l : List Arrival). Ran (stands d) l (h.answers ++ answer.0 ∷ []) (stands e)) (sym (arrived_more rs r))
       (ran_more (stands d) (stands mid) (stands e) (map (at 0) rs) h.answers (at 0 r) answer.0 (settles e) h.ran answer.2) in (
         begins.front,
         n,
         h.answers ++ answer.0 ∷ [],
-        subst (λ (l : List Request). IsBegun (imported l) (h.answers ++ answer.0 ∷ []) begins.front) (sym is) (record {
+        subst (λ (l : List Request). IsShort (imported l) (h.answers ++ answer.0 ∷ []) begins.front) (sym is) (record {
           outs = h.outs ++ out ∷ [];
           unwritten = begins.rest;
+          short = begins.short;
           answered = answered_more rs h.answers h.outs r answer.0 out answer.1 h.answered;
           whole = text_more h.outs out ∙ begins.whole;
         }),
@@ -98,16 +99,21 @@ module _ {D : Type 0} (stands : D → Standing) (settles : (d : D) → Settles (
   })
 
   -- the writer stopped behind them
-  pub import_stopped_out : (d e : D) (all : List Request) (n : ℕ) (a b c : Option (List ℕ)) (waiting : List ℕ) → Imports stands d (take n all) e a b waiting → Begins b c waiting → ImportStops stands d all e a c
+  pub import_stopped_out : (d e : D) (all : List Request) (n : ℕ) (a b c : Option (List ℕ)) (waiting : List ℕ) → Imports stands d (take n all) e a b waiting → Breaks b c waiting → ImportStops stands d all e a c
   import_stopped_out d e all n a b c waiting h stopped =
-      let begins = begins_out a b c waiting (concat h.outs) h.passes stopped in (
+      let begins = breaks_out a b c waiting (concat h.outs) h.passes stopped in (
         begins.front,
         n,
         h.answers,
-        record { outs = h.outs; unwritten = begins.rest; answered = h.answered; whole = begins.whole },
+        record { outs = h.outs; unwritten = begins.rest; short = begins.short; answered = h.answered; whole = begins.whole },
         begins.written,
         h.ran,
       )
+
+  -- what is told of them, but that not all was written
+  pub import_begun : (d e : D) (rs : List Request) (a c : Option (List ℕ)) → ImportStops stands d rs e a c
+      → (written : List ℕ) × (n : ℕ) × (answers : List Taken) × IsBegun (imported (take n rs)) answers written × Appends a c written × Ran (stands d) (map (at 0) (take n rs)) answers (stands e)
+  import_begun d e rs a c h = (h.0, h.1, h.2, record { outs = h.3.outs; unwritten = h.3.unwritten; answered = h.3.answered; whole = h.3.whole }, h.4, h.5)
 
   pub import_told : (d e : D) (rs : List Request) (a c : Option (List ℕ)) → Imports stands d rs e a c []
       → (written : List ℕ) × (answers : List Taken) × IsOutput (imported rs) answers written × Appends a c written × Ran (stands d) (map (at 0) rs) answers (stands e)

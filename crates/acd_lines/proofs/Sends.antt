@@ -1,10 +1,10 @@
 -- A write of a part of the bytes that are left.
-use Rattle.std.proofs.Common.{◌≡◌, ℕ, ◌+◌, ◌-◌, ◌≤◌, List, ◌++◌, length, take, drop, Option, sym, ap, ◌∙◌, arith, subst, length-drop, append_assoc, append-nil, [], Result, Ok, Err, OnOk, OnErr, IfErr}
+use Rattle.std.proofs.Common.{◌≡◌, ℕ, ◌+◌, ◌-◌, ◌<◌, ◌≤◌, List, ◌++◌, length, take, drop, Option, sym, ap, ◌∙◌, arith, subst, length-drop, length-append, append_assoc, append-nil, [], Result, Ok, Err, OnOk, OnErr, IfErr}
 use Rattle.std.proofs.lemmas.List.{take_all, take-append-drop}
 use Rattle.std.proofs.Math.Seq.{take-add}
 use Rattle.std.specs.Io.KnownBytes.{Appends}
 use Rattle.std.specs.Result.{IsErrAnd}
-use Rattle.acd_lines.specs.Sent.{Passes, Begins}
+use Rattle.acd_lines.specs.Sent.{Passes, Begins, Breaks}
 use Rattle.std.proofs.KnownBytes.{Appends-trans, Appends-nil}
 
 pub one_write : (a b c : Option (List ℕ)) (bytes : List ℕ) (done n : ℕ) → Appends a b (take done bytes) → Appends b c (take n (take (length bytes - done) (drop done bytes))) → Appends a c (take (done + n) bytes)
@@ -18,18 +18,30 @@ room_left bytes done n within h =
     let same : take (length bytes - done) (drop done bytes) ≡ drop done bytes = take_all _ _ (omega (arith, length-drop done bytes)) in
     omega (arith, h, ap length same, length-drop done bytes)
 
-pub begins_part : (a c : Option (List ℕ)) (bytes : List ℕ) (n : ℕ) → Appends a c (take n bytes) → Begins a c bytes
-begins_part a c bytes n h = record { front = take n bytes; rest = drop n bytes; whole = sym (take-append-drop n bytes); written = h }
+pub breaks_part : (a c : Option (List ℕ)) (bytes : List ℕ) (n : ℕ) → n < length bytes → Appends a c (take n bytes) → Breaks a c bytes
+breaks_part a c bytes n few h = record { front = take n bytes; rest = drop n bytes; short = omega (arith, few, length-drop n bytes); whole = sym (take-append-drop n bytes); written = h }
+
+pub begins_so : (a c : Option (List ℕ)) (bytes : List ℕ) → Breaks a c bytes → Begins a c bytes
+begins_so a c bytes h = record { front = h.front; rest = h.rest; whole = h.whole; written = h.written }
 
 pub begins_front : (a c : Option (List ℕ)) (xs ys : List ℕ) → Begins a c xs → Begins a c (xs ++ ys)
 begins_front a c xs ys h = record { front = h.front; rest = h.rest ++ ys; whole = ap (λ (l : List ℕ). l ++ ys) h.whole ∙ append_assoc h.front h.rest ys; written = h.written }
 
-pub begins_more : (a c : Option (List ℕ)) (v xs ys : List ℕ) → Begins a c (v ++ xs) → Begins a c (v ++ (xs ++ ys))
-begins_more a c v xs ys h = subst (Begins a c) (append_assoc v xs ys) (begins_front a c (v ++ xs) ys h)
+pub breaks_front : (a c : Option (List ℕ)) (xs ys : List ℕ) → Breaks a c xs → Breaks a c (xs ++ ys)
+breaks_front a c xs ys h = record {
+  front = h.front;
+  rest = h.rest ++ ys;
+  short = omega (arith, h.short, length-append h.rest ys);
+  whole = ap (λ (l : List ℕ). l ++ ys) h.whole ∙ append_assoc h.front h.rest ys;
+  written = h.written;
+}
+
+pub breaks_more : (a c : Option (List ℕ)) (v xs ys : List ℕ) → Breaks a c (v ++ xs) → Breaks a c (v ++ (xs ++ ys))
+breaks_more a c v xs ys h = subst (Breaks a c) (append_assoc v xs ys) (breaks_front a c (v ++ xs) ys h)
 
 -- the same text
-pub begins_same : (a c : Option (List ℕ)) (v xs ys : List ℕ) → xs ≡ ys → Begins a c (v ++ ys) → Begins a c (v ++ xs)
-begins_same a c v xs ys e h = record { front = h.front; rest = h.rest; whole = ap (λ (l : List ℕ). v ++ l) e ∙ h.whole; written = h.written }
+pub breaks_same : (a c : Option (List ℕ)) (v xs ys : List ℕ) → xs ≡ ys → Breaks a c (v ++ ys) → Breaks a c (v ++ xs)
+breaks_same a c v xs ys e h = record { front = h.front; rest = h.rest; short = h.short; whole = ap (λ (l : List ℕ). v ++ l) e ∙ h.whole; written = h.written }
 
 pub passes_same : (a c : Option (List ℕ)) (v w xs ys : List ℕ) → xs ≡ ys → Passes a c w (v ++ ys) → Passes a c w (v ++ xs)
 passes_same a c v w xs ys e h = record { sent = h.sent; whole = ap (λ (l : List ℕ). v ++ l) e ∙ h.whole; written = h.written }
@@ -49,10 +61,11 @@ passes_sent a b c v w text h sent none = record {
   written = Appends-trans a b c v text (subst (Appends a b) (sym (h.whole ∙ append-nil h.sent)) h.written) sent;
 }
 
-pub begins_sent : (a b c : Option (List ℕ)) (v text : List ℕ) → Passes a b [] v → Begins b c text → Begins a c (v ++ text)
-begins_sent a b c v text h sent = record {
+pub breaks_sent : (a b c : Option (List ℕ)) (v text : List ℕ) → Passes a b [] v → Breaks b c text → Breaks a c (v ++ text)
+breaks_sent a b c v text h sent = record {
   front = v ++ sent.front;
   rest = sent.rest;
+  short = sent.short;
   whole = ap (λ (l : List ℕ). v ++ l) sent.whole ∙ sym (append_assoc v sent.front sent.rest);
   written = Appends-trans a b c v sent.front (subst (Appends a b) (sym (h.whole ∙ append-nil h.sent)) h.written) sent.written;
 }
@@ -65,10 +78,11 @@ passes_then a b c v w u x y h k = record {
   written = Appends-trans a b c h.sent k.sent h.written k.written;
 }
 
-pub begins_then : (a b c : Option (List ℕ)) (v w x y : List ℕ) → Passes a b w (v ++ x) → Begins b c (w ++ y) → Begins a c (v ++ (x ++ y))
-begins_then a b c v w x y h k = record {
+pub breaks_then : (a b c : Option (List ℕ)) (v w x y : List ℕ) → Passes a b w (v ++ x) → Breaks b c (w ++ y) → Breaks a c (v ++ (x ++ y))
+breaks_then a b c v w x y h k = record {
   front = h.sent ++ k.front;
   rest = k.rest;
+  short = k.short;
   whole = sym (append_assoc v x y) ∙ ap (λ (l : List ℕ). l ++ y) h.whole ∙ append_assoc h.sent w y ∙ ap (λ (l : List ℕ). h.sent ++ l) k.whole ∙ sym (append_assoc h.sent k.front k.rest);
   written = Appends-trans a b c h.sent k.front h.written k.written;
 }
@@ -81,10 +95,11 @@ passes_out a b c w text h k = record {
   written = Appends-trans a b c h.sent k.sent h.written k.written;
 }
 
-pub begins_out : (a b c : Option (List ℕ)) (w text : List ℕ) → Passes a b w text → Begins b c w → Begins a c text
-begins_out a b c w text h k = record {
+pub breaks_out : (a b c : Option (List ℕ)) (w text : List ℕ) → Passes a b w text → Breaks b c w → Breaks a c text
+breaks_out a b c w text h k = record {
   front = h.sent ++ k.front;
   rest = k.rest;
+  short = k.short;
   whole = h.whole ∙ ap (λ (l : List ℕ). h.sent ++ l) k.whole ∙ sym (append_assoc h.sent k.front k.rest);
   written = Appends-trans a b c h.sent k.front h.written k.written;
 }

@@ -11,8 +11,8 @@ use Rattle.acd_lines.specs.Input.{cut, Line, no_moment, too_long, faulty, arriva
 use Rattle.acd_lines.specs.Answers.{Answers, IsWritten}
 use Rattle.acd_lines.specs.Output.{AnswerLines, whole_lines}
 use Rattle.acd_lines.specs.Parts.{Serves}
-use Rattle.acd_lines.specs.Lines.{AnsweredAll, AnsweredRead, AnsweredFirst, AnsweredSome}
-use Rattle.acd_lines.proofs.Turns.{AllDone, ReadDone, FirstDone, SomeDone}
+use Rattle.acd_lines.specs.Lines.{AnsweredAll, AnsweredRead, AnsweredFirst, AnsweredShort, AnsweredSome}
+use Rattle.acd_lines.proofs.Turns.{AllDone, ReadDone, FirstDone, ShortDone, SomeDone}
 
 -- the arrivals of a line, and those of the lines behind it
 arrivals_behind : (line : Line) (lines : List Line) → arrivals_in (line ∷ lines) ≡ arrivals_in (line ∷ []) ++ arrivals_in lines
@@ -83,6 +83,12 @@ module _ {D : Type 0} (stands : D → Standing) where
       let some = h.3 in
       let all = told settles s t (take some.n (cut h.0)) some.outs some.serves in
       (h.0, h.1, some.n, all.0, h.2, record { outs = some.outs; answered = all.1; whole = some.whole }, h.4, all.2)
+
+  pub short_told : ((d : D) → Settles (stands d)) → (known : Option (List ℕ)) (s t : D) (a c : Option (List ℕ)) → ShortDone (Answers stands) known s t a c → AnsweredShort (stands s) known a c (stands t)
+  short_told settles known s t a c h =
+      let some = h.3 in
+      let all = told settles s t (take some.n (cut h.0)) some.outs some.serves in
+      (h.0, h.4.front, some.n, all.0, h.2, record { outs = some.outs; unwritten = h.4.rest; short = h.4.short; answered = all.1; whole = sym some.whole ∙ h.4.whole }, h.4.written, all.2)
 
   pub some_told : ((d : D) → Settles (stands d)) → (known : Option (List ℕ)) (s t : D) (a c : Option (List ℕ)) → SomeDone (Answers stands) known s t a c → AnsweredSome (stands s) known a c (stands t)
   some_told settles known s t a c h =

@@ -6,9 +6,9 @@ use Rattle.std.specs.Io.KnownBytes.{Appends, Consumes, IsAtEnd}
 use Rattle.std.proofs.KnownBytes.{Consumes-nil, Consumes-trans, Consumes-whole}
 use Rattle.acd_lines.specs.Input.{has_none, line_of, text_of, Line}
 use Rattle.acd_lines.specs.Output.{IsInput}
-use Rattle.acd_lines.specs.Sent.{Passes, Begins}
+use Rattle.acd_lines.specs.Sent.{Passes, Begins, Breaks}
 use Rattle.acd_lines.specs.Parts.{ServesAll, ServesRead, ServesSome, Reached, Stands, LineDone, LineStops, Feeds, Stops, FeedStops, Finishes, FinishStops}
-use Rattle.acd_lines.proofs.Sends.{begins_front, passes_same_front, passes_nothing, passes_then, begins_then, passes_out, begins_out, passes_whole}
+use Rattle.acd_lines.proofs.Sends.{breaks_front, passes_same_front, passes_nothing, passes_then, breaks_then, passes_out, breaks_out, begins_so, passes_whole}
 use Rattle.acd_lines.proofs.Kept.{kept_more, kept_line, kept_strip}
 use Rattle.acd_lines.proofs.Cuts.{text_line, text_open}
 use Rattle.acd_lines.proofs.Reaching.{reached_bytes, reached_line, read_reached, some_reached, some_all, all_ended, all_open}
@@ -158,13 +158,13 @@ module _ {S : Type 0} (A : S → Line → List ℕ → S → Type 0) where
       let served = λ (more : List ℕ). some_reached A s (seen ++ (end ++ 10 ∷ [])) [] (earlier ++ out) (left ++ more) t reached in (
         out,
         λ more. subst (λ (l : List ℕ). ServesSome A s l (earlier ++ out) t) (sym (ap (λ (l : List ℕ). l ++ more) is_whole ∙ append_assoc (seen ++ (end ++ 10 ∷ [])) left more)) (served more),
-        begins_then a b c before waiting h.answers stopped.0 h.passes stopped.2,
+        breaks_then a b c before waiting h.answers stopped.0 h.passes stopped.2,
       )
 
   -- the writer stopped behind the lines
-  pub stop_out : (n : ℕ) (s : S) (seen kept earlier before waiting : List ℕ) (t : S) (a b c : Option (List ℕ)) → Stands A n s seen kept earlier before waiting t a b → Begins b c waiting → Stops A s seen earlier t a c before
+  pub stop_out : (n : ℕ) (s : S) (seen kept earlier before waiting : List ℕ) (t : S) (a b c : Option (List ℕ)) → Stands A n s seen kept earlier before waiting t a b → Breaks b c waiting → Stops A s seen earlier t a c before
   stop_out n s seen kept earlier before waiting t a b c h out =
-      (h.answers, λ more. some_reached A s seen h.part (earlier ++ h.answers) more t h.reached, begins_out a b c waiting (before ++ h.answers) h.passes out)
+      (h.answers, λ more. some_reached A s seen h.part (earlier ++ h.answers) more t h.reached, breaks_out a b c waiting (before ++ h.answers) h.passes out)
 
   -- ---- a chunk
 
@@ -197,7 +197,7 @@ module _ {S : Type 0} (A : S → Line → List ℕ → S → Type 0) where
   feed_out mid t kept kept' chunk a b c before waiting waiting' feeds out none = λ s seen part answers is reached.
       stands_out 4109 s (seen ++ chunk) kept' answers before waiting waiting' t a b c (feeds s seen part answers is reached) out none
 
-  pub feed_out_stops : (mid t : S) (kept kept' chunk : List ℕ) (a b c : Option (List ℕ)) (before waiting : List ℕ) → Feeds A mid t kept kept' chunk a b before waiting → Begins b c waiting → FeedStops A mid t kept chunk a c before
+  pub feed_out_stops : (mid t : S) (kept kept' chunk : List ℕ) (a b c : Option (List ℕ)) (before waiting : List ℕ) → Feeds A mid t kept kept' chunk a b before waiting → Breaks b c waiting → FeedStops A mid t kept chunk a c before
   feed_out_stops mid t kept kept' chunk a b c before waiting feeds begun = λ s seen part answers is reached.
       stop_out 4109 s (seen ++ chunk) kept' answers before waiting t a b c (feeds s seen part answers is reached) begun
 
@@ -219,9 +219,9 @@ module _ {S : Type 0} (A : S → Line → List ℕ → S → Type 0) where
   finish_empty mid kept b c before none out = λ s seen part answers is reached.
       ([], end_empty 4108 s seen part answers mid kept is none reached, passes_same_front b c before out)
 
-  pub finish_empty_stops : (mid : S) (kept : List ℕ) (b c : Option (List ℕ)) (before : List ℕ) → length kept ≡ 0 → Begins b c before → FinishStops A mid mid kept b c before
+  pub finish_empty_stops : (mid : S) (kept : List ℕ) (b c : Option (List ℕ)) (before : List ℕ) → length kept ≡ 0 → Breaks b c before → FinishStops A mid mid kept b c before
   finish_empty_stops mid kept b c before none begun = λ s seen part answers is reached.
-      ([], end_empty 4108 s seen part answers mid kept is none reached, begins_front b c before [] begun)
+      ([], end_empty 4108 s seen part answers mid kept is none reached, breaks_front b c before [] begun)
 
   last_line : (mid t s : S) (seen part answers kept text out : List ℕ) → 0 < length kept → text ≡ kept → A mid (line_of text) out t → kept ≡ take 4109 part → Reached A s seen part answers mid → ServesAll A s seen (answers ++ out) t
   last_line mid t s seen part answers kept text out some same answered is reached =
@@ -231,9 +231,9 @@ module _ {S : Type 0} (A : S → Line → List ℕ → S → Type 0) where
   finish_line mid t kept text a b c before waiting some same done out = λ s seen part answers is reached.
       (done.0, last_line mid t s seen part answers kept text done.0 some same done.1 is reached, passes_out a b c waiting (before ++ done.0) done.2 out)
 
-  pub finish_line_stops : (mid t : S) (kept text : List ℕ) (a b c : Option (List ℕ)) (before waiting : List ℕ) → 0 < length kept → text ≡ kept → LineDone A mid (line_of text) t a b before waiting → Begins b c waiting → FinishStops A mid t kept a c before
+  pub finish_line_stops : (mid t : S) (kept text : List ℕ) (a b c : Option (List ℕ)) (before waiting : List ℕ) → 0 < length kept → text ≡ kept → LineDone A mid (line_of text) t a b before waiting → Breaks b c waiting → FinishStops A mid t kept a c before
   finish_line_stops mid t kept text a b c before waiting some same done begun = λ s seen part answers is reached.
-      (done.0, last_line mid t s seen part answers kept text done.0 some same done.1 is reached, begins_out a b c waiting (before ++ done.0) done.2 begun)
+      (done.0, last_line mid t s seen part answers kept text done.0 some same done.1 is reached, breaks_out a b c waiting (before ++ done.0) done.2 begun)
 
   pub finish_stops : (mid t : S) (kept text : List ℕ) (a c : Option (List ℕ)) (before : List ℕ) → 0 < length kept → text ≡ kept → LineStops A mid (line_of text) t a c before → FinishStops A mid t kept a c before
   finish_stops mid t kept text a c before some same stopped = λ s seen part answers is reached.
@@ -268,6 +268,13 @@ module _ {S : Type 0} (A : S → Line → List ℕ → S → Type 0) where
   abbrev pub SomeDone : Option (List ℕ) → S → S → Option (List ℕ) → Option (List ℕ) → Type 0
   SomeDone known s t a c = (input answers : List ℕ) × IsInput known input × ServesSome A s input answers t × Begins a c answers
 
+  -- and not all of them
+  abbrev pub ShortDone : Option (List ℕ) → S → S → Option (List ℕ) → Option (List ℕ) → Type 0
+  ShortDone known s t a c = (input answers : List ℕ) × IsInput known input × ServesSome A s input answers t × Breaks a c answers
+
+  pub some_short : (known : Option (List ℕ)) (s t : S) (a c : Option (List ℕ)) → ShortDone known s t a c → SomeDone known s t a c
+  some_short known s t a c h = (h.0, h.1, h.2, h.3, begins_so a c h.1 h.4)
+
   pub all_done : (n : ℕ) (s : S) (seen kept waiting : List ℕ) (mid t : S) (a b c known : Option (List ℕ)) → (h : Stands A n s seen kept [] [] waiting mid a b) → IsInput known seen → (out : List ℕ) × ServesAll A s seen (h.answers ++ out) t × Passes b c [] (waiting ++ out)
       → AllDone known s t a c
   all_done n s seen kept waiting mid t a b c known h input done =
@@ -283,16 +290,16 @@ module _ {S : Type 0} (A : S → Line → List ℕ → S → Type 0) where
       (seen ++ more.0, h.answers, more.1, some_reached A s seen h.part h.answers more.0 t h.reached, passes_whole a b h.answers (subst (λ (w : List ℕ). Passes a b w h.answers) none h.passes))
 
   -- the writer stopped at the end of the input
-  pub end_stopped : (n : ℕ) (s : S) (seen kept waiting : List ℕ) (mid t : S) (a b c known : Option (List ℕ)) → (h : Stands A n s seen kept [] [] waiting mid a b) → IsInput known seen → (out : List ℕ) × ServesAll A s seen (h.answers ++ out) t × Begins b c (waiting ++ out)
-      → SomeDone known s t a c
+  pub end_stopped : (n : ℕ) (s : S) (seen kept waiting : List ℕ) (mid t : S) (a b c known : Option (List ℕ)) → (h : Stands A n s seen kept [] [] waiting mid a b) → IsInput known seen → (out : List ℕ) × ServesAll A s seen (h.answers ++ out) t × Breaks b c (waiting ++ out)
+      → ShortDone known s t a c
   end_stopped n s seen kept waiting mid t a b c known h input done =
-      (seen, h.answers ++ done.0, input, some_all A s seen (h.answers ++ done.0) t done.1, begins_then a b c [] waiting h.answers done.0 h.passes done.2)
+      (seen, h.answers ++ done.0, input, some_all A s seen (h.answers ++ done.0) t done.1, breaks_then a b c [] waiting h.answers done.0 h.passes done.2)
 
   -- it stopped in a chunk
-  pub feed_stopped : (n : ℕ) (s : S) (seen chunk kept waiting : List ℕ) (mid t : S) (a b c p q : Option (List ℕ)) → (h : Stands A n s seen kept [] [] waiting mid a b) → Consumes p q (seen ++ chunk) → Stops A s (seen ++ chunk) h.answers t b c waiting → SomeDone p s t a c
+  pub feed_stopped : (n : ℕ) (s : S) (seen chunk kept waiting : List ℕ) (mid t : S) (a b c p q : Option (List ℕ)) → (h : Stands A n s seen kept [] [] waiting mid a b) → Consumes p q (seen ++ chunk) → Stops A s (seen ++ chunk) h.answers t b c waiting → ShortDone p s t a c
   feed_stopped n s seen chunk kept waiting mid t a b c p q h taken stopped =
       let more = input_begun p q (seen ++ chunk) taken in
-      ((seen ++ chunk) ++ more.0, h.answers ++ stopped.0, more.1, stopped.1 more.0, begins_then a b c [] waiting h.answers stopped.0 h.passes stopped.2)
+      ((seen ++ chunk) ++ more.0, h.answers ++ stopped.0, more.1, stopped.1 more.0, breaks_then a b c [] waiting h.answers stopped.0 h.passes stopped.2)
 
   -- the reader stopped between two reads
   pub read_done : (n : ℕ) (s : S) (seen kept waiting : List ℕ) (t : S) (a b p q : Option (List ℕ)) → Stands A n s seen kept [] [] waiting t a b → waiting ≡ [] → Consumes p q seen → ReadDone p q s t a b

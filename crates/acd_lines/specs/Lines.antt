@@ -4,7 +4,7 @@ use Rattle.std.specs.Io.KnownBytes.{Appends, Consumes}
 use Rattle.acd_desk.specs.declared.taken.Taken.{Taken}
 use Rattle.acd_desk.specs.Ran.{Standing, Ran}
 use Rattle.acd_lines.specs.Input.{cut, lines_of, arrivals_in}
-use Rattle.acd_lines.specs.Output.{IsInput, IsOutput, IsBegun, whole_lines}
+use Rattle.acd_lines.specs.Output.{IsInput, IsOutput, IsBegun, IsShort, whole_lines}
 
 -- the whole input: one answer line for each line, and the desk has run over the arrivals among them
 abbrev pub AnsweredAll : Standing → Option (List ℕ) → Option (List ℕ) → Option (List ℕ) → Standing → Type 0
@@ -24,4 +24,9 @@ AnsweredFirst old had before behind new = (input written : List ℕ) × (n : ℕ
 -- the same, where only a beginning of their answer lines was written
 abbrev pub AnsweredSome : Standing → Option (List ℕ) → Option (List ℕ) → Option (List ℕ) → Standing → Type 0
 AnsweredSome old had before behind new = (input written : List ℕ) × (n : ℕ) × (answers : List Taken) × IsInput had input × IsBegun (lines_of (take n (cut input))) answers written × Appends before behind written
+    × Ran old (arrivals_in (lines_of (take n (cut input)))) answers new
+
+-- the same, where their answer lines were not all written
+abbrev pub AnsweredShort : Standing → Option (List ℕ) → Option (List ℕ) → Option (List ℕ) → Standing → Type 0
+AnsweredShort old had before behind new = (input written : List ℕ) × (n : ℕ) × (answers : List Taken) × IsInput had input × IsShort (lines_of (take n (cut input))) answers written × Appends before behind written
     × Ran old (arrivals_in (lines_of (take n (cut input)))) answers new

@@ -1,5 +1,5 @@
 -- The output of an input: one answer line for each line, with the answers to the arrivals in order.
-use Rattle.std.specs.Prelude.{◌≡◌, ◌⊎◌, ℕ, List, [], ◌∷◌, ◌++◌, filter, map, Option, IfSome}
+use Rattle.std.specs.Prelude.{◌≡◌, ◌⊎◌, ℕ, ◌<◌, List, [], ◌∷◌, ◌++◌, filter, length, map, Option, IfSome}
 use Rattle.std.specs.List.{concat}
 use Rattle.std.specs.Io.BufRead.{ends_with_byte}
 use Rattle.acd_terms.specs.declared.command.Request.{Request}
@@ -36,6 +36,14 @@ pub record IsOutput (lines : List Line) (answers : List Taken) (written : List �
 pub record IsBegun (lines : List Line) (answers : List Taken) (written : List ℕ) : Type 0 where
   pub outs : List (List ℕ)
   pub unwritten : List ℕ
+  pub answered : AnswerLines lines answers outs
+  pub whole : concat outs ≡ written ++ unwritten
+
+-- a beginning of these answer lines was written, and not all of them
+pub record IsShort (lines : List Line) (answers : List Taken) (written : List ℕ) : Type 0 where
+  pub outs : List (List ℕ)
+  pub unwritten : List ℕ
+  pub short : 0 < length unwritten
   pub answered : AnswerLines lines answers outs
   pub whole : concat outs ≡ written ++ unwritten
 

@@ -9,8 +9,8 @@ use Rattle.acd_desk.specs.Arrived.{at}
 use Rattle.acd_desk.specs.Ran.{Standing, Ran}
 use Rattle.acd_lines.specs.Input.{Line, has_none, line_of, text_of, cut}
 use Rattle.acd_lines.specs.Answers.{line_text}
-use Rattle.acd_lines.specs.Output.{whole_lines, AnswerLines, IsBegun, imported}
-use Rattle.acd_lines.specs.Sent.{Passes, Begins}
+use Rattle.acd_lines.specs.Output.{whole_lines, AnswerLines, IsShort, imported}
+use Rattle.acd_lines.specs.Sent.{Passes, Breaks}
 use Rattle.acd_lines.specs.declared.answer_line.AnswerLine.{AnswerLine}
 use Rattle.acd_lines.specs.declared.answer_line.AnswerLine.TheVariants.{Made, Fixed}
 
@@ -65,7 +65,7 @@ module _ {S : Type 0} (Answers : S → Line → List ℕ → S → Type 0) where
 
   -- a line was answered, and then the writer stopped
   abbrev pub LineStops : S → Line → S → Option (List ℕ) → Option (List ℕ) → List ℕ → Type 0
-  LineStops s line t old new before = (out : List ℕ) × Answers s line out t × Begins old new (before ++ out)
+  LineStops s line t old new before = (out : List ℕ) × Answers s line out t × Breaks old new (before ++ out)
 
   -- more bytes lead on from what was reached
   abbrev pub Feeds : S → S → List ℕ → List ℕ → List ℕ → Option (List ℕ) → Option (List ℕ) → List ℕ → List ℕ → Type 0
@@ -74,7 +74,7 @@ module _ {S : Type 0} (Answers : S → Line → List ℕ → S → Type 0) where
 
   -- the writer stopped, and some lines were answered of each input that begins with these bytes
   abbrev pub Stops : S → List ℕ → List ℕ → S → Option (List ℕ) → Option (List ℕ) → List ℕ → Type 0
-  Stops s seen answers t old new before = (out : List ℕ) × ((more : List ℕ) → ServesSome s (seen ++ more) (answers ++ out) t) × Begins old new (before ++ out)
+  Stops s seen answers t old new before = (out : List ℕ) × ((more : List ℕ) → ServesSome s (seen ++ more) (answers ++ out) t) × Breaks old new (before ++ out)
 
   abbrev pub FeedStops : S → S → List ℕ → List ℕ → Option (List ℕ) → Option (List ℕ) → List ℕ → Type 0
   FeedStops mid t kept bytes old new before = (s : S) (seen part answers : List ℕ) → kept ≡ take 4109 part → Reached s seen part answers mid → Stops s (seen ++ bytes) answers t old new before
@@ -86,7 +86,7 @@ module _ {S : Type 0} (Answers : S → Line → List ℕ → S → Type 0) where
 
   abbrev pub FinishStops : S → S → List ℕ → Option (List ℕ) → Option (List ℕ) → List ℕ → Type 0
   FinishStops mid t kept old new before = (s : S) (seen part answers : List ℕ) → kept ≡ take 4109 part → Reached s seen part answers mid
-      → (out : List ℕ) × ServesAll s seen (answers ++ out) t × Begins old new (before ++ out)
+      → (out : List ℕ) × ServesAll s seen (answers ++ out) t × Breaks old new (before ++ out)
 
 module _ {D : Type 0} (stands : D → Standing) where
   -- the requests of a plan were taken, and their answers were written but for what waits
@@ -99,7 +99,7 @@ module _ {D : Type 0} (stands : D → Standing) where
 
   -- the writer stopped, and some of them were taken
   abbrev pub ImportStops : D → List Request → D → Option (List ℕ) → Option (List ℕ) → Type 0
-  ImportStops d requests e old new = (written : List ℕ) × (n : ℕ) × (answers : List Taken) × IsBegun (imported (take n requests)) answers written × Appends old new written
+  ImportStops d requests e old new = (written : List ℕ) × (n : ℕ) × (answers : List Taken) × IsShort (imported (take n requests)) answers written × Appends old new written
       × Ran (stands d) (map (at 0) (take n requests)) answers (stands e)
 
 -- the text of an answer

@@ -7,7 +7,7 @@ ghost use Rattle.acd_desk.specs.Arrived.{at};
 ghost use Rattle.acd_desk.specs.Ran.{standing, Ran};
 ghost use Rattle.acd_lines.specs.Input.{arrival};
 ghost use Rattle.acd_lines.specs.Answers.{Answers};
-ghost use Rattle.acd_lines.specs.Output.{IsOutput, IsBegun, imported};
+ghost use Rattle.acd_lines.specs.Output.{IsOutput, IsBegun, IsShort, imported};
 ghost use Rattle.acd_lines.specs.Parts.{LineDone, LineStops, Imports, ImportStops};
 
 use crate::answer::execute;
@@ -68,6 +68,9 @@ pub fn import<B: Book, W: Write>(
         × Ran (standing B.Book desk.old) (map (at 0) requests.now) answers (standing B.Book desk.new)) }
     // else the writer has failed, behind a beginning of them
     ensures stopped { OnErr result ((written : List ℕ) × (n : ℕ) × (answers : List Taken) × IsBegun (imported (take n requests.now)) answers written × Appends (W.contents writer.old) (W.contents writer.new) written
+        × Ran (standing B.Book desk.old) (map (at 0) (take n requests.now)) answers (standing B.Book desk.new)) }
+    // and not all of what was answered was written
+    ensures short { OnErr result ((written : List ℕ) × (n : ℕ) × (answers : List Taken) × IsShort (imported (take n requests.now)) answers written × Appends (W.contents writer.old) (W.contents writer.new) written
         × Ran (standing B.Book desk.old) (map (at 0) (take n requests.now)) answers (standing B.Book desk.new)) }
     ensures fault { IfErr result (λ fault. fault ≡ LinesFault.Write) }
 {

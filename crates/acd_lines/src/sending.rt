@@ -2,7 +2,7 @@
 
 ghost use Rattle.std.specs.Prelude.{OnOk, OnErr};
 ghost use Rattle.std.specs.Io.KnownBytes.{Appends};
-ghost use Rattle.acd_lines.specs.Sent.{Begins};
+ghost use Rattle.acd_lines.specs.Sent.{Begins, Breaks};
 
 use crate::retry::retried;
 use std::io::Write;
@@ -18,6 +18,8 @@ pub struct Stopped;
 pub fn send<W: Write>(writer: &mut W, calls: &mut u64, bytes: &[u8]) -> Result<(), Stopped>
     ensures ok { OnOk result (Appends (W.contents writer.old) (W.contents writer.new) bytes.now) }
     ensures err { OnErr result (Begins (W.contents writer.old) (W.contents writer.new) bytes.now) }
+    // the writer didn't take all of them
+    ensures short { OnErr result (Breaks (W.contents writer.old) (W.contents writer.new) bytes.now) }
 {
     let mut done = 0;
     while done < bytes.len() {

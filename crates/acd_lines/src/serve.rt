@@ -5,7 +5,7 @@ ghost use Rattle.std.specs.Io.BufRead.{strip_last};
 ghost use Rattle.acd_desk.specs.Ran.{standing};
 ghost use Rattle.acd_lines.specs.Input.{line_of};
 ghost use Rattle.acd_lines.specs.Answers.{Answers};
-ghost use Rattle.acd_lines.specs.Sent.{Passes, Begins};
+ghost use Rattle.acd_lines.specs.Sent.{Passes, Breaks};
 ghost use Rattle.acd_lines.specs.Parts.{LineDone, LineStops, Feeds, FeedStops, Finishes, FinishStops, answered_text};
 
 use crate::answer::answer;
@@ -28,7 +28,7 @@ pub(crate) fn push_answer<W: Write>(
     answered: &AnswerLine,
 ) -> Result<(), Stopped>
     ensures ok { OnOk result (Passes (W.contents writer.old) (W.contents writer.new) outbox.new.waiting.items (outbox.old.waiting.items ++ answered_text answered.now)) }
-    ensures err { OnErr result (Begins (W.contents writer.old) (W.contents writer.new) (outbox.old.waiting.items ++ answered_text answered.now)) }
+    ensures err { OnErr result (Breaks (W.contents writer.old) (W.contents writer.new) (outbox.old.waiting.items ++ answered_text answered.now)) }
 {
     let mut buffer = Buffer::new();
     outbox.push(writer, buffer.format(answered.status()).as_bytes())?;

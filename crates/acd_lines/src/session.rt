@@ -2,7 +2,7 @@
 
 ghost use Rattle.std.specs.Prelude.{◌≡◌, true, false, OnOk, OnErr, IfErr};
 ghost use Rattle.acd_desk.specs.Ran.{standing};
-ghost use Rattle.acd_lines.specs.Lines.{AnsweredAll, AnsweredRead, AnsweredFirst, AnsweredSome};
+ghost use Rattle.acd_lines.specs.Lines.{AnsweredAll, AnsweredRead, AnsweredFirst, AnsweredShort, AnsweredSome};
 
 use crate::outbox::Outbox;
 use crate::partial::Partial;
@@ -69,6 +69,7 @@ fn answer_lines<B: Book, R: Read, W: Write>(
     ensures ok { OnOk result ((ends ≡ true → (standing B.Book desk.new).failed ≡ false) → AnsweredAll (standing B.Book desk.old) (R.remaining reader.old) (W.contents writer.old) (W.contents writer.new) (standing B.Book desk.new)) }
     ensures first { OnOk result (AnsweredFirst (standing B.Book desk.old) (R.remaining reader.old) (W.contents writer.old) (W.contents writer.new) (standing B.Book desk.new)) }
     ensures read { IfErr result (λ fault. fault ≡ LinesFault.Read → AnsweredRead (standing B.Book desk.old) (R.remaining reader.old) (R.remaining reader.new) (W.contents writer.old) (W.contents writer.new) (standing B.Book desk.new)) }
+    ensures write { IfErr result (λ fault. fault ≡ LinesFault.Write → AnsweredShort (standing B.Book desk.old) (R.remaining reader.old) (W.contents writer.old) (W.contents writer.new) (standing B.Book desk.new)) }
     ensures stopped { OnErr result (AnsweredSome (standing B.Book desk.old) (R.remaining reader.old) (W.contents writer.old) (W.contents writer.new) (standing B.Book desk.new)) }
     ensures memory { IfErr result (λ fault. fault ≡ LinesFault.NoMemory → (reader.new ≡ reader.old) × (writer.new ≡ writer.old) × (desk.new ≡ desk.old)) }
 {
@@ -114,6 +115,8 @@ pub fn lines<B: Book, R: Read, W: Write>(
     ensures ok { OnOk result (AnsweredAll (standing B.Book desk.old) (R.remaining reader.old) (W.contents writer.old) (W.contents writer.new) (standing B.Book desk.new)) }
     // where reading failed, for the lines that had ended in what was read
     ensures read { IfErr result (λ fault. fault ≡ LinesFault.Read → AnsweredRead (standing B.Book desk.old) (R.remaining reader.old) (R.remaining reader.new) (W.contents writer.old) (W.contents writer.new) (standing B.Book desk.new)) }
+    // where writing failed, not all that was answered was written
+    ensures write { IfErr result (λ fault. fault ≡ LinesFault.Write → AnsweredShort (standing B.Book desk.old) (R.remaining reader.old) (W.contents writer.old) (W.contents writer.new) (standing B.Book desk.new)) }
     // after any fault, for a beginning of the input
     ensures stopped { OnErr result (AnsweredSome (standing B.Book desk.old) (R.remaining reader.old) (W.contents writer.old) (W.contents writer.new) (standing B.Book desk.new)) }
     // without memory nothing was read
@@ -136,6 +139,8 @@ pub fn lines_until_failed<B: Book, R: Read, W: Write>(
     ensures first { OnOk result (AnsweredFirst (standing B.Book desk.old) (R.remaining reader.old) (W.contents writer.old) (W.contents writer.new) (standing B.Book desk.new)) }
     // where reading failed, for the lines that had ended in what was read
     ensures read { IfErr result (λ fault. fault ≡ LinesFault.Read → AnsweredRead (standing B.Book desk.old) (R.remaining reader.old) (R.remaining reader.new) (W.contents writer.old) (W.contents writer.new) (standing B.Book desk.new)) }
+    // where writing failed, not all that was answered was written
+    ensures write { IfErr result (λ fault. fault ≡ LinesFault.Write → AnsweredShort (standing B.Book desk.old) (R.remaining reader.old) (W.contents writer.old) (W.contents writer.new) (standing B.Book desk.new)) }
     // after any fault, for a beginning of the input
     ensures stopped { OnErr result (AnsweredSome (standing B.Book desk.old) (R.remaining reader.old) (W.contents writer.old) (W.contents writer.new) (standing B.Book desk.new)) }
     // without memory nothing was read

@@ -1,4 +1,10 @@
 pub mod Answering
 pub mod Over
 pub mod Taking
-pub mod Telling
+pub mod Asking
+pub mod Works
+pub mod InFiles
+pub mod Tasks
+pub mod Begun
+pub mod Sending
+pub mod Serving

@@ -68,7 +68,7 @@ fails_over old d e opened had before behind both =
 
 -- ---- over a book that came of another
 
-session_of : (P : Taken → Type 0) (old mid new : BookState) (l : List Arrival) (ts : List Taken) → IsOf old mid → Session P mid l ts new → Session P old l ts new
+pub session_of : (P : Taken → Type 0) (old mid new : BookState) (l : List Arrival) (ts : List Taken) → IsOf old mid → Session P mid l ts new → Session P old l ts new
 session_of P old mid new l ts of s =
     let sound : new.is_clean → old.is_sound → mid.is_sound = λ clean sound. of.sound (s.clean clean) sound in
     let same : new.is_clean → old.is_sound → mid.content ≡ old.content = λ clean sound. of.content (s.clean clean) sound in

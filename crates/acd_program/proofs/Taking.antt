@@ -9,6 +9,7 @@ use Rattle.acd_columns.specs.Content.{Encodes}
 use Rattle.acd_columns.specs.InTables.{content_of}
 use Rattle.sqlite_trees.specs.Tree.{Trees}
 use Rattle.acd_book.specs.Content.{Content}
+use Rattle.acd_book.specs.Order.{IsOrdered}
 use Rattle.acd_columns.proofs.Decoded.{decoded}
 use Rattle.acd_desk.specs.declared.open_fault.OpenFault.{OpenFault}
 use Rattle.acd_desk.specs.Opening.{Refused}
@@ -26,6 +27,7 @@ of_held s t failures adopted counted clean = record {
   stops = λ here filed. (adopted here).stops filed;
   opened = λ here filed. (adopted here).was_open;
   failures = counted;
+  ordered = λ here filed. (adopted here).ordered filed;
 }
 
 pub of_unmade : (s t : State) (failures : ℕ) → (HasCleanDisk t → IsNew (book_state t failures) greatest_limits) → failures ≡ 0 → (HasCleanDisk t → HasCleanDisk s) → IsOf (unmade s) (book_state t failures)
@@ -36,6 +38,7 @@ of_unmade s t failures made counted clean = record {
   stops = λ here _. (made here).only;
   opened = λ here _. tt;
   failures = counted;
+  ordered = λ here _. subst IsOrdered (sym (made here).content) (record { kept = tt; events = tt });
 }
 
 pub made_taken : {A E : Type 0} (r : Result A E) (stand : A → BookState) (makes : Bool) (s : State) → makes ≡ true → s.now.schema ≡ no_schema → IfOk r (λ (b : A). IsOf (unmade s) (stand b))

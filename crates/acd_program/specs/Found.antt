@@ -1,5 +1,6 @@
 -- What an audit of a desk finds.
-use Rattle.std.specs.Prelude.{◌≡◌, length}
+use Rattle.std.specs.Prelude.{◌≡◌, ℕ, Bool, true, false, ⊤, List, ◌∷◌, [], ◌++◌, length, codes, decimal}
+use Rattle.acd_book.specs.Content.{Content}
 use Rattle.acd_book.specs.Order.{IsOrdered}
 use Rattle.acd_desk.specs.declared.audit.Audit.{Audit}
 use Rattle.acd_desk.specs.declared.audit.Audit.TheVariants as audit
@@ -19,3 +20,21 @@ abbrev pub IsFinding : Standing → Finding → Type 0
 IsFinding s Sound = IsOrdered s.book.content → IsSound s.book.content
 IsFinding s (Counted count) = IsOrdered s.book.content → IsSound s.book.content × (InStep s → count ≡ length s.book.content.kept)
 IsFinding s (Differs place) = IsOrdered s.book.content → IsFirstDifference s.book.content place
+
+-- the content is sound, with so many kept records; or it isn't, and this is the first difference
+abbrev pub IsFindingOf : Content → Finding → Type 0
+IsFindingOf c Sound = IsSound c
+IsFindingOf c (Counted count) = IsSound c × (count ≡ length c.kept)
+IsFindingOf c (Differs place) = IsFirstDifference c place × (¬ IsSound c)
+
+-- a sound content has a count where one is asked for
+abbrev pub HasCount : Bool → Finding → Type 0
+HasCount counts Sound = counts ≡ false
+HasCount counts (Counted count) = counts ≡ true
+HasCount counts (Differs place) = ⊤
+
+-- as it is printed
+abbrev pub finding_line : Finding → List ℕ
+finding_line Sound = codes "sound\n"
+finding_line (Counted count) = codes "sound\nexecuted " ++ (decimal count ++ 10 ∷ [])
+finding_line (Differs place) = codes "differs at request " ++ (decimal place ++ 10 ∷ [])

@@ -4,4 +4,9 @@ pub mod Over
 pub mod Taking
 pub mod Endings
 pub mod Found
+pub mod Work
+pub mod InFiles
+pub mod Files
+pub mod Serving
+pub mod Tasks
 pub mod Names

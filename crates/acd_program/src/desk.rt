@@ -1,6 +1,13 @@
 //! What is done over a database. What needs a desk is done over any book, so that one function alone names the store.
 
-ghost use Rattle.std.specs.Prelude.{◌≡◌, false};
+ghost use Rattle.std.specs.Prelude.{◌≡◌, false, [], Some, IfOk, OnOk, unwrap_or};
+ghost use Rattle.sqlite.specs.Held.{state};
+ghost use Rattle.acd_desk.specs.Standing.{standing};
+ghost use Rattle.acd_desk.specs.Stands.{IsSound};
+ghost use Rattle.acd_desk.specs.Told.{Told};
+ghost use Rattle.acd_desk.specs.Tells.{told};
+ghost use Rattle.acd_program.specs.Over.{AnswersOver, OverConnection};
+ghost use Rattle.acd_program.specs.Work.{telling_text, text_left, status_left, ImportsOver, TellsOver, AuditsOver, IsFindingIfOrdered, BookDone, WorkDone};
 
 use crate::auditing::{Finding, audited};
 use crate::connection::{book_over, lines_over_connection};
@@ -56,36 +63,52 @@ fn imported<'a, B: Book, W: Write>(
     book: B,
     requests: &[Request],
     writer: &mut W,
-) -> (Result<Done, Fault<'a>>, B) {
+) -> (Result<Done, Fault<'a>>, B)
+    ensures over { OnOk result.0 (ImportsOver requests.now (B.state book) (W.contents writer.old) (W.contents writer.new) (B.state result.1)) }
+    ensures nothing { IfOk result.0 (λ done. done ≡ Done.Nothing) }
+{
     let mut desk = match Desk::open(alloc, book) {
         Ok(desk) => desk,
         Err((fault, book)) => return (Err(Fault::from(fault)), book),
     };
-    let done = match import(alloc, &mut desk, requests, writer) {
-        Ok(()) => Ok(Done::Nothing),
-        Err(fault) => Err(Fault::from(fault)),
-    };
-    (done, desk.close())
-}
-
-fn text_told<'a>(found: Result<Option<String>, DeskFault>) -> Result<Done, Fault<'a>> {
-    match found {
-        Ok(Some(text)) => Ok(Done::Told(text)),
-        Ok(None) => Ok(Done::Nothing),
-        Err(fault) => Err(Fault::from(fault)),
+    match import(alloc, &mut desk, requests, writer) {
+        Ok(()) => (Ok(Done::Nothing), desk.close()),
+        Err(fault) => (Err(Fault::from(fault)), desk.close()),
     }
 }
 
-fn told<'a, B: Book>(alloc: Global, book: B, telling: Telling) -> (Result<Done, Fault<'a>>, B) {
+// What the desk tells. There always is a text.
+fn text_of<B: Book>(desk: &mut Desk<B>, telling: Telling) -> Result<Option<String>, DeskFault>
+    ensures { Told (standing B.Book desk.old) (standing B.Book desk.new) result
+        (λ c text. IsSound c → told text ≡ Some (telling_text telling c)) }
+{
+    match telling {
+        Telling::Report => desk.report(0),
+        Telling::Export => desk.export(),
+    }
+}
+
+fn done_by(text: Option<String>) -> Done
+    ensures text { text_left result ≡ unwrap_or (told text) [] }
+    ensures status { status_left result ≡ 0 }
+{
+    match text {
+        Some(text) => Done::Told(text),
+        None => Done::Nothing,
+    }
+}
+
+fn told<'a, B: Book>(alloc: Global, book: B, telling: Telling) -> (Result<Done, Fault<'a>>, B)
+    ensures { IfOk result.0 (λ done. TellsOver telling (B.state book) done (B.state result.1)) }
+{
     let mut desk = match Desk::open(alloc, book) {
         Ok(desk) => desk,
         Err((fault, book)) => return (Err(Fault::from(fault)), book),
     };
-    let found = match telling {
-        Telling::Report => desk.report(0),
-        Telling::Export => desk.export(),
-    };
-    (text_told(found), desk.close())
+    match text_of(&mut desk, telling) {
+        Ok(text) => (Ok(done_by(text)), desk.close()),
+        Err(fault) => (Err(Fault::from(fault)), desk.close()),
+    }
 }
 
 // The replay is watched.
@@ -93,16 +116,17 @@ fn audit<'a, B: Book>(
     alloc: Global,
     book: Watched<'_, B>,
     counts: bool,
-) -> (Result<Done, Fault<'a>>, B) {
+) -> (Result<Done, Fault<'a>>, B)
+    ensures { IfOk result.0 (λ done. AuditsOver IsFindingIfOrdered counts (B.state book.entry.inner) done (B.state result.1)) }
+{
     let mut desk = match Desk::open(alloc, book) {
         Ok(desk) => desk,
         Err((fault, book)) => return (Err(Fault::from(fault)), book.into_inner()),
     };
-    let found = match audited(&mut desk, counts) {
-        Ok(found) => Ok(Done::Audited(found)),
-        Err(fault) => Err(Fault::from(fault)),
-    };
-    (found, desk.close().into_inner())
+    match audited(&mut desk, counts) {
+        Ok(found) => (Ok(Done::Audited(found)), desk.close().into_inner()),
+        Err(fault) => (Err(Fault::from(fault)), desk.close().into_inner()),
+    }
 }
 
 fn over_book<'a, B: Book, W: Write>(
@@ -110,7 +134,9 @@ fn over_book<'a, B: Book, W: Write>(
     book: B,
     work: BookWork<'_>,
     writer: &mut W,
-) -> (Result<Done, Fault<'a>>, B) {
+) -> (Result<Done, Fault<'a>>, B)
+    ensures { IfOk result.0 (λ done. BookDone IsFindingIfOrdered work.entry (B.state book) (W.contents writer.old) (W.contents writer.new) done (B.state result.1)) }
+{
     match work {
         BookWork::Import(requests) => imported(rt.alloc(), book, requests, writer),
         BookWork::Tell(telling) => told(rt.alloc(), book, telling),
@@ -129,6 +155,8 @@ fn lines_over<'a, S: Alter, R: Read, W: Write>(
     writer: &mut W,
 ) -> (Result<Done, Fault<'a>>, Connection<S>)
     requires { conn.in_transaction ≡ false }
+    ensures over { OnOk result.0 (OverConnection (λ old new. AnswersOver old (R.remaining reader.old) (W.contents writer.old) (W.contents writer.new) new) makes (state S.Store conn) (state S.Store result.1)) }
+    ensures nothing { IfOk result.0 (λ done. done ≡ Done.Nothing) }
 {
     let (done, conn) = lines_over_connection(
         alloc,
@@ -154,6 +182,7 @@ pub(crate) fn over_database<'a, S: Alter, R: Read, W: Write>(
     writer: &mut W,
 ) -> (Result<Done, Fault<'a>>, Connection<S>)
     requires { conn.in_transaction ≡ false }
+    ensures { IfOk result.0 (λ done. OverConnection (λ old new. WorkDone work.entry old (R.remaining reader.old) (W.contents writer.old) (W.contents writer.new) done new) makes (state S.Store conn) (state S.Store result.1)) }
 {
     let work = match work {
         Work::Lines {

@@ -1,19 +1,23 @@
 //! The file of a desk.
 
-ghost use Rattle.std.specs.Prelude.{◌≡◌, false, IsTrue, IfOk};
-ghost use Rattle.sqlite_std_file.specs.File.{file_is_usable};
+ghost use Rattle.std.specs.Prelude.{◌≡◌, true, false, IsTrue, IfOk, OnOk};
+ghost use Rattle.sqlite_std_file.specs.File.{file_is_usable, IsFresh};
+ghost use Rattle.acd_program.specs.Files.{IsOpenedIn};
+ghost use Rattle.acd_program.specs.Tasks.{IsOpenedFrom};
+ghost use Rattle.acd_program.specs.InFiles.{IsLaidIn};
 
 use crate::fault::Fault;
 use crate::paging::{begun, options};
 use crate::progress::announce;
-use sqlite::{Connection, Error, ErrorCode, File, FileStore};
-use sqlite_disk::{Files, Start, Unknown};
+use sqlite::{Connection, Error, ErrorCode, FileStore};
+use sqlite_disk::{Disk, Files, Start};
 use sqlite_std_file::{FileFrom, OpenError};
+use std::alloc::Global;
 use std::hash::{BuildHasher, RandomState};
 use std::{fs, io};
 
-/// The store of a file.
-pub(crate) type Store = FileStore<File>;
+/// The store of a file that held what `S` says.
+pub(crate) type StoreFrom<S> = FileStore<FileFrom<S>>;
 
 // What there is at a path.
 #[derive(Clone, Copy)]
@@ -45,6 +49,7 @@ fn open_pair<'a, S: Start>(
 ) -> Result<Files<FileFrom<S>>, Fault<'a>>
     ensures log { IfOk result (λ files. IsTrue (file_is_usable S.Start files.log)) }
     ensures db { IfOk result (λ files. IsTrue (file_is_usable S.Start files.db)) }
+    ensures fresh { IfOk result (λ files. IsFresh true files.log × IsFresh false files.db) }
 {
     if path == ":memory:" || path.starts_with("file:") {
         return Err(Fault::CannotOpen(path));
@@ -69,7 +74,9 @@ fn seed<'a>(rt: &HostRuntime, path: &'a str) -> Result<u64, Fault<'a>> {
 }
 
 // Whether a desk is to be made in what there is, which it never is where only one that is there is looked at.
-fn is_new<'a>(found: Found, makes: bool, path: &'a str) -> Result<bool, Fault<'a>> {
+fn is_new<'a>(found: Found, makes: bool, path: &'a str) -> Result<bool, Fault<'a>>
+    ensures { IfOk result (λ is_new. is_new ≡ true → makes ≡ true) }
+{
     match found {
         Found::Bytes(_) => Ok(false),
         _ if makes => Ok(true),
@@ -78,46 +85,91 @@ fn is_new<'a>(found: Found, makes: bool, path: &'a str) -> Result<bool, Fault<'a
     }
 }
 
-// A connection to the files at a path.
-fn open_connection<'a>(rt: &HostRuntime, path: &'a str) -> Result<Connection<Store>, Fault<'a>>
-    ensures { IfOk result (λ conn. conn.in_transaction ≡ false) }
-{
-    let [first, second] = [seed(rt, path)?, seed(rt, path)?];
-    let files = open_pair(rt, path, Unknown)?;
-    let mut files = begun(rt.alloc(), files, first, path)?;
-    let options = options(&mut files, second, path)?;
-    match Connection::open_files(rt.alloc(), files, options) {
-        Ok(conn) => Ok(conn),
-        Err((Error::SqliteFailure(ErrorCode::OutOfMemory), _)) => Err(Fault::NoMemory),
-        Err(_) => Err(Fault::CannotOpen(path)),
+// What kept the store from opening the files, as a fault.
+fn opening_fault<'a>(error: Error, path: &'a str) -> Fault<'a> {
+    match error {
+        Error::SqliteFailure(ErrorCode::OutOfMemory) => Fault::NoMemory,
+        _ => Fault::CannotOpen(path),
     }
+}
+
+// A connection to files. Those that are not new come to the store as they are.
+fn open_files<'a, D: Disk + Drop>(
+    alloc: Global,
+    files: Files<D>,
+    seeds: [u64; 2],
+    path: &'a str,
+) -> Result<Connection<FileStore<D>>, Fault<'a>>
+    requires log { IsTrue (D.Disk.is_usable files.log) }
+    requires db { IsTrue (D.Disk.is_usable files.db) }
+    ensures idle { IfOk result (λ conn. conn.in_transaction ≡ false) }
+    ensures opened { IfOk result (λ conn. IsOpenedIn D.Disk files conn) }
+{
+    let [first, second] = seeds;
+    let mut files = begun(alloc, files, first, path)?;
+    let options = options(&mut files, second, path)?;
+    match Connection::open_files(alloc, files, options) {
+        Ok(conn) => Ok(conn),
+        Err((error, _)) => Err(opening_fault(error, path)),
+    }
+}
+
+// A connection to the files at a path.
+fn open_connection<'a, S: Start>(
+    rt: &HostRuntime,
+    path: &'a str,
+    start: S,
+) -> Result<Connection<StoreFrom<S>>, Fault<'a>>
+    ensures idle { IfOk result (λ conn. conn.in_transaction ≡ false) }
+    ensures opened { IfOk result (λ conn. IsOpenedFrom ⟦<FileFrom<S> as Disk>⟧ IsFresh conn) }
+{
+    let seeds = [seed(rt, path)?, seed(rt, path)?];
+    let files = open_pair(rt, path, start)?;
+    open_files(rt.alloc(), files, seeds, path)
 }
 
 /// A connection to the file at a path, and whether there was none, or one of no bytes: these are refused where no desk
 /// is to be made.
-pub(crate) fn connect<'a>(
+pub(crate) fn connect<'a, S: Start>(
     rt: &HostRuntime,
     path: &'a str,
     makes: bool,
-) -> Result<(Connection<Store>, bool), Fault<'a>>
-    ensures { IfOk result (λ found. found.0.in_transaction ≡ false) }
+    start: S,
+) -> Result<(Connection<StoreFrom<S>>, bool), Fault<'a>>
+    ensures idle { IfOk result (λ found. found.0.in_transaction ≡ false) }
+    ensures opened { IfOk result (λ found. IsOpenedFrom ⟦<FileFrom<S> as Disk>⟧ IsFresh found.0) }
+    ensures makes { IfOk result (λ found. found.1 ≡ true → makes ≡ true) }
 {
     let found = look(rt, path)?;
     let is_new = is_new(found, makes, path)?;
     if let Found::Bytes(len) = found {
         announce(rt, path, len);
     }
-    match open_connection(rt, path) {
+    match open_connection(rt, path, start) {
         Ok(conn) => Ok((conn, is_new)),
         Err(fault) => Err(fault),
     }
 }
 
+// What closing found, as a fault.
+fn closing_fault<'a>(error: Error) -> Fault<'a> {
+    match error {
+        Error::SqliteFailure(ErrorCode::OutOfMemory) => Fault::NoMemory,
+        _ => Fault::Store,
+    }
+}
+
 /// Closes the connection, so that the file alone holds its database.
-pub(crate) fn close_connection<'a>(conn: Connection<Store>) -> Result<(), Fault<'a>> {
-    match conn.close() {
-        Ok(()) => Ok(()),
-        Err(Error::SqliteFailure(ErrorCode::OutOfMemory)) => Err(Fault::NoMemory),
-        Err(_) => Err(Fault::Store),
+pub(crate) fn close_connection<'a, D: Disk + Drop>(
+    conn: Connection<FileStore<D>>,
+) -> Result<(), Fault<'a>>
+    ensures { OnOk result (IsLaidIn conn) }
+{
+    match conn.close_files() {
+        Ok(_) => Ok(()),
+        Err((error, store)) => {
+            drop(store.close());
+            Err(closing_fault(error))
+        }
     }
 }

@@ -14,6 +14,7 @@ mod file;
 mod memory;
 mod paging;
 mod plan;
+mod printing;
 mod progress;
 mod running;
 mod serving;

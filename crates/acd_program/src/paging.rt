@@ -1,6 +1,8 @@
 //! The pages of a file: how long they are in a new one, and how many of them the store keeps in memory.
 
-ghost use Rattle.std.specs.Prelude.{◌≤◌, IsTrue, IfOk};
+ghost use Rattle.std.specs.Prelude.{◌≡◌, ◌≤◌, ◌<◌, ◌↔◌, length, IsTrue, IfOk};
+ghost use Rattle.sqlite_wal.specs.Reads.{IsClean, AreClean, OnlyReads};
+ghost use Rattle.acd_program.specs.Files.{new_page, AreReadOnly, IsCreated, IsBegun};
 
 use crate::fault::Fault;
 use sqlite_disk::{Disk, Files};
@@ -33,8 +35,9 @@ fn disk_fault<'a>(error: io::Error, path: &'a str) -> Fault<'a> {
 fn may_be_new<D: Disk>(files: &mut Files<D>) -> io::Result<bool>
     requires log { IsTrue (D.Disk.is_usable files.old.log) }
     requires db { IsTrue (D.Disk.is_usable files.old.db) }
-    ensures log { IsTrue (D.Disk.is_usable files.new.log) }
-    ensures db { IsTrue (D.Disk.is_usable files.new.db) }
+    ensures log { files.new.log ≡ files.old.log }
+    ensures db { OnlyReads D.Disk files.old.db files.new.db }
+    ensures few { IfOk result (λ few. IsClean D.Disk files.new.db → IsTrue few ↔ length (D.Disk.seen files.old.db) ≤ new_page) }
 {
     Ok(files.db.len()? <= NEW_PAGE)
 }
@@ -48,6 +51,8 @@ fn created<'a, D: Disk + Drop>(
 ) -> Result<Files<D>, Fault<'a>>
     requires log { IsTrue (D.Disk.is_usable files.log) }
     requires db { IsTrue (D.Disk.is_usable files.db) }
+    ensures created { IfOk result (λ new. IsCreated D.Disk files new) }
+    ensures clean { IfOk result (λ new. AreClean D.Disk new.log new.db → AreClean D.Disk files.log files.db) }
 {
     let Some(size) = PageSize::new(NEW_PAGE) else {
         return Err(Fault::CannotOpen(path));
@@ -82,6 +87,7 @@ pub(crate) fn begun<'a, D: Disk + Drop>(
     requires db { IsTrue (D.Disk.is_usable files.db) }
     ensures log { IfOk result (λ files. IsTrue (D.Disk.is_usable files.log)) }
     ensures db { IfOk result (λ files. IsTrue (D.Disk.is_usable files.db)) }
+    ensures begun { IfOk result (λ new. IsBegun D.Disk files new) }
 {
     match may_be_new(&mut files) {
         Ok(false) => Ok(files),
@@ -108,8 +114,7 @@ fn kept_pages(len: usize, page: usize) -> usize
 fn cache_pages<D: Disk>(files: &mut Files<D>) -> io::Result<usize>
     requires log { IsTrue (D.Disk.is_usable files.old.log) }
     requires db { IsTrue (D.Disk.is_usable files.old.db) }
-    ensures log { IsTrue (D.Disk.is_usable files.new.log) }
-    ensures db { IsTrue (D.Disk.is_usable files.new.db) }
+    ensures read { AreReadOnly D.Disk files.old files.new }
 {
     let page = match probe_page_size(files)? {
         Some(size) => size.bytes(),
@@ -128,6 +133,7 @@ pub(crate) fn options<'a, D: Disk>(
     requires db { IsTrue (D.Disk.is_usable files.old.db) }
     ensures log { IsTrue (D.Disk.is_usable files.new.log) }
     ensures db { IsTrue (D.Disk.is_usable files.new.db) }
+    ensures read { AreReadOnly D.Disk files.old files.new }
 {
     match cache_pages(files) {
         Ok(cache_pages) => Ok(Options {

@@ -1,5 +1,8 @@
 //! The plan of an import.
 
+ghost use Rattle.std.specs.Prelude.{◌≡◌, ℕ, List, Ok, IfOk};
+ghost use Rattle.acd_reports.specs.Plan.{plan_requests};
+
 use crate::fault::Fault;
 use acd_reports::plan_requests;
 use acd_terms::Request;
@@ -16,7 +19,9 @@ fn bytes_of(rt: &HostRuntime, path: &str) -> io::Result<Vec<u8>> {
 }
 
 /// The requests of the plan at a path.
-pub(crate) fn read_plan<'a>(rt: &HostRuntime, path: &'a str) -> Result<Vec<Request>, Fault<'a>> {
+pub(crate) fn read_plan<'a>(rt: &HostRuntime, path: &'a str) -> Result<Vec<Request>, Fault<'a>>
+    ensures { IfOk result (λ requests. (bytes : List ℕ) × (plan_requests bytes ≡ Ok requests.items)) }
+{
     let bytes = match bytes_of(rt, path) {
         Ok(bytes) => bytes,
         Err(error) if error.kind() == io::ErrorKind::OutOfMemory => return Err(Fault::NoMemory),

@@ -1,5 +1,7 @@
 //! What is shown of long work, where standard error is a terminal.
 
+ghost use Rattle.std.specs.Prelude.{◌≡◌};
+
 use acd_book::{Book, BookFault, Kept};
 use acd_model::Change;
 use acd_terms::{Event, Invoke, Limits, Requester, Rows};
@@ -81,12 +83,16 @@ pub(crate) struct Watched<'a, B: Book> {
 }
 
 impl<'a, B: Book> Watched<'a, B> {
-    pub(crate) fn new(inner: B, progress: Progress<'a>) -> Watched<'a, B> {
+    pub(crate) fn new(inner: B, progress: Progress<'a>) -> Watched<'a, B>
+        ensures { result.inner ≡ inner }
+    {
         Watched { inner, progress }
     }
 
     /// Gives the book back.
-    pub(crate) fn into_inner(self) -> B {
+    pub(crate) fn into_inner(self) -> B
+        ensures { result ≡ self.entry.inner }
+    {
         let Watched { inner, progress } = self;
         progress.end();
         inner

@@ -1,18 +1,24 @@
 //! The program over three streams.
 
-ghost use Rattle.std.specs.Prelude.{◌≡◌, ◌≢◌, ◌≤◌, ◌⊎◌, IfOk, OnOk};
-ghost use Rattle.acd_program.specs.Statuses.{IsDone, TellsConnections, finding_status};
+ghost use Rattle.std.specs.Prelude.{◌≡◌, ◌≢◌, ◌≤◌, ◌⊎◌, false, IfOk, OnOk};
+ghost use Rattle.sqlite_std_file.specs.File.{IsFresh};
+ghost use Rattle.acd_program.specs.Statuses.{IsDone, TellsConnections};
+ghost use Rattle.acd_program.specs.Work.{IsPrinted};
+ghost use Rattle.acd_program.specs.InFiles.{WorkedOver};
+ghost use Rattle.acd_program.specs.Tasks.{WorkedIn, ImportedIn, ServedIn, TaskDone};
 
-use crate::auditing::Finding;
 use crate::desk::{BookWork, Done, Work, over_database};
 use crate::fault::Fault;
 use crate::file::{close_connection, connect};
 use crate::memory::lines_over_memory;
 use crate::plan::read_plan;
+use crate::printing::print;
 use crate::serving::serve;
 use crate::task::{Task, parse};
 use clap::Error;
 use clap::error::ErrorKind;
+use sqlite::{Connection, FileFrom, FileStore};
+use sqlite_disk::{Disk, Start, Unknown};
 use std::alloc::Global;
 use std::convert::AsStr;
 use std::io::{Read, Write};
@@ -24,97 +30,75 @@ const FAULT: u8 = 1;
 
 const REFUSED: u8 = 2;
 
-const DIFFERS: u8 = 3;
-
 const OPEN_ELSEWHERE: u8 = 4;
 
-// Does it over the file, closes it, and prints what is left.
-fn work_in<'a, R: Read, W: Write>(
+// Does it over the database, closes it into its file, and prints what is left.
+fn work_over<'a, D: Disk + Drop, R: Read, W: Write>(
     rt: &HostRuntime,
+    conn: Connection<FileStore<D>>,
+    makes: bool,
+    work: Work<'_>,
+    reader: &mut R,
+    writer: &mut W,
+) -> Result<u8, Fault<'a>>
+    requires { conn.in_transaction ≡ false }
+    ensures known { IfOk result IsDone }
+    ensures worked { IfOk result (λ status. WorkedOver makes work.entry conn (R.remaining reader.old) (W.contents writer.old) (W.contents writer.new) status) }
+{
+    let (done, conn) = over_database(rt, conn, makes, work, reader, writer);
+    print_done(done, close_connection(conn), writer)
+}
+
+// Does it over the file.
+fn work_in<'a, S: Start, R: Read, W: Write>(
+    rt: &HostRuntime,
+    start: S,
     file: &'a str,
     makes: bool,
     work: Work<'_>,
     reader: &mut R,
     writer: &mut W,
 ) -> Result<u8, Fault<'a>>
-    ensures { IfOk result IsDone }
+    ensures known { IfOk result IsDone }
+    ensures worked { IfOk result (λ status. WorkedIn ⟦<FileFrom<S> as Disk>⟧ IsFresh makes work.entry (R.remaining reader.old) (W.contents writer.old) (W.contents writer.new) status) }
 {
-    let (conn, is_new) = connect(rt, file, makes)?;
-    let (done, conn) = over_database(rt, conn, is_new, work, reader, writer);
-    print_done(done, close_connection(conn), writer)
+    let (conn, is_new) = connect(rt, file, makes, start)?;
+    work_over(rt, conn, is_new, work, reader, writer)
 }
 
-fn import_plan<'a, R: Read, W: Write>(
+fn import_plan<'a, S: Start, R: Read, W: Write>(
     rt: &HostRuntime,
+    start: S,
     file: &'a str,
     plan: &'a str,
     reader: &mut R,
     writer: &mut W,
 ) -> Result<u8, Fault<'a>>
-    ensures { IfOk result IsDone }
+    ensures known { IfOk result IsDone }
+    ensures imported { IfOk result (λ status. ImportedIn ⟦<FileFrom<S> as Disk>⟧ IsFresh (W.contents writer.old) (W.contents writer.new) status) }
 {
     let requests = read_plan(rt, plan)?;
     let work = Work::Book(BookWork::Import(&requests));
-    work_in(rt, file, true, work, reader, writer)
+    work_in(rt, start, file, true, work, reader, writer)
 }
 
-fn serve_file<'a, W: Write, E: Write>(
+fn serve_file<'a, S: Start, W: Write, E: Write>(
     rt: &HostRuntime,
+    start: S,
     file: &'a str,
     port: u16,
     connections: Option<u32>,
     writer: &mut W,
     errors: &mut E,
 ) -> Result<(), Fault<'a>>
-    ensures { OnOk result (TellsConnections (E.contents errors.old) (E.contents errors.new)) }
+    ensures { OnOk result (ServedIn ⟦<FileFrom<S> as Disk>⟧ IsFresh connections (E.contents errors.old) (E.contents errors.new)) }
 {
-    let (conn, is_new) = connect(rt, file, true)?;
+    let (conn, is_new) = connect(rt, file, true, start)?;
     let (done, conn) = serve(rt, conn, is_new, port, connections, writer, errors);
     let closed = close_connection(conn);
     match done {
         Ok(()) => closed,
         Err(fault) => Err(fault),
-    }
-}
-
-// The exit status that goes with what an audit found. Where something differs that is no fault.
-fn status_of(found: &Finding) -> u8
-    ensures { result ≡ finding_status found.now }
-{
-    match found {
-        Finding::Sound => SUCCESS,
-        Finding::Counted(_) => SUCCESS,
-        Finding::Differs(_) => DIFFERS,
-    }
-}
-
-// Prints what an audit found, and gives the exit status.
-fn print_finding<'a, W: Write>(found: Finding, writer: &mut W) -> Result<u8, Fault<'a>>
-    ensures { IfOk result (λ status. status ≡ finding_status found) }
-{
-    let status = status_of(&found);
-    let printed = match found {
-        Finding::Sound => writeln!(writer, "sound"),
-        Finding::Counted(count) => writeln!(writer, "sound\nexecuted {count}"),
-        Finding::Differs(place) => writeln!(writer, "differs at request {place}"),
-    };
-    match printed {
-        Ok(()) => Ok(status),
-        Err(_) => Err(Fault::Write),
-    }
-}
-
-// What is left of the work.
-fn print<'a, W: Write>(done: Done, writer: &mut W) -> Result<u8, Fault<'a>>
-    ensures { IfOk result IsDone }
-{
-    match done {
-        Done::Nothing => Ok(SUCCESS),
-        Done::Told(text) => match writer.write_all(text.as_bytes()) {
-            Ok(()) => Ok(SUCCESS),
-            Err(_) => Err(Fault::Write),
-        },
-        Done::Audited(found) => print_finding(found, writer),
     }
 }
 
@@ -124,36 +108,31 @@ fn print_done<'a, W: Write>(
     closed: Result<(), Fault<'a>>,
     writer: &mut W,
 ) -> Result<u8, Fault<'a>>
-    ensures { IfOk result IsDone }
+    ensures known { IfOk result IsDone }
+    ensures printed { IfOk result (λ status. IsPrinted done.entry closed.entry (W.contents writer.old) (W.contents writer.new) status) }
 {
     match done {
-        Ok(done) => match print(done, writer) {
-            Ok(status) => after(status, closed),
-            Err(fault) => Err(fault),
-        },
-        Err(fault) => Err(fault),
-    }
-}
-
-// The status, where no fault ended the work.
-fn after<'a>(status: u8, done: Result<(), Fault<'a>>) -> Result<u8, Fault<'a>>
-    ensures { IfOk result (λ given. given ≡ status) }
-{
-    match done {
-        Ok(()) => Ok(status),
+        Ok(left) => {
+            let status = print(&left, writer)?;
+            closed?;
+            Ok(status)
+        }
         Err(fault) => Err(fault),
     }
 }
 
 // Does it, and gives the exit status where no fault ended it.
-fn execute<'a, R: Read, W: Write, E: Write>(
+fn execute<'a, S: Start, R: Read, W: Write, E: Write>(
     rt: &HostRuntime,
+    start: S,
     task: Task<'a>,
     reader: &mut R,
     writer: &mut W,
     errors: &mut E,
 ) -> Result<u8, Fault<'a>>
-    ensures status { IfOk result IsDone }
+    ensures known { IfOk result IsDone }
+    // what the words asked for was done
+    ensures done { IfOk result (λ status. TaskDone ⟦<FileFrom<S> as Disk>⟧ IsFresh task.entry (R.remaining reader.old) (W.contents writer.old) (W.contents writer.new) (E.contents errors.old) (E.contents errors.new) status) }
     ensures told { IfOk result (λ status. (errors.new ≡ errors.old) ⊎ ((status ≡ 0) × TellsConnections (E.contents errors.old) (E.contents errors.new))) }
 {
     match task {
@@ -168,18 +147,20 @@ fn execute<'a, R: Read, W: Write, E: Write>(
             let work = Work::Lines {
                 ends_on_store_fault,
             };
-            work_in(rt, file, true, work, reader, writer)
+            work_in(rt, start, file, true, work, reader, writer)
         }
         Task::Serve {
             file,
             port,
             connections,
         } => {
-            serve_file(rt, file, port, connections, writer, errors)?;
+            serve_file(rt, start, file, port, connections, writer, errors)?;
             Ok(SUCCESS)
         }
-        Task::Import { file, plan } => import_plan(rt, file, plan, reader, writer),
-        Task::Read { file, work } => work_in(rt, file, false, Work::Book(work), reader, writer),
+        Task::Import { file, plan } => import_plan(rt, start, file, plan, reader, writer),
+        Task::Read { file, work } => {
+            work_in(rt, start, file, false, Work::Book(work), reader, writer)
+        }
     }
 }
 
@@ -239,7 +220,7 @@ pub fn program<S: AsStr, R: Read, W: Write, E: Write>(
         Ok(task) => task,
         Err(error) => return tell(rt.alloc(), &error, writer, errors),
     };
-    match execute(rt, task, reader, writer, errors) {
+    match execute(rt, Unknown, task, reader, writer, errors) {
         Ok(status) => status,
         Err(fault) => fail(fault, errors),
     }

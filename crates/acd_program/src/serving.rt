@@ -1,8 +1,11 @@
 //! The desk of a database, over HTTP.
 
 ghost use Rattle.std.specs.Prelude.{◌≡◌, false, OnOk};
-ghost use Rattle.acd_desk.specs.Ran.{standing};
-ghost use Rattle.acd_program.specs.Statuses.{TellsConnections};
+ghost use Rattle.sqlite.specs.Held.{state};
+ghost use Rattle.acd_desk.specs.Standing.{standing};
+ghost use Rattle.acd_lines.specs.Sent.{Begins};
+ghost use Rattle.acd_http.specs.Listening.{ServedAll, ServedUntilFailed, ServedFor};
+ghost use Rattle.acd_program.specs.Serving.{ServesOver, ServesDatabase};
 
 use crate::connection::book_over;
 use crate::fault::Fault;
@@ -37,7 +40,7 @@ fn answer_some<'a, B: Book, E: Write>(
     connections: u32,
     errors: &mut E,
 ) -> Result<(), Fault<'a>>
-    ensures { OnOk result (TellsConnections (E.contents errors.old) (E.contents errors.new)) }
+    ensures { OnOk result (ServedAll (standing B.Book) connections desk.old desk.new (Begins (E.contents errors.old) (E.contents errors.new))) }
 {
     match serve_on(
         rt,
@@ -70,7 +73,7 @@ fn answer_until_failed<'a, B: Book, E: Write>(
     desk: &mut Desk<B>,
     errors: &mut E,
 ) -> Result<(), Fault<'a>>
-    ensures told { OnOk result (TellsConnections (E.contents errors.old) (E.contents errors.new)) }
+    ensures served { OnOk result (ServedUntilFailed (standing B.Book) desk.old desk.new (Begins (E.contents errors.old) (E.contents errors.new))) }
     ensures well { OnOk result ((standing B.Book desk.new).failed ≡ false) }
 {
     match serve_until_failed(rt, rt.alloc(), listener, desk, errors) {
@@ -87,7 +90,7 @@ fn answer<'a, B: Book, E: Write>(
     connections: Option<u32>,
     errors: &mut E,
 ) -> Result<(), Fault<'a>>
-    ensures { OnOk result (TellsConnections (E.contents errors.old) (E.contents errors.new)) }
+    ensures { OnOk result (ServedFor (standing B.Book) connections desk.old desk.new (Begins (E.contents errors.old) (E.contents errors.new))) }
 {
     match connections {
         Some(connections) => answer_some(rt, listener, desk, connections, errors),
@@ -103,7 +106,7 @@ fn serve_desk<'a, B: Book, W: Write, E: Write>(
     writer: &mut W,
     errors: &mut E,
 ) -> Result<(), Fault<'a>>
-    ensures { OnOk result (TellsConnections (E.contents errors.old) (E.contents errors.new)) }
+    ensures { OnOk result (ServedFor (standing B.Book) connections desk.old desk.new (Begins (E.contents errors.old) (E.contents errors.new))) }
 {
     let listener = listen(rt, port)?;
     say(port, writer)?;
@@ -118,7 +121,7 @@ fn serve_book<'a, B: Book, W: Write, E: Write>(
     writer: &mut W,
     errors: &mut E,
 ) -> (Result<(), Fault<'a>>, B)
-    ensures { OnOk result.0 (TellsConnections (E.contents errors.old) (E.contents errors.new)) }
+    ensures { OnOk result.0 (ServesOver B.Book (B.state book) connections (E.contents errors.old) (E.contents errors.new) result.1) }
 {
     let mut desk = match Desk::open(rt.alloc(), book) {
         Ok(desk) => desk,
@@ -140,7 +143,7 @@ pub(crate) fn serve<'a, S: Alter, W: Write, E: Write>(
     errors: &mut E,
 ) -> (Result<(), Fault<'a>>, Connection<S>)
     requires { conn.in_transaction ≡ false }
-    ensures { OnOk result.0 (TellsConnections (E.contents errors.old) (E.contents errors.new)) }
+    ensures { OnOk result.0 (ServesDatabase S.Store makes connections (state S.Store conn) (E.contents errors.old) (E.contents errors.new) result.1) }
 {
     let book = match book_over(rt.alloc(), conn, makes) {
         Ok(book) => book,

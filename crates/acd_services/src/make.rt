@@ -12,17 +12,17 @@ use std::alloc::AllocError;
 pub fn change(tables: &mut Tables, change: &Change) -> Result<(), AllocError>
     ensures { OnOk result (tables.new ≡ changed tables.old change.now) }
 {
-    match *change {
+    match change {
         Change::Nothing => Ok(()),
-        Change::PutGroup(record) => tables.put_group(record),
-        Change::PutStation(record) => tables.put_station(record),
-        Change::PutAgent(record) => tables.put_agent(record),
-        Change::PutCall(record) => tables.put_call(record),
-        Change::PutConnection(record) => tables.put_connection(record),
-        Change::PutMonitor(record) => tables.put_monitor(record),
-        Change::RemoveCall(call) => tables.remove_call(call),
-        Change::RemoveConnection(call, device) => tables.remove_connection(call, device),
-        Change::RemoveMonitor(monitor) => tables.remove_monitor(monitor),
+        Change::PutGroup(record) => tables.put_group(*record),
+        Change::PutStation(record) => tables.put_station(*record),
+        Change::PutAgent(record) => tables.put_agent(*record),
+        Change::PutCall(record) => tables.put_call(*record),
+        Change::PutConnection(record) => tables.put_connection(*record),
+        Change::PutMonitor(record) => tables.put_monitor(*record),
+        Change::RemoveCall(call) => tables.remove_call(*call),
+        Change::RemoveConnection(call, device) => tables.remove_connection(*call, *device),
+        Change::RemoveMonitor(monitor) => tables.remove_monitor(*monitor),
     }
 }
 

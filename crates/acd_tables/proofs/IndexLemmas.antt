@@ -7,7 +7,7 @@ use Rattle.std.specs.Ordering.{is_eq, nat_cmp}
 use Rattle.std.specs.BTreeMap.{is_at}
 use Rattle.std.specs.Map.{lookup}
 use Rattle.std.specs.BTreeSet.{BTreeSet, contains}
-use Rattle.std.proofs.lemmas.Bool.{and_from, and_parts, and_left, and_right, or_left, or_right, eqb-true, eq-eqb, not-true, false_from_ne_true}
+use Rattle.std.proofs.lemmas.Bool.{and_parts, or_right, eqb-true, eq-eqb, not-true, false_from_ne_true}
 use Rattle.acd_terms.specs.Groups.{is_one_of}
 use Rattle.acd_terms.specs.Lists.{IsAscending, find_by, put_by, remove_by}
 use Rattle.acd_terms.specs.States.{is_queued, is_ready}
@@ -24,18 +24,17 @@ use Rattle.acd_model.specs.Rules.Plan.{group_order, agent_order, connection_orde
 use Rattle.acd_model.specs.Scans.{is_group, group_of, agent_of, connection_of, at_group, at_agent, at_connection, queued_in_all, has}
 use Rattle.acd_model.specs.Writes.{with_group, with_station, with_agent, with_call, with_connection, with_monitor, without_call, without_connection, without_monitor, with_last, with_last_ids}
 use Rattle.acd_tables.specs.Sets.{holds, holds_in, has_set, Stays, SameMembers, HasSet, Noted, Forgotten}
-use Rattle.acd_tables.specs.Indexed.{PairSets, pair_cmp, lists, joins, waits_at, is_busying, is_busy_at, is_free, is_able_since, rings, works, Seats, Lines, Ringing, Working, IsIndexed, SeatMap, seat_of, OfferKey, offer_cmp, offer_key, ListsOffers}
-use Rattle.acd_tables.specs.Turns.{is_entry, Entered, Undone, Untouched, TakenOut, TurnsTo, IsAt, IsFreeFor, with_or_without, one_queued, stays, IsBlank, has_rank, loses_rank}
+use Rattle.acd_tables.specs.Indexed.{PairSets, pair_cmp, lists, waits_at, is_busying, is_busy_at, is_free, is_able_since, rings, works, own_station, Seats, Lines, Ringing, Working, IsIndexed, SeatMap, OfferKey, offer_cmp, offer_key, ListsOffers}
+use Rattle.acd_tables.specs.Turns.{is_entry, Entered, Undone, Untouched, TakenOut, TurnsTo, IsAt, with_or_without, one_queued, IsBlank, has_rank, loses_rank}
 use Rattle.acd_tables.specs.declared.indexes.Indexes.{Indexes}
 use Rattle.acd_tables.specs.declared.indexes.Entries.{Entries}
 use Rattle.acd_tables.specs.declared.indexes.Turn.{Turn}
 use Rattle.acd_laws.proofs.Lists.{some_is, count_length, ascending-put}
-use Rattle.acd_laws.proofs.State.{agent_put, agent_key, agents_total, groups_total, group_put, group_put_found, group_key, has_is, count_new, count_old, count_less}
+use Rattle.acd_laws.proofs.State.{agents_total, groups_total, group_put, group_put_found, group_key, count_new, count_old, count_less}
 use Rattle.acd_laws.proofs.Numbers.{filter_length}
 use Rattle.acd_tables.proofs.OfferLemmas.{undone, offers-same, offers-of, offers-more, own_key, key_number, key_priority}
-use Rattle.acd_tables.proofs.TurnLemmas.{Replaces, Replaces-put, Replaces-removed, eq_key, pair_key}
-use Rattle.acd_tables.proofs.NoteLemmas.{Ringing-put, Ringing-left, Working-kept}
-use Rattle.acd_tables.proofs.Looking.{seated}
+use Rattle.acd_tables.proofs.TurnLemmas.{Replaces-put, Replaces-removed, eq_key}
+use Rattle.acd_tables.proofs.NoteLemmas.{Ringing-put, Lines-removed, Working-kept, Seats-kept}
 
 -- where only the offers may have changed
 pub IsIndexed-untouched : (s : Rows) (x y : Indexes) → IsIndexed s x → Untouched s x y → IsIndexed s y
@@ -48,20 +47,30 @@ IsIndexed-untouched s x y h u = record {
   waiting = λ g p. u.queues.members g p ∙ h.waiting g p;
   able = λ g p. u.ready.members g p ∙ h.able g p;
   offers = u.offers;
-  seats = λ n d a e f. ap (λ m. seat_of m d) u.rest.seats ∙ h.seats n d a e f;
-  lines = λ c d e. ap (λ m. joins m d c) u.rest.lines ∙ h.lines c d e;
+  seats = subst (Seats s) (sym u.rest.seats) h.seats;
+  lines = subst (Lines s) (sym u.rest.lines) h.lines;
   ringing = subst (Ringing s) (sym u.rest.ringing) h.ringing;
   working = subst (Working s) (sym u.rest.working) h.working;
   queued = u.rest.queued ∙ h.queued;
 }
 
 -- what entered was taken out again
-pub Untouched-undone : (s : Rows) (x y z : Indexes) (entries undo : Entries) → Entered s x y entries → Undone x y undo → TakenOut s y z undo → Untouched s x z
-Untouched-undone s x y z entries undo e u t = record {
-  queues = record { sets = λ g. t.queues.sets g ∙ e.queues.sets g; members = undone x.queues y.queues z.queues undo.queue u.queues t.queues };
-  ready = record { sets = λ g. t.ready.sets g ∙ e.ready.sets g; members = undone x.ready y.ready z.ready undo.ready u.ready t.ready };
-  offers = t.offers;
-  rest = record { seats = t.rest.seats ∙ e.rest.seats; lines = t.rest.lines ∙ e.rest.lines; ringing = t.rest.ringing ∙ e.rest.ringing; working = t.rest.working ∙ e.rest.working; queued = t.rest.queued ∙ e.rest.queued };
+pub IsIndexed-undone : (s : Rows) (x y z : Indexes) (seats : SeatMap) (lines : BTreeSet (ℕ × ℕ)) (ringing : BTreeSet (ℕ × ℕ)) (working : BTreeSet ℕ) (entries undo : Entries) → IsIndexed s x → Entered s x y entries → Undone x y undo
+    → TakenOut s (record y { seats = seats; lines = lines; ringing = ringing; working = working }) z undo → Seats s seats → Lines s lines → Ringing s ringing → Working s working → IsIndexed s z
+IsIndexed-undone s x y z at_seats listed rung worked entries undo h e u o seats lines ringing working = record {
+  groups = h.groups;
+  agents = h.agents;
+  connections = h.connections;
+  queues = λ g f. o.queues.sets g ∙ e.queues.sets g ∙ h.queues g f;
+  readies = λ g f. o.ready.sets g ∙ e.ready.sets g ∙ h.readies g f;
+  waiting = λ g p. undone x.queues y.queues z.queues undo.queue u.queues o.queues g p ∙ h.waiting g p;
+  able = λ g p. undone x.ready y.ready z.ready undo.ready u.ready o.ready g p ∙ h.able g p;
+  offers = o.offers;
+  seats = subst (Seats s) (sym o.rest.seats) seats;
+  lines = subst (Lines s) (sym o.rest.lines) lines;
+  ringing = subst (Ringing s) (sym o.rest.ringing) ringing;
+  working = subst (Working s) (sym o.rest.working) working;
+  queued = o.rest.queued ∙ e.rest.queued ∙ h.queued;
 }
 
 pub group_same : (s t : Rows) → t.groups ≡ s.groups → (g : ℕ) → group_of t g ≡ group_of s g
@@ -73,10 +82,11 @@ unfolding group_of
 groups_same s t groups g = ap (λ (l : List GroupRecord). is_some (find_by (at_group g) l)) groups
 
 -- what enters and leaves makes the sets of the new rows
-pub IsIndexed-turned : (s t : Rows) (x y z : Indexes) (turn : Turn) (n : ℕ) → IsIndexed s x → Entered s x y turn.entering → TakenOut t y z turn.leaving → TurnsTo s t turn
-    → t.groups ≡ s.groups → IsAscending agent_order t.agents → IsAscending connection_order t.connections → Seats t x.seats → Lines t x.lines → Ringing t x.ringing → Working t x.working → n ≡ length (queued_in_all t)
+pub IsIndexed-turned : (s t : Rows) (x y z : Indexes) (seats : SeatMap) (lines : BTreeSet (ℕ × ℕ)) (ringing : BTreeSet (ℕ × ℕ)) (working : BTreeSet ℕ) (turn : Turn) (n : ℕ) → IsIndexed s x → Entered s x y turn.entering
+    → TakenOut t (record y { seats = seats; lines = lines; ringing = ringing; working = working }) z turn.leaving → TurnsTo s t turn
+    → t.groups ≡ s.groups → IsAscending agent_order t.agents → IsAscending connection_order t.connections → Seats t seats → Lines t lines → Ringing t ringing → Working t working → n ≡ length (queued_in_all t)
     → IsIndexed t (record z { queued = n })
-IsIndexed-turned s t x y z turn n h e o w groups agents connections seats lines ringing working queued = record {
+IsIndexed-turned s t x y z at_seats listed rung worked turn n h e o w groups agents connections seats lines ringing working queued = record {
   groups = subst (IsAscending group_order) (sym groups) h.groups;
   agents = agents;
   connections = connections;
@@ -89,100 +99,12 @@ IsIndexed-turned s t x y z turn n h e o w groups agents connections seats lines 
       ∙ ap (λ b. not (is_entry pair_cmp turn.leaving.ready g p) && b) (e.ready.members g p ∙ ap (λ b. is_entry pair_cmp turn.entering.ready g p || b) (h.able g p))
       ∙ sym (w.able g p);
   offers = o.offers;
-  seats = λ n d a f k. ap (λ m. seat_of m d) (o.rest.seats ∙ e.rest.seats) ∙ seats n d a f k;
-  lines = λ c d f. ap (λ m. joins m d c) (o.rest.lines ∙ e.rest.lines) ∙ lines c d f;
-  ringing = subst (Ringing t) (sym (o.rest.ringing ∙ e.rest.ringing)) ringing;
-  working = subst (Working t) (sym (o.rest.working ∙ e.rest.working)) working;
+  seats = subst (Seats t) (sym o.rest.seats) seats;
+  lines = subst (Lines t) (sym o.rest.lines) lines;
+  ringing = subst (Ringing t) (sym o.rest.ringing) ringing;
+  working = subst (Working t) (sym o.rest.working) working;
   queued = queued;
 }
-
--- a call is listed at a device, or was
-pub Lines-more : (s : Rows) (old new : BTreeSet (ℕ × ℕ)) (device call : ℕ) (belongs : Bool) → Lines s old → Noted pair_cmp old new (device, call) belongs → Lines s new
-Lines-more s old new device call belongs h w c d e = w (d, c) ∙ or_right (belongs && is_eq (pair_cmp (device, call) (d, c))) (contains pair_cmp old (d, c)) (h c d e)
-
-pub Lines-same : (s : Rows) (old new : BTreeSet (ℕ × ℕ)) → Lines s old → ((k : ℕ × ℕ) → contains pair_cmp new k ≡ contains pair_cmp old k) → Lines s new
-Lines-same s old new h w c d e = w (d, c) ∙ h c d e
-
-module _ (s t : Rows) (call device : ℕ) (new : Option ConnectionRecord) (r : Replaces s t call device new) where
-  -- what is found at another key
-  elsewhere : (c d : ℕ) → (call == c && device == d) ≡ false → is_some (connection_of t c d) ≡ true → is_some (connection_of s c d) ≡ true
-  elsewhere c d f e = sym (ap is_some (r.found c d ∙ ap (λ b. cond b new (connection_of s c d)) f)) ∙ e
-
-  pub Lines-put : (old lines : BTreeSet (ℕ × ℕ)) (belongs : Bool) → belongs ≡ not (is_some (connection_of s call device)) → Lines s old → Noted pair_cmp old lines (device, call) belongs → Lines t lines
-  Lines-put old lines belongs b h w c d e = w (d, c) ∙ by (call == c) refl (device == d) refl
-    where
-      goal : Type 0
-      goal = ((belongs && is_eq (pair_cmp (device, call) (d, c))) || contains pair_cmp old (d, c)) ≡ true
-
-      was : is_some (connection_of s c d) ≡ true → goal
-      was f = or_right (belongs && is_eq (pair_cmp (device, call) (d, c))) (contains pair_cmp old (d, c)) (h c d f)
-
-      here : (call == c) ≡ true → (device == d) ≡ true → goal
-      here p q = found (is_some (connection_of s call device)) refl
-        where
-          found : (v : Bool) → is_some (connection_of s call device) ≡ v → goal
-          found true f = was (sym (ap is_some (ap (λ k. connection_of s k device) (eqb-true call c p) ∙ ap (connection_of s c) (eqb-true device d q))) ∙ f)
-          found false f = or_left (belongs && is_eq (pair_cmp (device, call) (d, c))) (contains pair_cmp old (d, c))
-              (and_from belongs (is_eq (pair_cmp (device, call) (d, c))) (b ∙ ap not f) (pair_key device call (d, c) ∙ and_from (device == d) (call == c) q p))
-
-      by : (x : Bool) → (call == c) ≡ x → (y : Bool) → (device == d) ≡ y → goal
-      by true p true q = here p q
-      by true p false q = was (elsewhere c d (and_right (call == c) (device == d) q) e)
-      by false p y q = was (elsewhere c d (and_left (call == c) (device == d) p) e)
-
-pub Lines-removed : (s t : Rows) (call device : ℕ) → Replaces s t call device None → (old lines : BTreeSet (ℕ × ℕ)) → Lines s old → Forgotten pair_cmp old lines (device, call) true → Lines t lines
-Lines-removed s t call device r old lines h w c d e = w (d, c) ∙ ap (λ b. not b && contains pair_cmp old (d, c)) (pair_key device call (d, c)) ∙ by (call == c) refl (device == d) refl
-  where
-    by : (x : Bool) → (call == c) ≡ x → (y : Bool) → (device == d) ≡ y → (not (device == d && call == c) && contains pair_cmp old (d, c)) ≡ true
-    by true p true q =
-        let gone : is_some (connection_of t c d) ≡ false = ap is_some (r.found c d ∙ ap (λ b. cond b None (connection_of s c d)) (and_from (call == c) (device == d) p q)) in
-        absurd (cc (gone, e))
-    by true p false q = ap (λ b. not b && contains pair_cmp old (d, c)) (and_left (device == d) (call == c) q) ∙ h c d (elsewhere s t call device None r c d (and_right (call == c) (device == d) q) e)
-    by false p y q = ap (λ b. not b && contains pair_cmp old (d, c)) (and_right (device == d) (call == c) p) ∙ h c d (elsewhere s t call device None r c d (and_left (call == c) (device == d) p) e)
-
-pub Lines-kept : (s t : Rows) (lines : BTreeSet (ℕ × ℕ)) → ((c d : ℕ) → is_some (connection_of t c d) ≡ true → is_some (connection_of s c d) ≡ true) → Lines s lines → Lines t lines
-Lines-kept s t lines f h c d e = h c d (f c d e)
-
--- the agent takes a station that no other has
-pub Seats-taken : (s : Rows) (old new : SeatMap) (item : AgentRecord) → IsAscending agent_order s.agents → Seats s old → IsFreeFor s item
-    → ((d : ℕ) → seat_of new d ≡ cond (has item.station d) (Some item.agent) (seat_of old d)) → Seats s new
-Seats-taken s old new item ascending h free w n d a e f = w d ∙ by (has item.station d) refl
-  where
-    by : (b : Bool) → has item.station d ≡ b → cond b (Some item.agent) (seat_of old d) ≡ Some n
-    by true p = ap Some (sym (free d a (has_is item.station d p) (seated s old ascending h n d a e f)) ∙ agent_key s n a e)
-    by false p = h n d a e f
-
-pub Seats-put : (s : Rows) (old new : SeatMap) (item : AgentRecord) → ((d : ℕ) → seat_of new d ≡ cond (has item.station d) (Some item.agent) (seat_of old d)) → Seats s new → Seats (with_agent s item) new
-Seats-put s old new item w h n d a e f = by (item.agent == n) refl
-  where
-    by : (b : Bool) → (item.agent == n) ≡ b → seat_of new d ≡ Some n
-    by true p =
-        let same : item ≡ a = some_is item a (sym (ap (λ b. cond b (Some item) (agent_of s n)) p) ∙ sym (agent_put s item n) ∙ e) in
-        let station : item.station ≡ Some d = ap (λ (z : AgentRecord). z.station) same ∙ f in
-        w d ∙ ap (λ b. cond b (Some item.agent) (seat_of old d)) (ap (λ o. has o d) station ∙ eq-eqb d d refl) ∙ ap Some (eqb-true item.agent n p)
-    by false p = h n d a (sym (ap (λ b. cond b (Some item) (agent_of s n)) p) ∙ sym (agent_put s item n) ∙ e) f
-
-stayed : (o : Option AgentRecord) (station : Option ℕ) → stays o station ≡ true → (a : AgentRecord) × (o ≡ Some a) × ((d : ℕ) → station ≡ Some d → a.station ≡ Some d)
-stayed o None e = absurd (cc (e))
-stayed None (Some d) e = absurd (cc (e))
-stayed (Some a) (Some d) e = (a, refl, λ k f. has_is a.station d e ∙ f)
-
--- the agent is at its station already
-pub Seats-stay : (s : Rows) (seats : SeatMap) (item : AgentRecord) (old : Option AgentRecord) → old ≡ agent_of s item.agent → stays old item.station ≡ true → Seats s seats → Seats (with_agent s item) seats
-Seats-stay s seats item old found stay h n d a e f = by (item.agent == n) refl
-  where
-    by : (b : Bool) → (item.agent == n) ≡ b → seat_of seats d ≡ Some n
-    by true p =
-        let same : item ≡ a = some_is item a (sym (ap (λ b. cond b (Some item) (agent_of s n)) p) ∙ sym (agent_put s item n) ∙ e) in
-        let was = stayed old item.station stay in
-        h item.agent d was.0 (sym found ∙ was.1) (was.2 d (ap (λ (z : AgentRecord). z.station) same ∙ f)) ∙ ap Some (eqb-true item.agent n p)
-    by false p = h n d a (sym (ap (λ b. cond b (Some item) (agent_of s n)) p) ∙ sym (agent_put s item n) ∙ e) f
-
-pub Seats-same : (s : Rows) (old new : SeatMap) → ((d : ℕ) → seat_of new d ≡ seat_of old d) → Seats s old → Seats s new
-Seats-same s old new w h n d a e f = w d ∙ h n d a e f
-
-pub Seats-kept : (s t : Rows) (seats : SeatMap) → ((n : ℕ) → agent_of t n ≡ agent_of s n) → Seats s seats → Seats t seats
-Seats-kept s t seats f h n d a e g = h n d a (sym (f n) ∙ e) g
 
 -- how many are queued after a change of one connection
 removed_none : {X : Type 0} (at : X → Ordering) (xs : List X) → find_by at xs ≡ None → remove_by at xs ≡ xs
@@ -264,8 +186,8 @@ module _ (s t : Rows) (agents : t.agents ≡ s.agents) (connections : t.connecti
     able = λ g p. mr g p ∙ h.able g p ∙ ap (is_able_since s g p.0) (sym (agent_same p.1)) ∙ sym (able_same g p.0 (agent_of t p.1));
     offers = offers;
     seats = Seats-kept s t x.seats agent_same h.seats;
-    lines = Lines-kept s t x.lines (λ c d e. sym (ap is_some (found_same c d)) ∙ e) h.lines;
-    ringing = λ p e. h.ringing p (sym (ap rings (found_same p.0 p.1)) ∙ e);
+    lines = λ p. h.lines p ∙ sym (ap is_some (found_same p.1 p.0));
+    ringing = λ p. h.ringing p ∙ sym (ap rings (found_same p.0 p.1));
     working = Working-kept s t x.working agent_same h.working;
     queued = h.queued ∙ ap (λ (l : List ConnectionRecord). length (filter (λ (c : ConnectionRecord). is_queued c.state) l)) (sym connections);
   }
@@ -427,50 +349,19 @@ IsIndexed-offering s x offering h offers = IsIndexed-lists s s refl refl x x.que
 pub IsIndexed-noted_more : (s : Rows) (x : Indexes) (offering : BTreeSet OfferKey) → IsIndexed s x → ((k : OfferKey) → contains offer_cmp x.offering k ≡ true → contains offer_cmp offering k ≡ true) → IsIndexed s (record x { offering = offering })
 IsIndexed-noted_more s x offering h more = IsIndexed-offering s x offering h (offers-more s x.queues x.ready offering x.offering h.offers more)
 
--- what may be listed besides
-IsIndexed-besides : (s : Rows) (x : Indexes) (seats : SeatMap) (lines : BTreeSet (ℕ × ℕ)) (ringing : BTreeSet (ℕ × ℕ)) (working : BTreeSet ℕ) → IsIndexed s x → Seats s seats → Lines s lines → Ringing s ringing → Working s working
-    → IsIndexed s (record x { seats = seats; lines = lines; ringing = ringing; working = working })
-IsIndexed-besides s x seats lines ringing working h d l r w = record {
-  groups = h.groups;
-  agents = h.agents;
-  connections = h.connections;
-  queues = h.queues;
-  readies = h.readies;
-  waiting = h.waiting;
-  able = h.able;
-  offers = h.offers;
-  seats = d;
-  lines = l;
-  ringing = r;
-  working = w;
-  queued = h.queued;
-}
-
-pub IsIndexed-seats : (s : Rows) (x : Indexes) (seats : SeatMap) → IsIndexed s x → Seats s seats → IsIndexed s (record x { seats = seats })
-IsIndexed-seats s x seats h l = IsIndexed-besides s x seats x.lines x.ringing x.working h l h.lines h.ringing h.working
-
-pub IsIndexed-lines : (s : Rows) (x : Indexes) (lines : BTreeSet (ℕ × ℕ)) → IsIndexed s x → Lines s lines → IsIndexed s (record x { lines = lines })
-IsIndexed-lines s x lines h l = IsIndexed-besides s x x.seats lines x.ringing x.working h h.seats l h.ringing h.working
-
-pub IsIndexed-ringing : (s : Rows) (x : Indexes) (ringing : BTreeSet (ℕ × ℕ)) → IsIndexed s x → Ringing s ringing → IsIndexed s (record x { ringing = ringing })
-IsIndexed-ringing s x ringing h r = IsIndexed-besides s x x.seats x.lines ringing x.working h h.seats h.lines r h.working
-
-pub IsIndexed-working : (s : Rows) (x : Indexes) (working : BTreeSet ℕ) → IsIndexed s x → Working s working → IsIndexed s (record x { working = working })
-IsIndexed-working s x working h w = IsIndexed-besides s x x.seats x.lines x.ringing working h h.seats h.lines h.ringing w
-
--- a connection is listed before it is put
-pub IsIndexed-noted : (s : Rows) (x : Indexes) (lines : BTreeSet (ℕ × ℕ)) (ringing : BTreeSet (ℕ × ℕ)) → IsIndexed s x → Lines s lines → Ringing s ringing → IsIndexed s (record x { lines = lines; ringing = ringing })
-IsIndexed-noted s x lines ringing h l r = IsIndexed-besides s x x.seats lines ringing x.working h h.seats l r h.working
-
--- an agent is listed before it is put
-pub IsIndexed-seated : (s : Rows) (x : Indexes) (seats : SeatMap) (working : BTreeSet ℕ) → IsIndexed s x → Seats s seats → Working s working → IsIndexed s (record x { seats = seats; working = working })
-IsIndexed-seated s x seats working h d w = IsIndexed-besides s x seats x.lines x.ringing working h d h.lines h.ringing w
-
 -- an agent's record is put
-pub IsIndexed-agent : (s : Rows) (item : AgentRecord) (x y z : Indexes) (turn : Turn) → IsIndexed s x → Entered s x y turn.entering → TakenOut (with_agent s item) y z turn.leaving → TurnsTo s (with_agent s item) turn → Seats (with_agent s item) x.seats
-    → Working (with_agent s item) x.working → IsIndexed (with_agent s item) z
+pub IsIndexed-agent : (s : Rows) (item : AgentRecord) (x y z : Indexes) (seats : SeatMap) (working : BTreeSet ℕ) (turn : Turn) → IsIndexed s x → Entered s x y turn.entering
+    → TakenOut (with_agent s item) (record y { seats = seats; working = working }) z turn.leaving → TurnsTo s (with_agent s item) turn → Seats (with_agent s item) seats → Working (with_agent s item) working → IsIndexed (with_agent s item) z
 unfolding with_agent group_of connection_of queued_in_all
-IsIndexed-agent s item x y z turn h e o w seats working = IsIndexed-turned s (with_agent s item) x y z turn z.queued h e o w refl (ascending-put agent_order agents_total item s.agents h.agents) h.connections seats h.lines h.ringing working (o.rest.queued ∙ e.rest.queued ∙ h.queued)
+IsIndexed-agent s item x y z at_seats worked turn h e o w seats working =
+    IsIndexed-turned s (with_agent s item) x y z at_seats y.lines y.ringing worked turn z.queued h e o w refl (ascending-put agent_order agents_total item s.agents h.agents) h.connections seats
+    (subst (Lines s) (sym e.rest.lines) h.lines) (subst (Ringing s) (sym e.rest.ringing) h.ringing) working (o.rest.queued ∙ e.rest.queued ∙ h.queued)
+
+-- and one that wasn't put
+pub IsIndexed-no_agent : (s : Rows) (x y z : Indexes) (seats : SeatMap) (working : BTreeSet ℕ) (entries undo : Entries) → IsIndexed s x → Entered s x y entries → Undone x y undo → TakenOut s (record y { seats = seats; working = working }) z undo
+    → Seats s seats → Working s working → IsIndexed s z
+IsIndexed-no_agent s x y z at_seats worked entries undo h e u o seats working =
+    IsIndexed-undone s x y z at_seats y.lines y.ringing worked entries undo h e u o seats (subst (Lines s) (sym e.rest.lines) h.lines) (subst (Ringing s) (sym e.rest.ringing) h.ringing) working
 
 agents_put : (s : Rows) (c : ConnectionRecord) → IsAscending agent_order s.agents → IsAscending agent_order (with_connection s c).agents
 unfolding with_connection
@@ -493,29 +384,40 @@ unfolding without_connection
 groups_less s c d = refl
 
 -- a connection is put
-pub IsIndexed-put : (s : Rows) (c : ConnectionRecord) (x y z : Indexes) (turn : Turn) (n : ℕ) → IsIndexed s x → Entered s x y turn.entering → TakenOut (with_connection s c) y z turn.leaving → TurnsTo s (with_connection s c) turn
-    → Lines (with_connection s c) x.lines → Ringing (with_connection s c) x.ringing → n ≡ length (queued_in_all (with_connection s c)) → IsIndexed (with_connection s c) (record z { queued = n })
-IsIndexed-put s c x y z turn n h e o w lines ringing queued =
+pub IsIndexed-put : (s : Rows) (c : ConnectionRecord) (x y z : Indexes) (lines : BTreeSet (ℕ × ℕ)) (ringing : BTreeSet (ℕ × ℕ)) (turn : Turn) (n : ℕ) → IsIndexed s x → Entered s x y turn.entering
+    → TakenOut (with_connection s c) (record y { lines = lines; ringing = ringing }) z turn.leaving → TurnsTo s (with_connection s c) turn
+    → Lines (with_connection s c) lines → Ringing (with_connection s c) ringing → n ≡ length (queued_in_all (with_connection s c)) → IsIndexed (with_connection s c) (record z { queued = n })
+IsIndexed-put s c x y z listed rung turn n h e o w lines ringing queued =
     let r = Replaces-put s c h.connections in
-    IsIndexed-turned s (with_connection s c) x y z turn n h e o w (groups_put s c) (agents_put s c h.agents) r.ascending (Seats-kept s (with_connection s c) x.seats r.agents h.seats) lines ringing (Working-kept s (with_connection s c) x.working r.agents h.working) queued
+    IsIndexed-turned s (with_connection s c) x y z y.seats listed rung y.working turn n h e o w (groups_put s c) (agents_put s c h.agents) r.ascending
+    (subst (Seats (with_connection s c)) (sym e.rest.seats) (Seats-kept s (with_connection s c) x.seats r.agents h.seats)) lines ringing
+    (subst (Working (with_connection s c)) (sym e.rest.working) (Working-kept s (with_connection s c) x.working r.agents h.working)) queued
+
+-- and one that wasn't put
+pub IsIndexed-no_put : (s : Rows) (x y z : Indexes) (lines : BTreeSet (ℕ × ℕ)) (ringing : BTreeSet (ℕ × ℕ)) (entries undo : Entries) → IsIndexed s x → Entered s x y entries → Undone x y undo → TakenOut s (record y { lines = lines; ringing = ringing }) z undo
+    → Lines s lines → Ringing s ringing → IsIndexed s z
+IsIndexed-no_put s x y z listed rung entries undo h e u o lines ringing =
+    IsIndexed-undone s x y z y.seats listed rung y.working entries undo h e u o (subst (Seats s) (sym e.rest.seats) h.seats) lines ringing (subst (Working s) (sym e.rest.working) h.working)
 
 -- a connection is removed
-pub IsIndexed-removed : (s : Rows) (call device : ℕ) (x y z : Indexes) (turn : Turn) (n : ℕ) (lines : BTreeSet (ℕ × ℕ)) (ringing : BTreeSet (ℕ × ℕ)) (gone : Bool) → IsIndexed s x → Entered s x y turn.entering → TakenOut (without_connection s call device) y z turn.leaving
-    → TurnsTo s (without_connection s call device) turn → Forgotten pair_cmp z.lines lines (device, call) true → Forgotten pair_cmp z.ringing ringing (call, device) gone → n ≡ length (queued_in_all (without_connection s call device))
-    → IsIndexed (without_connection s call device) (record z { queued = n; lines = lines; ringing = ringing })
-IsIndexed-removed s call device x y z turn n lines ringing gone h e o w listed noted queued =
+pub IsIndexed-removed : (s : Rows) (call device : ℕ) (x y z : Indexes) (lines : BTreeSet (ℕ × ℕ)) (ringing : BTreeSet (ℕ × ℕ)) (turn : Turn) (n : ℕ) (gone : Bool) → IsIndexed s x → Entered s x y turn.entering
+    → TakenOut (without_connection s call device) (record y { lines = lines; ringing = ringing }) z turn.leaving → TurnsTo s (without_connection s call device) turn
+    → gone ≡ rings (connection_of s call device) → Forgotten pair_cmp y.ringing ringing (call, device) gone → Forgotten pair_cmp y.lines lines (device, call) true → n ≡ length (queued_in_all (without_connection s call device))
+    → IsIndexed (without_connection s call device) (record z { queued = n })
+IsIndexed-removed s call device x y z listed rung turn n gone h e o w g forgotten unlisted queued =
     let t : Rows = without_connection s call device in
     let r = Replaces-removed s call device h.connections in
-    let still : Lines t x.lines = Lines-kept s t x.lines (λ c d f. left c d ((call == c) && (device == d)) (r.found c d) f) h.lines in
-    let rung : Ringing t x.ringing = Ringing-put s t call device None r x.ringing x.ringing false refl h.ringing (λ p. refl) in
-    let now = IsIndexed-turned s t x y z turn n h e o w (groups_less s call device) (agents_less s call device h.agents) r.ascending (Seats-kept s t x.seats r.agents h.seats) still rung (Working-kept s t x.working r.agents h.working) queued in
-    let same : z.lines ≡ x.lines = o.rest.lines ∙ e.rest.lines in
-    IsIndexed-besides t (record z { queued = n }) z.seats lines ringing z.working now now.seats (Lines-removed s t call device r z.lines lines (subst (Lines s) (sym same) h.lines) listed)
-    (Ringing-left s t call device None r z.ringing ringing gone (λ g. refl) now.ringing noted) now.working
+    let lines : Lines t listed = Lines-removed s t call device None r y.lines listed refl (subst (Lines s) (sym e.rest.lines) h.lines) unlisted in
+    let ringing : Ringing t rung = Ringing-put s t call device None r y.ringing y.ringing rung false gone refl (g ∙ still (rings (connection_of s call device))) (subst (Ringing s) (sym e.rest.ringing) h.ringing) (λ p. refl) forgotten in
+    IsIndexed-turned s t x y z y.seats listed rung y.working turn n h e o w (groups_less s call device) (agents_less s call device h.agents) r.ascending
+    (subst (Seats t) (sym e.rest.seats) (Seats-kept s t x.seats r.agents h.seats)) lines ringing (subst (Working t) (sym e.rest.working) (Working-kept s t x.working r.agents h.working)) queued
   where
-    left : (c d : ℕ) (b : Bool) → connection_of (without_connection s call device) c d ≡ cond b None (connection_of s c d) → is_some (connection_of (without_connection s call device) c d) ≡ true → is_some (connection_of s c d) ≡ true
-    left c d true e f = absurd (cc (e, f))
-    left c d false e f = sym (ap is_some e) ∙ f
+    still : (b : Bool) → b ≡ (b && not false)
+    still true = refl
+    still false = refl
+
+no_key : {K : Type 0} (cmp : K → K → Ordering) (set : BTreeSet K) → set.keys ≡ [] → (k : K) → contains cmp set k ≡ false
+no_key cmp set e k = ap (list_any (λ j. is_eq (cmp k j))) e
 
 -- no group, agent and connection, and nothing in the indexes
 module _ (s : Rows) (x : Indexes) (no_groups : s.groups ≡ []) (no_agents : s.agents ≡ []) (no_connections : s.connections ≡ []) (blank : IsBlank x) where
@@ -549,10 +451,10 @@ module _ (s : Rows) (x : Indexes) (no_groups : s.groups ≡ []) (no_agents : s.a
     waiting = λ g p. no_member x.queues blank.queues g p ∙ sym (ap (waits_at p.0) (no_connection p.1 g));
     able = λ g p. no_member x.ready blank.ready g p ∙ sym (ap (is_able_since s g p.0) (no_agent p.1));
     offers = λ g r p q there h k. absurd (cc (h, no_member x.queues blank.queues g p));
-    seats = λ n d a e f. absurd (cc (e, no_agent n));
-    lines = λ c d e. absurd (cc (e, ap is_some (no_connection c d)));
-    ringing = λ p e. absurd (cc (e, ap rings (no_connection p.0 p.1)));
-    working = λ n e. absurd (cc (e, ap works (no_agent n)));
+    seats = λ n d. ap (λ es. has (lookup (λ e. d == e) es) n) blank.seats ∙ sym (ap (λ o. has (own_station o) d) (no_agent n));
+    lines = λ p. no_key pair_cmp x.lines blank.lines p ∙ sym (ap is_some (no_connection p.1 p.0));
+    ringing = λ p. no_key pair_cmp x.ringing blank.ringing p ∙ sym (ap rings (no_connection p.0 p.1));
+    working = λ n. no_key nat_cmp x.working blank.working n ∙ sym (ap works (no_agent n));
     queued = blank.queued ∙ none_queued;
   }
 

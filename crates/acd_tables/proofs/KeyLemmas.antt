@@ -1,5 +1,5 @@
 -- The keys of connections, and the connections of a call.
-use Rattle.std.proofs.Common.{◌≡◌, ◌<◌, ℕ, length, arith, inl, Bool, true, false, cond, not, ◌&&◌, ◌||◌, List, [], ◌∷◌, Some, None, refl, sym, ap, subst, ◌∙◌}
+use Rattle.std.proofs.Common.{◌≡◌, ◌<◌, ℕ, length, arith, inl, Bool, true, false, cond, not, ◌&&◌, ◌||◌, List, [], ◌∷◌, Option, Some, None, refl, sym, ap, subst, ◌∙◌}
 use Rattle.std.specs.Prelude.{◌==◌, find, filter, is_some}
 use Rattle.std.specs.List.{filter_map}
 use Rattle.std.specs.List.Sorted.{IsStrictlySortedBy}
@@ -7,7 +7,7 @@ use Rattle.std.specs.Ordering.{is_eq}
 use Rattle.std.specs.BTreeSet.{BTreeSet, contains}
 use Rattle.std.specs.Cmp.{both_ways}
 use Rattle.std.specs.List.{list_any}
-use Rattle.std.proofs.lemmas.Bool.{and_from, or_left, or_right, eqb-true, eq-eqb}
+use Rattle.std.proofs.lemmas.Bool.{and_parts, eqb-true, eq-eqb}
 use Rattle.acd_terms.specs.Lists.{find_by, put_by, remove_by, Among, IsAscending}
 use Rattle.acd_terms.specs.declared.record.ConnectionRecord.{ConnectionRecord}
 use Rattle.acd_model.specs.Rules.Plan.{connection_order}
@@ -18,58 +18,64 @@ use Rattle.acd_laws.proofs.State.{by_connection, connections_total, is_of, is_of
 use Rattle.acd_tables.specs.Indexed.{pair_cmp}
 use Rattle.acd_tables.specs.Sets.{Noted, Forgotten}
 use Rattle.acd_tables.specs.Near.{of_key, HasKeys}
-use Rattle.acd_tables.proofs.NoteLemmas.{notes-left}
+use Rattle.acd_tables.proofs.NoteLemmas.{notes-come, notes-gone, notes-left}
 use Rattle.acd_tables.proofs.Picked.{picked, contained, exact_pair}
 use Rattle.acd_tables.proofs.TurnLemmas.{pair_key}
 
-flipped : (b : Bool) → not b ≡ false → b ≡ true
-flipped true e = refl
-flipped false e = absurd (cc (e))
+pub flipped : (b c : Bool) → b ≡ not c → c ≡ not b
+flipped true true e = absurd (cc (e))
+flipped true false e = refl
+flipped false true e = refl
+flipped false false e = absurd (cc (e))
+
+module _ (cs : List ConnectionRecord) (call device : ℕ) where
+  -- what is found at a key is found at an equal one
+  key-at : (p : ℕ × ℕ) → is_eq (pair_cmp (call, device) p) ≡ true → is_some (find_by (at_connection p.0 p.1) cs) ≡ is_some (find_by (at_connection call device) cs)
+  key-at p e =
+      let parts = and_parts (call == p.0) (device == p.1) (sym (pair_key call device p) ∙ e) in
+      sym (ap (λ c. is_some (find_by (at_connection c device) cs)) (eqb-true call p.0 parts.0) ∙ ap (λ d. is_some (find_by (at_connection p.0 d) cs)) (eqb-true device p.1 parts.1))
 
 module _ (cs : List ConnectionRecord) (old new : BTreeSet (ℕ × ℕ)) (h : HasKeys cs old) where
   -- a connection that is put, whose key came if it is new
   pub keys-put : (x : ConnectionRecord) (b : Bool) → is_some (find_by (at_connection x.call x.device) cs) ≡ not b → Noted pair_cmp old new (x.call, x.device) b → HasKeys (put_by (connection_order x) cs x) new
   keys-put x b is w = record {
     ascending = ascending-put connection_order connections_total x cs h.ascending;
-    noted = λ p e. w p ∙ by p (is_of p.0 p.1 x) refl (is_some (find_by (at_connection p.0 p.1) cs)) refl (sym (some_put by_connection cs x p) ∙ e);
+    noted = notes-come pair_cmp (λ p. is_some (find_by (at_connection p.0 p.1) cs)) old new (x.call, x.device) (λ p. is_some (find_by (at_connection p.0 p.1) (put_by (connection_order x) cs x)))
+        (is_some (find_by (at_connection x.call x.device) cs)) b (flipped (is_some (find_by (at_connection x.call x.device) cs)) b is) (key-at cs x.call x.device) changed h.noted w;
   }
     where
-      new_key : (p : ℕ × ℕ) → is_of p.0 p.1 x ≡ true → is_some (find_by (at_connection p.0 p.1) cs) ≡ false → b ≡ true
-      new_key p q n =
-          let k = is_of_true p.0 p.1 x q in
-          flipped b (sym is ∙ ap (λ c. is_some (find_by (at_connection c x.device) cs)) k.0 ∙ ap (λ d. is_some (find_by (at_connection p.0 d) cs)) k.1 ∙ n)
+      or_cond : (b v : Bool) → (b || v) ≡ cond b true v
+      or_cond true v = refl
+      or_cond false v = refl
 
-      at_key : (p : ℕ × ℕ) → is_of p.0 p.1 x ≡ true → is_eq (pair_cmp (x.call, x.device) p) ≡ true
-      at_key p q = let k = is_of_true p.0 p.1 x q in pair_key x.call x.device p ∙ and_from (x.call == p.0) (x.device == p.1) (eq-eqb x.call p.0 k.0) (eq-eqb x.device p.1 k.1)
+      changed : (p : ℕ × ℕ) → is_some (find_by (at_connection p.0 p.1) (put_by (connection_order x) cs x)) ≡ cond (is_eq (pair_cmp (x.call, x.device) p)) true (is_some (find_by (at_connection p.0 p.1) cs))
+      changed p =
+          some_put by_connection cs x p ∙ or_cond (is_of p.0 p.1 x) (is_some (find_by (at_connection p.0 p.1) cs))
+          ∙ ap (λ v. cond v true (is_some (find_by (at_connection p.0 p.1) cs))) (sym (pair_key x.call x.device p))
 
-      by : (p : ℕ × ℕ) (o : Bool) → is_of p.0 p.1 x ≡ o → (t : Bool) → is_some (find_by (at_connection p.0 p.1) cs) ≡ t → (o || is_some (find_by (at_connection p.0 p.1) cs)) ≡ true
-          → ((b && is_eq (pair_cmp (x.call, x.device) p)) || contains pair_cmp old p) ≡ true
-      by p o q true t e = or_right (b && is_eq (pair_cmp (x.call, x.device) p)) (contains pair_cmp old p) (h.noted p t)
-      by p true q false t e = or_left (b && is_eq (pair_cmp (x.call, x.device) p)) (contains pair_cmp old p) (and_from b (is_eq (pair_cmp (x.call, x.device) p)) (new_key p q t) (at_key p q))
-      by p false q false t e = absurd (cc (t, e))
-
-  -- more keys may be there
-  pub keys-more : (k : ℕ × ℕ) (b : Bool) → Noted pair_cmp old new k b → HasKeys cs new
-  keys-more k b w = record {
+  -- a connection that isn't put, whose key came and went
+  pub keys-back : (mid : BTreeSet (ℕ × ℕ)) (call device : ℕ) (b : Bool) → is_some (find_by (at_connection call device) cs) ≡ not b → Noted pair_cmp old mid (call, device) b → Forgotten pair_cmp mid new (call, device) b → HasKeys cs new
+  keys-back mid call device b is w f = record {
     ascending = h.ascending;
-    noted = λ p e. w p ∙ or_right (b && is_eq (pair_cmp k p)) (contains pair_cmp old p) (h.noted p e);
+    noted = notes-gone pair_cmp (λ p. is_some (find_by (at_connection p.0 p.1) cs)) old new (call, device) mid
+        (is_some (find_by (at_connection call device) cs)) b (flipped (is_some (find_by (at_connection call device) cs)) b is) (key-at cs call device) h.noted w f;
   }
 
   pub keys-same : ((k : ℕ × ℕ) → contains pair_cmp new k ≡ contains pair_cmp old k) → HasKeys cs new
-  keys-same w = record { ascending = h.ascending; noted = λ p e. w p ∙ h.noted p e }
+  keys-same w = record { ascending = h.ascending; noted = λ p. w p ∙ h.noted p }
 
   -- a connection that is removed, whose key went
   pub keys-remove : (call device : ℕ) → Forgotten pair_cmp old new (call, device) true → HasKeys (remove_by (at_connection call device) cs) new
   keys-remove call device w = record {
     ascending = ascending-remove connection_order (at_connection call device) cs h.ascending;
-    noted = notes-left pair_cmp (λ p. is_some (find_by (at_connection p.0 p.1) (remove_by (at_connection call device) cs))) old new (call, device) true
-        (λ p g e. ap is_some (left_at cs h.ascending call device p.0 p.1) ∙ ap (λ b. is_some (cond b None (find_by (at_connection p.0 p.1) cs))) (sym (pair_key call device p) ∙ e))
-        (λ p e. h.noted p (by p (call == p.0 && device == p.1) (sym (ap is_some (left_at cs h.ascending call device p.0 p.1)) ∙ e))) w;
+    noted = notes-left pair_cmp (λ p. is_some (find_by (at_connection p.0 p.1) cs)) old new (call, device) (λ p. is_some (find_by (at_connection p.0 p.1) (remove_by (at_connection call device) cs)))
+        (λ p. ap is_some (left_at cs h.ascending call device p.0 p.1) ∙ gone (call == p.0 && device == p.1) (find_by (at_connection p.0 p.1) cs) ∙ ap (λ b. cond b false (is_some (find_by (at_connection p.0 p.1) cs))) (sym (pair_key call device p)))
+        h.noted w;
   }
     where
-      by : (p : ℕ × ℕ) (b : Bool) → is_some (cond b None (find_by (at_connection p.0 p.1) cs)) ≡ true → is_some (find_by (at_connection p.0 p.1) cs) ≡ true
-      by p true e = absurd (cc (e))
-      by p false e = e
+      gone : (b : Bool) (o : Option ConnectionRecord) → is_some (cond b None o) ≡ cond b false (is_some o)
+      gone true o = refl
+      gone false o = refl
 
 module _ (cs : List ConnectionRecord) (call : ℕ) where
   key-own : (p : ℕ × ℕ) (r : ConnectionRecord) → of_key cs call p ≡ Some r → (p.0 ≡ call) × (find_by (at_connection call p.1) cs ≡ Some r)
@@ -116,7 +122,7 @@ pub none-there : (cs : List ConnectionRecord) (keys : BTreeSet (ℕ × ℕ)) →
 none-there [] keys h e = refl
 none-there (x ∷ xs) keys h e =
     let found = ap is_some (found_own by_connection (x ∷ xs) h.ascending x (inl refl)) in
-    absurd (subst (Among (x.call, x.device)) e (contained pair_cmp exact_pair keys (x.call, x.device) (h.noted (x.call, x.device) found)))
+    absurd (subst (Among (x.call, x.device)) e (contained pair_cmp exact_pair keys (x.call, x.device) (h.noted (x.call, x.device) ∙ found)))
 
 -- the first of those that pass one test that passes another
 pub find-both : {X : Type 0} (q p : X → Bool) (xs : List X) → find p (filter q xs) ≡ find (λ y. q y && p y) xs

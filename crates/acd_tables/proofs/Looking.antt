@@ -1,5 +1,5 @@
 -- What a scan of the connections or agents sees, by look-ups.
-use Rattle.std.proofs.Common.{◌≡◌, ℕ, Bool, true, false, cond, ◌&&◌, not, List, Option, Some, None, is_some, refl, ap, sym, ◌∙◌, subst}
+use Rattle.std.proofs.Common.{◌≡◌, ℕ, Bool, true, ◌&&◌, not, List, Option, Some, None, is_some, refl, ap, sym, ◌∙◌, subst}
 use Rattle.std.specs.Prelude.{◌==◌, find}
 use Rattle.std.specs.List.{list_any}
 use Rattle.std.specs.Cmp.{both_ways}
@@ -12,8 +12,8 @@ use Rattle.acd_model.specs.Rules.Plan.{agent_order, connection_order}
 use Rattle.acd_model.specs.Scans.{agent_of, agent_at, connection_of, has}
 use Rattle.acd_laws.proofs.Lists.{any_found, any_some, find_passes, find_among, some_from, some_found, none_from, some_is}
 use Rattle.acd_laws.proofs.State.{connection_among, connection_found, found_key, agent_among, agent_at_find, agent_seat, agent_there, has_is}
-use Rattle.acd_tables.specs.Indexed.{Seats, SeatMap, seat_of}
-use Rattle.acd_tables.specs.Uses.{is_there_and, if_at}
+use Rattle.acd_tables.specs.Indexed.{Seats, SeatMap, seat_of, own_station}
+use Rattle.acd_tables.specs.Uses.{is_there_and}
 
 -- a connection at the device that passes
 abbrev pub Standing : Rows → (ConnectionRecord → Bool) → ℕ → Type 0
@@ -59,6 +59,10 @@ any-listed s u d but ks ascending listed = both_ways _ _ to from
         any_some p ks (d, c.0.call) (listed c.0.call (ap is_some c.1)) (and_from (not (has but c.0.call)) (is_there_and u (connection_of s c.0.call d)) parts.0 (ap (is_there_and u) c.1 ∙ parts.1))
 
 module _ (s : Rows) (seats : SeatMap) (ascending : IsAscending agent_order s.agents) (listed : Seats s seats) where
+  -- the agent that stands at the station
+  seat : (n d : ℕ) (a : AgentRecord) → agent_of s n ≡ Some a → a.station ≡ Some d → seat_of seats d ≡ Some n
+  seat n d a e f = has_is (seat_of seats d) n (listed n d ∙ ap (λ o. has (own_station o) d) e ∙ ap (λ o. has o d) f ∙ eq-eqb d d refl)
+
   -- an agent with the station is the one that a scan finds
   pub seated : (n d : ℕ) (a : AgentRecord) → agent_of s n ≡ Some a → a.station ≡ Some d → agent_at s d ≡ Some a
   seated n d a e f =
@@ -66,31 +70,21 @@ module _ (s : Rows) (seats : SeatMap) (ascending : IsAscending agent_order s.age
       let there = some_found p s.agents a (agent_among s n a e) (ap (λ o. has o d) f ∙ eq-eqb d d refl) in
       let b = some_from (find p s.agents) there in
       let found : agent_at s d ≡ Some b.0 = agent_at_find s d ∙ b.1 in
-      let other = listed b.0.agent d b.0 (agent_there s ascending d b.0 found) (agent_seat s d b.0 found).1 in
-      let number : b.0.agent ≡ n = some_is _ _ (sym other ∙ listed n d a e f) in
+      let other = seat b.0.agent d b.0 (agent_there s ascending d b.0 found) (agent_seat s d b.0 found).1 in
+      let number : b.0.agent ≡ n = some_is _ _ (sym other ∙ seat n d a e f) in
       let same : b.0 ≡ a = some_is _ _ (sym (agent_there s ascending d b.0 found) ∙ ap (agent_of s) number ∙ e) in
       found ∙ ap Some same
 
-  -- nobody has a station that stands for no agent, or for one who isn't there
-  pub unseated : (d : ℕ) → ((b : AgentRecord) → seat_of seats d ≡ Some b.agent → agent_of s b.agent ≡ Some b → b.station ≡ Some d → ⊥) → agent_at s d ≡ None
-  unseated d none = none_from (agent_at s d) (λ b e.
-      let there = agent_there s ascending d b e in
-      let station = (agent_seat s d b e).1 in
-      none b (listed b.agent d b there station) there station)
-
+  -- nobody has a station at which nobody stands
   pub seat-none : (d : ℕ) → seat_of seats d ≡ None → agent_at s d ≡ None
-  seat-none d none = unseated d (λ b e there station. cc (e, none))
+  seat-none d none = none_from (agent_at s d) (λ b e. let there = seat b.agent d b (agent_there s ascending d b e) (agent_seat s d b e).1 in cc (there, none))
 
-  pub seat-some : (d n : ℕ) → seat_of seats d ≡ Some n → agent_at s d ≡ if_at (agent_of s n) d
+  pub seat-some : (d n : ℕ) → seat_of seats d ≡ Some n → agent_at s d ≡ agent_of s n
   seat-some d n there = by (agent_of s n) refl
     where
-      by : (o : Option AgentRecord) → agent_of s n ≡ o → agent_at s d ≡ if_at o d
-      by None e = unseated d (λ b at own station. cc (own, e, ap (agent_of s) (some_is b.agent n (sym at ∙ there))))
-      by (Some a) e = seat (has a.station d) refl
-        where
-          seat : (v : Bool) → has a.station d ≡ v → agent_at s d ≡ cond v (Some a) None
-          seat true h = seated n d a e (has_is a.station d h)
-          seat false h = unseated d (λ b at own station.
-              let same : b ≡ a = some_is b a (sym own ∙ ap (agent_of s) (some_is b.agent n (sym at ∙ there)) ∙ e) in
-              let here : has a.station d ≡ true = ap (λ (z : AgentRecord). has z.station d) (sym same) ∙ ap (λ o. has o d) station ∙ eq-eqb d d refl in
-              cc (h, here))
+      stands : (o : Option AgentRecord) → agent_of s n ≡ o → has (own_station o) d ≡ true
+      stands o e = sym (listed n d ∙ ap (λ v. has (own_station v) d) e) ∙ ap (λ v. has v n) there ∙ eq-eqb n n refl
+
+      by : (o : Option AgentRecord) → agent_of s n ≡ o → agent_at s d ≡ o
+      by None e = absurd (let no = stands None e in cc (no))
+      by (Some a) e = seated n d a e (has_is a.station d (stands (Some a) e))

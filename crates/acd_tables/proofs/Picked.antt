@@ -143,7 +143,7 @@ module _ (s : Rows) where
       back r a =
           let there = filter_among is_ringing s.connections r a in
           let found = connection_found s ascending r there.0 in
-          (contained pair_cmp exact_pair noted (r.call, r.device) (h (r.call, r.device) (ap rings found ∙ there.1)), ap (kept is_ringing) found ∙ kept-passes is_ringing r there.1)
+          (contained pair_cmp exact_pair noted (r.call, r.device) (h (r.call, r.device) ∙ ap rings found ∙ there.1), ap (kept is_ringing) found ∙ kept-passes is_ringing r there.1)
 
   pub picks-working : (noted : BTreeSet ℕ) → IsAscending agent_order s.agents → Working s noted → IsStrictlySortedBy nat_cmp noted.keys
       → filter_map (λ n. kept is_working (agent_of s n)) noted.keys ≡ filter is_working s.agents
@@ -160,7 +160,7 @@ module _ (s : Rows) where
       back r a =
           let there = filter_among is_working s.agents r a in
           let found = agent_found s ascending r there.0 in
-          (contained nat_cmp exact_number noted r.agent (h r.agent (ap works found ∙ there.1)), ap (kept is_working) found ∙ kept-passes is_working r there.1)
+          (contained nat_cmp exact_number noted r.agent (h r.agent ∙ ap works found ∙ there.1), ap (kept is_working) found ∙ kept-passes is_working r there.1)
 
 -- connections by their devices and calls
 abbrev by_line : ConnectionRecord → ConnectionRecord → Ordering

@@ -17,7 +17,7 @@ use Rattle.acd_terms.specs.declared.record.GroupRecord.{GroupRecord}
 use Rattle.acd_terms.specs.declared.record.AgentRecord.{AgentRecord}
 use Rattle.acd_terms.specs.declared.record.ConnectionRecord.{ConnectionRecord}
 use Rattle.acd_model.specs.Rules.Plan.{group_order, agent_order, connection_order}
-use Rattle.acd_model.specs.Scans.{is_group, group_of, agent_of, connection_of, queued_in_all}
+use Rattle.acd_model.specs.Scans.{is_group, group_of, agent_of, connection_of, queued_in_all, has}
 use Rattle.acd_tables.specs.Sets.{holds, has_set, Notes}
 use Rattle.acd_tables.specs.declared.indexes.Indexes.{Indexes}
 
@@ -81,7 +81,6 @@ abbrev pub ListsOffers : Rows → PairSets → PairSets → BTreeSet OfferKey �
 ListsOffers s queues ready offering = (g : ℕ) (r : GroupRecord) (p q : ℕ × ℕ) → group_of s g ≡ Some r → lists queues g p ≡ true → lists ready g q ≡ true
     → contains offer_cmp offering (offer_key r) ≡ true
 
--- each agent at a station has its number there
 -- stations and the agents there
 abbrev pub SeatMap : Type 0
 SeatMap = HashMap ℕ ℕ (BuildHasherDefault FoldHasher)
@@ -90,12 +89,18 @@ SeatMap = HashMap ℕ ℕ (BuildHasherDefault FoldHasher)
 abbrev pub seat_of : SeatMap → ℕ → Option ℕ
 seat_of seats d = get_by (λ e. d == e) seats
 
-abbrev pub Seats : Rows → SeatMap → Type 0
-Seats s seats = (n d : ℕ) (a : AgentRecord) → agent_of s n ≡ Some a → a.station ≡ Some d → seat_of seats d ≡ Some n
+-- the station of the agent that may be there
+abbrev pub own_station : Option AgentRecord → Option ℕ
+own_station None = None
+own_station (Some a) = a.station
 
--- each connection has its call at the device
+-- an agent stands at a station exactly where it is its own
+abbrev pub Seats : Rows → SeatMap → Type 0
+Seats s seats = (n d : ℕ) → has (seat_of seats d) n ≡ has (own_station (agent_of s n)) d
+
+-- the calls at a device are exactly those of its connections
 abbrev pub Lines : Rows → BTreeSet (ℕ × ℕ) → Type 0
-Lines s lines = (c d : ℕ) → is_some (connection_of s c d) ≡ true → joins lines d c ≡ true
+Lines s = Notes pair_cmp (λ p. is_some (connection_of s p.1 p.0))
 
 -- offered by distribution, and not answered
 abbrev pub is_ringing : ConnectionRecord → Bool
@@ -114,11 +119,11 @@ abbrev pub works : Option AgentRecord → Bool
 works None = false
 works (Some a) = is_working a
 
--- each offer that rings is noted
+-- exactly the offers that ring are noted
 abbrev pub Ringing : Rows → BTreeSet (ℕ × ℕ) → Type 0
 Ringing s = Notes pair_cmp (λ p. rings (connection_of s p.0 p.1))
 
--- each agent in after-call work is noted
+-- exactly the agents in after-call work are noted
 abbrev pub Working : Rows → BTreeSet ℕ → Type 0
 Working s = Notes nat_cmp (λ n. works (agent_of s n))
 
@@ -134,10 +139,10 @@ pub record IsIndexed (s : Rows) (x : Indexes) : Type 0 where
   pub waiting : (g : ℕ) (p : ℕ × ℕ) → lists x.queues g p ≡ waits_at p.0 (connection_of s p.1 g)
   pub able : (g : ℕ) (p : ℕ × ℕ) → lists x.ready g p ≡ is_able_since s g p.0 (agent_of s p.1)
   pub offers : ListsOffers s x.queues x.ready x.offering
-  -- who is at a station, and the calls at a device; more may be listed
+  -- who is at a station, and the calls at a device
   pub seats : Seats s x.seats
   pub lines : Lines s x.lines
-  -- what tick may end; more may be noted
+  -- what tick may end
   pub ringing : Ringing s x.ringing
   pub working : Working s x.working
   pub queued : x.queued ≡ length (queued_in_all s)

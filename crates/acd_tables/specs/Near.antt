@@ -22,7 +22,7 @@ end call device = if call == 2 ^ 64 - 1 then Unbounded else Excluded (call + 1, 
 abbrev pub of_key : List ConnectionRecord → ℕ → ℕ × ℕ → Option ConnectionRecord
 of_key cs call p = if p.0 == call then find_by (at_connection call p.1) cs else None
 
--- the key of each connection is there
+-- the keys are exactly those of the connections
 pub record HasKeys (cs : List ConnectionRecord) (keys : BTreeSet (ℕ × ℕ)) : Type 0 where
   pub ascending : IsAscending connection_order cs
   pub noted : Notes pair_cmp (λ p. is_some (find_by (at_connection p.0 p.1) cs)) keys

@@ -1,5 +1,5 @@
 -- Sets by key.
-use Rattle.std.specs.Prelude.{◌≡◌, Bool, true, false, not, ◌&&◌, ◌||◌, Option, Some, None, is_some, if◌then◌else◌}
+use Rattle.std.specs.Prelude.{◌≡◌, Bool, false, not, ◌&&◌, ◌||◌, Option, Some, None, is_some, if◌then◌else◌}
 use Rattle.std.specs.declared.cmp.Ordering.{Ordering}
 use Rattle.std.specs.Ordering.{is_eq}
 use Rattle.std.specs.BTreeMap.{BTreeMap, get}
@@ -40,9 +40,9 @@ module _ {K E : Type 0} (by : K → K → Ordering) (cmp : E → E → Ordering)
     pub members : SameMembers old new
 
 module _ {K : Type 0} (cmp : K → K → Ordering) where
-  -- each key that passes is in the set; there may be more
+  -- the set has exactly the keys that pass
   abbrev pub Notes : (K → Bool) → BTreeSet K → Type 0
-  Notes p noted = (k : K) → p k ≡ true → contains cmp noted k ≡ true
+  Notes p noted = (k : K) → contains cmp noted k ≡ p k
 
   -- the key came, if it belongs there
   abbrev pub Noted : BTreeSet K → BTreeSet K → K → Bool → Type 0

@@ -10,11 +10,11 @@ use Rattle.acd_terms.specs.declared.rows.Rows.{Rows}
 use Rattle.acd_terms.specs.declared.record.GroupRecord.{GroupRecord}
 use Rattle.acd_terms.specs.declared.record.AgentRecord.{AgentRecord}
 use Rattle.acd_terms.specs.declared.record.ConnectionRecord.{ConnectionRecord}
-use Rattle.acd_model.specs.Scans.{group_of, agent_of, agent_at, connection_of, has}
+use Rattle.acd_model.specs.Scans.{group_of, agent_of, connection_of, has}
 use Rattle.acd_model.specs.Choice.{waiting_pair, ready_pair}
 use Rattle.acd_model.specs.Writes.{with_connection, without_connection}
 use Rattle.acd_tables.specs.Sets.{holds, has_set, Stays}
-use Rattle.acd_tables.specs.Indexed.{pair_cmp, waits_at, is_able_since, OfferKey, offer_cmp, offer_key, ListsOffers}
+use Rattle.acd_tables.specs.Indexed.{pair_cmp, waits_at, is_able_since, OfferKey, offer_cmp, offer_key, ListsOffers, SeatMap, seat_of}
 use Rattle.acd_tables.specs.declared.indexes.Indexes.{Indexes}
 use Rattle.acd_tables.specs.declared.indexes.Entries.{Entries}
 use Rattle.acd_tables.specs.declared.indexes.Turn.{Turn}
@@ -128,20 +128,30 @@ abbrev pub one_queued : Option ConnectionRecord → ℕ
 one_queued None = 0
 one_queued (Some c) = if is_queued c.state then 1 else 0
 
--- the agent that may be there has the station
-abbrev pub stays : Option AgentRecord → Option ℕ → Bool
-stays o None = false
-stays None (Some d) = false
-stays (Some a) (Some d) = has a.station d
+-- whoever stands at the agent's station is that agent
+abbrev pub IsFreeFor : SeatMap → AgentRecord → Type 0
+IsFreeFor seats item = (d n : ℕ) → has item.station d ≡ true → has (seat_of seats d) n ≡ true → item.agent ≡ n
 
--- whoever is at the agent's station is that agent
-abbrev pub IsFreeFor : Rows → AgentRecord → Type 0
-IsFreeFor s item = (d : ℕ) (b : AgentRecord) → item.station ≡ Some d → agent_at s d ≡ Some b → b.agent ≡ item.agent
+-- the agent stands at the station, if it is at one
+abbrev pub Sits : SeatMap → SeatMap → Option ℕ → ℕ → Type 0
+Sits old new station agent = (d : ℕ) → seat_of new d ≡ (if has station d then Some agent else seat_of old d)
+
+-- the first station, and not the second
+abbrev pub quits : Option ℕ → Option ℕ → ℕ → Bool
+quits one other d = has one d && not (has other d)
+
+-- nobody stands at the first station, but where it is the second
+abbrev pub Rises : SeatMap → SeatMap → Option ℕ → Option ℕ → Type 0
+Rises old new one other = (d : ℕ) → seat_of new d ≡ (if quits one other d then None else seat_of old d)
 
 -- nothing is in the indexes
 pub record IsBlank (x : Indexes) : Type 0 where
   pub queues : x.queues.entries ≡ []
   pub ready : x.ready.entries ≡ []
+  pub seats : x.seats.entries ≡ []
+  pub lines : x.lines.keys ≡ []
+  pub ringing : x.ringing.keys ≡ []
+  pub working : x.working.keys ≡ []
   pub queued : x.queued ≡ 0
 
 -- the group that may be there has the priority

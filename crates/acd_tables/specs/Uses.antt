@@ -5,7 +5,6 @@ use Rattle.std.specs.declared.ops.Bound.{Bound}
 use Rattle.std.specs.declared.ops.Bound.TheVariants.{Included, Excluded, Unbounded}
 use Rattle.acd_terms.specs.States.{is_distributed, is_live, is_occupying}
 use Rattle.acd_terms.specs.declared.rows.Rows.{Rows}
-use Rattle.acd_terms.specs.declared.record.AgentRecord.{AgentRecord}
 use Rattle.acd_terms.specs.declared.record.ConnectionRecord.{ConnectionRecord}
 use Rattle.acd_model.specs.Scans.{has}
 use Rattle.acd_tables.specs.Indexed.{is_busying}
@@ -34,11 +33,6 @@ first_line device = Included (device, 0)
 -- behind the calls of the device, where a number follows
 unfoldable pub past_lines : ℕ → Bound (ℕ × ℕ)
 past_lines device = if device == 2 ^ 64 - 1 then Unbounded else Excluded (device + 1, 0)
-
--- the agent that may be there, where it is at the station
-abbrev pub if_at : Option AgentRecord → ℕ → Option AgentRecord
-if_at None station = None
-if_at (Some a) station = if has a.station station then Some a else None
 
 -- what may be there, if it passes
 abbrev pub kept : {T : Type 0} → (T → Bool) → Option T → Option T

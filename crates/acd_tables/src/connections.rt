@@ -20,7 +20,7 @@ use std::ops::Bound;
 #[derive(Drop)]
 pub struct Connections {
     records: Table<ConnectionRecord>,
-    // Call and device of each; there may be more.
+    // Call and device of each.
     keys: BTreeSet<(u64, DeviceId)>,
 }
 
@@ -105,8 +105,15 @@ impl Connections {
     {
         let (call, device) = (item.call, item.device);
         let old = self.find(call, device);
-        note(&mut self.keys, (call, device), old.is_none())?;
-        self.records.put(item)
+        let new = old.is_none();
+        note(&mut self.keys, (call, device), new)?;
+        match self.records.put(item) {
+            Ok(()) => Ok(()),
+            Err(error) => {
+                forget(&mut self.keys, (call, device), new);
+                Err(error)
+            }
+        }
     }
 
     /// Removes the connection of the call at the device.

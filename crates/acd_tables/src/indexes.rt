@@ -31,13 +31,13 @@ pub struct Indexes {
     pub(crate) ready: BTreeMap<DeviceId, BTreeSet<(u64, AgentId)>>,
     /// The groups that have both, each at its priority; there may be more.
     pub(crate) offering: BTreeSet<OfferKey>,
-    /// The agent at a station. One that has left may still stand there.
+    /// The agent at a station.
     pub(crate) seats: HashMap<DeviceId, AgentId>,
-    /// Number of the device, and call, of the connections; there may be more.
+    /// Number of the device, and call, of the connections.
     pub(crate) lines: BTreeSet<(u64, u64)>,
-    /// Call and device of the offers that ring; there may be more.
+    /// Call and device of the offers that ring.
     pub(crate) ringing: BTreeSet<(u64, DeviceId)>,
-    /// The agents in after-call work; there may be more.
+    /// The agents in after-call work.
     pub(crate) working: BTreeSet<AgentId>,
     /// How many connections are queued.
     pub(crate) queued: usize,

@@ -18,6 +18,7 @@ mod connections;
 mod filling;
 mod indexes;
 mod lines;
+mod noting;
 mod records;
 mod scans;
 mod sets;

@@ -1,6 +1,6 @@
 //! The calls that are listed at a device.
 
-ghost use Rattle.std.specs.Prelude.{◌≡◌, ℕ, true, not, is_some, OnOk, OnErr};
+ghost use Rattle.std.specs.Prelude.{◌≡◌, ℕ, true, OnOk, OnErr};
 ghost use Rattle.std.specs.BTreeSet.{contains};
 ghost use Rattle.std.specs.List.Sorted.{IsStrictlySortedBy};
 ghost use Rattle.acd_terms.specs.Lists.{Among};
@@ -9,7 +9,7 @@ ghost use Rattle.acd_tables.specs.Indexed.{pair_cmp, joins};
 ghost use Rattle.acd_tables.specs.Uses.{first_line, past_lines};
 
 use crate::sets::{forget, note};
-use acd_terms::{ConnectionRecord, DeviceId};
+use acd_terms::DeviceId;
 use std::alloc::AllocError;
 use std::collections::BTreeSet;
 use std::collections::btree_set::Range;
@@ -44,22 +44,22 @@ pub(crate) fn lines_at(lines: &BTreeSet<(u64, u64)>, device: DeviceId) -> Range<
     lines.range((first_line(device), past_lines(device)))
 }
 
-/// Lists the call at the device, where it had no connection there.
+/// Lists the call at the device, if it is new there.
 pub(crate) fn list(
     lines: &mut BTreeSet<(u64, u64)>,
     device: DeviceId,
     call: u64,
-    old: &Option<ConnectionRecord>,
+    new: bool,
 ) -> Result<(), AllocError>
-    ensures ok { OnOk result (Noted pair_cmp lines.old lines.new (device, call) (not (is_some old.now))) }
+    ensures ok { OnOk result (Noted pair_cmp lines.old lines.new (device, call) new) }
     ensures err { OnErr result ((k : ℕ × ℕ) → contains pair_cmp lines.new k ≡ contains pair_cmp lines.old k) }
 {
-    note(lines, (device.number(), call), old.is_none())
+    note(lines, (device.number(), call), new)
 }
 
-/// Lists the call at the device no more.
-pub(crate) fn unlist(lines: &mut BTreeSet<(u64, u64)>, device: DeviceId, call: u64)
-    ensures { Forgotten pair_cmp lines.old lines.new (device, call) true }
+/// Lists the call at the device no more, if it is gone.
+pub(crate) fn unlist(lines: &mut BTreeSet<(u64, u64)>, device: DeviceId, call: u64, gone: bool)
+    ensures { Forgotten pair_cmp lines.old lines.new (device, call) gone }
 {
-    forget(lines, (device.number(), call), true);
+    forget(lines, (device.number(), call), gone);
 }

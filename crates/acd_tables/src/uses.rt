@@ -5,7 +5,7 @@ ghost use Rattle.std.specs.List.{list_any};
 ghost use Rattle.acd_terms.specs.Lists.{IsAscending};
 ghost use Rattle.acd_model.specs.Rules.Plan.{agent_order, connection_order};
 ghost use Rattle.acd_model.specs.Scans.{agent_at, connection_of, has};
-ghost use Rattle.acd_tables.specs.Uses.{uses, is_there_and, is_in_use, if_at};
+ghost use Rattle.acd_tables.specs.Uses.{uses, is_there_and, is_in_use};
 ghost use Rattle.acd_tables.specs.Indexed.{is_ringing, Lines, Seats};
 
 use crate::lines::lines_at;
@@ -91,13 +91,6 @@ pub(crate) fn is_in_use(
     any_call_uses(records, lines_at(lines, device), device, but, kind)
 }
 
-/// The agent is logged on at the station.
-pub(crate) fn is_at(agent: &AgentRecord, station: DeviceId) -> bool
-    ensures { result ≡ has agent.now.station station }
-{
-    agent.station == Some(station)
-}
-
 /// The agent logged on at the station.
 pub(crate) fn agent_at(
     records: &Records,
@@ -110,22 +103,6 @@ pub(crate) fn agent_at(
 {
     match seats.get(&station) {
         None => None,
-        Some(number) => if_at(records.agent(*number), station),
-    }
-}
-
-// The agent that may have been found, if it is at the station.
-fn if_at(agent: Option<AgentRecord>, station: DeviceId) -> Option<AgentRecord>
-    ensures { result ≡ if_at agent station }
-{
-    match agent {
-        None => None,
-        Some(agent) => {
-            if is_at(&agent, station) {
-                Some(agent)
-            } else {
-                None
-            }
-        }
+        Some(number) => records.agent(*number),
     }
 }

@@ -53,9 +53,6 @@ pub struct StationRecord {
 pub struct AgentRecord {
     pub agent: AgentId,
     pub name: Name,
-    pub state: AgentState,
-    /// The state that follows once the distributed connection at the station ends.
-    pub pending: Option<Pending>,
     /// Where the agent is logged on.
     pub station: Option<DeviceId>,
     pub groups: Groups,
@@ -63,6 +60,9 @@ pub struct AgentRecord {
     pub stamp: u64,
     /// The moment of that request, in seconds.
     pub since: u32,
+    pub state: AgentState,
+    /// The state that follows once the distributed connection at the station ends.
+    pub pending: Option<Pending>,
 }
 
 /// A live call.

@@ -509,6 +509,37 @@ patch {file} Killing\x14 Billing\x14
 "
 }
 
+// The file and its log, copied while the desk is open: the copy has all that was answered, and the requests that are sent to it
+// once more get their replies. Nothing was laid into the file then: without the log it is no desk.
+fn copied_while_it_is_open() -> &'static str {
+    r#"copied {file} {plan} acd lines --file {file}
+> 0 {"requester":"plan","invoke":1,"service":"addGroup","device":"100","name":"Billing","ring":20,"wrap":30}
+> 10 {"requester":"pbx","invoke":1,"service":"arriveCall","caller":"0301234","called":"100"}
+> 12 {"requester":"pbx","invoke":2,"service":"clearConnection","call":1,"device":"0301234"}
+< 200 {"invoke":1,"requester":"plan","result":{}}
+< 200 {"invoke":1,"requester":"pbx","result":{"call":1}}
+< 200 {"invoke":2,"requester":"pbx","result":{}}
+
+0 acd audit --file {plan} --count
+< sound
+< executed 3
+
+0 acd export --file {plan}
+< number,moment,event,call,device,agent,group,to,cause,waited
+< 1,10,queued,1,100,,,,newCall,
+< 2,12,connectionCleared,1,0301234,,,,,
+< 3,12,callCleared,1,,,100,,,
+
+0 acd lines --file {plan}
+> 99 {"requester":"pbx","invoke":2,"service":"clearConnection","call":1,"device":"0301234"}
+> 99 {"requester":"pbx","invoke":1,"service":"arriveCall","caller":"0301234","called":"100"}
+> 20 {"requester":"pbx","invoke":3,"service":"clearConnection","call":1,"device":"0301234"}
+< 200 {"invoke":2,"requester":"pbx","result":{}}
+< 200 {"invoke":1,"requester":"pbx","result":{"call":1}}
+< 409 {"error":{"code":3,"name":"unknownCall"},"invoke":3,"requester":"pbx"}
+"#
+}
+
 // A client that calls when it is said that the desk listens gets its reply, and other programs are told that the file
 // is open elsewhere. Of a port that is taken the file's fault is found before the port's.
 fn desk_over_http() -> &'static str {
@@ -550,6 +581,7 @@ fn runs_of_the_program(rt: HostRuntime) {
         new_files(),
         streams_that_fail(),
         altered_file(),
+        copied_while_it_is_open(),
         desk_over_http(),
     ];
     for script in scripts {

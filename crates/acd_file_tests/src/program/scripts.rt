@@ -6,6 +6,7 @@
 //! | `STATUS WORD WORD` | the program, called with these words, ends with this status |
 //! | `cut WORD WORD` | the same with status 1; its input fails where it would end, its output at once |
 //! | `untold STATUS WORD WORD` | the same, and the stream of errors fails too |
+//! | `copied PATH PATH WORD WORD` | the program, called with these words, succeeds; when it asks for more input than the step's the file and the log at the first path are copied to the second one, while the desk is open |
 //! | `lines PATH LENGTH` | a file gets lines, and behind them empty ones up to a length |
 //! | `zeros PATH LENGTH` | a file gets so many bytes that are 0 |
 //! | `patch PATH THESE BYTES` | the first bytes of the file that are as these are replaced |
@@ -17,6 +18,7 @@
 //! others.
 
 use super::broken::{cannot_tell, cannot_write};
+use super::copying::is_copied;
 use super::files::{free_path, patch, remove, state_of, write};
 use super::serving::{cannot_listen, serves};
 use acd_program::program;
@@ -126,6 +128,7 @@ fn happens(rt: &HostRuntime, step: &str) -> io::Result<bool> {
     match what {
         "cut" => cannot_write(rt, said, step),
         "untold" => cannot_tell(rt, said),
+        "copied" => is_copied(rt, said, step),
         "lines" => is_written(rt, said, step, b'\n'),
         "zeros" => is_written(rt, said, step, 0),
         "patch" => is_patched(rt, said),

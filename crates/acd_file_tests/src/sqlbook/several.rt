@@ -122,8 +122,13 @@ fn records() -> &'static str {
 "
 }
 
-// A desk over the book exports these records.
-fn expect_exported<B: Book + Drop>(rt: &impl Abort, alloc: Global, book: B, records: &str) -> B {
+/// A desk over the book exports these records.
+pub fn expect_exported<B: Book + Drop>(
+    rt: &impl Abort,
+    alloc: Global,
+    book: B,
+    records: &str,
+) -> B {
     match Desk::open(alloc, book) {
         Ok(mut desk) => {
             let told = desk.export().expect(rt, "memory").expect(rt, "an export");

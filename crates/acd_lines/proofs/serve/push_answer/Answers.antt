@@ -1,7 +1,7 @@
 use Rattle.std.proofs.Common.{◌≡◌, ℕ, List, [], ◌∷◌, ◌++◌, refl, sym, ap, ◌∙◌, decimal}
 use Rattle.acd_lines.specs.Answers.{line_text}
 use Rattle.acd_lines.specs.Parts.{answered_text, status_of, body_of}
-use Rattle.acd_lines.proofs.Sends.{begins_same, passes_same, begins_more, begins_then, passes_then, on_err, OnOk-weaker, OnErr-weaker}
+use Rattle.acd_lines.proofs.Sends.{breaks_same, passes_same, breaks_more, breaks_then, passes_then, on_err, OnOk-weaker, OnErr-weaker}
 use Rattle.acd_lines.proofs.AnswerTexts.{text_is}
 use Rattle.acd_lines.proofs.serve.push_answer.Goals as goal
 
@@ -14,14 +14,14 @@ returns-in_err-push-clause-err g c =
     let a = c.args.answered.now in
     let v = c.args.outbox.now.waiting.items in
     let parts = in_parts (answered_text a) c.as_bytes.result.now (body_of a) (body_of a) c.status.result (status_of a) (text_is a) c.status.ensures (c.as_bytes.ensures.value ∙ c.format.ensures.text) refl in
-    on_err _ _ (begins_same _ _ v _ _ parts (begins_more _ _ v c.as_bytes.result.now _ c.in_err-push.ensures.err))
+    on_err _ _ (breaks_same _ _ v _ _ parts (breaks_more _ _ v c.as_bytes.result.now _ c.in_err-push.ensures.err))
 
 pub returns-in_err-push-2-clause-err : goal.returns-in_err-push-2-clause-err
 returns-in_err-push-2-clause-err g c =
     let a = c.args.answered.now in
     let v = c.args.outbox.now.waiting.items in
     let parts = in_parts (answered_text a) c.as_bytes.result.now (body_of a) (body_of a) c.status.result (status_of a) (text_is a) c.status.ensures (c.as_bytes.ensures.value ∙ c.format.ensures.text) refl in
-    on_err _ _ (begins_same _ _ v _ _ parts (begins_then _ _ _ v _ c.as_bytes.result.now _ c.in_ok-push.ensures.ok (begins_more _ _ _ (32 ∷ []) (body_of a ++ 10 ∷ []) c.in_err-push-2.ensures.err)))
+    on_err _ _ (breaks_same _ _ v _ _ parts (breaks_then _ _ _ v _ c.as_bytes.result.now _ c.in_ok-push.ensures.ok (breaks_more _ _ _ (32 ∷ []) (body_of a ++ 10 ∷ []) c.in_err-push-2.ensures.err)))
 
 pub returns-in_err-push-3-clause-err : goal.returns-in_err-push-3-clause-err
 returns-in_err-push-3-clause-err g c =
@@ -29,7 +29,7 @@ returns-in_err-push-3-clause-err g c =
     let v = c.args.outbox.now.waiting.items in
     let body = c.body.result.now in
     let parts = in_parts (answered_text a) c.as_bytes.result.now (body_of a) body c.status.result (status_of a) (text_is a) c.status.ensures (c.as_bytes.ensures.value ∙ c.format.ensures.text) c.body.ensures in
-    on_err _ _ (begins_same _ _ v _ _ parts (begins_then _ _ _ v _ c.as_bytes.result.now _ c.in_ok-push.ensures.ok (begins_then _ _ _ _ _ (32 ∷ []) (body ++ 10 ∷ []) c.in_ok-push-2.ensures.ok (begins_more _ _ _ body (10 ∷ []) c.in_err-push-3.ensures.err))))
+    on_err _ _ (breaks_same _ _ v _ _ parts (breaks_then _ _ _ v _ c.as_bytes.result.now _ c.in_ok-push.ensures.ok (breaks_then _ _ _ _ _ (32 ∷ []) (body ++ 10 ∷ []) c.in_ok-push-2.ensures.ok (breaks_more _ _ _ body (10 ∷ []) c.in_err-push-3.ensures.err))))
 
 pub returns-clause-ok : goal.returns-clause-ok
 returns-clause-ok g c =
@@ -45,4 +45,4 @@ returns-clause-err g c =
     let v = c.args.outbox.now.waiting.items in
     let body = c.body.result.now in
     let parts = in_parts (answered_text a) c.as_bytes.result.now (body_of a) body c.status.result (status_of a) (text_is a) c.status.ensures (c.as_bytes.ensures.value ∙ c.format.ensures.text) c.body.ensures in
-    OnErr-weaker c.push-4.result _ _ (λ h. begins_same _ _ v _ _ parts (begins_then _ _ _ v _ c.as_bytes.result.now _ c.in_ok-push.ensures.ok (begins_then _ _ _ _ _ (32 ∷ []) (body ++ 10 ∷ []) c.in_ok-push-2.ensures.ok (begins_then _ _ _ _ _ body (10 ∷ []) c.in_ok-push-3.ensures.ok h)))) c.push-4.ensures.err
+    OnErr-weaker c.push-4.result _ _ (λ h. breaks_same _ _ v _ _ parts (breaks_then _ _ _ v _ c.as_bytes.result.now _ c.in_ok-push.ensures.ok (breaks_then _ _ _ _ _ (32 ∷ []) (body ++ 10 ∷ []) c.in_ok-push-2.ensures.ok (breaks_then _ _ _ _ _ body (10 ∷ []) c.in_ok-push-3.ensures.ok h)))) c.push-4.ensures.err

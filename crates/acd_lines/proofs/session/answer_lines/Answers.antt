@@ -4,8 +4,8 @@ use Rattle.std.proofs.KnownBytes.{Consumes-nil, Consumes-kept, Consumes-trans}
 use Rattle.acd_desk.specs.Ran.{standing}
 use Rattle.acd_lines.specs.Answers.{Answers}
 use Rattle.acd_lines.proofs.Sends.{on_err, if_fault, other_fault}
-use Rattle.acd_lines.proofs.Turns.{chunk_read, starts, stands_same, input_ended, fed, all_done, all_first, first_done, end_stopped, feed_stopped, read_done, read_stopped, nothing_read}
-use Rattle.acd_lines.proofs.Telling.{all_told, read_told, first_told, some_told}
+use Rattle.acd_lines.proofs.Turns.{chunk_read, starts, stands_same, input_ended, fed, all_done, all_first, first_done, end_stopped, feed_stopped, read_done, read_stopped, nothing_read, some_short}
+use Rattle.acd_lines.proofs.Telling.{all_told, read_told, first_told, some_told, short_told}
 use Rattle.acd_lines.specs.declared.session.LinesFault.{LinesFault}
 use Rattle.acd_lines.proofs.session.answer_lines.Goals as goal
 use Rattle.acd_lines.proofs.session.answer_lines.Goals.{in-Ok+in_ok-feed-in-Ok, in-Err+in_ok-retried-in-Err}
@@ -102,6 +102,19 @@ returns-in_err-finish-in-Ok-eq0-clause-stopped g c =
     let input = input_ended (g.R.Read.remaining c.args.reader.now) (g.R.Read.remaining c.loop.reader) (g.R.Read.remaining c.read.new.self) seen c.read.new.buf c.in-Ok-eq0.field-0 loop.2 bytes.0 c.in-Ok-eq0.field-0-test (bytes.1 c.in-Ok-eq0.field-0-test (omega (arith, size, loop.0))) in
     let done = c.in_err-finish-in-Ok-eq0.ensures.err c.args.desk.now seen stands.part stands.answers stands.keeps stands.reached in
     on_err _ _ (some_told (standing g.B.Book) (λ d x clean sound opened stop. g.met.B.Book.settled d.book x clean sound opened stop) (g.R.Read.remaining c.args.reader.now) c.args.desk.now c.finish.new.desk (g.W.Write.contents c.args.writer.now) (g.W.Write.contents c.finish.new.writer)
+    (some_short (Answers (standing g.B.Book)) (g.R.Read.remaining c.args.reader.now) c.args.desk.now c.finish.new.desk (g.W.Write.contents c.args.writer.now) (g.W.Write.contents c.finish.new.writer)
+    (end_stopped (Answers (standing g.B.Book)) 4109 c.args.desk.now seen c.loop.partial c.loop.outbox.waiting.items c.loop.desk c.finish.new.desk (g.W.Write.contents c.args.writer.now) (g.W.Write.contents c.loop.writer) (g.W.Write.contents c.finish.new.writer) (g.R.Read.remaining c.args.reader.now) stands input done)))
+
+pub returns-in_err-finish-in-Ok-eq0-clause-write : goal.returns-in_err-finish-in-Ok-eq0-clause-write
+returns-in_err-finish-in-Ok-eq0-clause-write g c =
+    let loop = c.loop.invariant in
+    let seen = loop.1 in
+    let stands = loop.4 in
+    let bytes = c.in-Ok-eq0.ensures.bytes in
+    let size = c.read.auto.buf ∙ ap length c.as_mut_slice.ensures.value in
+    let input = input_ended (g.R.Read.remaining c.args.reader.now) (g.R.Read.remaining c.loop.reader) (g.R.Read.remaining c.read.new.self) seen c.read.new.buf c.in-Ok-eq0.field-0 loop.2 bytes.0 c.in-Ok-eq0.field-0-test (bytes.1 c.in-Ok-eq0.field-0-test (omega (arith, size, loop.0))) in
+    let done = c.in_err-finish-in-Ok-eq0.ensures.err c.args.desk.now seen stands.part stands.answers stands.keeps stands.reached in
+    if_fault _ _ _ (short_told (standing g.B.Book) (λ d x clean sound opened stop. g.met.B.Book.settled d.book x clean sound opened stop) (g.R.Read.remaining c.args.reader.now) c.args.desk.now c.finish.new.desk (g.W.Write.contents c.args.writer.now) (g.W.Write.contents c.finish.new.writer)
     (end_stopped (Answers (standing g.B.Book)) 4109 c.args.desk.now seen c.loop.partial c.loop.outbox.waiting.items c.loop.desk c.finish.new.desk (g.W.Write.contents c.args.writer.now) (g.W.Write.contents c.loop.writer) (g.W.Write.contents c.finish.new.writer) (g.R.Read.remaining c.args.reader.now) stands input done))
 
 pub returns-in_err-feed-in-Ok-clause-stopped : goal.returns-in_err-feed-in-Ok-clause-stopped
@@ -115,6 +128,20 @@ returns-in_err-feed-in-Ok-clause-stopped g c =
     let taken = subst (λ l. Consumes (g.R.Read.remaining c.args.reader.now) (g.R.Read.remaining c.read.new.self) (seen ++ l)) (sym value) (Consumes-trans _ _ _ seen (take n c.read.new.buf) loop.2 c.in-Ok.ensures.bytes.0) in
     let stopped = c.in_err-feed-in-Ok.ensures.err c.args.desk.now seen stands.part stands.answers stands.keeps stands.reached in
     on_err _ _ (some_told (standing g.B.Book) (λ d x clean sound opened stop. g.met.B.Book.settled d.book x clean sound opened stop) (g.R.Read.remaining c.args.reader.now) c.args.desk.now c.feed.new.desk (g.W.Write.contents c.args.writer.now) (g.W.Write.contents c.feed.new.writer)
+    (some_short (Answers (standing g.B.Book)) (g.R.Read.remaining c.args.reader.now) c.args.desk.now c.feed.new.desk (g.W.Write.contents c.args.writer.now) (g.W.Write.contents c.feed.new.writer)
+    (feed_stopped (Answers (standing g.B.Book)) 4109 c.args.desk.now seen (take n c.deref.result.now) c.loop.partial c.loop.outbox.waiting.items c.loop.desk c.feed.new.desk (g.W.Write.contents c.args.writer.now) (g.W.Write.contents c.loop.writer) (g.W.Write.contents c.feed.new.writer) (g.R.Read.remaining c.args.reader.now) (g.R.Read.remaining c.read.new.self) stands taken stopped)))
+
+pub returns-in_err-feed-in-Ok-clause-write : goal.returns-in_err-feed-in-Ok-clause-write
+returns-in_err-feed-in-Ok-clause-write g c =
+    let loop = c.loop.invariant in
+    let seen = loop.1 in
+    let stands = loop.4 in
+    let n = c.in-Ok.n in
+    let size = c.read.auto.buf ∙ ap length c.as_mut_slice.ensures.value in
+    let value = ap (take n) (c.deref.ensures.value ∙ chunk_read c.loop.chunk.items c.read.new.buf c.loop.chunk.len size c.loop.chunk.ok.0) in
+    let taken = subst (λ l. Consumes (g.R.Read.remaining c.args.reader.now) (g.R.Read.remaining c.read.new.self) (seen ++ l)) (sym value) (Consumes-trans _ _ _ seen (take n c.read.new.buf) loop.2 c.in-Ok.ensures.bytes.0) in
+    let stopped = c.in_err-feed-in-Ok.ensures.err c.args.desk.now seen stands.part stands.answers stands.keeps stands.reached in
+    if_fault _ _ _ (short_told (standing g.B.Book) (λ d x clean sound opened stop. g.met.B.Book.settled d.book x clean sound opened stop) (g.R.Read.remaining c.args.reader.now) c.args.desk.now c.feed.new.desk (g.W.Write.contents c.args.writer.now) (g.W.Write.contents c.feed.new.writer)
     (feed_stopped (Answers (standing g.B.Book)) 4109 c.args.desk.now seen (take n c.deref.result.now) c.loop.partial c.loop.outbox.waiting.items c.loop.desk c.feed.new.desk (g.W.Write.contents c.args.writer.now) (g.W.Write.contents c.loop.writer) (g.W.Write.contents c.feed.new.writer) (g.R.Read.remaining c.args.reader.now) (g.R.Read.remaining c.read.new.self) stands taken stopped))
 
 pub returns-in_err-retried-in-Err-clause-stopped : goal.returns-in_err-retried-in-Err-clause-stopped
@@ -140,6 +167,11 @@ returns-clause-read g c = λ _.
     let loop = c.loop.invariant in
     read_told (standing g.B.Book) (λ d x clean sound opened stop. g.met.B.Book.settled d.book x clean sound opened stop) (g.R.Read.remaining c.args.reader.now) (g.R.Read.remaining c.loop.reader) c.args.desk.now c.loop.desk (g.W.Write.contents c.args.writer.now) (g.W.Write.contents c.loop.writer)
     (read_done (Answers (standing g.B.Book)) 4109 c.args.desk.now loop.1 c.loop.partial c.loop.outbox.waiting.items c.loop.desk (g.W.Write.contents c.args.writer.now) (g.W.Write.contents c.loop.writer) (g.R.Read.remaining c.args.reader.now) (g.R.Read.remaining c.loop.reader) loop.4 loop.3 loop.2)
+
+pub returns-in_err-retried-in-Err-clause-write : goal.returns-in_err-retried-in-Err-clause-write
+returns-in_err-retried-in-Err-clause-write g c =
+    let failed = c.in_err-retried-in-Err in
+    other_fault c.from_residual-in_err-retried-in-Err.result failed.field-0.0 LinesFault.Read LinesFault.Write _ c.from_residual-in_err-retried-in-Err.ensures.1 failed.ensures.told (λ same. absurd (cc (same)))
 
 pub returns-in_err-retried-in-Err-clause-memory : goal.returns-in_err-retried-in-Err-clause-memory
 returns-in_err-retried-in-Err-clause-memory g c =

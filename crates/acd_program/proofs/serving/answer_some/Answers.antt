@@ -1,6 +1,13 @@
-use Rattle.acd_program.proofs.Telling.{tells_ok}
+use Rattle.std.proofs.Common.{subst, OnOk}
+use Rattle.std.specs.Io.KnownBytes.{Appends}
+use Rattle.acd_desk.specs.Standing.{standing}
+use Rattle.acd_http.specs.Listening.{ServedAll}
+use Rattle.acd_program.proofs.Serving.{begins_all}
 use Rattle.acd_program.proofs.serving.answer_some.Goals as goal
 
 pub returns-in-Ok : goal.returns-in-Ok
 returns-in-Ok g c =
-    tells_ok _ c.serve_on.result c.in-Ok.field-0 _ _ _ (g.E.Write.contents c.args.errors.now) (g.E.Write.contents c.serve_on.new.errors) c.in-Ok.is c.serve_on.ensures.ok
+    let a : _ = g.E.Write.contents c.args.errors.now in
+    let b : _ = g.E.Write.contents c.serve_on.new.errors in
+    begins_all (standing g.B.Book) c.args.connections c.args.desk.now c.serve_on.new.desk a b
+    (subst (λ (r : _). OnOk r (ServedAll (standing g.B.Book) c.args.connections c.args.desk.now c.serve_on.new.desk (Appends a b))) c.in-Ok.is c.serve_on.ensures.ok)

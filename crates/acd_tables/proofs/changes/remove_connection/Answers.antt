@@ -1,8 +1,9 @@
-use Rattle.std.proofs.Common.{subst}
+use Rattle.std.proofs.Common.{ap, subst, ◌∙◌}
 use Rattle.acd_model.specs.Writes.{without_connection}
+use Rattle.acd_tables.specs.Indexed.{rings}
 use Rattle.acd_tables.specs.Turns.{TakenOut}
 use Rattle.acd_tables.proofs.OfferLemmas.{offers-of}
-use Rattle.acd_tables.proofs.IndexLemmas.{IsIndexed-removed, group_same, groups_less}
+use Rattle.acd_tables.proofs.IndexLemmas.{IsIndexed-untouched, IsIndexed-removed, group_same, groups_less}
 use Rattle.acd_tables.proofs.changes.remove_connection.Goals as goal
 
 pub settle-requires : goal.settle-requires
@@ -11,9 +12,14 @@ settle-requires c =
     let y = c.enter.new.self in
     rw c.remove_connection.ensures (offers-of s (without_connection s c.args.call c.args.device) y.queues y.ready y.offering (group_same s (without_connection s c.args.call c.args.device) (groups_less s c.args.call c.args.device)) c.in_ok-enter.ensures.ok.offers)
 
+pub returns-in_err-enter-clause-indexed : goal.returns-in_err-enter-clause-indexed
+returns-in_err-enter-clause-indexed c = IsIndexed-untouched c.args.records.now c.args.indexes.now c.enter.new.self c.requires c.in_err-enter.ensures.err
+
 pub returns-clause-indexed : goal.returns-clause-indexed
 returns-clause-indexed c =
+    let y = c.enter.new.self in
     rw c.remove_connection.ensures
-    (IsIndexed-removed c.args.records.now c.args.call c.args.device c.args.indexes.now c.enter.new.self c.settle.new.self c.connection_turn-turn.result c.queued_after-queued.result c.unlist.new.lines c.forget.new.noted c.stops_ringing.result
-    c.requires c.in_ok-enter.ensures.ok (subst (λ t. TakenOut t c.enter.new.self c.settle.new.self c.connection_turn-turn.result.leaving) c.remove_connection.ensures c.settle.ensures)
-    c.connection_turn-turn.ensures c.unlist.ensures c.forget.ensures c.queued_after-queued.ensures)
+    (IsIndexed-removed c.args.records.now c.args.call c.args.device c.args.indexes.now y c.settle.new.self c.unlist.new.lines c.forget.new.noted c.connection_turn-turn.result c.queued_after-queued.result c.rings.result
+    c.requires c.in_ok-enter.ensures.ok
+    (subst (λ t. TakenOut t (record y { lines = c.unlist.new.lines; ringing = c.forget.new.noted }) c.settle.new.self c.connection_turn-turn.result.leaving) c.remove_connection.ensures c.settle.ensures)
+    c.connection_turn-turn.ensures (c.rings.ensures ∙ ap rings c.connection-old.ensures) c.forget.ensures c.unlist.ensures c.queued_after-queued.ensures)

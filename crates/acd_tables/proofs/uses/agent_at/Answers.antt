@@ -1,5 +1,4 @@
-use Rattle.std.proofs.Common.{sym, ap, ◌∙◌}
-use Rattle.acd_tables.specs.Uses.{if_at}
+use Rattle.std.proofs.Common.{sym, ◌∙◌}
 use Rattle.acd_tables.proofs.Looking.{seat-none, seat-some}
 use Rattle.acd_tables.proofs.uses.agent_at.Goals as goal
 
@@ -7,6 +6,4 @@ pub returns-in-None : goal.returns-in-None
 returns-in-None c = sym (seat-none c.args.records.now c.args.seats.now c.requires.ascending c.requires.listed c.args.station (sym c.in-None.ensures.value))
 
 pub returns-in-Some : goal.returns-in-Some
-returns-in-Some c =
-    c.if_at.ensures ∙ ap (λ o. if_at o c.args.station) c.agent.ensures
-    ∙ sym (seat-some c.args.records.now c.args.seats.now c.requires.ascending c.requires.listed c.args.station c.in-Some.number.now (sym c.in-Some.ensures.value))
+returns-in-Some c = c.agent.ensures ∙ sym (seat-some c.args.records.now c.args.seats.now c.requires.ascending c.requires.listed c.args.station c.in-Some.number.now (sym c.in-Some.ensures.value))

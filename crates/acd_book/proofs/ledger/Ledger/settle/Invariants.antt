@@ -1,9 +1,12 @@
-use Rattle.std.proofs.Common.{◌≡◌, ◌-◌, vec_len}
+use Rattle.std.proofs.Common.{◌≡◌, ◌≤◌, ◌-◌, vec_len}
 use Rattle.acd_book.specs.Ledger.{rows_of}
 use Rattle.acd_book.proofs.ledger.Ledger.settle.Given as goal
 
 abbrev pub invariant-loop-self : goal.invariant-loop-self
-invariant-loop-self l = rows_of l.self ≡ rows_of l.initial.self
+invariant-loop-self l = record {
+  same : rows_of l.self ≡ rows_of l.initial.self;
+  no_longer : vec_len l.self.journal ≤ vec_len l.initial.self.journal;
+}
 
 abbrev pub decreases-loop-self : goal.decreases-loop-self
 decreases-loop-self l = vec_len l.self.journal - l.self.made

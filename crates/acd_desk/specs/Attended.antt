@@ -1,0 +1,26 @@
+-- What a desk leaves that took arrivals and was read between them, over any book.
+use Rattle.std.specs.Prelude.{◌≡◌, true, List, length}
+use Rattle.std.specs.List.{Contains}
+use Rattle.acd_terms.specs.declared.command.Arrival.{Arrival}
+use Rattle.acd_book.specs.Content.{Content}
+use Rattle.acd_book.specs.State.{IfHonest}
+use Rattle.acd_desk.specs.declared.taken.Taken.{Taken}
+use Rattle.acd_desk.specs.declared.taken.Taken.TheVariants.{StoreFault}
+use Rattle.acd_desk.specs.Served.{served, maybe_last, sent}
+use Rattle.acd_desk.specs.Stands.{IsSound, ran_after, replies, StopsAt}
+use Rattle.acd_desk.specs.Standing.{Standing, InStep}
+use Rattle.acd_desk.specs.Ran.{IfStarted}
+
+-- some arrivals, in turn, and their answers; what was read between them isn't listed
+pub record Attended (old : Standing) (arrivals : List Arrival) (answers : List Taken) (new : Standing) : Type 0 where
+  pub even : length arrivals ≡ length answers
+  pub clean : new.book.is_clean → old.book.is_clean
+  pub sound : IfHonest old.book new.book new.book.is_sound
+  pub in_step : IfHonest old.book new.book (InStep old → InStep new)
+  -- each answer but the faults is that of the abstract desk, at its place in the list of what was kept and served
+  pub replies : IfStarted old new (sent answers ≡ replies old.book.content (served arrivals answers))
+  -- an open book holds the run over the first arrivals of that list
+  pub content : IfStarted old new (new.book.is_open → new.book.content ≡ ran_after old.book.content (served arrivals answers))
+  -- whatever a stop leaves is that run, or that with one more arrival, which came behind the last that was served
+  pub stops : IfStarted old new ((c : Content) → new.book.stops c → StopsAt old.book.content (served arrivals answers) (maybe_last arrivals answers) c)
+  pub shuts : Contains answers StoreFault → new.failed ≡ true

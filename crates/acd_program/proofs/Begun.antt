@@ -1,0 +1,51 @@
+-- What becomes of two files before the store has them, step by step.
+use Rattle.std.proofs.Common.{◌≡◌, ◌⊎◌, ℕ, ◌<◌, ◌≤◌, length, IsTrue, refl, sym, ap, subst, ◌∙◌, inl, inr, arith}
+use Rattle.std.proofs.lemmas.Bool.{and_parts}
+use Rattle.sqlite_disk.specs.declared.Disk.{Ghosts}
+use Rattle.sqlite_disk.specs.declared.Files.{Files}
+use Rattle.sqlite_wal.specs.Reads.{IsClean, AreClean, OnlyReads, are_clean}
+use Rattle.sqlite_store.specs.declared.store.FileStore.{FileStore}
+use Rattle.sqlite_store.specs.declared.store.open.Unopened.{Unopened}
+use Rattle.sqlite_store.specs.declared.error.OpenError.{OpenError}
+use Rattle.sqlite_store.specs.declared.error.OpenError.TheVariants.{Refused}
+use Rattle.sqlite_store.specs.Opening.{FailsToOpen}
+use Rattle.sqlite_store.specs.FileStore as store
+use Rattle.sqlite_store.specs.Unopened.{state_of, files_of}
+use Rattle.sqlite.proofs.FileLemmas.{reads_then}
+use Rattle.sqlite.proofs.OpenLemmas.{pool_files}
+use Rattle.acd_program.specs.Files.{new_page, AreReadOnly, IsCreated, IsBegun}
+
+-- the store refused to make a database
+pub refused_so : (a b : ℕ) (L P : Type 0) (e : OpenError) → e ≡ Refused → FailsToOpen a b L P e → ¬ P
+refused_so a b L P e is h = subst (FailsToOpen a b L P) is h
+
+too_many : (n : ℕ) → new_page < n → n ≤ new_page → ⊥
+too_many n more few = omega (arith, more, few)
+
+module _ {D : Type 0} {g : Ghosts D} where
+  reads_none : (file : D) → IsTrue (g.is_usable file) → OnlyReads g file file
+  reads_none file usable = record { seen = refl; clean = λ h. h; usable = usable; key = refl; rot = refl; crash = λ c may. may }
+
+  -- the log was left alone
+  pub read_only : (old new : Files D) → new.log ≡ old.log → IsTrue (g.is_usable old.log) → OnlyReads g old.db new.db → AreReadOnly g old new
+  read_only old new log usable db = record { log = subst (λ (x : D). OnlyReads g old.log x) (sym log) (reads_none old.log usable); db = db }
+
+  pub read_twice : (old mid new : Files D) → AreReadOnly g old mid → AreReadOnly g mid new → AreReadOnly g old new
+  read_twice old mid new a b = record { log = reads_then a.log b.log; db = reads_then a.db b.db }
+
+  pub begun_read : (old new : Files D) → AreReadOnly g old new → IsBegun g old new
+  begun_read old new h = record { large = λ clean big. h; small = inl h }
+
+  pub begun_created : (old mid new : Files D) → AreReadOnly g old mid → (IsClean g mid.db → length (g.seen old.db) ≤ new_page) → (AreClean g new.log new.db → AreClean g mid.log mid.db)
+      → IsCreated g mid new → IsBegun g old new
+  begun_created old mid new read few clean made = record {
+    large = λ still big. absurd (too_many (length (g.seen old.db)) big (few (and_parts (g.is_clean mid.log) (g.is_clean mid.db) (clean still)).1));
+    small = inr (mid, read, made);
+  }
+
+  -- the files of an unopened store, or of an open one, are clean where its state is
+  pub unopened_clean : (it : Unopened D g) (files : Files D) → files_of it ≡ (files.log, files.db) → (state_of it).is_clean ≡ are_clean g files.log files.db
+  unopened_clean it files is = (pool_files it.pool).1 ∙ ap (λ (f : D × D). are_clean g f.0 f.1) is
+
+  pub store_clean : (it : FileStore D g) (files : Files D) → store.files it ≡ (files.log, files.db) → (store.state it).is_clean ≡ are_clean g files.log files.db
+  store_clean it files is = (pool_files it.pool).1 ∙ ap (λ (f : D × D). are_clean g f.0 f.1) is

@@ -1,0 +1,189 @@
+-- That a task was done, by the work over a connection to files.
+use Rattle.std.proofs.Common.{◌≡◌, ℕ, Bool, true, List, [], Option, Result, Ok, Err, IfOk, OnOk, sym, ap, subst, ◌∙◌, refl}
+use Rattle.std.specs.Io.KnownBytes.{Appends}
+use Rattle.sqlite_disk.specs.declared.Disk.{Ghosts}
+use Rattle.sqlite_store.specs.declared.store.FileStore.{FileStore}
+use Rattle.sqlite.specs.Held.{Held}
+use Rattle.sqlite.specs.State.{State}
+use Rattle.sqlite.specs.Files.{file_state}
+use Rattle.acd_terms.specs.declared.command.Request.{Request}
+use Rattle.acd_book.specs.State.{BookState}
+use Rattle.acd_program.specs.declared.auditing.Finding.{Finding}
+use Rattle.acd_program.specs.declared.desk.Telling.{Telling}
+use Rattle.acd_program.specs.declared.desk.BookWork.TheVariants as book
+use Rattle.acd_program.specs.declared.desk.Work.{Work}
+use Rattle.acd_program.specs.declared.desk.Work.TheVariants.{Lines, Book}
+use Rattle.acd_program.specs.declared.desk.Done.{Done}
+use Rattle.acd_program.specs.declared.desk.Done.TheVariants.{Nothing, Told, Audited}
+use Rattle.acd_program.specs.Found.{IsFindingOf, HasCount, finding_line}
+use Rattle.acd_program.specs.Statuses.{finding_status}
+use Rattle.acd_program.specs.Over.{AnswersOver, OverConnection}
+use Rattle.acd_program.specs.Work.{Asked, IsText, ImportsOver, TellsOver, AuditsOver, WorkDone, IsPrinted, text_left, status_left}
+use Rattle.acd_program.specs.InFiles.{IsLaidIn, WorkedOver}
+use Rattle.acd_program.specs.Files.{IsOpenedIn}
+use Rattle.acd_program.specs.Tasks.{WorkedIn, InFile, IsOpenedFrom, ImportedIn}
+use Rattle.acd_reports.specs.Plan.{plan_requests}
+use Rattle.sqlite_disk.specs.declared.Files.{Files}
+use Rattle.acd_program.proofs.InFiles.{over_so, over_fact, over_makes, appends_nothing}
+
+answers_printed : (old new : BookState) (had before between behind : Option (List ℕ)) → Appends between behind [] → AnswersOver old had before between new → AnswersOver old had before behind new
+answers_printed old new had before between behind none h = record {
+  input = h.input;
+  written = h.written;
+  answers = h.answers;
+  whole = h.whole;
+  output = h.output;
+  appended = appends_nothing before between behind h.written h.appended none;
+  session = h.session;
+}
+
+imports_printed : (requests : List Request) (old new : BookState) (before between behind : Option (List ℕ)) → Appends between behind [] → ImportsOver requests old before between new → ImportsOver requests old before behind new
+imports_printed requests old new before between behind none h = record {
+  written = h.written;
+  answers = h.answers;
+  output = h.output;
+  appended = appends_nothing before between behind h.written h.appended none;
+  session = h.session;
+}
+
+nothing_left : (left : Done) (between behind : Option (List ℕ)) → left ≡ Nothing → Appends between behind (text_left left) → Appends between behind []
+nothing_left left between behind is h = subst (λ (x : Done). Appends between behind (text_left x)) is h
+
+-- what an audit left to print
+found_left : (counts : Bool) (before between : Option (List ℕ)) (makes : Bool) (s t : State) (left : Done)
+    → OverConnection (λ (old new : BookState). AuditsOver IsFindingOf counts old left new × (between ≡ before)) makes s t
+    → (found : Finding) × (left ≡ Audited found) × HasCount counts found × OverConnection (λ (old new : BookState). Asked old IsFindingOf found new) makes s t
+found_left counts before between makes s t Nothing h =
+    absurd (over_fact (λ (old new : BookState). AuditsOver IsFindingOf counts old Nothing new × (between ≡ before)) ⊥ makes s t (λ old new p. p.0) h)
+found_left counts before between makes s t (Told text) h =
+    absurd (over_fact (λ (old new : BookState). AuditsOver IsFindingOf counts old (Told text) new × (between ≡ before)) ⊥ makes s t (λ old new p. p.0) h)
+found_left counts before between makes s t (Audited found) h =
+    let P : BookState → BookState → Type 0 = λ old new. AuditsOver IsFindingOf counts old (Audited found) new × (between ≡ before) in (
+      found,
+      refl,
+      over_fact P (HasCount counts found) makes s t (λ old new p. p.0.0) h,
+      over_so P (λ old new. Asked old IsFindingOf found new) makes s t (λ old new p. p.0.1) h,
+    )
+
+module _ {D : Type 0} (disk : Ghosts D) (IsFresh : Bool → D → Type 0) (had before behind : Option (List ℕ)) (status : ℕ) where
+  pub lines_done : (ends makes : Bool) → WorkedIn disk IsFresh makes (Lines ends) had before behind status
+      → InFile disk IsFresh (λ (old new : BookState). AnswersOver old had before behind new) makes × (status ≡ 0)
+  lines_done ends makes h =
+      let w = h.2 in
+      let s = file_state h.0 in
+      let t = file_state w.last in
+      let P : BookState → BookState → Type 0 = λ old new. WorkDone (Lines ends) old had before w.between w.left new in
+      let left = over_fact P (w.left ≡ Nothing) makes s t (λ old new p. p.1) w.done in (
+        record {
+          conn = h.0;
+          last = w.last;
+          opened = h.1;
+          done = over_so P (λ old new. AnswersOver old had before behind new) makes s t
+              (λ old new p. answers_printed old new had before w.between behind (nothing_left w.left w.between behind left w.printed) p.0) w.done;
+          closed = w.closed;
+        },
+        w.told ∙ ap status_left left,
+      )
+
+  pub import_done : (makes : Bool) (requests : _) → WorkedIn disk IsFresh makes (Book (book.Import requests)) had before behind status
+      → InFile disk IsFresh (λ (old new : BookState). ImportsOver requests.now old before behind new) makes × (status ≡ 0)
+  import_done makes requests h =
+      let w = h.2 in
+      let s = file_state h.0 in
+      let t = file_state w.last in
+      let P : BookState → BookState → Type 0 = λ old new. WorkDone (Book (book.Import requests)) old had before w.between w.left new in
+      let left = over_fact P (w.left ≡ Nothing) makes s t (λ old new p. p.1) w.done in (
+        record {
+          conn = h.0;
+          last = w.last;
+          opened = h.1;
+          done = over_so P (λ old new. ImportsOver requests.now old before behind new) makes s t
+              (λ old new p. imports_printed requests.now old new before w.between behind (nothing_left w.left w.between behind left w.printed) p.0) w.done;
+          closed = w.closed;
+        },
+        w.told ∙ ap status_left left,
+      )
+
+  pub tell_done : (makes : Bool) (telling : Telling) → WorkedIn disk IsFresh makes (Book (book.Tell telling)) had before behind status
+      → (text : List ℕ) × InFile disk IsFresh (λ (old new : BookState). Asked old (IsText telling) text new) makes × Appends before behind text × (status ≡ 0)
+  tell_done makes telling h =
+      let w = h.2 in
+      let s = file_state h.0 in
+      let t = file_state w.last in
+      let P : BookState → BookState → Type 0 = λ old new. WorkDone (Book (book.Tell telling)) old had before w.between w.left new in
+      let same = over_fact P (w.between ≡ before) makes s t (λ old new p. p.1) w.done in (
+        text_left w.left,
+        record {
+          conn = h.0;
+          last = w.last;
+          opened = h.1;
+          done = over_so P (λ old new. Asked old (IsText telling) (text_left w.left) new) makes s t (λ old new p. p.0.asked) w.done;
+          closed = w.closed;
+        },
+        subst (λ (a : Option (List ℕ)). Appends a behind (text_left w.left)) same w.printed,
+        w.told ∙ over_fact P (status_left w.left ≡ 0) makes s t (λ old new p. p.0.status) w.done,
+      )
+
+  pub audit_done : (makes counts : Bool) → WorkedIn disk IsFresh makes (Book (book.Audit counts)) had before behind status
+      → (found : Finding) × HasCount counts found × InFile disk IsFresh (λ (old new : BookState). Asked old IsFindingOf found new) makes × Appends before behind (finding_line found) × (status ≡ finding_status found)
+  audit_done makes counts h =
+      let w = h.2 in
+      let s = file_state h.0 in
+      let t = file_state w.last in
+      let P : BookState → BookState → Type 0 = λ old new. WorkDone (Book (book.Audit counts)) old had before w.between w.left new in
+      let same = over_fact P (w.between ≡ before) makes s t (λ old new p. p.1) w.done in
+      let found = found_left counts before w.between makes s t w.left w.done in (
+        found.0,
+        found.2,
+        record { conn = h.0; last = w.last; opened = h.1; done = found.3; closed = w.closed },
+        subst (λ (a : Option (List ℕ)). Appends a behind (finding_line found.0)) same (subst (λ (x : Done). Appends w.between behind (text_left x)) found.1 w.printed),
+        w.told ∙ ap status_left found.1,
+      )
+
+-- where it was known whether the file was new
+pub worked_in : {D : Type 0} {g : Ghosts D} (is_new makes : Bool) (work : Work) (conn : Held (FileStore D g)) (had before behind : Option (List ℕ)) (status : ℕ) → (is_new ≡ true → makes ≡ true)
+    → WorkedOver is_new work conn had before behind status → WorkedOver makes work conn had before behind status
+worked_in is_new makes work conn had before behind status may w = record {
+  last = w.last;
+  left = w.left;
+  between = w.between;
+  done = over_makes (λ (old new : BookState). WorkDone work old had before w.between w.left new) is_new makes (file_state conn) (file_state w.last) may w.done;
+  closed = w.closed;
+  printed = w.printed;
+  told = w.told;
+}
+
+-- the work was done, its file closed, and what was left printed
+pub worked_over : {D : Type 0} {g : Ghosts D} {F : Type 0} (r : Result ℕ F) (work : Work) (makes : Bool) (conn last : Held (FileStore D g)) (done : Result Done F) (closed : Result (Unit {0}) F) (had before between behind : Option (List ℕ))
+    → IfOk done (λ (l : Done). OverConnection (λ (old new : BookState). WorkDone work old had before between l new) makes (file_state conn) (file_state last)) → OnOk closed (IsLaidIn last)
+    → IfOk r (λ (status : ℕ). IsPrinted done closed between behind status) → IfOk r (λ (status : ℕ). WorkedOver makes work conn had before behind status)
+worked_over (Err e) work makes conn last done closed had before between behind d k p = tt
+worked_over {F = F} (Ok status) work makes conn last done closed had before between behind d k p = record {
+  last = last;
+  left = p.left;
+  between = between;
+  done = subst (λ (x : Result Done F). IfOk x (λ (l : Done). OverConnection (λ (old new : BookState). WorkDone work old had before between l new) makes (file_state conn) (file_state last))) p.ended d;
+  closed = subst (λ (x : Result (Unit {0}) F). OnOk x (IsLaidIn last)) p.shut k;
+  printed = p.printed;
+  told = p.told;
+}
+
+-- it was opened over files that were just opened
+pub opened_from : {D F : Type 0} {g : Ghosts D} (IsFresh : Bool → D → Type 0) (r : Result (Held (FileStore D g)) F) (pair : Files D) → IsFresh true pair.log × IsFresh false pair.db → IfOk r (λ (conn : Held (FileStore D g)). IsOpenedIn g pair conn)
+    → IfOk r (λ (conn : Held (FileStore D g)). IsOpenedFrom g IsFresh conn)
+opened_from IsFresh (Ok conn) pair fresh h = record { pair = pair; fresh = fresh; opened = h }
+opened_from IsFresh (Err e) pair fresh h = tt
+
+-- the work was done over the connection that was opened
+pub worked_from : {D F : Type 0} {g : Ghosts D} (IsFresh : Bool → D → Type 0) (r : Result ℕ F) (is_new makes : Bool) (work : Work) (conn : Held (FileStore D g)) (had before behind : Option (List ℕ)) → IsOpenedFrom g IsFresh conn → (is_new ≡ true → makes ≡ true)
+    → IfOk r (λ (status : ℕ). WorkedOver is_new work conn had before behind status) → IfOk r (λ (status : ℕ). WorkedIn g IsFresh makes work had before behind status)
+worked_from IsFresh (Ok status) is_new makes work conn had before behind opened may h = (conn, opened, worked_in is_new makes work conn had before behind status may h)
+worked_from IsFresh (Err e) is_new makes work conn had before behind opened may h = tt
+
+-- the plan's requests were taken
+pub imported_in : {D F : Type 0} (g : Ghosts D) (IsFresh : Bool → D → Type 0) (r : Result ℕ F) (bytes : List ℕ) (requests : _) (had before behind : Option (List ℕ)) → plan_requests bytes ≡ Ok requests.now
+    → IfOk r (λ (status : ℕ). WorkedIn g IsFresh true (Book (book.Import requests)) had before behind status) → IfOk r (λ (status : ℕ). ImportedIn g IsFresh before behind status)
+imported_in g IsFresh (Ok status) bytes requests had before behind plan h =
+    let done = import_done g IsFresh had before behind status true requests h in
+    (bytes, requests.now, plan, done.0, done.1)
+imported_in g IsFresh (Err e) bytes requests had before behind plan h = tt

@@ -1,0 +1,138 @@
+-- What work over a book leaves, by what its desk left; and over a connection, by what its book left.
+use Rattle.std.proofs.Common.{◌≡◌, ℕ, Bool, List, [], map, take, Option, Some, Result, Ok, Err, OnOk, IfOk, sym, ap, subst, ◌∙◌, refl, inl, inr}
+use Rattle.std.specs.Prelude.{unwrap_or, max, String}
+use Rattle.std.proofs.Math.Nat.{zero-max}
+use Rattle.std.specs.Io.KnownBytes.{Appends}
+use Rattle.acd_terms.specs.declared.command.Request.{Request}
+use Rattle.acd_book.specs.Content.{Content}
+use Rattle.acd_book.specs.State.{BookState}
+use Rattle.acd_sqlbook.specs.State.{book_state}
+use Rattle.sqlite.specs.State.{State}
+use Rattle.acd_desk.specs.declared.taken.Taken.{Taken}
+use Rattle.acd_desk.specs.Arrived.{at}
+use Rattle.acd_reports.specs.QueueReport.{queue_report}
+use Rattle.acd_desk.specs.Standing.{Standing}
+use Rattle.acd_desk.specs.Stands.{IsSound}
+use Rattle.acd_desk.specs.Told.{Told}
+use Rattle.acd_desk.specs.Tells.{told, report_read, export_read, Rise}
+use Rattle.acd_desk.proofs.Rising.{sound_rises}
+use Rattle.acd_desk.specs.Opening.{Opened}
+use Rattle.acd_desk.specs.Ran.{Ran, IsFault}
+use Rattle.acd_desk.proofs.Sessions.{session_ran}
+use Rattle.acd_lines.specs.Output.{IsOutput, IsBegun, imported}
+use Rattle.acd_program.specs.declared.desk.Telling.{Telling}
+use Rattle.acd_program.specs.declared.desk.Telling.TheVariants.{Report, Export}
+use Rattle.acd_program.specs.declared.desk.BookWork.{BookWork}
+use Rattle.acd_program.specs.declared.desk.BookWork.TheVariants.{Import, Tell, Audit}
+use Rattle.acd_program.specs.declared.desk.Done.{Done}
+use Rattle.acd_program.specs.declared.desk.Done.TheVariants as left
+use Rattle.acd_program.specs.Found.{IsFindingOf}
+use Rattle.acd_program.specs.Work.{ImportsOver, BeginsImport, TellsOver, IsFindingIfOrdered, IsText, AuditsOver, BookDone, telling_text, text_left, status_left}
+use Rattle.acd_program.specs.Over.{OverConnection, held, unmade}
+use Rattle.acd_program.specs.Taking.{IsOf, IsTaken}
+use Rattle.acd_program.proofs.InFiles.{over_so}
+use Rattle.acd_program.proofs.Over.{session_of}
+use Rattle.acd_program.proofs.Asking.{asked_by, asked_so, asked_of, asked_in_order}
+
+pub imports_over : (old : BookState) (d e : Standing) (requests : List Request) (before behind : Option (List ℕ)) → Opened old d
+    → ((written : List ℕ) × (answers : List Taken) × IsOutput (imported requests) answers written × Appends before behind written × Ran d (map (at 0) requests) answers e)
+    → ImportsOver requests old before behind e.book
+imports_over old d e requests before behind opened h = record {
+  written = h.0;
+  answers = h.1;
+  output = h.2;
+  appended = h.3;
+  session = session_ran IsFault old d e (map (at 0) requests) h.1 opened h.4 h.4.later;
+}
+
+pub begins_import : (old : BookState) (d e : Standing) (requests : List Request) (before behind : Option (List ℕ)) → Opened old d
+    → ((written : List ℕ) × (n : ℕ) × (answers : List Taken) × IsBegun (imported (take n requests)) answers written × Appends before behind written × Ran d (map (at 0) (take n requests)) answers e)
+    → BeginsImport requests old before behind e.book
+begins_import old d e requests before behind opened h = record {
+  count = h.1;
+  written = h.0;
+  answers = h.2;
+  output = h.3;
+  appended = h.4;
+  session = session_ran IsFault old d e (map (at 0) (take h.1 requests)) h.2 opened h.5 h.5.later;
+}
+
+pub imports_of : (old mid new : BookState) (requests : List Request) (before behind : Option (List ℕ)) → IsOf old mid → ImportsOver requests mid before behind new → ImportsOver requests old before behind new
+imports_of old mid new requests before behind of h = record {
+  written = h.written;
+  answers = h.answers;
+  output = h.output;
+  appended = h.appended;
+  session = session_of IsFault old mid new (map (at 0) requests) h.answers of h.session;
+}
+
+pub begins_import_of : (old mid new : BookState) (requests : List Request) (before behind : Option (List ℕ)) → IsOf old mid → BeginsImport requests mid before behind new → BeginsImport requests old before behind new
+begins_import_of old mid new requests before behind of h = record {
+  count = h.count;
+  written = h.written;
+  answers = h.answers;
+  output = h.output;
+  appended = h.appended;
+  session = session_of IsFault old mid new (map (at 0) (take h.count requests)) h.answers of h.session;
+}
+
+audits_of : (counts : Bool) (old mid new : BookState) (done : Done) → IsOf old mid → AuditsOver IsFindingIfOrdered counts mid done new → AuditsOver IsFindingOf counts old done new
+audits_of counts old mid new left.Nothing of h = h
+audits_of counts old mid new (left.Told text) of h = h
+audits_of counts old mid new (left.Audited found) of h = (h.0, asked_in_order old mid new found of h.1)
+
+-- the work over a book that came of another
+pub work_of : (work : BookWork) (old mid new : BookState) (before behind : Option (List ℕ)) (done : Done) → IsOf old mid → BookDone IsFindingIfOrdered work mid before behind done new → BookDone IsFindingOf work old before behind done new
+work_of (Import requests) old mid new before behind done of h = (imports_of old mid new requests.now before behind of h.0, h.1)
+work_of (Tell telling) old mid new before behind done of h = (record { asked = asked_of old mid new _ (IsText telling) of h.0.asked; status = h.0.status }, h.1)
+work_of (Audit counts) old mid new before behind done of h = (audits_of counts old mid new done of h.0, h.1)
+
+-- ---- over a book
+
+-- the text that a desk over the book told is left to print
+pub tells_over : {Z : Type 0} (telling : Telling) (old : BookState) (d e : Standing) (text : Option (String Z)) (done : Done) → Opened old d
+    → Told d e (Ok text) (λ (c : Content) (t : Option (String Z)). IsSound c → told t ≡ Some (telling_text telling c)) → text_left done ≡ unwrap_or (told text) [] → status_left done ≡ 0
+    → TellsOver telling old done e.book
+tells_over {Z} telling old d e text done opened asked same status = record {
+  asked = asked_so old e.book text (text_left done) (λ (c : Content) (t : Option (String Z)). IsSound c → IsSound c → told t ≡ Some (telling_text telling c)) (IsText telling)
+      (λ c h whole. same ∙ ap (λ (o : Option (List ℕ)). unwrap_or o []) (h whole whole))
+      (asked_by old d e text (λ (c : Content) (t : Option (String Z)). IsSound c → told t ≡ Some (telling_text telling c)) opened asked);
+  status = status;
+}
+
+-- of a sound content the desk tells the report at the moment of the last executed request
+pub report_text : {Z : Type 0} (c : Content) (text : Option (String Z)) → told text ≡ report_read c.rows 0 → IsSound c → told text ≡ Some (telling_text Report c)
+report_text c text h whole = h ∙ ap (λ (m : ℕ). Some (queue_report c.rows m)) (zero-max c.rows.last_moment)
+
+-- and all events, which stand in order
+pub export_text : {Z : Type 0} (c : Content) (text : Option (String Z)) → (Rise 0 c.events → told text ≡ export_read c) → IsSound c → told text ≡ Some (telling_text Export c)
+export_text c text h whole = h (sound_rises c whole)
+
+pub both_ok : {A E : Type 0} (r : Result A E) (P : Type 0) (Q : A → Type 0) → OnOk r P → IfOk r Q → IfOk r (λ (x : A). P × Q x)
+both_ok (Ok x) P Q p q = (p, q)
+both_ok (Err e) P Q p q = tt
+
+pub ok_and : {A E : Type 0} (r : Result A E) (P : Type 0) (Q : A → Type 0) → P → IfOk r Q → IfOk r (λ (x : A). Q x × P)
+ok_and (Ok x) P Q p q = (q, p)
+ok_and (Err e) P Q p q = tt
+
+-- ---- over a connection
+
+-- the work over the book that the database held, or over a new one
+pub database_done : {E : Type 0} (r : Result Done E) (work : BookWork) (makes : Bool) (s t : State) (mid : BookState) (failures : ℕ) (before behind : Option (List ℕ)) → IsTaken makes s mid
+    → IfOk r (λ (d : Done). BookDone IsFindingIfOrdered work mid before behind d (book_state t failures))
+    → IfOk r (λ (d : Done). OverConnection (λ (old new : BookState). BookDone IsFindingOf work old before behind d new) makes s t)
+database_done (Err e) work makes s t mid failures before behind taken h = tt
+database_done (Ok d) work makes s t mid failures before behind taken h = (
+  failures,
+  elim taken [
+    | inl had ↦ inl (work_of work (held s) mid (book_state t failures) before behind d had h)
+    | inr made ↦ inr (made.0, made.1, work_of work (unmade s) mid (book_state t failures) before behind d made.2 h)
+  ],
+)
+
+-- lines leave nothing to print
+pub lines_left : {E : Type 0} (r : Result Done E) (P : BookState → BookState → Type 0) (makes : Bool) (s t : State) → OnOk r (OverConnection P makes s t) → IfOk r (λ (d : Done). d ≡ left.Nothing)
+    → IfOk r (λ (d : Done). OverConnection (λ (old new : BookState). P old new × (d ≡ left.Nothing)) makes s t)
+lines_left (Err e) P makes s t h none = tt
+lines_left (Ok d) P makes s t h none = over_so P (λ old new. P old new × (d ≡ left.Nothing)) makes s t (λ old new p. (p, none)) h

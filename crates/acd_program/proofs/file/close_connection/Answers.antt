@@ -1,0 +1,10 @@
+use Rattle.acd_program.proofs.file.close_connection.Goals as goal
+
+pub returns-in-Ok : goal.returns-in-Ok
+returns-in-Ok g c = record {
+  pair = c.in-Ok.field-0;
+  store = c.in-Ok.ensures.ok.0;
+  of_store = c.in-Ok.ensures.ok.1;
+  closed = c.in-Ok.ensures.ok.2;
+  copied = c.in-Ok.ensures.copied;
+}

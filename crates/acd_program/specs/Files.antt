@@ -1,0 +1,57 @@
+-- What becomes of the two files before the store has them.
+use Rattle.std.specs.Prelude.{◌≡◌, ◌⊎◌, ℕ, ◌<◌, [], length, IsTrue}
+use Rattle.sqlite_disk.specs.declared.Disk.{Ghosts}
+use Rattle.sqlite_disk.specs.declared.Files.{Files}
+use Rattle.sqlite_wal.specs.Reads.{AreClean, OnlyReads}
+use Rattle.sqlite_store.specs.declared.store.FileStore.{FileStore}
+use Rattle.sqlite_store.specs.declared.store.open.Unopened.{Unopened}
+use Rattle.sqlite_store.specs.FileStore as store
+use Rattle.sqlite_store.specs.Unopened.{state_of, files_of, wanted_by, CanCreate, Creates}
+use Rattle.sqlite.specs.State.{HasCleanDisk}
+use Rattle.sqlite.specs.Held.{Held}
+use Rattle.sqlite.specs.Files.{file_state, IsOpened, Finds}
+
+-- the bytes of the first page of a new file
+abbrev pub new_page : ℕ
+new_page = 1024
+
+module _ {D : Type 0} {g : Ghosts D} where
+  -- the store made its database of no tables in them
+  pub record IsMadeIn (before : Unopened D g) (new : Files D) : Type 0 where
+    pub made : FileStore D g
+    pub of_made : store.files made ≡ (new.log, new.db)
+    pub creates : IsTrue (store.state made).is_clean → Creates before (store.state made)
+
+  -- or it refused them, since they hold a database or can't hold one
+  pub record IsRefusedIn (before : Unopened D g) (new : Files D) : Type 0 where
+    pub rest : Unopened D g
+    pub of_rest : files_of rest ≡ (new.log, new.db)
+    pub refuses : IsTrue (state_of rest).is_clean → ¬ CanCreate before
+    pub creates : IsTrue (state_of rest).is_clean → Creates before (state_of rest)
+
+module _ {D : Type 0} (g : Ghosts D) where
+  -- nothing but reading was done to them: reads return the same, and a crash leaves nothing that it didn't leave before
+  pub record AreReadOnly (old new : Files D) : Type 0 where
+    pub log : OnlyReads g old.log new.log
+    pub db : OnlyReads g old.db new.db
+
+  -- they were handed to the store to make a database of no tables in them
+  pub record IsCreated (old new : Files D) : Type 0 where
+    pub before : Unopened D g
+    pub of_old : files_of before ≡ (old.log, old.db)
+    pub size : (state_of before).page_size ≡ new_page
+    pub after : IsMadeIn before new ⊎ IsRefusedIn before new
+
+  -- where there is more than a first page nothing but reading was done to them; else they may be new
+  pub record IsBegun (old new : Files D) : Type 0 where
+    pub large : AreClean g new.log new.db → new_page < length (g.seen old.db) → AreReadOnly old new
+    pub small : AreReadOnly old new ⊎ ((read : Files D) × AreReadOnly old read × IsCreated read new)
+
+  -- a connection to such files, as the store opened them
+  pub record IsOpenedIn (old : Files D) (conn : Held (FileStore D g)) : Type 0 where
+    pub begun : Files D
+    pub new : IsBegun old begun
+    pub handed : Files D
+    pub read : AreReadOnly begun handed
+    pub opened : HasCleanDisk (file_state conn) → IsOpened conn
+    pub found : HasCleanDisk (file_state conn) → Finds handed conn

@@ -1,0 +1,36 @@
+-- What is done over a database in files, from the connection on to what is printed.
+use Rattle.std.specs.Prelude.{◌≡◌, ℕ, Bool, true, false, List, Option}
+use Rattle.std.specs.Io.KnownBytes.{Appends}
+use Rattle.sqlite_disk.specs.declared.Disk.{Ghosts}
+use Rattle.sqlite_disk.specs.declared.Files.{Files}
+use Rattle.sqlite_wal.specs.Reads.{AreClean}
+use Rattle.sqlite_store.specs.declared.store.FileStore.{FileStore}
+use Rattle.sqlite_store.specs.FileStore.{files}
+use Rattle.sqlite.specs.State.{HasCleanDisk}
+use Rattle.sqlite.specs.Held.{Held}
+use Rattle.sqlite.specs.Files.{file_state, IsClosed}
+use Rattle.sqlite.specs.Closing.{IsCopied}
+use Rattle.acd_book.specs.State.{BookState}
+use Rattle.acd_program.specs.Over.{OverConnection}
+use Rattle.acd_program.specs.Work.{WorkDone, text_left, status_left}
+use Rattle.acd_program.specs.declared.desk.Work.{Work}
+use Rattle.acd_program.specs.declared.desk.Done.{Done}
+
+module _ {D : Type 0} {g : Ghosts D} where
+  -- the connection was closed: its last commit lies whole in the database file, as that reads now and after a crash
+  pub record IsLaidIn (conn : Held (FileStore D g)) : Type 0 where
+    pub pair : Files D
+    pub store : FileStore D g
+    pub of_store : files store ≡ (pair.log, pair.db)
+    pub closed : IsClosed conn store
+    pub copied : AreClean g pair.log pair.db → IsCopied conn pair
+
+  -- The work was done over the book of the database, which was then laid into its file. What was left of the work was printed behind that.
+  pub record WorkedOver (makes : Bool) (work : Work) (conn : Held (FileStore D g)) (had before behind : Option (List ℕ)) (status : ℕ) : Type 0 where
+    pub last : Held (FileStore D g)
+    pub left : Done
+    pub between : Option (List ℕ)
+    pub done : OverConnection (λ (old new : BookState). WorkDone work old had before between left new) makes (file_state conn) (file_state last)
+    pub closed : IsLaidIn last
+    pub printed : Appends between behind (text_left left)
+    pub told : status ≡ status_left left

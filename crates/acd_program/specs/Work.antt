@@ -1,0 +1,113 @@
+-- What is done over a book, and what is left to print of it.
+use Rattle.std.specs.Prelude.{◌≡◌, ℕ, Bool, List, [], map, take, Option, Result, Ok, string_bytes}
+use Rattle.std.specs.Io.KnownBytes.{Appends}
+use Rattle.acd_terms.specs.declared.command.Request.{Request}
+use Rattle.acd_book.specs.Content.{Content, Within}
+use Rattle.acd_book.specs.Order.{IsOrdered}
+use Rattle.acd_book.specs.State.{BookState, IfHonest}
+use Rattle.acd_reports.specs.QueueReport.{queue_report}
+use Rattle.acd_reports.specs.Export.{events_csv}
+use Rattle.acd_desk.specs.declared.taken.Taken.{Taken}
+use Rattle.acd_desk.specs.Arrived.{at}
+use Rattle.acd_desk.specs.Ran.{IsFault}
+use Rattle.acd_desk.specs.Session.{Session}
+use Rattle.acd_desk.specs.Stands.{IsSound}
+use Rattle.acd_lines.specs.Output.{IsOutput, IsBegun, imported}
+use Rattle.acd_program.specs.Found.{IsFindingOf, HasCount, finding_line}
+use Rattle.acd_program.specs.Statuses.{finding_status}
+use Rattle.acd_program.specs.Over.{AnswersOver}
+use Rattle.acd_program.specs.declared.auditing.Finding.{Finding}
+use Rattle.acd_program.specs.declared.desk.Telling.{Telling}
+use Rattle.acd_program.specs.declared.desk.Telling.TheVariants.{Report, Export}
+use Rattle.acd_program.specs.declared.desk.BookWork.{BookWork}
+use Rattle.acd_program.specs.declared.desk.BookWork.TheVariants.{Import, Tell, Audit}
+use Rattle.acd_program.specs.declared.desk.Work.{Work}
+use Rattle.acd_program.specs.declared.desk.Work.TheVariants.{Lines, Book}
+use Rattle.acd_program.specs.declared.desk.Done.{Done}
+use Rattle.acd_program.specs.declared.desk.Done.TheVariants.{Nothing, Told, Audited}
+
+-- what is told of a content: the queue report at the moment of the last executed request, or all events
+abbrev pub telling_text : Telling → Content → List ℕ
+telling_text Report c = queue_report c.rows c.rows.last_moment
+telling_text Export c = events_csv c.events
+
+-- ---- what is left to print
+
+abbrev pub text_left : Done → List ℕ
+text_left Nothing = []
+text_left (Told text) = string_bytes text
+text_left (Audited found) = finding_line found
+
+-- and the exit status that goes with it
+abbrev pub status_left : Done → ℕ
+status_left Nothing = 0
+status_left (Told text) = 0
+status_left (Audited found) = finding_status found
+
+-- ---- over a book
+
+-- a desk was opened over the book and asked, and the book came back as it was: this was found of what it holds
+pub record Asked {A : Type 0} (old : BookState) (IsAnswer : Content → A → Type 0) (found : A) (new : BookState) : Type 0 where
+  pub clean : new.is_clean → old.is_clean
+  pub sound : IfHonest old new new.is_sound
+  pub opened : IfHonest old new (old.is_open × new.is_open)
+  pub same : IfHonest old new (new.content ≡ old.content)
+  pub answer : IfHonest old new (IsAnswer old.content found)
+  -- a reopening finds nothing new
+  pub stops : IfHonest old new (Within new.stops old.stops)
+  pub quiet : new.failures ≡ old.failures
+
+-- of a sound content this is told
+abbrev pub IsText : Telling → Content → List ℕ → Type 0
+IsText telling c text = IsSound c → text ≡ telling_text telling c
+
+-- of a content whose records stand in order, as those of tables do, this is found
+abbrev pub IsFindingIfOrdered : Content → Finding → Type 0
+IsFindingIfOrdered c found = IsOrdered c → IsFindingOf c found
+
+-- a text is left to print that is told of the book
+pub record TellsOver (telling : Telling) (old : BookState) (done : Done) (new : BookState) : Type 0 where
+  pub asked : Asked old (IsText telling) (text_left done) new
+  pub status : status_left done ≡ 0
+
+-- an audit of the book found this, which is left to print
+abbrev pub AuditsOver : (Content → Finding → Type 0) → Bool → BookState → Done → BookState → Type 0
+AuditsOver IsAnswer counts old Nothing new = ⊥
+AuditsOver IsAnswer counts old (Told text) new = ⊥
+AuditsOver IsAnswer counts old (Audited found) new = HasCount counts found × Asked old IsAnswer found new
+
+-- the requests came in at moment 0, one after the other, and one answer line was written for each; they are a session over the book
+pub record ImportsOver (requests : List Request) (old : BookState) (before behind : Option (List ℕ)) (new : BookState) : Type 0 where
+  pub written : List ℕ
+  pub answers : List Taken
+  pub output : IsOutput (imported requests) answers written
+  pub appended : Appends before behind written
+  pub session : Session IsFault old (map (at 0) requests) answers new
+
+-- the first of them, and a beginning of their answer lines
+pub record BeginsImport (requests : List Request) (old : BookState) (before behind : Option (List ℕ)) (new : BookState) : Type 0 where
+  pub count : ℕ
+  pub written : List ℕ
+  pub answers : List Taken
+  pub output : IsBegun (imported (take count requests)) answers written
+  pub appended : Appends before behind written
+  pub session : Session IsFault old (map (at 0) (take count requests)) answers new
+
+-- the work was done; only what isn't printed behind it is written
+abbrev pub BookDone : (Content → Finding → Type 0) → BookWork → BookState → Option (List ℕ) → Option (List ℕ) → Done → BookState → Type 0
+BookDone IsAnswer (Import requests) old before behind done new = ImportsOver requests.now old before behind new × (done ≡ Nothing)
+BookDone IsAnswer (Tell telling) old before behind done new = TellsOver telling old done new × (behind ≡ before)
+BookDone IsAnswer (Audit counts) old before behind done new = AuditsOver IsAnswer counts old done new × (behind ≡ before)
+
+-- the same over the book of a database, whose records stand in order
+abbrev pub WorkDone : Work → BookState → Option (List ℕ) → Option (List ℕ) → Option (List ℕ) → Done → BookState → Type 0
+WorkDone (Lines ends_on_store_fault) old had before behind done new = AnswersOver old had before behind new × (done ≡ Nothing)
+WorkDone (Book work) old had before behind done new = BookDone IsFindingOf work old before behind done new
+
+-- the work ended, so did the closing of its file, and what was left of it is printed
+pub record IsPrinted {F : Type 0} (done : Result Done F) (closed : Result (Unit {0}) F) (before behind : Option (List ℕ)) (status : ℕ) : Type 0 where
+  pub left : Done
+  pub ended : done ≡ Ok left
+  pub shut : closed ≡ Ok tt
+  pub printed : Appends before behind (text_left left)
+  pub told : status ≡ status_left left

@@ -1,0 +1,98 @@
+//! What is left of the work, as it is printed.
+
+ghost use Rattle.std.specs.Prelude.{◌≡◌, ◌++◌, ◌∷◌, [], decimal, OnOk, OnErr, IfOk, IfErr};
+ghost use Rattle.std.specs.Io.KnownBytes.{Appends};
+ghost use Rattle.acd_lines.specs.Sent.{Begins};
+ghost use Rattle.acd_program.specs.Found.{finding_line};
+ghost use Rattle.acd_program.specs.Statuses.{IsDone, finding_status};
+ghost use Rattle.acd_program.specs.Work.{text_left, status_left};
+
+use crate::auditing::Finding;
+use crate::desk::Done;
+use crate::fault::Fault;
+use acd_lines::{Stopped, send};
+use itoa::Buffer;
+use std::io::Write;
+
+// Exit statuses.
+const SUCCESS: u8 = 0;
+
+const DIFFERS: u8 = 3;
+
+// How often the writer is called at most.
+const CALLS: u64 = u64::MAX;
+
+// Writes a line that ends in a number.
+fn send_number<W: Write>(writer: &mut W, front: &[u8], number: u64) -> Result<(), Stopped>
+    ensures ok { OnOk result (Appends (W.contents writer.old) (W.contents writer.new) (front.now ++ (decimal number ++ 10 ∷ []))) }
+    ensures err { OnErr result (Begins (W.contents writer.old) (W.contents writer.new) (front.now ++ (decimal number ++ 10 ∷ []))) }
+{
+    let mut calls = CALLS;
+    let mut digits = Buffer::new();
+    send(writer, &mut calls, front)?;
+    send(writer, &mut calls, digits.format(number).as_bytes())?;
+    send(writer, &mut calls, b"\n")
+}
+
+// Writes what an audit found, as a line or two.
+fn send_finding<W: Write>(found: Finding, writer: &mut W) -> Result<(), Stopped>
+    ensures ok { OnOk result (Appends (W.contents writer.old) (W.contents writer.new) (finding_line found)) }
+    ensures err { OnErr result (Begins (W.contents writer.old) (W.contents writer.new) (finding_line found)) }
+{
+    let mut calls = CALLS;
+    match found {
+        Finding::Sound => send(writer, &mut calls, b"sound\n"),
+        Finding::Counted(count) => send_number(writer, b"sound\nexecuted ", count),
+        Finding::Differs(place) => send_number(writer, b"differs at request ", place),
+    }
+}
+
+fn send_left<W: Write>(left: &Done, writer: &mut W) -> Result<(), Stopped>
+    ensures ok { OnOk result (Appends (W.contents writer.old) (W.contents writer.new) (text_left left.now)) }
+    ensures err { OnErr result (Begins (W.contents writer.old) (W.contents writer.new) (text_left left.now)) }
+{
+    let mut calls = CALLS;
+    match left {
+        Done::Nothing => Ok(()),
+        Done::Told(text) => send(writer, &mut calls, text.as_bytes()),
+        Done::Audited(found) => send_finding(*found, writer),
+    }
+}
+
+// The exit status that goes with what an audit found. Where something differs that is no fault.
+fn status_of(found: &Finding) -> u8
+    ensures known { IsDone result }
+    ensures status { result ≡ finding_status found.now }
+{
+    match found {
+        Finding::Sound => SUCCESS,
+        Finding::Counted(_) => SUCCESS,
+        Finding::Differs(_) => DIFFERS,
+    }
+}
+
+fn status_left(left: &Done) -> u8
+    ensures known { IsDone result }
+    ensures status { result ≡ status_left left.now }
+{
+    match left {
+        Done::Nothing => SUCCESS,
+        Done::Told(_) => SUCCESS,
+        Done::Audited(found) => status_of(found),
+    }
+}
+
+/// Prints what is left of the work, and gives the exit status.
+pub(crate) fn print<'a, W: Write>(left: &Done, writer: &mut W) -> Result<u8, Fault<'a>>
+    ensures known { IfOk result IsDone }
+    ensures status { IfOk result (λ status. status ≡ status_left left.now) }
+    ensures ok { OnOk result (Appends (W.contents writer.old) (W.contents writer.new) (text_left left.now)) }
+    // where the writer failed, a beginning of it
+    ensures err { OnErr result (Begins (W.contents writer.old) (W.contents writer.new) (text_left left.now)) }
+    ensures fault { IfErr result (λ fault. fault ≡ Fault.Write) }
+{
+    match send_left(left, writer) {
+        Ok(()) => Ok(status_left(left)),
+        Err(Stopped) => Err(Fault::Write),
+    }
+}
