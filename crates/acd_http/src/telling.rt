@@ -15,8 +15,8 @@ use acd_book::{Book, Text};
 use acd_codec::FixedAnswer;
 use acd_desk::{Desk, DeskFault};
 
-// What the desk tells.
-fn tell<B: Book>(
+/// What the desk tells.
+pub(crate) fn tell<B: Book>(
     desk: &mut Desk<B>,
     moment: u32,
     wanted: Lookup,

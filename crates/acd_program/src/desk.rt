@@ -15,6 +15,7 @@ use crate::fault::Fault;
 use crate::progress::{Progress, Watched};
 use acd_book::Book;
 use acd_desk::{Desk, DeskFault};
+use acd_http::lines_with_reads;
 use acd_lines::import;
 use acd_terms::Request;
 use sqlite::{Alter, Connection};
@@ -35,6 +36,8 @@ pub(crate) enum Work<'w> {
 pub(crate) enum BookWork<'w> {
     /// Take the requests of a plan.
     Import(&'w [Request]),
+    /// Answer the lines of an input, and the reads among them.
+    ReadLines { ends_on_store_fault: bool },
     /// Tell of its desk.
     Tell(Telling),
     /// Run the kept requests again, and compare what they give with the book.
@@ -129,15 +132,39 @@ fn audit<'a, B: Book>(
     }
 }
 
-fn over_book<'a, B: Book, W: Write>(
+// Answers lines, and the reads among them. Where that is to end them, a store that failed is a fault.
+fn read_lines<'a, B: Book, R: Read, W: Write>(
+    alloc: Global,
+    book: B,
+    ends_on_store_fault: bool,
+    reader: &mut R,
+    writer: &mut W,
+) -> (Result<Done, Fault<'a>>, B) {
+    let mut desk = match Desk::open(alloc, book) {
+        Ok(desk) => desk,
+        Err((fault, book)) => return (Err(Fault::from(fault)), book),
+    };
+    let done = match lines_with_reads(alloc, &mut desk, ends_on_store_fault, reader, writer) {
+        Ok(()) if ends_on_store_fault && desk.has_failed() => Err(Fault::Store),
+        Ok(()) => Ok(Done::Nothing),
+        Err(fault) => Err(Fault::from(fault)),
+    };
+    (done, desk.close())
+}
+
+fn over_book<'a, B: Book, R: Read, W: Write>(
     rt: &HostRuntime,
     book: B,
     work: BookWork<'_>,
+    reader: &mut R,
     writer: &mut W,
 ) -> (Result<Done, Fault<'a>>, B)
     ensures { IfOk result.0 (λ done. BookDone IsFindingIfOrdered work.entry (B.state book) (W.contents writer.old) (W.contents writer.new) done (B.state result.1)) }
 {
     match work {
+        BookWork::ReadLines {
+            ends_on_store_fault,
+        } => read_lines(rt.alloc(), book, ends_on_store_fault, reader, writer),
         BookWork::Import(requests) => imported(rt.alloc(), book, requests, writer),
         BookWork::Tell(telling) => told(rt.alloc(), book, telling),
         BookWork::Audit { counts } => {
@@ -194,6 +221,6 @@ pub(crate) fn over_database<'a, S: Alter, R: Read, W: Write>(
         Ok(book) => book,
         Err((fault, conn)) => return (Err(Fault::from(fault)), conn),
     };
-    let (done, book) = over_book(rt, book, work, writer);
+    let (done, book) = over_book(rt, book, work, reader, writer);
     (done, book.into_connection())
 }

@@ -6,6 +6,7 @@ ghost use Rattle.acd_program.specs.Answered.{in_memory, IsNewDesk, AnswersAll, A
 
 use acd_book::MemoryBook;
 use acd_desk::{Desk, OpenFault};
+use acd_http::lines_with_reads;
 use acd_lines::{LinesFault, lines};
 use acd_terms::Limits;
 use std::alloc::{AllocError, Global};
@@ -37,6 +38,18 @@ pub fn lines_over_memory<R: Read, W: Write>(
 {
     match new_desk(alloc) {
         Ok(mut desk) => lines(alloc, &mut desk, reader, writer),
+        Err(AllocError) => Err(LinesFault::NoMemory),
+    }
+}
+
+/// The same where lines may be reads.
+pub(crate) fn read_lines_over_memory<R: Read, W: Write>(
+    alloc: Global,
+    reader: &mut R,
+    writer: &mut W,
+) -> Result<(), LinesFault> {
+    match new_desk(alloc) {
+        Ok(mut desk) => lines_with_reads(alloc, &mut desk, false, reader, writer),
         Err(AllocError) => Err(LinesFault::NoMemory),
     }
 }

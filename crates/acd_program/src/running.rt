@@ -10,7 +10,7 @@ ghost use Rattle.acd_program.specs.Tasks.{WorkedIn, ImportedIn, ServedIn, TaskDo
 use crate::desk::{BookWork, Done, Work, over_database};
 use crate::fault::Fault;
 use crate::file::{close_connection, connect};
-use crate::memory::lines_over_memory;
+use crate::memory::{lines_over_memory, read_lines_over_memory};
 use crate::plan::read_plan;
 use crate::printing::print;
 use crate::serving::serve;
@@ -121,6 +121,19 @@ fn print_done<'a, W: Write>(
     }
 }
 
+// What is done where lines are answered.
+fn lines_work<'w>(reads: bool, ends_on_store_fault: bool) -> Work<'w> {
+    if reads {
+        Work::Book(BookWork::ReadLines {
+            ends_on_store_fault,
+        })
+    } else {
+        Work::Lines {
+            ends_on_store_fault,
+        }
+    }
+}
+
 // Does it, and gives the exit status where no fault ended it.
 fn execute<'a, S: Start, R: Read, W: Write, E: Write>(
     rt: &HostRuntime,
@@ -136,17 +149,28 @@ fn execute<'a, S: Start, R: Read, W: Write, E: Write>(
     ensures told { IfOk result (λ status. (errors.new ≡ errors.old) ⊎ ((status ≡ 0) × TellsConnections (E.contents errors.old) (E.contents errors.new))) }
 {
     match task {
-        Task::Lines { file: None, .. } => {
+        Task::Lines {
+            file: None,
+            reads: false,
+            ..
+        } => {
             lines_over_memory(rt.alloc(), reader, writer)?;
             Ok(SUCCESS)
         }
         Task::Lines {
+            file: None,
+            reads: true,
+            ..
+        } => {
+            read_lines_over_memory(rt.alloc(), reader, writer)?;
+            Ok(SUCCESS)
+        }
+        Task::Lines {
             file: Some(file),
+            reads,
             ends_on_store_fault,
         } => {
-            let work = Work::Lines {
-                ends_on_store_fault,
-            };
+            let work = lines_work(reads, ends_on_store_fault);
             work_in(rt, start, file, true, work, reader, writer)
         }
         Task::Serve {

@@ -13,6 +13,7 @@ pub(crate) enum Task<'a> {
     /// Answer the lines of standard input, over a desk in memory or in a file.
     Lines {
         file: Option<&'a str>,
+        reads: bool,
         ends_on_store_fault: bool,
     },
     /// Answer connections over HTTP: so many, or until the store has failed.
@@ -48,6 +49,8 @@ const ENDLESS: &str = "endless";
 
 // Of these one is given.
 const SPAN: &str = "span";
+
+const READS: &str = "reads";
 
 const END_ON_STORE_FAULT: &str = "end-on-store-fault";
 
@@ -102,6 +105,11 @@ fn lines_command<'a>(alloc: Global) -> Result<Command<'a>, AllocError> {
             "Example:\n  acd lines --file desk.db < requests\n\nWithout --file the desk is in memory, and ends with the input. A file that isn't\nthere, or has no bytes, is made.",
         )
         .arg(file_option(alloc))?
+        .arg(flag(
+            alloc,
+            READS,
+            "Answer reads too: a moment, a space, GET, a space and a target",
+        ))?
         .arg(flag(
             alloc,
             END_ON_STORE_FAULT,
@@ -205,6 +213,7 @@ fn all_commands<'a>(alloc: Global) -> Result<Command<'a>, AllocError> {
 fn lines_of<'a>(options: &ArgMatches<'a>) -> Task<'a> {
     Task::Lines {
         file: options.get_str(FILE),
+        reads: options.get_flag(READS),
         ends_on_store_fault: options.get_flag(END_ON_STORE_FAULT),
     }
 }

@@ -1,0 +1,7 @@
+use Rattle.std.proofs.Common.{◌≡◌, ap, ◌∙◌}
+use Rattle.acd_desk.specs.Ran.{standing}
+use Rattle.acd_http.proofs.ReadingLines.{tells_look}
+use Rattle.acd_http.proofs.reading_lines.look.Goals as goal
+
+pub returns : goal.returns
+returns g c = tells_look (standing g.B.Book) c.args.desk.now c.tell-found.new.desk c.args.moment c.args.wanted c.tell-found.result _ c.told_line.ensures c.tell-found.ensures
