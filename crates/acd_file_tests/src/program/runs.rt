@@ -24,6 +24,54 @@ fn lines_in_memory() -> &'static str {
 "#
 }
 
+// A read is answered by the desk that the lines before it left, and moves no moment; no other line is one.
+fn reads_in_lines() -> &'static str {
+    r#"0 acd lines --reads
+> 0 {"requester":"plan","invoke":1,"service":"addGroup","device":"100","name":"Billing","ring":20,"wrap":30}
+> 4294967295 GET /snapshot
+> 10 {"requester":"pbx","invoke":1,"service":"arriveCall","caller":"0301234","called":"100"}
+> 20 GET /calls/1
+> 15 GET /reports/queues
+> 5 GET /events?after=0
+> 5 GET /events?after=x
+> 5 GET /calls/2
+> 5 GET /nowhere
+> 5 GET /csta
+> 5 GET
+> 5 get /snapshot
+> 5 HEAD /snapshot
+> GET /snapshot
+< 200 {"invoke":1,"requester":"plan","result":{}}
+< 200 {"agents":[],"calls":[],"groups":[{"abandoned":0,"answered":0,"device":"100","entered":0,"kind":"group","moved":0,"name":"Billing","ring":20,"waited":0,"wrap":30}],"last":0,"moment":0,"monitors":[],"stations":[]}
+< 200 {"invoke":1,"requester":"pbx","result":{"call":1}}
+< 200 {"call":1,"called":"100","caller":"0301234","connections":[{"device":"100","state":"queued"},{"device":"0301234","state":"connected"}],"since":10}
+< 200 "group           waiting ringing    entered   answered  abandoned      moved    average    longest name\n100                   1       0          1          0          0          0          -          5 Billing\n"
+< 200 {"events":[{"call":1,"cause":"newCall","device":"100","event":"queued","moment":10,"number":1}],"last":1}
+< 400 {"error":{"code":30,"member":"after","name":"malformed"}}
+< 404 {"error":{"code":35,"name":"notFound"}}
+< 404 {"error":{"code":35,"name":"notFound"}}
+< 405 {"error":{"code":36,"name":"methodNotAllowed"}}
+< 400 {"error":{"code":30,"member":"json","name":"malformed"}}
+< 400 {"error":{"code":30,"member":"json","name":"malformed"}}
+< 400 {"error":{"code":30,"member":"json","name":"malformed"}}
+< 400 {"error":{"code":30,"member":"moment","name":"malformed"}}
+
+0 acd lines
+> 0 GET /snapshot
+< 400 {"error":{"code":30,"member":"json","name":"malformed"}}
+
+0 acd lines --file {file} --reads
+> 0 {"requester":"plan","invoke":1,"service":"addStation","device":"201"}
+> 0 GET /devices/201
+< 200 {"invoke":1,"requester":"plan","result":{}}
+< 200 {"connections":[],"device":"201","kind":"station"}
+
+0 acd lines --file {file} --reads --end-on-store-fault
+> 0 GET /devices/201
+< 200 {"connections":[],"device":"201","kind":"station"}
+"#
+}
+
 // Help, version and toolchain, and two refusals. Of the help of the other commands is asked that there is one.
 fn help() -> &'static str {
     r#"0 acd lines --help
@@ -33,6 +81,7 @@ fn help() -> &'static str {
 <
 < Options:
 <       --file <F>            The file of the desk
+<       --reads               Answer reads too: a moment, a space, GET, a space and a target
 <       --end-on-store-fault  End with status 1 once a storeFault was answered
 <   -h, --help                Print help
 <
@@ -573,6 +622,7 @@ taken
 fn runs_of_the_program(rt: HostRuntime) {
     let scripts = [
         lines_in_memory(),
+        reads_in_lines(),
         help(),
         no_databases(),
         plans(),
