@@ -32,13 +32,7 @@ pub trait Answering<B: Book> {
     ghost answers: { DeskOver B → Asked → List ℕ → DeskOver B → Type 0 };
 
     /// The answer to what stands behind a moment, in at most 4096 bytes.
-    fn answer(
-        &mut self,
-        alloc: Global,
-        desk: &mut Desk<B>,
-        moment: u32,
-        text: &[u8],
-    ) -> AnswerLine
+    fn answer(&mut self, alloc: Global, desk: &mut Desk<B>, moment: u32, text: &[u8]) -> AnswerLine
         ensures { answers desk.old (read moment text.now) (answered_text result) desk.new };
 
     ghost needs_a_moment: { (d : DeskOver B) → answers d unmarked (malformed_line Member.Moment) d };

@@ -156,12 +156,5 @@ pub fn lines_until_failed<B: Book, R: Read, W: Write>(
     // without memory nothing was read
     ensures memory { IfErr result (λ fault. fault ≡ LinesFault.NoMemory → (reader.new ≡ reader.old) × (writer.new ≡ writer.old) × (desk.new ≡ desk.old)) }
 {
-    answer_lines(
-        alloc,
-        &mut Requests::new(alloc),
-        desk,
-        true,
-        reader,
-        writer,
-    )
+    answer_lines(alloc, &mut Requests::new(alloc), desk, true, reader, writer)
 }
