@@ -7,4 +7,4 @@ pub mod InFiles
 pub mod Tasks
 pub mod Begun
 pub mod Sending
-pub mod Serving
+pub mod Served

@@ -1,5 +1,5 @@
 use Rattle.sqlite_std_file.specs.File.{IsFresh}
-use Rattle.acd_program.proofs.Serving.{served_in}
+use Rattle.acd_program.proofs.Served.{served_in}
 use Rattle.acd_program.proofs.running.serve_file.Goals as goal
 
 pub returns-in-Ok : goal.returns-in-Ok

@@ -2,7 +2,7 @@ use Rattle.std.proofs.Common.{subst, OnOk}
 use Rattle.std.specs.Io.KnownBytes.{Appends}
 use Rattle.acd_desk.specs.Standing.{standing}
 use Rattle.acd_http.specs.Listening.{ServedAll}
-use Rattle.acd_program.proofs.Serving.{begins_all}
+use Rattle.acd_program.proofs.Served.{begins_all}
 use Rattle.acd_program.proofs.serving.answer.Goals as goal
 
 pub returns-in-Ok : goal.returns-in-Ok

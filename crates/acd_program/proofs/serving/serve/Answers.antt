@@ -1,6 +1,6 @@
 use Rattle.sqlite.specs.Held.{state}
 use Rattle.acd_sqlbook.specs.State.{book_state}
-use Rattle.acd_program.proofs.Serving.{serves_database}
+use Rattle.acd_program.proofs.Served.{serves_database}
 use Rattle.acd_program.proofs.serving.serve.Goals as goal
 
 pub returns-in-Ok : goal.returns-in-Ok

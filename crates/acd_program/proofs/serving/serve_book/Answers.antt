@@ -1,4 +1,4 @@
-use Rattle.acd_program.proofs.Serving.{serves_over}
+use Rattle.acd_program.proofs.Served.{serves_over}
 use Rattle.acd_program.proofs.serving.serve_book.Goals as goal
 
 pub returns-in-Ok : goal.returns-in-Ok
