@@ -1,7 +1,5 @@
 -- What is told of a book, by what its desk told; and over a connection, by what its book told.
-use Rattle.std.proofs.Common.{◌≡◌, ℕ, Bool, List, [], Option, Some, Result, Ok, Err, sym, ap, subst, ◌∙◌, refl}
-use Rattle.std.specs.Prelude.{unwrap_or, string_bytes}
-use Rattle.acd_terms.specs.declared.command.Request.{Request}
+use Rattle.std.proofs.Common.{◌≡◌, ℕ, Result, Ok, Err, subst, ◌∙◌}
 use Rattle.acd_book.specs.Content.{Content}
 use Rattle.acd_book.specs.Order.{IsOrdered}
 use Rattle.acd_book.specs.State.{BookState}

@@ -1,10 +1,10 @@
 -- What a task leaves, by what work over a connection to files left.
-use Rattle.std.proofs.Common.{◌≡◌, ◌⊎◌, ℕ, Bool, true, List, [], ◌++◌, Option, sym, ap, subst, ◌∙◌, inl, inr, refl, append-nil}
+use Rattle.std.proofs.Common.{◌≡◌, ℕ, Bool, true, List, [], Option, subst, inl, inr, append-nil}
 use Rattle.std.specs.Io.KnownBytes.{Appends}
-use Rattle.std.proofs.KnownBytes.{Appends-nil, Appends-trans}
+use Rattle.std.proofs.KnownBytes.{Appends-trans}
 use Rattle.sqlite.specs.State.{State}
 use Rattle.acd_book.specs.State.{BookState}
-use Rattle.acd_program.specs.Over.{OverConnection, held, unmade}
+use Rattle.acd_program.specs.Over.{OverConnection}
 
 -- what follows from what is said of the book
 pub over_so : (P Q : BookState → BookState → Type 0) (makes : Bool) (s t : State) → ((old new : BookState) → P old new → Q old new) → OverConnection P makes s t → OverConnection Q makes s t

@@ -1,8 +1,8 @@
 -- What serving over a database leaves, step by step.
-use Rattle.std.proofs.Common.{◌≡◌, ℕ, Bool, true, List, [], Option, Result, Ok, Err, OnOk, Some, sym, ap, subst, ◌∙◌, inl, inr, refl, append-nil}
+use Rattle.std.proofs.Common.{◌≡◌, ◌⊎◌, ℕ, Bool, true, List, [], Option, Result, Ok, Err, OnOk, Some, sym, ap, subst, ◌∙◌, inl, inr, refl, append-nil}
 use Rattle.std.specs.Io.KnownBytes.{Appends}
 use Rattle.sqlite.specs.State.{State}
-use Rattle.sqlite.specs.Held.{Held, state}
+use Rattle.sqlite.specs.Held.{Held}
 use Rattle.sqlite.specs.Files.{file_state}
 use Rattle.sqlite.specs.Files.{over_files}
 use Rattle.sqlite_disk.specs.declared.Disk as disk
@@ -11,9 +11,9 @@ use Rattle.sqlite_store.specs.declared.store.FileStore.{FileStore}
 use Rattle.acd_book.specs.declared.book.Book as book
 use Rattle.acd_book.specs.State.{BookState}
 use Rattle.acd_sqlbook.specs.declared.book.SqlBook.{SqlBook}
-use Rattle.acd_sqlbook.specs.State.{book_state}
 use Rattle.acd_desk.specs.declared.desk.Desk.{Desk}
 use Rattle.acd_desk.specs.Opening.{Opened}
+use Rattle.acd_desk.specs.Stands.{IsSound}
 use Rattle.acd_desk.specs.Standing.{Standing, standing}
 use Rattle.acd_lines.specs.Sent.{Begins}
 use Rattle.acd_http.specs.Listening.{ServedAll, outcome_lines}
@@ -23,7 +23,9 @@ use Rattle.acd_program.specs.Taking.{IsOf, IsTaken}
 use Rattle.acd_program.specs.Statuses.{TellsConnections}
 use Rattle.acd_program.specs.Serving.{IsDeskOf, ServesOver, ServesDatabase, in_database}
 use Rattle.acd_program.specs.InFiles.{IsLaidIn}
-use Rattle.acd_program.specs.Tasks.{IsOpenedFrom, ServedIn}
+use Rattle.acd_program.specs.declared.task.Task.{Task}
+use Rattle.acd_program.specs.declared.task.Task.TheVariants as task
+use Rattle.acd_program.specs.Tasks.{IsOpenedFrom, ServedIn, TaskDone}
 
 -- what was written whole is a beginning of itself
 pub begins_all : {D : Type 0} (stands : D → Standing) (many : ℕ) (d e : D) (a b : Option (List ℕ)) → ServedAll stands many d e (Appends a b) → ServedAll stands many d e (Begins a b)
@@ -92,3 +94,10 @@ pub served_in : {D F : Type 0} {g : disk.Ghosts D} (IsFresh : Bool → D → Typ
     → IsOpenedFrom g IsFresh conn → ServesDatabase over_files true many (file_state conn) a b last → OnOk closed (IsLaidIn last) → OnOk closed (ServedIn g IsFresh many a b)
 served_in IsFresh (Ok u) many a b conn last opened served closed = record { conn = conn; last = last; opened = opened; served = served; closed = closed }
 served_in IsFresh (Err e) many a b conn last opened served closed = tt
+
+pub file_tells : {D : Type 0} {g : disk.Ghosts D} (IsFresh : Bool → D → Type 0) (many : ℕ) (a b : Option (List ℕ)) → ServedIn g IsFresh many a b → TellsConnections a b
+file_tells IsFresh many a b h = served_tells over_files true many (file_state h.conn) a b h.last h.served
+
+pub serve_task : {D : Type 0} (g : disk.Ghosts D) (IsFresh : Bool → D → Type 0) (asked : Task) (had before behind a b : Option (List ℕ)) (file port : _) (connections : ℕ) → asked ≡ task.Serve file port connections → ServedIn g IsFresh connections a b
+    → TaskDone g IsFresh asked had before behind a b 0
+serve_task g IsFresh asked had before behind a b file port connections is h = subst (λ (t : Task). TaskDone g IsFresh t had before behind a b 0) (sym is) (h, refl)

@@ -1,5 +1,5 @@
 -- That a task was done, by the work over a connection to files.
-use Rattle.std.proofs.Common.{◌≡◌, ℕ, Bool, true, List, [], Option, Result, Ok, Err, IfOk, OnOk, sym, ap, subst, ◌∙◌, refl}
+use Rattle.std.proofs.Common.{◌≡◌, ℕ, Bool, true, false, Some, List, [], Option, Result, Ok, Err, IfOk, OnOk, sym, ap, subst, ◌∙◌, refl}
 use Rattle.std.specs.Io.KnownBytes.{Appends}
 use Rattle.sqlite_disk.specs.declared.Disk.{Ghosts}
 use Rattle.sqlite_store.specs.declared.store.FileStore.{FileStore}
@@ -18,11 +18,13 @@ use Rattle.acd_program.specs.declared.desk.Done.TheVariants.{Nothing, Told, Audi
 use Rattle.acd_program.specs.Found.{IsFindingOf, HasCount, finding_line}
 use Rattle.acd_program.specs.Statuses.{finding_status}
 use Rattle.acd_program.specs.Over.{AnswersOver, OverConnection}
-use Rattle.acd_program.specs.Work.{Asked, IsText, ImportsOver, TellsOver, AuditsOver, WorkDone, IsPrinted, text_left, status_left}
+use Rattle.acd_program.specs.Work.{Asked, IsText, ImportsOver, AuditsOver, WorkDone, IsPrinted, text_left, status_left}
 use Rattle.acd_program.specs.InFiles.{IsLaidIn, WorkedOver}
 use Rattle.acd_program.specs.Files.{IsOpenedIn}
-use Rattle.acd_program.specs.Tasks.{WorkedIn, InFile, IsOpenedFrom, ImportedIn}
-use Rattle.acd_reports.specs.Plan.{plan_requests}
+use Rattle.acd_program.specs.Tasks.{WorkedIn, InFile, IsOpenedFrom, LinesDone, TaskDone}
+use Rattle.acd_program.specs.declared.task.Task.{Task}
+use Rattle.acd_program.specs.declared.task.Task.TheVariants as task
+use Rattle.acd_program.specs.declared.desk.BookWork.{BookWork}
 use Rattle.sqlite_disk.specs.declared.Files.{Files}
 use Rattle.acd_program.proofs.InFiles.{over_so, over_fact, over_makes, appends_nothing}
 
@@ -180,10 +182,27 @@ pub worked_from : {D F : Type 0} {g : Ghosts D} (IsFresh : Bool → D → Type 0
 worked_from IsFresh (Ok status) is_new makes work conn had before behind opened may h = (conn, opened, worked_in is_new makes work conn had before behind status may h)
 worked_from IsFresh (Err e) is_new makes work conn had before behind opened may h = tt
 
--- the plan's requests were taken
-pub imported_in : {D F : Type 0} (g : Ghosts D) (IsFresh : Bool → D → Type 0) (r : Result ℕ F) (bytes : List ℕ) (requests : _) (had before behind : Option (List ℕ)) → plan_requests bytes ≡ Ok requests.now
-    → IfOk r (λ (status : ℕ). WorkedIn g IsFresh true (Book (book.Import requests)) had before behind status) → IfOk r (λ (status : ℕ). ImportedIn g IsFresh before behind status)
-imported_in g IsFresh (Ok status) bytes requests had before behind plan h =
-    let done = import_done g IsFresh had before behind status true requests h in
-    (bytes, requests.now, plan, done.0, done.1)
-imported_in g IsFresh (Err e) bytes requests had before behind plan h = tt
+pub ok_so : {A F : Type 0} (r : Result A F) (P Q : A → Type 0) → ((x : A) → P x → Q x) → IfOk r P → IfOk r Q
+ok_so (Ok x) P Q follows h = follows x h
+ok_so (Err e) P Q follows h = tt
+
+-- ---- by what the command line asks for
+
+pub lines_in_file : {Name D F : Type 0} (g : Ghosts D) (IsFresh : Bool → D → Type 0) (r : Result ℕ F) (named : Option Name) (file : Name) (ends : Bool) (had before behind : Option (List ℕ)) → named ≡ Some file
+    → IfOk r (λ (status : ℕ). WorkedIn g IsFresh true (Lines ends) had before behind status) → IfOk r (λ (status : ℕ). LinesDone g IsFresh named had before behind status)
+lines_in_file {Name} g IsFresh r named file ends had before behind is = ok_so r _ _
+    (λ status h. subst (λ (n : Option Name). LinesDone g IsFresh n had before behind status) (sym is) (lines_done g IsFresh had before behind status ends true h))
+
+module _ {D F : Type 0} (disk : Ghosts D) (IsFresh : Bool → D → Type 0) (r : Result ℕ F) (asked : Task) (had before behind mute told : Option (List ℕ)) where
+  pub lines_task : (file : _) (ends : Bool) → asked ≡ task.Lines file ends → IfOk r (λ (status : ℕ). LinesDone disk IsFresh file had before behind status)
+      → IfOk r (λ (status : ℕ). TaskDone disk IsFresh asked had before behind mute told status)
+  lines_task file ends is = ok_so r _ _ (λ status h. subst (λ (t : Task). TaskDone disk IsFresh t had before behind mute told status) (sym is) h)
+
+  read_done : (file : _) (work : BookWork) (status : ℕ) → WorkedIn disk IsFresh false (Book work) had before behind status → TaskDone disk IsFresh (task.Read file work) had before behind mute told status
+  read_done file (book.Import requests) status h = import_done disk IsFresh had before behind status false requests h
+  read_done file (book.Tell telling) status h = tell_done disk IsFresh had before behind status false telling h
+  read_done file (book.Audit counts) status h = audit_done disk IsFresh had before behind status false counts h
+
+  pub read_task : (file : _) (work : BookWork) → asked ≡ task.Read file work → IfOk r (λ (status : ℕ). WorkedIn disk IsFresh false (Book work) had before behind status)
+      → IfOk r (λ (status : ℕ). TaskDone disk IsFresh asked had before behind mute told status)
+  read_task file work is = ok_so r _ _ (λ status h. subst (λ (t : Task). TaskDone disk IsFresh t had before behind mute told status) (sym is) (read_done file work status h))

@@ -1,6 +1,6 @@
 -- What work over a book leaves, by what its desk left; and over a connection, by what its book left.
-use Rattle.std.proofs.Common.{◌≡◌, ℕ, Bool, List, [], map, take, Option, Some, Result, Ok, Err, OnOk, IfOk, sym, ap, subst, ◌∙◌, refl, inl, inr}
-use Rattle.std.specs.Prelude.{unwrap_or, max, String}
+use Rattle.std.proofs.Common.{◌≡◌, ℕ, Bool, List, [], map, take, Option, Some, Result, Ok, Err, OnOk, IfOk, ap, ◌∙◌, inl, inr}
+use Rattle.std.specs.Prelude.{unwrap_or, String}
 use Rattle.std.proofs.Math.Nat.{zero-max}
 use Rattle.std.specs.Io.KnownBytes.{Appends}
 use Rattle.acd_terms.specs.declared.command.Request.{Request}

@@ -59,10 +59,14 @@ module _ {D : Type 0} (disk : Ghosts D) (IsFresh : Bool → D → Type 0) where
     pub served : ServesDatabase over_files true many (file_state conn) before behind last
     pub closed : IsLaidIn last
 
+  -- each line of the input was answered, over a desk in memory or over that of the file that was named
+  abbrev pub LinesDone : {Name : Type 0} → Option Name → Option (List ℕ) → Option (List ℕ) → Option (List ℕ) → ℕ → Type 0
+  LinesDone None had before behind status = AnswersAll had before behind × (status ≡ 0)
+  LinesDone (Some file) had before behind status = InFile (λ (old new : BookState). AnswersOver old had before behind new) true × (status ≡ 0)
+
   -- the task was done, from what was read to what was written, to what was told on the stream of errors, and to the exit status
   abbrev pub TaskDone : Task → Option (List ℕ) → Option (List ℕ) → Option (List ℕ) → Option (List ℕ) → Option (List ℕ) → ℕ → Type 0
-  TaskDone (Lines None ends_on_store_fault) had before behind mute told status = AnswersAll had before behind × (status ≡ 0)
-  TaskDone (Lines (Some file) ends_on_store_fault) had before behind mute told status = InFile (λ (old new : BookState). AnswersOver old had before behind new) true × (status ≡ 0)
+  TaskDone (Lines file ends_on_store_fault) had before behind mute told status = LinesDone file had before behind status
   TaskDone (Serve file port connections) had before behind mute told status = ServedIn connections mute told × (status ≡ 0)
   TaskDone (Import file plan) had before behind mute told status = ImportedIn before behind status
   TaskDone (Read file (book.Import requests)) had before behind mute told status = InFile (λ (old new : BookState). ImportsOver requests.now old before behind new) false × (status ≡ 0)

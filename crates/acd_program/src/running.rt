@@ -5,7 +5,7 @@ ghost use Rattle.sqlite_std_file.specs.File.{IsFresh};
 ghost use Rattle.acd_program.specs.Statuses.{IsDone, TellsConnections};
 ghost use Rattle.acd_program.specs.Work.{IsPrinted};
 ghost use Rattle.acd_program.specs.InFiles.{WorkedOver};
-ghost use Rattle.acd_program.specs.Tasks.{WorkedIn, ImportedIn, ServedIn, TaskDone};
+ghost use Rattle.acd_program.specs.Tasks.{WorkedIn, LinesDone, ImportedIn, ServedIn, TaskDone};
 
 use crate::desk::{BookWork, Done, Work, over_database};
 use crate::fault::Fault;
@@ -64,6 +64,32 @@ fn work_in<'a, S: Start, R: Read, W: Write>(
 {
     let (conn, is_new) = connect(rt, file, makes, start)?;
     work_over(rt, conn, is_new, work, reader, writer)
+}
+
+// Answers the lines of the input, over a desk in memory or in a file.
+fn answer_lines<'a, S: Start, R: Read, W: Write>(
+    rt: &HostRuntime,
+    start: S,
+    file: Option<&'a str>,
+    ends_on_store_fault: bool,
+    reader: &mut R,
+    writer: &mut W,
+) -> Result<u8, Fault<'a>>
+    ensures known { IfOk result IsDone }
+    ensures done { IfOk result (λ status. LinesDone ⟦<FileFrom<S> as Disk>⟧ IsFresh file.entry (R.remaining reader.old) (W.contents writer.old) (W.contents writer.new) status) }
+{
+    match file {
+        None => {
+            lines_over_memory(rt.alloc(), reader, writer)?;
+            Ok(SUCCESS)
+        }
+        Some(file) => {
+            let work = Work::Lines {
+                ends_on_store_fault,
+            };
+            work_in(rt, start, file, true, work, reader, writer)
+        }
+    }
 }
 
 fn import_plan<'a, S: Start, R: Read, W: Write>(
@@ -136,19 +162,10 @@ fn execute<'a, S: Start, R: Read, W: Write, E: Write>(
     ensures told { IfOk result (λ status. (errors.new ≡ errors.old) ⊎ ((status ≡ 0) × TellsConnections (E.contents errors.old) (E.contents errors.new))) }
 {
     match task {
-        Task::Lines { file: None, .. } => {
-            lines_over_memory(rt.alloc(), reader, writer)?;
-            Ok(SUCCESS)
-        }
         Task::Lines {
-            file: Some(file),
+            file,
             ends_on_store_fault,
-        } => {
-            let work = Work::Lines {
-                ends_on_store_fault,
-            };
-            work_in(rt, start, file, true, work, reader, writer)
-        }
+        } => answer_lines(rt, start, file, ends_on_store_fault, reader, writer),
         Task::Serve {
             file,
             port,

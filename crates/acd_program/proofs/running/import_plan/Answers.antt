@@ -1,9 +1,12 @@
+use Rattle.std.proofs.Common.{true, Ok, ap, sym, ◌∙◌}
 use Rattle.sqlite_std_file.specs.File.{IsFresh}
-use Rattle.acd_program.proofs.Tasks.{imported_in}
+use Rattle.acd_program.proofs.Tasks.{ok_so, import_done}
 use Rattle.acd_program.proofs.running.import_plan.Goals as goal
 
 pub returns-clause-imported : goal.returns-clause-imported
 returns-clause-imported g c =
-    imported_in _ IsFresh c.work_in.result c.in_ok-requests.ensures.0 _
-    (g.R.Read.remaining c.args.reader.now) (g.W.Write.contents c.args.writer.now) (g.W.Write.contents c.work_in.new.writer)
-    c.in_ok-requests.ensures.1 c.work_in.ensures.worked
+    ok_so c.work_in.result _ _
+    (λ status h.
+    let done = import_done _ IsFresh (g.R.Read.remaining c.args.reader.now) (g.W.Write.contents c.args.writer.now) (g.W.Write.contents c.work_in.new.writer) status true c.deref.result h in
+    (c.in_ok-requests.ensures.0, c.deref.result.now, c.in_ok-requests.ensures.1 ∙ ap Ok (sym c.deref.ensures.value), done.0, done.1))
+    c.work_in.ensures.worked
