@@ -12,8 +12,8 @@ _acd() {
         return
     else
         case $command in
-            lines) offered='--file --end-on-store-fault --help' ;;
-            serve) offered='--file --port --connections --help' ;;
+            lines) offered='--file --reads --end-on-store-fault --help' ;;
+            serve) offered='--file --port --connections --endless --help' ;;
             import) offered='--file --plan --help' ;;
             report | export) offered='--file --help' ;;
             audit) offered='--file --count --help' ;;

@@ -1,5 +1,5 @@
 -- Tokens that are written one after the other.
-use Rattle.std.proofs.Common.{◌≡◌, ℕ, List, [], ◌∷◌, ◌++◌, Some, None, Result, Ok, refl, sym, ap, ◌∙◌, append_assoc}
+use Rattle.std.proofs.Common.{◌≡◌, ℕ, List, [], ◌∷◌, ◌++◌, Some, None, Result, Ok, refl, sym, ap, ◌∙◌, append_assoc, append-nil}
 use Rattle.std.proofs.lemmas.Result.{on_ok_weaker}
 use Rattle.json.specs.Print.{print}
 use Rattle.json.specs.Token.{Token, key, begin_object, end_object, begin_array, end_array}
@@ -22,6 +22,15 @@ and_then old mid new xs ys a b = (b.0 ∙ a.0, b.1 ∙ ap (λ ts. ts ++ ys) a.1 
 
 pub adds_then : {E : Type 0} (r : Result (Unit {0}) E) (old mid new : Written) (xs ys : List Token) → Added old mid xs → Adds r mid new ys → Adds r old new (xs ++ ys)
 adds_then {E} r old mid new xs ys a b = on_ok_weaker r (λ (e : Added mid new ys). and_then old mid new xs ys a e) b
+
+-- the last part of several
+pub adds_last : {E : Type 0} (r : Result (Unit {0}) E) (old new : Written) (xs : List Token) → Adds r old new xs → Adds r old new (xs ++ [])
+adds_last {E} r old new xs a = rw (append-nil xs) a
+
+-- the tokens of parts, and of those that follow them
+pub parts_append : (ps qs : List Part) → parts_tokens (ps ++ qs) ≡ parts_tokens ps ++ parts_tokens qs
+parts_append [] qs = refl
+parts_append (p ∷ ps) qs = ap (λ (ts : List Token). part_tokens p ++ ts) (parts_append ps qs) ∙ sym (append_assoc (part_tokens p) (parts_tokens ps) (parts_tokens qs))
 
 -- what was written is the text of the data that the tokens stand for
 pub printed : (d : Data) (start out : Written) → start.tokens ≡ [] → Added start out (json_tokens (outline d)) → print out.tokens ≡ compact_text d

@@ -10,4 +10,5 @@ pub mod Parts
 pub mod Tokens
 pub mod EventTexts
 pub mod ReadTexts
+pub mod SnapshotTexts
 pub mod OldReading

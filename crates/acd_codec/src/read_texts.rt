@@ -1,12 +1,13 @@
 //! Agents, calls, devices and queues as JSON.
 
-ghost use Rattle.std.specs.Prelude.{◌≡◌, IfOk, string_bytes};
-ghost use Rattle.acd_codec.specs.Tokens.{parts_tokens, Adds};
-ghost use Rattle.acd_codec.specs.ReadTexts.{connection_state_name, distributed_from, agent_parts, agent_text, party_parts, call_parts, call_text, group_parts, group_text, line_parts, station_parts, station_text, device_text, waiting_parts, queue_parts, queue_text, above_0};
+ghost use Rattle.std.specs.Prelude.{◌≡◌, codes, IfOk, string_bytes};
+ghost use Rattle.acd_codec.specs.Parts.{list_part, items_of};
+ghost use Rattle.acd_codec.specs.Tokens.{part_tokens, parts_tokens, Adds};
+ghost use Rattle.acd_codec.specs.ReadTexts.{connection_state_name, in_full, distributed_from, agent_parts, agent_text, party_parts, party_data, call_parts, call_text, group_parts_first, group_parts_last, group_parts, group_text, line_parts, station_parts, station_text, device_text, waiting_parts, queue_parts, queue_text, quoted, above_0};
 
 use crate::writing::{
     Form, begun, ended, put_agent, put_device, put_groups, put_list, put_number, put_number_if,
-    put_seconds, put_text, put_text_if,
+    put_seconds, put_text, put_text_if, text_of,
 };
 use acd_terms::{
     AgentId, AgentRecord, CallRecord, ConnectionRecord, ConnectionState, DeviceId, GroupRecord,
@@ -18,17 +19,40 @@ use std::alloc::{AllocError, Global};
 // An agent, a group or a call with its connections fits, and so do most stations and queues.
 const ROOM: usize = 384;
 
+/// A station, with all that its text tells.
+#[derive(Debug, Drop, PartialEq, Eq)]
+pub struct PlannedStation {
+    pub device: DeviceId,
+    /// Who is logged on there.
+    pub agent: Option<AgentId>,
+    /// The connections there, in the order in which they are to be told.
+    pub connections: Listed<ConnectionRecord>,
+}
+
 /// A planned device, with all that its text tells.
 #[derive(Debug, Drop, PartialEq, Eq)]
 pub enum PlannedDevice {
     Group(GroupRecord),
-    Station {
-        device: DeviceId,
-        /// Who is logged on there.
-        agent: Option<AgentId>,
-        /// The connections there, in the order in which they are to be told.
-        connections: Listed<ConnectionRecord>,
-    },
+    Station(PlannedStation),
+}
+
+/// How much is told of a record.
+#[derive(Clone, Copy)]
+pub(crate) enum Extent {
+    /// What the read of it alone tells.
+    Brief,
+    /// What a snapshot tells of it.
+    Full,
+}
+
+// A number that a snapshot tells, and the read of a single record doesn't.
+fn in_full(extent: Extent, number: Option<u64>) -> Option<u64>
+    ensures { result ≡ in_full extent number }
+{
+    match extent {
+        Extent::Brief => None,
+        Extent::Full => number,
+    }
 }
 
 fn state_name(state: ConnectionState) -> &'static str
@@ -44,8 +68,12 @@ fn state_name(state: ConnectionState) -> &'static str
     }
 }
 
-fn put_agent_members(out: &mut Writer, agent: &AgentRecord) -> Result<(), AllocError>
-    ensures { Adds result out.old out.new (parts_tokens (agent_parts agent.now)) }
+pub(crate) fn put_agent_members(
+    out: &mut Writer,
+    extent: Extent,
+    agent: &AgentRecord,
+) -> Result<(), AllocError>
+    ensures { Adds result out.old out.new (parts_tokens (agent_parts extent agent.now)) }
 {
     put_agent(out, "agent", Some(agent.agent))?;
     put_device(out, "device", agent.station)?;
@@ -53,6 +81,7 @@ fn put_agent_members(out: &mut Writer, agent: &AgentRecord) -> Result<(), AllocE
     put_text(out, "name", agent.name.as_str())?;
     put_text_if(out, "pending", agent.pending.map(Pending::name))?;
     put_number(out, "since", u64::from(agent.since))?;
+    put_number_if(out, "stamp", in_full(extent, Some(agent.stamp)))?;
     put_text(out, "state", agent.state.name())
 }
 
@@ -61,7 +90,7 @@ pub fn agent_text(alloc: Global, agent: &AgentRecord) -> Result<String, AllocErr
     ensures { IfOk result (λ s. string_bytes s ≡ agent_text agent.now) }
 {
     let mut out = begun(alloc, ROOM)?;
-    put_agent_members(&mut out, agent)?;
+    put_agent_members(&mut out, Extent::Brief, agent)?;
     ended(out)
 }
 
@@ -77,11 +106,26 @@ fn distributed_from(connection: &ConnectionRecord) -> Option<DeviceId>
     }
 }
 
-fn put_party(out: &mut Writer, connection: &ConnectionRecord) -> Result<(), AllocError>
-    ensures { Adds result out.old out.new (parts_tokens (party_parts connection.now)) }
+fn put_party(
+    out: &mut Writer,
+    extent: Extent,
+    connection: &ConnectionRecord,
+) -> Result<(), AllocError>
+    ensures { Adds result out.old out.new (parts_tokens (party_parts extent connection.now)) }
 {
     put_device(out, "device", Some(connection.device))?;
     put_device(out, "group", distributed_from(connection))?;
+    put_number_if(
+        out,
+        "offered",
+        in_full(extent, connection.offered.map(u64::from)),
+    )?;
+    put_number_if(out, "place", in_full(extent, connection.place))?;
+    put_number_if(
+        out,
+        "queued",
+        in_full(extent, connection.queued.map(u64::from)),
+    )?;
     put_text(out, "state", state_name(connection.state))
 }
 
@@ -92,27 +136,60 @@ impl Form for Parties {
     type Item = ConnectionRecord;
 
     ghost use Rattle.acd_codec.specs.ReadTexts.{party_data};
+    ghost use Rattle.acd_codec.specs.declared.read_texts.Extent.TheVariants.{Brief};
 
-    ghost data_of = { party_data };
+    ghost data_of = { party_data Brief };
 
     fn write(out: &mut Writer, connection: &ConnectionRecord) -> Result<(), AllocError> {
         out.begin_object()?;
-        put_party(out, connection)?;
+        put_party(out, Extent::Brief, connection)?;
         out.end_object()
     }
 }
 
-fn put_call_members(
+// The same in a snapshot.
+struct FullParties;
+
+impl Form for FullParties {
+    type Item = ConnectionRecord;
+
+    ghost use Rattle.acd_codec.specs.ReadTexts.{party_data};
+    ghost use Rattle.acd_codec.specs.declared.read_texts.Extent.TheVariants.{Full};
+
+    ghost data_of = { party_data Full };
+
+    fn write(out: &mut Writer, connection: &ConnectionRecord) -> Result<(), AllocError> {
+        out.begin_object()?;
+        put_party(out, Extent::Full, connection)?;
+        out.end_object()
+    }
+}
+
+fn put_parties(
     out: &mut Writer,
+    extent: Extent,
+    connections: &[ConnectionRecord],
+) -> Result<(), AllocError>
+    ensures { Adds result out.old out.new (part_tokens (list_part (codes "connections") (items_of (party_data extent) connections.now))) }
+{
+    match extent {
+        Extent::Brief => put_list::<Parties>(out, "connections", connections),
+        Extent::Full => put_list::<FullParties>(out, "connections", connections),
+    }
+}
+
+pub(crate) fn put_call_members(
+    out: &mut Writer,
+    extent: Extent,
     call: &CallRecord,
     connections: &[ConnectionRecord],
 ) -> Result<(), AllocError>
-    ensures { Adds result out.old out.new (parts_tokens (call_parts call.now connections.now)) }
+    ensures { Adds result out.old out.new (parts_tokens (call_parts extent call.now connections.now)) }
 {
     put_number(out, "call", call.call)?;
     put_device(out, "called", Some(call.called))?;
     put_device(out, "caller", Some(call.caller))?;
-    put_list::<Parties>(out, "connections", connections)?;
+    put_parties(out, extent, connections)?;
     put_number(out, "since", u64::from(call.since))
 }
 
@@ -125,7 +202,7 @@ pub fn call_text(
     ensures { IfOk result (λ s. string_bytes s ≡ call_text call.now connections.now) }
 {
     let mut out = begun(alloc, ROOM)?;
-    put_call_members(&mut out, call, connections)?;
+    put_call_members(&mut out, Extent::Brief, call, connections)?;
     ended(out)
 }
 
@@ -138,15 +215,46 @@ fn above_0(priority: Priority) -> Option<u64>
     if number > 0 { Some(number) } else { None }
 }
 
-fn put_group_members(out: &mut Writer, group: &GroupRecord) -> Result<(), AllocError>
-    ensures { Adds result out.old out.new (parts_tokens (group_parts group.now)) }
+// Writes the members of a group up to what it is.
+fn put_group_first(out: &mut Writer, extent: Extent, group: &GroupRecord) -> Result<(), AllocError>
+    ensures { Adds result out.old out.new (parts_tokens (group_parts_first extent group.now)) }
 {
+    put_number_if(
+        out,
+        "abandoned",
+        in_full(extent, Some(group.figures.abandoned)),
+    )?;
+    put_number_if(
+        out,
+        "answered",
+        in_full(extent, Some(group.figures.answered)),
+    )?;
     put_device(out, "device", Some(group.device))?;
-    put_text(out, "kind", "group")?;
+    put_number_if(out, "entered", in_full(extent, Some(group.figures.entered)))?;
+    put_text(out, "kind", "group")
+}
+
+// Writes the members whose names follow.
+fn put_group_last(out: &mut Writer, extent: Extent, group: &GroupRecord) -> Result<(), AllocError>
+    ensures { Adds result out.old out.new (parts_tokens (group_parts_last extent group.now)) }
+{
+    put_number_if(out, "moved", in_full(extent, Some(group.figures.moved)))?;
     put_text(out, "name", group.name.as_str())?;
     put_number_if(out, "priority", above_0(group.priority))?;
     put_seconds(out, "ring", group.ring)?;
+    put_number_if(out, "waited", in_full(extent, Some(group.figures.waited)))?;
     put_seconds(out, "wrap", group.wrap)
+}
+
+pub(crate) fn put_group_members(
+    out: &mut Writer,
+    extent: Extent,
+    group: &GroupRecord,
+) -> Result<(), AllocError>
+    ensures { Adds result out.old out.new (parts_tokens (group_parts extent group.now)) }
+{
+    put_group_first(out, extent, group)?;
+    put_group_last(out, extent, group)
 }
 
 // A device that is a group.
@@ -154,7 +262,7 @@ fn group_text(alloc: Global, group: &GroupRecord) -> Result<String, AllocError>
     ensures { IfOk result (λ s. string_bytes s ≡ group_text group.now) }
 {
     let mut out = begun(alloc, ROOM)?;
-    put_group_members(&mut out, group)?;
+    put_group_members(&mut out, Extent::Brief, group)?;
     ended(out)
 }
 
@@ -182,31 +290,24 @@ impl Form for Lines {
     }
 }
 
-fn put_station_members(
+pub(crate) fn put_station_members(
     out: &mut Writer,
-    station: DeviceId,
-    agent: Option<AgentId>,
-    connections: &[ConnectionRecord],
+    station: &PlannedStation,
 ) -> Result<(), AllocError>
-    ensures { Adds result out.old out.new (parts_tokens (station_parts station agent connections.now)) }
+    ensures { Adds result out.old out.new (parts_tokens (station_parts station.now)) }
 {
-    put_agent(out, "agent", agent)?;
-    put_list::<Lines>(out, "connections", connections)?;
-    put_device(out, "device", Some(station))?;
+    put_agent(out, "agent", station.agent)?;
+    put_list::<Lines>(out, "connections", station.connections.as_slice())?;
+    put_device(out, "device", Some(station.device))?;
     put_text(out, "kind", "station")
 }
 
 // A device that is a station.
-fn station_text(
-    alloc: Global,
-    station: DeviceId,
-    agent: Option<AgentId>,
-    connections: &[ConnectionRecord],
-) -> Result<String, AllocError>
-    ensures { IfOk result (λ s. string_bytes s ≡ station_text station agent connections.now) }
+fn station_text(alloc: Global, station: &PlannedStation) -> Result<String, AllocError>
+    ensures { IfOk result (λ s. string_bytes s ≡ station_text station.now) }
 {
     let mut out = begun(alloc, ROOM)?;
-    put_station_members(&mut out, station, agent, connections)?;
+    put_station_members(&mut out, station)?;
     ended(out)
 }
 
@@ -217,11 +318,7 @@ pub fn device_text(alloc: Global, device: &PlannedDevice) -> Result<String, Allo
 {
     match device {
         PlannedDevice::Group(group) => group_text(alloc, group),
-        PlannedDevice::Station {
-            device,
-            agent,
-            connections,
-        } => station_text(alloc, *device, *agent, connections.as_slice()),
+        PlannedDevice::Station(station) => station_text(alloc, station),
     }
 }
 
@@ -291,4 +388,13 @@ pub fn queue_text(
     let mut out = begun(alloc, ROOM)?;
     put_queue_members(&mut out, group, waiting, ready)?;
     ended(out)
+}
+
+/// A text that is no JSON, as JSON.
+pub fn quoted(alloc: Global, text: &str) -> Result<String, AllocError>
+    ensures { IfOk result (λ s. string_bytes s ≡ quoted text.now) }
+{
+    let mut out = Writer::new(Vec::with_capacity(alloc, text.len())?);
+    out.string(text)?;
+    text_of(out)
 }

@@ -15,7 +15,7 @@ use std::alloc::{AllocError, Global};
 
 /// How things of one type stand in a list.
 pub(crate) trait Form {
-    type Item: Copy;
+    type Item;
 
     ghost data_of: { Self.Item → Data };
 

@@ -18,10 +18,12 @@ use Rattle.acd_model.specs.OneOffer.{HasOneOffer}
 use Rattle.acd_model.specs.Watched.{IsWatched}
 use Rattle.acd_laws.specs.BalanceLaws.{IsBalanced}
 use Rattle.acd_laws.specs.OfferLaws.{LeavesNoOffer}
+use Rattle.acd_laws.specs.FigureLaws.{KeepsFigures}
+use Rattle.acd_laws.specs.WatchedLaws.{TellsNoMore}
 use Rattle.acd_laws.proofs.PlacedRuns.{run_is_placed}
 use Rattle.acd_laws.proofs.OneOffer.{run_has_one_offer}
-use Rattle.acd_laws.proofs.WatchedRuns.{run_is_watched, run_is_balanced, run_leaves_no_offer}
-use Rattle.acd_laws.proofs.FiguresCounted.{run_keeps_figures}
+use Rattle.acd_laws.proofs.WatchedRuns.{run_is_watched, run_tells_no_more, run_is_balanced, run_leaves_no_offer}
+use Rattle.acd_laws.proofs.FiguresCounted.{run_keeps_figures, figures_kept}
 use Rattle.acd_laws.proofs.RulesAll.{run_keeps_rules}
 use Rattle.acd_book.specs.declared.kept.Kept.{Kept}
 use Rattle.acd_book.specs.Content.{Content, empty_content, IsCounted}
@@ -94,6 +96,13 @@ sound_keeps_laws c sound =
       rules = sound_rules c sound;
       watched = over IsWatched rows events (run_is_watched c.rows.limits commands);
     }
+
+-- the events tell no more than its rows, and its figures are those that they count
+pub sound_tells_no_more : (c : Content) → IsSound c → TellsNoMore c.rows c.events
+sound_tells_no_more c sound = over TellsNoMore (sym (sound_rows c sound)) (sym (sound_events c sound)) (run_tells_no_more c.rows.limits (commands_of (arrivals_of c.kept)))
+
+pub sound_keeps_figures : (c : Content) → IsSound c → KeepsFigures c.rows c.events
+sound_keeps_figures c sound = over KeepsFigures (sym (sound_rows c sound)) (sym (sound_events c sound)) (figures_kept c.rows.limits (commands_of (arrivals_of c.kept)))
 
 pub sound_counted : (c : Content) → IsSound c → IsCounted c
 sound_counted c sound = subst IsCounted (sym sound.replays) (counted_run c.rows.limits (arrivals_of c.kept))

@@ -27,3 +27,5 @@ pub mod Feeding
 pub mod OldStates
 pub mod OldOffers
 pub mod OldRuns
+pub mod Recast
+pub mod Following

@@ -22,3 +22,4 @@ pub mod Feeding
 pub mod OldChoice
 pub mod OldStep
 pub mod OldSound
+pub mod Following

@@ -4,6 +4,7 @@ use Rattle.std.specs.declared.cmp.Ordering.{Ordering}
 use Rattle.acd_terms.specs.Lists.{put_by}
 use Rattle.acd_terms.specs.declared.rows.Rows.{Rows}
 use Rattle.acd_terms.specs.declared.record.GroupRecord.{GroupRecord}
+use Rattle.acd_terms.specs.declared.record.StationRecord.{StationRecord}
 use Rattle.acd_terms.specs.declared.record.AgentRecord.{AgentRecord}
 use Rattle.acd_terms.specs.declared.record.CallRecord.{CallRecord}
 use Rattle.acd_terms.specs.declared.record.ConnectionRecord.{ConnectionRecord}
@@ -13,9 +14,13 @@ use Rattle.acd_model.specs.Choice.{waiting_pair, ready_pair}
 use Rattle.acd_tables.specs.Indexed.{pair_cmp}
 use Rattle.acd_tables.specs.AtDevice.{connections_at}
 use Rattle.acd_codec.specs.ReadTexts.{agent_text, call_text, device_text, queue_text}
+use Rattle.acd_codec.specs.SnapshotTexts.{snapshot_text}
 use Rattle.acd_codec.specs.EventTexts.{page_text}
+use Rattle.acd_codec.specs.declared.read_texts.PlannedStation.{PlannedStation}
 use Rattle.acd_codec.specs.declared.read_texts.PlannedDevice.{PlannedDevice}
 use Rattle.acd_codec.specs.declared.read_texts.PlannedDevice.TheVariants as planned
+use Rattle.acd_codec.specs.declared.snapshots.LiveCall.{LiveCall}
+use Rattle.acd_codec.specs.declared.snapshots.Snapshot.{Snapshot}
 use Rattle.acd_reports.specs.QueueReport.{queue_report}
 use Rattle.acd_reports.specs.Export.{events_csv, records_text}
 use Rattle.acd_book.specs.Content.{Content, events_behind, events_of_monitor}
@@ -40,8 +45,8 @@ abbrev pub call_read : Rows → ℕ → Option (List ℕ)
 call_read s call = option_map (λ (r : CallRecord). call_text r (connections_of s call)) (call_of s call)
 
 -- a station with the agent who is logged on there, and its connections in ascending call
-abbrev pub station_in : Rows → ℕ → PlannedDevice
-station_in s station = planned.Station station (option_map (λ (a : AgentRecord). a.agent) (agent_at s station)) (connections_at s station)
+abbrev pub station_in : Rows → ℕ → PlannedStation
+station_in s station = record { device = station; agent = option_map (λ (a : AgentRecord). a.agent) (agent_at s station); connections = connections_at s station }
 
 abbrev pub or_group : Option GroupRecord → Option PlannedDevice → Option PlannedDevice
 or_group (Some g) station = Some (planned.Group g)
@@ -49,7 +54,7 @@ or_group None station = station
 
 -- a planned device
 abbrev pub device_in : Rows → ℕ → Option PlannedDevice
-device_in s device = or_group (group_of s device) (if is_station s device then Some (station_in s device) else None)
+device_in s device = or_group (group_of s device) (if is_station s device then Some (planned.Station (station_in s device)) else None)
 
 abbrev pub device_read : Rows → ℕ → Option (List ℕ)
 device_read s device = option_map device_text (device_in s device)
@@ -76,6 +81,25 @@ queue_read s group = if is_group s group then Some (queue_text group (queue_in s
 abbrev pub report_read : Rows → ℕ → Option (List ℕ)
 report_read s moment = Some (queue_report s (max moment s.last_moment))
 
+-- a live call with its connections in ascending device
+abbrev pub live_call : Rows → CallRecord → LiveCall
+live_call s r = record { call = r; connections = connections_of s r.call }
+
+-- all records of one state, each list in ascending number, with its last event and its last moment
+unfoldable pub snapshot_of : Rows → Snapshot
+snapshot_of s = record {
+  agents = s.agents;
+  calls = map (live_call s) s.calls;
+  groups = s.groups;
+  last = s.last_event;
+  moment = s.last_moment;
+  monitors = s.monitors;
+  stations = map (λ (t : StationRecord). station_in s t.device) s.stations;
+}
+
+abbrev pub snapshot_read : Rows → Option (List ℕ)
+snapshot_read s = Some (snapshot_text (snapshot_of s))
+
 -- what the tables tell to a question
 abbrev pub table_read : Rows → Question → Option (List ℕ)
 table_read s (ask.Agent agent) = agent_read s agent
@@ -83,14 +107,25 @@ table_read s (ask.Call call) = call_read s call
 table_read s (ask.Device device) = device_read s device
 table_read s (ask.Queue group) = queue_read s group
 table_read s (ask.Report moment) = report_read s moment
+table_read s ask.Snapshot = snapshot_read s
 
 -- a page of events has at most so many
 abbrev pub page_size : ℕ
 page_size = 100
 
--- the first events above a number, beside the number of the last one
+-- and so many, for those who follow a desk from far behind
+abbrev pub history_size : ℕ
+history_size = 1000
+
+-- the first events above a number, so many at most, beside the number of the last one
+abbrev pub page_read : Content → ℕ → ℕ → Option (List ℕ)
+page_read c after size = Some (page_text (events_behind c.events after size) c.rows.last_event)
+
 abbrev pub events_read : Content → ℕ → Option (List ℕ)
-events_read c after = Some (page_text (events_behind c.events after page_size) c.rows.last_event)
+events_read c after = page_read c after page_size
+
+abbrev pub history_read : Content → ℕ → Option (List ℕ)
+history_read c after = page_read c after history_size
 
 -- the same of a running monitor: the events at its device since it was started
 abbrev pub monitor_read : Content → ℕ → ℕ → Option (List ℕ)

@@ -5,6 +5,7 @@ ghost use Rattle.acd_desk.specs.DeskLaws.{OneMoreArrival, AnswersByPlace, SoundK
 ghost use Rattle.acd_desk.specs.Feeding.{AgainAddsNothing, FedHoldsTheLog, DesksAgree};
 ghost use Rattle.acd_desk.specs.AuditLaws.{HasOneAudit, SoundIsOrdered, SoundAgrees};
 ghost use Rattle.acd_desk.specs.OldSound.{OldSoundIsSound};
+ghost use Rattle.acd_desk.specs.Following.{SnapshotLeadsOn};
 
 /// One more arrival leads from the run of a list to the run of the longer list.
 pub fn one_more_arrival()
@@ -59,4 +60,10 @@ pub fn one_log_many_desks()
 /// A content that was sound while an agent served one group and groups had no priority is sound.
 pub fn old_sound_is_sound()
     ensures { OldSoundIsSound }
+{}
+
+/// What a sound content shows of connections, agents and figures is changed by the events above its last number to what each later one shows:
+/// who takes a snapshot and then follows the events misses none, and is told none twice.
+pub fn snapshot_leads_on()
+    ensures { SnapshotLeadsOn }
 {}

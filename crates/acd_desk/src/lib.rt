@@ -2,8 +2,8 @@
 //!
 //! [`Desk`] stands over any [`acd_book::Book`]. What it answers and leaves is what `specs/Firsts` and
 //! `specs/Replies` say: the abstract switch run once over each request's first arrival. [`Taken`] is an
-//! answer, and [`OpenFault`] says why a book makes no desk. What it tells of an agent, a call, a device, a queue or
-//! its events is what `specs/Tells` says, or a [`DeskFault`]. An [`Audit`] says whether all that its book holds is what
+//! answer, and [`OpenFault`] says why a book makes no desk. What it tells of an agent, a call, a device, a queue,
+//! its events or all of it is what `specs/Tells` says, or a [`DeskFault`]. An [`Audit`] says whether all that its book holds is what
 //! the kept requests give, run again, or where it first differs (`specs/Audit`).
 //!
 //! ```ignore

@@ -6,7 +6,7 @@ ghost use Rattle.acd_book.specs.Content.{events_behind, events_of_monitor};
 ghost use Rattle.acd_desk.specs.Stands.{IsSound};
 ghost use Rattle.acd_desk.specs.Standing.{standing};
 ghost use Rattle.acd_desk.specs.Told.{Told};
-ghost use Rattle.acd_desk.specs.Tells.{told, agent_read, call_read, device_read, queue_read, report_read, table_read, events_read, monitor_read, page_size};
+ghost use Rattle.acd_desk.specs.Tells.{told, agent_read, call_read, device_read, queue_read, report_read, snapshot_read, table_read, page_read, events_read, history_read, monitor_read, page_size};
 
 use crate::desk::Desk;
 use crate::fault::DeskFault;
@@ -18,6 +18,9 @@ use acd_terms::{AgentId, DeviceId, Event};
 
 // Events in a page.
 const PAGE: usize = 100;
+
+// Events in a page of history.
+const HISTORY_PAGE: usize = 1000;
 
 impl<B: Book> Desk<B> {
     // What the tables tell.
@@ -68,6 +71,14 @@ impl<B: Book> Desk<B> {
         ensures { Told (standing B.Book self.old) (standing B.Book self.new) result (λ c text. told text ≡ report_read c.rows moment) }
     {
         self.tell(Question::Report(moment))
+    }
+
+    /// All agents, live calls, groups, monitors and stations in JSON, each list in ascending number, with the number of
+    /// the last event and the moment of the last executed request. There always is one.
+    pub fn snapshot(&mut self) -> Result<Option<String>, DeskFault>
+        ensures { Told (standing B.Book self.old) (standing B.Book self.new) result (λ c text. told text ≡ snapshot_read c.rows) }
+    {
+        self.tell(Question::Snapshot)
     }
 
     // The number of the last event.
@@ -138,14 +149,28 @@ impl<B: Book> Desk<B> {
         }
     }
 
+    // The first events above a number, so many at most, beside the number of the last one.
+    fn page(&mut self, after: u64, size: usize) -> Result<Option<String>, DeskFault>
+        ensures { Told (standing B.Book self.old) (standing B.Book self.new) result (λ c text. told text ≡ page_read c after size) }
+    {
+        let last = self.last_event()?;
+        let events = self.first_events(after, size)?;
+        Ok(Some(page_text(self.alloc, &events, last)?))
+    }
+
     /// A page of events in JSON: the first ones above a number, at most 100, beside the number of the last one.
     /// There always is one.
     pub fn events(&mut self, after: u64) -> Result<Option<String>, DeskFault>
         ensures { Told (standing B.Book self.old) (standing B.Book self.new) result (λ c text. told text ≡ events_read c after) }
     {
-        let last = self.last_event()?;
-        let events = self.first_events(after, PAGE)?;
-        Ok(Some(page_text(self.alloc, &events, last)?))
+        self.page(after, PAGE)
+    }
+
+    /// The same with at most 1000 events, for those who follow from far behind.
+    pub fn history(&mut self, after: u64) -> Result<Option<String>, DeskFault>
+        ensures { Told (standing B.Book self.old) (standing B.Book self.new) result (λ c text. told text ≡ history_read c after) }
+    {
+        self.page(after, HISTORY_PAGE)
     }
 
     /// A page of the events at a monitor's device since it was started. None where no such monitor is running.

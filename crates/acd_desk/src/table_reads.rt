@@ -6,12 +6,15 @@ ghost use Rattle.std.specs.List.Sorted.{IsStrictlySortedBy};
 ghost use Rattle.acd_model.specs.Scans.{connection_of, connections_of};
 ghost use Rattle.acd_model.specs.Rules.First.{BreaksNoRule};
 ghost use Rattle.acd_tables.specs.Indexed.{pair_cmp};
-ghost use Rattle.acd_desk.specs.Tells.{told, agent_read, call_read, device_in, device_read, queue_read, report_read, table_read};
+ghost use Rattle.acd_desk.specs.Tells.{told, agent_read, call_read, station_in, device_in, device_read, queue_read, report_read, live_call, snapshot_of, snapshot_read, table_read};
 
-use acd_codec::{PlannedDevice, agent_text, call_text, device_text, queue_text};
+use acd_codec::{
+    LiveCall, PlannedDevice, PlannedStation, Snapshot, agent_text, call_text, device_text,
+    queue_text, snapshot_text,
+};
 use acd_reports::queue_report;
 use acd_tables::Tables;
-use acd_terms::{AgentId, ConnectionRecord, DeviceId, Listed};
+use acd_terms::{AgentId, CallRecord, ConnectionRecord, DeviceId, Listed, StationRecord};
 use std::alloc::{AllocError, Global};
 use std::collections::BTreeSet;
 
@@ -26,6 +29,8 @@ pub(crate) enum Question {
     Queue(DeviceId),
     /// At a moment, in seconds.
     Report(u32),
+    /// All records.
+    Snapshot,
 }
 
 /// The text of what is asked, or none where there is no such thing.
@@ -43,6 +48,7 @@ pub(crate) fn table_read(
         Question::Device(device) => device_read(alloc, tables, device),
         Question::Queue(group) => queue_read(alloc, tables, group),
         Question::Report(moment) => report_read(alloc, tables, moment),
+        Question::Snapshot => snapshot_read(alloc, tables),
     }
 }
 
@@ -98,6 +104,18 @@ fn call_read(alloc: Global, tables: &Tables, call: u64) -> Result<Option<String>
     }
 }
 
+// The station with who is logged on there, and its connections.
+fn station_in(tables: &Tables, station: DeviceId) -> Result<PlannedStation, AllocError>
+    ensures { IfOk result (λ found. found ≡ station_in tables.now station) }
+{
+    let connections = tables.connections_at(station)?;
+    Ok(PlannedStation {
+        device: station,
+        agent: tables.agent_at(station).map(|agent| agent.agent),
+        connections: Listed::new(connections),
+    })
+}
+
 // What is planned at the device.
 fn device_in(tables: &Tables, device: DeviceId) -> Result<Option<PlannedDevice>, AllocError>
     ensures { IfOk result (λ found. found ≡ device_in tables.now device) }
@@ -108,12 +126,8 @@ fn device_in(tables: &Tables, device: DeviceId) -> Result<Option<PlannedDevice>,
     if !tables.is_station(device) {
         return Ok(None);
     }
-    let connections = tables.connections_at(device)?;
-    Ok(Some(PlannedDevice::Station {
-        device,
-        agent: tables.agent_at(device).map(|agent| agent.agent),
-        connections: Listed::new(connections),
-    }))
+    let station = station_in(tables, device)?;
+    Ok(Some(PlannedDevice::Station(station)))
 }
 
 fn device_read(
@@ -181,4 +195,66 @@ fn report_read(alloc: Global, tables: &Tables, moment: u32) -> Result<Option<Str
     let rows = tables.rows()?;
     let report = queue_report(alloc, &rows, moment.max(tables.last_moment()))?;
     Ok(Some(report))
+}
+
+// Each call with its connections.
+fn live_calls(
+    alloc: Global,
+    tables: &Tables,
+    calls: &[CallRecord],
+) -> Result<Vec<LiveCall>, AllocError>
+    requires { BreaksNoRule tables.now }
+    ensures { IfOk result (λ v. v.items ≡ map (live_call tables.now) calls.now) }
+{
+    let mut live = Vec::with_capacity(alloc, calls.len())?;
+    for call in calls {
+        let connections = Listed::new(parties(alloc, tables, call.call)?);
+        live.push(LiveCall {
+            call: *call,
+            connections,
+        })?;
+    }
+    Ok(live)
+}
+
+// Each station with who is logged on there, and its connections.
+fn stations_in(
+    alloc: Global,
+    tables: &Tables,
+    stations: &[StationRecord],
+) -> Result<Vec<PlannedStation>, AllocError>
+    ensures { IfOk result (λ v. v.items ≡ map (λ t. station_in tables.now t.device) stations.now) }
+{
+    let mut seen = Vec::with_capacity(alloc, stations.len())?;
+    for station in stations {
+        seen.push(station_in(tables, station.device)?)?;
+    }
+    Ok(seen)
+}
+
+#[tactic(auto, unfolding(crate::specs::Tells::snapshot_of))]
+fn snapshot_of(alloc: Global, tables: &Tables) -> Result<Snapshot, AllocError>
+    requires { BreaksNoRule tables.now }
+    ensures { IfOk result (λ s. s ≡ snapshot_of tables.now) }
+{
+    let rows = tables.rows()?;
+    let calls = live_calls(alloc, tables, rows.calls.as_slice())?;
+    let stations = stations_in(alloc, tables, rows.stations.as_slice())?;
+    Ok(Snapshot {
+        agents: rows.agents,
+        calls: Listed::new(calls),
+        groups: rows.groups,
+        last: rows.last_event,
+        moment: rows.last_moment,
+        monitors: rows.monitors,
+        stations: Listed::new(stations),
+    })
+}
+
+fn snapshot_read(alloc: Global, tables: &Tables) -> Result<Option<String>, AllocError>
+    requires { BreaksNoRule tables.now }
+    ensures { IfOk result (λ text. told text ≡ snapshot_read tables.now) }
+{
+    let snapshot = snapshot_of(alloc, tables)?;
+    Ok(Some(snapshot_text(alloc, &snapshot)?))
 }

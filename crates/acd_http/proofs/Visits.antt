@@ -1,11 +1,11 @@
 -- One connection after another.
-use Rattle.std.proofs.Common.{◌≡◌, ℕ, ◌+◌, suc, List, [], ◌∷◌, ◌++◌, length, Option, Result, Ok, Err, OnOk, OnErr, refl, sym, ap, ◌∙◌, subst, arith, append_assoc, append-nil, length-append}
+use Rattle.std.proofs.Common.{◌≡◌, false, ℕ, ◌+◌, suc, List, [], ◌∷◌, ◌++◌, length, Option, Result, Ok, Err, OnOk, OnErr, refl, sym, ap, ◌∙◌, subst, arith, append_assoc, append-nil, length-append}
 use Rattle.std.specs.Io.KnownBytes.{Appends}
 use Rattle.std.proofs.KnownBytes.{Appends-nil}
 use Rattle.acd_desk.specs.Ran.{Standing}
 use Rattle.acd_lines.specs.declared.sending.Stopped.{Stopped}
 use Rattle.acd_lines.specs.Sent.{Begins}
-use Rattle.acd_http.specs.Listening.{Outcome, Served, Serves, ServedAll, Noted, outcome_line, outcome_lines}
+use Rattle.acd_http.specs.Listening.{Outcome, Served, Serves, ServedAll, EachWell, ServedWell, Noted, outcome_line, outcome_lines}
 
 pub noted_by : (r : Result (Unit {0}) Stopped) (a b : Option (List ℕ)) (slice text : List ℕ) → slice ≡ text → OnOk r (Appends a b slice) → OnErr r (Begins a b slice) → Noted r a b text
 noted_by (Ok u) a b slice text same ok err = subst (Appends a b) same ok
@@ -40,5 +40,34 @@ module _ {D : Type 0} (stands : D → Standing) where
         outcomes = h.outcomes ++ x ∷ [];
         count = length-append h.outcomes (x ∷ []) ∙ ap (λ (k : ℕ). k + 1) h.count;
         serves = serves_more d e f h.outcomes x h.serves one;
+        out = subst (Noted result a c) (sym lines) (wrote a (outcome_lines 1 h.outcomes) h.out);
+      }
+
+  -- the same by a desk that hasn't failed
+  abbrev Well : D → List Outcome → D → Type 0
+  Well d xs e = (h : Serves stands d xs e) × EachWell stands d xs e h
+
+  well_behind : (d e f : D) (xs : List Outcome) (x : Outcome) → Well d xs e → (stands e).failed ≡ false → Served stands e x f → Well d (xs ++ x ∷ []) f
+  well_behind d e f [] x h well k = ((f, subst (λ (a : D). Served stands a x f) h.0 k, refl), (ap (λ (a : D). (stands a).failed) (sym h.0) ∙ well, tt))
+  well_behind d e f (y ∷ ys) x h well k =
+      let rest = well_behind h.0.0 e f ys x (h.0.2, h.1.1) well k in
+      ((h.0.0, h.0.1, rest.0), (h.1.0, rest.1))
+
+  pub well_none : (d : D) (a : Option (List ℕ)) → ServedWell stands 0 d d (Noted (Ok tt) a a)
+  unfolding outcome_lines
+  well_none d a = record { outcomes = []; count = refl; serves = refl; well = tt; out = Appends-nil a }
+
+  pub well_more : (many : ℕ) (d e f : D) (noted result : Result (Unit {0}) Stopped) (a b c : Option (List ℕ)) (x : Outcome) → ServedWell stands many d e (Noted noted a b) → (stands e).failed ≡ false → Served stands e x f
+      → ((first : Option (List ℕ)) (text : List ℕ) → Noted noted first b text → Noted result first c (text ++ outcome_line (many + 1) x)) → ServedWell stands (many + 1) d f (Noted result a c)
+  well_more many d e f noted result a b c x h well one wrote =
+      let number : 1 + length h.outcomes ≡ many + 1 = let is = h.count in omega arith in
+      let lines : outcome_lines 1 (h.outcomes ++ x ∷ []) ≡ outcome_lines 1 h.outcomes ++ outcome_line (many + 1) x
+      = lines_more 1 h.outcomes x ∙ ap (λ (k : ℕ). outcome_lines 1 h.outcomes ++ outcome_line k x) number in
+      let behind = well_behind d e f h.outcomes x (h.serves, h.well) well one in
+      record {
+        outcomes = h.outcomes ++ x ∷ [];
+        count = length-append h.outcomes (x ∷ []) ∙ ap (λ (k : ℕ). k + 1) h.count;
+        serves = behind.0;
+        well = behind.1;
         out = subst (Noted result a c) (sym lines) (wrote a (outcome_lines 1 h.outcomes) h.out);
       }

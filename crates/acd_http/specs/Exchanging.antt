@@ -15,7 +15,7 @@ use Rattle.acd_desk.specs.Arrived.{at}
 use Rattle.acd_desk.specs.Served.{is_rejection}
 use Rattle.acd_desk.specs.Ran.{Standing, Took, Ran}
 use Rattle.acd_desk.specs.Told.{Told}
-use Rattle.acd_desk.specs.Tells.{told, agent_read, call_read, device_read, queue_read, events_read, monitor_read, report_read}
+use Rattle.acd_desk.specs.Tells.{told, agent_read, call_read, device_read, queue_read, events_read, history_read, monitor_read, report_read, snapshot_read}
 use Rattle.acd_lines.specs.Output.{IsInput}
 use Rattle.acd_http.specs.declared.refused.Allow.{Allow}
 use Rattle.acd_http.specs.declared.refused.Refused.{Refused}
@@ -62,8 +62,10 @@ told_of c moment (lookup.Call call) = call_read c.rows call
 told_of c moment (lookup.Device device) = device_read c.rows device
 told_of c moment (lookup.Queue group) = queue_read c.rows group
 told_of c moment (lookup.Events after) = events_read c after
+told_of c moment (lookup.History after) = history_read c after
 told_of c moment (lookup.MonitorEvents monitor after) = monitor_read c monitor after
 told_of c moment lookup.Report = report_read c.rows moment
+told_of c moment lookup.Snapshot = snapshot_read c.rows
 
 -- the report alone is plain text
 abbrev pub kind_told : Lookup → Kind
@@ -72,8 +74,10 @@ kind_told (lookup.Call call) = Json
 kind_told (lookup.Device device) = Json
 kind_told (lookup.Queue group) = Json
 kind_told (lookup.Events after) = Json
+kind_told (lookup.History after) = Json
 kind_told (lookup.MonitorEvents monitor after) = Json
 kind_told lookup.Report = Plain
+kind_told lookup.Snapshot = Json
 
 -- what the desk told, seen as its characters
 abbrev pub seen : {Z : Type 0} → Result (Option (String Z)) DeskFault → Result (Option (List ℕ)) DeskFault

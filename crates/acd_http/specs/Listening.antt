@@ -1,5 +1,5 @@
 -- What serving connections, one after another, leaves.
-use Rattle.std.specs.Prelude.{◌≡◌, ℕ, suc, length, List, [], ◌∷◌, ◌++◌, Option, Result, Ok, Err, codes, decimal}
+use Rattle.std.specs.Prelude.{◌≡◌, ◌⊎◌, ℕ, suc, length, true, false, List, [], ◌∷◌, ◌++◌, Option, Some, None, Result, Ok, Err, codes, decimal}
 use Rattle.std.specs.Io.KnownBytes.{Appends}
 use Rattle.acd_desk.specs.Ran.{Standing}
 use Rattle.acd_lines.specs.declared.sending.Stopped.{Stopped}
@@ -59,6 +59,28 @@ module _ {D : Type 0} (stands : D → Standing) where
     pub count : length outcomes ≡ many
     pub serves : Serves d outcomes e
     pub out : WentOut (outcome_lines 1 outcomes)
+
+  -- each of them by a desk that hadn't failed
+  abbrev pub EachWell : (d : D) (xs : List Outcome) (e : D) → Serves d xs e → Type 0
+  EachWell d [] e h = Unit {0}
+  EachWell d (x ∷ xs) e h = ((stands d).failed ≡ false) × EachWell h.0 xs e h.2
+
+  -- so many connections were served, each by a desk that hadn't failed, and their lines went out as is said
+  pub record ServedWell (many : ℕ) (d e : D) (WentOut : List ℕ → Type 0) : Type 0 where
+    pub outcomes : List Outcome
+    pub count : length outcomes ≡ many
+    pub serves : Serves d outcomes e
+    pub well : EachWell d outcomes e serves
+    pub out : WentOut (outcome_lines 1 outcomes)
+
+  -- connections were served until the desk had failed, or as many as 64 bits count
+  abbrev pub ServedUntilFailed : D → D → (List ℕ → Type 0) → Type 0
+  ServedUntilFailed d e WentOut = (many : ℕ) × ServedWell many d e WentOut × (((stands e).failed ≡ true) ⊎ (many ≡ 18446744073709551615))
+
+  -- so many, or until the desk had failed
+  abbrev pub ServedFor : Option ℕ → D → D → (List ℕ → Type 0) → Type 0
+  ServedFor (Some many) d e WentOut = ServedAll many d e WentOut
+  ServedFor None d e WentOut = ServedUntilFailed d e WentOut
 
 -- for private clauses: a text was written, or a beginning of it
 abbrev pub Noted : Result (Unit {0}) Stopped → Option (List ℕ) → Option (List ℕ) → List ℕ → Type 0

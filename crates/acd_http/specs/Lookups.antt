@@ -11,7 +11,7 @@ use Rattle.acd_http.specs.declared.refused.Refused.{Refused}
 use Rattle.acd_http.specs.declared.refused.Refused.TheVariants as refused
 use Rattle.acd_http.specs.declared.refused.Part.TheVariants as part
 use Rattle.acd_http.specs.declared.routes.Resource.{Resource}
-use Rattle.acd_http.specs.declared.routes.Resource.TheVariants.{Agent, Call, Device, Queue, Events, MonitorEvents, Report}
+use Rattle.acd_http.specs.declared.routes.Resource.TheVariants.{Agent, Call, Device, Queue, Events, History, MonitorEvents, Report, Snapshot}
 
 -- what stands behind the front of a route, and what stands before its end
 abbrev pub behind : List ℕ → List ℕ → List ℕ
@@ -55,5 +55,7 @@ lookup_in Call path query = found_or (option_map lookup.Call (serial_of (behind 
 lookup_in Device path query = found_or (option_map lookup.Device (device_in (codes "/devices/") path))
 lookup_in Queue path query = found_or (option_map lookup.Queue (device_in (codes "/queues/") path))
 lookup_in Events path query = with_after (after_of query) (λ (after : ℕ). Some (lookup.Events after))
+lookup_in History path query = with_after (after_of query) (λ (after : ℕ). Some (lookup.History after))
 lookup_in MonitorEvents path query = with_after (after_of query) (λ (after : ℕ). option_map (λ (monitor : ℕ). lookup.MonitorEvents monitor after) (monitor_in path))
 lookup_in Report path query = Ok lookup.Report
+lookup_in Snapshot path query = Ok lookup.Snapshot

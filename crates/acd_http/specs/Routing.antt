@@ -22,14 +22,16 @@ add text value old = scanned (parse_route text) value old
 -- all routes
 unfoldable pub table : RowsOf (RouteOf Route)
 table =
-    add (codes "/reports/queues") (Read resource.Report)
+    add (codes "/history") (Read resource.History)
+    (add (codes "/snapshot") (Read resource.Snapshot)
+    (add (codes "/reports/queues") (Read resource.Report)
     (add (codes "/monitors/{id}/events") (Read resource.MonitorEvents)
     (add (codes "/events") (Read resource.Events)
     (add (codes "/queues/{id}") (Read resource.Queue)
     (add (codes "/devices/{id}") (Read resource.Device)
     (add (codes "/calls/{id}") (Read resource.Call)
     (add (codes "/agents/{id}") (Read resource.Agent)
-    (add (codes "/csta") Services [])))))))
+    (add (codes "/csta") Services [])))))))))
 
 -- where a path leads, as matchit matches it
 abbrev pub matched : List ℕ → Option Route

@@ -4,7 +4,7 @@ ghost use Rattle.std.specs.Prelude.{◌≡◌, ◌≤◌, ℕ, List, ◌++◌, m
 ghost use Rattle.std.specs.Io.KnownBytes.{Appends};
 ghost use Rattle.acd_lines.specs.Sent.{Begins};
 ghost use Rattle.acd_desk.specs.Ran.{standing};
-ghost use Rattle.acd_http.specs.Listening.{Served, ServedAll, Noted, fault_text, outcome_line};
+ghost use Rattle.acd_http.specs.Listening.{Served, ServedAll, ServedUntilFailed, Noted, fault_text, outcome_line};
 
 use crate::receive::CALLS;
 use crate::routes::Routes;
@@ -186,6 +186,51 @@ pub fn serve_on<B: Book, C: Clock, E: Write>(
         noted = note_behind(noted, errors, before + 1, outcome);
     }
     match noted {
+        Ok(()) => Ok(()),
+        Err(Stopped) => Err(ServeFault::Write),
+    }
+}
+
+// Serves connections until the desk has failed.
+fn serve_while_well<B: Book, C: Clock, E: Write>(
+    clock: &C,
+    alloc: Global,
+    routes: &Routes,
+    listener: &TcpListener,
+    desk: &mut Desk<B>,
+    errors: &mut E,
+) -> Result<(), Stopped>
+    ensures { ServedUntilFailed (standing B.Book) desk.old desk.new (Noted result (E.contents errors.old) (E.contents errors.new)) }
+{
+    let mut noted = Ok(());
+    for before in 0..u64::MAX {
+        if desk.has_failed() {
+            return noted;
+        }
+        let outcome = serve_next(clock, alloc, routes, listener, desk);
+        noted = note_behind(noted, errors, before + 1, outcome);
+    }
+    noted
+}
+
+/// Serves connections as [`serve_on`] does, until the desk has failed: the connection in which it did is the last.
+/// Its number of connections has 64 bits, and where it is at its end no more are served.
+pub fn serve_until_failed<B: Book, C: Clock, E: Write>(
+    clock: &C,
+    alloc: Global,
+    listener: &TcpListener,
+    desk: &mut Desk<B>,
+    errors: &mut E,
+) -> Result<(), ServeFault>
+    ensures ok { OnOk result (ServedUntilFailed (standing B.Book) desk.old desk.new (Appends (E.contents errors.old) (E.contents errors.new))) }
+    // a beginning of the lines was written
+    ensures write { result ≡ Err ServeFault.Write → ServedUntilFailed (standing B.Book) desk.old desk.new (Begins (E.contents errors.old) (E.contents errors.new)) }
+    ensures memory { result ≡ Err ServeFault.NoMemory → (desk.new ≡ desk.old) × (errors.new ≡ errors.old) }
+{
+    let Ok(routes) = Routes::new(alloc) else {
+        return Err(ServeFault::NoMemory);
+    };
+    match serve_while_well(clock, alloc, &routes, listener, desk, errors) {
         Ok(()) => Ok(()),
         Err(Stopped) => Err(ServeFault::Write),
     }

@@ -24,10 +24,14 @@ pub enum Lookup {
     Queue(DeviceId),
     /// The events with a number above this.
     Events(u64),
+    /// The same, more of them at once.
+    History(u64),
     /// The events of a running monitor, with a number above the second.
     MonitorEvents(Serial, u64),
     /// The queue report.
     Report,
+    /// All records.
+    Snapshot,
 }
 
 impl Lookup {
@@ -44,7 +48,9 @@ impl Lookup {
             | Lookup::Device(_)
             | Lookup::Queue(_)
             | Lookup::Events(_)
-            | Lookup::MonitorEvents(_, _) => Kind::Json,
+            | Lookup::History(_)
+            | Lookup::MonitorEvents(_, _)
+            | Lookup::Snapshot => Kind::Json,
             Lookup::Report => Kind::Plain,
         }
     }
@@ -136,8 +142,13 @@ pub(crate) fn lookup_in(
         Resource::Device => Ok(found_or(device_in(path, b"/devices/").map(Lookup::Device))),
         Resource::Queue => Ok(found_or(device_in(path, b"/queues/").map(Lookup::Queue))),
         Resource::Report => Ok(Ok(Lookup::Report)),
+        Resource::Snapshot => Ok(Ok(Lookup::Snapshot)),
         Resource::Events => match after_of(alloc, query)? {
             Some(after) => Ok(Ok(Lookup::Events(after))),
+            None => Ok(Err(Refused::Malformed(Part::After))),
+        },
+        Resource::History => match after_of(alloc, query)? {
+            Some(after) => Ok(Ok(Lookup::History(after))),
             None => Ok(Err(Refused::Malformed(Part::After))),
         },
         Resource::MonitorEvents => match after_of(alloc, query)? {

@@ -14,8 +14,10 @@ pub(crate) enum Resource {
     Device,
     Queue,
     Events,
+    History,
     MonitorEvents,
     Report,
+    Snapshot,
 }
 
 /// Where a path leads.
@@ -27,8 +29,8 @@ pub(crate) enum Route {
     Read(Resource),
 }
 
-/// The routes of a desk: `/csta`, `/agents/{id}`, `/calls/{id}`, `/devices/{id}`, `/queues/{id}`, `/events`,
-/// `/monitors/{id}/events` and `/reports/queues`.
+/// The routes of a desk: `/csta`, `/agents/{id}`, `/calls/{id}`, `/devices/{id}`, `/queues/{id}`, `/events`, `/history`,
+/// `/monitors/{id}/events`, `/reports/queues` and `/snapshot`.
 #[derive(Drop)]
 pub struct Routes {
     router: Router<Route>,
@@ -62,6 +64,8 @@ fn known_routes(alloc: Global) -> Result<Router<Route>, InsertError>
         "/reports/queues",
         Route::Read(Resource::Report),
     )?;
+    add(&mut router, "/snapshot", Route::Read(Resource::Snapshot))?;
+    add(&mut router, "/history", Route::Read(Resource::History))?;
     Ok(router)
 }
 

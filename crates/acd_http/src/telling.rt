@@ -15,8 +15,8 @@ use acd_book::{Book, Text};
 use acd_codec::FixedAnswer;
 use acd_desk::{Desk, DeskFault};
 
-// What the desk tells.
-fn tell<B: Book>(
+/// What the desk tells.
+pub(crate) fn tell<B: Book>(
     desk: &mut Desk<B>,
     moment: u32,
     wanted: Lookup,
@@ -29,8 +29,10 @@ fn tell<B: Book>(
         Lookup::Device(device) => desk.device(device),
         Lookup::Queue(group) => desk.queue(group),
         Lookup::Events(after) => desk.events(after),
+        Lookup::History(after) => desk.history(after),
         Lookup::MonitorEvents(monitor, after) => desk.monitor_events(monitor.number(), after),
         Lookup::Report => desk.report(moment),
+        Lookup::Snapshot => desk.snapshot(),
     }
 }
 

@@ -84,7 +84,8 @@ fn by_route(
     }
 }
 
-fn by_method(
+/// What a method asks of a target.
+pub(crate) fn by_method(
     alloc: Global,
     routes: &Routes,
     method: Option<Method>,

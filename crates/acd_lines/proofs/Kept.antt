@@ -7,7 +7,7 @@ use Rattle.std.proofs.lemmas.Bool.{cases_lt}
 use Rattle.std.specs.Cmp.Derive.{both_true}
 use Rattle.std.specs.Bool.{if◌then◌else◌}
 use Rattle.std.specs.Io.BufRead.{ends_with_byte, strip_last}
-use Rattle.acd_lines.specs.Input.{has_none, number_of, Line, no_moment, too_long, line_behind, line_of}
+use Rattle.acd_lines.specs.Input.{has_none, number_of, asked_behind, asked}
 use Rattle.acd_lines.proofs.Splits.{divides}
 use Rattle.acd_lines.proofs.Moments.{number_long, moment_none, moment_split}
 
@@ -31,53 +31,56 @@ take_room room count more within all = elim (cases_lt count room) [
 
 -- ---- a long line is as its beginning
 
-line_split : (front behind : List ℕ) → has_none 32 front ≡ true → line_of (front ++ 32 ∷ behind) ≡ line_behind (option_map (λ n. (n, behind)) (number_of front))
-unfolding line_of
-line_split front behind h = ap line_behind (moment_split (front ++ 32 ∷ behind) front behind refl h)
-
-line_open : (text : List ℕ) → has_none 32 text ≡ true → line_of text ≡ no_moment
-unfolding line_of
-line_open text h = ap line_behind (moment_none text h)
-
--- a long text with no space in its front
-line_no_moment : (base u : List ℕ) → 10 < length base → has_none 32 base ≡ true → line_of (base ++ u) ≡ no_moment
-line_no_moment base u long none = elim (divides 32 u) [
-  | inl spaceless ↦ line_open (base ++ u) (list_all-append _ base u ∙ both_true none spaceless)
-  | inr one ↦
-      let whole : base ++ u ≡ (base ++ one.0) ++ 32 ∷ one.1 = ap (λ (l : List ℕ). base ++ l) one.2 ∙ sym (append_assoc base one.0 (32 ∷ one.1)) in
-      let size = length-append base one.0 in
-      let no = number_long (base ++ one.0) (omega arith) in
-      ap line_of whole ∙ line_split (base ++ one.0) one.1 (list_all-append _ base one.0 ∙ both_true none one.3) ∙ ap (λ o. line_behind (option_map (λ n. (n, one.1)) o)) no
-]
-
--- a text that is long behind its space, or has no moment
-long_line : Option ℕ → Line
-long_line None = no_moment
-long_line (Some n) = too_long
+-- what a text asks for goes by its first 4108 bytes: a moment has at most ten, and of what stands behind it no more than 4096 are read
+abbrev pub ByFront : {L : Type 0} → (List ℕ → L) → Type 0
+ByFront asks = (base u v : List ℕ) → 4107 < length base → asks (base ++ u) ≡ asks (base ++ v)
 
 pub short_or_none : (front : List ℕ) → (length front ≤ 10) ⊎ (number_of front ≡ None)
 short_or_none front = elim (cases_lt 10 (length front)) [ inl long ↦ inr (number_long front long) | inr short ↦ inl short ]
 
-behind_long : (o : Option ℕ) (behind : List ℕ) → 4096 < length behind → line_behind (option_map (λ n. (n, behind)) o) ≡ long_line o
-unfolding long_line
-behind_long None behind h = refl
-behind_long (Some n) behind h = rw (lt-ltb 4096 (length behind) h) refl
+module _ {L : Type 0} (unmarked long : L) (read : ℕ → List ℕ → L) where
+  line_split : (front behind : List ℕ) → has_none 32 front ≡ true → asked unmarked long read (front ++ 32 ∷ behind) ≡ asked_behind unmarked long read (option_map (λ n. (n, behind)) (number_of front))
+  unfolding asked
+  line_split front behind h = ap (asked_behind unmarked long read) (moment_split (front ++ 32 ∷ behind) front behind refl h)
 
-line_of_front : (front b u : List ℕ) → 4107 < length (front ++ 32 ∷ b) → has_none 32 front ≡ true → line_of (front ++ 32 ∷ (b ++ u)) ≡ long_line (number_of front)
-unfolding long_line
-line_of_front front b u long none = line_split front (b ++ u) none ∙ elim (short_or_none front) [
-  | inl short ↦ behind_long (number_of front) (b ++ u) (omega (arith, length-append b u, length-append front (32 ∷ b)))
-  | inr nothing ↦ rw nothing refl
-]
+  line_open : (text : List ℕ) → has_none 32 text ≡ true → asked unmarked long read text ≡ unmarked
+  unfolding asked
+  line_open text h = ap (asked_behind unmarked long read) (moment_none text h)
 
-same_long : (base u v xs ys : List ℕ) → 4107 < length base → xs ≡ base ++ u → ys ≡ base ++ v → line_of xs ≡ line_of ys
-same_long base u v xs ys h e f = ap line_of e ∙ (elim (divides 32 base) [
-  | inl none ↦ line_no_moment base u (omega arith) none ∙ sym (line_no_moment base v (omega arith) none)
-  | inr one ↦
-      let long : 4107 < length (one.0 ++ 32 ∷ one.1) = subst (λ (l : List ℕ). 4107 < length l) one.2 h in
-      let at = λ (w : List ℕ). ap (λ (l : List ℕ). line_of (l ++ w)) one.2 ∙ ap line_of (append_assoc one.0 (32 ∷ one.1) w) ∙ line_of_front one.0 one.1 w long one.3 in
-      at u ∙ sym (at v)
-]) ∙ ap line_of (sym f)
+  -- a long text with no space in its front
+  line_unmarked : (base u : List ℕ) → 10 < length base → has_none 32 base ≡ true → asked unmarked long read (base ++ u) ≡ unmarked
+  line_unmarked base u big none = elim (divides 32 u) [
+    | inl spaceless ↦ line_open (base ++ u) (list_all-append _ base u ∙ both_true none spaceless)
+    | inr one ↦
+        let whole : base ++ u ≡ (base ++ one.0) ++ 32 ∷ one.1 = ap (λ (l : List ℕ). base ++ l) one.2 ∙ sym (append_assoc base one.0 (32 ∷ one.1)) in
+        let size = length-append base one.0 in
+        let no = number_long (base ++ one.0) (omega arith) in
+        ap (asked unmarked long read) whole ∙ line_split (base ++ one.0) one.1 (list_all-append _ base one.0 ∙ both_true none one.3) ∙ ap (λ o. asked_behind unmarked long read (option_map (λ n. (n, one.1)) o)) no
+  ]
+
+  -- a text that is long behind its space, or has no moment
+  abbrev long_line : Option ℕ → L
+  long_line None = unmarked
+  long_line (Some n) = long
+
+  behind_long : (o : Option ℕ) (behind : List ℕ) → 4096 < length behind → asked_behind unmarked long read (option_map (λ n. (n, behind)) o) ≡ long_line o
+  behind_long None behind h = refl
+  behind_long (Some n) behind h = rw (lt-ltb 4096 (length behind) h) refl
+
+  line_of_front : (front b u : List ℕ) → 4107 < length (front ++ 32 ∷ b) → has_none 32 front ≡ true → asked unmarked long read (front ++ 32 ∷ (b ++ u)) ≡ long_line (number_of front)
+  line_of_front front b u big none = line_split front (b ++ u) none ∙ elim (short_or_none front) [
+    | inl short ↦ behind_long (number_of front) (b ++ u) (omega (arith, length-append b u, length-append front (32 ∷ b)))
+    | inr nothing ↦ rw nothing refl
+  ]
+
+  pub by_front : ByFront (asked unmarked long read)
+  by_front base u v h = elim (divides 32 base) [
+    | inl none ↦ line_unmarked base u (omega arith) none ∙ sym (line_unmarked base v (omega arith) none)
+    | inr one ↦
+        let big : 4107 < length (one.0 ++ 32 ∷ one.1) = subst (λ (l : List ℕ). 4107 < length l) one.2 h in
+        let at = λ (w : List ℕ). ap (λ (l : List ℕ). asked unmarked long read (l ++ w)) one.2 ∙ ap (asked unmarked long read) (append_assoc one.0 (32 ∷ one.1) w) ∙ line_of_front one.0 one.1 w big one.3 in
+        at u ∙ sym (at v)
+  ]
 
 -- a line and a long line's beginning
 long_strip : (m : ℕ) (xs : List ℕ) → m < length xs → (u : List ℕ) × (strip_last 13 xs ≡ take m xs ++ u)
@@ -93,23 +96,27 @@ front_kept m part h = ap (take m) (take-add m 1 part) ∙ take_at (take m part) 
 short_or_long : (m : ℕ) (part : List ℕ) → (length part ≤ m + 1) ⊎ (m + 1 < length part)
 short_or_long m part = elim (cases_lt (m + 1) (length part)) [ inl l ↦ inr l | inr g ↦ inl g ]
 
-pub kept_line : (m : ℕ) (part : List ℕ) → 4107 < m → line_of (take (m + 1) part) ≡ line_of part
-kept_line m part big = elim (short_or_long m part) [
-  | inl short ↦ ap line_of (take_all (m + 1) part short)
-  | inr long ↦ same_long (take m part) (take 1 (drop m part)) (drop m part) (take (m + 1) part) part (omega (arith, length-take-le m part (omega arith))) (take-add m 1 part) (sym (take-append-drop m part))
-]
+module _ {L : Type 0} (asks : List ℕ → L) (by_front : ByFront asks) where
+  same_long : (base u v xs ys : List ℕ) → 4107 < length base → xs ≡ base ++ u → ys ≡ base ++ v → asks xs ≡ asks ys
+  same_long base u v xs ys h e f = ap asks e ∙ by_front base u v h ∙ ap asks (sym f)
 
-pub kept_strip : (m : ℕ) (part : List ℕ) → 4107 < m → line_of (strip_last 13 (take (m + 1) part)) ≡ line_of (strip_last 13 part)
-kept_strip m part big = elim (short_or_long m part) [
-  | inl short ↦ ap (λ (l : List ℕ). line_of (strip_last 13 l)) (take_all (m + 1) part short)
-  | inr long ↦
-      let kept = long_strip m (take (m + 1) part) (omega (arith, length-take-le (m + 1) part (omega arith))) in
-      let all = long_strip m part (omega arith) in
-      same_long (take m part) kept.0 all.0 (strip_last 13 (take (m + 1) part)) (strip_last 13 part) (omega (arith, length-take-le m part (omega arith)))
-      (kept.1 ∙ ap (λ (l : List ℕ). l ++ kept.0) (front_kept m part (omega arith))) all.1
-]
+  pub kept_line : (m : ℕ) (part : List ℕ) → 4107 < m → asks (take (m + 1) part) ≡ asks part
+  kept_line m part big = elim (short_or_long m part) [
+    | inl short ↦ ap asks (take_all (m + 1) part short)
+    | inr long ↦ same_long (take m part) (take 1 (drop m part)) (drop m part) (take (m + 1) part) part (omega (arith, length-take-le m part (omega arith))) (take-add m 1 part) (sym (take-append-drop m part))
+  ]
 
--- a line of which nothing was kept, and that is read whole
-pub whole_line : (m : ℕ) (kept end text : List ℕ) → 4107 < m → length kept ≡ 0 → text ≡ strip_last 13 end → line_of text ≡ line_of (strip_last 13 (take (m + 1) (kept ++ end)))
-whole_line m [] end text big none e = ap line_of e ∙ sym (kept_strip m end big)
-whole_line m (x ∷ kept) end text big none e = absurd (omega arith)
+  pub kept_strip : (m : ℕ) (part : List ℕ) → 4107 < m → asks (strip_last 13 (take (m + 1) part)) ≡ asks (strip_last 13 part)
+  kept_strip m part big = elim (short_or_long m part) [
+    | inl short ↦ ap (λ (l : List ℕ). asks (strip_last 13 l)) (take_all (m + 1) part short)
+    | inr long ↦
+        let kept = long_strip m (take (m + 1) part) (omega (arith, length-take-le (m + 1) part (omega arith))) in
+        let all = long_strip m part (omega arith) in
+        same_long (take m part) kept.0 all.0 (strip_last 13 (take (m + 1) part)) (strip_last 13 part) (omega (arith, length-take-le m part (omega arith)))
+        (kept.1 ∙ ap (λ (l : List ℕ). l ++ kept.0) (front_kept m part (omega arith))) all.1
+  ]
+
+  -- a line of which nothing was kept, and that is read whole
+  pub whole_line : (m : ℕ) (kept end text : List ℕ) → 4107 < m → length kept ≡ 0 → text ≡ strip_last 13 end → asks text ≡ asks (strip_last 13 (take (m + 1) (kept ++ end)))
+  whole_line m [] end text big none e = ap asks e ∙ sym (kept_strip m end big)
+  whole_line m (x ∷ kept) end text big none e = absurd (omega arith)

@@ -5,22 +5,22 @@ use Rattle.std.specs.Cmp.Derive.{both_true}
 use Rattle.std.specs.List.{concat}
 use Rattle.std.proofs.lemmas.List.Folds.{concat-append, list_all-append}
 use Rattle.std.specs.Io.BufRead.{ends_with_byte}
-use Rattle.acd_lines.specs.Input.{cut, text_of, has_none, Line, line_of}
+use Rattle.acd_lines.specs.Input.{cut, text_of, has_none}
 use Rattle.acd_lines.specs.Parts.{Serves, ServesAll, ServesRead, ServesSome, Reached}
 use Rattle.acd_lines.proofs.Cuts.{cut_line, cut_open, ends_in_feed, whole_of}
 
 concat_one : (outs : List (List ℕ)) (out : List ℕ) → concat outs ++ out ≡ concat (outs ++ out ∷ [])
 concat_one outs out = ap (λ (l : List ℕ). concat outs ++ l) (sym (append-nil out)) ∙ sym (concat-append outs (out ∷ []))
 
-module _ {S : Type 0} (A : S → Line → List ℕ → S → Type 0) where
+module _ {S L : Type 0} (asks : List ℕ → L) (A : S → L → List ℕ → S → Type 0) where
   -- one line more
-  pub serves_more : (s : S) (pieces outs : List (List ℕ)) (mid : S) (piece out : List ℕ) (t : S) → Serves A s pieces outs mid → A mid (line_of (text_of piece)) out t → Serves A s (pieces ++ piece ∷ []) (outs ++ out ∷ []) t
-  serves_more s [] [] mid piece out t h a = (t, subst (λ (n : S). A n (line_of (text_of piece)) out t) h a, refl)
+  pub serves_more : (s : S) (pieces outs : List (List ℕ)) (mid : S) (piece out : List ℕ) (t : S) → Serves asks A s pieces outs mid → A mid (asks (text_of piece)) out t → Serves asks A s (pieces ++ piece ∷ []) (outs ++ out ∷ []) t
+  serves_more s [] [] mid piece out t h a = (t, subst (λ (n : S). A n (asks (text_of piece)) out t) h a, refl)
   serves_more s [] (o ∷ os) mid piece out t h a = absurd h
   serves_more s (p ∷ ps) [] mid piece out t h a = absurd h
   serves_more s (p ∷ ps) (o ∷ os) mid piece out t h a = (h.0, h.1, serves_more h.0 ps os mid piece out t h.2 a)
 
-  pub reached_bytes : (s : S) (seen part written : List ℕ) (t : S) (bytes : List ℕ) → has_none 10 bytes ≡ true → Reached A s seen part written t → Reached A s (seen ++ bytes) (part ++ bytes) written t
+  pub reached_bytes : (s : S) (seen part written : List ℕ) (t : S) (bytes : List ℕ) → has_none 10 bytes ≡ true → Reached asks A s seen part written t → Reached asks A s (seen ++ bytes) (part ++ bytes) written t
   reached_bytes s seen part written t bytes none h = record {
     pieces = h.pieces;
     outs = h.outs;
@@ -31,11 +31,11 @@ module _ {S : Type 0} (A : S → Line → List ℕ → S → Type 0) where
     whole = h.whole;
   }
 
-  line_cuts : (s : S) (seen part written : List ℕ) (t : S) → (h : Reached A s seen part written t) → (rest : List ℕ) → cut ((seen ++ 10 ∷ []) ++ rest) ≡ (h.pieces ++ (part ++ 10 ∷ []) ∷ []) ++ cut rest
+  line_cuts : (s : S) (seen part written : List ℕ) (t : S) → (h : Reached asks A s seen part written t) → (rest : List ℕ) → cut ((seen ++ 10 ∷ []) ++ rest) ≡ (h.pieces ++ (part ++ 10 ∷ []) ∷ []) ++ cut rest
   line_cuts s seen part written t h rest =
       ap cut (append_assoc seen (10 ∷ []) rest) ∙ h.cuts (10 ∷ rest) ∙ ap (λ l. h.pieces ++ l) (cut_line part rest h.no_feed) ∙ sym (append_assoc h.pieces ((part ++ 10 ∷ []) ∷ []) (cut rest))
 
-  pub reached_line : (s : S) (seen part written : List ℕ) (mid : S) (out : List ℕ) (t : S) → Reached A s seen part written mid → A mid (line_of (text_of (part ++ 10 ∷ []))) out t → Reached A s (seen ++ 10 ∷ []) [] (written ++ out) t
+  pub reached_line : (s : S) (seen part written : List ℕ) (mid : S) (out : List ℕ) (t : S) → Reached asks A s seen part written mid → A mid (asks (text_of (part ++ 10 ∷ []))) out t → Reached asks A s (seen ++ 10 ∷ []) [] (written ++ out) t
   reached_line s seen part written mid out t h a = record {
     pieces = h.pieces ++ (part ++ 10 ∷ []) ∷ [];
     outs = h.outs ++ out ∷ [];
@@ -47,48 +47,48 @@ module _ {S : Type 0} (A : S → Line → List ℕ → S → Type 0) where
   }
 
   -- what was read up to now
-  pub read_reached : (s : S) (seen part written : List ℕ) (t : S) → Reached A s seen part written t → ServesRead A s seen written t
+  pub read_reached : (s : S) (seen part written : List ℕ) (t : S) → Reached asks A s seen part written t → ServesRead asks A s seen written t
   read_reached s seen part written t h = record {
     outs = h.outs;
-    serves = subst (λ l. Serves A s l h.outs t) (sym (whole_of seen part h.pieces h.cuts h.ended h.no_feed)) h.serves;
+    serves = subst (λ l. Serves asks A s l h.outs t) (sym (whole_of seen part h.pieces h.cuts h.ended h.no_feed)) h.serves;
     whole = h.whole;
   }
 
   -- a fault behind whole lines
-  pub some_reached : (s : S) (seen part written more : List ℕ) (t : S) → Reached A s seen part written t → ServesSome A s (seen ++ more) written t
+  pub some_reached : (s : S) (seen part written more : List ℕ) (t : S) → Reached asks A s seen part written t → ServesSome asks A s (seen ++ more) written t
   some_reached s seen part written more t h = record {
     n = length h.pieces;
     outs = h.outs;
-    serves = subst (λ l. Serves A s l h.outs t) (sym (ap (take (length h.pieces)) (h.cuts more) ∙ take_at h.pieces _ _ refl)) h.serves;
+    serves = subst (λ l. Serves asks A s l h.outs t) (sym (ap (take (length h.pieces)) (h.cuts more) ∙ take_at h.pieces _ _ refl)) h.serves;
     whole = h.whole;
   }
 
   -- all lines are some
-  pub some_all : (s : S) (input written : List ℕ) (t : S) → ServesAll A s input written t → ServesSome A s input written t
+  pub some_all : (s : S) (input written : List ℕ) (t : S) → ServesAll asks A s input written t → ServesSome asks A s input written t
   some_all s input written t h = record {
     n = length (cut input);
     outs = h.outs;
-    serves = subst (λ l. Serves A s l h.outs t) (sym (take_all (length (cut input)) (cut input) (omega arith))) h.serves;
+    serves = subst (λ l. Serves asks A s l h.outs t) (sym (take_all (length (cut input)) (cut input) (omega arith))) h.serves;
     whole = h.whole;
   }
 
   -- the end of the input
-  pub all_ended : (s : S) (seen written : List ℕ) (t : S) → Reached A s seen [] written t → ServesAll A s seen written t
+  pub all_ended : (s : S) (seen written : List ℕ) (t : S) → Reached asks A s seen [] written t → ServesAll asks A s seen written t
   unfolding cut
   all_ended s seen written t h = record {
     outs = h.outs;
-    serves = subst (λ l. Serves A s l h.outs t) (sym (ap cut (sym (append-nil seen)) ∙ h.cuts [] ∙ append-nil h.pieces)) h.serves;
+    serves = subst (λ l. Serves asks A s l h.outs t) (sym (ap cut (sym (append-nil seen)) ∙ h.cuts [] ∙ append-nil h.pieces)) h.serves;
     whole = h.whole;
   }
 
-  open_cut : (s : S) (seen part written : List ℕ) (t : S) → (h : Reached A s seen part written t) → 0 < length part → cut seen ≡ h.pieces ++ part ∷ []
+  open_cut : (s : S) (seen part written : List ℕ) (t : S) → (h : Reached asks A s seen part written t) → 0 < length part → cut seen ≡ h.pieces ++ part ∷ []
   open_cut s seen part written t h some = ap cut (sym (append-nil seen)) ∙ h.cuts [] ∙ ap (λ l. h.pieces ++ l) (ap cut (append-nil part) ∙ cut_open part h.no_feed some)
 
   -- the end of the input behind a last line with no line feed
-  pub all_open : (s : S) (seen part written : List ℕ) (mid : S) (out : List ℕ) (t : S) → Reached A s seen part written mid → 0 < length part → A mid (line_of (text_of part)) out t
-      → ServesAll A s seen (written ++ out) t
+  pub all_open : (s : S) (seen part written : List ℕ) (mid : S) (out : List ℕ) (t : S) → Reached asks A s seen part written mid → 0 < length part → A mid (asks (text_of part)) out t
+      → ServesAll asks A s seen (written ++ out) t
   all_open s seen part written mid out t h some a = record {
     outs = h.outs ++ out ∷ [];
-    serves = subst (λ l. Serves A s l (h.outs ++ out ∷ []) t) (sym (open_cut s seen part written mid h some)) (serves_more s h.pieces h.outs mid part out t h.serves a);
+    serves = subst (λ l. Serves asks A s l (h.outs ++ out ∷ []) t) (sym (open_cut s seen part written mid h some)) (serves_more s h.pieces h.outs mid part out t h.serves a);
     whole = ap (λ (l : List ℕ). l ++ out) h.whole ∙ concat_one h.outs out;
   }

@@ -121,6 +121,10 @@ pub other_fault : {T E : Type 0} (r : Result T E) (x given fault : E) (P : Type 
 other_fault (Ok y) x given fault P h told other = tt
 other_fault (Err e) x given fault P h told other = λ is. other (sym told ∙ sym h ∙ is)
 
+pub IfErr-when : {T E : Type 0} (r : Result T E) (fault : E) (P Q : Type 0) → (P → Q) → IfErr r (λ (e : E). e ≡ fault → P) → IfErr r (λ (e : E). e ≡ fault → Q)
+IfErr-when (Ok x) fault P Q f h = tt
+IfErr-when (Err e) fault P Q f h = λ is. f (h is)
+
 pub OnErr-weaker : {T E : Type 0} (r : Result T E) (P Q : Type 0) → (P → Q) → OnErr r P → OnErr r Q
 OnErr-weaker (Ok x) P Q f h = tt
 OnErr-weaker (Err e) P Q f h = f h

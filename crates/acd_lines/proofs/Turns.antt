@@ -2,21 +2,21 @@
 use Rattle.std.proofs.Common.{◌≡◌, ℕ, zero, suc, ◌+◌, ◌<◌, true, List, [], ◌∷◌, ◌++◌, length, take, drop, Option, Some, None, refl, sym, ap, ◌∙◌, subst, arith, lit<, append_assoc, append-nil}
 use Rattle.std.proofs.lemmas.List.{length-take, take_at}
 use Rattle.std.specs.Io.BufRead.{strip_last}
-use Rattle.std.specs.Io.KnownBytes.{Appends, Consumes, IsAtEnd}
+use Rattle.std.specs.Io.KnownBytes.{Consumes, IsAtEnd}
 use Rattle.std.proofs.KnownBytes.{Consumes-nil, Consumes-trans, Consumes-whole}
-use Rattle.acd_lines.specs.Input.{has_none, line_of, text_of, Line}
+use Rattle.acd_lines.specs.Input.{has_none, text_of}
 use Rattle.acd_lines.specs.Output.{IsInput}
-use Rattle.acd_lines.specs.Sent.{Passes, Begins, Breaks}
-use Rattle.acd_lines.specs.Parts.{ServesAll, ServesRead, ServesSome, Reached, Stands, LineDone, LineStops, Feeds, Stops, FeedStops, Finishes, FinishStops}
+use Rattle.acd_lines.specs.Sent.{Passes, Breaks}
+use Rattle.acd_lines.specs.Parts.{ServesAll, ServesSome, Reached, Stands, LineDone, LineStops, Feeds, Stops, FeedStops, Finishes, FinishStops, AllDone, ReadDone, FirstDone, SomeDone, ShortDone}
 use Rattle.acd_lines.proofs.Sends.{breaks_front, passes_same_front, passes_nothing, passes_then, breaks_then, passes_out, breaks_out, begins_so, passes_whole}
-use Rattle.acd_lines.proofs.Kept.{kept_more, kept_line, kept_strip}
+use Rattle.acd_lines.proofs.Kept.{ByFront, kept_more, kept_line, kept_strip}
 use Rattle.acd_lines.proofs.Cuts.{text_line, text_open}
 use Rattle.acd_lines.proofs.Reaching.{reached_bytes, reached_line, read_reached, some_reached, some_all, all_ended, all_open}
 
 -- the text of a line, of which a beginning was kept
-line_text_of : (m : ℕ) (part kept end : List ℕ) → 4107 < m → kept ≡ take (m + 1) part → line_of (strip_last 13 (take (m + 1) (kept ++ end))) ≡ line_of (text_of ((part ++ end) ++ 10 ∷ []))
-line_text_of m part kept end big e =
-    ap (λ (l : List ℕ). line_of (strip_last 13 l)) (ap (λ (l : List ℕ). take (m + 1) (l ++ end)) e ∙ kept_more (m + 1) part end) ∙ kept_strip m (part ++ end) big ∙ ap line_of (sym (text_line (part ++ end)))
+line_text_of : {L : Type 0} (asks : List ℕ → L) → ByFront asks → (m : ℕ) (part kept end : List ℕ) → 4107 < m → kept ≡ take (m + 1) part → asks (strip_last 13 (take (m + 1) (kept ++ end))) ≡ asks (text_of ((part ++ end) ++ 10 ∷ []))
+line_text_of {L} asks by_front m part kept end big e =
+    ap (λ (l : List ℕ). asks (strip_last 13 l)) (ap (λ (l : List ℕ). take (m + 1) (l ++ end)) e ∙ kept_more (m + 1) part end) ∙ kept_strip asks by_front m (part ++ end) big ∙ ap asks (sym (text_line (part ++ end)))
 
 -- what is read up to a line feed
 up_to_feed : (seen end : List ℕ) → seen ++ (end ++ 10 ∷ []) ≡ (seen ++ end) ++ 10 ∷ []
@@ -61,9 +61,9 @@ input_begun (Some xs) (Some ys) seen h = (ys, h)
 pub chunk_read : (items buf : List ℕ) (len : ℕ) → length buf ≡ length items → len ≡ length items → take len (buf ++ drop (length buf) items) ≡ buf
 chunk_read items buf len same size = take_at buf (drop (length buf) items) len (same ∙ sym size)
 
-module _ {S : Type 0} (A : S → Line → List ℕ → S → Type 0) where
+module _ {S L : Type 0} (asks : List ℕ → L) (by_front : ByFront asks) (A : S → L → List ℕ → S → Type 0) where
   -- nothing was read
-  pub starts : (n : ℕ) (s : S) (kept waiting : List ℕ) (a : Option (List ℕ)) → kept ≡ [] → waiting ≡ [] → Stands A n s [] kept [] [] waiting s a a
+  pub starts : (n : ℕ) (s : S) (kept waiting : List ℕ) (a : Option (List ℕ)) → kept ≡ [] → waiting ≡ [] → Stands asks A n s [] kept [] [] waiting s a a
   starts n s kept waiting a e f = record {
     part = [];
     answers = [];
@@ -73,33 +73,33 @@ module _ {S : Type 0} (A : S → Line → List ℕ → S → Type 0) where
   }
 
   -- nothing more was read
-  pub stands_first : (n : ℕ) (s : S) (seen part kept earlier before : List ℕ) (t : S) (a : Option (List ℕ)) → kept ≡ take n part → Reached A s seen part earlier t → Stands A n s (seen ++ []) kept earlier before before t a a
+  pub stands_first : (n : ℕ) (s : S) (seen part kept earlier before : List ℕ) (t : S) (a : Option (List ℕ)) → kept ≡ take n part → Reached asks A s seen part earlier t → Stands asks A n s (seen ++ []) kept earlier before before t a a
   stands_first n s seen part kept earlier before t a e h = record {
     part = part;
     answers = [];
     keeps = e;
-    reached = subst (λ (l : List ℕ). Reached A s l part (earlier ++ []) t) (sym (append-nil seen)) (subst (λ (w : List ℕ). Reached A s seen part w t) (sym (append-nil earlier)) h);
+    reached = subst (λ (l : List ℕ). Reached asks A s l part (earlier ++ []) t) (sym (append-nil seen)) (subst (λ (w : List ℕ). Reached asks A s seen part w t) (sym (append-nil earlier)) h);
     passes = passes_nothing a before;
   }
 
-  line_reached : (m : ℕ) (s : S) (seen kept earlier before waiting : List ℕ) (mid t : S) (a b : Option (List ℕ)) (end out : List ℕ) → 4107 < m → (h : Stands A (m + 1) s seen kept earlier before waiting mid a b) → has_none 10 end ≡ true
-      → A mid (line_of (strip_last 13 (take (m + 1) (kept ++ end)))) out t → Reached A s (seen ++ (end ++ 10 ∷ [])) [] (earlier ++ (h.answers ++ out)) t
+  line_reached : (m : ℕ) (s : S) (seen kept earlier before waiting : List ℕ) (mid t : S) (a b : Option (List ℕ)) (end out : List ℕ) → 4107 < m → (h : Stands asks A (m + 1) s seen kept earlier before waiting mid a b) → has_none 10 end ≡ true
+      → A mid (asks (strip_last 13 (take (m + 1) (kept ++ end)))) out t → Reached asks A s (seen ++ (end ++ 10 ∷ [])) [] (earlier ++ (h.answers ++ out)) t
   line_reached m s seen kept earlier before waiting mid t a b end out big h none answered =
-      let line = line_text_of m h.part kept end big h.keeps in
-      let more = reached_bytes A s seen h.part (earlier ++ h.answers) mid end none h.reached in
-      let reached = reached_line A s (seen ++ end) (h.part ++ end) (earlier ++ h.answers) mid out t more (subst (λ (l : Line). A mid l out t) line answered) in
-      subst (λ (l : List ℕ). Reached A s l [] (earlier ++ (h.answers ++ out)) t) (sym (up_to_feed seen end)) (subst (λ (w : List ℕ). Reached A s ((seen ++ end) ++ 10 ∷ []) [] w t) (append_assoc earlier h.answers out) reached)
+      let line = line_text_of asks by_front m h.part kept end big h.keeps in
+      let more = reached_bytes asks A s seen h.part (earlier ++ h.answers) mid end none h.reached in
+      let reached = reached_line asks A s (seen ++ end) (h.part ++ end) (earlier ++ h.answers) mid out t more (subst (λ (l : L). A mid l out t) line answered) in
+      subst (λ (l : List ℕ). Reached asks A s l [] (earlier ++ (h.answers ++ out)) t) (sym (up_to_feed seen end)) (subst (λ (w : List ℕ). Reached asks A s ((seen ++ end) ++ 10 ∷ []) [] w t) (append_assoc earlier h.answers out) reached)
 
   -- the same line
-  pub done_same : (s : S) (line line' : Line) (t : S) (a b : Option (List ℕ)) (before waiting : List ℕ) → line ≡ line' → LineDone A s line t a b before waiting → LineDone A s line' t a b before waiting
-  done_same s line line' t a b before waiting e h = (h.0, subst (λ (l : Line). A s l h.0 t) e h.1, h.2)
+  pub done_same : (s : S) (line line' : L) (t : S) (a b : Option (List ℕ)) (before waiting : List ℕ) → line ≡ line' → LineDone A s line t a b before waiting → LineDone A s line' t a b before waiting
+  done_same s line line' t a b before waiting e h = (h.0, subst (λ (l : L). A s l h.0 t) e h.1, h.2)
 
-  pub stops_same : (s : S) (line line' : Line) (t : S) (a b : Option (List ℕ)) (before : List ℕ) → line ≡ line' → LineStops A s line t a b before → LineStops A s line' t a b before
-  stops_same s line line' t a b before e h = (h.0, subst (λ (l : Line). A s l h.0 t) e h.1, h.2)
+  pub stops_same : (s : S) (line line' : L) (t : S) (a b : Option (List ℕ)) (before : List ℕ) → line ≡ line' → LineStops A s line t a b before → LineStops A s line' t a b before
+  stops_same s line line' t a b before e h = (h.0, subst (λ (l : L). A s l h.0 t) e h.1, h.2)
 
   -- a line ended, and was answered
-  pub step_line : (m : ℕ) (s : S) (seen kept kept' earlier before waiting waiting' : List ℕ) (mid t : S) (a b c : Option (List ℕ)) (end : List ℕ) → 4107 < m → Stands A (m + 1) s seen kept earlier before waiting mid a b → has_none 10 end ≡ true
-      → LineDone A mid (line_of (strip_last 13 (take (m + 1) (kept ++ end)))) t b c waiting waiting' → kept' ≡ [] → Stands A (m + 1) s (seen ++ (end ++ 10 ∷ [])) kept' earlier before waiting' t a c
+  pub step_line : (m : ℕ) (s : S) (seen kept kept' earlier before waiting waiting' : List ℕ) (mid t : S) (a b c : Option (List ℕ)) (end : List ℕ) → 4107 < m → Stands asks A (m + 1) s seen kept earlier before waiting mid a b → has_none 10 end ≡ true
+      → LineDone A mid (asks (strip_last 13 (take (m + 1) (kept ++ end)))) t b c waiting waiting' → kept' ≡ [] → Stands asks A (m + 1) s (seen ++ (end ++ 10 ∷ [])) kept' earlier before waiting' t a c
   step_line m s seen kept kept' earlier before waiting waiting' mid t a b c end big h none done empty = record {
     part = [];
     answers = h.answers ++ done.0;
@@ -109,38 +109,38 @@ module _ {S : Type 0} (A : S → Line → List ℕ → S → Type 0) where
   }
 
   -- bytes with no line feed
-  pub step_bytes : (n : ℕ) (s : S) (seen kept kept' earlier before waiting : List ℕ) (t : S) (a b : Option (List ℕ)) (bytes : List ℕ) → Stands A n s seen kept earlier before waiting t a b → has_none 10 bytes ≡ true → kept' ≡ take n (kept ++ bytes)
-      → Stands A n s (seen ++ bytes) kept' earlier before waiting t a b
+  pub step_bytes : (n : ℕ) (s : S) (seen kept kept' earlier before waiting : List ℕ) (t : S) (a b : Option (List ℕ)) (bytes : List ℕ) → Stands asks A n s seen kept earlier before waiting t a b → has_none 10 bytes ≡ true → kept' ≡ take n (kept ++ bytes)
+      → Stands asks A n s (seen ++ bytes) kept' earlier before waiting t a b
   step_bytes n s seen kept kept' earlier before waiting t a b bytes h none is = record {
     part = h.part ++ bytes;
     answers = h.answers;
     keeps = is ∙ ap (λ (l : List ℕ). take n (l ++ bytes)) h.keeps ∙ kept_more n h.part bytes;
-    reached = reached_bytes A s seen h.part (earlier ++ h.answers) t bytes none h.reached;
+    reached = reached_bytes asks A s seen h.part (earlier ++ h.answers) t bytes none h.reached;
     passes = h.passes;
   }
 
   -- the same values
-  pub stands_same : (n : ℕ) (s : S) (seen kept kept' earlier before waiting waiting' : List ℕ) (t t' : S) (a b b' : Option (List ℕ)) → kept' ≡ kept → waiting' ≡ waiting → t' ≡ t → b' ≡ b → Stands A n s seen kept earlier before waiting t a b → Stands A n s seen kept' earlier before waiting' t' a b'
+  pub stands_same : (n : ℕ) (s : S) (seen kept kept' earlier before waiting waiting' : List ℕ) (t t' : S) (a b b' : Option (List ℕ)) → kept' ≡ kept → waiting' ≡ waiting → t' ≡ t → b' ≡ b → Stands asks A n s seen kept earlier before waiting t a b → Stands asks A n s seen kept' earlier before waiting' t' a b'
   stands_same n s seen kept kept' earlier before waiting waiting' t t' a b b' e f i j h = record {
     part = h.part;
     answers = h.answers;
     keeps = e ∙ h.keeps;
-    reached = subst (λ (u : S). Reached A s seen h.part (earlier ++ h.answers) u) (sym i) h.reached;
+    reached = subst (λ (u : S). Reached asks A s seen h.part (earlier ++ h.answers) u) (sym i) h.reached;
     passes = subst (λ (o : Option (List ℕ)). Passes a o waiting' (before ++ h.answers)) (sym j) (subst (λ (w : List ℕ). Passes a b w (before ++ h.answers)) (sym f) h.passes);
   }
 
   -- the same bytes
-  pub stands_seen : (n : ℕ) (s : S) (seen seen' kept earlier before waiting : List ℕ) (t : S) (a b : Option (List ℕ)) → seen ≡ seen' → Stands A n s seen kept earlier before waiting t a b → Stands A n s seen' kept earlier before waiting t a b
+  pub stands_seen : (n : ℕ) (s : S) (seen seen' kept earlier before waiting : List ℕ) (t : S) (a b : Option (List ℕ)) → seen ≡ seen' → Stands asks A n s seen kept earlier before waiting t a b → Stands asks A n s seen' kept earlier before waiting t a b
   stands_seen n s seen seen' kept earlier before waiting t a b e h = record {
     part = h.part;
     answers = h.answers;
     keeps = h.keeps;
-    reached = subst (λ (l : List ℕ). Reached A s l h.part (earlier ++ h.answers) t) e h.reached;
+    reached = subst (λ (l : List ℕ). Reached asks A s l h.part (earlier ++ h.answers) t) e h.reached;
     passes = h.passes;
   }
 
   -- what waits was written
-  pub stands_out : (n : ℕ) (s : S) (seen kept earlier before waiting waiting' : List ℕ) (t : S) (a b c : Option (List ℕ)) → Stands A n s seen kept earlier before waiting t a b → Passes b c [] waiting → waiting' ≡ [] → Stands A n s seen kept earlier before waiting' t a c
+  pub stands_out : (n : ℕ) (s : S) (seen kept earlier before waiting waiting' : List ℕ) (t : S) (a b c : Option (List ℕ)) → Stands asks A n s seen kept earlier before waiting t a b → Passes b c [] waiting → waiting' ≡ [] → Stands asks A n s seen kept earlier before waiting' t a c
   stands_out n s seen kept earlier before waiting waiting' t a b c h out none = record {
     part = h.part;
     answers = h.answers;
@@ -150,100 +150,100 @@ module _ {S : Type 0} (A : S → Line → List ℕ → S → Type 0) where
   }
 
   -- the writer stopped at a line
-  pub stop_line : (m : ℕ) (s : S) (seen whole kept earlier before waiting : List ℕ) (mid t : S) (a b c : Option (List ℕ)) (end left : List ℕ) → 4107 < m → Stands A (m + 1) s seen kept earlier before waiting mid a b → has_none 10 end ≡ true
-      → LineStops A mid (line_of (strip_last 13 (take (m + 1) (kept ++ end)))) t b c waiting → whole ≡ (seen ++ (end ++ 10 ∷ [])) ++ left → Stops A s whole earlier t a c before
+  pub stop_line : (m : ℕ) (s : S) (seen whole kept earlier before waiting : List ℕ) (mid t : S) (a b c : Option (List ℕ)) (end left : List ℕ) → 4107 < m → Stands asks A (m + 1) s seen kept earlier before waiting mid a b → has_none 10 end ≡ true
+      → LineStops A mid (asks (strip_last 13 (take (m + 1) (kept ++ end)))) t b c waiting → whole ≡ (seen ++ (end ++ 10 ∷ [])) ++ left → Stops asks A s whole earlier t a c before
   stop_line m s seen whole kept earlier before waiting mid t a b c end left big h none stopped is_whole =
       let out = h.answers ++ stopped.0 in
       let reached = line_reached m s seen kept earlier before waiting mid t a b end stopped.0 big h none stopped.1 in
-      let served = λ (more : List ℕ). some_reached A s (seen ++ (end ++ 10 ∷ [])) [] (earlier ++ out) (left ++ more) t reached in (
+      let served = λ (more : List ℕ). some_reached asks A s (seen ++ (end ++ 10 ∷ [])) [] (earlier ++ out) (left ++ more) t reached in (
         out,
-        λ more. subst (λ (l : List ℕ). ServesSome A s l (earlier ++ out) t) (sym (ap (λ (l : List ℕ). l ++ more) is_whole ∙ append_assoc (seen ++ (end ++ 10 ∷ [])) left more)) (served more),
+        λ more. subst (λ (l : List ℕ). ServesSome asks A s l (earlier ++ out) t) (sym (ap (λ (l : List ℕ). l ++ more) is_whole ∙ append_assoc (seen ++ (end ++ 10 ∷ [])) left more)) (served more),
         breaks_then a b c before waiting h.answers stopped.0 h.passes stopped.2,
       )
 
   -- the writer stopped behind the lines
-  pub stop_out : (n : ℕ) (s : S) (seen kept earlier before waiting : List ℕ) (t : S) (a b c : Option (List ℕ)) → Stands A n s seen kept earlier before waiting t a b → Breaks b c waiting → Stops A s seen earlier t a c before
+  pub stop_out : (n : ℕ) (s : S) (seen kept earlier before waiting : List ℕ) (t : S) (a b c : Option (List ℕ)) → Stands asks A n s seen kept earlier before waiting t a b → Breaks b c waiting → Stops asks A s seen earlier t a c before
   stop_out n s seen kept earlier before waiting t a b c h out =
-      (h.answers, λ more. some_reached A s seen h.part (earlier ++ h.answers) more t h.reached, breaks_out a b c waiting (before ++ h.answers) h.passes out)
+      (h.answers, λ more. some_reached asks A s seen h.part (earlier ++ h.answers) more t h.reached, breaks_out a b c waiting (before ++ h.answers) h.passes out)
 
   -- ---- a chunk
 
   -- none of it was taken
-  pub feed_none : (mid : S) (kept : List ℕ) (a : Option (List ℕ)) (before : List ℕ) → Feeds A mid mid kept kept [] a a before before
+  pub feed_none : (mid : S) (kept : List ℕ) (a : Option (List ℕ)) (before : List ℕ) → Feeds asks A mid mid kept kept [] a a before before
   feed_none mid kept a before = λ s seen part answers is reached. stands_first 4109 s seen part kept answers before mid a is reached
 
   -- a line of it
-  pub feed_line : (mid now t : S) (kept kept' kept'' front end : List ℕ) (a b c : Option (List ℕ)) (before waiting waiting' : List ℕ) → Feeds A mid now kept kept' front a b before waiting → has_none 10 end ≡ true
-      → LineDone A now (line_of (strip_last 13 (take 4109 (kept' ++ end)))) t b c waiting waiting' → kept'' ≡ [] → Feeds A mid t kept kept'' (front ++ (end ++ 10 ∷ [])) a c before waiting'
+  pub feed_line : (mid now t : S) (kept kept' kept'' front end : List ℕ) (a b c : Option (List ℕ)) (before waiting waiting' : List ℕ) → Feeds asks A mid now kept kept' front a b before waiting → has_none 10 end ≡ true
+      → LineDone A now (asks (strip_last 13 (take 4109 (kept' ++ end)))) t b c waiting waiting' → kept'' ≡ [] → Feeds asks A mid t kept kept'' (front ++ (end ++ 10 ∷ [])) a c before waiting'
   feed_line mid now t kept kept' kept'' front end a b c before waiting waiting' feeds none done empty = λ s seen part answers is reached.
       stands_seen 4109 s ((seen ++ front) ++ (end ++ 10 ∷ [])) (seen ++ (front ++ (end ++ 10 ∷ []))) kept'' answers before waiting' t a c (append_assoc seen front (end ++ 10 ∷ []))
       (step_line 4108 s (seen ++ front) kept' kept'' answers before waiting waiting' now t a b c end (lit< tt) (feeds s seen part answers is reached) none done empty)
 
   -- the writer stopped at it
-  pub feed_stops : (mid now t : S) (kept kept' chunk front rest end behind : List ℕ) (a b c : Option (List ℕ)) (before waiting : List ℕ) → Feeds A mid now kept kept' front a b before waiting → has_none 10 end ≡ true
-      → LineStops A now (line_of (strip_last 13 (take 4109 (kept' ++ end)))) t b c waiting → chunk ≡ front ++ rest → rest ≡ end ++ 10 ∷ behind → FeedStops A mid t kept chunk a c before
+  pub feed_stops : (mid now t : S) (kept kept' chunk front rest end behind : List ℕ) (a b c : Option (List ℕ)) (before waiting : List ℕ) → Feeds asks A mid now kept kept' front a b before waiting → has_none 10 end ≡ true
+      → LineStops A now (asks (strip_last 13 (take 4109 (kept' ++ end)))) t b c waiting → chunk ≡ front ++ rest → rest ≡ end ++ 10 ∷ behind → FeedStops asks A mid t kept chunk a c before
   feed_stops mid now t kept kept' chunk front rest end behind a b c before waiting feeds none stopped e f = λ s seen part answers is reached.
       stop_line 4108 s (seen ++ front) (seen ++ chunk) kept' answers before waiting now t a b c end behind (lit< tt) (feeds s seen part answers is reached) none stopped (seen_line seen chunk front rest end behind e f)
 
   -- what stands behind its last line
-  pub feed_rest : (mid now : S) (kept kept' kept'' chunk front rest : List ℕ) (a b : Option (List ℕ)) (before waiting : List ℕ) → Feeds A mid now kept kept' front a b before waiting → has_none 10 rest ≡ true → kept'' ≡ take 4109 (kept' ++ rest) → chunk ≡ front ++ rest
-      → Feeds A mid now kept kept'' chunk a b before waiting
+  pub feed_rest : (mid now : S) (kept kept' kept'' chunk front rest : List ℕ) (a b : Option (List ℕ)) (before waiting : List ℕ) → Feeds asks A mid now kept kept' front a b before waiting → has_none 10 rest ≡ true → kept'' ≡ take 4109 (kept' ++ rest) → chunk ≡ front ++ rest
+      → Feeds asks A mid now kept kept'' chunk a b before waiting
   feed_rest mid now kept kept' kept'' chunk front rest a b before waiting feeds none is_kept e = λ s seen part answers is reached.
       stands_seen 4109 s ((seen ++ front) ++ rest) (seen ++ chunk) kept'' answers before waiting now a b (seen_chunk seen chunk front rest e)
       (step_bytes 4109 s (seen ++ front) kept' kept'' answers before waiting now a b rest (feeds s seen part answers is reached) none is_kept)
 
   -- the answers to its lines go out
-  pub feed_out : (mid t : S) (kept kept' chunk : List ℕ) (a b c : Option (List ℕ)) (before waiting waiting' : List ℕ) → Feeds A mid t kept kept' chunk a b before waiting → Passes b c [] waiting → waiting' ≡ [] → Feeds A mid t kept kept' chunk a c before waiting'
+  pub feed_out : (mid t : S) (kept kept' chunk : List ℕ) (a b c : Option (List ℕ)) (before waiting waiting' : List ℕ) → Feeds asks A mid t kept kept' chunk a b before waiting → Passes b c [] waiting → waiting' ≡ [] → Feeds asks A mid t kept kept' chunk a c before waiting'
   feed_out mid t kept kept' chunk a b c before waiting waiting' feeds out none = λ s seen part answers is reached.
       stands_out 4109 s (seen ++ chunk) kept' answers before waiting waiting' t a b c (feeds s seen part answers is reached) out none
 
-  pub feed_out_stops : (mid t : S) (kept kept' chunk : List ℕ) (a b c : Option (List ℕ)) (before waiting : List ℕ) → Feeds A mid t kept kept' chunk a b before waiting → Breaks b c waiting → FeedStops A mid t kept chunk a c before
+  pub feed_out_stops : (mid t : S) (kept kept' chunk : List ℕ) (a b c : Option (List ℕ)) (before waiting : List ℕ) → Feeds asks A mid t kept kept' chunk a b before waiting → Breaks b c waiting → FeedStops asks A mid t kept chunk a c before
   feed_out_stops mid t kept kept' chunk a b c before waiting feeds begun = λ s seen part answers is reached.
       stop_out 4109 s (seen ++ chunk) kept' answers before waiting t a b c (feeds s seen part answers is reached) begun
 
   -- ---- the end of the input
 
   -- it ends in a line feed, or is empty
-  pub end_empty : (m : ℕ) (s : S) (seen part answers : List ℕ) (t : S) (kept : List ℕ) → kept ≡ take (m + 1) part → length kept ≡ 0 → Reached A s seen part answers t → ServesAll A s seen (answers ++ []) t
+  pub end_empty : (m : ℕ) (s : S) (seen part answers : List ℕ) (t : S) (kept : List ℕ) → kept ≡ take (m + 1) part → length kept ≡ 0 → Reached asks A s seen part answers t → ServesAll asks A s seen (answers ++ []) t
   end_empty m s seen part answers t kept e none h =
       let nothing : part ≡ [] = no_part (m + 1) part (omega arith) (ap length (sym e) ∙ none) in
-      subst (λ (w : List ℕ). ServesAll A s seen w t) (sym (append-nil answers)) (all_ended A s seen answers t (subst (λ (l : List ℕ). Reached A s seen l answers t) nothing h))
+      subst (λ (w : List ℕ). ServesAll asks A s seen w t) (sym (append-nil answers)) (all_ended asks A s seen answers t (subst (λ (l : List ℕ). Reached asks A s seen l answers t) nothing h))
 
   -- a last line without one
-  pub end_line : (m : ℕ) (s : S) (seen part answers kept : List ℕ) (mid : S) (out : List ℕ) (t : S) → 4107 < m → kept ≡ take (m + 1) part → 0 < length kept → Reached A s seen part answers mid → A mid (line_of kept) out t → ServesAll A s seen (answers ++ out) t
+  pub end_line : (m : ℕ) (s : S) (seen part answers kept : List ℕ) (mid : S) (out : List ℕ) (t : S) → 4107 < m → kept ≡ take (m + 1) part → 0 < length kept → Reached asks A s seen part answers mid → A mid (asks kept) out t → ServesAll asks A s seen (answers ++ out) t
   end_line m s seen part answers kept mid out t big e some h answered =
-      let line = ap line_of e ∙ kept_line m part big ∙ ap line_of (sym (text_open part h.no_feed)) in
-      all_open A s seen part answers mid out t h (omega (arith, ap length e, length-take (m + 1) part)) (subst (λ (l : Line). A mid l out t) line answered)
+      let line = ap asks e ∙ kept_line asks by_front m part big ∙ ap asks (sym (text_open part h.no_feed)) in
+      all_open asks A s seen part answers mid out t h (omega (arith, ap length e, length-take (m + 1) part)) (subst (λ (l : L). A mid l out t) line answered)
 
-  pub finish_empty : (mid : S) (kept : List ℕ) (b c : Option (List ℕ)) (before : List ℕ) → length kept ≡ 0 → Passes b c [] before → Finishes A mid mid kept b c before
+  pub finish_empty : (mid : S) (kept : List ℕ) (b c : Option (List ℕ)) (before : List ℕ) → length kept ≡ 0 → Passes b c [] before → Finishes asks A mid mid kept b c before
   finish_empty mid kept b c before none out = λ s seen part answers is reached.
       ([], end_empty 4108 s seen part answers mid kept is none reached, passes_same_front b c before out)
 
-  pub finish_empty_stops : (mid : S) (kept : List ℕ) (b c : Option (List ℕ)) (before : List ℕ) → length kept ≡ 0 → Breaks b c before → FinishStops A mid mid kept b c before
+  pub finish_empty_stops : (mid : S) (kept : List ℕ) (b c : Option (List ℕ)) (before : List ℕ) → length kept ≡ 0 → Breaks b c before → FinishStops asks A mid mid kept b c before
   finish_empty_stops mid kept b c before none begun = λ s seen part answers is reached.
       ([], end_empty 4108 s seen part answers mid kept is none reached, breaks_front b c before [] begun)
 
-  last_line : (mid t s : S) (seen part answers kept text out : List ℕ) → 0 < length kept → text ≡ kept → A mid (line_of text) out t → kept ≡ take 4109 part → Reached A s seen part answers mid → ServesAll A s seen (answers ++ out) t
+  last_line : (mid t s : S) (seen part answers kept text out : List ℕ) → 0 < length kept → text ≡ kept → A mid (asks text) out t → kept ≡ take 4109 part → Reached asks A s seen part answers mid → ServesAll asks A s seen (answers ++ out) t
   last_line mid t s seen part answers kept text out some same answered is reached =
-      end_line 4108 s seen part answers kept mid out t (lit< tt) is some reached (subst (λ (l : List ℕ). A mid (line_of l) out t) same answered)
+      end_line 4108 s seen part answers kept mid out t (lit< tt) is some reached (subst (λ (l : List ℕ). A mid (asks l) out t) same answered)
 
-  pub finish_line : (mid t : S) (kept text : List ℕ) (a b c : Option (List ℕ)) (before waiting : List ℕ) → 0 < length kept → text ≡ kept → LineDone A mid (line_of text) t a b before waiting → Passes b c [] waiting → Finishes A mid t kept a c before
+  pub finish_line : (mid t : S) (kept text : List ℕ) (a b c : Option (List ℕ)) (before waiting : List ℕ) → 0 < length kept → text ≡ kept → LineDone A mid (asks text) t a b before waiting → Passes b c [] waiting → Finishes asks A mid t kept a c before
   finish_line mid t kept text a b c before waiting some same done out = λ s seen part answers is reached.
       (done.0, last_line mid t s seen part answers kept text done.0 some same done.1 is reached, passes_out a b c waiting (before ++ done.0) done.2 out)
 
-  pub finish_line_stops : (mid t : S) (kept text : List ℕ) (a b c : Option (List ℕ)) (before waiting : List ℕ) → 0 < length kept → text ≡ kept → LineDone A mid (line_of text) t a b before waiting → Breaks b c waiting → FinishStops A mid t kept a c before
+  pub finish_line_stops : (mid t : S) (kept text : List ℕ) (a b c : Option (List ℕ)) (before waiting : List ℕ) → 0 < length kept → text ≡ kept → LineDone A mid (asks text) t a b before waiting → Breaks b c waiting → FinishStops asks A mid t kept a c before
   finish_line_stops mid t kept text a b c before waiting some same done begun = λ s seen part answers is reached.
       (done.0, last_line mid t s seen part answers kept text done.0 some same done.1 is reached, breaks_out a b c waiting (before ++ done.0) done.2 begun)
 
-  pub finish_stops : (mid t : S) (kept text : List ℕ) (a c : Option (List ℕ)) (before : List ℕ) → 0 < length kept → text ≡ kept → LineStops A mid (line_of text) t a c before → FinishStops A mid t kept a c before
+  pub finish_stops : (mid t : S) (kept text : List ℕ) (a c : Option (List ℕ)) (before : List ℕ) → 0 < length kept → text ≡ kept → LineStops A mid (asks text) t a c before → FinishStops asks A mid t kept a c before
   finish_stops mid t kept text a c before some same stopped = λ s seen part answers is reached.
       (stopped.0, last_line mid t s seen part answers kept text stopped.0 some same stopped.1 is reached, stopped.2)
 
   -- ---- whole reads
 
   -- a whole chunk was fed
-  pub fed : (n : ℕ) (s : S) (seen chunk kept kept' waiting waiting' : List ℕ) (mid t : S) (a b c : Option (List ℕ)) → (h : Stands A n s seen kept [] [] waiting mid a b) → Stands A n s (seen ++ chunk) kept' h.answers waiting waiting' t b c
-      → Stands A n s (seen ++ chunk) kept' [] [] waiting' t a c
+  pub fed : (n : ℕ) (s : S) (seen chunk kept kept' waiting waiting' : List ℕ) (mid t : S) (a b c : Option (List ℕ)) → (h : Stands asks A n s seen kept [] [] waiting mid a b) → Stands asks A n s (seen ++ chunk) kept' h.answers waiting waiting' t b c
+      → Stands asks A n s (seen ++ chunk) kept' [] [] waiting' t a c
   fed n s seen chunk kept kept' waiting waiting' mid t a b c h k = record {
     part = k.part;
     answers = h.answers ++ k.answers;
@@ -252,65 +252,45 @@ module _ {S : Type 0} (A : S → Line → List ℕ → S → Type 0) where
     passes = passes_then a b c [] waiting waiting' h.answers k.answers h.passes k.passes;
   }
 
-  -- all of it was answered and written
-  abbrev pub AllDone : Option (List ℕ) → S → S → Option (List ℕ) → Option (List ℕ) → Type 0
-  AllDone known s t a c = (input answers : List ℕ) × IsInput known input × ServesAll A s input answers t × Appends a c answers
-
-  -- the lines that had ended in what was read were
-  abbrev pub ReadDone : Option (List ℕ) → Option (List ℕ) → S → S → Option (List ℕ) → Option (List ℕ) → Type 0
-  ReadDone p q s t a c = (bytes answers : List ℕ) × Consumes p q bytes × ServesRead A s bytes answers t × Appends a c answers
-
-  -- some lines were answered, and their answers were written
-  abbrev pub FirstDone : Option (List ℕ) → S → S → Option (List ℕ) → Option (List ℕ) → Type 0
-  FirstDone known s t a c = (input answers : List ℕ) × IsInput known input × ServesSome A s input answers t × Appends a c answers
-
-  -- some lines were answered, and a beginning of their answers was written
-  abbrev pub SomeDone : Option (List ℕ) → S → S → Option (List ℕ) → Option (List ℕ) → Type 0
-  SomeDone known s t a c = (input answers : List ℕ) × IsInput known input × ServesSome A s input answers t × Begins a c answers
-
-  -- and not all of them
-  abbrev pub ShortDone : Option (List ℕ) → S → S → Option (List ℕ) → Option (List ℕ) → Type 0
-  ShortDone known s t a c = (input answers : List ℕ) × IsInput known input × ServesSome A s input answers t × Breaks a c answers
-
-  pub some_short : (known : Option (List ℕ)) (s t : S) (a c : Option (List ℕ)) → ShortDone known s t a c → SomeDone known s t a c
+  pub some_short : (known : Option (List ℕ)) (s t : S) (a c : Option (List ℕ)) → ShortDone asks A known s t a c → SomeDone asks A known s t a c
   some_short known s t a c h = (h.0, h.1, h.2, h.3, begins_so a c h.1 h.4)
 
-  pub all_done : (n : ℕ) (s : S) (seen kept waiting : List ℕ) (mid t : S) (a b c known : Option (List ℕ)) → (h : Stands A n s seen kept [] [] waiting mid a b) → IsInput known seen → (out : List ℕ) × ServesAll A s seen (h.answers ++ out) t × Passes b c [] (waiting ++ out)
-      → AllDone known s t a c
+  pub all_done : (n : ℕ) (s : S) (seen kept waiting : List ℕ) (mid t : S) (a b c known : Option (List ℕ)) → (h : Stands asks A n s seen kept [] [] waiting mid a b) → IsInput known seen → (out : List ℕ) × ServesAll asks A s seen (h.answers ++ out) t × Passes b c [] (waiting ++ out)
+      → AllDone asks A known s t a c
   all_done n s seen kept waiting mid t a b c known h input done =
       (seen, h.answers ++ done.0, input, done.1, passes_whole a c (h.answers ++ done.0) (passes_then a b c [] waiting [] h.answers done.0 h.passes done.2))
 
-  pub all_first : (known : Option (List ℕ)) (s t : S) (a c : Option (List ℕ)) → AllDone known s t a c → FirstDone known s t a c
-  all_first known s t a c h = (h.0, h.1, h.2, some_all A s h.0 h.1 t h.3, h.4)
+  pub all_first : (known : Option (List ℕ)) (s t : S) (a c : Option (List ℕ)) → AllDone asks A known s t a c → FirstDone asks A known s t a c
+  all_first known s t a c h = (h.0, h.1, h.2, some_all asks A s h.0 h.1 t h.3, h.4)
 
   -- no more was read
-  pub first_done : (n : ℕ) (s : S) (seen kept waiting : List ℕ) (t : S) (a b p q : Option (List ℕ)) → Stands A n s seen kept [] [] waiting t a b → waiting ≡ [] → Consumes p q seen → FirstDone p s t a b
+  pub first_done : (n : ℕ) (s : S) (seen kept waiting : List ℕ) (t : S) (a b p q : Option (List ℕ)) → Stands asks A n s seen kept [] [] waiting t a b → waiting ≡ [] → Consumes p q seen → FirstDone asks A p s t a b
   first_done n s seen kept waiting t a b p q h none taken =
       let more = input_begun p q seen taken in
-      (seen ++ more.0, h.answers, more.1, some_reached A s seen h.part h.answers more.0 t h.reached, passes_whole a b h.answers (subst (λ (w : List ℕ). Passes a b w h.answers) none h.passes))
+      (seen ++ more.0, h.answers, more.1, some_reached asks A s seen h.part h.answers more.0 t h.reached, passes_whole a b h.answers (subst (λ (w : List ℕ). Passes a b w h.answers) none h.passes))
 
   -- the writer stopped at the end of the input
-  pub end_stopped : (n : ℕ) (s : S) (seen kept waiting : List ℕ) (mid t : S) (a b c known : Option (List ℕ)) → (h : Stands A n s seen kept [] [] waiting mid a b) → IsInput known seen → (out : List ℕ) × ServesAll A s seen (h.answers ++ out) t × Breaks b c (waiting ++ out)
-      → ShortDone known s t a c
+  pub end_stopped : (n : ℕ) (s : S) (seen kept waiting : List ℕ) (mid t : S) (a b c known : Option (List ℕ)) → (h : Stands asks A n s seen kept [] [] waiting mid a b) → IsInput known seen → (out : List ℕ) × ServesAll asks A s seen (h.answers ++ out) t × Breaks b c (waiting ++ out)
+      → ShortDone asks A known s t a c
   end_stopped n s seen kept waiting mid t a b c known h input done =
-      (seen, h.answers ++ done.0, input, some_all A s seen (h.answers ++ done.0) t done.1, breaks_then a b c [] waiting h.answers done.0 h.passes done.2)
+      (seen, h.answers ++ done.0, input, some_all asks A s seen (h.answers ++ done.0) t done.1, breaks_then a b c [] waiting h.answers done.0 h.passes done.2)
 
   -- it stopped in a chunk
-  pub feed_stopped : (n : ℕ) (s : S) (seen chunk kept waiting : List ℕ) (mid t : S) (a b c p q : Option (List ℕ)) → (h : Stands A n s seen kept [] [] waiting mid a b) → Consumes p q (seen ++ chunk) → Stops A s (seen ++ chunk) h.answers t b c waiting → ShortDone p s t a c
+  pub feed_stopped : (n : ℕ) (s : S) (seen chunk kept waiting : List ℕ) (mid t : S) (a b c p q : Option (List ℕ)) → (h : Stands asks A n s seen kept [] [] waiting mid a b) → Consumes p q (seen ++ chunk) → Stops asks A s (seen ++ chunk) h.answers t b c waiting → ShortDone asks A p s t a c
   feed_stopped n s seen chunk kept waiting mid t a b c p q h taken stopped =
       let more = input_begun p q (seen ++ chunk) taken in
       ((seen ++ chunk) ++ more.0, h.answers ++ stopped.0, more.1, stopped.1 more.0, breaks_then a b c [] waiting h.answers stopped.0 h.passes stopped.2)
 
   -- the reader stopped between two reads
-  pub read_done : (n : ℕ) (s : S) (seen kept waiting : List ℕ) (t : S) (a b p q : Option (List ℕ)) → Stands A n s seen kept [] [] waiting t a b → waiting ≡ [] → Consumes p q seen → ReadDone p q s t a b
+  pub read_done : (n : ℕ) (s : S) (seen kept waiting : List ℕ) (t : S) (a b p q : Option (List ℕ)) → Stands asks A n s seen kept [] [] waiting t a b → waiting ≡ [] → Consumes p q seen → ReadDone asks A p q s t a b
   read_done n s seen kept waiting t a b p q h none taken =
-      (seen, h.answers, taken, read_reached A s seen h.part h.answers t h.reached, passes_whole a b h.answers (subst (λ (w : List ℕ). Passes a b w h.answers) none h.passes))
+      (seen, h.answers, taken, read_reached asks A s seen h.part h.answers t h.reached, passes_whole a b h.answers (subst (λ (w : List ℕ). Passes a b w h.answers) none h.passes))
 
-  pub read_stopped : (n : ℕ) (s : S) (seen kept waiting : List ℕ) (t : S) (a b p q : Option (List ℕ)) → Stands A n s seen kept [] [] waiting t a b → Consumes p q seen → SomeDone p s t a b
+  pub read_stopped : (n : ℕ) (s : S) (seen kept waiting : List ℕ) (t : S) (a b p q : Option (List ℕ)) → Stands asks A n s seen kept [] [] waiting t a b → Consumes p q seen → SomeDone asks A p s t a b
   read_stopped n s seen kept waiting t a b p q h taken =
       let more = input_begun p q seen taken in
-      (seen ++ more.0, h.answers, more.1, some_reached A s seen h.part h.answers more.0 t h.reached, record { front = h.passes.sent; rest = waiting; whole = h.passes.whole; written = h.passes.written })
+      (seen ++ more.0, h.answers, more.1, some_reached asks A s seen h.part h.answers more.0 t h.reached, record { front = h.passes.sent; rest = waiting; whole = h.passes.whole; written = h.passes.written })
 
   -- nothing was read
-  pub nothing_read : (s : S) (p a : Option (List ℕ)) → SomeDone p s s a a
+  pub nothing_read : (s : S) (p a : Option (List ℕ)) → SomeDone asks A p s s a a
   nothing_read s p a = read_stopped 0 s [] [] [] s a a p p (starts 0 s [] [] a refl refl) (Consumes-nil p)

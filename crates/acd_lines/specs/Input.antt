@@ -59,14 +59,21 @@ abbrev pub line_read : ℕ → Result Request Member → Line
 line_read moment (Ok request) = arrival moment request
 line_read moment (Err member) = faulty member
 
--- the moment is looked at first, then the length of what follows it, then the request
-abbrev pub line_behind : Option (ℕ × List ℕ) → Line
-line_behind None = no_moment
-line_behind (Some p) = if nat_lt 4096 (length p.1) then too_long else line_read p.0 (reads_as p.1)
+-- what the text of a line asks for: the moment is looked at first, then the length of what follows it, and then that
+abbrev pub asked_behind : {L : Type 0} → L → L → (ℕ → List ℕ → L) → Option (ℕ × List ℕ) → L
+asked_behind unmarked long read None = unmarked
+asked_behind unmarked long read (Some p) = if nat_lt 4096 (length p.1) then long else read p.0 p.1
+
+unfoldable pub asked : {L : Type 0} → L → L → (ℕ → List ℕ → L) → List ℕ → L
+asked unmarked long read text = asked_behind unmarked long read (moment_of text)
+
+-- the request behind a moment
+abbrev pub request_read : ℕ → List ℕ → Line
+request_read moment json = line_read moment (reads_as json)
 
 -- what a line is
-unfoldable pub line_of : List ℕ → Line
-line_of text = line_behind (moment_of text)
+abbrev pub line_of : List ℕ → Line
+line_of text = asked no_moment too_long request_read text
 
 -- the lines that some pieces are
 abbrev pub lines_of : List (List ℕ) → List Line

@@ -1,26 +1,35 @@
--- For private clauses: the lines that were answered so far, by a relation of the desk, a line, what is written for it, and the desk after it.
+-- The lines that were answered so far, by what their texts ask for, and by a relation of the desk, what is asked, what is written for it, and the desk after it.
 use Rattle.std.specs.Prelude.{◌≡◌, ℕ, List, [], ◌∷◌, ◌++◌, map, take, true, Option}
 use Rattle.std.specs.List.{concat, list_all}
 use Rattle.std.specs.Io.BufRead.{ends_with_byte}
-use Rattle.std.specs.Io.KnownBytes.{Appends}
+use Rattle.std.specs.Io.KnownBytes.{Appends, Consumes}
 use Rattle.acd_terms.specs.declared.command.Request.{Request}
 use Rattle.acd_desk.specs.declared.taken.Taken.{Taken}
 use Rattle.acd_desk.specs.Arrived.{at}
 use Rattle.acd_desk.specs.Ran.{Standing, Ran}
-use Rattle.acd_lines.specs.Input.{Line, has_none, line_of, text_of, cut}
+use Rattle.acd_lines.specs.Input.{has_none, text_of, cut}
 use Rattle.acd_lines.specs.Answers.{line_text}
-use Rattle.acd_lines.specs.Output.{whole_lines, AnswerLines, IsShort, imported}
-use Rattle.acd_lines.specs.Sent.{Passes, Breaks}
+use Rattle.acd_lines.specs.Output.{IsInput, whole_lines, AnswerLines, IsShort, imported}
+use Rattle.acd_lines.specs.Sent.{Passes, Begins, Breaks}
 use Rattle.acd_lines.specs.declared.answer_line.AnswerLine.{AnswerLine}
 use Rattle.acd_lines.specs.declared.answer_line.AnswerLine.TheVariants.{Made, Fixed}
 
-module _ {S : Type 0} (Answers : S → Line → List ℕ → S → Type 0) where
+module _ {S L : Type 0} (Answers : S → L → List ℕ → S → Type 0) where
+  -- a line was answered
+  abbrev pub LineDone : S → L → S → Option (List ℕ) → Option (List ℕ) → List ℕ → List ℕ → Type 0
+  LineDone s line t old new before waiting = (out : List ℕ) × Answers s line out t × Passes old new waiting (before ++ out)
+
+  -- a line was answered, and then the writer stopped
+  abbrev pub LineStops : S → L → S → Option (List ℕ) → Option (List ℕ) → List ℕ → Type 0
+  LineStops s line t old new before = (out : List ℕ) × Answers s line out t × Breaks old new (before ++ out)
+
+module _ {S L : Type 0} (asks : List ℕ → L) (Answers : S → L → List ℕ → S → Type 0) where
   -- the lines are answered in order, each by the desk that the earlier ones left
   abbrev pub Serves : S → List (List ℕ) → List (List ℕ) → S → Type 0
   Serves s [] [] t = t ≡ s
   Serves s [] (out ∷ outs) t = ⊥
   Serves s (piece ∷ pieces) [] t = ⊥
-  Serves s (piece ∷ pieces) (out ∷ outs) t = (mid : S) × Answers s (line_of (text_of piece)) out mid × Serves mid pieces outs t
+  Serves s (piece ∷ pieces) (out ∷ outs) t = (mid : S) × Answers s (asks (text_of piece)) out mid × Serves mid pieces outs t
 
   -- the whole input was answered
   pub record ServesAll (s : S) (input answers : List ℕ) (t : S) : Type 0 where
@@ -59,14 +68,6 @@ module _ {S : Type 0} (Answers : S → Line → List ℕ → S → Type 0) where
     pub reached : Reached s seen part (earlier ++ answers) t
     pub passes : Passes old new waiting (before ++ answers)
 
-  -- a line was answered
-  abbrev pub LineDone : S → Line → S → Option (List ℕ) → Option (List ℕ) → List ℕ → List ℕ → Type 0
-  LineDone s line t old new before waiting = (out : List ℕ) × Answers s line out t × Passes old new waiting (before ++ out)
-
-  -- a line was answered, and then the writer stopped
-  abbrev pub LineStops : S → Line → S → Option (List ℕ) → Option (List ℕ) → List ℕ → Type 0
-  LineStops s line t old new before = (out : List ℕ) × Answers s line out t × Breaks old new (before ++ out)
-
   -- more bytes lead on from what was reached
   abbrev pub Feeds : S → S → List ℕ → List ℕ → List ℕ → Option (List ℕ) → Option (List ℕ) → List ℕ → List ℕ → Type 0
   Feeds mid t kept kept' bytes old new before waiting = (s : S) (seen part answers : List ℕ) → kept ≡ take 4109 part → Reached s seen part answers mid
@@ -87,6 +88,26 @@ module _ {S : Type 0} (Answers : S → Line → List ℕ → S → Type 0) where
   abbrev pub FinishStops : S → S → List ℕ → Option (List ℕ) → Option (List ℕ) → List ℕ → Type 0
   FinishStops mid t kept old new before = (s : S) (seen part answers : List ℕ) → kept ≡ take 4109 part → Reached s seen part answers mid
       → (out : List ℕ) × ServesAll s seen (answers ++ out) t × Breaks old new (before ++ out)
+
+  -- all of the input was answered, and the answers were written
+  abbrev pub AllDone : Option (List ℕ) → S → S → Option (List ℕ) → Option (List ℕ) → Type 0
+  AllDone known s t a c = (input answers : List ℕ) × IsInput known input × ServesAll s input answers t × Appends a c answers
+
+  -- the lines that had ended in what was read were
+  abbrev pub ReadDone : Option (List ℕ) → Option (List ℕ) → S → S → Option (List ℕ) → Option (List ℕ) → Type 0
+  ReadDone p q s t a c = (bytes answers : List ℕ) × Consumes p q bytes × ServesRead s bytes answers t × Appends a c answers
+
+  -- some lines were answered, and their answers were written
+  abbrev pub FirstDone : Option (List ℕ) → S → S → Option (List ℕ) → Option (List ℕ) → Type 0
+  FirstDone known s t a c = (input answers : List ℕ) × IsInput known input × ServesSome s input answers t × Appends a c answers
+
+  -- some lines were answered, and a beginning of their answers was written
+  abbrev pub SomeDone : Option (List ℕ) → S → S → Option (List ℕ) → Option (List ℕ) → Type 0
+  SomeDone known s t a c = (input answers : List ℕ) × IsInput known input × ServesSome s input answers t × Begins a c answers
+
+  -- the same, where not all of it was
+  abbrev pub ShortDone : Option (List ℕ) → S → S → Option (List ℕ) → Option (List ℕ) → Type 0
+  ShortDone known s t a c = (input answers : List ℕ) × IsInput known input × ServesSome s input answers t × Breaks a c answers
 
 module _ {D : Type 0} (stands : D → Standing) where
   -- the requests of a plan were taken, and their answers were written but for what waits

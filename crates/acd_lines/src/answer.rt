@@ -1,14 +1,12 @@
 //! The answer to one line.
 
 ghost use Rattle.std.specs.Prelude.{◌≡◌, ◌⊎◌};
-ghost use Rattle.acd_codec.specs.Reading.{reads_as};
 ghost use Rattle.acd_desk.specs.Ran.{standing};
-ghost use Rattle.acd_lines.specs.Input.{line_of, line_read, arrival};
+ghost use Rattle.acd_lines.specs.Input.{request_read, arrival};
 ghost use Rattle.acd_lines.specs.Answers.{malformed_line, fixed_line, unread_line, rejected_line, IsWritten, Answers};
 ghost use Rattle.acd_lines.specs.Parts.{answered_text};
 
 use crate::answer_line::AnswerLine;
-use crate::moment::moment_of;
 use acd_book::{Book, Text};
 use acd_codec::{
     FixedAnswer, MALFORMED_STATUS, Member, ReadFault, Rejected, RequestReader, rejected_text,
@@ -17,10 +15,8 @@ use acd_desk::{Desk, Taken};
 use acd_terms::Request;
 use std::alloc::{AllocError, Global};
 
-// How many bytes of JSON are read at most.
-const LONGEST: usize = 4096;
-
-fn fixed(answer: FixedAnswer) -> AnswerLine
+/// An answer that is the same for all.
+pub fn fixed(answer: FixedAnswer) -> AnswerLine
     ensures { answered_text result ≡ fixed_line answer }
 {
     AnswerLine::Fixed {
@@ -29,7 +25,8 @@ fn fixed(answer: FixedAnswer) -> AnswerLine
     }
 }
 
-fn malformed(member: Member) -> AnswerLine
+/// Where this member of a line is faulty.
+pub(crate) fn malformed(member: Member) -> AnswerLine
     ensures { answered_text result ≡ malformed_line member }
 {
     AnswerLine::Fixed {
@@ -87,36 +84,18 @@ pub(crate) fn execute<B: Book>(
     written(alloc, request, taken)
 }
 
-fn read<B: Book>(
+/// The answer to a request as JSON.
+pub(crate) fn read<B: Book>(
     alloc: Global,
     requests: &mut RequestReader,
     desk: &mut Desk<B>,
     moment: u32,
     json: &[u8],
 ) -> AnswerLine
-    ensures { Answers (standing B.Book) desk.old (line_read moment (reads_as json.now)) (answered_text result) desk.new }
+    ensures { Answers (standing B.Book) desk.old (request_read moment json.now) (answered_text result) desk.new }
 {
     match requests.read(json) {
         Ok(request) => execute(alloc, desk, moment, &request),
         Err(fault) => unread(fault),
     }
-}
-
-/// The answer to a line, whose line end is left out.
-#[tactic(auto, unfolding(crate::specs::Input::line_of))]
-pub(crate) fn answer<B: Book>(
-    alloc: Global,
-    requests: &mut RequestReader,
-    desk: &mut Desk<B>,
-    text: &[u8],
-) -> AnswerLine
-    ensures { Answers (standing B.Book) desk.old (line_of text.now) (answered_text result) desk.new }
-{
-    let Some((moment, json)) = moment_of(text) else {
-        return malformed(Member::Moment);
-    };
-    if json.len() > LONGEST {
-        return fixed(FixedAnswer::BodyTooLarge);
-    }
-    read(alloc, requests, desk, moment, json)
 }

@@ -6,7 +6,7 @@ use acd_book::Text;
 
 /// The answer to a line: its status, and a body that was made for it or is the same for all.
 #[derive(Drop)]
-pub(crate) enum AnswerLine {
+pub enum AnswerLine {
     Made { status: u16, body: Text },
     Fixed { status: u16, body: &'static str },
 }

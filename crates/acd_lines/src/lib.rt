@@ -1,6 +1,7 @@
 //! Requests in lines, replies in lines: [`lines`] answers each line that it reads over a desk,
 //! [`lines_until_failed`] does so until the desk fails, and [`import`] takes the requests of a plan. A
-//! [`LinesFault`] says why not all were answered.
+//! [`LinesFault`] says why not all were answered. What else lines may ask is an [`Answering`]; [`answer_lines`]
+//! answers such lines.
 //!
 //! ```ignore
 //! let mut desk = Desk::open(alloc, book)?;
@@ -10,6 +11,7 @@
 
 mod answer;
 mod answer_line;
+mod answering;
 mod importing;
 mod moment;
 mod outbox;
@@ -20,6 +22,9 @@ mod serve;
 mod session;
 mod split;
 
+pub use answer::fixed;
+pub use answer_line::AnswerLine;
+pub use answering::{Answering, Requests};
 pub use importing::import;
 pub use sending::{Stopped, send};
-pub use session::{LinesFault, lines, lines_until_failed};
+pub use session::{LinesFault, answer_lines, lines, lines_until_failed};

@@ -2,20 +2,17 @@
 
 ghost use Rattle.std.specs.Prelude.{◌≡◌, ◌++◌, [], take, OnOk, OnErr};
 ghost use Rattle.std.specs.Io.BufRead.{strip_last};
-ghost use Rattle.acd_desk.specs.Ran.{standing};
-ghost use Rattle.acd_lines.specs.Input.{line_of};
-ghost use Rattle.acd_lines.specs.Answers.{Answers};
+ghost use Rattle.acd_lines.specs.Input.{asked};
 ghost use Rattle.acd_lines.specs.Sent.{Passes, Breaks};
 ghost use Rattle.acd_lines.specs.Parts.{LineDone, LineStops, Feeds, FeedStops, Finishes, FinishStops, answered_text};
 
-use crate::answer::answer;
 use crate::answer_line::AnswerLine;
+use crate::answering::{Answering, answer_line};
 use crate::outbox::Outbox;
 use crate::partial::Partial;
 use crate::sending::Stopped;
 use crate::split::split_once;
 use acd_book::Book;
-use acd_codec::RequestReader;
 use acd_desk::Desk;
 use itoa::Buffer;
 use std::alloc::Global;
@@ -38,18 +35,18 @@ pub(crate) fn push_answer<W: Write>(
 }
 
 // Answers a line.
-fn serve<B: Book, W: Write>(
+fn serve<B: Book, A: Answering<B>, W: Write>(
     alloc: Global,
-    requests: &mut RequestReader,
+    lines: &mut A,
     desk: &mut Desk<B>,
     outbox: &mut Outbox,
     writer: &mut W,
     text: &[u8],
 ) -> Result<(), Stopped>
-    ensures ok { OnOk result (LineDone (Answers (standing B.Book)) desk.old (line_of text.now) desk.new (W.contents writer.old) (W.contents writer.new) outbox.old.waiting.items outbox.new.waiting.items) }
-    ensures err { OnErr result (LineStops (Answers (standing B.Book)) desk.old (line_of text.now) desk.new (W.contents writer.old) (W.contents writer.new) outbox.old.waiting.items) }
+    ensures ok { OnOk result (LineDone A.answers desk.old (asked A.unmarked A.long A.read text.now) desk.new (W.contents writer.old) (W.contents writer.new) outbox.old.waiting.items outbox.new.waiting.items) }
+    ensures err { OnErr result (LineStops A.answers desk.old (asked A.unmarked A.long A.read text.now) desk.new (W.contents writer.old) (W.contents writer.new) outbox.old.waiting.items) }
 {
-    let answered = answer(alloc, requests, desk, text);
+    let answered = answer_line(lines, alloc, desk, text);
     push_answer(outbox, writer, &answered)
 }
 
@@ -63,9 +60,9 @@ fn without_return(text: &[u8]) -> &[u8]
 }
 
 // Answers the line that ends in these bytes. A line that lies in them whole is not copied.
-fn end_line<B: Book, W: Write>(
+fn end_line<B: Book, A: Answering<B>, W: Write>(
     alloc: Global,
-    requests: &mut RequestReader,
+    lines: &mut A,
     desk: &mut Desk<B>,
     partial: &mut Partial,
     outbox: &mut Outbox,
@@ -73,16 +70,16 @@ fn end_line<B: Book, W: Write>(
     end: &[u8],
 ) -> Result<(), Stopped>
     ensures empty { OnOk result (partial.new ≡ []) }
-    ensures ok { OnOk result (LineDone (Answers (standing B.Book)) desk.old (line_of (strip_last 13 (take 4109 (partial.old ++ end.now)))) desk.new (W.contents writer.old) (W.contents writer.new) outbox.old.waiting.items outbox.new.waiting.items) }
-    ensures err { OnErr result (LineStops (Answers (standing B.Book)) desk.old (line_of (strip_last 13 (take 4109 (partial.old ++ end.now)))) desk.new (W.contents writer.old) (W.contents writer.new) outbox.old.waiting.items) }
+    ensures ok { OnOk result (LineDone A.answers desk.old (asked A.unmarked A.long A.read (strip_last 13 (take 4109 (partial.old ++ end.now)))) desk.new (W.contents writer.old) (W.contents writer.new) outbox.old.waiting.items outbox.new.waiting.items) }
+    ensures err { OnErr result (LineStops A.answers desk.old (asked A.unmarked A.long A.read (strip_last 13 (take 4109 (partial.old ++ end.now)))) desk.new (W.contents writer.old) (W.contents writer.new) outbox.old.waiting.items) }
 {
     if partial.is_empty() {
-        return serve(alloc, requests, desk, outbox, writer, without_return(end));
+        return serve(alloc, lines, desk, outbox, writer, without_return(end));
     }
     partial.extend(end);
     serve(
         alloc,
-        requests,
+        lines,
         desk,
         outbox,
         writer,
@@ -93,9 +90,9 @@ fn end_line<B: Book, W: Write>(
 }
 
 /// Takes what was read: the lines that end in it are answered, and their answers are written.
-pub(crate) fn feed<B: Book, W: Write>(
+pub(crate) fn feed<B: Book, A: Answering<B>, W: Write>(
     alloc: Global,
-    requests: &mut RequestReader,
+    lines: &mut A,
     desk: &mut Desk<B>,
     partial: &mut Partial,
     outbox: &mut Outbox,
@@ -103,12 +100,12 @@ pub(crate) fn feed<B: Book, W: Write>(
     chunk: &[u8],
 ) -> Result<(), Stopped>
     ensures none { OnOk result (outbox.new.waiting.items ≡ []) }
-    ensures ok { OnOk result (Feeds (Answers (standing B.Book)) desk.old desk.new partial.old partial.new chunk.now (W.contents writer.old) (W.contents writer.new) outbox.old.waiting.items outbox.new.waiting.items) }
-    ensures err { OnErr result (FeedStops (Answers (standing B.Book)) desk.old desk.new partial.old chunk.now (W.contents writer.old) (W.contents writer.new) outbox.old.waiting.items) }
+    ensures ok { OnOk result (Feeds (asked A.unmarked A.long A.read) A.answers desk.old desk.new partial.old partial.new chunk.now (W.contents writer.old) (W.contents writer.new) outbox.old.waiting.items outbox.new.waiting.items) }
+    ensures err { OnErr result (FeedStops (asked A.unmarked A.long A.read) A.answers desk.old desk.new partial.old chunk.now (W.contents writer.old) (W.contents writer.new) outbox.old.waiting.items) }
 {
     let mut rest = chunk;
     while let Some((end, behind)) = split_once(rest, b'\n') {
-        end_line(alloc, requests, desk, partial, outbox, writer, end)?;
+        end_line(alloc, lines, desk, partial, outbox, writer, end)?;
         rest = behind;
     }
     partial.extend(rest);
@@ -116,20 +113,20 @@ pub(crate) fn feed<B: Book, W: Write>(
 }
 
 /// Answers the last line, where the input does not end in a line feed.
-pub(crate) fn finish<B: Book, W: Write>(
+pub(crate) fn finish<B: Book, A: Answering<B>, W: Write>(
     alloc: Global,
-    requests: &mut RequestReader,
+    lines: &mut A,
     desk: &mut Desk<B>,
     partial: &Partial,
     outbox: &mut Outbox,
     writer: &mut W,
 ) -> Result<(), Stopped>
-    ensures ok { OnOk result (Finishes (Answers (standing B.Book)) desk.old desk.new partial.now (W.contents writer.old) (W.contents writer.new) outbox.old.waiting.items) }
-    ensures err { OnErr result (FinishStops (Answers (standing B.Book)) desk.old desk.new partial.now (W.contents writer.old) (W.contents writer.new) outbox.old.waiting.items) }
+    ensures ok { OnOk result (Finishes (asked A.unmarked A.long A.read) A.answers desk.old desk.new partial.now (W.contents writer.old) (W.contents writer.new) outbox.old.waiting.items) }
+    ensures err { OnErr result (FinishStops (asked A.unmarked A.long A.read) A.answers desk.old desk.new partial.now (W.contents writer.old) (W.contents writer.new) outbox.old.waiting.items) }
 {
     if partial.is_empty() {
         return outbox.flush(writer);
     }
-    serve(alloc, requests, desk, outbox, writer, partial.as_slice())?;
+    serve(alloc, lines, desk, outbox, writer, partial.as_slice())?;
     outbox.flush(writer)
 }

@@ -2,15 +2,17 @@
 
 ghost use Rattle.std.specs.Prelude.{◌≡◌, true, false, OnOk, OnErr, IfErr};
 ghost use Rattle.acd_desk.specs.Ran.{standing};
+ghost use Rattle.acd_lines.specs.Input.{asked};
+ghost use Rattle.acd_lines.specs.Parts.{AllDone, ReadDone, FirstDone, ShortDone, SomeDone};
 ghost use Rattle.acd_lines.specs.Lines.{AnsweredAll, AnsweredRead, AnsweredFirst, AnsweredShort, AnsweredSome};
 
+use crate::answering::{Answering, Requests};
 use crate::outbox::Outbox;
 use crate::partial::Partial;
 use crate::retry::retried;
 use crate::sending::Stopped;
 use crate::serve::{feed, finish};
 use acd_book::Book;
-use acd_codec::RequestReader;
 use acd_desk::Desk;
 use std::alloc::{AllocError, Global};
 use std::io::{Read, Write};
@@ -58,22 +60,23 @@ const CALLS: u64 = 1_000_000_000_000;
 /// How many bytes are read at once.
 const CHUNK: usize = 65_536;
 
-// Answers lines until the input is at its end or, where `ends` says so, the desk has failed.
-fn answer_lines<B: Book, R: Read, W: Write>(
+/// Answers lines until the input is at its end or, where `ends` says so, the desk has failed: what each of them asks is
+/// answered in turn, by the desk that the earlier ones left.
+pub fn answer_lines<B: Book, A: Answering<B>, R: Read, W: Write>(
     alloc: Global,
+    lines: &mut A,
     desk: &mut Desk<B>,
     ends: bool,
     reader: &mut R,
     writer: &mut W,
 ) -> Result<(), LinesFault>
-    ensures ok { OnOk result ((ends ≡ true → (standing B.Book desk.new).failed ≡ false) → AnsweredAll (standing B.Book desk.old) (R.remaining reader.old) (W.contents writer.old) (W.contents writer.new) (standing B.Book desk.new)) }
-    ensures first { OnOk result (AnsweredFirst (standing B.Book desk.old) (R.remaining reader.old) (W.contents writer.old) (W.contents writer.new) (standing B.Book desk.new)) }
-    ensures read { IfErr result (λ fault. fault ≡ LinesFault.Read → AnsweredRead (standing B.Book desk.old) (R.remaining reader.old) (R.remaining reader.new) (W.contents writer.old) (W.contents writer.new) (standing B.Book desk.new)) }
-    ensures write { IfErr result (λ fault. fault ≡ LinesFault.Write → AnsweredShort (standing B.Book desk.old) (R.remaining reader.old) (W.contents writer.old) (W.contents writer.new) (standing B.Book desk.new)) }
-    ensures stopped { OnErr result (AnsweredSome (standing B.Book desk.old) (R.remaining reader.old) (W.contents writer.old) (W.contents writer.new) (standing B.Book desk.new)) }
+    ensures ok { OnOk result ((ends ≡ true → (standing B.Book desk.new).failed ≡ false) → AllDone (asked A.unmarked A.long A.read) A.answers (R.remaining reader.old) desk.old desk.new (W.contents writer.old) (W.contents writer.new)) }
+    ensures first { OnOk result (FirstDone (asked A.unmarked A.long A.read) A.answers (R.remaining reader.old) desk.old desk.new (W.contents writer.old) (W.contents writer.new)) }
+    ensures read { IfErr result (λ fault. fault ≡ LinesFault.Read → ReadDone (asked A.unmarked A.long A.read) A.answers (R.remaining reader.old) (R.remaining reader.new) desk.old desk.new (W.contents writer.old) (W.contents writer.new)) }
+    ensures write { IfErr result (λ fault. fault ≡ LinesFault.Write → ShortDone (asked A.unmarked A.long A.read) A.answers (R.remaining reader.old) desk.old desk.new (W.contents writer.old) (W.contents writer.new)) }
+    ensures stopped { OnErr result (SomeDone (asked A.unmarked A.long A.read) A.answers (R.remaining reader.old) desk.old desk.new (W.contents writer.old) (W.contents writer.new)) }
     ensures memory { IfErr result (λ fault. fault ≡ LinesFault.NoMemory → (reader.new ≡ reader.old) × (writer.new ≡ writer.old) × (desk.new ≡ desk.old)) }
 {
-    let mut requests = RequestReader::new(alloc);
     let mut chunk = vec![in alloc; 0u8; CHUNK]?;
     let mut partial = Partial::new(alloc)?;
     let mut outbox = Outbox::new(alloc)?;
@@ -83,12 +86,12 @@ fn answer_lines<B: Book, R: Read, W: Write>(
         }
         match reader.read(chunk.as_mut_slice()) {
             Ok(0) => {
-                finish(alloc, &mut requests, desk, &partial, &mut outbox, writer)?;
+                finish(alloc, lines, desk, &partial, &mut outbox, writer)?;
                 return Ok(());
             }
             Ok(n) => feed(
                 alloc,
-                &mut requests,
+                lines,
                 desk,
                 &mut partial,
                 &mut outbox,
@@ -122,7 +125,14 @@ pub fn lines<B: Book, R: Read, W: Write>(
     // without memory nothing was read
     ensures memory { IfErr result (λ fault. fault ≡ LinesFault.NoMemory → (reader.new ≡ reader.old) × (writer.new ≡ writer.old) × (desk.new ≡ desk.old)) }
 {
-    answer_lines(alloc, desk, false, reader, writer)
+    answer_lines(
+        alloc,
+        &mut Requests::new(alloc),
+        desk,
+        false,
+        reader,
+        writer,
+    )
 }
 
 /// The same, but once the desk has failed nothing more is read: the lines of the read in which a
@@ -146,5 +156,5 @@ pub fn lines_until_failed<B: Book, R: Read, W: Write>(
     // without memory nothing was read
     ensures memory { IfErr result (λ fault. fault ≡ LinesFault.NoMemory → (reader.new ≡ reader.old) × (writer.new ≡ writer.old) × (desk.new ≡ desk.old)) }
 {
-    answer_lines(alloc, desk, true, reader, writer)
+    answer_lines(alloc, &mut Requests::new(alloc), desk, true, reader, writer)
 }

@@ -8,3 +8,4 @@ pub mod Tasks
 pub mod Begun
 pub mod Sending
 pub mod Served
+pub mod ReadsAnswered

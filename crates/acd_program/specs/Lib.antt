@@ -8,5 +8,6 @@ pub mod Work
 pub mod InFiles
 pub mod Files
 pub mod Serving
+pub mod ReadsAnswered
 pub mod Tasks
 pub mod Names

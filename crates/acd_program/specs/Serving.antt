@@ -13,7 +13,7 @@ use Rattle.acd_desk.specs.declared.desk.Desk.{Desk}
 use Rattle.acd_desk.specs.Stands.{IsSound}
 use Rattle.acd_desk.specs.Standing.{Standing, Starts, standing}
 use Rattle.acd_lines.specs.Sent.{Begins}
-use Rattle.acd_http.specs.Listening.{ServedAll}
+use Rattle.acd_http.specs.Listening.{ServedFor}
 use Rattle.acd_program.specs.Over.{held, unmade}
 
 -- a desk that was opened over a book, which came of one that said this of itself
@@ -25,12 +25,12 @@ pub record IsDeskOf (old : BookState) (new : Standing) : Type 0 where
   pub stops : IfHonest old new.book (Within new.book.stops old.stops)
   pub working : new.failed ≡ false
 
--- over a desk of the book so many connections were served, one after another, and the book came back; the lines of their faults were written, or a beginning of them
-pub record ServesOver {B : Type 0} (says : book.Ghosts B) (old : BookState) (many : ℕ) (before behind : Option (List ℕ)) (last : B) : Type 0 where
+-- over a desk of the book connections were served, one after another, so many or until it had failed, and the book came back; the lines of their faults were written, or a beginning of them
+pub record ServesOver {B : Type 0} (says : book.Ghosts B) (old : BookState) (span : Option ℕ) (before behind : Option (List ℕ)) (last : B) : Type 0 where
   pub first : Desk B
   pub final : Desk B
   pub opened : IsDeskOf old (standing says first)
-  pub served : ServedAll (standing says) many first final (Begins before behind)
+  pub served : ServedFor (standing says) span first final (Begins before behind)
   pub back : last ≡ final.book
 
 module _ {S : Type 0} (store : Ghosts S) where
@@ -39,7 +39,7 @@ module _ {S : Type 0} (store : Ghosts S) where
   in_database = record { state = λ b. book_state (state store b.conn) b.failures }
 
   -- so it was over the book that the database held or, where it had no tables and one was to be made, over a new one
-  pub record ServesDatabase (makes : Bool) (many : ℕ) (old : State) (before behind : Option (List ℕ)) (last : Held S) : Type 0 where
+  pub record ServesDatabase (makes : Bool) (span : Option ℕ) (old : State) (before behind : Option (List ℕ)) (last : Held S) : Type 0 where
     pub its : SqlBook S store
-    pub over : ServesOver in_database (held old) many before behind its ⊎ ((makes ≡ true) × (old.now.schema ≡ no_schema) × ServesOver in_database (unmade old) many before behind its)
+    pub over : ServesOver in_database (held old) span before behind its ⊎ ((makes ≡ true) × (old.now.schema ≡ no_schema) × ServesOver in_database (unmade old) span before behind its)
     pub back : last ≡ its.conn

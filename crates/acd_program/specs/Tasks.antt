@@ -17,11 +17,12 @@ use Rattle.acd_program.specs.Work.{Asked, IsText, ImportsOver}
 use Rattle.acd_program.specs.Files.{IsOpenedIn}
 use Rattle.acd_program.specs.InFiles.{IsLaidIn, WorkedOver}
 use Rattle.acd_program.specs.Serving.{ServesDatabase}
+use Rattle.acd_program.specs.ReadsAnswered.{ReadsFromNothing, ReadsDatabase}
 use Rattle.acd_program.specs.declared.auditing.Finding.{Finding}
 use Rattle.acd_program.specs.declared.desk.Work.{Work}
 use Rattle.acd_program.specs.declared.desk.BookWork.TheVariants as book
 use Rattle.acd_program.specs.declared.task.Task.{Task}
-use Rattle.acd_program.specs.declared.task.Task.TheVariants.{Lines, Serve, Import, Read}
+use Rattle.acd_program.specs.declared.task.Task.TheVariants.{Lines, ReadingLines, Serve, Import, Read}
 
 -- `IsFresh is_log file` says that a file is a log, or a database file, that was just opened
 module _ {D : Type 0} (disk : Ghosts D) (IsFresh : Bool → D → Type 0) where
@@ -51,12 +52,12 @@ module _ {D : Type 0} (disk : Ghosts D) (IsFresh : Bool → D → Type 0) where
   ImportedIn before behind status =
       (bytes : List ℕ) × (requests : List Request) × (plan_requests bytes ≡ Ok requests) × InFile (λ (old new : BookState). ImportsOver requests old before behind new) true × (status ≡ 0)
 
-  -- a database in files was opened, so many connections were served over its book, and it was closed into its file; the lines of their faults were written, or a beginning of them
-  pub record ServedIn (many : ℕ) (before behind : Option (List ℕ)) : Type 0 where
+  -- a database in files was opened, connections were served over its book, so many or until its store had failed, and it was closed into its file; the lines of their faults were written, or a beginning of them
+  pub record ServedIn (span : Option ℕ) (before behind : Option (List ℕ)) : Type 0 where
     pub conn : OfFiles
     pub last : OfFiles
     pub opened : IsOpenedFrom conn
-    pub served : ServesDatabase over_files true many (file_state conn) before behind last
+    pub served : ServesDatabase over_files true span (file_state conn) before behind last
     pub closed : IsLaidIn last
 
   -- each line of the input was answered, over a desk in memory or over that of the file that was named
@@ -64,9 +65,23 @@ module _ {D : Type 0} (disk : Ghosts D) (IsFresh : Bool → D → Type 0) where
   LinesDone None had before behind status = AnswersAll had before behind × (status ≡ 0)
   LinesDone (Some file) had before behind status = InFile (λ (old new : BookState). AnswersOver old had before behind new) true × (status ≡ 0)
 
+  -- a database in files was opened, the lines of the input and the reads among them were answered over its book, and it was closed into its file
+  pub record ReadIn (had before behind : Option (List ℕ)) : Type 0 where
+    pub conn : OfFiles
+    pub last : OfFiles
+    pub opened : IsOpenedFrom conn
+    pub read : ReadsDatabase over_files true (file_state conn) had before behind last
+    pub closed : IsLaidIn last
+
+  -- so they were, over a desk in memory or over that of the file that was named
+  abbrev pub ReadingLinesDone : {Name : Type 0} → Option Name → Option (List ℕ) → Option (List ℕ) → Option (List ℕ) → ℕ → Type 0
+  ReadingLinesDone None had before behind status = ReadsFromNothing had before behind × (status ≡ 0)
+  ReadingLinesDone (Some file) had before behind status = ReadIn had before behind × (status ≡ 0)
+
   -- the task was done, from what was read to what was written, to what was told on the stream of errors, and to the exit status
   abbrev pub TaskDone : Task → Option (List ℕ) → Option (List ℕ) → Option (List ℕ) → Option (List ℕ) → Option (List ℕ) → ℕ → Type 0
   TaskDone (Lines file ends_on_store_fault) had before behind mute told status = LinesDone file had before behind status
+  TaskDone (ReadingLines file ends_on_store_fault) had before behind mute told status = ReadingLinesDone file had before behind status
   TaskDone (Serve file port connections) had before behind mute told status = ServedIn connections mute told × (status ≡ 0)
   TaskDone (Import file plan) had before behind mute told status = ImportedIn before behind status
   TaskDone (Read file (book.Import requests)) had before behind mute told status = InFile (λ (old new : BookState). ImportsOver requests.now old before behind new) false × (status ≡ 0)

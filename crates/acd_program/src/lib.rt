@@ -16,6 +16,7 @@ mod paging;
 mod plan;
 mod printing;
 mod progress;
+mod reading_lines;
 mod running;
 mod serving;
 mod session;

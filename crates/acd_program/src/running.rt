@@ -5,7 +5,7 @@ ghost use Rattle.sqlite_std_file.specs.File.{IsFresh};
 ghost use Rattle.acd_program.specs.Statuses.{IsDone, TellsConnections};
 ghost use Rattle.acd_program.specs.Work.{IsPrinted};
 ghost use Rattle.acd_program.specs.InFiles.{WorkedOver};
-ghost use Rattle.acd_program.specs.Tasks.{WorkedIn, LinesDone, ImportedIn, ServedIn, TaskDone};
+ghost use Rattle.acd_program.specs.Tasks.{WorkedIn, LinesDone, ReadIn, ReadingLinesDone, ImportedIn, ServedIn, TaskDone};
 
 use crate::desk::{BookWork, Done, Work, over_database};
 use crate::fault::Fault;
@@ -13,6 +13,7 @@ use crate::file::{close_connection, connect};
 use crate::memory::lines_over_memory;
 use crate::plan::read_plan;
 use crate::printing::print;
+use crate::reading_lines::{reading_lines_over_connection, reading_lines_over_memory};
 use crate::serving::serve;
 use crate::task::{Task, parse};
 use clap::Error;
@@ -92,6 +93,57 @@ fn answer_lines<'a, S: Start, R: Read, W: Write>(
     }
 }
 
+// Answers the lines of the input, and the reads among them, over the file.
+fn read_lines_in<'a, S: Start, R: Read, W: Write>(
+    rt: &HostRuntime,
+    start: S,
+    file: &'a str,
+    ends_on_store_fault: bool,
+    reader: &mut R,
+    writer: &mut W,
+) -> Result<(), Fault<'a>>
+    ensures { OnOk result (ReadIn ⟦<FileFrom<S> as Disk>⟧ IsFresh (R.remaining reader.old) (W.contents writer.old) (W.contents writer.new)) }
+{
+    let (conn, is_new) = connect(rt, file, true, start)?;
+    let (done, conn) = reading_lines_over_connection(
+        rt.alloc(),
+        conn,
+        is_new,
+        ends_on_store_fault,
+        reader,
+        writer,
+    );
+    let closed = close_connection(conn);
+    match done {
+        Ok(()) => closed,
+        Err(fault) => Err(fault),
+    }
+}
+
+// The same, over a desk in memory or in a file.
+fn answer_reading_lines<'a, S: Start, R: Read, W: Write>(
+    rt: &HostRuntime,
+    start: S,
+    file: Option<&'a str>,
+    ends_on_store_fault: bool,
+    reader: &mut R,
+    writer: &mut W,
+) -> Result<u8, Fault<'a>>
+    ensures known { IfOk result IsDone }
+    ensures done { IfOk result (λ status. ReadingLinesDone ⟦<FileFrom<S> as Disk>⟧ IsFresh file.entry (R.remaining reader.old) (W.contents writer.old) (W.contents writer.new) status) }
+{
+    match file {
+        None => {
+            reading_lines_over_memory(rt.alloc(), reader, writer)?;
+            Ok(SUCCESS)
+        }
+        Some(file) => {
+            read_lines_in(rt, start, file, ends_on_store_fault, reader, writer)?;
+            Ok(SUCCESS)
+        }
+    }
+}
+
 fn import_plan<'a, S: Start, R: Read, W: Write>(
     rt: &HostRuntime,
     start: S,
@@ -113,7 +165,7 @@ fn serve_file<'a, S: Start, W: Write, E: Write>(
     start: S,
     file: &'a str,
     port: u16,
-    connections: u32,
+    connections: Option<u32>,
     writer: &mut W,
     errors: &mut E,
 ) -> Result<(), Fault<'a>>
@@ -166,6 +218,10 @@ fn execute<'a, S: Start, R: Read, W: Write, E: Write>(
             file,
             ends_on_store_fault,
         } => answer_lines(rt, start, file, ends_on_store_fault, reader, writer),
+        Task::ReadingLines {
+            file,
+            ends_on_store_fault,
+        } => answer_reading_lines(rt, start, file, ends_on_store_fault, reader, writer),
         Task::Serve {
             file,
             port,

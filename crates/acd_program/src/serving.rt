@@ -4,14 +4,14 @@ ghost use Rattle.std.specs.Prelude.{◌≡◌, false, OnOk};
 ghost use Rattle.sqlite.specs.Held.{state};
 ghost use Rattle.acd_desk.specs.Standing.{standing};
 ghost use Rattle.acd_lines.specs.Sent.{Begins};
-ghost use Rattle.acd_http.specs.Listening.{ServedAll};
+ghost use Rattle.acd_http.specs.Listening.{ServedAll, ServedUntilFailed, ServedFor};
 ghost use Rattle.acd_program.specs.Serving.{ServesOver, ServesDatabase};
 
 use crate::connection::book_over;
 use crate::fault::Fault;
 use acd_book::Book;
 use acd_desk::Desk;
-use acd_http::{ServeFault, serve_on};
+use acd_http::{ServeFault, serve_on, serve_until_failed};
 use sqlite::{Alter, Connection};
 use std::io::{ErrorKind, Write};
 use std::net::{Ipv4Addr, SocketAddr, TcpListener};
@@ -32,8 +32,8 @@ fn say<'a, W: Write>(port: u16, writer: &mut W) -> Result<(), Fault<'a>> {
     }
 }
 
-// A line of a connection that could not be written is no fault of the command.
-fn answer<'a, B: Book, E: Write>(
+// Answers so many connections. A line of one of them that could not be written is no fault of the command.
+fn answer_some<'a, B: Book, E: Write>(
     rt: &HostRuntime,
     listener: &TcpListener,
     desk: &mut Desk<B>,
@@ -56,15 +56,57 @@ fn answer<'a, B: Book, E: Write>(
     }
 }
 
+/// That the store has failed is a fault of the command.
+pub(crate) fn unless_failed<'a, B: Book>(desk: &Desk<B>) -> Result<(), Fault<'a>>
+    ensures { OnOk result ((standing B.Book desk.now).failed ≡ false) }
+{
+    if desk.has_failed() {
+        return Err(Fault::Store);
+    }
+    Ok(())
+}
+
+// Answers connections until the store has failed, so that whoever started the command may start it again.
+fn answer_until_failed<'a, B: Book, E: Write>(
+    rt: &HostRuntime,
+    listener: &TcpListener,
+    desk: &mut Desk<B>,
+    errors: &mut E,
+) -> Result<(), Fault<'a>>
+    ensures served { OnOk result (ServedUntilFailed (standing B.Book) desk.old desk.new (Begins (E.contents errors.old) (E.contents errors.new))) }
+    ensures well { OnOk result ((standing B.Book desk.new).failed ≡ false) }
+{
+    match serve_until_failed(rt, rt.alloc(), listener, desk, errors) {
+        Ok(()) => unless_failed(desk),
+        Err(ServeFault::Write) => unless_failed(desk),
+        Err(ServeFault::NoMemory) => Err(Fault::NoMemory),
+    }
+}
+
+fn answer<'a, B: Book, E: Write>(
+    rt: &HostRuntime,
+    listener: &TcpListener,
+    desk: &mut Desk<B>,
+    connections: Option<u32>,
+    errors: &mut E,
+) -> Result<(), Fault<'a>>
+    ensures { OnOk result (ServedFor (standing B.Book) connections desk.old desk.new (Begins (E.contents errors.old) (E.contents errors.new))) }
+{
+    match connections {
+        Some(connections) => answer_some(rt, listener, desk, connections, errors),
+        None => answer_until_failed(rt, listener, desk, errors),
+    }
+}
+
 fn serve_desk<'a, B: Book, W: Write, E: Write>(
     rt: &HostRuntime,
     desk: &mut Desk<B>,
     port: u16,
-    connections: u32,
+    connections: Option<u32>,
     writer: &mut W,
     errors: &mut E,
 ) -> Result<(), Fault<'a>>
-    ensures { OnOk result (ServedAll (standing B.Book) connections desk.old desk.new (Begins (E.contents errors.old) (E.contents errors.new))) }
+    ensures { OnOk result (ServedFor (standing B.Book) connections desk.old desk.new (Begins (E.contents errors.old) (E.contents errors.new))) }
 {
     let listener = listen(rt, port)?;
     say(port, writer)?;
@@ -75,7 +117,7 @@ fn serve_book<'a, B: Book, W: Write, E: Write>(
     rt: &HostRuntime,
     book: B,
     port: u16,
-    connections: u32,
+    connections: Option<u32>,
     writer: &mut W,
     errors: &mut E,
 ) -> (Result<(), Fault<'a>>, B)
@@ -89,14 +131,14 @@ fn serve_book<'a, B: Book, W: Write, E: Write>(
     (done, desk.close())
 }
 
-/// Serves so many connections over the desk of a database, which is made where there is none and one is to be made.
+/// Serves connections, so many or until the store has failed, over the desk of a database, which is made where there is none and one is to be made.
 /// The faults of connections are lines on `errors`.
 pub(crate) fn serve<'a, S: Alter, W: Write, E: Write>(
     rt: &HostRuntime,
     conn: Connection<S>,
     makes: bool,
     port: u16,
-    connections: u32,
+    connections: Option<u32>,
     writer: &mut W,
     errors: &mut E,
 ) -> (Result<(), Fault<'a>>, Connection<S>)

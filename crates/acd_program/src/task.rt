@@ -3,7 +3,7 @@
 use crate::desk::{BookWork, Telling};
 use clap::builder::ValueParser;
 use clap::error::ErrorKind;
-use clap::{Arg, ArgAction, ArgMatches, Command, Error};
+use clap::{Arg, ArgAction, ArgGroup, ArgMatches, Command, Error};
 use std::alloc::{AllocError, Global};
 use std::convert::AsStr;
 
@@ -15,11 +15,16 @@ pub(crate) enum Task<'a> {
         file: Option<&'a str>,
         ends_on_store_fault: bool,
     },
-    /// Answer so many connections over HTTP.
+    /// The same, where lines may be reads.
+    ReadingLines {
+        file: Option<&'a str>,
+        ends_on_store_fault: bool,
+    },
+    /// Answer connections over HTTP: so many, or until the store has failed.
     Serve {
         file: &'a str,
         port: u16,
-        connections: u32,
+        connections: Option<u32>,
     },
     /// Take the requests of a plan.
     Import {
@@ -34,7 +39,7 @@ pub(crate) enum Task<'a> {
 }
 
 /// What `acd --version` tells behind the program's name: the version, and the toolchain that proved it.
-const VERSION: &str = "1.0 (rattle-kit-13f)";
+const VERSION: &str = "1.1 (rattle-kit-13f)";
 
 const FILE: &str = "file";
 
@@ -43,6 +48,13 @@ const PLAN: &str = "plan";
 const PORT: &str = "port";
 
 const CONNECTIONS: &str = "connections";
+
+const ENDLESS: &str = "endless";
+
+// Of these one is given.
+const SPAN: &str = "span";
+
+const READS: &str = "reads";
 
 const END_ON_STORE_FAULT: &str = "end-on-store-fault";
 
@@ -74,7 +86,7 @@ fn flag<'a>(alloc: Global, name: &'a str, help: &'a str) -> Arg<'a> {
         .action(ArgAction::SetTrue)
 }
 
-// An option for a number from 1 on. It is required.
+// An option for a number from 1 on.
 fn number_option<'a>(
     alloc: Global,
     name: &'a str,
@@ -87,7 +99,6 @@ fn number_option<'a>(
         .value_name(letter)
         .help(help)
         .value_parser(ValueParser::Unsigned(1, most))
-        .required(true)
         .action(ArgAction::Set)
 }
 
@@ -100,32 +111,49 @@ fn lines_command<'a>(alloc: Global) -> Result<Command<'a>, AllocError> {
         .arg(file_option(alloc))?
         .arg(flag(
             alloc,
+            READS,
+            "Answer reads too: a moment, a space, GET, a space and a target",
+        ))?
+        .arg(flag(
+            alloc,
             END_ON_STORE_FAULT,
             "End with status 1 once a storeFault was answered",
         ))
 }
 
 fn serve_command<'a>(alloc: Global) -> Result<Command<'a>, AllocError> {
+    let port = number_option(
+        alloc,
+        PORT,
+        "P",
+        "The port to listen on, from 1 to 65535",
+        u64::from(u16::MAX),
+    );
     Command::new(alloc, "serve")
         .about("Answer requests over HTTP on 127.0.0.1")
         .after_help(
-            "Example:\n  acd serve --file desk.db --port 8080 --connections 1000\n\nConnections are served one after the other, each with one request; behind the last one\nthe command ends. A file that isn't there, or has no bytes, is made.",
+            "Example:\n  acd serve --file desk.db --port 8080 --connections 1000\n\nConnections are served one after the other, each with one request; behind the last one\nthe command ends. With --endless in the place of --connections it ends, with status 1,\nonce its store has failed. A file that isn't there, or has no bytes, is made.",
         )
         .arg(file_option(alloc).required(true))?
-        .arg(number_option(
-            alloc,
-            PORT,
-            "P",
-            "The port to listen on, from 1 to 65535",
-            u64::from(u16::MAX),
-        ))?
+        .arg(port.required(true))?
         .arg(number_option(
             alloc,
             CONNECTIONS,
             "N",
             "How many connections to serve, from 1 to 1000000",
             MOST_CONNECTIONS,
-        ))
+        ))?
+        .arg(flag(
+            alloc,
+            ENDLESS,
+            "Serve until the store fails, or the command is ended",
+        ))?
+        .group(
+            ArgGroup::new(alloc, SPAN)
+                .arg(CONNECTIONS)?
+                .arg(ENDLESS)?
+                .required(true),
+        )
 }
 
 fn import_command<'a>(alloc: Global) -> Result<Command<'a>, AllocError> {
@@ -188,9 +216,17 @@ fn all_commands<'a>(alloc: Global) -> Result<Command<'a>, AllocError> {
 }
 
 fn lines_of<'a>(options: &ArgMatches<'a>) -> Task<'a> {
+    let file = options.get_str(FILE);
+    let ends_on_store_fault = options.get_flag(END_ON_STORE_FAULT);
+    if options.get_flag(READS) {
+        return Task::ReadingLines {
+            file,
+            ends_on_store_fault,
+        };
+    }
     Task::Lines {
-        file: options.get_str(FILE),
-        ends_on_store_fault: options.get_flag(END_ON_STORE_FAULT),
+        file,
+        ends_on_store_fault,
     }
 }
 
@@ -198,7 +234,7 @@ fn serving_of<'a>(options: &ArgMatches<'a>) -> Option<Task<'a>> {
     Some(Task::Serve {
         file: options.get_str(FILE)?,
         port: options.get_one(PORT)?,
-        connections: options.get_one(CONNECTIONS)?,
+        connections: options.get_one(CONNECTIONS),
     })
 }
 

@@ -13,8 +13,8 @@ use acd_terms::{Arrival, Command, Event, Invoke, Request, Requester, Rows};
 use std::alloc::Global;
 use std::process::Abort;
 
-// The greatest moment.
-const AT_LAST: &str = "4294967295";
+/// The greatest moment.
+pub const AT_LAST: &str = "4294967295";
 
 // The records of these rows, as rows.
 fn through_records(rt: &impl Abort, alloc: Global, rows: &Rows) -> Rows {

@@ -1,5 +1,7 @@
 //! The export of a desk holds what its event reports tell, and its pages are these reports.
 
+ghost use Rattle.std.specs.Prelude.{◌<◌};
+
 use crate::reads;
 use crate::texts::{joined, push, push_both, same_text};
 use acd_book::Book;
@@ -98,29 +100,33 @@ fn page_of(rt: &impl Abort, alloc: Global, events: &[Event], last: u64) -> Strin
     page
 }
 
-// The desk tells this page of its events.
-fn compare_page<B: Book>(
+// The desk tells its events, which are these, so many at a time.
+fn compare_pages_of<B: Book>(
     rt: &impl Abort,
     alloc: Global,
     desk: &mut Desk<B>,
-    after: u64,
-    page: &str,
-) {
-    let asked = format!(in alloc; "events {after}").expect(rt, "memory");
-    expect_read(rt, alloc, desk, asked.as_str(), page);
+    events: &[Event],
+    read: &str,
+    size: usize,
+)
+    requires { 0 < size }
+{
+    let mut after = 0usize;
+    for some in events.chunks(size) {
+        let page = page_of(rt, alloc, some, events.len() as u64);
+        let asked = format!(in alloc; "{read} {after}").expect(rt, "memory");
+        expect_read(rt, alloc, desk, asked.as_str(), page.as_str());
+        after = after.saturating_add(size);
+    }
 }
 
-/// The desk tells its events, which are these, by hundreds.
+/// The desk tells its events, which are these, by hundreds and by thousands.
 pub fn compare_pages<B: Book>(
     rt: &impl Abort,
     alloc: Global,
     desk: &mut Desk<B>,
     events: &[Event],
 ) {
-    let mut after = 0u64;
-    for some in events.chunks(100) {
-        let page = page_of(rt, alloc, some, events.len() as u64);
-        compare_page(rt, alloc, desk, after, page.as_str());
-        after = after.saturating_add(100);
-    }
+    compare_pages_of(rt, alloc, desk, events, "events", 100);
+    compare_pages_of(rt, alloc, desk, events, "history", 1000);
 }

@@ -105,11 +105,16 @@ fn run_over(
     }
 }
 
-// What the book keeps is sound, and all that was answered, or one request more.
-fn expect_kept<B: Book + Drop>(rt: &impl Abort, alloc: Global, book: B, replied: u64) -> B {
+/// What the book keeps is sound.
+pub fn expect_sound<B: Book + Drop>(rt: &impl Abort, alloc: Global, book: B) -> B {
     let mut desk = opened(rt, alloc, book);
     same(rt, &desk.audit(), &Ok(Audit::Sound));
-    let mut book = desk.close();
+    desk.close()
+}
+
+// So it is, and it is all that was answered, or one request more.
+fn expect_kept<B: Book + Drop>(rt: &impl Abort, alloc: Global, book: B, replied: u64) -> B {
+    let mut book = expect_sound(rt, alloc, book);
     let kept = count_kept(rt, &mut book);
     assert!(rt; kept == replied || kept == replied.saturating_add(1));
     book

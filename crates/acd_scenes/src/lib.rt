@@ -11,6 +11,8 @@ mod exports;
 #[cfg(test)]
 mod files;
 #[cfg(test)]
+mod full;
+#[cfg(test)]
 mod fused;
 #[cfg(test)]
 mod held;

@@ -1,6 +1,7 @@
-//! A desk of more events than an export takes from its book at once, three times over.
+//! A desk of more events than an export or a page of history takes from its book at once, three times over.
 
 use crate::ends::{committed, first_record};
+use crate::exports::compare_pages;
 use crate::look_ups::same;
 use crate::reads;
 use crate::sessions::opened;
@@ -32,20 +33,21 @@ fn many_events(rt: &impl Abort, alloc: Global) -> Vec<Event> {
 }
 
 // A book that took them by one commit.
-fn book_of_many(rt: &impl Abort, alloc: Global) -> MemoryBook {
+fn book_of_many(rt: &impl Abort, alloc: Global, events: &[Event]) -> MemoryBook {
     let mut rows = Rows::empty(alloc, Limits::GREATEST);
     rows.last_stamp = 1;
     rows.last_event = 2500;
     let mut book = MemoryBook::new(alloc, Limits::GREATEST);
-    let events = many_events(rt, alloc);
-    let taken = committed(&mut book, &rows, &events, &first_record(rt, alloc));
+    let taken = committed(&mut book, &rows, events, &first_record(rt, alloc));
     same(rt, &taken, &Ok(()));
     book
 }
 
-/// A desk over that book exports them all.
+/// A desk over that book exports them all, and tells them in pages.
 pub fn export_of_many_events(rt: &impl Abort, alloc: Global) {
-    let mut desk = opened(rt, alloc, book_of_many(rt, alloc));
+    let events = many_events(rt, alloc);
+    let mut desk = opened(rt, alloc, book_of_many(rt, alloc, &events));
+    compare_pages(rt, alloc, &mut desk, &events);
     let export = reads::text(rt, alloc, &mut desk, "export all");
     same(rt, &export.as_str().lines().count(), &2501);
     let last = "\n2500,0,callCleared,2500,,,,,,\n";

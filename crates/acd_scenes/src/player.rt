@@ -53,7 +53,8 @@ fn line_at(text: &str, number: usize) -> Option<&str> {
     None
 }
 
-fn has_line(text: &str, line: &str) -> bool {
+/// Whether the text has the line.
+pub fn has_line(text: &str, line: &str) -> bool {
     for known in text.lines() {
         if known == line {
             return true;

@@ -2,6 +2,7 @@
 
 pub mod agents;
 pub mod calls;
+pub mod limits;
 pub mod morning;
 pub mod office;
 pub mod priorities;
@@ -70,6 +71,8 @@ handed_on_between_own_groups
 groups_in_the_order_of_their_numbers
 groups_7_and_07
 several_groups_between_requests
+both_tables_in_one_commit
+both_tables_in_a_commit_that_stops
 altered_further_groups_and_priorities
 altered_log_on_in_three_groups
 refusals_of_plan_and_calls
@@ -87,6 +90,8 @@ what_is_told_of_calls
 events_of_a_monitor
 head_of_queue
 ready_agents_in_order
+snapshot_of_an_answered_call
+snapshot_of_each_kind_of_record
 closed_between_requests
 answered_call_stops
 migration_stops

@@ -5,11 +5,12 @@
 //! | `part NAME` | the lines of a transcript follow ([`player`](crate::player)), up to the next line of this table |
 //! | `- MOMENT CODE NAME JSON` | in a transcript: a request that is refused with this code and name, and its answer |
 //! | `+ MOMENT RESULT JSON` | in a transcript: a request that gets this result, and its answer |
-//! | `* FIRST LAST BEHIND MOMENT RESULT JSON` | for each number `$1` from the first to the last one, such a request, and `! *` behind it. `$2` is the number and so many more, for the invoke; `$3` is its group, of twelve; `$4` and `$5` are its station and its caller |
+//! | `* FIRST LAST BEHIND MOMENT RESULT JSON` | for each number `$1` from the first to the last one, such a request, and `! *` behind it. `$2` is the number and so many more, for the invoke; `$3` is its group, of twelve; `$4` and `$5` are its station and its caller; `$6` and `$7` are of four digits: its group of 64, and the number from 1000 on |
 //! | `scene NAME: PART PART` | these parts, one behind the other, are played over a new book in memory and over one in a database |
 //! | `scene NAME within R C G S A M: PART` | the same with these limits on requests, calls, groups, stations, agents and monitors |
 //! | `table NAME: PART PART` | the lines of a transcript follow, with the places `$1`, `$2` and so on in them and in the name |
 //! | `row VALUE VALUE` | with these values in its places the table's transcript, behind the parts, is a scene of that name |
+//! | `full NAME: PART PART` | all requests come as one input, over a new book in memory ([`full`](crate::full)) |
 //! | `wrong NAME: PART` | isn't what happens, and the player says where |
 //! | `files NAME: PART` | is played over files that are closed and opened between any two requests |
 //! | `stops NAME: PART` | is played over files of which one stops at each of its calls in turn ([`files`](crate::files)) |
@@ -20,7 +21,7 @@ use crate::ends::{Held, expect_committed, expect_run, held_by};
 use crate::player::play;
 use crate::shelf::taken;
 use crate::texts::{halves, joined, number, push};
-use crate::{altered, files};
+use crate::{altered, files, full};
 use acd_book::{Book, BookFault, MemoryBook};
 use acd_codec::read_request;
 use acd_sqlbook::SqlBook;
@@ -112,6 +113,11 @@ fn played(rt: &impl Abort, alloc: Global, limits: Limits, texts: &[&str]) -> Opt
         None => played_in_database(rt, alloc, limits, texts),
         wrong => wrong,
     }
+}
+
+// All requests as one input.
+fn played_full(rt: &impl Abort, alloc: Global, texts: &[&str]) -> Option<String> {
+    full::play(rt, alloc, book_in_memory(alloc, Limits::GREATEST), texts)
 }
 
 // Over files that don't stop, or that do.
@@ -215,7 +221,9 @@ fn sign(place: usize) -> &'static str {
         1 => "$2",
         2 => "$3",
         3 => "$4",
-        _ => "$5",
+        4 => "$5",
+        5 => "$6",
+        _ => "$7",
     }
 }
 
@@ -233,13 +241,14 @@ fn filled(rt: &impl Abort, alloc: Global, text: &str, values: &str) -> String {
     filled
 }
 
-// The values of a number: itself, so many more, and its group, station and caller.
+// The values of a number: itself, so many more, its group, station and caller, and two of four digits.
 fn values_of(rt: &impl Abort, alloc: Global, number: u64, behind: u64) -> String {
     let more = number.saturating_add(behind);
     let group = number % 12 + 100;
     let station = number.saturating_add(200);
     let caller = number.saturating_add(301000);
-    let values = format!(in alloc; "{number} {more} {group} {station} {caller}");
+    let (of_64, digits) = (number % 64 + 1000, number.saturating_add(1000));
+    let values = format!(in alloc; "{number} {more} {group} {station} {caller} {of_64} {digits}");
     values.expect(rt, "memory")
 }
 
@@ -284,6 +293,8 @@ fn mismatch(
         played_in_files(rt, alloc, texts, word == "stops")
     } else if word == "old" {
         played_in_old_files(rt, alloc, texts)
+    } else if word == "full" {
+        played_full(rt, alloc, texts)
     } else if word == "altered" {
         altered::play(rt, alloc, texts)
     } else {
@@ -411,7 +422,7 @@ impl<'a> Script<'a> {
 }
 
 fn is_scene(word: &str) -> bool {
-    for known in ["scene", "wrong", "files", "stops", "old", "altered"] {
+    for known in ["scene", "full", "wrong", "files", "stops", "old", "altered"] {
         if word == known {
             return true;
         }

@@ -1,7 +1,7 @@
 //! All scenes.
 
 use crate::many_events;
-use crate::scenes::{self, agents, calls, morning, office, priorities, refusals, told};
+use crate::scenes::{self, agents, calls, limits, morning, office, priorities, refusals, told};
 use crate::script::Script;
 use crate::texts::same_text;
 
@@ -24,4 +24,11 @@ fn offices(rt: HostRuntime) {
     script.play(&rt, morning::last_lines());
     same_text(&rt, script.told(), "office\nmorning\n");
     many_events::export_of_many_events(&rt, rt.alloc());
+}
+
+#[test]
+fn an_office_at_its_limits(rt: HostRuntime) {
+    let mut script = Script::new(rt.alloc());
+    script.play(&rt, limits::lines());
+    same_text(&rt, script.told(), "office_at_its_limits\n");
 }

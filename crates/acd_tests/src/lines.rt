@@ -1,6 +1,6 @@
 //! Whole sessions over memory, with the bytes that the formats prescribe, and readers and writers that fail midway.
 
-use crate::player::{expect_executed, is_cut, lined, new_desk, play};
+use crate::player::{expect_executed, is_cut, lined, new_desk, play, read_and_lined};
 use crate::streams::{Narrow, Pieces};
 use acd_book::Book;
 use acd_desk::Desk;
@@ -117,12 +117,64 @@ scene no_store_fault_ends_no_lines
 200 {"invoke":1,"requester":"pbx","result":{"call":1}}
 written 2, left 0
 closed executed 3, groups 1, stations 1, failures 0, reads 1
+
+scene reads_between_requests
+> # a read sees what the lines before it did, and the lines behind it are answered as without it
+> reads 4294967295 GET /queues/100\n@group7 GET /queues/100\n@call4294967295 GET /queues/100\n5 GET /events?after=x\n50 {"requester":"pbx","invoke":2,"service":"arriveCall","caller":"0309999","called":"100"}\n5 GET /queues/100\n5 GET /nowhere
+404 {"error":{"code":35,"name":"notFound"}}
+@made
+200 {"calls":[],"group":"100","ready":[]}
+200 {"invoke":1,"requester":"pbx","result":{"call":1}}
+200 {"calls":[{"call":1,"place":2,"since":10}],"group":"100","ready":[]}
+400 {"error":{"code":30,"member":"after","name":"malformed"}}
+200 {"invoke":2,"requester":"pbx","result":{"call":2}}
+200 {"calls":[{"call":1,"place":2,"since":10},{"call":2,"place":3,"since":50}],"group":"100","ready":[]}
+404 {"error":{"code":35,"name":"notFound"}}
+> # the longest read, and one more byte
+> reads 0 GET /<4091 x>\r\n
+404 {"error":{"code":35,"name":"notFound"}}
+> reads 0 GET /<4092 x>\r\n
+@tooLarge
+> # no other line is one
+> reads 0 get /queues/100\n0 HEAD /queues/100\n0 GET\nGET /queues/100\n
+400 {"error":{"code":30,"member":"json","name":"malformed"}}
+400 {"error":{"code":30,"member":"json","name":"malformed"}}
+400 {"error":{"code":30,"member":"json","name":"malformed"}}
+@badMoment
+> lines 0 GET /queues/100\n
+400 {"error":{"code":30,"member":"json","name":"malformed"}}
+closed executed 3, groups 1, stations 0, failures 0, reads 1
+
+scene reads_behind_a_store_fault failing 5:store
+> reads @group@station9 GET /queues/100\n@call
+@made
+@storeFault
+@storeFault
+@storeFault
+closed executed 1, groups 1, stations 0, failures 1, reads 1
 "#
 }
 
 #[test]
 fn scenes_of_lines(rt: HostRuntime) {
     play(&rt, rt.alloc(), scenes());
+}
+
+// A report is one line, as a JSON text, at the moment of its line.
+#[test]
+fn report_in_a_line(rt: HostRuntime) {
+    let asked =
+        br#"0 {"requester":"plan","invoke":1,"service":"addGroup","device":"100","name":"Billing","ring":20,"wrap":30}
+10 {"requester":"pbx","invoke":1,"service":"arriveCall","caller":"0301234","called":"100"}
+15 GET /reports/queues
+"#;
+    let wanted = r#"200 {"invoke":1,"requester":"plan","result":{}}
+200 {"invoke":1,"requester":"pbx","result":{"call":1}}
+200 "group           waiting ringing    entered   answered  abandoned      moved    average    longest name\n100                   1       0          1          0          0          0          -          5 Billing\n"
+"#;
+    let mut desk = new_desk(&rt, rt.alloc());
+    let found = read_and_lined(&rt, rt.alloc(), &mut desk, asked);
+    assert_eq!(rt; found.as_str(), wanted);
 }
 
 fn three() -> &'static [u8] {

@@ -16,6 +16,7 @@
 //! | `torn` | the same, by a reader that gives one byte at a time and then fails |
 //! | `counted` | the same, and a line of how often it was written and how many bytes are left. A reading ends at `|` |
 //! | `until` | the same, until the desk has failed |
+//! | `reads` | as lines and reads, by a reader that gives one byte at a time |
 //! | `http` | as one exchange |
 //! | `json` | the same; of the reply stand the status and the JSON |
 //! | `#` | not at all: a comment, with no answer |
@@ -28,7 +29,7 @@ use crate::comparing::same;
 use crate::streams::{Narrow, Pieces};
 use acd_book::{Book, MemoryBook};
 use acd_desk::Desk;
-use acd_http::{Routes, exchange};
+use acd_http::{Routes, exchange, lines_with_reads};
 use acd_lines::{LinesFault, lines, lines_until_failed};
 use acd_terms::Limits;
 use std::alloc::Global;
@@ -168,6 +169,19 @@ fn counted<B: Book>(
     format!(in alloc; "{written}written {calls}, left {left}\n").expect(rt, "memory")
 }
 
+/// What is written to lines and the reads among them, and the fault at their end.
+pub fn read_and_lined<B: Book>(
+    rt: &impl Abort,
+    alloc: Global,
+    desk: &mut Desk<B>,
+    text: &[u8],
+) -> String {
+    let mut reader = Pieces::new(text, 1, false);
+    let mut writer = wide(alloc);
+    let ended = lines_with_reads(alloc, desk, false, &mut reader, &mut writer);
+    with_fault(rt, alloc, &writer.taken, ended)
+}
+
 /// A writer that takes all.
 pub fn wide(alloc: Global) -> Narrow {
     Narrow::new(Vec::new(alloc), usize::MAX, usize::MAX, false)
@@ -185,6 +199,7 @@ fn written<B: Book>(
     match kind {
         "counted" => counted(rt, alloc, desk, false, text),
         "until" => counted(rt, alloc, desk, true, text),
+        "reads" => read_and_lined(rt, alloc, desk, bytes),
         "torn" => lined(rt, alloc, desk, Pieces::new(bytes, 1, true), wide(alloc)),
         "lines" => {
             let reader = Pieces::new(bytes, usize::MAX, false);
@@ -250,12 +265,17 @@ fn play_exchanges<B: Book>(rt: &impl Abort, alloc: Global, desk: &mut Desk<B>, p
     }
 }
 
-/// A new desk with the greatest limits.
-pub fn new_desk(rt: &impl Abort, alloc: Global) -> Desk<MemoryBook> {
-    match Desk::open(alloc, MemoryBook::new(alloc, Limits::GREATEST)) {
+/// A desk over the book.
+pub fn desk_over<B: Book + Drop>(rt: &impl Abort, alloc: Global, book: B) -> Desk<B> {
+    match Desk::open(alloc, book) {
         Ok(desk) => desk,
         Err(_) => panic!(rt; "no desk"),
     }
+}
+
+/// A new desk with the greatest limits.
+pub fn new_desk(rt: &impl Abort, alloc: Global) -> Desk<MemoryBook> {
+    desk_over(rt, alloc, MemoryBook::new(alloc, Limits::GREATEST))
 }
 
 // A desk over the book plays the exchanges, and gives the book back.

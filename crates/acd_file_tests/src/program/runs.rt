@@ -24,6 +24,54 @@ fn lines_in_memory() -> &'static str {
 "#
 }
 
+// A read is answered by the desk that the lines before it left, and moves no moment; no other line is one.
+fn reads_in_lines() -> &'static str {
+    r#"0 acd lines --reads
+> 0 {"requester":"plan","invoke":1,"service":"addGroup","device":"100","name":"Billing","ring":20,"wrap":30}
+> 4294967295 GET /snapshot
+> 10 {"requester":"pbx","invoke":1,"service":"arriveCall","caller":"0301234","called":"100"}
+> 20 GET /calls/1
+> 15 GET /reports/queues
+> 5 GET /events?after=0
+> 5 GET /events?after=x
+> 5 GET /calls/2
+> 5 GET /nowhere
+> 5 GET /csta
+> 5 GET
+> 5 get /snapshot
+> 5 HEAD /snapshot
+> GET /snapshot
+< 200 {"invoke":1,"requester":"plan","result":{}}
+< 200 {"agents":[],"calls":[],"groups":[{"abandoned":0,"answered":0,"device":"100","entered":0,"kind":"group","moved":0,"name":"Billing","ring":20,"waited":0,"wrap":30}],"last":0,"moment":0,"monitors":[],"stations":[]}
+< 200 {"invoke":1,"requester":"pbx","result":{"call":1}}
+< 200 {"call":1,"called":"100","caller":"0301234","connections":[{"device":"100","state":"queued"},{"device":"0301234","state":"connected"}],"since":10}
+< 200 "group           waiting ringing    entered   answered  abandoned      moved    average    longest name\n100                   1       0          1          0          0          0          -          5 Billing\n"
+< 200 {"events":[{"call":1,"cause":"newCall","device":"100","event":"queued","moment":10,"number":1}],"last":1}
+< 400 {"error":{"code":30,"member":"after","name":"malformed"}}
+< 404 {"error":{"code":35,"name":"notFound"}}
+< 404 {"error":{"code":35,"name":"notFound"}}
+< 405 {"error":{"code":36,"name":"methodNotAllowed"}}
+< 400 {"error":{"code":30,"member":"json","name":"malformed"}}
+< 400 {"error":{"code":30,"member":"json","name":"malformed"}}
+< 400 {"error":{"code":30,"member":"json","name":"malformed"}}
+< 400 {"error":{"code":30,"member":"moment","name":"malformed"}}
+
+0 acd lines
+> 0 GET /snapshot
+< 400 {"error":{"code":30,"member":"json","name":"malformed"}}
+
+0 acd lines --file {file} --reads
+> 0 {"requester":"plan","invoke":1,"service":"addStation","device":"201"}
+> 0 GET /devices/201
+< 200 {"invoke":1,"requester":"plan","result":{}}
+< 200 {"connections":[],"device":"201","kind":"station"}
+
+0 acd lines --file {file} --reads --end-on-store-fault
+> 0 GET /devices/201
+< 200 {"connections":[],"device":"201","kind":"station"}
+"#
+}
+
 // Help, version and toolchain, and two refusals. Of the help of the other commands is asked that there is one.
 fn help() -> &'static str {
     r#"0 acd lines --help
@@ -33,6 +81,7 @@ fn help() -> &'static str {
 <
 < Options:
 <       --file <F>            The file of the desk
+<       --reads               Answer reads too: a moment, a space, GET, a space and a target
 <       --end-on-store-fault  End with status 1 once a storeFault was answered
 <   -h, --help                Print help
 <
@@ -57,31 +106,48 @@ fn help() -> &'static str {
 0 acd serve --help
 < Answer requests over HTTP on 127.0.0.1
 <
-< Usage: acd serve --file <F> --port <P> --connections <N>
+< Usage: acd serve --file <F> --port <P> <--connections <N>|--endless>
 <
 < Options:
 <       --file <F>         The file of the desk
 <       --port <P>         The port to listen on, from 1 to 65535
 <       --connections <N>  How many connections to serve, from 1 to 1000000
+<       --endless          Serve until the store fails, or the command is ended
 <   -h, --help             Print help
 <
 < Example:
 <   acd serve --file desk.db --port 8080 --connections 1000
 <
 < Connections are served one after the other, each with one request; behind the last one
-< the command ends. A file that isn't there, or has no bytes, is made.
+< the command ends. With --endless in the place of --connections it ends, with status 1,
+< once its store has failed. A file that isn't there, or has no bytes, is made.
 
 0 acd --version
-< acd 1.0 (rattle-kit-13f)
+< acd 1.1 (rattle-kit-13f)
 
 0 acd -V
-< acd 1.0 (rattle-kit-13f)
+< acd 1.1 (rattle-kit-13f)
 
 2 acd report
 ! error: the following required arguments were not provided:
 !   --file <F>
 !
 ! Usage: acd report --file <F>
+!
+! For more information, try '--help'.
+
+2 acd serve --file a.db --port 1 --connections 1 --endless
+! error: the argument '--connections <N>' cannot be used with '--endless'
+!
+! Usage: acd serve --file <F> --port <P> <--connections <N>|--endless>
+!
+! For more information, try '--help'.
+
+2 acd serve --file a.db --port 1
+! error: the following required arguments were not provided:
+!   <--connections <N>|--endless>
+!
+! Usage: acd serve --file <F> --port <P> <--connections <N>|--endless>
 !
 ! For more information, try '--help'.
 
@@ -98,6 +164,9 @@ fn no_databases() -> &'static str {
 ! acd: cannot open /absent/a.db
 
 1 acd serve --file /absent/a.db --port 65535 --connections 1000000
+! acd: cannot open /absent/a.db
+
+1 acd serve --file /absent/a.db --port 65535 --endless
 ! acd: cannot open /absent/a.db
 
 1 acd import --plan=/absent/p.csv --file=/absent/a.db
@@ -554,6 +623,7 @@ taken
 fn runs_of_the_program(rt: HostRuntime) {
     let scripts = [
         lines_in_memory(),
+        reads_in_lines(),
         help(),
         no_databases(),
         plans(),

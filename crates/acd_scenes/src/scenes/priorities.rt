@@ -487,6 +487,53 @@ scene groups_7_and_07: plan seven_and_zero_seven
 
 files several_groups_between_requests: plan claims a_call_in_each ana_serves_both ana_answers_claims
 
+part log_off_pending
+# An agent of two groups, of which one has priority 5, is offered a call of that one, and is to log off.
+> 0 {"device":"100","invoke":1,"name":"Billing","requester":"plan","ring":20,"service":"addGroup","wrap":30}
+< 200 {"invoke":1,"requester":"plan","result":{}}
+> 0 {"device":"110","invoke":2,"name":"Claims","requester":"plan","ring":20,"service":"addGroup","wrap":45}
+< 200 {"invoke":2,"requester":"plan","result":{}}
+> 0 {"device":"110","invoke":3,"priority":5,"requester":"plan","service":"setGroupPriority"}
+< 200 {"invoke":3,"requester":"plan","result":{}}
+> 0 {"device":"201","invoke":4,"requester":"plan","service":"addStation"}
+< 200 {"invoke":4,"requester":"plan","result":{}}
+> 0 {"agent":"7","invoke":5,"name":"Ana","requester":"plan","service":"addAgent"}
+< 200 {"invoke":5,"requester":"plan","result":{}}
+> 5 {"agent":"7","device":"201","groups":["110","100"],"invoke":1,"requested":"loggedOn","requester":"desk","service":"setAgentState"}
+< 200 {"invoke":1,"requester":"desk","result":{"state":"notReady"}}
+! {"agent":"7","device":"201","event":"agentLoggedOn","moment":5,"number":1}
+> 6 {"agent":"7","invoke":2,"requested":"ready","requester":"desk","service":"setAgentState"}
+< 200 {"invoke":2,"requester":"desk","result":{"state":"ready"}}
+! {"agent":"7","device":"201","event":"agentReady","moment":6,"number":2}
+> 10 {"called":"110","caller":"0309999","invoke":1,"requester":"pbx","service":"arriveCall"}
+< 200 {"invoke":1,"requester":"pbx","result":{"call":1}}
+! {"call":1,"cause":"newCall","device":"110","event":"queued","moment":10,"number":3}
+! {"call":1,"cause":"distributed","device":"110","event":"diverted","group":"110","moment":10,"number":4,"to":"201"}
+! {"call":1,"cause":"distributed","device":"201","event":"delivered","group":"110","moment":10,"number":5}
+> 12 {"agent":"7","invoke":3,"requested":"loggedOff","requester":"desk","service":"setAgentState"}
+< 200 {"invoke":3,"requester":"desk","result":{"pending":"loggedOff","state":"ready"}}
+
+part cleared_with_a_log_off_pending
+# The call is cleared: one commit takes out the agent's further group, and puts the group that has the priority, which counts the call.
+> 15 {"call":1,"device":"0309999","invoke":2,"requester":"pbx","service":"clearConnection"}
+< 200 {"invoke":2,"requester":"pbx","result":{}}
+! {"call":1,"device":"0309999","event":"connectionCleared","moment":15,"number":6}
+! {"call":1,"device":"201","event":"connectionCleared","moment":15,"number":7}
+! {"call":1,"event":"callCleared","group":"110","moment":15,"number":8}
+! {"agent":"7","device":"201","event":"agentLoggedOff","moment":15,"number":9}
+= agent 7 null, stamp 10, since 15
+= figures of 110: entered 1, answered 0, abandoned 1, moved 0, waited 0
+? agent 7
+. {"agent":"7","name":"Ana","since":15,"state":"null"}
+? device 110
+. {"device":"110","kind":"group","name":"Claims","priority":5,"ring":20,"wrap":45}
+
+# Over books, and over two files of which one stops at each of its calls.
+
+scene both_tables_in_one_commit: log_off_pending cleared_with_a_log_off_pending
+
+stops both_tables_in_a_commit_that_stops: log_off_pending cleared_with_a_log_off_pending
+
 part a_third_group
 # A third group, agent 7 in the two others, and agent 8 in one of these.
 > 1 {"device":"120","invoke":8,"name":"Sales","requester":"plan","ring":20,"service":"addGroup","wrap":30}

@@ -110,10 +110,67 @@ part of_ready_agents
 ? queue 100
 . {"calls":[],"group":"100","ready":["8","7"]}
 
+part of_the_empty_state
+# A desk that has executed nothing.
+? snapshot all
+. {"agents":[],"calls":[],"groups":[],"last":0,"moment":0,"monitors":[],"stations":[]}
+
+part of_all_beside_an_answered_call
+? snapshot all
+. {"agents":[{"agent":"7","device":"201","group":"100","name":"Ana","since":25,"stamp":9,"state":"busy"},{"agent":"8","name":"Ben","since":0,"stamp":5,"state":"null"}],"calls":[{"call":1,"called":"100","caller":"0301234","connections":[{"device":"201","group":"100","state":"connected"},{"device":"0301234","state":"connected"}],"since":10}],"groups":[{"abandoned":0,"answered":1,"device":"100","entered":1,"kind":"group","moved":0,"name":"Billing","ring":20,"waited":15,"wrap":30}],"last":7,"moment":25,"monitors":[],"stations":[{"agent":"7","connections":[{"call":1,"state":"connected"}],"device":"201","kind":"station"},{"connections":[],"device":"202","kind":"station"}]}
+? history 5
+. {"events":[{"call":1,"device":"201","event":"established","group":"100","moment":25,"number":6,"waited":15},{"agent":"7","device":"201","event":"agentBusy","moment":25,"number":7}],"last":7}
+
+part of_each_kind_of_record
+# Agent 7, who serves two groups and is to be logged off, holds the first call, and another has failed there. A call rings at agent 8, one waits, and a monitor runs.
+> 10 {"called":"100","caller":"0301234","invoke":1,"requester":"pbx","service":"arriveCall"}
+< 200 {"invoke":1,"requester":"pbx","result":{"call":1}}
+! {"call":1,"cause":"newCall","device":"100","event":"queued","moment":10,"number":1}
+> 15 {"agent":"7","device":"201","groups":["110","100"],"invoke":1,"requested":"loggedOn","requester":"desk","service":"setAgentState"}
+< 200 {"invoke":1,"requester":"desk","result":{"state":"notReady"}}
+! {"agent":"7","device":"201","event":"agentLoggedOn","moment":15,"number":2}
+> 18 {"agent":"7","invoke":2,"requested":"ready","requester":"desk","service":"setAgentState"}
+< 200 {"invoke":2,"requester":"desk","result":{"state":"ready"}}
+! {"agent":"7","device":"201","event":"agentReady","moment":18,"number":3}
+! {"call":1,"cause":"distributed","device":"100","event":"diverted","group":"100","moment":18,"number":4,"to":"201"}
+! {"call":1,"cause":"distributed","device":"201","event":"delivered","group":"100","moment":18,"number":5}
+> 20 {"call":1,"device":"201","invoke":3,"requester":"desk","service":"answerCall"}
+< 200 {"invoke":3,"requester":"desk","result":{}}
+! {"call":1,"device":"201","event":"established","group":"100","moment":20,"number":6,"waited":10}
+! {"agent":"7","device":"201","event":"agentBusy","moment":20,"number":7}
+> 22 {"call":1,"device":"201","invoke":4,"requester":"desk","service":"holdCall"}
+< 200 {"invoke":4,"requester":"desk","result":{}}
+! {"call":1,"device":"201","event":"held","moment":22,"number":8}
+> 23 {"agent":"7","invoke":5,"requested":"loggedOff","requester":"desk","service":"setAgentState"}
+< 200 {"invoke":5,"requester":"desk","result":{"pending":"loggedOff","state":"busy"}}
+> 24 {"called":"201","caller":"0305678","invoke":2,"requester":"pbx","service":"arriveCall"}
+< 200 {"invoke":2,"requester":"pbx","result":{"call":2}}
+! {"call":2,"cause":"busy","device":"201","event":"failed","moment":24,"number":9}
+> 25 {"device":"201","invoke":1,"requester":"sup","service":"monitorStart"}
+< 200 {"invoke":1,"requester":"sup","result":{"monitor":1}}
+> 26 {"agent":"8","device":"202","group":"110","invoke":6,"requested":"loggedOn","requester":"desk","service":"setAgentState"}
+< 200 {"invoke":6,"requester":"desk","result":{"state":"notReady"}}
+! {"agent":"8","device":"202","event":"agentLoggedOn","group":"110","moment":26,"number":10}
+> 27 {"agent":"8","invoke":7,"requested":"ready","requester":"desk","service":"setAgentState"}
+< 200 {"invoke":7,"requester":"desk","result":{"state":"ready"}}
+! {"agent":"8","device":"202","event":"agentReady","moment":27,"number":11}
+> 30 {"called":"110","caller":"0309999","invoke":3,"requester":"pbx","service":"arriveCall"}
+< 200 {"invoke":3,"requester":"pbx","result":{"call":3}}
+! {"call":3,"cause":"newCall","device":"110","event":"queued","moment":30,"number":12}
+! {"call":3,"cause":"distributed","device":"110","event":"diverted","group":"110","moment":30,"number":13,"to":"202"}
+! {"call":3,"cause":"distributed","device":"202","event":"delivered","group":"110","moment":30,"number":14}
+> 40 {"called":"100","caller":"0307777","invoke":4,"requester":"pbx","service":"arriveCall"}
+< 200 {"invoke":4,"requester":"pbx","result":{"call":4}}
+! {"call":4,"cause":"newCall","device":"100","event":"queued","moment":40,"number":15}
+? snapshot all
+. {"agents":[{"agent":"7","device":"201","groups":["100","110"],"name":"Ana","pending":"loggedOff","since":20,"stamp":11,"state":"busy"},{"agent":"8","device":"202","group":"110","name":"Ben","since":27,"stamp":17,"state":"ready"}],"calls":[{"call":1,"called":"100","caller":"0301234","connections":[{"device":"201","group":"100","state":"hold"},{"device":"0301234","state":"connected"}],"since":10},{"call":2,"called":"201","caller":"0305678","connections":[{"device":"201","state":"fail"},{"device":"0305678","state":"connected"}],"since":24},{"call":3,"called":"110","caller":"0309999","connections":[{"device":"202","group":"110","offered":30,"place":18,"queued":30,"state":"alerting"},{"device":"0309999","state":"connected"}],"since":30},{"call":4,"called":"100","caller":"0307777","connections":[{"device":"100","place":19,"queued":40,"state":"queued"},{"device":"0307777","state":"connected"}],"since":40}],"groups":[{"abandoned":0,"answered":1,"device":"100","entered":2,"kind":"group","moved":0,"name":"Billing","ring":20,"waited":10,"wrap":30},{"abandoned":0,"answered":0,"device":"110","entered":1,"kind":"group","moved":0,"name":"Claims","priority":5,"ring":20,"waited":0,"wrap":45}],"last":15,"moment":40,"monitors":[{"after":9,"device":"201","monitor":1}],"stations":[{"agent":"7","connections":[{"call":1,"state":"hold"},{"call":2,"state":"fail"}],"device":"201","kind":"station"},{"agent":"8","connections":[{"call":3,"state":"alerting"}],"device":"202","kind":"station"}]}
+
 scene what_is_told_of_calls: plan call_arrives of_a_call_that_waits ana_becomes_ready of_a_call_that_is_offered ana_answers of_a_call_that_was_answered of_a_busy_station
 scene events_of_a_monitor: plan call_arrives ana_becomes_ready ana_answers of_a_monitor
 scene head_of_queue: plan no_answer of_a_queue
 scene ready_agents_in_order: plan of_ready_agents
+scene snapshot_of_an_answered_call: of_the_empty_state plan call_arrives ana_becomes_ready ana_answers of_all_beside_an_answered_call
+scene snapshot_of_each_kind_of_record: plan claims of_each_kind_of_record
 
 # A desk over files that is closed and opened between any two requests.
 

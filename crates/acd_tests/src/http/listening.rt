@@ -1,11 +1,13 @@
 //! Connections over the loopback address.
 
 use super::{group, group_reply};
+use crate::book::FailingBook;
 use crate::comparing::same;
-use crate::player::new_desk;
-use acd_book::Book;
+use crate::player::{desk_over, new_desk};
+use acd_book::{Book, MemoryBook};
 use acd_desk::Desk;
-use acd_http::serve_on;
+use acd_http::{serve_on, serve_until_failed};
+use acd_terms::Limits;
 use std::alloc::Global;
 use std::io::{Read, Write};
 use std::net::{Ipv4Addr, Net, Shutdown, SocketAddr, TcpListener, TcpStream};
@@ -117,4 +119,31 @@ where
 #[test]
 fn next_is_served_behind_a_fault(rt: HostRuntime) {
     next_is_served(&rt, new_desk(&rt, rt.alloc()));
+}
+
+fn store_fault() -> &'static str {
+    "HTTP/1.1 503 Service Unavailable\r\nContent-Type: application/json\r\nContent-Length: 41\r\nConnection: close\r\n\r\n{\"error\":{\"code\":34,\"name\":\"storeFault\"}}"
+}
+
+// The store fails at the second of two requests, and a third one is not waited for.
+fn failure_is_the_last<R, B: Book + Drop>(rt: &R, mut desk: Desk<B>)
+where
+    R: Abort + AllocGlobal + Clock + Net<Listener = TcpListener, Stream = TcpStream>,
+{
+    let listener = listener(rt);
+    let mut first = client(rt, &listener, group(), 0);
+    let mut second = client(rt, &listener, group(), 0);
+    let mut errors = Vec::new(rt.alloc());
+    let result = serve_until_failed(rt, rt.alloc(), &listener, &mut desk, &mut errors);
+    assert!(rt; result.is_ok());
+    assert!(rt; errors.is_empty());
+    is_sent(rt, rt.alloc(), &mut first, group_reply());
+    is_sent(rt, rt.alloc(), &mut second, store_fault());
+}
+
+#[test]
+fn nothing_is_served_behind_a_store_that_failed(rt: HostRuntime) {
+    let alloc = rt.alloc();
+    let book = FailingBook::new(MemoryBook::new(alloc, Limits::GREATEST), "4:store");
+    failure_is_the_last(&rt, desk_over(&rt, alloc, book));
 }

@@ -94,6 +94,27 @@ Allow: GET, HEAD\r
 Connection: close\r
 \r
 {"error":{"code":36,"name":"methodNotAllowed"}}
+> http POST /snapshot HTTP/1.1\r\nHost: desk\r\n\r\n
+HTTP/1.1 405 Method Not Allowed\r
+Content-Type: application/json\r
+Content-Length: 47\r
+Allow: GET, HEAD\r
+Connection: close\r
+\r
+{"error":{"code":36,"name":"methodNotAllowed"}}
+> http POST /history HTTP/1.1\r\nHost: desk\r\n\r\n
+HTTP/1.1 405 Method Not Allowed\r
+Content-Type: application/json\r
+Content-Length: 47\r
+Allow: GET, HEAD\r
+Connection: close\r
+\r
+{"error":{"code":36,"name":"methodNotAllowed"}}
+> # paths that are none
+> json GET /snapshot/ HTTP/1.0\r\n\r\n
+404 Not Found: {"error":{"code":35,"name":"notFound"}}
+> json GET /history/1 HTTP/1.0\r\n\r\n
+404 Not Found: {"error":{"code":35,"name":"notFound"}}
 > # no length, and lengths before a body that isn't there
 > json POST /csta HTTP/1.1\r\nHost: desk\r\n\r\n{}
 411 Length Required: {"error":{"code":37,"name":"lengthRequired"}}
@@ -133,6 +154,8 @@ scene targets
 > json GET /events?after=%2b1 HTTP/1.0\r\nContent-Length: 5\r\n\r\n
 400 Bad Request: {"error":{"code":30,"member":"after","name":"malformed"}}
 > json GET /events?after=0000000000000001 HTTP/1.0\r\nContent-Length: 5\r\n\r\n
+400 Bad Request: {"error":{"code":30,"member":"after","name":"malformed"}}
+> json GET /history?after=x HTTP/1.0\r\nContent-Length: 5\r\n\r\n
 400 Bad Request: {"error":{"code":30,"member":"after","name":"malformed"}}
 > json GET /events?%61fter=x HTTP/1.0\r\nContent-Length: 5\r\n\r\n
 400 Bad Request: {"error":{"code":30,"member":"after","name":"malformed"}}
@@ -264,6 +287,21 @@ scene reads_along_a_call
 200 {"invoke":1,"requester":"sup","result":{"monitor":1}}
 > json GET /devices/201 HTTP/1.1\r\nHost: desk\r\n\r\n
 200 OK: {"agent":"7","connections":[{"call":1,"state":"connected"}],"device":"201","kind":"station"}
+> # all of it, with and without its body; what a query says counts for nothing
+> http GET /snapshot HTTP/1.1\r\nHost: desk\r\n\r\n
+HTTP/1.1 200 OK\r
+Content-Type: application/json\r
+Content-Length: 598\r
+Connection: close\r
+\r
+{"agents":[{"agent":"7","device":"201","group":"100","name":"Ana","since":25,"stamp":7,"state":"busy"}],"calls":[{"call":1,"called":"100","caller":"0301234","connections":[{"device":"201","group":"100","state":"connected"},{"device":"0301234","state":"connected"}],"since":10}],"groups":[{"abandoned":0,"answered":1,"device":"100","entered":1,"kind":"group","moved":0,"name":"Billing","ring":20,"waited":15,"wrap":30}],"last":7,"moment":26,"monitors":[{"after":7,"device":"201","monitor":1}],"stations":[{"agent":"7","connections":[{"call":1,"state":"connected"}],"device":"201","kind":"station"}]}
+> http HEAD /snapshot?after=x HTTP/1.1\r\nHost: desk\r\n\r\n
+HTTP/1.1 200 OK\r
+Content-Type: application/json\r
+Content-Length: 598\r
+Connection: close\r
+\r
+
 > # digits_of_a_path: a call, a monitor or an agent, in other digits than its own
 > json GET /calls/01 HTTP/1.0\r\n\r\n
 404 Not Found: {"error":{"code":35,"name":"notFound"}}
@@ -285,6 +323,8 @@ scene reads_along_a_call
 > lines 40 {"requester":"pbx","invoke":2,"service":"clearConnection","call":1,"device":"0301234"}\n
 200 {"invoke":2,"requester":"pbx","result":{}}
 > json GET /events?after=10 HTTP/1.1\r\nHost: desk\r\n\r\n
+200 OK: {"events":[{"agent":"7","device":"201","event":"agentLoggedOff","moment":40,"number":11}],"last":11}
+> json GET /history?after=10 HTTP/1.1\r\nHost: desk\r\n\r\n
 200 OK: {"events":[{"agent":"7","device":"201","event":"agentLoggedOff","moment":40,"number":11}],"last":11}
 > json GET /monitors/1/events HTTP/1.1\r\nHost: desk\r\n\r\n
 200 OK: {"events":[{"call":1,"device":"201","event":"connectionCleared","moment":40,"number":9},{"agent":"7","device":"201","event":"agentLoggedOff","moment":40,"number":11}],"last":11}

@@ -7,5 +7,5 @@ use Rattle.acd_codec.proofs.read_texts.station_text.Goals as goal
 pub returns : goal.returns
 unfolding station_text
 returns c =
-    let printed = printed_object c.in_ok-out.out c.put_station_members.new.out (station_parts c.args.station c.args.agent c.args.connections.now) c.in_ok-out.ensures c.in_ok-put_station_members.ensures in
+    let printed = printed_object c.in_ok-out.out c.put_station_members.new.out (station_parts c.args.station.now) c.in_ok-out.ensures c.in_ok-put_station_members.ensures in
     IfOk-weaker c.ended.result _ _ (λ s h. h ∙ printed) c.ended.ensures

@@ -3,4 +3,4 @@ use Rattle.acd_lines.proofs.Sends.{OnErr-weaker}
 use Rattle.acd_lines.proofs.serve.serve.Goals as goal
 
 pub returns-clause-err : goal.returns-clause-err
-returns-clause-err g c = OnErr-weaker c.push_answer.result _ _ (λ h. (answered_text c.answer-answered.result, c.answer-answered.ensures, h)) c.push_answer.ensures.err
+returns-clause-err g c = OnErr-weaker c.push_answer.result _ _ (λ h. (answered_text c.answer_line-answered.result, c.answer_line-answered.ensures, h)) c.push_answer.ensures.err

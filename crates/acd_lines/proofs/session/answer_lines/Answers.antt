@@ -1,11 +1,10 @@
 use Rattle.std.proofs.Common.{◌<◌, ◌++◌, [], length, take, drop, sym, ap, ◌∙◌, subst, arith}
 use Rattle.std.specs.Io.KnownBytes.{Consumes}
 use Rattle.std.proofs.KnownBytes.{Consumes-nil, Consumes-kept, Consumes-trans}
-use Rattle.acd_desk.specs.Ran.{standing}
-use Rattle.acd_lines.specs.Answers.{Answers}
+use Rattle.acd_lines.specs.Input.{asked}
+use Rattle.acd_lines.proofs.Kept.{by_front}
 use Rattle.acd_lines.proofs.Sends.{on_err, if_fault, other_fault}
 use Rattle.acd_lines.proofs.Turns.{chunk_read, starts, stands_same, input_ended, fed, all_done, all_first, first_done, end_stopped, feed_stopped, read_done, read_stopped, nothing_read, some_short}
-use Rattle.acd_lines.proofs.Telling.{all_told, read_told, first_told, some_told, short_told}
 use Rattle.acd_lines.specs.declared.session.LinesFault.{LinesFault}
 use Rattle.acd_lines.proofs.session.answer_lines.Goals as goal
 use Rattle.acd_lines.proofs.session.answer_lines.Goals.{in-Ok+in_ok-feed-in-Ok, in-Err+in_ok-retried-in-Err}
@@ -16,7 +15,7 @@ loop-init g c = (
   [],
   Consumes-nil _,
   c.in_ok-outbox.ensures,
-  starts (Answers (standing g.B.Book)) 4109 c.args.desk.now c.in_ok-partial.partial c.in_ok-outbox.outbox.waiting.items (g.W.Write.contents c.args.writer.now) c.in_ok-partial.ensures c.in_ok-outbox.ensures,
+  starts (asked g.A.Answering.unmarked g.A.Answering.long g.A.Answering.read) (by_front g.A.Answering.unmarked g.A.Answering.long g.A.Answering.read) g.A.Answering.answers 4109 c.args.desk.now c.in_ok-partial.partial c.in_ok-outbox.outbox.waiting.items (g.W.Write.contents c.args.writer.now) c.in_ok-partial.ensures c.in_ok-outbox.ensures,
 )
 
 pub loop-preserved : goal.loop-preserved
@@ -33,13 +32,13 @@ loop-preserved g c =
           let n = w.in-Ok.n in
           let value = ap (take n) (w.deref.ensures.value ∙ whole) in
           let step = w.in_ok-feed-in-Ok.ensures.ok c.args.desk.now seen stands.part stands.answers stands.keeps stands.reached in
-          let after = fed (Answers (standing g.B.Book)) 4109 c.args.desk.now seen (take n w.deref.result.now) c.loop.partial w.feed.new.partial c.loop.outbox.waiting.items w.feed.new.outbox.waiting.items c.loop.desk w.feed.new.desk
+          let after = fed (asked g.A.Answering.unmarked g.A.Answering.long g.A.Answering.read) (by_front g.A.Answering.unmarked g.A.Answering.long g.A.Answering.read) g.A.Answering.answers 4109 c.args.desk.now seen (take n w.deref.result.now) c.loop.partial w.feed.new.partial c.loop.outbox.waiting.items w.feed.new.outbox.waiting.items c.loop.desk w.feed.new.desk
           (g.W.Write.contents c.args.writer.now) (g.W.Write.contents c.loop.writer) (g.W.Write.contents w.feed.new.writer) stands step in (
             room,
             seen ++ take n w.deref.result.now,
             subst (λ l. Consumes (g.R.Read.remaining c.args.reader.now) (g.R.Read.remaining c.read.new.self) (seen ++ l)) (sym value) (Consumes-trans _ _ _ seen (take n buf) loop.2 w.in-Ok.ensures.bytes.0),
             ap (λ o. o.waiting.items) w.outbox-is ∙ w.in_ok-feed-in-Ok.ensures.none,
-            stands_same (Answers (standing g.B.Book)) 4109 c.args.desk.now (seen ++ take n w.deref.result.now) w.feed.new.partial c.match-read.partial [] [] w.feed.new.outbox.waiting.items c.match-read.outbox.waiting.items w.feed.new.desk c.match-read.desk
+            stands_same (asked g.A.Answering.unmarked g.A.Answering.long g.A.Answering.read) (by_front g.A.Answering.unmarked g.A.Answering.long g.A.Answering.read) g.A.Answering.answers 4109 c.args.desk.now (seen ++ take n w.deref.result.now) w.feed.new.partial c.match-read.partial [] [] w.feed.new.outbox.waiting.items c.match-read.outbox.waiting.items w.feed.new.desk c.match-read.desk
                 (g.W.Write.contents c.args.writer.now) (g.W.Write.contents w.feed.new.writer) (g.W.Write.contents c.match-read.writer) w.partial-is (ap (λ o. o.waiting.items) w.outbox-is) w.desk-is (ap g.W.Write.contents w.writer-is) after,
           )
       | in-Err+in_ok-retried-in-Err w ↦ (
@@ -47,25 +46,24 @@ loop-preserved g c =
         seen,
         Consumes-kept _ _ _ seen loop.2 w.in-Err.ensures.bytes,
         ap (λ o. o.waiting.items) w.outbox-is ∙ loop.3,
-        stands_same (Answers (standing g.B.Book)) 4109 c.args.desk.now seen c.loop.partial c.match-read.partial [] [] c.loop.outbox.waiting.items c.match-read.outbox.waiting.items c.loop.desk c.match-read.desk
+        stands_same (asked g.A.Answering.unmarked g.A.Answering.long g.A.Answering.read) (by_front g.A.Answering.unmarked g.A.Answering.long g.A.Answering.read) g.A.Answering.answers 4109 c.args.desk.now seen c.loop.partial c.match-read.partial [] [] c.loop.outbox.waiting.items c.match-read.outbox.waiting.items c.loop.desk c.match-read.desk
             (g.W.Write.contents c.args.writer.now) (g.W.Write.contents c.loop.writer) (g.W.Write.contents c.match-read.writer) w.partial-is (ap (λ o. o.waiting.items) w.outbox-is) w.desk-is (ap g.W.Write.contents w.writer-is) stands,
       )
     ]
 
 pub returns-in_err-chunk-clause-stopped : goal.returns-in_err-chunk-clause-stopped
-returns-in_err-chunk-clause-stopped g c = on_err _ _ (some_told (standing g.B.Book) (λ d x clean sound opened stop. g.met.B.Book.settled d.book x clean sound opened stop) (g.R.Read.remaining c.args.reader.now) c.args.desk.now c.args.desk.now (g.W.Write.contents c.args.writer.now) (g.W.Write.contents c.args.writer.now) (nothing_read (Answers (standing g.B.Book)) c.args.desk.now (g.R.Read.remaining c.args.reader.now) (g.W.Write.contents c.args.writer.now)))
+returns-in_err-chunk-clause-stopped g c = on_err _ _ (nothing_read (asked g.A.Answering.unmarked g.A.Answering.long g.A.Answering.read) (by_front g.A.Answering.unmarked g.A.Answering.long g.A.Answering.read) g.A.Answering.answers c.args.desk.now (g.R.Read.remaining c.args.reader.now) (g.W.Write.contents c.args.writer.now))
 
 pub returns-in_err-partial-clause-stopped : goal.returns-in_err-partial-clause-stopped
-returns-in_err-partial-clause-stopped g c = on_err _ _ (some_told (standing g.B.Book) (λ d x clean sound opened stop. g.met.B.Book.settled d.book x clean sound opened stop) (g.R.Read.remaining c.args.reader.now) c.args.desk.now c.args.desk.now (g.W.Write.contents c.args.writer.now) (g.W.Write.contents c.args.writer.now) (nothing_read (Answers (standing g.B.Book)) c.args.desk.now (g.R.Read.remaining c.args.reader.now) (g.W.Write.contents c.args.writer.now)))
+returns-in_err-partial-clause-stopped g c = on_err _ _ (nothing_read (asked g.A.Answering.unmarked g.A.Answering.long g.A.Answering.read) (by_front g.A.Answering.unmarked g.A.Answering.long g.A.Answering.read) g.A.Answering.answers c.args.desk.now (g.R.Read.remaining c.args.reader.now) (g.W.Write.contents c.args.writer.now))
 
 pub returns-in_err-outbox-clause-stopped : goal.returns-in_err-outbox-clause-stopped
-returns-in_err-outbox-clause-stopped g c = on_err _ _ (some_told (standing g.B.Book) (λ d x clean sound opened stop. g.met.B.Book.settled d.book x clean sound opened stop) (g.R.Read.remaining c.args.reader.now) c.args.desk.now c.args.desk.now (g.W.Write.contents c.args.writer.now) (g.W.Write.contents c.args.writer.now) (nothing_read (Answers (standing g.B.Book)) c.args.desk.now (g.R.Read.remaining c.args.reader.now) (g.W.Write.contents c.args.writer.now)))
+returns-in_err-outbox-clause-stopped g c = on_err _ _ (nothing_read (asked g.A.Answering.unmarked g.A.Answering.long g.A.Answering.read) (by_front g.A.Answering.unmarked g.A.Answering.long g.A.Answering.read) g.A.Answering.answers c.args.desk.now (g.R.Read.remaining c.args.reader.now) (g.W.Write.contents c.args.writer.now))
 
 pub returns-then-has_failed-clause-first : goal.returns-then-has_failed-clause-first
 returns-then-has_failed-clause-first g c =
     let loop = c.loop.invariant in
-    first_told (standing g.B.Book) (λ d x clean sound opened stop. g.met.B.Book.settled d.book x clean sound opened stop) (g.R.Read.remaining c.args.reader.now) c.args.desk.now c.loop.desk (g.W.Write.contents c.args.writer.now) (g.W.Write.contents c.loop.writer)
-    (first_done (Answers (standing g.B.Book)) 4109 c.args.desk.now loop.1 c.loop.partial c.loop.outbox.waiting.items c.loop.desk (g.W.Write.contents c.args.writer.now) (g.W.Write.contents c.loop.writer) (g.R.Read.remaining c.args.reader.now) (g.R.Read.remaining c.loop.reader) loop.4 loop.3 loop.2)
+    (first_done (asked g.A.Answering.unmarked g.A.Answering.long g.A.Answering.read) (by_front g.A.Answering.unmarked g.A.Answering.long g.A.Answering.read) g.A.Answering.answers 4109 c.args.desk.now loop.1 c.loop.partial c.loop.outbox.waiting.items c.loop.desk (g.W.Write.contents c.args.writer.now) (g.W.Write.contents c.loop.writer) (g.R.Read.remaining c.args.reader.now) (g.R.Read.remaining c.loop.reader) loop.4 loop.3 loop.2)
 
 pub returns-in-Ok-eq0-clause-ok : goal.returns-in-Ok-eq0-clause-ok
 returns-in-Ok-eq0-clause-ok g c = λ _.
@@ -76,8 +74,7 @@ returns-in-Ok-eq0-clause-ok g c = λ _.
     let size = c.read.auto.buf ∙ ap length c.as_mut_slice.ensures.value in
     let input = input_ended (g.R.Read.remaining c.args.reader.now) (g.R.Read.remaining c.loop.reader) (g.R.Read.remaining c.read.new.self) seen c.read.new.buf c.in-Ok-eq0.field-0 loop.2 bytes.0 c.in-Ok-eq0.field-0-test (bytes.1 c.in-Ok-eq0.field-0-test (omega (arith, size, loop.0))) in
     let done = c.in_ok-finish-in-Ok-eq0.ensures.ok c.args.desk.now seen stands.part stands.answers stands.keeps stands.reached in
-    all_told (standing g.B.Book) (λ d x clean sound opened stop. g.met.B.Book.settled d.book x clean sound opened stop) (g.R.Read.remaining c.args.reader.now) c.args.desk.now c.finish.new.desk (g.W.Write.contents c.args.writer.now) (g.W.Write.contents c.finish.new.writer)
-    (all_done (Answers (standing g.B.Book)) 4109 c.args.desk.now seen c.loop.partial c.loop.outbox.waiting.items c.loop.desk c.finish.new.desk (g.W.Write.contents c.args.writer.now) (g.W.Write.contents c.loop.writer) (g.W.Write.contents c.finish.new.writer) (g.R.Read.remaining c.args.reader.now) stands input done)
+    (all_done (asked g.A.Answering.unmarked g.A.Answering.long g.A.Answering.read) (by_front g.A.Answering.unmarked g.A.Answering.long g.A.Answering.read) g.A.Answering.answers 4109 c.args.desk.now seen c.loop.partial c.loop.outbox.waiting.items c.loop.desk c.finish.new.desk (g.W.Write.contents c.args.writer.now) (g.W.Write.contents c.loop.writer) (g.W.Write.contents c.finish.new.writer) (g.R.Read.remaining c.args.reader.now) stands input done)
 
 pub returns-in-Ok-eq0-clause-first : goal.returns-in-Ok-eq0-clause-first
 returns-in-Ok-eq0-clause-first g c =
@@ -88,9 +85,8 @@ returns-in-Ok-eq0-clause-first g c =
     let size = c.read.auto.buf ∙ ap length c.as_mut_slice.ensures.value in
     let input = input_ended (g.R.Read.remaining c.args.reader.now) (g.R.Read.remaining c.loop.reader) (g.R.Read.remaining c.read.new.self) seen c.read.new.buf c.in-Ok-eq0.field-0 loop.2 bytes.0 c.in-Ok-eq0.field-0-test (bytes.1 c.in-Ok-eq0.field-0-test (omega (arith, size, loop.0))) in
     let done = c.in_ok-finish-in-Ok-eq0.ensures.ok c.args.desk.now seen stands.part stands.answers stands.keeps stands.reached in
-    first_told (standing g.B.Book) (λ d x clean sound opened stop. g.met.B.Book.settled d.book x clean sound opened stop) (g.R.Read.remaining c.args.reader.now) c.args.desk.now c.finish.new.desk (g.W.Write.contents c.args.writer.now) (g.W.Write.contents c.finish.new.writer)
-    (all_first (Answers (standing g.B.Book)) (g.R.Read.remaining c.args.reader.now) c.args.desk.now c.finish.new.desk (g.W.Write.contents c.args.writer.now) (g.W.Write.contents c.finish.new.writer)
-    (all_done (Answers (standing g.B.Book)) 4109 c.args.desk.now seen c.loop.partial c.loop.outbox.waiting.items c.loop.desk c.finish.new.desk (g.W.Write.contents c.args.writer.now) (g.W.Write.contents c.loop.writer) (g.W.Write.contents c.finish.new.writer) (g.R.Read.remaining c.args.reader.now) stands input done))
+    (all_first (asked g.A.Answering.unmarked g.A.Answering.long g.A.Answering.read) (by_front g.A.Answering.unmarked g.A.Answering.long g.A.Answering.read) g.A.Answering.answers (g.R.Read.remaining c.args.reader.now) c.args.desk.now c.finish.new.desk (g.W.Write.contents c.args.writer.now) (g.W.Write.contents c.finish.new.writer)
+    (all_done (asked g.A.Answering.unmarked g.A.Answering.long g.A.Answering.read) (by_front g.A.Answering.unmarked g.A.Answering.long g.A.Answering.read) g.A.Answering.answers 4109 c.args.desk.now seen c.loop.partial c.loop.outbox.waiting.items c.loop.desk c.finish.new.desk (g.W.Write.contents c.args.writer.now) (g.W.Write.contents c.loop.writer) (g.W.Write.contents c.finish.new.writer) (g.R.Read.remaining c.args.reader.now) stands input done))
 
 pub returns-in_err-finish-in-Ok-eq0-clause-stopped : goal.returns-in_err-finish-in-Ok-eq0-clause-stopped
 returns-in_err-finish-in-Ok-eq0-clause-stopped g c =
@@ -101,9 +97,8 @@ returns-in_err-finish-in-Ok-eq0-clause-stopped g c =
     let size = c.read.auto.buf ∙ ap length c.as_mut_slice.ensures.value in
     let input = input_ended (g.R.Read.remaining c.args.reader.now) (g.R.Read.remaining c.loop.reader) (g.R.Read.remaining c.read.new.self) seen c.read.new.buf c.in-Ok-eq0.field-0 loop.2 bytes.0 c.in-Ok-eq0.field-0-test (bytes.1 c.in-Ok-eq0.field-0-test (omega (arith, size, loop.0))) in
     let done = c.in_err-finish-in-Ok-eq0.ensures.err c.args.desk.now seen stands.part stands.answers stands.keeps stands.reached in
-    on_err _ _ (some_told (standing g.B.Book) (λ d x clean sound opened stop. g.met.B.Book.settled d.book x clean sound opened stop) (g.R.Read.remaining c.args.reader.now) c.args.desk.now c.finish.new.desk (g.W.Write.contents c.args.writer.now) (g.W.Write.contents c.finish.new.writer)
-    (some_short (Answers (standing g.B.Book)) (g.R.Read.remaining c.args.reader.now) c.args.desk.now c.finish.new.desk (g.W.Write.contents c.args.writer.now) (g.W.Write.contents c.finish.new.writer)
-    (end_stopped (Answers (standing g.B.Book)) 4109 c.args.desk.now seen c.loop.partial c.loop.outbox.waiting.items c.loop.desk c.finish.new.desk (g.W.Write.contents c.args.writer.now) (g.W.Write.contents c.loop.writer) (g.W.Write.contents c.finish.new.writer) (g.R.Read.remaining c.args.reader.now) stands input done)))
+    on_err _ _ (some_short (asked g.A.Answering.unmarked g.A.Answering.long g.A.Answering.read) (by_front g.A.Answering.unmarked g.A.Answering.long g.A.Answering.read) g.A.Answering.answers (g.R.Read.remaining c.args.reader.now) c.args.desk.now c.finish.new.desk (g.W.Write.contents c.args.writer.now) (g.W.Write.contents c.finish.new.writer)
+    (end_stopped (asked g.A.Answering.unmarked g.A.Answering.long g.A.Answering.read) (by_front g.A.Answering.unmarked g.A.Answering.long g.A.Answering.read) g.A.Answering.answers 4109 c.args.desk.now seen c.loop.partial c.loop.outbox.waiting.items c.loop.desk c.finish.new.desk (g.W.Write.contents c.args.writer.now) (g.W.Write.contents c.loop.writer) (g.W.Write.contents c.finish.new.writer) (g.R.Read.remaining c.args.reader.now) stands input done))
 
 pub returns-in_err-finish-in-Ok-eq0-clause-write : goal.returns-in_err-finish-in-Ok-eq0-clause-write
 returns-in_err-finish-in-Ok-eq0-clause-write g c =
@@ -114,8 +109,7 @@ returns-in_err-finish-in-Ok-eq0-clause-write g c =
     let size = c.read.auto.buf ∙ ap length c.as_mut_slice.ensures.value in
     let input = input_ended (g.R.Read.remaining c.args.reader.now) (g.R.Read.remaining c.loop.reader) (g.R.Read.remaining c.read.new.self) seen c.read.new.buf c.in-Ok-eq0.field-0 loop.2 bytes.0 c.in-Ok-eq0.field-0-test (bytes.1 c.in-Ok-eq0.field-0-test (omega (arith, size, loop.0))) in
     let done = c.in_err-finish-in-Ok-eq0.ensures.err c.args.desk.now seen stands.part stands.answers stands.keeps stands.reached in
-    if_fault _ _ _ (short_told (standing g.B.Book) (λ d x clean sound opened stop. g.met.B.Book.settled d.book x clean sound opened stop) (g.R.Read.remaining c.args.reader.now) c.args.desk.now c.finish.new.desk (g.W.Write.contents c.args.writer.now) (g.W.Write.contents c.finish.new.writer)
-    (end_stopped (Answers (standing g.B.Book)) 4109 c.args.desk.now seen c.loop.partial c.loop.outbox.waiting.items c.loop.desk c.finish.new.desk (g.W.Write.contents c.args.writer.now) (g.W.Write.contents c.loop.writer) (g.W.Write.contents c.finish.new.writer) (g.R.Read.remaining c.args.reader.now) stands input done))
+    if_fault _ _ _ (end_stopped (asked g.A.Answering.unmarked g.A.Answering.long g.A.Answering.read) (by_front g.A.Answering.unmarked g.A.Answering.long g.A.Answering.read) g.A.Answering.answers 4109 c.args.desk.now seen c.loop.partial c.loop.outbox.waiting.items c.loop.desk c.finish.new.desk (g.W.Write.contents c.args.writer.now) (g.W.Write.contents c.loop.writer) (g.W.Write.contents c.finish.new.writer) (g.R.Read.remaining c.args.reader.now) stands input done)
 
 pub returns-in_err-feed-in-Ok-clause-stopped : goal.returns-in_err-feed-in-Ok-clause-stopped
 returns-in_err-feed-in-Ok-clause-stopped g c =
@@ -127,9 +121,8 @@ returns-in_err-feed-in-Ok-clause-stopped g c =
     let value = ap (take n) (c.deref.ensures.value ∙ chunk_read c.loop.chunk.items c.read.new.buf c.loop.chunk.len size c.loop.chunk.ok.0) in
     let taken = subst (λ l. Consumes (g.R.Read.remaining c.args.reader.now) (g.R.Read.remaining c.read.new.self) (seen ++ l)) (sym value) (Consumes-trans _ _ _ seen (take n c.read.new.buf) loop.2 c.in-Ok.ensures.bytes.0) in
     let stopped = c.in_err-feed-in-Ok.ensures.err c.args.desk.now seen stands.part stands.answers stands.keeps stands.reached in
-    on_err _ _ (some_told (standing g.B.Book) (λ d x clean sound opened stop. g.met.B.Book.settled d.book x clean sound opened stop) (g.R.Read.remaining c.args.reader.now) c.args.desk.now c.feed.new.desk (g.W.Write.contents c.args.writer.now) (g.W.Write.contents c.feed.new.writer)
-    (some_short (Answers (standing g.B.Book)) (g.R.Read.remaining c.args.reader.now) c.args.desk.now c.feed.new.desk (g.W.Write.contents c.args.writer.now) (g.W.Write.contents c.feed.new.writer)
-    (feed_stopped (Answers (standing g.B.Book)) 4109 c.args.desk.now seen (take n c.deref.result.now) c.loop.partial c.loop.outbox.waiting.items c.loop.desk c.feed.new.desk (g.W.Write.contents c.args.writer.now) (g.W.Write.contents c.loop.writer) (g.W.Write.contents c.feed.new.writer) (g.R.Read.remaining c.args.reader.now) (g.R.Read.remaining c.read.new.self) stands taken stopped)))
+    on_err _ _ (some_short (asked g.A.Answering.unmarked g.A.Answering.long g.A.Answering.read) (by_front g.A.Answering.unmarked g.A.Answering.long g.A.Answering.read) g.A.Answering.answers (g.R.Read.remaining c.args.reader.now) c.args.desk.now c.feed.new.desk (g.W.Write.contents c.args.writer.now) (g.W.Write.contents c.feed.new.writer)
+    (feed_stopped (asked g.A.Answering.unmarked g.A.Answering.long g.A.Answering.read) (by_front g.A.Answering.unmarked g.A.Answering.long g.A.Answering.read) g.A.Answering.answers 4109 c.args.desk.now seen (take n c.deref.result.now) c.loop.partial c.loop.outbox.waiting.items c.loop.desk c.feed.new.desk (g.W.Write.contents c.args.writer.now) (g.W.Write.contents c.loop.writer) (g.W.Write.contents c.feed.new.writer) (g.R.Read.remaining c.args.reader.now) (g.R.Read.remaining c.read.new.self) stands taken stopped))
 
 pub returns-in_err-feed-in-Ok-clause-write : goal.returns-in_err-feed-in-Ok-clause-write
 returns-in_err-feed-in-Ok-clause-write g c =
@@ -141,32 +134,27 @@ returns-in_err-feed-in-Ok-clause-write g c =
     let value = ap (take n) (c.deref.ensures.value ∙ chunk_read c.loop.chunk.items c.read.new.buf c.loop.chunk.len size c.loop.chunk.ok.0) in
     let taken = subst (λ l. Consumes (g.R.Read.remaining c.args.reader.now) (g.R.Read.remaining c.read.new.self) (seen ++ l)) (sym value) (Consumes-trans _ _ _ seen (take n c.read.new.buf) loop.2 c.in-Ok.ensures.bytes.0) in
     let stopped = c.in_err-feed-in-Ok.ensures.err c.args.desk.now seen stands.part stands.answers stands.keeps stands.reached in
-    if_fault _ _ _ (short_told (standing g.B.Book) (λ d x clean sound opened stop. g.met.B.Book.settled d.book x clean sound opened stop) (g.R.Read.remaining c.args.reader.now) c.args.desk.now c.feed.new.desk (g.W.Write.contents c.args.writer.now) (g.W.Write.contents c.feed.new.writer)
-    (feed_stopped (Answers (standing g.B.Book)) 4109 c.args.desk.now seen (take n c.deref.result.now) c.loop.partial c.loop.outbox.waiting.items c.loop.desk c.feed.new.desk (g.W.Write.contents c.args.writer.now) (g.W.Write.contents c.loop.writer) (g.W.Write.contents c.feed.new.writer) (g.R.Read.remaining c.args.reader.now) (g.R.Read.remaining c.read.new.self) stands taken stopped))
+    if_fault _ _ _ (feed_stopped (asked g.A.Answering.unmarked g.A.Answering.long g.A.Answering.read) (by_front g.A.Answering.unmarked g.A.Answering.long g.A.Answering.read) g.A.Answering.answers 4109 c.args.desk.now seen (take n c.deref.result.now) c.loop.partial c.loop.outbox.waiting.items c.loop.desk c.feed.new.desk (g.W.Write.contents c.args.writer.now) (g.W.Write.contents c.loop.writer) (g.W.Write.contents c.feed.new.writer) (g.R.Read.remaining c.args.reader.now) (g.R.Read.remaining c.read.new.self) stands taken stopped)
 
 pub returns-in_err-retried-in-Err-clause-stopped : goal.returns-in_err-retried-in-Err-clause-stopped
 returns-in_err-retried-in-Err-clause-stopped g c =
     let loop = c.loop.invariant in
-    on_err _ _ (some_told (standing g.B.Book) (λ d x clean sound opened stop. g.met.B.Book.settled d.book x clean sound opened stop) (g.R.Read.remaining c.args.reader.now) c.args.desk.now c.loop.desk (g.W.Write.contents c.args.writer.now) (g.W.Write.contents c.loop.writer)
-    (read_stopped (Answers (standing g.B.Book)) 4109 c.args.desk.now loop.1 c.loop.partial c.loop.outbox.waiting.items c.loop.desk (g.W.Write.contents c.args.writer.now) (g.W.Write.contents c.loop.writer) (g.R.Read.remaining c.args.reader.now) (g.R.Read.remaining c.loop.reader) loop.4 loop.2))
+    on_err _ _ (read_stopped (asked g.A.Answering.unmarked g.A.Answering.long g.A.Answering.read) (by_front g.A.Answering.unmarked g.A.Answering.long g.A.Answering.read) g.A.Answering.answers 4109 c.args.desk.now loop.1 c.loop.partial c.loop.outbox.waiting.items c.loop.desk (g.W.Write.contents c.args.writer.now) (g.W.Write.contents c.loop.writer) (g.R.Read.remaining c.args.reader.now) (g.R.Read.remaining c.loop.reader) loop.4 loop.2)
 
 pub returns-clause-stopped : goal.returns-clause-stopped
 returns-clause-stopped g c =
     let loop = c.loop.invariant in
-    some_told (standing g.B.Book) (λ d x clean sound opened stop. g.met.B.Book.settled d.book x clean sound opened stop) (g.R.Read.remaining c.args.reader.now) c.args.desk.now c.loop.desk (g.W.Write.contents c.args.writer.now) (g.W.Write.contents c.loop.writer)
-    (read_stopped (Answers (standing g.B.Book)) 4109 c.args.desk.now loop.1 c.loop.partial c.loop.outbox.waiting.items c.loop.desk (g.W.Write.contents c.args.writer.now) (g.W.Write.contents c.loop.writer) (g.R.Read.remaining c.args.reader.now) (g.R.Read.remaining c.loop.reader) loop.4 loop.2)
+    (read_stopped (asked g.A.Answering.unmarked g.A.Answering.long g.A.Answering.read) (by_front g.A.Answering.unmarked g.A.Answering.long g.A.Answering.read) g.A.Answering.answers 4109 c.args.desk.now loop.1 c.loop.partial c.loop.outbox.waiting.items c.loop.desk (g.W.Write.contents c.args.writer.now) (g.W.Write.contents c.loop.writer) (g.R.Read.remaining c.args.reader.now) (g.R.Read.remaining c.loop.reader) loop.4 loop.2)
 
 pub returns-in_err-retried-in-Err-clause-read : goal.returns-in_err-retried-in-Err-clause-read
 returns-in_err-retried-in-Err-clause-read g c =
     let loop = c.loop.invariant in
-    if_fault _ _ _ (read_told (standing g.B.Book) (λ d x clean sound opened stop. g.met.B.Book.settled d.book x clean sound opened stop) (g.R.Read.remaining c.args.reader.now) (g.R.Read.remaining c.read.new.self) c.args.desk.now c.loop.desk (g.W.Write.contents c.args.writer.now) (g.W.Write.contents c.loop.writer)
-    (read_done (Answers (standing g.B.Book)) 4109 c.args.desk.now loop.1 c.loop.partial c.loop.outbox.waiting.items c.loop.desk (g.W.Write.contents c.args.writer.now) (g.W.Write.contents c.loop.writer) (g.R.Read.remaining c.args.reader.now) (g.R.Read.remaining c.read.new.self) loop.4 loop.3 (Consumes-kept _ _ _ loop.1 loop.2 c.in-Err.ensures.bytes)))
+    if_fault _ _ _ (read_done (asked g.A.Answering.unmarked g.A.Answering.long g.A.Answering.read) (by_front g.A.Answering.unmarked g.A.Answering.long g.A.Answering.read) g.A.Answering.answers 4109 c.args.desk.now loop.1 c.loop.partial c.loop.outbox.waiting.items c.loop.desk (g.W.Write.contents c.args.writer.now) (g.W.Write.contents c.loop.writer) (g.R.Read.remaining c.args.reader.now) (g.R.Read.remaining c.read.new.self) loop.4 loop.3 (Consumes-kept _ _ _ loop.1 loop.2 c.in-Err.ensures.bytes))
 
 pub returns-clause-read : goal.returns-clause-read
 returns-clause-read g c = λ _.
     let loop = c.loop.invariant in
-    read_told (standing g.B.Book) (λ d x clean sound opened stop. g.met.B.Book.settled d.book x clean sound opened stop) (g.R.Read.remaining c.args.reader.now) (g.R.Read.remaining c.loop.reader) c.args.desk.now c.loop.desk (g.W.Write.contents c.args.writer.now) (g.W.Write.contents c.loop.writer)
-    (read_done (Answers (standing g.B.Book)) 4109 c.args.desk.now loop.1 c.loop.partial c.loop.outbox.waiting.items c.loop.desk (g.W.Write.contents c.args.writer.now) (g.W.Write.contents c.loop.writer) (g.R.Read.remaining c.args.reader.now) (g.R.Read.remaining c.loop.reader) loop.4 loop.3 loop.2)
+    (read_done (asked g.A.Answering.unmarked g.A.Answering.long g.A.Answering.read) (by_front g.A.Answering.unmarked g.A.Answering.long g.A.Answering.read) g.A.Answering.answers 4109 c.args.desk.now loop.1 c.loop.partial c.loop.outbox.waiting.items c.loop.desk (g.W.Write.contents c.args.writer.now) (g.W.Write.contents c.loop.writer) (g.R.Read.remaining c.args.reader.now) (g.R.Read.remaining c.loop.reader) loop.4 loop.3 loop.2)
 
 pub returns-in_err-retried-in-Err-clause-write : goal.returns-in_err-retried-in-Err-clause-write
 returns-in_err-retried-in-Err-clause-write g c =

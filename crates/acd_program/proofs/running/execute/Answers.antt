@@ -2,12 +2,18 @@ use Rattle.std.proofs.Common.{refl, inr}
 use Rattle.sqlite_std_file.specs.File.{IsFresh}
 use Rattle.acd_program.proofs.Tasks.{lines_task, read_task}
 use Rattle.acd_program.proofs.Served.{file_tells, serve_task}
+use Rattle.acd_program.proofs.ReadsAnswered.{reading_task}
 use Rattle.acd_program.proofs.running.execute.Goals as goal
 
 pub returns-in-Lines-clause-done : goal.returns-in-Lines-clause-done
 returns-in-Lines-clause-done g c =
     lines_task _ IsFresh c.answer_lines.result c.args.task (g.R.Read.remaining c.args.reader.now) (g.W.Write.contents c.args.writer.now) _ _ _
     c.in-Lines.file c.in-Lines.ends_on_store_fault c.in-Lines.is c.answer_lines.ensures.done
+
+pub returns-in-ReadingLines-clause-done : goal.returns-in-ReadingLines-clause-done
+returns-in-ReadingLines-clause-done g c =
+    reading_task _ IsFresh c.answer_reading_lines.result c.args.task (g.R.Read.remaining c.args.reader.now) (g.W.Write.contents c.args.writer.now) _ _ _
+    c.in-ReadingLines.file c.in-ReadingLines.ends_on_store_fault c.in-ReadingLines.is c.answer_reading_lines.ensures.done
 
 pub returns-in_ok-serve_file-in-Serve-clause-done : goal.returns-in_ok-serve_file-in-Serve-clause-done
 returns-in_ok-serve_file-in-Serve-clause-done g c =

@@ -4,7 +4,7 @@ use Rattle.acd_desk.specs.Standing.{standing}
 use Rattle.acd_lines.specs.Sent.{Begins}
 use Rattle.acd_http.specs.Listening.{ServedAll}
 use Rattle.acd_program.proofs.Served.{begins_all}
-use Rattle.acd_program.proofs.serving.answer.Goals as goal
+use Rattle.acd_program.proofs.serving.answer_some.Goals as goal
 
 pub returns-in-Ok : goal.returns-in-Ok
 returns-in-Ok g c =

@@ -1,0 +1,163 @@
+// Follows a desk: a snapshot to begin with, then each second the events behind it; goes on by itself after a loss, and begins anew where another file is in its place.
+// @ts-check
+import {refusal} from './words.js';
+
+/** @typedef {import('./types').Report} Report */
+/** @typedef {import('./types').Snapshot} Snapshot */
+/** @typedef {{kind:'begins'} | {kind:'live'} | {kind:'lost', why:string} | {kind:'anew'}} Told */
+
+const EVERY = 1000, PATIENCE = 10000, FULL = 1000, SEVERAL = 6;
+
+/**
+ * A request of a desk. The server's clock less this one's, in milliseconds, is told on the way.
+ * @param {string} address
+ * @param {(offset:number) => void} [clock]
+ */
+export async function read(address, clock) {
+  const giving = new AbortController(), timer = setTimeout(() => giving.abort(), PATIENCE);
+  try {
+    const reply = await fetch(address, {signal: giving.signal, cache: 'no-store'});
+    const date = reply.headers.get('date');
+    if (date && clock) clock(Date.parse(date) + 500 - Date.now());
+    if (!reply.ok) throw Object.assign(new Error(refusal(reply.status, await reply.text())), {status: reply.status});
+    return await reply.json();
+  } catch (error) {
+    throw giving.signal.aborted ? new Error('no answer') : error;
+  } finally { clearTimeout(timer); }
+}
+
+export class Feed {
+  /**
+   * @param {string} base the desk's address
+   * @param {number} renew after how many milliseconds a snapshot is read anew, for what no event tells
+   * @param {{begin:(snapshot:Snapshot) => void, take:(events:Report[]) => void, tell:(told:Told) => void, clock:(offset:number) => void, unknown:() => Iterable<string>, learn:(agent:any) => void}} owner
+   */
+  constructor(base, renew, owner) {
+    this.base = base;
+    this.renew = renew;
+    this.owner = owner;
+    this.last = 0;
+    this.begun = false;
+    this.renewed = 0;
+    // the last event as it was read: another one in its place is another desk's
+    this.seen = '';
+    this.losses = 0;
+    this.wake = () => {};
+  }
+
+  /** @param {string} path */
+  get(path) { return read(this.base + path, this.owner.clock); }
+
+  async run() {
+    for (;;) {
+      try {
+        if (!this.begun || Date.now() - this.renewed > this.renew) await this.takeSnapshot();
+        const more = this.begun && await this.poll();
+        if (this.begun) {
+          this.losses = 0;
+          this.owner.tell({kind: 'live'});
+        }
+        if (!more) await this.wait(this.begun ? EVERY : 0);
+      } catch (error) {
+        this.losses++;
+        this.owner.tell({kind: 'lost', why: error instanceof TypeError ? 'the server cannot be reached' : error instanceof Error ? error.message : String(error)});
+        await this.wait(Math.min(PATIENCE / 2, EVERY * 2 ** (this.losses - 1)) * (0.75 + Math.random() / 2));
+      }
+    }
+  }
+
+  async takeSnapshot() {
+    const snapshot = /** @type {Snapshot} */ (await this.get('/snapshot'));
+    if (this.begun && snapshot.last < this.last) return this.forget();
+    if (!this.begun) this.last = snapshot.last;
+    this.begun = true;
+    this.renewed = Date.now();
+    this.owner.begin(snapshot);
+  }
+
+  forget() {
+    this.begun = false;
+    this.last = 0;
+    this.seen = '';
+    this.owner.tell({kind: 'anew'});
+  }
+
+  /** The events behind the last one, and that one again. True where there may be more. */
+  async poll() {
+    const {events, last} = /** @type {import('./types').Page} */ (await this.get(`/history?after=${Math.max(0, this.last - 1)}`));
+    if (this.last > 0) {
+      const again = JSON.stringify(events.shift());
+      if (last < this.last || (this.seen && again !== this.seen)) {
+        this.forget();
+        return true;
+      }
+      this.seen = again;
+    }
+    if (events.length) {
+      this.last = events[events.length - 1].number;
+      this.seen = JSON.stringify(events[events.length - 1]);
+      this.owner.take(events);
+    }
+    await this.ask();
+    return last > this.last;
+  }
+
+  /** Reads the agents who logged on in several groups. */
+  async ask() {
+    for (const agent of [...this.owner.unknown()]) {
+      try { this.owner.learn(await this.get(`/agents/${agent}`)); } catch (error) { if (/** @type {any} */ (error).status !== 404) throw error; }
+    }
+  }
+
+  /** @param {number} milliseconds */
+  wait(milliseconds) {
+    return new Promise(done => {
+      const timer = setTimeout(done, milliseconds);
+      this.wake = () => { clearTimeout(timer); done(undefined); };   // a page that comes to the front asks at once
+    });
+  }
+}
+
+/**
+ * The number of the last event before a moment, found by halving.
+ * @param {string} base
+ * @param {number} last
+ * @param {number} moment
+ */
+export async function lastBefore(base, last, moment) {
+  let low = 0, high = last;
+  while (low < high) {
+    const middle = Math.floor((low + high) / 2);
+    const {events} = /** @type {import('./types').Page} */ (await read(`${base}/events?after=${middle}`));
+    const first = events.findIndex(event => event.moment >= moment);
+    if (first < 0 && events.length) low = events[events.length - 1].number;
+    else if (first === 0 || !events.length) high = middle;
+    else return middle + first;
+  }
+  return low;
+}
+
+/**
+ * All events behind one, in their order and a page at a time, several pages being asked for at once; up to the last that there is by then.
+ * @param {string} base
+ * @param {number} after
+ * @param {number} last
+ * @param {(events:Report[]) => boolean} take says whether to go on
+ */
+export async function history(base, after, last, take) {
+  /** @type {Promise<import('./types').Page>[]} */ const asked = [];
+  let next = after;
+  const ask = () => {
+    if (next >= last) return;
+    const page = read(`${base}/history?after=${next}`);
+    page.catch(() => {});   // told where it is awaited
+    asked.push(page);
+    next += FULL;
+  };
+  for (let stream = 0; stream < SEVERAL; stream++) ask();
+  for (let page = asked.shift(); page; page = asked.shift()) {
+    const {events} = await page;
+    ask();
+    if (!take(events)) return;
+  }
+}

@@ -1,0 +1,72 @@
+// A chart of bars that stand on each other, or of lines, over the steps of a day.
+// @ts-check
+import {make} from '../draw.js';
+import {timeOfDay} from '../words.js';
+
+/** @typedef {import('../types').Series} Series */
+
+const HEIGHT = 220, LEFT = 44, BELOW = 24, ABOVE = 12;
+
+/** @param {string} tag @param {Record<string,string|number>} attributes @param {string} [text] */
+function drawn(tag, attributes, text) {
+  const element = document.createElementNS('http://www.w3.org/2000/svg', tag);
+  for (const [name, value] of Object.entries(attributes)) element.setAttribute(name, String(value));
+  if (text !== undefined) element.textContent = text;
+  return element;
+}
+
+/**
+ * @param {string} title
+ * @param {{at:number}[]} steps
+ * @param {Series[]} series
+ * @param {number} [top] of the scale; else as the values are
+ * @param {number} [goal]
+ */
+export function chart(title, steps, series, top, goal) {
+  const place = document.getElementById('charts'), room = place?.clientWidth || 900, width = room > 1100 ? (room - 24) / 2 : room;
+  const each = (width - LEFT - 8) / steps.length;
+  const sums = steps.map(step => series.reduce((sum, one) => sum + (one.bar?.(step) ?? 0), 0)), values = series.flatMap(one => steps.map(step => one.line?.(step) ?? 0));
+  const most = top ?? Math.max(5, ...sums, ...values), unit = 10 ** Math.floor(Math.log10(most));
+  const tick = [0.2, 0.5, 1, 2].map(part => part * unit).find(part => most / part <= 5) ?? unit, high = top ?? Math.ceil(most / tick) * tick;
+  const y = (/** @type {number} */ value) => HEIGHT - BELOW - (HEIGHT - BELOW - ABOVE) * value / high;
+  const picture = drawn('svg', {viewBox: `0 0 ${width} ${HEIGHT}`, role: 'img', 'aria-label': `${title}; the table below has the numbers`});
+  for (let value = 0; value <= high + 1e-9; value += tick) picture.append(
+    drawn('line', {class: 'grid', x1: LEFT, x2: width - 8, y1: y(value), y2: y(value)}), drawn('text', {x: LEFT - 8, y: y(value) + 4, 'text-anchor': 'end'}, String(Number(value.toFixed(2)))));
+  picture.append(...hours(steps, each), ...bars(steps, series, each, y), ...lines(steps, series, each, y));
+  if (goal !== undefined) picture.append(drawn('line', {class: 'goal', x1: LEFT, x2: width - 8, y1: y(goal), y2: y(goal)}), drawn('text', {x: width - 12, y: y(goal) - 5, 'text-anchor': 'end'}, `goal ${goal}`));
+  const keys = series.map(one => make('li', {class: `${one.look} ${one.line ? 'line' : 'bar'}`}, one.name));
+  return make('figure', {}, make('figcaption', {}, title), picture, make('ul', {class: 'key'}, ...keys));
+}
+
+/** @param {{at:number}[]} steps @param {number} each */
+function hours(steps, each) {
+  const apart = Math.max(1, Math.ceil(steps.length / 10 / 4)) * 3600, shift = new Date(steps[0].at * 1000).getTimezoneOffset() * 60;
+  return steps.flatMap((step, number) => (step.at - shift) % apart ? [] : [drawn('text', {x: LEFT + number * each, y: HEIGHT - 6, 'text-anchor': number ? 'middle' : 'start'}, timeOfDay(step.at, true))]);
+}
+
+/** @param {{at:number}[]} steps @param {Series[]} series @param {number} each @param {(value:number) => number} y */
+function bars(steps, series, each, y) {
+  return steps.flatMap((step, number) => {
+    let below = 0;
+    return series.flatMap(one => {
+      const value = one.bar?.(step) ?? 0, from = below;
+      below += value;
+      return value ? [drawn('rect', {class: one.look, x: (LEFT + number * each + 1).toFixed(1), width: Math.max(1, each - 2).toFixed(1), y: y(below).toFixed(1), height: (y(from) - y(below)).toFixed(1)})] : [];
+    });
+  });
+}
+
+/** @param {{at:number}[]} steps @param {Series[]} series @param {number} each @param {(value:number) => number} y */
+function lines(steps, series, each, y) {
+  return series.flatMap(one => {
+    const {line} = one;
+    if (!line) return [];
+    let way = '', down = false;
+    steps.forEach((step, number) => {
+      const value = line(step);
+      if (value !== null) way += `${down ? 'L' : 'M'}${(LEFT + (number + 0.5) * each).toFixed(1)} ${y(value).toFixed(1)}`;
+      down = value !== null;
+    });
+    return [drawn('path', {class: one.look, d: way})];
+  });
+}

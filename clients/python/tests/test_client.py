@@ -1,0 +1,229 @@
+"""Tests of the client: against a desk that is killed and started again, and against one that says what no desk says.
+
+    python3 -m unittest discover -s clients/python/tests      (the program is release/acd, or that of the variable ACD)"""
+from __future__ import annotations
+
+import json
+import os
+import socket
+import subprocess
+import sys
+import tempfile
+import threading
+import time
+import unittest
+from collections.abc import Callable
+from pathlib import Path
+from typing import Any
+
+TOP = Path(__file__).resolve().parents[3]
+sys.path.insert(0, str(TOP / "clients/python"))
+
+from acd_client import AnotherHistory, Client, Event, Stopped, Unanswered  # noqa: E402
+
+PROGRAM = os.environ.get("ACD", str(TOP / "release/acd"))
+PLAN = "kind,number,name,ring,wrap\ngroup,100,Billing,20,30\nstation,201,,,\nagent,7,Ana,,\n"
+SHOWN = {"events": [], "last": 0}
+
+
+def free_port() -> int:
+    with socket.socket() as taken:
+        taken.bind(("127.0.0.1", 0))
+        return int(taken.getsockname()[1])
+
+
+class Desk:
+    """A desk over a file that is killed and started again."""
+
+    def __init__(self, folder: str):
+        self.folder, self.port = Path(folder), free_port()
+        (self.folder / "plan.csv").write_text(PLAN)
+        subprocess.run([PROGRAM, "import", "--file", "desk.db", "--plan", "plan.csv"], cwd=folder, check=True, stdout=subprocess.DEVNULL)
+        self.start()
+
+    def start(self) -> None:
+        words = [PROGRAM, "serve", "--file", "desk.db", "--port", str(self.port), "--connections", "100000"]
+        self.process = subprocess.Popen(words, cwd=self.folder, stdout=subprocess.PIPE, stderr=subprocess.DEVNULL)
+        assert self.process.stdout
+        self.process.stdout.readline()
+
+    def kill(self) -> None:
+        self.process.kill()
+        self.process.communicate()
+
+    @property
+    def address(self) -> str:
+        return f"http://127.0.0.1:{self.port}"
+
+
+class AgainstADesk(unittest.TestCase):
+    def setUp(self) -> None:
+        folder = tempfile.TemporaryDirectory()
+        self.addCleanup(folder.cleanup)
+        self.desk = Desk(folder.name)
+        self.addCleanup(self.desk.kill)
+
+    def test_a_result_a_refusal_and_a_repeat(self) -> None:
+        with Client(self.desk.address, requester="pbx") as client:
+            request = client.request("arriveCall", caller="0301234", called="100")
+            self.assertEqual(client.insist(request).result, {"call": 1})
+            self.assertEqual(client.insist(request).result, {"call": 1})
+            self.assertEqual(client.ask("holdCall", call=9, device="201").error, "unknownCall")
+            self.assertEqual(client.invoke, 2)
+            other = client.insist({**request, "called": "201"})
+            self.assertEqual((other.status, other.error), (422, "invokeReused"))
+
+    def test_reads(self) -> None:
+        with Client(self.desk.address) as client:
+            self.assertEqual(client.read("/devices/201"), {"connections": [], "device": "201", "kind": "station"})
+            self.assertIsNone(client.read("/agents/8"))
+            with self.assertRaises(ValueError):
+                client.read("/csta")
+            snapshot = client.snapshot()
+            self.assertTrue(snapshot is None or snapshot["last"] == 0)
+
+    def test_a_requester_of_its_own(self) -> None:
+        for _ in range(2):
+            with Client(self.desk.address) as client:
+                self.assertEqual(client.ask("monitorStart", device="201").status, 200)
+        self.assertEqual(Client().requester == Client().requester, False)
+
+    def test_over_a_desk_that_is_killed(self) -> None:
+        """Each request acts once and each event is seen once, in order, while the desk is killed twelve times."""
+        seen: list[Event] = []
+        follower = Client(self.desk.address, pause=0.02)
+
+        def follow() -> None:
+            for page in follower.follow(after=0, poll=0.02):
+                seen.extend(page)
+
+        def kill() -> None:
+            for _ in range(12):
+                time.sleep(0.15)
+                self.desk.kill()
+                self.desk.start()
+
+        threads = [threading.Thread(target=follow), threading.Thread(target=kill)]
+        for thread in threads:
+            thread.start()
+        calls: list[int] = []
+        with Client(self.desk.address, requester="pbx", pause=0.02) as client:
+            while threads[1].is_alive() or len(calls) < 100:
+                call = client.ask("arriveCall", caller="0301234", called="100").result["call"]
+                self.assertEqual(client.ask("clearConnection", call=call, device="0301234").status, 200)
+                calls.append(call)
+            deadline = time.monotonic() + 10
+            while len(seen) < 4 * len(calls) and time.monotonic() < deadline:
+                time.sleep(0.02)
+        follower.stop()
+        for thread in threads:
+            thread.join(10)
+        self.assertEqual(calls, list(range(1, len(calls) + 1)))
+        self.assertEqual([event["number"] for event in seen], list(range(1, 4 * len(calls) + 1)))
+        kinds = ["queued", "connectionCleared", "connectionCleared", "callCleared"]
+        self.assertEqual([(event["call"], event["event"]) for event in seen], [(call, kind) for call in calls for kind in kinds])
+
+    def test_an_older_file_is_seen(self) -> None:
+        """A copy of the file is put back, and goes on to the same number of events by another course."""
+        with Client(self.desk.address, requester="pbx") as client:
+            call = client.ask("arriveCall", caller="0301234", called="100").result["call"]
+            self.desk.kill()
+            copy = {path: path.read_bytes() for path in self.desk.folder.glob("desk.db*")}
+            self.desk.start()
+            client.ask("clearConnection", call=call, device="0301234")
+            last = client.page(0)["events"][-1]
+            self.assertEqual(client.page(last["number"], last)["events"], [])
+            self.desk.kill()
+            for path in self.desk.folder.glob("desk.db*"):
+                path.unlink()
+            for path, content in copy.items():
+                path.write_bytes(content)
+            self.desk.start()
+            with self.assertRaises(AnotherHistory):
+                client.page(last["number"], last)
+            for _ in range(6):
+                client.ask("arriveCall", caller="0301234", called="100")
+            with self.assertRaises(AnotherHistory):
+                client.page(last["number"], last)
+
+    def test_it_ends_while_nobody_answers(self) -> None:
+        self.desk.kill()
+        client = Client(self.desk.address, pause=0.02)
+        threading.Timer(0.2, client.stop).start()
+        with self.assertRaises(Stopped) as ended:
+            client.ask("tick")
+        self.assertEqual(ended.exception.request, {"requester": client.requester, "invoke": 1, "service": "tick"})
+        self.assertEqual(list(client.follow(after=0)), [])
+        self.desk.start()
+
+    def test_the_next_address(self) -> None:
+        with Client(f"http://127.0.0.1:{free_port()}", self.desk.address, pause=0.01) as client:
+            self.assertEqual(client.ask("tick").status, 200)
+
+
+class FalseDesk(threading.Thread):
+    """Answers each connection with the next of some bytes."""
+
+    def __init__(self, answers: list[bytes]):
+        super().__init__(daemon=True)
+        self.socket, self.answers = socket.create_server(("127.0.0.1", 0)), answers
+        self.address = f"http://127.0.0.1:{self.socket.getsockname()[1]}"
+        self.start()
+
+    def run(self) -> None:
+        for answer in self.answers:
+            connection, _ = self.socket.accept()
+            connection.recv(65536)
+            connection.sendall(answer)
+            connection.close()
+        self.socket.close()
+
+
+def reply(body: object, status: str = "200 OK", length: int = 0) -> bytes:
+    text = body if isinstance(body, str) else json.dumps(body)
+    return f"HTTP/1.1 {status}\r\nContent-Length: {len(text) + length}\r\nConnection: close\r\n\r\n{text}".encode()
+
+
+class AgainstAFalseDesk(unittest.TestCase):
+    def refused(self, answers: list[bytes], work: Callable[[Client], object]) -> None:
+        client = Client(FalseDesk(answers).address, requester="pbx", invoke=4, wait=1)
+        for _ in answers:
+            with self.assertRaises(Unanswered):
+                work(client)
+        client.disconnect()
+
+    def test_what_is_no_answer(self) -> None:
+        good: dict[str, Any] = {"requester": "pbx", "invoke": 5, "result": {}}
+        answers = [b"", b"HTTP/1.1 200 OK\r\n", reply(good, length=1), reply(good, length=10**15), reply(good, "502 Bad Gateway"), reply("<html>", "504 Gateway Timeout"), reply("no JSON"),
+                   reply("[]"), reply({**good, "invoke": 6}), reply({**good, "requester": "plan"}), reply({"requester": "pbx", "invoke": 5}),
+                   reply({**good, "result": 7}), reply({**good, "error": {}}), reply({"error": {"code": 33, "name": "noMemory"}}, "503 Service Unavailable")]
+        request = {"requester": "pbx", "invoke": 5, "service": "tick"}
+        self.refused(answers, lambda client: client.send(request))
+        client = Client(FalseDesk(answers + [reply(good)]).address, requester="pbx", invoke=4, pause=0.01)
+        self.assertEqual(client.ask("tick").body, good)
+        client.disconnect()
+
+    def test_from_a_snapshot_on(self) -> None:
+        """What a snapshot shows, and then the events behind its last one; a page that fails is asked for again."""
+        shown = {"agents": [], "calls": [], "groups": [], "last": 7, "moment": 5, "monitors": [], "stations": []}
+        event = {"number": 8, "moment": 6, "event": "queued", "call": 1, "device": "100"}
+        page = {"events": [event], "last": 8}
+        with Client(FalseDesk([reply(shown), b"", reply(page), reply({"events": [event], "last": 8})]).address, pause=0.01) as client:
+            snapshot = client.snapshot()
+            assert snapshot is not None
+            self.assertEqual(snapshot, shown)
+            pages = client.follow(snapshot["last"], poll=0.01)
+            self.assertEqual(next(pages), [event])
+            client.stop()
+            self.assertEqual(list(pages), [])
+
+    def test_what_is_no_page(self) -> None:
+        event: dict[str, object] = {"number": 1, "moment": 5, "event": "queued", "call": 1, "device": "100"}
+        wrong: list[dict[str, object]] = [{"number": "1"}, {"number": True}, {"moment": -1}, {"event": 3}, {"device": 100}, {"call": "1"}, {"number": 2}]
+        answers = [reply(SHOWN, "404 Not Found"), reply({"events": []}), reply({"events": {}, "last": 0}), reply({"events": [7], "last": 1})]
+        answers += [reply({"events": [{**event, **change}], "last": 2}) for change in wrong]
+        self.refused(answers, lambda client: client.page(0))
+
+
+if __name__ == "__main__":
+    unittest.main()

@@ -1,0 +1,177 @@
+//! Lines that ask what a GET asks, beside those that ask for a service.
+
+ghost use Rattle.std.specs.Prelude.{◌≡◌, ◌⊎◌, IfOk, IfErr, OnOk, OnErr, Option, Ok, Some, string_bytes, true, false};
+ghost use Rattle.acd_desk.specs.Ran.{standing};
+ghost use Rattle.acd_desk.specs.Tells.{told};
+ghost use Rattle.acd_lines.specs.Answers.{fixed_line};
+ghost use Rattle.acd_lines.specs.Parts.{answered_text, AllDone, ReadDone, FirstDone, ShortDone, SomeDone};
+ghost use Rattle.acd_http.specs.Exchanging.{seen};
+ghost use Rattle.acd_http.specs.ReadingLines.{is_read, target_asked, reading_line_of, refused_line, json_told, told_line, Tells, ReadingAnswers};
+
+use crate::fields::Length;
+use crate::lookup::Lookup;
+use crate::method::Method;
+use crate::refused::Refused;
+use crate::reply::Kind;
+use crate::routes::Routes;
+use crate::telling::tell;
+use crate::wanted::{Wanted, by_method};
+use acd_book::{Book, Text};
+use acd_codec::{FixedAnswer, quoted};
+use acd_desk::{Desk, DeskFault};
+use acd_lines::{AnswerLine, Answering, LinesFault, Requests, answer_lines, fixed};
+use std::alloc::{AllocError, Global};
+use std::io::{Read, Write};
+
+fn refused_line(why: Refused) -> AnswerLine
+    ensures { answered_text result ≡ refused_line why }
+{
+    AnswerLine::Fixed {
+        status: why.status(),
+        body: why.text(),
+    }
+}
+
+// What was told as JSON.
+fn json_told(alloc: Global, kind: Kind, text: String) -> Result<String, AllocError>
+    ensures { IfOk result (λ s. string_bytes s ≡ json_told kind (string_bytes text)) }
+{
+    match kind {
+        Kind::Json => Ok(text),
+        Kind::Plain => quoted(alloc, text.as_str()),
+    }
+}
+
+// The text of a report as JSON takes memory, and where there is none the answer is noMemory.
+fn text_line(alloc: Global, kind: Kind, text: String) -> AnswerLine
+    ensures { (answered_text result ≡ told_line kind (Ok (Some (string_bytes text)))) ⊎ (answered_text result ≡ fixed_line FixedAnswer.NoMemory) }
+{
+    match json_told(alloc, kind, text) {
+        Ok(body) => AnswerLine::Made {
+            status: 200,
+            body: Text::new(body),
+        },
+        Err(AllocError) => fixed(FixedAnswer::NoMemory),
+    }
+}
+
+fn told_line(alloc: Global, kind: Kind, found: Result<Option<String>, DeskFault>) -> AnswerLine
+    ensures { (answered_text result ≡ told_line kind (seen found)) ⊎ (OnErr found ⊥ × (answered_text result ≡ fixed_line FixedAnswer.NoMemory)) }
+{
+    match found {
+        Ok(Some(text)) => text_line(alloc, kind, text),
+        Ok(None) => refused_line(Refused::NotFound),
+        Err(DeskFault::NoMemory) => fixed(FixedAnswer::NoMemory),
+        Err(DeskFault::StoreFault) => fixed(FixedAnswer::StoreFault),
+    }
+}
+
+fn look<B: Book>(alloc: Global, desk: &mut Desk<B>, moment: u32, wanted: Lookup) -> AnswerLine
+    ensures { Tells (standing B.Book) desk.old moment (Wanted.Look wanted) (answered_text result) desk.new }
+{
+    let kind = wanted.kind();
+    let found = tell(desk, moment, wanted);
+    told_line(alloc, kind, found)
+}
+
+// What a GET of the target answers.
+fn answer_read<B: Book>(
+    alloc: Global,
+    routes: &Routes,
+    desk: &mut Desk<B>,
+    moment: u32,
+    target: &[u8],
+) -> AnswerLine
+    ensures { Tells (standing B.Book) desk.old moment (target_asked target.now) (answered_text result) desk.new }
+{
+    match by_method(alloc, routes, Some(Method::Get), target, Length::Absent) {
+        Ok(Wanted::Refused(why)) => refused_line(why),
+        Ok(Wanted::Look(wanted)) => look(alloc, desk, moment, wanted),
+        Ok(Wanted::Body(_)) => unreachable!(),
+        Err(AllocError) => fixed(FixedAnswer::NoMemory),
+    }
+}
+
+/// How a read begins.
+const FRONT: &[u8] = b"GET ";
+
+fn is_read(text: &[u8]) -> bool
+    ensures { result ≡ is_read text.now }
+{
+    text.len() >= FRONT.len() && &text[..FRONT.len()] == FRONT
+}
+
+/// Requests, and reads.
+#[derive(Drop)]
+struct RequestsAndReads {
+    routes: Routes,
+    requests: Requests,
+}
+
+impl<B: Book> Answering<B> for RequestsAndReads {
+    ghost use Rattle.std.specs.Prelude.{refl};
+    ghost use Rattle.acd_desk.specs.Ran.{standing};
+    ghost use Rattle.acd_lines.specs.Input.{no_moment, too_long};
+    ghost use Rattle.acd_http.specs.ReadingLines.{ReadingLine, plain, text_asked, ReadingAnswers};
+
+    ghost Asked = { ReadingLine };
+
+    ghost unmarked = { plain no_moment };
+
+    ghost long = { plain too_long };
+
+    ghost read = { text_asked };
+
+    ghost answers = { ReadingAnswers (standing B.Book) };
+
+    ghost needs_a_moment = { λ d. (refl, refl) };
+
+    ghost needs_an_end = { λ d. (refl, refl) };
+
+    fn answer(
+        &mut self,
+        alloc: Global,
+        desk: &mut Desk<B>,
+        moment: u32,
+        text: &[u8],
+    ) -> AnswerLine {
+        if is_read(text) {
+            answer_read(alloc, &self.routes, desk, moment, &text[FRONT.len()..])
+        } else {
+            self.requests.answer(alloc, desk, moment, text)
+        }
+    }
+}
+
+/// Answers lines as [`acd_lines::lines`] does, and reads among them: behind its moment stand `GET`, a space and the target of
+/// an HTTP request. Its answer line is the status, a space and the body, a report as a JSON text, by the desk that the
+/// lines before it left; it changes nothing. Where `ends` says so nothing more is read once the desk has failed.
+pub fn lines_with_reads<B: Book, R: Read, W: Write>(
+    alloc: Global,
+    desk: &mut Desk<B>,
+    ends: bool,
+    reader: &mut R,
+    writer: &mut W,
+) -> Result<(), LinesFault>
+    // each line was answered in turn, by a desk that hasn't failed where that was to end them
+    ensures ok { OnOk result ((ends ≡ true → (standing B.Book desk.new).failed ≡ false) → AllDone reading_line_of (ReadingAnswers (standing B.Book)) (R.remaining reader.old) desk.old desk.new (W.contents writer.old) (W.contents writer.new)) }
+    // those that were answered are the first, and all of their answers were written
+    ensures first { OnOk result (FirstDone reading_line_of (ReadingAnswers (standing B.Book)) (R.remaining reader.old) desk.old desk.new (W.contents writer.old) (W.contents writer.new)) }
+    // where reading failed, for the lines that had ended in what was read
+    ensures read { IfErr result (λ fault. fault ≡ LinesFault.Read → ReadDone reading_line_of (ReadingAnswers (standing B.Book)) (R.remaining reader.old) (R.remaining reader.new) desk.old desk.new (W.contents writer.old) (W.contents writer.new)) }
+    // where writing failed, not all that was answered was written
+    ensures write { IfErr result (λ fault. fault ≡ LinesFault.Write → ShortDone reading_line_of (ReadingAnswers (standing B.Book)) (R.remaining reader.old) desk.old desk.new (W.contents writer.old) (W.contents writer.new)) }
+    // after any fault, for a beginning of the input
+    ensures stopped { OnErr result (SomeDone reading_line_of (ReadingAnswers (standing B.Book)) (R.remaining reader.old) desk.old desk.new (W.contents writer.old) (W.contents writer.new)) }
+    // without memory nothing was read
+    ensures memory { IfErr result (λ fault. fault ≡ LinesFault.NoMemory → (reader.new ≡ reader.old) × (writer.new ≡ writer.old) × (desk.new ≡ desk.old)) }
+{
+    let Ok(routes) = Routes::new(alloc) else {
+        return Err(LinesFault::NoMemory);
+    };
+    let mut lines = RequestsAndReads {
+        routes,
+        requests: Requests::new(alloc),
+    };
+    answer_lines(alloc, &mut lines, desk, ends, reader, writer)
+}

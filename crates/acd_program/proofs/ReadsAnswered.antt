@@ -1,0 +1,70 @@
+-- What lines and the reads among them leave over a database, step by step.
+use Rattle.std.proofs.Common.{◌≡◌, ◌⊎◌, ℕ, Bool, true, List, Option, Some, Result, Ok, Err, IfOk, OnOk, sym, subst, inl, inr, refl}
+use Rattle.sqlite.specs.State.{State}
+use Rattle.sqlite.specs.Held.{Held}
+use Rattle.sqlite.specs.Files.{over_files, file_state}
+use Rattle.sqlite_disk.specs.declared.Disk as disk
+use Rattle.sqlite_trees.specs.declared.store.Store.{Ghosts}
+use Rattle.sqlite_store.specs.declared.store.FileStore.{FileStore}
+use Rattle.acd_book.specs.declared.book.Book as book
+use Rattle.acd_book.specs.State.{BookState}
+use Rattle.acd_columns.specs.Schema.{no_schema}
+use Rattle.acd_sqlbook.specs.declared.book.SqlBook.{SqlBook}
+use Rattle.acd_desk.specs.declared.desk.Desk.{Desk}
+use Rattle.acd_desk.specs.Opening.{Opened}
+use Rattle.acd_desk.specs.Standing.{standing}
+use Rattle.acd_lines.specs.Parts.{AllDone}
+use Rattle.acd_http.specs.ReadingLines.{reading_line_of, ReadingAnswers}
+use Rattle.acd_program.specs.Over.{held, unmade}
+use Rattle.acd_program.specs.Taking.{IsOf, IsTaken}
+use Rattle.acd_program.specs.Serving.{in_database}
+use Rattle.acd_program.specs.ReadsAnswered.{ReadsOver, ReadsDatabase}
+use Rattle.acd_program.specs.InFiles.{IsLaidIn}
+use Rattle.acd_program.specs.declared.task.Task.{Task}
+use Rattle.acd_program.specs.declared.task.Task.TheVariants as task
+use Rattle.acd_program.specs.Tasks.{IsOpenedFrom, ReadIn, ReadingLinesDone, TaskDone}
+use Rattle.acd_program.proofs.Served.{opened_desk, desk_of}
+use Rattle.acd_program.proofs.Tasks.{ok_so}
+
+-- the book behind the answers of a desk over it
+pub reads_over : {B F : Type 0} (says : book.Ghosts B) (r : Result (Unit {0}) F) (old : BookState) (first final : Desk B) (last : B) (had a b : Option (List ℕ)) → Opened old (standing says first) → last ≡ final.book
+    → OnOk r (AllDone reading_line_of (ReadingAnswers (standing says)) had first final a b) → OnOk r (ReadsOver says old had a b last)
+reads_over says (Ok u) old first final last had a b opened back h = record { first = first; final = final; opened = opened_desk old (standing says first) opened; answered = h; back = back }
+reads_over says (Err e) old first final last had a b opened back h = tt
+
+-- a desk of a book that came of another is one of that
+reads_of : {B : Type 0} (says : book.Ghosts B) (old mid : BookState) (had a b : Option (List ℕ)) (last : B) → IsOf old mid → ReadsOver says mid had a b last → ReadsOver says old had a b last
+reads_of says old mid had a b last of h = record { first = h.first; final = h.final; opened = desk_of old mid (standing says h.first) of h.opened; answered = h.answered; back = h.back }
+
+module _ {S : Type 0} (store : Ghosts S) where
+  -- the book was the database's, or a new one
+  over_taken : (makes : Bool) (s : State) (mid : BookState) (had a b : Option (List ℕ)) (last : SqlBook S store) → IsTaken makes s mid → ReadsOver (in_database store) mid had a b last
+      → ReadsOver (in_database store) (held s) had a b last ⊎ ((makes ≡ true) × (s.now.schema ≡ no_schema) × ReadsOver (in_database store) (unmade s) had a b last)
+  over_taken makes s mid had a b last (inl its) h = inl (reads_of (in_database store) (held s) mid had a b last its h)
+  over_taken makes s mid had a b last (inr made) h = inr (made.0, made.1, reads_of (in_database store) (unmade s) mid had a b last made.2 h)
+
+  pub reads_database : {F : Type 0} (r : Result (Unit {0}) F) (makes : Bool) (s : State) (mid : BookState) (had a b : Option (List ℕ)) (last : SqlBook S store) (conn : Held S) → IsTaken makes s mid → conn ≡ last.conn
+      → OnOk r (ReadsOver (in_database store) mid had a b last) → OnOk r (ReadsDatabase store makes s had a b conn)
+  reads_database (Ok u) makes s mid had a b last conn taken back h = record { its = last; over = over_taken makes s mid had a b last taken h; back = back }
+  reads_database (Err e) makes s mid had a b last conn taken back h = tt
+
+  -- it may be made, where it was known whether the file was new
+  pub reads_makes : (is_new makes : Bool) (s : State) (had a b : Option (List ℕ)) (conn : Held S) → (is_new ≡ true → makes ≡ true) → ReadsDatabase store is_new s had a b conn → ReadsDatabase store makes s had a b conn
+  reads_makes is_new makes s had a b conn may h = record {
+    its = h.its;
+    over = elim h.over [ inl its ↦ inl its | inr made ↦ inr (may made.0, made.1, made.2) ];
+    back = h.back;
+  }
+
+-- the file over which it was, closed behind it
+pub read_in : {D F : Type 0} {g : disk.Ghosts D} (IsFresh : Bool → D → Type 0) (closed : Result (Unit {0}) F) (had a b : Option (List ℕ)) (conn last : Held (FileStore D g))
+    → IsOpenedFrom g IsFresh conn → ReadsDatabase over_files true (file_state conn) had a b last → OnOk closed (IsLaidIn last) → OnOk closed (ReadIn g IsFresh had a b)
+read_in IsFresh (Ok u) had a b conn last opened read closed = record { conn = conn; last = last; opened = opened; read = read; closed = closed }
+read_in IsFresh (Err e) had a b conn last opened read closed = tt
+
+pub read_in_file : {Name D : Type 0} (g : disk.Ghosts D) (IsFresh : Bool → D → Type 0) (named : Option Name) (file : Name) (had a b : Option (List ℕ)) → named ≡ Some file → ReadIn g IsFresh had a b → ReadingLinesDone g IsFresh named had a b 0
+read_in_file {Name} g IsFresh named file had a b is h = subst (λ (n : Option Name). ReadingLinesDone g IsFresh n had a b 0) (sym is) (h, refl)
+
+pub reading_task : {D F : Type 0} (g : disk.Ghosts D) (IsFresh : Bool → D → Type 0) (r : Result ℕ F) (asked : Task) (had before behind mute told : Option (List ℕ)) (file : _) (ends : Bool) → asked ≡ task.ReadingLines file ends
+    → IfOk r (λ (status : ℕ). ReadingLinesDone g IsFresh file had before behind status) → IfOk r (λ (status : ℕ). TaskDone g IsFresh asked had before behind mute told status)
+reading_task g IsFresh r asked had before behind mute told file ends is = ok_so r _ _ (λ status h. subst (λ (t : Task). TaskDone g IsFresh t had before behind mute told status) (sym is) h)

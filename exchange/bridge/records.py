@@ -1,0 +1,100 @@
+"""The rows of the file: legs, calls, transactions at both sides, and what waits to be asked of the desk."""
+from dataclasses import dataclass, field
+from typing import Any
+
+from .store import Row
+
+
+@dataclass
+class Place(Row):
+    """The last event that was taken, and the last invoke that was used."""
+    invoke: int = 0
+    known: dict[str, Any] = field(default_factory=dict)
+
+
+@dataclass
+class Leg(Row):
+    """A dialog with a phone or a caller; its key is the exchange's own tag. state: `in` (a caller who isn't answered),
+    `out` (a phone that is asked), `rings`, `up`, `closing`. `ours` and `theirs` are addresses with tags, `own` and
+    `sdp` the last descriptions of media, `transaction` is that of the last INVITE."""
+    device: str
+    station: bool
+    state: str
+    call_id: str
+    ours: str
+    theirs: str
+    target: str
+    hop: str = ""
+    transaction: str = ""
+    routes: list[str] = field(default_factory=list)
+    call: str = ""
+    asked: int = 0
+    heard: int = 0
+    sdp: str = ""
+    own: str = ""
+    version: int = 0
+    music: bool = False
+    held: bool = False
+    cancelled: bool = False
+    hangs_up: bool = False
+    session: int = 0
+    refreshes: bool = True
+
+
+@dataclass
+class Call(Row):
+    """A call of the desk: its legs by device, and the groups that the offers of ringing devices are of.
+    `connected` says that the desk connected both sides, `joined` that their media were."""
+    caller: str
+    called: str
+    legs: dict[str, str] = field(default_factory=dict)
+    offers: dict[str, str] = field(default_factory=dict)
+    failure: int = 480
+    connected: bool = False
+    joined: bool = False
+
+
+@dataclass
+class Stranger(Row):
+    """A live call of the desk that the exchange has no leg of."""
+
+
+@dataclass
+class Agent(Row):
+    """Who is logged on at a station."""
+    agent: str
+
+
+@dataclass
+class Request(Row):
+    """A request to the desk that has no reply yet; its key is its invoke. `then` names who takes the reply."""
+    body: dict[str, Any]
+    then: str
+    leg: str
+    served: str
+
+
+@dataclass
+class Served(Row):
+    """A peer's request and the last reply to it; with an interval the reply is sent again until its ACK comes."""
+    back: str
+    request: str
+    leg: str = ""
+    reply: str = ""
+    interval: float = 0.0
+    ends: float = 0.0
+
+
+@dataclass
+class Asked(Row):
+    """A request to a peer; with an interval it is sent again until a reply comes. `then` names who takes the last one,
+    and `ack` is what that gets, each time that it comes."""
+    to: str
+    text: str
+    leg: str
+    then: str
+    served: str
+    interval: float
+    ends: float
+    over: bool = False
+    ack: str = ""

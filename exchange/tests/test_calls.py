@@ -1,0 +1,441 @@
+"""Calls over a bench: what the exchange sends and asks, input by input."""
+from __future__ import annotations
+
+import unittest
+from typing import Any
+
+from bench import CALLER, OTHER, PHONE, Bench, body
+
+
+class OnABench(unittest.TestCase):
+    settings: dict[str, Any] = {}
+
+    def setUp(self) -> None:
+        self.bench = Bench(**self.settings)
+        self.addCleanup(self.bench.close)
+
+
+class Queued(OnABench):
+    def test_a_call_is_answered_and_ends(self) -> None:
+        b = self.bench
+        b.invite()
+        self.assertEqual((b.firsts(), b.asked()), (["SIP/2.0 100"], [("arriveCall", {"caller": "0301", "called": "100"})]))
+        b.answer(call=1)
+        b.tell("queued@100")
+        self.assertEqual(b.firsts(), ["SIP/2.0 182"])
+        b.tell("diverted@100/100", "delivered@201/100")
+        [(to, invite)] = b.take()
+        self.assertEqual((to, invite.method, invite.get("x-acd-call"), "m=audio 7000" in invite.body), (PHONE, "INVITE", "1", True))
+        b.reply(invite, 180)
+        self.assertEqual(b.firsts(), ["SIP/2.0 180"])
+        b.reply(invite, 200, body(7201))
+        self.assertEqual((b.firsts(), b.asked()), (["ACK"], [("answerCall", {"call": 1, "device": "201"})]))
+        b.answer()
+        [(to, told)] = b.take()
+        self.assertEqual((to, told.status, "m=audio 7201" in told.body), (CALLER, 200, True))
+        tag = told.get("to")
+        b.request("ACK", "sip:acd@x", to=tag)
+        b.pass_time(5)
+        self.assertEqual(b.firsts(), [])
+        b.request("BYE", "sip:acd@x", to=tag, cseq=2)
+        self.assertEqual((b.firsts(), b.asked()), (["SIP/2.0 200"], [("clearConnection", {"call": 1, "device": "0301"})]))
+        b.answer()
+        b.tell("connectionCleared@0301", "connectionCleared@201", "callCleared")
+        [(to, bye)] = b.take()
+        self.assertEqual((to, bye.method, bye.tag("to")), (PHONE, "BYE", "p"))
+        b.reply(bye, 200)
+        b.pass_time(70)
+        self.assertEqual((len(b.x.legs), len(b.x.calls), len(b.x.asked), len(b.x.served), b.firsts()), (0, 0, 0, 0, []))
+
+    def test_a_caller_gives_up(self) -> None:
+        b = self.bench
+        invite = b.ringing()
+        b.take()
+        b.request("CANCEL", "sip:100@x", branch="z9hG4bKc1")
+        self.assertEqual((b.firsts(), b.asked()), (["SIP/2.0 200", "SIP/2.0 487"], [("clearConnection", {"call": 1, "device": "0301"})]))
+        b.answer()
+        b.tell("connectionCleared@0301", "connectionCleared@201", "callCleared")
+        [(to, cancel)] = b.take()
+        self.assertEqual((to, cancel.method, cancel.get("via")), (PHONE, "CANCEL", invite.get("via")))
+        b.reply(cancel, 200)
+        b.reply(invite, 487)
+        # the 487 that the caller hasn't acknowledged yet is sent again
+        b.pass_time(1)
+        self.assertEqual(b.firsts(), ["ACK", "SIP/2.0 487"])
+        b.pass_time(70)
+        self.assertEqual((len(b.x.legs), len(b.x.calls)), (0, 0))
+
+    def test_given_up_while_the_desk_was_asked(self) -> None:
+        b = self.bench
+        b.invite()
+        b.request("CANCEL", "sip:100@x", branch="z9hG4bKc1")
+        b.answer(call=1)
+        self.assertEqual(b.asked(), [("clearConnection", {"call": 1, "device": "0301"})])
+
+    def test_given_up_before_the_desk_was_asked_to_answer(self) -> None:
+        """While the desk is away, a phone answers and the caller gives up: it isn't answered, unless that is under way already."""
+        for first, wanted in ((True, ["arriveCall", "clearConnection"]), (False, ["answerCall", "clearConnection"])):
+            b = Bench()
+            invite = b.ringing()
+            if first:
+                b.invite(number="0302", call_id="c2")
+            b.reply(invite, 200, body(7201))
+            b.request("CANCEL", "sip:100@x", branch="z9hG4bKc1")
+            self.assertEqual([service for service, _ in b.asked()], wanted)
+            b.close()
+
+    def test_an_answer_that_crosses_the_cancel(self) -> None:
+        b = self.bench
+        invite = b.ringing()
+        b.tell("diverted@201/100", "queued@100")
+        b.take()
+        b.reply(invite, 200, body(7201))
+        self.assertEqual((b.firsts(), b.asked()), (["ACK", "BYE"], []))
+
+    def test_an_answer_that_is_too_late_at_the_desk(self) -> None:
+        b = self.bench
+        b.reply(b.ringing(), 200, body(7201))
+        b.take()
+        b.answer("wrongConnectionState")
+        b.tell("diverted@201/100", "queued@100")
+        self.assertEqual(b.firsts(), ["BYE", "SIP/2.0 182"])
+
+    def test_an_answer_to_nobody(self) -> None:
+        """A phone answers long after its leg was given up, and a second one answers a fork: both are told that it is over."""
+        b = self.bench
+        invite = b.ringing()
+        b.reply(invite, 200, body(7201))
+        b.take()
+        b.reply(invite, 200, body(7201), tag="q")
+        self.assertEqual(b.firsts(), ["ACK", "BYE"])
+        b.reply(invite, 200, body(7201))
+        self.assertEqual(b.firsts(), ["ACK"])
+
+    def test_repeats_are_answered_alike(self) -> None:
+        b = self.bench
+        b.invite()
+        b.invite()
+        self.assertEqual((b.firsts(), len(b.asked())), (["SIP/2.0 100"] * 2, 1))
+        b.answer(call=1)
+        b.tell("queued@100")
+        b.restart()
+        b.take()
+        b.invite()
+        self.assertEqual((b.firsts(), len(b.asked())), (["SIP/2.0 182"], 0))
+
+    def test_again_and_again(self) -> None:
+        b = self.bench
+        b.waiting()
+        b.take()
+        b.pass_time(100)
+        self.assertEqual(b.firsts(), ["SIP/2.0 182"] * 2)
+
+    def test_a_phone_that_is_silent_and_refused(self) -> None:
+        b = self.bench
+        b.waiting()
+        b.tell("diverted@100/100", "delivered@201/100")
+        b.take()
+        b.pass_time(33)
+        self.assertEqual((set(b.firsts()), b.asked(), len(b.x.legs)), ({"INVITE"}, [], 1))
+
+    def test_no_ack(self) -> None:
+        b = self.bench
+        b.talking()
+        b.take()
+        b.pass_time(2.6)
+        self.assertEqual((b.firsts(), b.asked()), (["SIP/2.0 200", "SIP/2.0 200", "BYE"], [("clearConnection", {"call": 1, "device": "0301"})]))
+
+    def test_refused_by_the_desk(self) -> None:
+        for error, status in (("unknownDevice", 404), ("tooManyCalls", 503), ("noSuchThing", 503)):
+            b = Bench()
+            b.invite()
+            b.take()
+            b.answer(error)
+            self.assertEqual(b.firsts(), [f"SIP/2.0 {status}"])
+            b.close()
+        b = self.bench
+        b.invite(number="999")
+        b.answer("callerPlanned")
+        self.assertEqual(b.asked(), [("arriveCall", {"caller": "0999", "called": "100"})])
+
+    def test_a_desk_that_is_silent(self) -> None:
+        b = self.bench
+        b.invite()
+        b.take()
+        b.pass_time(5.1)
+        self.assertEqual(b.firsts(), ["SIP/2.0 503"])
+        b.x.desk_is_silent = True
+        b.invite(call_id="c2")
+        self.assertEqual(b.firsts(), ["SIP/2.0 503"])
+        b.answer(call=1)
+        self.assertEqual(b.asked(), [("clearConnection", {"call": 1, "device": "0301"})])
+
+    def test_hold_is_asked_and_passed_on(self) -> None:
+        b = self.bench
+        invite = b.talking()
+        told = next(message for to, message in b.take() if to == CALLER)
+        b.request("ACK", "sip:acd@x", to=told.get("to"))
+        ours = invite.get("from")
+        b.request("INVITE", "sip:acd@x", PHONE, "201", invite.get("call-id"), ours, 2, text=body(7201, "a=sendonly\r\n"))
+        self.assertEqual((b.firsts(), b.asked()), (["SIP/2.0 100"], [("holdCall", {"call": 1, "device": "201"})]))
+        b.answer()
+        [(to, offer)] = b.take()
+        self.assertEqual((to, offer.method, "a=sendonly" in offer.body), (CALLER, "INVITE", True))
+        # an origin of the leg's own, the second one that the caller gets
+        self.assertRegex(offer.body, r"(?m)^o=acd [0-9]+ 2 IN IP4 127\.0\.0\.1\r$")
+        b.reply(offer, 200, body(7000, "a=recvonly\r\n"), source=CALLER)
+        self.assertEqual([(to, message.first.split(" ")[1], "a=recvonly" in message.body) for to, message in b.take()],
+                         [(CALLER, "sip:p@127.0.0.1:6001", False), (PHONE, "200", True)])
+
+    def test_private_busy_and_clicks(self) -> None:
+        b = self.bench
+        b.invite("202", "201")
+        self.assertEqual(b.asked(), [("makeCall", {"device": "201", "called": "202"})])
+        b.answer(call=1)
+        self.assertEqual(b.asked(), [("phoneOffHook", {"call": 1, "device": "201"})])
+        b.answer()
+        b.take()
+        b.tell("originated@201", "failed@202")
+        self.assertEqual(b.asked(), [("clearConnection", {"call": 1, "device": "201"})])
+        b.answer()
+        b.tell("connectionCleared@201", "connectionCleared@202", "callCleared")
+        self.assertEqual(b.firsts(), ["SIP/2.0 486"])
+        b.tell("serviceInitiated@201", call=2)
+        [(to, invite)] = b.take()
+        self.assertEqual((to, invite.method, f":{b.settings.music_port}" in invite.body or str(b.settings.music_port) in invite.body), (PHONE, "INVITE", True))
+
+
+    def test_a_private_call_to_a_busy_phone(self) -> None:
+        b = self.bench
+        b.invite("202", "201")
+        b.answer(call=1)
+        b.answer()
+        b.tell("originated@201", "delivered@202")
+        to, invite = b.take()[-1]
+        self.assertEqual((to, invite.method), (OTHER, "INVITE"))
+        b.reply(invite, 486)
+        self.assertEqual(b.asked(), [("clearConnection", {"call": 1, "device": "202"})])
+        b.answer()
+        b.tell("connectionCleared@202", "connectionCleared@201", "callCleared")
+        self.assertEqual(b.firsts(), ["ACK", "SIP/2.0 486"])
+
+    def test_a_click_rings_the_own_phone_first(self) -> None:
+        b = self.bench
+        b.tell("serviceInitiated@201")
+        [(_, invite)] = b.take()
+        b.reply(invite, 200, body(7201))
+        self.assertEqual(b.asked(), [("phoneOffHook", {"call": 1, "device": "201"})])
+        b.answer("unknownCall")
+        self.assertEqual((b.firsts(), b.asked()), (["ACK", "BYE"], [("clearConnection", {"call": 1, "device": "201"})]))
+
+    def test_offers_that_cross(self) -> None:
+        """A phone offers while it is offered something: 491, and so does an offer for a side that has one under way."""
+        b = self.bench
+        invite = b.talking()
+        told = next(message for to, message in b.take() if to == CALLER)
+        b.request("ACK", "sip:acd@x", to=told.get("to"))
+        b.request("INVITE", "sip:acd@x", PHONE, "201", invite.get("call-id"), invite.get("from"), 2, text=body(7202))
+        self.assertEqual(b.firsts(), ["SIP/2.0 100", "INVITE"])
+        b.request("INVITE", "sip:acd@x", to=told.get("to"), cseq=2, text=body(7003))
+        b.request("INVITE", "sip:acd@x", PHONE, "201", invite.get("call-id"), invite.get("from"), 3, text=body(7203))
+        self.assertEqual(b.firsts(), ["SIP/2.0 491"] * 2)
+
+
+class Music(OnABench):
+    settings = {"waiting": "music"}
+
+    def test_music_that_is_refused_is_offered_again(self) -> None:
+        """The caller is put back into a queue, and says 491 to the music at first."""
+        b = self.bench
+        b.waiting()
+        [leg] = b.x.legs.values()
+        b.request("ACK", "sip:acd@x", to=f"<sip:100@x>;tag={leg.key}")
+        b.tell("diverted@100/100", "delivered@201/100")
+        b.reply(next(message for to, message in b.take() if to == PHONE), 200, body(7201))
+        b.answer()
+        b.reply(b.take()[-1][1], 200, body(7500), source=CALLER)
+        self.assertEqual((leg.music, b.x.calls["1"].joined), (False, True))
+        b.take()
+        b.tell("transferred@201", "queued@101")
+        [(_, offer)] = [(to, message) for to, message in b.take() if to == CALLER]
+        self.assertIn(f"m=audio {b.settings.music_port} ", offer.body)
+        b.reply(offer, 491, source=CALLER)
+        self.assertEqual((leg.music, b.firsts()), (False, ["ACK"]))
+        b.pass_time(1.1)
+        [again] = [message for to, message in b.take() if to == CALLER and message.is_request]
+        b.reply(again, 200, body(7500), source=CALLER)
+        self.assertEqual((leg.music, b.x.calls["1"].joined), (True, False))
+
+    def test_a_waiting_caller_hears_music_and_is_moved(self) -> None:
+        b = self.bench
+        b.waiting()
+        b.firsts()
+        [leg] = b.x.legs.values()
+        self.assertEqual((leg.state, leg.music), ("up", True))
+        # before the ACK of the first 200 no other offer can be made
+        b.tell("diverted@100/100", "delivered@201/100")
+        invite = next(message for to, message in b.take() if to == PHONE)
+        b.reply(invite, 200, body(7201))
+        b.answer()
+        self.assertEqual(b.firsts(), ["ACK"])
+        b.request("ACK", "sip:acd@x", to=f"<sip:100@x>;tag={leg.key}")
+        b.pass_time(0.3)
+        [(to, offer)] = b.take()
+        self.assertEqual((to, offer.method, "m=audio 7201" in offer.body), (CALLER, "INVITE", True))
+        b.reply(offer, 200, body(7500), source=CALLER)
+        sent = b.take()
+        self.assertEqual([(to, message.method, "m=audio 7500" in message.body) for to, message in sent], [(CALLER, "ACK", False), (PHONE, "INVITE", True)])
+        self.assertEqual((leg.music, b.x.calls["1"].joined), (False, True))
+
+
+class Deflecting(OnABench):
+    settings = {"refused": "deflect"}
+
+    def test_a_busy_phone(self) -> None:
+        b = self.bench
+        b.tell("agentLoggedOn@201")
+        b.reply(b.ringing(), 486)
+        self.assertEqual(b.asked(), [("setAgentState", {"agent": "1", "requested": "notReady"}), ("deflectCall", {"call": 1, "device": "201", "to": "100"})])
+
+    def test_a_phone_that_moved(self) -> None:
+        b = self.bench
+        invite = b.ringing()
+        b.receive(f"SIP/2.0 302 Moved\r\n{''.join(f'{n}: {v}' + chr(13) + chr(10) for n, v in invite.some('via', 'from', 'call-id', 'cseq'))}"
+                  f"To: {invite.get('to')};tag=p\r\nContact: <sip:202@elsewhere>\r\n\r\n", PHONE)
+        self.assertEqual(b.asked(), [("deflectCall", {"call": 1, "device": "201", "to": "202"})])
+        b.answer("destinationBusy")
+        self.assertEqual(b.asked(), [("deflectCall", {"call": 1, "device": "201", "to": "100"})])
+
+
+class Edge(OnABench):
+    settings = {"phones": {}, "edge": "127.0.0.1:5060"}
+
+    def test_only_the_edge_is_heard(self) -> None:
+        b = self.bench
+        b.invite()
+        self.assertEqual((b.firsts(), b.asked()), ([], []))
+
+    def test_who_is_a_phone(self) -> None:
+        """Only what the edge says makes a phone; a trunk that shows a station's number stays a trunk."""
+        b = self.bench
+        for field, wanted in (("", ("arriveCall", {"caller": "201", "called": "100"})),
+                              ("X-ACD-Phone: 201\r\n", ("makeCall", {"device": "201", "called": "100"}))):
+            b.request("INVITE", "sip:100@x", "127.0.0.1:5060", "201", f"c{field}".strip(), fields=field, text=body(7000))
+            self.assertEqual(b.asked()[-1], wanted)
+
+    def test_phones_are_rung_by_way_of_the_edge(self) -> None:
+        b = self.bench
+        b.request("INVITE", "sip:100@x", "127.0.0.1:5060", text=body(7000))
+        b.answer(call=1)
+        b.tell("queued@100", "diverted@100/100", "delivered@201/100")
+        to, invite = b.take()[-1]
+        self.assertEqual((to, invite.uri), ("127.0.0.1:5060", "sip:201@127.0.0.1:5060"))
+        b.reply(invite, 200, body(7201), source="127.0.0.1:5060", fields="Record-Route: <sip:127.0.0.1:5060;lr>\r\n")
+        to, ack = b.take()[-1]
+        self.assertEqual((to, ack.method, ack.all("route")), ("127.0.0.1:5060", "ACK", ["<sip:127.0.0.1:5060;lr>"]))
+
+
+class Sessions(OnABench):
+    settings = {"session": 100}
+
+    def test_too_short(self) -> None:
+        b = self.bench
+        b.invite(fields="Session-Expires: 60\r\nSupported: timer\r\n")
+        [(_, told)] = b.take()
+        self.assertEqual((told.status, told.get("min-se")), (422, "90"))
+
+    def test_the_exchange_refreshes(self) -> None:
+        b = self.bench
+        b.talking()
+        told = next(message for to, message in b.take() if to == CALLER)
+        b.request("ACK", "sip:acd@x", to=told.get("to"))
+        b.pass_time(51)
+        offers = [(to, message) for to, message in b.take() if message.method == "INVITE"]
+        self.assertEqual(sorted({to for to, _ in offers}), [PHONE, CALLER])
+        self.assertEqual({message.get("session-expires") for _, message in offers}, {"100;refresher=uac"})
+        for to, message in offers:
+            b.reply(message, 200, body(7000 if to == CALLER else 7201), source=to, fields="Session-Expires: 100;refresher=uac\r\n")
+        b.pass_time(40)
+        self.assertEqual(b.asked(), [])
+        b.pass_time(51)
+        self.assertEqual([service for service, _ in b.asked()], ["clearConnection"] * 2)
+
+    def test_the_caller_refreshes_or_is_gone(self) -> None:
+        b = self.bench
+        b.invite(fields="Session-Expires: 95;refresher=uac\r\nSupported: timer\r\n")
+        b.answer(call=1)
+        b.tell("queued@100", "diverted@100/100", "delivered@201/100")
+        invite = b.take()[-1][1]
+        b.reply(invite, 200, body(7201))
+        b.answer()
+        told = b.take()[-1][1]
+        self.assertEqual((told.status, told.get("session-expires"), told.get("require")), (200, "95;refresher=uac", "timer"))
+        b.request("ACK", "sip:acd@x", to=told.get("to"))
+        b.pass_time(40)
+        b.request("INVITE", "sip:acd@x", to=told.get("to"), cseq=2, fields="Session-Expires: 95;refresher=uac\r\nSupported: timer\r\n", text=body(7000))
+        self.assertIn((CALLER, "200"), [(to, message.first.split(" ")[1]) for to, message in b.take()])
+        b.request("ACK", "sip:acd@x", to=told.get("to"), cseq=2)
+        b.pass_time(60)
+        self.assertFalse([asked for asked in b.asked() if asked[1]["device"] == "0301"])
+        b.pass_time(10)
+        self.assertIn(("clearConnection", {"call": 1, "device": "0301"}), b.asked())
+
+
+class Codes(OnABench):
+    def test_codes(self) -> None:
+        b = self.bench
+        for code, wanted in (("*221*100*101", {"agent": "1", "requested": "loggedOn", "device": "201", "groups": ["100", "101"]}),
+                             ("*24", {"agent": "1", "requested": "ready"})):
+            b.request("MESSAGE", f"sip:{code}@x", number="201", call_id=code)
+            self.assertEqual(b.asked(), [("setAgentState", wanted)])
+            b.answer(state="notReady")
+            self.assertEqual(b.firsts(), ["SIP/2.0 200"])
+        for code, number in (("*24", "0301"), ("*24", "202"), ("*99", "201"), ("*22", "201"), ("*24*100", "201")):
+            b.request("MESSAGE", f"sip:{code}@x", number=number, call_id=code + number)
+            self.assertEqual((b.firsts(), b.asked()), (["SIP/2.0 404"], []))
+
+
+    def test_a_code_that_is_dialled(self) -> None:
+        """It is answered, and hung up by the exchange once the phone has heard so; a refusal is a refusal of the call."""
+        b = self.bench
+        b.invite("*221*100", "201")
+        b.answer(state="notReady")
+        told = b.take()[-1][1]
+        self.assertEqual((told.status, told.tag("to") in b.x.legs), (200, True))
+        b.request("ACK", "sip:acd@x", number="201", to=told.get("to"))
+        [(to, bye)] = b.take()
+        self.assertEqual((to, bye.method), (CALLER, "BYE"))
+        b.reply(bye, 200, source=CALLER)
+        self.assertEqual((b.asked(), len(b.x.legs)), ([], 0))
+        b.invite("*24", "201", "c2")
+        b.answer("wrongAgentState")
+        self.assertEqual(b.firsts(), ["SIP/2.0 100", "SIP/2.0 403"])
+
+
+class Other(OnABench):
+    def test_other_requests(self) -> None:
+        b = self.bench
+        b.request("OPTIONS", "sip:acd@x")
+        b.request("REGISTER", "sip:x")
+        b.request("BYE", "sip:acd@x", to="<sip:100@x>;tag=nobody")
+        b.request("CANCEL", "sip:100@x")
+        self.assertEqual(b.firsts(), ["SIP/2.0 200", "SIP/2.0 501", "SIP/2.0 481", "SIP/2.0 481"])
+
+    def test_transfer(self) -> None:
+        b = self.bench
+        invite = b.talking()
+        b.take()
+        b.request("REFER", "sip:acd@x", PHONE, "201", invite.get("call-id"), invite.get("from"), 2, fields="Refer-To: <sip:202@x>\r\n")
+        self.assertEqual(b.asked(), [("singleStepTransfer", {"call": 1, "device": "201", "to": "202"})])
+        self.assertEqual(b.firsts(), ["SIP/2.0 202", "NOTIFY"])
+        b.answer()
+        b.tell("transferred@201", "delivered@202")
+        self.assertEqual([(to, message.method) for to, message in b.take()][:2], [(PHONE, "NOTIFY"), (PHONE, "BYE")])
+        self.assertIn("202", b.x.calls["1"].legs)
+        self.assertEqual(b.x.legs[b.x.calls["1"].legs["202"]].hop, OTHER)
+        b.request("REFER", "sip:acd@x", PHONE, "201", invite.get("call-id"), invite.get("from"), 3, fields="Refer-To: <sip:202@x?Replaces=1>\r\n")
+        self.assertEqual(b.firsts(), ["SIP/2.0 603"])
+
+
+if __name__ == "__main__":
+    unittest.main()

@@ -1,0 +1,128 @@
+"""The line to the desk, over a desk that is played by hand."""
+from __future__ import annotations
+
+import asyncio
+import time
+import unittest
+from contextlib import redirect_stdout
+from io import StringIO
+from typing import Any
+
+from acd_client import Answer, Event, Page, Unanswered
+from bench import Bench
+from bridge.desk import DeskLine
+
+
+class Desk:
+    """Answers reads from a table of paths, has pages of events to give, and writes down what it was asked."""
+
+    def __init__(self, shown: dict[str, dict[str, Any]], *pages: list[Event]):
+        self.shown, self.pages, self.asked, self.known = shown, list(pages), list[Any](), list[Any]()
+
+    def attempt(self, method: str, path: str) -> Answer:
+        self.asked.append(path)
+        return Answer(200, self.shown[path]) if path in self.shown else Answer(404, {})
+
+    def page(self, after: int, known: Event | None) -> Page:
+        self.known.append(known)
+        return {"events": self.pages.pop(0) if self.pages else [], "last": 0}
+
+    def send(self, body: dict[str, Any]) -> Answer:
+        self.asked.append(body["service"])
+        if body["service"] == "silence":
+            raise Unanswered("planted")
+        return Answer(200, {"result": {}})
+
+
+def event(number: int, name: str, call: int) -> Event:
+    return {"number": number, "moment": 1, "event": name, "call": call, "device": "100"}
+
+
+class Line(unittest.TestCase):
+    def line(self, desk: Desk, **settings: Any) -> tuple[Bench, DeskLine]:
+        bench = Bench(**settings)
+        self.addCleanup(bench.close)
+        line = DeskLine(bench.x)
+        setattr(line, "client", desk)
+        return bench, line
+
+    def start(self, line: DeskLine) -> None:
+        with redirect_stdout(StringIO()):
+            asyncio.run(line.start())
+
+    def test_a_start_finds_calls_of_nobody(self) -> None:
+        """One is known by the events, one by the snapshot alone; a desk without snapshots tells of the first one."""
+        live = {"connections": [{"device": "0301", "state": "connected"}, {"device": "100", "state": "queued"}]}
+        cases: list[tuple[dict[str, Any], list[int]]] = [({"/snapshot": {"calls": [{"call": 8}]}}, [7, 8]), ({}, [7])]
+        for snapshot, cleared in cases:
+            desk = Desk({"/calls/7": live, "/calls/8": live, **snapshot}, [event(1, "queued", 7)])
+            bench, line = self.line(desk)
+            self.start(line)
+            asked = sorted(members["call"] for service, members in bench.asked() if service == "clearConnection")
+            self.assertEqual((asked, len(bench.x.strangers)), (cleared, 0))
+
+    def test_nothing_of_an_old_history_is_done_again(self) -> None:
+        bench, line = self.line(Desk({}, [event(1, "serviceInitiated", 7), event(2, "callCleared", 7)]))
+        self.start(line)
+        self.assertEqual((bench.take(), bench.asked(), bench.x.learning), ([], [], False))
+
+    def test_requests_go_in_their_order_and_stay_until_they_are_answered(self) -> None:
+        desk = Desk({})
+        bench, line = self.line(desk)
+        for service in ("first", "second", "silence", "third"):
+            bench.x.step(bench.x.ask, service)
+        with self.assertRaises(Unanswered):
+            asyncio.run(line.once())
+        self.assertEqual((desk.asked, [service for service, _ in bench.asked()]), (["first", "second", "silence"], ["silence", "third"]))
+
+    def test_events_are_followed_from_the_last_one(self) -> None:
+        """A page whose step fails is taken event by event, and the one that fails is passed over."""
+        desk = Desk({}, [event(1, "queued", 7), event(2, "queued", 8), event(3, "queued", 9)])
+        bench, line = self.line(desk)
+        take = bench.x.take_event
+
+        def fail(each: Event) -> None:
+            if each["number"] == 2:
+                raise RuntimeError("planted")
+            take(each)
+
+        setattr(bench.x, "take_event", fail)
+        asyncio.run(line.follow())
+        self.assertEqual((sorted(bench.x.strangers), [known and known["number"] for known in desk.known]), (["7", "9"], [None, 3]))
+
+    def test_ticks(self) -> None:
+        """None without the option; with it one a while, and no second one while one waits."""
+        cases: list[tuple[int, list[str]]] = [(0, []), (1, ["tick"])]
+        for tick, wanted in cases:
+            desk = Desk({})
+            bench, line = self.line(desk, tick=tick)
+            for _ in range(2):
+                asyncio.run(line.once())
+            self.assertEqual(desk.asked, wanted)
+            line.ticked = 0.0
+            bench.x.step(bench.x.ask, "silence")
+            for _ in range(2):
+                with self.assertRaises(Unanswered):
+                    asyncio.run(line.once())
+                line.ticked = 0.0
+            self.assertEqual([service for service, _ in bench.asked()], ["silence", *wanted])
+
+    def test_a_desk_that_is_silent(self) -> None:
+        """For 3 s it is slow, for 6 s the exchange is closed for new callers; it opens with the next answer."""
+        bench, line = self.line(Desk({}))
+        closed = list[bool]()
+
+        async def run() -> None:
+            task = asyncio.create_task(line.watch())
+            for silent in (3, 6, 0):
+                line.heard = time.monotonic() - silent
+                await asyncio.sleep(0.4)
+                closed.append(bench.x.desk_is_silent)
+            task.cancel()
+
+        asyncio.run(run())
+        self.assertEqual(closed, [False, True, False])
+
+
+if __name__ == "__main__":
+    unittest.main()

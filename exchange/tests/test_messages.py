@@ -1,0 +1,68 @@
+"""Messages, addresses and bodies."""
+from __future__ import annotations
+
+import unittest
+
+import bench  # noqa: F401  (the path)
+from bridge import sdp
+from bridge.message import Message, address, host_port, parameter, split, user
+
+HEAD = ("INVITE sip:100@x SIP/2.0\r\nv: SIP/2.0/UDP a;branch=z1, SIP/2.0/UDP b;branch=z2\r\nf: \"A, \\\"B\\\"\" <sip:1@x;tag=no>;tag=yes\r\n"
+        "t: <sip:100@x>\r\ni: id\r\nCSeq: 1 INVITE\r\nRoute: <sip:r1;lr>,\r\n  <sip:r2;lr>\r\n")
+
+
+class Messages(unittest.TestCase):
+    def test_reading(self) -> None:
+        message = Message.read(HEAD + "l: 3\r\n\r\nabcd")
+        self.assertEqual(message.all("via"), ["SIP/2.0/UDP a;branch=z1", "SIP/2.0/UDP b;branch=z2"])
+        self.assertEqual(message.all("route"), ["<sip:r1;lr>", "<sip:r2;lr>"])
+        self.assertEqual((message.transaction, message.method, message.cseq, message.uri, message.body), ("z1 a INVITE", "INVITE", 1, "sip:100@x", "abc"))
+        self.assertEqual(parameter(message.get("from"), "tag"), "yes")
+        fields = [each for each in message.fields if each[0] != "content-length"]
+        self.assertEqual(Message.read(message.text()).fields, fields + [("content-length", "3")])
+
+    def test_what_is_no_message(self) -> None:
+        for text in ("", "\r\n\r\n", HEAD, "NOTHING\r\n\r\n", HEAD + "no colon\r\n\r\n", HEAD + "\xffx: 1\r\n\r\n",
+                     HEAD + "l: 9\r\n\r\nabc", HEAD + "l: -1\r\n\r\n",
+                     HEAD + "A: b\nc\r\n\r\n",
+                     HEAD.replace("CSeq: 1 INVITE", "CSeq: x INVITE") + "\r\n", HEAD.replace("CSeq: 1 INVITE", "CSeq: 1 BYE") + "\r\n",
+                     HEAD.replace("i: id", "i:") + "\r\n", HEAD.replace("SIP/2.0\r", "SIP/3.0\r", 1) + "\r\n",
+                     HEAD.replace("INVITE sip", "SIP/2.0 700 sip") + "\r\n"):
+            with self.assertRaises(ValueError, msg=text):
+                Message.read(text)
+
+    def test_a_response(self) -> None:
+        request = Message.read(HEAD + "Record-Route: <sip:e;lr>\r\n\r\n")
+        told = request.answer(200, "mine", [("contact", "<sip:c>")], "v=0\r\n")
+        self.assertEqual((told.first, told.status, told.get("to"), told.all("via"), told.all("record-route")),
+                         ("SIP/2.0 200 OK", 200, "<sip:100@x>;tag=mine", request.all("via"), ["<sip:e;lr>"]))
+        self.assertEqual(request.answer(486, "mine", [], "").all("record-route"), [])
+
+    def test_addresses(self) -> None:
+        self.assertEqual([address(text) for text in ('"x" <sip:1@h;p=1>;tag=2', "sip:1@h;tag=2")], ["sip:1@h;p=1", "sip:1@h"])
+        self.assertEqual([user(text) for text in ("sip:1:secret@h", "sips:+49@h;user=phone", "tel:+49-30;x=y", "sip:%2A24@h", "sip:h", "http://x@y")],
+                         ["1", "+49", "+49-30", "*24", "", ""])
+        self.assertEqual([host_port(text) for text in ("sip:1@10.0.0.1", "sip:10.0.0.1:5080;lr", "<sip:x>", "sip:1@name:5060", "sip:1@10.0.0.256",
+                                                       "sip:1@1.2.3.4:0",
+                                                       "sip:1@1.2.3.4:99999")], ["10.0.0.1:5060", "10.0.0.1:5080", "", "", "", "", ""])
+        self.assertEqual(split('"a,b" <sip:1,2@h>, c,d'), ['"a,b" <sip:1,2@h>', "c", "d"])
+
+
+class Bodies(unittest.TestCase):
+    def test_media(self) -> None:
+        self.assertEqual(sdp.media(bench.body(7000)), ("127.0.0.1", 7000, (8, 0)))
+        for wrong in ("", bench.body(70000), bench.body(7000).replace("IN IP4 127.0.0.1\r\nt", "IN IP4 host\r\nt"), bench.body(7000).replace("audio", "video")):
+            self.assertIsNone(sdp.media(wrong))
+
+    def test_holding(self) -> None:
+        self.assertEqual([sdp.is_held(bench.body(1, more)) for more in ("a=sendonly\r\n", "a=inactive\r\n", "a=recvonly\r\n", "")], [True, True, False, False])
+        self.assertTrue(sdp.is_held(bench.body(1).replace("c=IN IP4 127.0.0.1", "c=IN IP4 0.0.0.0")))
+
+    def test_music(self) -> None:
+        self.assertIn("RTP/AVP 8\r\n", sdp.music("h", 1, ""))
+        self.assertIn("RTP/AVP 0\r\n", sdp.music("h", 1, bench.body(1).replace("AVP 8 0", "AVP 9 0 8")))
+        self.assertEqual(sdp.music("h", 1, bench.body(1).replace("AVP 8 0", "AVP 9 18")), "")
+
+
+if __name__ == "__main__":
+    unittest.main()

@@ -1,0 +1,206 @@
+"""Steps: kept before anything is sent, undone whole where they fail, taken up again behind a stop."""
+from __future__ import annotations
+
+import sqlite3
+import unittest
+from typing import Any
+
+from acd_client import Answer
+from bench import CALLER, PHONE, Bench, body
+from bridge.records import Call
+from bridge.store import Store
+
+
+def fail(*_: Any) -> None:
+    raise RuntimeError("planted")
+
+
+def shown(states: dict[str, str]) -> Answer:
+    """The desk's text of a call, or that it has none."""
+    rows = [{"device": device, "state": state} for device, state in states.items()]
+    return Answer(200, {"connections": rows}) if rows else Answer(404, {})
+
+
+class Steps(unittest.TestCase):
+    def setUp(self) -> None:
+        self.bench = Bench()
+        self.addCleanup(self.bench.close)
+
+    def test_a_step_that_fails_is_undone(self) -> None:
+        """A fault is planted behind all that a step does, in each kind of input."""
+        b = self.bench
+        b.ringing()
+        before = {row.key: row.as_json() for table in b.x.store.tables.values() for row in table.values()}
+
+        def work() -> None:
+            [leg] = [leg for leg in b.x.legs.values() if leg.state == "in"]
+            b.x.accept(leg, b.x.served[leg.transaction], body(1))
+            b.x.hang_up(leg)
+            b.x.end(leg)
+            b.x.calls.remove("1")
+            b.x.calls.add(Call("2", "0301", "100", {"0301": leg.key}))
+            raise RuntimeError("planted")
+
+        b.take()
+        self.assertFalse(b.x.step(work))
+        b.check()
+        self.assertEqual({row.key: row.as_json() for table in b.x.store.tables.values() for row in table.values()}, before)
+        self.assertEqual((b.take(), b.x.out, b.x.faults), ([], [], 1))
+
+    def test_nothing_is_sent_before_it_is_kept(self) -> None:
+        b, order = self.bench, list[str]()
+        commit, send = b.x.store.commit, b.x.send
+
+        def kept() -> list[Any]:
+            order.append("kept")
+            return commit()
+
+        def sent(data: bytes, to: str) -> None:
+            order.append("sent")
+            send(data, to)
+
+        setattr(b.x.store, "commit", kept)
+        b.x.send = sent
+        b.waiting()
+        self.assertEqual(order, ["kept", "sent", "kept", "kept", "sent"])
+
+    def test_a_request_whose_step_fails_is_answered(self) -> None:
+        b = self.bench
+        setattr(b.x, "call", fail)
+        b.invite()
+        self.assertEqual((b.firsts(), len(b.x.served)), (["SIP/2.0 500"], 1))
+
+    def test_an_event_whose_step_fails_is_passed_over(self) -> None:
+        b = self.bench
+        b.waiting()
+        setattr(b.x, "delivered", fail)
+        with self.assertRaises(AssertionError):
+            b.tell("diverted@100/100", "delivered@201/100")
+        b.check()
+        self.assertEqual(b.x.place.known["number"], 1)
+
+    def test_a_reply_whose_step_fails(self) -> None:
+        b = self.bench
+        b.invite()
+        row = b.first_request()
+        self.assertFalse(b.x.step(b.x.take_reply, row, Answer(200, {"result": {}})))
+        b.check()
+        b.take()
+        self.assertTrue(b.x.step(b.x.pass_over, row))
+        self.assertEqual((b.asked(), b.firsts()), ([], ["SIP/2.0 500"]))
+
+    def test_an_alarm_whose_step_fails_rings_once(self) -> None:
+        b = self.bench
+        b.waiting()
+        setattr(b.x, "leg_due", fail)
+        b.pass_time(200)
+        self.assertEqual(b.x.faults, 1)
+
+    def test_no_key_is_used_twice(self) -> None:
+        """Not behind a start, and not behind a power cut that took what was kept last."""
+        b, keys = self.bench, list[tuple[str, int]]()
+        b.invite(call_id="c0")
+        kept = list(b.x.store.base.iterdump())
+        for turn in range(1, 4):
+            b.invite(call_id=f"c{turn}")
+            keys.append((b.last_request().body["requester"], b.last_request().body["invoke"]))
+            if turn == 2:
+                b.lose(kept)
+            b.restart()
+        self.assertEqual((len(set(keys)), {name.rpartition("-")[0] for name, _ in keys}), (3, {"exchange"}))
+
+    def test_a_file_that_cant_be_written_ends_the_program(self) -> None:
+        b = self.bench
+        b.waiting()
+        b.take()
+        b.x.store.base.execute("PRAGMA query_only=ON")
+        with self.assertRaises(SystemExit):
+            b.request("CANCEL", "sip:100@x", branch="z9hG4bKc1")
+        self.assertEqual(b.take(), [])
+
+    def test_one_program_at_a_file(self) -> None:
+        b = self.bench
+        path = b.folder.name + "/exchange.db"
+        with self.assertRaises(sqlite3.OperationalError):
+            Store(path, wait=0.1)
+
+
+class Restarts(unittest.TestCase):
+    def setUp(self) -> None:
+        self.bench = Bench()
+        self.addCleanup(self.bench.close)
+
+    def test_a_talk_is_probed(self) -> None:
+        """A caller that is gone is found by its silence, an agent's phone that lost the talk by 481."""
+        for status, device in ((481, "201"), (0, "0301")):
+            b = Bench()
+            told = b.talking()
+            caller = next(message for to, message in b.take() if to == CALLER)
+            b.request("ACK", "sip:acd@x", to=caller.get("to"))
+            b.restart()
+            probes = {to: message for to, message in b.take() if message.method == "OPTIONS"}
+            self.assertEqual(sorted(probes), [PHONE, CALLER], told)
+            b.reply(probes[PHONE], status or 200)
+            if status:
+                b.reply(probes[CALLER], 200, source=CALLER)
+            b.pass_time(2.1)
+            self.assertEqual(b.asked(), [("clearConnection", {"call": 1, "device": device})])
+            b.close()
+
+    def test_a_ringing_phone_is_asked_again(self) -> None:
+        b = self.bench
+        b.ringing()
+        b.restart()
+        b.take()
+        b.pass_time(4)
+        self.assertEqual(b.take(), [])
+        b.pass_time(0.8)
+        self.assertEqual([(to, message.method) for to, message in b.take()], [(PHONE, "INVITE")])
+
+    def test_an_answer_is_sent_again(self) -> None:
+        b = self.bench
+        b.talking()
+        b.take()
+        b.restart()
+        # no probe where the answer itself waits for its ACK
+        self.assertEqual([(to, message.method) for to, message in b.take()], [(PHONE, "ACK"), (PHONE, "OPTIONS")])
+        b.pass_time(0.1)
+        self.assertIn((CALLER, "200"), [(to, message.first.split(" ")[1]) for to, message in b.take()])
+
+    def test_orphans(self) -> None:
+        """Calls that the exchange doesn't know, from events and from a snapshot; one that is gone by then."""
+        b = self.bench
+        b.x.learning = True
+        b.tell("queued@100", call=7)
+        b.tell("serviceInitiated@201", "originated@201", call=8)
+        b.tell("queued@100", "callCleared", call=9)
+        b.x.learning = False
+        self.assertEqual((sorted(b.x.strangers), b.take()), (["7", "8"], []))
+        b.x.step(b.x.compare, "7", shown({"0301": "connected", "100": "queued"}))
+        b.x.step(b.x.compare, "8", shown({"201": "connected", "202": "alerting"}))
+        b.x.step(b.x.compare, "10", shown({}))
+        self.assertEqual(b.asked(), [("clearConnection", {"call": 7, "device": "0301"}), ("clearConnection", {"call": 8, "device": "201"})])
+        self.assertEqual(sorted(b.x.strangers), [])
+
+    def test_what_a_power_cut_lost(self) -> None:
+        """The desk has gone on: an offer that no phone heard of is rung, a talk that it ended is ended, an answer that it lacks is asked."""
+        b = self.bench
+        b.waiting()
+        b.take()
+        b.x.step(b.x.compare, "1", shown({"0301": "connected", "201": "alerting"}))
+        self.assertEqual([(to, message.method) for to, message in b.take()], [(PHONE, "INVITE")])
+        b.x.step(b.x.compare, "1", shown({}))
+        self.assertEqual((len(b.x.calls), b.firsts()), (0, ["SIP/2.0 480"]))
+
+    def test_an_answer_that_the_desk_lacks(self) -> None:
+        b = self.bench
+        b.reply(b.ringing(), 200, body(7201))
+        b.x.step(b.x.requests.remove, b.first_request().key)
+        b.x.step(b.x.compare, "1", shown({"0301": "connected", "201": "alerting"}))
+        for _ in range(2):
+            self.assertEqual(b.asked(), [("answerCall", {"call": 1, "device": "201"})])
+            b.x.step(b.x.compare, "1", shown({"0301": "connected", "201": "alerting"}))
+
+
+if __name__ == "__main__":
+    unittest.main()

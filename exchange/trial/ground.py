@@ -1,0 +1,273 @@
+"""The ground of a trial: a folder with a desk, an exchange, phones and callers, on ports of their own."""
+from __future__ import annotations
+
+import hashlib
+import json
+import os
+import re
+import secrets
+import shutil
+import signal
+import socket
+import subprocess
+import sys
+import time
+from pathlib import Path
+from types import TracebackType
+from typing import IO, Any
+
+HERE = Path(__file__).resolve().parent
+EXCHANGE = HERE.parent
+TOP = EXCHANGE.parent
+sys.path[:0] = [str(EXCHANGE), str(TOP / "clients/python")]
+
+from acd_client import Answer, Client, Event  # noqa: E402
+
+PASSWORD = "open-sesame"
+
+
+class Phone:
+    """Sends requests that aren't INVITEs by hand, each until it is answered, with a password where one is asked for."""
+
+    def __init__(self, to: int, port: int = 0):
+        self.to = to
+        self.socket = socket.socket(socket.AF_INET, socket.SOCK_DGRAM)
+        self.socket.bind(("127.0.0.1", port))
+
+    def __enter__(self) -> Phone:
+        return self
+
+    def __exit__(self, *_: object) -> None:
+        self.socket.close()
+
+    def request(self, method: str, uri: str, number: str, more: str = "", account: str = "", password: str = PASSWORD,
+                waits: tuple[float, ...] = (0.5, 1, 2, 4, 4, 4)) -> tuple[int, str]:
+        """The status, 0 where no answer comes, and the reply."""
+        head, tag, call_id = "", secrets.token_hex(4), secrets.token_hex(8)
+        for cseq in (1, 2):
+            rest = f"From: <sip:{number}@127.0.0.1>;tag={tag}\r\nCall-ID: {call_id}\r\nCSeq: {cseq} {method}\r\n{head}{more}"
+            status, text = self.exchange(method, uri, f"<sip:{number}@127.0.0.1>" if method == "REGISTER" else f"<{uri}>", rest, waits)
+            if status not in (401, 407):
+                break
+            head = credentials(text, status, method, uri, account or number, password)
+        return status, text
+
+    def exchange(self, method: str, uri: str, to: str, rest: str, waits: tuple[float, ...]) -> tuple[int, str]:
+        branch = "z9hG4bK" + secrets.token_hex(8)
+        data = (f"{method} {uri} SIP/2.0\r\nVia: SIP/2.0/UDP 127.0.0.1:{self.socket.getsockname()[1]};rport;branch={branch}\r\nTo: {to}\r\n{rest}"
+                f"Max-Forwards: 70\r\nContent-Length: 0\r\n\r\n").encode()
+        for wait in waits:
+            self.socket.sendto(data, ("127.0.0.1", self.to))
+            self.socket.settimeout(wait)
+            try:
+                while True:
+                    text = self.socket.recv(8192).decode("latin-1")
+                    if branch in text and not text.startswith("SIP/2.0 1"):
+                        return int(text.split(" ")[1]), text
+            except (TimeoutError, ConnectionRefusedError):
+                pass
+        return 0, ""
+
+
+class Ground:
+    """Ports: desk, exchange, music and edge from base on; callers from base + 50, phones from base + 100, media from base + 300."""
+
+    def __init__(self, folder: Path, program: str, base: int, stations: int = 3, agents: int = 2, groups: str = "100", ring: int = 5, wrap: int = 2,
+                 edge: bool = False, options: tuple[str, ...] = ()):
+        shutil.rmtree(folder, ignore_errors=True)
+        folder.mkdir(parents=True)
+        self.folder, self.program, self.base, self.options = folder, program, base, options
+        self.desk_port, self.port, self.music_port, self.edge_port, self.tls_port = range(base, base + 5)
+        self.stations = [str(201 + each) for each in range(stations)]
+        self.running: list[subprocess.Popen[bytes]] = []
+        self.files: list[IO[bytes]] = []
+        self.callers, self.media = 0, base + 300
+        rows = ["kind,number,name,ring,wrap", *(f"group,{number},Group {number},{ring},{wrap}" for number in groups.split()),
+                *(f"station,{number},,," for number in self.stations), *(f"agent,{each + 1},Agent {each + 1},," for each in range(agents))]
+        (folder / "plan.csv").write_text("\n".join(rows) + "\n")
+        (folder / "phones.json").write_text(json.dumps({number: f"sip:{number}@127.0.0.1:{self.phone_port(number)}" for number in self.stations}))
+        self.acd("import", "--file", "desk.db", "--plan", "plan.csv")
+        self.client = Client(f"http://127.0.0.1:{self.desk_port}", requester="supervisor")
+        self.keys = Phone(self.edge_port if edge else self.port)
+        self.by_edge = edge
+        self.desk, self.exchange = self.start_desk(), self.start_exchange()
+        if edge:
+            self.start_edge()
+            for number in self.stations:
+                assert self.register(number) == 200, f"{number} isn't registered"
+
+    def __enter__(self) -> Ground:
+        return self
+
+    def __exit__(self, kind: type[BaseException] | None, value: BaseException | None, where: TracebackType | None) -> None:
+        self.client.disconnect()
+        self.keys.socket.close()
+        for process in self.running:
+            # each is a group of its own, since kamailio is several processes
+            try:
+                os.killpg(process.pid, signal.SIGKILL)
+            except ProcessLookupError:
+                pass
+            process.wait()
+        for file in self.files:
+            file.close()
+
+    # programs
+
+    def acd(self, *words: str) -> str:
+        return subprocess.run([self.program, *words], cwd=self.folder, stdout=subprocess.PIPE, stderr=subprocess.STDOUT, text=True).stdout
+
+    def start(self, words: list[str], name: str) -> subprocess.Popen[bytes]:
+        said = (self.folder / f"{name}.out").open("ab")
+        self.files.append(said)
+        process = subprocess.Popen(words, cwd=self.folder, stdin=subprocess.DEVNULL, stdout=said, stderr=said, start_new_session=True)
+        self.running.append(process)
+        return process
+
+    def end(self, process: subprocess.Popen[bytes], by: int = signal.SIGTERM) -> int:
+        if process.poll() is None:
+            process.send_signal(by)
+        return process.wait()
+
+    def start_desk(self) -> subprocess.Popen[bytes]:
+        desk = self.start([self.program, "serve", "--file", "desk.db", "--port", str(self.desk_port), "--connections", "1000000"], "desk")
+        wait_for_port(self.desk_port)
+        return desk
+
+    def start_exchange(self, stop_at: str = "") -> subprocess.Popen[bytes]:
+        program = [str(HERE / "stopped.py"), stop_at] if stop_at else [str(EXCHANGE / "acd-exchange")]
+        who = ["--edge", f"127.0.0.1:{self.edge_port}"] if self.by_edge else ["--phones", "phones.json"]
+        before = self.said("exchange").count("following")
+        exchange = self.start([sys.executable, *program, *who, "--listen", f"127.0.0.1:{self.port}", "--desk",
+                               f"http://127.0.0.1:{self.desk_port}", "--music-port", str(self.music_port), *self.options], "exchange")
+        for _ in range(1500):
+            if self.said("exchange").count("following") > before or exchange.poll() is not None:
+                break
+            time.sleep(0.02)
+        return exchange
+
+    def start_ticks(self) -> None:
+        self.start([str(TOP / "tools/operating/acd-tick"), "--port", str(self.desk_port), "--step", "2"], "ticks")
+
+    def start_edge(self) -> None:
+        folder = self.folder / "edge"
+        folder.mkdir()
+        config = (EXCHANGE / "kamailio.cfg").read_text()
+        for name, value in {"EDGE_PORT": self.edge_port, "TLS_PORT": self.tls_port, "EXCHANGE_PORT": self.port, "FOLDER": folder}.items():
+            config = re.sub(rf'(?m)^(#!substdef "!{name}!)[^!]*', rf"\g<1>{value}", config)
+        (folder / "kamailio.cfg").write_text(config)
+        accounts = [(number, PASSWORD) for number in self.stations] + [("trunk", PASSWORD)]
+        subprocess.run(["openssl", "req", "-x509", "-newkey", "rsa:2048", "-nodes", "-subj", "/CN=edge", "-keyout", "edge.key", "-out", "edge.crt"],
+                       cwd=folder, check=True, capture_output=True)
+        write_accounts(folder / "subscriber", accounts)
+        self.edge = self.start(["kamailio", "-DD", "-E", "-f", str(folder / "kamailio.cfg"), "-P", str(folder / "pid"), "-w", str(folder)], "edge")
+        time.sleep(1.5)
+
+    def said(self, name: str) -> str:
+        file = self.folder / f"{name}.out"
+        return file.read_text(errors="replace") if file.exists() else ""
+
+    # phones and callers
+
+    def phone_port(self, station: str) -> int:
+        return self.base + 100 + int(station) - 201
+
+    def sipp(self, name: str, scenario: str, words: list[str]) -> subprocess.Popen[bytes]:
+        (self.folder / f"{name}.xml").write_text(scenario)
+        self.media += 4
+        return self.start(["sipp", "-sf", f"{name}.xml", "-i", "127.0.0.1", "-nostdin", "-trace_msg", "-message_file", f"{name}.msg",
+                           "-trace_err", "-error_file", f"{name}.err", "-mp", str(self.media), *words], name)
+
+    def phone(self, station: str, scenario: str, calls: int = 1, name: str = "") -> subprocess.Popen[bytes]:
+        return self.sipp(name or f"phone-{station}", scenario, ["-p", str(self.phone_port(station)), "-m", str(calls)])
+
+    def caller(self, name: str, scenario: str, numbers: list[str], rate: float = 1.0) -> subprocess.Popen[bytes]:
+        (self.folder / f"{name}.csv").write_text("SEQUENTIAL\n" + "".join(f"{number};\n" for number in numbers))
+        self.callers += 1
+        to = f"127.0.0.1:{self.edge_port if self.by_edge else self.port}"
+        return self.sipp(name, scenario, ["-inf", f"{name}.csv", "-p", str(self.base + 50 + self.callers), to,
+                                          "-m", str(len(numbers)), "-r", str(max(1, int(1000 * rate))), "-rp", "1000000", "-l", "3000"])
+
+    def trace(self, name: str) -> str:
+        file = self.folder / f"{name}.msg"
+        return file.read_text(errors="replace") if file.exists() else ""
+
+    # requests by hand
+
+    def key(self, station: str, code: str) -> int:
+        """A feature code, sent as a message: its status."""
+        return self.keys.request("MESSAGE", f"sip:{code}@127.0.0.1", station)[0]
+
+    def register(self, station: str) -> int:
+        """From the phone's own port, before its program has it."""
+        with Phone(self.edge_port, self.phone_port(station)) as phone:
+            contact = f"Contact: <sip:{station}@127.0.0.1:{self.phone_port(station)}>;expires=3600\r\n"
+            return phone.request("REGISTER", "sip:127.0.0.1", station, contact)[0]
+
+    def log_on(self, *agents: int, group: str = "100") -> None:
+        for agent in agents:
+            station = self.stations[agent - 1]
+            assert self.key(station, f"*22{agent}*{group}") == 200, f"agent {agent} isn't logged on"
+            assert self.key(station, "*24") == 200, f"agent {agent} isn't ready"
+
+    # the desk
+
+    def ask(self, service: str, **members: Any) -> Answer:
+        return self.client.ask(service, **members)
+
+    def events(self, after: int = 0) -> list[Event]:
+        found: list[Event] = []
+        while page := self.client.page(found[-1]["number"] if found else after)["events"]:
+            found += page
+        return found
+
+    def story(self) -> str:
+        """The events as name@device, without those of agents."""
+        told = (event["event"] + (f"@{event['device']}" if "device" in event else "") for event in self.events())
+        return " ".join(word for word in told if not word.startswith("agent"))
+
+    def wait_until_quiet(self, seconds: float = 15) -> bool:
+        """Until no call lives at the desk: each event's call is cleared."""
+        deadline = time.monotonic() + seconds
+        while time.monotonic() < deadline:
+            events = self.events()
+            if {e["call"] for e in events if "call" in e} == {e["call"] for e in events if e["event"] == "callCleared"}:
+                return True
+            time.sleep(0.2)
+        return False
+
+
+def wait_for_port(port: int) -> None:
+    for _ in range(250):
+        try:
+            socket.create_connection(("127.0.0.1", port), 1).close()
+            return
+        except OSError:
+            time.sleep(0.02)
+    raise AssertionError(f"nobody listens on port {port}")
+
+
+def wait_for(processes: list[subprocess.Popen[bytes]], seconds: float) -> list[int | None]:
+    """The statuses of those that ended in time."""
+    deadline = time.monotonic() + seconds
+    while time.monotonic() < deadline and any(process.poll() is None for process in processes):
+        time.sleep(0.05)
+    return [process.poll() for process in processes]
+
+
+def write_accounts(file: Path, accounts: list[tuple[str, str]]) -> None:
+    rows = ["username(string) domain(string) ha1(string)"]
+    rows += [f"{name}:acd:{hashlib.md5(f'{name}:acd:{password}'.encode()).hexdigest()}" for name, password in accounts]
+    file.write_text("\n".join(rows) + "\n")
+
+
+def credentials(challenge: str, status: int, method: str, uri: str, name: str, password: str) -> str:
+    """The field that answers a challenge (RFC 2617, MD5, without qop)."""
+    parts = dict(re.findall(r'(\w+)="([^"]*)"', challenge))
+
+    def digest(*words: str) -> str:
+        return hashlib.md5(":".join(words).encode()).hexdigest()
+
+    answer = digest(digest(name, parts["realm"], password), parts["nonce"], digest(method, uri))
+    field = "Authorization" if status == 401 else "Proxy-Authorization"
+    return f'{field}: Digest username="{name}", realm="{parts["realm"]}", nonce="{parts["nonce"]}", uri="{uri}", response="{answer}", algorithm=MD5\r\n'

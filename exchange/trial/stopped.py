@@ -1,0 +1,33 @@
+"""The exchange, stopped as by kill before or behind the commit of one of its steps: stopped.py STEP-before|STEP-after OPTIONS.."""
+from __future__ import annotations
+
+import os
+import signal
+import sys
+from typing import Any
+
+import ground  # noqa: F401  (the path)
+from bridge import loop
+from bridge.store import Store
+
+AT = sys.argv.pop(1)
+
+
+class Stopping(Store):
+    """Counts its commits, each of which is a step."""
+    steps = 0
+
+    def commit(self) -> list[Any]:
+        self.steps += 1
+        self.stop("before")
+        rows = super().commit()
+        self.stop("after")
+        return rows
+
+    def stop(self, when: str) -> None:
+        if AT == f"{self.steps}-{when}":
+            os.kill(os.getpid(), signal.SIGKILL)
+
+
+setattr(loop, "Store", Stopping)
+loop.main()

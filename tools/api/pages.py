@@ -1,0 +1,188 @@
+"""Whether the tables of docs/SERVICES.md and docs/FORMATS.md and the description say the same."""
+import re
+
+SCHEMAS = "#/components/schemas/"
+HEAD_FAULTS = {"json", "head", "host", "contentLength", "after"}
+FORMS = [(r"a text of (\d+) to (\d+) digits", "^[0-9]{%s,%s}$"), (r"a text of (\d+) to (\d+) characters of a-z, 0-9 and hyphen", "^[a-z0-9-]{%s,%s}$"),
+         (r"a text of (\d+) to (\d+) characters from space to `~`", "^[ -~]{%s,%s}$")]
+NUMBERS = r"(?:a whole number from|seconds,) (\d+) to (\d+)"
+NAMED = {"device": "DeviceId", "agent": "AgentId", "call": "CallId", "monitor": "MonitorId", "requester": "Requester", "invoke": "Invoke", "name": "Name",
+         "ring": "Timeout", "wrap": "Timeout", "priority": "Priority", "moment": "Moment"}
+
+
+def rows(page, heading):
+    """The rows of the table whose first line begins so, each as its cells."""
+    lines = page.split("\n")
+    start = next(number for number, line in enumerate(lines) if line.startswith(heading)) + 2
+    for line in lines[start:]:
+        if not line.startswith("|"):
+            return
+        yield [cell.strip() for cell in line[1:-1].split("|")]
+
+
+def texts(phrase):
+    """What stands in a phrase between backticks."""
+    return re.findall(r"`([^`]+)`", phrase)
+
+
+class Comparison:
+    def __init__(self, description, services, formats):
+        self.description, self.services, self.formats = description, services, formats
+        self.found, self.count = [], 0
+
+    def same(self, what, page, described):
+        self.count += 1
+        if page != described:
+            self.found.append(f"{what}: the page has {page}, the description {described}")
+
+    def members(self, name):
+        return self.description.merged(self.description.schemas[name])
+
+    def variants(self):
+        """By service its requests' schemas, merged."""
+        found = {}
+        for name in self.description.requests():
+            found.setdefault(self.members(name)["properties"]["service"]["enum"][0], []).append(self.members(name))
+        return found
+
+    def all(self):
+        self.compare_services()
+        self.compare_forms()
+        self.compare_codes()
+        self.compare_results()
+        self.compare_events()
+        self.compare_states()
+        self.compare_routes()
+        self.compare_snapshot()
+        return self.found
+
+    def compare_services(self):
+        described = self.variants()
+        shown = {}
+        for cells in rows(self.services, "| service and members"):
+            service, _, members = cells[0].partition("` ")
+            shown[service.strip("`")] = re.findall(r"\b(%s)\b" % "|".join([*NAMED, "caller", "called", "to", "group", "groups", "requested"]), members)
+        self.same("services", sorted(shown), sorted(described))
+        for service, variants in described.items():
+            asked = [[name for name in variant["required"] if name not in ("requester", "invoke", "service")] for variant in variants]
+            if len(asked) == 1:
+                self.same(service, shown.get(service), asked[0])
+            else:
+                self.same(service, set(shown.get(service, [])), {name for names in asked for name in names})
+        named = {name for variants in described.values() for variant in variants for name in variant["properties"]}
+        self.same("members that may be faulty", named | HEAD_FAULTS, set(self.description.schemas["FaultyMember"]["enum"]))
+
+    def compare_forms(self):
+        plain = self.description.plain["components"]["schemas"]
+        for names, form in rows(self.services, "| member | form |"):
+            for name in texts(names) or re.findall(r"^\w+", names):
+                schema = plain.get(NAMED.get(name))
+                for pattern, made in FORMS:
+                    found = re.match(pattern, form)
+                    if found and schema:
+                        self.same(name, made % found.groups(), schema["pattern"])
+                found = re.match(NUMBERS, form) or re.match(r"seconds, a whole number from (\d+) to (\d+)", form)
+                if found and schema:
+                    self.same(name, tuple(map(int, found.groups())), (schema["minimum"], schema["maximum"]))
+                if name == "requested":
+                    changes = self.members("ChangeState")["properties"]["requested"]["enum"] + self.members("LogOnInGroup")["properties"]["requested"]["enum"]
+                    self.same(name, set(texts(form)), set(changes))
+                if name == "groups":
+                    self.same(name, "one to eight devices" in form, (plain["ServedGroups"]["minItems"], plain["ServedGroups"]["maxItems"]) == (1, 8))
+
+    def codes_of(self, status):
+        """The codes of /csta's answers with a status."""
+        response = self.description.resolved(self.description.document["paths"]["/csta"]["post"]["responses"].get(status, {"content": {}}))
+        facts = [fact for content in response["content"].values() for fact in self.description.facts(content["schema"], "reply")]
+        codes = {place[:-5]: value for place, how, value in facts if how == "is" and place.endswith(".code")}
+        return {(codes[place[:-5]], value) for place, how, value in facts if how == "is" and place.endswith(".name") and place[:-5] in codes}
+
+    def compare_codes(self):
+        shown = {}
+        for code, name, status, _ in rows(self.services, "| code | name | status | when |"):
+            if code:
+                shown.setdefault(status, set()).add((int(code), name.partition(",")[0]))
+        for status, codes in shown.items():
+            self.same(f"codes of {status}", codes, self.codes_of(status))
+        for status, code, _ in rows(self.formats, "| status | code and name | where |"):
+            number, name = re.match(r"(\d+) (\w+)", code).groups()
+            schema = self.description.schemas[name[0].upper() + name[1:]]["properties"]
+            self.same(f"code {number}", (int(number), name), (schema["code"]["enum"][0], schema["name"]["enum"][0]))
+            named = {"Malformed": "400", "NotFound": "404", "MethodNotAllowed": "405", "HeadTooLarge": "431", "NotImplemented": "501"}.get(name[0].upper() + name[1:])
+            self.same(f"status of {name}", status, named or next(it for it in ("411", "413") if (int(number), name) in self.codes_of(it)))
+
+    def compare_results(self):
+        shown = {}
+        for services, result in rows(self.formats, "| service | result |"):
+            for service in re.findall(r"\w+", services.partition(", agent")[0].partition(", else")[0]):
+                shown.setdefault(service, set()).add(frozenset(re.findall(r'"(\w+)":', result)))
+        for service, variants in self.variants().items():
+            result = self.description.schemas[variants[0]["x-result"]]
+            required, possible = frozenset(result.get("required", [])), frozenset(result.get("properties", {}))
+            self.same(f"result of {service}", shown.get(service, {frozenset()}), {required, possible})
+
+    def compare_events(self):
+        described = [schema["$ref"][len(SCHEMAS):] for schema in self.description.schemas["EventReport"]["oneOf"]]
+        shown = list(rows(self.formats, "| kind | event | device | call | further members |"))
+        self.same("events", [cells[1] for cells in shown], [name[0].lower() + name[1:] for name in described])
+        for (kind, event, device, call, further), name in zip(shown, described):
+            schema = self.members(name)
+            required, optional, causes = {"event", "moment", "number"}, set(), None
+            required |= {"device"} if device else set()
+            required |= {"call"} if call else set()
+            for part in filter(None, further.split("; ")):
+                (optional if " where " in part or " of an agent " in part else required).update(texts(part))
+                causes = part.partition(": ")[2].split(", ") if part.startswith("`cause`") else causes
+            self.same(f"event {kind}, {event}", (required, optional), (set(schema["required"]), set(schema["properties"]) - set(schema["required"])))
+            self.same(f"causes of {event}", causes, schema["properties"].get("cause", {}).get("enum"))
+
+    def compare_states(self):
+        states, pending = re.search(r"States are the texts (.*?); pending ones (.*?)\.", self.formats).groups()
+        connections = re.search(r"Connection states:\s+(.*?)\.", self.formats, re.DOTALL)[1]
+        for name, shown in (("AgentState", texts(states)), ("PendingState", texts(pending)), ("ConnectionState", re.findall(r"([a-z]+) \d", connections))):
+            self.same(name, shown, self.description.schemas[name]["enum"])
+
+    def names_in(self, schema, known):
+        """All members of a schema and of what it is made of."""
+        if isinstance(schema, list):
+            return {name for value in schema for name in self.names_in(value, known)}
+        if not isinstance(schema, dict):
+            return set()
+        if "$ref" in schema:
+            if schema["$ref"] in known:
+                return set()
+            return self.names_in(self.description.resolved(schema), known | {schema["$ref"]})
+        return set(schema.get("properties", {})) | {name for key, value in schema.items() if key != "discriminator" for name in self.names_in(value, known)}
+
+    def compare_routes(self):
+        """Each route; and each member that a row shows in a text of JSON is one of the reply, each of a reply that isn't an event's is in its row."""
+        events = self.names_in({"$ref": f"{SCHEMAS}EventReport"}, frozenset())
+        shown, route = {}, None
+        for first, _, body in rows(self.formats, "| method and path | asks for | body of the reply |"):
+            route = re.sub(r"\{\w+\}", "{}", texts(first)[0].partition("?")[0]) if first else route
+            shown[route] = shown.get(route, "") + " " + body
+        described = {f"{method.upper()} {re.sub(r'{[a-z]+}', '{}', path)}": operation for path, method, operation in self.description.operations()}
+        self.same("routes", sorted(shown), sorted(described))
+        for route, body in shown.items():
+            content = described.get(route, {}).get("responses", {}).get("200", {}).get("content", {}).get("application/json")
+            if content and "{" in body:
+                names = self.names_in(content["schema"], frozenset())
+                self.same(f"members of {route} that it has not", set(re.findall(r'"(\w+)":', body)) - names, set())
+                self.same(f"members of {route} that aren't told", {name for name in names - events if not re.search(rf"\b{name}\b", body)}, set())
+
+    def compare_snapshot(self):
+        """The snapshot's lists, and what an item of each has besides the members of the single read."""
+        shown = re.search(r"^The snapshot is `(.*?)`", self.formats, re.MULTILINE)[1]
+        described = self.members("Snapshot")["properties"]
+        self.same("members of the snapshot", re.findall(r'"(\w+)":', shown), list(described))
+        lists = list(rows(self.formats, "| list | an item is | and besides |"))
+        self.same("lists of the snapshot", [texts(name)[0] for name, _, _ in lists], [name for name, schema in described.items() if "items" in schema])
+        for name, item, besides in lists:
+            names = self.names_in(described[texts(name)[0]]["items"], frozenset())
+            route = texts(item)[0].replace("{id}", "")
+            single = next((operation for path, _, operation in self.description.operations() if path.startswith(route) and path.endswith("}")), None)
+            if single is None:
+                self.same(f"members of {name}", set(re.findall(r'"(\w+)":', item)), names)
+                continue
+            read = self.names_in(single["responses"]["200"]["content"]["application/json"]["schema"], frozenset())
+            self.same(f"what {name} have besides", set(re.findall(r'"(\w+)":', besides)) | set(re.findall(r"`(\w+)`", besides)), names - read)

@@ -1,0 +1,129 @@
+// An agent's shift by clicks, what the events say of it, a lost reply, and what a login may not ask for.
+import {createServer} from 'node:http';
+import {freePort, sleep, until} from './browser.mjs';
+import {contrast, unreached, untold} from './looks.mjs';
+import {PHONE, SCREEN} from './page.mjs';
+
+const AGENT = '7', STATION = '207', GROUPS = ['110', '100'];
+
+/** A plan for the shift: two groups, three stations, two agents. */
+export const PLAN = [
+  {service: 'addGroup', device: '100', name: 'Billing', ring: 20, wrap: 30}, {service: 'addGroup', device: '110', name: 'Claims', ring: 20, wrap: 30}, {service: 'addGroup', device: '120', name: 'Orders', ring: 20, wrap: 30},
+  {service: 'addStation', device: STATION}, {service: 'addStation', device: '208'}, {service: 'addStation', device: '209'},
+  {service: 'addAgent', agent: AGENT, name: 'Ana Adler'}, {service: 'addAgent', agent: '8', name: 'Ben Berg'},
+].map((request, number) => `0 ${JSON.stringify({requester: 'plan', invoke: number + 1, ...request})}`);
+
+const service = name => `#calls [data-service=${name}]:enabled`, requested = name => `#states [data-requested=${name}]:enabled`;
+
+/** The shift: what is clicked, and the events of the agent or the station that have to come of it, in their order. */
+export async function shift(see, browser, desk, front, folder) {
+  let invoke = 0;
+  const call = async () => (await desk.post({requester: 'try', invoke: ++invoke, service: 'arriveCall', caller: '0301234567', called: '110'})).result.call;
+  const said = words => until(async () => (await browser.text('#told')).includes(words), 10);
+  const click = async (selector, words) => {
+    see(`the button ${selector}`, Boolean(await until(() => browser.click(selector).then(() => true), 10)));
+    see(`it is said: ${words}`, Boolean(await said(words)), await browser.text('#told'));
+  };
+  await browser.open(front.page('ana', '/board/agent/'));
+  see('the page of who is logged in', Boolean(await until(async () => await browser.text('#name') === `Ana Adler (${AGENT})`, 20)), await browser.text('#name'));
+  see('nothing but to log on', await browser.run('return document.querySelector("#states").hidden && !document.querySelector("#log-on").hidden'));
+  await browser.run(`document.querySelector('[name=station]').value = '${STATION}'; for (const group of ${JSON.stringify(GROUPS)}) document.querySelector('#groups [value="' + group + '"]').click()`);
+  await click('#log-on-button:enabled', '✓ Log on');
+  await click(requested('ready'), '✓ Ready');
+  const first = await call();
+  see('what rings, for how long and from where', Boolean(await until(async () => /ringing for .*Claims.*from 0301234567; the caller has waited 0:0/.test(await browser.text('#calls li')), 10)), await browser.text('#calls li'));
+  await looks(see, browser, folder);
+  await click(service('answerCall'), `✓ Answer call ${first}`);
+  await click(service('holdCall'), `✓ Hold call ${first}`);
+  await click(service('retrieveCall'), `✓ Retrieve call ${first}`);
+  await browser.run('document.querySelector("#calls input").value = "120"');
+  await click(service('singleStepTransfer'), `✓ Transfer call ${first} to 120`);
+  await until(() => browser.run('return window.agent.state().agents.get("7").state === "workingAfterCall"'), 5);
+  await click(requested('ready'), '✓ Ready');
+  const second = await call();
+  await until(() => browser.find(service('deflectCall')), 10);
+  await browser.run('document.querySelector("#calls input").value = "120"');
+  await click(service('deflectCall'), `✓ Deflect call ${second} to 120`);
+  const third = await call();
+  await click(service('answerCall'), `✓ Answer call ${third}`);
+  await click(requested('loggedOff'), '✓ Log off');
+  see('what is pending is shown', Boolean(await until(async () => await browser.text('#pending') === 'logs off after this call', 5)), await browser.text('#pending'));
+  await click(service('clearConnection'), `✓ Hang up call ${third}`);
+  see('the agent is logged off behind it', Boolean(await until(() => browser.run('return !document.querySelector("#log-on").hidden'), 10)));
+  const mine = (await desk.events(0)).filter(event => event.agent === AGENT || event.device === STATION).map(event => `${event.event} ${event.call ?? ''}`.trim());
+  const wanted = ['agentLoggedOn', 'agentReady', `delivered ${first}`, `established ${first}`, 'agentBusy', `held ${first}`, `retrieved ${first}`, `transferred ${first}`, 'agentWorkingAfterCall', 'agentReady',
+    `delivered ${second}`, `diverted ${second}`, `delivered ${third}`, `established ${third}`, 'agentBusy', `connectionCleared ${third}`, 'agentLoggedOff'];
+  see('the events are what the buttons said', String(mine) === String(wanted), `${mine}`);
+}
+
+async function looks(see, browser, folder) {
+  for (const theme of ['dark', 'light']) {
+    await browser.run(`document.documentElement.dataset.theme = '${theme}'`);
+    const {low, least, sideways} = await contrast(browser);
+    see(`the agent's page, ${theme}: contrast at least ${least.toFixed(2)}`, !low.length && !sideways, low[0]);
+    await browser.picture(`${folder}/agent-${theme}.png`);
+  }
+  await browser.size(...PHONE);
+  see("the agent's page: no sideways scrolling on a phone", !(await contrast(browser)).sideways);
+  await browser.picture(`${folder}/agent-phone.png`);
+  await browser.size(...SCREEN);
+  const unseen = await unreached(browser), silent = await untold(browser, ['heading', 'main', 'status', 'list', 'table']);
+  see("the agent's page: every control by keyboard", !unseen.length, unseen[0]);
+  see("the agent's page: nothing without a name", !silent.length, silent[0]);
+}
+
+/** A request whose reply is lost: it is told, kept over a new load of the page, and executed once. */
+export async function lostReply(see, browser, desk, front) {
+  await browser.open(front.page('ana', `/board/agent/?station=${STATION}&groups=100`));
+  await until(() => browser.find('#log-on-button:enabled'), 20);
+  desk.child.kill('SIGSTOP');
+  await browser.click('#log-on-button');
+  see('a request without an answer is said to be sent again', Boolean(await until(async () => /no answer yet/.test(await browser.text('#told')), 20)), await browser.text('#told'));
+  const kept = () => browser.run(`return Object.keys(localStorage).filter(place => place.startsWith('acd-unanswered-${AGENT} ')).map(place => JSON.parse(localStorage[place]).body)`), before = await kept();
+  see('it is kept in the browser', before.length === 1 && before[0].includes('loggedOn'), String(before));
+  await browser.open(front.page('ana', '/board/agent/'));
+  see('over a new load', String(await kept()) === String(before));
+  desk.child.kill('SIGCONT');
+  see('it is answered then', Boolean(await until(async () => (await kept()).length === 0 && /✓ Log on/.test(await browser.text('#told')), 30)), await browser.text('#told'));
+  const times = (await desk.events(0)).filter(event => event.event === 'agentLoggedOn').length;
+  see('and was executed once', times === 2, times);   // the shift before, and this
+  see('a new load has a requester of its own', await browser.run(`return window.agent.requests().requester`) !== JSON.parse(before[0]).requester);
+}
+
+/** What may not be asked for: by an agent, a supervisor, and a page of another site. */
+export async function refused(see, browser, desk, front) {
+  const forbidden = '{"error":{"code":41,"name":"forbidden"}}', before = (await desk.get('/snapshot')).groups.length;
+  const ask = async (login, request, ...more) => front.ask(login, '/csta', {requester: 'try-refused', invoke: 1, ...request}, ...more);
+  for (const [login, request] of [['ana', {service: 'addGroup', device: '999', name: 'No', ring: 1, wrap: 1}], ['ana', {service: 'setAgentState', agent: '8', requested: 'loggedOn', device: '208', group: '100'}],
+    ['ana', {service: 'holdCall', call: 1, device: '208'}], ['ana', {service: 'arriveCall', caller: '1', called: '100'}], ['sup', {service: 'tick'}], ['sup', {service: 'setAgentState', agent: '7', requested: 'ready'}],
+    ['planner', {service: 'arriveCall', caller: '1', called: '100'}]]) {
+    const {status, text} = await ask(login, request);
+    see(`${login} may not ask for ${request.service}`, status === 403 && text === forbidden, `${status} ${text}`);
+  }
+  const granted = await ask('planner', {service: 'addStation', device: '210'});
+  see('the office plans', granted.status === 200, granted.text);
+  see('who has no password reads nothing', (await front.ask('nobody', '/snapshot')).text === '{"error":{"code":42,"name":"unauthorized"}}');
+  for (const path of ['/events', '/csta/', '//snapshot']) see(`no service by ${path}`, (await front.ask('pbx', path, {requester: 'x', invoke: 1, service: 'tick'})).status === 403);
+  await elsewhere(see, browser, front, desk);
+  see('nothing of this was executed', (await desk.get('/snapshot')).groups.length === before);
+}
+
+/** A page of another site that sends a request with the password of who is logged in. */
+async function elsewhere(see, browser, front, desk) {
+  const port = await freePort(), server = createServer((_, reply) => { reply.setHeader('content-type', 'text/html'); reply.end('<!doctype html><title>elsewhere</title>'); });
+  await new Promise(done => server.listen(port, '127.0.0.1', done));
+  await browser.open(front.page('pbx', '/who'));   // now the browser knows the password of one who may all
+  const body = invoke => JSON.stringify({requester: 'elsewhere', invoke, service: 'arriveCall', caller: '0666', called: '100'}), {last} = await desk.get('/events?after=999999999999999');
+  const own = await browser.run(`return fetch(location.origin + '/csta', {method: 'POST', body: arguments[0]}).then(reply => reply.status)`, body(1));
+  see('the own page of that login is answered', own === 200, own);
+  for (const [number, host] of ['127.0.0.1', 'localhost'].entries()) {
+    await browser.open(`http://${host}:${port}/`);
+    await browser.run(`return fetch('${front.address}/csta', {method: 'POST', mode: 'no-cors', credentials: 'include', body: arguments[0]}).then(reply => reply.type, error => String(error))`, body(2 + number));
+  }
+  await sleep(300);
+  const calls = (await desk.events(last)).filter(event => event.event === 'queued').length;
+  see('a page of another site is not', calls === 1, calls);
+  const answered = await front.ask('pbx', '/csta', body(2), '-H', 'Origin: http://localhost');
+  see('by its Origin', answered.status === 403, answered.text);
+  server.close();
+}

@@ -1,0 +1,166 @@
+// What tools/try-board does, in its order.
+import {execFileSync} from 'node:child_process';
+import {readdirSync, statSync} from 'node:fs';
+import {cp, mkdir, mkdtemp, rm, writeFile} from 'node:fs/promises';
+import {existsSync} from 'node:fs';
+import {join, resolve} from 'node:path';
+import {pathToFileURL} from 'node:url';
+import {Browser, sleep} from './browser.mjs';
+import {aDay, Desk, Front, missing, run, TOP} from './desk.mjs';
+import {buttons} from './buttons.mjs';
+import {full} from './full.mjs';
+import {inLoad, record, replay, unseenFaults} from './model.mjs';
+import {alarm, looks, losses, numbers, people, settings, still} from './page.mjs';
+import {lostReply, PLAN, refused, shift} from './shift.mjs';
+
+const NEEDED = {chromedriver: 'chromium-driver', chromium: 'chromium', nginx: 'nginx-light', tsc: 'node-typescript', openssl: 'openssl', curl: 'curl', python3: 'python3'};
+const PARTS = ['files', 'gate', 'state', 'load', 'buttons', 'board', 'agent', 'full'], MOST_BYTES = 100000, MOST_CALLS = 2000, ROUNDS = 50;
+const ROLES = [['pbx', 'exchange'], ['planner', 'office'], ['sup', 'supervisor'], ['ana', 'agent', '7']];
+
+class Trial {
+  constructor(program, folder, pictures) { Object.assign(this, {program, folder, pictures, tried: 0, wrong: 0, missed: 0, ends: []}); }
+
+  see = (what, good, told = '') => {
+    this.tried++;
+    if (good) return;
+    this.wrong++;
+    console.log(`WRONG ${what}: ${told}`);
+  };
+
+  /** A figure that depends on the machine: told with the load at that time, and counted apart. */
+  figure = (what, value, good, wanted, load) => {
+    if (!good) this.missed++;
+    console.log(`    ${what}: ${value} (${wanted}${good ? '' : ': MISSED'}; load ${load})`);
+  };
+
+  /** Something that has to end with the part that began it. */
+  keep(thing, end) { this.ends.unshift(() => end(thing)); return thing; }
+
+  async part(name) {
+    const begin = Date.now();
+    try { await this[name](); } catch (error) { this.see(`the part ${name}`, false, error.stack); }
+    for (const end of this.ends.splice(0)) await end();
+    console.log(`${name}: ${((Date.now() - begin) / 1000).toFixed(0)} s, so far ${this.tried} tried, ${this.wrong} wrong`);
+  }
+
+  async desk(name, lines) {
+    const desk = await Desk.make(this.program, join(this.folder, name)), answers = (await desk.feed(lines)).trim().split('\n');
+    this.see(`each request of ${name} is granted`, answers.every(line => line.startsWith('200 ')), answers.find(line => !line.startsWith('200 ')));
+    await desk.serve();
+    return this.keep(desk, () => desk.stop());
+  }
+
+  async front(desk) { return this.keep(await Front.start(this.folder, desk, ROLES), front => front.stop()); }
+  async browser() { return this.keep(await Browser.start(1920, 1080), browser => browser.end()); }
+
+  /** The types, and how much a browser loads at most. */
+  async files() {
+    const files = readdirSync(join(TOP, 'board'), {recursive: true}).map(String).filter(name => /\.(js|css|html)$/.test(name)), bytes = files.reduce((sum, name) => sum + statSync(join(TOP, 'board', name)).size, 0);
+    this.see(`board/ has less than ${MOST_BYTES} bytes`, bytes < MOST_BYTES, bytes);
+    const words = ['--allowJs', '--checkJs', '--strict', '--noEmit', '--target', 'es2022', '--module', 'es2022', '--lib', 'es2022,dom,dom.iterable', join(TOP, 'board/main.js'), join(TOP, 'board/agent/agent.js')];
+    const said = await run('tsc', words);
+    this.see('tsc --checkJs --strict', said === '', said.slice(0, 400));
+  }
+
+  async gate() {
+    try { execFileSync(join(TOP, 'board/gate/test_gate.py'), {stdio: 'pipe'}); } catch (error) { this.see("the gate's own tests", false, String(error.stderr).slice(-600)); }
+    this.tried++;
+  }
+
+  /** state.js and day.js run by node, from a copy whose folder says that they are modules. */
+  async modules() {
+    const copy = join(this.folder, 'modules');
+    if (!existsSync(copy)) {
+      await cp(join(TOP, 'board'), copy, {recursive: true});
+      await writeFile(join(copy, 'package.json'), '{"type":"module"}');
+    }
+    const modules = await Promise.all(['state.js', 'day.js', 'agent/allowed.js'].map(name => import(pathToFileURL(join(copy, name)))));
+    return Object.assign({}, ...modules);
+  }
+
+  async state() {
+    const lines = (await run('python3', ['-B', join(TOP, 'bench/office.py'), 'given'])).trim().split('\n'), size = Math.ceil(lines.length / ROUNDS);
+    const told = await record(await Desk.make(this.program, join(this.folder, 'office.db')), Array.from({length: ROUNDS}, (_, part) => lines.slice(part * size, (part + 1) * size)));
+    const {compared, wrong} = replay(await this.modules(), told);
+    this.see('the state of the page', wrong.length === 0, wrong.slice(0, 5).join('\n'));
+    const {planted, unseen} = await unseenFaults(join(TOP, 'board'), await mkdtemp(join(this.folder, 'faults')), told);
+    this.see('each planted fault is seen', unseen.length === 0, unseen.join('; '));
+    console.log(`    ${told.length} snapshots of an office's day, carried on to its end: ${compared} comparisons, ${wrong.length} differ; ${planted} faults planted in state.js, ${unseen.length} unseen`);
+  }
+
+  async buttons() {
+    const lines = (await run('python3', ['-B', join(TOP, 'bench/office.py'), 'given'])).trim().split('\n'), desk = await Desk.make(this.program, join(this.folder, 'buttons.db'));
+    await desk.feed(lines.slice(0, 1500));
+    await desk.serve();
+    this.keep(desk, () => desk.stop());
+    const {refused, granted, wrong} = await buttons(await this.modules(), desk, ROUNDS);
+    this.see('each button is enabled where the desk grants it', wrong.length === 0 && refused > 0 && granted > 0, wrong.slice(0, 5).join('\n'));
+    console.log(`    ${refused} requests of disabled buttons were refused, ${granted} of enabled ones granted, ${wrong.length} otherwise`);
+  }
+
+  async load() {
+    const lines = (await run('python3', ['-B', join(TOP, 'bench/office.py'), 'given'])).trim().split('\n'), desk = await Desk.make(this.program, join(this.folder, 'load.db'));
+    await desk.feed(lines.slice(0, 400));
+    await desk.serve();
+    this.keep(desk, () => desk.stop());
+    const {behind, wrong, still} = await inLoad(await this.modules(), desk, lines.slice(400), ROUNDS);
+    this.see('a state begun in the middle of load', wrong.length === 0 && behind > 0, wrong.slice(0, 5).join('\n'));
+    console.log(`    ${ROUNDS} rounds in the middle of load, ${behind} events behind the snapshots, ${wrong.length} differ${still ? '' : ' (the requests ended before the rounds)'}`);
+  }
+
+  async board() {
+    const [lines, others] = [await aDay(1.5, '--groups', 10, '--agents', 60), await aDay(1, '--groups', 4, '--agents', 12, '--seed', 2)];
+    const desk = await this.desk('day.db', lines), other = await this.desk('other.db', others);
+    await other.stop();
+    const front = await this.front(desk), browser = await this.browser(), folks = this.keep(people(desk, 12), one => one.end()), address = front.page('sup', '/board/');
+    await browser.open(`${address}?since=0#wall`);
+    await numbers(this.see, browser, desk, folks, 10);
+    await settings(this.see, browser, address);
+    await still(this.see, browser, address, 10);
+    await looks(this.see, browser, address, this.pictures);
+    await folks.end();
+    await alarm(this.see, browser, desk, address);
+    await losses(this.see, browser, desk, other.file, address);
+  }
+
+  async agent() {
+    const desk = await this.desk('shift.db', PLAN), front = await this.front(desk), browser = await this.browser();
+    await shift(this.see, browser, desk, front, this.pictures);
+    await lostReply(this.see, browser, desk, front);
+    await refused(this.see, browser, desk, front);
+  }
+
+  async full() {
+    const lines = await aDay(1, '--groups', 64, '--agents', 1000, '--load', 0.9), moment = lines[lines.length - 1].split(' ')[0], asking = service => lines.filter(line => line.includes(`"${service}"`)).length;
+    // as many calls as a desk may have
+    for (let invoke = 1, live = asking('arriveCall') - asking('clearConnection'); live < MOST_CALLS; live++, invoke++) {
+      lines.push(`${moment} ${JSON.stringify({requester: 'many', invoke, service: 'arriveCall', caller: `04${invoke}`, called: String(100 + invoke % 64)})}`);
+    }
+    const desk = await this.desk('full.db', lines), front = await this.front(desk), browser = await this.browser();
+    await full(this.see, browser, desk, front.page('sup', '/board/'), this.figure);
+  }
+}
+
+export async function main(words) {
+  const given = name => { const place = words.indexOf(name); return place < 0 ? undefined : words.splice(place, 2)[1]; };
+  const [only, pictures] = [given('--only'), resolve(given('--pictures') ?? 'out/board')], program = resolve(words[0] ?? join(TOP, 'release/acd'));
+  const without = missing(NEEDED);
+  if (without) throw new Error(without);
+  const parts = only ? only.split(',') : PARTS, begin = Date.now();
+  // a file is synced with each request, which costs nothing in memory
+  const folder = await mkdtemp(join(existsSync('/dev/shm') ? '/dev/shm' : '/tmp', 'try-board-'));
+  await mkdir(pictures, {recursive: true});
+  const trial = new Trial(program, folder, pictures);
+  try {
+    const probe = await trial.desk('probe.db', PLAN);
+    await probe.get('/snapshot').catch(() => { throw new Error(`${program} answers no /snapshot`); });
+    await probe.stop();
+    for (const part of parts) await trial.part(part);
+  } finally {
+    for (const end of trial.ends) await end();
+    await sleep(100);
+    await rm(folder, {recursive: true, force: true});
+  }
+  console.log(`${trial.tried} tried, ${trial.wrong} wrong, ${trial.missed} figures missed, in ${((Date.now() - begin) / 1000).toFixed(0)} s; pictures in ${pictures}`);
+  return trial.wrong ? 1 : 0;
+}

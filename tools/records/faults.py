@@ -1,0 +1,40 @@
+"""Faults that are planted in acd-calls and acd-plan: what each is, the text that it changes, and what it changes it to."""
+
+CALLS = [
+    ("the ring isn't waited", '        if "queued" in states or "offered" in states:\n            self.waited', '        if "queued" in states:\n            self.waited'),
+    ("held is talked", '["connected", "connected"]:', '["connected", "connected"] or "hold" in states:'),
+    ("held where both hold", '        if "hold" in states:', '        if states == ["hold", "hold"]:'),
+    ("a return is an entry", 'if kind == "queued" and cause != "noAnswer":', 'if kind == "queued":'),
+    ("rings by distribution alone", 'elif kind == "delivered":', 'elif kind == "delivered" and cause == "distributed":'),
+    ("caller and other exchanged", '"by caller" if device == self.caller', '"by caller" if device != self.caller'),
+    ("a busy destination isn't told", '        if "fail" in states:\n            return "busy"\n', ""),
+    ("abandoned where it rang isn't told", '        if "queued" in states or "offered" in states:\n            return', '        if "queued" in states:\n            return'),
+    ("a private call takes the wrap-up", 'if before == "offered":', "if device in self.at:"),
+    ("no wrap-up of a call", '("busy", "workingAfterCall"):', '("busy", "busy"):'),
+    ("a span counts to the day it began on", "end = min(moment, self.day_ends)", "end = moment"),
+    ("days of another zone", "datetime.datetime.combine(day, datetime.time())", "datetime.datetime.combine(day, datetime.time(1))"),
+    ("days of 24 hours", "midnight(self.day + datetime.timedelta(days=1))", "midnight(self.day) + 86400"),
+    ("entered in another zone", "datetime.datetime.fromtimestamp(self.entered)", "datetime.datetime.utcfromtimestamp(self.entered)"),
+    ("every diversion isn't answered", 'if cause == "noAnswer":', 'if kind == "diverted" and device in self.at:'),
+    ("what goes on isn't counted", "            if not call.is_cleared:\n                call.pass_to(moment)", "            pass"),
+    ("agents who are logged on aren't counted", "        for number, agent in self.agents.items():\n            self.pass_to(moment, number, agent)\n", ""),
+    ("caller and called exchanged", 'request["device"], request["called"], moment', 'request["called"], request["device"], moment'),
+    ("agents by their text", 'int("1" + key[1])', "key[1]"),
+    ("the log isn't read", "PAGELESS = 0x40000000, 56", "PAGELESS = 0x40000000, 1 << 60"),
+    ("a file that is open is read", "fcntl.lockf(held, fcntl.LOCK_SH | fcntl.LOCK_NB, 512, LOCKED)", "pass"),
+]
+PLAN = [
+    ("ring and wrap exchanged", 'group["ring"], group["wrap"]', 'group["wrap"], group["ring"]'),
+    ("no agents", 'for agent in desk["agents"]', 'for agent in []'),
+    ("no stations", 'for station in desk["stations"]', 'for station in []'),
+    ("names without quotes", 'csv.writer(sys.stdout, lineterminator="\\n").writerows([HEADER, *rows])',
+     'sys.stdout.writelines(",".join(map(str, row)) + "\\n" for row in [HEADER, *rows])'),
+    ("priorities under invoke numbers of the plan", "list(priorities(desk, len(rows)))", "list(priorities(desk, 0))"),
+    ("another group's priority", '"device": group["device"], "priority"', '"device": desk["groups"][0]["device"], "priority"'),
+]
+
+
+def planted(text, old, new):
+    if text.count(old) != 1:
+        raise SystemExit(f"try-records: a fault is planted at {text.count(old)} places, and not at one: {old!r}")
+    return text.replace(old, new)

@@ -1,0 +1,55 @@
+"""A story of six calls around a midnight, and what has to come of it, reckoned by hand."""
+
+LINES = """\
+86300 {"requester":"plan","invoke":1,"service":"addGroup","device":"100","name":"Billing","ring":20,"wrap":30}
+86300 {"requester":"plan","invoke":2,"service":"addStation","device":"201"}
+86300 {"requester":"plan","invoke":3,"service":"addStation","device":"202"}
+86300 {"requester":"plan","invoke":4,"service":"addAgent","agent":"7","name":"Ana"}
+86300 {"requester":"plan","invoke":5,"service":"addAgent","agent":"8","name":"Ben, senior"}
+86310 {"requester":"desk","invoke":1,"service":"setAgentState","agent":"7","requested":"loggedOn","device":"201","group":"100"}
+86310 {"requester":"desk","invoke":2,"service":"setAgentState","agent":"7","requested":"ready"}
+86320 {"requester":"pbx","invoke":1,"service":"arriveCall","caller":"0301","called":"100"}
+86325 {"requester":"desk","invoke":3,"service":"answerCall","call":1,"device":"201"}
+86335 {"requester":"desk","invoke":4,"service":"holdCall","call":1,"device":"201"}
+86345 {"requester":"desk","invoke":5,"service":"retrieveCall","call":1,"device":"201"}
+86350 {"requester":"pbx","invoke":2,"service":"arriveCall","caller":"0302","called":"100"}
+86360 {"requester":"pbx","invoke":3,"service":"clearConnection","call":1,"device":"0301"}
+86380 {"requester":"desk","invoke":6,"service":"setAgentState","agent":"7","requested":"ready"}
+86390 {"requester":"desk","invoke":7,"service":"setAgentState","agent":"8","requested":"loggedOn","device":"202","group":"100"}
+86400 {"requester":"clock","invoke":1,"service":"tick"}
+86410 {"requester":"pbx","invoke":4,"service":"clearConnection","call":2,"device":"0302"}
+86420 {"requester":"desk","invoke":8,"service":"makeCall","device":"202","called":"201"}
+86425 {"requester":"desk","invoke":9,"service":"phoneOffHook","call":3,"device":"202"}
+86430 {"requester":"desk","invoke":10,"service":"answerCall","call":3,"device":"201"}
+86440 {"requester":"desk","invoke":11,"service":"singleStepTransfer","call":3,"device":"201","to":"100"}
+86450 {"requester":"desk","invoke":12,"service":"setAgentState","agent":"7","requested":"ready"}
+86455 {"requester":"desk","invoke":13,"service":"answerCall","call":3,"device":"201"}
+86470 {"requester":"desk","invoke":14,"service":"clearConnection","call":3,"device":"201"}
+86480 {"requester":"pbx","invoke":5,"service":"arriveCall","caller":"0303","called":"201"}
+86482 {"requester":"pbx","invoke":6,"service":"arriveCall","caller":"0304","called":"201"}
+86485 {"requester":"pbx","invoke":7,"service":"clearConnection","call":5,"device":"0304"}
+86490 {"requester":"pbx","invoke":8,"service":"clearConnection","call":4,"device":"0303"}
+86500 {"requester":"clock","invoke":2,"service":"tick"}
+86510 {"requester":"pbx","invoke":9,"service":"arriveCall","caller":"0305","called":"100"}
+86520 {"requester":"desk","invoke":15,"service":"setAgentState","agent":"8","requested":"loggedOff"}
+"""
+# call 1 was on hold from 86335 to 86345; the wrap-up behind it ended as the agent was ready, at 86380, that behind call 3 by the tick at 86500.
+# Call 2 rang from 86380 on and wasn't answered; call 3 was answered at 86430, waited from 86440 and was answered again at 86455
+CALLS = """\
+number,caller,called,entered,groups,rings,agent,station,waited,talked,held,wrapped_up,ended
+1,0301,100,1970-01-01 23:58:40,100,1,7,201,5,25,10,20,by caller
+2,0302,100,1970-01-01 23:59:10,100,1,,,60,0,0,0,abandoned
+3,202,201,1970-01-02 00:00:20,100,2,7 7,201 201,15,25,0,30,by other
+4,0303,201,1970-01-02 00:01:20,,1,,,0,0,0,0,not answered
+5,0304,201,1970-01-02 00:01:22,,0,,,0,0,0,0,busy
+6,0305,100,1970-01-02 00:01:50,100,1,,,10,0,0,0,live
+"""
+# ready from 86310 to 86325 and from 86380 to midnight; busy up to 86360; and on the next day ready from 86450 to 86455 and from 86500 on.
+# Ben was logged on from 86390 to 86520, and nothing else
+DAYS = """\
+day,agent,name,logged_on,ready,talking,wrap_up,rings_not_answered
+1970-01-01,7,Ana,90,35,35,20,0
+1970-01-01,8,"Ben, senior",10,0,0,0,0
+1970-01-02,7,Ana,120,25,15,30,1
+1970-01-02,8,"Ben, senior",120,0,0,0,0
+"""
