@@ -5,12 +5,14 @@ usage: live.py --desk PORT [--calls C] [--seconds S] [--seed N]     (default: 20
 
 It begins with the desk's snapshot and follows its events, so that it is never out of step with the desk: an agent who is rung answers,
 mostly; a call that was answered is held, transferred or hung up; who isn't ready is ready again; who waits too long gives up. It says
-at its end how many requests were granted, and how many came too late."""
+at its end how many requests were granted, and how many came too late. SIGUSR1 halts it between two requests, and SIGUSR2 lets it go on: one that was
+halted within a request would hold the desk."""
 import argparse
 import heapq
 import http.client
 import json
 import random
+import signal
 import time
 from collections import Counter
 from itertools import count
@@ -24,11 +26,24 @@ class Office:
         self.requester, self.invoke, self.told = f"live-{random.SystemRandom().randrange(10 ** 12)}", 0, Counter()
         self.ahead, self.serial, self.last = [], count(), 0
         self.groups, self.stations, self.outside = [], set(), {}
+        self.is_halted = False
+        signal.signal(signal.SIGUSR1, lambda *_: setattr(self, "is_halted", True))
+        signal.signal(signal.SIGUSR2, lambda *_: setattr(self, "is_halted", False))
 
     def get(self, path):
-        return self.send("GET", path)[1]
+        return self.answered("GET", path)[1]
+
+    def answered(self, *request):
+        """The answer of a request that is sent until it has one; a desk that is started again gets the same once more."""
+        while True:
+            try:
+                return self.send(*request)
+            except (OSError, http.client.HTTPException, ValueError):
+                time.sleep(0.5)
 
     def send(self, method, path, body=None):
+        while self.is_halted:
+            time.sleep(0.02)
         connection = http.client.HTTPConnection("127.0.0.1", self.port, timeout=30)
         connection.request(method, path, body)
         reply = connection.getresponse()
@@ -37,15 +52,8 @@ class Office:
         return told
 
     def ask(self, service, **members):
-        """Sends a request until it is answered; a desk that is started again gets the same once more."""
         self.invoke += 1
-        body = json.dumps({"requester": self.requester, "invoke": self.invoke, "service": service, **members})
-        while True:
-            try:
-                status, reply = self.send("POST", "/csta", body)
-                break
-            except (OSError, http.client.HTTPException, ValueError):
-                time.sleep(0.5)
+        status, reply = self.answered("POST", "/csta", json.dumps({"requester": self.requester, "invoke": self.invoke, "service": service, **members}))
         self.told["granted" if status == 200 else "too late"] += 1
         return reply.get("result", {})
 
@@ -76,11 +84,7 @@ class Office:
             time.sleep(0.05)
 
     def follow(self):
-        try:
-            page = self.get(f"/history?after={self.last}")
-        except (OSError, http.client.HTTPException, ValueError):
-            return
-        for event in page["events"]:
+        for event in self.get(f"/history?after={self.last}")["events"]:
             self.last = event["number"]
             if "agent" in event:
                 self.agent_is(event["agent"], {"agentLoggedOn": "notReady", "agentNotReady": "notReady", "agentWorkingAfterCall": "workingAfterCall"}.get(event["event"]))

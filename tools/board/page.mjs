@@ -13,9 +13,9 @@ export const live = browser => until(() => browser.run('return window.board?.cou
 
 /** People who carry the day on; their program can be stopped and let go on. */
 export function people(desk, calls) {
-  const child = spawn('python3', ['-B', join(HERE, 'live.py'), '--desk', desk.port, '--calls', calls].map(String), {stdio: 'ignore'});
+  const child = spawn('python3', ['-B', join(HERE, 'live.py'), '--desk', desk.port, '--calls', calls].map(String), {stdio: ['ignore', 'ignore', 'inherit']});
   const ended = new Promise(done => child.on('exit', done));
-  return {stop: () => child.kill('SIGSTOP'), goOn: () => child.kill('SIGCONT'), end: () => { child.kill('SIGKILL'); return ended; }};
+  return {stop: () => child.kill('SIGUSR1'), goOn: () => child.kill('SIGUSR2'), end: () => { child.kill('SIGKILL'); return ended; }};
 }
 
 /** Each number on the wall and in the queues against the desk's report, its reads and its events. */
