@@ -1,4 +1,4 @@
-"""Whether the tables of docs/SERVICES.md and docs/FORMATS.md and the description say the same."""
+"""Whether the tables of docs/USING.md and the description say the same."""
 import re
 
 SCHEMAS = "#/components/schemas/"
@@ -26,8 +26,8 @@ def texts(phrase):
 
 
 class Comparison:
-    def __init__(self, description, services, formats):
-        self.description, self.services, self.formats = description, services, formats
+    def __init__(self, description, page):
+        self.description, self.page = description, page
         self.found, self.count = [], 0
 
     def same(self, what, page, described):
@@ -59,7 +59,7 @@ class Comparison:
     def compare_services(self):
         described = self.variants()
         shown = {}
-        for cells in rows(self.services, "| service and members"):
+        for cells in rows(self.page, "| service and members"):
             service, _, members = cells[0].partition("` ")
             shown[service.strip("`")] = re.findall(r"\b(%s)\b" % "|".join([*NAMED, "caller", "called", "to", "group", "groups", "requested"]), members)
         self.same("services", sorted(shown), sorted(described))
@@ -74,7 +74,7 @@ class Comparison:
 
     def compare_forms(self):
         plain = self.description.plain["components"]["schemas"]
-        for names, form in rows(self.services, "| member | form |"):
+        for names, form in rows(self.page, "| member | form |"):
             for name in texts(names) or re.findall(r"^\w+", names):
                 schema = plain.get(NAMED.get(name))
                 for pattern, made in FORMS:
@@ -98,13 +98,10 @@ class Comparison:
         return {(codes[place[:-5]], value) for place, how, value in facts if how == "is" and place.endswith(".name") and place[:-5] in codes}
 
     def compare_codes(self):
-        shown = {}
-        for code, name, status, _ in rows(self.services, "| code | name | status | when |"):
-            if code:
-                shown.setdefault(status, set()).add((int(code), name.partition(",")[0]))
-        for status, codes in shown.items():
-            self.same(f"codes of {status}", codes, self.codes_of(status))
-        for status, code, _ in rows(self.formats, "| status | code and name | where |"):
+        for status, told in rows(self.page, "| status | codes and names, and when |"):
+            shown = {(int(code), name) for code, name in re.findall(r"(\d+) `(\w+)`", told)}
+            self.same(f"codes of {status}", shown, self.codes_of(status))
+        for status, code, _ in rows(self.page, "| status | code and name | where |"):
             number, name = re.match(r"(\d+) (\w+)", code).groups()
             schema = self.description.schemas[name[0].upper() + name[1:]]["properties"]
             self.same(f"code {number}", (int(number), name), (schema["code"]["enum"][0], schema["name"]["enum"][0]))
@@ -113,7 +110,7 @@ class Comparison:
 
     def compare_results(self):
         shown = {}
-        for services, result in rows(self.formats, "| service | result |"):
+        for services, result in rows(self.page, "| service | result |"):
             for service in re.findall(r"\w+", services.partition(", agent")[0].partition(", else")[0]):
                 shown.setdefault(service, set()).add(frozenset(re.findall(r'"(\w+)":', result)))
         for service, variants in self.variants().items():
@@ -123,7 +120,7 @@ class Comparison:
 
     def compare_events(self):
         described = [schema["$ref"][len(SCHEMAS):] for schema in self.description.schemas["EventReport"]["oneOf"]]
-        shown = list(rows(self.formats, "| kind | event | device | call | further members |"))
+        shown = list(rows(self.page, "| kind | event | device | call | further members |"))
         self.same("events", [cells[1] for cells in shown], [name[0].lower() + name[1:] for name in described])
         for (kind, event, device, call, further), name in zip(shown, described):
             schema = self.members(name)
@@ -137,8 +134,8 @@ class Comparison:
             self.same(f"causes of {event}", causes, schema["properties"].get("cause", {}).get("enum"))
 
     def compare_states(self):
-        states, pending = re.search(r"States are the texts (.*?); pending ones (.*?)\.", self.formats).groups()
-        connections = re.search(r"Connection states:\s+(.*?)\.", self.formats, re.DOTALL)[1]
+        states, pending = re.search(r"States are the texts (.*?); pending ones (.*?)\.", self.page).groups()
+        connections = re.search(r"Connection states:\s+(.*?)\.", self.page, re.DOTALL)[1]
         for name, shown in (("AgentState", texts(states)), ("PendingState", texts(pending)), ("ConnectionState", re.findall(r"([a-z]+) \d", connections))):
             self.same(name, shown, self.description.schemas[name]["enum"])
 
@@ -158,7 +155,7 @@ class Comparison:
         """Each route; and each member that a row shows in a text of JSON is one of the reply, each of a reply that isn't an event's is in its row."""
         events = self.names_in({"$ref": f"{SCHEMAS}EventReport"}, frozenset())
         shown, route = {}, None
-        for first, _, body in rows(self.formats, "| method and path | asks for | body of the reply |"):
+        for first, _, body in rows(self.page, "| method and path | asks for | body of the reply |"):
             route = re.sub(r"\{\w+\}", "{}", texts(first)[0].partition("?")[0]) if first else route
             shown[route] = shown.get(route, "") + " " + body
         described = {f"{method.upper()} {re.sub(r'{[a-z]+}', '{}', path)}": operation for path, method, operation in self.description.operations()}
@@ -172,10 +169,10 @@ class Comparison:
 
     def compare_snapshot(self):
         """The snapshot's lists, and what an item of each has besides the members of the single read."""
-        shown = re.search(r"^The snapshot is `(.*?)`", self.formats, re.MULTILINE)[1]
+        shown = re.search(r"^The snapshot is `(.*?)`", self.page, re.MULTILINE)[1]
         described = self.members("Snapshot")["properties"]
         self.same("members of the snapshot", re.findall(r'"(\w+)":', shown), list(described))
-        lists = list(rows(self.formats, "| list | an item is | and besides |"))
+        lists = list(rows(self.page, "| list | an item is | and besides |"))
         self.same("lists of the snapshot", [texts(name)[0] for name, _, _ in lists], [name for name, schema in described.items() if "items" in schema])
         for name, item, besides in lists:
             names = self.names_in(described[texts(name)[0]]["items"], frozenset())

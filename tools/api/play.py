@@ -13,7 +13,7 @@ from exchange import Desk
 from bodies import edges, mutated
 
 TOOLS = Path(__file__).resolve().parents[1]
-OFFICE = TOOLS.parent / "bench/office.py"
+OFFICE = TOOLS.parent / "tests/office.py"
 READS = ("/agents/7", "/calls/1", "/devices/100", "/queues/100", "/events", "/monitors/1/events", "/reports/queues", "/snapshot", "/history")
 METHODS = ("GET", "HEAD", "POST", "PUT", "DELETE", "OPTIONS", "PATCH")
 BAD = ["/events?after=x", "/events?after=1&after=2", "/events?after=1234567890123456", "/events?after=", "/events?after=-1", "/events?after=007&other=x",

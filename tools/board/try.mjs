@@ -79,7 +79,7 @@ class Trial {
   }
 
   async state() {
-    const lines = (await run('python3', ['-B', join(TOP, 'bench/office.py'), 'given'])).trim().split('\n'), size = Math.ceil(lines.length / ROUNDS);
+    const lines = (await run('python3', ['-B', join(TOP, 'tests/office.py'), 'given'])).trim().split('\n'), size = Math.ceil(lines.length / ROUNDS);
     const told = await record(await Desk.make(this.program, join(this.folder, 'office.db')), Array.from({length: ROUNDS}, (_, part) => lines.slice(part * size, (part + 1) * size)));
     const {compared, wrong} = replay(await this.modules(), told);
     this.see('the state of the page', wrong.length === 0, wrong.slice(0, 5).join('\n'));
@@ -89,7 +89,7 @@ class Trial {
   }
 
   async buttons() {
-    const lines = (await run('python3', ['-B', join(TOP, 'bench/office.py'), 'given'])).trim().split('\n'), desk = await Desk.make(this.program, join(this.folder, 'buttons.db'));
+    const lines = (await run('python3', ['-B', join(TOP, 'tests/office.py'), 'given'])).trim().split('\n'), desk = await Desk.make(this.program, join(this.folder, 'buttons.db'));
     await desk.feed(lines.slice(0, 1500));
     await desk.serve();
     this.keep(desk, () => desk.stop());
@@ -99,7 +99,7 @@ class Trial {
   }
 
   async load() {
-    const lines = (await run('python3', ['-B', join(TOP, 'bench/office.py'), 'given'])).trim().split('\n'), desk = await Desk.make(this.program, join(this.folder, 'load.db'));
+    const lines = (await run('python3', ['-B', join(TOP, 'tests/office.py'), 'given'])).trim().split('\n'), desk = await Desk.make(this.program, join(this.folder, 'load.db'));
     await desk.feed(lines.slice(0, 400));
     await desk.serve();
     this.keep(desk, () => desk.stop());

@@ -1,4 +1,4 @@
-"""What acd-calls has to print of a day, reckoned from the states that bench/switch.py goes through, second by second, and from no event."""
+"""What acd-calls has to print of a day, reckoned from the states that tests/switch.py goes through, second by second, and from no event."""
 import bisect
 import json
 import sys
@@ -6,7 +6,7 @@ import time
 from collections import defaultdict
 from pathlib import Path
 
-sys.path.insert(0, str(Path(__file__).resolve().parents[2] / "bench"))
+sys.path.insert(0, str(Path(__file__).resolve().parents[2] / "tests"))
 from switch import Desk, order  # noqa: E402
 
 COLUMNS = {"ready": "ready", "busy": "talking", "workingAfterCall": "wrap_up"}

@@ -3,3 +3,4 @@ mod Numbered
 pub mod Keys
 mod Watching
 mod Places
+mod Listing

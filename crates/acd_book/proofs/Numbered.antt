@@ -20,7 +20,7 @@ zero_plus : (n : ℕ) → 0 + n ≡ n
 zero_plus n = omega arith
 
 -- the number of the first, and the rest
-first : {T : Type 0} (f : T → ℕ) (b : ℕ) (x : T) (xs : List T) → is_numbered f b (x ∷ xs) ≡ true → (f x ≡ b + 1) × (is_numbered f (b + 1) xs ≡ true)
+pub first : {T : Type 0} (f : T → ℕ) (b : ℕ) (x : T) (xs : List T) → is_numbered f b (x ∷ xs) ≡ true → (f x ≡ b + 1) × (is_numbered f (b + 1) xs ≡ true)
 first f b x xs h = let h = both (f x == b + 1) (is_numbered f (b + 1) xs) h in (eqb-true (f x) (b + 1) h.0, h.1)
 
 pub numbered-append : {T : Type 0} (f : T → ℕ) (b : ℕ) (xs ys : List T) → is_numbered f b xs ≡ true → is_numbered f (b + length xs) ys ≡ true → is_numbered f b (xs ++ ys) ≡ true

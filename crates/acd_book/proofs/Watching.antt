@@ -1,15 +1,88 @@
--- What a running monitor tells.
-use Rattle.std.proofs.Common.{◌≡◌, ℕ, max, true, List, take, drop, filter, Option, Some, sym, ap, ◌∙◌}
+-- What a running monitor tells, and how a log that is numbered from 1 finds it.
+use Rattle.std.proofs.Common.{arith, ◌≡◌, ℕ, ◌+◌, ◌-◌, ◌<◌, ◌≤◌, ◌==◌, zero, suc, max, Bool, true, false, cond, List, [], ◌∷◌, length, take, drop, filter, map, slice_get, Option, Some, None, inl, inr, refl, sym, ap, subst, ◌∙◌}
+use Rattle.std.specs.List.{cons_option, filter_map}
+use Rattle.std.proofs.lemmas.Bool.Decides.{nat_tests}
+use Rattle.acd_terms.specs.Lists.{Among, Every}
 use Rattle.acd_terms.specs.declared.event.Event.{Event}
 use Rattle.acd_terms.specs.declared.record.MonitorRecord.{MonitorRecord}
 use Rattle.acd_model.specs.Scans.{monitor_of}
-use Rattle.acd_book.specs.Content.{Content, is_at, watched_by, events_of_monitor}
-use Rattle.acd_book.specs.Memory.{is_numbered, number_of}
-use Rattle.acd_book.proofs.Numbered.{filter_above}
+use Rattle.acd_book.specs.Content.{Content, is_at, is_told, watched_by, events_of_monitor}
+use Rattle.acd_book.specs.Memory.{event_at, is_numbered, number_of}
+use Rattle.acd_book.proofs.Numbered.{filter_above, first}
 
-pub monitor_told : (c : Content) (monitor number limit : ℕ) (w : MonitorRecord) (found : List Event) → is_numbered number_of 0 c.events ≡ true → monitor_of c.rows monitor ≡ Some w
-    → found ≡ take limit (filter (is_at (Some w.device)) (drop (max number w.after_event) c.events)) → found ≡ events_of_monitor c monitor number limit
-monitor_told c monitor number limit w found numbered runs told =
-    told
-    ∙ ap (take limit) (sym (filter_above number_of (is_at (Some w.device)) (max number w.after_event) c.events numbered))
-    ∙ ap (λ (o : Option MonitorRecord). watched_by o c.events number limit) (sym runs)
+pub monitor_told : (c : Content) (monitor number limit : ℕ) (w : MonitorRecord) (found : List Event) → monitor_of c.rows monitor ≡ Some w
+    → found ≡ take limit (filter (is_told (Some w.device) (max number w.after_event)) c.events) → found ≡ events_of_monitor c monitor number limit
+monitor_told c monitor number limit w found runs told = told ∙ ap (λ (o : Option MonitorRecord). watched_by o c.events number limit) (sym runs)
+
+-- the events at a device that a log has behind a number
+pub told_behind : (device number limit : ℕ) (events found : List Event) → is_numbered number_of 0 events ≡ true → found ≡ take limit (filter (is_at (Some device)) (drop number events))
+    → found ≡ take limit (filter (is_told (Some device) number) events)
+told_behind device number limit events found numbered told = told ∙ ap (take limit) (sym (filter_above number_of (is_at (Some device)) number events numbered))
+
+-- no number is above how many there are
+pub none_exceeds : (b : ℕ) (events : List Event) → is_numbered number_of b events ≡ true → Every (λ (e : Event). e.number ≤ b + length events) events
+none_exceeds b [] numbered = tt
+none_exceeds b (e ∷ events) numbered =
+    let parts = first number_of b e events numbered in
+    let behind : (b + 1) + length events ≡ b + length (e ∷ events) = omega arith in
+    (omega (arith, parts.0), subst (λ (n : ℕ). Every (λ (e : Event). e.number ≤ n) events) behind (none_exceeds (b + 1) events parts.1))
+
+-- each stands at the place that its number gives
+placed : (b : ℕ) (events : List Event) (e : Event) → is_numbered number_of b events ≡ true → Among e events → (b < e.number) × (slice_get events (e.number - (b + 1)) ≡ Some e)
+placed b [] e numbered a = absurd a
+placed b (x ∷ events) e numbered (inl is) =
+    let parts = first number_of b x events numbered in
+    let number : e.number ≡ b + 1 = ap number_of is ∙ parts.0 in
+    let place : e.number - (b + 1) ≡ 0 = omega (arith, number) in
+    (omega (arith, number), ap (slice_get (x ∷ events)) place ∙ ap Some (sym is))
+placed b (x ∷ events) e numbered (inr a) =
+    let parts = first number_of b x events numbered in
+    let rest = placed (b + 1) events e parts.1 a in
+    let place : e.number - (b + 1) ≡ suc (e.number - ((b + 1) + 1)) = omega (arith, rest.0) in
+    (omega (arith, rest.0), ap (slice_get (x ∷ events)) place ∙ rest.1)
+
+above_none : (n : ℕ) → 0 < n → (n == 0) ≡ false
+above_none n h = grind (arith, nat_tests)
+
+at_number : (n : ℕ) (found : Option Event) → 0 < n → cond (n == 0) None found ≡ found
+at_number n found h = ap (λ (b : Bool). cond b None found) (above_none n h)
+
+found_at : (events : List Event) (e : Event) → is_numbered number_of 0 events ≡ true → Among e events → event_at events e.number ≡ Some e
+found_at events e numbered a = let at = placed 0 events e numbered a in at_number e.number (slice_get events (e.number - 1)) at.0 ∙ at.1
+
+-- those of the numbers of some are these
+pub found_all : (events some : List Event) → is_numbered number_of 0 events ≡ true → Every (λ (e : Event). Among e events) some → filter_map (event_at events) (map number_of some) ≡ some
+found_all events [] numbered all = refl
+found_all events (e ∷ some) numbered all =
+    ap (λ (o : Option Event). cons_option o (filter_map (event_at events) (map number_of some))) (found_at events e numbered all.0)
+    ∙ ap (λ (l : List Event). e ∷ l) (found_all events some numbered all.1)
+
+module _ {T : Type 0} (P : T → Type 0) where
+  every-filter : (p : T → Bool) (xs : List T) → Every P xs → Every P (filter p xs)
+  every-filter p [] all = tt
+  every-filter p (x ∷ xs) all = by (p x) (every-filter p xs all.1)
+    where
+      by : (b : Bool) → Every P (filter p xs) → Every P (cond b (x ∷ filter p xs) (filter p xs))
+      by true rest = (all.0, rest)
+      by false rest = rest
+
+  every-take : (n : ℕ) (xs : List T) → Every P xs → Every P (take n xs)
+  every-take zero xs all = tt
+  every-take (suc n) [] all = tt
+  every-take (suc n) (x ∷ xs) all = (all.0, every-take n xs all.1)
+
+every_more : {T : Type 0} (x : T) (some all : List T) → Every (λ (y : T). Among y all) some → Every (λ (y : T). Among y (x ∷ all)) some
+every_more x [] all h = tt
+every_more x (y ∷ some) all h = (inr h.0, every_more x some all h.1)
+
+all_among : {T : Type 0} (xs : List T) → Every (λ (y : T). Among y xs) xs
+all_among [] = tt
+all_among (x ∷ xs) = (inl refl, every_more x xs xs (all_among xs))
+
+-- a page of a list of numbers
+pub page_found : (device number limit : ℕ) (events : List Event) (numbers : List ℕ) → is_numbered number_of 0 events ≡ true → numbers ≡ map number_of (take limit (filter (is_told (Some device) number) events))
+    → filter_map (event_at events) numbers ≡ take limit (filter (is_told (Some device) number) events)
+page_found device number limit events numbers numbered are =
+    let told = is_told (Some device) number in
+    let there = every-take (λ (e : Event). Among e events) limit (filter told events) (every-filter (λ (e : Event). Among e events) told events (all_among events)) in
+    ap (filter_map (event_at events)) are ∙ found_all events (take limit (filter told events)) numbered there

@@ -1,5 +1,5 @@
 -- How a book in memory holds its content.
-use Rattle.std.specs.Prelude.{◌≡◌, ℕ, ◌+◌, Bool, true, ◌&&◌, ◌==◌, List, [], ◌∷◌}
+use Rattle.std.specs.Prelude.{◌≡◌, ℕ, ◌+◌, ◌-◌, Bool, true, ◌&&◌, ◌==◌, List, [], ◌∷◌, slice_get, Option, None, if◌then◌else◌}
 use Rattle.std.specs.List.{position_from}
 use Rattle.std.specs.HashMap.{HashMap, get}
 use Rattle.std.specs.declared.hash.FoldHasher.{FoldHasher}
@@ -20,6 +20,10 @@ stamp_of k = k.stamp
 
 abbrev pub number_of : Event → ℕ
 number_of e = e.number
+
+-- the event of a number, in a list that is numbered from 1
+abbrev pub event_at : List Event → ℕ → Option Event
+event_at events number = if number == 0 then None else slice_get events (number - 1)
 
 abbrev pub key_of : Kept → Key
 key_of k = record { requester = k.request.requester; invoke = k.request.invoke }

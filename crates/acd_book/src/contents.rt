@@ -1,15 +1,15 @@
 //! What a book in memory holds, and how a commit changes it: whole or not at all.
 
-ghost use Rattle.std.specs.Prelude.{◌≡◌, ◌≤◌, ◌<◌, ◌+◌, Some, IfOk, OnOk, OnErr, take, filter, length};
+ghost use Rattle.std.specs.Prelude.{◌≡◌, ◌≤◌, ◌<◌, ◌+◌, Some, IfOk, OnOk, OnErr, take, length};
 ghost use Rattle.acd_model.specs.Scans.{monitor_of};
-ghost use Rattle.acd_book.specs.Content.{empty_content, is_at, kept_of, IsKeptAfter, events_behind, events_of_monitor, committed, committed_by};
+ghost use Rattle.acd_book.specs.Content.{empty_content, kept_of, IsKeptAfter, events_behind, events_of_monitor, committed, committed_by};
 
 use crate::kept::Kept;
 use crate::ledger::Ledger;
 use crate::log::Log;
 use crate::replies::Replies;
 use acd_model::Change;
-use acd_terms::{DeviceId, Event, Invoke, Limits, Requester, Rows};
+use acd_terms::{Event, Invoke, Limits, Requester, Rows};
 use std::alloc::{AllocError, Global};
 
 /// The tables, the events and the kept records.
@@ -80,8 +80,8 @@ impl Contents {
         let Some(watched) = self.ledger.monitor(monitor)? else {
             return Ok(Vec::new(self.alloc));
         };
-        let events = self.log.behind(number.max(watched.after_event));
-        first_at(self.alloc, events, watched.device, limit)
+        let above = number.max(watched.after_event);
+        self.log.at_device(self.alloc, watched.device, above, limit)
     }
 
     pub(crate) fn commit(
@@ -101,6 +101,7 @@ impl Contents {
         let kept = kept.clone()?;
         let ledger = Ledger::from_rows(self.alloc, rows)?;
         self.replies.push(kept)?;
+        self.log.watch_only(self.alloc, rows.monitors.as_slice());
         self.log.append(events);
         self.ledger = ledger;
         Ok(())
@@ -126,6 +127,7 @@ impl Contents {
         self.ledger.reserve(changes.len())?;
         self.log.reserve(events.len())?;
         self.replies.push(kept)?;
+        self.log.watch(changes);
         self.log.append(events);
         self.ledger
             .append(changes, stamp, moment, events.len() as u64);
@@ -140,25 +142,4 @@ fn first(alloc: Global, events: &[Event], limit: usize) -> Result<Vec<Event>, Al
 {
     let end = limit.min(events.len());
     events[..end].to_vec(alloc)
-}
-
-// The first of these at a device.
-fn first_at(
-    alloc: Global,
-    events: &[Event],
-    device: DeviceId,
-    limit: usize,
-) -> Result<Vec<Event>, AllocError>
-    ensures { IfOk result (λ found. found.items ≡ take limit (filter (is_at (Some device)) events.now)) }
-{
-    let mut found = Vec::new(alloc);
-    for event in events {
-        if found.len() == limit {
-            return Ok(found);
-        }
-        if event.report.columns().device == Some(device) {
-            found.push(*event)?;
-        }
-    }
-    Ok(found)
 }

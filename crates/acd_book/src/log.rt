@@ -1,16 +1,24 @@
 //! The event reports of a book in memory.
 
-ghost use Rattle.std.specs.Prelude.{◌≡◌, ◌+◌, ◌≤◌, ◌++◌, [], true, drop, length, vec_len, vec_capacity, OnOk};
-ghost use Rattle.acd_book.specs.Memory.{is_numbered, number_of};
+ghost use Rattle.std.specs.Prelude.{◌≡◌, ◌+◌, ◌≤◌, ◌++◌, [], Some, true, drop, filter, length, take, vec_len, vec_capacity, IfOk, OnOk};
+ghost use Rattle.std.specs.List.{cons_option, filter_map};
+ghost use Rattle.std.proofs.Props.{props};
+ghost use Rattle.acd_book.specs.Content.{is_at, is_told};
+ghost use Rattle.acd_book.specs.Memory.{event_at, is_numbered, number_of};
+ghost use Rattle.acd_book.specs.Watched.{IsWatched, listed_prop};
 
-use acd_terms::Event;
+use crate::watched::Watched;
+use acd_model::Change;
+use acd_terms::{DeviceId, Event, MonitorRecord};
 use std::alloc::{AllocError, Global};
 
-/// The events, whose numbers are 1, 2, 3 and so on.
+/// The events, whose numbers are 1, 2, 3 and so on, and which of them are at the devices that are watched.
 #[derive(Drop)]
 pub(crate) struct Log {
     pub(crate) events: Vec<Event>,
+    pub(crate) watched: Watched,
     ghost numbered: { is_numbered number_of 0 events.items ≡ true },
+    ghost told: { IsWatched events.items watched } by { Prim.hlevel (props, listed_prop) },
 }
 
 impl Log {
@@ -19,6 +27,7 @@ impl Log {
     {
         Log {
             events: Vec::new(alloc),
+            watched: Watched::new(alloc),
         }
     }
 
@@ -28,6 +37,42 @@ impl Log {
     {
         let place = (number as usize).min(self.events.len());
         &self.events[place..]
+    }
+
+    // The event of a number.
+    fn event_at(&self, number: u64) -> Option<Event>
+        ensures { result ≡ event_at self.now.events.items number }
+    {
+        let place = number.checked_sub(1)?;
+        self.events.get(place as usize).copied()
+    }
+
+    // The events of these numbers.
+    fn events_at(&self, alloc: Global, numbers: &[u64]) -> Result<Vec<Event>, AllocError>
+        ensures { IfOk result (λ found. found.items ≡ filter_map (event_at self.now.events.items) numbers.now) }
+    {
+        let mut found = Vec::with_capacity(alloc, numbers.len())?;
+        for number in numbers {
+            let event = self.event_at(*number);
+            push_if(&mut found, &event)?;
+        }
+        Ok(found)
+    }
+
+    /// The first events at a device above a number.
+    pub(crate) fn at_device(
+        &self,
+        alloc: Global,
+        device: DeviceId,
+        number: u64,
+        limit: usize,
+    ) -> Result<Vec<Event>, AllocError>
+        ensures { IfOk result (λ found. found.items ≡ take limit (filter (is_told (Some device) number) self.now.events.items)) }
+    {
+        match self.watched.numbers(device, number, limit) {
+            Some(numbers) => self.events_at(alloc, numbers),
+            None => first_at(alloc, self.behind(number), device, limit),
+        }
     }
 
     /// The numbers of these go on.
@@ -52,6 +97,22 @@ impl Log {
         self.events.reserve(events)
     }
 
+    /// Watches what changes begin to watch, from the next event on, and no longer what they cease to.
+    pub(crate) fn watch(&mut self, changes: &[Change])
+        ensures same { self.new.events ≡ self.old.events }
+    {
+        let last = self.events.len() as u64;
+        self.watched.change(changes, last);
+    }
+
+    /// Watches the devices of these monitors from the next event on, and no others.
+    pub(crate) fn watch_only(&mut self, alloc: Global, monitors: &[MonitorRecord])
+        ensures same { self.new.events ≡ self.old.events }
+    {
+        let last = self.events.len() as u64;
+        self.watched = Watched::of_monitors(alloc, monitors, last);
+    }
+
     /// Adds events that go on, for which there is room.
     pub(crate) fn append(&mut self, events: &[Event])
         requires room { vec_len self.old.events + length events.now ≤ vec_capacity self.old.events }
@@ -59,5 +120,37 @@ impl Log {
         ensures { self.new.events.items ≡ self.old.events.items ++ events.now }
     {
         let _ = self.events.extend_from_slice(events);
+        self.watched.note_all(events);
     }
+}
+
+// Puts it at the end, if there is one.
+fn push_if<T: Copy + Drop>(list: &mut Vec<T>, item: &Option<T>) -> Result<(), AllocError>
+    ensures { OnOk result (list.new.items ≡ list.old.items ++ cons_option item.now []) }
+{
+    if let Some(item) = item {
+        list.push(*item)?;
+    }
+    Ok(())
+}
+
+// The first of these at a device.
+fn first_at(
+    alloc: Global,
+    events: &[Event],
+    device: DeviceId,
+    limit: usize,
+) -> Result<Vec<Event>, AllocError>
+    ensures { IfOk result (λ found. found.items ≡ take limit (filter (is_at (Some device)) events.now)) }
+{
+    let mut found = Vec::new(alloc);
+    for event in events {
+        if found.len() == limit {
+            return Ok(found);
+        }
+        if event.report.columns().device == Some(device) {
+            found.push(*event)?;
+        }
+    }
+    Ok(found)
 }

@@ -29,3 +29,4 @@ pub mod OldOffers
 pub mod OldRuns
 pub mod Recast
 pub mod Following
+pub mod GroupLines

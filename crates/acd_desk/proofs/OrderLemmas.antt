@@ -56,7 +56,7 @@ among-mapped f x (y ∷ ys) (inl e) = inl (ap f e)
 among-mapped f x (y ∷ ys) (inr a) = inr (among-mapped f x ys a)
 
 module _ {T : Type 0} (key : T → ℕ × ℕ) where
-  abbrev by_key : T → T → Ordering
+  abbrev pub by_key : T → T → Ordering
   by_key x y = pair_cmp (key x) (key y)
 
   -- no two have the same key
@@ -133,18 +133,31 @@ ready-apart (x ∷ xs) h = (
   ready-apart xs h.1,
 )
 
+-- who waits in a group, and that no two of them have one place and call
+module _ (s : Rows) (rules : BreaksNoRule s) (g : ℕ) where
+  abbrev waits : ConnectionRecord → Bool
+  waits c = c.device == g && is_queued c.state
+
+  waiting_there : (z : ConnectionRecord) → Among z (filter waits s.connections) → z.device ≡ g
+  waiting_there z a = eqb-true z.device g (and_parts (z.device == g) (is_queued z.state) (filter_among waits s.connections z a).1).0
+
+  pub waiting_apart : Apart waiting_pair (waiting_in s g)
+  unfolding waiting_in
+  waiting_apart = waiting-apart g (filter waits s.connections) (ascending-filter connection_order waits s.connections (rules_are_kept s rules).orders.connections) waiting_there
+
 module _ (s : Rows) (rules : BreaksNoRule s) (g : ℕ) (set : BTreeSet (ℕ × ℕ)) (sorted : IsStrictlySortedBy pair_cmp set.keys) where
+  pub waiting_keys : ((p : ℕ × ℕ) → (contains pair_cmp set p ≡ true) ↔ Among p (map waiting_pair (waiting_in s g))) → set.keys ≡ map waiting_pair (queue_in s g)
+  unfolding queue_in
+  waiting_keys members = lent_keys waiting_pair set (waiting_in s g) sorted (waiting_apart s rules g) members
+
   pub waiting_lent : ((p : ℕ × ℕ) → (contains pair_cmp set p ≡ true) ↔ Among p (map waiting_pair (waiting_in s g))) → filter_map (λ p. connection_of s p.1 g) set.keys ≡ queue_in s g
   unfolding queue_in waiting_in
   waiting_lent members =
-      let at : ConnectionRecord → Bool = λ c. c.device == g && is_queued c.state in
       let order = (rules_are_kept s rules).orders.connections in
-      let there : (z : ConnectionRecord) → Among z (filter at s.connections) → z.device ≡ g = λ z a. eqb-true z.device g (and_parts (z.device == g) (is_queued z.state) (filter_among at s.connections z a).1).0 in
-      let apart = waiting-apart g (filter at s.connections) (ascending-filter connection_order at s.connections order) there in
-      ap (filter_map (λ p. connection_of s p.1 g)) (lent_keys waiting_pair set (filter at s.connections) sorted apart members)
-      ∙ each-found waiting_pair (λ p. connection_of s p.1 g) (in_order by_place (filter at s.connections)) (λ x a.
-      let mine = ordered_among waiting_pair (filter at s.connections) x a in
-      subst (λ d. connection_of s x.call d ≡ Some x) (there x mine) (connection_found s order x (filter_among at s.connections x mine).0))
+      ap (filter_map (λ p. connection_of s p.1 g)) (waiting_keys members)
+      ∙ each-found waiting_pair (λ p. connection_of s p.1 g) (in_order by_place (filter (waits s rules g) s.connections)) (λ x a.
+      let mine = ordered_among waiting_pair (filter (waits s rules g) s.connections) x a in
+      subst (λ d. connection_of s x.call d ≡ Some x) (waiting_there s rules g x mine) (connection_found s order x (filter_among (waits s rules g) s.connections x mine).0))
 
   pub ready_lent : ((p : ℕ × ℕ) → (contains pair_cmp set p ≡ true) ↔ Among p (map ready_pair (eligible_in s g))) → map (λ (p : ℕ × ℕ). p.1) set.keys ≡ ready_in s g
   unfolding ready_in eligible_in

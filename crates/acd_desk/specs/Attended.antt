@@ -7,7 +7,7 @@ use Rattle.acd_book.specs.State.{IfHonest}
 use Rattle.acd_desk.specs.declared.taken.Taken.{Taken}
 use Rattle.acd_desk.specs.declared.taken.Taken.TheVariants.{StoreFault}
 use Rattle.acd_desk.specs.Served.{served, maybe_last, sent}
-use Rattle.acd_desk.specs.Stands.{IsSound, ran_after, replies, StopsAt}
+use Rattle.acd_desk.specs.Stands.{ran_after, replies, StopsAt}
 use Rattle.acd_desk.specs.Standing.{Standing, InStep}
 use Rattle.acd_desk.specs.Ran.{IfStarted}
 

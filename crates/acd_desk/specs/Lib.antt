@@ -23,3 +23,4 @@ pub mod OldChoice
 pub mod OldStep
 pub mod OldSound
 pub mod Following
+pub mod GroupStates

@@ -20,6 +20,7 @@ mod desk;
 mod executing;
 mod export;
 mod fault;
+mod group_states;
 pub mod laws;
 mod open_fault;
 mod reads;

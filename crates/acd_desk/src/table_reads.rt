@@ -8,11 +8,12 @@ ghost use Rattle.acd_model.specs.Rules.First.{BreaksNoRule};
 ghost use Rattle.acd_tables.specs.Indexed.{pair_cmp};
 ghost use Rattle.acd_desk.specs.Tells.{told, agent_read, call_read, station_in, device_in, device_read, queue_read, report_read, live_call, snapshot_of, snapshot_read, table_read};
 
+use crate::group_states::group_states;
 use acd_codec::{
     LiveCall, PlannedDevice, PlannedStation, Snapshot, agent_text, call_text, device_text,
     queue_text, snapshot_text,
 };
-use acd_reports::queue_report;
+use acd_reports::groups_report;
 use acd_tables::Tables;
 use acd_terms::{AgentId, CallRecord, ConnectionRecord, DeviceId, Listed, StationRecord};
 use std::alloc::{AllocError, Global};
@@ -189,11 +190,13 @@ fn queue_read(alloc: Global, tables: &Tables, group: DeviceId) -> Result<Option<
     Ok(Some(queue_text(alloc, group, &waiting, &agents)?))
 }
 
+#[tactic(auto, unfolding(acd_reports::specs::QueueReport::queue_report))]
 fn report_read(alloc: Global, tables: &Tables, moment: u32) -> Result<Option<String>, AllocError>
+    requires { BreaksNoRule tables.now }
     ensures { IfOk result (λ text. told text ≡ report_read tables.now moment) }
 {
-    let rows = tables.rows()?;
-    let report = queue_report(alloc, &rows, moment.max(tables.last_moment()))?;
+    let states = group_states(alloc, tables)?;
+    let report = groups_report(alloc, &states, moment.max(tables.last_moment()))?;
     Ok(Some(report))
 }
 

@@ -94,8 +94,9 @@ pub(crate) fn read<B: Book>(
 ) -> AnswerLine
     ensures { Answers (standing B.Book) desk.old (request_read moment json.now) (answered_text result) desk.new }
 {
-    match requests.read(json) {
-        Ok(request) => execute(alloc, desk, moment, &request),
-        Err(fault) => unread(fault),
+    let read = requests.read(json);
+    match &read {
+        Ok(request) => execute(alloc, desk, moment, request),
+        Err(fault) => unread(*fault),
     }
 }

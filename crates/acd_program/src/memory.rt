@@ -19,8 +19,10 @@ pub fn new_desk(alloc: Global) -> Result<Desk<MemoryBook>, AllocError>
     match Desk::open(alloc, MemoryBook::new(alloc, Limits::GREATEST)) {
         Ok(desk) => Ok(desk),
         Err((OpenFault::NoMemory, _)) => Err(AllocError),
-        // its rows break no rule, and it has no store
-        Err((OpenFault::Rows(_) | OpenFault::Store, _)) => unreachable!(),
+        // its rows break no rule
+        Err((OpenFault::Rows(_), _)) => unreachable!(),
+        // and it has no store
+        Err((OpenFault::Store, _)) => unreachable!(),
     }
 }
 

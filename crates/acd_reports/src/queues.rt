@@ -1,12 +1,24 @@
 //! The queue report.
 
-ghost use Rattle.std.specs.Prelude.{◌≡◌, ◌++◌, length, IfOk, OnOk, string_bytes};
+ghost use Rattle.std.specs.Prelude.{◌≡◌, ◌++◌, length, map, IfOk, OnOk, string_bytes};
 ghost use Rattle.acd_model.specs.Scans.{waiting_in};
-ghost use Rattle.acd_reports.specs.QueueReport.{average_wait, first_queued, longest_wait, ringing_from, group_line, queue_report};
+ghost use Rattle.acd_reports.specs.QueueReport.{average_wait, first_queued, longest_wait, ringing_from, state_of, group_line, report_of, queue_report};
 
 use crate::columns::{push_left, push_numbers};
 use acd_terms::{DeviceId, Figures, GroupRecord, Rows};
 use std::alloc::{AllocError, Global};
+
+/// What the queue report shows of a group.
+#[derive(Clone, Copy)]
+pub struct GroupState {
+    pub group: GroupRecord,
+    /// How many calls wait in it.
+    pub waiting: usize,
+    /// How many calls ring by distribution from it.
+    pub ringing: usize,
+    /// The least moment at which one of the calls that wait in it entered, in seconds.
+    pub first_queued: Option<u32>,
+}
 
 const HEADER: &str =
     "group           waiting ringing    entered   answered  abandoned      moved    average    longest name\n";
@@ -53,32 +65,52 @@ fn first_queued(rows: &Rows, group: DeviceId) -> Option<u32>
         .min()
 }
 
-fn longest_wait(rows: &Rows, group: DeviceId, moment: u32) -> Option<u64>
-    ensures { result ≡ longest_wait rows.now group moment }
+fn longest_wait(first: Option<u32>, moment: u32) -> Option<u64>
+    ensures { result ≡ longest_wait first moment }
 {
-    let first = first_queued(rows, group)?;
-    Some(u64::from(moment.saturating_sub(first)))
+    Some(u64::from(moment.saturating_sub(first?)))
+}
+
+fn state_of(rows: &Rows, group: &GroupRecord) -> GroupState
+    ensures { result ≡ state_of rows.now group.now }
+{
+    GroupState {
+        group: *group,
+        waiting: waiting_in(rows, group.device),
+        ringing: ringing_from(rows, group.device),
+        first_queued: first_queued(rows, group.device),
+    }
+}
+
+fn states_of(
+    alloc: Global,
+    rows: &Rows,
+    groups: &[GroupRecord],
+) -> Result<Vec<GroupState>, AllocError>
+    ensures { IfOk result (λ v. v.items ≡ map (state_of rows.now) groups.now) }
+{
+    let mut states = Vec::with_capacity(alloc, groups.len())?;
+    for group in groups {
+        states.push(state_of(rows, group))?;
+    }
+    Ok(states)
 }
 
 #[tactic(auto, unfolding(crate::specs::QueueReport::group_line))]
-fn push_group(
-    report: &mut String,
-    rows: &Rows,
-    moment: u32,
-    group: &GroupRecord,
-) -> Result<(), AllocError>
-    ensures { OnOk result (string_bytes report.new ≡ string_bytes report.old ++ group_line rows.now moment group.now) }
+fn push_group(report: &mut String, moment: u32, state: &GroupState) -> Result<(), AllocError>
+    ensures { OnOk result (string_bytes report.new ≡ string_bytes report.old ++ group_line moment state.now) }
 {
+    let group = &state.group;
     let figures = group.figures;
     let numbers = [
-        (7, Some(waiting_in(rows, group.device) as u64)),
-        (7, Some(ringing_from(rows, group.device) as u64)),
+        (7, Some(state.waiting as u64)),
+        (7, Some(state.ringing as u64)),
         (10, Some(figures.entered)),
         (10, Some(figures.answered)),
         (10, Some(figures.abandoned)),
         (10, Some(figures.moved)),
         (10, average_wait(figures)),
-        (10, longest_wait(rows, group.device, moment)),
+        (10, longest_wait(state.first_queued, moment)),
     ];
     push_left(report, 15, group.device.text().as_str())?;
     push_numbers(report, &numbers)?;
@@ -87,15 +119,28 @@ fn push_group(
     report.push('\n')
 }
 
-/// The queue report at a moment: a header line, and a line for each group in the order of the rows. It takes any
-/// rows; calls that entered their queue after the moment have waited for 0 seconds.
-#[tactic(auto, unfolding(crate::specs::QueueReport::queue_report, crate::specs::QueueReport::header_line))]
+/// The queue report of these groups at a moment: a header line, and a line for each group, in their order. Calls that
+/// entered their queue after the moment have waited for 0 seconds.
+#[tactic(auto, unfolding(crate::specs::QueueReport::report_of, crate::specs::QueueReport::header_line))]
+pub fn groups_report(
+    alloc: Global,
+    groups: &[GroupState],
+    moment: u32,
+) -> Result<String, AllocError>
+    ensures { IfOk result (λ s. string_bytes s ≡ report_of groups.now moment) }
+{
+    let mut report = String::from_str(alloc, HEADER)?;
+    for state in groups {
+        push_group(&mut report, moment, state)?;
+    }
+    Ok(report)
+}
+
+/// The queue report of rows at a moment, a line for each group in their order. It takes any rows.
+#[tactic(auto, unfolding(crate::specs::QueueReport::queue_report))]
 pub fn queue_report(alloc: Global, rows: &Rows, moment: u32) -> Result<String, AllocError>
     ensures { IfOk result (λ s. string_bytes s ≡ queue_report rows.now moment) }
 {
-    let mut report = String::from_str(alloc, HEADER)?;
-    for group in &rows.groups {
-        push_group(&mut report, rows, moment, group)?;
-    }
-    Ok(report)
+    let states = states_of(alloc, rows, rows.groups.as_slice())?;
+    groups_report(alloc, &states, moment)
 }

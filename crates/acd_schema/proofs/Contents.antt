@@ -40,7 +40,8 @@ use Rattle.acd_columns.specs.declared.tables.Table.TheVariants as table
 use Rattle.acd_columns.specs.declared.tables.Version.{Version}
 use Rattle.acd_columns.specs.declared.tables.Version.TheVariants as version
 use Rattle.acd_columns.specs.AnyRows.{is_good, are_good, is_good_in, values_in, rows_in, schema_of, IsFiledAs, HaveAllColumns}
-use Rattle.acd_schema.specs.Inspecting.{is_good_table, IsOfBook, IsInRange}
+use Rattle.acd_schema.specs.Inspecting.{IsOfBook}
+use Rattle.acd_statements.specs.InRange.{is_good_table, IsInRange}
 use Rattle.acd_columns.specs.declared.relations.AgentRow.{AgentRow}
 use Rattle.acd_columns.specs.declared.relations.GroupRow.{GroupRow}
 use Rattle.acd_columns.specs.declared.relations.GroupPriority.{GroupPriority}

@@ -1,7 +1,10 @@
 mod Making
 mod Building
+mod Stopping
 pub mod Contents
 mod Paged
 mod Places
 mod Looks
 mod Migrated
+mod Taken
+mod Takings

@@ -23,10 +23,10 @@ use Rattle.acd_schema.specs.declared.fault.AdoptFault.TheVariants.{WrongVersion,
 use Rattle.acd_columns.specs.declared.tables.Log.{Log}
 use Rattle.acd_schema.specs.declared.fault.Found.{Found}
 use Rattle.acd_schema.specs.declared.fault.Found.TheVariants.{Book, Fault}
-use Rattle.acd_schema.specs.declared.inspection.Told.{Told}
-use Rattle.acd_schema.specs.declared.inspection.Told.TheVariants.{Of, Faulty}
-use Rattle.acd_schema.specs.declared.inspection.Page.{Page}
-use Rattle.acd_schema.specs.declared.inspection.Page.TheVariants.{Bad, Last, More}
+use Rattle.acd_schema.specs.declared.verdict.Told.{Told}
+use Rattle.acd_schema.specs.declared.verdict.Told.TheVariants.{Of, Faulty}
+use Rattle.acd_schema.specs.declared.verdict.Page.{Page}
+use Rattle.acd_schema.specs.declared.verdict.Page.TheVariants.{Bad, Last, More}
 use Rattle.acd_columns.specs.AnyRows.{is_good, is_good_in, are_good, rows_in, table_of_log, has_meta, Numbered, AreNumbered, AreSameFirst, BeginsAsBook, schema_of, Covers, is_beside, is_ranked, IsFiledAs, TellsGood, TellsLow, IsPageRows}
 use Rattle.acd_schema.specs.Inspecting.{is_good_behind, told_by, told_of, tables_of, TellsBehind, IsBadOf, IsPage, IsPageOf, IsTold, IsToldIn, IsRowFound, IsPlaceFound, IsFound}
 use Rattle.acd_columns.specs.Draft.{NoStop}

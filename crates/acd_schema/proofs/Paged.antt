@@ -20,8 +20,8 @@ use Rattle.acd_laws.proofs.Lists.{after_among, filter_all, filter_among, ascendi
 use Rattle.acd_book.specs.declared.kept.Kept.{Kept}
 use Rattle.acd_columns.specs.declared.tables.Log.{Log}
 use Rattle.acd_columns.specs.declared.tables.Log.TheVariants as log
-use Rattle.acd_schema.specs.declared.inspection.Page.{Page}
-use Rattle.acd_schema.specs.declared.inspection.Page.TheVariants.{Bad, Last, More}
+use Rattle.acd_schema.specs.declared.verdict.Page.{Page}
+use Rattle.acd_schema.specs.declared.verdict.Page.TheVariants.{Bad, Last, More}
 use Rattle.acd_columns.specs.AnyRows.{is_good, are_good, is_good_in, rows_in, values_in, table_of_log, Numbered, AreNumbered, FromOne, TellsGood, IsPageRows}
 use Rattle.acd_schema.specs.Inspecting.{is_good_behind, number_if_good, last_good, TellsBehind, IsPageOf, IsPage}
 use Rattle.acd_columns.specs.declared.tables.Version.TheVariants as version

@@ -1,5 +1,5 @@
 -- When a connection is taken for a book: its version is that of these tables, and each value is in its range.
-use Rattle.std.specs.Prelude.{◌==◌, ◌≡◌, ◌≢◌, ◌⊎◌, ℕ, Bool, true, false, List, [], ◌∷◌, map, Option, None, Some, if◌then◌else◌, ⊤}
+use Rattle.std.specs.Prelude.{◌==◌, ◌≡◌, ◌≢◌, ◌⊎◌, ℕ, Bool, true, false, List, [], ◌∷◌, Option, None, Some, if◌then◌else◌, ⊤}
 use Rattle.sqlite_value.specs.Order.{Row}
 use Rattle.sqlite_trees.specs.Tree.{Trees}
 use Rattle.sqlite_rules.specs.Lists.{Has}
@@ -8,11 +8,7 @@ use Rattle.sqlite.specs.Effect.{Database}
 use Rattle.sqlite.specs.declared.error.Error.{Error}
 use Rattle.sqlite.specs.declared.error.Error.TheVariants.{SqliteFailure}
 use Rattle.sqlite.specs.declared.error.ErrorCode.TheVariants.{OutOfMemory}
-use Rattle.acd_terms.specs.Groups.{are_groups}
 use Rattle.acd_terms.specs.Lists.{Every}
-use Rattle.acd_terms.specs.declared.record.GroupRecord.{GroupRecord}
-use Rattle.acd_terms.specs.declared.record.AgentRecord.{AgentRecord}
-use Rattle.acd_book.specs.Content.{Content}
 use Rattle.acd_columns.specs.declared.tables.Table.{Table}
 use Rattle.acd_columns.specs.declared.tables.Table.TheVariants as table
 use Rattle.acd_schema.specs.declared.fault.AdoptFault.{AdoptFault}
@@ -22,45 +18,18 @@ use Rattle.acd_columns.specs.declared.tables.Version.{Version}
 use Rattle.acd_columns.specs.declared.tables.Version.TheVariants as version
 use Rattle.acd_schema.specs.declared.fault.Found.{Found}
 use Rattle.acd_schema.specs.declared.fault.Found.TheVariants.{Book, Fault}
-use Rattle.acd_schema.specs.declared.inspection.Likeness.{Likeness}
-use Rattle.acd_schema.specs.declared.inspection.Likeness.TheVariants.{Whole, First, Other}
-use Rattle.acd_schema.specs.declared.inspection.Told.{Told}
-use Rattle.acd_schema.specs.declared.inspection.Told.TheVariants.{Of, Faulty}
-use Rattle.acd_schema.specs.declared.inspection.Page.{Page}
-use Rattle.acd_schema.specs.declared.inspection.Page.TheVariants.{Bad, Last, More}
-use Rattle.acd_columns.specs.Relations.{meta_of, group_part, agent_part, further_in, priorities_in}
+use Rattle.acd_schema.specs.declared.verdict.Likeness.{Likeness}
+use Rattle.acd_schema.specs.declared.verdict.Likeness.TheVariants.{Whole, First, Other}
+use Rattle.acd_schema.specs.declared.verdict.Told.{Told}
+use Rattle.acd_schema.specs.declared.verdict.Told.TheVariants.{Of, Faulty}
+use Rattle.acd_schema.specs.declared.verdict.Page.{Page}
+use Rattle.acd_schema.specs.declared.verdict.Page.TheVariants.{Bad, Last, More}
 use Rattle.acd_columns.specs.Content.{IsIn, number_of}
 use Rattle.acd_columns.specs.Draft.{Fits}
 use Rattle.acd_columns.specs.AnyRows.{is_good, are_good, is_good_in, is_beside, is_ranked, IsFiledAs, table_of_log, Numbered, AreNumbered, values_behind, has_meta, BeginsAsBook, schema_of, Covers}
-use Rattle.acd_columns.specs.Rows.{meta_shown, group_values, station_values, agent_values, call_values, connection_values, monitor_values, event_values, kept_values, further_values, priority_values}
 use Rattle.acd_columns.specs.Schema.{book_schema}
 use Rattle.acd_columns.specs.Schema as schema
 use Rattle.acd_columns.specs.Values.{◌>>=◌, whole_at}
-
--- ---- ranges
-
--- the values of the rows of a table
-abbrev pub values_of : Table → Content → List Row
-values_of table.Meta c = meta_shown (meta_of c.rows) ∷ []
-values_of table.Groups c = map (λ (g : GroupRecord). group_values (group_part g)) c.rows.groups
-values_of table.Stations c = map station_values c.rows.stations
-values_of table.Agents c = map (λ (a : AgentRecord). agent_values (agent_part a)) c.rows.agents
-values_of table.Calls c = map call_values c.rows.calls
-values_of table.Connections c = map connection_values c.rows.connections
-values_of table.Monitors c = map monitor_values c.rows.monitors
-values_of table.Events c = map event_values c.events
-values_of table.Kept c = map kept_values c.kept
-values_of table.AgentGroups c = map further_values (further_in c.rows.agents)
-values_of table.GroupPriority c = map priority_values (priorities_in c.rows.groups)
-
--- each value of the table is in its range
-unfoldable pub is_good_table : Table → Content → Bool
-is_good_table t c = are_good t (values_of t c)
-
--- each value of each table is, and each agent has eight groups at most, which ascend
-pub record IsInRange (c : Content) : Type 0 where
-  pub tables : (t : Table) → is_good_table t c ≡ true
-  pub groups : Every (λ (a : AgentRecord). are_groups a.groups ≡ true) c.rows.agents
 
 -- the tables of a version, in the order in which they are looked at
 abbrev pub tables_of : Version → List Table

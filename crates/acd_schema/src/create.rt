@@ -1,6 +1,6 @@
 //! Makes the tables of a book.
 
-ghost use Rattle.std.specs.Prelude.{◌≡◌, ◌↔◌, ◌++◌, ◌∷◌, [], List, false, IsTrue, OnOk};
+ghost use Rattle.std.specs.Prelude.{◌≡◌, ◌↔◌, ◌++◌, ◌∷◌, [], List, false, IsTrue, IfErr, OnOk};
 ghost use Rattle.sqlite_value.specs.Order.{Row as Values};
 ghost use Rattle.sqlite_schema.specs.declared.schema.Table.{Table};
 ghost use Rattle.sqlite_schema.specs.declared.schema.Schema.{Schema};
@@ -11,7 +11,8 @@ ghost use Rattle.acd_columns.specs.Schema.{no_schema, old_schema, book_schema};
 ghost use Rattle.acd_columns.specs.Making.{Makes, Builds, no_rows, plan_schema, state_schema};
 ghost use Rattle.acd_columns.specs.Draft.{Works, Holds, LimitsFit};
 ghost use Rattle.acd_book.specs.Content.{empty_content};
-ghost use Rattle.acd_schema.specs.SettingUp.{MayMake};
+ghost use Rattle.acd_schema.specs.SettingUp.{MayMake, FailsToMake, FailsToSetUp};
+ghost use Rattle.acd_statements.specs.Failing.{FailsToWrite};
 
 use acd_columns::Meta;
 use acd_columns::texts::{
@@ -37,6 +38,9 @@ fn make<S: Alter>(tx: &mut Transaction<'_, S>, sql: &str) -> Result<(), Error>
     ensures works { Works (state S.Store tx.old.conn.now) (state S.Store tx.new.conn.now) }
     ensures made { HasCleanDisk (state S.Store tx.new.conn.now) → OnOk result ((schema : Schema) (table : Table) (rows : List (List Values)) → Makes schema sql.now table
         → Builds (state S.Store tx.old.conn.now) schema rows → Builds (state S.Store tx.new.conn.now) (created schema table) (rows ++ [] ∷ [])) }
+    ensures failed { HasCleanDisk (state S.Store tx.new.conn.now)
+        → IsTrue (state S.Store tx.old.conn.now).in_transaction → IfErr result (FailsToWrite
+        (state S.Store tx.old.conn.now) (state S.Store tx.new.conn.now) sql.now []) }
 {
     write(tx, sql, &[])
 }
@@ -46,6 +50,10 @@ fn make_plan<S: Alter>(tx: &mut Transaction<'_, S>) -> Result<(), Error>
     ensures same { tx.new.conn.ghost_name ≡ tx.old.conn.ghost_name }
     ensures works { Works (state S.Store tx.old.conn.now) (state S.Store tx.new.conn.now) }
     ensures made { HasCleanDisk (state S.Store tx.new.conn.now) → OnOk result (Builds (state S.Store tx.old.conn.now) no_schema (no_rows 0) → Builds (state S.Store tx.new.conn.now) plan_schema (no_rows 4)) }
+    ensures failed { HasCleanDisk (state S.Store tx.new.conn.now)
+        → Builds (state S.Store tx.old.conn.now) no_schema (no_rows 0)
+        → IfErr result (FailsToMake
+        (state S.Store tx.old.conn.now) (state S.Store tx.new.conn.now)) }
 {
     make(tx, CREATE_META)?;
     make(tx, CREATE_GROUPS)?;
@@ -59,6 +67,10 @@ fn make_state<S: Alter>(tx: &mut Transaction<'_, S>) -> Result<(), Error>
     ensures same { tx.new.conn.ghost_name ≡ tx.old.conn.ghost_name }
     ensures works { Works (state S.Store tx.old.conn.now) (state S.Store tx.new.conn.now) }
     ensures made { HasCleanDisk (state S.Store tx.new.conn.now) → OnOk result (Builds (state S.Store tx.old.conn.now) plan_schema (no_rows 4) → Builds (state S.Store tx.new.conn.now) state_schema (no_rows 7)) }
+    ensures failed { HasCleanDisk (state S.Store tx.new.conn.now)
+        → Builds (state S.Store tx.old.conn.now) plan_schema (no_rows 4)
+        → IfErr result (FailsToMake
+        (state S.Store tx.old.conn.now) (state S.Store tx.new.conn.now)) }
 {
     make(tx, CREATE_CALLS)?;
     make(tx, CREATE_CONNECTIONS)?;
@@ -71,6 +83,10 @@ fn make_log<S: Alter>(tx: &mut Transaction<'_, S>) -> Result<(), Error>
     ensures same { tx.new.conn.ghost_name ≡ tx.old.conn.ghost_name }
     ensures works { Works (state S.Store tx.old.conn.now) (state S.Store tx.new.conn.now) }
     ensures made { HasCleanDisk (state S.Store tx.new.conn.now) → OnOk result (Builds (state S.Store tx.old.conn.now) state_schema (no_rows 7) → Builds (state S.Store tx.new.conn.now) old_schema (no_rows 9)) }
+    ensures failed { HasCleanDisk (state S.Store tx.new.conn.now)
+        → Builds (state S.Store tx.old.conn.now) state_schema (no_rows 7)
+        → IfErr result (FailsToMake
+        (state S.Store tx.old.conn.now) (state S.Store tx.new.conn.now)) }
 {
     make(tx, CREATE_EVENTS)?;
     make(tx, CREATE_KEPT)?;
@@ -82,6 +98,10 @@ fn make_nine<S: Alter>(tx: &mut Transaction<'_, S>) -> Result<(), Error>
     ensures same { tx.new.conn.ghost_name ≡ tx.old.conn.ghost_name }
     ensures works { Works (state S.Store tx.old.conn.now) (state S.Store tx.new.conn.now) }
     ensures made { HasCleanDisk (state S.Store tx.new.conn.now) → OnOk result (Builds (state S.Store tx.old.conn.now) no_schema (no_rows 0) → Builds (state S.Store tx.new.conn.now) old_schema (no_rows 9)) }
+    ensures failed { HasCleanDisk (state S.Store tx.new.conn.now)
+        → Builds (state S.Store tx.old.conn.now) no_schema (no_rows 0)
+        → IfErr result (FailsToMake
+        (state S.Store tx.old.conn.now) (state S.Store tx.new.conn.now)) }
 {
     make_plan(tx)?;
     make_state(tx)?;
@@ -94,6 +114,10 @@ pub(crate) fn make_two<S: Alter>(tx: &mut Transaction<'_, S>) -> Result<(), Erro
     ensures works { Works (state S.Store tx.old.conn.now) (state S.Store tx.new.conn.now) }
     ensures made { HasCleanDisk (state S.Store tx.new.conn.now) → OnOk result ((rows : List (List Values)) → Builds (state S.Store tx.old.conn.now) old_schema rows
         → Builds (state S.Store tx.new.conn.now) book_schema ((rows ++ [] ∷ []) ++ [] ∷ [])) }
+    ensures failed { HasCleanDisk (state S.Store tx.new.conn.now)
+        → (rows : List (List Values)) → Builds (state S.Store tx.old.conn.now) old_schema rows
+        → IfErr result (FailsToMake
+        (state S.Store tx.old.conn.now) (state S.Store tx.new.conn.now)) }
 {
     make(tx, CREATE_AGENT_GROUPS)?;
     make(tx, CREATE_GROUP_PRIORITY)?;
@@ -105,6 +129,10 @@ fn make_tables<S: Alter>(tx: &mut Transaction<'_, S>) -> Result<(), Error>
     ensures same { tx.new.conn.ghost_name ≡ tx.old.conn.ghost_name }
     ensures works { Works (state S.Store tx.old.conn.now) (state S.Store tx.new.conn.now) }
     ensures made { HasCleanDisk (state S.Store tx.new.conn.now) → OnOk result (Builds (state S.Store tx.old.conn.now) no_schema (no_rows 0) → Builds (state S.Store tx.new.conn.now) book_schema (no_rows 11)) }
+    ensures failed { HasCleanDisk (state S.Store tx.new.conn.now)
+        → Builds (state S.Store tx.old.conn.now) no_schema (no_rows 0)
+        → IfErr result (FailsToMake
+        (state S.Store tx.old.conn.now) (state S.Store tx.new.conn.now)) }
 {
     make_nine(tx)?;
     make_two(tx)
@@ -132,6 +160,8 @@ pub fn set_up<S: Alter>(conn: &mut Connection<S>, limits: Limits) -> Result<(), 
     ensures made { HasCleanDisk (state S.Store conn.new) → OnOk result (Holds (state S.Store conn.new) (empty_content limits)) }
     ensures up { HasCleanDisk (state S.Store conn.new) → OnOk result (IsTrue (state S.Store conn.new).is_open) }
     ensures stops { HasCleanDisk (state S.Store conn.new) → MayMake (state S.Store conn.old) (state S.Store conn.new) limits }
+    ensures failed { HasCleanDisk (state S.Store conn.new) → IfErr result (FailsToSetUp
+        (state S.Store conn.old) (state S.Store conn.new) limits) }
 {
     let meta = Meta {
         limits,

@@ -14,6 +14,7 @@ ghost use Rattle.acd_columns.specs.Seeing.{Sees, HasLooked};
 
 use crate::create::{set_up, set_up_old};
 use crate::fault::{AdoptFault, Found};
+use crate::verdict::{Likeness, Page, Told};
 use acd_columns::decode::{KeptReader, connection_in, counters_in, event_number, further_in};
 use acd_columns::{AgentRow, GroupPriority, GroupRow, Log, Table, Version, values};
 use acd_statements::fitting::{fits, too_large};
@@ -27,34 +28,6 @@ use acd_terms::{CallRecord, Limits, MonitorRecord, StationRecord};
 use sqlite::{Alter, Connection, Error, ErrorCode, MemStore, Row};
 use sqlite_schema::schema::Schema;
 use std::alloc::Global;
-
-// How far the tables of a database are those of a book.
-#[derive(Clone, Copy)]
-pub(crate) enum Likeness {
-    /// All of them are those of a version, and there are no others.
-    Whole(Version),
-    /// The first, which tells the version.
-    First,
-    Other,
-}
-
-// What the first table tells of the version.
-#[derive(Clone, Copy)]
-pub(crate) enum Told {
-    Of(Version),
-    Faulty(AdoptFault),
-}
-
-// What a page of a log tells.
-#[derive(Clone, Copy)]
-pub(crate) enum Page {
-    /// A value is out of its range.
-    Bad,
-    /// No row is left.
-    Last,
-    /// The rows up to this number are good.
-    More(u64),
-}
 
 #[tactic(auto, unfolding(acd_columns::specs::AnyRows::are_good))]
 fn are_counters(rows: &[Row]) -> bool

@@ -6,6 +6,7 @@ mod create;
 mod fault;
 mod inspection;
 mod migration;
+mod verdict;
 
 pub use create::{has_no_tables, set_up};
 pub use fault::{AdoptFault, Found};

@@ -14,7 +14,8 @@ use Rattle.acd_schema.specs.declared.fault.AdoptFault.TheVariants.{WrongVersion,
 use Rattle.acd_columns.specs.AnyRows.{IsFiled, IsFiledAs, HaveAllColumns}
 use Rattle.acd_schema.specs.declared.fault.Found.{Found}
 use Rattle.acd_schema.specs.declared.fault.Found.TheVariants.{Book, Fault}
-use Rattle.acd_schema.specs.Inspecting.{IsFound, IsOfBook, IsFaultOf, IsStoreFault, IsInRange}
+use Rattle.acd_statements.specs.InRange.{IsInRange}
+use Rattle.acd_schema.specs.Inspecting.{IsFound, IsOfBook, IsFaultOf, IsStoreFault}
 use Rattle.acd_schema.specs.Migrating.{IsMigration, IsMade, IsRestored, MayAlter}
 use Rattle.acd_columns.specs.declared.tables.Table.TheVariants as table
 use Rattle.acd_columns.specs.declared.tables.Version.{Version}

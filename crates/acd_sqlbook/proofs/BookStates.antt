@@ -70,7 +70,7 @@ ok_imply : {A : Type 0} (P Q : Type 0) (r : Result A Error) → (P → OnOk r Q)
 ok_imply P Q (Ok a) h = h
 ok_imply P Q (Err e) h = tt
 
-held_is : (s : State) (c : Content) → Holds s c → content_of s.committed.trees ≡ c
+pub held_is : (s : State) (c : Content) → Holds s c → content_of s.committed.trees ≡ c
 held_is s c held = decoded s.committed.trees c held.encodes
 
 module _ {A : Type 0} (old new : State) (failures : ℕ) (r : Result A Error) (IsAnswer : Content → A → Type 0) where

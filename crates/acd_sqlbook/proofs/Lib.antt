@@ -6,3 +6,4 @@ mod Replacing
 mod BookStates
 mod Rising
 mod Adopted
+mod Caused

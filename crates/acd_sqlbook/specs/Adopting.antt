@@ -15,7 +15,8 @@ use Rattle.acd_columns.specs.Seeing.{HasDatabase}
 use Rattle.acd_columns.specs.declared.tables.Version.{Version}
 use Rattle.acd_columns.specs.Schema.{old_schema}
 use Rattle.acd_schema.specs.Migrating.{IsMigration}
-use Rattle.acd_schema.specs.Inspecting.{IsFaultOf, IsOfBook, IsInRange}
+use Rattle.acd_statements.specs.InRange.{IsInRange}
+use Rattle.acd_schema.specs.Inspecting.{IsFaultOf, IsOfBook}
 
 -- each row of its version's tables has its number, and a value for each column
 abbrev pub HasAllColumns : Database → Type 0

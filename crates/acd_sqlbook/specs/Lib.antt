@@ -4,3 +4,4 @@ pub mod Calls
 pub mod State
 pub mod StoreLaws
 pub mod Adopting
+pub mod Causes

@@ -6,7 +6,7 @@ use Rattle.sqlite.specs.Held.{Held, state}
 use Rattle.sqlite.specs.Steps.{over_memory}
 use Rattle.acd_book.specs.Content.{Content}
 use Rattle.acd_book.specs.Order.{IsOrdered}
-use Rattle.acd_schema.specs.Inspecting.{IsInRange}
+use Rattle.acd_statements.specs.InRange.{IsInRange}
 use Rattle.acd_columns.specs.Content.{Encodes}
 use Rattle.acd_sqlbook.specs.State.{book_state}
 

@@ -7,6 +7,9 @@ ghost use Rattle.acd_columns.specs.Schema.{no_schema};
 ghost use Rattle.acd_columns.specs.Draft.{LimitsFit};
 ghost use Rattle.acd_sqlbook.specs.State.{book_state, IsNew, fault_of, answered, failures_after};
 ghost use Rattle.acd_schema.specs.SettingUp.{MayMake};
+ghost use Rattle.acd_sqlbook.specs.Causes.{StoreCause, IsCaused, create as creating, read as reading};
+ghost use Rattle.acd_book.specs.Content.{IsKeptAfter, events_behind, events_of_monitor, kept_of};
+ghost use Rattle.acd_book.specs.State.{Reads};
 
 use crate::ready::{
     commit_ready, events_ready, kept_after_ready, kept_ready, limits_fit, limits_ready, rows_ready,
@@ -84,8 +87,13 @@ impl<S: Alter> SqlBook<S> {
         ensures handed_back { IfErr result (λ e. e.1.in_transaction ≡ false) }
         ensures doubted { IfErr result (λ e. HasCleanDisk (state S.Store e.1) → HasCleanDisk (state S.Store conn)) }
         ensures stops { IfErr result (λ e. HasCleanDisk (state S.Store e.1) → MayMake (state S.Store conn) (state S.Store e.1) limits) }
+        ensures caused { IfErr result (λ e. HasCleanDisk (state S.Store e.1) → e.0 ≡ BookFault.Store
+            → StoreCause (creating limits) (state S.Store conn) (state S.Store e.1)) }
     {
-        if !limits_fit(&limits) || !has_no_tables(conn.schema()) {
+        if !limits_fit(&limits) {
+            return Err((BookFault::Store, conn));
+        }
+        if !has_no_tables(conn.schema()) {
             return Err((BookFault::Store, conn));
         }
         match set_up(&mut conn, limits) {
@@ -132,27 +140,57 @@ impl<S: Alter> Book for SqlBook<S> {
         self.failures
     }
 
-    fn limits(&mut self) -> Result<Limits, BookFault> {
+    fn limits(&mut self) -> Result<Limits, BookFault>
+        ensures reads { Reads (book_state (state S.Store self.old.conn) self.old.failures)
+            (book_state (state S.Store self.new.conn) self.new.failures) result
+            (λ c found. found ≡ c.rows.limits) }
+        ensures caused { IsCaused reading
+            (state S.Store self.old.conn) (state S.Store self.new.conn) result }
+    {
         let found = limits_ready(&mut self.conn, self.fresh);
         noted(found, &mut self.fresh, &mut self.failures)
     }
 
-    fn rows(&mut self) -> Result<Rows, BookFault> {
+    fn rows(&mut self) -> Result<Rows, BookFault>
+        ensures reads { Reads (book_state (state S.Store self.old.conn) self.old.failures)
+            (book_state (state S.Store self.new.conn) self.new.failures) result
+            (λ c found. found ≡ c.rows) }
+        ensures caused { IsCaused reading
+            (state S.Store self.old.conn) (state S.Store self.new.conn) result }
+    {
         let found = rows_ready(self.alloc, &mut self.conn, self.fresh);
         noted(found, &mut self.fresh, &mut self.failures)
     }
 
-    fn kept(&mut self, requester: &Requester, invoke: Invoke) -> Result<Option<Kept>, BookFault> {
+    fn kept(&mut self, requester: &Requester, invoke: Invoke) -> Result<Option<Kept>, BookFault>
+        ensures reads { Reads (book_state (state S.Store self.old.conn) self.old.failures)
+            (book_state (state S.Store self.new.conn) self.new.failures) result
+            (λ c found. found ≡ kept_of c.kept requester.now invoke) }
+        ensures caused { IsCaused reading
+            (state S.Store self.old.conn) (state S.Store self.new.conn) result }
+    {
         let found = kept_ready(self.alloc, &mut self.conn, self.fresh, requester, invoke);
         noted(found, &mut self.fresh, &mut self.failures)
     }
 
-    fn kept_after(&mut self, stamp: u64) -> Result<Option<Kept>, BookFault> {
+    fn kept_after(&mut self, stamp: u64) -> Result<Option<Kept>, BookFault>
+        ensures reads { Reads (book_state (state S.Store self.old.conn) self.old.failures)
+            (book_state (state S.Store self.new.conn) self.new.failures) result
+            (λ c found. IsKeptAfter c.kept stamp found) }
+        ensures caused { IsCaused reading
+            (state S.Store self.old.conn) (state S.Store self.new.conn) result }
+    {
         let found = kept_after_ready(self.alloc, &mut self.conn, self.fresh, stamp);
         noted(found, &mut self.fresh, &mut self.failures)
     }
 
-    fn events_after(&mut self, number: u64, limit: usize) -> Result<Vec<Event>, BookFault> {
+    fn events_after(&mut self, number: u64, limit: usize) -> Result<Vec<Event>, BookFault>
+        ensures reads { Reads (book_state (state S.Store self.old.conn) self.old.failures)
+            (book_state (state S.Store self.new.conn) self.new.failures) result
+            (λ c found. found.items ≡ events_behind c.events number limit) }
+        ensures caused { IsCaused reading
+            (state S.Store self.old.conn) (state S.Store self.new.conn) result }
+    {
         let found = events_ready(self.alloc, &mut self.conn, self.fresh, number, limit);
         noted(found, &mut self.fresh, &mut self.failures)
     }
@@ -162,7 +200,13 @@ impl<S: Alter> Book for SqlBook<S> {
         monitor: u64,
         number: u64,
         limit: usize,
-    ) -> Result<Vec<Event>, BookFault> {
+    ) -> Result<Vec<Event>, BookFault>
+        ensures reads { Reads (book_state (state S.Store self.old.conn) self.old.failures)
+            (book_state (state S.Store self.new.conn) self.new.failures) result
+            (λ c found. found.items ≡ events_of_monitor c monitor number limit) }
+        ensures caused { IsCaused reading
+            (state S.Store self.old.conn) (state S.Store self.new.conn) result }
+    {
         let found = watched_ready(
             self.alloc,
             &mut self.conn,

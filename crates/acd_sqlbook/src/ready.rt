@@ -9,6 +9,7 @@ ghost use Rattle.acd_sqlbook.specs.Calls.{HasRead, HasCommitted};
 ghost use Rattle.acd_sqlbook.specs.Commit.{counted, written_by};
 ghost use Rattle.acd_columns.specs.Relations.{meta_of};
 ghost use Rattle.acd_columns.specs.Draft.{Quiet, NoStop, Fits, LimitsFit, MetaFits};
+ghost use Rattle.acd_statements.specs.Reading.{Blames};
 
 use crate::commit::{commit_all, counted};
 use acd_book::Kept;
@@ -30,6 +31,7 @@ pub(crate) fn serve<S: Alter>(conn: &mut Connection<S>, fresh: bool) -> Result<(
     ensures up { HasCleanDisk (state S.Store conn.new) → OnOk result (IsTrue (state S.Store conn.new).is_open) }
     ensures quiet { Quiet (state S.Store conn.old) (state S.Store conn.new) }
     ensures stops { HasCleanDisk (state S.Store conn.new) → NoStop (state S.Store conn.old) (state S.Store conn.new) }
+    ensures blamed { Blames (state S.Store conn.old) (state S.Store conn.new) result }
 {
     if fresh {
         return Ok(());
@@ -65,6 +67,7 @@ fn meta_ready<S: Alter>(conn: &mut Connection<S>, fresh: bool) -> Result<Meta, E
     requires fresh { IsTrue fresh → HasCleanDisk (state S.Store conn.old) → IsTrue (state S.Store conn.old).is_open }
     ensures idle { conn.new.in_transaction ≡ false }
     ensures read { HasRead (state S.Store conn.old) (state S.Store conn.new) result (λ c meta. meta ≡ meta_of c.rows) }
+    ensures blamed { Blames (state S.Store conn.old) (state S.Store conn.new) result }
 {
     serve(conn, fresh)?;
     read_meta(conn)
@@ -76,6 +79,7 @@ pub(crate) fn limits_ready<S: Alter>(conn: &mut Connection<S>, fresh: bool) -> R
     requires fresh { IsTrue fresh → HasCleanDisk (state S.Store conn.old) → IsTrue (state S.Store conn.old).is_open }
     ensures idle { conn.new.in_transaction ≡ false }
     ensures read { HasRead (state S.Store conn.old) (state S.Store conn.new) result (λ c limits. limits ≡ c.rows.limits) }
+    ensures blamed { Blames (state S.Store conn.old) (state S.Store conn.new) result }
 {
     match meta_ready(conn, fresh) {
         Ok(meta) => Ok(meta.limits),
@@ -93,6 +97,7 @@ pub(crate) fn rows_ready<S: Alter>(
     requires fresh { IsTrue fresh → HasCleanDisk (state S.Store conn.old) → IsTrue (state S.Store conn.old).is_open }
     ensures idle { conn.new.in_transaction ≡ false }
     ensures read { HasRead (state S.Store conn.old) (state S.Store conn.new) result (λ c found. found ≡ c.rows) }
+    ensures blamed { Blames (state S.Store conn.old) (state S.Store conn.new) result }
 {
     serve(conn, fresh)?;
     rows(alloc, conn)
@@ -110,6 +115,7 @@ pub(crate) fn kept_ready<S: Alter>(
     requires fresh { IsTrue fresh → HasCleanDisk (state S.Store conn.old) → IsTrue (state S.Store conn.old).is_open }
     ensures idle { conn.new.in_transaction ≡ false }
     ensures read { HasRead (state S.Store conn.old) (state S.Store conn.new) result (λ c found. found ≡ kept_of c.kept requester.now invoke) }
+    ensures blamed { Blames (state S.Store conn.old) (state S.Store conn.new) result }
 {
     serve(conn, fresh)?;
     kept_under(alloc, conn, requester, invoke)
@@ -126,6 +132,7 @@ pub(crate) fn kept_after_ready<S: Alter>(
     requires fresh { IsTrue fresh → HasCleanDisk (state S.Store conn.old) → IsTrue (state S.Store conn.old).is_open }
     ensures idle { conn.new.in_transaction ≡ false }
     ensures read { HasRead (state S.Store conn.old) (state S.Store conn.new) result (λ c found. IsKeptAfter c.kept stamp found) }
+    ensures blamed { Blames (state S.Store conn.old) (state S.Store conn.new) result }
 {
     serve(conn, fresh)?;
     kept_behind(alloc, conn, stamp)
@@ -143,6 +150,7 @@ pub(crate) fn events_ready<S: Alter>(
     requires fresh { IsTrue fresh → HasCleanDisk (state S.Store conn.old) → IsTrue (state S.Store conn.old).is_open }
     ensures idle { conn.new.in_transaction ≡ false }
     ensures read { HasRead (state S.Store conn.old) (state S.Store conn.new) result (λ c found. found.items ≡ events_behind c.events number limit) }
+    ensures blamed { Blames (state S.Store conn.old) (state S.Store conn.new) result }
 {
     serve(conn, fresh)?;
     events_behind(alloc, conn, number, limit)
@@ -161,6 +169,7 @@ pub(crate) fn watched_ready<S: Alter>(
     requires fresh { IsTrue fresh → HasCleanDisk (state S.Store conn.old) → IsTrue (state S.Store conn.old).is_open }
     ensures idle { conn.new.in_transaction ≡ false }
     ensures read { HasRead (state S.Store conn.old) (state S.Store conn.new) result (λ c found. found.items ≡ events_of_monitor c monitor number limit) }
+    ensures blamed { Blames (state S.Store conn.old) (state S.Store conn.new) result }
 {
     serve(conn, fresh)?;
     events_watched(alloc, conn, monitor, number, limit)

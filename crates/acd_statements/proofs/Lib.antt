@@ -5,3 +5,9 @@ mod Planned
 mod Beside
 mod FirstFound
 mod Pages
+pub mod Failures
+pub mod Answered
+pub mod Blamed
+mod BlamedRows
+mod BlamedPlan
+mod Grouped

@@ -20,7 +20,7 @@ greatest = 2 ^ 63 - 1
 fits_or_not : (n : ℕ) → Fits n ⊎ ¬ (Fits n)
 fits_or_not n = elim (cases_Bool (nat_lt n (2 ^ 63))) [ inl below ↦ inl (grind (arith, nat_tests)) | inr over ↦ inr (λ fits. grind (arith, nat_tests)) ]
 
-least_of_large : (n : ℕ) → ¬ (Fits n) → min n greatest ≡ greatest
+pub least_of_large : (n : ℕ) → ¬ (Fits n) → min n greatest ≡ greatest
 least_of_large n large = elim (cases_Bool (nat_lt n (2 ^ 63))) [ inl below ↦ absurd (large (grind (arith, nat_tests))) | inr over ↦ grind (arith, nat_tests) ]
 
 least_of_fit : (n : ℕ) → Fits n → min n greatest ≡ n

@@ -3,13 +3,16 @@
 //! A number or a limit that no INTEGER column can hold is asked for as the greatest that one can. Nothing
 //! stands above that, and no answer is so long, which is seen to before the rows are handed on.
 
-ghost use Rattle.std.specs.Prelude.{◌≡◌, ◌-◌, ◌^◌, ◌<◌, [], false, length, map, take, filter, Some, IfOk, OnOk};
+ghost use Rattle.std.specs.Prelude.{◌≡◌, ◌⊎◌, ◌-◌, ◌^◌, ◌<◌, [], false, length, map, take, filter, Some, IfErr, IfOk, IfSome, OnOk};
 ghost use Rattle.sqlite.specs.Held.{state};
 ghost use Rattle.acd_model.specs.Scans.{monitor_of};
 ghost use Rattle.acd_book.specs.Content.{IsKeptAfter, events_behind, events_of_monitor, is_told, kept_of};
 ghost use Rattle.acd_columns.specs.Rows.{event_values, kept_values};
 ghost use Rattle.acd_columns.specs.Draft.{Fits};
 ghost use Rattle.acd_columns.specs.Finding.{Finds, kept_behind};
+ghost use Rattle.acd_columns.specs.Values.{whole_at};
+ghost use Rattle.acd_statements.specs.Failing.{IsMemory};
+ghost use Rattle.acd_statements.specs.Reading.{Blames, HasFitting};
 
 use crate::fitting::fits;
 use crate::query::{event_rows, event_rows_at, kept_row, kept_rows, monitor_row};
@@ -17,10 +20,22 @@ use crate::reads::{first, records};
 use crate::select;
 use acd_book::Kept;
 use acd_terms::{DeviceId, Event, Invoke, MonitorRecord, Requester, find};
+use sqlite::types::ValueRef;
 use sqlite::{Alter, Connection, Error, ErrorCode, Row};
 use std::alloc::Global;
 
 const GREATEST: u64 = i64::MAX as u64;
+
+// The number that a row begins with, which its column holds.
+fn number_of(row: &Row) -> Option<u64>
+    ensures value { result ≡ whole_at row.now 0 }
+    ensures fits { IfSome result Fits }
+{
+    match row.get_ref(0) {
+        Ok(ValueRef::Int(number)) => u64::try_from(number).ok(),
+        _ => None,
+    }
+}
 
 // The rows of a query that was asked for the least of each number and the greatest, where they are those of
 // the numbers themselves.
@@ -28,9 +43,14 @@ fn meant(rows: Vec<Row>, number: u64, limit: u64) -> Result<Vec<Row>, Error>
     ensures same { IfOk result (λ page. page ≡ rows) }
     ensures none { OnOk result (¬ (Fits number) → rows.items ≡ []) }
     ensures fewer { OnOk result (¬ (Fits limit) → length rows.items < 2 ^ 63 - 1) }
+    ensures other { IfErr result (λ e. IsMemory e ⊎ ((¬ (Fits number)) × HasFitting rows.items)) }
 {
-    if !fits(number) && !rows.is_empty() {
-        return Err(Error::SqliteFailure(ErrorCode::DatabaseCorrupt));
+    if !fits(number) {
+        if let Some(row) = rows.first() {
+            // It is read so that its range is known: no column holds a number that is above.
+            let _fits = number_of(row);
+            return Err(Error::SqliteFailure(ErrorCode::DatabaseCorrupt));
+        }
     }
     if !fits(limit) && rows.len() as u64 >= GREATEST {
         return Err(Error::SqliteFailure(ErrorCode::OutOfMemory));
@@ -46,6 +66,7 @@ fn event_page<S: Alter>(
     requires { conn.old.in_transaction ≡ false }
     ensures idle { conn.new.in_transaction ≡ false }
     ensures found { Finds (state S.Store conn.old) (state S.Store conn.new) result (λ c rows. rows.items ≡ map event_values (events_behind c.events number limit)) }
+    ensures blamed { Blames (state S.Store conn.old) (state S.Store conn.new) result }
 {
     let rows = event_rows(conn, number.min(GREATEST), limit.min(GREATEST))?;
     meant(rows, number, limit)
@@ -60,6 +81,7 @@ fn event_page_at<S: Alter>(
     requires { conn.old.in_transaction ≡ false }
     ensures idle { conn.new.in_transaction ≡ false }
     ensures found { Finds (state S.Store conn.old) (state S.Store conn.new) result (λ c rows. rows.items ≡ map event_values (take limit (filter (is_told (Some device) number) c.events))) }
+    ensures blamed { Blames (state S.Store conn.old) (state S.Store conn.new) result }
 {
     let rows = event_rows_at(conn, device, number.min(GREATEST), limit.min(GREATEST))?;
     meant(rows, number, limit)
@@ -70,6 +92,7 @@ fn kept_page<S: Alter>(conn: &mut Connection<S>, stamp: u64) -> Result<Vec<Row>,
     requires { conn.old.in_transaction ≡ false }
     ensures idle { conn.new.in_transaction ≡ false }
     ensures found { Finds (state S.Store conn.old) (state S.Store conn.new) result (λ c rows. rows.items ≡ map kept_values (kept_behind c.kept stamp 1)) }
+    ensures blamed { Blames (state S.Store conn.old) (state S.Store conn.new) result }
 {
     let rows = kept_rows(conn, stamp.min(GREATEST), 1)?;
     meant(rows, stamp, 1)
@@ -85,6 +108,7 @@ pub fn kept_under<S: Alter>(
     requires { conn.old.in_transaction ≡ false }
     ensures idle { conn.new.in_transaction ≡ false }
     ensures found { Finds (state S.Store conn.old) (state S.Store conn.new) result (λ c found. found ≡ kept_of c.kept requester.now invoke) }
+    ensures blamed { Blames (state S.Store conn.old) (state S.Store conn.new) result }
 {
     let rows = kept_row(conn, requester, invoke)?;
     first(alloc, &rows)
@@ -99,6 +123,7 @@ pub fn kept_behind<S: Alter>(
     requires { conn.old.in_transaction ≡ false }
     ensures idle { conn.new.in_transaction ≡ false }
     ensures found { Finds (state S.Store conn.old) (state S.Store conn.new) result (λ c found. IsKeptAfter c.kept stamp found) }
+    ensures blamed { Blames (state S.Store conn.old) (state S.Store conn.new) result }
 {
     let rows = kept_page(conn, stamp)?;
     first(alloc, &rows)
@@ -114,6 +139,7 @@ pub fn events_behind<S: Alter>(
     requires { conn.old.in_transaction ≡ false }
     ensures idle { conn.new.in_transaction ≡ false }
     ensures found { Finds (state S.Store conn.old) (state S.Store conn.new) result (λ c events. events.items ≡ events_behind c.events number limit) }
+    ensures blamed { Blames (state S.Store conn.old) (state S.Store conn.new) result }
 {
     let rows = event_page(conn, number, limit as u64)?;
     records(alloc, &rows)
@@ -130,6 +156,7 @@ fn events_at<S: Alter>(
     requires { conn.old.in_transaction ≡ false }
     ensures idle { conn.new.in_transaction ≡ false }
     ensures found { Finds (state S.Store conn.old) (state S.Store conn.new) result (λ c events. events.items ≡ take limit (filter (is_told (Some device) number) c.events)) }
+    ensures blamed { Blames (state S.Store conn.old) (state S.Store conn.new) result }
 {
     let rows = event_page_at(conn, device, number, limit as u64)?;
     records(alloc, &rows)
@@ -144,6 +171,7 @@ fn monitor_at<S: Alter>(
     requires { conn.old.in_transaction ≡ false }
     ensures idle { conn.new.in_transaction ≡ false }
     ensures found { Finds (state S.Store conn.old) (state S.Store conn.new) result (λ c found. found ≡ monitor_of c.rows number) }
+    ensures blamed { Blames (state S.Store conn.old) (state S.Store conn.new) result }
 {
     if !fits(number) {
         let monitors = select::records::<MonitorRecord, S>(alloc, conn)?;
@@ -164,6 +192,7 @@ pub fn events_watched<S: Alter>(
     requires { conn.old.in_transaction ≡ false }
     ensures idle { conn.new.in_transaction ≡ false }
     ensures found { Finds (state S.Store conn.old) (state S.Store conn.new) result (λ c events. events.items ≡ events_of_monitor c monitor number limit) }
+    ensures blamed { Blames (state S.Store conn.old) (state S.Store conn.new) result }
 {
     match monitor_at(alloc, conn, monitor)? {
         Some(watch) => {

@@ -1,8 +1,11 @@
 //! The groups and the agents, joined of what their tables hold.
 
-ghost use Rattle.std.specs.Prelude.{◌≡◌, ◌++◌, ◌∷◌, [], ℕ, false, map, option_to_list, IfOk, IfSome, OnOk};
+ghost use Rattle.std.specs.Prelude.{◌≡◌, ◌⊎◌, ◌<◌, ◌++◌, ◌∷◌, [], ℕ, false, length, map, option_to_list, None, IfErr, IfOk, IfSome, OnOk};
 ghost use Rattle.sqlite.specs.Held.{state};
+ghost use Rattle.acd_terms.specs.Groups.{are_groups};
 ghost use Rattle.acd_columns.specs.Finding.{Finds};
+ghost use Rattle.acd_statements.specs.Failing.{IsMemory};
+ghost use Rattle.acd_statements.specs.Reading.{Blames, BlamesIf, HasStray};
 ghost use Rattle.acd_columns.specs.Relations.{group_part, agent_part, priority_of, joined_group, groups_beside, behind_first, joined_agent, further_in};
 
 use crate::query::further_rows;
@@ -14,7 +17,8 @@ use sqlite::{Alter, Connection, Error, ErrorCode};
 use std::alloc::Global;
 
 fn push<R: Drop>(records: &mut Vec<R>, one: R) -> Result<(), Error>
-    ensures { OnOk result (records.new.items ≡ records.old.items ++ one ∷ []) }
+    ensures added { OnOk result (records.new.items ≡ records.old.items ++ one ∷ []) }
+    ensures full { IfErr result IsMemory }
 {
     match records.push(one) {
         Ok(()) => Ok(()),
@@ -45,7 +49,9 @@ fn joined_groups(
     parts: &[GroupRow],
     priorities: &[GroupPriority],
 ) -> Result<Vec<GroupRecord>, Error>
-    ensures { IfOk result (λ groups. groups.items ≡ map (joined_group priorities.now) parts.now) }
+    ensures groups { IfOk result (λ groups.
+        groups.items ≡ map (joined_group priorities.now) parts.now) }
+    ensures full { IfErr result IsMemory }
 {
     let mut groups = Vec::new(alloc);
     for part in parts {
@@ -63,6 +69,7 @@ fn ranked<S: Alter>(
     requires { conn.old.in_transaction ≡ false }
     ensures idle { conn.new.in_transaction ≡ false }
     ensures found { Finds (state S.Store conn.old) (state S.Store conn.new) result (λ c groups. parts.now ≡ map group_part c.rows.groups → groups.items ≡ c.rows.groups) }
+    ensures blamed { Blames (state S.Store conn.old) (state S.Store conn.new) result }
 {
     match select::records::<GroupPriority, S>(alloc, conn) {
         Ok(priorities) => joined_groups(alloc, parts, &priorities),
@@ -78,6 +85,7 @@ pub(crate) fn groups<S: Alter>(
     requires { conn.old.in_transaction ≡ false }
     ensures idle { conn.new.in_transaction ≡ false }
     ensures found { Finds (state S.Store conn.old) (state S.Store conn.new) result (λ c groups. groups.items ≡ c.rows.groups) }
+    ensures blamed { Blames (state S.Store conn.old) (state S.Store conn.new) result }
 {
     match select::records::<GroupRow, S>(alloc, conn) {
         Ok(parts) => ranked(alloc, conn, &parts),
@@ -98,7 +106,10 @@ fn first(group: Option<DeviceId>) -> Few
 
 // The groups of an agent: its first one, and those that stand beside it. None where they are more than eight.
 fn groups_of(part: &AgentRow, further: &[(AgentId, DeviceId)]) -> Option<Few>
-    ensures { IfSome result (λ groups. groups ≡ behind_first part.now.group (groups_beside further.now part.now.agent)) }
+    ensures groups { IfSome result (λ groups.
+        groups ≡ behind_first part.now.group (groups_beside further.now part.now.agent)) }
+    ensures many { result ≡ None
+        → 8 < length (behind_first part.now.group (groups_beside further.now part.now.agent)) }
 {
     let mut groups = first(part.group);
     for item in further {
@@ -114,7 +125,8 @@ fn groups_of(part: &AgentRow, further: &[(AgentId, DeviceId)]) -> Option<Few>
 
 // The same, where they ascend.
 fn ascending(list: &Few) -> Option<Groups>
-    ensures { IfSome result (λ groups. groups ≡ list.now) }
+    ensures groups { IfSome result (λ groups. groups ≡ list.now) }
+    ensures other { result ≡ None → are_groups list.now ≡ false }
 {
     let groups = Groups::in_order(list.as_slice())?;
     if groups.as_slice() == list.as_slice() {
@@ -125,7 +137,8 @@ fn ascending(list: &Few) -> Option<Groups>
 }
 
 fn joined_agent(part: &AgentRow, further: &[(AgentId, DeviceId)]) -> Option<AgentRecord>
-    ensures { IfSome result (λ agent. agent ≡ joined_agent further.now part.now) }
+    ensures agent { IfSome result (λ agent. agent ≡ joined_agent further.now part.now) }
+    ensures other { result ≡ None → are_groups (joined_agent further.now part.now).groups ≡ false }
 {
     let groups = groups_of(part, further)?;
     let groups = ascending(&groups)?;
@@ -137,7 +150,9 @@ fn joined_agents(
     parts: &[AgentRow],
     further: &[(AgentId, DeviceId)],
 ) -> Result<Vec<AgentRecord>, Error>
-    ensures { IfOk result (λ agents. agents.items ≡ map (joined_agent further.now) parts.now) }
+    ensures agents { IfOk result (λ agents.
+        agents.items ≡ map (joined_agent further.now) parts.now) }
+    ensures other { IfErr result (λ e. IsMemory e ⊎ HasStray further.now parts.now) }
 {
     let mut agents = Vec::new(alloc);
     for part in parts {
@@ -157,6 +172,7 @@ fn further<S: Alter>(
     requires { conn.old.in_transaction ≡ false }
     ensures idle { conn.new.in_transaction ≡ false }
     ensures found { Finds (state S.Store conn.old) (state S.Store conn.new) result (λ c pairs. pairs.items ≡ further_in c.rows.agents) }
+    ensures blamed { Blames (state S.Store conn.old) (state S.Store conn.new) result }
 {
     match further_rows(conn) {
         Ok(rows) => records(alloc, &rows),
@@ -173,6 +189,8 @@ fn grouped<S: Alter>(
     requires { conn.old.in_transaction ≡ false }
     ensures idle { conn.new.in_transaction ≡ false }
     ensures found { Finds (state S.Store conn.old) (state S.Store conn.new) result (λ c agents. parts.now ≡ map agent_part c.rows.agents → agents.items ≡ c.rows.agents) }
+    ensures blamed { BlamesIf (λ c. parts.now ≡ map agent_part c.rows.agents)
+        (state S.Store conn.old) (state S.Store conn.new) result }
 {
     match further(alloc, conn) {
         Ok(further) => joined_agents(alloc, parts, &further),
@@ -188,6 +206,7 @@ pub(crate) fn agents<S: Alter>(
     requires { conn.old.in_transaction ≡ false }
     ensures idle { conn.new.in_transaction ≡ false }
     ensures found { Finds (state S.Store conn.old) (state S.Store conn.new) result (λ c agents. agents.items ≡ c.rows.agents) }
+    ensures blamed { Blames (state S.Store conn.old) (state S.Store conn.new) result }
 {
     match select::records::<AgentRow, S>(alloc, conn) {
         Ok(parts) => grouped(alloc, conn, &parts),

@@ -14,6 +14,7 @@ ghost use Rattle.acd_columns.specs.Draft.{Fits};
 ghost use Rattle.acd_columns.specs.Finding.{Finds, kept_behind};
 ghost use Rattle.acd_columns.specs.Schema.{nine, Begins};
 ghost use Rattle.acd_columns.specs.Seeing.{Sees};
+ghost use Rattle.acd_statements.specs.Reading.{Blames};
 
 use crate::read::read;
 use crate::{bind, select};
@@ -30,6 +31,7 @@ pub fn monitor_row<S: Alter>(conn: &mut Connection<S>, monitor: u64) -> Result<V
     requires number { Fits monitor }
     ensures idle { conn.new.in_transaction ≡ false }
     ensures found { Finds (state S.Store conn.old) (state S.Store conn.new) result (λ c rows. rows.items ≡ map monitor_values (option_to_list (monitor_of c.rows monitor))) }
+    ensures blamed { Blames (state S.Store conn.old) (state S.Store conn.new) result }
 {
     read(conn, SELECT_MONITOR, &[bind::integer(monitor)])
 }
@@ -46,6 +48,7 @@ pub fn event_rows<S: Alter>(
     ensures idle { conn.new.in_transaction ≡ false }
     ensures found { Finds (state S.Store conn.old) (state S.Store conn.new) result (λ c rows. rows.items ≡ map event_values (events_behind c.events number limit)) }
     ensures seen { (d : Database) → Begins nine d.schema → Sees d (state S.Store conn.old) (state S.Store conn.new) result (λ rows. IsPageRows log.Events number limit d.trees rows.items) }
+    ensures blamed { Blames (state S.Store conn.old) (state S.Store conn.new) result }
 {
     read(
         conn,
@@ -66,6 +69,7 @@ pub fn kept_rows<S: Alter>(
     ensures idle { conn.new.in_transaction ≡ false }
     ensures found { Finds (state S.Store conn.old) (state S.Store conn.new) result (λ c rows. rows.items ≡ map kept_values (kept_behind c.kept stamp limit)) }
     ensures seen { (d : Database) → Begins nine d.schema → Sees d (state S.Store conn.old) (state S.Store conn.new) result (λ rows. IsPageRows log.Kept stamp limit d.trees rows.items) }
+    ensures blamed { Blames (state S.Store conn.old) (state S.Store conn.new) result }
 {
     read(
         conn,
@@ -83,6 +87,7 @@ pub fn kept_row<S: Alter>(
     requires idle { conn.old.in_transaction ≡ false }
     ensures idle { conn.new.in_transaction ≡ false }
     ensures found { Finds (state S.Store conn.old) (state S.Store conn.new) result (λ c rows. rows.items ≡ map kept_values (option_to_list (kept_of c.kept requester.now invoke))) }
+    ensures blamed { Blames (state S.Store conn.old) (state S.Store conn.new) result }
 {
     read(
         conn,
@@ -99,6 +104,7 @@ pub fn connection_rows<S: Alter>(conn: &mut Connection<S>) -> Result<Vec<Row>, E
     ensures idle { conn.new.in_transaction ≡ false }
     ensures found { Finds (state S.Store conn.old) (state S.Store conn.new) result (λ c rows. rows.items ≡ map connection_values c.rows.connections) }
     ensures seen { (d : Database) → Begins nine d.schema → Sees d (state S.Store conn.old) (state S.Store conn.new) result (λ rows. IsPermutation (rows_in table.Connections d.trees) rows.items) }
+    ensures blamed { Blames (state S.Store conn.old) (state S.Store conn.new) result }
 {
     read(conn, SELECT_CONNECTIONS, &[])
 }
@@ -108,6 +114,7 @@ pub fn further_rows<S: Alter>(conn: &mut Connection<S>) -> Result<Vec<Row>, Erro
     requires { conn.old.in_transaction ≡ false }
     ensures idle { conn.new.in_transaction ≡ false }
     ensures found { Finds (state S.Store conn.old) (state S.Store conn.new) result (λ c rows. rows.items ≡ map further_values (further_in c.rows.agents)) }
+    ensures blamed { Blames (state S.Store conn.old) (state S.Store conn.new) result }
 {
     read(conn, SELECT_AGENT_GROUPS, &[])
 }
@@ -124,6 +131,7 @@ pub fn event_rows_at<S: Alter>(
     requires limit { Fits limit }
     ensures idle { conn.new.in_transaction ≡ false }
     ensures found { Finds (state S.Store conn.old) (state S.Store conn.new) result (λ c rows. rows.items ≡ map event_values (take limit (filter (is_told (Some device) number) c.events))) }
+    ensures blamed { Blames (state S.Store conn.old) (state S.Store conn.new) result }
 {
     read(
         conn,

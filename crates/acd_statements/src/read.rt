@@ -1,6 +1,7 @@
 //! Reads between transactions: they change nothing, but that a failure may shut the connection.
 
 ghost use Rattle.std.specs.Prelude.{◌≡◌, ◌∷◌, [], false, OnOk, IfOk, IsTrue, IsPermutation, ⊤};
+ghost use Rattle.acd_statements.specs.Reading.{IsAnswered, Blames};
 ghost use Rattle.sqlite.specs.Given.{IsPlain};
 ghost use Rattle.sqlite.specs.Listing.{understood};
 ghost use Rattle.sqlite.specs.Effect.{Database};
@@ -28,6 +29,7 @@ pub fn probe<S: Alter>(conn: &mut Connection<S>) -> Result<(), Error>
     ensures quiet { Quiet (state S.Store conn.old) (state S.Store conn.new) }
     ensures stops { HasCleanDisk (state S.Store conn.new) → NoStop (state S.Store conn.old) (state S.Store conn.new) }
     ensures seen { (d : Database) → Sees d (state S.Store conn.old) (state S.Store conn.new) result (λ _. ⊤) }
+    ensures blamed { Blames (state S.Store conn.old) (state S.Store conn.new) result }
 {
     conn.query_row("SELECT 1", &[])?;
     Ok(())
@@ -47,6 +49,8 @@ pub(crate) fn read<S: Alter>(
         → NoStop (state S.Store conn.old) (state S.Store conn.new) }
     ensures shown { HasCleanDisk (state S.Store conn.new) → IfOk result (λ rows. Shown sql.now (bound params.now) (state S.Store conn.old) (state S.Store conn.new) rows.items) }
     ensures seen { (d : Database) → IsPlain (understood d.schema sql.now) → Sees d (state S.Store conn.old) (state S.Store conn.new) result (λ rows. Shown sql.now (bound params.now) (state S.Store conn.old) (state S.Store conn.new) rows.items) }
+    ensures blamed { IsAnswered sql.now (bound params.now)
+        → Blames (state S.Store conn.old) (state S.Store conn.new) result }
 {
     conn.query_all(sql, params)
 }
@@ -60,6 +64,7 @@ pub fn meta_rows<S: Alter>(conn: &mut Connection<S>) -> Result<Vec<Row>, Error>
     ensures stops { HasCleanDisk (state S.Store conn.new) → (c : Content) → Holds (state S.Store conn.old) c → NoStop (state S.Store conn.old) (state S.Store conn.new) }
     ensures rows { HasCleanDisk (state S.Store conn.new) → IfOk result (λ rows. (c : Content) → Holds (state S.Store conn.old) c → rows.items ≡ meta_shown (meta_of c.rows) ∷ []) }
     ensures seen { (d : Database) → Begins nine d.schema → Sees d (state S.Store conn.old) (state S.Store conn.new) result (λ rows. IsPermutation (rows_in table.Meta d.trees) rows.items) }
+    ensures blamed { Blames (state S.Store conn.old) (state S.Store conn.new) result }
 {
     read(conn, SELECT_META, &[])
 }

@@ -1,12 +1,16 @@
 //! Reads between transactions, as records. A row with a value out of its range is a failure of the store.
 
-ghost use Rattle.std.specs.Prelude.{◌≡◌, ◌++◌, ◌∷◌, [], Option, Some, false, map, take, option_to_list, IfOk, OnOk};
+ghost use Rattle.std.specs.Prelude.{◌≡◌, ◌++◌, ◌∷◌, [], Option, Some, false, map, take, option_to_list, IfErr, IfOk, OnOk};
 ghost use Rattle.sqlite.specs.Held.{state};
 ghost use Rattle.sqlite_value.specs.Order.{Row as Values};
 ghost use Rattle.acd_columns.specs.Relations.{meta_of};
 ghost use Rattle.acd_columns.specs.Finding.{Finds, joined_rows};
 ghost use Rattle.acd_columns.specs.Rows.{meta_shown};
 ghost use Rattle.acd_columns.specs.declared.meta.Meta.{Meta as MetaRow};
+ghost use Rattle.acd_columns.specs.declared.tables.Table.TheVariants as table;
+ghost use Rattle.acd_columns.specs.AnyRows.{is_good};
+ghost use Rattle.acd_statements.specs.Failing.{IsMemory};
+ghost use Rattle.acd_statements.specs.Reading.{Blames, FailsToDecode};
 ghost use Rattle.acd_columns.specs.Ranges.{further_in, connection_in, monitor_in, event_in, kept_in};
 
 use crate::query::connection_rows;
@@ -75,7 +79,8 @@ impl Decoded for Kept {
 }
 
 fn read_one<R: Decoded>(alloc: Global, row: &Row) -> Result<R, Error>
-    ensures { IfOk result (λ one. Some one ≡ R.in_row row.now) }
+    ensures one { IfOk result (λ one. Some one ≡ R.in_row row.now) }
+    ensures bad { IfErr result (FailsToDecode R.in_row (row.now ∷ [])) }
 {
     match R::decode(alloc, row) {
         Ok(Some(record)) => Ok(record),
@@ -85,7 +90,8 @@ fn read_one<R: Decoded>(alloc: Global, row: &Row) -> Result<R, Error>
 }
 
 fn add<R: Drop>(records: &mut Vec<R>, one: R) -> Result<(), Error>
-    ensures { OnOk result (records.new.items ≡ records.old.items ++ one ∷ []) }
+    ensures added { OnOk result (records.new.items ≡ records.old.items ++ one ∷ []) }
+    ensures full { IfErr result IsMemory }
 {
     match records.push(one) {
         Ok(()) => Ok(()),
@@ -95,7 +101,8 @@ fn add<R: Drop>(records: &mut Vec<R>, one: R) -> Result<(), Error>
 
 /// The records of rows, in their order.
 pub(crate) fn records<R: Decoded>(alloc: Global, rows: &[Row]) -> Result<Vec<R>, Error>
-    ensures { IfOk result (λ records. map Some records.items ≡ map R.in_row rows.now) }
+    ensures records { IfOk result (λ records. map Some records.items ≡ map R.in_row rows.now) }
+    ensures bad { IfErr result (FailsToDecode R.in_row rows.now) }
 {
     let mut records = Vec::new(alloc);
     for row in rows {
@@ -107,7 +114,9 @@ pub(crate) fn records<R: Decoded>(alloc: Global, rows: &[Row]) -> Result<Vec<R>,
 
 /// The record of the first row, if there is one.
 pub(crate) fn first<R: Decoded>(alloc: Global, rows: &[Row]) -> Result<Option<R>, Error>
-    ensures { IfOk result (λ found. map Some (option_to_list found) ≡ map R.in_row (take 1 rows.now)) }
+    ensures found { IfOk result (λ found.
+        map Some (option_to_list found) ≡ map R.in_row (take 1 rows.now)) }
+    ensures bad { IfErr result (FailsToDecode R.in_row rows.now) }
 {
     match rows.first() {
         Some(row) => Ok(Some(read_one(alloc, row)?)),
@@ -117,7 +126,9 @@ pub(crate) fn first<R: Decoded>(alloc: Global, rows: &[Row]) -> Result<Option<R>
 
 // What the one row of the table holds. Neither more rows nor a value out of its range is the book's.
 fn only_meta(rows: &[Row]) -> Result<Meta, Error>
-    ensures { IfOk result (λ meta. (m : MetaRow) → rows.now ≡ meta_shown m ∷ [] → meta ≡ m) }
+    ensures found { IfOk result (λ meta. (m : MetaRow) → rows.now ≡ meta_shown m ∷ [] → meta ≡ m) }
+    ensures bad { IfErr result (λ e. (m : MetaRow) → rows.now ≡ meta_shown m ∷ []
+        → is_good table.Meta (meta_shown m) ≡ false) }
 {
     match rows {
         [row] => match decode::counters_in(row) {
@@ -133,6 +144,7 @@ pub fn read_meta<S: Alter>(conn: &mut Connection<S>) -> Result<Meta, Error>
     requires { conn.old.in_transaction ≡ false }
     ensures idle { conn.new.in_transaction ≡ false }
     ensures found { Finds (state S.Store conn.old) (state S.Store conn.new) result (λ c meta. meta ≡ meta_of c.rows) }
+    ensures blamed { Blames (state S.Store conn.old) (state S.Store conn.new) result }
 {
     match meta_rows(conn) {
         Ok(rows) => only_meta(&rows),
@@ -147,6 +159,7 @@ fn connections<S: Alter>(
     requires { conn.old.in_transaction ≡ false }
     ensures idle { conn.new.in_transaction ≡ false }
     ensures found { Finds (state S.Store conn.old) (state S.Store conn.new) result (λ c connections. connections.items ≡ c.rows.connections) }
+    ensures blamed { Blames (state S.Store conn.old) (state S.Store conn.new) result }
 {
     let rows = connection_rows(conn)?;
     records(alloc, &rows)
@@ -157,6 +170,7 @@ fn planned<S: Alter>(alloc: Global, conn: &mut Connection<S>) -> Result<Plan, Er
     requires { conn.old.in_transaction ≡ false }
     ensures idle { conn.new.in_transaction ≡ false }
     ensures found { Finds (state S.Store conn.old) (state S.Store conn.new) result (λ c t. (t.0.items ≡ c.rows.groups) × (t.1.items ≡ c.rows.stations) × (t.2.items ≡ c.rows.agents)) }
+    ensures blamed { Blames (state S.Store conn.old) (state S.Store conn.new) result }
 {
     let groups = plan::groups(alloc, conn)?;
     let stations = select::records::<StationRecord, S>(alloc, conn)?;
@@ -169,6 +183,7 @@ fn traffic<S: Alter>(alloc: Global, conn: &mut Connection<S>) -> Result<Traffic,
     requires { conn.old.in_transaction ≡ false }
     ensures idle { conn.new.in_transaction ≡ false }
     ensures found { Finds (state S.Store conn.old) (state S.Store conn.new) result (λ c t. (t.0.items ≡ c.rows.calls) × (t.1.items ≡ c.rows.connections) × (t.2.items ≡ c.rows.monitors)) }
+    ensures blamed { Blames (state S.Store conn.old) (state S.Store conn.new) result }
 {
     let calls = select::records::<CallRecord, S>(alloc, conn)?;
     let connections = connections(alloc, conn)?;
@@ -202,6 +217,7 @@ pub fn rows<S: Alter>(alloc: Global, conn: &mut Connection<S>) -> Result<Rows, E
     requires { conn.old.in_transaction ≡ false }
     ensures idle { conn.new.in_transaction ≡ false }
     ensures found { Finds (state S.Store conn.old) (state S.Store conn.new) result (λ c rows. rows ≡ c.rows) }
+    ensures blamed { Blames (state S.Store conn.old) (state S.Store conn.new) result }
 {
     let meta = read_meta(conn)?;
     let planned = planned(alloc, conn)?;

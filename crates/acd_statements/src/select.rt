@@ -1,6 +1,6 @@
 //! Reads of a whole table between transactions.
 
-ghost use Rattle.std.specs.Prelude.{◌≡◌, ◌++◌, ◌∷◌, [], Some, false, map, IfOk, OnOk, IsPermutation};
+ghost use Rattle.std.specs.Prelude.{◌≡◌, ◌++◌, ◌∷◌, [], Some, false, map, IfErr, IfOk, OnOk, IsPermutation};
 ghost use Rattle.sqlite.specs.Effect.{Database};
 ghost use Rattle.sqlite.specs.Held.{state};
 ghost use Rattle.acd_columns.specs.AnyRows.{rows_in, TellsGood};
@@ -9,6 +9,8 @@ ghost use Rattle.acd_columns.specs.Relations.{relations_of};
 ghost use Rattle.acd_columns.specs.Schema.{Begins};
 ghost use Rattle.acd_columns.specs.Seeing.{Sees};
 ghost use Rattle.acd_columns.specs.Descriptions.{are_read};
+ghost use Rattle.acd_statements.specs.Failing.{IsMemory};
+ghost use Rattle.acd_statements.specs.Reading.{IsAnswered, IsToldOf, FailsToDecode, Blames};
 
 use crate::read::read;
 use crate::stored::Selected;
@@ -21,12 +23,15 @@ pub fn rows<R: Selected, S: Alter>(conn: &mut Connection<S>) -> Result<Vec<Row>,
     ensures idle { conn.new.in_transaction ≡ false }
     ensures found { Finds (state S.Store conn.old) (state S.Store conn.new) result (λ c rows. rows.items ≡ map R.descr.values (R.descr.records (relations_of c))) }
     ensures seen { (d : Database) → Begins R.base d.schema → Sees d (state S.Store conn.old) (state S.Store conn.new) result (λ rows. IsPermutation (rows_in R.descr.table d.trees) rows.items) }
+    ensures blamed { IsAnswered R.select []
+        → Blames (state S.Store conn.old) (state S.Store conn.new) result }
 {
     read(conn, R::select_text(), &[])
 }
 
 fn read_one<R: Selected>(row: &Row) -> Result<R, Error>
-    ensures { IfOk result (λ one. Some one ≡ R.descr.in_row row.now) }
+    ensures one { IfOk result (λ one. Some one ≡ R.descr.in_row row.now) }
+    ensures bad { IfErr result (FailsToDecode R.descr.in_row (row.now ∷ [])) }
 {
     match R::decode(row) {
         Some(record) => Ok(record),
@@ -35,7 +40,8 @@ fn read_one<R: Selected>(row: &Row) -> Result<R, Error>
 }
 
 fn add<R: Drop>(records: &mut Vec<R>, one: R) -> Result<(), Error>
-    ensures { OnOk result (records.new.items ≡ records.old.items ++ one ∷ []) }
+    ensures added { OnOk result (records.new.items ≡ records.old.items ++ one ∷ []) }
+    ensures full { IfErr result IsMemory }
 {
     match records.push(one) {
         Ok(()) => Ok(()),
@@ -44,7 +50,9 @@ fn add<R: Drop>(records: &mut Vec<R>, one: R) -> Result<(), Error>
 }
 
 fn records_of<R: Selected>(alloc: Global, rows: &[Row]) -> Result<Vec<R>, Error>
-    ensures { IfOk result (λ records. map Some records.items ≡ map R.descr.in_row rows.now) }
+    ensures records { IfOk result (λ records.
+        map Some records.items ≡ map R.descr.in_row rows.now) }
+    ensures bad { IfErr result (FailsToDecode R.descr.in_row rows.now) }
 {
     let mut records = Vec::new(alloc);
     for row in rows {
@@ -63,6 +71,8 @@ pub fn records<R: Selected, S: Alter>(
     ensures idle { conn.new.in_transaction ≡ false }
     ensures found { Finds (state S.Store conn.old) (state S.Store conn.new) result (λ c found. found.items ≡ R.descr.records (relations_of c)) }
     ensures seen { (d : Database) → Begins R.base d.schema → Sees d (state S.Store conn.old) (state S.Store conn.new) result (λ found. IsPermutation (rows_in R.descr.table d.trees) (map R.descr.values found.items)) }
+    ensures blamed { IsAnswered R.select [] → IsToldOf R.descr
+        → Blames (state S.Store conn.old) (state S.Store conn.new) result }
 {
     match rows::<R, S>(conn) {
         Ok(rows) => records_of(alloc, &rows),

@@ -1,7 +1,7 @@
 //! The statements of the limits and the counters, of kept records and of connections, one a function. Each works inside a
 //! transaction: what it writes is there, and no stop is added. Those of every other table are in `put`.
 
-ghost use Rattle.std.specs.Prelude.{◌≡◌, Ok, IfSome, IfOk, OnOk};
+ghost use Rattle.std.specs.Prelude.{◌≡◌, Ok, IfSome, IfOk, IfErr, IsTrue, OnOk};
 ghost use Rattle.std.specs.Ordering.{nat_cmp};
 ghost use Rattle.sqlite.specs.State.{HasCleanDisk, Executes};
 ghost use Rattle.sqlite.specs.Held.{state};
@@ -15,6 +15,7 @@ ghost use Rattle.acd_columns.specs.Making.{Builds, no_rows, TellsSecond};
 ghost use Rattle.acd_columns.specs.Relations.{Relations, relations_of};
 ghost use Rattle.acd_columns.specs.Content.{with_part};
 ghost use Rattle.acd_columns.specs.Draft.{Drafts, Works, Ran, Fits, MetaFits};
+ghost use Rattle.acd_statements.specs.Failing.{FailsToWrite, FailsToStart};
 
 use crate::bind;
 use acd_book::Kept;
@@ -38,6 +39,10 @@ pub fn write<S: Alter>(
     ensures same { tx.new.conn.ghost_name ≡ tx.old.conn.ghost_name }
     ensures works { Works (state S.Store tx.old.conn.now) (state S.Store tx.new.conn.now) }
     ensures ran { HasCleanDisk (state S.Store tx.new.conn.now) → OnOk result (Ran sql.now (bound params.now) (state S.Store tx.old.conn.now) (state S.Store tx.new.conn.now)) }
+    ensures failed { HasCleanDisk (state S.Store tx.new.conn.now)
+        → IsTrue (state S.Store tx.old.conn.now).in_transaction → IfErr result (FailsToWrite
+        (state S.Store tx.old.conn.now) (state S.Store tx.new.conn.now)
+        sql.now (bound params.now)) }
 {
     tx.execute(sql, params)?;
     Ok(())
@@ -92,6 +97,9 @@ pub fn insert_meta<S: Alter>(tx: &mut Transaction<'_, S>, meta: &Meta) -> Result
     ensures works { Works (state S.Store tx.old.conn.now) (state S.Store tx.new.conn.now) }
     ensures start { HasCleanDisk (state S.Store tx.new.conn.now) → OnOk result (Builds (state S.Store tx.old.conn.now) book_schema (no_rows 11)
         → Drafts (state S.Store tx.new.conn.now) (with_part Table.Meta meta.now (relations_of (empty_content meta.now.limits)))) }
+    ensures failed { HasCleanDisk (state S.Store tx.new.conn.now)
+        → IsTrue (state S.Store tx.old.conn.now).in_transaction → IfErr result (FailsToStart
+        (state S.Store tx.old.conn.now) (state S.Store tx.new.conn.now) meta.now) }
 {
     write(
         tx,

@@ -2,8 +2,8 @@
 use Rattle.std.specs.Prelude.{ℕ, Option, Some, None, if◌then◌else◌}
 use Rattle.acd_terms.specs.declared.rows.Rows.{Rows}
 use Rattle.acd_model.specs.Scans.{is_group, is_station}
-use Rattle.acd_tables.specs.declared.tables.DeviceKind.{DeviceKind}
-use Rattle.acd_tables.specs.declared.tables.DeviceKind.TheVariants.{Group, Station}
+use Rattle.acd_tables.specs.declared.kind.DeviceKind.{DeviceKind}
+use Rattle.acd_tables.specs.declared.kind.DeviceKind.TheVariants.{Group, Station}
 
 -- a group, a station, or nothing
 unfoldable pub kind_of : Rows → ℕ → Option DeviceKind

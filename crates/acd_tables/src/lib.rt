@@ -17,6 +17,7 @@ mod changes;
 mod connections;
 mod filling;
 mod indexes;
+mod kind;
 mod lines;
 mod noting;
 mod records;
@@ -28,5 +29,6 @@ mod turns;
 mod uses;
 mod writes;
 
+pub use kind::DeviceKind;
 pub use records::Records;
-pub use tables::{DeviceKind, Tables};
+pub use tables::Tables;

@@ -11,7 +11,7 @@ ghost use Rattle.acd_model.specs.Scans.{group_of, station_of, agent_of, call_of,
 use crate::connections::Connections;
 use crate::table::Table;
 use acd_terms::{
-    AgentId, AgentRecord, CallRecord, ConnectionRecord, DeviceId, GroupRecord, Limits,
+    AgentId, AgentRecord, CallRecord, ConnectionRecord, DeviceId, GroupRecord, Limits, Listed,
     MonitorRecord, Rows, StationRecord,
 };
 use std::alloc::{AllocError, Global};
@@ -136,6 +136,13 @@ impl Records {
             last_monitor: self.last_monitor,
             last_event: self.last_event,
         })
+    }
+
+    /// The groups in ascending number, copied.
+    pub fn groups(&self, alloc: Global) -> Result<Listed<GroupRecord>, AllocError>
+        ensures { IfOk result (λ l. l ≡ self.now.groups) }
+    {
+        self.groups.copied(alloc)
     }
 
     #[tactic(auto, unfolding(acd_model::specs::Scans::group_of))]

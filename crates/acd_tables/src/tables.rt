@@ -6,20 +6,14 @@ ghost use Rattle.acd_model.specs.Scans.{group_of, station_of, agent_of, call_of,
 ghost use Rattle.acd_tables.specs.Kinds.{kind_of};
 
 use crate::indexes::Indexes;
+use crate::kind::DeviceKind;
 use crate::records::Records;
 use acd_terms::{
-    AgentId, AgentRecord, CallRecord, ConnectionRecord, DeviceId, GroupRecord, Limits,
+    AgentId, AgentRecord, CallRecord, ConnectionRecord, DeviceId, GroupRecord, Limits, Listed,
     MonitorRecord, Rows, StationRecord,
 };
 use std::alloc::{AllocError, Global};
 use std::marker::Model;
-
-/// What is planned at a device.
-#[derive(Clone, Copy, Debug, PartialEq, Eq)]
-pub enum DeviceKind {
-    Group,
-    Station,
-}
 
 /// The records, the limits and the counters, with the indexes that spare their look-ups the way through them.
 ///
@@ -87,6 +81,13 @@ impl Tables {
         ensures { IfOk result (λ r. r ≡ self.now) }
     {
         self.records.rows(self.alloc)
+    }
+
+    /// The groups in ascending number, copied.
+    pub fn groups(&self) -> Result<Listed<GroupRecord>, AllocError>
+        ensures { IfOk result (λ l. l ≡ self.now.groups) }
+    {
+        self.records.groups(self.alloc)
     }
 
     pub fn group(&self, device: DeviceId) -> Option<GroupRecord>

@@ -1,4 +1,4 @@
-//! A morning in a small office, as bench/office.py foresees it.
+//! A morning in a small office, as tests/office.py foresees it.
 
 /// The first lines of a [script](crate::script).
 pub fn first_lines() -> &'static str {

@@ -2,9 +2,18 @@ use Rattle.std.proofs.Common.{◌≡◌, Ok, ap}
 use Rattle.sqlite.specs.Held.{state}
 use Rattle.acd_sqlbook.proofs.Standing.{reads_on}
 use Rattle.acd_columns.specs.Relations.{meta_of}
+use Rattle.acd_statements.proofs.Blamed.{blames_fail, blames_on}
 use Rattle.acd_sqlbook.proofs.ready.limits_ready.Goals as goal
 
 pub returns-in-Ok-clause-read : goal.returns-in-Ok-clause-read
 returns-in-Ok-clause-read g c =
     reads_on (state g.S.Store c.args.conn.now) (state g.S.Store c.meta_ready.new.conn) c.in-Ok.meta (Ok c.in-Ok.meta.limits) (λ c' found. found ≡ meta_of c'.rows) (λ c' found. found ≡ c'.rows.limits) c.in-Ok.ensures.read
     (λ c' is. ap (λ m. m.limits) is)
+
+pub returns-in-Ok-clause-blamed : goal.returns-in-Ok-clause-blamed
+returns-in-Ok-clause-blamed g c =
+    blames_on (state g.S.Store c.args.conn.now) (state g.S.Store c.meta_ready.new.conn) c.in-Ok.meta (Ok c.in-Ok.meta.limits) c.in-Ok.ensures.blamed (λ clean c' held. tt)
+
+pub returns-in-Err-clause-blamed : goal.returns-in-Err-clause-blamed
+returns-in-Err-clause-blamed g c =
+    blames_fail (state g.S.Store c.args.conn.now) (state g.S.Store c.meta_ready.new.conn) c.in-Err.error c.in-Err.ensures.blamed

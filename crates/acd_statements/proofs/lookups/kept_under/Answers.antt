@@ -5,9 +5,24 @@ use Rattle.acd_columns.specs.Rows.{IsReadable, kept_values}
 use Rattle.acd_columns.specs.Ranges.{kept_in}
 use Rattle.acd_statements.proofs.FirstFound.{first_recorded, found_readable}
 use Rattle.acd_columns.proofs.Reported.{kept_exact}
+use Rattle.std.proofs.Common.{map, refl, rules}
+use Rattle.std.specs.Prelude.{option_to_list}
+use Rattle.acd_columns.specs.declared.tables.Table.TheVariants as table
+use Rattle.acd_statements.proofs.Blamed.{blames_as}
+use Rattle.acd_statements.proofs.BlamedRows.{blames_records, rows_has, found_has}
 use Rattle.acd_statements.proofs.lookups.kept_under.Goals as goal
 
 pub returns-clause-found : goal.returns-clause-found
 returns-clause-found g c =
     first_recorded kept_in kept_values IsReadable kept_exact (state g.S.Store c.args.conn.now) (state g.S.Store c.kept_row.new.conn) c.in_ok-rows.rows c.first.result (λ (x : Content). kept_of x.kept c.args.requester.now c.args.invoke)
-    (found_readable (state g.S.Store c.args.conn.now) (λ (k : Kept). is_key c.args.requester.now c.args.invoke k.request)) c.in_ok-rows.ensures.found (rw c.deref.ensures.value at c.first.ensures)
+    (found_readable (state g.S.Store c.args.conn.now) (λ (k : Kept). is_key c.args.requester.now c.args.invoke k.request)) c.in_ok-rows.ensures.found (rw c.deref.ensures.value at c.first.ensures.found)
+
+pub returns-in_err-rows-clause-blamed : goal.returns-in_err-rows-clause-blamed
+returns-in_err-rows-clause-blamed g c =
+    blames_as (state g.S.Store c.args.conn.now) (state g.S.Store c.kept_row.new.conn) c.in_err-rows.field-0.0 c.from_residual.result (search rules) c.in_err-rows.ensures.blamed
+
+pub returns-clause-blamed : goal.returns-clause-blamed
+returns-clause-blamed g c =
+    blames_records kept_in table.Kept (λ row. refl) (state g.S.Store c.args.conn.now) (state g.S.Store c.kept_row.new.conn) c.in_ok-rows.rows c.first.result (λ (x : Content). map kept_values (option_to_list (kept_of x.kept c.args.requester.now c.args.invoke)))
+    (λ x row. rows_has kept_values (option_to_list (kept_of x.kept c.args.requester.now c.args.invoke)) x.kept row (found_has (λ (k : Kept). is_key c.args.requester.now c.args.invoke k.request) x.kept))
+    c.in_ok-rows.ensures.blamed c.in_ok-rows.ensures.found (rw c.deref.ensures.value at c.first.ensures.bad)

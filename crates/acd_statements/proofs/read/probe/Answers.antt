@@ -6,6 +6,8 @@ use Rattle.sqlite.specs.Held.{state}
 use Rattle.sqlite.proofs.Callers.{never_commits}
 use Rattle.acd_columns.proofs.Queries.{probe_text, probe_plain, quiet_unchanged, quiet_failed, quiet_stops, row_same, row_fails}
 use Rattle.acd_columns.proofs.Seen.{sees_failed, sees_shown}
+use Rattle.acd_statements.specs.Reading.{Blames}
+use Rattle.acd_statements.proofs.Blamed.{blames_none, blames_probe}
 use Rattle.acd_statements.proofs.read.probe.Goals as goal
 
 pub returns-in_err-query_row-clause-quiet : goal.returns-in_err-query_row-clause-quiet
@@ -43,3 +45,12 @@ returns-clause-seen g c d =
     λ clean. row_same probe_text [] (state g.S.Store c.args.conn.now) (state g.S.Store c.query_row.new.self) c.in_ok-query_row.field-0 (probe_plain _) (c.in_ok-query_row.ensures.row clean) in
     sees_shown d (state g.S.Store c.args.conn.now) (state g.S.Store c.query_row.new.self) c.query_row.ensures.survives (λ had db. never_commits probe_text [] (state g.S.Store c.args.conn.now) db (probe_plain _))
     tt (λ x. ⊤) (λ clean. ((same clean).0.was_open, (same clean).0.is_open)) (λ clean had. same clean) (λ clean had. tt)
+
+pub returns-in_err-query_row-clause-blamed : goal.returns-in_err-query_row-clause-blamed
+returns-in_err-query_row-clause-blamed g c =
+    let is : c.from_residual.result ≡ Err c.in_err-query_row.field-0.0 = search rules in
+    subst (λ r. Blames {A = Unit {0}} (state g.S.Store c.args.conn.now) (state g.S.Store c.query_row.new.self) r) (sym is)
+    (blames_probe (state g.S.Store c.args.conn.now) (state g.S.Store c.query_row.new.self) c.in_err-query_row.field-0.0 c.query_row.ensures.survives c.in_err-query_row.ensures.row)
+
+pub returns-clause-blamed : goal.returns-clause-blamed
+returns-clause-blamed g c = blames_none (state g.S.Store c.args.conn.now) (state g.S.Store c.query_row.new.self) tt c.query_row.ensures.survives

@@ -1,4 +1,4 @@
-use Rattle.std.proofs.Common.{◌≡◌, Err, rules, subst, sym}
+use Rattle.std.proofs.Common.{◌≡◌, Err, rules, subst, sym, map, refl}
 use Rattle.std.specs.Prelude.{Vec}
 use Rattle.std.specs.declared.alloc.Global.{Global}
 use Rattle.sqlite.specs.Held.{state}
@@ -9,6 +9,9 @@ use Rattle.acd_columns.specs.Rows.{connection_values}
 use Rattle.acd_columns.proofs.Records.{connection_exact}
 use Rattle.acd_columns.proofs.Recorded.{found_none, recorded}
 use Rattle.acd_columns.specs.Finding.{Finds}
+use Rattle.acd_columns.specs.declared.tables.Table.TheVariants as table
+use Rattle.acd_statements.proofs.Blamed.{blames_as}
+use Rattle.acd_statements.proofs.BlamedRows.{blames_records}
 use Rattle.acd_statements.proofs.reads.connections.Goals as goal
 
 pub returns-in_err-rows-clause-found : goal.returns-in_err-rows-clause-found
@@ -20,4 +23,12 @@ returns-in_err-rows-clause-found g c =
 pub returns-clause-found : goal.returns-clause-found
 returns-clause-found g c =
     recorded connection_in connection_values connection_exact (state g.S.Store c.args.conn.now) (state g.S.Store c.connection_rows.new.conn) c.in_ok-rows.rows c.records.result (λ (x : Content). x.rows.connections) c.in_ok-rows.ensures.found
-    (rw c.deref.ensures.value at c.records.ensures)
+    (rw c.deref.ensures.value at c.records.ensures.records)
+
+pub returns-in_err-rows-clause-blamed : goal.returns-in_err-rows-clause-blamed
+returns-in_err-rows-clause-blamed g c = blames_as (state g.S.Store c.args.conn.now) (state g.S.Store c.connection_rows.new.conn) c.in_err-rows.field-0.0 c.from_residual.result (search rules) c.in_err-rows.ensures.blamed
+
+pub returns-clause-blamed : goal.returns-clause-blamed
+returns-clause-blamed g c =
+    blames_records connection_in table.Connections (λ row. refl) (state g.S.Store c.args.conn.now) (state g.S.Store c.connection_rows.new.conn) c.in_ok-rows.rows c.records.result (λ (x : Content). map connection_values x.rows.connections) (λ x row has. has)
+    c.in_ok-rows.ensures.blamed c.in_ok-rows.ensures.found (rw c.deref.ensures.value at c.records.ensures.bad)

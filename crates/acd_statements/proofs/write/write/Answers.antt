@@ -1,7 +1,9 @@
-use Rattle.std.proofs.Common.{ap}
+use Rattle.std.proofs.Common.{◌≡◌, Err, IfErr, rules, ap, subst, sym}
 use Rattle.sqlite.specs.Held.{state}
 use Rattle.sqlite.specs.Values.{bound}
 use Rattle.acd_columns.proofs.Statements.{ran_inside, works_inside}
+use Rattle.acd_statements.specs.Failing.{FailsToWrite}
+use Rattle.acd_statements.proofs.Failures.{written}
 use Rattle.acd_statements.proofs.write.write.Goals as goal
 
 pub returns-clause-ran : goal.returns-clause-ran
@@ -18,3 +20,9 @@ pub returns-in_err-execute-clause-works : goal.returns-in_err-execute-clause-wor
 returns-in_err-execute-clause-works g c =
     works_inside c.args.sql.now (bound c.args.params.now) (state g.S.Store c.args.tx.now.conn.now) (state g.S.Store c.execute.new.self.conn.now) c.execute.result
     c.execute.ensures.survives (λ clean inside. c.execute.ensures.runs clean inside) (λ out. ap (state g.S.Store) (c.execute.ensures.ended out).1)
+
+pub returns-in_err-execute-clause-failed : goal.returns-in_err-execute-clause-failed
+returns-in_err-execute-clause-failed g c clean inside =
+    let is : c.from_residual.result ≡ Err c.in_err-execute.field-0.0 = search rules in
+    subst (λ r. IfErr r (FailsToWrite (state g.S.Store c.args.tx.now.conn.now) (state g.S.Store c.execute.new.self.conn.now) c.args.sql.now (bound c.args.params.now))) (sym is)
+    (written (state g.S.Store c.args.tx.now.conn.now) (state g.S.Store c.execute.new.self.conn.now) c.args.sql.now (bound c.args.params.now) c.in_err-execute.field-0.0 (c.in_err-execute.ensures.runs clean inside))

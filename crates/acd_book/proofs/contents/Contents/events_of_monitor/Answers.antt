@@ -7,4 +7,4 @@ use Rattle.acd_book.proofs.contents.Contents.events_of_monitor.Goals as goal
 pub returns-clause-found : goal.returns-clause-found
 returns-clause-found c =
     let s = c.args.self.now in
-    IfOk-weaker c.first_at.result _ _ (λ v told. monitor_told (content_of s) c.args.monitor c.args.number c.args.limit c.in-Some.watched v.items s.log.numbered (search rules) (search rules)) c.first_at.ensures
+    IfOk-weaker c.at_device.result _ _ (λ v told. monitor_told (content_of s) c.args.monitor c.args.number c.args.limit c.in-Some.watched v.items (search rules) (search rules)) c.at_device.ensures

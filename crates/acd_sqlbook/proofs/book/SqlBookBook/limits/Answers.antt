@@ -1,10 +1,15 @@
 use Rattle.std.proofs.Common.{◌≡◌}
 use Rattle.sqlite.specs.Held.{state}
 use Rattle.acd_sqlbook.proofs.BookStates.{reads_noted}
+use Rattle.acd_sqlbook.proofs.Caused.{reads_caused}
 use Rattle.acd_sqlbook.proofs.book.SqlBookBook.limits.Goals as goal
 
-pub returns : goal.returns
-returns g c =
+pub returns-clause-reads : goal.returns-clause-reads
+returns-clause-reads g c =
     reads_noted (state g.S.Store c.args.self.now.conn) (state g.S.Store c.limits_ready-found.new.conn) c.args.self.now.failures c.noted.new.failures c.limits_ready-found.result c.noted.result
     (λ x found. found ≡ x.rows.limits) (g.met.S.Store.settled c.args.self.now.conn.store) (g.met.S.Store.stays c.limits_ready-found.new.conn.store)
     c.noted.ensures.answer c.noted.ensures.failures c.noted.ensures.counts c.limits_ready-found.ensures.read
+
+pub returns-clause-caused : goal.returns-clause-caused
+returns-clause-caused g c clean sound store =
+    reads_caused (state g.S.Store c.args.self.now.conn) (state g.S.Store c.limits_ready-found.new.conn) c.limits_ready-found.result c.noted.result c.noted.ensures.answer c.limits_ready-found.ensures.blamed clean sound store

@@ -1,0 +1,150 @@
+//! The numbers of the events at the devices that are watched, so that a page of a monitor reads its own events alone.
+
+ghost use Rattle.std.specs.Prelude.{◌∷◌, [], List, IfSome};
+ghost use Rattle.acd_terms.specs.declared.event.Event.{Event};
+ghost use Rattle.acd_book.specs.Watched.{IsPage, IsWatched, StillWatches, WatchesAfter, WatchesFrom, WatchesMore};
+
+use crate::numbers::Numbers;
+use acd_model::Change;
+use acd_terms::{DeviceId, Event, MonitorRecord};
+use std::alloc::Global;
+use std::collections::HashMap;
+
+/// For each device with a running monitor the numbers of its events, from a number on.
+///
+/// It takes 8 bytes for each event at such a device, and lets a device's list go with its last monitor. None of its
+/// calls fails: a list that finds no memory is let go, and whoever asks for it has to look through the events.
+#[derive(Drop)]
+pub struct Watched {
+    pub(crate) alloc: Global,
+    pub(crate) lists: HashMap<DeviceId, Numbers>,
+    /// The device of each monitor that is counted in a list.
+    pub(crate) devices: HashMap<u64, DeviceId>,
+}
+
+impl Watched {
+    /// Nothing is watched.
+    pub fn new(alloc: Global) -> Watched
+        ensures { (events : List Event) → IsWatched events result }
+    {
+        Watched {
+            alloc,
+            lists: HashMap::new(alloc),
+            devices: HashMap::new(alloc),
+        }
+    }
+
+    /// Watches the devices of monitors that run from now on, where no event has a number above `last`.
+    pub fn of_monitors(alloc: Global, monitors: &[MonitorRecord], last: u64) -> Watched
+        ensures { WatchesAfter last result }
+    {
+        let mut watched = Watched::new(alloc);
+        for monitor in monitors {
+            watched.start(monitor, last);
+        }
+        watched
+    }
+
+    /// Watches the device of a monitor that runs from now on, where no event has a number above `last`.
+    pub fn start(&mut self, monitor: &MonitorRecord, last: u64)
+        ensures { WatchesFrom last self.old self.new }
+    {
+        self.stop(monitor.monitor);
+        if self.devices.insert(monitor.monitor, monitor.device).is_ok() {
+            self.count(monitor.device, monitor.after_event.max(last));
+        }
+    }
+
+    // One more monitor watches the device, whose list begins here where it has none.
+    fn count(&mut self, device: DeviceId, above: u64)
+        ensures { WatchesFrom above self.old self.new }
+    {
+        if let Some(list) = self.lists.get_mut(&device) {
+            list.monitors = list.monitors.saturating_add(1);
+            return;
+        }
+        let _ = self.lists.insert(device, Numbers::new(self.alloc, above));
+    }
+
+    /// A monitor is stopped, and the list of its device goes with the last one.
+    pub fn stop(&mut self, monitor: u64)
+        ensures { StillWatches self.old self.new }
+    {
+        if let Some(device) = self.devices.remove(&monitor) {
+            self.discount(device);
+        }
+    }
+
+    // One monitor less watches the device.
+    fn discount(&mut self, device: DeviceId)
+        ensures { StillWatches self.old self.new }
+    {
+        if self.is_last(device) {
+            self.lists.remove(&device);
+        }
+    }
+
+    // Counts one monitor less at the device, and tells whether it was the last.
+    fn is_last(&mut self, device: DeviceId) -> bool
+        ensures { StillWatches self.old self.new }
+    {
+        match self.lists.get_mut(&device) {
+            None => false,
+            Some(list) => {
+                list.monitors = list.monitors.saturating_sub(1);
+                list.monitors == 0
+            }
+        }
+    }
+
+    /// Starts and stops what changes start and stop, where no event has a number above `last`.
+    pub fn change(&mut self, changes: &[Change], last: u64)
+        ensures { WatchesFrom last self.old self.new }
+    {
+        for change in changes {
+            match change {
+                Change::PutMonitor(monitor) => self.start(monitor, last),
+                Change::RemoveMonitor(monitor) => self.stop(*monitor),
+                _ => {}
+            }
+        }
+    }
+
+    /// One more event, behind the others.
+    pub fn note(&mut self, event: &Event)
+        ensures { WatchesMore (event.now ∷ []) self.old self.new }
+    {
+        let Some(device) = event.report.columns().device else {
+            return;
+        };
+        let Some(list) = self.lists.get_mut(&device) else {
+            return;
+        };
+        if list.note(event.number).is_err() {
+            self.lists.remove(&device);
+        }
+    }
+
+    /// More events, behind the others.
+    pub fn note_all(&mut self, more: &[Event])
+        ensures { WatchesMore more.now self.old self.new }
+    {
+        if self.lists.is_empty() {
+            return;
+        }
+        for event in more {
+            self.note(event);
+        }
+    }
+
+    /// The numbers of the first `limit` events at a device above a number, where it is known that no other is.
+    pub fn numbers(&self, device: DeviceId, number: u64, limit: usize) -> Option<&[u64]>
+        ensures { IfSome result (λ found. IsPage self.now device number limit found.now) }
+    {
+        let list = self.lists.get(&device)?;
+        if number < list.above {
+            return None;
+        }
+        Some(list.behind(number, limit))
+    }
+}

@@ -1,0 +1,21 @@
+-- What a report shows of groups, by the sets that the tables lend.
+use Rattle.std.specs.Prelude.{ℕ, List, min, Option, Some, None}
+use Rattle.std.specs.List.{filter_map, reduce}
+use Rattle.acd_terms.specs.declared.rows.Rows.{Rows}
+use Rattle.acd_terms.specs.declared.record.ConnectionRecord.{ConnectionRecord}
+use Rattle.acd_model.specs.Scans.{connection_of}
+
+-- the lesser of two numbers that may be there
+abbrev pub lesser : Option ℕ → Option ℕ → Option ℕ
+lesser None other = other
+lesser (Some n) None = Some n
+lesser (Some n) (Some m) = Some (min n m)
+
+-- when the connection that may be there entered its queue
+abbrev pub queued_of : Option ConnectionRecord → Option ℕ
+queued_of None = None
+queued_of (Some x) = x.queued
+
+-- the least moment at which one of the calls of these pairs entered the group
+abbrev pub first_of : Rows → ℕ → List (ℕ × ℕ) → Option ℕ
+first_of s group pairs = reduce min (filter_map (λ (p : ℕ × ℕ). queued_of (connection_of s p.1 group)) pairs)
