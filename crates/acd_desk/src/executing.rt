@@ -38,17 +38,18 @@ pub(crate) fn executed(
 {
     let done = switch.step_with_changes(moment, &request.command)?;
     let body = reply_text(alloc, &request.requester, request.invoke, done.outcome)?;
-    let kept = kept_record(switch, request, done.outcome, Text::new(body));
+    let (stamp, moment) = (switch.last_stamp(), switch.last_moment());
+    let kept = kept_record(stamp, moment, request, done.outcome, Text::new(body));
     Ok((done, kept))
 }
 
-// What is kept of a request, by the switch after it.
-fn kept_record(switch: &Switch, request: &Request, outcome: Outcome, body: Text) -> Kept
-    ensures { result ≡ record (kept_at switch.now.last_stamp switch.now.last_moment request.now outcome) { body = body } }
+// What is kept of a request, by the counters of the switch after it.
+fn kept_record(stamp: u64, moment: u32, request: &Request, outcome: Outcome, body: Text) -> Kept
+    ensures { result ≡ record (kept_at stamp moment request.now outcome) { body = body } }
 {
     Kept {
-        stamp: switch.last_stamp(),
-        moment: switch.last_moment(),
+        stamp,
+        moment,
         request: *request,
         status: outcome_status(outcome),
         body,
