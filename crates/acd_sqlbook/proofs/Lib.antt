@@ -6,4 +6,5 @@ mod Replacing
 mod BookStates
 mod Rising
 mod Adopted
+mod Stopped
 mod Caused

@@ -1,5 +1,5 @@
 -- Why a part of a commit isn't written.
-use Rattle.std.proofs.Common.{◌≡◌, ◌⊎◌, inl, inr, ℕ, ◌<◌, ◌≤◌, List, length, get_or, Option, Result, Ok, Err, IsTrue, IfErr, sym, ap, subst, ◌∙◌, arith}
+use Rattle.std.proofs.Common.{◌≡◌, inl, inr, ℕ, ◌<◌, List, length, get_or, Option, Result, Ok, Err, IsTrue, IfErr, sym, ap, subst, ◌∙◌, arith}
 use Rattle.std.proofs.lemmas.Grind.{common_steps}
 use Rattle.sqlite_value.specs.Order.{Row}
 use Rattle.sqlite.specs.declared.error.Error.{Error}
@@ -17,7 +17,7 @@ use Rattle.acd_columns.proofs.Filed.{Filed, Updates, by_first, columns_given}
 use Rattle.acd_columns.proofs.Statements.{inert_works}
 use Rattle.acd_columns.proofs.Updates.{Updating}
 use Rattle.acd_columns.proofs.Sets.{set_none}
-use Rattle.acd_statements.specs.Failing.{IsMemory, HasFailed, Refuses, FailsToWrite}
+use Rattle.acd_statements.specs.Failing.{FailsToWrite}
 use Rattle.acd_statements.specs.Refusing.{RefusesOn, FailsToLeave, IsBlamed}
 use Rattle.acd_statements.proofs.Failures.{failed_after}
 

@@ -1,4 +1,4 @@
-use Rattle.std.proofs.Common.{ℕ, List, map, sym, subst, ap, ◌∙◌, arith}
+use Rattle.std.proofs.Common.{ℕ, List, map, sym, subst, ◌∙◌, arith}
 use Rattle.sqlite.specs.State.{HasCleanDisk}
 use Rattle.sqlite.specs.Held.{state}
 use Rattle.acd_columns.specs.Content.{with_part}
@@ -7,7 +7,7 @@ use Rattle.acd_columns.specs.Relations.{all_put}
 use Rattle.acd_columns.specs.Draft.{Drafts}
 use Rattle.acd_columns.proofs.Endings.{works_on}
 use Rattle.acd_statements.proofs.Planned.{pairs_more, all_taken}
-use Rattle.std.proofs.Common.{[], ◌∷◌, Err, get_or, rules, take}
+use Rattle.std.proofs.Common.{Err, rules, take}
 use Rattle.acd_columns.specs.Relations.{Relations}
 use Rattle.acd_columns.specs.Rows.{further_values}
 use Rattle.acd_columns.specs.declared.texts.TheConstants.{INSERT_AGENT_GROUP}

@@ -1,11 +1,10 @@
-use Rattle.std.proofs.Common.{◌≡◌, ℕ, List, map, filter, not, ◌==◌, ap, refl, ◌∙◌, arith}
+use Rattle.std.proofs.Common.{ℕ, List, map, filter, not, ◌==◌, ap, ◌∙◌, arith}
 use Rattle.sqlite.specs.Held.{state}
 use Rattle.sqlite.specs.State.{HasCleanDisk}
 use Rattle.acd_columns.specs.declared.relations.AgentRow.{AgentRow}
 use Rattle.acd_columns.specs.declared.tables.Table.TheVariants as table
 use Rattle.acd_columns.specs.Content.{with_part}
-use Rattle.acd_columns.specs.Draft.{Drafts}
-use Rattle.acd_columns.specs.Relations.{Relations, agent_part, all_put, with_agent_parts}
+use Rattle.acd_columns.specs.Relations.{Relations, all_put, with_agent_parts}
 use Rattle.acd_columns.specs.Tables.{agents}
 use Rattle.acd_statements.specs.Writing.{with_put}
 use Rattle.acd_statements.proofs.Planned.{leaves_on}

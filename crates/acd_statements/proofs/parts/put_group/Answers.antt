@@ -1,4 +1,4 @@
-use Rattle.std.proofs.Common.{◌≡◌, ap, refl, arith}
+use Rattle.std.proofs.Common.{ap, arith}
 use Rattle.sqlite.specs.Held.{state}
 use Rattle.sqlite.specs.State.{HasCleanDisk}
 use Rattle.acd_columns.specs.declared.relations.GroupRow.{GroupRow}

@@ -1,4 +1,4 @@
-use Rattle.std.proofs.Common.{ℕ, Err, rules}
+use Rattle.std.proofs.Common.{rules}
 use Rattle.sqlite.specs.Held.{state}
 use Rattle.acd_columns.proofs.Filed.{inserted_in}
 use Rattle.acd_statements.specs.Refusing.{RefusesOn}

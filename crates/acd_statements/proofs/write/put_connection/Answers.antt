@@ -7,7 +7,7 @@ use Rattle.acd_columns.specs.declared.tables.Table.TheVariants as table
 use Rattle.acd_columns.specs.Relations.{Relations}
 use Rattle.acd_columns.specs.Content.{with_part}
 use Rattle.acd_columns.proofs.Connections.{sets_connection, behind_none}
-use Rattle.std.proofs.Common.{ℕ, Err, inl, inr, rules}
+use Rattle.std.proofs.Common.{inl, inr, rules}
 use Rattle.acd_columns.specs.Rows.{connection_values}
 use Rattle.acd_columns.specs.declared.texts.TheConstants.{INSERT_CONNECTION, UPDATE_CONNECTION}
 use Rattle.acd_statements.specs.Refusing.{RefusesOn, RefusesPutConnection}
