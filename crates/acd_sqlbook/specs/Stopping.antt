@@ -7,7 +7,7 @@ use Rattle.acd_model.specs.declared.moves.Change.{Change}
 use Rattle.acd_model.specs.declared.moves.Change.TheVariants.{Nothing, PutGroup, PutStation, PutAgent, PutCall, PutConnection, PutMonitor, RemoveCall, RemoveConnection, RemoveMonitor}
 use Rattle.acd_book.specs.Content.{Content}
 use Rattle.acd_book.specs.declared.kept.Kept.{Kept}
-use Rattle.acd_columns.specs.Draft.{Drafts}
+use Rattle.acd_columns.specs.Draft.{Drafts, Holds}
 use Rattle.acd_columns.specs.Relations.{Relations, relations_of}
 use Rattle.acd_columns.specs.Rows.{kept_values, meta_shown}
 use Rattle.acd_columns.specs.Tables.{stations, calls, monitors, events}
@@ -67,3 +67,7 @@ FailsToFile Stops c old new e = IsMemory e ⊎ (HasFailed old new ⊎ Stops old.
 -- it fails by this alone
 abbrev pub IsStopped : {A : Type 0} → (Option ℕ → Content → Type 0) → State → State → Result A Error → Type 0
 IsStopped Stops old new result = HasCleanDisk new → (c : Content) → Drafts old (relations_of c) → IfErr result (FailsToFile Stops c old new)
+
+-- of a whole commit, on a connection that holds a content
+abbrev pub IsUndone : {A : Type 0} → (Option ℕ → Content → Type 0) → State → State → Result A Error → Type 0
+IsUndone Stops old new result = HasCleanDisk new → (c : Content) → Holds old c → IfErr result (FailsToFile Stops c old new)

@@ -243,7 +243,8 @@ pub fn drop_connection<S: Alter>(
     ensures works { Works (state S.Store tx.old.conn.now) (state S.Store tx.new.conn.now) }
     ensures put { HasCleanDisk (state S.Store tx.new.conn.now) → OnOk result ((r : Relations) → Drafts (state S.Store tx.old.conn.now) r
         → Drafts (state S.Store tx.new.conn.now) (with_part Table.Connections (remove_by (at_connection call device) r.connections) r)) }
-    ensures failed { IsBlamed (RefusesOn DELETE_CONNECTION.now (id_value call ∷ id_value device ∷ []))
+    ensures failed { IsBlamed
+        (RefusesOn DELETE_CONNECTION.now (id_value call ∷ id_value device ∷ []))
         (state S.Store tx.old.conn.now) (state S.Store tx.new.conn.now) result }
 {
     write(
