@@ -1,5 +1,5 @@
 -- Why a part of a commit isn't written.
-use Rattle.std.proofs.Common.{◌≡◌, ◌⊎◌, inl, inr, ℕ, zero, suc, ◌<◌, ◌≤◌, IsTrue, length, take, get_or, List, [], ◌∷◌, Option, Result, Ok, Err, IfErr, sym, subst, ap, arith}
+use Rattle.std.proofs.Common.{◌≡◌, inl, inr, ℕ, zero, suc, ◌<◌, ◌≤◌, IsTrue, length, take, get_or, List, [], ◌∷◌, Option, Result, Ok, Err, IfErr, sym, subst, arith}
 use Rattle.sqlite.specs.declared.error.Error.{Error}
 use Rattle.sqlite.specs.State.{State, HasCleanDisk}
 use Rattle.sqlite.specs.Steps.{FailsToCommit}

@@ -1,5 +1,5 @@
 -- Why a part of a commit isn't written, inside a transaction that saw a content.
-use Rattle.std.specs.Prelude.{◌≡◌, ◌⊎◌, ℕ, ◌∷◌, [], List, Option, Result, IfErr}
+use Rattle.std.specs.Prelude.{◌⊎◌, ℕ, ◌∷◌, [], List, Option, Result, IfErr}
 use Rattle.sqlite.specs.declared.error.Error.{Error}
 use Rattle.sqlite.specs.State.{State, HasCleanDisk}
 use Rattle.acd_terms.specs.declared.event.Event.{Event}
