@@ -7,4 +7,5 @@ mod BookStates
 mod Rising
 mod Adopted
 mod Stopped
+mod Counting
 mod Caused

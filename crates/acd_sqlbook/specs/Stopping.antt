@@ -1,5 +1,5 @@
 -- Why a part of a commit isn't written, inside a transaction that saw a content.
-use Rattle.std.specs.Prelude.{◌⊎◌, ℕ, ◌∷◌, [], List, Option, Result, IfErr}
+use Rattle.std.specs.Prelude.{◌≡◌, ◌⊎◌, ℕ, ◌≤◌, ◌∷◌, [], List, length, Option, Result, IfErr, OnOk}
 use Rattle.sqlite.specs.declared.error.Error.{Error}
 use Rattle.sqlite.specs.State.{State, HasCleanDisk}
 use Rattle.acd_terms.specs.declared.event.Event.{Event}
@@ -7,16 +7,17 @@ use Rattle.acd_model.specs.declared.moves.Change.{Change}
 use Rattle.acd_model.specs.declared.moves.Change.TheVariants.{Nothing, PutGroup, PutStation, PutAgent, PutCall, PutConnection, PutMonitor, RemoveCall, RemoveConnection, RemoveMonitor}
 use Rattle.acd_book.specs.Content.{Content}
 use Rattle.acd_book.specs.declared.kept.Kept.{Kept}
-use Rattle.acd_columns.specs.Draft.{Drafts, Holds}
-use Rattle.acd_columns.specs.Relations.{Relations, relations_of}
+use Rattle.acd_columns.specs.Draft.{Drafts, Holds, MetaFits}
+use Rattle.acd_columns.specs.Relations.{Relations, meta_of, relations_of}
 use Rattle.acd_columns.specs.Rows.{kept_values, meta_shown}
 use Rattle.acd_columns.specs.Tables.{stations, calls, monitors, events}
 use Rattle.acd_columns.specs.Values.{id_value}
 use Rattle.acd_columns.specs.declared.meta.Meta.{Meta}
 use Rattle.acd_columns.specs.declared.texts.TheConstants.{DELETE_CALL, DELETE_CONNECTION, DELETE_MONITOR, INSERT_KEPT, UPDATE_CALL, UPDATE_META, UPDATE_MONITOR}
 use Rattle.acd_statements.specs.Failing.{IsMemory, HasFailed}
+use Rattle.acd_statements.specs.Reading.{FailsToRead}
 use Rattle.acd_statements.specs.Refusing.{RefusesOn, RefusesPut, RefusesPutConnection, RefusesGroup, RefusesAgent}
-use Rattle.acd_sqlbook.specs.Commit.{ChangeFits, EventFits, filed, all_filed, with_event, with_events, with_kept}
+use Rattle.acd_sqlbook.specs.Commit.{ChangeFits, EventFits, counted, filed, all_filed, with_event, with_events, with_kept}
 
 -- with this limit of steps and on these relations, the store refuses a statement of the change
 abbrev pub RefusesChange : Change → Option ℕ → Relations → Type 0
@@ -71,3 +72,24 @@ IsStopped Stops old new result = HasCleanDisk new → (c : Content) → Drafts o
 -- of a whole commit, on a connection that holds a content
 abbrev pub IsUndone : {A : Type 0} → (Option ℕ → Content → Type 0) → State → State → Result A Error → Type 0
 IsUndone Stops old new result = HasCleanDisk new → (c : Content) → Holds old c → IfErr result (FailsToFile Stops c old new)
+
+-- ---- a commit of changes
+
+-- the counters behind so many events don't fit their columns
+abbrev pub IsUncounted : List Change → ℕ → Kept → Option ℕ → Content → Type 0
+IsUncounted changes events kept limit c = ¬ (MetaFits (counted (meta_of c.rows) changes events kept))
+
+-- those don't fit, or it stops at something that it writes
+abbrev pub StopsCommit : List Change → List Event → Kept → Option ℕ → Content → Type 0
+StopsCommit changes events kept limit c =
+    IsUncounted changes (length events) kept limit c ⊎ StopsInAll changes events kept (counted (meta_of c.rows) changes (length events) kept) limit c
+
+-- why a call that reads first fails: as a read does, or at this
+abbrev pub IsBlamedOr : {A : Type 0} → (Option ℕ → Content → Type 0) → State → State → Result A Error → Type 0
+IsBlamedOr Stops old new result = HasCleanDisk new → (c : Content) → Holds old c → IfErr result (λ e. FailsToRead c old new e ⊎ Stops old.step_limit c)
+
+-- that, and what it leaves of the store's count and of the limit of steps
+pub record BlamesOr {A : Type 0} (Stops : Option ℕ → Content → Type 0) (old new : State) (result : Result A Error) : Type 0 where
+  pub cause : IsBlamedOr Stops old new result
+  pub counts : OnOk result (old.faults ≤ new.faults)
+  pub limit : OnOk result (new.step_limit ≡ old.step_limit)

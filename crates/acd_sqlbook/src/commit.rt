@@ -194,7 +194,8 @@ fn is_taken_away(first: &Change, second: &Change) -> bool
 fn next_written(changes: &[Change]) -> Option<(&Change, &[Change])>
     ensures some { IfSome result (λ p. (length p.1.now < length changes.now) × ((c : Content) → IsAscending connection_order c.rows.connections → all_filed c changes.now ≡ all_filed (filed c p.0.now) p.1.now)) }
     ensures none { result ≡ None → changes.now ≡ [] }
-    ensures stops { IfSome result (λ p. (limit : Option ℕ) (c : Content) → (StopsAtChange p.0.now limit c → StopsInChanges changes.now limit c)
+    ensures stops { IfSome result (λ p. (limit : Option ℕ) (c : Content)
+        → (StopsAtChange p.0.now limit c → StopsInChanges changes.now limit c)
         × (StopsInChanges p.1.now limit (filed c p.0.now) → StopsInChanges changes.now limit c)) }
 {
     match changes {
@@ -308,7 +309,9 @@ fn last_monitor(last: u64, changes: &[Change]) -> u64
 
 /// The counters after a commit, where there are numbers for its events.
 pub(crate) fn counted(meta: &Meta, changes: &[Change], events: u64, kept: &Kept) -> Option<Meta>
-    ensures { IfSome result (λ m. m ≡ counted meta.now changes.now events kept.now) }
+    ensures is { IfSome result (λ m. m ≡ counted meta.now changes.now events kept.now) }
+    ensures none { result ≡ None
+        → ¬ (MetaFits (counted meta.now changes.now events kept.now)) }
 {
     let last_event = meta.last_event.checked_add(events)?;
     Some(Meta {
