@@ -1,6 +1,5 @@
 -- Why a commit of changes fails.
-use Rattle.std.proofs.Common.{◌≡◌, ◌⊎◌, inl, inr, ℕ, ◌≤◌, List, length, Option, Result, Ok, Err, IsTrue, IfErr, sym, subst, ap, ◌∙◌, arith}
-use Rattle.std.proofs.lemmas.Bool.{cases_Bool}
+use Rattle.std.proofs.Common.{◌≡◌, ◌⊎◌, inl, inr, ℕ, ◌≤◌, List, length, Option, Result, Ok, Err, IsTrue, IfErr, sym, subst, ◌∙◌, arith}
 use Rattle.sqlite.specs.declared.error.Error.{Error}
 use Rattle.sqlite.specs.State.{State, HasCleanDisk}
 use Rattle.acd_terms.specs.declared.event.Event.{Event}
@@ -8,7 +7,7 @@ use Rattle.acd_model.specs.declared.moves.Change.{Change}
 use Rattle.acd_book.specs.Content.{Content}
 use Rattle.acd_book.specs.declared.kept.Kept.{Kept}
 use Rattle.acd_columns.specs.declared.meta.Meta.{Meta}
-use Rattle.acd_columns.specs.Draft.{Holds, MetaFits}
+use Rattle.acd_columns.specs.Draft.{MetaFits}
 use Rattle.acd_columns.specs.Relations.{meta_of}
 use Rattle.acd_statements.specs.Failing.{IsMemory}
 use Rattle.acd_statements.specs.Reading.{Blames, FailsToRead}

@@ -4,7 +4,7 @@ use Rattle.acd_sqlbook.specs.Commit.{counted, written_by}
 use Rattle.acd_columns.specs.Relations.{meta_of}
 use Rattle.acd_columns.specs.declared.meta.Meta.{Meta}
 use Rattle.acd_sqlbook.proofs.Standing.{commits_not, commits_counted}
-use Rattle.std.proofs.Common.{Err, refl, rules}
+use Rattle.std.proofs.Common.{refl, rules}
 use Rattle.sqlite.specs.declared.error.Error.TheVariants.{SqliteFailure}
 use Rattle.sqlite.specs.declared.error.ErrorCode.TheVariants.{OutOfMemory}
 use Rattle.acd_sqlbook.specs.Stopping.{StopsCommit}
