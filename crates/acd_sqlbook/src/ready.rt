@@ -180,7 +180,8 @@ pub(crate) fn watched_ready<S: Alter>(
 fn next_meta(meta: &Meta, changes: &[Change], events: u64, kept: &Kept) -> Result<Meta, Error>
     ensures is { IfOk result (λ next. next ≡ counted meta.now changes.now events kept.now) }
     ensures fits { IfOk result (λ next. MetaFits next) }
-    ensures unfit { IfErr result (λ _. ¬ (MetaFits (counted meta.now changes.now events kept.now))) }
+    ensures unfit { IfErr result (λ _.
+        ¬ (MetaFits (counted meta.now changes.now events kept.now))) }
 {
     match counted(meta, changes, events, kept) {
         Some(next) if meta_fits(&next) => Ok(next),
