@@ -1,5 +1,5 @@
 -- What belongs to rows belongs to them in whatever order they are seen.
-use Rattle.std.proofs.Common.{◌≡◌, ◌==◌, ◌&&◌, ◌||◌, ℕ, Bool, true, false, not, List, [], ◌∷◌, length, map, filter, nat_le, Option, Some, Result, Ok, Err, IfOk, refl, sym, ap, ap₂, subst, ◌∙◌}
+use Rattle.std.proofs.Common.{◌≡◌, ◌==◌, ◌&&◌, ◌||◌, ℕ, Bool, true, false, not, List, [], ◌∷◌, length, map, filter, nat_le, Some, Result, Ok, Err, IfOk, refl, sym, ap, ap₂, subst, ◌∙◌}
 use Rattle.std.specs.Prelude.{Vec, IsPermutation}
 use Rattle.std.specs.declared.alloc.Global.{Global}
 use Rattle.std.specs.List.{list_any, list_all}
@@ -20,7 +20,7 @@ use Rattle.acd_columns.specs.Relations.{groups_beside, is_behind, are_behind, ar
 use Rattle.acd_columns.specs.Rows.{group_values, priority_values, agent_values, further_values}
 use Rattle.acd_columns.specs.Seeing.{Sees}
 use Rattle.acd_columns.proofs.Records.{group_back, priority_back, agent_back, further_back, further_stored}
-use Rattle.acd_columns.proofs.Seen.{sees_on, sees_then, sees_fail}
+use Rattle.acd_columns.proofs.Seen.{sees_on, sees_then}
 
 -- ---- lists in another order
 

@@ -105,8 +105,8 @@ first_has : (rows : List Row) (row : Row) → Some row ≡ slice_get rows 0 → 
 first_has [] row is = absurd (cc is)
 first_has (first ∷ rows) row is = inl (cc is)
 
-pub first_fits : (rows : List Row) (row : Row) (o : Option ℕ) → Some row ≡ slice_get rows 0 → o ≡ whole_at row 0 → IfSome o Fits → HasFitting rows
-first_fits rows row o at is fits = (row, first_has rows row at, λ n found. subst (λ o. IfSome o Fits) (is ∙ found) fits)
+pub first_fits : (rows : List Row) (one : Row) (o : Option ℕ) → Some one ≡ slice_get rows 0 → o ≡ whole_at one 0 → IfSome o Fits → HasFitting rows
+first_fits rows one o at is fits = (one, first_has rows one at, λ n found. subst (λ o. IfSome o Fits) (is ∙ found) fits)
 
 between : (n k : ℕ) → n - 1 < k → k < n → ⊥
 between n k above below = omega (arith, above, below)

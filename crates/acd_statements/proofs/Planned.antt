@@ -1,5 +1,5 @@
 -- Groups and agents, joined of what the tables hold.
-use Rattle.std.proofs.Common.{◌≡◌, ℕ, ◌+◌, ◌<◌, ◌≤◌, Bool, true, false, cond, ◌==◌, List, [], ◌∷◌, ◌++◌, length, map, filter, take, drop, get_or, Option, None, Some, Result, Ok, Err, IfOk, OnOk, refl, sym, ap, ap₂, ◌∙◌, append_assoc, append-nil, subst, nat_eq, suc, add-one, drop-cons, arith}
+use Rattle.std.proofs.Common.{◌≡◌, ℕ, ◌+◌, ◌<◌, ◌≤◌, Bool, true, false, cond, ◌==◌, List, [], ◌∷◌, ◌++◌, length, map, filter, take, drop, get_or, Option, None, Some, Result, Ok, Err, IfOk, OnOk, refl, sym, ap, ap₂, ◌∙◌, append_assoc, subst, nat_eq, suc, add-one, drop-cons}
 use Rattle.std.proofs.lemmas.List.{take_more, take_all}
 use Rattle.std.specs.Prelude.{Vec, option_to_list}
 use Rattle.std.specs.Cmp.Lexicographic.{pointwise}
@@ -10,18 +10,15 @@ use Rattle.sqlite.specs.State.{State}
 use Rattle.acd_terms.specs.declared.record.GroupRecord.{GroupRecord}
 use Rattle.acd_terms.specs.declared.record.AgentRecord.{AgentRecord}
 use Rattle.acd_terms.specs.Lists.{put_by}
-use Rattle.acd_book.specs.Content.{Content}
-use Rattle.acd_columns.specs.declared.relations.GroupRow.{GroupRow}
 use Rattle.acd_columns.specs.declared.relations.AgentRow.{AgentRow}
 use Rattle.acd_columns.specs.declared.relations.GroupPriority.{GroupPriority}
 use Rattle.acd_columns.specs.declared.tables.Table.TheVariants as table
-use Rattle.acd_columns.specs.Draft.{Holds, Drafts}
+use Rattle.acd_columns.specs.Draft.{Drafts}
 use Rattle.acd_columns.specs.Finding.{Finds}
 use Rattle.acd_columns.specs.Relations.{Relations, pair_order, group_part, agent_part, further_in, priorities_in, joined_group, joined_agent, groups_beside, behind_first, all_put}
 use Rattle.acd_columns.proofs.Decoded.{groups_rise, agents_rise}
 use Rattle.acd_columns.proofs.Joined.{groups_joined, agents_joined}
 use Rattle.acd_columns.proofs.Listings.{stored}
-use Rattle.acd_columns.proofs.Recorded.{found_none}
 
 -- ---- what is found
 

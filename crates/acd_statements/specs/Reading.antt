@@ -61,7 +61,7 @@ FailsToDecode in_row rows e = IsMemory e ⊎ HasBad in_row rows
 
 -- one of them begins with a number that a column holds
 abbrev pub HasFitting : List Row → Type 0
-HasFitting rows = (row : Row) × Has rows row × ((n : ℕ) → whole_at row 0 ≡ Some n → Fits n)
+HasFitting rows = (one : Row) × Has rows one × ((n : ℕ) → whole_at one 0 ≡ Some n → Fits n)
 
 -- an agent of them has more than eight groups, or some that don't ascend
 abbrev pub HasStray : List (ℕ × ℕ) → List AgentRow → Type 0
