@@ -24,7 +24,7 @@ use Rattle.acd_terms.specs.declared.record.MonitorRecord.{MonitorRecord}
 use Rattle.acd_terms.specs.Columns.{columns_of}
 use Rattle.acd_model.specs.Scans.{monitor_of, has}
 use Rattle.sqlite.specs.Values.{or_null}
-use Rattle.acd_laws.proofs.State.{monitor_find}
+use Rattle.acd_lemmas.proofs.State.{monitor_find}
 use Rattle.acd_book.specs.Content.{Content, kept_of, is_key, is_told}
 use Rattle.acd_book.specs.declared.kept.Kept.{Kept}
 use Rattle.acd_columns.specs.declared.tables.Table.TheVariants as table

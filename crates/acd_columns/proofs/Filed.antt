@@ -23,7 +23,7 @@ use Rattle.sqlite.specs.Listing.{understood, reads_listing}
 use Rattle.sqlite.specs.State.{State, Executes, Shown}
 use Rattle.sqlite.proofs.Callers.{IsPlain, command_of}
 use Rattle.acd_terms.specs.Lists.{put_by, remove_by, Every}
-use Rattle.acd_laws.proofs.Lists.{every-put, every-remove}
+use Rattle.acd_lemmas.proofs.Lists.{every-put, every-remove}
 use Rattle.std.specs.Ordering.{nat_cmp}
 use Rattle.acd_book.specs.Content.{Content}
 use Rattle.acd_columns.specs.Rows.{keyed_row}

@@ -44,7 +44,7 @@ use Rattle.sqlite.specs.Listing.{understood, reads_listing}
 use Rattle.sqlite.specs.State.{State, Executes, Shown}
 use Rattle.sqlite.proofs.Callers.{IsPlain, command_of, one_permutation, reads_as}
 use Rattle.acd_terms.specs.Lists.{Among, put_by}
-use Rattle.acd_laws.proofs.Lists.{filter_among}
+use Rattle.acd_lemmas.proofs.Lists.{filter_among}
 use Rattle.acd_book.specs.Content.{Content}
 use Rattle.acd_columns.specs.declared.tables.Version.{Version}
 use Rattle.acd_columns.specs.declared.tables.Version.TheVariants as version

@@ -22,8 +22,8 @@ use Rattle.sqlite_rules.specs.Lists.{Has}
 use Rattle.sqlite_rules.proofs.ListLemmas.{all_has, all_from, has_filtered, has_kept, some_has, some_from}
 use Rattle.sqlite_rules.proofs.TableLemmas.{put_all_has, put_all_keeps, put_all_adds}
 use Rattle.acd_terms.specs.Lists.{Among, put_by}
-use Rattle.acd_laws.proofs.Keyed.{key_is}
-use Rattle.acd_laws.proofs.Lists.{eq_is, is_eq_of, among-filter, filter_among, among-put, among-put_other, among_put, ascending-filter, ascending-put}
+use Rattle.acd_lemmas.proofs.Keyed.{key_is}
+use Rattle.acd_lemmas.proofs.Lists.{eq_is, is_eq_of, among-filter, filter_among, among-put, among-put_other, among_put, ascending-filter, ascending-put}
 use Rattle.acd_columns.specs.Content.{AreHeaped}
 use Rattle.acd_columns.specs.Descriptions.{Heap, numbered_row, by_both}
 use Rattle.acd_columns.specs.Values.{id_value}

@@ -11,8 +11,8 @@ use Rattle.acd_terms.specs.Groups.{least_group, further_groups}
 use Rattle.acd_terms.specs.Lists.{Among, AllAfter, IsAscending, put_by, remove_by}
 use Rattle.acd_terms.specs.declared.record.GroupRecord.{GroupRecord}
 use Rattle.acd_terms.specs.declared.record.AgentRecord.{AgentRecord}
-use Rattle.acd_laws.proofs.Keyed.{key_is, cmp_equal, cmp_self, eqb_self}
-use Rattle.acd_laws.proofs.Lists.{after_among}
+use Rattle.acd_lemmas.proofs.Keyed.{key_is, cmp_equal, cmp_self, eqb_self}
+use Rattle.acd_lemmas.proofs.Lists.{after_among}
 use Rattle.acd_columns.specs.declared.relations.GroupRow.{GroupRow}
 use Rattle.acd_columns.specs.declared.relations.AgentRow.{AgentRow}
 use Rattle.acd_columns.specs.declared.relations.GroupPriority.{GroupPriority}

@@ -12,8 +12,8 @@ use Rattle.sqlite_value.proofs.OrderLemmas.{value_cmp-Int}
 use Rattle.sqlite_trees.specs.Tree.{rowid, put_row}
 use Rattle.sqlite_rules.specs.Lists.{Has}
 use Rattle.acd_terms.specs.Lists.{Among, AllAfter, IsAscending, put_by}
-use Rattle.acd_laws.proofs.Keyed.{key_is}
-use Rattle.acd_laws.proofs.Lists.{after_among, after_lower, after_same, filter_all}
+use Rattle.acd_lemmas.proofs.Keyed.{key_is}
+use Rattle.acd_lemmas.proofs.Lists.{after_among, after_lower, after_same, filter_all}
 use Rattle.acd_columns.specs.Values.{id_value}
 
 pub id_cmp : (m n : ℕ) → value_cmp (id_value m) (id_value n) ≡ nat_cmp m n

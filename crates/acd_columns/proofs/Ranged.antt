@@ -17,7 +17,7 @@ use Rattle.acd_terms.specs.declared.state.Pending.{Pending}
 use Rattle.acd_terms.specs.declared.state.ConnectionState.{ConnectionState}
 use Rattle.acd_terms.specs.declared.event.EventKind.{EventKind}
 use Rattle.acd_terms.specs.declared.event.Cause.{Cause}
-use Rattle.acd_laws.proofs.Lists.{find_passes}
+use Rattle.acd_lemmas.proofs.Lists.{find_passes}
 use Rattle.acd_columns.specs.Codes.{with_code, agent_states, pending_states, connection_states, causes, kinds, agent_state_of, pending_of, connection_state_of, kind_of, cause_of, agent_code, pending_code, connection_code, kind_code, cause_code}
 use Rattle.acd_columns.specs.Values.{id_value, cells, option_in, ◌>>=◌, text_of, is_null, text_at, whole_at, at_least, stamp_at, serial_at, moment_at, seconds_at, priority_at, device_at, agent_at, name_at, agent_state_at, pending_at, connection_state_at, kind_at, cause_at, utf8_of, or_none}
 

@@ -11,8 +11,8 @@ use Rattle.acd_terms.specs.Groups.{are_groups, further_groups, least_group}
 use Rattle.acd_terms.specs.Lists.{Among, AllAfter, IsAscending, Every, is_less, ascends}
 use Rattle.acd_terms.specs.declared.record.AgentRecord.{AgentRecord}
 use Rattle.acd_terms.specs.declared.record.GroupRecord.{GroupRecord}
-use Rattle.acd_laws.proofs.Keyed.{key_is, cmp_equal, cmp_self, eqb_self}
-use Rattle.acd_laws.proofs.Lists.{after_among, among-filter, filter_among, all_true, any_found, ascending-filter}
+use Rattle.acd_lemmas.proofs.Keyed.{key_is, cmp_equal, cmp_self, eqb_self}
+use Rattle.acd_lemmas.proofs.Lists.{after_among, among-filter, filter_among, all_true, any_found, ascending-filter}
 use Rattle.acd_columns.specs.declared.relations.GroupRow.{GroupRow}
 use Rattle.acd_columns.specs.declared.relations.AgentRow.{AgentRow}
 use Rattle.acd_columns.specs.declared.relations.GroupPriority.{GroupPriority}

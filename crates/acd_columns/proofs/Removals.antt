@@ -9,7 +9,7 @@ use Rattle.sqlite_sql.specs.Term.{col, holds}
 use Rattle.sqlite_schema.specs.declared.schema.Schema.{Schema}
 use Rattle.sqlite.specs.State.{State, Executes}
 use Rattle.acd_terms.specs.Lists.{remove_by}
-use Rattle.acd_laws.proofs.Lists.{remove_is, ascending-remove}
+use Rattle.acd_lemmas.proofs.Lists.{remove_is, ascending-remove}
 use Rattle.acd_columns.specs.Values.{id_value}
 use Rattle.acd_columns.specs.Content.{AreRows}
 use Rattle.acd_columns.proofs.KeyedRows.{by_key}

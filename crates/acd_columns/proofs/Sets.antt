@@ -9,7 +9,7 @@ use Rattle.sqlite_schema.specs.declared.schema.Schema.{Schema}
 use Rattle.sqlite_rules.specs.Edit.{edited}
 use Rattle.sqlite.specs.State.{State, Executes}
 use Rattle.acd_terms.specs.Lists.{Among}
-use Rattle.acd_laws.proofs.Lists.{filter_among}
+use Rattle.acd_lemmas.proofs.Lists.{filter_among}
 use Rattle.acd_columns.specs.Values.{id_value}
 use Rattle.acd_columns.specs.Content.{AreRows}
 use Rattle.acd_columns.proofs.KeyedRows.{same_number}

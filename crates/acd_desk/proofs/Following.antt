@@ -16,8 +16,8 @@ use Rattle.acd_model.specs.Watched.{is_external_caller, state_at, seat_of, HasPl
 use Rattle.acd_laws.specs.WatchedLaws.{TellsNoMore}
 use Rattle.acd_laws.proofs.CountedEvents.{figures_joined}
 use Rattle.acd_laws.proofs.DecidedAll.{rules_are_kept}
-use Rattle.acd_laws.proofs.Facts.{Rules}
-use Rattle.acd_laws.proofs.State.{group_among, group_key}
+use Rattle.acd_lemmas.proofs.Facts.{Rules}
+use Rattle.acd_lemmas.proofs.State.{group_among, group_key}
 use Rattle.acd_laws.proofs.Told.{after-append}
 use Rattle.acd_laws.proofs.WatchedRuns.{step_keeps_watched, entry_number}
 use Rattle.acd_book.specs.Content.{Content, GoOn, IsCounted, kept_of}

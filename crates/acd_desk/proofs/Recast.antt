@@ -21,8 +21,8 @@ use Rattle.acd_model.specs.Figures.{is_no_answer, is_entry}
 use Rattle.acd_model.specs.Told.{after, connection_told, Seat, no_seat, seat_told, enters, last_entry}
 use Rattle.acd_model.specs.Watched.{waits_or_rings, HasPlace, HasEntered, IsWatched}
 use Rattle.acd_laws.specs.WatchedLaws.{TellsNoMore}
-use Rattle.acd_laws.proofs.Facts.{Rules, AlertingColumns, HasColumns, ConnectionRule}
-use Rattle.acd_laws.proofs.Lists.{any_some, any_found, find_among, find_passes, every_among, some_from}
+use Rattle.acd_lemmas.proofs.Facts.{Rules, AlertingColumns, HasColumns, ConnectionRule}
+use Rattle.acd_lemmas.proofs.Lists.{any_some, any_found, find_among, find_passes, every_among, some_from}
 
 -- the call waits in the group, or rings from it
 abbrev pub holds_call : ℕ → ℕ → ConnectionRecord → Bool

@@ -1,12 +1,12 @@
 -- The moves of a step stay within bounds: by each deed, and by rounds.
-use Rattle.acd_laws.proofs.Keyed.{counted_old}
+use Rattle.acd_lemmas.proofs.Keyed.{counted_old}
 use Rattle.std.proofs.Common.{◌≡◌, ℕ, ◌+◌, ◌≤◌, ◌⊎◌, inl, inr, Bool, true, false, List, [], ◌∷◌, Option, Some, None, refl, sym, ◌∙◌, ap, subst, arith, length, cond, ◌++◌}
 use Rattle.std.specs.Prelude.{◌==◌, is_some, nat_le}
 use Rattle.std.proofs.lemmas.Bool.{or_cases, or_parts, or_right, or_left, leb-false}
 use Rattle.std.specs.Prelude.{min}
 use Rattle.acd_terms.specs.Limits.{greatest_priority}
 use Rattle.acd_terms.specs.Groups.{only_group}
-use Rattle.acd_laws.proofs.Words.{Rows, GroupRecord, StationRecord, AgentRecord, CallRecord, ConnectionRecord, MonitorRecord, Cause, Change, Command, Event, Move, Report, put_by, count, Among, Every, IsAscending, state_wanted, at_group, at_station, at_agent, at_call, at_monitor, group_of, station_of, is_group, is_station, is_planned, other_of, is_calling, with_group, with_station, with_agent, with_call, with_monitor, silent, reported, moved, events_of, agent_order, group_order}
+use Rattle.acd_lemmas.proofs.Words.{Rows, GroupRecord, StationRecord, AgentRecord, CallRecord, ConnectionRecord, MonitorRecord, Cause, Change, Command, Event, Move, Report, put_by, count, Among, Every, IsAscending, state_wanted, at_group, at_station, at_agent, at_call, at_monitor, group_of, station_of, is_group, is_station, is_planned, other_of, is_calling, with_group, with_station, with_agent, with_call, with_monitor, silent, reported, moved, events_of, agent_order, group_order}
 use Rattle.acd_terms.specs.declared.state.AgentState.TheVariants as A
 use Rattle.acd_terms.specs.declared.state.ConnectionState.TheVariants as S
 use Rattle.acd_terms.specs.declared.event.Cause.TheVariants.{NewCall, Deflected, Transferred}
@@ -17,12 +17,12 @@ use Rattle.acd_model.specs.Release.{release, ending_of}
 use Rattle.acd_model.specs.Services.{new_group, new_agent, next_call, cleared_group, clear_other, release_other, next_monitor}
 use Rattle.std.specs.declared.cmp.Ordering.{Ordering}
 use Rattle.acd_laws.proofs.MoveKinds.{LeavesConnections, AgentMove, stays, waits as pends, Recorded, goes_from, releases_here, occupies_here}
-use Rattle.acd_laws.proofs.Facts.{Rules, Sizes, AgentTimed, ConnectionTimed, Timed, MonitorRule, Monitored, at_place}
-use Rattle.acd_laws.proofs.Lists.{every_among, every_from, every-put, one, count-append, among_put, every-append, some_from}
-use Rattle.acd_laws.proofs.State.{group_put, station_put, group_among, group_key, by_group}
+use Rattle.acd_lemmas.proofs.Facts.{Rules, Sizes, AgentTimed, ConnectionTimed, Timed, MonitorRule, Monitored, at_place}
+use Rattle.acd_lemmas.proofs.Lists.{every_among, every_from, every-put, one, count-append, among_put, every-append, some_from, length-put, count_all}
+use Rattle.acd_lemmas.proofs.State.{group_put, station_put, group_among, group_key, by_group}
 use Rattle.acd_laws.proofs.Order.{entry_by}
 use Rattle.acd_laws.proofs.Deeds.{new_call, Deed, nothing, adds_group, adds_station, adds_agent, watches, unwatches, arrives, makes, goes_out, answers, holds, retrieves, clears, deflects, transfers, logs_on, waits, goes, Ranks, refuses, ranks, deed_of_serve}
-use Rattle.acd_laws.proofs.Orderly.{Steady, knows, AllSteady, IsNew, IsRanked, IsGroupAfter, Steadied, Settled, settled, steadied, sizes_steadied, monitored_steadied, length-put, WaitsUpTo, Neat, Steps, done, neat, comes, neat_quiet, neat_silent, neat_agent, neat_remove, neat_put, neat_turned, timed_plain, comes_to, steady_agent, steady_arrive, steps_timed, steps_place, Fit, count_all}
+use Rattle.acd_laws.proofs.Orderly.{Steady, knows, AllSteady, IsNew, IsRanked, IsGroupAfter, Steadied, Settled, settled, steadied, sizes_steadied, monitored_steadied, WaitsUpTo, Neat, Steps, done, neat, comes, neat_quiet, neat_silent, neat_agent, neat_remove, neat_put, neat_turned, timed_plain, comes_to, steady_agent, steady_arrive, steps_timed, steps_place, Fit}
 use Rattle.acd_model.specs.Served.{moves_of}
 use Rattle.acd_model.specs.Figures.{is_entry}
 use Rattle.acd_model.specs.Services.Serve.{serve}

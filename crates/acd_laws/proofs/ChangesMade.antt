@@ -6,7 +6,7 @@ use Rattle.std.specs.Ordering.{ordering_reverse, is_eq, nat_cmp}
 use Rattle.std.specs.declared.cmp.Ordering.{Ordering}
 use Rattle.std.specs.declared.cmp.Ordering.TheVariants.{Equal, Greater}
 use Rattle.std.proofs.lemmas.Bool.{and_left, and_right, eqb-true, false_from_ne_true}
-use Rattle.acd_laws.proofs.Words.{Rows, GroupRecord, Change, Command, Event, Move, Refusal, Report, Served, put_by, Among, IsAscending, at_group, group_of, has, queued_in_all, with_group, with_station, with_agent, with_call, with_connection, with_monitor, without_call, without_connection, without_monitor, with_last, changed, moved, events_of, group_order}
+use Rattle.acd_lemmas.proofs.Words.{Rows, GroupRecord, Change, Command, Event, Move, Refusal, Report, Served, put_by, Among, IsAscending, at_group, group_of, has, queued_in_all, with_group, with_station, with_agent, with_call, with_connection, with_monitor, without_call, without_connection, without_monitor, with_last, changed, moved, events_of, group_order}
 use Rattle.acd_terms.specs.declared.event.Report.TheVariants.{Queued, Established, CallCleared, Diverted}
 use Rattle.acd_model.specs.Changes.{changes_of, changed_by, counted_group, grown, growth_in, growth_by, growth, step_changes_by, step_changes}
 use Rattle.acd_model.specs.Figures.{is_no_answer, is_deflected, figures_of, sum_of_figures, counting, with_figures}
@@ -16,9 +16,9 @@ use Rattle.acd_model.specs.Step.{numbered, executed_moment, next_stamp, step_mov
 use Rattle.acd_model.specs.declared.moves.Change.TheVariants.{PutGroup}
 use Rattle.acd_model.proofs.ChangeLemmas.{changed_by_append, moved_by_changes}
 use Rattle.acd_laws.specs.ChangeLaws.{StepMakesItsChanges}
-use Rattle.acd_laws.proofs.Lists.{is_eq_of, less_ne, greater_ne, after_among, after_same, ascending-put, find_none, found_among}
-use Rattle.acd_laws.proofs.Keyed.{cmp_self, found_has, find_is, eqb_swap}
-use Rattle.acd_laws.proofs.State.{groups_total, by_group}
+use Rattle.acd_lemmas.proofs.Lists.{is_eq_of, less_ne, greater_ne, after_among, after_same, ascending-put, find_none, found_among}
+use Rattle.acd_lemmas.proofs.Keyed.{cmp_self, found_has, find_is, eqb_swap}
+use Rattle.acd_lemmas.proofs.State.{groups_total, by_group}
 use Rattle.acd_laws.proofs.CountedEvents.{Quiet, quiet, no_events, sum_nothing, figures_joined, figures_skipped, sum_joined}
 use Rattle.acd_laws.proofs.Ended.{ascending_counting}
 use Rattle.acd_laws.proofs.DecidedAll.{keeps_read}

@@ -1,21 +1,21 @@
 -- Moves that clear just the calls that they end, and name none above the last; so does each deed.
 use Rattle.std.proofs.Common.{◌≡◌, ℕ, ◌+◌, ◌<◌, ◌≤◌, ◌&&◌, List, [], ◌∷◌, ◌++◌, Option, Some, None, refl, sym, ◌∙◌, ap, subst, arith, Bool, true, false, cond, eq-eqb}
 use Rattle.std.specs.Prelude.{nat_le, is_none, ◌==◌, max}
-use Rattle.acd_laws.proofs.Words.{Rows, AgentRecord, CallRecord, ConnectionRecord, AgentState, Cause, Change, Event, Move, Report, find_by, Among, Every, IsAscending, state_wanted, at_call, call_of, other_of, with_group, with_station, with_agent, with_call, with_connection, with_monitor, without_call, without_connection, without_monitor, no_move, silent, reported, changed, moved, with_event, events_of, call_order, parties_of, Command}
+use Rattle.acd_lemmas.proofs.Words.{Rows, AgentRecord, CallRecord, ConnectionRecord, AgentState, Cause, Change, Event, Move, Report, find_by, Among, Every, IsAscending, state_wanted, at_call, call_of, other_of, with_group, with_station, with_agent, with_call, with_connection, with_monitor, without_call, without_connection, without_monitor, no_move, silent, reported, changed, moved, with_event, events_of, call_order, parties_of, Command}
 use Rattle.acd_terms.specs.Columns.{columns_of}
 use Rattle.acd_model.specs.Placed.{clears, cleared_by}
 use Rattle.acd_model.specs.Step.{numbered}
 use Rattle.acd_model.specs.declared.moves.Change.TheVariants.{PutCall, RemoveCall, PutAgent}
 use Rattle.acd_laws.specs.PlacedLaws.{IsUpTo, NamesNoLaterCall, clearings, KeepsClearings}
-use Rattle.acd_laws.proofs.Lists.{one, count-append, every-append, counted}
+use Rattle.acd_lemmas.proofs.Lists.{one, count-append, every-append, counted}
 use Rattle.acd_laws.proofs.CountedEvents.{count_numbered}
 use Rattle.std.proofs.lemmas.Bool.{eqb-true, le-leb, leb-true, leb-false, lt-leb}
 use Rattle.acd_terms.specs.declared.state.AgentState.TheVariants as A
 use Rattle.acd_model.specs.CallMoves.{arrive, begin, end_call, connect_caller, initiate, clear}
 use Rattle.acd_model.specs.AgentMoves.{state_report}
-use Rattle.acd_laws.proofs.Facts.{Rules}
-use Rattle.acd_laws.proofs.Keyed.{eqb_self}
-use Rattle.acd_laws.proofs.State.{call_put, call_remove, connection_among, call_known, none_of_call, other_device}
+use Rattle.acd_lemmas.proofs.Facts.{Rules}
+use Rattle.acd_lemmas.proofs.Keyed.{eqb_self}
+use Rattle.acd_lemmas.proofs.State.{call_put, call_remove, connection_among, call_known, none_of_call, other_device}
 use Rattle.acd_laws.proofs.MoveKinds.{AgentMove, stays, waits as pends, tells, Anyone, goes_from, released_by, occupied_by, Arrival, queues, alerts, fails, arrival_of}
 use Rattle.acd_terms.specs.declared.state.AgentState.TheVariants.{Ready}
 use Rattle.acd_terms.specs.declared.event.Cause.TheVariants.{NewCall}

@@ -2,8 +2,8 @@
 use Rattle.std.proofs.Common.{◌≡◌, ℕ, ◌+◌, Bool, false, List, [], ◌∷◌, ◌++◌, Option, Some, None, refl, ◌∙◌, ap, arith, length}
 use Rattle.std.specs.Prelude.{if◌then◌else◌}
 use Rattle.std.proofs.lemmas.Bool.{and_right}
-use Rattle.acd_laws.proofs.Words.{Figures, Event, Report, count, total, has}
-use Rattle.acd_laws.proofs.Lists.{count-append, total-append}
+use Rattle.acd_lemmas.proofs.Words.{Figures, Event, Report, count, total, has}
+use Rattle.acd_lemmas.proofs.Lists.{count-append, total-append}
 use Rattle.acd_terms.specs.declared.event.Report.TheVariants.{Queued, Established, CallCleared, Diverted}
 use Rattle.acd_model.specs.Figures.{is_entry, is_answer, waited_there, is_abandonment, is_moving_away, is_deflected, figures_of, sum_of_figures}
 use Rattle.acd_model.specs.Services.{no_figures}

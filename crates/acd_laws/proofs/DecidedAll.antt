@@ -5,21 +5,21 @@ use Rattle.std.specs.Bool.{Decides}
 use Rattle.std.proofs.lemmas.Bool.{and_parts, and_from, eqb-true, false_from_ne_true, or_left, or_right}
 use Rattle.std.proofs.lemmas.Bool.Decides.{Decides-eqb as equals}
 use Rattle.acd_terms.specs.Limits.{greatest_priority}
-use Rattle.acd_laws.proofs.Words.{Rows, Rule, GroupRecord, StationRecord, AgentRecord, CallRecord, ConnectionRecord, ConnectionState, AgentState, Pending, count, Among, Every, is_ready, is_busy, is_initiated, is_alerting, is_queued, is_answered, call_of, is_group, is_station, is_planned, has, agent_at, is_distributed, is_occupied, keeps_limits, keeps_order, keeps_device, keeps_agent, keeps_monitor, keeps_call, is_bare, is_placed, has_columns, is_group_or_none, may_stand, keeps_connection, is_open, parties_of, initiated_of, initiated_at, open_of, keeps_parties, live_at, alerting_at, hold_at, keeps_live, is_distributed_at, IsTalking}
+use Rattle.acd_lemmas.proofs.Words.{Rows, Rule, GroupRecord, StationRecord, AgentRecord, CallRecord, ConnectionRecord, ConnectionState, AgentState, Pending, count, Among, Every, is_ready, is_busy, is_initiated, is_alerting, is_queued, is_answered, call_of, is_group, is_station, is_planned, has, agent_at, is_distributed, is_occupied, keeps_limits, keeps_order, keeps_device, keeps_agent, keeps_monitor, keeps_call, is_bare, is_placed, has_columns, is_group_or_none, may_stand, keeps_connection, is_open, parties_of, initiated_of, initiated_at, open_of, keeps_parties, live_at, alerting_at, hold_at, keeps_live, is_distributed_at, IsTalking}
 use Rattle.acd_terms.specs.declared.state.AgentState.TheVariants as A
 use Rattle.acd_terms.specs.declared.state.ConnectionState.TheVariants as S
 use Rattle.acd_model.specs.Watched.{is_caller}
 use Rattle.acd_model.specs.Rules.Occupied.{keeps_occupied, attends, is_talking, keeps_offer, keeps_balance}
-use Rattle.acd_laws.proofs.Facts.{Rules, IsPlannedStation, SeatedAs, AgentRule, CallRule, Bare, AlertingColumns, HasColumns, GroupColumn, IsCaller, StandsAt, ConnectionRule, ringing_at, talking_at, seated_at, ready_at, busy_at, pending_at, two_if, KeepsRules}
-use Rattle.acd_laws.specs.Orders.{Orders}
-use Rattle.acd_laws.proofs.Lists.{every_among, every_from, counted, fewer, two_counted, count_zero, some_from, some_is, any_some}
-use Rattle.acd_laws.proofs.Keyed.{eqb_self}
-use Rattle.acd_laws.proofs.State.{call_among, call_key, call_found, is_station_any, agent_seat, none_of_call}
+use Rattle.acd_lemmas.proofs.Facts.{Rules, IsPlannedStation, SeatedAs, AgentRule, CallRule, Bare, AlertingColumns, HasColumns, GroupColumn, IsCaller, StandsAt, ConnectionRule, ringing_at, talking_at, seated_at, ready_at, busy_at, pending_at, two_if, KeepsRules}
+use Rattle.acd_lemmas.specs.Orders.{Orders}
+use Rattle.acd_lemmas.proofs.Lists.{every_among, every_from, counted, fewer, two_counted, count_zero, some_from, some_is, any_some}
+use Rattle.acd_lemmas.proofs.Keyed.{eqb_self}
+use Rattle.acd_lemmas.proofs.State.{call_among, call_key, call_found, is_station_any, agent_seat, none_of_call}
 use Rattle.acd_laws.proofs.KeptOffer.{ringing_is, talking_is}
-use Rattle.acd_laws.proofs.States.{initiated_is, busy_is}
+use Rattle.acd_lemmas.proofs.States.{initiated_is, busy_is}
 use Rattle.acd_laws.proofs.Releasing.{serving, alerting_or_answered}
 use Rattle.acd_laws.proofs.OneOffer.{rules_give_one_offer}
-use Rattle.acd_laws.proofs.Decided.{◌and◌, ◌or◌, like, holds, fails, absent, within, when, each, any, is_number, zero_or, one_that, at_most, station_there, AgentsKept, limits_decided, orders_decided, kinds_decided, agents_decided, calls_decided, counters_decided, offers_decided, monitors_decided, balance_decided}
+use Rattle.acd_lemmas.proofs.Decided.{◌and◌, ◌or◌, like, holds, fails, absent, within, when, each, any, is_number, zero_or, one_that, at_most, station_there, AgentsKept, limits_decided, orders_decided, kinds_decided, agents_decided, calls_decided, counters_decided, offers_decided, monitors_decided, balance_decided}
 use Rattle.acd_model.specs.Rules.Counters.{keeps_counters}
 use Rattle.acd_model.specs.Rules.First.{or_broken, first_broken, BreaksNoRule}
 use Rattle.acd_laws.specs.OfferLaws.{KeepsWithin}

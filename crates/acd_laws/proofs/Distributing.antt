@@ -2,18 +2,18 @@
 use Rattle.std.proofs.Common.{◌≡◌, ℕ, zero, suc, ◌+◌, ◌≤◌, Bool, true, false, ◌&&◌, List, [], ◌++◌, Option, Some, None, refl, sym, ◌∙◌, ap, subst, arith, length, append_assoc, append-nil, inl, inr, ◌∷◌, eq-eqb}
 use Rattle.std.specs.Prelude.{◌==◌, filter, ◌↔◌, is_some}
 use Rattle.acd_terms.specs.Groups.{is_one_of, least_group}
-use Rattle.acd_laws.proofs.Words.{Rows, GroupRecord, AgentRecord, ConnectionRecord, ConnectionState, Event, Move, Offer, remove_by, count, Among, IsAscending, is_ready, is_working_after_call, is_alerting, is_queued, at_connection, agent_of, connection_of, has, is_idle, is_occupied, waiting_in, is_idle_there, is_eligible, eligible_in, queued_in_all, with_connection, without_connection, moved, events_of, agent_order, connection_order, is_open, open_of}
+use Rattle.acd_lemmas.proofs.Words.{Rows, GroupRecord, AgentRecord, ConnectionRecord, ConnectionState, Event, Move, Offer, remove_by, count, Among, IsAscending, is_ready, is_working_after_call, is_alerting, is_queued, at_connection, agent_of, connection_of, is_idle, is_occupied, waiting_in, is_idle_there, is_eligible, eligible_in, queued_in_all, with_connection, without_connection, moved, events_of, agent_order, connection_order, is_open, open_of}
 use Rattle.acd_model.specs.CallMoves.{ringing, queueing}
-use Rattle.acd_laws.proofs.Facts.{Rules}
-use Rattle.acd_laws.proofs.Lists.{one, filter_among, counted, count_length, none_from, mapped_among, after_among, ascending-filter, among-put_other, among-remove_other, two_counted, some_from}
-use Rattle.acd_laws.proofs.State.{connection_found, agent_found, still_none, count_new, count_less, connection_there, is_of, is_of_true, order_equal, order_same, connection_key}
+use Rattle.acd_lemmas.proofs.Facts.{Rules}
+use Rattle.acd_lemmas.proofs.Lists.{one, filter_among, counted, count_length, none_from, mapped_among, after_among, ascending-filter, among-put_other, among-remove_other, two_counted, some_from}
+use Rattle.acd_lemmas.proofs.State.{connection_found, agent_found, still_none, count_new, count_less, connection_there, is_of, is_of_true, order_equal, order_same, connection_key}
 use Rattle.acd_model.specs.Choice.{waiting_pair, ready_pair, offer_of}
 use Rattle.acd_model.specs.Offers.{IsOffer, HasNoOffer}
 use Rattle.acd_model.specs.Distribution.{offer_at, offer_moves, with_offer, offers, distribution}
 use Rattle.acd_model.proofs.MoveLemmas.{events_of_append, moved_append}
 use Rattle.acd_laws.proofs.OfferFound.{finds_the_offer, nothing_found, no_offer, no_offers}
 use Rattle.acd_laws.proofs.KeptOffer.{offer_station, offer_new, kept_offer}
-use Rattle.acd_laws.proofs.Decided.{◌and◌, holds, fails}
+use Rattle.acd_lemmas.proofs.Decided.{◌and◌, holds, fails}
 use Rattle.std.proofs.lemmas.Bool.Decides.{Decides-eqb as equals}
 use Rattle.acd_laws.specs.OfferLaws.{IsDistribution}
 use Rattle.acd_laws.specs.OfferLaws.IsDistribution.{ends, goes_on}
@@ -22,7 +22,7 @@ use Rattle.std.proofs.lemmas.Bool.{and_parts, and_from, eqb-true, false_from_ne_
 use Rattle.acd_terms.specs.declared.state.AgentState.TheVariants as A
 use Rattle.acd_terms.specs.declared.state.ConnectionState.TheVariants as S
 use Rattle.acd_model.specs.declared.moves.Ending.TheVariants.{NoAnswer}
-use Rattle.acd_laws.proofs.Keyed.{eqb_self, cmp_self}
+use Rattle.acd_lemmas.proofs.Keyed.{eqb_self, cmp_self}
 use Rattle.acd_model.specs.Tick.{is_overdue_offer, is_overdue, overdue_in, return_to, return_moves, is_rested, rested_in, rest_moves, each, returns, rests, tick, is_over_in}
 use Rattle.acd_laws.proofs.MoveKinds.{goes_from, released_by, agent_connections, agent_others}
 use Rattle.acd_laws.proofs.KeptEnds.{kept_return_to}

@@ -1,13 +1,13 @@
 -- The end of a step sets figures and counters, and the rules hold on; what each step keeps, every run keeps.
 use Rattle.std.proofs.Common.{◌≡◌, ℕ, List, [], ◌∷◌, Option, Some, None, refl, sym, ◌∙◌, ap, subst, map, ◌||◌, ◌++◌, append-nil, append_assoc, arith, true}
 use Rattle.std.specs.Prelude.{is_some}
-use Rattle.acd_laws.proofs.Words.{Rows, Limits, GroupRecord, AgentRecord, AgentState, Command, Event, find_by, AllAfter, IsAscending, at_group, group_of, station_of, call_of, is_group, is_station, is_planned, empty_rows, with_last, group_order}
+use Rattle.acd_lemmas.proofs.Words.{Rows, Limits, GroupRecord, AgentRecord, AgentState, Command, Event, find_by, AllAfter, IsAscending, at_group, group_of, station_of, call_of, is_group, is_station, is_planned, empty_rows, with_last, group_order}
 use Rattle.acd_terms.specs.declared.state.AgentState.TheVariants as A
-use Rattle.acd_laws.proofs.Facts.{Rules, IsPlannedStation, ArePlannedGroups, SeatedAs, AgentRule, CallRule, IsCaller, ConnectionRule, two_if}
-use Rattle.acd_laws.proofs.Lists.{every_among, every_from}
+use Rattle.acd_lemmas.proofs.Facts.{Rules, IsPlannedStation, ArePlannedGroups, SeatedAs, AgentRule, CallRule, IsCaller, ConnectionRule, two_if}
+use Rattle.acd_lemmas.proofs.Lists.{every_among, every_from}
 use Rattle.acd_model.specs.Figures.{counting, with_figures}
 use Rattle.acd_model.specs.Step.{step, executed_moment, next_stamp}
-use Rattle.acd_laws.proofs.State.{group_counted_found, is_some_mapped}
+use Rattle.acd_lemmas.proofs.State.{group_counted_found, is_some_mapped}
 use Rattle.acd_laws.proofs.Arriving.{rule_same}
 use Rattle.acd_laws.proofs.RulesKept.{rules_moves}
 use Rattle.acd_model.specs.Run.{TimedCommand, run}

@@ -3,7 +3,7 @@ use Rattle.std.proofs.Common.{◌≡◌, ℕ, ◌⊎◌, inl, inr, true, false, 
 use Rattle.std.specs.Prelude.{is_some, option_map, ◌==◌}
 use Rattle.std.proofs.lemmas.Bool.{or_parts, eqb-true, false_from_ne_true}
 use Rattle.std.specs.Prelude.{min}
-use Rattle.acd_laws.proofs.Words.{Rows, Limits, GroupRecord, AgentRecord, ConnectionRecord, AgentState, Cause, Command, Event, Move, Report, find_by, put_by, Among, Every, state_wanted, is_alerting, is_queued, at_group, group_of, is_group, is_station, is_planned, has, other_of, is_calling, empty_rows, with_group, with_last, silent, reported, changed, moved, event_at, with_event, events_of, is_group_or_none}
+use Rattle.acd_lemmas.proofs.Words.{Rows, Limits, GroupRecord, AgentRecord, ConnectionRecord, AgentState, Cause, Command, Event, Move, Report, find_by, put_by, Among, Every, state_wanted, is_alerting, is_queued, at_group, group_of, is_group, is_station, is_planned, has, other_of, is_calling, empty_rows, with_group, with_last, silent, reported, changed, moved, event_at, with_event, events_of, is_group_or_none}
 use Rattle.acd_terms.specs.declared.state.AgentState.TheVariants.{Null, Ready}
 use Rattle.acd_terms.specs.declared.event.Report.TheVariants.{Established}
 use Rattle.acd_model.specs.CallMoves.{arrive, waited_by}
@@ -12,10 +12,10 @@ use Rattle.acd_model.specs.Release.{ending_of}
 use Rattle.acd_model.specs.Services.{no_figures, new_group, waiting_group, first_group, clearing}
 use Rattle.acd_model.specs.declared.moves.Ending.TheVariants.{NoAnswer}
 use Rattle.acd_model.specs.declared.moves.Change.TheVariants.{PutGroup, PutAgent}
-use Rattle.acd_laws.proofs.Facts.{Rules, GroupColumn, ConnectionRule}
+use Rattle.acd_lemmas.proofs.Facts.{Rules, GroupColumn, ConnectionRule}
 use Rattle.acd_laws.proofs.MoveKinds.{LeavesGroups, left_groups, AgentMove, stays, waits as puts, tells, Anyone, goes_from, released_by, occupied_by, Arrival, queues, alerts, fails, arrival_of}
-use Rattle.acd_laws.proofs.Lists.{every_among, among_put, mapped_among, some_is}
-use Rattle.acd_laws.proofs.State.{connection_among, other_among, group_found_put, group_counted_found, is_some_mapped, group_among, group_key, group_put_found}
+use Rattle.acd_lemmas.proofs.Lists.{every_among, among_put, mapped_among, some_is}
+use Rattle.acd_lemmas.proofs.State.{connection_among, other_among, group_found_put, group_counted_found, is_some_mapped, group_among, group_key, group_put_found}
 use Rattle.acd_laws.proofs.CountedEvents.{group_counted, quiet, figures_joined, figures_numbered, figures_skipped, no_events, nothing_sum}
 use Rattle.acd_laws.proofs.Deeds.{Party, Round, offers, returns, rests, Deed, nothing, adds_group, adds_station, adds_agent, watches, unwatches, arrives, makes, goes_out, answers, holds, retrieves, clears, deflects, transfers, logs_on, waits, goes, Ranks, refuses, ranks, is_ranking}
 use Rattle.acd_model.specs.Figures.{figures_of, sum_of_figures, counting, with_figures}

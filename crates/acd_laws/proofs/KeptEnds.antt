@@ -2,16 +2,16 @@
 use Rattle.std.proofs.Common.{◌≡◌, ℕ, ◌+◌, inl, inr, Bool, true, false, not, ◌&&◌, Some, None, refl, sym, ◌∙◌, ap, subst, arith, eq-eqb, ◌≤◌, ◌||◌, cond, List, [], ◌∷◌, Option}
 use Rattle.std.specs.Prelude.{◌==◌, IsTrue, IsFalse, is_some}
 use Rattle.std.proofs.lemmas.Bool.{and_parts, and_from, eqb-true, or_left, false_from_ne_true, and_right, or_cases, or_parts, or_right}
-use Rattle.acd_laws.proofs.Words.{Rows, ConnectionRecord, ConnectionState, Ending, remove_by, count, Among, IsAscending, is_initiated, is_alerting, is_connected, is_queued, is_answered, at_call, at_connection, group_of, station_of, agent_of, call_of, connection_of, is_group, is_station, other_of, is_distributed, with_connection, without_call, without_connection, changed, moved, call_order, connection_order, is_open, parties_of, initiated_of, open_of, live_at, alerting_at, hold_at, is_distributed_at}
+use Rattle.acd_lemmas.proofs.Words.{Rows, ConnectionRecord, ConnectionState, Ending, remove_by, count, Among, IsAscending, is_initiated, is_alerting, is_connected, is_queued, is_answered, at_call, at_connection, group_of, station_of, agent_of, call_of, connection_of, is_group, is_station, other_of, is_distributed, with_connection, without_call, without_connection, changed, moved, call_order, connection_order, is_open, parties_of, initiated_of, open_of, live_at, alerting_at, hold_at, is_distributed_at}
 use Rattle.acd_terms.specs.declared.state.ConnectionState.TheVariants as S
 use Rattle.acd_model.specs.declared.moves.Change.TheVariants.{PutConnection, RemoveConnection}
 use Rattle.acd_model.specs.declared.moves.Ending.TheVariants.{NoAnswer}
 use Rattle.acd_model.specs.CallMoves.{queueing, clear, end_call}
-use Rattle.acd_laws.proofs.Facts.{RulesBut, Rules, Offered, AlertingColumns, HasColumns, GroupColumn, StandsAt, ConnectionRule, ringing_at, talking_at, CallRule, two_if}
-use Rattle.acd_laws.proofs.Lists.{one, ascending-put, ascending-remove, every-put, every-remove, two_counted, none_from, find_none, every_among, every_from, among-remove, counted, fewer, count_zero, both_fewer}
-use Rattle.acd_laws.proofs.Keyed.{eqb_self}
-use Rattle.acd_laws.proofs.State.{connections_total, found_key, connection_among, still_none, is_of, call_remove, removed_other, count_new, count_less, connection_rule, connection_there, other_among, other_device, other_agents, left_among}
-use Rattle.acd_laws.proofs.States.{alerting_is}
+use Rattle.acd_lemmas.proofs.Facts.{RulesBut, Rules, Offered, AlertingColumns, HasColumns, GroupColumn, StandsAt, ConnectionRule, ringing_at, talking_at, CallRule, two_if}
+use Rattle.acd_lemmas.proofs.Lists.{one, ascending-put, ascending-remove, every-put, every-remove, two_counted, none_from, find_none, every_among, every_from, among-remove, counted, fewer, count_zero, both_fewer}
+use Rattle.acd_lemmas.proofs.Keyed.{eqb_self}
+use Rattle.acd_lemmas.proofs.State.{connections_total, found_key, connection_among, still_none, is_of, call_remove, removed_other, count_new, count_less, connection_rule, connection_there, other_among, other_device, other_agents, left_among}
+use Rattle.acd_lemmas.proofs.States.{alerting_is}
 use Rattle.acd_laws.proofs.KeptOffer.{talking_is}
 use Rattle.acd_laws.proofs.Arriving.{with_connections, arrived_live, arrived_hold, arrived_open, rule_same, Arrived}
 use Rattle.acd_laws.proofs.Releasing.{Ends, after_release, loosen, ends_by, release_other_kept}

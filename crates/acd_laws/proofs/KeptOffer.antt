@@ -2,17 +2,17 @@
 use Rattle.std.proofs.Common.{◌≡◌, ℕ, ◌+◌, ◌≤◌, Bool, true, false, not, ◌&&◌, ◌||◌, Some, None, refl, sym, ◌∙◌, ap, subst, arith, eq-eqb}
 use Rattle.std.specs.Prelude.{◌==◌, IsTrue, is_some}
 use Rattle.std.proofs.lemmas.Bool.{and_parts, and_from, eqb-true, and_left, and_right, not-true}
-use Rattle.acd_laws.proofs.Words.{Rows, AgentRecord, ConnectionRecord, count, Among, is_ready, is_alerting, is_hold, is_queued, is_answered, is_live, group_of, station_of, call_of, connection_of, is_group, is_station, has, is_distributed, is_idle, is_occupied, with_connection, without_connection, changed, moved, connection_order, is_open, parties_of, initiated_of, open_of, live_at, alerting_at, hold_at, is_distributed_at}
+use Rattle.acd_lemmas.proofs.Words.{Rows, AgentRecord, ConnectionRecord, count, Among, is_ready, is_alerting, is_hold, is_queued, is_answered, is_live, group_of, station_of, call_of, connection_of, is_group, is_station, has, is_distributed, is_idle, is_occupied, with_connection, without_connection, changed, moved, connection_order, is_open, parties_of, initiated_of, open_of, live_at, alerting_at, hold_at, is_distributed_at}
 use Rattle.acd_terms.specs.declared.state.ConnectionState.TheVariants as S
 use Rattle.acd_model.specs.declared.moves.Change.TheVariants.{PutConnection, RemoveConnection}
 use Rattle.acd_model.specs.CallMoves.{ringing}
-use Rattle.acd_laws.proofs.Facts.{Rules, IsPlannedStation, ArePlannedGroups, SeatedAs, AgentRule, InQueue, AlertingColumns, HasColumns, StandsAt, ConnectionRule, ringing_at, talking_at, ready_at}
-use Rattle.acd_laws.proofs.Lists.{one, any_some, ascending-put, ascending-remove, every_among, every-put, every-remove, counted, none_counted, fewer, two_counted, none_from}
-use Rattle.acd_laws.proofs.Keyed.{eqb_self}
-use Rattle.acd_laws.proofs.State.{connections_total, found_key, connection_among, still_none, count_new, count_less, connection_rule}
+use Rattle.acd_lemmas.proofs.Facts.{Rules, IsPlannedStation, ArePlannedGroups, SeatedAs, AgentRule, InQueue, AlertingColumns, HasColumns, StandsAt, ConnectionRule, ringing_at, talking_at, ready_at}
+use Rattle.acd_lemmas.proofs.Lists.{one, any_some, ascending-put, ascending-remove, every_among, every-put, every-remove, counted, none_counted, fewer, two_counted, none_from}
+use Rattle.acd_lemmas.proofs.Keyed.{eqb_self}
+use Rattle.acd_lemmas.proofs.State.{connections_total, found_key, connection_among, still_none, count_new, count_less, connection_rule}
 use Rattle.acd_laws.proofs.Arriving.{idle_counts, with_connections, one_le, most_one}
 use Rattle.acd_model.specs.Distribution.{offer_at}
-use Rattle.acd_laws.proofs.States.{queued_is, ready_is}
+use Rattle.acd_lemmas.proofs.States.{queued_is, ready_is}
 
 -- a distributed connection rings or is talked on, or neither
 pub ringing_is : (d : ℕ) (x : ConnectionRecord) → ringing_at d x ≡ true → is_distributed_at d x ≡ true

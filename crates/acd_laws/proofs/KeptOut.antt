@@ -2,19 +2,19 @@
 use Rattle.std.proofs.Common.{◌≡◌, ℕ, ◌+◌, ◌≤◌, inl, Bool, true, false, not, ◌&&◌, cond, List, [], ◌∷◌, Option, Some, None, refl, ap, subst, arith, inr, sym, ◌∙◌, eq-eqb}
 use Rattle.std.specs.Prelude.{◌==◌, IsTrue, is_some, IsFalse}
 use Rattle.std.proofs.lemmas.Bool.{and_parts, and_from, false_from_ne_true, eqb-true, or_parts, or_right, and_left}
-use Rattle.acd_laws.proofs.Words.{Rows, AgentRecord, CallRecord, ConnectionRecord, ConnectionState, put_by, count, Among, Every, IsAscending, is_initiated, is_alerting, is_connected, is_hold, is_queued, is_answered, is_live, group_of, station_of, agent_of, call_of, connection_of, is_group, is_station, is_planned, has, agent_at, is_distributed, is_live_at, with_agent, with_call, with_connection, no_move, changed, moved, agent_order, call_order, connection_order, is_open, parties_of, initiated_of, open_of, live_at, alerting_at, hold_at, is_distributed_at}
+use Rattle.acd_lemmas.proofs.Words.{Rows, AgentRecord, CallRecord, ConnectionRecord, ConnectionState, put_by, count, Among, Every, IsAscending, is_initiated, is_alerting, is_connected, is_hold, is_queued, is_answered, is_live, group_of, station_of, agent_of, call_of, connection_of, is_group, is_station, is_planned, has, agent_at, is_distributed, is_live_at, with_agent, with_call, with_connection, no_move, changed, moved, agent_order, call_order, connection_order, is_open, parties_of, initiated_of, open_of, live_at, alerting_at, hold_at, is_distributed_at}
 use Rattle.acd_terms.specs.declared.state.AgentState.TheVariants as A
 use Rattle.acd_terms.specs.declared.state.ConnectionState.TheVariants as S
 use Rattle.acd_model.specs.declared.moves.Change.TheVariants.{PutConnection, PutCall}
 use Rattle.acd_model.specs.CallMoves.{talking, hold, retrieve, plain}
 use Rattle.acd_model.specs.AgentMoves.{become_busy}
-use Rattle.acd_laws.proofs.Facts.{Rules, AgentRule, Bare, HasColumns, StandsAt, ConnectionRule, ringing_at, talking_at, seated_at, ready_at, busy_at, pending_at, CallRule, IsCaller, two_if}
-use Rattle.acd_laws.proofs.Lists.{one, ascending-put, every-put, none_counted, fewer, every_among, every_from, counted, two_counted, none_from}
-use Rattle.acd_laws.proofs.State.{agents_total, connections_total, connection_among, calls_total, call_put, put_other, found_key, call_among, count_old, count_agent, connection_rule, count_new, none_above, no_call_above, none_of_call}
-use Rattle.acd_laws.proofs.Keyed.{eqb_self}
+use Rattle.acd_lemmas.proofs.Facts.{Rules, AgentRule, Bare, HasColumns, StandsAt, ConnectionRule, ringing_at, talking_at, seated_at, ready_at, busy_at, pending_at, CallRule, IsCaller, two_if}
+use Rattle.acd_lemmas.proofs.Lists.{one, ascending-put, every-put, none_counted, fewer, every_among, every_from, counted, two_counted, none_from}
+use Rattle.acd_lemmas.proofs.State.{agents_total, connections_total, connection_among, calls_total, call_put, put_other, found_key, call_among, count_old, count_agent, connection_rule, count_new, none_above, no_call_above, none_of_call}
+use Rattle.acd_lemmas.proofs.Keyed.{eqb_self}
 use Rattle.acd_laws.proofs.Arriving.{alerting_is_live, Arrived, rule_same, lone, with_connections, most_one, arrived_live, arrived_hold, arrived_open}
 use Rattle.acd_laws.proofs.KeptOffer.{ringing_is}
-use Rattle.acd_laws.proofs.States.{alerting_is, ready_is, initiated_is, connected_is, hold_is}
+use Rattle.acd_lemmas.proofs.States.{alerting_is, ready_is, initiated_is, connected_is, hold_is}
 use Rattle.acd_laws.proofs.Releasing.{Serves, serving}
 use Rattle.acd_model.specs.Services.{occupy, busy_agent}
 use Rattle.acd_laws.proofs.KeptEnds.{two_le}

@@ -3,22 +3,22 @@ use Rattle.std.proofs.Common.{◌≡◌, ℕ, ◌+◌, inl, inr, Bool, true, fal
 use Rattle.std.specs.Prelude.{◌==◌, IsTrue, max, is_some, find}
 use Rattle.std.specs.List.{list_any}
 use Rattle.std.proofs.lemmas.Bool.{eqb-true, false_from_ne_true, and_right, or_cases, or_parts, or_right, or_left, and_parts, and_from}
-use Rattle.acd_laws.proofs.Words.{Rows, GroupRecord, StationRecord, AgentRecord, CallRecord, ConnectionRecord, MonitorRecord, ConnectionState, AgentState, Pending, put_by, remove_by, count, Among, IsAscending, is_null, is_ready, is_busy, is_working_after_call, is_hold, is_queued, is_live, at_monitor, group_of, station_of, agent_of, call_of, connection_of, is_group, is_station, is_planned, has, agent_at, is_distributed, is_occupied, is_calling, with_group, with_station, with_agent, with_monitor, without_monitor, changed, moved, group_order, station_order, agent_order, monitor_order, is_distributed_at}
+use Rattle.acd_lemmas.proofs.Words.{Rows, GroupRecord, StationRecord, AgentRecord, CallRecord, ConnectionRecord, MonitorRecord, ConnectionState, AgentState, Pending, put_by, remove_by, count, Among, IsAscending, is_null, is_ready, is_busy, is_working_after_call, is_hold, is_queued, is_live, at_monitor, group_of, station_of, agent_of, call_of, connection_of, is_group, is_station, is_planned, has, agent_at, is_distributed, is_occupied, is_calling, with_group, with_station, with_agent, with_monitor, without_monitor, changed, moved, group_order, station_order, agent_order, monitor_order, is_distributed_at}
 use Rattle.acd_terms.specs.declared.state.AgentState.TheVariants as A
 use Rattle.acd_terms.specs.declared.state.ConnectionState.TheVariants as S
 use Rattle.acd_model.specs.Scans.{is_used}
 use Rattle.acd_model.specs.declared.moves.Change.TheVariants.{PutGroup, PutStation, PutAgent, PutMonitor, RemoveMonitor}
-use Rattle.acd_laws.proofs.Facts.{Rules, IsPlannedStation, ArePlannedGroups, SeatedAs, AgentRule, CallRule, IsCaller, StandsAt, ConnectionRule, seated_at, ready_at, busy_at, pending_at, talking_at, ringing_at}
-use Rattle.acd_laws.proofs.Lists.{one, any_some, ascending-put, ascending-remove, count-put_new, every_among, every_from, every-put, count_zero, find_passes, find_among, find_none, any_found, counted, some_from}
+use Rattle.acd_lemmas.proofs.Facts.{Rules, IsPlannedStation, ArePlannedGroups, SeatedAs, AgentRule, CallRule, IsCaller, StandsAt, ConnectionRule, seated_at, ready_at, busy_at, pending_at, talking_at, ringing_at}
+use Rattle.acd_lemmas.proofs.Lists.{one, any_some, ascending-put, ascending-remove, count-put_new, every_among, every_from, every-put, count_zero, find_passes, find_among, find_none, any_found, counted, some_from}
 use Rattle.acd_laws.proofs.Arriving.{rule_more, with_agents, lone}
-use Rattle.acd_laws.proofs.Keyed.{cmp_equal, eqb_self}
-use Rattle.acd_laws.proofs.State.{groups_total, stations_total, agents_total, monitors_total, agent_find, group_put, station_put, call_among, agent_among, count_agent, has_is, group_kept}
+use Rattle.acd_lemmas.proofs.Keyed.{cmp_equal, eqb_self}
+use Rattle.acd_lemmas.proofs.State.{groups_total, stations_total, agents_total, monitors_total, agent_find, group_put, station_put, call_among, agent_among, count_agent, has_is, group_kept}
 use Rattle.acd_model.specs.Services.{new_agent}
 use Rattle.acd_model.specs.AgentMoves.{in_state, go_to, go_from, log_on_at}
 use Rattle.acd_laws.proofs.KeptOffer.{unoccupied}
 use Rattle.acd_laws.proofs.Releasing.{seat_from, loosen, left_keeps, left_state, alerting_or_answered}
 use Rattle.acd_model.specs.Tick.{rest_moves}
-use Rattle.acd_laws.proofs.States.{null_is}
+use Rattle.acd_lemmas.proofs.States.{null_is}
 
 any_false : {X : Type 0} (p : X → Bool) (xs : List X) → list_any p xs ≡ false → (x : X) → Among x xs → p x ≡ false
 any_false p xs e x a = false_from_ne_true (p x) (λ q. cc (any_some p xs x a q, e))

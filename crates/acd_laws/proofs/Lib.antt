@@ -1,12 +1,6 @@
-pub mod Words
-pub mod Facts
 pub mod OfferFound
 pub mod CountedEvents
 pub mod FiguresCounted
-pub mod Lists
-pub mod Keyed
-pub mod States
-pub mod State
 pub mod Arriving
 pub mod KeptOffer
 pub mod Releasing
@@ -19,7 +13,6 @@ pub mod Deeds
 pub mod SoundDeeds
 pub mod Distributing
 pub mod RulesKept
-pub mod Decided
 pub mod DecidedAll
 pub mod Orderly
 pub mod Rounds

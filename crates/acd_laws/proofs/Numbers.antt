@@ -1,19 +1,18 @@
 -- How many events a step makes at most.
-use Rattle.std.proofs.Common.{◌≡◌, ℕ, zero, suc, ◌+◌, ◌*◌, ◌≤◌, inl, inr, Bool, true, false, not, cond, List, [], ◌∷◌, ◌++◌, Option, Some, None, refl, sym, ◌∙◌, ap, arith, length, eq-eqb, length-append}
+use Rattle.std.proofs.Common.{◌≡◌, ℕ, zero, suc, ◌+◌, ◌*◌, ◌≤◌, inl, inr, true, not, List, [], ◌∷◌, ◌++◌, Option, Some, None, refl, sym, ◌∙◌, ap, arith, length, eq-eqb, length-append}
 use Rattle.std.specs.Prelude.{◌==◌, is_some, filter}
 use Rattle.std.proofs.lemmas.Bool.{not-true}
-use Rattle.acd_laws.proofs.Words.{Rows, AgentRecord, CallRecord, ConnectionRecord, Event, Move, Offer, Report, count, Among, is_queued, agent_of, call_of, connection_of, queued_in_all, moved, with_event, events_of, parties_of}
-use Rattle.acd_laws.proofs.Facts.{Rules}
-use Rattle.acd_laws.proofs.Lists.{one, filter_among, counted, fewer, count_length}
-use Rattle.acd_laws.proofs.Keyed.{eqb_self}
-use Rattle.acd_laws.proofs.State.{call_among, call_key, none_of_call}
+use Rattle.acd_lemmas.proofs.Words.{Rows, AgentRecord, CallRecord, ConnectionRecord, Event, Move, Offer, Report, count, Among, is_queued, agent_of, call_of, connection_of, queued_in_all, moved, with_event, events_of, parties_of}
+use Rattle.acd_lemmas.proofs.Facts.{Rules}
+use Rattle.acd_lemmas.proofs.Lists.{filter_among, counted, filter_length, split_length, fewer_filtered}
+use Rattle.acd_lemmas.proofs.Keyed.{eqb_self}
+use Rattle.acd_lemmas.proofs.State.{call_among, call_key, none_of_call}
 use Rattle.acd_terms.specs.Limits.{limits_fit}
 use Rattle.acd_model.specs.Choice.{offer_of}
 use Rattle.acd_model.specs.Distribution.{offer_at, offer_moves, with_offer, offers, distribution, station_of_agent}
 use Rattle.acd_model.specs.Tick.{return_to, return_moves, rest_moves, each, is_overdue, overdue_in, is_rested, rested_in, returns, rests, tick}
 use Rattle.acd_laws.proofs.KeptEnds.{two_le}
-use Rattle.acd_laws.proofs.Orderly.{count_all}
-use Rattle.acd_laws.proofs.Decided.{◌and◌, within}
+use Rattle.acd_lemmas.proofs.Decided.{◌and◌, within}
 
 -- no more events than moves
 event_length : (m : ℕ) (o : Option Report) (es : List Event) → length (with_event m o es) ≤ 1 + length es
@@ -24,27 +23,12 @@ pub events_length : (m : ℕ) (ms : List Move) → length (events_of m ms) ≤ l
 events_length m [] = omega arith
 events_length m (x ∷ xs) = let a = event_length m x.report (events_of m xs) in let b = events_length m xs in omega (arith, a, b)
 
-pub filter_length : {X : Type 0} (p : X → Bool) (xs : List X) → length (filter p xs) ≤ length xs
-filter_length p xs = let a = count_length p xs in let b = count_all xs in let c = fewer p (λ _. true) (λ x e. refl) xs in omega (arith, a, b, c)
-
 -- at most two connections for each call
 
 record HasCall (cs : List CallRecord) (x : ConnectionRecord) : Type 0 where
   call : CallRecord
   there : Among call cs
   same : call.call ≡ x.call
-
-split_length : {X : Type 0} (p : X → Bool) (xs : List X) → length xs ≡ count p xs + length (filter (λ x. not (p x)) xs)
-split_length p [] = refl
-split_length p (x ∷ xs) =
-    let ih = split_length p xs in
-    elim (p x) as (λ b. suc (length xs) ≡ (one b + count p xs) + length (cond (not b) (x ∷ filter (λ x. not (p x)) xs) (filter (λ x. not (p x)) xs))) [ true ↦ omega (arith, ih) | false ↦ omega (arith, ih) ]
-
-fewer_filtered : {X : Type 0} (p q : X → Bool) (xs : List X) → count p (filter q xs) ≤ count p xs
-fewer_filtered p q [] = omega arith
-fewer_filtered p q (x ∷ xs) =
-    let ih = fewer_filtered p q xs in
-    elim (q x) as (λ b. count p (cond b (x ∷ filter q xs) (filter q xs)) ≤ one (p x) + count p xs) [ true ↦ omega (arith, ih) | false ↦ omega (arith, ih) ]
 
 two_each : (cs : List CallRecord) (xs : List ConnectionRecord) → ((x : ConnectionRecord) → Among x xs → HasCall cs x) → ((c : CallRecord) → Among c cs → count (parties_of c.call) xs ≤ 2) → length xs ≤ 2 * length cs
 two_each [] [] h f = omega arith

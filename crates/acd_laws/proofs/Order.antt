@@ -1,11 +1,11 @@
 -- What a group holds is what entered and didn't leave; and the order of entries is that of places.
 use Rattle.std.proofs.Common.{◌≡◌, ℕ, ◌+◌, List, [], ◌∷◌, ◌++◌, Option, Some, None, refl, ◌∙◌, ap, arith, ◌<◌, ◌≤◌, ◌⊎◌, inl, inr, Bool, true, false, ◌&&◌, cond, sym, subst, length, append_assoc, eq-eqb}
-use Rattle.acd_laws.proofs.Words.{Rows, ConnectionRecord, Event, Move, Report, put_by, count, total, Among, IsAscending, connection_of, has, with_connection, without_connection, moved, event_at, with_event, events_of, connection_order, is_open}
+use Rattle.acd_lemmas.proofs.Words.{Rows, ConnectionRecord, Event, Move, Report, put_by, count, total, Among, IsAscending, connection_of, has, with_connection, without_connection, moved, event_at, with_event, events_of, connection_order, is_open}
 use Rattle.acd_model.specs.Figures.{is_entry, is_answer, is_abandonment, is_moving_away, figures_of}
 use Rattle.acd_model.specs.Rules.Occupied.{waits_in, rings_from}
-use Rattle.acd_laws.proofs.Lists.{one, total-append, some_is, among_put}
+use Rattle.acd_lemmas.proofs.Lists.{one, total-append, some_is, among_put}
 use Rattle.acd_model.proofs.MoveLemmas.{moved_append, events_of_append}
-use Rattle.acd_laws.proofs.State.{count_new, count_old, count_less}
+use Rattle.acd_lemmas.proofs.State.{count_new, count_old, count_less}
 use Rattle.std.specs.Prelude.{◌==◌}
 use Rattle.std.proofs.lemmas.List.{length-append}
 use Rattle.std.proofs.lemmas.Bool.{and_left, and_right, and_from, eqb-true, false_from_ne_true}

@@ -1,16 +1,15 @@
 -- What moves keep of stamps, moments, places and of what is planned: one by one, and in a row.
 use Rattle.std.proofs.Common.{◌≡◌, ℕ, ◌+◌, ◌≤◌, ◌⊎◌, inl, Bool, true, false, cond, List, [], ◌∷◌, Option, Some, refl, sym, ◌∙◌, ap, subst, arith, length, eq-eqb, None}
 use Rattle.std.specs.Prelude.{◌==◌, is_some}
-use Rattle.std.specs.declared.cmp.Ordering.{Ordering}
 use Rattle.std.proofs.lemmas.Bool.{eqb-true}
 use Rattle.acd_terms.specs.Limits.{greatest_priority}
-use Rattle.acd_laws.proofs.Words.{Rows, GroupRecord, AgentRecord, ConnectionRecord, MonitorRecord, ConnectionState, AgentState, Cause, Change, Move, Report, put_by, remove_by, count, Among, Every, IsAscending, at_agent, at_call, at_connection, at_monitor, group_of, station_of, agent_of, connection_of, is_group, is_planned, with_group, with_station, with_agent, with_call, with_connection, with_monitor, without_call, without_connection, without_monitor, silent, reported, changed, moved, agent_order, connection_order}
+use Rattle.acd_lemmas.proofs.Words.{Rows, GroupRecord, AgentRecord, ConnectionRecord, MonitorRecord, ConnectionState, AgentState, Cause, Change, Move, Report, put_by, count, Among, Every, IsAscending, at_agent, at_call, at_connection, at_monitor, group_of, station_of, agent_of, connection_of, is_group, is_planned, with_group, with_station, with_agent, with_call, with_connection, with_monitor, without_call, without_connection, without_monitor, silent, reported, changed, moved, agent_order, connection_order}
 use Rattle.acd_model.specs.declared.moves.Change.TheVariants.{Nothing, PutGroup, PutStation, PutAgent, PutCall, PutConnection, PutMonitor, RemoveCall, RemoveConnection, RemoveMonitor}
-use Rattle.acd_laws.proofs.Lists.{ascending-put, count-put_old, count-put_most, count-remove_most, every_among, every_from, among-remove, some_from, one, every-put, every-remove}
-use Rattle.acd_laws.proofs.Keyed.{cmp_equal, cmp_self}
-use Rattle.acd_laws.proofs.State.{agents_total, agent_find, agent_put, agent_among, connection_among, count_old}
+use Rattle.acd_lemmas.proofs.Lists.{ascending-put, count-put_old, count-put_most, count-remove_most, every_among, every_from, among-remove, some_from, one, every-put, every-remove, count_all, length-remove}
+use Rattle.acd_lemmas.proofs.Keyed.{cmp_equal, cmp_self}
+use Rattle.acd_lemmas.proofs.State.{agents_total, agent_find, agent_put, agent_among, connection_among, count_old}
 use Rattle.acd_terms.specs.Limits.{limits_fit}
-use Rattle.acd_laws.proofs.Facts.{Sizes, MonitorRule, Monitored, AgentTimed, CallTimed, IsPlace, IsMoment, ConnectionTimed, at_place, Timed}
+use Rattle.acd_lemmas.proofs.Facts.{Sizes, MonitorRule, Monitored, AgentTimed, CallTimed, IsPlace, IsMoment, ConnectionTimed, at_place, Timed}
 use Rattle.acd_terms.specs.declared.state.AgentState.TheVariants as A
 use Rattle.acd_terms.specs.declared.state.ConnectionState.TheVariants as S
 use Rattle.acd_terms.specs.declared.event.Report.TheVariants as report
@@ -71,16 +70,6 @@ steadied_then s t u f g = record {
 }
 
 -- lengths
-
-pub count_all : {X : Type 0} (xs : List X) → count (λ _. true) xs ≡ length xs
-count_all [] = refl
-count_all (x ∷ xs) = let ih = count_all xs in omega (arith, ih)
-
-pub length-remove : {X : Type 0} (at : X → Ordering) (xs : List X) → length (remove_by at xs) ≤ length xs
-length-remove at xs = let a = count_all (remove_by at xs) in let b = count_all xs in let c = count-remove_most at (λ _. true) xs in omega (arith, a, b, c)
-
-pub length-put : {X : Type 0} (at : X → Ordering) (x : X) (xs : List X) → length (put_by at xs x) ≤ length xs + 1
-length-put at x xs = let a = count_all (put_by at xs x) in let b = count_all xs in let c = count-put_most at (λ _. true) x xs in omega (arith, a, b, c)
 
 length-put_agent : (s : Rows) (a : AgentRecord) → IsAscending agent_order s.agents → knows s a.agent ≡ true → length (put_by (agent_order a) s.agents a) ≡ length s.agents
 length-put_agent s a h e =

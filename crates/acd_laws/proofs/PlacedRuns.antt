@@ -2,13 +2,13 @@
 use Rattle.std.proofs.Common.{◌≡◌, ℕ, ◌+◌, ◌≤◌, ◌⊎◌, inl, inr, Bool, true, false, ◌&&◌, List, Some, None, refl, sym, ◌∙◌, ap, subst, arith, [], ◌++◌, length, ◌<◌, Option}
 use Rattle.std.specs.Prelude.{◌==◌, is_some, is_none, nat_le}
 use Rattle.std.proofs.lemmas.Bool.{and_parts, and_from, eqb-true, false_from_ne_true, le-leb, lt-leb}
-use Rattle.acd_laws.proofs.Words.{Rows, Limits, CallRecord, ConnectionRecord, ConnectionState, Command, Event, Move, Report, count, Among, Every, is_initiated, is_alerting, is_queued, call_of, is_group, is_station, empty_rows, with_last, moved, events_of, is_open, parties_of, initiated_of, open_of}
+use Rattle.acd_lemmas.proofs.Words.{Rows, Limits, CallRecord, ConnectionRecord, ConnectionState, Command, Event, Move, Report, count, Among, Every, is_initiated, is_alerting, is_queued, call_of, is_group, is_station, empty_rows, with_last, moved, events_of, is_open, parties_of, initiated_of, open_of}
 use Rattle.acd_terms.specs.declared.state.ConnectionState.TheVariants as S
 use Rattle.acd_model.specs.Placed.{cleared_by, is_queued_of, is_alerting_of, IsCleared, IsWaiting, IsAtDevices, IsPlaced, clears}
-use Rattle.acd_laws.proofs.Facts.{Rules, ConnectionRule, IsCaller, StandsAt, two_if}
+use Rattle.acd_lemmas.proofs.Facts.{Rules, ConnectionRule, IsCaller, StandsAt, two_if}
 use Rattle.acd_laws.specs.PlacedLaws.{KeepsClearings, PlacesExclude, NamesNoLaterCall, RunNamesNoLaterCall, RunIsPlaced, IsUpTo, clearings}
-use Rattle.acd_laws.proofs.Lists.{one, every_among, counted, fewer, both_fewer, count_zero}
-use Rattle.acd_laws.proofs.Decided.{zero_or}
+use Rattle.acd_lemmas.proofs.Lists.{one, every_among, counted, fewer, both_fewer, count_zero}
+use Rattle.acd_lemmas.proofs.Decided.{zero_or}
 use Rattle.acd_model.specs.Figures.{with_figures}
 use Rattle.acd_model.specs.Services.Serve.{serve}
 use Rattle.acd_model.specs.Step.{executed_moment, next_stamp, step_moves, step}

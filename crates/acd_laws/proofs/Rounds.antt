@@ -2,7 +2,7 @@
 use Rattle.std.proofs.Common.{◌≡◌, ℕ, ◌+◌, ◌≤◌, Bool, false, List, [], ◌∷◌, ◌++◌, Option, Some, None, refl, ◌∙◌, ap, arith, length}
 use Rattle.std.specs.Prelude.{◌==◌}
 use Rattle.std.proofs.lemmas.Bool.{and_right}
-use Rattle.acd_laws.proofs.Words.{Rows, ConnectionRecord, Event, Move, Report, count, Every, IsAscending, connection_of, has, with_connection, without_connection, reported, moved, with_event, events_of, agent_order}
+use Rattle.acd_lemmas.proofs.Words.{Rows, ConnectionRecord, Event, Move, Report, count, Every, IsAscending, connection_of, has, with_connection, without_connection, reported, moved, with_event, events_of, agent_order}
 use Rattle.acd_terms.specs.declared.state.AgentState.TheVariants.{Ready}
 use Rattle.acd_terms.specs.declared.event.Cause.TheVariants.{Distributed, NoAnswer as Unanswered}
 use Rattle.acd_terms.specs.declared.event.Report.TheVariants as report
@@ -13,10 +13,10 @@ use Rattle.acd_model.specs.declared.moves.Change.TheVariants.{PutConnection, Rem
 use Rattle.acd_model.specs.Release.{release}
 use Rattle.acd_model.specs.Distribution.{distribution}
 use Rattle.acd_model.specs.Tick.{returns as all_returns, tick}
-use Rattle.acd_laws.proofs.Facts.{Rules, IsMoment, IsAfter, ConnectionTimed, at_place, Timed}
-use Rattle.acd_laws.proofs.Lists.{one, count-append, every-append}
+use Rattle.acd_lemmas.proofs.Facts.{Rules, IsMoment, IsAfter, ConnectionTimed, at_place, Timed}
+use Rattle.acd_lemmas.proofs.Lists.{one, count-append, every-append}
 use Rattle.acd_laws.proofs.Order.{entries, entry_by}
-use Rattle.acd_laws.proofs.State.{count_less, connection_there}
+use Rattle.acd_lemmas.proofs.State.{count_less, connection_there}
 use Rattle.acd_laws.proofs.Distributing.{returned}
 use Rattle.acd_laws.proofs.MoveKinds.{Recorded, goes_from, releases_here}
 use Rattle.acd_laws.proofs.Deeds.{offers, returns, rests}

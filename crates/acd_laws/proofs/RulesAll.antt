@@ -1,10 +1,10 @@
 -- Rows that break no rule break none after a step; all laws together.
-use Rattle.std.proofs.Common.{◌≡◌, ℕ, ◌+◌, ◌*◌, ◌^◌, ◌<◌, ◌≤◌, ◌⊎◌, inl, inr, true, false, cond, List, [], ◌∷◌, Option, Some, None, refl, ◌∙◌, ap, subst, arith, length, map, sym}
+use Rattle.std.proofs.Common.{◌≡◌, ℕ, ◌+◌, ◌*◌, ◌^◌, ◌<◌, ◌≤◌, inl, inr, true, false, cond, List, [], ◌∷◌, Option, Some, None, refl, ◌∙◌, ap, subst, arith, length, map, sym}
 use Rattle.std.specs.Prelude.{◌==◌}
 use Rattle.std.proofs.lemmas.Bool.{and_parts, eqb-true, false_from_ne_true}
-use Rattle.acd_laws.proofs.Words.{Rows, Limits, GroupRecord, Figures, Command, Event, Report, count, total, Among, Every, is_alerting, is_queued, is_group, has, empty_rows, with_last, moved}
-use Rattle.acd_laws.proofs.Facts.{Rules, GroupColumn, StandsAt, ConnectionRule, IsPlace, ConnectionTimed, at_place, Timed, OnePlace, MonitorRule, IsCountedUpTo, AddsUp, KeepsRules}
-use Rattle.acd_laws.proofs.Lists.{one, every_among, every_from, count_zero}
+use Rattle.acd_lemmas.proofs.Words.{Rows, Limits, GroupRecord, Figures, Command, Event, Report, count, total, Among, Every, is_alerting, is_queued, is_group, has, empty_rows, with_last}
+use Rattle.acd_lemmas.proofs.Facts.{Rules, GroupColumn, StandsAt, ConnectionRule, IsPlace, ConnectionTimed, at_place, Timed, OnePlace, MonitorRule, IsCountedUpTo, AddsUp, KeepsRules}
+use Rattle.acd_lemmas.proofs.Lists.{one, every_among, every_from, count_zero}
 use Rattle.std.proofs.lemmas.Nat.{mul-le}
 use Rattle.std.proofs.Math.Nat.{add-mul}
 use Rattle.acd_terms.specs.declared.event.Report.TheVariants as report
@@ -26,7 +26,7 @@ use Rattle.acd_laws.proofs.Rounds.{AllWait}
 use Rattle.acd_laws.proofs.Numbers.{greatest}
 use Rattle.acd_laws.proofs.BoundsStep.{After, Before, after_moves}
 use Rattle.acd_laws.proofs.DecidedAll.{keeps_read, requests_read, keeps_written, rules_are_kept}
-use Rattle.acd_laws.proofs.States.{queued_is}
+use Rattle.acd_lemmas.proofs.States.{queued_is}
 use Rattle.acd_laws.specs.AllLaws.{StepKeepsLaws, RunKeepsLaws}
 use Rattle.acd_laws.proofs.FiguresCounted.{step_keeps_figures, figures_kept}
 use Rattle.acd_laws.proofs.OneOffer.{step_keeps_one_offer, run_has_one_offer}

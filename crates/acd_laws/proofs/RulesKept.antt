@@ -2,16 +2,16 @@
 use Rattle.std.proofs.Common.{◌≡◌, ℕ, inl, inr, List, [], sym, ap, subst, refl, arith, ◌++◌, false, ◌∙◌, is_some}
 use Rattle.std.specs.Prelude.{min}
 use Rattle.acd_terms.specs.Limits.{greatest_priority}
-use Rattle.acd_laws.proofs.Words.{Rows, Command, Event, Move, state_wanted, is_initiated, other_of, moved, events_of, is_open, is_group}
+use Rattle.acd_lemmas.proofs.Words.{Rows, Command, Event, Move, state_wanted, is_initiated, other_of, moved, events_of, is_open, is_group}
 use Rattle.acd_model.specs.CallMoves.{destination_of, arriving, arrive}
 use Rattle.acd_model.specs.Served.{moves_of}
 use Rattle.acd_model.specs.Services.{new_group, next_call, next_monitor}
 use Rattle.acd_model.specs.Services.Serve.{serve}
 use Rattle.acd_model.specs.Step.{step_moves}
 use Rattle.acd_model.specs.Distribution.{distribution}
-use Rattle.acd_laws.proofs.Facts.{Rules}
-use Rattle.acd_laws.proofs.Lists.{one}
-use Rattle.acd_laws.proofs.State.{connection_among, connection_rule, group_key}
+use Rattle.acd_lemmas.proofs.Facts.{Rules}
+use Rattle.acd_lemmas.proofs.Lists.{one}
+use Rattle.acd_lemmas.proofs.State.{connection_among, connection_rule, group_key}
 use Rattle.acd_model.specs.Release.{ending_of}
 use Rattle.acd_model.proofs.MoveLemmas.{moved_append}
 use Rattle.acd_laws.proofs.Distributing.{tick_keeps, Kept, kept-append, rules_distribution, offering, offer_moves_are, distribution_keeps}
@@ -21,7 +21,7 @@ use Rattle.acd_laws.proofs.Releasing.{wanted_not_busy, ends_by}
 use Rattle.acd_laws.proofs.KeptOut.{begun, made, outgoing, gone_out, kept_answer, kept_hold, kept_retrieve}
 use Rattle.acd_laws.proofs.KeptEnds.{kept_clear, moved_on, open_cases, closed_call}
 use Rattle.acd_laws.proofs.KeptPlan.{kept_log_on, kept_wait, kept_go_from, kept_group, kept_rank, kept_station, kept_new_agent, started, stopped}
-use Rattle.acd_laws.proofs.States.{connected_is}
+use Rattle.acd_lemmas.proofs.States.{connected_is}
 use Rattle.acd_model.specs.Tick.{tick}
 
 kept_deed : (s : Rows) (m k : ℕ) (ms : List Move) → Deed s m k ms → Rules s → Rules (moved s ms)

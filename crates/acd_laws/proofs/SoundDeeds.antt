@@ -5,7 +5,7 @@ use Rattle.std.proofs.lemmas.Bool.{and_right, and_from, or_right}
 use Rattle.std.specs.Prelude.{min}
 use Rattle.acd_terms.specs.Limits.{greatest_priority}
 use Rattle.acd_terms.specs.Groups.{only_group}
-use Rattle.acd_laws.proofs.Words.{Rows, AgentRecord, CallRecord, ConnectionRecord, MonitorRecord, ConnectionState, Cause, Ending, Move, Report, count, Among, Every, state_wanted, is_initiated, is_alerting, is_connected, is_queued, connection_of, is_station, is_planned, has, other_of, with_call, with_connection, without_call, without_connection, no_move, changed, moved, is_open, parties_of, open_of, Command, GroupRecord, is_group}
+use Rattle.acd_lemmas.proofs.Words.{Rows, AgentRecord, CallRecord, ConnectionRecord, MonitorRecord, ConnectionState, Cause, Ending, Move, Report, count, Among, Every, state_wanted, is_initiated, is_alerting, is_connected, is_queued, connection_of, is_station, is_planned, has, other_of, with_call, with_connection, without_call, without_connection, no_move, changed, moved, is_open, parties_of, open_of, Command, GroupRecord, is_group}
 use Rattle.acd_terms.specs.Columns.{columns_of}
 use Rattle.acd_terms.specs.declared.state.AgentState.TheVariants as A
 use Rattle.acd_terms.specs.declared.state.ConnectionState.TheVariants as S
@@ -23,14 +23,14 @@ use Rattle.acd_model.specs.Distribution.{offer_at}
 use Rattle.acd_model.specs.Tick.{return_to}
 use Rattle.acd_model.specs.declared.moves.Ending.TheVariants.{NoAnswer}
 use Rattle.acd_model.specs.declared.moves.Change.TheVariants.{Nothing, PutGroup, PutStation, PutAgent, PutCall, PutConnection, PutMonitor, RemoveCall, RemoveConnection, RemoveMonitor}
-use Rattle.acd_laws.proofs.Facts.{GroupColumn, StandsAt, Rules}
+use Rattle.acd_lemmas.proofs.Facts.{GroupColumn, StandsAt, Rules}
 use Rattle.acd_laws.proofs.MoveKinds.{left_connections, left_connection, LeavesAgents, left_agent, left_agents, left_plan, Recorded, releases, occupies, goes_from, arrival_of}
-use Rattle.acd_laws.proofs.Lists.{one, none_from, two_counted, among_put}
-use Rattle.acd_laws.proofs.Keyed.{eqb_self}
-use Rattle.acd_laws.proofs.State.{found_key, connection_among, put_other, removed_other, still_none, connection_there, connection_rule, none_above, agent_there, other_agents, other_among, other_device, group_key}
+use Rattle.acd_lemmas.proofs.Lists.{one, none_from, two_counted, among_put}
+use Rattle.acd_lemmas.proofs.Keyed.{eqb_self}
+use Rattle.acd_lemmas.proofs.State.{found_key, connection_among, put_other, removed_other, still_none, connection_there, connection_rule, none_above, agent_there, other_agents, other_among, other_device, group_key}
 use Rattle.acd_laws.proofs.Releasing.{release_other_kept}
 use Rattle.acd_laws.proofs.KeptPlan.{nobody_at}
-use Rattle.acd_laws.proofs.States.{initiated_is, alerting_is, hold_is}
+use Rattle.acd_lemmas.proofs.States.{initiated_is, alerting_is, hold_is}
 use Rattle.acd_laws.proofs.KeptOut.{initiated_alone, outgoing}
 use Rattle.acd_laws.proofs.KeptEnds.{open_cases, closed_call, return_new}
 use Rattle.acd_laws.proofs.KeptOffer.{offer_station, offer_new}

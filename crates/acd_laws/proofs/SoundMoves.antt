@@ -1,6 +1,6 @@
 -- What moves tell, balance and keep in order, all three together.
 use Rattle.std.proofs.Common.{◌≡◌, ℕ, ◌≤◌, List, [], ◌∷◌, ◌++◌, Option, Some, None, refl, sym, ◌∙◌, ap, subst, arith, ◌+◌, ◌<◌, Bool, true, false, not, ◌&&◌, ◌||◌, cond, eq-eqb}
-use Rattle.acd_laws.proofs.Words.{Rows, ConnectionRecord, ConnectionState, AgentState, Cause, Change, Move, Report, put_by, remove_by, count, Among, IsAscending, is_alerting, is_queued, at_connection, agent_of, connection_of, is_group, is_station, is_planned, has, with_connection, without_connection, silent, reported, changed, moved, connection_order, is_open, open_of}
+use Rattle.acd_lemmas.proofs.Words.{Rows, ConnectionRecord, ConnectionState, AgentState, Cause, Change, Move, Report, put_by, remove_by, count, Among, IsAscending, is_alerting, is_queued, at_connection, agent_of, connection_of, is_group, is_station, is_planned, has, with_connection, without_connection, silent, reported, changed, moved, connection_order, is_open, open_of}
 use Rattle.acd_terms.specs.Columns.{columns_of}
 use Rattle.acd_terms.specs.declared.state.AgentState.TheVariants as A
 use Rattle.acd_model.specs.AgentMoves.{while_logged_on, state_report}
@@ -17,9 +17,9 @@ use Rattle.acd_terms.specs.declared.state.ConnectionState.TheVariants as S
 use Rattle.acd_model.specs.CallMoves.{plain, queueing, arrive}
 use Rattle.acd_model.specs.Figures.{is_entry, is_no_answer}
 use Rattle.acd_model.specs.Services.{waiting_group}
-use Rattle.acd_laws.proofs.Facts.{HasColumns}
-use Rattle.acd_laws.proofs.Lists.{one, among-remove, counted, ascending-put, ascending-remove}
-use Rattle.acd_laws.proofs.State.{connections_total, count_less}
+use Rattle.acd_lemmas.proofs.Facts.{HasColumns}
+use Rattle.acd_lemmas.proofs.Lists.{one, among-remove, counted, ascending-put, ascending-remove}
+use Rattle.acd_lemmas.proofs.State.{connections_total, count_less}
 
 pub record Sound (m b c : ℕ) (s : Rows) (ms : List Move) : Type 0 where
   pub truthful : AllTruthful s ms

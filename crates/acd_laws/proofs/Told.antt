@@ -1,6 +1,6 @@
 -- What the events tell of a state, as moves keep it: the report of a move says just what it changes, at every device.
 use Rattle.std.specs.Prelude.{if◌then◌else◌, ◌==◌, option_map}
-use Rattle.acd_laws.proofs.Words.{Rows, GroupRecord, StationRecord, AgentRecord, ConnectionRecord, ConnectionState, Change, Columns, Event, Move, Report, IsAscending, group_of, station_of, agent_of, connection_of, is_group, is_station, is_planned, has, with_group, with_station, with_connection, without_connection, silent, reported, changed, moved, with_event, events_of, connection_order}
+use Rattle.acd_lemmas.proofs.Words.{Rows, GroupRecord, StationRecord, AgentRecord, ConnectionRecord, ConnectionState, Change, Columns, Event, Move, Report, IsAscending, group_of, station_of, agent_of, connection_of, is_group, is_station, is_planned, has, with_group, with_station, with_connection, without_connection, silent, reported, changed, moved, with_event, events_of, connection_order}
 use Rattle.acd_model.specs.Told.{after, connection_told, Seat, no_seat, seat_told, last_entry, names, state_by, seat_by}
 use Rattle.acd_model.specs.Watched.{state_at, seat_of, HasPlace, InOrder}
 use Rattle.std.proofs.Common.{◌≡◌, ℕ, ◌≤◌, ◌<◌, ◌+◌, Bool, true, false, ◌&&◌, ◌||◌, cond, List, [], ◌∷◌, ◌++◌, Option, Some, None, refl, sym, ◌∙◌, ap}
@@ -10,7 +10,7 @@ use Rattle.acd_terms.specs.declared.event.Report.TheVariants.{CallCleared}
 use Rattle.acd_model.specs.Step.{numbered}
 use Rattle.acd_model.specs.declared.moves.Change.TheVariants.{PutGroup, PutStation, PutAgent, PutConnection, RemoveCall, RemoveConnection}
 use Rattle.acd_laws.proofs.MoveKinds.{LeavesConnections, left_connection, LeavesAgents, left_agent, LeavesPlan, left_plan}
-use Rattle.acd_laws.proofs.State.{is_of, is_of_true, at_put, at_remove, agent_put, group_put, station_put, group_kept}
+use Rattle.acd_lemmas.proofs.State.{is_of, is_of_true, at_put, at_remove, agent_put, group_put, station_put, group_kept}
 
 -- the connection's state at a planned device: of any other device nothing is told
 abbrev pub shown : Rows → ℕ → ℕ → Option ConnectionState

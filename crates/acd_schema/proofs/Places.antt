@@ -12,7 +12,7 @@ use Rattle.sqlite_trees.specs.Tree.{Trees}
 use Rattle.sqlite_rules.specs.Lists.{Has}
 use Rattle.acd_terms.specs.Forms.{number_between}
 use Rattle.acd_terms.specs.Lists.{Among, IsAscending, put_by}
-use Rattle.acd_laws.proofs.Lists.{all_true}
+use Rattle.acd_lemmas.proofs.Lists.{all_true}
 use Rattle.acd_columns.specs.declared.relations.AgentRow.{AgentRow}
 use Rattle.acd_columns.specs.declared.relations.GroupRow.{GroupRow}
 use Rattle.acd_columns.specs.declared.relations.GroupPriority.{GroupPriority}

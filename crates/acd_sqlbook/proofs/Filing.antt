@@ -27,7 +27,7 @@ use Rattle.acd_statements.specs.Writing.{with_put, without}
 use Rattle.acd_columns.specs.Draft.{Drafts}
 use Rattle.acd_columns.proofs.Decoded.{groups_rise, agents_rise}
 use Rattle.acd_columns.proofs.Joined.{further_put, agents_put, priority_put, groups_put}
-use Rattle.acd_laws.proofs.Decided.{ascending_from}
+use Rattle.acd_lemmas.proofs.Decided.{ascending_from}
 use Rattle.acd_sqlbook.specs.Commit.{filed, with_event, with_events}
 
 -- a fold that takes the first of the list first takes the last one last

@@ -14,7 +14,7 @@ use Rattle.acd_terms.specs.declared.event.Event.{Event}
 use Rattle.acd_terms.specs.declared.record.MonitorRecord.{MonitorRecord}
 use Rattle.acd_model.specs.Scans.{monitor_of}
 use Rattle.acd_book.specs.Content.{Content, is_at, is_told}
-use Rattle.acd_laws.proofs.State.{monitor_find}
+use Rattle.acd_lemmas.proofs.State.{monitor_find}
 use Rattle.acd_columns.specs.declared.tables.Table.{Table}
 use Rattle.acd_columns.specs.AnyRows.{is_good}
 use Rattle.acd_columns.specs.Draft.{Fits}

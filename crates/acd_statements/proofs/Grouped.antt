@@ -9,7 +9,7 @@ use Rattle.std.proofs.lemmas.Bool.{cases_Bool, and_parts}
 use Rattle.std.proofs.lemmas.Bool.Decides.{nat_tests}
 use Rattle.acd_terms.specs.Groups.{are_groups, is_one_of, with_one_more, with_all}
 use Rattle.acd_terms.specs.Lists.{ascends, put_by, AllAfter, IsAscending}
-use Rattle.acd_laws.proofs.Decided.{ascending_from}
+use Rattle.acd_lemmas.proofs.Decided.{ascending_from}
 
 -- one behind all that stand there
 below : (g : ℕ) (front : List ℕ) (d : ℕ) (rest : List ℕ) → AllAfter nat_cmp g (front ++ d ∷ rest) → nat_cmp g d ≡ Less

@@ -18,9 +18,9 @@ use Rattle.acd_model.specs.Rules.Plan.{group_order}
 use Rattle.acd_model.specs.Scans.{group_of}
 use Rattle.acd_model.specs.Choice.{first_waiting, first_eligible, is_served_before, first_served, has_both, offer_by, offer_in, offer_of}
 use Rattle.acd_model.specs.declared.moves.Offer.{Offer}
-use Rattle.acd_laws.proofs.OfferFound.{least_is, none_served, served_is}
-use Rattle.acd_laws.proofs.Lists.{none_from, filter_among, among-filter, eq_is}
-use Rattle.acd_laws.proofs.State.{group_among, group_key, group_found}
+use Rattle.acd_lemmas.proofs.Least.{least_is, none_served, served_is}
+use Rattle.acd_lemmas.proofs.Lists.{none_from, filter_among, among-filter, eq_is}
+use Rattle.acd_lemmas.proofs.State.{group_among, group_key, group_found}
 use Rattle.acd_tables.specs.Indexed.{IsIndexed, OfferKey, offer_cmp, offer_key}
 use Rattle.acd_tables.specs.FirstOffer.{if_ranked, offer_at, first_given}
 use Rattle.acd_tables.specs.declared.indexes.Indexes.{Indexes}

@@ -19,9 +19,9 @@ use Rattle.acd_terms.specs.declared.record.ConnectionRecord.{ConnectionRecord}
 use Rattle.acd_model.specs.Rules.Plan.{agent_order, connection_order}
 use Rattle.acd_model.specs.Scans.{agent_of, connection_of, has, is_eligible, is_occupied, is_idle, is_idle_there, waiting_in, eligible_in}
 use Rattle.acd_model.specs.Choice.{waiting_pair, ready_pair, least_from, first_waiting, first_eligible}
-use Rattle.acd_laws.proofs.Lists.{among-filter, filter_among, mapped_among}
-use Rattle.acd_laws.proofs.OfferFound.{least_found}
-use Rattle.acd_laws.proofs.State.{connection_among, connection_found, found_key, agent_among, agent_found, agent_key}
+use Rattle.acd_lemmas.proofs.Lists.{among-filter, filter_among, mapped_among}
+use Rattle.acd_lemmas.proofs.Least.{least_found}
+use Rattle.acd_lemmas.proofs.State.{connection_among, connection_found, found_key, agent_among, agent_found, agent_key}
 use Rattle.acd_tables.specs.Sets.{holds, holds_in, has_set}
 use Rattle.acd_tables.specs.Indexed.{PairSets, pair_cmp, lists, waits_at, is_busying, is_busy_at, is_free, is_able, is_able_since, IsFirstIn}
 

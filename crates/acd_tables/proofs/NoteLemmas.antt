@@ -10,7 +10,7 @@ use Rattle.acd_terms.specs.declared.record.AgentRecord.{AgentRecord}
 use Rattle.acd_terms.specs.declared.record.ConnectionRecord.{ConnectionRecord}
 use Rattle.acd_model.specs.Scans.{agent_of, connection_of, has}
 use Rattle.acd_model.specs.Writes.{with_agent}
-use Rattle.acd_laws.proofs.State.{agent_put, has_is}
+use Rattle.acd_lemmas.proofs.State.{agent_put, has_is}
 use Rattle.acd_tables.specs.Sets.{Notes, Noted, Forgotten}
 use Rattle.acd_tables.specs.Indexed.{pair_cmp, rings, works, own_station, Ringing, Working, Lines, Seats, SeatMap, seat_of}
 use Rattle.acd_tables.specs.Turns.{IsFreeFor, Sits, Rises, quits}

@@ -16,9 +16,9 @@ use Rattle.acd_terms.specs.declared.record.ConnectionRecord.{ConnectionRecord}
 use Rattle.acd_model.specs.Rules.Plan.{agent_order, connection_order}
 use Rattle.acd_model.specs.Scans.{agent_of, agent_at, connection_of}
 use Rattle.acd_model.specs.Writes.{with_agent, with_connection, without_connection}
-use Rattle.acd_laws.proofs.Lists.{eq_is, is_eq_of, some_is, ascending-put, ascending-remove}
-use Rattle.acd_laws.proofs.Keyed.{cmp_equal, cmp_self}
-use Rattle.acd_laws.proofs.State.{connections_total, at_put, at_remove, agent_put, agent_key, found_key, agent_seat, agent_there}
+use Rattle.acd_lemmas.proofs.Lists.{eq_is, is_eq_of, some_is, ascending-put, ascending-remove}
+use Rattle.acd_lemmas.proofs.Keyed.{cmp_equal, cmp_self}
+use Rattle.acd_lemmas.proofs.State.{connections_total, at_put, at_remove, agent_put, agent_key, found_key, agent_seat, agent_there}
 use Rattle.acd_tables.specs.Indexed.{pair_cmp, waits_at, is_busying, is_busy_at, is_free, is_able_since, Seats, SeatMap}
 use Rattle.acd_tables.specs.Uses.{is_there_and, is_in_use}
 use Rattle.acd_tables.specs.declared.uses.Use.TheVariants.{Busying}

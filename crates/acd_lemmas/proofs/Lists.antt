@@ -1,5 +1,5 @@
 -- Lemmas on lists of records in ascending key.
-use Rattle.std.proofs.Common.{◌≡◌, ℕ, ◌+◌, ◌≤◌, inl, inr, Bool, true, false, not, ◌||◌, cond, List, [], ◌∷◌, ◌++◌, Option, Some, None, refl, sym, ◌∙◌, ap, subst, arith, length, map, ◌⊎◌}
+use Rattle.std.proofs.Common.{◌≡◌, ℕ, suc, ◌+◌, ◌≤◌, inl, inr, Bool, true, false, not, ◌||◌, cond, List, [], ◌∷◌, ◌++◌, Option, Some, None, refl, sym, ◌∙◌, ap, subst, arith, length, map, ◌⊎◌}
 use Rattle.std.specs.Prelude.{is_some, filter, find}
 use Rattle.std.specs.List.{list_any, list_all}
 use Rattle.std.specs.declared.cmp.Ordering.{Ordering}
@@ -7,7 +7,7 @@ use Rattle.std.specs.declared.cmp.Ordering.TheVariants.{Less, Equal, Greater}
 use Rattle.std.proofs.lemmas.Bool.{false_from_ne_true, and_parts, and_from}
 use Rattle.std.specs.Cmp.{IsTotalOrder}
 use Rattle.std.specs.Ordering.{ordering_reverse, is_eq, match_ordering}
-use Rattle.acd_laws.proofs.Words.{find_by, put_by, remove_by, count, total, Among, Every, AllAfter, IsAscending}
+use Rattle.acd_lemmas.proofs.Words.{find_by, put_by, remove_by, count, total, Among, Every, AllAfter, IsAscending}
 
 abbrev pub one : Bool → ℕ
 one b = cond b 1 0
@@ -450,3 +450,30 @@ pub mapped_among : {T S : Type 0} (f : T → S) (xs : List T) (z : S) → Among 
 mapped_among f [] z a = absurd a
 mapped_among f (x ∷ xs) z (inl e) = (x, (inl refl, e))
 mapped_among f (x ∷ xs) z (inr a) = let m = mapped_among f xs z a in (m.0, (inr m.1.0, m.1.1))
+
+-- lengths
+
+pub count_all : {X : Type 0} (xs : List X) → count (λ _. true) xs ≡ length xs
+count_all [] = refl
+count_all (x ∷ xs) = let ih = count_all xs in omega (arith, ih)
+
+pub length-remove : {X : Type 0} (at : X → Ordering) (xs : List X) → length (remove_by at xs) ≤ length xs
+length-remove at xs = let a = count_all (remove_by at xs) in let b = count_all xs in let c = count-remove_most at (λ _. true) xs in omega (arith, a, b, c)
+
+pub length-put : {X : Type 0} (at : X → Ordering) (x : X) (xs : List X) → length (put_by at xs x) ≤ length xs + 1
+length-put at x xs = let a = count_all (put_by at xs x) in let b = count_all xs in let c = count-put_most at (λ _. true) x xs in omega (arith, a, b, c)
+
+pub filter_length : {X : Type 0} (p : X → Bool) (xs : List X) → length (filter p xs) ≤ length xs
+filter_length p xs = let a = count_length p xs in let b = count_all xs in let c = fewer p (λ _. true) (λ x e. refl) xs in omega (arith, a, b, c)
+
+pub split_length : {X : Type 0} (p : X → Bool) (xs : List X) → length xs ≡ count p xs + length (filter (λ x. not (p x)) xs)
+split_length p [] = refl
+split_length p (x ∷ xs) =
+    let ih = split_length p xs in
+    elim (p x) as (λ b. suc (length xs) ≡ (one b + count p xs) + length (cond (not b) (x ∷ filter (λ x. not (p x)) xs) (filter (λ x. not (p x)) xs))) [ true ↦ omega (arith, ih) | false ↦ omega (arith, ih) ]
+
+pub fewer_filtered : {X : Type 0} (p q : X → Bool) (xs : List X) → count p (filter q xs) ≤ count p xs
+fewer_filtered p q [] = omega arith
+fewer_filtered p q (x ∷ xs) =
+    let ih = fewer_filtered p q xs in
+    elim (q x) as (λ b. count p (cond b (x ∷ filter q xs) (filter q xs)) ≤ one (p x) + count p xs) [ true ↦ omega (arith, ih) | false ↦ omega (arith, ih) ]

@@ -1,6 +1,6 @@
 -- Which state it is that a test finds.
 use Rattle.std.proofs.Common.{◌≡◌, true, refl}
-use Rattle.acd_laws.proofs.Words.{ConnectionState, AgentState, is_null, is_ready, is_busy, is_initiated, is_alerting, is_connected, is_hold, is_queued}
+use Rattle.acd_lemmas.proofs.Words.{ConnectionState, AgentState, is_null, is_ready, is_busy, is_initiated, is_alerting, is_connected, is_hold, is_queued}
 use Rattle.acd_terms.specs.declared.state.AgentState.TheVariants as A
 use Rattle.acd_terms.specs.declared.state.ConnectionState.TheVariants as S
 

@@ -9,8 +9,8 @@ use Rattle.std.specs.declared.cmp.Ordering.TheVariants.{Equal}
 use Rattle.std.proofs.lemmas.Bool.{eqb-true}
 use Rattle.std.proofs.lemmas.Bool.Decides.{nat_tests}
 use Rattle.std.proofs.lemmas.Cmp.{nat_cmp_total, on_total}
-use Rattle.acd_laws.proofs.Words.{find_by, put_by, remove_by, count, Among, IsAscending}
-use Rattle.acd_laws.proofs.Lists.{one, eq_is, is_eq_of, find_by_find, find-put, find-filter, find-filter_none, find_passes, find_among, find_found, any-find, remove_is, count-put_new, count-put_old}
+use Rattle.acd_lemmas.proofs.Words.{find_by, put_by, remove_by, count, Among, IsAscending}
+use Rattle.acd_lemmas.proofs.Lists.{one, eq_is, is_eq_of, find_by_find, find-put, find-filter, find-filter_none, find_passes, find_among, find_found, any-find, remove_is, count-put_new, count-put_old}
 
 pub eqb_self : (n : ℕ) → (n == n) ≡ true
 eqb_self n = eq-eqb n n refl

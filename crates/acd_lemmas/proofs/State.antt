@@ -8,11 +8,11 @@ use Rattle.std.specs.declared.cmp.Ordering.{Ordering}
 use Rattle.std.specs.declared.cmp.Ordering.TheVariants.{Equal}
 use Rattle.std.proofs.lemmas.Bool.{and_parts, and_from, eqb-true, false_from_ne_true, cond-false, not-true}
 use Rattle.std.proofs.lemmas.Cmp.{nat_cmp_total, on_total, then_total}
-use Rattle.acd_laws.proofs.Words.{Rows, GroupRecord, StationRecord, AgentRecord, CallRecord, ConnectionRecord, MonitorRecord, Event, find_by, put_by, remove_by, count, Among, IsAscending, at_group, at_connection, group_of, station_of, agent_of, call_of, connection_of, monitor_of, is_group, is_station, has, agent_at, other_of, with_group, with_station, with_agent, with_call, with_connection, without_call, without_connection, group_order, station_order, agent_order, call_order, connection_order, monitor_order, parties_of}
+use Rattle.acd_lemmas.proofs.Words.{Rows, GroupRecord, StationRecord, AgentRecord, CallRecord, ConnectionRecord, MonitorRecord, Event, find_by, put_by, remove_by, count, Among, IsAscending, at_group, at_connection, group_of, station_of, agent_of, call_of, connection_of, monitor_of, is_group, is_station, has, agent_at, other_of, with_group, with_station, with_agent, with_call, with_connection, without_call, without_connection, group_order, station_order, agent_order, call_order, connection_order, monitor_order, parties_of}
 use Rattle.acd_model.specs.Figures.{counting}
-use Rattle.acd_laws.proofs.Lists.{eq_is, is_eq_of, one, find_passes, find_among, filter_among, count-removed, every_among, counted, none_from, some_is}
-use Rattle.acd_laws.proofs.Keyed.{Keyed, by_number, cmp_equal, cmp_self, find_is, some_is_any, found_among, found_has, found_own, found_put, some_put, found_left, eqb_swap, counted_new, counted_old, others_left}
-use Rattle.acd_laws.proofs.Facts.{Rules, CallRule, ConnectionRule, seated_at, two_if}
+use Rattle.acd_lemmas.proofs.Lists.{eq_is, is_eq_of, one, find_passes, find_among, filter_among, count-removed, every_among, counted, none_from, some_is}
+use Rattle.acd_lemmas.proofs.Keyed.{Keyed, by_number, cmp_equal, cmp_self, find_is, some_is_any, found_among, found_has, found_own, found_put, some_put, found_left, eqb_swap, counted_new, counted_old, others_left}
+use Rattle.acd_lemmas.proofs.Facts.{Rules, CallRule, ConnectionRule, seated_at, two_if}
 
 abbrev pub by_group : Keyed GroupRecord ℕ
 by_group = by_number (λ (x : GroupRecord). x.device)

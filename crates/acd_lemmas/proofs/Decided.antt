@@ -8,18 +8,18 @@ use Rattle.std.specs.declared.cmp.Ordering.{Ordering}
 use Rattle.std.specs.declared.cmp.Ordering.TheVariants.{Less}
 use Rattle.std.proofs.lemmas.Bool.{le-leb, leb-true, not-true, eqb-true}
 use Rattle.std.proofs.lemmas.Bool.Decides.{Decides-like, Decides-and, Decides-or, Decides-not, Decides-eqb as equals}
-use Rattle.acd_laws.proofs.Words.{Rows, GroupRecord, StationRecord, AgentRecord, CallRecord, ConnectionRecord, MonitorRecord, AgentState, count, Among, Every, IsAscending, is_null, is_group, is_station, is_planned, has, waiting_in, eligible_in, keeps_limits, is_less, ascends, group_order, station_order, agent_order, call_order, connection_order, monitor_order, keeps_order, keeps_device, is_station_there, are_planned_groups, is_alone_at, keeps_agent, keeps_monitor, keeps_call}
+use Rattle.acd_lemmas.proofs.Words.{Rows, GroupRecord, StationRecord, AgentRecord, CallRecord, ConnectionRecord, MonitorRecord, AgentState, count, Among, Every, IsAscending, is_null, is_group, is_station, is_planned, has, waiting_in, eligible_in, keeps_limits, is_less, ascends, group_order, station_order, agent_order, call_order, connection_order, monitor_order, keeps_order, keeps_device, is_station_there, are_planned_groups, is_alone_at, keeps_agent, keeps_monitor, keeps_call}
 use Rattle.acd_terms.specs.Limits.{limits_fit, greatest_priority}
 use Rattle.acd_terms.specs.Groups.{is_choice}
 use Rattle.acd_terms.specs.declared.state.AgentState.TheVariants as A
 use Rattle.acd_model.specs.Offers.{HasNoOffer}
 use Rattle.acd_model.specs.Rules.Occupied.{keeps_offer, keeps_balance, is_empty}
 use Rattle.acd_model.specs.Rules.Counters.{keeps_counters, is_moment_or_none, is_own_place, is_offered_after, is_timed, is_countable}
-use Rattle.acd_laws.specs.Orders.{Orders}
-use Rattle.acd_laws.proofs.Facts.{IsPlannedStation, ArePlannedGroups, SeatedAs, AgentRule, CallRule, seated_at, Sizes, AgentTimed, IsPlace, IsMoment, IsAfter, ConnectionTimed, at_place, Timed, OnePlace, Monitored, IsCountedUpTo, AddsUp}
-use Rattle.acd_laws.proofs.Lists.{find_passes, find_among, any_found, any_some, every_among, every_from, some_counted, all_true, all_from, some_from, some_is, after_lower}
-use Rattle.acd_laws.proofs.Keyed.{eqb_self}
-use Rattle.acd_laws.proofs.State.{groups_total, stations_total, agents_total, calls_total, connections_total, monitors_total, is_group_any, is_station_any, has_is}
+use Rattle.acd_lemmas.specs.Orders.{Orders}
+use Rattle.acd_lemmas.proofs.Facts.{IsPlannedStation, ArePlannedGroups, SeatedAs, AgentRule, CallRule, seated_at, Sizes, AgentTimed, IsPlace, IsMoment, IsAfter, ConnectionTimed, at_place, Timed, OnePlace, Monitored, IsCountedUpTo, AddsUp}
+use Rattle.acd_lemmas.proofs.Lists.{find_passes, find_among, any_found, any_some, every_among, every_from, some_counted, all_true, all_from, some_from, some_is, after_lower}
+use Rattle.acd_lemmas.proofs.Keyed.{eqb_self}
+use Rattle.acd_lemmas.proofs.State.{groups_total, stations_total, agents_total, calls_total, connections_total, monitors_total, is_group_any, is_station_any, has_is}
 
 -- words
 

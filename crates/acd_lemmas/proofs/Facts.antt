@@ -1,13 +1,13 @@
 -- The rules of rows as facts: of each record, counts over the plain lists, and bounds. Rows that break no rule are these (`DecidedAll`).
 use Rattle.std.specs.Prelude.{◌≡◌, ◌≢◌, ◌⊎◌, ℕ, ◌+◌, ◌≤◌, Bool, true, false, ◌&&◌, ◌==◌, Option, Some, None, is_some, if◌then◌else◌, ◌*◌, List, [], length}
-use Rattle.acd_laws.proofs.Words.{Rows, GroupRecord, AgentRecord, CallRecord, ConnectionRecord, MonitorRecord, ConnectionState, AgentState, count, Among, Every, is_ready, is_busy, is_alerting, is_answered, call_of, is_group, is_station, is_planned, has, parties_of, initiated_of, open_of, live_at, alerting_at, hold_at, is_distributed_at}
+use Rattle.acd_lemmas.proofs.Words.{Rows, GroupRecord, AgentRecord, CallRecord, ConnectionRecord, MonitorRecord, ConnectionState, AgentState, count, Among, Every, is_ready, is_busy, is_alerting, is_answered, call_of, is_group, is_station, is_planned, has, parties_of, initiated_of, open_of, live_at, alerting_at, hold_at, is_distributed_at}
 use Rattle.acd_terms.specs.declared.state.AgentState.TheVariants as agent
 use Rattle.acd_terms.specs.declared.state.ConnectionState.TheVariants.{Initiated, Alerting, Connected, Hold, Queued}
 use Rattle.acd_terms.specs.Limits.{limits_fit, greatest_priority}
 use Rattle.acd_terms.specs.Groups.{is_choice}
 use Rattle.acd_model.specs.Offers.{HasNoOffer}
 use Rattle.acd_model.specs.Rules.Occupied.{waits_in, rings_from}
-use Rattle.acd_laws.specs.Orders.{Orders}
+use Rattle.acd_lemmas.specs.Orders.{Orders}
 
 -- each agent: one in null has no seat, any other a planned station and planned groups
 abbrev pub IsUnseated : AgentRecord → Type 0
