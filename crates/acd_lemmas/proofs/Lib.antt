@@ -6,3 +6,6 @@ pub mod States
 pub mod Facts
 pub mod State
 pub mod Decided
+pub mod Same
+pub mod SameRecords
+pub mod SameCommands
