@@ -148,7 +148,7 @@ shows_monitor n old new rows c held h =
     ∙ take-map monitor_values 1 (filter (λ (w : MonitorRecord). w.monitor == n) c.rows.monitors)
     ∙ ap (map monitor_values) (first_found (λ (w : MonitorRecord). w.monitor == n) c.rows.monitors ∙ ap option_to_list (sym (monitor_find c.rows n)))
 
-text_tied : (s t : List ℕ) → is_eq (value_cmp (Text s) (Text t)) ≡ bytes_eq s t
+pub text_tied : (s t : List ℕ) → is_eq (value_cmp (Text s) (Text t)) ≡ bytes_eq s t
 text_tied s t = ap is_eq (value_cmp-Text s t) ∙ is_eq-slice_cmp s t
 
 pub two : (a b : Bool) → (is_true (from_truth (Some a)) && (is_true (from_truth (Some b)) && true)) ≡ (a && b)

@@ -31,12 +31,8 @@ use Rattle.acd_desk.proofs.Recast.{is_held, history, watched_recast, no_more_rec
 use Rattle.acd_desk.proofs.Longer.{ran_none, ran_push}
 use Rattle.acd_desk.proofs.Sound.{ran_sound}
 use Rattle.acd_desk.proofs.Steps.{step_numbers, step_event}
-
-is_above : (n : ℕ) (e : Event) → n < e.number → nat_lt n e.number ≡ true
-is_above n e lt = grind (arith, nat_tests)
-
-not_above : (n : ℕ) (e : Event) → e.number ≤ n → nat_lt n e.number ≡ false
-not_above n e le = grind (arith, nat_tests)
+use Rattle.acd_desk.proofs.PageLemmas.{is_above, not_above}
+use Rattle.acd_laws.proofs.Order.{last-append}
 
 above_old : (n : ℕ) (es fs : List Event) → Every (λ (e : Event). e.number ≤ n) es → above (es ++ fs) n ≡ above fs n
 above_old n [] fs h = refl
@@ -128,10 +124,6 @@ figures_counted c sound group = by (group_of c.rows group) refl
     by (Some g) e = (sound_keeps_figures c sound).groups g (group_among c.rows group g e) ∙ ap (λ (n : ℕ). figures_of n c.events) (group_key c.rows group g e)
 
 -- the order of a queue
-
-last-append : (g c k : ℕ) (es fs : List Event) → last_entry g c k (es ++ fs) ≡ last_entry g c (last_entry g c k es) fs
-last-append g c k [] fs = refl
-last-append g c k (e ∷ es) fs = last-append g c (cond (enters g c e) e.number k) es fs
 
 still_above : (low n k : ℕ) (b : Bool) → low < n → low < k → low < cond b n k
 still_above low n k true h j = h

@@ -27,6 +27,7 @@ use Rattle.acd_reports.specs.QueueReport.{first_queued, ringing_from}
 use Rattle.acd_desk.specs.GroupStates.{first_of, lesser, queued_of}
 use Rattle.acd_desk.specs.Tells.{in_order, by_place, queue_in}
 use Rattle.acd_desk.proofs.OrderLemmas.{Apart, by_key, ordered_among, waiting_apart}
+use Rattle.std.proofs.lemmas.List.{length-map}
 
 -- ---- the least of some numbers
 
@@ -106,10 +107,6 @@ entered_found f (p ∷ ps) = by (f p) (entered_found f ps)
         → cons_option (queued_of o) (filter_map (λ (p : ℕ × ℕ). queued_of (f p)) ps) ≡ filter_map (λ (x : ConnectionRecord). x.queued) (cons_option o (filter_map f ps))
     by None rest = rest
     by (Some x) rest = ap (cons_option x.queued) rest
-
-length-map : {T S : Type 0} (f : T → S) (xs : List T) → length (map f xs) ≡ length xs
-length-map f [] = refl
-length-map f (x ∷ xs) = ap suc (length-map f xs)
 
 -- a queue tells how many wait, and when the first of them entered
 pub first_is : (s : Rows) (rules : BreaksNoRule s) (g : ℕ) (keys : List (ℕ × ℕ)) → filter_map (λ (p : ℕ × ℕ). connection_of s p.1 g) keys ≡ queue_in s g → first_of s g keys ≡ first_queued s g

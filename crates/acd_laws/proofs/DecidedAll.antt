@@ -382,7 +382,7 @@ pub record Tests (s : Rows) : Type 0 where
   pub monitor : keeps_monitor s ≡ true
   pub balance : keeps_balance s ≡ true
 
-kept_first : (b : Bool) (r : Rule) (rest : Option Rule) → or_broken b r rest ≡ None → (b ≡ true) × (rest ≡ None)
+pub kept_first : (b : Bool) (r : Rule) (rest : Option Rule) → or_broken b r rest ≡ None → (b ≡ true) × (rest ≡ None)
 kept_first true r rest e = (refl, e)
 kept_first false r rest e = absurd (cc (e))
 

@@ -11,6 +11,7 @@ use Rattle.std.specs.declared.cmp.Ordering.TheVariants.{Less}
 use Rattle.acd_lemmas.proofs.Words.{Rows, GroupRecord, Offer, Among, AllAfter, IsAscending}
 use Rattle.acd_model.specs.Distribution.{offers}
 use Rattle.acd_lemmas.proofs.Least.{none_of, least_is, least_found, none_mapped, IsServedFirst, none_served, served_is}
+use Rattle.acd_lemmas.proofs.Numbers.{less_is}
 
 -- a group has both, or no offer
 
@@ -64,9 +65,6 @@ found_is s o e = by (first_served None (filter (has_both s) s.groups)) refl e
 
 abbrev Ascends : List GroupRecord → Type 0
 Ascends gs = IsAscending (λ (g h : GroupRecord). nat_cmp g.device h.device) gs
-
-less_is : (a b : ℕ) → nat_cmp a b ≡ Less → a < b
-less_is a b e = grind (arith, nat_tests)
 
 later_device : (g h : GroupRecord) (gs : List GroupRecord) → AllAfter (λ (g h : GroupRecord). nat_cmp g.device h.device) g gs → Among h gs → g.device < h.device
 later_device g h [] a b = absurd b

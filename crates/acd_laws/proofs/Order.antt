@@ -118,7 +118,7 @@ pub record Ordered (b n : ℕ) (s : Rows) (events : List Event) : Type 0 where
 abbrev pub OrderKept : ℕ → ℕ → ℕ → Rows → List Move → Type 0
 OrderKept m b c s ms = (events : List Event) (n : ℕ) → Ordered b n s events → Ordered c (n + length (events_of m ms)) (moved s ms) (events ++ numbered n (events_of m ms))
 
-last-append : (g c k : ℕ) (es fs : List Event) → last_entry g c k (es ++ fs) ≡ last_entry g c (last_entry g c k es) fs
+pub last-append : (g c k : ℕ) (es fs : List Event) → last_entry g c k (es ++ fs) ≡ last_entry g c (last_entry g c k es) fs
 last-append g c k [] fs = refl
 last-append g c k (e ∷ es) fs = last-append g c (cond (enters g c e) e.number k) es fs
 

@@ -31,6 +31,7 @@ use Rattle.acd_laws.specs.AllLaws.{StepKeepsLaws, RunKeepsLaws}
 use Rattle.acd_laws.proofs.FiguresCounted.{step_keeps_figures, figures_kept}
 use Rattle.acd_laws.proofs.OneOffer.{step_keeps_one_offer, run_has_one_offer}
 use Rattle.acd_laws.proofs.PlacedRuns.{step_names_no_later_call, run_names_no_later_call, run_is_placed, step_keeps_places}
+use Rattle.std.proofs.lemmas.List.{length-map}
 
 -- places
 
@@ -123,10 +124,6 @@ was_kept s g h (inr (inr k)) =
     }
 
 -- the end of a step sets figures and counters
-
-length-map : {X Y : Type 0} (f : X → Y) (xs : List X) → length (map f xs) ≡ length xs
-length-map f [] = refl
-length-map f (x ∷ xs) = let ih = length-map f xs in omega (arith, ih)
 
 every-map : {X : Type 0} (P : X → Type 0) (f : X → X) (xs : List X) → ((x : X) → Among x xs → P (f x)) → Every P (map f xs)
 every-map P f [] h = tt

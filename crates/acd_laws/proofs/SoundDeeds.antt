@@ -36,8 +36,9 @@ use Rattle.acd_laws.proofs.KeptEnds.{open_cases, closed_call, return_new}
 use Rattle.acd_laws.proofs.KeptOffer.{offer_station, offer_new}
 use Rattle.acd_laws.proofs.Told.{truthful_put, truthful_remove, truthful_outside, truthful_unseen, truthful_group, truthful_rank, truthful_station, truthful_end, truthful_agent, truthful_silent_agent}
 use Rattle.acd_laws.proofs.Order.{holding, held, gone, holding_less, holding_new, stays, placed_put, placed_within}
-use Rattle.acd_laws.proofs.SoundMoves.{Sound, sound-append, sound_later, sound_nothing, sound_unheard, silently, sound_agent, and_yes, or_no, put, remove, ungrouped, connections_put, removed_within, ascending_less, held_shut, held_is, waits_or_rings_is, waiting_alerting, waiting_open, sound_put_new, sound_put_old, sound_remove, sound_arrival, arrive_leaves, open_gone, planned_station, planned_group}
+use Rattle.acd_laws.proofs.SoundMoves.{Sound, sound-append, sound_later, sound_nothing, sound_unheard, silently, sound_agent, put, remove, ungrouped, connections_put, removed_within, ascending_less, held_shut, held_is, waits_or_rings_is, waiting_alerting, waiting_open, sound_put_new, sound_put_old, sound_remove, sound_arrival, arrive_leaves, open_gone, planned_station, planned_group}
 use Rattle.acd_laws.proofs.Deeds.{new_call, Party, Free, Round, offers, returns, rests, Deed, nothing, adds_group, adds_station, adds_agent, watches, unwatches, arrives, makes, goes_out, answers, holds, retrieves, clears, deflects, transfers, logs_on, waits, goes, Ranks, refuses, ranks}
+use Rattle.acd_lemmas.proofs.Bools.{and_yes, or_no}
 
 later : {m b k : ℕ} {s : Rows} {ms : List Move} → b < k → Sound m b b s ms → Sound m b k s ms
 later {m} {b} {k} {s} {ms} l h = sound_later m b k s ms (omega (arith, l)) h

@@ -20,6 +20,7 @@ use Rattle.acd_model.specs.Services.{waiting_group}
 use Rattle.acd_lemmas.proofs.Facts.{HasColumns}
 use Rattle.acd_lemmas.proofs.Lists.{one, among-remove, counted, ascending-put, ascending-remove}
 use Rattle.acd_lemmas.proofs.State.{connections_total, count_less}
+use Rattle.acd_lemmas.proofs.Bools.{and_yes, or_no}
 
 pub record Sound (m b c : ℕ) (s : Rows) (ms : List Move) : Type 0 where
   pub truthful : AllTruthful s ms
@@ -113,14 +114,6 @@ unfolding without_connection
 ascending_less s c d h = ascending-remove connection_order (at_connection c d) s.connections h
 
 -- what a group holds of a connection
-
-pub and_yes : (b : Bool) → (b && true) ≡ b
-and_yes true = refl
-and_yes false = refl
-
-pub or_no : (b : Bool) → (b || false) ≡ b
-or_no true = refl
-or_no false = refl
 
 -- one that isn't open is in no queue and rings from none
 pub held_shut : (g : ℕ) (x : ConnectionRecord) → is_open x.state ≡ false → held g x ≡ 0

@@ -109,11 +109,11 @@ entered_from g c es l =
 
 -- one that waits or rings has a place
 
-alerting_place : (x : ConnectionRecord) (g : ℕ) (o : Option ℕ) → AlertingColumns x o → has o g ≡ true → is_some x.place ≡ true
+pub alerting_place : (x : ConnectionRecord) (g : ℕ) (o : Option ℕ) → AlertingColumns x o → has o g ≡ true → is_some x.place ≡ true
 alerting_place x g None h e = absurd (cc (e))
 alerting_place x g (Some n) h e = h.place
 
-place_in : (x : ConnectionRecord) (g : ℕ) (st : ConnectionState) → HasColumns x st → ((is_queued st && x.device == g) || (is_alerting st && has x.group g)) ≡ true → is_some x.place ≡ true
+pub place_in : (x : ConnectionRecord) (g : ℕ) (st : ConnectionState) → HasColumns x st → ((is_queued st && x.device == g) || (is_alerting st && has x.group g)) ≡ true → is_some x.place ≡ true
 place_in x g S.Queued h e = h.place
 place_in x g S.Alerting h e = alerting_place x g x.group h e
 place_in x g _ h e = absurd (cc (e))

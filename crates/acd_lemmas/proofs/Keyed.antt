@@ -94,3 +94,6 @@ module _ {T K : Type 0} (r : Keyed T K) (xs : List T) where
 
   pub counted_old : (p : T → Bool) (x z : T) → IsAscending r.order xs → find_by (r.at (r.key x)) xs ≡ Some z → count p (put_by (r.order x) xs x) + one (p z) ≡ one (p x) + count p xs
   counted_old p x z h e = count-put_old r.order r.total (r.has (r.key x)) p x (λ y q. r.same (r.key x) x y q ∙ r.own x) (λ y q. r.equal (r.key x) x y (r.own x) q) xs h z (sym (find_is (r.key x)) ∙ e)
+
+pub eq_key : (m n : ℕ) → is_eq (nat_cmp m n) ≡ (m == n)
+eq_key m n = both_ways (is_eq (nat_cmp m n)) (m == n) (λ e. eq-eqb m n (cmp_equal m n (eq_is (nat_cmp m n) e))) (λ e. is_eq_of (nat_cmp m n) (cmp_self m n (eqb-true m n e)))

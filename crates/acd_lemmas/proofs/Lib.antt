@@ -9,3 +9,6 @@ pub mod Decided
 pub mod Same
 pub mod SameRecords
 pub mod SameCommands
+pub mod Numbers
+pub mod Bools
+pub mod Changes

@@ -1,5 +1,5 @@
 -- Lemmas on lists of records in ascending key.
-use Rattle.std.proofs.Common.{◌≡◌, ℕ, suc, ◌+◌, ◌≤◌, inl, inr, Bool, true, false, not, ◌||◌, cond, List, [], ◌∷◌, ◌++◌, Option, Some, None, refl, sym, ◌∙◌, ap, subst, arith, length, map, ◌⊎◌}
+use Rattle.std.proofs.Common.{◌≡◌, ℕ, suc, ◌+◌, ◌≤◌, ◌<◌, take, get_or, inl, inr, Bool, true, false, not, ◌||◌, cond, List, [], ◌∷◌, ◌++◌, Option, Some, None, refl, sym, ◌∙◌, ap, subst, arith, length, map, ◌⊎◌}
 use Rattle.std.specs.Prelude.{is_some, filter, find}
 use Rattle.std.specs.List.{list_any, list_all}
 use Rattle.std.specs.declared.cmp.Ordering.{Ordering}
@@ -7,6 +7,7 @@ use Rattle.std.specs.declared.cmp.Ordering.TheVariants.{Less, Equal, Greater}
 use Rattle.std.proofs.lemmas.Bool.{false_from_ne_true, and_parts, and_from}
 use Rattle.std.specs.Cmp.{IsTotalOrder}
 use Rattle.std.specs.Ordering.{ordering_reverse, is_eq, match_ordering}
+use Rattle.std.proofs.lemmas.Grind.{common_steps}
 use Rattle.acd_lemmas.proofs.Words.{find_by, put_by, remove_by, count, total, Among, Every, AllAfter, IsAscending}
 
 abbrev pub one : Bool → ℕ
@@ -477,3 +478,40 @@ fewer_filtered p q [] = omega arith
 fewer_filtered p q (x ∷ xs) =
     let ih = fewer_filtered p q xs in
     elim (q x) as (λ b. count p (cond b (x ∷ filter q xs) (filter q xs)) ≤ one (p x) + count p xs) [ true ↦ omega (arith, ih) | false ↦ omega (arith, ih) ]
+
+-- parts, and what a function makes of them
+
+pub take-push : {T : Type 0} (i : ℕ) (l : List T) (d : T) → i < length l → take (i + 1) l ≡ take i l ++ get_or l i d ∷ []
+take-push i l d h = grind (arith, common_steps)
+
+pub filter_true : {X : Type 0} (xs : List X) → filter (λ _. true) xs ≡ xs
+filter_true [] = refl
+filter_true (x ∷ xs) = ap (λ l. x ∷ l) (filter_true xs)
+
+pub head_is : {A : Type 0} (x y : A) (xs ys : List A) → x ∷ xs ≡ y ∷ ys → x ≡ y
+head_is x y xs ys e = cc (e)
+
+pub tail_is : {A : Type 0} (x y : A) (xs ys : List A) → x ∷ xs ≡ y ∷ ys → xs ≡ ys
+tail_is x y xs ys e = cc (e)
+
+pub map-push : {X Y : Type 0} (f : X → Y) (xs : List X) (x : X) → map f (xs ++ x ∷ []) ≡ map f xs ++ f x ∷ []
+map-push f [] x = refl
+map-push f (y ∷ xs) x = ap (λ l. f y ∷ l) (map-push f xs x)
+
+pub among-map : {X Y : Type 0} (f : X → Y) (x : X) (xs : List X) → Among x xs → Among (f x) (map f xs)
+among-map f x [] a = absurd a
+among-map f x (y ∷ ys) (inl e) = inl (ap f e)
+among-map f x (y ∷ ys) (inr a) = inr (among-map f x ys a)
+
+-- a filter finds all that it looks for in a part that has it
+pub filter-filter : {X : Type 0} (p q : X → Bool) → ((y : X) → p y ≡ true → q y ≡ true) → (xs : List X) → filter p (filter q xs) ≡ filter p xs
+filter-filter p q h [] = refl
+filter-filter p q h (y ∷ ys) =
+    (elim (q y) as (λ b. q y ≡ b → filter p (cond b (y ∷ filter q ys) (filter q ys)) ≡ filter p (y ∷ ys)) [
+      | true ↦ λ _. ap (λ r. cond (p y) (y ∷ r) r) (filter-filter p q h ys)
+      | false ↦ λ e.
+          (elim (p y) as (λ b. p y ≡ b → filter p (filter q ys) ≡ cond b (y ∷ filter p ys) (filter p ys)) [
+            | true ↦ λ r. absurd (cc (e, h y r))
+            | false ↦ λ _. filter-filter p q h ys
+          ]) refl
+    ]) refl

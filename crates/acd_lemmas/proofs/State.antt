@@ -3,8 +3,7 @@ use Rattle.std.proofs.Common.{◌≡◌, ℕ, Bool, true, false, ◌&&◌, ◌||
 use Rattle.std.specs.Prelude.{◌==◌, is_some, find, option_map}
 use Rattle.std.specs.List.{list_any}
 use Rattle.std.specs.Cmp.{IsTotalOrder, both_ways}
-use Rattle.std.specs.Ordering.{nat_cmp, ordering_then, is_eq}
-use Rattle.std.specs.declared.cmp.Ordering.{Ordering}
+use Rattle.std.specs.Ordering.{nat_cmp, is_eq}
 use Rattle.std.specs.declared.cmp.Ordering.TheVariants.{Equal}
 use Rattle.std.proofs.lemmas.Bool.{and_parts, and_from, eqb-true, false_from_ne_true, cond-false, not-true}
 use Rattle.std.proofs.lemmas.Cmp.{nat_cmp_total, on_total, then_total}
@@ -13,6 +12,7 @@ use Rattle.acd_model.specs.Figures.{counting}
 use Rattle.acd_lemmas.proofs.Lists.{eq_is, is_eq_of, one, find_passes, find_among, filter_among, count-removed, every_among, counted, none_from, some_is}
 use Rattle.acd_lemmas.proofs.Keyed.{Keyed, by_number, cmp_equal, cmp_self, find_is, some_is_any, found_among, found_has, found_own, found_put, some_put, found_left, eqb_swap, counted_new, counted_old, others_left}
 use Rattle.acd_lemmas.proofs.Facts.{Rules, CallRule, ConnectionRule, seated_at, two_if}
+use Rattle.acd_lemmas.proofs.Numbers.{then_equal}
 
 abbrev pub by_group : Keyed GroupRecord ℕ
 by_group = by_number (λ (x : GroupRecord). x.device)
@@ -38,10 +38,6 @@ is_of_true c d x e = let h = and_parts (x.call == c) (x.device == d) e in (eqb-t
 
 pub is_of_self : (c d : ℕ) (x : ConnectionRecord) → x.call ≡ c → x.device ≡ d → is_of c d x ≡ true
 is_of_self c d x e f = and_from (x.call == c) (x.device == d) (eq-eqb x.call c e) (eq-eqb x.device d f)
-
-then_equal : (a b : Ordering) → ordering_then a b ≡ Equal → (a ≡ Equal) × (b ≡ Equal)
-then_equal Equal b e = (refl, e)
-then_equal _ b e = absurd (cc (e))
 
 pub order_equal : (x y : ConnectionRecord) → connection_order x y ≡ Equal → (x.call ≡ y.call) × (x.device ≡ y.device)
 order_equal x y e = let h = then_equal (nat_cmp x.call y.call) (nat_cmp x.device y.device) e in (cmp_equal x.call y.call h.0, cmp_equal x.device y.device h.1)

@@ -42,9 +42,6 @@ module _ {X C : Type 0} (all : C → List X → C) (one : C → X → C) (none :
   pub next : (c : C) (i : ℕ) (xs : List X) (x d : X) → x ≡ get_or xs i d → i < length xs → all c (take (i + 1) xs) ≡ one (all c (take i xs)) x
   next c i xs x d e h = ap (all c) (take_push i xs d h) ∙ push c (take i xs) (get_or xs i d) ∙ ap (one (all c (take i xs))) (sym e)
 
-pub all_taken : {X : Type 0} (i : ℕ) (xs : List X) → length xs ≤ i → take i xs ≡ xs
-all_taken i xs h = grind (arith, common_steps)
-
 pub events_next : (c : Content) (i : ℕ) (events : List Event) (x d : Event) → x ≡ get_or events i d → i < length events → with_events c (take (i + 1) events) ≡ with_event (with_events c (take i events)) x
 events_next = next with_events with_event (λ c. refl) (λ c x xs. refl)
 

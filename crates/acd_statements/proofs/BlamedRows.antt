@@ -25,6 +25,7 @@ use Rattle.acd_statements.specs.InRange.{values_of}
 use Rattle.acd_statements.specs.Reading.{FailsToDecode, HasFitting, FailsToRead, Blames}
 use Rattle.acd_statements.proofs.Blamed.{blames_on, bad_row}
 use Rattle.acd_statements.proofs.Pages.{greatest, least_of_large}
+use Rattle.acd_lemmas.proofs.Numbers.{below_is}
 
 -- ---- lists
 
@@ -60,11 +61,8 @@ found_has p (y ∷ xs) x h = go (found_has p xs x) (p y) h
 pub page_has : {X : Type 0} (n : ℕ) (p : X → Bool) (xs : List X) (x : X) → Has (take n (filter p xs)) x → Has xs x
 page_has n p xs x h = (passed_has p xs x (taken_has n (filter p xs) x h)).0
 
-pub is_below : (n k : ℕ) → nat_lt n k ≡ true → n < k
-is_below n k h = grind (arith, nat_tests)
-
 pub told_below : (device : Option ℕ) (n : ℕ) (e : Event) → is_told device n e ≡ true → n < e.number
-told_below device n e h = is_below n e.number (and_parts (is_at device e) (nat_lt n e.number) h).1
+told_below device n e h = below_is n e.number (and_parts (is_at device e) (nat_lt n e.number) h).1
 
 pub monitor_has : (c : Content) (n : ℕ) (w : MonitorRecord) → Has (option_to_list (monitor_of c.rows n)) w → Has c.rows.monitors w
 monitor_has c n w h = found_has (λ (w : MonitorRecord). w.monitor == n) c.rows.monitors w (subst (λ o. Has (option_to_list o) w) (monitor_find c.rows n) h)
