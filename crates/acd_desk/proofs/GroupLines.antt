@@ -118,7 +118,7 @@ first_is s rules g keys lent =
 pub waiting_is : (s : Rows) (rules : BreaksNoRule s) (g : ℕ) (keys : List (ℕ × ℕ)) → keys ≡ map waiting_pair (queue_in s g) → length keys ≡ length (waiting_in s g)
 unfolding queue_in
 waiting_is s rules g keys are =
-    ap length are ∙ length-map waiting_pair (in_order by_place (waiting_in s g))
+    ap length are ∙ length-map (in_order by_place (waiting_in s g)) waiting_pair
     ∙ (least_ordered (λ (x : ConnectionRecord). x.queued) waiting_pair (waiting_in s g) (waiting_apart s rules g)).1
 
 -- ---- the offers that ring

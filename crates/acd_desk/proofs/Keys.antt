@@ -7,10 +7,6 @@ use Rattle.acd_terms.specs.contracts.command.RequestEq.TheImpl.Laws.{laws-law}
 use Rattle.acd_book.specs.Content.{is_key}
 use Rattle.acd_desk.specs.Replies.{same_request}
 
-own_text : (t : List ℕ) → bytes_eq t t ≡ true
-own_text [] = refl
-own_text (x ∷ t) = ap (λ (b : Bool). b && bytes_eq t t) (eq-eqb x x refl) ∙ own_text t
-
 -- a request is the same as itself
 pub same_own : (r : Request) → same_request r r ≡ true
 unfolding same_request

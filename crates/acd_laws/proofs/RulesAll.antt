@@ -139,7 +139,7 @@ keeps_ended s t es k m h e l a b rules offers =
     let kept : (g : GroupRecord) → Among g t.groups → WasKept s g = λ g i. was_kept s g h (a.groups g i) in
     let few = a.few in let le = h.last_event in let same = a.last_event in
     let calls = a.last_call in let lc = h.last_call in let monitors = a.last_monitor in let lm = h.last_monitor in
-    let size = length-map (counting es) t.groups in let groups = a.sizes.groups in
+    let size = length-map t.groups (counting es) in let groups = a.sizes.groups in
     record {
       rules = rules;
       sizes = record { limits = a.sizes.limits; groups = omega (arith, size, groups); stations = a.sizes.stations; agents = a.sizes.agents; calls = a.sizes.calls; monitors = a.sizes.monitors };
