@@ -20,7 +20,7 @@ use Rattle.acd_desk.specs.Replies.{answer_in, after}
 use Rattle.acd_desk.proofs.Steps.{step_limits, step_stamp, step_numbers, step_event}
 use Rattle.acd_desk.proofs.Runs.{executes, answers_new}
 use Rattle.acd_desk.proofs.Counting.{counted_executed}
-use Rattle.acd_laws.proofs.DecidedAll.{kept_first}
+use Rattle.acd_laws.proofs.Rules.DecidedAll.{kept_first}
 use Rattle.acd_switch.proofs.RoomOfRules.{moment_after}
 
 pub some_none : {T : Type 0} (x : T) → Some x ≡ None → ⊥

@@ -14,12 +14,12 @@ use Rattle.acd_model.specs.Figures.{figures_of, sum_of_figures}
 use Rattle.acd_model.specs.Told.{after, connection_told, Seat, no_seat, seat_told, enters, last_entry}
 use Rattle.acd_model.specs.Watched.{is_external_caller, state_at, seat_of, HasPlace, IsWatched}
 use Rattle.acd_laws.specs.WatchedLaws.{TellsNoMore}
-use Rattle.acd_laws.proofs.CountedEvents.{figures_joined}
-use Rattle.acd_laws.proofs.DecidedAll.{rules_are_kept}
+use Rattle.acd_laws.proofs.Figures.CountedEvents.{figures_joined}
+use Rattle.acd_laws.proofs.Rules.DecidedAll.{rules_are_kept}
 use Rattle.acd_lemmas.proofs.Facts.{Rules}
 use Rattle.acd_lemmas.proofs.State.{group_among, group_key}
-use Rattle.acd_laws.proofs.Told.{after-append}
-use Rattle.acd_laws.proofs.WatchedRuns.{step_keeps_watched, entry_number}
+use Rattle.acd_laws.proofs.Watched.Told.{after-append}
+use Rattle.acd_laws.proofs.Watched.WatchedRuns.{step_keeps_watched, entry_number}
 use Rattle.acd_book.specs.Content.{Content, GoOn, IsCounted, kept_of}
 use Rattle.acd_desk.specs.Firsts.{stepped, executed}
 use Rattle.acd_desk.specs.Replies as replies
@@ -32,7 +32,7 @@ use Rattle.acd_desk.proofs.Longer.{ran_none, ran_push}
 use Rattle.acd_desk.proofs.Sound.{ran_sound}
 use Rattle.acd_desk.proofs.Steps.{step_numbers, step_event}
 use Rattle.acd_desk.proofs.PageLemmas.{is_above, not_above}
-use Rattle.acd_laws.proofs.Order.{last-append}
+use Rattle.acd_laws.proofs.Watched.Order.{last-append}
 
 above_old : (n : ℕ) (es fs : List Event) → Every (λ (e : Event). e.number ≤ n) es → above (es ++ fs) n ≡ above fs n
 above_old n [] fs h = refl

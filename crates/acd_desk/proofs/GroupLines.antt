@@ -18,7 +18,7 @@ use Rattle.acd_model.specs.Rules.First.{BreaksNoRule}
 use Rattle.acd_model.specs.Rules.Occupied.{rings_from}
 use Rattle.acd_lemmas.proofs.Lists.{is_eq_of}
 use Rattle.acd_lemmas.proofs.Facts.{AlertingColumns, ConnectionRule, HasColumns}
-use Rattle.acd_laws.proofs.DecidedAll.{rules_are_kept}
+use Rattle.acd_laws.proofs.Rules.DecidedAll.{rules_are_kept}
 use Rattle.acd_tables.specs.Indexed.{is_ringing, pair_cmp}
 use Rattle.acd_tables.proofs.Picked.{exact_pair}
 use Rattle.acd_terms.specs.declared.record.GroupRecord.{GroupRecord}

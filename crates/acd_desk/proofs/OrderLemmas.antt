@@ -24,7 +24,7 @@ use Rattle.acd_lemmas.proofs.Facts.{two_if}
 use Rattle.acd_lemmas.proofs.Lists.{is_eq_of, count_length, after_among, filter_among, any_some, ascending-put, ascending-filter, among-put, among-put_other, mapped_among, among_put, among-map}
 use Rattle.acd_lemmas.proofs.Keyed.{cmp_self}
 use Rattle.acd_lemmas.proofs.State.{order_same, connection_found}
-use Rattle.acd_laws.proofs.DecidedAll.{rules_are_kept}
+use Rattle.acd_laws.proofs.Rules.DecidedAll.{rules_are_kept}
 use Rattle.acd_tables.specs.Indexed.{pair_cmp}
 use Rattle.acd_tables.proofs.Picked.{ascending-same, contained, exact_pair}
 use Rattle.acd_codec.specs.ReadTexts.{queue_text}

@@ -23,7 +23,7 @@ use Rattle.acd_model.specs.Watched.{waits_or_rings, HasPlace, HasEntered, IsWatc
 use Rattle.acd_laws.specs.WatchedLaws.{TellsNoMore}
 use Rattle.acd_lemmas.proofs.Facts.{Rules, AlertingColumns, HasColumns, ConnectionRule}
 use Rattle.acd_lemmas.proofs.Lists.{any_some, any_found, find_among, find_passes, every_among, some_from}
-use Rattle.acd_laws.proofs.WatchedRuns.{alerting_place, place_in}
+use Rattle.acd_laws.proofs.Watched.WatchedRuns.{alerting_place, place_in}
 
 -- the call waits in the group, or rings from it
 abbrev pub holds_call : ℕ → ℕ → ConnectionRecord → Bool

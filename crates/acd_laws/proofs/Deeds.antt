@@ -24,7 +24,7 @@ use Rattle.acd_model.specs.Tick.{return_to, rest_moves, tick}
 use Rattle.acd_model.specs.declared.moves.Change.TheVariants.{PutGroup, PutStation, PutAgent, PutMonitor, RemoveMonitor}
 use Rattle.acd_lemmas.proofs.Lists.{none_from}
 use Rattle.acd_lemmas.proofs.State.{found_key, own_key, agent_own}
-use Rattle.acd_laws.proofs.Distributing.{Offering}
+use Rattle.acd_laws.proofs.Offers.Distributing.{Offering}
 
 pub by_refusal : (P : Served → Type 0) (b : Bool) (r : Refusal) (rest : Served) → ((r : Refusal) → P (Err r)) → (b ≡ false → P rest) → P (refuse_if b r >> rest)
 unfolding refuse_if if_ok

@@ -17,7 +17,7 @@ use Rattle.acd_lemmas.proofs.Keyed.{eqb_self}
 use Rattle.acd_lemmas.proofs.State.{agents_total, agent_among, count_agent, agent_seat, agent_there}
 use Rattle.acd_laws.proofs.MoveKinds.{releases, agent_others}
 use Rattle.acd_laws.proofs.Arriving.{with_agents, lone}
-use Rattle.acd_laws.proofs.KeptOffer.{ringing_is, talking_is}
+use Rattle.acd_laws.proofs.Rules.KeptOffer.{ringing_is, talking_is}
 use Rattle.acd_lemmas.proofs.States.{ready_is}
 
 -- a seat that a station has

@@ -13,7 +13,7 @@ use Rattle.acd_model.specs.Step.{step, executed_moment, next_stamp}
 use Rattle.acd_model.specs.Rules.First.{BreaksNoRule}
 use Rattle.acd_switch.specs.Counting.{AreFitting, AllFit}
 use Rattle.acd_lemmas.proofs.Facts.{IsCountedUpTo, AddsUp}
-use Rattle.acd_laws.proofs.DecidedAll.{keeps_read}
+use Rattle.acd_laws.proofs.Rules.DecidedAll.{keeps_read}
 use Rattle.acd_switch.specs.Room.{HasRoom, Fits}
 use Rattle.acd_lemmas.proofs.Changes.{requests_few}
 

@@ -6,7 +6,7 @@ use Rattle.acd_switch.proofs.Rounds.{offers-some}
 use Rattle.acd_model.proofs.MoveLemmas.{moved_append, events_of_append}
 use Rattle.acd_model.proofs.ChangeLemmas.{changes_of_append}
 use Rattle.acd_switch.proofs.distribution.distribute.Goals as goal
-use Rattle.acd_laws.proofs.OfferFound.{no_offers}
+use Rattle.acd_laws.proofs.Offers.OfferFound.{no_offers}
 
 pub returns-in_default-clause-rows : goal.returns-in_default-clause-rows
 unfolding distribution

@@ -12,7 +12,7 @@ use Rattle.acd_lemmas.proofs.Lists.{one, ascending-put, ascending-remove, every-
 use Rattle.acd_lemmas.proofs.Keyed.{eqb_self}
 use Rattle.acd_lemmas.proofs.State.{connections_total, found_key, connection_among, still_none, is_of, call_remove, removed_other, count_new, count_less, connection_rule, connection_there, other_among, other_device, other_agents, left_among}
 use Rattle.acd_lemmas.proofs.States.{alerting_is}
-use Rattle.acd_laws.proofs.KeptOffer.{talking_is}
+use Rattle.acd_laws.proofs.Rules.KeptOffer.{talking_is}
 use Rattle.acd_laws.proofs.Arriving.{with_connections, arrived_live, arrived_hold, arrived_open, rule_same, Arrived}
 use Rattle.acd_laws.proofs.Releasing.{Ends, after_release, loosen, ends_by, release_other_kept}
 use Rattle.acd_model.specs.Tick.{return_to}

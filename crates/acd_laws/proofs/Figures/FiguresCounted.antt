@@ -16,7 +16,7 @@ use Rattle.acd_lemmas.proofs.Facts.{Rules, GroupColumn, ConnectionRule}
 use Rattle.acd_laws.proofs.MoveKinds.{LeavesGroups, left_groups, AgentMove, stays, waits as puts, tells, Anyone, goes_from, released_by, occupied_by, Arrival, queues, alerts, fails, arrival_of}
 use Rattle.acd_lemmas.proofs.Lists.{every_among, among_put, mapped_among, some_is}
 use Rattle.acd_lemmas.proofs.State.{connection_among, other_among, group_found_put, group_counted_found, is_some_mapped, group_among, group_key, group_put_found}
-use Rattle.acd_laws.proofs.CountedEvents.{group_counted, quiet, figures_joined, figures_numbered, figures_skipped, no_events, nothing_sum}
+use Rattle.acd_laws.proofs.Figures.CountedEvents.{group_counted, quiet, figures_joined, figures_numbered, figures_skipped, no_events, nothing_sum}
 use Rattle.acd_laws.proofs.Deeds.{Party, Round, offers, returns, rests, Deed, nothing, adds_group, adds_station, adds_agent, watches, unwatches, arrives, makes, goes_out, answers, holds, retrieves, clears, deflects, transfers, logs_on, waits, goes, Ranks, refuses, ranks, is_ranking}
 use Rattle.acd_model.specs.Figures.{figures_of, sum_of_figures, counting, with_figures}
 use Rattle.acd_model.specs.Services.Serve.{serve}
@@ -25,9 +25,9 @@ use Rattle.acd_model.specs.Step.{numbered, executed_moment, next_stamp, step_mov
 use Rattle.acd_laws.specs.FigureLaws.{KeepsFigures, RunKeepsFigures, ranked}
 use Rattle.acd_terms.specs.Limits.{greatest_priority}
 use Rattle.acd_terms.specs.declared.command.Command.TheVariants.{SetGroupPriority}
-use Rattle.acd_laws.proofs.Ended.{rules_step, rules_first, kept_by_run, KeptByRules}
-use Rattle.acd_laws.proofs.Distributing.{Kept}
-use Rattle.acd_laws.proofs.RulesKept.{by_deeds, by_parts}
+use Rattle.acd_laws.proofs.Rules.Ended.{rules_step, rules_first, kept_by_run, KeptByRules}
+use Rattle.acd_laws.proofs.Offers.Distributing.{Kept}
+use Rattle.acd_laws.proofs.Rules.RulesKept.{by_deeds, by_parts}
 
 -- there is no group, or it is one of these
 abbrev pub IsAmongGroups : List GroupRecord → Option ℕ → Type 0

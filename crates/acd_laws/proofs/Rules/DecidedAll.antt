@@ -15,10 +15,10 @@ use Rattle.acd_lemmas.specs.Orders.{Orders}
 use Rattle.acd_lemmas.proofs.Lists.{every_among, every_from, counted, fewer, two_counted, count_zero, some_from, some_is, any_some}
 use Rattle.acd_lemmas.proofs.Keyed.{eqb_self}
 use Rattle.acd_lemmas.proofs.State.{call_among, call_key, call_found, is_station_any, agent_seat, none_of_call}
-use Rattle.acd_laws.proofs.KeptOffer.{ringing_is, talking_is}
+use Rattle.acd_laws.proofs.Rules.KeptOffer.{ringing_is, talking_is}
 use Rattle.acd_lemmas.proofs.States.{initiated_is, busy_is}
 use Rattle.acd_laws.proofs.Releasing.{serving, alerting_or_answered}
-use Rattle.acd_laws.proofs.OneOffer.{rules_give_one_offer}
+use Rattle.acd_laws.proofs.Offers.OneOffer.{rules_give_one_offer}
 use Rattle.acd_lemmas.proofs.Decided.{◌and◌, ◌or◌, like, holds, fails, absent, within, when, each, any, is_number, zero_or, one_that, at_most, station_there, AgentsKept, limits_decided, orders_decided, kinds_decided, agents_decided, calls_decided, counters_decided, offers_decided, monitors_decided, balance_decided}
 use Rattle.acd_model.specs.Rules.Counters.{keeps_counters}
 use Rattle.acd_model.specs.Rules.First.{or_broken, first_broken, BreaksNoRule}

@@ -20,9 +20,9 @@ use Rattle.acd_laws.proofs.MoveKinds.{LeavesConnections, AgentMove, stays, waits
 use Rattle.acd_lemmas.proofs.Facts.{Rules, Sizes, AgentTimed, ConnectionTimed, Timed, MonitorRule, Monitored, at_place}
 use Rattle.acd_lemmas.proofs.Lists.{every_among, every_from, every-put, one, count-append, among_put, every-append, some_from, length-put, count_all}
 use Rattle.acd_lemmas.proofs.State.{group_put, station_put, group_among, group_key, by_group}
-use Rattle.acd_laws.proofs.Order.{entry_by}
+use Rattle.acd_laws.proofs.Watched.Order.{entry_by}
 use Rattle.acd_laws.proofs.Deeds.{new_call, Deed, nothing, adds_group, adds_station, adds_agent, watches, unwatches, arrives, makes, goes_out, answers, holds, retrieves, clears, deflects, transfers, logs_on, waits, goes, Ranks, refuses, ranks, deed_of_serve}
-use Rattle.acd_laws.proofs.Orderly.{Steady, knows, AllSteady, IsNew, IsRanked, IsGroupAfter, Steadied, Settled, settled, steadied, sizes_steadied, monitored_steadied, WaitsUpTo, Neat, Steps, done, neat, comes, neat_quiet, neat_silent, neat_agent, neat_remove, neat_put, neat_turned, timed_plain, comes_to, steady_agent, steady_arrive, steps_timed, steps_place, Fit}
+use Rattle.acd_laws.proofs.Rules.Orderly.{Steady, knows, AllSteady, IsNew, IsRanked, IsGroupAfter, Steadied, Settled, settled, steadied, sizes_steadied, monitored_steadied, WaitsUpTo, Neat, Steps, done, neat, comes, neat_quiet, neat_silent, neat_agent, neat_remove, neat_put, neat_turned, timed_plain, comes_to, steady_agent, steady_arrive, steps_timed, steps_place, Fit}
 use Rattle.acd_model.specs.Served.{moves_of}
 use Rattle.acd_model.specs.Figures.{is_entry}
 use Rattle.acd_model.specs.Services.Serve.{serve}
@@ -30,9 +30,9 @@ use Rattle.acd_model.specs.Distribution.{distribution}
 use Rattle.acd_model.specs.Tick.{tick}
 use Rattle.acd_model.specs.Step.{step_moves}
 use Rattle.acd_model.proofs.MoveLemmas.{moved_append, events_of_append}
-use Rattle.acd_laws.proofs.RulesKept.{rules_serve}
-use Rattle.acd_laws.proofs.Rounds.{AllWait, Within, steps_entered, steps_wait, distribution_within, tick_within, returns_agents}
-use Rattle.acd_laws.proofs.Numbers.{events_length, connections_length, greatest, distribution_length, tick_length}
+use Rattle.acd_laws.proofs.Rules.RulesKept.{rules_serve}
+use Rattle.acd_laws.proofs.Rules.Rounds.{AllWait, Within, steps_entered, steps_wait, distribution_within, tick_within, returns_agents}
+use Rattle.acd_laws.proofs.Rules.Numbers.{events_length, connections_length, greatest, distribution_length, tick_length}
 
 -- what holds before a step
 pub record Before (s : Rows) (k m : ℕ) : Type 0 where

@@ -11,7 +11,7 @@ use Rattle.acd_terms.specs.Limits.{limits_fit}
 use Rattle.acd_model.specs.Choice.{offer_of}
 use Rattle.acd_model.specs.Distribution.{offer_at, offer_moves, with_offer, offers, distribution, station_of_agent}
 use Rattle.acd_model.specs.Tick.{return_to, return_moves, rest_moves, each, is_overdue, overdue_in, is_rested, rested_in, returns, rests, tick}
-use Rattle.acd_laws.proofs.KeptEnds.{two_le}
+use Rattle.acd_laws.proofs.Rules.KeptEnds.{two_le}
 use Rattle.acd_lemmas.proofs.Decided.{◌and◌, within}
 
 -- no more events than moves

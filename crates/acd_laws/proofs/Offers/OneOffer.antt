@@ -9,10 +9,10 @@ use Rattle.acd_laws.specs.OneOfferLaws.{RunHasOneOffer}
 use Rattle.acd_lemmas.proofs.Lists.{every_among, counted, some_from}
 use Rattle.acd_lemmas.proofs.Keyed.{eqb_self}
 use Rattle.acd_lemmas.proofs.States.{ready_is, busy_is}
-use Rattle.acd_laws.proofs.KeptOffer.{talking_is}
+use Rattle.acd_laws.proofs.Rules.KeptOffer.{talking_is}
 use Rattle.acd_laws.proofs.Releasing.{serving, alerting_or_answered}
 use Rattle.acd_lemmas.proofs.Decided.{one_that}
-use Rattle.acd_laws.proofs.Ended.{rules_step, kept_by_run, rules_first}
+use Rattle.acd_laws.proofs.Rules.Ended.{rules_step, kept_by_run, rules_first}
 use Rattle.acd_model.specs.Step.{step}
 
 planned_some : (s : Rows) (o : Option ℕ) → IsPlannedStation s o → is_some o ≡ true

@@ -18,7 +18,7 @@ use Rattle.acd_model.specs.CallMoves.{plain, queueing, arrive}
 use Rattle.acd_model.specs.AgentMoves.{state_report}
 use Rattle.acd_model.specs.Figures.{is_entry}
 use Rattle.acd_laws.proofs.MoveKinds.{LeavesConnections, left_connections, AgentMove, stays, waits, tells, Recorded, Arrival, queues, alerts, fails, arrival_of}
-use Rattle.acd_laws.proofs.Order.{entries, entry_by}
+use Rattle.acd_laws.proofs.Watched.Order.{entries, entry_by}
 
 -- a change that puts no record but a connection, or the record of an agent who is known
 abbrev pub Steady : (ℕ → Bool) → Change → Type 0

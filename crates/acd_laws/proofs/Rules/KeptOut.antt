@@ -13,11 +13,11 @@ use Rattle.acd_lemmas.proofs.Lists.{one, ascending-put, every-put, none_counted,
 use Rattle.acd_lemmas.proofs.State.{agents_total, connections_total, connection_among, calls_total, call_put, put_other, found_key, call_among, count_old, count_agent, connection_rule, count_new, none_above, no_call_above, none_of_call}
 use Rattle.acd_lemmas.proofs.Keyed.{eqb_self}
 use Rattle.acd_laws.proofs.Arriving.{alerting_is_live, Arrived, rule_same, lone, with_connections, most_one, arrived_live, arrived_hold, arrived_open}
-use Rattle.acd_laws.proofs.KeptOffer.{ringing_is}
+use Rattle.acd_laws.proofs.Rules.KeptOffer.{ringing_is}
 use Rattle.acd_lemmas.proofs.States.{alerting_is, ready_is, initiated_is, connected_is, hold_is}
 use Rattle.acd_laws.proofs.Releasing.{Serves, serving}
 use Rattle.acd_model.specs.Services.{occupy, busy_agent}
-use Rattle.acd_laws.proofs.KeptEnds.{two_le}
+use Rattle.acd_laws.proofs.Rules.KeptEnds.{two_le}
 
 -- an answer: the connection is connected, and agents are filter after it
 after_answer : (s : Rows) (x : ConnectionRecord) (agents : List AgentRecord) → Rules s → connection_of s x.call x.device ≡ Some x → is_alerting x.state ≡ true

@@ -6,12 +6,12 @@ use Rattle.acd_model.specs.Told.{after, connection_told, seat_told, enters, last
 use Rattle.acd_model.specs.Services.Serve.{serve}
 use Rattle.acd_model.specs.Step.{numbered, step_moves, executed_moment, next_stamp, step}
 use Rattle.acd_lemmas.proofs.Facts.{Rules, AlertingColumns, HasColumns, ConnectionRule, IsCaller, StandsAt}
-use Rattle.acd_laws.proofs.Told.{shown, seat, after-append, shown_after, seat_after, HasEntries, Tells, after-numbered}
-use Rattle.acd_laws.proofs.CountedEvents.{figures_joined, figures_numbered}
-use Rattle.acd_laws.proofs.Order.{holding, balanced_events, Ordered, ordered_on}
-use Rattle.acd_laws.proofs.SoundMoves.{Sound}
-use Rattle.acd_laws.proofs.SoundDeeds.{sound_deed, sound_ranks, sound_round}
-use Rattle.acd_laws.proofs.RulesKept.{by_parts, rules_serve}
+use Rattle.acd_laws.proofs.Watched.Told.{shown, seat, after-append, shown_after, seat_after, HasEntries, Tells, after-numbered}
+use Rattle.acd_laws.proofs.Figures.CountedEvents.{figures_joined, figures_numbered}
+use Rattle.acd_laws.proofs.Watched.Order.{holding, balanced_events, Ordered, ordered_on}
+use Rattle.acd_laws.proofs.Watched.SoundMoves.{Sound}
+use Rattle.acd_laws.proofs.Watched.SoundDeeds.{sound_deed, sound_ranks, sound_round}
+use Rattle.acd_laws.proofs.Rules.RulesKept.{by_parts, rules_serve}
 use Rattle.std.specs.Prelude.{◌==◌, is_some, option_map}
 use Rattle.acd_terms.specs.declared.state.ConnectionState.TheVariants as S
 use Rattle.acd_model.specs.Watched.{waits_or_rings, HasEntered, state_at, is_caller, is_external_caller, HasPlace, IsWatched}
@@ -25,8 +25,8 @@ use Rattle.acd_laws.specs.BalanceLaws.{IsBalanced, RunIsBalanced}
 use Rattle.acd_laws.specs.OfferLaws.{LeavesNoOffer, RunLeavesNoOffer}
 use Rattle.acd_lemmas.proofs.State.{found_key, connection_rule}
 use Rattle.acd_model.proofs.MoveLemmas.{moved_append}
-use Rattle.acd_laws.proofs.Distributing.{nothing_left}
-use Rattle.acd_laws.proofs.Ended.{ended, planned_ended, rules_step, kept_by_run, rules_first, KeptByRules}
+use Rattle.acd_laws.proofs.Offers.Distributing.{nothing_left}
+use Rattle.acd_laws.proofs.Rules.Ended.{ended, planned_ended, rules_step, kept_by_run, rules_first, KeptByRules}
 
 -- t is the state after s and these events; places are up to b in s, and up to c in t
 pub record Follows (s : Rows) (b c : ℕ) (t : Rows) (es : List Event) : Type 0 where

@@ -17,20 +17,20 @@ use Rattle.acd_model.specs.Rules.First.{BreaksNoRule}
 use Rattle.acd_model.specs.Step.{step, executed_moment, next_stamp}
 use Rattle.acd_model.specs.Run.{TimedCommand, run}
 use Rattle.acd_laws.specs.RuleLaws.{StepKeepsRules, RunKeepsRules, RulesBound, RulesLeaveRoom}
-use Rattle.acd_laws.proofs.Order.{holding}
-use Rattle.acd_laws.proofs.WatchedRuns.{follows_step, step_leaves_no_offer, step_keeps_watched, step_balances, run_is_watched, run_tells_no_more, run_is_balanced, run_leaves_no_offer}
-use Rattle.acd_laws.proofs.Ended.{rules_first, ended, planned_ended, rules_step}
-use Rattle.acd_laws.proofs.Orderly.{IsGroupAfter, WaitsUpTo, timed_more}
+use Rattle.acd_laws.proofs.Watched.Order.{holding}
+use Rattle.acd_laws.proofs.Watched.WatchedRuns.{follows_step, step_leaves_no_offer, step_keeps_watched, step_balances, run_is_watched, run_tells_no_more, run_is_balanced, run_leaves_no_offer}
+use Rattle.acd_laws.proofs.Rules.Ended.{rules_first, ended, planned_ended, rules_step}
+use Rattle.acd_laws.proofs.Rules.Orderly.{IsGroupAfter, WaitsUpTo, timed_more}
 use Rattle.acd_terms.specs.Limits.{greatest_priority}
-use Rattle.acd_laws.proofs.Rounds.{AllWait}
-use Rattle.acd_laws.proofs.Numbers.{greatest}
-use Rattle.acd_laws.proofs.BoundsStep.{After, Before, after_moves}
-use Rattle.acd_laws.proofs.DecidedAll.{keeps_read, requests_read, keeps_written, rules_are_kept}
+use Rattle.acd_laws.proofs.Rules.Rounds.{AllWait}
+use Rattle.acd_laws.proofs.Rules.Numbers.{greatest}
+use Rattle.acd_laws.proofs.Rules.BoundsStep.{After, Before, after_moves}
+use Rattle.acd_laws.proofs.Rules.DecidedAll.{keeps_read, requests_read, keeps_written, rules_are_kept}
 use Rattle.acd_lemmas.proofs.States.{queued_is}
 use Rattle.acd_laws.specs.AllLaws.{StepKeepsLaws, RunKeepsLaws}
-use Rattle.acd_laws.proofs.FiguresCounted.{step_keeps_figures, figures_kept}
-use Rattle.acd_laws.proofs.OneOffer.{step_keeps_one_offer, run_has_one_offer}
-use Rattle.acd_laws.proofs.PlacedRuns.{step_names_no_later_call, run_names_no_later_call, run_is_placed, step_keeps_places}
+use Rattle.acd_laws.proofs.Figures.FiguresCounted.{step_keeps_figures, figures_kept}
+use Rattle.acd_laws.proofs.Offers.OneOffer.{step_keeps_one_offer, run_has_one_offer}
+use Rattle.acd_laws.proofs.Places.PlacedRuns.{step_names_no_later_call, run_names_no_later_call, run_is_placed, step_keeps_places}
 use Rattle.std.proofs.lemmas.List.{length-map}
 
 -- places

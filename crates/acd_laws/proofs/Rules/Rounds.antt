@@ -15,13 +15,13 @@ use Rattle.acd_model.specs.Distribution.{distribution}
 use Rattle.acd_model.specs.Tick.{returns as all_returns, tick}
 use Rattle.acd_lemmas.proofs.Facts.{Rules, IsMoment, IsAfter, ConnectionTimed, at_place, Timed}
 use Rattle.acd_lemmas.proofs.Lists.{one, count-append, every-append}
-use Rattle.acd_laws.proofs.Order.{entries, entry_by}
+use Rattle.acd_laws.proofs.Watched.Order.{entries, entry_by}
 use Rattle.acd_lemmas.proofs.State.{count_less, connection_there}
-use Rattle.acd_laws.proofs.Distributing.{returned}
+use Rattle.acd_laws.proofs.Offers.Distributing.{returned}
 use Rattle.acd_laws.proofs.MoveKinds.{Recorded, goes_from, releases_here}
 use Rattle.acd_laws.proofs.Deeds.{offers, returns, rests}
-use Rattle.acd_laws.proofs.RulesKept.{RoundKeeps, by_rounds, by_tick}
-use Rattle.acd_laws.proofs.Orderly.{AllSteady, Steadied, steadied, steadied_then, unchanged, WaitsUpTo, Carries, Steps, done, neat, comes, carries, steps_timed, steps_enter, steps_place, places_put, connection_timed, neat_agent, steady_agent}
+use Rattle.acd_laws.proofs.Rules.RulesKept.{RoundKeeps, by_rounds, by_tick}
+use Rattle.acd_laws.proofs.Rules.Orderly.{AllSteady, Steadied, steadied, steadied_then, unchanged, WaitsUpTo, Carries, Steps, done, neat, comes, carries, steps_timed, steps_enter, steps_place, places_put, connection_timed, neat_agent, steady_agent}
 
 -- the entries of moves are those of their events
 entered_event : (g m : ℕ) (o : Option Report) (es : List Event) → count (λ (e : Event). is_entry g e.report) (with_event m o es) ≡ entry_by g o + count (λ (e : Event). is_entry g e.report) es

@@ -8,8 +8,8 @@ use Rattle.acd_model.specs.Told.{Seat, seat_by}
 use Rattle.acd_model.specs.Watched.{seat_of, waits_or_rings}
 use Rattle.acd_model.specs.declared.moves.Change.TheVariants.{Nothing, PutAgent, PutConnection, RemoveConnection}
 use Rattle.acd_laws.proofs.MoveKinds.{LeavesConnections, left_connections, LeavesAgents, AgentMove, stays as nothing, waits, tells, Recorded, Arrival, queues, alerts, fails}
-use Rattle.acd_laws.proofs.Told.{Truthful, AllTruthful, truthful-append, truthful_unseen, truthful_agent, truthful_silent_agent, truthful_put}
-use Rattle.acd_laws.proofs.Order.{Balances, balances-append, holding, entry_by, gone_by, held, holding_new, holding_old, holding_less, OrderKept, stays, order-append, order_later, placed_within, placed_put, comes}
+use Rattle.acd_laws.proofs.Watched.Told.{Truthful, AllTruthful, truthful-append, truthful_unseen, truthful_agent, truthful_silent_agent, truthful_put}
+use Rattle.acd_laws.proofs.Watched.Order.{Balances, balances-append, holding, entry_by, gone_by, held, holding_new, holding_old, holding_less, OrderKept, stays, order-append, order_later, placed_within, placed_put, comes}
 use Rattle.std.specs.Prelude.{◌==◌}
 use Rattle.std.proofs.lemmas.Bool.{and_right, or_left, or_right}
 use Rattle.acd_terms.specs.declared.event.Report.TheVariants as report

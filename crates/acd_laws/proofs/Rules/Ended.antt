@@ -9,7 +9,7 @@ use Rattle.acd_model.specs.Figures.{counting, with_figures}
 use Rattle.acd_model.specs.Step.{step, executed_moment, next_stamp}
 use Rattle.acd_lemmas.proofs.State.{group_counted_found, is_some_mapped}
 use Rattle.acd_laws.proofs.Arriving.{rule_same}
-use Rattle.acd_laws.proofs.RulesKept.{rules_moves}
+use Rattle.acd_laws.proofs.Rules.RulesKept.{rules_moves}
 use Rattle.acd_model.specs.Run.{TimedCommand, run}
 
 abbrev pub ended : Rows → List Event → ℕ → ℕ → ℕ → Rows

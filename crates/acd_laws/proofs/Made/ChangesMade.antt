@@ -19,15 +19,15 @@ use Rattle.acd_laws.specs.ChangeLaws.{StepMakesItsChanges}
 use Rattle.acd_lemmas.proofs.Lists.{is_eq_of, less_ne, greater_ne, after_among, after_same, ascending-put, find_none, found_among}
 use Rattle.acd_lemmas.proofs.Keyed.{cmp_self, found_has, find_is, eqb_swap}
 use Rattle.acd_lemmas.proofs.State.{groups_total, by_group}
-use Rattle.acd_laws.proofs.CountedEvents.{Quiet, quiet, no_events, sum_nothing, figures_joined, figures_skipped, sum_joined}
-use Rattle.acd_laws.proofs.Ended.{ascending_counting}
-use Rattle.acd_laws.proofs.DecidedAll.{keeps_read}
+use Rattle.acd_laws.proofs.Figures.CountedEvents.{Quiet, quiet, no_events, sum_nothing, figures_joined, figures_skipped, sum_joined}
+use Rattle.acd_laws.proofs.Rules.Ended.{ascending_counting}
+use Rattle.acd_laws.proofs.Rules.DecidedAll.{keeps_read}
 use Rattle.acd_terms.specs.declared.answer.Outcome.TheVariants as outcome
 use Rattle.acd_model.specs.Choice.{offer_of}
 use Rattle.acd_model.specs.Distribution.{distribution}
 use Rattle.acd_model.specs.Served.{outcome_of, moves_of}
 use Rattle.acd_laws.specs.RefusalLaws.{ChangesNothing}
-use Rattle.acd_laws.proofs.OfferFound.{no_offers}
+use Rattle.acd_laws.proofs.Offers.OfferFound.{no_offers}
 
 -- lists in ascending key
 

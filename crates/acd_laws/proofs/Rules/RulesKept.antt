@@ -14,13 +14,13 @@ use Rattle.acd_lemmas.proofs.Lists.{one}
 use Rattle.acd_lemmas.proofs.State.{connection_among, connection_rule, group_key}
 use Rattle.acd_model.specs.Release.{ending_of}
 use Rattle.acd_model.proofs.MoveLemmas.{moved_append}
-use Rattle.acd_laws.proofs.Distributing.{tick_keeps, Kept, kept-append, rules_distribution, offering, offer_moves_are, distribution_keeps}
+use Rattle.acd_laws.proofs.Offers.Distributing.{tick_keeps, Kept, kept-append, rules_distribution, offering, offer_moves_are, distribution_keeps}
 use Rattle.acd_laws.proofs.Deeds.{new_call, Deed, nothing, adds_group, adds_station, adds_agent, watches, unwatches, arrives, makes, goes_out, answers, holds, retrieves, clears, deflects, transfers, logs_on, waits, goes, Ranks, refuses, ranks, is_ranking, deed_of_serve, Round, offers, returns, rests}
 use Rattle.acd_laws.proofs.Arriving.{arrived}
 use Rattle.acd_laws.proofs.Releasing.{wanted_not_busy, ends_by}
-use Rattle.acd_laws.proofs.KeptOut.{begun, made, outgoing, gone_out, kept_answer, kept_hold, kept_retrieve}
-use Rattle.acd_laws.proofs.KeptEnds.{kept_clear, moved_on, open_cases, closed_call}
-use Rattle.acd_laws.proofs.KeptPlan.{kept_log_on, kept_wait, kept_go_from, kept_group, kept_rank, kept_station, kept_new_agent, started, stopped}
+use Rattle.acd_laws.proofs.Rules.KeptOut.{begun, made, outgoing, gone_out, kept_answer, kept_hold, kept_retrieve}
+use Rattle.acd_laws.proofs.Rules.KeptEnds.{kept_clear, moved_on, open_cases, closed_call}
+use Rattle.acd_laws.proofs.Rules.KeptPlan.{kept_log_on, kept_wait, kept_go_from, kept_group, kept_rank, kept_station, kept_new_agent, started, stopped}
 use Rattle.acd_lemmas.proofs.States.{connected_is}
 use Rattle.acd_model.specs.Tick.{tick}
 

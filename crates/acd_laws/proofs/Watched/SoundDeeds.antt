@@ -29,14 +29,14 @@ use Rattle.acd_lemmas.proofs.Lists.{one, none_from, two_counted, among_put}
 use Rattle.acd_lemmas.proofs.Keyed.{eqb_self}
 use Rattle.acd_lemmas.proofs.State.{found_key, connection_among, put_other, removed_other, still_none, connection_there, connection_rule, none_above, agent_there, other_agents, other_among, other_device, group_key}
 use Rattle.acd_laws.proofs.Releasing.{release_other_kept}
-use Rattle.acd_laws.proofs.KeptPlan.{nobody_at}
+use Rattle.acd_laws.proofs.Rules.KeptPlan.{nobody_at}
 use Rattle.acd_lemmas.proofs.States.{initiated_is, alerting_is, hold_is}
-use Rattle.acd_laws.proofs.KeptOut.{initiated_alone, outgoing}
-use Rattle.acd_laws.proofs.KeptEnds.{open_cases, closed_call, return_new}
-use Rattle.acd_laws.proofs.KeptOffer.{offer_station, offer_new}
-use Rattle.acd_laws.proofs.Told.{truthful_put, truthful_remove, truthful_outside, truthful_unseen, truthful_group, truthful_rank, truthful_station, truthful_end, truthful_agent, truthful_silent_agent}
-use Rattle.acd_laws.proofs.Order.{holding, held, gone, holding_less, holding_new, stays, placed_put, placed_within}
-use Rattle.acd_laws.proofs.SoundMoves.{Sound, sound-append, sound_later, sound_nothing, sound_unheard, silently, sound_agent, put, remove, ungrouped, connections_put, removed_within, ascending_less, held_shut, held_is, waits_or_rings_is, waiting_alerting, waiting_open, sound_put_new, sound_put_old, sound_remove, sound_arrival, arrive_leaves, open_gone, planned_station, planned_group}
+use Rattle.acd_laws.proofs.Rules.KeptOut.{initiated_alone, outgoing}
+use Rattle.acd_laws.proofs.Rules.KeptEnds.{open_cases, closed_call, return_new}
+use Rattle.acd_laws.proofs.Rules.KeptOffer.{offer_station, offer_new}
+use Rattle.acd_laws.proofs.Watched.Told.{truthful_put, truthful_remove, truthful_outside, truthful_unseen, truthful_group, truthful_rank, truthful_station, truthful_end, truthful_agent, truthful_silent_agent}
+use Rattle.acd_laws.proofs.Watched.Order.{holding, held, gone, holding_less, holding_new, stays, placed_put, placed_within}
+use Rattle.acd_laws.proofs.Watched.SoundMoves.{Sound, sound-append, sound_later, sound_nothing, sound_unheard, silently, sound_agent, put, remove, ungrouped, connections_put, removed_within, ascending_less, held_shut, held_is, waits_or_rings_is, waiting_alerting, waiting_open, sound_put_new, sound_put_old, sound_remove, sound_arrival, arrive_leaves, open_gone, planned_station, planned_group}
 use Rattle.acd_laws.proofs.Deeds.{new_call, Party, Free, Round, offers, returns, rests, Deed, nothing, adds_group, adds_station, adds_agent, watches, unwatches, arrives, makes, goes_out, answers, holds, retrieves, clears, deflects, transfers, logs_on, waits, goes, Ranks, refuses, ranks}
 use Rattle.acd_lemmas.proofs.Bools.{and_yes, or_no}
 

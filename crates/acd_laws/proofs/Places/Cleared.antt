@@ -8,7 +8,7 @@ use Rattle.acd_model.specs.Step.{numbered}
 use Rattle.acd_model.specs.declared.moves.Change.TheVariants.{PutCall, RemoveCall, PutAgent}
 use Rattle.acd_laws.specs.PlacedLaws.{IsUpTo, NamesNoLaterCall, clearings, KeepsClearings}
 use Rattle.acd_lemmas.proofs.Lists.{one, count-append, every-append, counted}
-use Rattle.acd_laws.proofs.CountedEvents.{count_numbered}
+use Rattle.acd_laws.proofs.Figures.CountedEvents.{count_numbered}
 use Rattle.std.proofs.lemmas.Bool.{eqb-true, le-leb, leb-true, leb-false, lt-leb}
 use Rattle.acd_terms.specs.declared.state.AgentState.TheVariants as A
 use Rattle.acd_model.specs.CallMoves.{arrive, begin, end_call, connect_caller, initiate, clear}

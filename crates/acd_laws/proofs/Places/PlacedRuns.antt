@@ -12,10 +12,10 @@ use Rattle.acd_lemmas.proofs.Decided.{zero_or}
 use Rattle.acd_model.specs.Figures.{with_figures}
 use Rattle.acd_model.specs.Services.Serve.{serve}
 use Rattle.acd_model.specs.Step.{executed_moment, next_stamp, step_moves, step}
-use Rattle.acd_laws.proofs.Distributing.{Kept}
-use Rattle.acd_laws.proofs.RulesKept.{by_deeds}
-use Rattle.acd_laws.proofs.Ended.{rules_step, ended, kept_by_run, rules_first, KeptByRules}
-use Rattle.acd_laws.proofs.Cleared.{AllCounted, Named, SameCalls, same_clearings, clearings_moved, clearings_numbered, names_moved, names_numbered, counted_deed, counted_ranks, counted_round}
+use Rattle.acd_laws.proofs.Offers.Distributing.{Kept}
+use Rattle.acd_laws.proofs.Rules.RulesKept.{by_deeds}
+use Rattle.acd_laws.proofs.Rules.Ended.{rules_step, ended, kept_by_run, rules_first, KeptByRules}
+use Rattle.acd_laws.proofs.Places.Cleared.{AllCounted, Named, SameCalls, same_clearings, clearings_moved, clearings_numbered, names_moved, names_numbered, counted_deed, counted_ranks, counted_round}
 use Rattle.std.proofs.lemmas.Bool.Decides.{leb_tells}
 use Rattle.acd_terms.specs.Columns.{columns_of}
 use Rattle.acd_terms.specs.declared.event.Report.TheVariants as report

@@ -11,8 +11,8 @@ use Rattle.acd_model.specs.Choice.{waiting_pair, ready_pair, offer_of}
 use Rattle.acd_model.specs.Offers.{IsOffer, HasNoOffer}
 use Rattle.acd_model.specs.Distribution.{offer_at, offer_moves, with_offer, offers, distribution}
 use Rattle.acd_model.proofs.MoveLemmas.{events_of_append, moved_append}
-use Rattle.acd_laws.proofs.OfferFound.{finds_the_offer, nothing_found, no_offer, no_offers}
-use Rattle.acd_laws.proofs.KeptOffer.{offer_station, offer_new, kept_offer}
+use Rattle.acd_laws.proofs.Offers.OfferFound.{finds_the_offer, nothing_found, no_offer, no_offers}
+use Rattle.acd_laws.proofs.Rules.KeptOffer.{offer_station, offer_new, kept_offer}
 use Rattle.acd_lemmas.proofs.Decided.{◌and◌, holds, fails}
 use Rattle.std.proofs.lemmas.Bool.Decides.{Decides-eqb as equals}
 use Rattle.acd_laws.specs.OfferLaws.{IsDistribution}
@@ -25,8 +25,8 @@ use Rattle.acd_model.specs.declared.moves.Ending.TheVariants.{NoAnswer}
 use Rattle.acd_lemmas.proofs.Keyed.{eqb_self, cmp_self}
 use Rattle.acd_model.specs.Tick.{is_overdue_offer, is_overdue, overdue_in, return_to, return_moves, is_rested, rested_in, rest_moves, each, returns, rests, tick, is_over_in}
 use Rattle.acd_laws.proofs.MoveKinds.{goes_from, released_by, agent_connections, agent_others}
-use Rattle.acd_laws.proofs.KeptEnds.{kept_return_to}
-use Rattle.acd_laws.proofs.KeptPlan.{kept_rest_moves}
+use Rattle.acd_laws.proofs.Rules.KeptEnds.{kept_return_to}
+use Rattle.acd_laws.proofs.Rules.KeptPlan.{kept_rest_moves}
 
 -- an offer is of a connection that waits in the group, and of an agent who may take it
 pub record Offering (s : Rows) (o : Offer) (x : ConnectionRecord) (a : AgentRecord) (d : ℕ) : Type 0 where

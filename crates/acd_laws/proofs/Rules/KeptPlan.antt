@@ -15,7 +15,7 @@ use Rattle.acd_lemmas.proofs.Keyed.{cmp_equal, eqb_self}
 use Rattle.acd_lemmas.proofs.State.{groups_total, stations_total, agents_total, monitors_total, agent_find, group_put, station_put, call_among, agent_among, count_agent, has_is, group_kept}
 use Rattle.acd_model.specs.Services.{new_agent}
 use Rattle.acd_model.specs.AgentMoves.{in_state, go_to, go_from, log_on_at}
-use Rattle.acd_laws.proofs.KeptOffer.{unoccupied}
+use Rattle.acd_laws.proofs.Rules.KeptOffer.{unoccupied}
 use Rattle.acd_laws.proofs.Releasing.{seat_from, loosen, left_keeps, left_state, alerting_or_answered}
 use Rattle.acd_model.specs.Tick.{rest_moves}
 use Rattle.acd_lemmas.proofs.States.{null_is}

@@ -14,8 +14,8 @@ use Rattle.acd_terms.specs.declared.state.ConnectionState.TheVariants as S
 use Rattle.acd_model.specs.Told.{enters, last_entry}
 use Rattle.acd_model.specs.Watched.{waits_or_rings, HasPlace, InOrder}
 use Rattle.acd_model.specs.Step.{numbered}
-use Rattle.acd_laws.proofs.Told.{HasEntries, UpTo}
-use Rattle.acd_laws.proofs.CountedEvents.{numbered-append}
+use Rattle.acd_laws.proofs.Watched.Told.{HasEntries, UpTo}
+use Rattle.acd_laws.proofs.Figures.CountedEvents.{numbered-append}
 
 -- of a group: what waits in it and rings from it
 abbrev pub holding : Rows → ℕ → ℕ
