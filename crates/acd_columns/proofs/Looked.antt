@@ -64,7 +64,7 @@ use Rattle.acd_lemmas.proofs.Lists.{filter_true}
 
 -- ---- lists
 
-of_filter : {X : Type 0} (p : X → Bool) (xs : List X) (x : X) → Has (filter p xs) x → Has xs x × (p x ≡ true)
+pub of_filter : {X : Type 0} (p : X → Bool) (xs : List X) (x : X) → Has (filter p xs) x → Has xs x × (p x ≡ true)
 of_filter p [] x h = absurd h
 of_filter p (y ∷ ys) x h = go (of_filter p ys x) (p y) refl h
   where
