@@ -2,18 +2,17 @@
 use Rattle.std.proofs.Common.{◌≡◌, ℕ, Bool, true, false, ◌&&◌, ◌==◌, List, [], ◌∷◌, refl, ap, ap₂, ◌∙◌, sym, subst, eqb-true, eq-eqb}
 use Rattle.std.specs.Str.{bytes_eq}
 use Rattle.std.specs.Cmp.Lexicographic.{same_text}
-use Rattle.std.proofs.lemmas.Bool.{and_from}
+use Rattle.std.proofs.lemmas.Bool.{and_from, and_parts}
 use Rattle.acd_terms.specs.declared.command.Request.{Request}
 use Rattle.acd_book.specs.Content.{is_key}
 use Rattle.acd_book.specs.Memory.{key_of, is_kept_under, same_key}
 use Rattle.acd_book.specs.declared.kept.Kept.{Kept}
 use Rattle.acd_book.specs.declared.key.Key.{Key}
-use Rattle.acd_book.proofs.Numbered.{both}
 
 -- a request has the key of one that has it
 pub key_same : (p : List ℕ) (q : ℕ) (r : Request) → is_key p q r ≡ true → (r.requester ≡ p) × (r.invoke ≡ q)
 key_same p q r h =
-    let parts = both (bytes_eq r.requester p) (r.invoke == q) h in
+    let parts = and_parts (bytes_eq r.requester p) (r.invoke == q) h in
     (same_text r.requester p (sym parts.0), eqb-true r.invoke q parts.1)
 
 own_text : (t : List ℕ) → bytes_eq t t ≡ true
@@ -30,7 +29,7 @@ key p q = record { requester = p; invoke = q }
 pub same_is : (a b : Key) → same_key a b ≡ true → a ≡ b
 unfolding same_key
 same_is a b h =
-    let parts = both (bytes_eq a.requester b.requester) (a.invoke == b.invoke) h in
+    let parts = and_parts (bytes_eq a.requester b.requester) (a.invoke == b.invoke) h in
     ap₂ (λ (p : List ℕ) (q : ℕ). record { requester = p; invoke = q }) (same_text a.requester b.requester (sym parts.0)) (eqb-true a.invoke b.invoke parts.1)
 
 pub own_same : (a : Key) → same_key a a ≡ true

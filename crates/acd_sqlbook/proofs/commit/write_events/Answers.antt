@@ -5,12 +5,13 @@ use Rattle.acd_sqlbook.specs.Commit.{with_events}
 use Rattle.acd_columns.specs.Relations.{relations_of}
 use Rattle.acd_columns.specs.Draft.{Drafts}
 use Rattle.acd_columns.proofs.Endings.{works_on}
-use Rattle.acd_sqlbook.proofs.Filing.{events_next, all_taken}
+use Rattle.acd_sqlbook.proofs.Filing.{events_next}
 use Rattle.std.proofs.Common.{Err, take, rules}
 use Rattle.acd_book.specs.Content.{Content}
 use Rattle.acd_sqlbook.specs.Stopping.{StopsAtEvent, StopsInEvents}
 use Rattle.acd_sqlbook.proofs.Stopped.{in_events, stops_more, stops_same, stops_later}
 use Rattle.acd_sqlbook.proofs.commit.write_events.Goals as goal
+use Rattle.std.proofs.lemmas.List.{take_all}
 
 pub loop-event-preserved : goal.loop-event-preserved
 loop-event-preserved g c =
@@ -27,7 +28,7 @@ loop-event-preserved g c =
 
 pub returns-clause-put : goal.returns-clause-put
 returns-clause-put g c clean x d =
-    subst (λ l. Drafts (state g.S.Store c.loop-event.tx.conn.now) (relations_of (with_events x l))) (all_taken c.loop-event.event-index c.args.events.now c.loop-event-test.false) (c.loop-event.invariant.put clean x d)
+    subst (λ l. Drafts (state g.S.Store c.loop-event.tx.conn.now) (relations_of (with_events x l))) (take_all c.loop-event.event-index c.args.events.now c.loop-event-test.false) (c.loop-event.invariant.put clean x d)
 
 pub returns-in_err-write_event-clause-failed : goal.returns-in_err-write_event-clause-failed
 returns-in_err-write_event-clause-failed g c =

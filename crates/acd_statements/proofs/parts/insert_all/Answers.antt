@@ -6,7 +6,7 @@ use Rattle.acd_columns.specs.declared.tables.Table.TheVariants as table
 use Rattle.acd_columns.specs.Relations.{all_put}
 use Rattle.acd_columns.specs.Draft.{Drafts}
 use Rattle.acd_columns.proofs.Endings.{works_on}
-use Rattle.acd_statements.proofs.Planned.{pairs_more, all_taken}
+use Rattle.acd_statements.proofs.Planned.{pairs_more}
 use Rattle.std.proofs.Common.{Err, rules, take}
 use Rattle.acd_columns.specs.Relations.{Relations}
 use Rattle.acd_columns.specs.Rows.{further_values}
@@ -14,6 +14,7 @@ use Rattle.acd_columns.specs.declared.texts.TheConstants.{INSERT_AGENT_GROUP}
 use Rattle.acd_statements.specs.Refusing.{RefusesOn, RefusesFurther}
 use Rattle.acd_statements.proofs.Refused.{any_default, by_more, by_same, by_later}
 use Rattle.acd_statements.proofs.parts.insert_all.Goals as goal
+use Rattle.std.proofs.lemmas.List.{take_all}
 
 pub loop-group-preserved : goal.loop-group-preserved
 loop-group-preserved g c =
@@ -30,7 +31,7 @@ loop-group-preserved g c =
 
 pub returns-clause-put : goal.returns-clause-put
 returns-clause-put g c clean r d =
-    subst (λ (gs : List ℕ). Drafts (state g.S.Store c.loop-group.tx.conn.now) (with_part table.AgentGroups (all_put (map (λ (k : ℕ). (c.args.agent, k)) gs) r.further) r)) (all_taken c.loop-group.group-index c.args.groups.now c.loop-group-test.false)
+    subst (λ (gs : List ℕ). Drafts (state g.S.Store c.loop-group.tx.conn.now) (with_part table.AgentGroups (all_put (map (λ (k : ℕ). (c.args.agent, k)) gs) r.further) r)) (take_all c.loop-group.group-index c.args.groups.now c.loop-group-test.false)
     (c.loop-group.invariant.put clean r d)
 
 pub returns-in_err-insert_further-clause-same : goal.returns-in_err-insert_further-clause-same
