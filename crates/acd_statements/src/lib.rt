@@ -15,6 +15,7 @@ mod bind;
 pub mod fitting;
 pub mod look;
 mod lookups;
+mod numbered;
 pub mod parts;
 pub mod placed;
 mod plan;
@@ -30,4 +31,5 @@ pub mod tables;
 pub mod write;
 
 pub use lookups::{events_behind, events_watched, kept_behind, kept_under};
+pub use numbered::events_numbered;
 pub use reads::{read_meta, rows};
