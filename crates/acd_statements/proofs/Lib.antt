@@ -11,3 +11,4 @@ pub mod Blamed
 mod BlamedRows
 mod BlamedPlan
 mod Grouped
+mod Picked

@@ -8,7 +8,7 @@ use Rattle.acd_statements.proofs.numbered.events_numbered.Given as goal
 
 abbrev pub invariant-loop-number : goal.invariant-loop-number
 invariant-loop-number g l = record {
-  idle : l.conn.now.in_transaction ≡ false;
-  found : Serves (state g.S.Store l.fn.conn.now) → Finds {E = Error} (state g.S.Store l.fn.conn.now) (state g.S.Store l.conn.now) (Ok l.found) (λ c events. events.items ≡ picked c.events (take l.number-index l.numbers));
-  blamed : Serves (state g.S.Store l.fn.conn.now) → Blames (state g.S.Store l.fn.conn.now) (state g.S.Store l.conn.now) (Ok l.found);
+  idle : l.conn.in_transaction ≡ false;
+  found : Serves (state g.S.Store l.fn.conn) → Finds {E = Error} (state g.S.Store l.fn.conn) (state g.S.Store l.conn) (Ok l.found) (λ c events. events.items ≡ picked c.events (take l.number-index l.numbers));
+  blamed : Serves (state g.S.Store l.fn.conn) → Blames (state g.S.Store l.fn.conn) (state g.S.Store l.conn) (Ok l.found);
 }
