@@ -7,3 +7,4 @@ mod BookStates
 mod Rising
 mod Adopted
 mod Caused
+pub mod Followed

@@ -5,3 +5,4 @@ pub mod State
 pub mod StoreLaws
 pub mod Adopting
 pub mod Causes
+pub mod Indexing

@@ -18,6 +18,7 @@
 mod adopt;
 mod book;
 mod commit;
+mod index;
 pub mod laws;
 mod ready;
 mod transition;

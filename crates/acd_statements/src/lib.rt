@@ -30,6 +30,6 @@ pub mod stored;
 pub mod tables;
 pub mod write;
 
-pub use lookups::{events_behind, events_watched, kept_behind, kept_under};
+pub use lookups::{events_at, events_behind, events_watched, kept_behind, kept_under, monitor_at};
 pub use numbered::events_numbered;
 pub use reads::{read_meta, rows};

@@ -1,0 +1,55 @@
+-- Calls over a book that has noted which events are at the devices that are watched.
+use Rattle.std.proofs.Common.{◌≡◌, List, ◌++◌, Option, None, Some, Result, Ok, Err, IsTrue, IfOk, OnOk, OnErr, IsErrOf, refl, sym, ap, subst, ◌∙◌}
+use Rattle.acd_terms.specs.declared.event.Event.{Event}
+use Rattle.acd_book.specs.Content.{Content}
+use Rattle.acd_book.specs.State.{BookState, Reads, Commits}
+use Rattle.acd_book.specs.declared.fault.BookFault.{BookFault}
+use Rattle.acd_book.specs.declared.fault.BookFault.TheVariants.{Store}
+use Rattle.acd_sqlbook.specs.Indexing.{IsNoted, followed}
+use Rattle.acd_sqlbook.specs.declared.index.Index.{Index}
+
+-- one content is the other
+here : (noted : Option Index) (c d : Content) → c ≡ d → IsNoted noted d.events → IsNoted noted c.events
+here noted c d same = subst (λ (x : Content). IsNoted noted x.events) (sym same)
+
+-- A read, where what was noted before and what is noted behind it are of the events that are held. Its answer may rest on what was noted.
+pub reads_followed : {A : Type 0} (before behind : Option Index) (old new : BookState) (r : Result A BookFault) (IsFound IsAnswer : Content → A → Type 0)
+    → (new.is_clean → old.is_sound → old.is_open → IsNoted before old.content.events → IsNoted behind old.content.events)
+    → ((c : Content) (a : A) → IsNoted before c.events → IsFound c a → IsAnswer c a)
+    → Reads old new r IsFound → Reads (followed before old) (followed behind new) r IsAnswer
+reads_followed before behind old new r IsFound IsAnswer goes answers h = record {
+  clean = h.clean;
+  sound = λ k s. (h.sound k s.0, λ up. let same = h.same k s.0 up in here behind new.content old.content same.1 (goes k s.0 same.0 (s.1 same.0)));
+  value = λ k s. each r (s.1) (h.value k s.0);
+  same = λ k s. h.same k s.0;
+  stays = on r (λ f k s. f k s.0) h.stays;
+  stops = λ k s. h.stops k s.0;
+  keeps = λ k s. h.keeps k s.0;
+  cause = h.cause;
+  quiet = h.quiet;
+  counts = h.counts;
+}
+  where
+    each : (r : Result _ BookFault) → (old.is_open → IsNoted before old.content.events) → IfOk r (λ a. old.is_open × IsFound old.content a) → IfOk r (λ a. old.is_open × IsAnswer old.content a)
+    each (Ok a) noted p = (p.0, answers old.content a (noted p.0) p.1)
+    each (Err e) noted p = tt
+
+    on : {P Q : Type 0} (r : Result _ BookFault) → (P → Q) → OnOk r P → OnOk r Q
+    on (Ok a) f p = f p
+    on (Err e) f p = tt
+
+-- A commit. What is noted behind it is of the events that it made or, where it failed, of those that were held.
+pub commits_followed : (before behind : Option Index) (old new : BookState) (r : Result (Unit {0}) BookFault) (Follows : Content → Type 0) (after : Content → Content)
+    → (new.is_clean → old.is_sound → new.is_open → (old.is_open → IsNoted before old.content.events) → IsNoted behind new.content.events)
+    → Commits old new r Follows after → Commits (followed before old) (followed behind new) r Follows after
+commits_followed before behind old new r Follows after goes h = record {
+  clean = h.clean;
+  sound = λ k s. (h.sound k s.0, λ up. goes k s.0 up s.1);
+  opened = λ k s. h.opened k s.0;
+  made = λ k s. h.made k s.0;
+  undone = λ k s. h.undone k s.0;
+  stops = λ k s. h.stops k s.0;
+  cause = h.cause;
+  quiet = h.quiet;
+  counts = h.counts;
+}

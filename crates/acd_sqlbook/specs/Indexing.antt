@@ -1,0 +1,28 @@
+-- A book that has noted which events are at the devices that are watched.
+use Rattle.std.specs.Prelude.{ℕ, ◌≤◌, List, ◌++◌, Option, None, Some, ⊤}
+use Rattle.acd_terms.specs.Lists.{Every}
+use Rattle.acd_terms.specs.declared.event.Event.{Event}
+use Rattle.acd_book.specs.Content.{Content}
+use Rattle.acd_book.specs.Memory.{number_of}
+use Rattle.acd_book.specs.Order.{Rises}
+use Rattle.acd_book.specs.State.{BookState}
+use Rattle.acd_book.specs.Watched.{IsWatched}
+use Rattle.acd_sqlbook.specs.declared.index.Index.{Index}
+
+-- each list is of these events, and none of them has a greater number than the last one that was noted
+pub record Indexes (i : Index) (events : List Event) : Type 0 where
+  pub lists : IsWatched events i.watched
+  pub last : Every (λ (e : Event). e.number ≤ i.last) events
+
+-- the same, where anything was noted
+abbrev pub IsNoted : Option Index → List Event → Type 0
+IsNoted None events = ⊤
+IsNoted (Some i) events = Indexes i events
+
+-- the next index is of more events, which go on above all before
+abbrev pub GoesOn : Index → List Event → Index → Type 0
+GoesOn old more new = Rises number_of old.last more × ((events : List Event) → Indexes old events → Indexes new (events ++ more))
+
+-- a book that is sound only where what it noted is of the events that it holds
+abbrev pub followed : Option Index → BookState → BookState
+followed noted b = record b { is_sound = b.is_sound × (b.is_open → IsNoted noted b.content.events) }
