@@ -7,4 +7,5 @@ mod BookStates
 mod Rising
 mod Adopted
 mod Caused
+mod Indexed
 pub mod Followed
