@@ -68,13 +68,15 @@ more_there : (x : Event) (events some : List Event) → Every (IsThere events) s
 more_there x events [] all = tt
 more_there x events (y ∷ some) all = ((inr all.0.0, all.0.1), more_there x events some all.1)
 
+told_next : (device n : ℕ) (x : Event) (events : List Event) (b : Bool) → is_told (Some device) n x ≡ b → Every (IsThere events) (filter (is_told (Some device) n) events)
+    → Every (IsThere (x ∷ events)) (cond b (x ∷ filter (is_told (Some device) n) events) (filter (is_told (Some device) n) events))
+told_next device n x events true told rest =
+    ((inl refl, over_zero n x.number (right_part (is_at (Some device) x) (nat_lt n x.number) told)), more_there x events (filter (is_told (Some device) n) events) rest)
+told_next device n x events false told rest = more_there x events (filter (is_told (Some device) n) events) rest
+
 told_there : (device n : ℕ) (events : List Event) → Every (IsThere events) (filter (is_told (Some device) n) events)
 told_there device n [] = tt
-told_there device n (x ∷ events) = by (is_told (Some device) n x) refl
-  where
-    by : (b : Bool) → is_told (Some device) n x ≡ b → Every (IsThere (x ∷ events)) (cond b (x ∷ filter (is_told (Some device) n) events) (filter (is_told (Some device) n) events))
-    by true told = ((inl refl, over_zero n x.number (right_part (is_at (Some device) x) (nat_lt n x.number) told)), more_there x events (filter (is_told (Some device) n) events) (told_there device n events))
-    by false told = more_there x events (filter (is_told (Some device) n) events) (told_there device n events)
+told_there device n (x ∷ events) = told_next device n x events (is_told (Some device) n x) refl (told_there device n events)
 
 taken_there : (P : Event → Type 0) (limit : ℕ) (events : List Event) → Every P events → Every P (take limit events)
 taken_there P zero events all = tt
@@ -109,3 +111,13 @@ none_left i xs h = grind (arith, common_steps)
 
 pub all_taken : (i : ℕ) (xs : List Event) → length xs ≤ i → take i xs ≡ xs
 all_taken i xs h = grind (arith, common_steps)
+
+-- an event more, which goes on
+pub rises_on : (top i : ℕ) (events : List Event) (e : Event) → i < length events → e ≡ get_or events i e → top < e.number → Rises number_of e.number (drop (i + 1) events) → Rises number_of top (drop i events)
+rises_on top i events e low is up rest = subst (Rises number_of top) (sym (drop_next i events e low ∙ ap (λ (x : Event). x ∷ drop (i + 1) events) (sym is))) (up, rest)
+
+pub below_on : (top i : ℕ) (events : List Event) (e : Event) → i < length events → e ≡ get_or events i e → top < e.number → Every (λ (x : Event). x.number ≤ top) (take i events)
+    → Every (λ (x : Event). x.number ≤ e.number) (take (i + 1) events)
+below_on top i events e low is up all =
+    subst (Every (λ (x : Event). x.number ≤ e.number)) (sym (take_push i events e low ∙ ap (λ (x : Event). take i events ++ x ∷ []) (sym is)))
+    (all_both (λ (x : Event). x.number ≤ e.number) (take i events) (e ∷ []) (all_more top e.number (take i events) (omega (arith, up)) all) (omega arith, tt))
