@@ -8,4 +8,5 @@ mod Rising
 mod Adopted
 mod Caused
 mod Indexed
+mod PageFound
 pub mod Followed

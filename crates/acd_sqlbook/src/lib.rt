@@ -20,6 +20,7 @@ mod book;
 mod commit;
 mod index;
 pub mod laws;
+mod page;
 mod ready;
 mod transition;
 
