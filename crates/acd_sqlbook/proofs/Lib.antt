@@ -9,4 +9,5 @@ mod Adopted
 mod Caused
 mod Indexed
 mod PageFound
+mod Beginning
 pub mod Followed

@@ -16,6 +16,7 @@
 #![tactic(auto)]
 
 mod adopt;
+mod begun;
 mod book;
 mod commit;
 mod index;
