@@ -5,7 +5,19 @@ use Rattle.acd_book.specs.Content.{Content}
 use Rattle.acd_book.specs.State.{BookState, Reads, Commits}
 use Rattle.acd_book.specs.declared.fault.BookFault.{BookFault}
 use Rattle.acd_book.specs.declared.fault.BookFault.TheVariants.{Store}
-use Rattle.acd_sqlbook.specs.Indexing.{IsNoted, followed}
+use Rattle.acd_sqlbook.specs.Indexing.{IsNoted, IsNotedBehind, followed}
+use Rattle.sqlite.specs.declared.error.Error.{Error}
+use Rattle.sqlite.specs.State.{State, HasCleanDisk}
+use Rattle.acd_model.specs.declared.moves.Change.{Change}
+use Rattle.acd_book.specs.declared.kept.Kept.{Kept}
+use Rattle.acd_columns.specs.InTables.{content_of}
+use Rattle.acd_sqlbook.specs.Calls.{HasCommitted}
+use Rattle.acd_sqlbook.specs.Commit.{written_by}
+use Rattle.acd_sqlbook.specs.State.{IsSound}
+use Rattle.acd_sqlbook.proofs.BookStates.{held_is}
+use Rattle.acd_sqlbook.proofs.Committing.{written_events}
+use Rattle.acd_columns.specs.Draft.{Holds}
+use Rattle.std.specs.Prelude.{is_ok, true}
 use Rattle.acd_sqlbook.specs.declared.index.Index.{Index}
 
 -- one content is the other
@@ -53,3 +65,20 @@ commits_followed before behind old new r Follows after goes h = record {
   quiet = h.quiet;
   counts = h.counts;
 }
+
+-- what is noted behind a commit of changes is of the events that it leaves
+pub changes_goes : (before behind : Option Index) (old new : State) (r : Result (Unit {0}) Error) (changes : List Change) (events : List Event) (kept : Kept) → IsNotedBehind before r events behind
+    → HasCommitted old new r (written_by changes events kept) → HasCleanDisk new → IsSound old → IsTrue new.is_open → (IsTrue old.is_open → IsNoted before (content_of old.committed.trees).events)
+    → IsNoted behind (content_of new.committed.trees).events
+changes_goes before None old new r changes events kept on h k sound up noted = tt
+changes_goes before (Some next) old new (Err e) changes events kept on h k sound up noted = absurd (let apart = on.0 in cc)
+changes_goes before (Some next) old new (Ok a) changes events kept on h k sound up noted =
+    let was = h.was_open k up in
+    let held = sound.stands was in
+    let i = on.1.0 in
+    let goes = on.1.2 in
+    let of_old = subst (λ (o : Option Index). IsNoted o (content_of old.committed.trees).events) on.1.1 (noted was) in
+    let of_held = subst (λ (c : Content). IsNoted (Some i) c.events) (held_is old held.0 held.1) of_old in
+    let made = held_is new (written_by changes events kept held.0) (h.made k held.0 held.1) in
+    subst (λ (l : List Event). IsNoted (Some next) l) (sym (ap (λ (c : Content). c.events) made ∙ written_events changes events kept held.0 i.last goes.0 of_held.last))
+    (goes.1 held.0.events of_held)

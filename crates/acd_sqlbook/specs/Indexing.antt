@@ -1,5 +1,6 @@
 -- A book that has noted which events are at the devices that are watched.
-use Rattle.std.specs.Prelude.{ℕ, ◌≤◌, List, ◌++◌, Option, None, Some, ⊤}
+use Rattle.std.specs.Prelude.{◌≡◌, ℕ, ◌≤◌, List, ◌++◌, Option, None, Some, Result, is_ok, true, ⊤}
+use Rattle.sqlite.specs.declared.error.Error.{Error}
 use Rattle.acd_terms.specs.Lists.{Every}
 use Rattle.acd_terms.specs.declared.event.Event.{Event}
 use Rattle.acd_book.specs.Content.{Content}
@@ -26,3 +27,8 @@ GoesOn old more new = Rises number_of old.last more × ((events : List Event) �
 -- a book that is sound only where what it noted is of the events that it holds
 abbrev pub followed : Option Index → BookState → BookState
 followed noted b = record b { is_sound = b.is_sound × (b.is_open → IsNoted noted b.content.events) }
+
+-- what is noted behind a commit: nothing or, where it succeeded, an index that goes on
+abbrev pub IsNotedBehind : Option Index → Result (Unit {0}) Error → List Event → Option Index → Type 0
+IsNotedBehind before done more None = ⊤
+IsNotedBehind before done more (Some next) = (is_ok done ≡ true) × ((old : Index) × (before ≡ Some old) × GoesOn old more next)

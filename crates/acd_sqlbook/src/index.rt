@@ -5,11 +5,12 @@ ghost use Rattle.acd_terms.specs.Lists.{Every};
 ghost use Rattle.acd_terms.specs.declared.event.Event.{Event};
 ghost use Rattle.acd_book.specs.Memory.{number_of};
 ghost use Rattle.acd_book.specs.Order.{Rises};
-ghost use Rattle.acd_sqlbook.specs.Indexing.{GoesOn};
+ghost use Rattle.acd_sqlbook.specs.Indexing.{GoesOn, IsNotedBehind};
 
 use acd_book::Watched;
 use acd_model::Change;
 use acd_terms::Event;
+use sqlite::Error;
 
 /// For the device of each running monitor the numbers of its events, and the greatest of all numbers.
 #[derive(Drop)]
@@ -42,4 +43,20 @@ pub(crate) fn noted_on(index: Index, changes: &[Change], events: &[Event]) -> Op
     watched.change(changes, last);
     watched.note_all(events);
     Some(Index { watched, last: top })
+}
+
+/// What is noted behind a commit. A failure takes it away, and it begins anew at the next page.
+pub(crate) fn noted_behind(
+    before: Option<Index>,
+    done: &Result<(), Error>,
+    changes: &[Change],
+    events: &[Event],
+) -> Option<Index>
+    ensures { IsNotedBehind before done.now events.now result }
+{
+    let index = before?;
+    if done.is_err() {
+        return None;
+    }
+    noted_on(index, changes, events)
 }

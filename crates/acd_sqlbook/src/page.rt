@@ -32,7 +32,7 @@ fn page_at<S: Alter>(
     ensures found { Serves (state S.Store conn.old)
         → Finds (state S.Store conn.old) (state S.Store conn.new) result
         (λ c events. Indexes index.now c.events
-            → events.items ≡ take limit (filter (is_told (Some device) number) c.events)) }
+        → events.items ≡ take limit (filter (is_told (Some device) number) c.events)) }
     ensures blamed { Serves (state S.Store conn.old)
         → Blames (state S.Store conn.old) (state S.Store conn.new) result }
 {
@@ -55,7 +55,7 @@ fn page<S: Alter>(
     ensures idle { conn.new.in_transaction ≡ false }
     ensures found { Finds (state S.Store conn.old) (state S.Store conn.new) result
         (λ c events. Indexes index.now c.events
-            → events.items ≡ events_of_monitor c monitor number limit) }
+        → events.items ≡ events_of_monitor c monitor number limit) }
     ensures blamed { Blames (state S.Store conn.old) (state S.Store conn.new) result }
 {
     match monitor_at(alloc, conn, monitor)? {
@@ -83,7 +83,7 @@ pub(crate) fn page_ready<S: Alter>(
     ensures idle { conn.new.in_transaction ≡ false }
     ensures read { HasRead (state S.Store conn.old) (state S.Store conn.new) result
         (λ c events. Indexes index.now c.events
-            → events.items ≡ events_of_monitor c monitor number limit) }
+        → events.items ≡ events_of_monitor c monitor number limit) }
     ensures blamed { Blames (state S.Store conn.old) (state S.Store conn.new) result }
 {
     serve(conn, fresh)?;

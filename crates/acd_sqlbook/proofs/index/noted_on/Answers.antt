@@ -8,8 +8,7 @@ returns c =
     let i = c.args.index in
     let top = c.in_ok-top.top in
     let more = c.args.events.now in
-    let e = c.in_ok-top.ensures in
-    (
+    let e = c.in_ok-top.ensures in (
       e.0,
       λ events indexes. record {
         lists = c.note_all.ensures events (c.change.ensures events indexes.last indexes.lists);

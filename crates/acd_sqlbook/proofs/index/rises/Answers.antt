@@ -24,8 +24,7 @@ pub returns : goal.returns
 returns c =
     let inv = c.loop-event.invariant in
     let i = c.loop-event.event-index in
-    let events = c.args.events.now in
-    (
+    let events = c.args.events.now in (
       inv.rise (subst (Rises number_of c.loop-event.top) (sym (none_left i events c.loop-event-test.false)) tt),
       inv.low,
       subst (Every (λ (e : Event). e.number ≤ c.loop-event.top)) (all_taken i events c.loop-event-test.false) inv.all,
