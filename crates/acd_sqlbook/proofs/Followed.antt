@@ -5,7 +5,7 @@ use Rattle.acd_book.specs.Content.{Content}
 use Rattle.acd_book.specs.State.{BookState, Reads, Commits}
 use Rattle.acd_book.specs.declared.fault.BookFault.{BookFault}
 use Rattle.acd_book.specs.declared.fault.BookFault.TheVariants.{Store}
-use Rattle.acd_sqlbook.specs.Indexing.{IsNoted, IsNotedBehind, followed}
+use Rattle.acd_sqlbook.specs.Indexing.{IsNoted, IsNotedBehind, SoundWith, followed}
 use Rattle.sqlite.specs.declared.error.Error.{Error}
 use Rattle.sqlite.specs.State.{State, HasCleanDisk}
 use Rattle.acd_model.specs.declared.moves.Change.{Change}
@@ -24,31 +24,46 @@ use Rattle.acd_sqlbook.specs.declared.index.Index.{Index}
 here : (noted : Option Index) (c d : Content) → c ≡ d → IsNoted noted d.events → IsNoted noted c.events
 here noted c d same = subst (λ (x : Content). IsNoted noted x.events) (sym same)
 
--- A read, where what was noted before and what is noted behind it are of the events that are held. Its answer may rest on what was noted.
-pub reads_followed : {A : Type 0} (before behind : Option Index) (old new : BookState) (r : Result A BookFault) (IsFound IsAnswer : Content → A → Type 0)
-    → (new.is_clean → old.is_sound → old.is_open → IsNoted before old.content.events → IsNoted behind old.content.events)
-    → ((c : Content) (a : A) → IsNoted before c.events → IsFound c a → IsAnswer c a)
-    → Reads old new r IsFound → Reads (followed before old) (followed behind new) r IsAnswer
-reads_followed before behind old new r IsFound IsAnswer goes answers h = record {
-  clean = h.clean;
-  sound = λ k s. (h.sound k s.0, λ up. let same = h.same k s.0 up in here behind new.content old.content same.1 (goes k s.0 same.0 (s.1 same.0)));
-  value = λ k s. each r (s.1) (h.value k s.0);
-  same = λ k s. h.same k s.0;
-  stays = on r (λ f k s. f k s.0) h.stays;
-  stops = λ k s. h.stops k s.0;
-  keeps = λ k s. h.keeps k s.0;
-  cause = h.cause;
-  quiet = h.quiet;
-  counts = h.counts;
-}
-  where
-    each : (r : Result _ BookFault) → (old.is_open → IsNoted before old.content.events) → IfOk r (λ a. old.is_open × IsFound old.content a) → IfOk r (λ a. old.is_open × IsAnswer old.content a)
-    each (Ok a) noted p = (p.0, answers old.content a (noted p.0) p.1)
-    each (Err e) noted p = tt
+apart : (noted : Option Index) (b : BookState) → SoundWith noted b → b.is_sound × (b.is_open → IsNoted noted b.content.events)
+apart None b s = (s, λ up. tt)
+apart (Some i) b s = s
 
-    on : {P Q : Type 0} (r : Result _ BookFault) → (P → Q) → OnOk r P → OnOk r Q
-    on (Ok a) f p = f p
-    on (Err e) f p = tt
+both : (noted : Option Index) (b : BookState) → b.is_sound → (b.is_open → IsNoted noted b.content.events) → SoundWith noted b
+both None b s n = s
+both (Some i) b s n = (s, n)
+
+on : {A P Q : Type 0} (r : Result A BookFault) → (P → Q) → OnOk r P → OnOk r Q
+on (Ok a) f p = f p
+on (Err e) f p = tt
+
+-- A read, where what was noted before and what is noted behind it are of the events that are held. Its answer may rest on what was noted.
+module _ {A : Type 0} (before behind : Option Index) (old new : BookState) (r : Result A BookFault) (IsFound IsAnswer : Content → A → Type 0) where
+  found_with : (r : Result A BookFault) → (old.is_open → IsNoted before old.content.events) → ((c : Content) (a : A) → IsNoted before c.events → IsFound c a → IsAnswer c a)
+      → IfOk r (λ a. old.is_open × IsFound old.content a) → IfOk r (λ a. old.is_open × IsAnswer old.content a)
+  found_with (Ok a) noted answers p = (p.0, answers old.content a (noted p.0) p.1)
+  found_with (Err e) noted answers p = tt
+
+  pub reads_followed : (new.is_clean → old.is_sound → old.is_open → IsNoted before old.content.events → IsNoted behind old.content.events)
+      → ((c : Content) (a : A) → IsNoted before c.events → IsFound c a → IsAnswer c a)
+      → Reads old new r IsFound → Reads (followed before old) (followed behind new) r IsAnswer
+  reads_followed goes answers h = record {
+    clean = h.clean;
+    sound = λ k w.
+        let s = apart before old w in
+        both behind new (h.sound k s.0) (λ up. let same = h.same k s.0 up in here behind new.content old.content same.1 (goes k s.0 same.0 (s.1 same.0)));
+    value = λ k w. let s = apart before old w in found_with r s.1 answers (h.value k s.0);
+    same = λ k w. h.same k (apart before old w).0;
+    stays = on r (λ (f : new.is_clean → old.is_sound → new.is_open). λ (k : new.is_clean) (w : SoundWith before old). f k (apart before old w).0) h.stays;
+    stops = λ k w. h.stops k (apart before old w).0;
+    keeps = λ k w. h.keeps k (apart before old w).0;
+    cause = h.cause;
+    quiet = h.quiet;
+    counts = h.counts;
+  }
+
+-- a read that leaves what was noted as it was
+pub reads_kept : {A : Type 0} (noted : Option Index) (old new : BookState) (r : Result A BookFault) (IsAnswer : Content → A → Type 0) → Reads old new r IsAnswer → Reads (followed noted old) (followed noted new) r IsAnswer
+reads_kept noted old new r IsAnswer = reads_followed noted noted old new r IsAnswer IsAnswer (λ k s up n. n) (λ c a n p. p)
 
 -- A commit. What is noted behind it is of the events that it made or, where it failed, of those that were held.
 pub commits_followed : (before behind : Option Index) (old new : BookState) (r : Result (Unit {0}) BookFault) (Follows : Content → Type 0) (after : Content → Content)
@@ -56,11 +71,11 @@ pub commits_followed : (before behind : Option Index) (old new : BookState) (r :
     → Commits old new r Follows after → Commits (followed before old) (followed behind new) r Follows after
 commits_followed before behind old new r Follows after goes h = record {
   clean = h.clean;
-  sound = λ k s. (h.sound k s.0, λ up. goes k s.0 up s.1);
-  opened = λ k s. h.opened k s.0;
-  made = λ k s. h.made k s.0;
-  undone = λ k s. h.undone k s.0;
-  stops = λ k s. h.stops k s.0;
+  sound = λ k w. let s = apart before old w in both behind new (h.sound k s.0) (λ up. goes k s.0 up s.1);
+  opened = λ k w. h.opened k (apart before old w).0;
+  made = λ k w. h.made k (apart before old w).0;
+  undone = λ k w. h.undone k (apart before old w).0;
+  stops = λ k w. h.stops k (apart before old w).0;
   cause = h.cause;
   quiet = h.quiet;
   counts = h.counts;

@@ -12,7 +12,9 @@ use Rattle.acd_book.specs.Watched.{IsPage}
 use Rattle.acd_columns.specs.Finding.{Finds}
 use Rattle.acd_statements.specs.Picking.{picked}
 use Rattle.acd_statements.proofs.Chained.{behind, finds_so}
-use Rattle.acd_sqlbook.specs.Indexing.{Indexes}
+use Rattle.std.proofs.Common.{subst, IfOk, None}
+use Rattle.acd_sqlbook.specs.Calls.{HasRead}
+use Rattle.acd_sqlbook.specs.Indexing.{Indexes, IsNoted}
 use Rattle.acd_sqlbook.specs.declared.index.Index.{Index}
 use Rattle.acd_sqlbook.proofs.Indexed.{ascending, page_picked}
 
@@ -40,3 +42,16 @@ page_of old mid new index monitor number above limit o w r there h is =
     (λ (c : Content) (events : Vec Event Global). Indexes index c.events → events.items ≡ take limit (filter (is_told (Some w.device) above) c.events))
     (λ (c : Content) (events : Vec Event Global). Indexes index c.events → events.items ≡ events_of_monitor c monitor number limit) h
     (λ c events p q indexes. q indexes ∙ ap (λ n. take limit (filter (is_told (Some w.device) n) c.events)) is ∙ ap (λ o. watched_by o c.events number limit) (sym there ∙ p))
+
+-- by what is noted
+pub page_noted : (old new : State) (noted : Option Index) (index : Index) (monitor number limit : ℕ) (r : Result (Vec Event Global) Error) → noted ≡ Some index
+    → HasRead old new r (λ c events. Indexes index c.events → events.items ≡ events_of_monitor c monitor number limit)
+    → HasRead old new r (λ c events. IsNoted noted c.events → events.items ≡ events_of_monitor c monitor number limit)
+page_noted old new noted index monitor number limit r is h =
+    subst (λ (o : Option Index). HasRead old new r (λ c events. IsNoted o c.events → events.items ≡ events_of_monitor c monitor number limit)) (sym is) h
+
+pub page_unnoted : (old new : State) (noted : Option Index) (monitor number limit : ℕ) (r : Result (Vec Event Global) Error)
+    → HasRead old new r (λ c events. events.items ≡ events_of_monitor c monitor number limit)
+    → HasRead old new r (λ c events. IsNoted noted c.events → events.items ≡ events_of_monitor c monitor number limit)
+page_unnoted old new noted monitor number limit (Ok a) h = record { quiet = h.quiet; up = h.up; stops = h.stops; value = λ k c held n. h.value k c held }
+page_unnoted old new noted monitor number limit (Err e) h = record { quiet = h.quiet; up = λ k. tt; stops = h.stops; value = λ k. tt }

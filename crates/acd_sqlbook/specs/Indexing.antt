@@ -24,9 +24,14 @@ IsNoted (Some i) events = Indexes i events
 abbrev pub GoesOn : Index → List Event → Index → Type 0
 GoesOn old more new = Rises number_of old.last more × ((events : List Event) → Indexes old events → Indexes new (events ++ more))
 
--- a book that is sound only where what it noted is of the events that it holds
+-- its tables are as they were made and, where anything was noted, that is of the events that it holds
+abbrev pub SoundWith : Option Index → BookState → Type 0
+SoundWith None b = b.is_sound
+SoundWith (Some i) b = b.is_sound × (b.is_open → Indexes i b.content.events)
+
+-- a book with what was noted of its events; where nothing was, it is the book
 abbrev pub followed : Option Index → BookState → BookState
-followed noted b = record b { is_sound = b.is_sound × (b.is_open → IsNoted noted b.content.events) }
+followed noted b = record b { is_sound = SoundWith noted b }
 
 -- what is noted behind a commit: nothing or, where it succeeded, an index that goes on
 abbrev pub IsNotedBehind : Option Index → Result (Unit {0}) Error → List Event → Option Index → Type 0

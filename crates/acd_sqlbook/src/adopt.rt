@@ -45,6 +45,7 @@ impl<S: Alter> SqlBook<S> {
                 conn,
                 fresh: true,
                 failures: 0,
+                noted: None,
             }),
             Ok(Found::Book(Version::First)) => match migrate(&mut conn) {
                 Ok(()) => Ok(SqlBook {
@@ -52,6 +53,7 @@ impl<S: Alter> SqlBook<S> {
                     conn,
                     fresh: true,
                     failures: 0,
+                    noted: None,
                 }),
                 Err(error) => Err((fault_of(error), conn)),
             },

@@ -8,10 +8,10 @@ ghost use Rattle.acd_columns.specs.Finding.{Finds};
 ghost use Rattle.acd_statements.specs.Picking.{Serves};
 ghost use Rattle.acd_statements.specs.Reading.{Blames};
 ghost use Rattle.acd_sqlbook.specs.Calls.{HasRead};
-ghost use Rattle.acd_sqlbook.specs.Indexing.{Indexes};
+ghost use Rattle.acd_sqlbook.specs.Indexing.{Indexes, IsNoted};
 
 use crate::index::Index;
-use crate::ready::serve;
+use crate::ready::{serve, watched_ready};
 use acd_statements::{events_at, events_numbered, monitor_at};
 use acd_terms::{DeviceId, Event};
 use sqlite::{Alter, Connection, Error};
@@ -88,4 +88,29 @@ pub(crate) fn page_ready<S: Alter>(
 {
     serve(conn, fresh)?;
     page(alloc, conn, index, monitor, number, limit)
+}
+
+/// The first events of a running monitor above a number, by what is noted or, where nothing is, by a look at all.
+pub(crate) fn noted_page<S: Alter>(
+    alloc: Global,
+    conn: &mut Connection<S>,
+    fresh: bool,
+    noted: &Option<Index>,
+    monitor: u64,
+    number: u64,
+    limit: usize,
+) -> Result<Vec<Event>, Error>
+    requires idle { conn.old.in_transaction ≡ false }
+    requires fresh { IsTrue fresh → HasCleanDisk (state S.Store conn.old)
+        → IsTrue (state S.Store conn.old).is_open }
+    ensures idle { conn.new.in_transaction ≡ false }
+    ensures read { HasRead (state S.Store conn.old) (state S.Store conn.new) result
+        (λ c events. IsNoted noted.now c.events
+            → events.items ≡ events_of_monitor c monitor number limit) }
+    ensures blamed { Blames (state S.Store conn.old) (state S.Store conn.new) result }
+{
+    match noted {
+        Some(index) => page_ready(alloc, conn, fresh, index, monitor, number, limit),
+        None => watched_ready(alloc, conn, fresh, monitor, number, limit),
+    }
 }
