@@ -1,6 +1,6 @@
 //! A book over a connection.
 
-ghost use Rattle.std.specs.Prelude.{◌≡◌, ◌≢◌, ◌≤◌, false, Err, is_ok, IsTrue, IfOk, IfErr};
+ghost use Rattle.std.specs.Prelude.{◌≡◌, ◌≢◌, ◌≤◌, false, Err, None, is_ok, IsTrue, IfOk, IfErr};
 ghost use Rattle.sqlite.specs.State.{HasCleanDisk};
 ghost use Rattle.sqlite.specs.Held.{state};
 ghost use Rattle.acd_columns.specs.Schema.{no_schema};
@@ -86,6 +86,7 @@ impl<S: Alter> SqlBook<S> {
         requires { conn.in_transaction ≡ false }
         ensures made { IfOk result (λ b. HasCleanDisk (state S.Store b.conn) → IsNew (book_state (state S.Store b.conn) b.failures) limits) }
         ensures counted { IfOk result (λ b. b.failures ≡ 0) }
+        ensures unnoted { IfOk result (λ b. b.noted ≡ None) }
         ensures clean { IfOk result (λ b. HasCleanDisk (state S.Store b.conn) → HasCleanDisk (state S.Store conn)) }
         ensures refused { ¬ (LimitsFit limits) → result ≡ Err (BookFault.Store, conn) }
         ensures occupied { (state S.Store conn).now.schema ≢ no_schema → result ≡ Err (BookFault.Store, conn) }

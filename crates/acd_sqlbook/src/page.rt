@@ -106,7 +106,7 @@ pub(crate) fn noted_page<S: Alter>(
     ensures idle { conn.new.in_transaction ≡ false }
     ensures read { HasRead (state S.Store conn.old) (state S.Store conn.new) result
         (λ c events. IsNoted noted.now c.events
-            → events.items ≡ events_of_monitor c monitor number limit) }
+        → events.items ≡ events_of_monitor c monitor number limit) }
     ensures blamed { Blames (state S.Store conn.old) (state S.Store conn.new) result }
 {
     match noted {
