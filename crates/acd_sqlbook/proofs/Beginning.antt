@@ -11,7 +11,11 @@ use Rattle.acd_terms.specs.declared.event.Event.{Event}
 use Rattle.acd_terms.specs.declared.rows.Rows.{Rows}
 use Rattle.acd_book.specs.Content.{Content, events_behind}
 use Rattle.acd_columns.specs.Finding.{Finds}
-use Rattle.acd_statements.proofs.Chained.{chained, broken}
+use Rattle.acd_statements.proofs.Chained.{chained, broken, finds_so}
+use Rattle.std.proofs.Common.{Some, IsTrue}
+use Rattle.sqlite.specs.State.{HasCleanDisk}
+use Rattle.acd_columns.specs.Draft.{Quiet, NoStop}
+use Rattle.acd_sqlbook.specs.Calls.{HasRead}
 use Rattle.acd_columns.proofs.Recorded.{found_none}
 use Rattle.acd_sqlbook.specs.Indexing.{IsNoted}
 use Rattle.acd_sqlbook.specs.declared.index.Index.{Index}
@@ -46,3 +50,15 @@ pub begins_never : (old new : State) (e : Error) (r : Result (Option Index) Erro
 begins_never old new e r is h =
     subst (λ (r : Result (Option Index) Error). Finds old new r (λ c noted. IsNoted noted c.events)) (sym is)
     (found_none old new e (λ (c : Content) (found : Rows). found ≡ c.rows) (λ (c : Content) (noted : Option Index). IsNoted noted c.events) h)
+
+pub stays_noted : (old mid : State) (noted : Option Index) (index : Index) → noted ≡ Some index → Quiet old mid → (HasCleanDisk mid → IsTrue mid.is_open) → (HasCleanDisk mid → NoStop old mid)
+    → HasRead {A = Option Index} old mid (Ok (Some index)) (λ c next. IsNoted noted c.events → IsNoted next c.events)
+stays_noted old mid noted index is quiet live still = record {
+  quiet = quiet;
+  up = live;
+  stops = λ k stands. still k;
+  value = λ k c held n. subst (λ (o : Option Index). IsNoted o c.events) is n;
+}
+
+pub begins_anew : (old new : State) (noted : Option Index) (r : Result (Option Index) Error) → Finds old new r (λ c next. IsNoted next c.events) → Finds old new r (λ c next. IsNoted noted c.events → IsNoted next c.events)
+begins_anew old new noted r = finds_so old new r (λ (c : Content) (next : Option Index). IsNoted next c.events) (λ (c : Content) (next : Option Index). IsNoted noted c.events → IsNoted next c.events) (λ c held next is n. is)

@@ -61,3 +61,25 @@ pub(crate) fn begun_ready<S: Alter>(
     serve(conn, fresh)?;
     begun(alloc, conn)
 }
+
+/// What is noted of a book, which begins here where nothing is noted yet.
+pub(crate) fn noted_first<S: Alter>(
+    alloc: Global,
+    conn: &mut Connection<S>,
+    fresh: bool,
+    noted: Option<Index>,
+) -> Result<Option<Index>, Error>
+    requires idle { conn.old.in_transaction ≡ false }
+    requires fresh { IsTrue fresh → HasCleanDisk (state S.Store conn.old)
+        → IsTrue (state S.Store conn.old).is_open }
+    ensures idle { conn.new.in_transaction ≡ false }
+    ensures read { HasRead (state S.Store conn.old) (state S.Store conn.new) result
+        (λ c next. IsNoted noted c.events → IsNoted next c.events) }
+    ensures blamed { Blames (state S.Store conn.old) (state S.Store conn.new) result }
+{
+    serve(conn, fresh)?;
+    match noted {
+        Some(index) => Ok(Some(index)),
+        None => begun(alloc, conn),
+    }
+}
