@@ -1,10 +1,9 @@
 -- Calls over a book that has noted which events are at the devices that are watched.
-use Rattle.std.proofs.Common.{◌≡◌, List, ◌++◌, Option, None, Some, Result, Ok, Err, IsTrue, IfOk, OnOk, OnErr, IsErrOf, refl, sym, ap, subst, ◌∙◌}
+use Rattle.std.proofs.Common.{◌≡◌, List, Option, None, Some, Result, Ok, Err, IsTrue, IfOk, OnOk, sym, ap, subst, ◌∙◌}
 use Rattle.acd_terms.specs.declared.event.Event.{Event}
 use Rattle.acd_book.specs.Content.{Content}
 use Rattle.acd_book.specs.State.{BookState, Reads, Commits}
 use Rattle.acd_book.specs.declared.fault.BookFault.{BookFault}
-use Rattle.acd_book.specs.declared.fault.BookFault.TheVariants.{Store}
 use Rattle.acd_sqlbook.specs.Indexing.{IsNoted, IsNotedBehind, SoundWith, followed}
 use Rattle.sqlite.specs.declared.error.Error.{Error}
 use Rattle.sqlite.specs.State.{State, HasCleanDisk}
@@ -16,8 +15,6 @@ use Rattle.acd_sqlbook.specs.Commit.{written_by}
 use Rattle.acd_sqlbook.specs.State.{IsSound}
 use Rattle.acd_sqlbook.proofs.BookStates.{held_is}
 use Rattle.acd_sqlbook.proofs.Committing.{written_events}
-use Rattle.acd_columns.specs.Draft.{Holds}
-use Rattle.std.specs.Prelude.{is_ok, true}
 use Rattle.acd_sqlbook.specs.declared.index.Index.{Index}
 
 -- one content is the other

@@ -1,5 +1,5 @@
 -- A page of a monitor, by an index or by a look at all events.
-use Rattle.std.proofs.Common.{◌≡◌, ℕ, List, Option, Some, Result, Ok, Err, max, take, filter, map, sym, ap, ◌∙◌}
+use Rattle.std.proofs.Common.{◌≡◌, ℕ, List, Option, Some, Result, Ok, Err, max, take, filter, sym, ap, ◌∙◌}
 use Rattle.std.specs.Prelude.{Vec}
 use Rattle.std.specs.declared.alloc.Global.{Global}
 use Rattle.sqlite.specs.declared.error.Error.{Error}
@@ -12,7 +12,7 @@ use Rattle.acd_book.specs.Watched.{IsPage}
 use Rattle.acd_columns.specs.Finding.{Finds}
 use Rattle.acd_statements.specs.Picking.{picked}
 use Rattle.acd_statements.proofs.Chained.{behind, finds_so}
-use Rattle.std.proofs.Common.{subst, IfOk, None}
+use Rattle.std.proofs.Common.{subst}
 use Rattle.acd_sqlbook.specs.Calls.{HasRead}
 use Rattle.acd_sqlbook.specs.Indexing.{Indexes, IsNoted}
 use Rattle.acd_sqlbook.specs.declared.index.Index.{Index}

@@ -1,9 +1,8 @@
 -- A book that has noted which events are at the devices that are watched.
-use Rattle.std.specs.Prelude.{◌≡◌, ℕ, ◌≤◌, List, ◌++◌, Option, None, Some, Result, is_ok, true, ⊤}
+use Rattle.std.specs.Prelude.{◌≡◌, ◌≤◌, List, ◌++◌, Option, None, Some, Result, is_ok, true, ⊤}
 use Rattle.sqlite.specs.declared.error.Error.{Error}
 use Rattle.acd_terms.specs.Lists.{Every}
 use Rattle.acd_terms.specs.declared.event.Event.{Event}
-use Rattle.acd_book.specs.Content.{Content}
 use Rattle.acd_book.specs.Memory.{number_of}
 use Rattle.acd_book.specs.Order.{Rises}
 use Rattle.acd_book.specs.State.{BookState}

@@ -1,4 +1,4 @@
-use Rattle.std.proofs.Common.{◌≡◌, rules}
+use Rattle.std.proofs.Common.{rules}
 use Rattle.sqlite.specs.Held.{state}
 use Rattle.acd_sqlbook.specs.Indexing.{IsNoted}
 use Rattle.acd_sqlbook.proofs.Standing.{reads_behind}

@@ -1,6 +1,4 @@
-use Rattle.std.proofs.Common.{◌≡◌, ◌≤◌, List, [], rules, sym, ◌∙◌}
-use Rattle.acd_terms.specs.declared.event.Event.{Event}
-use Rattle.acd_terms.specs.Lists.{Every}
+use Rattle.std.proofs.Common.{◌≡◌, [], rules, sym, ◌∙◌}
 use Rattle.acd_sqlbook.proofs.Beginning.{none_behind}
 use Rattle.acd_sqlbook.proofs.begun.index_from.Goals as goal
 

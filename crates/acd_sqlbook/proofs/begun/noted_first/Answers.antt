@@ -1,10 +1,7 @@
-use Rattle.std.proofs.Common.{◌≡◌, Ok, Some, None, Option, Result, rules, subst, sym}
+use Rattle.std.proofs.Common.{rules}
 use Rattle.sqlite.specs.Held.{state}
-use Rattle.sqlite.specs.declared.error.Error.{Error}
-use Rattle.acd_book.specs.Content.{Content}
-use Rattle.acd_statements.proofs.Blamed.{blames_as, blames_behind, blames_done}
+use Rattle.acd_statements.proofs.Blamed.{blames_as, blames_behind}
 use Rattle.acd_sqlbook.specs.Indexing.{IsNoted}
-use Rattle.acd_sqlbook.specs.declared.index.Index.{Index}
 use Rattle.acd_sqlbook.proofs.Standing.{reads_behind}
 use Rattle.acd_sqlbook.proofs.Beginning.{stays_noted, begins_anew}
 use Rattle.acd_sqlbook.proofs.begun.noted_first.Goals as goal
