@@ -30,4 +30,4 @@ pub mod OldRuns
 pub mod Recast
 pub mod Following
 pub mod GroupLines
-mod Ahead
+pub mod Ahead

@@ -17,3 +17,7 @@ Reaches p number count = (p.above ≤ number) × ((length p.events.items < p.lim
 -- what is found behind any read, where the page is of the content that was read
 abbrev pub ReadsOn : {A : Type 0} → Page → BookState → BookState → Result A BookFault → (Content → A → Type 0) → Type 0
 ReadsOn page old new result IsAnswer = (before : BookState) → Reads before old (Ok tt) (λ (c : Content) (u : Unit {0}). IsPage c page) → Reads before new result IsAnswer
+
+-- a page of this content that has the first events above a number, so many
+abbrev pub Has : Content → Page → ℕ → ℕ → Type 0
+Has c p number count = IsPage c p × (events_behind p.events.items number count ≡ events_behind c.events number count)

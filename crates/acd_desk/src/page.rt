@@ -3,7 +3,7 @@
 ghost use Rattle.std.specs.Prelude.{◌≡◌, ◌≤◌, length, true, IfOk};
 ghost use Rattle.acd_book.specs.Content.{Content, events_behind};
 ghost use Rattle.acd_book.specs.State.{Reads};
-ghost use Rattle.acd_desk.specs.Pages.{IsPage, Reaches, ReadsOn};
+ghost use Rattle.acd_desk.specs.Pages.{Has, IsPage, Reaches, ReadsOn};
 ghost use Rattle.acd_desk.specs.Tells.{above};
 
 use acd_book::{Book, BookFault};
@@ -41,6 +41,17 @@ impl Page {
             && (self.events.len() < self.limit || has_behind(&self.events, number, count))
     }
 
+    // Reads the next page, where this one doesn't reach so far.
+    fn reach<B: Book>(&mut self, book: &mut B, number: u64, count: usize) -> Result<(), BookFault>
+        ensures { ReadsOn self.old (B.state book.old) (B.state book.new) result (λ c u. Has c self.new number count) }
+    {
+        if self.reaches(number, count) {
+            return Ok(());
+        }
+        *self = read_page(book, number, count.max(PAGE))?;
+        Ok(())
+    }
+
     /// The first events above a number. Where the page doesn't reach so far, the next one is read.
     pub(crate) fn events_after<B: Book>(
         &mut self,
@@ -51,9 +62,7 @@ impl Page {
     ) -> Result<Vec<Event>, BookFault>
         ensures { ReadsOn self.old (B.state book.old) (B.state book.new) result (λ c found. (found.items ≡ events_behind c.events number count) × IsPage c self.new) }
     {
-        if !self.reaches(number, count) {
-            *self = read_page(book, number, count.max(PAGE))?;
-        }
+        self.reach(book, number, count)?;
         Ok(first_behind(alloc, &self.events, number, count)?)
     }
 }
@@ -74,13 +83,16 @@ fn read_page<B: Book>(book: &mut B, above: u64, limit: usize) -> Result<Page, Bo
 fn has_behind(events: &[Event], number: u64, count: usize) -> bool
     ensures { result ≡ true → count ≤ length (above events.now number) }
 {
-    let mut found = 0;
+    let mut left = count;
     for event in events {
+        if left == 0 {
+            return true;
+        }
         if event.number > number {
-            found += 1;
+            left -= 1;
         }
     }
-    count <= found
+    left == 0
 }
 
 // The first of these above a number.
