@@ -31,3 +31,4 @@ pub mod Recast
 pub mod Following
 pub mod GroupLines
 pub mod Ahead
+pub mod ReadsAhead

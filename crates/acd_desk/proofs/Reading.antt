@@ -3,7 +3,7 @@ use Rattle.std.proofs.Common.{◌≡◌, ◌≤◌, ℕ, Result, Ok, Err, IfOk, 
 use Rattle.acd_book.specs.Content.{Content, HasRisen}
 use Rattle.acd_book.specs.State.{BookState, Reads}
 use Rattle.acd_book.specs.declared.fault.BookFault.{BookFault}
-use Rattle.acd_book.specs.declared.fault.BookFault.TheVariants.{NoMemory, Store}
+use Rattle.acd_book.specs.declared.fault.BookFault.TheVariants.{Store}
 
 ok_store : {A : Type 0} (x : A) → ◌≡◌ {A = Result A BookFault} (Ok x) (Err Store) → ⊥
 ok_store x h = cc
@@ -59,7 +59,7 @@ then_read {A = A} {C = C} {Q = Q} R a b d x r one two tells =
     stays_behind (Err f) h sound clean = tt
 
 -- a fault tells as little of one thing as of another
-pub fault_alone : {A C : Type 0} {P : Content → A → Type 0} (Q : Content → C → Type 0) (a b : BookState) (f : BookFault) → Reads {A = A} a b (Err f) P → Reads {A = C} a b (Err f) Q
+fault_alone : {A C : Type 0} {P : Content → A → Type 0} (Q : Content → C → Type 0) (a b : BookState) (f : BookFault) → Reads {A = A} a b (Err f) P → Reads {A = C} a b (Err f) Q
 fault_alone {A = A} {C = C} Q a b f r = record {
   clean = r.clean;
   sound = r.sound;
@@ -87,25 +87,3 @@ pub then_told : {A C D : Type 0} {P : Content → A → Type 0} {Q : Content →
     → Reads a b (Ok x) P → Reads b d (Ok y) Q → ((c : Content) → P c x → Q c y → R c z) → Reads a d (Ok z) R
 then_told {C = C} {P = P} {Q = Q} R a b d x y z one two tells =
     then_ok R a d y z (then_read (λ (c : Content) (found : C). P c x × Q c found) a b d x (Ok y) one two (λ c p found q. (p, q))) (λ c both. tells c both.0 both.1)
-
-no_store : {A : Type 0} → ◌≡◌ {A = Result A BookFault} (Err NoMemory) (Err Store) → ⊥
-no_store h = cc h
-
--- there is no memory behind a read
-pub then_no_memory : {A C : Type 0} {P : Content → A → Type 0} (Q : Content → C → Type 0) (a b : BookState) (x : A) (r : Result C BookFault) → Reads a b (Ok x) P → r ≡ Err NoMemory → Reads a b r Q
-then_no_memory {C = C} Q a b x r read is = subst (λ (r : Result C BookFault). Reads a b r Q) (sym is) (record {
-  clean = read.clean;
-  sound = read.sound;
-  value = λ clean sound. tt;
-  same = read.same;
-  stays = tt;
-  stops = read.stops;
-  keeps = read.keeps;
-  cause = λ is. absurd (no_store is);
-  quiet = λ none. read.quiet (λ is. ok_store x is);
-  counts = read.counts;
-})
-
--- a read that fails, whatever it would have told
-pub then_failed : {A C : Type 0} {P : Content → A → Type 0} (R : Content → C → Type 0) (a b : BookState) (f : BookFault) (r : Result C BookFault) → Reads {A = A} a b (Err f) P → r ≡ Err f → Reads a b r R
-then_failed {C = C} R a b f r read is = subst (λ (r : Result C BookFault). Reads a b r R) (sym is) (fault_alone R a b f read)
