@@ -8,11 +8,7 @@ use Rattle.acd_model.specs.Moves.{changed}
 use Rattle.acd_model.specs.Changes.{changed_by, rows_made}
 use Rattle.acd_model.specs.Writes.{with_group, with_station, with_agent, with_call, with_connection, with_monitor, without_call, without_connection, without_monitor, with_last}
 use Rattle.acd_model.proofs.ChangeLemmas.{changed_by_append}
-
-limits-changed : (s : Rows) (one : Change) → (changed s one).limits ≡ s.limits
-unfolding with_group with_station with_agent with_call with_connection with_monitor without_call without_connection without_monitor
-limits-changed s Nothing = refl
-limits-changed s _ = refl
+use Rattle.acd_lemmas.proofs.Changes.{limits-changed}
 
 last_event-changed : (s : Rows) (one : Change) → (changed s one).last_event ≡ s.last_event
 unfolding with_group with_station with_agent with_call with_connection with_monitor without_call without_connection without_monitor
@@ -24,10 +20,6 @@ changed-with_last : (s : Rows) (one : Change) (stamp moment event : ℕ) → cha
 unfolding with_group with_station with_agent with_call with_connection with_monitor without_call without_connection without_monitor with_last
 changed-with_last s Nothing a b e = refl
 changed-with_last s _ a b e = refl
-
-pub limits-changed_by : (s : Rows) (changes : List Change) → (changed_by s changes).limits ≡ s.limits
-limits-changed_by s [] = refl
-limits-changed_by s (one ∷ changes) = limits-changed_by (changed s one) changes ∙ limits-changed s one
 
 pub last_event-changed_by : (s : Rows) (changes : List Change) → (changed_by s changes).last_event ≡ s.last_event
 last_event-changed_by s [] = refl

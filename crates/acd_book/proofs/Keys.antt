@@ -1,20 +1,18 @@
 -- Keys of kept records.
-use Rattle.std.proofs.Common.{◌≡◌, ℕ, ◌+◌, Bool, true, false, ◌&&◌, ◌==◌, List, [], ◌∷◌, length, Option, Some, None, refl, ap, ap₂, ◌∙◌, sym, subst, eqb-true, eq-eqb, true≢false}
+use Rattle.std.proofs.Common.{◌≡◌, ℕ, Bool, true, false, ◌&&◌, ◌==◌, List, [], ◌∷◌, refl, ap, ap₂, ◌∙◌, sym, subst, eqb-true, eq-eqb}
 use Rattle.std.specs.Str.{bytes_eq}
-use Rattle.std.specs.Prelude.{is_none}
 use Rattle.std.specs.Cmp.Lexicographic.{same_text}
-use Rattle.std.proofs.lemmas.Bool.{and_from}
+use Rattle.std.proofs.lemmas.Bool.{and_from, and_parts}
 use Rattle.acd_terms.specs.declared.command.Request.{Request}
-use Rattle.acd_book.specs.Content.{is_key, kept_of}
+use Rattle.acd_book.specs.Content.{is_key}
 use Rattle.acd_book.specs.Memory.{key_of, is_kept_under, same_key}
 use Rattle.acd_book.specs.declared.kept.Kept.{Kept}
 use Rattle.acd_book.specs.declared.key.Key.{Key}
-use Rattle.acd_book.proofs.Numbered.{both}
 
 -- a request has the key of one that has it
 pub key_same : (p : List ℕ) (q : ℕ) (r : Request) → is_key p q r ≡ true → (r.requester ≡ p) × (r.invoke ≡ q)
 key_same p q r h =
-    let parts = both (bytes_eq r.requester p) (r.invoke == q) h in
+    let parts = and_parts (bytes_eq r.requester p) (r.invoke == q) h in
     (same_text r.requester p (sym parts.0), eqb-true r.invoke q parts.1)
 
 own_text : (t : List ℕ) → bytes_eq t t ≡ true
@@ -31,10 +29,10 @@ key p q = record { requester = p; invoke = q }
 pub same_is : (a b : Key) → same_key a b ≡ true → a ≡ b
 unfolding same_key
 same_is a b h =
-    let parts = both (bytes_eq a.requester b.requester) (a.invoke == b.invoke) h in
+    let parts = and_parts (bytes_eq a.requester b.requester) (a.invoke == b.invoke) h in
     ap₂ (λ (p : List ℕ) (q : ℕ). record { requester = p; invoke = q }) (same_text a.requester b.requester (sym parts.0)) (eqb-true a.invoke b.invoke parts.1)
 
-own_same : (a : Key) → same_key a a ≡ true
+pub own_same : (a : Key) → same_key a a ≡ true
 unfolding same_key
 own_same a = and_from (bytes_eq a.requester a.requester) (a.invoke == a.invoke) (own_text a.requester) (eq-eqb a.invoke a.invoke refl)
 
@@ -49,14 +47,3 @@ same_kept x k = agree (same_key (key_of x) k) (is_kept_under k x)
     (λ h. subst (λ (k : Key). is_kept_under k x ≡ true) (same_is (key_of x) k h) (key_own x.request))
     (λ h. let parts = key_same k.requester k.invoke x.request h in
     subst (λ (k : Key). same_key (key_of x) k ≡ true) (ap₂ (λ (p : List ℕ) (q : ℕ). record { requester = p; invoke = q }) parts.0 parts.1) (own_same (key_of x)))
-
-none_is : {T : Type 0} (o : Option T) → is_none o ≡ true → o ≡ None
-none_is None h = refl
-none_is (Some x) h = absurd (true≢false (sym h))
-
--- a record that is taken: its stamp is the next, and its key is new
-pub taken : (kept : List Kept) (x : Kept) → ((x.stamp == length kept + 1) && is_none (kept_of kept x.request.requester x.request.invoke)) ≡ true
-    → (x.stamp ≡ length kept + 1) × (kept_of kept x.request.requester x.request.invoke ≡ None)
-taken kept x h =
-    let parts = both (x.stamp == length kept + 1) (is_none (kept_of kept x.request.requester x.request.invoke)) h in
-    (eqb-true x.stamp (length kept + 1) parts.0, none_is (kept_of kept x.request.requester x.request.invoke) parts.1)

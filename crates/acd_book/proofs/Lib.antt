@@ -1,5 +1,5 @@
 mod Changing
-mod Numbered
+pub mod Numbered
 pub mod Keys
 mod Watching
 mod Places

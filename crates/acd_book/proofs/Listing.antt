@@ -18,6 +18,8 @@ use Rattle.acd_book.specs.Content.{is_at, is_told}
 use Rattle.acd_book.specs.Memory.{number_of}
 use Rattle.acd_book.specs.Watched.{IsListed}
 use Rattle.acd_book.specs.declared.numbers.Numbers.{Numbers}
+use Rattle.acd_lemmas.proofs.Keyed.{eqb_self}
+use Rattle.acd_lemmas.proofs.Numbers.{still_below}
 
 -- the list at each device, in the entries of a map
 abbrev pub Lists : Type 0
@@ -73,24 +75,18 @@ one_told : (c : Bool) (e : Event) → cond c (e.number ∷ []) [] ≡ map number
 one_told true e = refl
 one_told false e = refl
 
-own : (d : ℕ) → (d == d) ≡ true
-own d = grind (arith, nat_tests)
-
 -- an event at the device
 pub listed_here : (d : ℕ) (old new : Numbers) (e : Event) (events : List Event) → (columns_of e.report).device ≡ Some d → new.above ≡ old.above
     → new.numbers.items ≡ old.numbers.items ++ filter (nat_lt old.above) (e.number ∷ []) → IsListed events d old → IsListed (events ++ e ∷ []) d new
 listed_here d old new e events at same added listed =
     let told : filter (is_told (Some d) old.above) (e ∷ []) ≡ cond (nat_lt old.above e.number) (e ∷ []) []
-    = ap (λ (c : Bool). cond (c && nat_lt old.above e.number) (e ∷ []) []) (ap (λ (o : Option ℕ). has o d) at ∙ own d) in
+    = ap (λ (c : Bool). cond (c && nat_lt old.above e.number) (e ∷ []) []) (ap (λ (o : Option ℕ). has o d) at ∙ eqb_self d) in
     subst (λ (n : ℕ). new.numbers.items ≡ map number_of (filter (is_told (Some d) n) (events ++ e ∷ []))) (sym same)
     (added
     ∙ ap (λ (l : List ℕ). l ++ cond (nat_lt old.above e.number) (e.number ∷ []) []) listed
     ∙ ap (λ (l : List ℕ). map number_of (filter (is_told (Some d) old.above) events) ++ l) (one_told (nat_lt old.above e.number) e)
     ∙ sym (map-append number_of (filter (is_told (Some d) old.above) events) (cond (nat_lt old.above e.number) (e ∷ []) []))
     ∙ ap (map number_of) (ap (λ (l : List Event). filter (is_told (Some d) old.above) events ++ l) (sym told) ∙ sym (filter-append (is_told (Some d) old.above) events (e ∷ []))))
-
-lower : (low high n : ℕ) → low ≤ high → nat_lt high n ≡ true → nat_lt low n ≡ true
-lower low high n h above = grind (arith, nat_tests)
 
 -- an event more before those above a number
 above_more : (low high : ℕ) (e : Event) (events more : List Event) (a b c : Bool) → nat_lt low e.number ≡ b → nat_lt high e.number ≡ c → (c ≡ true → b ≡ true)
@@ -106,7 +102,7 @@ above_more low high e events more true false false p q h rest = rest
 numbers_above : (d low high : ℕ) (events : List Event) → low ≤ high → filter (nat_lt high) (map number_of (filter (is_told (Some d) low) events)) ≡ map number_of (filter (is_told (Some d) high) events)
 numbers_above d low high [] h = refl
 numbers_above d low high (e ∷ events) h =
-    above_more low high e (filter (is_told (Some d) low) events) (filter (is_told (Some d) high) events) (is_at (Some d) e) (nat_lt low e.number) (nat_lt high e.number) refl refl (lower low high e.number h)
+    above_more low high e (filter (is_told (Some d) low) events) (filter (is_told (Some d) high) events) (is_at (Some d) e) (nat_lt low e.number) (nat_lt high e.number) refl refl (still_below low high e.number h)
     (numbers_above d low high events h)
 
 take-map : {T S : Type 0} (f : T → S) (n : ℕ) (xs : List T) → take n (map f xs) ≡ map f (take n xs)
@@ -149,12 +145,6 @@ pub taken_min : (n : ℕ) (xs : List ℕ) → take (min n (length xs)) xs ≡ ta
 taken_min n xs = grind (arith, common_steps)
 
 -- ---- loops
-
-pub take-push : {T : Type 0} (i : ℕ) (l : List T) (d : T) → i < length l → take (i + 1) l ≡ take i l ++ get_or l i d ∷ []
-take-push i l d h = grind (arith, common_steps)
-
-pub every_event : {T : Type 0} (i : ℕ) (l : List T) → length l ≤ i → take i l ≡ l
-every_event i l h = take_all i l h
 
 -- ---- outcomes
 

@@ -4,14 +4,10 @@ use Rattle.std.proofs.Common.{true≢false, Option, Some, None, ◌<◌, inl, in
 use Rattle.acd_terms.specs.Lists.{Every}
 use Rattle.acd_book.specs.declared.kept.Kept.{Kept}
 use Rattle.acd_book.specs.Content.{IsKeptAfter}
-use Rattle.std.proofs.lemmas.Bool.{lt-ltb, le-ltb, and_from, eq-eqb}
+use Rattle.std.proofs.lemmas.Bool.{lt-ltb, le-ltb, and_from, eq-eqb, and_parts}
 use Rattle.std.proofs.Math.Bool.{and-true, and-false}
 use Rattle.acd_book.specs.Memory.{is_numbered, stamp_of}
-
-pub both : (a b : Bool) → (a && b) ≡ true → (a ≡ true) × (b ≡ true)
-both true true h = (refl, refl)
-both true false h = (refl, h)
-both false b h = (h, absurd (true≢false (sym h)))
+use Rattle.acd_lemmas.proofs.Lists.{filter_true}
 
 plus_zero : (b : ℕ) → b + 0 ≡ b
 plus_zero b = omega arith
@@ -21,12 +17,12 @@ zero_plus n = omega arith
 
 -- the number of the first, and the rest
 pub first : {T : Type 0} (f : T → ℕ) (b : ℕ) (x : T) (xs : List T) → is_numbered f b (x ∷ xs) ≡ true → (f x ≡ b + 1) × (is_numbered f (b + 1) xs ≡ true)
-first f b x xs h = let h = both (f x == b + 1) (is_numbered f (b + 1) xs) h in (eqb-true (f x) (b + 1) h.0, h.1)
+first f b x xs h = let h = and_parts (f x == b + 1) (is_numbered f (b + 1) xs) h in (eqb-true (f x) (b + 1) h.0, h.1)
 
 pub numbered-append : {T : Type 0} (f : T → ℕ) (b : ℕ) (xs ys : List T) → is_numbered f b xs ≡ true → is_numbered f (b + length xs) ys ≡ true → is_numbered f b (xs ++ ys) ≡ true
 numbered-append f b [] ys h more = subst (λ n. is_numbered f n ys ≡ true) (plus_zero b) more
 numbered-append f b (x ∷ xs) ys h more =
-    let parts = both (f x == b + 1) (is_numbered f (b + 1) xs) h in
+    let parts = and_parts (f x == b + 1) (is_numbered f (b + 1) xs) h in
     let behind : b + length (x ∷ xs) ≡ (b + 1) + length xs = omega arith in
     and_from (f x == b + 1) (is_numbered f (b + 1) (xs ++ ys)) parts.0
     (numbered-append f (b + 1) xs ys parts.1 (subst (λ n. is_numbered f n ys ≡ true) behind more))
@@ -44,7 +40,7 @@ below_all b m n (k ∷ kept) h least =
     ((λ above. omega (arith, parts.0, least)), below_all (b + 1) m n kept parts.1 (omega (arith, least)))
 
 -- one more at the front, which isn't above the number
-kept_after_more : (k : Kept) (kept : List Kept) (n : ℕ) (found : Option Kept) → k.stamp ≤ n → IsKeptAfter kept n found → IsKeptAfter (k ∷ kept) n found
+pub kept_after_more : (k : Kept) (kept : List Kept) (n : ℕ) (found : Option Kept) → k.stamp ≤ n → IsKeptAfter kept n found → IsKeptAfter (k ∷ kept) n found
 kept_after_more k kept n None below h = (below, h)
 kept_after_more k kept n (Some x) below h = (inr h.0, h.1, ((λ above. absurd (omega (arith, below, above))), h.2))
 
@@ -83,10 +79,6 @@ filter_numbered f p b (suc n) (x ∷ xs) h =
 -- those above a number that pass, behind the place of that number
 pub filter_above : {T : Type 0} (f : T → ℕ) (p : T → Bool) (n : ℕ) (xs : List T) → is_numbered f 0 xs ≡ true → filter (λ x. p x && nat_lt n (f x)) xs ≡ filter p (drop n xs)
 filter_above {T} f p n xs h = subst (λ (m : ℕ). filter (λ (x : T). p x && nat_lt m (f x)) xs ≡ filter p (drop n xs)) (zero_plus n) (filter_numbered f p 0 n xs h)
-
-filter_true : {T : Type 0} (xs : List T) → filter (λ _. true) xs ≡ xs
-filter_true [] = refl
-filter_true (x ∷ xs) = ap (λ l. x ∷ l) (filter_true xs)
 
 -- all above a number
 pub above : {T : Type 0} (f : T → ℕ) (n : ℕ) (xs : List T) → is_numbered f 0 xs ≡ true → filter (λ x. nat_lt n (f x)) xs ≡ drop n xs

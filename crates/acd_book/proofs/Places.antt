@@ -1,6 +1,6 @@
 -- Where the first record of a key stands, and the map of those places.
 use Rattle.std.proofs.Common.{arith, ◌≡◌, ℕ, ◌+◌, ◌-◌, ◌≤◌, suc, Bool, true, false, cond, List, [], ◌∷◌, ◌++◌, length, slice_get, Option, Some, None, refl, ap, ◌∙◌, sym, subst, find}
-use Rattle.std.specs.Prelude.{unwrap_or}
+use Rattle.std.specs.Prelude.{unwrap_or, Result, Ok, Err, OnOk, OnErr}
 use Rattle.std.specs.List.{position_from}
 use Rattle.std.specs.HashMap.{HashMap, get}
 use Rattle.std.specs.declared.hash.FoldHasher.{FoldHasher}
@@ -10,7 +10,7 @@ use Rattle.acd_book.specs.Content.{kept_of}
 use Rattle.acd_book.specs.Memory.{key_of, is_kept_under, same_key, IsPlaced}
 use Rattle.acd_book.specs.declared.kept.Kept.{Kept}
 use Rattle.acd_book.specs.declared.key.Key.{Key}
-use Rattle.acd_book.proofs.Keys.{key, same_is, same_kept}
+use Rattle.acd_book.proofs.Keys.{key, own_same, same_is, same_kept}
 
 -- the record at the first place
 some_is : (a b : ℕ) → Some a ≡ Some b → a ≡ b
@@ -97,3 +97,26 @@ placed_push old new kept x placed unkept updates k =
           at ∙ ap Some (sym (zero_plus (length kept))) ∙ sym (position_one (is_kept_under k) 0 kept x (sym (same_kept x k) ∙ same) none)
       | false ↦ λ other at. at ∙ placed k ∙ sym (position_other (is_kept_under k) 0 kept x (sym (same_kept x k) ∙ other))
     ]) refl (updates k)
+
+-- a place that was put in place of another, and the other in its place again
+pub put_back : (first mid last : Places) (key : Key) (old place : ℕ) → get same_key first key ≡ Some old
+    → ((k : Key) → get same_key mid k ≡ cond (same_key key k) (Some place) (get same_key first k))
+    → ((k : Key) → get same_key last k ≡ cond (same_key key k) (Some old) (get same_key mid k))
+    → (k : Key) → get same_key last k ≡ get same_key first k
+put_back first mid last key old place there one two k =
+    (elim (same_key key k) as (λ c. same_key key k ≡ c → get same_key mid k ≡ cond c (Some place) (get same_key first k) → get same_key last k ≡ cond c (Some old) (get same_key mid k) → get same_key last k ≡ get same_key first k) [
+      | true ↦ λ same put back. back ∙ sym (subst (λ (k : Key). get same_key first k ≡ Some old) (same_is key k same) there)
+      | false ↦ λ other put back. back ∙ put
+    ]) refl (one k) (two k)
+
+-- the key has a place in the map that it was put in
+pub has_place : (first mid : Places) (key : Key) (place : ℕ)
+    → ((k : Key) → get same_key mid k ≡ cond (same_key key k) (Some place) (get same_key first k))
+    → ¬ (get same_key mid key ≡ None)
+has_place first mid key place one none =
+    absurd (none-some place (sym none ∙ one key ∙ ap (λ (c : Bool). cond c (Some place) (get same_key first key)) (own_same key)))
+
+-- a call whose error can't be
+pub went : {A E : Type 0} (r : Result A E) (P N : Type 0) → OnOk r P → OnErr r N → ¬ N → P
+went (Ok x) P N ok err never = ok
+went (Err e) P N ok err never = absurd (never err)

@@ -1,5 +1,5 @@
 -- How a book in memory holds its content.
-use Rattle.std.specs.Prelude.{◌≡◌, ℕ, ◌+◌, ◌-◌, Bool, true, ◌&&◌, ◌==◌, List, [], ◌∷◌, slice_get, Option, None, if◌then◌else◌}
+use Rattle.std.specs.Prelude.{◌≡◌, ℕ, ◌+◌, ◌-◌, Bool, true, ◌&&◌, ◌==◌, List, [], ◌∷◌, slice_get, Option, Some, None, if◌then◌else◌}
 use Rattle.std.specs.List.{position_from}
 use Rattle.std.specs.HashMap.{HashMap, get}
 use Rattle.std.specs.declared.hash.FoldHasher.{FoldHasher}
@@ -38,3 +38,12 @@ same_key a b = (key.eq-value).it a b
 -- the map has the place of the first record of each key, and no other key
 abbrev pub IsPlaced : HashMap Key ℕ (BuildHasherDefault FoldHasher) → List Kept → Type 0
 IsPlaced places kept = (k : Key) → get same_key places k ≡ position_from (is_kept_under k) 0 kept
+
+-- the two maps have the same places
+abbrev pub HasSamePlaces : HashMap Key ℕ (BuildHasherDefault FoldHasher) → HashMap Key ℕ (BuildHasherDefault FoldHasher) → Type 0
+HasSamePlaces old new = (k : Key) → get same_key new k ≡ get same_key old k
+
+-- the old map doesn't have the key, the new one has this place for it, and each other key has the same in both
+pub record IsPlacedNew (old new : HashMap Key ℕ (BuildHasherDefault FoldHasher)) (new_key : Key) (place : ℕ) : Type 0 where
+  pub unplaced : get same_key old new_key ≡ None
+  pub placed : (k : Key) → get same_key new k ≡ (if same_key new_key k then Some place else get same_key old k)

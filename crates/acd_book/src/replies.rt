@@ -1,8 +1,8 @@
 //! The kept records of a book in memory.
 
-ghost use Rattle.std.specs.Prelude.{◌≡◌, ◌++◌, ◌∷◌, ◌+◌, ◌&&◌, ◌==◌, [], length, true, is_none, slice_get, option_copied, OnOk, OnErr};
+ghost use Rattle.std.specs.Prelude.{◌≡◌, ◌++◌, ◌∷◌, [], true, slice_get, option_copied, OnOk, OnErr};
 ghost use Rattle.acd_book.specs.Content.{kept_of, IsKeptAfter};
-ghost use Rattle.acd_book.specs.Memory.{is_numbered, stamp_of, IsPlaced};
+ghost use Rattle.acd_book.specs.Memory.{is_numbered, stamp_of, HasSamePlaces, IsPlaced, IsPlacedNew};
 
 use crate::kept::Kept;
 use crate::key::Key;
@@ -48,29 +48,34 @@ impl Replies {
         record_at(&self.records, stamp as usize)
     }
 
-    /// Its stamp goes on, and its key is new.
-    fn takes(&self, kept: &Kept) -> bool
-        ensures { result ≡ ((kept.now.stamp == length self.now.records.items + 1) && is_none (kept_of self.now.records.items kept.now.request.requester kept.now.request.invoke)) }
-    {
-        let request = &kept.request;
-        kept.stamp == self.records.len() as u64 + 1
-            && self.under(&request.requester, request.invoke).is_none()
-    }
-
     /// Adds a record. One whose stamp doesn't go on or whose key is there is refused as if there were no
     /// memory.
     pub(crate) fn push(&mut self, kept: Kept) -> Result<(), AllocError>
         ensures ok { OnOk result (self.new.records.items ≡ self.old.records.items ++ kept ∷ []) }
         ensures err { OnErr result (self.new.records.items ≡ self.old.records.items) }
     {
-        if !self.takes(&kept) {
+        let place = self.records.len();
+        if kept.stamp != place as u64 + 1 {
             return Err(AllocError);
         }
         self.records.reserve(1)?;
-        self.places.insert(kept.key(), self.records.len())?;
+        put_new(&mut self.places, &kept.key(), place)?;
         self.records.push(kept)?;
         Ok(())
     }
+}
+
+// Gives a new key its place. One that is there keeps the place that it has, and is refused as if there
+// were no memory: a place instead of another takes none.
+fn put_new(places: &mut HashMap<Key, usize>, key: &Key, place: usize) -> Result<(), AllocError>
+    ensures ok { OnOk result (IsPlacedNew places.old places.new key.now place) }
+    ensures err { OnErr result (HasSamePlaces places.old places.new) }
+{
+    let Some(old) = places.insert(*key, place)? else {
+        return Ok(());
+    };
+    let _ = places.insert(*key, old);
+    Err(AllocError)
 }
 
 fn record_at(records: &[Kept], place: usize) -> Option<&Kept>

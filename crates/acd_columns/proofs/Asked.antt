@@ -24,7 +24,7 @@ use Rattle.acd_terms.specs.declared.record.MonitorRecord.{MonitorRecord}
 use Rattle.acd_terms.specs.Columns.{columns_of}
 use Rattle.acd_model.specs.Scans.{monitor_of, has}
 use Rattle.sqlite.specs.Values.{or_null}
-use Rattle.acd_laws.proofs.State.{monitor_find}
+use Rattle.acd_lemmas.proofs.State.{monitor_find}
 use Rattle.acd_book.specs.Content.{Content, kept_of, is_key, is_told}
 use Rattle.acd_book.specs.declared.kept.Kept.{Kept}
 use Rattle.acd_columns.specs.declared.tables.Table.TheVariants as table
@@ -148,7 +148,7 @@ shows_monitor n old new rows c held h =
     ∙ take-map monitor_values 1 (filter (λ (w : MonitorRecord). w.monitor == n) c.rows.monitors)
     ∙ ap (map monitor_values) (first_found (λ (w : MonitorRecord). w.monitor == n) c.rows.monitors ∙ ap option_to_list (sym (monitor_find c.rows n)))
 
-text_tied : (s t : List ℕ) → is_eq (value_cmp (Text s) (Text t)) ≡ bytes_eq s t
+pub text_tied : (s t : List ℕ) → is_eq (value_cmp (Text s) (Text t)) ≡ bytes_eq s t
 text_tied s t = ap is_eq (value_cmp-Text s t) ∙ is_eq-slice_cmp s t
 
 pub two : (a b : Bool) → (is_true (from_truth (Some a)) && (is_true (from_truth (Some b)) && true)) ≡ (a && b)

@@ -13,8 +13,8 @@ use Rattle.sqlite_tied.specs.Compute.{everything}
 use Rattle.acd_terms.specs.Lists.{put_by, remove_by}
 use Rattle.acd_terms.specs.declared.record.ConnectionRecord.{ConnectionRecord}
 use Rattle.acd_model.specs.Scans.{at_connection}
-use Rattle.acd_laws.proofs.Keyed.{others_left}
-use Rattle.acd_laws.proofs.State.{by_connection}
+use Rattle.acd_lemmas.proofs.Keyed.{others_left}
+use Rattle.acd_lemmas.proofs.State.{by_connection}
 use Rattle.acd_book.specs.Content.{Content}
 use Rattle.acd_columns.specs.declared.tables.Table.TheVariants as table
 use Rattle.acd_columns.specs.declared.tables.Version.{Version}

@@ -19,8 +19,8 @@ use Rattle.acd_terms.specs.declared.record.MonitorRecord.{MonitorRecord}
 use Rattle.acd_model.specs.Rules.Plan.{group_order, agent_order, connection_order}
 use Rattle.acd_book.specs.Content.{Content}
 use Rattle.acd_book.specs.declared.kept.Kept.{Kept}
-use Rattle.acd_laws.proofs.Lists.{after_among, among-put, among-put_other, ascending-put, among_put}
-use Rattle.acd_laws.proofs.State.{connections_total}
+use Rattle.acd_lemmas.proofs.Lists.{after_among, among-put, among-put_other, ascending-put, among_put}
+use Rattle.acd_lemmas.proofs.State.{connections_total}
 use Rattle.acd_columns.specs.declared.tables.Table.TheVariants as table
 use Rattle.acd_columns.specs.declared.meta.Meta.{Meta}
 use Rattle.acd_columns.specs.declared.tables.Table.{Table}

@@ -6,7 +6,7 @@ use Rattle.sqlite_value.specs.Order.{Row, column}
 use Rattle.sqlite_schema.specs.declared.schema.Column.{Column as Made}
 use Rattle.sqlite_schema.specs.declared.schema.Kind.TheVariants.{Integer}
 use Rattle.sqlite_rules.specs.Cast.{cast, cast_all, cast_row}
-use Rattle.acd_columns.proofs.Ranged.{bound, guarded, some_same, row_is, beside}
+use Rattle.acd_columns.proofs.Ranged.{bound, guarded, row_is, beside}
 use Rattle.acd_columns.proofs.Common.{cast_id}
 use Rattle.acd_columns.proofs.SortLaws.{stored, back, casts, null_casts}
 use Rattle.acd_columns.specs.Fields.{Field, Makes, written, read_from, read_whole, shown_whole, Agree, Remade}
@@ -14,17 +14,12 @@ use Rattle.acd_columns.specs.Rows.{keyed_row}
 use Rattle.acd_columns.specs.Schema.{Layout, table_of}
 use Rattle.acd_columns.specs.Sorts.{value, read_at, type_in}
 use Rattle.acd_columns.specs.Values.{id_value, cells}
-
-pub first_is : {A : Type 0} (x y : A) (xs ys : List A) → x ∷ xs ≡ y ∷ ys → x ≡ y
-first_is x y xs ys e = cc (e)
-
-pub rest_is : {A : Type 0} (x y : A) (xs ys : List A) → x ∷ xs ≡ y ∷ ys → xs ≡ ys
-rest_is x y xs ys e = cc (e)
+use Rattle.acd_lemmas.proofs.Lists.{head_is, tail_is, some_is}
 
 module _ {R : Type 0} where
   -- what holds of all that is made holds of what was read
   kept : (fs : List (Field R)) (make : Makes R fs) (P : R → Type 0) (row : Row) (at : ℕ) (x : R) → Agree fs make P → read_from fs make row at ≡ Some x → P x
-  kept [] made P row at x agree h = subst P (some_same made x h) agree
+  kept [] made P row at x agree h = subst P (some_is made x h) agree
   kept (f ∷ fs) make P row at x agree h =
       let b = bound (read_at f.column row at) (λ v. read_from fs (make v) row (suc at)) x h in
       (kept fs (make b.0) (λ r. P r × (f.get r ≡ b.0)) row (suc at) x (agree b.0) b.2).0
@@ -59,8 +54,8 @@ module _ {R : Type 0} where
   casts_all (c ∷ cs) [] r e = refl
   casts_all (c ∷ cs) (f ∷ fs) r e =
       beside (cast c.kind (value f.column (f.get r))) (value f.column (f.get r)) (cast_all cs (written fs r)) (written fs r)
-      (ap (λ k. cast k (value f.column (f.get r))) (first_is _ _ _ _ e) ∙ casts f.column (f.get r))
-      (casts_all cs fs r (rest_is _ _ _ _ e))
+      (ap (λ k. cast k (value f.column (f.get r))) (head_is _ _ _ _ e) ∙ casts f.column (f.get r))
+      (casts_all cs fs r (tail_is _ _ _ _ e))
 
   -- the columns of a table take the row as it is, where the first is the number of the row
   pub fields_cast : (l : Layout) (fs : List (Field R)) (n : ℕ) (r : R) → map (λ (c : Made). c.kind) l.columns ≡ map (λ (f : Field R). type_in f.column) fs → written fs r ≡ id_value n ∷ drop 1 (written fs r)
@@ -69,11 +64,11 @@ module _ {R : Type 0} where
   fields_cast l (f ∷ fs) n r kinds e = go l.columns kinds
     where
       key : value f.column (f.get r) ≡ id_value n
-      key = first_is _ _ _ _ e
+      key = head_is _ _ _ _ e
 
       go : (cs : List Made) → map (λ (c : Made). c.kind) cs ≡ map (λ (f : Field R). type_in f.column) (f ∷ fs)
           → cast Integer (value f.column (f.get r)) ∷ cast_all cs (Null ∷ written fs r) ≡ value f.column (f.get r) ∷ Null ∷ written fs r
       go [] k = absurd (cc (k))
       go (c ∷ cs) k =
           beside _ _ _ _ (ap (cast Integer) key ∙ cast_id n ∙ sym key)
-          (beside _ _ _ _ (ap (λ x. cast x Null) (first_is _ _ _ _ k) ∙ null_casts f.column) (casts_all cs fs r (rest_is _ _ _ _ k)))
+          (beside _ _ _ _ (ap (λ x. cast x Null) (head_is _ _ _ _ k) ∙ null_casts f.column) (casts_all cs fs r (tail_is _ _ _ _ k)))

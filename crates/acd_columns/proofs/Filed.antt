@@ -23,7 +23,7 @@ use Rattle.sqlite.specs.Listing.{understood, reads_listing}
 use Rattle.sqlite.specs.State.{State, Executes, Shown}
 use Rattle.sqlite.proofs.Callers.{IsPlain, command_of}
 use Rattle.acd_terms.specs.Lists.{put_by, remove_by, Every}
-use Rattle.acd_laws.proofs.Lists.{every-put, every-remove}
+use Rattle.acd_lemmas.proofs.Lists.{every-put, every-remove, filter_true}
 use Rattle.std.specs.Ordering.{nat_cmp}
 use Rattle.acd_book.specs.Content.{Content}
 use Rattle.acd_columns.specs.Rows.{keyed_row}
@@ -40,7 +40,7 @@ use Rattle.acd_columns.proofs.Seeing.{AsksAll}
 use Rattle.acd_columns.proofs.Ordered.{asking}
 use Rattle.acd_columns.proofs.Puts.{Files, Inserts, inserted_row, truth_back}
 use Rattle.acd_columns.proofs.Removals.{Removes, removed_row}
-use Rattle.acd_columns.proofs.Scans.{scan, showing, filter_all}
+use Rattle.acd_columns.proofs.Scans.{scan, showing}
 use Rattle.acd_columns.proofs.Sets.{Sets, set_none, set_row}
 use Rattle.acd_columns.proofs.Statements.{Insertion, Replaces, inert_works}
 use Rattle.acd_columns.proofs.Updates.{Updating}
@@ -216,7 +216,7 @@ module _ {R : Type 0} (d : Description R) (f : Filed d) where
     pub shows_all : (old new : State) (rows : List Row) (c : Content) → Holds old c → Shown text [] old new rows → rows ≡ map d.values (d.records (relations_of c))
     shows_all old new rows c held h =
         listed text listing d.key (row_of d) d.values [] (λ r. true) lists old new rows (d.records (relations_of c)) (subst (Begins base) (sym (schema_is old c held)) s.begins) (held_by old c held) h
-        ∙ ap (map d.values) (filter_all (d.records (relations_of c)))
+        ∙ ap (map d.values) (filter_true (d.records (relations_of c)))
 
     pub asks : AsksAll d.table base text listing
     asks = record { tree = tree_is; all = refl; unlimited = refl; shows = λ row. ap (λ (t : Row × Bool). t.0) (f.of_row row) }

@@ -18,8 +18,9 @@ use Rattle.acd_columns.specs.Schema.{book_schema}
 use Rattle.acd_columns.specs.Relations.{pair_order, Relations, relations_of}
 use Rattle.acd_columns.specs.Content.{tree_of, Part, part, with_part, Stores, AreTables, AreHeaped}
 use Rattle.acd_columns.specs.Draft.{Drafts}
-use Rattle.acd_columns.proofs.KeyedRows.{apart, same_number}
+use Rattle.acd_columns.proofs.KeyedRows.{apart}
 use Rattle.acd_columns.proofs.Statements.{Replaces}
+use Rattle.acd_lemmas.proofs.Numbers.{same_number}
 
 apart_from : true ≡ false → ⊥
 apart_from e = cc (e)

@@ -44,7 +44,7 @@ use Rattle.sqlite.specs.Listing.{understood, reads_listing}
 use Rattle.sqlite.specs.State.{State, Executes, Shown}
 use Rattle.sqlite.proofs.Callers.{IsPlain, command_of, one_permutation, reads_as}
 use Rattle.acd_terms.specs.Lists.{Among, put_by}
-use Rattle.acd_laws.proofs.Lists.{filter_among}
+use Rattle.acd_lemmas.proofs.Lists.{filter_among, filter_true}
 use Rattle.acd_book.specs.Content.{Content}
 use Rattle.acd_columns.specs.declared.tables.Version.{Version}
 use Rattle.acd_columns.specs.declared.tables.Version.TheVariants as version
@@ -64,7 +64,7 @@ use Rattle.acd_columns.proofs.Members.{Differ, apart_under, same_members}
 use Rattle.acd_columns.proofs.Ordered.{asking, given, answered, strict}
 use Rattle.acd_columns.proofs.Puts.{truth_back}
 use Rattle.acd_columns.proofs.Ranged.{beside}
-use Rattle.acd_columns.proofs.Scans.{scan, showing, passing, filter_all}
+use Rattle.acd_columns.proofs.Scans.{scan, showing, passing}
 use Rattle.acd_columns.proofs.Seeing.{AsksAll}
 use Rattle.acd_columns.proofs.Sets.{set_none}
 use Rattle.acd_columns.proofs.Statements.{Changed, Insertion, inserted, Deletion, deletion_edit, deleted, Replaces, replaces, inert_works}
@@ -409,7 +409,7 @@ module _ {R : Type 0} (h : Heap R) (f : Heaped h) where
         let read = reads_as text [] old new own (begun base old.now.schema b) _ (s.selects b.0 old.now.schema) (s.plain b.0 old.now.schema) (s.unlisted b.0 old.now.schema) rows shown in
         let are = subst (λ (d : Database). AreRowsOf (d.trees h.layout.tree) (h.records (relations_of c))) (sym held.idle) (f.held (relations_of c) old.committed.trees held.encodes) in
         let all = shown_all (old.now.trees h.layout.tree) (h.records (relations_of c)) are in
-        let every : map part (old.now.trees h.layout.tree) ≡ map part (passing [] [] (old.now.trees h.layout.tree)) = ap (map part) (sym (filter_all (old.now.trees h.layout.tree))) in
+        let every : map part (old.now.trees h.layout.tree) ≡ map part (passing [] [] (old.now.trees h.layout.tree)) = ap (map part) (sym (filter_true (old.now.trees h.layout.tree))) in
         answered (by_both h) (by_both_total h) h.layout.tree [] (shown_columns (behind_both h)) by_columns no_limit old.now.trees [] rows out (h.records (relations_of c)) ranks are.ascending
         (subst (IsPermutation (map out (h.records (relations_of c)))) every all) read.answer
 

@@ -22,12 +22,13 @@ use Rattle.sqlite_rules.specs.Lists.{Has}
 use Rattle.sqlite_rules.proofs.ListLemmas.{all_has, all_from, has_filtered, has_kept, some_has, some_from}
 use Rattle.sqlite_rules.proofs.TableLemmas.{put_all_has, put_all_keeps, put_all_adds}
 use Rattle.acd_terms.specs.Lists.{Among, put_by}
-use Rattle.acd_laws.proofs.Keyed.{key_is}
-use Rattle.acd_laws.proofs.Lists.{eq_is, is_eq_of, among-filter, filter_among, among-put, among-put_other, among_put, ascending-filter, ascending-put}
+use Rattle.acd_lemmas.proofs.Keyed.{key_is}
+use Rattle.acd_lemmas.proofs.Lists.{eq_is, is_eq_of, among-filter, filter_among, among-put, among-put_other, among_put, ascending-filter, ascending-put}
 use Rattle.acd_columns.specs.Content.{AreHeaped}
 use Rattle.acd_columns.specs.Descriptions.{Heap, numbered_row, by_both}
 use Rattle.acd_columns.specs.Values.{id_value}
 use Rattle.acd_columns.proofs.Scans.{showing, passing, filter_like, all_out, any_mapped}
+use Rattle.acd_lemmas.proofs.Numbers.{eq_then}
 
 -- ---- two numbers
 
@@ -37,13 +38,8 @@ same_id m n e = let k : pos m ≡ pos n = cc in pos_same m n k
     pos_same : (m n : ℕ) → pos m ≡ pos n → m ≡ n
     pos_same m n e = cc
 
-then_tied : (a b : Ordering) → is_eq (ordering_then a b) ≡ (is_eq a && is_eq b)
-then_tied Less b = refl
-then_tied Equal b = refl
-then_tied Greater b = refl
-
 pub pair_tied : (m n p q : ℕ) → is_eq (ordering_then (nat_cmp m p) (nat_cmp n q)) ≡ ((p == m) && (q == n))
-pair_tied m n p q = then_tied (nat_cmp m p) (nat_cmp n q) ∙ ap₂ ◌&&◌ (key_is m p) (key_is n q)
+pair_tied m n p q = eq_then (nat_cmp m p) (nat_cmp n q) ∙ ap₂ ◌&&◌ (key_is m p) (key_is n q)
 
 pub both_same : (m n p q : ℕ) → ((p == m) && (q == n)) ≡ true → (p ≡ m) × (q ≡ n)
 both_same m n p q h = let k = and_parts (p == m) (q == n) h in (eqb-true p m k.0, eqb-true q n k.1)

@@ -11,12 +11,13 @@ use Rattle.acd_terms.specs.Groups.{least_group, further_groups}
 use Rattle.acd_terms.specs.Lists.{Among, AllAfter, IsAscending, put_by, remove_by}
 use Rattle.acd_terms.specs.declared.record.GroupRecord.{GroupRecord}
 use Rattle.acd_terms.specs.declared.record.AgentRecord.{AgentRecord}
-use Rattle.acd_laws.proofs.Keyed.{key_is, cmp_equal, cmp_self, eqb_self}
-use Rattle.acd_laws.proofs.Lists.{after_among}
+use Rattle.acd_lemmas.proofs.Keyed.{key_is, cmp_equal, cmp_self, eqb_self}
+use Rattle.acd_lemmas.proofs.Lists.{after_among}
 use Rattle.acd_columns.specs.declared.relations.GroupRow.{GroupRow}
 use Rattle.acd_columns.specs.declared.relations.AgentRow.{AgentRow}
 use Rattle.acd_columns.specs.declared.relations.GroupPriority.{GroupPriority}
 use Rattle.acd_columns.specs.Relations.{pair_order, group_part, agent_part, further_of, further_in, priority_part, priorities_in, priority_of, joined_group, groups_beside, behind_first, joined_agent, all_put, with_further, with_priority_of}
+use Rattle.acd_lemmas.proofs.Numbers.{greater_is}
 
 -- ---- numbers
 
@@ -133,9 +134,6 @@ pair_above m n g k e = ap (λ o. ordering_then o (nat_cmp g k)) e
 pair_same : (n g k : ℕ) → pair_order (n, g) (n, k) ≡ nat_cmp g k
 pair_same n g k = ap (λ o. ordering_then o (nat_cmp g k)) (cmp_self n n refl)
 
-turned : (m n : ℕ) → nat_cmp m n ≡ Less → nat_cmp n m ≡ Greater
-turned m n e = nat_cmp_total.antisymm n m ∙ ap ordering_reverse e
-
 -- they come from where they go before all that are there
 in_front : (n g : ℕ) (pairs : List (ℕ × ℕ)) → ((q : ℕ × ℕ) → Among q pairs → nat_cmp n q.0 ≡ Less) → put_by (pair_order (n, g)) pairs (n, g) ≡ (n, g) ∷ pairs
 in_front n g [] before = refl
@@ -153,7 +151,7 @@ all_in_front n (g ∷ gs) pairs up before =
     ∙ passed (pairs_of n gs) (n, g) pairs
     (λ p h.
     let from = pair_among n gs p h in
-    ap (λ (r : ℕ × ℕ). pair_order r (n, g)) from.2 ∙ pair_same n from.0 g ∙ turned g from.0 (after_among nat_cmp g gs from.0 up.0 from.1))
+    ap (λ (r : ℕ × ℕ). pair_order r (n, g)) from.2 ∙ pair_same n from.0 g ∙ greater_is g from.0 (after_among nat_cmp g gs from.0 up.0 from.1))
     ∙ ap (λ l. (n, g) ∷ l) (all_in_front n gs pairs up.1 before)
 
 among_append : {X : Type 0} (xs ys : List X) (z : X) → Among z (xs ++ ys) → Among z xs ⊎ Among z ys

@@ -12,24 +12,15 @@ use Rattle.sqlite_value.proofs.OrderLemmas.{value_cmp-Int}
 use Rattle.sqlite_trees.specs.Tree.{rowid, put_row}
 use Rattle.sqlite_rules.specs.Lists.{Has}
 use Rattle.acd_terms.specs.Lists.{Among, AllAfter, IsAscending, put_by}
-use Rattle.acd_laws.proofs.Keyed.{key_is}
-use Rattle.acd_laws.proofs.Lists.{after_among, after_lower, after_same, filter_all}
+use Rattle.acd_lemmas.proofs.Keyed.{key_is, eq_key}
+use Rattle.acd_lemmas.proofs.Lists.{after_among, after_lower, after_same, filter_all}
 use Rattle.acd_columns.specs.Values.{id_value}
 
 pub id_cmp : (m n : ℕ) → value_cmp (id_value m) (id_value n) ≡ nat_cmp m n
 id_cmp m n = value_cmp-Int (pos m) (pos n) ∙ grind (arith, ints, nat_tests)
 
-level : (m n : ℕ) → is_eq (nat_cmp m n) ≡ (m == n)
-level m n = grind (arith, nat_tests)
-
 pub id_tied : (m n : ℕ) → is_eq (value_cmp (id_value m) (id_value n)) ≡ (m == n)
-id_tied m n = ap is_eq (id_cmp m n) ∙ level m n
-
-pub same_number : (m n : ℕ) → (m == n) ≡ true → n ≡ m
-same_number m n h = grind (arith, nat_tests)
-
-pub own_number : (m : ℕ) → (m == m) ≡ true
-own_number m = grind (arith, nat_tests)
+id_tied m n = ap is_eq (id_cmp m n) ∙ eq_key m n
 
 -- `apart 0 1 refl`, of two numbers that are written out
 pub apart : (m n : ℕ) → (m == n) ≡ false → m ≡ n → ⊥

@@ -20,7 +20,7 @@ use Rattle.sqlite.specs.Effect.{Database}
 use Rattle.sqlite.specs.Listing.{understood, reads_listing}
 use Rattle.sqlite.specs.State.{State, HasCleanDisk, Shown}
 use Rattle.sqlite.proofs.Callers.{IsPlain, command_of, reads_as}
-use Rattle.acd_laws.proofs.Lists.{ascending-filter}
+use Rattle.acd_lemmas.proofs.Lists.{ascending-filter}
 use Rattle.acd_book.specs.Content.{Content}
 use Rattle.acd_columns.specs.Schema.{book_schema, nine, two, with_behind, Begins}
 use Rattle.acd_columns.specs.Values.{id_value}

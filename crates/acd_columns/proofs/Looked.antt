@@ -57,13 +57,14 @@ use Rattle.acd_columns.proofs.Listings.{Listing, Lists, query_of, listed, begun}
 use Rattle.acd_columns.proofs.Ordered.{given, in_some_order}
 use Rattle.acd_columns.proofs.Puts.{truth_back}
 use Rattle.acd_columns.specs.declared.texts.TheConstants.{SELECT_CONNECTIONS, SELECT_EVENTS_AFTER, SELECT_KEPT_AFTER, SELECT_LOW_EVENT, SELECT_LOW_KEPT, SELECT_META, SELECT_STANDING_CONNECTIONS, SELECT_VERSION}
-use Rattle.acd_columns.proofs.Scans.{showing, passing, filter_all}
+use Rattle.acd_columns.proofs.Scans.{showing, passing}
 use Rattle.acd_columns.proofs.Seen.{sees_so}
 use Rattle.acd_columns.proofs.Selections.{Selection, selected, meta_selection}
+use Rattle.acd_lemmas.proofs.Lists.{filter_true}
 
 -- ---- lists
 
-of_filter : {X : Type 0} (p : X → Bool) (xs : List X) (x : X) → Has (filter p xs) x → Has xs x × (p x ≡ true)
+pub of_filter : {X : Type 0} (p : X → Bool) (xs : List X) (x : X) → Has (filter p xs) x → Has xs x × (p x ≡ true)
 of_filter p [] x h = absurd h
 of_filter p (y ∷ ys) x h = go (of_filter p ys x) (p y) refl h
   where
@@ -173,7 +174,7 @@ pub shown_meta : (d : Database) (old new : State) (rows : List Row) → HasDatab
 unfolding meta_selection
 shown_meta d old new rows had b h =
     let own = with_behind nine b.0 d.schema in
-    subst (λ l. IsPermutation l rows) (ap (map (values_in table.Meta)) (filter_all (d.trees schema.meta.tree))) (in_database own own SELECT_META.now (meta_selection b.0 d.schema) d old new rows had (begun nine d.schema b) h)
+    subst (λ l. IsPermutation l rows) (ap (map (values_in table.Meta)) (filter_true (d.trees schema.meta.tree))) (in_database own own SELECT_META.now (meta_selection b.0 d.schema) d old new rows had (begun nine d.schema b) h)
 
 -- whatever tables are behind the first
 abbrev first : List Made
@@ -190,7 +191,7 @@ pub shown_version : (d : Database) (old new : State) (rows : List Row) → HasDa
     → IsPermutation (map (λ r. column r 2 ∷ []) (d.trees schema.meta.tree)) rows
 unfolding version_selection
 shown_version d old new rows had b h =
-    subst (λ l. IsPermutation l rows) (ap (map (λ (r : Row). column r 2 ∷ [])) (filter_all (d.trees schema.meta.tree)))
+    subst (λ l. IsPermutation l rows) (ap (map (λ (r : Row). column r 2 ∷ [])) (filter_true (d.trees schema.meta.tree)))
     (in_database (with_behind first b.0 d.schema) (with_behind first b.0 d.schema) SELECT_VERSION.now (version_selection b.0 d.schema) d old new rows had (begun first d.schema b) h)
 
 -- the tables of either version

@@ -15,7 +15,7 @@ use Rattle.sqlite.proofs.Callers.{one_permutation}
 use Rattle.sqlite.specs.Effect.{value_rows}
 use Rattle.sqlite.specs.State.{State, Executes}
 use Rattle.acd_terms.specs.Lists.{Among, IsAscending, put_by}
-use Rattle.acd_laws.proofs.Lists.{ascending-put}
+use Rattle.acd_lemmas.proofs.Lists.{ascending-put}
 use Rattle.acd_columns.specs.Values.{id_value}
 use Rattle.acd_columns.specs.Content.{AreRows}
 use Rattle.acd_columns.specs.Schema.{Layout, table_of}

@@ -17,6 +17,7 @@ use Rattle.acd_columns.specs.Schema.{book_schema}
 use Rattle.acd_book.specs.Content.{Content}
 use Rattle.acd_columns.specs.Draft.{Holds, Quiet, NoStop}
 use Rattle.acd_columns.proofs.Endings.{holds_still, rolled_back}
+use Rattle.acd_columns.proofs.Listings.{schema_is}
 
 fails_show : (old new : State) (sql : List ℕ) (c : Compiled) (params : Row) (e : Error) (r : Option Returning) → FailsToShow old new sql c params e r → IsUnchanged old new ⊎ IsRolledBack old new
 fails_show old new sql c params e None h = inl h.3
@@ -69,9 +70,6 @@ module _ (old new : State) {P : Trees → Type 0} (s : Survives old new P) where
   -- where what it may commit cannot be
   pub quiet_stops : HasCleanDisk new → ((db : Trees) → ¬ P db) → NoStop old new
   quiet_stops k never db left = elim (s.crash k db left) [ inl was ↦ was | inr made ↦ absurd (never db made) ]
-
-schema_is : (old : State) (c : Content) → Holds old c → old.now.schema ≡ book_schema
-schema_is old c h = ap (λ (d : Database). d.schema) h.idle ∙ h.schema
 
 pub plain_at : (sql : List ℕ) (old : State) (c : Content) → IsPlain (understood book_schema sql) → Holds old c → IsPlain (understood old.now.schema sql)
 plain_at sql old c plain h = subst (λ s. IsPlain (understood s sql)) (sym (schema_is old c h)) plain

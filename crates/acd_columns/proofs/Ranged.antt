@@ -17,9 +17,10 @@ use Rattle.acd_terms.specs.declared.state.Pending.{Pending}
 use Rattle.acd_terms.specs.declared.state.ConnectionState.{ConnectionState}
 use Rattle.acd_terms.specs.declared.event.EventKind.{EventKind}
 use Rattle.acd_terms.specs.declared.event.Cause.{Cause}
-use Rattle.acd_laws.proofs.Lists.{find_passes}
+use Rattle.acd_lemmas.proofs.Lists.{find_passes, some_is}
 use Rattle.acd_columns.specs.Codes.{with_code, agent_states, pending_states, connection_states, causes, kinds, agent_state_of, pending_of, connection_state_of, kind_of, cause_of, agent_code, pending_code, connection_code, kind_code, cause_code}
 use Rattle.acd_columns.specs.Values.{id_value, cells, option_in, ◌>>=◌, text_of, is_null, text_at, whole_at, at_least, stamp_at, serial_at, moment_at, seconds_at, priority_at, device_at, agent_at, name_at, agent_state_at, pending_at, connection_state_at, kind_at, cause_at, utf8_of, or_none}
+use Rattle.acd_lemmas.proofs.Numbers.{same_number}
 
 -- ---- UTF-8
 
@@ -39,14 +40,11 @@ pub guarded : {B : Type 0} (b : Bool) (o : Option B) (y : B) → cond b o None �
 guarded false o y h = absurd (cc h)
 guarded true o y h = (refl, h)
 
-pub some_same : {A : Type 0} (x y : A) → Some x ≡ Some y → x ≡ y
-some_same x y e = cc e
-
 -- ---- values
 
 whole_is : (v : Value) (n : ℕ) → option_in v ≡ Some n → v ≡ id_value n
 whole_is Null n e = absurd (cc e)
-whole_is (Int (pos m)) n e = ap id_value (some_same m n e)
+whole_is (Int (pos m)) n e = ap id_value (some_is m n e)
 whole_is (Int (negsuc m)) n e = absurd (cc e)
 whole_is (Real x) n e = absurd (cc e)
 whole_is (Text t) n e = absurd (cc e)
@@ -56,7 +54,7 @@ text_is : (v : Value) (t : List ℕ) → text_of v ≡ Some t → v ≡ Text t
 text_is Null t e = absurd (cc e)
 text_is (Int n) t e = absurd (cc e)
 text_is (Real x) t e = absurd (cc e)
-text_is (Text s) t e = ap Text (some_same s t e)
+text_is (Text s) t e = ap Text (some_is s t e)
 text_is (Blob b) t e = absurd (cc e)
 
 pub null_is : (v : Value) → is_null v ≡ true → v ≡ Null
@@ -76,44 +74,44 @@ module _ (r : Row) (at : ℕ) where
 
   pub stamp_stored : (n : ℕ) → stamp_at r at ≡ Some n → column r at ≡ id_value n
   unfolding stamp_at
-  stamp_stored n h = passed (at_least 1) (λ m k e. some_same m k (guarded _ (Some m) k e).1) (column r at) n h
+  stamp_stored n h = passed (at_least 1) (λ m k e. some_is m k (guarded _ (Some m) k e).1) (column r at) n h
 
   pub serial_stored : (n : ℕ) → serial_at r at ≡ Some n → column r at ≡ id_value n
   unfolding serial_at number_between
-  serial_stored n h = passed (number_between 1 1000000000) (λ m k e. some_same m k (guarded _ (Some m) k e).1) (column r at) n h
+  serial_stored n h = passed (number_between 1 1000000000) (λ m k e. some_is m k (guarded _ (Some m) k e).1) (column r at) n h
 
   pub moment_stored : (n : ℕ) → moment_at r at ≡ Some n → column r at ≡ id_value n
   unfolding moment_at number_between
-  moment_stored n h = passed (number_between 0 4294967295) (λ m k e. some_same m k (guarded _ (Some m) k e).1) (column r at) n h
+  moment_stored n h = passed (number_between 0 4294967295) (λ m k e. some_is m k (guarded _ (Some m) k e).1) (column r at) n h
 
   pub seconds_stored : (n : ℕ) → seconds_at r at ≡ Some n → column r at ≡ id_value n
   unfolding seconds_at number_between
-  seconds_stored n h = passed (number_between 0 3600) (λ m k e. some_same m k (guarded _ (Some m) k e).1) (column r at) n h
+  seconds_stored n h = passed (number_between 0 3600) (λ m k e. some_is m k (guarded _ (Some m) k e).1) (column r at) n h
 
   pub priority_stored : (n : ℕ) → priority_at r at ≡ Some n → column r at ≡ id_value n
   unfolding priority_at number_between
-  priority_stored n h = passed (number_between 1 9) (λ m k e. some_same m k (guarded _ (Some m) k e).1) (column r at) n h
+  priority_stored n h = passed (number_between 1 9) (λ m k e. some_is m k (guarded _ (Some m) k e).1) (column r at) n h
 
   pub device_stored : (n : ℕ) → device_at r at ≡ Some n → column r at ≡ id_value n
   unfolding device_at id_with
-  device_stored n h = passed (id_with 15) (λ m k e. some_same m k (guarded (is_number_of 15 m) (Some m) k e).1) (column r at) n h
+  device_stored n h = passed (id_with 15) (λ m k e. some_is m k (guarded (is_number_of 15 m) (Some m) k e).1) (column r at) n h
 
   pub agent_id_stored : (n : ℕ) → agent_at r at ≡ Some n → column r at ≡ id_value n
   unfolding agent_at id_with
-  agent_id_stored n h = passed (id_with 9) (λ m k e. some_same m k (guarded (is_number_of 9 m) (Some m) k e).1) (column r at) n h
+  agent_id_stored n h = passed (id_with 9) (λ m k e. some_is m k (guarded (is_number_of 9 m) (Some m) k e).1) (column r at) n h
 
   -- NULL, or the value of what was read
   pub or_none_stored : {A : Type 0} (read : Row → ℕ → Option A) (value : A → Value) → ((x : A) → read r at ≡ Some x → column r at ≡ value x)
       → (o : Option A) → or_none read r at ≡ Some o → column r at ≡ or_null value o
   or_none_stored {A = A} read value stored o h =
       (elim (is_null (column r at)) as (λ b. is_null (column r at) ≡ b → cond b (Some None) (option_map Some (read r at)) ≡ Some o → column r at ≡ or_null value o) [
-        | true ↦ λ e k. subst (λ x. column r at ≡ or_null value x) (some_same None o k) (null_is (column r at) e)
+        | true ↦ λ e k. subst (λ x. column r at ≡ or_null value x) (some_is None o k) (null_is (column r at) e)
         | false ↦ λ e k. go (read r at) refl k
       ]) refl h
     where
       go : (found : Option A) → read r at ≡ found → option_map Some found ≡ Some o → column r at ≡ or_null value o
       go None e k = absurd (cc k)
-      go (Some x) e k = subst (λ z. column r at ≡ or_null value z) (some_same (Some x) o k) (stored x e)
+      go (Some x) e k = subst (λ z. column r at ≡ or_null value z) (some_is (Some x) o k) (stored x e)
 
 -- ---- texts
 
@@ -122,7 +120,7 @@ passes_on true e x name h = absurd (cc h)
 passes_on false e x name h = h
 
 found_none : (o : Option ℕ) (t name : List ℕ) → result_ok (text_or_fault o t) ≡ Some name → t ≡ name
-found_none None t name h = some_same t name h
+found_none None t name h = some_is t name h
 found_none (Some place) t name h = absurd (cc h)
 
 name_same : (passes : ℕ → Bool) (longest : ℕ) (t name : List ℕ) → result_ok (read_text passes longest t) ≡ Some name → t ≡ name
@@ -143,11 +141,8 @@ text_stored r at t h = text_is (column r at) t h
 
 -- ---- codes
 
-code_same : (m n : ℕ) → (m == n) ≡ true → n ≡ m
-code_same m n h = grind (arith, nat_tests)
-
 coded : {A : Type 0} (code : A → ℕ) (all : List A) (n : ℕ) (x : A) → with_code code all n ≡ Some x → n ≡ code x
-coded code all n x h = code_same (code x) n (find_passes (λ a. code a == n) all x h)
+coded code all n x h = same_number (code x) n (find_passes (λ a. code a == n) all x h)
 
 -- the value is that of the code
 with_own : {A : Type 0} (code : A → ℕ) (all : List A) (v : Value) (x : A) → (option_in v >>= with_code code all) ≡ Some x → v ≡ id_value (code x)
@@ -185,7 +180,7 @@ all_cells [] = refl
 all_cells (v ∷ r) = ap (λ l. v ∷ l) (shifted 0 (length r) v r ∙ all_cells r)
 
 pub row_is : (n : ℕ) (r : Row) → (length r == n) ≡ true → r ≡ cells 0 n r
-row_is n r h = subst (λ k. r ≡ cells 0 k r) (sym (code_same (length r) n h)) (sym (all_cells r))
+row_is n r h = subst (λ k. r ≡ cells 0 k r) (sym (same_number (length r) n h)) (sym (all_cells r))
 
 pub beside : (u v : Value) (r s : Row) → u ≡ v → r ≡ s → u ∷ r ≡ v ∷ s
 beside u v r s e f = ap (λ x. x ∷ r) e ∙ ap (λ l. v ∷ l) f

@@ -8,29 +8,17 @@ use Rattle.sqlite.specs.declared.error.Error.{Error}
 use Rattle.sqlite.specs.State.{State}
 use Rattle.acd_book.specs.Content.{Content}
 use Rattle.acd_columns.specs.Finding.{Finds}
+use Rattle.acd_lemmas.proofs.Lists.{map-push, take-push, head_is, tail_is}
 
 -- ---- rows, one after the other
-
-mapped_push : {X Y : Type 0} (f : X → Y) (xs : List X) (x : X) → map f (xs ++ x ∷ []) ≡ map f xs ++ f x ∷ []
-mapped_push f [] x = refl
-mapped_push f (y ∷ xs) x = ap (λ l. f y ∷ l) (mapped_push f xs x)
-
-take_push : {X : Type 0} (i : ℕ) (xs : List X) (d : X) → i < length xs → take (i + 1) xs ≡ take i xs ++ get_or xs i d ∷ []
-take_push i xs d h = grind (arith, common_steps)
 
 pub one_more : {R : Type 0} (in_row : Row → Option R) (i : ℕ) (rows : List Row) (row d : Row) (found next : List R) (x : R) → map Some found ≡ map in_row (take i rows) → row ≡ get_or rows i d → i < length rows
     → Some x ≡ in_row row → next ≡ found ++ x ∷ [] → map Some next ≡ map in_row (take (i + 1) rows)
 one_more in_row i rows row d found next x so_far at low is pushed =
-    ap (map Some) pushed ∙ mapped_push Some found x ∙ ap₂ (λ l o. l ++ o ∷ []) so_far (is ∙ ap in_row at)
-    ∙ sym (ap (map in_row) (take_push i rows d low) ∙ mapped_push in_row (take i rows) (get_or rows i d))
+    ap (map Some) pushed ∙ map-push Some found x ∙ ap₂ (λ l o. l ++ o ∷ []) so_far (is ∙ ap in_row at)
+    ∙ sym (ap (map in_row) (take-push i rows d low) ∙ map-push in_row (take i rows) (get_or rows i d))
 
 -- ---- back to the records
-
-pub first_of : {A : Type 0} (x y : A) (xs ys : List A) → x ∷ xs ≡ y ∷ ys → x ≡ y
-first_of x y xs ys e = cc
-
-rest_of : {A : Type 0} (x y : A) (xs ys : List A) → x ∷ xs ≡ y ∷ ys → xs ≡ ys
-rest_of x y xs ys e = cc
 
 module _ {R : Type 0} (in_row : Row → Option R) (values : R → Row) (exact : (row : Row) (x y : R) → in_row row ≡ Some x → row ≡ values y → x ≡ y) where
   same_records : (found records : List R) (rows : List Row) → rows ≡ map values records → map Some found ≡ map in_row rows → found ≡ records
@@ -39,8 +27,8 @@ module _ {R : Type 0} (in_row : Row → Option R) (values : R → Row) (exact : 
   same_records (x ∷ found) [] rows are read = absurd (let k = read ∙ ap (map in_row) are in cc)
   same_records (x ∷ found) (y ∷ records) rows are read =
       let each = read ∙ ap (map in_row) are in
-      let first = exact (values y) x y (sym (first_of (Some x) (in_row (values y)) (map Some found) (map in_row (map values records)) each)) refl in
-      ap₂ (λ z l. z ∷ l) first (same_records found records (map values records) refl (rest_of (Some x) (in_row (values y)) (map Some found) (map in_row (map values records)) each))
+      let first = exact (values y) x y (sym (head_is (Some x) (in_row (values y)) (map Some found) (map in_row (map values records)) each)) refl in
+      ap₂ (λ z l. z ∷ l) first (same_records found records (map values records) refl (tail_is (Some x) (in_row (values y)) (map Some found) (map in_row (map values records)) each))
 
   pub recorded : (old new : State) (rows : Vec Row Global) (r : Result (Vec R Global) Error) (part : Content → List R) → Finds {E = Error} old new (Ok rows) (λ c rows. rows.items ≡ map values (part c))
       → IfOk r (λ found. map Some found.items ≡ map in_row rows.items) → Finds old new r (λ c found. found.items ≡ part c)

@@ -11,8 +11,8 @@ use Rattle.acd_terms.specs.Groups.{are_groups, further_groups, least_group}
 use Rattle.acd_terms.specs.Lists.{Among, AllAfter, IsAscending, Every, is_less, ascends}
 use Rattle.acd_terms.specs.declared.record.AgentRecord.{AgentRecord}
 use Rattle.acd_terms.specs.declared.record.GroupRecord.{GroupRecord}
-use Rattle.acd_laws.proofs.Keyed.{key_is, cmp_equal, cmp_self, eqb_self}
-use Rattle.acd_laws.proofs.Lists.{after_among, among-filter, filter_among, all_true, any_found, ascending-filter}
+use Rattle.acd_lemmas.proofs.Keyed.{key_is, cmp_equal, cmp_self, eqb_self}
+use Rattle.acd_lemmas.proofs.Lists.{after_among, among-filter, filter_among, all_true, any_found, ascending-filter, filter_all}
 use Rattle.acd_columns.specs.declared.relations.GroupRow.{GroupRow}
 use Rattle.acd_columns.specs.declared.relations.AgentRow.{AgentRow}
 use Rattle.acd_columns.specs.declared.relations.GroupPriority.{GroupPriority}
@@ -38,10 +38,6 @@ none_there (x ∷ xs) h = absurd (h x (inl refl))
 none_pass : {X : Type 0} (p : X → Bool) (xs : List X) → ((x : X) → Among x xs → p x ≡ false) → filter p xs ≡ []
 none_pass p [] h = refl
 none_pass p (x ∷ xs) h = ap (λ b. cond b (x ∷ filter p xs) (filter p xs)) (h x (inl refl)) ∙ none_pass p xs (λ y k. h y (inr k))
-
-all_pass : {X : Type 0} (p : X → Bool) (xs : List X) → ((x : X) → Among x xs → p x ≡ true) → filter p xs ≡ xs
-all_pass p [] h = refl
-all_pass p (x ∷ xs) h = ap (λ b. cond b (x ∷ filter p xs) (filter p xs)) (h x (inl refl)) ∙ ap (λ l. x ∷ l) (all_pass p xs (λ y k. h y (inr k)))
 
 -- ---- numbers
 
@@ -92,7 +88,7 @@ module _ {P A : Type 0} (key : P → ℕ) (order : P → P → Ordering) (le : (
       by : (b : Bool) → (key p == n) ≡ b → filter (of_key n) ps ++ filter (not_key n) ps ≡ ps
           → cond b (p ∷ filter (of_key n) ps) (filter (of_key n) ps) ++ cond (not b) (p ∷ filter (not_key n) ps) (filter (not_key n) ps) ≡ p ∷ ps
       by true e more = ap (λ l. p ∷ l) more
-      by false e more = ap₂ (λ xs ys. xs ++ p ∷ ys) (none_pass (of_key n) ps (behind e)) (all_pass (not_key n) ps (λ q h. ap not (behind e q h)))
+      by false e more = ap₂ (λ xs ys. xs ++ p ∷ ys) (none_pass (of_key n) ps (behind e)) (filter_all (not_key n) ps (λ q h. ap not (behind e q h)))
 
   -- the ps of each of these items, one agent after the other
   abbrev in_turn : List A → List P → List P

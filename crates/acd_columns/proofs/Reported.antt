@@ -26,8 +26,9 @@ use Rattle.acd_columns.specs.Reports.{admits_cause, is_formed, report_in}
 use Rattle.acd_columns.specs.Fields.{read_whole, written}
 use Rattle.acd_columns.specs.Ranges.{event_from, event_in, request_at, kept_in}
 use Rattle.acd_columns.specs.Values.{id_value, whole_at, text_at, status_at, utf8_of, body_at}
-use Rattle.acd_columns.proofs.Ranged.{text_stored, whole_stored, bound, guarded, some_same, row_is, beside, stamp_stored, moment_stored}
+use Rattle.acd_columns.proofs.Ranged.{text_stored, whole_stored, bound, guarded, row_is, beside, stamp_stored, moment_stored}
 use Rattle.acd_columns.proofs.Records.{values_stored, values_back}
+use Rattle.acd_lemmas.proofs.Lists.{some_is}
 
 -- ---- columns that are there, and columns that aren't
 
@@ -107,7 +108,7 @@ pub report_formed : (c : Columns) (r : Report) → report_in c ≡ Some r → co
 unfolding report_in
 report_formed c r h =
     let p = guarded (is_formed c) (Some (report_of c)) r h in
-    ap columns_of (sym (some_same (report_of c) r p.1)) ∙ formed c.kind c.device c.call c.agent c.group c.to c.cause c.waited p.0
+    ap columns_of (sym (some_is (report_of c) r p.1)) ∙ formed c.kind c.device c.call c.agent c.group c.to c.cause c.waited p.0
 
 -- a report that is told by its columns is the report
 pub report_back : (r : Report) → report_of (columns_of r) ≡ r
@@ -140,7 +141,7 @@ event_stored r e h =
     let report = bound (report_in values.0.columns) _ e values.2 in
     values_stored r values.0 values.1
     ∙ ap (λ c. written event_fields (record values.0 { columns = c })) (sym (report_formed values.0.columns report.0 report.1))
-    ∙ ap event_values (some_same _ e report.2)
+    ∙ ap event_values (some_is _ e report.2)
 
 pub event_back : (e : Event) → as_event (event_values e) ≡ e
 event_back e = ap event_shown (values_back (values_of_event e)) ∙ ap (λ r. record e { report = r }) (report_back e.report)
@@ -157,7 +158,7 @@ all_three true false c e = absurd (cc e)
 all_three false b c e = absurd (cc e)
 
 ok_same : {E : Type 0} (r : Result Request E) (q : Request) → result_ok r ≡ Some q → r ≡ Ok q
-ok_same (Ok x) q h = ap Ok (some_same x q h)
+ok_same (Ok x) q h = ap Ok (some_is x q h)
 ok_same (Err e) q h = absurd (cc h)
 
 -- the columns of the key and the text are those of the request, which is read from its text
@@ -187,20 +188,20 @@ request_stored r q h =
     let text = bound _ _ q invoke.2 in
     let request = bound _ _ q text.2 in
     let test = guarded _ (Some request.0) q request.2 in
-    subst (IsOwn r) (some_same request.0 q test.1)
+    subst (IsOwn r) (some_is request.0 q test.1)
     (own r request.0 requester.0 invoke.0 text.0 (text_stored r 1 _ requester.1) (whole_stored r 2 _ invoke.1) (text_stored r 4 _ text.1) (ok_same (reads_as text.0) request.0 request.1) test.0)
 
 status_stored : (r : Row) (at n : ℕ) → status_at r at ≡ Some n → column r at ≡ id_value n
 unfolding status_at
 status_stored r at n h =
     let b = bound (whole_at r at) _ n h in
-    whole_stored r at b.0 b.1 ∙ ap id_value (some_same b.0 n (guarded _ (Some b.0) n b.2).1)
+    whole_stored r at b.0 b.1 ∙ ap id_value (some_is b.0 n (guarded _ (Some b.0) n b.2).1)
 
 body_stored : (r : Row) (at : ℕ) (t : List ℕ) → body_at r at ≡ Some t → column r at ≡ Text t
 unfolding body_at
 body_stored r at t h =
     let b = bound (text_at r at) utf8_of t h in
-    text_stored r at b.0 b.1 ∙ ap Text (some_same b.0 t (guarded (is_utf8 b.0) (Some b.0) t b.2).1)
+    text_stored r at b.0 b.1 ∙ ap Text (some_is b.0 t (guarded (is_utf8 b.0) (Some b.0) t b.2).1)
 
 pub kept_stored : (r : Row) (k : Kept) → kept_in r ≡ Some k → (r ≡ kept_values k) × IsReadable k
 unfolding kept_in
@@ -212,7 +213,7 @@ kept_stored r k h =
     let status = bound _ _ k request.2 in
     let body = bound _ _ k status.2 in
     let o = request_stored r request.0 request.1 in
-    let same = some_same _ k body.2 in (
+    let same = some_is _ k body.2 in (
       row_is 7 r w.0
           ∙ beside _ _ _ _ (stamp_stored r 0 _ stamp.1) (beside _ _ _ _ o.requester (beside _ _ _ _ o.invoke (beside _ _ _ _ (moment_stored r 3 _ moment.1)
           (beside _ _ _ _ o.text (beside _ _ _ _ (status_stored r 5 _ status.1) (beside _ _ _ _ (body_stored r 6 _ body.1) refl))))))

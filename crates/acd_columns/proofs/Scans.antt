@@ -1,7 +1,7 @@
 -- A query over one table, and the rows that a DELETE takes out by it.
 use Rattle.std.proofs.Common.{◌≡◌, ℕ, ℤ, pos, negsuc, List, [], ◌∷◌, ◌++◌, map, filter, Bool, true, false, not, ◌==◌, ◌&&◌, ◌||◌, cond, None, refl, sym, ap, subst, ◌∙◌, append_assoc, unwrap_or, Option}
 use Rattle.acd_columns.specs.Values.{id_value}
-use Rattle.acd_columns.proofs.KeyedRows.{id_tied, same_number, own_number}
+use Rattle.acd_columns.proofs.KeyedRows.{id_tied}
 use Rattle.std.specs.List.{list_any, list_all, flat_map, AllByRecursion}
 use Rattle.std.specs.List.Sorted.{IsPermutation}
 use Rattle.std.proofs.lemmas.List.Sorted.{IsPermutation-map, list_any-IsPermutation}
@@ -15,6 +15,10 @@ use Rattle.sqlite_sql.specs.Query.{Query, inner, end, output, Output, IsAnswer}
 use Rattle.sqlite_sql.specs.Program.{overlay, IsProgramAnswer}
 use Rattle.sqlite_rules.specs.Edit.{without_all, id_in}
 use Rattle.sqlite_rules.specs.Calls.{ids_of}
+use Rattle.acd_lemmas.proofs.Numbers.{same_number}
+use Rattle.acd_lemmas.proofs.Lists.{filter_true}
+use Rattle.acd_lemmas.proofs.Keyed.{eqb_self}
+use Rattle.acd_lemmas.proofs.Bools.{and_yes, or_yes}
 
 abbrev pub scan : ℕ → List Term → List Term → List (Term × Key) → Query
 scan t terms project order = record { from = inner t end; filter = terms; group = None; project = project; distinct = false; collations = []; order = order; limit = lit (Int (negsuc 0)); offset = lit (Int (pos 0)) }
@@ -82,12 +86,8 @@ pub each : {X : Type 0} (P : X → Type 0) (xs : List X) → ((x : X) → P x) �
 each P [] h = tt
 each P (x ∷ xs) h = (h x, each P xs h)
 
-pub filter_all : {X : Type 0} (xs : List X) → filter (λ _. true) xs ≡ xs
-filter_all [] = refl
-filter_all (x ∷ xs) = ap (λ l. x ∷ l) (filter_all xs)
-
 pub all_out : (ids : List ℤ) (rows : List Row) → without_all rows ids ≡ filter (λ r. not (list_any (λ id. has_rowid id r) ids)) rows
-all_out [] rows = sym (filter_all rows)
+all_out [] rows = sym (filter_true rows)
 all_out (id ∷ ids) rows =
     all_out ids (without_rowid id rows) ∙ without_step (has_rowid id) (λ r. not (list_any (λ id. has_rowid id r) ids)) rows
     ∙ filter_like _ (λ r. not (has_rowid id r || list_any (λ id. has_rowid id r) ids)) rows (each _ rows (λ r. neither (has_rowid id r) (list_any (λ id. has_rowid id r) ids)))
@@ -104,14 +104,6 @@ pub any_mapped : {X Y : Type 0} (p : Y → Bool) (f : X → Y) (xs : List X) →
 any_mapped p f [] = refl
 any_mapped p f (x ∷ xs) = ap (λ b. p (f x) || b) (any_mapped p f xs)
 
-and_true : (b : Bool) → (b && true) ≡ b
-and_true true = refl
-and_true false = refl
-
-or_true : (b : Bool) → (b || true) ≡ true
-or_true true = refl
-or_true false = refl
-
 module _ {R : Type 0} (key : R → ℕ) (row : R → Row) (keyed : (r : R) → rowid (row r) ≡ id_value (key r)) (P : R → Bool) (by_its_key : (a b : R) → key a ≡ key b → P a ≡ P b) where
   abbrev hit : R → R → Bool
   hit r x = has_rowid (pos (key x)) (row r)
@@ -123,14 +115,14 @@ module _ {R : Type 0} (key : R → ℕ) (row : R → Row) (keyed : (r : R) → r
   same_key r x h = same_number (key r) (key x) (sym (hit_is r x) ∙ h)
 
   own_hit : (r : R) → hit r r ≡ true
-  own_hit r = hit_is r r ∙ own_number (key r)
+  own_hit r = hit_is r r ∙ eqb_self (key r)
 
   among : (r : R) (front back : List R) → list_any (hit r) (front ++ r ∷ back) ≡ true
   among r [] back = rw (own_hit r)
-  among r (x ∷ front) back = rw (among r front back) (or_true (hit r x))
+  among r (x ∷ front) back = rw (among r front back) (or_yes (hit r x))
 
   taken : (all : List R) (r : R) → list_any (hit r) all ≡ true → list_any (hit r) (filter P all) ≡ P r
-  taken all r h = any-filter_same (hit r) P (P r) (λ x e. by_its_key x r (same_key r x e)) all ∙ ap (λ b. P r && b) h ∙ and_true (P r)
+  taken all r h = any-filter_same (hit r) P (P r) (λ x e. by_its_key x r (same_key r x e)) all ∙ ap (λ b. P r && b) h ∙ and_yes (P r)
 
   each_taken : (front rest : List R) → AllByRecursion (λ r. list_any (hit r) (filter P (front ++ rest)) ≡ P r) rest
   each_taken front [] = tt

@@ -19,7 +19,8 @@ use Rattle.acd_columns.specs.Seeing.{HasDatabase, Sees}
 use Rattle.acd_columns.proofs.Asked.{no_limit}
 use Rattle.acd_columns.proofs.Seen.{sees_so}
 use Rattle.acd_columns.proofs.Listings.{Listing, query_of, begun}
-use Rattle.acd_columns.proofs.Scans.{scanned, showing, passing, filter_all}
+use Rattle.acd_columns.proofs.Scans.{scanned, showing, passing}
+use Rattle.acd_lemmas.proofs.Lists.{filter_true}
 
 module _ (base : List Made) (text : List ℕ) (it : Listing base text) (params : Row) (d : Database) (old new : State) (rows : List Row) (had : HasDatabase old d) (b : Begins base d.schema) (h : Shown text params old new rows) where
   pub answer_in : IsProgramAnswer [] (query_of it) d.trees params rows
@@ -42,7 +43,7 @@ shown_all t base text it asks d old new rows had b h =
     (subst (λ l. IsProgramAnswer [] (record (query_of it) { limit = l }) d.trees [] rows) asks.unlimited (answer_in base text it [] d old new rows had b h)) in
     let same : map (showing [] it.project) (passing [] it.terms (d.trees it.tree)) ≡ rows_in t d.trees =
     ap (λ ts. map (showing [] it.project) (passing [] ts (d.trees it.tree))) asks.all
-    ∙ ap (map (showing [] it.project)) (filter_all (d.trees it.tree))
+    ∙ ap (map (showing [] it.project)) (filter_true (d.trees it.tree))
     ∙ map_same (showing [] it.project) (values_in t) asks.shows (d.trees it.tree)
     ∙ ap (λ n. map (values_in t) (d.trees n)) asks.tree in
     subst (λ l. IsPermutation l rows) same all

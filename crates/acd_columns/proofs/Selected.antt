@@ -25,6 +25,7 @@ use Rattle.acd_columns.specs.Descriptions.{Description, are_read}
 use Rattle.acd_columns.proofs.Listings.{finds, plain_of}
 use Rattle.acd_columns.proofs.Seeing.{sees_all}
 use Rattle.acd_columns.proofs.Filed.{Filed, Selects, listing, shows_all, asks, good}
+use Rattle.acd_lemmas.proofs.Lists.{head_is, tail_is}
 
 module _ {R : Type 0} (d : Description R) (f : Filed d) (base : List Made) (select : List ℕ) (s : Selects d base select) (text : List ℕ) (is : text ≡ select) (old new : State) (r : Result (Vec Row Global) Error) where
   plain : IsPlain (understood book_schema text)
@@ -78,18 +79,12 @@ module _ {R : Type 0} (d : Description R) (f : Filed d) where
 
 -- ---- records that are read of rows
 
-head_of : {X : Type 0} (x y : X) (xs ys : List X) → x ∷ xs ≡ y ∷ ys → x ≡ y
-head_of x y xs ys e = cc
-
-tail_of : {X : Type 0} (x y : X) (xs ys : List X) → x ∷ xs ≡ y ∷ ys → xs ≡ ys
-tail_of x y xs ys e = cc
-
 module _ {R : Type 0} (d : Description R) (f : Filed d) where
   values_read : (rows : List Row) (found : List R) → map Some found ≡ map d.in_row rows → rows ≡ map d.values found
   values_read [] [] e = refl
   values_read [] (x ∷ found) e = absurd (cc e)
   values_read (row ∷ rows) [] e = absurd (cc e)
-  values_read (row ∷ rows) (x ∷ found) e = ap₂ (λ r rs. r ∷ rs) (f.stored row x (sym (head_of (Some x) (d.in_row row) (map Some found) (map d.in_row rows) e))).0 (values_read rows found (tail_of (Some x) (d.in_row row) (map Some found) (map d.in_row rows) e))
+  values_read (row ∷ rows) (x ∷ found) e = ap₂ (λ r rs. r ∷ rs) (f.stored row x (sym (head_is (Some x) (d.in_row row) (map Some found) (map d.in_row rows) e))).0 (values_read rows found (tail_is (Some x) (d.in_row row) (map Some found) (map d.in_row rows) e))
 
   pub seen_records : (b : Database) (old new : State) (rows : Vec Row Global) (r : Result (Vec R Global) Error) → IfOk r (λ found. map Some found.items ≡ map d.in_row rows.items)
       → Sees b old new (Ok rows) (λ rows. IsPermutation (rows_in d.table b.trees) rows.items) → Sees b old new r (λ found. IsPermutation (rows_in d.table b.trees) (map d.values found.items))

@@ -23,8 +23,9 @@ use Rattle.acd_columns.specs.Rows.{meta_shown}
 use Rattle.acd_columns.specs.Relations.{meta_of}
 use Rattle.acd_columns.specs.Draft.{Holds}
 use Rattle.acd_columns.proofs.Listings.{begun}
-use Rattle.acd_columns.proofs.Scans.{scan, scanned, showing, passing, filter_all}
+use Rattle.acd_columns.proofs.Scans.{scan, scanned, showing, passing}
 use Rattle.acd_columns.specs.declared.texts.TheConstants.{SELECT_META}
+use Rattle.acd_lemmas.proofs.Lists.{filter_true}
 
 -- the tests, columns and order of a query
 pub record Selection (schema : Schema) (text : List ℕ) : Type 0 where
@@ -69,7 +70,7 @@ reads_meta old new rows h c held =
     let table_is = ap (λ (d : Database). d.trees schema.meta.tree) held.idle ∙ held.encodes table.Meta in
     let it = meta_selection two book_schema in
     let found = selected book_schema SELECT_META.now it [] old new rows has h in
-    one_permutation _ rows (subst (λ l. IsPermutation l rows) (ap (map (showing [] it.project)) (filter_all (old.now.trees schema.meta.tree) ∙ table_is)) found)
+    one_permutation _ rows (subst (λ l. IsPermutation l rows) (ap (map (showing [] it.project)) (filter_true (old.now.trees schema.meta.tree) ∙ table_is)) found)
 
 pub reads_meta_if : (old new : State) (r : Result (Vec Row Global) Error) → IfOk r (λ rows. Shown SELECT_META.now [] old new rows.items)
     → IfOk r (λ rows. (c : Content) → Holds old c → rows.items ≡ meta_shown (meta_of c.rows) ∷ [])

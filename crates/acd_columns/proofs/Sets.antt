@@ -9,14 +9,14 @@ use Rattle.sqlite_schema.specs.declared.schema.Schema.{Schema}
 use Rattle.sqlite_rules.specs.Edit.{edited}
 use Rattle.sqlite.specs.State.{State, Executes}
 use Rattle.acd_terms.specs.Lists.{Among}
-use Rattle.acd_laws.proofs.Lists.{filter_among}
+use Rattle.acd_lemmas.proofs.Lists.{filter_among}
 use Rattle.acd_columns.specs.Values.{id_value}
 use Rattle.acd_columns.specs.Content.{AreRows}
-use Rattle.acd_columns.proofs.KeyedRows.{same_number}
 use Rattle.acd_columns.proofs.Puts.{Files, Put, are_put, keyed_by, one_changed}
 use Rattle.acd_columns.proofs.Scans.{showing, passing, found_rows}
 use Rattle.acd_columns.proofs.Statements.{Replaces, replaces}
 use Rattle.acd_columns.proofs.Updates.{Updating, updating_edit, updated}
+use Rattle.acd_lemmas.proofs.Numbers.{same_number}
 
 -- the text changes the columns of the row that has the record's key into the record's
 pub record Sets {R : Type 0} (schema : Schema) (text : List ℕ) (key : R → ℕ) (row params : R → Row) : Type 0 where

@@ -19,6 +19,7 @@ use Rattle.acd_desk.specs.Replay.{again, Replays, IsEnd, Begins, IsReplayed, IsS
 use Rattle.acd_desk.proofs.Audits.{starts_replay, replay_goes_on, replay_unlike, replay_full, replay_sound, replay_rest}
 use Rattle.acd_desk.proofs.Steps.{step_stamp, step_limits}
 use Rattle.acd_desk.proofs.Reading.{then_read, then_ok, then_told}
+use Rattle.acd_lemmas.proofs.Changes.{requests_few}
 
 -- a switch has replayed so much of what stands in order
 abbrev pub Seen : Rows → Content → Unit {0} → Type 0
@@ -99,14 +100,8 @@ first_fits : (a b c d e f : Bool) → (a && b && c && d && e && f) ≡ true → 
 first_fits true b c d e f h = refl
 first_fits false b c d e f h = h
 
-requests_fit : (limits : Limits) → limits_fit limits ≡ true → limits.requests ≤ 1000000000
-unfolding limits_fit
-requests_fit l fits =
-    leb-true l.requests 1000000000
-    (first_fits (nat_le l.requests 1000000000) (nat_le l.calls 2000) (nat_le l.groups 64) (nat_le l.stations 1000) (nat_le l.agents 1000) (nat_le l.monitors 256) fits)
-
 pub begins_empty : (limits : Limits) (s : Rows) → limits_fit limits ≡ true → s ≡ empty_rows limits → (s.last_stamp ≡ 0) × (s.limits.requests ≤ 1000000000)
-begins_empty limits s fits is = subst (λ (r : Rows). (r.last_stamp ≡ 0) × (r.limits.requests ≤ 1000000000)) (sym is) (refl, requests_fit limits fits)
+begins_empty limits s fits is = subst (λ (r : Rows). (r.last_stamp ≡ 0) × (r.limits.requests ≤ 1000000000)) (sym is) (refl, requests_few limits fits)
 
 -- ---- step by step ----
 

@@ -23,12 +23,12 @@ use Rattle.acd_desk.specs.Stands.{arrivals_of, IsSound}
 use Rattle.acd_desk.specs.Audit.{replayed, Agrees, AgreesBefore, IsFirstDifference}
 use Rattle.acd_desk.specs.Replay.{again, Splits, Replays, Matches, IsEnd}
 use Rattle.acd_desk.proofs.Steps.{step_stamp, step_event, step_numbers}
-use Rattle.acd_desk.proofs.Keys.{key_own}
 use Rattle.acd_desk.proofs.Runs.{run-limits, after_firsts, executes}
 use Rattle.acd_desk.proofs.Counting.{counted_run}
 use Rattle.acd_desk.proofs.Commits.{some_none}
 use Rattle.acd_desk.proofs.ContentLaws.{nothing_taken}
 use Rattle.acd_desk.proofs.Sound.{run_sound}
+use Rattle.acd_book.proofs.Keys.{key_own}
 
 -- ---- lists in order ----
 

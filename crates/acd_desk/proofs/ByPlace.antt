@@ -12,10 +12,12 @@ use Rattle.acd_desk.specs.declared.taken.Taken.{Taken}
 use Rattle.acd_desk.specs.declared.taken.Taken.TheVariants.{Reply, InvokeReused}
 use Rattle.acd_desk.specs.Firsts.{has_key, distinct_from, firsts, record_of, executed, run_from, run}
 use Rattle.acd_desk.specs.Replies.{same_request, answer_of, reply_to, StandTogether, StandsFirst, IsEarlier, IsReplyAt, own, repeat, reused, full}
-use Rattle.acd_desk.proofs.Keys.{key_same, key_own, same_own}
+use Rattle.acd_desk.proofs.Keys.{same_own}
 use Rattle.acd_desk.proofs.Runs.{has-push}
 use Rattle.acd_desk.proofs.Sound.{New, distinct-new}
 use Rattle.acd_desk.proofs.SameRequests.{same_true}
+use Rattle.acd_book.proofs.Keys.{key_same, key_own}
+use Rattle.acd_lemmas.proofs.Lists.{some_is}
 
 -- what a run keeps of each arrival in turn
 abbrev records : Content → List Arrival → List Kept
@@ -65,9 +67,6 @@ found_or_not (a ∷ l) c p q =
 
 none_some : {T : Type 0} (x : T) → None ≡ Some x → ⊥
 none_some x h = cc
-
-some_same : {T : Type 0} (x y : T) → Some x ≡ Some y → x ≡ y
-some_same x y h = cc
 
 other_false : (a b : Request) → a ≢ b → same_request a b ≡ false
 other_false a b h =
@@ -138,7 +137,7 @@ found_among [] x p q h = absurd (none_some x h)
 found_among (a ∷ l) x p q h =
     let cases : (b : Bool) → is_key p q a.request ≡ b → cond b (Some a) (find (has_its_key p q) l) ≡ Some x → Among x (a ∷ l) × (is_key p q x.request ≡ true)
     = λ b. elim b as (λ b. is_key p q a.request ≡ b → cond b (Some a) (find (has_its_key p q) l) ≡ Some x → Among x (a ∷ l) × (is_key p q x.request ≡ true)) [
-      | true ↦ λ e is. (inl (sym (some_same a x is)), subst (λ (y : Arrival). is_key p q y.request ≡ true) (some_same a x is) e)
+      | true ↦ λ e is. (inl (sym (some_is a x is)), subst (λ (y : Arrival). is_key p q y.request ≡ true) (some_is a x is) e)
       | false ↦ λ e is. let rest = found_among l x p q is in (inr rest.0, rest.1)
     ] in
     cases (is_key p q a.request) refl h
@@ -179,11 +178,11 @@ by_place limits before a behind o x k f =
     let cases : (u : Option Arrival) → find (has_its_key p q) before ≡ u → R (answer_of o a.request)
     = λ u. elim u as (λ u. find (has_its_key p q) before ≡ u → R (answer_of o a.request)) [
       | None ↦ λ e.
-          let is : a ≡ x = some_same a x (sym mine ∙ ap (λ (u : Option Arrival). option_or u (find (has_its_key p q) (a ∷ behind))) (sym e) ∙ split) in
+          let is : a ≡ x = some_is a x (sym mine ∙ ap (λ (u : Option Arrival). option_or u (find (has_its_key p q) (a ∷ behind))) (sym e) ∙ split) in
           looked (Reply k.status k.body) (own_answer k a.request (f.same ∙ ap (λ (y : Arrival). y.request) (sym is)))
           (own k (none_has before p q e) (subst (λ (y : Arrival). StandsFirst limits list y k) (sym is) f.stands))
       | Some y ↦ λ e.
-          let is : y ≡ x = some_same y x (ap (λ (u : Option Arrival). option_or u (find (has_its_key p q) (a ∷ behind))) (sym e) ∙ split) in
+          let is : y ≡ x = some_is y x (ap (λ (u : Option Arrival). option_or u (find (has_its_key p q) (a ∷ behind))) (sym e) ∙ split) in
           let there = found_among before y p q e in
           let earlier : IsEarlier before a x = subst (IsEarlier before a) is (record { stands = there.0; key = there.1 }) in
           let same : (b : Bool) → same_request x.request a.request ≡ b → R (answer_of o a.request)

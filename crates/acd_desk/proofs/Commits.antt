@@ -17,20 +17,18 @@ use Rattle.acd_desk.specs.Prepared.{Prepared}
 use Rattle.acd_desk.specs.Firsts.{stepped, kept_at, record_of, executed}
 use Rattle.acd_desk.specs.declared.taken.Taken.TheVariants.{Reply}
 use Rattle.acd_desk.specs.Replies.{answer_in, after}
-use Rattle.acd_desk.proofs.Steps.{step_limits, step_stamp, step_moment, step_numbers, step_event}
+use Rattle.acd_desk.proofs.Steps.{step_limits, step_stamp, step_numbers, step_event}
 use Rattle.acd_desk.proofs.Runs.{executes, answers_new}
 use Rattle.acd_desk.proofs.Counting.{counted_executed}
+use Rattle.acd_laws.proofs.Rules.DecidedAll.{kept_first}
+use Rattle.acd_switch.proofs.RoomOfRules.{moment_after}
 
 pub some_none : {T : Type 0} (x : T) → Some x ≡ None → ⊥
 some_none x h = cc
 
-keeps_first : (kept : Bool) (which : Rule) (rest : Option Rule) → or_broken kept which rest ≡ None → (kept ≡ true) × (rest ≡ None)
-keeps_first true which rest h = (refl, h)
-keeps_first false which rest h = absurd (some_none which h)
-
 pub ordered : (s : Rows) → BreaksNoRule s → keeps_order s ≡ true
 unfolding first_broken
-ordered s h = (keeps_first (keeps_order s) _ _ (keeps_first (keeps_limits s) _ _ h).1).0
+ordered s h = (kept_first (keeps_order s) _ _ (kept_first (keeps_limits s) _ _ h).1).0
 
 -- it follows what is kept
 pub follows : (c : Content) (r next : Rows) (es : List Event) (k : Kept) (a : Arrival) → c.rows ≡ r → IsCounted c → kept_of c.kept a.request.requester a.request.invoke ≡ None
@@ -91,7 +89,7 @@ pub kept_by_rows : (s next : Rows) (a : Arrival) (outcome : Outcome) (k : Kept) 
     → k ≡ kept_at next.last_stamp next.last_moment a.request outcome → k ≡ record_of s a
 kept_by_rows s next a outcome k e1 e2 e3 =
     let stamp : (stepped s a).rows.last_stamp ≡ next_stamp s = step_stamp s a.moment a.request.command in
-    let moment : (stepped s a).rows.last_moment ≡ executed_moment s a.moment = step_moment s a.moment a.request.command in
+    let moment : (stepped s a).rows.last_moment ≡ executed_moment s a.moment = moment_after s a.moment a.request.command in
     cc
 
 -- what is prepared, of what a step says

@@ -20,11 +20,11 @@ use Rattle.acd_laws.specs.BalanceLaws.{IsBalanced}
 use Rattle.acd_laws.specs.OfferLaws.{LeavesNoOffer}
 use Rattle.acd_laws.specs.FigureLaws.{KeepsFigures}
 use Rattle.acd_laws.specs.WatchedLaws.{TellsNoMore}
-use Rattle.acd_laws.proofs.PlacedRuns.{run_is_placed}
-use Rattle.acd_laws.proofs.OneOffer.{run_has_one_offer}
-use Rattle.acd_laws.proofs.WatchedRuns.{run_is_watched, run_tells_no_more, run_is_balanced, run_leaves_no_offer}
-use Rattle.acd_laws.proofs.FiguresCounted.{run_keeps_figures, figures_kept}
-use Rattle.acd_laws.proofs.RulesAll.{run_keeps_rules}
+use Rattle.acd_laws.proofs.Places.PlacedRuns.{run_is_placed}
+use Rattle.acd_laws.proofs.Offers.OneOffer.{run_has_one_offer}
+use Rattle.acd_laws.proofs.Watched.WatchedRuns.{run_is_watched, run_tells_no_more, run_is_balanced, run_leaves_no_offer}
+use Rattle.acd_laws.proofs.Figures.FiguresCounted.{run_keeps_figures, figures_kept}
+use Rattle.acd_laws.proofs.Rules.RulesAll.{run_keeps_rules}
 use Rattle.acd_book.specs.declared.kept.Kept.{Kept}
 use Rattle.acd_book.specs.Content.{Content, empty_content, IsCounted}
 use Rattle.acd_desk.specs.Firsts.{executed, record_of, run_from}

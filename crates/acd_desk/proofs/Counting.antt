@@ -8,10 +8,7 @@ use Rattle.acd_book.specs.declared.kept.Kept.{Kept}
 use Rattle.acd_book.specs.Content.{Content, empty_content, GoOn, IsCounted}
 use Rattle.acd_desk.specs.Firsts.{stepped, record_of, executed, run_from, run, firsts}
 use Rattle.acd_desk.proofs.Steps.{step_stamp, step_numbers, step_event}
-
-every_append : {T : Type 0} (P : T → Type 0) (xs ys : List T) → Every P xs → Every P ys → Every P (xs ++ ys)
-every_append P [] ys h k = k
-every_append P (x ∷ xs) ys h k = (h.0, every_append P xs ys h.1 k)
+use Rattle.acd_lemmas.proofs.Lists.{every-append}
 
 events_raised : (m n : ℕ) (es : List Event) → m ≤ n → Every (λ (e : Event). e.number ≤ m) es → Every (λ (e : Event). e.number ≤ n) es
 events_raised m n [] le h = tt
@@ -33,10 +30,10 @@ counted_executed c a h =
     let numbers = step_numbers c.rows a.moment a.request.command in
     let es : List Event = (stepped c.rows a).events in
     record {
-      events = every_append (λ (e : Event). e.number ≤ (stepped c.rows a).rows.last_event) c.events es
+      events = every-append (λ (e : Event). e.number ≤ (stepped c.rows a).rows.last_event) c.events es
           (events_raised c.rows.last_event (stepped c.rows a).rows.last_event c.events (omega (arith, event)) h.events)
           (going_on c.rows.last_event (stepped c.rows a).rows.last_event es numbers (omega (arith, event)));
-      kept = every_append (λ (k : Kept). k.stamp ≤ (stepped c.rows a).rows.last_stamp) c.kept (record_of c.rows a ∷ [])
+      kept = every-append (λ (k : Kept). k.stamp ≤ (stepped c.rows a).rows.last_stamp) c.kept (record_of c.rows a ∷ [])
           (kept_raised c.rows.last_stamp (stepped c.rows a).rows.last_stamp c.kept (omega (arith, stamp)) h.kept)
           (omega (arith, stamp), tt);
     }

@@ -11,9 +11,10 @@ use Rattle.acd_book.specs.Content.{Content, is_key, empty_content}
 use Rattle.acd_desk.specs.Firsts.{has_key, distinct_from, firsts, run, run_from}
 use Rattle.acd_desk.specs.Replies.{answer_in, reply_to}
 use Rattle.acd_desk.specs.Feeding.{IsFed, nothing, part}
-use Rattle.acd_desk.proofs.Keys.{key_same, key_own}
 use Rattle.acd_desk.proofs.Runs.{distinct-push, has-push}
 use Rattle.acd_desk.proofs.Longer.{reply_stays, has_within}
+use Rattle.acd_lemmas.proofs.Bools.{or_yes}
+use Rattle.acd_book.proofs.Keys.{key_same, key_own}
 
 -- two lists with the same first arrivals and the same keys
 record Alike (x y : List Arrival) : Type 0 where
@@ -69,16 +70,12 @@ alike_again (a ∷ b) x known =
     (alike_again b (x ++ a ∷ []) (λ c there. one.keys c.request.requester c.request.invoke ∙ known c (inr there))))
     one
 
-or_true : (b : Bool) → (b || true) ≡ true
-or_true true = refl
-or_true false = refl
-
 -- a list has the keys of its members
 has_own : (b : List Arrival) → HaveKeys b b
 has_own [] a there = absurd there
 has_own (c ∷ b) a there = elim there [
   | inl same ↦ ap (λ (r : Bool). r || has_key b a.request.requester a.request.invoke) (ap (λ (x : Arrival). is_key a.request.requester a.request.invoke x.request) (sym same) ∙ key_own a.request)
-  | inr behind ↦ ap (λ (r : Bool). is_key a.request.requester a.request.invoke c.request || r) (has_own b a behind) ∙ or_true (is_key a.request.requester a.request.invoke c.request)
+  | inr behind ↦ ap (λ (r : Bool). is_key a.request.requester a.request.invoke c.request || r) (has_own b a behind) ∙ or_yes (is_key a.request.requester a.request.invoke c.request)
 ]
 
 -- and of those of its parts
@@ -86,7 +83,7 @@ has_behind : (x b : List Arrival) → HaveKeys (x ++ b) b
 has_behind x b a there =
     list_any-append (λ (c : Arrival). is_key a.request.requester a.request.invoke c.request) x b
     ∙ ap (λ (r : Bool). has_key x a.request.requester a.request.invoke || r) (has_own b a there)
-    ∙ or_true (has_key x a.request.requester a.request.invoke)
+    ∙ or_yes (has_key x a.request.requester a.request.invoke)
 
 has_more : (x y b : List Arrival) → HaveKeys x b → HaveKeys (x ++ y) b
 has_more x y b known a there =

@@ -14,12 +14,12 @@ use Rattle.acd_model.specs.Figures.{figures_of, sum_of_figures}
 use Rattle.acd_model.specs.Told.{after, connection_told, Seat, no_seat, seat_told, enters, last_entry}
 use Rattle.acd_model.specs.Watched.{is_external_caller, state_at, seat_of, HasPlace, IsWatched}
 use Rattle.acd_laws.specs.WatchedLaws.{TellsNoMore}
-use Rattle.acd_laws.proofs.CountedEvents.{figures_joined}
-use Rattle.acd_laws.proofs.DecidedAll.{rules_are_kept}
-use Rattle.acd_laws.proofs.Facts.{Rules}
-use Rattle.acd_laws.proofs.State.{group_among, group_key}
-use Rattle.acd_laws.proofs.Told.{after-append}
-use Rattle.acd_laws.proofs.WatchedRuns.{step_keeps_watched, entry_number}
+use Rattle.acd_laws.proofs.Figures.CountedEvents.{figures_joined}
+use Rattle.acd_laws.proofs.Rules.DecidedAll.{rules_are_kept}
+use Rattle.acd_lemmas.proofs.Facts.{Rules}
+use Rattle.acd_lemmas.proofs.State.{group_among, group_key}
+use Rattle.acd_laws.proofs.Watched.Told.{after-append}
+use Rattle.acd_laws.proofs.Watched.WatchedRuns.{step_keeps_watched, entry_number}
 use Rattle.acd_book.specs.Content.{Content, GoOn, IsCounted, kept_of}
 use Rattle.acd_desk.specs.Firsts.{stepped, executed}
 use Rattle.acd_desk.specs.Replies as replies
@@ -31,12 +31,8 @@ use Rattle.acd_desk.proofs.Recast.{is_held, history, watched_recast, no_more_rec
 use Rattle.acd_desk.proofs.Longer.{ran_none, ran_push}
 use Rattle.acd_desk.proofs.Sound.{ran_sound}
 use Rattle.acd_desk.proofs.Steps.{step_numbers, step_event}
-
-is_above : (n : ℕ) (e : Event) → n < e.number → nat_lt n e.number ≡ true
-is_above n e lt = grind (arith, nat_tests)
-
-not_above : (n : ℕ) (e : Event) → e.number ≤ n → nat_lt n e.number ≡ false
-not_above n e le = grind (arith, nat_tests)
+use Rattle.acd_desk.proofs.PageLemmas.{is_above, not_above}
+use Rattle.acd_laws.proofs.Watched.Order.{last-append}
 
 above_old : (n : ℕ) (es fs : List Event) → Every (λ (e : Event). e.number ≤ n) es → above (es ++ fs) n ≡ above fs n
 above_old n [] fs h = refl
@@ -128,10 +124,6 @@ figures_counted c sound group = by (group_of c.rows group) refl
     by (Some g) e = (sound_keeps_figures c sound).groups g (group_among c.rows group g e) ∙ ap (λ (n : ℕ). figures_of n c.events) (group_key c.rows group g e)
 
 -- the order of a queue
-
-last-append : (g c k : ℕ) (es fs : List Event) → last_entry g c k (es ++ fs) ≡ last_entry g c (last_entry g c k es) fs
-last-append g c k [] fs = refl
-last-append g c k (e ∷ es) fs = last-append g c (cond (enters g c e) e.number k) es fs
 
 still_above : (low n k : ℕ) (b : Bool) → low < n → low < k → low < cond b n k
 still_above low n k true h j = h

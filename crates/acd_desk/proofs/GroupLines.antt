@@ -16,9 +16,9 @@ use Rattle.acd_model.specs.Scans.{connection_of, has, waiting_in}
 use Rattle.acd_model.specs.Choice.{waiting_pair}
 use Rattle.acd_model.specs.Rules.First.{BreaksNoRule}
 use Rattle.acd_model.specs.Rules.Occupied.{rings_from}
-use Rattle.acd_laws.proofs.Lists.{is_eq_of}
-use Rattle.acd_laws.proofs.Facts.{AlertingColumns, ConnectionRule, HasColumns}
-use Rattle.acd_laws.proofs.DecidedAll.{rules_are_kept}
+use Rattle.acd_lemmas.proofs.Lists.{is_eq_of}
+use Rattle.acd_lemmas.proofs.Facts.{AlertingColumns, ConnectionRule, HasColumns}
+use Rattle.acd_laws.proofs.Rules.DecidedAll.{rules_are_kept}
 use Rattle.acd_tables.specs.Indexed.{is_ringing, pair_cmp}
 use Rattle.acd_tables.proofs.Picked.{exact_pair}
 use Rattle.acd_terms.specs.declared.record.GroupRecord.{GroupRecord}
@@ -27,6 +27,7 @@ use Rattle.acd_reports.specs.QueueReport.{first_queued, ringing_from}
 use Rattle.acd_desk.specs.GroupStates.{first_of, lesser, queued_of}
 use Rattle.acd_desk.specs.Tells.{in_order, by_place, queue_in}
 use Rattle.acd_desk.proofs.OrderLemmas.{Apart, by_key, ordered_among, waiting_apart}
+use Rattle.std.proofs.lemmas.List.{length-map}
 
 -- ---- the least of some numbers
 
@@ -107,10 +108,6 @@ entered_found f (p ∷ ps) = by (f p) (entered_found f ps)
     by None rest = rest
     by (Some x) rest = ap (cons_option x.queued) rest
 
-length-map : {T S : Type 0} (f : T → S) (xs : List T) → length (map f xs) ≡ length xs
-length-map f [] = refl
-length-map f (x ∷ xs) = ap suc (length-map f xs)
-
 -- a queue tells how many wait, and when the first of them entered
 pub first_is : (s : Rows) (rules : BreaksNoRule s) (g : ℕ) (keys : List (ℕ × ℕ)) → filter_map (λ (p : ℕ × ℕ). connection_of s p.1 g) keys ≡ queue_in s g → first_of s g keys ≡ first_queued s g
 unfolding queue_in first_queued
@@ -121,7 +118,7 @@ first_is s rules g keys lent =
 pub waiting_is : (s : Rows) (rules : BreaksNoRule s) (g : ℕ) (keys : List (ℕ × ℕ)) → keys ≡ map waiting_pair (queue_in s g) → length keys ≡ length (waiting_in s g)
 unfolding queue_in
 waiting_is s rules g keys are =
-    ap length are ∙ length-map waiting_pair (in_order by_place (waiting_in s g))
+    ap length are ∙ length-map (in_order by_place (waiting_in s g)) waiting_pair
     ∙ (least_ordered (λ (x : ConnectionRecord). x.queued) waiting_pair (waiting_in s g) (waiting_apart s rules g)).1
 
 -- ---- the offers that ring

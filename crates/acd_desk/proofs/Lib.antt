@@ -18,7 +18,7 @@ pub mod OrderLemmas
 pub mod PageLemmas
 pub mod Rising
 pub mod Sessions
-pub mod SameRecords
+pub mod SameKept
 pub mod Audits
 pub mod AuditLaws
 pub mod Reading

@@ -16,8 +16,9 @@ use Rattle.acd_desk.specs.Replies.{answer_of, answer_in, reply_to, after}
 use Rattle.acd_desk.specs.declared.taken.Taken.TheVariants.{Reply, InvokeReused, DeskFull, NoMemory, StoreFault}
 use Rattle.acd_desk.specs.Served.{is_fault, served, sent, has_served, maybe_last}
 use Rattle.acd_desk.specs.Stands.{arrivals_of, IsSound, ran_after, replies, StopsAt}
-use Rattle.acd_desk.proofs.Keys.{key_own}
 use Rattle.acd_desk.proofs.Runs.{run-stamp, run-limits, run-found, firsts-room, has-distinct, after_firsts}
+use Rattle.acd_book.proofs.Keys.{key_own}
+use Rattle.acd_lemmas.proofs.Bools.{or_yes}
 
 -- ---- a reply stays ----
 
@@ -52,15 +53,11 @@ reply_stays n l a r there =
     ap (λ (x : Content). answer_in x r) (sym (after_firsts n l a))
     ∙ ap (λ (o : Option Kept). answer_of o r) (find_stays (run n l) a r.requester r.invoke (known_in_run n l r.requester r.invoke there))
 
-or-true : (b : Bool) → (b || true) ≡ true
-or-true true = refl
-or-true false = refl
-
 pub has_within : (pre post : List Arrival) (a : Arrival) → has_key (pre ++ a ∷ post) a.request.requester a.request.invoke ≡ true
 has_within pre post a =
     list_any-append (λ (x : Arrival). is_key a.request.requester a.request.invoke x.request) pre (a ∷ post)
     ∙ ap (λ (b : Bool). has_key pre a.request.requester a.request.invoke || (b || has_key post a.request.requester a.request.invoke)) (key_own a.request)
-    ∙ or-true (has_key pre a.request.requester a.request.invoke)
+    ∙ or_yes (has_key pre a.request.requester a.request.invoke)
 
 replies_stay : (n : Limits) (x : Arrival) (l pre : List Arrival)
     → map (λ (a : Arrival). reply_to n ((pre ++ l) ++ x ∷ []) a.request) l ≡ map (λ (a : Arrival). reply_to n (pre ++ l) a.request) l

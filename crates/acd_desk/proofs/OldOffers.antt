@@ -9,7 +9,7 @@ use Rattle.std.specs.declared.cmp.Ordering.TheVariants.{Less}
 use Rattle.acd_terms.specs.Groups.{is_one_of, least_group}
 use Rattle.acd_model.specs.Choice.{least_from, ready_pair, first_waiting, first_eligible, offer_by, offer_in, offer_of, is_served_before, sooner, first_served, has_both}
 use Rattle.acd_model.specs.Distribution.{offer_moves, with_offer, offers, distribution}
-use Rattle.acd_laws.proofs.Words.{Rows, GroupRecord, AgentRecord, Move, Offer, Every, AllAfter, IsAscending, has, is_ready, is_occupied, is_idle_there, is_eligible, eligible_in, queued_in_all, moved, group_order}
+use Rattle.acd_lemmas.proofs.Words.{Rows, GroupRecord, AgentRecord, Move, Offer, Every, AllAfter, IsAscending, has, is_ready, is_occupied, is_idle_there, is_eligible, eligible_in, queued_in_all, moved, group_order}
 use Rattle.acd_desk.specs.OldChoice.{old_is_eligible, old_eligible_in, old_first_eligible, old_offer_or, old_offer_in, old_offer_of, old_offers, old_distribution}
 use Rattle.acd_desk.proofs.OldStates.{IsOneAtMost, HasOneGroup, HasNoPriority, IsOldState, moved_is_old, offer_old}
 

@@ -23,11 +23,11 @@ use Rattle.acd_model.specs.Step.{step, step_moves, executed_moment, next_stamp}
 use Rattle.acd_model.specs.declared.moves.Ending.TheVariants.{NoAnswer}
 use Rattle.acd_model.specs.declared.moves.Change.TheVariants.{PutGroup, PutAgent}
 use Rattle.acd_model.specs.declared.moves.Release.TheVariants.{Stays, Goes}
-use Rattle.acd_laws.proofs.Words.{Rows, Limits, GroupRecord, AgentRecord, ConnectionRecord, AgentState, Pending, Change, Command, Ending, Event, Move, Offer, Release, Requested, Served, Every, at_group, at_agent, has, agent_of, connection_of, agent_at, is_distributed, is_occupied, other_of, with_group, with_station, with_agent, with_call, with_connection, with_monitor, without_call, without_connection, without_monitor, with_last, changed, moved, events_of, group_order, is_in, state_wanted}
-use Rattle.acd_laws.proofs.Lists.{every_among, every_from, every-append, every-put, filter_among, find_among, ascending-put}
-use Rattle.acd_laws.proofs.Ended.{ascending_counting}
+use Rattle.acd_lemmas.proofs.Words.{Rows, Limits, GroupRecord, AgentRecord, ConnectionRecord, AgentState, Pending, Change, Command, Ending, Event, Move, Offer, Release, Requested, Served, Every, at_group, at_agent, has, agent_of, connection_of, agent_at, is_distributed, is_occupied, other_of, with_group, with_station, with_agent, with_call, with_connection, with_monitor, without_call, without_connection, without_monitor, with_last, changed, moved, events_of, group_order, is_in, state_wanted}
+use Rattle.acd_lemmas.proofs.Lists.{every_among, every_from, every-append, every-put, filter_among, find_among, ascending-put}
+use Rattle.acd_laws.proofs.Rules.Ended.{ascending_counting}
 use Rattle.acd_laws.proofs.Deeds.{by_refusal, by_found}
-use Rattle.acd_laws.proofs.State.{groups_total, agent_among}
+use Rattle.acd_lemmas.proofs.State.{groups_total, agent_among}
 use Rattle.acd_desk.specs.OldSound.{IsOldRequested, IsOldCommand}
 
 abbrev pub IsOneAtMost : List ℕ → Type 0

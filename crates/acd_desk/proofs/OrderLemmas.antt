@@ -20,11 +20,11 @@ use Rattle.acd_model.specs.Rules.First.{BreaksNoRule}
 use Rattle.acd_model.specs.Scans.{is_group, call_of, connection_of, connections_of, waiting_in, eligible_in, is_eligible}
 use Rattle.acd_model.specs.Choice.{waiting_pair, ready_pair}
 use Rattle.acd_model.specs.Rules.Calls.{parties_of}
-use Rattle.acd_laws.proofs.Facts.{two_if}
-use Rattle.acd_laws.proofs.Lists.{is_eq_of, count_length, after_among, filter_among, any_some, ascending-put, ascending-filter, among-put, among-put_other, mapped_among}
-use Rattle.acd_laws.proofs.Keyed.{cmp_self}
-use Rattle.acd_laws.proofs.State.{order_same, connection_found}
-use Rattle.acd_laws.proofs.DecidedAll.{rules_are_kept}
+use Rattle.acd_lemmas.proofs.Facts.{two_if}
+use Rattle.acd_lemmas.proofs.Lists.{is_eq_of, count_length, after_among, filter_among, any_some, ascending-put, ascending-filter, among-put, among-put_other, mapped_among, among_put, among-map}
+use Rattle.acd_lemmas.proofs.Keyed.{cmp_self}
+use Rattle.acd_lemmas.proofs.State.{order_same, connection_found}
+use Rattle.acd_laws.proofs.Rules.DecidedAll.{rules_are_kept}
 use Rattle.acd_tables.specs.Indexed.{pair_cmp}
 use Rattle.acd_tables.proofs.Picked.{ascending-same, contained, exact_pair}
 use Rattle.acd_codec.specs.ReadTexts.{queue_text}
@@ -35,25 +35,6 @@ pair_total = then_total (on_total (λ (p : ℕ × ℕ). p.0) nat_cmp_total) (on_
 
 pair_self : (p : ℕ × ℕ) → is_eq (pair_cmp p p) ≡ true
 pair_self p = is_eq_of (pair_cmp p p) (rw (cmp_self p.0 p.0 refl, cmp_self p.1 p.1 refl) refl)
-
--- what is put stands in the list, and nothing else is new
-put_among : {T : Type 0} (at : T → Ordering) (x : T) (xs : List T) (z : T) → Among z (put_by at xs x) → (z ≡ x) ⊎ Among z xs
-put_among at x [] z (inl e) = inl e
-put_among at x [] z (inr a) = absurd a
-put_among {T} at x (y ∷ ys) z a = by (at y) (put_among at x ys z) a
-  where
-    by : (o : Ordering) → (Among z (put_by at ys x) → (z ≡ x) ⊎ Among z ys) → Among z (match_ordering o (x ∷ y ∷ ys) (x ∷ ys) (y ∷ put_by at ys x)) → (z ≡ x) ⊎ Among z (y ∷ ys)
-    by Less more (inl e) = inl e
-    by Less more (inr b) = inr b
-    by Equal more (inl e) = inl e
-    by Equal more (inr b) = inr (inr b)
-    by Greater more (inl e) = inr (inl e)
-    by Greater more (inr b) = elim (more b) [ inl e ↦ inl e | inr c ↦ inr (inr c) ]
-
-among-mapped : {T S : Type 0} (f : T → S) (x : T) (xs : List T) → Among x xs → Among (f x) (map f xs)
-among-mapped f x [] a = absurd a
-among-mapped f x (y ∷ ys) (inl e) = inl (ap f e)
-among-mapped f x (y ∷ ys) (inr a) = inr (among-mapped f x ys a)
 
 module _ {T : Type 0} (key : T → ℕ × ℕ) where
   abbrev pub by_key : T → T → Ordering
@@ -70,7 +51,7 @@ module _ {T : Type 0} (key : T → ℕ × ℕ) where
 
   pub ordered_among : (xs : List T) (z : T) → Among z (in_order by_key xs) → Among z xs
   ordered_among [] z a = a
-  ordered_among (x ∷ xs) z a = elim (put_among (by_key x) x (in_order by_key xs) z a) [ inl e ↦ inl e | inr b ↦ inr (ordered_among xs z b) ]
+  ordered_among (x ∷ xs) z a = elim (among_put (by_key x) x (in_order by_key xs) z a) [ inl e ↦ inl e | inr b ↦ inr (ordered_among xs z b) ]
 
   among-ordered : (xs : List T) (z : T) → Apart xs → Among z xs → Among z (in_order by_key xs)
   among-ordered [] z h a = a
@@ -89,8 +70,8 @@ module _ {T : Type 0} (key : T → ℕ × ℕ) where
   pub keys-ordered : (ks : List (ℕ × ℕ)) (xs : List T) → IsAscending pair_cmp ks → Apart xs → ((p : ℕ × ℕ) → Among p ks → Among p (map key xs)) → ((p : ℕ × ℕ) → Among p (map key xs) → Among p ks)
       → ks ≡ map key (in_order by_key xs)
   keys-ordered ks xs sorted apart to back = ascending-same pair_cmp pair_total ks (map key (in_order by_key xs)) sorted (ascending_mapped (in_order by_key xs) (ascending-ordered xs))
-      (λ p a. let m = mapped_among key xs p (to p a) in subst (λ q. Among q (map key (in_order by_key xs))) (sym m.1.1) (among-mapped key m.0 (in_order by_key xs) (among-ordered xs m.0 apart m.1.0)))
-      (λ p a. let m = mapped_among key (in_order by_key xs) p a in subst (λ q. Among q ks) (sym m.1.1) (back (key m.0) (among-mapped key m.0 xs (ordered_among xs m.0 m.1.0))))
+      (λ p a. let m = mapped_among key xs p (to p a) in subst (λ q. Among q (map key (in_order by_key xs))) (sym m.1.1) (among-map key m.0 (in_order by_key xs) (among-ordered xs m.0 apart m.1.0)))
+      (λ p a. let m = mapped_among key (in_order by_key xs) p a in subst (λ q. Among q ks) (sym m.1.1) (back (key m.0) (among-map key m.0 xs (ordered_among xs m.0 m.1.0))))
 
   -- a look-up that finds each at its key gives the list
   pub each-found : (f : ℕ × ℕ → Option T) (xs : List T) → ((x : T) → Among x xs → f (key x) ≡ Some x) → filter_map f (map key xs) ≡ xs

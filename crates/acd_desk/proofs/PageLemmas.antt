@@ -15,10 +15,10 @@ pub rise_lower : (m n : ℕ) (es : List Event) → m ≤ n → Rise n es → Ris
 rise_lower m n [] le h = tt
 rise_lower m n (e ∷ es) le h = let here = h.0 in (omega (arith, le, here), h.1)
 
-is_above : (m : ℕ) (e : Event) → m < e.number → nat_lt m e.number ≡ true
+pub is_above : (m : ℕ) (e : Event) → m < e.number → nat_lt m e.number ≡ true
 is_above m e lt = grind (arith, nat_tests)
 
-not_above : (m : ℕ) (e : Event) → e.number ≤ m → nat_lt m e.number ≡ false
+pub not_above : (m : ℕ) (e : Event) → e.number ≤ m → nat_lt m e.number ≡ false
 not_above m e le = grind (arith, nat_tests)
 
 above_is : (m : ℕ) (e : Event) → nat_lt m e.number ≡ true → m < e.number

@@ -21,8 +21,9 @@ use Rattle.acd_model.specs.Figures.{is_no_answer, is_entry}
 use Rattle.acd_model.specs.Told.{after, connection_told, Seat, no_seat, seat_told, enters, last_entry}
 use Rattle.acd_model.specs.Watched.{waits_or_rings, HasPlace, HasEntered, IsWatched}
 use Rattle.acd_laws.specs.WatchedLaws.{TellsNoMore}
-use Rattle.acd_laws.proofs.Facts.{Rules, AlertingColumns, HasColumns, ConnectionRule}
-use Rattle.acd_laws.proofs.Lists.{any_some, any_found, find_among, find_passes, every_among, some_from}
+use Rattle.acd_lemmas.proofs.Facts.{Rules, AlertingColumns, HasColumns, ConnectionRule}
+use Rattle.acd_lemmas.proofs.Lists.{any_some, any_found, find_among, find_passes, every_among, some_from}
+use Rattle.acd_laws.proofs.Watched.WatchedRuns.{alerting_place, place_in}
 
 -- the call waits in the group, or rings from it
 abbrev pub holds_call : ℕ → ℕ → ConnectionRecord → Bool
@@ -142,15 +143,6 @@ no_more_recast s events n = record {
     below g c false h = let e = last_none s g c h 0 events in omega (arith, e)
 
 -- a call that is held has its place
-
-alerting_place : (x : ConnectionRecord) (g : ℕ) (o : Option ℕ) → AlertingColumns x o → has o g ≡ true → is_some x.place ≡ true
-alerting_place x g None h e = absurd (cc (e))
-alerting_place x g (Some n) h e = h.place
-
-place_in : (x : ConnectionRecord) (g : ℕ) (st : ConnectionState) → HasColumns x st → ((is_queued st && x.device == g) || (is_alerting st && has x.group g)) ≡ true → is_some x.place ≡ true
-place_in x g S.Queued h e = h.place
-place_in x g S.Alerting h e = alerting_place x g x.group h e
-place_in x g _ h e = absurd (cc (e))
 
 pub held_place : (s : Rows) (g c : ℕ) → Rules s → is_held s g c ≡ true → (p : ℕ) × HasPlace s g c p
 held_place s g c rules h =

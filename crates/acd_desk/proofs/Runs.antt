@@ -14,7 +14,9 @@ use Rattle.acd_desk.specs.declared.taken.Taken.TheVariants.{Reply, InvokeReused}
 use Rattle.acd_desk.specs.Firsts.{has_key, distinct_from, firsts, record_of, executed, run_from, run}
 use Rattle.acd_desk.specs.Replies.{answer_of, answer_in, after}
 use Rattle.acd_desk.proofs.Steps.{step_limits, step_stamp}
-use Rattle.acd_desk.proofs.Keys.{key_same, key_own, same_own}
+use Rattle.acd_desk.proofs.Keys.{same_own}
+use Rattle.acd_book.proofs.Keys.{key_same, key_own}
+use Rattle.acd_lemmas.proofs.Bools.{or_no}
 
 -- ---- those whose key is new ----
 
@@ -36,16 +38,12 @@ either_way false true d rest sa same e = ap (λ (b : Bool). cond b false true ||
 either_way false false d rest true same e = e
 either_way false false d rest false same e = e
 
-or-nil : (b : Bool) → (b || false) ≡ b
-or-nil true = refl
-or-nil false = refl
-
 pub has-push : (seen : List Arrival) (x : Arrival) (p : List ℕ) (q : ℕ) → has_key (seen ++ x ∷ []) p q ≡ (has_key seen p q || is_key p q x.request)
-has-push seen x p q = list_any-append (λ (a : Arrival). is_key p q a.request) seen (x ∷ []) ∙ ap (λ (b : Bool). has_key seen p q || b) (or-nil (is_key p q x.request))
+has-push seen x p q = list_any-append (λ (a : Arrival). is_key p q a.request) seen (x ∷ []) ∙ ap (λ (b : Bool). has_key seen p q || b) (or_no (is_key p q x.request))
 
 cond_has : (b : Bool) (x : Arrival) (p : List ℕ) (q : ℕ) → has_key (cond b [] (x ∷ [])) p q ≡ cond b false (is_key p q x.request)
 cond_has true x p q = refl
-cond_has false x p q = or-nil (is_key p q x.request)
+cond_has false x p q = or_no (is_key p q x.request)
 
 -- what is left has every key
 pub has-distinct : (l seen : List Arrival) (p : List ℕ) (q : ℕ) → (has_key seen p q || has_key (distinct_from seen l) p q) ≡ (has_key seen p q || has_key l p q)
@@ -87,10 +85,10 @@ or-assoc false b c = refl
 
 -- the records have the keys of the arrivals
 run_any : (l : List Arrival) (c : Content) (p : List ℕ) (q : ℕ) → list_any (λ (k : Kept). is_key p q k.request) (run_from c l).kept ≡ (list_any (λ (k : Kept). is_key p q k.request) c.kept || has_key l p q)
-run_any [] c p q = sym (or-nil (list_any (λ (k : Kept). is_key p q k.request) c.kept))
+run_any [] c p q = sym (or_no (list_any (λ (k : Kept). is_key p q k.request) c.kept))
 run_any (x ∷ l) c p q =
     run_any l (executed c x) p q
-    ∙ ap (λ (b : Bool). b || has_key l p q) (list_any-append (λ (k : Kept). is_key p q k.request) c.kept (record_of c.rows x ∷ []) ∙ ap (λ (b : Bool). list_any (λ (k : Kept). is_key p q k.request) c.kept || b) (or-nil (is_key p q x.request)))
+    ∙ ap (λ (b : Bool). b || has_key l p q) (list_any-append (λ (k : Kept). is_key p q k.request) c.kept (record_of c.rows x ∷ []) ∙ ap (λ (b : Bool). list_any (λ (k : Kept). is_key p q k.request) c.kept || b) (or_no (is_key p q x.request)))
     ∙ or-assoc (list_any (λ (k : Kept). is_key p q k.request) c.kept) (is_key p q x.request) (has_key l p q)
 
 pub run-found : (n : Limits) (l : List Arrival) (p : List ℕ) (q : ℕ) → is_some (kept_of (run_from (empty_content n) l).kept p q) ≡ has_key l p q

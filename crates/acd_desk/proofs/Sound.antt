@@ -11,8 +11,8 @@ use Rattle.acd_book.specs.Content.{Content, empty_content, is_key}
 use Rattle.acd_desk.specs.Firsts.{has_key, distinct_from, firsts, kept_at, record_of, executed, run_from, run}
 use Rattle.acd_desk.specs.Stands.{arrivals_of, IsSound, ran_after, raised_from, StopsAt}
 use Rattle.acd_desk.proofs.Steps.{step_raised, raised_again}
-use Rattle.acd_desk.proofs.Keys.{key_same}
 use Rattle.acd_desk.proofs.Runs.{has-push, run-limits}
+use Rattle.acd_book.proofs.Keys.{key_same}
 
 -- each has a key that none before it has
 abbrev pub New : List Arrival → List Arrival → Type 0

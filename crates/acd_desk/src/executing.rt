@@ -37,25 +37,21 @@ pub(crate) fn executed(
     ensures { IfOk result (λ r. Prepared switch.old (at moment request.now) r.0.changes.items r.0.events.items r.1 switch.new) }
 {
     let done = switch.step_with_changes(moment, &request.command)?;
-    let kept = kept_record(alloc, switch, request, done.outcome)?;
+    let body = reply_text(alloc, &request.requester, request.invoke, done.outcome)?;
+    let (stamp, moment) = (switch.last_stamp(), switch.last_moment());
+    let kept = kept_record(stamp, moment, request, done.outcome, Text::new(body));
     Ok((done, kept))
 }
 
-// What is kept of a request, by the switch after it.
-fn kept_record(
-    alloc: Global,
-    switch: &Switch,
-    request: &Request,
-    outcome: Outcome,
-) -> Result<Kept, AllocError>
-    ensures { IfOk result (λ k. k ≡ kept_at switch.now.last_stamp switch.now.last_moment request.now outcome) }
+// What is kept of a request, by the counters of the switch after it.
+fn kept_record(stamp: u64, moment: u32, request: &Request, outcome: Outcome, body: Text) -> Kept
+    ensures { result ≡ record (kept_at stamp moment request.now outcome) { body = body } }
 {
-    let body = reply_text(alloc, &request.requester, request.invoke, outcome)?;
-    Ok(Kept {
-        stamp: switch.last_stamp(),
-        moment: switch.last_moment(),
+    Kept {
+        stamp,
+        moment,
         request: *request,
         status: outcome_status(outcome),
-        body: Text::new(body),
-    })
+        body,
+    }
 }

@@ -6,7 +6,7 @@ use Rattle.std.specs.declared.cmp.Ordering.TheVariants.{Less, Equal, Greater}
 use Rattle.std.specs.Ordering.{match_ordering, ordering_reverse, is_eq}
 use Rattle.std.proofs.lemmas.Cmp.{tied_itself}
 use Rattle.acd_terms.specs.Lists.{Among, Every, AllAfter, IsAscending, put_by, remove_by}
-use Rattle.acd_laws.proofs.Lists.{after_among, after_lower, after_same}
+use Rattle.acd_lemmas.proofs.Lists.{after_among, after_lower, after_same}
 use Rattle.acd_differences.specs.Differing.{Step, gone, put, record_of, stepped, IsNoKey, IsOther, AreSteps, replaced, behind, merged}
 
 module _ {T : Type 0} where

@@ -1,3 +1,2 @@
 mod Differences
-mod SameRecords
 mod Transitions

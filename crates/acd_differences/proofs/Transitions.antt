@@ -25,8 +25,8 @@ use Rattle.acd_model.specs.Rules.Plan.{group_order, station_order, agent_order, 
 use Rattle.acd_model.specs.declared.moves.Change.{Change}
 use Rattle.acd_model.specs.declared.moves.Change.TheVariants.{Nothing, PutGroup, PutStation, PutAgent, PutCall, PutConnection, PutMonitor, RemoveCall, RemoveConnection, RemoveMonitor}
 use Rattle.acd_model.proofs.ChangeLemmas.{changed_by_append}
-use Rattle.acd_laws.specs.Orders.{Orders}
-use Rattle.acd_differences.proofs.SameRecords.{same_group, same_station, same_agent, same_call, same_connection, same_monitor}
+use Rattle.acd_lemmas.specs.Orders.{Orders}
+use Rattle.acd_lemmas.proofs.SameRecords.{same_group, same_station, same_agent, same_call, same_connection, same_monitor}
 use Rattle.acd_differences.specs.Differing.{Step, gone, put, change_by, stepped, LeadTo}
 use Rattle.acd_differences.specs.Transition.{HasTables, AreWhole, Lead, AddsSteps, with_plan}
 

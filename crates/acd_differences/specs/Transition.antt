@@ -6,7 +6,7 @@ use Rattle.acd_terms.specs.declared.rows.Rows.{Rows}
 use Rattle.acd_model.specs.Changes.{changed_by}
 use Rattle.acd_model.specs.declared.moves.Change.{Change}
 use Rattle.acd_model.specs.declared.moves.Change.TheVariants.{Nothing}
-use Rattle.acd_laws.specs.Orders.{Orders}
+use Rattle.acd_lemmas.specs.Orders.{Orders}
 use Rattle.acd_differences.specs.Differing.{LeadTo}
 
 -- the lists of one are those of the other; the limits and the counters are not asked for

@@ -19,7 +19,8 @@ use Rattle.acd_http.specs.declared.asked.Unknown.TheVariants as unknown
 use Rattle.acd_http.specs.declared.asked.HeadAsked.TheVariants as head
 use Rattle.acd_terms.specs.declared.command.Request.{Request}
 use Rattle.acd_codec.specs.declared.member.Member.{Member}
-use Rattle.acd_http.proofs.Readings.{head_is, no_head_is, input_begun}
+use Rattle.acd_http.proofs.Readings.{head_is, no_head_is}
+use Rattle.acd_lines.proofs.Turns.{input_begun}
 
 pub by_head : (input : List ℕ) (o : Option ℕ) (asked : Asked) → head_len (take 8192 input) ≡ o → AsksBy o input asked → Asks input asked
 unfolding Asks

@@ -61,17 +61,12 @@ unfolding reply_bytes
 out_is bodiless (Made status kind body) = refl
 out_is bodiless (Fixed status allow body) = refl
 
-pub in_two : (bodiless : Bool) (r : Reply) (head sent body slice : List ℕ) (status size : ℕ) (kind : Kind) (allow : Option Allow) → slice ≡ head → head ≡ head_text status kind size allow → status ≡ status_of r → kind ≡ kind_of r
-    → size ≡ length body → allow ≡ allow_of r → body ≡ body_of r → sent ≡ cond bodiless [] body → reply_out bodiless r ≡ slice ++ sent
-in_two bodiless r head sent body slice status size kind allow same is a b c d e f =
-    let size_is : size ≡ length (body_of r) = c ∙ ap length e in
-    let text : head_text status kind size allow ≡ head_text (status_of r) (kind_of r) (length (body_of r)) (allow_of r) = rw (a, b, size_is, d) refl in
-    let left : slice ≡ head_text (status_of r) (kind_of r) (length (body_of r)) (allow_of r) = same ∙ is ∙ text in
+pub in_two : (bodiless : Bool) (r : Reply) (head sent body : List ℕ) (status : ℕ) (kind : Kind) (allow : Option Allow) → head ≡ head_text status kind (length body) allow → status ≡ status_of r → kind ≡ kind_of r
+    → allow ≡ allow_of r → body ≡ body_of r → sent ≡ cond bodiless [] body → head ++ sent ≡ reply_out bodiless r
+in_two bodiless r head sent body status kind allow is a b d e f =
+    let text : head_text status kind (length body) allow ≡ head_text (status_of r) (kind_of r) (length (body_of r)) (allow_of r) = rw (a, b, e, d) refl in
     let right : sent ≡ cond bodiless [] (body_of r) = f ∙ ap (λ (l : List ℕ). cond bodiless [] l) e in
-    sym (ap (λ (l : List ℕ). l ++ sent) left ∙ ap (λ (l : List ℕ). head_text (status_of r) (kind_of r) (length (body_of r)) (allow_of r) ++ l) right ∙ sym (out_is bodiless r))
-
-pub both_sent : (a b c : Option (List ℕ)) (out xs ys : List ℕ) → out ≡ xs ++ ys → Appends a b xs → Appends b c ys → Appends a c out
-both_sent a b c out xs ys e h k = subst (Appends a c) (sym e) (Appends-trans a b c xs ys h k)
+    ap (λ (l : List ℕ). l ++ sent) (is ∙ text) ∙ ap (λ (l : List ℕ). head_text (status_of r) (kind_of r) (length (body_of r)) (allow_of r) ++ l) right ∙ sym (out_is bodiless r)
 
 pub first_begun : (a c : Option (List ℕ)) (out xs ys : List ℕ) → out ≡ xs ++ ys → Begins a c xs → Begins a c out
 first_begun a c out xs ys e h = subst (Begins a c) (sym e) (begins_front a c xs ys h)

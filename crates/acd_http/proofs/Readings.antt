@@ -16,9 +16,6 @@ kept_then (Some xs) None c bs h k = absurd h
 kept_then (Some xs) (Some ys) None bs h k = k
 kept_then (Some xs) (Some ys) (Some zs) bs h k = sym h ∙ k
 
-pub no_bytes : (n : ℕ) (xs : List ℕ) → n ≡ 0 → take n xs ≡ []
-no_bytes n xs e = ap (λ (k : ℕ). take k xs) e
-
 pub short : (now old buf : List ℕ) (n : ℕ) → now ≡ old → length old ≤ 12288 → length buf ≤ 4096 → length now + length (take n buf) ≤ 16384
 short now old buf n e h k = omega (arith, ap length e, length-take n buf)
 
@@ -83,11 +80,6 @@ head_is room n now more e =
 
 pub no_head_is : (room : ℕ) (now more : List ℕ) → room ≤ length now → head_len (take room now) ≡ None → (head_len (take room (now ++ more)) ≡ None) × (room ≤ length (now ++ more))
 no_head_is room now more full e = (ap head_len (take-append-le room now more full) ∙ e, omega (arith, length-append now more))
-
-pub input_begun : (a b : Option (List ℕ)) (seen : List ℕ) → Consumes a b seen → (more : List ℕ) × IsInput a (seen ++ more)
-input_begun None b seen h = ([], tt)
-input_begun (Some xs) None seen h = absurd h
-input_begun (Some xs) (Some ys) seen h = (ys, h)
 
 pub ended : (a b c : Option (List ℕ)) (seen bytes : List ℕ) → Consumes a b seen → Consumes b c bytes → bytes ≡ [] → IsAtEnd c → IsInput a seen
 ended a b c seen bytes h k none last =

@@ -1,6 +1,6 @@
 //! One request, and its reply.
 
-ghost use Rattle.std.specs.Prelude.{◌≡◌, ◌≢◌, OnOk, IfErr, cond, []};
+ghost use Rattle.std.specs.Prelude.{◌≡◌, ◌≢◌, OnOk, OnErr, IfErr, ◌++◌, cond, []};
 ghost use Rattle.std.specs.Io.KnownBytes.{Appends};
 ghost use Rattle.acd_lines.specs.Sent.{Begins, Breaks};
 ghost use Rattle.acd_desk.specs.Ran.{standing};
@@ -14,6 +14,7 @@ use crate::input::Input;
 use crate::receive::CALLS;
 use crate::reply::reply_head;
 use crate::routes::Routes;
+use crate::short_text::ShortText;
 use acd_book::Book;
 use acd_codec::FixedAnswer;
 use acd_desk::Desk;
@@ -45,6 +46,27 @@ fn body_sent(bodiless: bool, body: &[u8]) -> &[u8]
     if bodiless { b"" } else { body }
 }
 
+// Sends a head and its body: where the body fits behind the head, by one call, so that both go out together.
+fn send_both<W: Write>(
+    writer: &mut W,
+    calls: &mut u64,
+    head: &mut ShortText,
+    body: &[u8],
+) -> Result<(), Stopped>
+    ensures ok { OnOk result (Appends (W.contents writer.old) (W.contents writer.new) (head.old ++ body.now)) }
+    ensures err { OnErr result (Begins (W.contents writer.old) (W.contents writer.new) (head.old ++ body.now)) }
+    ensures short { OnErr result (Breaks (W.contents writer.old) (W.contents writer.new) (head.old ++ body.now)) }
+{
+    if body.len() <= head.room() {
+        head.push(body);
+        return send(writer, calls, head.as_slice());
+    }
+    match send(writer, calls, head.as_slice()) {
+        Ok(()) => send(writer, calls, body),
+        Err(Stopped) => Err(Stopped),
+    }
+}
+
 // Writes a reply.
 fn respond<W: Write>(writer: &mut W, bodiless: bool, reply: &Reply) -> Result<(), ExchangeFault>
     ensures ok { OnOk result (Appends (W.contents writer.old) (W.contents writer.new) (reply_out bodiless reply.now)) }
@@ -53,12 +75,9 @@ fn respond<W: Write>(writer: &mut W, bodiless: bool, reply: &Reply) -> Result<()
 {
     let mut calls = CALLS;
     let body = reply.body();
-    let head = reply_head(reply.status(), reply.kind(), body.len(), reply.allow());
-    match send(writer, &mut calls, head.as_slice()) {
-        Ok(()) => match send(writer, &mut calls, body_sent(bodiless, body)) {
-            Ok(()) => Ok(()),
-            Err(Stopped) => Err(ExchangeFault::Write),
-        },
+    let mut head = reply_head(reply.status(), reply.kind(), body.len(), reply.allow());
+    match send_both(writer, &mut calls, &mut head, body_sent(bodiless, body)) {
+        Ok(()) => Ok(()),
         Err(Stopped) => Err(ExchangeFault::Write),
     }
 }

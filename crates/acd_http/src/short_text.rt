@@ -4,10 +4,10 @@ ghost use Rattle.std.specs.Prelude.{◌≡◌, ◌≤◌, ◌+◌, ◌++◌, [],
 
 use std::marker::Model;
 
-/// A text of at most 256 bytes, in place.
+/// A text of at most 1024 bytes, in place.
 #[derive(Drop)]
 pub(crate) struct ShortText {
-    bytes: [u8; 256],
+    bytes: [u8; 1024],
     len: usize,
 }
 
@@ -18,7 +18,7 @@ impl Model for ShortText {
 
     ghost view = { λ h. take h.len h.bytes };
 
-    ghost invariant = { λ h. h.len ≤ 256 };
+    ghost invariant = { λ h. h.len ≤ 1024 };
 }
 
 impl ShortText {
@@ -26,20 +26,27 @@ impl ShortText {
         ensures { result ≡ [] }
     {
         ShortText {
-            bytes: [0; 256],
+            bytes: [0; 1024],
             len: 0,
         }
     }
 
     /// Adds the bytes at the end.
     pub(crate) fn push(&mut self, text: &[u8])
-        requires { length self.old + length text.now ≤ 256 }
+        requires { length self.old + length text.now ≤ 1024 }
         ensures { self.new ≡ self.old ++ text.now }
     {
         for i in 0..text.len() {
             self.bytes[self.len + i] = text[i];
         }
         self.len += text.len();
+    }
+
+    /// How many bytes it can take yet.
+    pub(crate) fn room(&self) -> usize
+        ensures { length self.now + result ≡ 1024 }
+    {
+        1024 - self.len
     }
 
     pub(crate) fn as_slice(&self) -> &[u8]

@@ -2,11 +2,11 @@
 use Rattle.std.proofs.Common.{◌≡◌, ℕ, inl, inr, Bool, true, false, ◌&&◌, ◌||◌, Option, Some, None, refl, ◌∙◌, arith, ◌+◌, ◌≤◌, not, List, sym, ap, subst}
 use Rattle.std.specs.Prelude.{◌==◌, is_some}
 use Rattle.std.proofs.lemmas.Bool.{and_parts, and_from, not-true, or_right, or_left, and_right, eqb-true}
-use Rattle.acd_laws.proofs.Words.{Rows, AgentRecord, ConnectionRecord, ConnectionState, count, Among, Every, IsAscending, is_initiated, is_alerting, is_hold, is_answered, is_live, group_of, station_of, call_of, is_group, is_station, is_planned, is_distributed, is_idle, agent_order, connection_order, is_open, parties_of, initiated_of, open_of, live_at, alerting_at, hold_at, is_distributed_at}
+use Rattle.acd_lemmas.proofs.Words.{Rows, AgentRecord, ConnectionRecord, ConnectionState, count, Among, Every, IsAscending, is_initiated, is_alerting, is_hold, is_answered, is_live, group_of, station_of, call_of, is_group, is_station, is_planned, is_distributed, is_idle, agent_order, connection_order, is_open, parties_of, initiated_of, open_of, live_at, alerting_at, hold_at, is_distributed_at}
 use Rattle.acd_terms.specs.declared.state.ConnectionState.TheVariants as S
 use Rattle.acd_model.specs.CallMoves.{plain, met_at, destination_of, arriving}
-use Rattle.acd_laws.proofs.Facts.{Bare, GroupColumn, IsCaller, StandsAt, ConnectionRule, RulesBut, Rules, AgentRule, ringing_at, talking_at, seated_at, ready_at, busy_at, pending_at, two_if}
-use Rattle.acd_laws.proofs.Lists.{none_counted, fewer, one, counted, both_fewer}
+use Rattle.acd_lemmas.proofs.Facts.{Bare, GroupColumn, IsCaller, StandsAt, ConnectionRule, RulesBut, Rules, AgentRule, ringing_at, talking_at, seated_at, ready_at, busy_at, pending_at, two_if}
+use Rattle.acd_lemmas.proofs.Lists.{none_counted, fewer, one, counted, both_fewer}
 
 -- what stands at a destination
 pub record Arrived (s : Rows) (c d : ℕ) (y : ConnectionRecord) : Type 0 where

@@ -1,7 +1,7 @@
 -- What a service does, as deeds: the one walk over refusals; and the rounds of a step.
 use Rattle.std.proofs.Common.{◌≡◌, Bool, true, false, Option, Some, None, refl, ℕ, ◌⊎◌, inl, inr, not, ◌&&◌, ◌||◌, cond, List, [], ◌∷◌, length, ◌∙◌, ap, subst, Err}
 use Rattle.std.specs.Option.{ok_or}
-use Rattle.acd_laws.proofs.Words.{Rows, AgentRecord, CallRecord, ConnectionRecord, Pending, Command, Move, Offer, Refusal, Requested, Served, is_null, is_working_after_call, state_wanted, is_in, is_initiated, is_alerting, is_connected, is_hold, is_queued, agent_of, call_of, connection_of, is_group, is_station, is_planned, agent_at, other_of, is_live_at, is_occupied, silent, group_of, Every, GroupRecord}
+use Rattle.acd_lemmas.proofs.Words.{Rows, AgentRecord, CallRecord, ConnectionRecord, Pending, Command, Move, Offer, Refusal, Requested, Served, is_null, is_working_after_call, state_wanted, is_in, is_initiated, is_alerting, is_connected, is_hold, is_queued, agent_of, call_of, connection_of, is_group, is_station, is_planned, agent_at, other_of, is_live_at, is_occupied, silent, group_of, Every, GroupRecord}
 use Rattle.acd_model.specs.Scans.{is_used}
 use Rattle.acd_model.specs.Served.{refuse_if, if_ok, ◌>>=◌, ◌>>◌, moves_of, gives}
 use Rattle.std.specs.Prelude.{◌==◌, is_some, nat_le, min, Result, Ok}
@@ -9,7 +9,7 @@ use Rattle.acd_terms.specs.Limits.{greatest_priority}
 use Rattle.acd_terms.specs.Groups.{is_choice}
 use Rattle.acd_terms.specs.declared.answer.Refusal.TheVariants.{UnknownDevice, NotGroup}
 use Rattle.acd_terms.specs.declared.answer.Answer.TheVariants.{Nothing}
-use Rattle.acd_laws.proofs.Facts.{ArePlannedGroups}
+use Rattle.acd_lemmas.proofs.Facts.{ArePlannedGroups}
 use Rattle.std.proofs.lemmas.Bool.{not-false, and_parts}
 use Rattle.acd_terms.specs.declared.command.Command.TheVariants.{AddGroup, AddStation, AddAgent, ArriveCall, MakeCall, PhoneOffHook, AnswerCall, HoldCall, RetrieveCall, ClearConnection, DeflectCall, SingleStepTransfer, SetAgentState, MonitorStart, MonitorStop, Tick, SetGroupPriority}
 use Rattle.acd_terms.specs.declared.command.Requested.TheVariants as requested
@@ -22,9 +22,9 @@ use Rattle.acd_model.specs.Services.Serve.{serve}
 use Rattle.acd_model.specs.Distribution.{offer_at}
 use Rattle.acd_model.specs.Tick.{return_to, rest_moves, tick}
 use Rattle.acd_model.specs.declared.moves.Change.TheVariants.{PutGroup, PutStation, PutAgent, PutMonitor, RemoveMonitor}
-use Rattle.acd_laws.proofs.Lists.{none_from}
-use Rattle.acd_laws.proofs.State.{found_key, own_key, agent_own}
-use Rattle.acd_laws.proofs.Distributing.{Offering}
+use Rattle.acd_lemmas.proofs.Lists.{none_from}
+use Rattle.acd_lemmas.proofs.State.{found_key, own_key, agent_own}
+use Rattle.acd_laws.proofs.Offers.Distributing.{Offering}
 
 pub by_refusal : (P : Served → Type 0) (b : Bool) (r : Refusal) (rest : Served) → ((r : Refusal) → P (Err r)) → (b ≡ false → P rest) → P (refuse_if b r >> rest)
 unfolding refuse_if if_ok

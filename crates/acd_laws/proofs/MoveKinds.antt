@@ -2,14 +2,14 @@
 use Rattle.std.proofs.Common.{◌≡◌, ℕ, Bool, true, false, cond, Option, Some, None, refl, ◌∙◌, ap, List, [], ◌∷◌}
 use Rattle.std.specs.Prelude.{◌==◌}
 use Rattle.std.proofs.lemmas.Bool.{cond-false}
-use Rattle.acd_laws.proofs.Words.{Rows, AgentRecord, ConnectionRecord, AgentState, Pending, Cause, Change, Ending, Move, Release, find_by, Every, IsAscending, at_connection, group_of, station_of, agent_of, connection_of, is_group, is_planned, agent_at, is_distributed, is_idle, with_group, with_station, with_agent, with_call, with_connection, with_monitor, without_call, without_connection, without_monitor, no_move, reported, changed, moved, agent_order}
+use Rattle.acd_lemmas.proofs.Words.{Rows, AgentRecord, ConnectionRecord, AgentState, Pending, Cause, Change, Ending, Move, Release, find_by, Every, IsAscending, at_connection, group_of, station_of, agent_of, connection_of, is_group, is_planned, agent_at, is_distributed, is_idle, with_group, with_station, with_agent, with_call, with_connection, with_monitor, without_call, without_connection, without_monitor, no_move, reported, changed, moved, agent_order}
 use Rattle.acd_terms.specs.declared.state.AgentState.TheVariants as A
 use Rattle.acd_model.specs.AgentMoves.{while_logged_on, in_state, state_report, go_from, wait_for}
 use Rattle.acd_model.specs.Release.{release_of, released, release_agent, release}
 use Rattle.acd_model.specs.Services.{busy_agent, occupy}
 use Rattle.acd_model.specs.declared.moves.Change.TheVariants.{PutAgent, PutConnection, PutGroup, PutStation, RemoveConnection}
 use Rattle.acd_model.specs.declared.moves.Release.TheVariants.{Stays, Goes}
-use Rattle.acd_laws.proofs.State.{agent_put, agent_there}
+use Rattle.acd_lemmas.proofs.State.{agent_put, agent_there}
 use Rattle.acd_terms.specs.declared.state.ConnectionState.TheVariants.{Alerting, Fail}
 use Rattle.acd_terms.specs.declared.event.Report.TheVariants.{Queued, Delivered, Failed}
 use Rattle.acd_model.specs.CallMoves.{plain, queueing, met_at, arriving, arrival, arrive}

@@ -2,7 +2,7 @@
 use Rattle.std.proofs.Common.{◌≡◌, ℕ, ◌+◌, ◌≤◌, ◌⊎◌, inl, inr, Bool, true, false, not, ◌&&◌, cond, Option, Some, None, refl, sym, ◌∙◌, ap, subst, arith}
 use Rattle.std.specs.Prelude.{◌==◌, is_some}
 use Rattle.std.proofs.lemmas.Bool.{and_parts, and_from, eqb-true, false_from_ne_true, and_right, and_cases}
-use Rattle.acd_laws.proofs.Words.{Rows, AgentRecord, ConnectionRecord, ConnectionState, AgentState, Pending, Ending, Release, put_by, count, Among, is_ready, is_busy, state_wanted, is_alerting, is_queued, is_answered, group_of, station_of, agent_of, call_of, has, agent_at, is_distributed, with_agent, no_move, changed, agent_order, is_distributed_at}
+use Rattle.acd_lemmas.proofs.Words.{Rows, AgentRecord, ConnectionRecord, ConnectionState, AgentState, Pending, Ending, Release, put_by, count, Among, is_ready, is_busy, state_wanted, is_alerting, is_queued, is_answered, group_of, station_of, agent_of, call_of, has, agent_at, is_distributed, with_agent, no_move, changed, agent_order, is_distributed_at}
 use Rattle.acd_terms.specs.declared.state.AgentState.TheVariants as A
 use Rattle.acd_terms.specs.declared.state.Pending.TheVariants as W
 use Rattle.acd_terms.specs.declared.state.ConnectionState.TheVariants as S
@@ -11,14 +11,14 @@ use Rattle.acd_model.specs.declared.moves.Ending.TheVariants.{Answered, Unanswer
 use Rattle.acd_model.specs.declared.moves.Release.TheVariants.{Stays, Goes}
 use Rattle.acd_model.specs.AgentMoves.{in_state}
 use Rattle.acd_model.specs.Release.{release_of, released, release_agent, ending_of, release}
-use Rattle.acd_laws.proofs.Facts.{RulesBut, Rules, IsPlannedStation, ArePlannedGroups, SeatedAs, AgentRule, HasColumns, ConnectionRule, ringing_at, talking_at, seated_at, ready_at, busy_at, pending_at}
-use Rattle.acd_laws.proofs.Lists.{one, ascending-put, every_among, every-put, counted, fewer, the_one, some_counted, some_from}
-use Rattle.acd_laws.proofs.Keyed.{eqb_self}
-use Rattle.acd_laws.proofs.State.{agents_total, agent_among, count_agent, agent_seat, agent_there}
+use Rattle.acd_lemmas.proofs.Facts.{RulesBut, Rules, IsPlannedStation, ArePlannedGroups, SeatedAs, AgentRule, HasColumns, ConnectionRule, ringing_at, talking_at, seated_at, ready_at, busy_at, pending_at}
+use Rattle.acd_lemmas.proofs.Lists.{one, ascending-put, every_among, every-put, counted, fewer, the_one, some_counted, some_from}
+use Rattle.acd_lemmas.proofs.Keyed.{eqb_self}
+use Rattle.acd_lemmas.proofs.State.{agents_total, agent_among, count_agent, agent_seat, agent_there}
 use Rattle.acd_laws.proofs.MoveKinds.{releases, agent_others}
 use Rattle.acd_laws.proofs.Arriving.{with_agents, lone}
-use Rattle.acd_laws.proofs.KeptOffer.{ringing_is, talking_is}
-use Rattle.acd_laws.proofs.States.{ready_is}
+use Rattle.acd_laws.proofs.Rules.KeptOffer.{ringing_is, talking_is}
+use Rattle.acd_lemmas.proofs.States.{ready_is}
 
 -- a seat that a station has
 pub seat_from : (s : Rows) (a : AgentRecord) (d : ℕ) (st : AgentState) → SeatedAs s a st → a.station ≡ Some d → IsPlannedStation s a.station × ArePlannedGroups s a.groups

@@ -1,7 +1,7 @@
 -- The lines of an input, and the text of a line.
 use Rattle.std.proofs.Common.{◌≡◌, ℕ, ◌-◌, ◌<◌, Bool, true, false, not, ◌&&◌, ◌==◌, nat_lt, List, [], ◌∷◌, ◌++◌, length, take, get_or, filter, refl, sym, ap, ◌∙◌, arith, append-nil, length-append, lt-ltb}
 use Rattle.std.proofs.lemmas.List.{take_at, get_or_at}
-use Rattle.std.proofs.lemmas.Bool.{and_parts, true≢false, false≢true}
+use Rattle.std.proofs.lemmas.Bool.{and_parts, true≢false, false≢true, not-true}
 use Rattle.std.proofs.lemmas.List.Folds.{list_all_at}
 use Rattle.std.proofs.lemmas.List.Elements.{filter-append}
 use Rattle.std.specs.Cmp.Derive.{both_true}
@@ -10,26 +10,22 @@ use Rattle.std.specs.Io.BufRead.{ends_with_byte, strip_last}
 use Rattle.acd_lines.specs.Input.{cut, onto, text_of, has_none}
 use Rattle.acd_lines.specs.Output.{whole_lines}
 
-not_true : (b : Bool) → not b ≡ true → b ≡ false
-not_true true h = absurd (false≢true h)
-not_true false h = refl
-
 -- a part with no line feed, and then one
 pub cut_line : (part rest : List ℕ) → has_none 10 part ≡ true → cut (part ++ 10 ∷ rest) ≡ (part ++ 10 ∷ []) ∷ cut rest
 unfolding cut
 cut_line [] rest h = refl
 cut_line (x ∷ part) rest h =
     let both = and_parts (not (x == 10)) (has_none 10 part) h in
-    rw (not_true (x == 10) both.0) (ap (onto x) (cut_line part rest both.1))
+    rw (not-true (x == 10) both.0) (ap (onto x) (cut_line part rest both.1))
 
 -- a part with no line feed is one line, unless it is empty
 pub cut_open : (part : List ℕ) → has_none 10 part ≡ true → 0 < length part → cut part ≡ part ∷ []
 unfolding cut
 cut_open [] h some = absurd (omega arith)
-cut_open (x ∷ []) h some = let both = and_parts (not (x == 10)) true h in rw (not_true (x == 10) both.0) refl
+cut_open (x ∷ []) h some = let both = and_parts (not (x == 10)) true h in rw (not-true (x == 10) both.0) refl
 cut_open (x ∷ y ∷ part) h some =
     let both = and_parts (not (x == 10)) (has_none 10 (y ∷ part)) h in
-    rw (not_true (x == 10) both.0) (ap (onto x) (cut_open (y ∷ part) both.1 (omega arith)))
+    rw (not-true (x == 10) both.0) (ap (onto x) (cut_open (y ∷ part) both.1 (omega arith)))
 
 pub ends_in_feed : (part : List ℕ) → ends_with_byte 10 (part ++ 10 ∷ []) ≡ true
 ends_in_feed part =

@@ -43,7 +43,7 @@ no_part n [] h e = refl
 no_part zero (x ∷ part) h e = absurd (omega arith)
 no_part (suc n) (x ∷ part) h e = absurd (omega arith)
 
-no_bytes : (n : ℕ) (xs : List ℕ) → n ≡ 0 → take n xs ≡ []
+pub no_bytes : (n : ℕ) (xs : List ℕ) → n ≡ 0 → take n xs ≡ []
 no_bytes n xs e = ap (λ (k : ℕ). take k xs) e
 
 -- what was consumed up to the end is the input

@@ -21,7 +21,3 @@ third_ok r a b c d x y z first second = OnOk-weaker r (Appends c d z) (Appends a
 
 pub third_err : {A E : Type 0} (r : Result A E) (a b c d : Option (List ℕ)) (x y z : List ℕ) → Appends a b x → Appends b c y → OnErr r (Begins c d z) → OnErr r (Begins a d (x ++ (y ++ z)))
 third_err r a b c d x y z first second = OnErr-weaker r (Begins c d z) (Begins a d (x ++ (y ++ z))) (λ h. begins_behind a b d x (y ++ z) first (begins_behind b c d y z second h))
-
-pub on_err : {A E : Type 0} (r : Result A E) (P : Type 0) → P → OnErr r P
-on_err (Ok x) P h = tt
-on_err (Err e) P h = h

@@ -9,14 +9,10 @@ use Rattle.acd_terms.specs.Lists.{count, find_by}
 use Rattle.acd_model.specs.Scans.{has}
 use Rattle.acd_model.specs.Rules.Occupied.{is_empty}
 use Rattle.acd_rules.specs.Groups.{number_or_none, those_with}
+use Rattle.acd_lemmas.proofs.Lists.{count_length, filter-filter}
 
 counted : {T : Type 0} (b : Bool) (x : T) (xs : List T) (n : ℕ) → n ≡ length xs → (if b then 1 else 0) + n ≡ length (cond b (x ∷ xs) xs)
 counted b x xs n e = elim b as (λ v. (if v then 1 else 0) + n ≡ length (cond v (x ∷ xs) xs)) [ true ↦ omega arith | false ↦ omega arith ]
-
--- how many pass is the length of the list of those that pass
-pub count_is_length : {T : Type 0} (p : T → Bool) (xs : List T) → count p xs ≡ length (filter p xs)
-count_is_length p [] = refl
-count_is_length p (x ∷ xs) = counted (p x) x (filter p xs) (count p xs) (count_is_length p xs)
 
 -- a filter leaves none where none passes
 pub none_left : {T : Type 0} (p : T → Bool) (xs : List T) → is_empty (filter p xs) ≡ not (list_any p xs)
@@ -30,20 +26,14 @@ within_one true false so x p ys zs is rest = absurd (cc (so refl))
 within_one false true so x p ys zs is rest = rw is rest
 within_one false false so x p ys zs is rest = rest
 
--- where p says more than q, p keeps of what q keeps just what it keeps of all
-pub filter_within : {T : Type 0} (p q : T → Bool) → ((x : T) → p x ≡ true → q x ≡ true) → (xs : List T)
-    → filter p (filter q xs) ≡ filter p xs
-filter_within p q so [] = refl
-filter_within p q so (x ∷ xs) = within_one (p x) (q x) (so x) x p (filter q xs) (filter p xs) refl (filter_within p q so xs)
-
 -- so of a part that has all that q keeps
 pub kept_of_part : {T : Type 0} (p q : T → Bool) → ((x : T) → p x ≡ true → q x ≡ true) → (part xs : List T)
     → filter q part ≡ filter q xs → filter p part ≡ filter p xs
-kept_of_part p q so part xs same = sym (filter_within p q so part) ∙ ap (filter p) same ∙ filter_within p q so xs
+kept_of_part p q so part xs same = sym (filter-filter p q so part) ∙ ap (filter p) same ∙ filter-filter p q so xs
 
 pub tallied : {T : Type 0} (p q : T → Bool) → ((x : T) → p x ≡ true → q x ≡ true) → (part xs : List T) (n : ℕ)
     → n ≡ length (filter p part) → filter q part ≡ filter q xs → n ≡ count p xs
-tallied p q so part xs n is same = is ∙ ap length (kept_of_part p q so part xs same) ∙ sym (count_is_length p xs)
+tallied p q so part xs n is same = is ∙ ap length (kept_of_part p q so part xs same) ∙ sym (count_length p xs)
 
 not_same : (a b : Bool) → not a ≡ not b → a ≡ b
 not_same true true same = refl

@@ -62,21 +62,20 @@ use Rattle.acd_columns.proofs.Decoded.{old_in, with_all, ordered, from_order, to
 use Rattle.acd_columns.proofs.Filed.{Filed, tree_is, good, headed, shows_values}
 use Rattle.acd_columns.proofs.Heaped.{Heaped, key_columns, has_twin, no_twin, starts, agreed, heap_tree}
 use Rattle.acd_columns.proofs.Heaps.{one_number, by_both_total, like_tied, key_met, met_key}
-use Rattle.acd_columns.proofs.KeyedRows.{id_cmp, id_tied, same_number, own_number}
+use Rattle.acd_columns.proofs.KeyedRows.{id_cmp, id_tied}
 use Rattle.acd_columns.proofs.Listings.{begun, version_begins}
 use Rattle.acd_columns.proofs.Looked.{mapped_all, ascending_of, rising_of}
-use Rattle.acd_columns.proofs.Ranged.{row_is, null_is, some_same, whole_stored}
+use Rattle.acd_columns.proofs.Ranged.{row_is, null_is, whole_stored}
 use Rattle.acd_columns.proofs.Records.{counters_stored}
 use Rattle.acd_columns.proofs.Rejoined.{parts_rejoined, further_rejoined, groups_right, group_parts_rejoined, priorities_rejoined}
 use Rattle.acd_columns.proofs.Scans.{showing, each}
 use Rattle.acd_columns.proofs.TablesFiled.{priorities_filed, groups_filed, stations_filed, agents_filed, calls_filed, monitors_filed, events_filed, kept_filed}
-use Rattle.acd_schema.proofs.Places.{Beside, NoneBefore, none_beside, all_beside}
+use Rattle.acd_schema.proofs.Places.{Beside, NoneBefore, none_beside, all_beside, longer}
+use Rattle.acd_lemmas.proofs.Numbers.{same_number}
+use Rattle.acd_lemmas.proofs.Keyed.{eqb_self}
+use Rattle.acd_lemmas.proofs.Lists.{some_is, some_from as there}
 
 -- ---- lists of rows
-
-pub there : {X : Type 0} (o : Option X) → is_some o ≡ true → (x : X) × (o ≡ Some x)
-there None h = absurd (cc h)
-there (Some x) h = (x, refl)
 
 pub each_good : (t : Table) (rows : List Row) → are_good t rows ≡ true → AllByRecursion (λ r. is_good t r ≡ true) rows
 unfolding are_good
@@ -111,7 +110,7 @@ key_null l n r key w typed = go l.columns r w (subst (λ k. (are_typed k 0 l.col
     go (c ∷ cs) (v ∷ k ∷ vs) w h = null_is k (and_parts _ _ (and_parts _ _ h).0).0
 
 pub of_width : (n : ℕ) (r : Row) → length r ≡ n → r ≡ cells 0 n r
-of_width n r w = row_is n r (ap (λ k. k == n) w ∙ own_number n)
+of_width n r w = row_is n r (ap (λ k. k == n) w ∙ eqb_self n)
 
 next : (n : ℕ) → n + 1 ≡ suc n
 next n = omega arith
@@ -122,9 +121,6 @@ shown_cells start zero r = refl
 shown_cells start (suc n) r = ap (λ l. column r start ∷ l) (shown_cells (start + 1) n r ∙ ap (λ k. cells k n r) (next start))
 
 -- ---- the width of a row whose last column is there
-
-longer : (m n : ℕ) → m ≤ n → suc m ≤ suc n
-longer m n h = omega arith
 
 typed_length : (key : Option ℕ) (at : ℕ) (columns : List Column) (vs : Row) → are_typed key at columns vs ≡ true → length vs ≤ length columns
 typed_length key at [] [] h = omega arith
@@ -330,7 +326,7 @@ module _ {R : Type 0} (h : Heap R) (f : Heaped h) where
         let q = are.stored y b in
         let key = met_key h (starts h f) q.0 p.0 x y (sym (like_tied h x y) ∙ ap is_eq e) in
         let same = rows_apart (numbered_row h p.0 x) (numbered_row h q.0 y) p.1 q.1 (sym key.0) (sym key.1) in
-        some_same x y (sym (are.back x a) ∙ ap (λ r. h.in_row (drop 1 r)) same ∙ are.back y b)
+        some_is x y (sym (are.back x a) ∙ ap (λ r. h.in_row (drop 1 r)) same ∙ are.back y b)
 
     each_right : (ys : List R) → ((y : R) → Among y ys → Among y xs) → are_good h.table (map h.values ys) ≡ true
     each_right [] all = none_good h.table

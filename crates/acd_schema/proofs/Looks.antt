@@ -37,11 +37,12 @@ use Rattle.acd_columns.specs.Content.{IsIn, number_of}
 use Rattle.acd_columns.specs.Schema.{old_schema, book_schema}
 use Rattle.acd_columns.specs.Schema as schema
 use Rattle.acd_columns.specs.Seeing.{HasDatabase, Sees, HasLooked}
-use Rattle.acd_columns.proofs.KeyedRows.{apart, same_number}
+use Rattle.acd_columns.proofs.KeyedRows.{apart}
 use Rattle.acd_columns.proofs.Looked.{mapped_all, moved_all}
 use Rattle.acd_columns.proofs.Listings.{version_begins}
 use Rattle.acd_schema.proofs.Paged.{page_is, log_told}
 use Rattle.acd_columns.proofs.Seen.{sees_on, sees_fail, sees_then, sees_here}
+use Rattle.acd_lemmas.proofs.Numbers.{same_number}
 
 -- ---- rows
 

@@ -16,7 +16,7 @@ use Rattle.sqlite_keyed.proofs.ListLemmas.{map-map}
 use Rattle.sqlite.specs.Effect.{Database}
 use Rattle.acd_terms.specs.Lists.{Among, IsAscending}
 use Rattle.acd_terms.specs.declared.event.Event.{Event}
-use Rattle.acd_laws.proofs.Lists.{after_among, filter_all, filter_among, ascending-filter}
+use Rattle.acd_lemmas.proofs.Lists.{after_among, filter_all, filter_among, ascending-filter}
 use Rattle.acd_book.specs.declared.kept.Kept.{Kept}
 use Rattle.acd_columns.specs.declared.tables.Log.{Log}
 use Rattle.acd_columns.specs.declared.tables.Log.TheVariants as log

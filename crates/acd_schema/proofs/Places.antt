@@ -12,7 +12,7 @@ use Rattle.sqlite_trees.specs.Tree.{Trees}
 use Rattle.sqlite_rules.specs.Lists.{Has}
 use Rattle.acd_terms.specs.Forms.{number_between}
 use Rattle.acd_terms.specs.Lists.{Among, IsAscending, put_by}
-use Rattle.acd_laws.proofs.Lists.{all_true}
+use Rattle.acd_lemmas.proofs.Lists.{all_true, all_from}
 use Rattle.acd_columns.specs.declared.relations.AgentRow.{AgentRow}
 use Rattle.acd_columns.specs.declared.relations.GroupRow.{GroupRow}
 use Rattle.acd_columns.specs.declared.relations.GroupPriority.{GroupPriority}
@@ -35,11 +35,7 @@ use Rattle.acd_schema.specs.Inspecting.{ArePlaced}
 
 -- ---- pairs in their order
 
-all_among : {X : Type 0} (p : X → Bool) (xs : List X) → ((x : X) → Among x xs → p x ≡ true) → list_all p xs ≡ true
-all_among p [] h = refl
-all_among p (x ∷ xs) h = and_from (p x) (list_all p xs) (h x (inl refl)) (all_among p xs (λ y k. h y (inr k)))
-
-longer : (m n : ℕ) → m ≤ n → suc m ≤ suc n
+pub longer : (m n : ℕ) → m ≤ n → suc m ≤ suc n
 longer m n h = omega arith
 
 longer_by : (b : Bool) (m n : ℕ) → m ≤ n → cond b (suc m) m ≤ cond b (suc n) n
@@ -105,8 +101,8 @@ behind_in_order : (agents : List AgentRow) (pairs : List (ℕ × ℕ)) → are_b
 behind_in_order agents pairs h =
     let parts = and_parts (list_all (λ (p : ℕ × ℕ). list_any (λ (a : AgentRow). is_behind a p) agents) pairs) (list_all (λ (a : AgentRow). nat_le (length (groups_beside pairs a.agent)) 7) agents) h in
     and_from _ _
-    (all_among (λ (p : ℕ × ℕ). list_any (λ (a : AgentRow). is_behind a p) agents) (in_order pair_order pairs) (λ p k. all_true (λ (q : ℕ × ℕ). list_any (λ (a : AgentRow). is_behind a q) agents) pairs parts.0 p (from_order pair_order pairs p k)))
-    (all_among (λ (a : AgentRow). nat_le (length (groups_beside (in_order pair_order pairs) a.agent)) 7) agents
+    (all_from (λ (p : ℕ × ℕ). list_any (λ (a : AgentRow). is_behind a p) agents) (in_order pair_order pairs) (λ p k. all_true (λ (q : ℕ × ℕ). list_any (λ (a : AgentRow). is_behind a q) agents) pairs parts.0 p (from_order pair_order pairs p k)))
+    (all_from (λ (a : AgentRow). nat_le (length (groups_beside (in_order pair_order pairs) a.agent)) 7) agents
     (λ a k. few _ _ (in_order_at_most a.agent pairs) (all_true (λ (x : AgentRow). nat_le (length (groups_beside pairs x.agent)) 7) agents parts.1 a k)))
 
 -- ---- what the rows show

@@ -36,6 +36,8 @@ use Rattle.sqlite.specs.Listing.{understood}
 use Rattle.sqlite.specs.State.{shows_rows, text_of}
 use Rattle.acd_columns.specs.Making.{Makes, command_of, statement_of}
 use Rattle.acd_statements.specs.Failing.{IsUnread, IsEnding, Refuses, at_once}
+use Rattle.acd_columns.proofs.Asked.{text_tied}
+use Rattle.acd_terms.proofs.Texts.{utf8_ascii}
 
 abbrev pub is_ascii : ℕ → Bool
 is_ascii b = nat_lt b 128
@@ -63,25 +65,11 @@ no_more n m low high = grind (arith, nat_tests)
 within : (n m : ℕ) → nat_le n m ≡ true → n ≤ m
 within n m h = grind (arith, nat_tests)
 
-utf8 : (bs : List ℕ) → list_all is_ascii bs ≡ true → IsUtf8 bs
-utf8 bs all = IsUtf8-from_ascii bs (each bs all)
-  where
-    low : (b : ℕ) → is_ascii b ≡ true → b < 128
-    low b h = grind (arith, nat_tests)
-
-    each : (bs : List ℕ) → list_all is_ascii bs ≡ true → (i : ℕ) → get_or bs i 0 < 128
-    each [] all i = omega arith
-    each (b ∷ bs) all zero = low b (and_parts (is_ascii b) (list_all is_ascii bs) all).0
-    each (b ∷ bs) all (suc i) = each bs (and_parts (is_ascii b) (list_all is_ascii bs) all).1 i
-
-tied : (s t : List ℕ) → is_eq (value_cmp (Text s) (Text t)) ≡ bytes_eq s t
-tied s t = ap is_eq (value_cmp-Text s t) ∙ is_eq-slice_cmp s t
-
 fit_for : (name text : List ℕ) → bytes_eq name name ≡ true → is_free_name name ≡ true → begins (codes "create") (Text text) ≡ true → begins (codes "create virtual") (Text text) ≡ false
     → is_fit (Text (codes "table")) (Text name) (Text name) (Text text) ≡ true
 unfolding fits_kind
 fit_for name text same free creates virtual =
-    rw (tied (codes "table") (codes "index"), tied (codes "table") (codes "table"), tied (codes "table") (codes "view"), tied (codes "table") (codes "trigger"), tied name name, same, free, creates, virtual) refl
+    rw (text_tied (codes "table") (codes "index"), text_tied (codes "table") (codes "table"), text_tied (codes "table") (codes "view"), text_tied (codes "table") (codes "trigger"), text_tied name name, same, free, creates, virtual) refl
 
 any_has : {X : Type 0} (p : X → Bool) (xs : List X) (x : X) → list_any p xs ≡ false → Has xs x → p x ≡ true → ⊥
 any_has p [] x none h is = h
@@ -109,7 +97,7 @@ module _ (s : Schema) (text : List ℕ) (t : Table) (m : Makes s text t) (k : Is
     | inr some ↦ any_has (λ (i : Index). is_used s i.name) (automatics t 0 0 t.uniques) some.0 k.free.1 some.1 some.2
   ]
   refuses why.BadName h = elim h.2 [
-    | inl unread ↦ unread (subst (λ u. IsUtf8 u.name) (sym (own h.0 h.1)) (utf8 t.name k.ascii.1))
+    | inl unread ↦ unread (subst (λ u. IsUtf8 u.name) (sym (own h.0 h.1)) (utf8_ascii t.name k.ascii.1))
     | inr reserved ↦ absurd (let apart = sym (subst (λ u. is_reserved u.name ≡ true) (own h.0 h.1) reserved.0) ∙ k.plain in cc)
   ]
   refuses why.TooBig h = elim (subst (λ u. (65536 ≤ next_tree s + length u.uniques) ⊎ ((2 ^ 64 ≤ table_reals u) ⊎ ((key : List ℕ) × Has u.uniques key × (2 ^ 64 ≤ index_reals (table_reals u) key)))) (own h.0 h.1) h.2) [
@@ -125,7 +113,7 @@ module _ (s : Schema) (text : List ℕ) (t : Table) (m : Makes s text t) (k : Is
 
   unmade : (d : Database) → d.schema ≡ s → (stop : Option Error) → MakesTable text d (Err stop) → ⊥
   unmade d is None h = no_more _ _ k.short (subst (λ u. 10 ^ 9 ≤ 2 * length u.name + length text + 200) (own h.0 h.1) h.2)
-  unmade d is (Some e) (inl h) = h.0 (utf8 text k.ascii.0)
+  unmade d is (Some e) (inl h) = h.0 (utf8_ascii text k.ascii.0)
   unmade d is (Some e) (inr h) = refuses h.0 (subst (λ x. RefusesTable x text h.0) is h.1)
 
   unnumbered : (d after : Database) → d.schema ≡ s → MakesTable text d (Ok after) → (stop : Option Error) → MakesSequence after (Err stop) → ⊥

@@ -17,6 +17,7 @@ use Rattle.acd_columns.specs.declared.meta.Meta.{Meta}
 use Rattle.acd_columns.specs.Relations.{meta_of}
 use Rattle.acd_sqlbook.specs.Commit.{with_meta, filed, all_filed, with_event, with_events, with_kept, made_by, top_call, top_monitor, last_call, last_monitor, counted}
 use Rattle.acd_sqlbook.proofs.Filing.{next}
+use Rattle.acd_lemmas.proofs.Changes.{limits-changed, limits-changed_by}
 
 -- ---- the counters stand apart
 
@@ -138,19 +139,6 @@ monitor_after s (RemoveCall call) = refl
 monitor_after s (RemoveConnection call device) = refl
 monitor_after s (RemoveMonitor monitor) = refl
 
-limits_after : (s : Rows) (change : Change) → (changed s change).limits ≡ s.limits
-unfolding with_group with_station with_agent with_call with_connection with_monitor without_call without_connection without_monitor
-limits_after s Nothing = refl
-limits_after s (PutGroup r) = refl
-limits_after s (PutStation r) = refl
-limits_after s (PutAgent r) = refl
-limits_after s (PutCall r) = refl
-limits_after s (PutConnection r) = refl
-limits_after s (PutMonitor r) = refl
-limits_after s (RemoveCall call) = refl
-limits_after s (RemoveConnection call device) = refl
-limits_after s (RemoveMonitor monitor) = refl
-
 calls_after : (s : Rows) (changes : List Change) → (changed_by s changes).last_call ≡ last_call s.last_call changes
 calls_after s [] = refl
 calls_after s (change ∷ changes) = calls_after (changed s change) changes ∙ ap (λ n. last_call n changes) (call_after s change)
@@ -159,13 +147,9 @@ monitors_after : (s : Rows) (changes : List Change) → (changed_by s changes).l
 monitors_after s [] = refl
 monitors_after s (change ∷ changes) = monitors_after (changed s change) changes ∙ ap (λ n. last_monitor n changes) (monitor_after s change)
 
-limits_stay : (s : Rows) (changes : List Change) → (changed_by s changes).limits ≡ s.limits
-limits_stay s [] = refl
-limits_stay s (change ∷ changes) = limits_stay (changed s change) changes ∙ limits_after s change
-
 pub counts_are : (changes : List Change) (events : List Event) (kept : Kept) (c : Content) → meta_of (rows_by changes events kept c) ≡ counted (meta_of c.rows) changes (length events) kept
 unfolding with_last
-counts_are changes events kept c = rw (limits_stay c.rows changes, calls_after c.rows changes, monitors_after c.rows changes) refl
+counts_are changes events kept c = rw (limits-changed_by c.rows changes, calls_after c.rows changes, monitors_after c.rows changes) refl
 
 -- a commit that writes these counters makes what is to be made
 pub commit_is : (changes : List Change) (events : List Event) (kept : Kept) (m : Meta) (c : Content) → m ≡ meta_of c.rows → FollowsBy changes events kept c

@@ -27,7 +27,7 @@ use Rattle.acd_statements.specs.Writing.{with_put, without}
 use Rattle.acd_columns.specs.Draft.{Drafts}
 use Rattle.acd_columns.proofs.Decoded.{groups_rise, agents_rise}
 use Rattle.acd_columns.proofs.Joined.{further_put, agents_put, priority_put, groups_put}
-use Rattle.acd_laws.proofs.Decided.{ascending_from}
+use Rattle.acd_lemmas.proofs.Decided.{ascending_from}
 use Rattle.acd_sqlbook.specs.Commit.{filed, with_event, with_events}
 
 -- a fold that takes the first of the list first takes the last one last
@@ -41,9 +41,6 @@ module _ {X C : Type 0} (all : C → List X → C) (one : C → X → C) (none :
 
   pub next : (c : C) (i : ℕ) (xs : List X) (x d : X) → x ≡ get_or xs i d → i < length xs → all c (take (i + 1) xs) ≡ one (all c (take i xs)) x
   next c i xs x d e h = ap (all c) (take_push i xs d h) ∙ push c (take i xs) (get_or xs i d) ∙ ap (one (all c (take i xs))) (sym e)
-
-pub all_taken : {X : Type 0} (i : ℕ) (xs : List X) → length xs ≤ i → take i xs ≡ xs
-all_taken i xs h = grind (arith, common_steps)
 
 pub events_next : (c : Content) (i : ℕ) (events : List Event) (x d : Event) → x ≡ get_or events i d → i < length events → with_events c (take (i + 1) events) ≡ with_event (with_events c (take i events)) x
 events_next = next with_events with_event (λ c. refl) (λ c x xs. refl)

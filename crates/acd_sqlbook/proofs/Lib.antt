@@ -6,4 +6,6 @@ mod Replacing
 mod BookStates
 mod Rising
 mod Adopted
+mod Stopped
+mod Counting
 mod Caused

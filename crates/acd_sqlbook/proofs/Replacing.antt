@@ -10,8 +10,8 @@ use Rattle.acd_model.specs.Changes.{changed_by}
 use Rattle.acd_model.specs.declared.moves.Change.{Change}
 use Rattle.acd_book.specs.Content.{Content, Follows, committed}
 use Rattle.acd_book.specs.declared.kept.Kept.{Kept}
-use Rattle.acd_laws.specs.Orders.{Orders}
-use Rattle.acd_laws.proofs.Decided.{orders_decided}
+use Rattle.acd_lemmas.specs.Orders.{Orders}
+use Rattle.acd_lemmas.proofs.Decided.{orders_decided}
 use Rattle.acd_columns.specs.declared.meta.Meta.{Meta}
 use Rattle.acd_columns.specs.declared.tables.Table.TheVariants as table
 use Rattle.acd_sqlbook.specs.Calls.{HasRead, HasReplaced}

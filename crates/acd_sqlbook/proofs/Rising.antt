@@ -20,10 +20,12 @@ use Rattle.acd_columns.specs.Values.{at_least, whole_at, stamp_at}
 use Rattle.acd_columns.specs.Fields.{read_whole}
 use Rattle.acd_columns.specs.Ranges.{event_from, event_in, kept_in}
 use Rattle.acd_columns.specs.Rows.{event_fields, event_made, event_values, kept_values}
-use Rattle.acd_schema.proofs.Contents.{there, each_good, of_mapped}
+use Rattle.acd_schema.proofs.Contents.{each_good, of_mapped}
 use Rattle.acd_columns.proofs.KeyedRows.{by_key}
 use Rattle.acd_columns.proofs.Looked.{all_so}
-use Rattle.acd_columns.proofs.Ranged.{bound, guarded, some_same}
+use Rattle.acd_columns.proofs.Ranged.{bound, guarded}
+use Rattle.acd_lemmas.proofs.Numbers.{less_is}
+use Rattle.acd_lemmas.proofs.Lists.{some_is, some_from}
 
 -- ---- from 1 on
 
@@ -35,12 +37,12 @@ stamp_above : (r : Row) (n m : ℕ) → stamp_at r 0 ≡ Some n → whole_at r 0
 unfolding stamp_at
 stamp_above r n m h is =
     let b = bound (whole_at r 0) (at_least 1) n h in
-    subst (λ k. 0 < k) (some_same b.0 m (sym b.1 ∙ is)) (above_none b.0 (guarded (nat_le 1 b.0) (Some b.0) n b.2).0)
+    subst (λ k. 0 < k) (some_is b.0 m (sym b.1 ∙ is)) (above_none b.0 (guarded (nat_le 1 b.0) (Some b.0) n b.2).0)
 
 kept_above : (k : Kept) → is_good table.Kept (kept_values k) ≡ true → 0 < stamp_of k
 unfolding kept_in
 kept_above k good =
-    let x = there (kept_in (kept_values k)) good in
+    let x = some_from (kept_in (kept_values k)) good in
     let w = guarded (length (kept_values k) == 7) _ x.0 x.1 in
     let stamp = bound _ _ x.0 w.1 in
     stamp_above (kept_values k) stamp.0 k.stamp stamp.1 refl
@@ -48,7 +50,7 @@ kept_above k good =
 event_above : (e : Event) → is_good table.Events (event_values e) ≡ true → 0 < number_of e
 unfolding event_in
 event_above e good =
-    let x = there (event_in (event_values e)) good in
+    let x = some_from (event_in (event_values e)) good in
     let values = bound (read_whole event_fields event_made (event_values e)) event_from x.0 x.1 in
     let w = guarded (length (event_values e) == 10) _ values.0 values.1 in
     let number = bound _ _ values.0 w.1 in
@@ -56,13 +58,10 @@ event_above e good =
 
 -- ---- ascending
 
-below : (m n : ℕ) → nat_cmp m n ≡ Less → m < n
-below m n h = grind (arith, nat_tests)
-
 module _ {T : Type 0} (number : T → ℕ) where
   rises_behind : (x : T) (xs : List T) → AllAfter (by_key number) x xs → IsAscending (by_key number) xs → Rises number (number x) xs
   rises_behind x [] after up = tt
-  rises_behind x (y ∷ ys) after up = (below (number x) (number y) after.0, rises_behind y ys up.0 up.1)
+  rises_behind x (y ∷ ys) after up = (less_is (number x) (number y) after.0, rises_behind y ys up.0 up.1)
 
   rises : (xs : List T) → AllByRecursion (λ x. 0 < number x) xs → IsAscending (by_key number) xs → Rises number 0 xs
   rises [] above up = tt

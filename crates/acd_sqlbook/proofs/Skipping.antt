@@ -10,9 +10,9 @@ use Rattle.acd_model.specs.Rules.Plan.{connection_order}
 use Rattle.acd_model.specs.Writes.{with_connection, without_connection}
 use Rattle.acd_model.specs.declared.moves.Change.{Change}
 use Rattle.acd_model.specs.declared.moves.Change.TheVariants.{PutConnection, RemoveConnection}
-use Rattle.acd_laws.proofs.Lists.{ascending-put}
-use Rattle.acd_laws.proofs.Keyed.{Keyed, others_left}
-use Rattle.acd_laws.proofs.State.{by_connection}
+use Rattle.acd_lemmas.proofs.Lists.{ascending-put}
+use Rattle.acd_lemmas.proofs.Keyed.{Keyed, others_left}
+use Rattle.acd_lemmas.proofs.State.{by_connection}
 use Rattle.acd_book.specs.Content.{Content}
 use Rattle.acd_columns.specs.declared.tables.Table.TheVariants as table
 use Rattle.acd_columns.specs.Relations.{relations_of}

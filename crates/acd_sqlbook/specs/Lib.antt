@@ -4,4 +4,5 @@ pub mod Calls
 pub mod State
 pub mod StoreLaws
 pub mod Adopting
+pub mod Stopping
 pub mod Causes

@@ -7,9 +7,9 @@ ghost use Rattle.acd_columns.specs.Schema.{no_schema};
 ghost use Rattle.acd_columns.specs.Draft.{LimitsFit};
 ghost use Rattle.acd_sqlbook.specs.State.{book_state, IsNew, fault_of, answered, failures_after};
 ghost use Rattle.acd_schema.specs.SettingUp.{MayMake};
-ghost use Rattle.acd_sqlbook.specs.Causes.{StoreCause, IsCaused, create as creating, read as reading};
-ghost use Rattle.acd_book.specs.Content.{IsKeptAfter, events_behind, events_of_monitor, kept_of};
-ghost use Rattle.acd_book.specs.State.{Reads};
+ghost use Rattle.acd_sqlbook.specs.Causes.{StoreCause, IsCaused, create as creating, read as reading, change as changing};
+ghost use Rattle.acd_book.specs.Content.{IsKeptAfter, events_behind, events_of_monitor, kept_of, FollowsBy, committed_by};
+ghost use Rattle.acd_book.specs.State.{Reads, Commits};
 
 use crate::ready::{
     commit_ready, events_ready, kept_after_ready, kept_ready, limits_fit, limits_ready, rows_ready,
@@ -228,7 +228,14 @@ impl<S: Alter> Book for SqlBook<S> {
         changes: &[Change],
         events: &[Event],
         kept: &Kept,
-    ) -> Result<(), BookFault> {
+    ) -> Result<(), BookFault>
+        ensures commits { Commits (book_state (state S.Store self.old.conn) self.old.failures)
+            (book_state (state S.Store self.new.conn) self.new.failures) result
+            (FollowsBy changes.now events.now kept.now)
+            (committed_by changes.now events.now kept.now) }
+        ensures caused { IsCaused (changing changes.now events.now kept.now)
+            (state S.Store self.old.conn) (state S.Store self.new.conn) result }
+    {
         let done = commit_ready(
             self.alloc,
             &mut self.conn,

@@ -1,6 +1,6 @@
 //! All writes of a commit, in one transaction.
 
-ghost use Rattle.std.specs.Prelude.{◌≡◌, ◌<◌, [], length, filter, false, None, IfSome, OnOk, OnErr, IsTrue};
+ghost use Rattle.std.specs.Prelude.{◌≡◌, ◌↔◌, ◌<◌, ℕ, [], Option, length, filter, false, None, IfSome, OnOk, OnErr, IsTrue};
 ghost use Rattle.sqlite.specs.State.{HasCleanDisk};
 ghost use Rattle.sqlite.specs.Held.{state};
 ghost use Rattle.acd_codec.specs.RequestTexts.{request_text};
@@ -9,6 +9,8 @@ ghost use Rattle.acd_model.specs.Rules.Plan.{connection_order};
 ghost use Rattle.acd_book.specs.Content.{Content};
 ghost use Rattle.acd_sqlbook.specs.Choosing.{puts_the_same, is_put_once, is_new};
 ghost use Rattle.acd_sqlbook.specs.Commit.{ChangeFits, EventFits, filed, all_filed, with_event, with_events, made_by, top_call, top_monitor, last_call, last_monitor, counted};
+ghost use Rattle.acd_sqlbook.specs.Stopping.{RefusesChange, StopsAtChange, StopsInChanges, StopsAtEvent, StopsInEvents, StopsInAll, IsStopped, IsUndone};
+ghost use Rattle.acd_statements.specs.Refusing.{RefusesAgent, IsBlamed};
 ghost use Rattle.acd_columns.specs.Relations.{relations_of};
 ghost use Rattle.acd_columns.specs.Draft.{Drafts, Works, Holds, AddsStop, Fits, FiguresFit, MetaFits};
 
@@ -25,7 +27,7 @@ use acd_terms::{AgentRecord, CallRecord, Event, Figures, MonitorRecord};
 use sqlite::{Alter, Connection, Error, Transaction};
 
 fn figures_fit(figures: &Figures) -> bool
-    ensures { IsTrue result → FiguresFit figures.now }
+    ensures { IsTrue result ↔ FiguresFit figures.now }
 {
     fits(figures.entered)
         && fits(figures.answered)
@@ -35,7 +37,7 @@ fn figures_fit(figures: &Figures) -> bool
 }
 
 fn place_fits(place: Option<u64>) -> bool
-    ensures { IsTrue result → IfSome place Fits }
+    ensures { IsTrue result ↔ IfSome place Fits }
 {
     match place {
         Some(place) => fits(place),
@@ -44,7 +46,7 @@ fn place_fits(place: Option<u64>) -> bool
 }
 
 fn change_fits(change: &Change) -> bool
-    ensures { IsTrue result → ChangeFits change.now }
+    ensures { IsTrue result ↔ ChangeFits change.now }
 {
     match change {
         Change::Nothing | Change::PutStation(_) => true,
@@ -61,7 +63,7 @@ fn change_fits(change: &Change) -> bool
 }
 
 fn event_fits(event: &Event) -> bool
-    ensures { IsTrue result → EventFits event.now }
+    ensures { IsTrue result ↔ EventFits event.now }
 {
     fits(event.number) && place_fits(event.report.columns().call)
 }
@@ -72,6 +74,8 @@ fn file_agent<S: Alter>(tx: &mut Transaction<'_, S>, agent: &AgentRecord) -> Res
     ensures same { tx.new.conn.ghost_name ≡ tx.old.conn.ghost_name }
     ensures works { Works (state S.Store tx.old.conn.now) (state S.Store tx.new.conn.now) }
     ensures put { HasCleanDisk (state S.Store tx.new.conn.now) → OnOk result ((c : Content) → Drafts (state S.Store tx.old.conn.now) (relations_of c) → Drafts (state S.Store tx.new.conn.now) (relations_of (filed c (Change.PutAgent agent.now)))) }
+    ensures failed { IsBlamed (RefusesAgent agent.now)
+        (state S.Store tx.old.conn.now) (state S.Store tx.new.conn.now) result }
 {
     let _ascending = agent.groups.as_slice();
     put_agent(tx, agent)
@@ -87,6 +91,8 @@ fn make_change<S: Alter>(
     ensures same { tx.new.conn.ghost_name ≡ tx.old.conn.ghost_name }
     ensures works { Works (state S.Store tx.old.conn.now) (state S.Store tx.new.conn.now) }
     ensures put { HasCleanDisk (state S.Store tx.new.conn.now) → OnOk result ((c : Content) → Drafts (state S.Store tx.old.conn.now) (relations_of c) → Drafts (state S.Store tx.new.conn.now) (relations_of (filed c change.now))) }
+    ensures failed { IsBlamed (RefusesChange change.now)
+        (state S.Store tx.old.conn.now) (state S.Store tx.new.conn.now) result }
 {
     match change {
         Change::Nothing => Ok(()),
@@ -112,6 +118,8 @@ fn write_change<S: Alter>(
     ensures same { tx.new.conn.ghost_name ≡ tx.old.conn.ghost_name }
     ensures works { Works (state S.Store tx.old.conn.now) (state S.Store tx.new.conn.now) }
     ensures put { HasCleanDisk (state S.Store tx.new.conn.now) → OnOk result ((c : Content) → Drafts (state S.Store tx.old.conn.now) (relations_of c) → Drafts (state S.Store tx.new.conn.now) (relations_of (filed c change.now))) }
+    ensures failed { IsStopped (StopsAtChange change.now)
+        (state S.Store tx.old.conn.now) (state S.Store tx.new.conn.now) result }
 {
     if !change_fits(change) {
         return Err(too_large());
@@ -186,6 +194,9 @@ fn is_taken_away(first: &Change, second: &Change) -> bool
 fn next_written(changes: &[Change]) -> Option<(&Change, &[Change])>
     ensures some { IfSome result (λ p. (length p.1.now < length changes.now) × ((c : Content) → IsAscending connection_order c.rows.connections → all_filed c changes.now ≡ all_filed (filed c p.0.now) p.1.now)) }
     ensures none { result ≡ None → changes.now ≡ [] }
+    ensures stops { IfSome result (λ p. (limit : Option ℕ) (c : Content)
+        → (StopsAtChange p.0.now limit c → StopsInChanges changes.now limit c)
+        × (StopsInChanges p.1.now limit (filed c p.0.now) → StopsInChanges changes.now limit c)) }
 {
     match changes {
         [first, second, behind @ ..] if is_taken_away(first, second) => Some((second, behind)),
@@ -203,6 +214,8 @@ fn write_changes<S: Alter>(
     ensures same { tx.new.conn.ghost_name ≡ tx.old.conn.ghost_name }
     ensures works { Works (state S.Store tx.old.conn.now) (state S.Store tx.new.conn.now) }
     ensures put { HasCleanDisk (state S.Store tx.new.conn.now) → OnOk result ((c : Content) → Drafts (state S.Store tx.old.conn.now) (relations_of c) → Drafts (state S.Store tx.new.conn.now) (relations_of (all_filed c changes.now))) }
+    ensures failed { IsStopped (StopsInChanges changes.now)
+        (state S.Store tx.old.conn.now) (state S.Store tx.new.conn.now) result }
 {
     let mut rest = changes;
     while let Some((change, behind)) = next_written(rest) {
@@ -216,6 +229,8 @@ fn write_event<S: Alter>(tx: &mut Transaction<'_, S>, event: &Event) -> Result<(
     ensures same { tx.new.conn.ghost_name ≡ tx.old.conn.ghost_name }
     ensures works { Works (state S.Store tx.old.conn.now) (state S.Store tx.new.conn.now) }
     ensures put { HasCleanDisk (state S.Store tx.new.conn.now) → OnOk result ((c : Content) → Drafts (state S.Store tx.old.conn.now) (relations_of c) → Drafts (state S.Store tx.new.conn.now) (relations_of (with_event c event.now))) }
+    ensures failed { IsStopped (StopsAtEvent event.now)
+        (state S.Store tx.old.conn.now) (state S.Store tx.new.conn.now) result }
 {
     if !event_fits(event) {
         return Err(too_large());
@@ -227,6 +242,8 @@ fn write_events<S: Alter>(tx: &mut Transaction<'_, S>, events: &[Event]) -> Resu
     ensures same { tx.new.conn.ghost_name ≡ tx.old.conn.ghost_name }
     ensures works { Works (state S.Store tx.old.conn.now) (state S.Store tx.new.conn.now) }
     ensures put { HasCleanDisk (state S.Store tx.new.conn.now) → OnOk result ((c : Content) → Drafts (state S.Store tx.old.conn.now) (relations_of c) → Drafts (state S.Store tx.new.conn.now) (relations_of (with_events c events.now))) }
+    ensures failed { IsStopped (StopsInEvents events.now)
+        (state S.Store tx.old.conn.now) (state S.Store tx.new.conn.now) result }
 {
     for event in events {
         write_event(tx, event)?;
@@ -292,7 +309,9 @@ fn last_monitor(last: u64, changes: &[Change]) -> u64
 
 /// The counters after a commit, where there are numbers for its events.
 pub(crate) fn counted(meta: &Meta, changes: &[Change], events: u64, kept: &Kept) -> Option<Meta>
-    ensures { IfSome result (λ m. m ≡ counted meta.now changes.now events kept.now) }
+    ensures is { IfSome result (λ m. m ≡ counted meta.now changes.now events kept.now) }
+    ensures none { result ≡ None
+        → ¬ (MetaFits (counted meta.now changes.now events kept.now)) }
 {
     let last_event = meta.last_event.checked_add(events)?;
     Some(Meta {
@@ -321,6 +340,8 @@ fn write_all<S: Alter>(
     ensures works { Works (state S.Store tx.old.conn.now) (state S.Store tx.new.conn.now) }
     ensures put { HasCleanDisk (state S.Store tx.new.conn.now) → OnOk result ((c : Content) → Drafts (state S.Store tx.old.conn.now) (relations_of c)
         → Drafts (state S.Store tx.new.conn.now) (relations_of (made_by changes.now events.now kept.now meta.now c))) }
+    ensures failed { IsStopped (StopsInAll changes.now events.now kept.now meta.now)
+        (state S.Store tx.old.conn.now) (state S.Store tx.new.conn.now) result }
 {
     write_changes(tx, last, changes)?;
     write_events(tx, events)?;
@@ -353,6 +374,8 @@ pub(crate) fn commit_all<S: Alter>(
     ensures undone { HasCleanDisk (state S.Store conn.new) → OnErr result ((c : Content) → Holds (state S.Store conn.old) c
         → IsTrue (state S.Store conn.new).is_open → Holds (state S.Store conn.new) c) }
     ensures stops { HasCleanDisk (state S.Store conn.new) → AddsStop (state S.Store conn.old) (state S.Store conn.new) (made_by changes.now events.now kept.now meta.now) }
+    ensures failed { IsUndone (StopsInAll changes.now events.now kept.now meta.now)
+        (state S.Store conn.old) (state S.Store conn.new) result }
 {
     let mut tx = conn.transaction();
     write_all(&mut tx, last, changes, events, kept, request, meta)?;

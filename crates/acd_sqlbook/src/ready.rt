@@ -1,7 +1,7 @@
 //! Calls over a connection that may have failed before. It is tried first where it isn't known to serve,
 //! since a failure may have shut it.
 
-ghost use Rattle.std.specs.Prelude.{◌≡◌, ◌↔◌, false, IsTrue, IfOk, OnOk};
+ghost use Rattle.std.specs.Prelude.{◌≡◌, ◌↔◌, false, IsTrue, IfOk, IfErr, OnOk};
 ghost use Rattle.sqlite.specs.State.{HasCleanDisk};
 ghost use Rattle.sqlite.specs.Held.{state};
 ghost use Rattle.acd_book.specs.Content.{IsKeptAfter, events_behind, events_of_monitor, kept_of};
@@ -10,6 +10,7 @@ ghost use Rattle.acd_sqlbook.specs.Commit.{counted, written_by};
 ghost use Rattle.acd_columns.specs.Relations.{meta_of};
 ghost use Rattle.acd_columns.specs.Draft.{Quiet, NoStop, Fits, LimitsFit, MetaFits};
 ghost use Rattle.acd_statements.specs.Reading.{Blames};
+ghost use Rattle.acd_sqlbook.specs.Stopping.{BlamesOr, IsBlamedOr, IsUncounted, StopsCommit};
 
 use crate::commit::{commit_all, counted};
 use acd_book::Kept;
@@ -52,7 +53,7 @@ pub(crate) fn limits_fit(limits: &Limits) -> bool
 }
 
 pub(crate) fn meta_fits(meta: &Meta) -> bool
-    ensures { IsTrue result → MetaFits meta.now }
+    ensures { IsTrue result ↔ MetaFits meta.now }
 {
     limits_fit(&meta.limits)
         && fits(meta.last_stamp)
@@ -179,6 +180,8 @@ pub(crate) fn watched_ready<S: Alter>(
 fn next_meta(meta: &Meta, changes: &[Change], events: u64, kept: &Kept) -> Result<Meta, Error>
     ensures is { IfOk result (λ next. next ≡ counted meta.now changes.now events kept.now) }
     ensures fits { IfOk result (λ next. MetaFits next) }
+    ensures unfit { IfErr result (λ _.
+        ¬ (MetaFits (counted meta.now changes.now events kept.now))) }
 {
     match counted(meta, changes, events, kept) {
         Some(next) if meta_fits(&next) => Ok(next),
@@ -200,6 +203,8 @@ fn counters<S: Alter>(
     ensures read { HasRead (state S.Store conn.old) (state S.Store conn.new) result (λ c found. found.1 ≡ counted (meta_of c.rows) changes.now events kept.now) }
     ensures fits { IfOk result (λ found. MetaFits found.1) }
     ensures stamp { OnOk result (Fits kept.now.stamp) }
+    ensures blamed { BlamesOr (IsUncounted changes.now events kept.now)
+        (state S.Store conn.old) (state S.Store conn.new) result }
 {
     let meta = meta_ready(conn, fresh)?;
     match next_meta(&meta, changes, events, kept) {
@@ -221,6 +226,8 @@ pub(crate) fn commit_ready<S: Alter>(
     requires fresh { IsTrue fresh → HasCleanDisk (state S.Store conn.old) → IsTrue (state S.Store conn.old).is_open }
     ensures idle { conn.new.in_transaction ≡ false }
     ensures commits { HasCommitted (state S.Store conn.old) (state S.Store conn.new) result (written_by changes.now events.now kept.now) }
+    ensures blamed { IsBlamedOr (StopsCommit changes.now events.now kept.now)
+        (state S.Store conn.old) (state S.Store conn.new) result }
 {
     let request = request_text(alloc, &kept.request)?;
     match counters(conn, fresh, changes, events.len() as u64, kept) {

@@ -5,7 +5,7 @@ ghost use Rattle.sqlite.specs.State.{HasCleanDisk};
 ghost use Rattle.sqlite.specs.Held.{state};
 ghost use Rattle.acd_model.specs.Changes.{changed_by};
 ghost use Rattle.acd_book.specs.Content.{Follows, committed};
-ghost use Rattle.acd_laws.specs.Orders.{Orders};
+ghost use Rattle.acd_lemmas.specs.Orders.{Orders};
 ghost use Rattle.acd_sqlbook.specs.Calls.{HasRead, HasReplaced};
 ghost use Rattle.acd_columns.specs.Relations.{meta_of};
 ghost use Rattle.acd_columns.specs.Draft.{Fits, MetaFits};

@@ -1,5 +1,5 @@
 -- What belongs to rows belongs to them in whatever order they are seen.
-use Rattle.std.proofs.Common.{◌≡◌, ◌==◌, ◌&&◌, ◌||◌, ℕ, Bool, true, false, not, List, [], ◌∷◌, length, map, filter, nat_le, Option, Some, Result, Ok, Err, IfOk, refl, sym, ap, ap₂, subst, ◌∙◌}
+use Rattle.std.proofs.Common.{◌≡◌, ◌==◌, ◌&&◌, ◌||◌, ℕ, Bool, true, false, not, List, [], ◌∷◌, length, map, filter, nat_le, Some, Result, Ok, Err, IfOk, refl, sym, ap, ap₂, subst, ◌∙◌}
 use Rattle.std.specs.Prelude.{Vec, IsPermutation}
 use Rattle.std.specs.declared.alloc.Global.{Global}
 use Rattle.std.specs.List.{list_any, list_all}
@@ -20,7 +20,8 @@ use Rattle.acd_columns.specs.Relations.{groups_beside, is_behind, are_behind, ar
 use Rattle.acd_columns.specs.Rows.{group_values, priority_values, agent_values, further_values}
 use Rattle.acd_columns.specs.Seeing.{Sees}
 use Rattle.acd_columns.proofs.Records.{group_back, priority_back, agent_back, further_back, further_stored}
-use Rattle.acd_columns.proofs.Seen.{sees_on, sees_then, sees_fail}
+use Rattle.acd_columns.proofs.Seen.{sees_on, sees_then}
+use Rattle.acd_lemmas.proofs.Lists.{head_is, tail_is}
 
 -- ---- lists in another order
 
@@ -69,18 +70,12 @@ shown_all show values back (r ∷ rs) = ap₂ (λ x l. x ∷ l) (back r) (shown_
 pub shown_moved : {R : Type 0} (show : Row → R) (values : R → Row) → ((r : R) → show (values r) ≡ r) → (rows : List Row) (rs : List R) → IsPermutation rows (map values rs) → IsPermutation (map show rows) rs
 shown_moved show values back rows rs same = subst (IsPermutation (map show rows)) (shown_all show values back rs) (IsPermutation-map show rows (map values rs) same)
 
-head_of : {X : Type 0} (x y : X) (xs ys : List X) → x ∷ xs ≡ y ∷ ys → x ≡ y
-head_of x y xs ys e = cc
-
-tail_of : {X : Type 0} (x y : X) (xs ys : List X) → x ∷ xs ≡ y ∷ ys → xs ≡ ys
-tail_of x y xs ys e = cc
-
 pairs_read : (rows : List Row) (found : List (ℕ × ℕ)) → map Some found ≡ map further_in rows → rows ≡ map further_values found
 pairs_read [] [] e = refl
 pairs_read [] (x ∷ found) e = absurd (cc e)
 pairs_read (row ∷ rows) [] e = absurd (cc e)
 pairs_read (row ∷ rows) (x ∷ found) e =
-    ap₂ (λ r rs. r ∷ rs) (further_stored row x (sym (head_of (Some x) (further_in row) (map Some found) (map further_in rows) e))) (pairs_read rows found (tail_of (Some x) (further_in row) (map Some found) (map further_in rows) e))
+    ap₂ (λ r rs. r ∷ rs) (further_stored row x (sym (head_is (Some x) (further_in row) (map Some found) (map further_in rows) e))) (pairs_read rows found (tail_is (Some x) (further_in row) (map Some found) (map further_in rows) e))
 
 -- ---- what is seen
 

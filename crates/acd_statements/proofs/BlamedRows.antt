@@ -14,7 +14,7 @@ use Rattle.acd_terms.specs.declared.event.Event.{Event}
 use Rattle.acd_terms.specs.declared.record.MonitorRecord.{MonitorRecord}
 use Rattle.acd_model.specs.Scans.{monitor_of}
 use Rattle.acd_book.specs.Content.{Content, is_at, is_told}
-use Rattle.acd_laws.proofs.State.{monitor_find}
+use Rattle.acd_lemmas.proofs.State.{monitor_find}
 use Rattle.acd_columns.specs.declared.tables.Table.{Table}
 use Rattle.acd_columns.specs.AnyRows.{is_good}
 use Rattle.acd_columns.specs.Draft.{Fits}
@@ -25,6 +25,8 @@ use Rattle.acd_statements.specs.InRange.{values_of}
 use Rattle.acd_statements.specs.Reading.{FailsToDecode, HasFitting, FailsToRead, Blames}
 use Rattle.acd_statements.proofs.Blamed.{blames_on, bad_row}
 use Rattle.acd_statements.proofs.Pages.{greatest, least_of_large}
+use Rattle.acd_lemmas.proofs.Numbers.{below_is}
+use Rattle.acd_columns.proofs.Looked.{of_filter}
 
 -- ---- lists
 
@@ -39,15 +41,6 @@ taken_has (suc n) [] x h = absurd h
 taken_has (suc n) (y ∷ xs) x (inl is) = inl is
 taken_has (suc n) (y ∷ xs) x (inr h) = inr (taken_has n xs x h)
 
-pub passed_has : {X : Type 0} (p : X → Bool) (xs : List X) (x : X) → Has (filter p xs) x → Has xs x × (p x ≡ true)
-passed_has p [] x h = absurd h
-passed_has p (y ∷ xs) x h = go (passed_has p xs x) (p y) refl h
-  where
-    go : (Has (filter p xs) x → Has xs x × (p x ≡ true)) → (b : Bool) → p y ≡ b → Has (cond b (y ∷ filter p xs) (filter p xs)) x → Has (y ∷ xs) x × (p x ≡ true)
-    go more true e (inl is) = (inl is, ap p is ∙ e)
-    go more true e (inr k) = (inr (more k).0, (more k).1)
-    go more false e k = (inr (more k).0, (more k).1)
-
 pub found_has : {X : Type 0} (p : X → Bool) (xs : List X) (x : X) → Has (option_to_list (find p xs)) x → Has xs x
 found_has p [] x h = absurd h
 found_has p (y ∷ xs) x h = go (found_has p xs x) (p y) h
@@ -58,13 +51,10 @@ found_has p (y ∷ xs) x h = go (found_has p xs x) (p y) h
     go more false k = inr (more k)
 
 pub page_has : {X : Type 0} (n : ℕ) (p : X → Bool) (xs : List X) (x : X) → Has (take n (filter p xs)) x → Has xs x
-page_has n p xs x h = (passed_has p xs x (taken_has n (filter p xs) x h)).0
-
-pub is_below : (n k : ℕ) → nat_lt n k ≡ true → n < k
-is_below n k h = grind (arith, nat_tests)
+page_has n p xs x h = (of_filter p xs x (taken_has n (filter p xs) x h)).0
 
 pub told_below : (device : Option ℕ) (n : ℕ) (e : Event) → is_told device n e ≡ true → n < e.number
-told_below device n e h = is_below n e.number (and_parts (is_at device e) (nat_lt n e.number) h).1
+told_below device n e h = below_is n e.number (and_parts (is_at device e) (nat_lt n e.number) h).1
 
 pub monitor_has : (c : Content) (n : ℕ) (w : MonitorRecord) → Has (option_to_list (monitor_of c.rows n)) w → Has c.rows.monitors w
 monitor_has c n w h = found_has (λ (w : MonitorRecord). w.monitor == n) c.rows.monitors w (subst (λ o. Has (option_to_list o) w) (monitor_find c.rows n) h)
@@ -105,8 +95,8 @@ first_has : (rows : List Row) (row : Row) → Some row ≡ slice_get rows 0 → 
 first_has [] row is = absurd (cc is)
 first_has (first ∷ rows) row is = inl (cc is)
 
-pub first_fits : (rows : List Row) (row : Row) (o : Option ℕ) → Some row ≡ slice_get rows 0 → o ≡ whole_at row 0 → IfSome o Fits → HasFitting rows
-first_fits rows row o at is fits = (row, first_has rows row at, λ n found. subst (λ o. IfSome o Fits) (is ∙ found) fits)
+pub first_fits : (rows : List Row) (one : Row) (o : Option ℕ) → Some one ≡ slice_get rows 0 → o ≡ whole_at one 0 → IfSome o Fits → HasFitting rows
+first_fits rows one o at is fits = (one, first_has rows one at, λ n found. subst (λ o. IfSome o Fits) (is ∙ found) fits)
 
 between : (n k : ℕ) → n - 1 < k → k < n → ⊥
 between n k above below = omega (arith, above, below)
@@ -115,7 +105,7 @@ module _ {X : Type 0} (test : ℕ → X → Bool) (key : X → ℕ) (values : X 
   none_held : (number page : ℕ) (xs : List X) (rows : List Row) → ¬ (Fits number) → rows ≡ map values (take page (filter (test (min number greatest)) xs)) → HasFitting rows → ⊥
   none_held number page xs rows large is h =
       let from = has_mapped values _ h.0 (subst (λ l. Has l h.0) is h.1) in
-      let passed = passed_has (test (min number greatest)) xs from.0 (taken_has page _ from.0 from.1) in
+      let passed = of_filter (test (min number greatest)) xs from.0 (taken_has page _ from.0 from.1) in
       between (2 ^ 63) (key from.0) (subst (λ n. n < key from.0) (least_of_large number large) (above (min number greatest) from.0 passed.1)) (h.2 (key from.0) (ap (λ r. whole_at r 0) from.2 ∙ begins from.0))
 
   pub blames_page : (part : Content → List X) (old new : State) (rows : Vec Row Global) (r : Result (Vec Row Global) Error) (number least page : ℕ) → least ≡ min number greatest → Blames old new (Ok rows)

@@ -1,5 +1,5 @@
 -- What the store's answers say of why it failed.
-use Rattle.std.proofs.Common.{◌≡◌, ◌⊎◌, inl, inr, ℕ, ◌≤◌, List, false, None, Err, IsTrue, sym, ◌∙◌, arith}
+use Rattle.std.proofs.Common.{◌≡◌, ◌⊎◌, inl, inr, ℕ, ◌≤◌, List, false, None, Result, Ok, Err, IfErr, IsTrue, sym, ◌∙◌, arith}
 use Rattle.std.proofs.lemmas.Bool.{cases_Bool}
 use Rattle.sqlite_trees.specs.declared.error.StoreError.{StoreError}
 use Rattle.sqlite_trees.specs.declared.error.StoreError.TheVariants.{OutOfMemory, Io, Corrupt, Full, Broken, Unstorable}
@@ -84,6 +84,10 @@ module _ (old new : State) where
     unfolding EndsScope Refuses
     written (inl h) = executed h.0
     written (inr h) = let ends = h.0 in inr (inr (inr (ends.0, ends.1.is, inl (escapes ends.0.command ends.2))))
+
+  pub written_if : (sql : List ℕ) (params : Row) (r : Result ℕ Error) → ExecutesInside 0 sql params old new r → IfErr r (FailsToWrite old new sql params)
+  written_if sql params (Ok count) h = tt
+  written_if sql params (Err e) h = written sql params e h
 
   -- the end of a transaction that is under way
   pub commit_failed : (e : Error) → IsTrue old.in_transaction → FailsToCommit old new e → IsMemory e ⊎ HasFailed old new

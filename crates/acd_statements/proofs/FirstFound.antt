@@ -23,7 +23,9 @@ use Rattle.acd_columns.proofs.Asked.{first_found}
 use Rattle.acd_statements.proofs.Chained.{finds_so, finds_on, behind}
 use Rattle.acd_columns.proofs.Records.{monitor_exact}
 use Rattle.acd_columns.proofs.Reported.{kept_exact}
-use Rattle.acd_columns.proofs.Recorded.{first_of}
+use Rattle.acd_book.proofs.Numbered.{kept_after_more}
+use Rattle.acd_lemmas.proofs.Lists.{head_is}
+use Rattle.acd_lemmas.proofs.Numbers.{below_is}
 
 module _ {R : Type 0} (in_row : Row → Option R) (values : R → Row) (IsGood : R → Type 0) (exact : (row : Row) (x y : R) → IsGood y → in_row row ≡ Some x → row ≡ values y → x ≡ y) where
   same_one : (found one : Option R) (rows : List Row) → IfSome one IsGood → rows ≡ map values (option_to_list one) → map Some (option_to_list found) ≡ map in_row (take 1 rows) → found ≡ one
@@ -32,7 +34,7 @@ module _ {R : Type 0} (in_row : Row → Option R) (values : R → Row) (IsGood :
   same_one (Some x) None rows good are read = absurd (let k = read ∙ ap (λ l. map in_row (take 1 l)) are in cc)
   same_one (Some x) (Some y) rows good are read =
       let each = read ∙ ap (λ l. map in_row (take 1 l)) are in
-      ap Some (exact (values y) x y good (sym (first_of (Some x) (in_row (values y)) [] [] each)) refl)
+      ap Some (exact (values y) x y good (sym (head_is (Some x) (in_row (values y)) [] [] each)) refl)
 
   pub first_recorded : (old new : State) (rows : Vec Row Global) (r : Result (Option R) Error) (part : Content → Option R) → ((c : Content) → Holds old c → IfSome (part c) IsGood)
       → Finds {E = Error} old new (Ok rows) (λ c rows. rows.items ≡ map values (option_to_list (part c)))
@@ -61,9 +63,6 @@ found_readable s p c held = found_every IsReadable p c.kept (held.encodes table.
 less_is : (a b : ℕ) → nat_cmp a b ≡ Less → a ≤ b
 less_is a b e = grind (arith, nat_tests)
 
-behind_is : (a b : ℕ) → nat_lt a b ≡ true → a < b
-behind_is a b e = grind (arith, nat_tests)
-
 not_behind : (a b : ℕ) → nat_lt a b ≡ false → b ≤ a
 not_behind a b e = grind (arith, nat_tests)
 
@@ -74,17 +73,12 @@ all_above : (stamp : ℕ) (k : Kept) (kept : List Kept) → AllAfter (λ (a b : 
 all_above stamp k [] h = tt
 all_above stamp k (x ∷ kept) h = ((λ above. less_is k.stamp x.stamp h.0), all_above stamp k kept h.1)
 
--- one more at the front, which isn't above the stamp
-after_more : (k : Kept) (kept : List Kept) (stamp : ℕ) (found : Option Kept) → k.stamp ≤ stamp → IsKeptAfter kept stamp found → IsKeptAfter (k ∷ kept) stamp found
-after_more k kept stamp None below h = (below, h)
-after_more k kept stamp (Some x) below h = (inr h.0, h.1, ((λ above. absurd (omega (arith, below, above))), h.2))
-
 after_found : (stamp : ℕ) (kept : List Kept) → IsAscending (λ (a b : Kept). nat_cmp a.stamp b.stamp) kept → IsKeptAfter kept stamp (find (λ (k : Kept). nat_lt stamp k.stamp) kept)
 after_found stamp [] h = tt
 after_found stamp (k ∷ kept) h =
     (elim (nat_lt stamp k.stamp) as (λ t. nat_lt stamp k.stamp ≡ t → IsKeptAfter (k ∷ kept) stamp (cond t (Some k) (find (λ (k : Kept). nat_lt stamp k.stamp) kept))) [
-      | true ↦ λ e. (inl refl, behind_is stamp k.stamp e, ((λ above. no_less k.stamp), all_above stamp k kept h.0))
-      | false ↦ λ e. after_more k kept stamp (find (λ (k : Kept). nat_lt stamp k.stamp) kept) (not_behind stamp k.stamp e) (after_found stamp kept h.1)
+      | true ↦ λ e. (inl refl, below_is stamp k.stamp e, ((λ above. no_less k.stamp), all_above stamp k kept h.0))
+      | false ↦ λ e. kept_after_more k kept stamp (find (λ (k : Kept). nat_lt stamp k.stamp) kept) (not_behind stamp k.stamp e) (after_found stamp kept h.1)
     ]) refl
 
 -- in ascending order the first one above a stamp is the one of the least stamp

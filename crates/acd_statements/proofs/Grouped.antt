@@ -9,7 +9,8 @@ use Rattle.std.proofs.lemmas.Bool.{cases_Bool, and_parts}
 use Rattle.std.proofs.lemmas.Bool.Decides.{nat_tests}
 use Rattle.acd_terms.specs.Groups.{are_groups, is_one_of, with_one_more, with_all}
 use Rattle.acd_terms.specs.Lists.{ascends, put_by, AllAfter, IsAscending}
-use Rattle.acd_laws.proofs.Decided.{ascending_from}
+use Rattle.acd_lemmas.proofs.Decided.{ascending_from}
+use Rattle.acd_lemmas.proofs.Numbers.{greater_is}
 
 -- one behind all that stand there
 below : (g : ℕ) (front : List ℕ) (d : ℕ) (rest : List ℕ) → AllAfter nat_cmp g (front ++ d ∷ rest) → nat_cmp g d ≡ Less
@@ -19,15 +20,12 @@ below g (x ∷ front) d rest h = below g front d rest h.1
 above : (g d : ℕ) → nat_cmp g d ≡ Less → ◌≡◌ {A = Bool} (g == d) false
 above g d h = grind (arith, nat_tests)
 
-greater : (g d : ℕ) → nat_cmp g d ≡ Less → nat_cmp d g ≡ Greater
-greater g d h = grind (arith, nat_tests)
-
 last_in : (front : List ℕ) (d : ℕ) (rest : List ℕ) → IsAscending nat_cmp (front ++ d ∷ rest) → (is_one_of front d ≡ false) × (put_by (nat_cmp d) front d ≡ front ++ d ∷ [])
 last_in [] d rest up = (refl, refl)
 last_in (g ∷ front) d rest up =
     let more = last_in front d rest up.1 in
     let low = below g front d rest up.0 in
-    (rw (above g d low) more.0, ap (λ o. match_ordering o (d ∷ g ∷ front) (d ∷ front) (g ∷ put_by (nat_cmp d) front d)) (greater g d low) ∙ ap (λ l. g ∷ l) more.1)
+    (rw (above g d low) more.0, ap (λ o. match_ordering o (d ∷ g ∷ front) (d ∷ front) (g ∷ put_by (nat_cmp d) front d)) (greater_is g d low) ∙ ap (λ l. g ∷ l) more.1)
 
 one_more : (front : List ℕ) (d : ℕ) (rest : List ℕ) → IsAscending nat_cmp (front ++ d ∷ rest) → length (front ++ d ∷ rest) ≤ 8 → with_one_more front d ≡ Some (front ++ d ∷ [])
 unfolding with_one_more

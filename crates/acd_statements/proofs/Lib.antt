@@ -6,6 +6,7 @@ mod Beside
 mod FirstFound
 mod Pages
 pub mod Failures
+pub mod Refused
 pub mod Answered
 pub mod Blamed
 mod BlamedRows

@@ -13,6 +13,7 @@ use Rattle.acd_terms.specs.declared.event.Event.{Event}
 use Rattle.acd_book.specs.Content.{Content, is_at, is_told}
 use Rattle.acd_columns.specs.Draft.{Fits}
 use Rattle.acd_columns.specs.Finding.{Finds}
+use Rattle.acd_lemmas.proofs.Numbers.{still_below}
 
 abbrev pub greatest : ℕ
 greatest = 2 ^ 63 - 1
@@ -106,8 +107,5 @@ module _ {X : Type 0} (test : ℕ → X → Bool) (falls : (a b : ℕ) (x : X) �
 
 -- ---- tests of a number
 
-pub falls_number : (a b n : ℕ) → a ≤ b → nat_lt b n ≡ true → nat_lt a n ≡ true
-falls_number a b n low h = grind (arith, nat_tests)
-
 pub falls_told : (device : Option ℕ) (a b : ℕ) (e : Event) → a ≤ b → is_told device b e ≡ true → is_told device a e ≡ true
-falls_told device a b e low h = let both = and_parts (is_at device e) (nat_lt b e.number) h in and_from (is_at device e) (nat_lt a e.number) both.0 (falls_number a b e.number low both.1)
+falls_told device a b e low h = let both = and_parts (is_at device e) (nat_lt b e.number) h in and_from (is_at device e) (nat_lt a e.number) both.0 (still_below a b e.number low both.1)

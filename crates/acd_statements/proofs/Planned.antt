@@ -1,5 +1,5 @@
 -- Groups and agents, joined of what the tables hold.
-use Rattle.std.proofs.Common.{◌≡◌, ℕ, ◌+◌, ◌<◌, ◌≤◌, Bool, true, false, cond, ◌==◌, List, [], ◌∷◌, ◌++◌, length, map, filter, take, drop, get_or, Option, None, Some, Result, Ok, Err, IfOk, OnOk, refl, sym, ap, ap₂, ◌∙◌, append_assoc, append-nil, subst, nat_eq, suc, add-one, drop-cons, arith}
+use Rattle.std.proofs.Common.{◌≡◌, ℕ, ◌+◌, ◌<◌, ◌≤◌, Bool, true, false, cond, ◌==◌, List, [], ◌∷◌, ◌++◌, length, map, filter, take, drop, get_or, Option, None, Some, Result, Ok, Err, IfOk, OnOk, refl, sym, ap, ap₂, ◌∙◌, append_assoc, subst, nat_eq, suc, add-one, drop-cons}
 use Rattle.std.proofs.lemmas.List.{take_more, take_all}
 use Rattle.std.specs.Prelude.{Vec, option_to_list}
 use Rattle.std.specs.Cmp.Lexicographic.{pointwise}
@@ -10,18 +10,16 @@ use Rattle.sqlite.specs.State.{State}
 use Rattle.acd_terms.specs.declared.record.GroupRecord.{GroupRecord}
 use Rattle.acd_terms.specs.declared.record.AgentRecord.{AgentRecord}
 use Rattle.acd_terms.specs.Lists.{put_by}
-use Rattle.acd_book.specs.Content.{Content}
-use Rattle.acd_columns.specs.declared.relations.GroupRow.{GroupRow}
 use Rattle.acd_columns.specs.declared.relations.AgentRow.{AgentRow}
 use Rattle.acd_columns.specs.declared.relations.GroupPriority.{GroupPriority}
 use Rattle.acd_columns.specs.declared.tables.Table.TheVariants as table
-use Rattle.acd_columns.specs.Draft.{Holds, Drafts}
+use Rattle.acd_columns.specs.Draft.{Drafts}
 use Rattle.acd_columns.specs.Finding.{Finds}
 use Rattle.acd_columns.specs.Relations.{Relations, pair_order, group_part, agent_part, further_in, priorities_in, joined_group, joined_agent, groups_beside, behind_first, all_put}
 use Rattle.acd_columns.proofs.Decoded.{groups_rise, agents_rise}
 use Rattle.acd_columns.proofs.Joined.{groups_joined, agents_joined}
 use Rattle.acd_columns.proofs.Listings.{stored}
-use Rattle.acd_columns.proofs.Recorded.{found_none}
+use Rattle.acd_lemmas.proofs.Lists.{take-push, map-push}
 
 -- ---- what is found
 
@@ -47,16 +45,9 @@ grouped_so old new ps parts qs (Err e) same h is = record { up = λ k. tt; quiet
 
 -- ---- loops
 
-take_one : {X : Type 0} (i : ℕ) (xs : List X) (d : X) → i < length xs → take (i + 1) xs ≡ take i xs ++ get_or xs i d ∷ []
-take_one i xs d h = take_more xs i d h
-
-mapped_last : {X Y : Type 0} (f : X → Y) (xs : List X) (x : X) → map f (xs ++ x ∷ []) ≡ map f xs ++ f x ∷ []
-mapped_last f [] x = refl
-mapped_last f (y ∷ xs) x = ap (λ l. f y ∷ l) (mapped_last f xs x)
-
 pub mapped_more : {X Y : Type 0} (f : X → Y) (i : ℕ) (xs : List X) (x d : X) (found next : List Y) (y : Y) → found ≡ map f (take i xs) → x ≡ get_or xs i d → i < length xs → y ≡ f x → next ≡ found ++ y ∷ [] → next ≡ map f (take (i + 1) xs)
 mapped_more f i xs x d found next y so_far at low is pushed =
-    pushed ∙ ap₂ (λ l z. l ++ z ∷ []) so_far (is ∙ ap f at) ∙ sym (ap (map f) (take_one i xs d low) ∙ mapped_last f (take i xs) (get_or xs i d))
+    pushed ∙ ap₂ (λ l z. l ++ z ∷ []) so_far (is ∙ ap f at) ∙ sym (ap (map f) (take-push i xs d low) ∙ map-push f (take i xs) (get_or xs i d))
 
 all_put_more : (ps : List (ℕ × ℕ)) (p : ℕ × ℕ) (pairs : List (ℕ × ℕ)) → all_put (ps ++ p ∷ []) pairs ≡ put_by (pair_order p) (all_put ps pairs) p
 all_put_more [] p pairs = refl
@@ -66,12 +57,9 @@ all_put_more (q ∷ ps) p pairs = all_put_more ps p (put_by (pair_order q) pairs
 pub pairs_more : (agent i : ℕ) (groups : List ℕ) (g d : ℕ) (pairs : List (ℕ × ℕ)) → g ≡ get_or groups i d → i < length groups
     → all_put (map (λ (k : ℕ). (agent, k)) (take (i + 1) groups)) pairs ≡ put_by (pair_order (agent, g)) (all_put (map (λ (k : ℕ). (agent, k)) (take i groups)) pairs) (agent, g)
 pairs_more agent i groups g d pairs at low =
-    ap (λ (ks : List ℕ). all_put (map (λ (k : ℕ). (agent, k)) ks) pairs) (take_one i groups d low ∙ ap (λ k. take i groups ++ k ∷ []) (sym at))
-    ∙ ap (λ ps. all_put ps pairs) (mapped_last (λ (k : ℕ). (agent, k)) (take i groups) g)
+    ap (λ (ks : List ℕ). all_put (map (λ (k : ℕ). (agent, k)) ks) pairs) (take-push i groups d low ∙ ap (λ k. take i groups ++ k ∷ []) (sym at))
+    ∙ ap (λ ps. all_put ps pairs) (map-push (λ (k : ℕ). (agent, k)) (take i groups) g)
     ∙ all_put_more (map (λ (k : ℕ). (agent, k)) (take i groups)) (agent, g) pairs
-
-pub all_taken : {X : Type 0} (i : ℕ) (xs : List X) → length xs ≤ i → take i xs ≡ xs
-all_taken i xs h = take_all i xs h
 
 -- the groups of an agent so far, and of those that are left
 pub first_begins : (group : Option ℕ) (beside : List ℕ) → option_to_list group ++ beside ≡ behind_first group beside

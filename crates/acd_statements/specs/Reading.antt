@@ -59,9 +59,9 @@ HasBad in_row rows = (row : Row) × Has rows row × (in_row row ≡ None)
 abbrev pub FailsToDecode : {R : Type 0} → (Row → Option R) → List Row → Error → Type 0
 FailsToDecode in_row rows e = IsMemory e ⊎ HasBad in_row rows
 
--- one of them begins with a number that a column holds
+-- one of them begins with no number above what a column holds
 abbrev pub HasFitting : List Row → Type 0
-HasFitting rows = (row : Row) × Has rows row × ((n : ℕ) → whole_at row 0 ≡ Some n → Fits n)
+HasFitting rows = (one : Row) × Has rows one × ((n : ℕ) → whole_at one 0 ≡ Some n → Fits n)
 
 -- an agent of them has more than eight groups, or some that don't ascend
 abbrev pub HasStray : List (ℕ × ℕ) → List AgentRow → Type 0

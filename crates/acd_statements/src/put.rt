@@ -1,8 +1,10 @@
 //! The statements that put a record and take it out. Each works inside a transaction: what it writes is there, and no stop is added.
 
-ghost use Rattle.std.specs.Prelude.{◌≡◌};
+ghost use Rattle.std.specs.Prelude.{◌≡◌, ◌∷◌, []};
 ghost use Rattle.sqlite.specs.Held.{state};
 ghost use Rattle.acd_columns.specs.Draft.{Works, Fits};
+ghost use Rattle.acd_columns.specs.Values.{id_value};
+ghost use Rattle.acd_statements.specs.Refusing.{RefusesOn, RefusesPut, IsBlamed};
 ghost use Rattle.acd_statements.specs.Writing.{Leaves, with_put, without};
 
 use crate::bind;
@@ -16,6 +18,8 @@ pub fn insert<R: Stored, S: Alter>(tx: &mut Transaction<'_, S>, item: &R) -> Res
     ensures same { tx.new.conn.ghost_name ≡ tx.old.conn.ghost_name }
     ensures works { Works (state S.Store tx.old.conn.now) (state S.Store tx.new.conn.now) }
     ensures put { Leaves (state S.Store tx.old.conn.now) (state S.Store tx.new.conn.now) result (with_put R.descr item.now) }
+    ensures failed { IsBlamed (RefusesOn R.descr.insert (R.descr.values item.now))
+        (state S.Store tx.old.conn.now) (state S.Store tx.new.conn.now) result }
 {
     item.run(tx, R::insert_text())?;
     Ok(())
@@ -27,6 +31,8 @@ pub fn put<R: Changed, S: Alter>(tx: &mut Transaction<'_, S>, item: &R) -> Resul
     ensures same { tx.new.conn.ghost_name ≡ tx.old.conn.ghost_name }
     ensures works { Works (state S.Store tx.old.conn.now) (state S.Store tx.new.conn.now) }
     ensures put { Leaves (state S.Store tx.old.conn.now) (state S.Store tx.new.conn.now) result (with_put R.descr item.now) }
+    ensures failed { IsBlamed (RefusesPut R.descr R.update item.now)
+        (state S.Store tx.old.conn.now) (state S.Store tx.new.conn.now) result }
 {
     let changed = item.run(tx, R::update_text())?;
     if changed > 0 {
@@ -42,6 +48,8 @@ pub fn remove<R: Removed, S: Alter>(tx: &mut Transaction<'_, S>, key: u64) -> Re
     ensures same { tx.new.conn.ghost_name ≡ tx.old.conn.ghost_name }
     ensures works { Works (state S.Store tx.old.conn.now) (state S.Store tx.new.conn.now) }
     ensures put { Leaves (state S.Store tx.old.conn.now) (state S.Store tx.new.conn.now) result (without R.descr key) }
+    ensures failed { IsBlamed (RefusesOn R.delete (id_value key ∷ []))
+        (state S.Store tx.old.conn.now) (state S.Store tx.new.conn.now) result }
 {
     write(tx, R::delete_text(), &[bind::integer(key)])
 }

@@ -1,7 +1,7 @@
 //! The statements of the limits and the counters, of kept records and of connections, one a function. Each works inside a
 //! transaction: what it writes is there, and no stop is added. Those of every other table are in `put`.
 
-ghost use Rattle.std.specs.Prelude.{◌≡◌, Ok, IfSome, IfOk, IfErr, IsTrue, OnOk};
+ghost use Rattle.std.specs.Prelude.{◌≡◌, ◌∷◌, [], Ok, IfSome, IfOk, IfErr, IsTrue, OnOk};
 ghost use Rattle.std.specs.Ordering.{nat_cmp};
 ghost use Rattle.sqlite.specs.State.{HasCleanDisk, Executes};
 ghost use Rattle.sqlite.specs.Held.{state};
@@ -15,7 +15,11 @@ ghost use Rattle.acd_columns.specs.Making.{Builds, no_rows, TellsSecond};
 ghost use Rattle.acd_columns.specs.Relations.{Relations, relations_of};
 ghost use Rattle.acd_columns.specs.Content.{with_part};
 ghost use Rattle.acd_columns.specs.Draft.{Drafts, Works, Ran, Fits, MetaFits};
+ghost use Rattle.acd_columns.specs.declared.texts.TheConstants.{INSERT_KEPT, UPDATE_META, INSERT_CONNECTION, DELETE_CONNECTION};
+ghost use Rattle.acd_columns.specs.Rows.{kept_values, meta_shown, connection_values};
+ghost use Rattle.acd_columns.specs.Values.{id_value};
 ghost use Rattle.acd_statements.specs.Failing.{FailsToWrite, FailsToStart};
+ghost use Rattle.acd_statements.specs.Refusing.{RefusesOn, RefusesPutConnection, IsBlamed};
 
 use crate::bind;
 use acd_book::Kept;
@@ -57,6 +61,10 @@ pub fn changed_rows<S: Alter>(
     ensures same { tx.new.conn.ghost_name ≡ tx.old.conn.ghost_name }
     ensures works { Works (state S.Store tx.old.conn.now) (state S.Store tx.new.conn.now) }
     ensures ran { HasCleanDisk (state S.Store tx.new.conn.now) → IfOk result (λ count. Executes sql.now (bound params.now) (state S.Store tx.old.conn.now) (state S.Store tx.new.conn.now) (Ok count)) }
+    ensures failed { HasCleanDisk (state S.Store tx.new.conn.now)
+        → IsTrue (state S.Store tx.old.conn.now).in_transaction → IfErr result (FailsToWrite
+        (state S.Store tx.old.conn.now) (state S.Store tx.new.conn.now)
+        sql.now (bound params.now)) }
 {
     tx.execute(sql, params)
 }
@@ -73,6 +81,8 @@ pub fn insert_kept<S: Alter>(
     ensures works { Works (state S.Store tx.old.conn.now) (state S.Store tx.new.conn.now) }
     ensures put { HasCleanDisk (state S.Store tx.new.conn.now) → OnOk result ((r : Relations) → Drafts (state S.Store tx.old.conn.now) r
         → Drafts (state S.Store tx.new.conn.now) (with_part Table.Kept (put_by (λ x. nat_cmp kept.now.stamp x.stamp) r.kept kept.now) r)) }
+    ensures failed { IsBlamed (RefusesOn INSERT_KEPT.now (kept_values kept.now))
+        (state S.Store tx.old.conn.now) (state S.Store tx.new.conn.now) result }
 {
     reads_back(&kept.request);
     write(
@@ -129,6 +139,8 @@ pub fn set_meta<S: Alter>(tx: &mut Transaction<'_, S>, meta: &Meta) -> Result<()
     ensures works { Works (state S.Store tx.old.conn.now) (state S.Store tx.new.conn.now) }
     ensures put { HasCleanDisk (state S.Store tx.new.conn.now) → OnOk result ((r : Relations) → Drafts (state S.Store tx.old.conn.now) r
         → Drafts (state S.Store tx.new.conn.now) (with_part Table.Meta meta.now r)) }
+    ensures failed { IsBlamed (RefusesOn UPDATE_META.now (meta_shown meta.now))
+        (state S.Store tx.old.conn.now) (state S.Store tx.new.conn.now) result }
 {
     write(
         tx,
@@ -170,6 +182,8 @@ pub fn put_connection<S: Alter>(
     ensures works { Works (state S.Store tx.old.conn.now) (state S.Store tx.new.conn.now) }
     ensures put { HasCleanDisk (state S.Store tx.new.conn.now) → OnOk result ((r : Relations) → Drafts (state S.Store tx.old.conn.now) r
         → Drafts (state S.Store tx.new.conn.now) (with_part Table.Connections (put_by (at_connection connection.now.call connection.now.device) r.connections connection.now) r)) }
+    ensures failed { IsBlamed (RefusesPutConnection connection.now)
+        (state S.Store tx.old.conn.now) (state S.Store tx.new.conn.now) result }
 {
     let changed = changed_rows(
         tx,
@@ -201,6 +215,8 @@ pub fn insert_connection<S: Alter>(
     ensures works { Works (state S.Store tx.old.conn.now) (state S.Store tx.new.conn.now) }
     ensures put { HasCleanDisk (state S.Store tx.new.conn.now) → OnOk result ((r : Relations) → Drafts (state S.Store tx.old.conn.now) r
         → Drafts (state S.Store tx.new.conn.now) (with_part Table.Connections (put_by (at_connection connection.now.call connection.now.device) r.connections connection.now) r)) }
+    ensures failed { IsBlamed (RefusesOn INSERT_CONNECTION.now (connection_values connection.now))
+        (state S.Store tx.old.conn.now) (state S.Store tx.new.conn.now) result }
 {
     write(
         tx,
@@ -227,6 +243,9 @@ pub fn drop_connection<S: Alter>(
     ensures works { Works (state S.Store tx.old.conn.now) (state S.Store tx.new.conn.now) }
     ensures put { HasCleanDisk (state S.Store tx.new.conn.now) → OnOk result ((r : Relations) → Drafts (state S.Store tx.old.conn.now) r
         → Drafts (state S.Store tx.new.conn.now) (with_part Table.Connections (remove_by (at_connection call device) r.connections) r)) }
+    ensures failed { IsBlamed
+        (RefusesOn DELETE_CONNECTION.now (id_value call ∷ id_value device ∷ []))
+        (state S.Store tx.old.conn.now) (state S.Store tx.new.conn.now) result }
 {
     write(
         tx,

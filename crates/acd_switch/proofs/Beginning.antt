@@ -5,7 +5,7 @@ use Rattle.acd_terms.specs.Rows.{empty_rows}
 use Rattle.acd_terms.specs.declared.rows.Limits.{Limits}
 use Rattle.acd_model.specs.Run.{run}
 use Rattle.acd_model.specs.Rules.First.{BreaksNoRule}
-use Rattle.acd_laws.proofs.RulesAll.{run_keeps_rules}
+use Rattle.acd_laws.proofs.Rules.RulesAll.{run_keeps_rules}
 
 pub empty_breaks_none : (limits : Limits) → limits_fit limits ≡ true → BreaksNoRule (empty_rows limits)
 unfolding run

@@ -17,8 +17,8 @@ use Rattle.acd_model.specs.Rules.First.{BreaksNoRule}
 use Rattle.acd_model.specs.declared.moves.Change.{Change}
 use Rattle.acd_model.proofs.MoveLemmas.{moved_append, events_of_append}
 use Rattle.acd_model.proofs.ChangeLemmas.{changes_of_append}
-use Rattle.acd_laws.proofs.DecidedAll.{keeps_read}
-use Rattle.acd_laws.proofs.ChangesMade.{ascending_moved}
+use Rattle.acd_laws.proofs.Rules.DecidedAll.{keeps_read}
+use Rattle.acd_laws.proofs.Made.ChangesMade.{ascending_moved}
 
 -- the state after the service and the distribution
 pub rows_after : (s t u : Rows) (m : ℕ) (v : Served) → t ≡ moved s (moves_of v) → u ≡ moved t (distribution t m) → u ≡ moved s (step_moves s m v)

@@ -9,9 +9,9 @@ use Rattle.acd_model.specs.Scans.{at_group, group_of}
 use Rattle.acd_model.specs.Changes.{changed_by, growth_by}
 use Rattle.acd_model.specs.Figures.{figures_of, sum_of_figures, counting, with_figures}
 use Rattle.acd_model.specs.Rules.Plan.{group_order}
-use Rattle.acd_laws.proofs.Lists.{every_among, found_among}
-use Rattle.acd_laws.proofs.ChangesMade.{one_grown, counting_more, counting_both}
-use Rattle.acd_laws.proofs.CountedEvents.{no_events, sum_nothing}
+use Rattle.acd_lemmas.proofs.Lists.{every_among, found_among}
+use Rattle.acd_laws.proofs.Made.ChangesMade.{one_grown, counting_more, counting_both}
+use Rattle.acd_laws.proofs.Figures.CountedEvents.{no_events, sum_nothing}
 use Rattle.acd_switch.specs.Counting.{figures_in, AreFitting, AllFit, FiguresFit}
 
 -- what one event counts

@@ -6,7 +6,7 @@ use Rattle.acd_terms.specs.declared.command.Command.{Command}
 use Rattle.acd_model.specs.Step.{step, executed_moment, next_stamp}
 use Rattle.acd_model.specs.Changes.{step_changes, rows_made}
 use Rattle.acd_model.specs.Rules.First.{BreaksNoRule}
-use Rattle.acd_laws.proofs.ChangesMade.{step_makes_its_changes}
+use Rattle.acd_laws.proofs.Made.ChangesMade.{step_makes_its_changes}
 use Rattle.acd_switch.specs.declared.switch.Executed.{Executed}
 
 pub made : {E : Type 0} (r : Result Executed E) (s t : Rows) (moment : ℕ) (command : Command) → BreaksNoRule s

@@ -7,9 +7,9 @@ use Rattle.acd_terms.specs.declared.answer.Outcome.TheVariants.{Done, Refused}
 use Rattle.acd_model.specs.Step.{step}
 use Rattle.acd_model.specs.Rules.First.{BreaksNoRule}
 use Rattle.acd_laws.specs.RefusalLaws.{ChangesNothing}
-use Rattle.acd_laws.proofs.DecidedAll.{keeps_read}
-use Rattle.acd_laws.proofs.ChangesMade.{refused}
-use Rattle.acd_laws.proofs.OfferFound.{no_offer}
+use Rattle.acd_laws.proofs.Rules.DecidedAll.{keeps_read}
+use Rattle.acd_laws.proofs.Made.ChangesMade.{refused}
+use Rattle.acd_laws.proofs.Offers.OfferFound.{no_offer}
 use Rattle.acd_switch.specs.Kept.{IsRefused}
 
 pub where_refused : (s : Rows) (moment : ℕ) (command : Command) (o : Outcome) → BreaksNoRule s → o ≡ (step s moment command).outcome → IsRefused o → ChangesNothing s moment command

@@ -12,13 +12,10 @@ use Rattle.acd_model.specs.Writes.{with_last}
 use Rattle.acd_model.specs.Step.{step, executed_moment, next_stamp}
 use Rattle.acd_model.specs.Rules.First.{BreaksNoRule}
 use Rattle.acd_switch.specs.Counting.{AreFitting, AllFit}
-use Rattle.acd_laws.proofs.Facts.{IsCountedUpTo, AddsUp}
-use Rattle.acd_laws.proofs.DecidedAll.{keeps_read}
+use Rattle.acd_lemmas.proofs.Facts.{IsCountedUpTo, AddsUp}
+use Rattle.acd_laws.proofs.Rules.DecidedAll.{keeps_read}
 use Rattle.acd_switch.specs.Room.{HasRoom, Fits}
-
-requests_few : (l : Limits) → limits_fit l ≡ true → l.requests ≤ 1000000000
-unfolding limits_fit
-requests_few l h = grind (arith, nat_tests)
+use Rattle.acd_lemmas.proofs.Changes.{requests_few}
 
 -- one more request, call and monitor can be numbered
 pub has_room : (s : Rows) → BreaksNoRule s → s.last_stamp < s.limits.requests → HasRoom s
@@ -61,7 +58,7 @@ stamp_after : (s : Rows) (moment : ℕ) (command : Command) → (step s moment c
 unfolding step with_last
 stamp_after s moment command = refl
 
-moment_after : (s : Rows) (moment : ℕ) (command : Command) → (step s moment command).rows.last_moment ≡ executed_moment s moment
+pub moment_after : (s : Rows) (moment : ℕ) (command : Command) → (step s moment command).rows.last_moment ≡ executed_moment s moment
 unfolding step with_last
 moment_after s moment command = refl
 

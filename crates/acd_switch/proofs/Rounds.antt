@@ -9,10 +9,6 @@ use Rattle.acd_model.specs.Distribution.{offer_moves, offers}
 use Rattle.acd_model.specs.Tick.{each}
 use Rattle.acd_model.proofs.MoveLemmas.{moved_append}
 
-pub offers-none : (n : ℕ) (s : Rows) (m : ℕ) → offer_of s ≡ None → offers n s m ≡ []
-offers-none zero s m h = refl
-offers-none (suc n) s m h = rw h refl
-
 pub offers-some : (n k : ℕ) (s : Rows) (m : ℕ) (o : Offer) → n ≡ suc k → offer_of s ≡ Some o → offers n s m ≡ offer_moves s m o ++ offers k (moved s (offer_moves s m o)) m
 offers-some n k s m o e h = rw e (rw h refl)
 

@@ -8,19 +8,7 @@ use Rattle.acd_terms.specs.States.{is_alerting, is_working_after_call}
 use Rattle.acd_terms.specs.declared.rows.Rows.{Rows}
 use Rattle.acd_model.specs.Tick.{is_overdue, is_overdue_offer, overdue_in, is_rested, is_over_in, rested_in}
 use Rattle.acd_tables.specs.Indexed.{is_ringing, is_working}
-
--- a filter finds all that it looks for in a part that has it
-filter-filter : {X : Type 0} (p q : X → Bool) → ((y : X) → p y ≡ true → q y ≡ true) → (xs : List X) → filter p (filter q xs) ≡ filter p xs
-filter-filter p q h [] = refl
-filter-filter p q h (y ∷ ys) =
-    (elim (q y) as (λ b. q y ≡ b → filter p (cond b (y ∷ filter q ys) (filter q ys)) ≡ filter p (y ∷ ys)) [
-      | true ↦ λ _. ap (λ r. cond (p y) (y ∷ r) r) (filter-filter p q h ys)
-      | false ↦ λ e.
-          (elim (p y) as (λ b. p y ≡ b → filter p (filter q ys) ≡ cond b (y ∷ filter p ys) (filter p ys)) [
-            | true ↦ λ r. absurd (cc (e, h y r))
-            | false ↦ λ _. filter-filter p q h ys
-          ]) refl
-    ]) refl
+use Rattle.acd_lemmas.proofs.Lists.{filter-filter}
 
 offered : (s : Rows) (m : ℕ) (g o : Option ℕ) → is_overdue_offer s m g o ≡ true → (is_some g && is_some o) ≡ true
 offered s m None o e = absurd (cc (e))

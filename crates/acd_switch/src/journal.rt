@@ -14,6 +14,7 @@ use acd_services::change;
 use acd_tables::Tables;
 use acd_terms::Event;
 use std::alloc::{AllocError, Global};
+use std::slice;
 
 // Few steps make more events or changes, so most journals never grow.
 const ROOM: usize = 6;
@@ -96,15 +97,15 @@ fn make_change(
         return Ok(());
     }
     change(tables, one)?;
-    note(one, changes)
+    note(slice::from_ref(one), changes)
 }
 
-// A push of its own, for any type.
-fn note<T: Copy + Drop>(one: &T, noted: &mut Vec<T>) -> Result<(), AllocError>
-    ensures { OnOk result (noted.new.items ≡ noted.old.items ++ one.now ∷ []) }
+// An addition of its own, for any type. As a list, a change is copied into its place at once, and not by
+// way of the stack.
+fn note<T: Copy + Drop>(more: &[T], noted: &mut Vec<T>) -> Result<(), AllocError>
+    ensures { OnOk result (noted.new.items ≡ noted.old.items ++ more.now) }
 {
-    noted.push(*one)?;
-    Ok(())
+    noted.extend_from_slice(more)
 }
 
 // The group that the event counts for grows, where there is one.

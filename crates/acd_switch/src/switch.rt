@@ -247,8 +247,9 @@ fn run_service(
     ensures events { OnOk result (journal.new.events.items ≡ journal.old.events.items ++ events_of at.moment (moves_of (serve tables.old at.moment at.stamp command.now))) }
     ensures changes { OnOk result (journal.new.changes.items ≡ journal.old.changes.items ++ changes_of (moves_of (serve tables.old at.moment at.stamp command.now))) }
 {
-    match decide(tables, at, command) {
-        Err(refusal) => Ok(Outcome::Refused(refusal)),
+    let served = decide(tables, at, command);
+    match &served {
+        Err(refusal) => Ok(Outcome::Refused(*refusal)),
         Ok(done) => {
             journal.make_all(tables, at.moment, done.moves.as_slice())?;
             Ok(Outcome::Done(done.answer))

@@ -10,8 +10,8 @@ use Rattle.std.specs.declared.ops.Bound.{Bound}
 use Rattle.std.specs.declared.ops.Bound.TheVariants.{Included, Excluded, Unbounded}
 use Rattle.std.proofs.lemmas.Bool.{and_parts, eqb-true}
 use Rattle.acd_terms.specs.Lists.{Among}
-use Rattle.acd_laws.proofs.Lists.{any_found, find_passes, find_among, among-filter, some_from}
-use Rattle.acd_laws.proofs.Keyed.{cmp_self}
+use Rattle.acd_lemmas.proofs.Lists.{any_found, find_passes, find_among, among-filter, some_from}
+use Rattle.acd_lemmas.proofs.Keyed.{cmp_self}
 use Rattle.acd_tables.specs.Indexed.{pair_cmp, joins}
 use Rattle.acd_tables.specs.Uses.{first_line, past_lines}
 use Rattle.acd_tables.proofs.NearLemmas.{less, greater}

@@ -14,7 +14,7 @@ use Rattle.std.specs.BTreeSet.{BTreeSet}
 use Rattle.acd_tables.specs.Sets.{holds, is_at_key, Sets, Stays}
 use Rattle.acd_tables.specs.Turns.{is_entry, Enters, Leaves, Undoes}
 use Rattle.acd_tables.proofs.SetLemmas.{holds-same}
-use Rattle.acd_tables.proofs.TurnLemmas.{eq_key}
+use Rattle.acd_lemmas.proofs.Keyed.{eq_key}
 
 pub any_last : {X : Type 0} (p : X → Bool) (xs : List X) (x : X) → list_any p (xs ++ x ∷ []) ≡ (list_any p xs || p x)
 any_last p [] x = by (p x)

@@ -7,8 +7,8 @@ use Rattle.acd_terms.specs.declared.record.AgentRecord.{AgentRecord}
 use Rattle.acd_terms.specs.declared.record.ConnectionRecord.{ConnectionRecord}
 use Rattle.acd_model.specs.Rules.Plan.{group_order, agent_order, connection_order}
 use Rattle.acd_model.specs.Writes.{with_group, with_agent, with_connection}
-use Rattle.acd_laws.proofs.State.{groups_total, agents_total, connections_total}
-use Rattle.acd_laws.proofs.Decided.{ascending_from}
+use Rattle.acd_lemmas.proofs.State.{groups_total, agents_total, connections_total}
+use Rattle.acd_lemmas.proofs.Decided.{ascending_from}
 use Rattle.acd_tables.proofs.ListLemmas.{put_by-next}
 
 pub filled_group : (s : Rows) (xs : List GroupRecord) (i : ℕ) (r : GroupRecord) → ascends group_order xs ≡ true → i < length xs → r ≡ get_or xs i r → with_group (record s { groups = take i xs }) r ≡ record s { groups = take (i + 1) xs }

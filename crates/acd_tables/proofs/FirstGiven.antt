@@ -9,7 +9,7 @@ use Rattle.std.specs.Cmp.{IsTotalOrder}
 use Rattle.std.proofs.lemmas.Map.Lookups.{CmpEqualImpliesEq}
 use Rattle.std.specs.Option.{option_or}
 use Rattle.acd_terms.specs.Lists.{Among}
-use Rattle.acd_laws.proofs.Lists.{none_from}
+use Rattle.acd_lemmas.proofs.Lists.{none_from}
 use Rattle.acd_tables.specs.FirstOffer.{first_given}
 
 module _ {K T : Type 0} (cmp : K → K → Ordering) (total : IsTotalOrder cmp) (exact : CmpEqualImpliesEq cmp) (f : K → Option T) where

@@ -18,25 +18,21 @@ use Rattle.acd_model.specs.Rules.Plan.{group_order}
 use Rattle.acd_model.specs.Scans.{group_of}
 use Rattle.acd_model.specs.Choice.{first_waiting, first_eligible, is_served_before, first_served, has_both, offer_by, offer_in, offer_of}
 use Rattle.acd_model.specs.declared.moves.Offer.{Offer}
-use Rattle.acd_laws.proofs.OfferFound.{least_is, none_served, served_is}
-use Rattle.acd_laws.proofs.Lists.{none_from, filter_among, among-filter, eq_is}
-use Rattle.acd_laws.proofs.State.{group_among, group_key, group_found}
+use Rattle.acd_lemmas.proofs.Least.{least_is, none_served, served_is}
+use Rattle.acd_lemmas.proofs.Lists.{none_from, filter_among, among-filter, eq_is}
+use Rattle.acd_lemmas.proofs.State.{group_among, group_key, group_found}
 use Rattle.acd_tables.specs.Indexed.{IsIndexed, OfferKey, offer_cmp, offer_key}
 use Rattle.acd_tables.specs.FirstOffer.{if_ranked, offer_at, first_given}
 use Rattle.acd_tables.specs.declared.indexes.Indexes.{Indexes}
 use Rattle.acd_tables.proofs.Firsts.{waiting-among, eligible-among}
 use Rattle.acd_tables.proofs.FirstGiven.{IsFirst, one_first, first_sorted}
 use Rattle.acd_tables.proofs.Picked.{contained}
+use Rattle.acd_lemmas.proofs.Numbers.{then_equal}
 
 -- the order of keys
 
 key_total : IsTotalOrder offer_cmp
 key_total = then_total (on_total (λ (k : OfferKey). k.0.0) (back_total nat_cmp_total)) (on_total (λ (k : OfferKey). k.1) nat_cmp_total)
-
-both_equal : (a b : Ordering) → ordering_then a b ≡ Equal → (a ≡ Equal) × (b ≡ Equal)
-both_equal Less b e = absurd (cc (e))
-both_equal Equal b e = (refl, e)
-both_equal Greater b e = absurd (cc (e))
 
 the_key : (j : OfferKey) (priority device : ℕ) → priority ≡ j.0.0 → device ≡ j.1 → ◌≡◌ {A = OfferKey} (record { 0 = priority }, device) j
 the_key j priority device e f =
@@ -44,7 +40,7 @@ the_key j priority device e f =
 
 key_exact : CmpEqualImpliesEq offer_cmp
 key_exact x y e =
-    let b = both_equal (nat_cmp y.0.0 x.0.0) (nat_cmp x.1 y.1) e in
+    let b = then_equal (nat_cmp y.0.0 x.0.0) (nat_cmp x.1 y.1) e in
     the_key y x.0.0 x.1 (sym (exact_unsigned y.0.0 x.0.0 b.0)) (exact_unsigned x.1 y.1 b.1)
 
 -- a group is served before another where its key is less

@@ -19,16 +19,11 @@ use Rattle.acd_terms.specs.declared.record.ConnectionRecord.{ConnectionRecord}
 use Rattle.acd_model.specs.Rules.Plan.{agent_order, connection_order}
 use Rattle.acd_model.specs.Scans.{agent_of, connection_of, has, is_eligible, is_occupied, is_idle, is_idle_there, waiting_in, eligible_in}
 use Rattle.acd_model.specs.Choice.{waiting_pair, ready_pair, least_from, first_waiting, first_eligible}
-use Rattle.acd_laws.proofs.Lists.{among-filter, filter_among, mapped_among}
-use Rattle.acd_laws.proofs.OfferFound.{least_found}
-use Rattle.acd_laws.proofs.State.{connection_among, connection_found, found_key, agent_among, agent_found, agent_key}
+use Rattle.acd_lemmas.proofs.Lists.{among-filter, filter_among, mapped_among, among-map}
+use Rattle.acd_lemmas.proofs.Least.{least_found}
+use Rattle.acd_lemmas.proofs.State.{connection_among, connection_found, found_key, agent_among, agent_found, agent_key}
 use Rattle.acd_tables.specs.Sets.{holds, holds_in, has_set}
 use Rattle.acd_tables.specs.Indexed.{PairSets, pair_cmp, lists, waits_at, is_busying, is_busy_at, is_free, is_able, is_able_since, IsFirstIn}
-
-among-map : {X Y : Type 0} (f : X → Y) (x : X) (xs : List X) → Among x xs → Among (f x) (map f xs)
-among-map f x [] a = absurd a
-among-map f x (y ∷ ys) (inl e) = inl (ap f e)
-among-map f x (y ∷ ys) (inr a) = inr (among-map f x ys a)
 
 pair_is : (a b : ℕ) (p : ℕ × ℕ) → a ≡ p.0 → b ≡ p.1 → ◌≡◌ {A = ℕ × ℕ} (a, b) p
 pair_is a b p e f = λ i. (e i, f i)

@@ -29,12 +29,12 @@ use Rattle.acd_tables.specs.Turns.{is_entry, Entered, Undone, Untouched, TakenOu
 use Rattle.acd_tables.specs.declared.indexes.Indexes.{Indexes}
 use Rattle.acd_tables.specs.declared.indexes.Entries.{Entries}
 use Rattle.acd_tables.specs.declared.indexes.Turn.{Turn}
-use Rattle.acd_laws.proofs.Lists.{some_is, count_length, ascending-put}
-use Rattle.acd_laws.proofs.State.{agents_total, groups_total, group_put, group_put_found, group_key, count_new, count_old, count_less}
-use Rattle.acd_laws.proofs.Numbers.{filter_length}
+use Rattle.acd_lemmas.proofs.Lists.{some_is, count_length, ascending-put, filter_length}
+use Rattle.acd_lemmas.proofs.State.{agents_total, groups_total, group_put, group_put_found, group_key, count_new, count_old, count_less}
 use Rattle.acd_tables.proofs.OfferLemmas.{undone, offers-same, offers-of, offers-more, own_key, key_number, key_priority}
-use Rattle.acd_tables.proofs.TurnLemmas.{Replaces-put, Replaces-removed, eq_key}
+use Rattle.acd_tables.proofs.TurnLemmas.{Replaces-put, Replaces-removed}
 use Rattle.acd_tables.proofs.NoteLemmas.{Ringing-put, Lines-removed, Working-kept, Seats-kept}
+use Rattle.acd_lemmas.proofs.Keyed.{eq_key}
 
 -- where only the offers may have changed
 pub IsIndexed-untouched : (s : Rows) (x y : Indexes) → IsIndexed s x → Untouched s x y → IsIndexed s y

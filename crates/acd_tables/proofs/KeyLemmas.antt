@@ -12,9 +12,9 @@ use Rattle.acd_terms.specs.Lists.{find_by, put_by, remove_by, Among, IsAscending
 use Rattle.acd_terms.specs.declared.record.ConnectionRecord.{ConnectionRecord}
 use Rattle.acd_model.specs.Rules.Plan.{connection_order}
 use Rattle.acd_model.specs.Scans.{at_connection}
-use Rattle.acd_laws.proofs.Lists.{any_found, any_some, find_passes, find_among, some_from, filter_among, among-filter, ascending-filter, ascending-put, ascending-remove}
-use Rattle.acd_laws.proofs.Keyed.{found_among, found_has, found_own, some_put}
-use Rattle.acd_laws.proofs.State.{by_connection, connections_total, is_of, is_of_true, left_at}
+use Rattle.acd_lemmas.proofs.Lists.{any_found, any_some, find_passes, find_among, some_from, filter_among, among-filter, ascending-filter, ascending-put, ascending-remove}
+use Rattle.acd_lemmas.proofs.Keyed.{found_among, found_has, found_own, some_put}
+use Rattle.acd_lemmas.proofs.State.{by_connection, connections_total, is_of, is_of_true, left_at}
 use Rattle.acd_tables.specs.Indexed.{pair_cmp}
 use Rattle.acd_tables.specs.Sets.{Noted, Forgotten}
 use Rattle.acd_tables.specs.Near.{of_key, HasKeys}

@@ -10,8 +10,8 @@ use Rattle.acd_terms.specs.declared.record.AgentRecord.{AgentRecord}
 use Rattle.acd_terms.specs.declared.record.ConnectionRecord.{ConnectionRecord}
 use Rattle.acd_model.specs.Rules.Plan.{agent_order, connection_order}
 use Rattle.acd_model.specs.Scans.{agent_of, agent_at, connection_of, has}
-use Rattle.acd_laws.proofs.Lists.{any_found, any_some, find_passes, find_among, some_from, some_found, none_from, some_is}
-use Rattle.acd_laws.proofs.State.{connection_among, connection_found, found_key, agent_among, agent_at_find, agent_seat, agent_there, has_is}
+use Rattle.acd_lemmas.proofs.Lists.{any_found, any_some, find_passes, find_among, some_from, some_found, none_from, some_is}
+use Rattle.acd_lemmas.proofs.State.{connection_among, connection_found, found_key, agent_among, agent_at_find, agent_seat, agent_there, has_is}
 use Rattle.acd_tables.specs.Indexed.{Seats, SeatMap, seat_of, own_station}
 use Rattle.acd_tables.specs.Uses.{is_there_and}
 

@@ -10,11 +10,12 @@ use Rattle.acd_terms.specs.declared.record.AgentRecord.{AgentRecord}
 use Rattle.acd_terms.specs.declared.record.ConnectionRecord.{ConnectionRecord}
 use Rattle.acd_model.specs.Scans.{agent_of, connection_of, has}
 use Rattle.acd_model.specs.Writes.{with_agent}
-use Rattle.acd_laws.proofs.State.{agent_put, has_is}
+use Rattle.acd_lemmas.proofs.State.{agent_put, has_is}
 use Rattle.acd_tables.specs.Sets.{Notes, Noted, Forgotten}
 use Rattle.acd_tables.specs.Indexed.{pair_cmp, rings, works, own_station, Ringing, Working, Lines, Seats, SeatMap, seat_of}
 use Rattle.acd_tables.specs.Turns.{IsFreeFor, Sits, Rises, quits}
-use Rattle.acd_tables.proofs.TurnLemmas.{Replaces, eq_key, pair_key}
+use Rattle.acd_tables.proofs.TurnLemmas.{Replaces, pair_key}
+use Rattle.acd_lemmas.proofs.Keyed.{eq_key}
 
 -- x is whether a key was there, which at the key that changes is `was`
 put_table : (was is e x : Bool) → (e ≡ true → x ≡ was) → (not ((was && not is) && e) && ((is && e) || x)) ≡ cond e is x

@@ -10,9 +10,9 @@ use Rattle.acd_terms.specs.Groups.{is_one_of}
 use Rattle.acd_terms.specs.declared.rows.Rows.{Rows}
 use Rattle.acd_terms.specs.declared.record.GroupRecord.{GroupRecord}
 use Rattle.acd_model.specs.Scans.{group_of}
-use Rattle.acd_laws.proofs.Lists.{eq_is}
-use Rattle.acd_laws.proofs.Keyed.{cmp_self}
-use Rattle.acd_laws.proofs.State.{group_key}
+use Rattle.acd_lemmas.proofs.Lists.{eq_is}
+use Rattle.acd_lemmas.proofs.Keyed.{cmp_self}
+use Rattle.acd_lemmas.proofs.State.{group_key}
 use Rattle.acd_tables.specs.Sets.{Forgotten}
 use Rattle.acd_tables.specs.Indexed.{PairSets, pair_cmp, lists, OfferKey, offer_cmp, offer_key, ListsOffers}
 use Rattle.acd_tables.specs.Turns.{is_entry, is_of_group, Enters, Leaves, Undoes}

@@ -17,9 +17,9 @@ use Rattle.acd_terms.specs.declared.record.AgentRecord.{AgentRecord}
 use Rattle.acd_terms.specs.declared.record.ConnectionRecord.{ConnectionRecord}
 use Rattle.acd_model.specs.Rules.Plan.{agent_order, connection_order}
 use Rattle.acd_model.specs.Scans.{agent_of, connection_of}
-use Rattle.acd_laws.proofs.Lists.{eq_is, after_among, any_found, find_passes, find_among, some_from, filter_among, among-filter, ascending-filter}
-use Rattle.acd_laws.proofs.Keyed.{cmp_self}
-use Rattle.acd_laws.proofs.State.{connections_total, agents_total, connection_among, connection_found, found_key, agent_among, agent_found, agent_key}
+use Rattle.acd_lemmas.proofs.Lists.{eq_is, after_among, any_found, find_passes, find_among, some_from, filter_among, among-filter, ascending-filter}
+use Rattle.acd_lemmas.proofs.Keyed.{cmp_self}
+use Rattle.acd_lemmas.proofs.State.{connections_total, agents_total, connection_among, connection_found, found_key, agent_among, agent_found, agent_key}
 use Rattle.acd_tables.specs.AtDevice.{is_at_device, connections_at, line_at}
 use Rattle.acd_tables.specs.Indexed.{pair_cmp, is_ringing, is_working, rings, works, Ringing, Working}
 use Rattle.acd_tables.specs.Uses.{kept}

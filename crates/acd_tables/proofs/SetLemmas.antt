@@ -6,7 +6,7 @@ use Rattle.std.specs.Cmp.{IsTotalOrder}
 use Rattle.std.specs.BTreeMap.{BTreeMap, get, get_by}
 use Rattle.std.specs.BTreeSet.{BTreeSet, contains_by}
 use Rattle.std.proofs.lemmas.Bool.{and_parts}
-use Rattle.acd_laws.proofs.Lists.{eq_is}
+use Rattle.acd_lemmas.proofs.Lists.{eq_is}
 use Rattle.acd_tables.specs.Sets.{holds_in, holds, is_at_key}
 
 module _ {K E : Type 0} (by : K → K → Ordering) (cmp : E → E → Ordering) (o : IsTotalOrder by) (p : IsTotalOrder cmp) where

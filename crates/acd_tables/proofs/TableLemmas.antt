@@ -10,9 +10,8 @@ use Rattle.std.specs.declared.cmp.Ordering.TheVariants.{Less, Equal, Greater}
 use Rattle.std.proofs.lemmas.Cmp.{on_total}
 use Rattle.std.proofs.lemmas.Map.Lookups.{CmpEqualImpliesEq}
 use Rattle.acd_terms.specs.Lists.{find_by, put_by, remove_by, Among, IsAscending}
-use Rattle.acd_laws.proofs.Lists.{eq_is, is_eq_of, ascending-put, ascending-remove}
-use Rattle.acd_laws.proofs.Keyed.{Keyed, found_among, found_own, found_put, found_left, counted_new}
-use Rattle.acd_laws.proofs.Orderly.{count_all}
+use Rattle.acd_lemmas.proofs.Lists.{eq_is, is_eq_of, ascending-put, ascending-remove, count_all}
+use Rattle.acd_lemmas.proofs.Keyed.{Keyed, found_among, found_own, found_put, found_left, counted_new}
 use Rattle.acd_tables.specs.KeyedMaps.{placed, IsKeyed}
 use Rattle.acd_tables.proofs.Picked.{ascending-same}
 

@@ -16,23 +16,17 @@ use Rattle.acd_terms.specs.declared.record.ConnectionRecord.{ConnectionRecord}
 use Rattle.acd_model.specs.Rules.Plan.{agent_order, connection_order}
 use Rattle.acd_model.specs.Scans.{agent_of, agent_at, connection_of}
 use Rattle.acd_model.specs.Writes.{with_agent, with_connection, without_connection}
-use Rattle.acd_laws.proofs.Lists.{eq_is, is_eq_of, some_is, ascending-put, ascending-remove}
-use Rattle.acd_laws.proofs.Keyed.{cmp_equal, cmp_self}
-use Rattle.acd_laws.proofs.State.{connections_total, at_put, at_remove, agent_put, agent_key, found_key, agent_seat, agent_there}
+use Rattle.acd_lemmas.proofs.Lists.{eq_is, is_eq_of, some_is, ascending-put, ascending-remove}
+use Rattle.acd_lemmas.proofs.Keyed.{cmp_equal, cmp_self, eq_key}
+use Rattle.acd_lemmas.proofs.State.{connections_total, at_put, at_remove, agent_put, agent_key, found_key, agent_seat, agent_there}
 use Rattle.acd_tables.specs.Indexed.{pair_cmp, waits_at, is_busying, is_busy_at, is_free, is_able_since, Seats, SeatMap}
 use Rattle.acd_tables.specs.Uses.{is_there_and, is_in_use}
 use Rattle.acd_tables.specs.declared.uses.Use.TheVariants.{Busying}
 use Rattle.acd_tables.specs.Turns.{TurnsTo, differ, is_entry, IsAt, queue_entry, ready_entry, with_or_without, LeavesBut, left_of}
 use Rattle.acd_tables.specs.declared.indexes.Turn.{Turn}
 use Rattle.acd_tables.proofs.Looking.{there-any, any-there, used_some, seated}
-
-pub eq_key : (m n : ℕ) → is_eq (nat_cmp m n) ≡ (m == n)
-eq_key m n = both_ways (is_eq (nat_cmp m n)) (m == n) (λ e. eq-eqb m n (cmp_equal m n (eq_is (nat_cmp m n) e))) (λ e. is_eq_of (nat_cmp m n) (cmp_self m n (eqb-true m n e)))
-
-eq_then : (a b : Ordering) → is_eq (ordering_then a b) ≡ (is_eq a && is_eq b)
-eq_then Less b = refl
-eq_then Equal b = refl
-eq_then Greater b = refl
+use Rattle.acd_lemmas.proofs.Numbers.{eq_then}
+use Rattle.acd_lemmas.proofs.Bools.{or_no}
 
 pub pair_key : (call device : ℕ) (p : ℕ × ℕ) → is_eq (pair_cmp (call, device) p) ≡ (call == p.0 && device == p.1)
 pair_key call device p = rw (eq_then (nat_cmp call p.0) (nat_cmp device p.1), eq_key call p.0, eq_key device p.1) refl
@@ -40,10 +34,6 @@ pair_key call device p = rw (eq_then (nat_cmp call p.0) (nat_cmp device p.1), eq
 -- an entry's test, on numbers
 entry_test : (a b c : ℕ) (gs : List ℕ) (p : ℕ × ℕ) → is_entry pair_cmp (Some (gs, (a, b))) c p ≡ (is_one_of gs c && ((a == p.0) && (b == p.1)))
 entry_test a b c gs p = rw (eq_then (nat_cmp a p.0) (nat_cmp b p.1), eq_key a p.0, eq_key b p.1) refl
-
-or_none : (b : Bool) → (b || false) ≡ b
-or_none true = refl
-or_none false = refl
 
 turned : (a b c : Bool) → (a && (b && c)) ≡ (b && (c && a))
 turned true true true = refl
@@ -163,7 +153,7 @@ entry_waits call device (Some c) at g p = by (is_queued c.state)
     by false = refl
     by true =
         entry_test (unwrap_or c.place 0) c.call g (c.device ∷ []) p
-        ∙ ap (λ b. b && ((unwrap_or c.place 0 == p.0) && (c.call == p.1))) (or_none (c.device == g))
+        ∙ ap (λ b. b && ((unwrap_or c.place 0 == p.0) && (c.call == p.1))) (or_no (c.device == g))
         ∙ turned (c.device == g) (unwrap_or c.place 0 == p.0) (c.call == p.1)
         ∙ ap (λ k. (unwrap_or c.place 0 == p.0) && ((k == p.1) && (c.device == g))) at.0
         ∙ ap (λ d. (unwrap_or c.place 0 == p.0) && ((call == p.1) && (d == g))) at.1

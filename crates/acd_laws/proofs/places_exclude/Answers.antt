@@ -1,5 +1,5 @@
 -- The law that a call stands in one way.
-use Rattle.acd_laws.proofs.PlacedRuns.{places_exclude}
+use Rattle.acd_laws.proofs.Places.PlacedRuns.{places_exclude}
 use Rattle.acd_laws.proofs.places_exclude.Goals as goal
 
 pub returns : goal.returns

@@ -1,6 +1,6 @@
-use Rattle.acd_laws.proofs.DecidedAll.{keeps_read}
-use Rattle.acd_laws.proofs.ChangesMade.{refused}
-use Rattle.acd_laws.proofs.OfferFound.{no_offer}
+use Rattle.acd_laws.proofs.Rules.DecidedAll.{keeps_read}
+use Rattle.acd_laws.proofs.Made.ChangesMade.{refused}
+use Rattle.acd_laws.proofs.Offers.OfferFound.{no_offer}
 use Rattle.acd_laws.proofs.refusal_changes_nothing.Goals as goal
 
 pub returns : goal.returns

@@ -1,5 +1,5 @@
 -- What the rules bound.
-use Rattle.acd_laws.proofs.RulesAll.{rules_bound}
+use Rattle.acd_laws.proofs.Rules.RulesAll.{rules_bound}
 use Rattle.acd_laws.proofs.rules_bound.Goals as goal
 
 pub returns : goal.returns

@@ -1,5 +1,5 @@
 -- The law of where each call stands, after every run.
-use Rattle.acd_laws.proofs.PlacedRuns.{run_is_placed}
+use Rattle.acd_laws.proofs.Places.PlacedRuns.{run_is_placed}
 use Rattle.acd_laws.proofs.run_is_placed.Goals as goal
 
 pub returns : goal.returns

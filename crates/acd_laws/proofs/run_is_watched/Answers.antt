@@ -1,5 +1,5 @@
 -- The law of what reports tell, after every run.
-use Rattle.acd_laws.proofs.WatchedRuns.{run_is_watched}
+use Rattle.acd_laws.proofs.Watched.WatchedRuns.{run_is_watched}
 use Rattle.acd_laws.proofs.run_is_watched.Goals as goal
 
 pub returns : goal.returns

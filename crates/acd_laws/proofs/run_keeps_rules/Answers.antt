@@ -1,5 +1,5 @@
 -- The rules, by a run.
-use Rattle.acd_laws.proofs.RulesAll.{run_keeps_rules}
+use Rattle.acd_laws.proofs.Rules.RulesAll.{run_keeps_rules}
 use Rattle.acd_laws.proofs.run_keeps_rules.Goals as goal
 
 pub returns : goal.returns

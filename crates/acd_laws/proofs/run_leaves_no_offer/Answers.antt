@@ -1,5 +1,5 @@
 -- The law that no offer is left, after every run.
-use Rattle.acd_laws.proofs.WatchedRuns.{run_leaves_no_offer}
+use Rattle.acd_laws.proofs.Watched.WatchedRuns.{run_leaves_no_offer}
 use Rattle.acd_laws.proofs.run_leaves_no_offer.Goals as goal
 
 pub returns : goal.returns

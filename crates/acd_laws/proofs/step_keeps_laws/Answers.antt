@@ -1,5 +1,5 @@
 -- All laws, by a step.
-use Rattle.acd_laws.proofs.RulesAll.{step_keeps_laws}
+use Rattle.acd_laws.proofs.Rules.RulesAll.{step_keeps_laws}
 use Rattle.acd_laws.proofs.step_keeps_laws.Goals as goal
 
 pub returns : goal.returns

@@ -1,6 +1,6 @@
 -- The law of where each call stands, from before a step to after it.
-use Rattle.acd_laws.proofs.DecidedAll.{rules_are_kept}
-use Rattle.acd_laws.proofs.PlacedRuns.{step_keeps_places}
+use Rattle.acd_laws.proofs.Rules.DecidedAll.{rules_are_kept}
+use Rattle.acd_laws.proofs.Places.PlacedRuns.{step_keeps_places}
 use Rattle.acd_laws.proofs.step_keeps_places.Goals as goal
 
 pub returns : goal.returns

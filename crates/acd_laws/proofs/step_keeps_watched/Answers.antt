@@ -1,6 +1,6 @@
 -- The law of what reports tell, by a step.
-use Rattle.acd_laws.proofs.DecidedAll.{rules_are_kept}
-use Rattle.acd_laws.proofs.WatchedRuns.{step_keeps_watched}
+use Rattle.acd_laws.proofs.Rules.DecidedAll.{rules_are_kept}
+use Rattle.acd_laws.proofs.Watched.WatchedRuns.{step_keeps_watched}
 use Rattle.acd_laws.proofs.step_keeps_watched.Goals as goal
 
 pub returns : goal.returns

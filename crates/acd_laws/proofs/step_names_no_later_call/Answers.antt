@@ -1,6 +1,6 @@
 -- The law that no event names a call above the last, by a step.
-use Rattle.acd_laws.proofs.DecidedAll.{rules_are_kept}
-use Rattle.acd_laws.proofs.PlacedRuns.{step_names_no_later_call}
+use Rattle.acd_laws.proofs.Rules.DecidedAll.{rules_are_kept}
+use Rattle.acd_laws.proofs.Places.PlacedRuns.{step_names_no_later_call}
 use Rattle.acd_laws.proofs.step_names_no_later_call.Goals as goal
 
 pub returns : goal.returns

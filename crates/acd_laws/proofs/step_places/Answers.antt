@@ -1,6 +1,6 @@
 -- The law of where each call stands, by a step.
-use Rattle.acd_laws.proofs.DecidedAll.{rules_are_kept}
-use Rattle.acd_laws.proofs.PlacedRuns.{step_places}
+use Rattle.acd_laws.proofs.Rules.DecidedAll.{rules_are_kept}
+use Rattle.acd_laws.proofs.Places.PlacedRuns.{step_places}
 use Rattle.acd_laws.proofs.step_places.Goals as goal
 
 pub returns : goal.returns

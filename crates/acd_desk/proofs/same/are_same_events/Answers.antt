@@ -1,4 +1,4 @@
-use Rattle.acd_desk.proofs.SameRecords.{events_decided}
+use Rattle.acd_lemmas.proofs.SameRecords.{events_decided}
 use Rattle.acd_desk.proofs.same.are_same_events.Goals as goal
 
 pub returns : goal.returns

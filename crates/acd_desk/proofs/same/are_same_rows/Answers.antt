@@ -1,4 +1,4 @@
-use Rattle.acd_desk.proofs.SameRecords.{rows_decided}
+use Rattle.acd_lemmas.proofs.SameRecords.{rows_decided}
 use Rattle.acd_desk.proofs.same.are_same_rows.Goals as goal
 
 pub returns : goal.returns

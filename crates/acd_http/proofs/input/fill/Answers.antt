@@ -1,7 +1,8 @@
 use Rattle.std.proofs.Common.{ℕ, List, ◌++◌, take, ap, sym, ◌∙◌, arith, append-nil}
 use Rattle.std.proofs.lemmas.Bool.{true≢false}
-use Rattle.acd_http.proofs.Readings.{kept_then, no_bytes, short}
+use Rattle.acd_http.proofs.Readings.{kept_then, short}
 use Rattle.acd_http.proofs.input.fill.Goals as goal
+use Rattle.acd_lines.proofs.Turns.{no_bytes}
 
 pub returns-in-Ok-eq0 : goal.returns-in-Ok-eq0
 returns-in-Ok-eq0 g c =

@@ -2,8 +2,8 @@ use Rattle.std.proofs.Common.{◌++◌, ◌∷◌, [], ◌∙◌, List, ℕ, sub
 use Rattle.std.specs.Prelude.{decimal}
 use Rattle.std.specs.Io.KnownBytes.{Appends}
 use Rattle.acd_lines.specs.Sent.{Begins}
-use Rattle.acd_lines.proofs.Sends.{begins_front}
-use Rattle.acd_program.proofs.Sending.{on_err, second_err, third_err}
+use Rattle.acd_lines.proofs.Sends.{begins_front, on_err}
+use Rattle.acd_program.proofs.Sending.{second_err, third_err}
 use Rattle.acd_program.proofs.printing.send_number.Goals as goal
 
 pub returns-in_err-send-clause-err : goal.returns-in_err-send-clause-err

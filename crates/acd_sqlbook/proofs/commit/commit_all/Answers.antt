@@ -6,6 +6,10 @@ use Rattle.acd_sqlbook.specs.Commit.{made_by}
 use Rattle.acd_columns.specs.Draft.{Holds, Drafts, AddsStop}
 use Rattle.acd_columns.specs.Relations.{relations_of}
 use Rattle.acd_columns.proofs.Endings.{not_committed, begins, made_whole, adds_stop}
+use Rattle.std.proofs.Common.{Err, IfErr, sym}
+use Rattle.acd_columns.specs.Draft.{Works}
+use Rattle.acd_sqlbook.specs.Stopping.{StopsInAll, FailsToFile}
+use Rattle.acd_sqlbook.proofs.Stopped.{still_stopped, commit_stopped}
 use Rattle.acd_sqlbook.proofs.commit.commit_all.Goals as goal
 
 pub returns-clause-done : goal.returns-clause-done
@@ -54,3 +58,36 @@ returns-clause-stops g c clean =
     λ (x : Content) (h : Holds old x). (rw begun at c.in_ok-write_all.ensures.put) middle x (begins old begun-state x refl refl h) in
     subst (λ h. AddsStop old (state g.S.Store h) made) same
     (adds_stop old begun-state mid (state g.S.Store end) made (λ db left. left) (rw begun at c.write_all.ensures.works).survives c.commit.ensures.survives put middle late)
+
+pub returns-in_err-write_all-clause-failed : goal.returns-in_err-write_all-clause-failed
+returns-in_err-write_all-clause-failed g c clean x held =
+    let old = state g.S.Store c.args.conn.now in
+    let begun = state g.S.Store (record c.args.conn.now { in_transaction = true }) in
+    let made = state g.S.Store c.write_all.new.tx.conn.now in
+    let end = c.drop-tx.new.self.0 in
+    let same : end ≡ c.conn-1.given.0 = search rules in
+    let late : HasCleanDisk (state g.S.Store end) = rw same clean in
+    let early : HasCleanDisk made = omega (arith, late, c.drop-tx.ensures.survives.clean) in
+    let begin = c.transaction-tx.ensures.begun in
+    let is : c.from_residual.result ≡ Err c.in_err-write_all.field-0.0 = search rules in
+    let stops = StopsInAll c.args.changes.now c.args.events.now c.args.kept.now c.args.meta.now in
+    subst (λ h. IfErr c.from_residual.result (FailsToFile stops x old (state g.S.Store h))) same
+    (subst (λ r. IfErr r (FailsToFile stops x old (state g.S.Store end))) (sym is)
+    (still_stopped stops x begun made (state g.S.Store end) c.in_err-write_all.field-0.0 c.drop-tx.ensures.survives.counts
+    ((rw begin at c.in_err-write_all.ensures.failed) early x (begins old begun x refl refl held))))
+
+pub returns-clause-failed : goal.returns-clause-failed
+returns-clause-failed g c clean x held =
+    let old = state g.S.Store c.args.conn.now in
+    let begun = state g.S.Store (record c.args.conn.now { in_transaction = true }) in
+    let mid = state g.S.Store c.write_all.new.tx.conn.now in
+    let end = c.commit.new.self.0 in
+    let same : end ≡ c.conn-2-1.given.0 = search rules in
+    let late : HasCleanDisk (state g.S.Store end) = rw same clean in
+    let middle : HasCleanDisk mid = omega (arith, late, c.commit.ensures.survives.clean) in
+    let begin = c.transaction-tx.ensures.begun in
+    let works : Works begun mid = rw begin at c.write_all.ensures.works in
+    let stops = StopsInAll c.args.changes.now c.args.events.now c.args.kept.now c.args.meta.now in
+    let drafts = (rw begin at c.in_ok-write_all.ensures.put) middle x (begins old begun x refl refl held) in
+    subst (λ h. IfErr c.commit.result (FailsToFile stops x old (state g.S.Store h))) same
+    (commit_stopped stops x begun mid (state g.S.Store end) c.commit.result works middle c.commit.ensures.survives.counts drafts.inside (c.commit.ensures.err late))

@@ -3,6 +3,10 @@ use Rattle.sqlite.specs.State.{HasCleanDisk}
 use Rattle.sqlite.specs.Held.{state}
 use Rattle.acd_columns.proofs.Endings.{works_on}
 use Rattle.acd_sqlbook.proofs.Skipping.{next_filed, none_left}
+use Rattle.std.proofs.Common.{rules}
+use Rattle.acd_sqlbook.specs.Commit.{filed}
+use Rattle.acd_sqlbook.specs.Stopping.{StopsAtChange, StopsInChanges}
+use Rattle.acd_sqlbook.proofs.Stopped.{stops_behind, stops_same}
 use Rattle.acd_sqlbook.proofs.commit.write_changes.Goals as goal
 
 pub loop-change-preserved : goal.loop-change-preserved
@@ -15,7 +19,26 @@ loop-change-preserved g c =
       put = λ clean x d.
           let before : HasCleanDisk (state g.S.Store c.loop-change.tx.conn.now) = omega (arith, e.works.survives.clean) in
           next_filed _ _ c.in-Some.change.now c.loop-change.rest.now c.in-Some.behind.now c.args.changes.now x c.in-Some.ensures.some.1 (c.in_ok-write_change.ensures.put clean) (inv.put before x d);
+      stops = λ clean x d.
+          let before : HasCleanDisk (state g.S.Store c.loop-change.tx.conn.now) = omega (arith, e.works.survives.clean) in
+          let held = inv.stops before x d in
+          (filed held.0 c.in-Some.change.now, c.in_ok-write_change.ensures.put clean held.0 held.1, λ limit h. held.2 limit ((c.in-Some.ensures.stops limit held.0).1 h));
     }
 
 pub returns-clause-put : goal.returns-clause-put
 returns-clause-put g c clean x d = none_left (state g.S.Store c.loop-change.tx.conn.now) c.loop-change.rest.now c.args.changes.now x (c.next_written.ensures.none c.in_default.is) (c.loop-change.invariant.put clean x d)
+
+pub returns-in_err-write_change-clause-failed : goal.returns-in_err-write_change-clause-failed
+returns-in_err-write_change-clause-failed g c =
+    let old = state g.S.Store c.args.tx.now.conn.now in
+    let mid = state g.S.Store c.loop-change.tx.conn.now in
+    let new = state g.S.Store c.write_change.new.tx.conn.now in
+    let inv = c.loop-change.invariant in
+    let all = StopsInChanges c.args.changes.now in
+    let error = c.in_err-write_change.field-0.0 in
+    stops_same old new all error c.from_residual.result (search rules)
+    (λ clean x d.
+    let before : HasCleanDisk mid = omega (arith, clean, c.write_change.ensures.works.survives.clean) in
+    let held = inv.stops before x d in
+    stops_behind all x (StopsAtChange c.in-Some.change.now) held.0 old mid new error inv.works c.write_change.ensures.works before
+    (λ limit h. held.2 limit ((c.in-Some.ensures.stops limit held.0).0 h)) (c.in_err-write_change.ensures.failed clean held.0 held.1))

@@ -4,6 +4,11 @@ use Rattle.acd_sqlbook.specs.Commit.{counted, written_by}
 use Rattle.acd_columns.specs.Relations.{meta_of}
 use Rattle.acd_columns.specs.declared.meta.Meta.{Meta}
 use Rattle.acd_sqlbook.proofs.Standing.{commits_not, commits_counted}
+use Rattle.std.proofs.Common.{refl, rules}
+use Rattle.sqlite.specs.declared.error.Error.TheVariants.{SqliteFailure}
+use Rattle.sqlite.specs.declared.error.ErrorCode.TheVariants.{OutOfMemory}
+use Rattle.acd_sqlbook.specs.Stopping.{StopsCommit}
+use Rattle.acd_sqlbook.proofs.Counting.{no_request, commit_uncounted, commit_undone}
 use Rattle.acd_sqlbook.proofs.ready.commit_ready.Goals as goal
 
 pub returns-clause-commits : goal.returns-clause-commits
@@ -16,3 +21,16 @@ returns-in-Ok-clause-commits g c =
     let e = c.commit_all.ensures in
     commits_counted (state g.S.Store c.args.conn.now) (state g.S.Store c.counters.new.conn) (state g.S.Store c.commit_all.new.conn) c.commit_all.result c.in-Ok.last c.in-Ok.meta
     c.args.changes.now c.args.events.now c.args.kept.now c.in-Ok.ensures.read e.clean e.up e.was e.done e.undone e.stops
+
+pub returns-in_err-request-clause-blamed : goal.returns-in_err-request-clause-blamed
+returns-in_err-request-clause-blamed g c =
+    no_request (StopsCommit c.args.changes.now c.args.events.now c.args.kept.now) (state g.S.Store c.args.conn.now) (SqliteFailure OutOfMemory) c.from_residual.result (search rules) refl
+
+pub returns-clause-blamed : goal.returns-clause-blamed
+returns-clause-blamed g c =
+    commit_uncounted c.args.changes.now c.args.events.now c.args.kept.now (state g.S.Store c.args.conn.now) (state g.S.Store c.counters.new.conn) c.in-Err.error c.in-Err.ensures.blamed
+
+pub returns-in-Ok-clause-blamed : goal.returns-in-Ok-clause-blamed
+returns-in-Ok-clause-blamed g c =
+    commit_undone c.args.changes.now c.args.events.now c.args.kept.now (state g.S.Store c.args.conn.now) (state g.S.Store c.counters.new.conn) (state g.S.Store c.commit_all.new.conn) c.commit_all.result c.in-Ok.last c.in-Ok.meta
+    c.in-Ok.ensures.read c.in-Ok.ensures.blamed c.commit_all.ensures.clean c.commit_all.ensures.failed

@@ -3,14 +3,15 @@ use Rattle.sqlite.specs.Held.{state}
 use Rattle.acd_terms.specs.declared.event.Event.{Event}
 use Rattle.acd_book.specs.Content.{Content}
 use Rattle.acd_columns.specs.Rows.{event_values}
-use Rattle.acd_statements.proofs.Pages.{paged, falls_number}
+use Rattle.acd_statements.proofs.Pages.{paged}
 use Rattle.acd_statements.proofs.Blamed.{blames_as}
-use Rattle.acd_statements.proofs.BlamedRows.{blames_page, is_below}
+use Rattle.acd_statements.proofs.BlamedRows.{blames_page}
 use Rattle.acd_statements.proofs.lookups.event_page.Goals as goal
+use Rattle.acd_lemmas.proofs.Numbers.{still_below, below_is}
 
 pub returns-clause-found : goal.returns-clause-found
 returns-clause-found g c =
-    paged (λ (n : ℕ) (e : Event). nat_lt n e.number) (λ a b e low h. falls_number a b e.number low h) event_values c.args.number c.args.limit (λ (x : Content). x.events)
+    paged (λ (n : ℕ) (e : Event). nat_lt n e.number) (λ a b e low h. still_below a b e.number low h) event_values c.args.number c.args.limit (λ (x : Content). x.events)
     (state g.S.Store c.args.conn.now) (state g.S.Store c.event_rows.new.conn) c.in_ok-rows.rows c.meant.result c.min.result c.min-2.result c.min.ensures c.min-2.ensures c.in_ok-rows.ensures.found c.meant.ensures.same c.meant.ensures.none c.meant.ensures.fewer
 
 pub returns-in_err-rows-clause-blamed : goal.returns-in_err-rows-clause-blamed
@@ -19,5 +20,5 @@ returns-in_err-rows-clause-blamed g c =
 
 pub returns-clause-blamed : goal.returns-clause-blamed
 returns-clause-blamed g c =
-    blames_page (λ (n : ℕ) (e : Event). nat_lt n e.number) (λ (e : Event). e.number) event_values (λ n e h. is_below n e.number h) (λ e. refl) (λ (x : Content). x.events)
+    blames_page (λ (n : ℕ) (e : Event). nat_lt n e.number) (λ (e : Event). e.number) event_values (λ n e h. below_is n e.number h) (λ e. refl) (λ (x : Content). x.events)
     (state g.S.Store c.args.conn.now) (state g.S.Store c.event_rows.new.conn) c.in_ok-rows.rows c.meant.result c.args.number c.min.result c.min-2.result c.min.ensures c.in_ok-rows.ensures.blamed c.in_ok-rows.ensures.found c.meant.ensures.other

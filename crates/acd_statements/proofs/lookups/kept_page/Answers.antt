@@ -3,14 +3,15 @@ use Rattle.sqlite.specs.Held.{state}
 use Rattle.acd_book.specs.Content.{Content}
 use Rattle.acd_book.specs.declared.kept.Kept.{Kept}
 use Rattle.acd_columns.specs.Rows.{kept_values}
-use Rattle.acd_statements.proofs.Pages.{paged, falls_number}
+use Rattle.acd_statements.proofs.Pages.{paged}
 use Rattle.acd_statements.proofs.Blamed.{blames_as}
-use Rattle.acd_statements.proofs.BlamedRows.{blames_page, is_below}
+use Rattle.acd_statements.proofs.BlamedRows.{blames_page}
 use Rattle.acd_statements.proofs.lookups.kept_page.Goals as goal
+use Rattle.acd_lemmas.proofs.Numbers.{still_below, below_is}
 
 pub returns-clause-found : goal.returns-clause-found
 returns-clause-found g c =
-    paged (λ (n : ℕ) (k : Kept). nat_lt n k.stamp) (λ a b k low h. falls_number a b k.stamp low h) kept_values c.args.stamp 1 (λ (x : Content). x.kept)
+    paged (λ (n : ℕ) (k : Kept). nat_lt n k.stamp) (λ a b k low h. still_below a b k.stamp low h) kept_values c.args.stamp 1 (λ (x : Content). x.kept)
     (state g.S.Store c.args.conn.now) (state g.S.Store c.kept_rows.new.conn) c.in_ok-rows.rows c.meant.result c.min.result 1 c.min.ensures refl c.in_ok-rows.ensures.found c.meant.ensures.same c.meant.ensures.none c.meant.ensures.fewer
 
 pub returns-in_err-rows-clause-blamed : goal.returns-in_err-rows-clause-blamed
@@ -19,5 +20,5 @@ returns-in_err-rows-clause-blamed g c =
 
 pub returns-clause-blamed : goal.returns-clause-blamed
 returns-clause-blamed g c =
-    blames_page (λ (n : ℕ) (k : Kept). nat_lt n k.stamp) (λ (k : Kept). k.stamp) kept_values (λ n k h. is_below n k.stamp h) (λ k. refl) (λ (x : Content). x.kept)
+    blames_page (λ (n : ℕ) (k : Kept). nat_lt n k.stamp) (λ (k : Kept). k.stamp) kept_values (λ n k h. below_is n k.stamp h) (λ k. refl) (λ (x : Content). x.kept)
     (state g.S.Store c.args.conn.now) (state g.S.Store c.kept_rows.new.conn) c.in_ok-rows.rows c.meant.result c.args.stamp c.min.result 1 c.min.ensures c.in_ok-rows.ensures.blamed c.in_ok-rows.ensures.found c.meant.ensures.other

@@ -1,4 +1,4 @@
-use Rattle.std.proofs.Common.{ℕ, List, map, sym, subst, ap, ◌∙◌, arith}
+use Rattle.std.proofs.Common.{ℕ, List, map, sym, subst, ◌∙◌, arith}
 use Rattle.sqlite.specs.State.{HasCleanDisk}
 use Rattle.sqlite.specs.Held.{state}
 use Rattle.acd_columns.specs.Content.{with_part}
@@ -6,8 +6,15 @@ use Rattle.acd_columns.specs.declared.tables.Table.TheVariants as table
 use Rattle.acd_columns.specs.Relations.{all_put}
 use Rattle.acd_columns.specs.Draft.{Drafts}
 use Rattle.acd_columns.proofs.Endings.{works_on}
-use Rattle.acd_statements.proofs.Planned.{pairs_more, all_taken}
+use Rattle.acd_statements.proofs.Planned.{pairs_more}
+use Rattle.std.proofs.Common.{Err, rules, take}
+use Rattle.acd_columns.specs.Relations.{Relations}
+use Rattle.acd_columns.specs.Rows.{further_values}
+use Rattle.acd_columns.specs.declared.texts.TheConstants.{INSERT_AGENT_GROUP}
+use Rattle.acd_statements.specs.Refusing.{RefusesOn, RefusesFurther}
+use Rattle.acd_statements.proofs.Refused.{any_default, by_more, by_same, by_later}
 use Rattle.acd_statements.proofs.parts.insert_all.Goals as goal
+use Rattle.std.proofs.lemmas.List.{take_all}
 
 pub loop-group-preserved : goal.loop-group-preserved
 loop-group-preserved g c =
@@ -24,7 +31,7 @@ loop-group-preserved g c =
 
 pub returns-clause-put : goal.returns-clause-put
 returns-clause-put g c clean r d =
-    subst (λ (gs : List ℕ). Drafts (state g.S.Store c.loop-group.tx.conn.now) (with_part table.AgentGroups (all_put (map (λ (k : ℕ). (c.args.agent, k)) gs) r.further) r)) (all_taken c.loop-group.group-index c.args.groups.now c.loop-group-test.false)
+    subst (λ (gs : List ℕ). Drafts (state g.S.Store c.loop-group.tx.conn.now) (with_part table.AgentGroups (all_put (map (λ (k : ℕ). (c.args.agent, k)) gs) r.further) r)) (take_all c.loop-group.group-index c.args.groups.now c.loop-group-test.false)
     (c.loop-group.invariant.put clean r d)
 
 pub returns-in_err-insert_further-clause-same : goal.returns-in_err-insert_further-clause-same
@@ -32,3 +39,18 @@ returns-in_err-insert_further-clause-same g c = c.insert_further.ensures.same �
 
 pub returns-in_err-insert_further-clause-works : goal.returns-in_err-insert_further-clause-works
 returns-in_err-insert_further-clause-works g c = works_on _ _ _ c.loop-group.invariant.works c.insert_further.ensures.works
+
+pub returns-in_err-insert_further-clause-failed : goal.returns-in_err-insert_further-clause-failed
+returns-in_err-insert_further-clause-failed g c =
+    let old = state g.S.Store c.args.tx.now.conn.now in
+    let mid = state g.S.Store c.loop-group.tx.conn.now in
+    let new = state g.S.Store c.insert_further.new.tx.conn.now in
+    let i = c.loop-group.group-index in
+    let agent = c.args.agent in
+    let gs = c.args.groups.now in
+    let one = RefusesOn INSERT_AGENT_GROUP.now (further_values (agent, c.group-item.result)) in
+    let so_far : Relations → Relations = λ (r : Relations). with_part table.AgentGroups (all_put (map (λ (k : ℕ). (agent, k)) (take i gs)) r.further) r in
+    by_more old new (λ limit r. one limit (so_far r)) (RefusesFurther agent gs) c.from_residual.result
+    (λ limit r h. (i, c.loop-group-test.true, subst (λ (k : ℕ). RefusesOn INSERT_AGENT_GROUP.now (further_values (agent, k)) limit (so_far r)) (c.group-item.is ∙ any_default gs i _ 0 c.loop-group-test.true) h))
+    (by_same old new (λ limit r. one limit (so_far r)) c.in_err-insert_further.field-0.0 c.from_residual.result (search rules)
+    (by_later {A = Unit {0}} old mid new so_far one (Err c.in_err-insert_further.field-0.0) c.loop-group.invariant.works c.insert_further.ensures.works c.loop-group.invariant.put c.in_err-insert_further.ensures.failed))

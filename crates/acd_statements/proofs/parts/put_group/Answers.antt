@@ -1,4 +1,4 @@
-use Rattle.std.proofs.Common.{◌≡◌, ap, refl, arith}
+use Rattle.std.proofs.Common.{ap, arith}
 use Rattle.sqlite.specs.Held.{state}
 use Rattle.sqlite.specs.State.{HasCleanDisk}
 use Rattle.acd_columns.specs.declared.relations.GroupRow.{GroupRow}
@@ -6,6 +6,10 @@ use Rattle.acd_columns.specs.Relations.{Relations, with_priority_of, with_group_
 use Rattle.acd_columns.specs.Tables.{groups}
 use Rattle.acd_statements.specs.Writing.{with_put}
 use Rattle.acd_statements.proofs.Planned.{leaves_on}
+use Rattle.std.proofs.Common.{inl, inr, rules, subst}
+use Rattle.acd_columns.specs.declared.texts.TheConstants.{UPDATE_GROUP}
+use Rattle.acd_statements.specs.Refusing.{RefusesPut, RefusesPriority, RefusesGroup}
+use Rattle.acd_statements.proofs.Refused.{by_more, by_same, by_later}
 use Rattle.acd_statements.proofs.parts.put_group.Goals as goal
 
 pub returns-clause-put : goal.returns-clause-put
@@ -16,3 +20,21 @@ returns-clause-put g c clean =
     leaves_on (state g.S.Store c.args.tx.now.conn.now) mid (state g.S.Store c.put_priority.new.tx.conn.now) c.put_priority.result (with_put groups c.of.result) (λ r. record r { priorities = with_priority_of z r.priorities }) (with_group_parts z)
     (c.in_ok-put.ensures.put middle) (c.put_priority.ensures.put clean)
     (λ (r : Relations). ap (λ (x : GroupRow). let s : Relations = with_put groups x r in record s { priorities = with_priority_of z s.priorities }) c.of.ensures)
+
+pub returns-in_err-put-clause-failed : goal.returns-in_err-put-clause-failed
+returns-in_err-put-clause-failed g c =
+    let old = state g.S.Store c.args.tx.now.conn.now in
+    let mid = state g.S.Store c.put.new.tx.conn.now in
+    by_more old mid (RefusesPut groups UPDATE_GROUP.now c.of.result) (RefusesGroup c.args.group.now) c.from_residual.result
+    (λ limit r h. inl (subst (λ (x : GroupRow). RefusesPut groups UPDATE_GROUP.now x limit r) c.of.ensures h))
+    (by_same old mid (RefusesPut groups UPDATE_GROUP.now c.of.result) c.in_err-put.field-0.0 c.from_residual.result (search rules) c.in_err-put.ensures.failed)
+
+pub returns-clause-failed : goal.returns-clause-failed
+returns-clause-failed g c =
+    let old = state g.S.Store c.args.tx.now.conn.now in
+    let mid = state g.S.Store c.put.new.tx.conn.now in
+    let new = state g.S.Store c.put_priority.new.tx.conn.now in
+    let z = c.args.group.now in
+    by_more old new (λ limit r. RefusesPriority z limit (with_put groups c.of.result r)) (RefusesGroup z) c.put_priority.result
+    (λ limit r h. inr (subst (λ (x : GroupRow). RefusesPriority z limit (with_put groups x r)) c.of.ensures h))
+    (by_later old mid new (with_put groups c.of.result) (RefusesPriority z) c.put_priority.result c.put.ensures.works c.put_priority.ensures.works c.in_ok-put.ensures.put c.put_priority.ensures.failed)

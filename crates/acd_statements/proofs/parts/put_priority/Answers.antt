@@ -1,4 +1,4 @@
-use Rattle.std.proofs.Common.{◌≡◌, ℕ, Bool, true, false, cond, ◌==◌, ap, sym, refl, ◌∙◌, arith}
+use Rattle.std.proofs.Common.{◌≡◌, true, false, cond, ◌==◌, ap, sym, ◌∙◌, arith}
 use Rattle.std.specs.Ordering.{nat_cmp}
 use Rattle.sqlite.specs.Held.{state}
 use Rattle.acd_terms.specs.Lists.{put_by, remove_by}
@@ -8,6 +8,11 @@ use Rattle.acd_columns.specs.Tables.{group_priority}
 use Rattle.acd_statements.specs.Writing.{with_put, without}
 use Rattle.acd_statements.proofs.Bounds.{id_fits}
 use Rattle.acd_statements.proofs.Planned.{leaves_as}
+use Rattle.std.proofs.Common.{inl, inr, subst, [], ◌∷◌}
+use Rattle.acd_columns.specs.Values.{id_value}
+use Rattle.acd_columns.specs.declared.texts.TheConstants.{DELETE_GROUP_PRIORITY, UPDATE_GROUP_PRIORITY}
+use Rattle.acd_statements.specs.Refusing.{RefusesOn, RefusesPut, RefusesPriority}
+use Rattle.acd_statements.proofs.Refused.{by_more}
 use Rattle.acd_statements.proofs.parts.put_priority.Goals as goal
 
 pub remove-requires : goal.remove-requires
@@ -28,3 +33,18 @@ returns-else-eq-clause-put g c clean =
     leaves_as (state g.S.Store c.args.tx.now.conn.now) (state g.S.Store c.put.new.tx.conn.now) c.put.result (with_put group_priority (priority_part z)) (λ r. record r { priorities = with_priority_of z r.priorities }) (c.put.ensures.put clean)
     (λ (r : Relations).
     ap (λ b. record r { priorities = cond b (remove_by (λ (p : GroupPriority). nat_cmp z.device p.device) r.priorities) (put_by (λ (p : GroupPriority). nat_cmp z.device p.device) r.priorities (priority_part z)) }) (sym some))
+
+pub returns-then-eq-clause-failed : goal.returns-then-eq-clause-failed
+returns-then-eq-clause-failed g c =
+    let old = state g.S.Store c.args.tx.now.conn.now in
+    let new = state g.S.Store c.remove.new.tx.conn.now in
+    let z = c.args.group.now in
+    by_more old new (RefusesOn DELETE_GROUP_PRIORITY.now (id_value c.number.result ∷ [])) (RefusesPriority z) c.remove.result
+    (λ limit r h. inl (subst (λ n. RefusesOn DELETE_GROUP_PRIORITY.now (id_value n ∷ []) limit r) c.number.ensures.value h)) c.remove.ensures.failed
+
+pub returns-else-eq-clause-failed : goal.returns-else-eq-clause-failed
+returns-else-eq-clause-failed g c =
+    let old = state g.S.Store c.args.tx.now.conn.now in
+    let new = state g.S.Store c.put.new.tx.conn.now in
+    let z = c.args.group.now in
+    by_more old new (RefusesPut group_priority UPDATE_GROUP_PRIORITY.now (priority_part z)) (RefusesPriority z) c.put.result (λ limit r h. inr h) c.put.ensures.failed

@@ -1,4 +1,4 @@
-use Rattle.std.proofs.Common.{◌≡◌, Bool, map}
+use Rattle.std.proofs.Common.{◌≡◌, Bool}
 use Rattle.acd_columns.proofs.Seen.{sees_fail}
 use Rattle.acd_columns.specs.AnyRows.{is_beside}
 use Rattle.sqlite.specs.Held.{state}

@@ -3,6 +3,7 @@ use Rattle.sqlite.specs.Held.{state}
 use Rattle.acd_columns.specs.Values.{id_value}
 use Rattle.acd_columns.proofs.Common.{drafts}
 use Rattle.acd_columns.proofs.Filed.{removed_in}
+use Rattle.acd_statements.proofs.Refused.{by_one}
 use Rattle.acd_statements.proofs.put.remove.Goals as goal
 
 pub returns-clause-put : goal.returns-clause-put
@@ -11,3 +12,8 @@ returns-clause-put g c clean =
     let new = state g.S.Store c.write.new.tx.conn.now in
     drafts g.R.Removed.delete (id_value c.args.key ∷ []) _ old new c.write.result (λ x count. removed_in g.R.Described.descr g.R.Described.filed g.R.Removed.delete g.met.R.Removed.deletes c.args.key x old new count)
     (rw (c.integer.ensures, c.delete_text.ensures) at (c.write.ensures.ran clean))
+
+pub returns-clause-failed : goal.returns-clause-failed
+returns-clause-failed g c =
+    by_one (state g.S.Store c.args.tx.now.conn.now) (state g.S.Store c.write.new.tx.conn.now) g.R.Removed.delete (id_value c.args.key ∷ []) c.write.result
+    (λ clean inside. rw (c.integer.ensures, c.delete_text.ensures) at (c.write.ensures.failed clean inside))

@@ -2,6 +2,7 @@ use Rattle.std.proofs.Common.{ap}
 use Rattle.sqlite.specs.Held.{state}
 use Rattle.sqlite.specs.Values.{bound}
 use Rattle.acd_columns.proofs.Statements.{counts_inside, works_inside}
+use Rattle.acd_statements.proofs.Failures.{written_if}
 use Rattle.acd_statements.proofs.write.changed_rows.Goals as goal
 
 pub returns-clause-ran : goal.returns-clause-ran
@@ -13,3 +14,7 @@ pub returns-clause-works : goal.returns-clause-works
 returns-clause-works g c =
     works_inside c.args.sql.now (bound c.args.params.now) (state g.S.Store c.args.tx.now.conn.now) (state g.S.Store c.execute.new.self.conn.now) c.execute.result
     c.execute.ensures.survives (λ clean inside. c.execute.ensures.runs clean inside) (λ out. ap (state g.S.Store) (c.execute.ensures.ended out).1)
+
+pub returns-clause-failed : goal.returns-clause-failed
+returns-clause-failed g c clean inside =
+    written_if (state g.S.Store c.args.tx.now.conn.now) (state g.S.Store c.execute.new.self.conn.now) c.args.sql.now (bound c.args.params.now) c.execute.result (c.execute.ensures.runs clean inside)

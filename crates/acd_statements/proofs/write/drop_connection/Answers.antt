@@ -4,6 +4,7 @@ use Rattle.acd_columns.specs.Values.{id_value}
 use Rattle.acd_columns.proofs.Connections.{drops_connection}
 use Rattle.acd_columns.specs.declared.texts.TheConstants.{DELETE_CONNECTION}
 use Rattle.acd_columns.proofs.Common.{drafts}
+use Rattle.acd_statements.proofs.Refused.{by_one}
 use Rattle.acd_statements.proofs.write.drop_connection.Goals as goal
 
 pub returns-clause-put : goal.returns-clause-put
@@ -12,3 +13,8 @@ returns-clause-put g c clean =
     let new = state g.S.Store c.write.new.tx.conn.now in
     drafts DELETE_CONNECTION.now (id_value c.args.call ∷ id_value c.args.device ∷ []) _ old new c.write.result (λ x count. drops_connection c.args.call c.args.device x old new count)
     (rw (c.integer.ensures, c.device.ensures) at (c.write.ensures.ran clean))
+
+pub returns-clause-failed : goal.returns-clause-failed
+returns-clause-failed g c =
+    by_one (state g.S.Store c.args.tx.now.conn.now) (state g.S.Store c.write.new.tx.conn.now) DELETE_CONNECTION.now (id_value c.args.call ∷ id_value c.args.device ∷ []) c.write.result
+    (λ clean inside. rw (c.integer.ensures, c.device.ensures) at (c.write.ensures.failed clean inside))

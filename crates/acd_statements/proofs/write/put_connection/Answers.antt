@@ -7,6 +7,11 @@ use Rattle.acd_columns.specs.declared.tables.Table.TheVariants as table
 use Rattle.acd_columns.specs.Relations.{Relations}
 use Rattle.acd_columns.specs.Content.{with_part}
 use Rattle.acd_columns.proofs.Connections.{sets_connection, behind_none}
+use Rattle.std.proofs.Common.{inl, inr, rules}
+use Rattle.acd_columns.specs.Rows.{connection_values}
+use Rattle.acd_columns.specs.declared.texts.TheConstants.{INSERT_CONNECTION, UPDATE_CONNECTION}
+use Rattle.acd_statements.specs.Refusing.{RefusesOn, RefusesPutConnection}
+use Rattle.acd_statements.proofs.Refused.{refused_on, by_more, by_same, by_later, still_connected}
 use Rattle.acd_statements.proofs.write.put_connection.Goals as goal
 
 pub returns-then-changed-gt0-clause-put : goal.returns-then-changed-gt0-clause-put
@@ -28,3 +33,25 @@ returns-clause-put g c clean =
     let first = rw (c.integer.ensures, c.device.ensures, c.small.ensures, c.connection_code.ensures, c.device_or_null.ensures, c.integer_or_null.ensures, c.small_or_null.ensures, c.small_or_null-2.ensures) at (c.in_ok-changed.ensures.ran middle) in
     behind_none connection (λ (content : Relations). with_part table.Connections (put_by (at_connection connection.call connection.device) content.connections connection) content)
     old mid new c.in_ok-changed.changed c.insert_connection.result first none (c.insert_connection.ensures.put clean)
+
+pub returns-in_err-changed-clause-failed : goal.returns-in_err-changed-clause-failed
+returns-in_err-changed-clause-failed g c =
+    let old = state g.S.Store c.args.tx.now.conn.now in
+    let mid = state g.S.Store c.changed_rows.new.tx.conn.now in
+    let x = c.args.connection.now in
+    by_more old mid (RefusesOn UPDATE_CONNECTION.now (connection_values x)) (RefusesPutConnection x) c.from_residual.result (λ limit r h. inl h)
+    (by_same old mid (RefusesOn UPDATE_CONNECTION.now (connection_values x)) c.in_err-changed.field-0.0 c.from_residual.result (search rules)
+    (λ clean r d. refused_on old mid UPDATE_CONNECTION.now (connection_values x) c.in_err-changed.field-0.0 r d
+    (rw (c.integer.ensures, c.device.ensures, c.small.ensures, c.connection_code.ensures, c.device_or_null.ensures, c.integer_or_null.ensures, c.small_or_null.ensures, c.small_or_null-2.ensures) at (c.in_err-changed.ensures.failed clean d.inside))))
+
+pub returns-clause-failed : goal.returns-clause-failed
+returns-clause-failed g c =
+    let old = state g.S.Store c.args.tx.now.conn.now in
+    let mid = state g.S.Store c.changed_rows.new.tx.conn.now in
+    let new = state g.S.Store c.insert_connection.new.tx.conn.now in
+    let x = c.args.connection.now in
+    let none : c.in_ok-changed.changed ≡ 0 = omega (arith, c.if-changed-gt0.false) in
+    by_more old new (RefusesOn INSERT_CONNECTION.now (connection_values x)) (RefusesPutConnection x) c.insert_connection.result (λ limit r h. inr h)
+    (by_later old mid new (λ r. r) (RefusesOn INSERT_CONNECTION.now (connection_values x)) c.insert_connection.result c.changed_rows.ensures.works c.insert_connection.ensures.works
+    (λ middle r d. still_connected x r old mid c.in_ok-changed.changed d (rw (c.integer.ensures, c.device.ensures, c.small.ensures, c.connection_code.ensures, c.device_or_null.ensures, c.integer_or_null.ensures, c.small_or_null.ensures, c.small_or_null-2.ensures) at (c.in_ok-changed.ensures.ran middle)) none)
+    c.insert_connection.ensures.failed)

@@ -4,7 +4,7 @@ use Rattle.acd_model.specs.Services.Serve.{serve}
 use Rattle.acd_switch.specs.Room.{Fits}
 use Rattle.acd_switch.proofs.Closing.{rows_is, events_is, outcome_is, changes_are, groups_ascend}
 use Rattle.acd_switch.proofs.RoomOfRules.{has_room, fits_after}
-use Rattle.acd_laws.proofs.RulesAll.{step_keeps_rules}
+use Rattle.acd_laws.proofs.Rules.RulesAll.{step_keeps_rules}
 use Rattle.acd_switch.proofs.switch.execute.Goals as goal
 
 pub overflow_add-stamp : goal.overflow_add-stamp

@@ -2,7 +2,7 @@ use Rattle.std.proofs.Common.{true, ◌&&◌, ap, sym, ◌∙◌}
 use Rattle.std.specs.Ordering.{is_eq}
 use Rattle.std.specs.BTreeSet.{contains}
 use Rattle.std.proofs.lemmas.Bool.{or_left, or_right}
-use Rattle.acd_laws.proofs.Lists.{some_is}
+use Rattle.acd_lemmas.proofs.Lists.{some_is}
 use Rattle.acd_tables.specs.Indexed.{OfferKey, offer_cmp, offer_key}
 use Rattle.acd_tables.proofs.OfferLemmas.{own_key}
 use Rattle.acd_tables.proofs.indexes.note_group.Goals as goal

@@ -1,8 +1,8 @@
 use Rattle.std.proofs.Common.{◌≡◌, ℕ, Option, Some, None, true, ap, sym, ◌∙◌}
 use Rattle.std.proofs.lemmas.Bool.{eqb-true}
 use Rattle.acd_model.specs.Scans.{has}
-use Rattle.acd_laws.proofs.Lists.{some_is}
-use Rattle.acd_laws.proofs.State.{has_is}
+use Rattle.acd_lemmas.proofs.Lists.{some_is}
+use Rattle.acd_lemmas.proofs.State.{has_is}
 use Rattle.acd_tables.specs.Indexed.{SeatMap, seat_of}
 use Rattle.acd_tables.proofs.noting.is_free_for.Goals as goal
 

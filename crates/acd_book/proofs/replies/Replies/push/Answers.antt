@@ -1,21 +1,21 @@
-use Rattle.std.proofs.Common.{rules, ◌≡◌, ◌++◌, ◌∷◌, [], sym, subst, true}
-use Rattle.acd_book.specs.Memory.{is_numbered, stamp_of, same_key, IsPlaced}
+use Rattle.std.proofs.Common.{rules, ◌≡◌, ◌++◌, ◌∷◌, ◌+◌, [], length, sym, subst, true}
+use Rattle.acd_book.specs.Memory.{is_numbered, stamp_of, key_of, IsPlaced, IsPlacedNew}
 use Rattle.acd_book.proofs.Numbered.{numbered-push}
-use Rattle.acd_book.proofs.Keys.{taken}
-use Rattle.acd_book.proofs.Places.{placed_push}
+use Rattle.acd_book.proofs.Places.{placed_push, unkept}
 use Rattle.acd_book.proofs.replies.Replies.push.Goals as goal
 
 pub invariant_of-self-2-clause-numbered : goal.invariant_of-self-2-clause-numbered
 invariant_of-self-2-clause-numbered c =
     let s = c.args.self.now in
-    let next = taken s.records.items c.args.kept (search rules) in
+    let next : c.args.kept.stamp ≡ length s.records.items + 1 = search rules in
     let items : c.push.new.self.items ≡ s.records.items ++ c.args.kept ∷ [] = search rules in
-    subst (λ l. is_numbered stamp_of 0 l ≡ true) (sym items) (numbered-push stamp_of s.records.items c.args.kept s.numbered next.0)
+    subst (λ l. is_numbered stamp_of 0 l ≡ true) (sym items) (numbered-push stamp_of s.records.items c.args.kept s.numbered next)
 
 pub invariant_of-self-2-clause-placed : goal.invariant_of-self-2-clause-placed
-unfolding same_key
 invariant_of-self-2-clause-placed c =
     let s = c.args.self.now in
-    let next = taken s.records.items c.args.kept (search rules) in
-    let items : c.push.new.self.items ≡ s.records.items ++ c.args.kept ∷ [] = search rules in
-    subst (IsPlaced c.insert.new.self) (sym items) (placed_push s.places c.insert.new.self s.records.items c.args.kept s.placed next.1 (λ k. search (rules, c.in_ok-insert.ensures.updates.0 k)))
+    let kept = c.args.kept in
+    let new : IsPlacedNew s.places c.put_new.new.places (key_of kept) (length s.records.items) = search rules in
+    let items : c.push.new.self.items ≡ s.records.items ++ kept ∷ [] = search rules in
+    let unkept = unkept s.places s.records.items kept.request.requester kept.request.invoke s.placed new.unplaced in
+    subst (IsPlaced c.put_new.new.places) (sym items) (placed_push s.places c.put_new.new.places s.records.items kept s.placed unkept new.placed)

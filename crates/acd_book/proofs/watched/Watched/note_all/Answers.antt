@@ -1,8 +1,9 @@
 use Rattle.std.proofs.Common.{◌++◌, ◌∷◌, [], ◌∙◌, List, take, sym, subst, ap, append_assoc}
 use Rattle.acd_terms.specs.declared.event.Event.{Event}
 use Rattle.acd_book.specs.Watched.{IsWatched}
-use Rattle.acd_book.proofs.Listing.{take-push, every_event}
 use Rattle.acd_book.proofs.watched.Watched.note_all.Goals as goal
+use Rattle.acd_lemmas.proofs.Lists.{take-push}
+use Rattle.std.proofs.lemmas.List.{take_all}
 
 pub loop-event-preserved : goal.loop-event-preserved
 loop-event-preserved c events h =
@@ -15,4 +16,4 @@ loop-event-preserved c events h =
 
 pub returns : goal.returns
 returns c events h =
-    subst (λ (l : List Event). IsWatched (events ++ l) c.loop-event.self) (every_event c.loop-event.event-index c.args.more.now c.loop-event-test.false) (c.loop-event.invariant events h)
+    subst (λ (l : List Event). IsWatched (events ++ l) c.loop-event.self) (take_all c.loop-event.event-index c.args.more.now c.loop-event-test.false) (c.loop-event.invariant events h)

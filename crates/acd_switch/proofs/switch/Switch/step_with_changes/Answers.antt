@@ -3,7 +3,7 @@ use Rattle.std.proofs.lemmas.Result.{IfOk-weaker, on_ok_weaker}
 use Rattle.acd_terms.specs.declared.rows.Rows.{Rows}
 use Rattle.acd_model.specs.Rules.First.{BreaksNoRule}
 use Rattle.acd_laws.specs.RefusalLaws.{ChangesNothing}
-use Rattle.acd_laws.proofs.RulesAll.{step_keeps_rules}
+use Rattle.acd_laws.proofs.Rules.RulesAll.{step_keeps_rules}
 use Rattle.acd_switch.proofs.Refusing.{where_refused}
 use Rattle.acd_model.specs.Step.{executed_moment, next_stamp}
 use Rattle.acd_model.specs.Changes.{rows_made}

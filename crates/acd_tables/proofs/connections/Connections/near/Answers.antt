@@ -3,7 +3,7 @@ use Rattle.std.specs.Prelude.{filter}
 use Rattle.std.specs.List.{filter_map}
 use Rattle.std.specs.BTreeMap.Range.{range_contains}
 use Rattle.std.proofs.lemmas.List.Kept.{IsStrictlySortedBy-filter}
-use Rattle.acd_laws.proofs.Lists.{among-filter}
+use Rattle.acd_lemmas.proofs.Lists.{among-filter}
 use Rattle.acd_tables.specs.Indexed.{pair_cmp}
 use Rattle.acd_tables.specs.Near.{of_key}
 use Rattle.acd_tables.proofs.NearLemmas.{near-forward, near-own}

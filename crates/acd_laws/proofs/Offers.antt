@@ -1,0 +1,4 @@
+-- The offer that is found, and that no step leaves one (`finds_the_offer`, `finds_the_distribution`, `step_leaves_no_offer`, `run_has_one_offer`).
+pub mod OfferFound
+pub mod OneOffer
+pub mod Distributing

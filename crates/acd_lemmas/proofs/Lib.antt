@@ -1,0 +1,14 @@
+pub mod Words
+pub mod Lists
+pub mod Least
+pub mod Keyed
+pub mod States
+pub mod Facts
+pub mod State
+pub mod Decided
+pub mod Same
+pub mod SameRecords
+pub mod SameCommands
+pub mod Numbers
+pub mod Bools
+pub mod Changes

@@ -1,0 +1,84 @@
+-- Why a part of a commit isn't written.
+use Rattle.std.proofs.Common.{◌≡◌, inl, inr, ℕ, zero, suc, ◌<◌, ◌≤◌, IsTrue, length, take, get_or, List, [], ◌∷◌, Option, Result, Ok, Err, IfErr, sym, subst, arith}
+use Rattle.sqlite.specs.declared.error.Error.{Error}
+use Rattle.sqlite.specs.State.{State, HasCleanDisk}
+use Rattle.sqlite.specs.Steps.{FailsToCommit}
+use Rattle.acd_terms.specs.declared.event.Event.{Event}
+use Rattle.acd_model.specs.declared.moves.Change.{Change}
+use Rattle.acd_book.specs.Content.{Content}
+use Rattle.acd_columns.specs.Draft.{Drafts, Works}
+use Rattle.acd_columns.specs.Relations.{Relations, relations_of}
+use Rattle.acd_statements.specs.Refusing.{IsBlamed, FailsToLeave}
+use Rattle.acd_statements.proofs.Failures.{failed_before, failed_after, commit_failed}
+use Rattle.acd_statements.proofs.Refused.{by_more}
+use Rattle.acd_sqlbook.specs.Commit.{with_events, with_event}
+use Rattle.acd_sqlbook.specs.Stopping.{RefusesChange, StopsAtEvent, StopsInEvents, FailsToFile, IsStopped}
+
+-- the change by its name
+pub by_change : (old new : State) (result : Result (Unit {0}) Error) (change v : Change) → change ≡ v → (P : Option ℕ → Relations → Type 0) → ((limit : Option ℕ) (r : Relations) → P limit r → RefusesChange v limit r)
+    → IsBlamed P old new result → IsBlamed (RefusesChange change) old new result
+by_change old new result change v is P so h = subst (λ w. IsBlamed (RefusesChange w) old new result) (sym is) (by_more old new P (RefusesChange v) result so h)
+
+module _ (old new : State) where
+  -- of a content's relations
+  pub stops_as : (P : Option ℕ → Relations → Type 0) (R : Option ℕ → Content → Type 0) (result : Result (Unit {0}) Error) → ((limit : Option ℕ) (c : Content) → P limit (relations_of c) → R limit c) → IsBlamed P old new result → IsStopped R old new result
+  stops_as P R (Ok x) so h = λ clean c d. tt
+  stops_as P R (Err e) so h = λ clean c d. each c (h clean (relations_of c) d)
+    where
+      each : (c : Content) → FailsToLeave P (relations_of c) old new e → FailsToFile R c old new e
+      each c (inl memory) = inl memory
+      each c (inr (inl failed)) = inr (inl failed)
+      each c (inr (inr p)) = inr (inr (so old.step_limit c p))
+
+  pub stops_more : (P R : Option ℕ → Content → Type 0) (result : Result (Unit {0}) Error) → ((limit : Option ℕ) (c : Content) → P limit c → R limit c) → IsStopped P old new result → IsStopped R old new result
+  stops_more P R (Ok x) so h = λ clean c d. tt
+  stops_more P R (Err e) so h = λ clean c d. each c (h clean c d)
+    where
+      each : (c : Content) → FailsToFile P c old new e → FailsToFile R c old new e
+      each c (inl memory) = inl memory
+      each c (inr (inl failed)) = inr (inl failed)
+      each c (inr (inr p)) = inr (inr (so old.step_limit c p))
+
+  pub stops_same : (R : Option ℕ → Content → Type 0) (e : Error) (result : Result (Unit {0}) Error) → result ≡ Err e → (HasCleanDisk new → (c : Content) → Drafts old (relations_of c) → FailsToFile R c old new e) → IsStopped R old new result
+  stops_same R e result is h = λ clean c d. subst (λ b. IfErr b (FailsToFile R c old new)) (sym is) (h clean c d)
+
+-- behind what was written before
+pub stops_later : (old mid new : State) (change : Content → Content) (R : Option ℕ → Content → Type 0) (result : Result (Unit {0}) Error) → Works old mid → Works mid new
+    → (HasCleanDisk mid → (c : Content) → Drafts old (relations_of c) → Drafts mid (relations_of (change c))) → IsStopped R mid new result → IsStopped (λ limit c. R limit (change c)) old new result
+stops_later old mid new change R (Ok x) first second made h = λ clean c d. tt
+stops_later old mid new change R (Err e) first second made h =
+    λ clean c d. let middle : HasCleanDisk mid = omega (arith, clean, second.survives.clean) in each c middle (h clean (change c) (made middle c d))
+  where
+    each : (c : Content) → HasCleanDisk mid → FailsToFile R (change c) mid new e → FailsToFile (λ limit c. R limit (change c)) c old new e
+    each c middle (inl memory) = inl memory
+    each c middle (inr (inl failed)) = inr (inl (failed_after old mid new first.survives middle second.survives.counts failed))
+    each c middle (inr (inr q)) = inr (inr (subst (λ limit. R limit (change c)) first.survives.limit q))
+
+module _ (R : Option ℕ → Content → Type 0) (c : Content) where
+  -- at one of them, which is written behind others
+  pub stops_behind : (Q : Option ℕ → Content → Type 0) (x : Content) (old mid new : State) (e : Error) → Works old mid → Works mid new → HasCleanDisk mid → ((limit : Option ℕ) → Q limit x → R limit c)
+      → FailsToFile Q x mid new e → FailsToFile R c old new e
+  stops_behind Q x old mid new e first second middle so (inl memory) = inl memory
+  stops_behind Q x old mid new e first second middle so (inr (inl failed)) = inr (inl (failed_after old mid new first.survives middle second.survives.counts failed))
+  stops_behind Q x old mid new e first second middle so (inr (inr q)) = inr (inr (so old.step_limit (subst (λ limit. Q limit x) first.survives.limit q)))
+
+  -- what is behind a failure changes nothing of it
+  pub still_stopped : (old mid new : State) (e : Error) → mid.faults ≤ new.faults → FailsToFile R c old mid e → FailsToFile R c old new e
+  still_stopped old mid new e counts (inl memory) = inl memory
+  still_stopped old mid new e counts (inr (inl failed)) = inr (inl (failed_before old mid new failed counts))
+  still_stopped old mid new e counts (inr (inr other)) = inr (inr other)
+
+  -- the end of the transaction
+  pub commit_stopped : (old mid new : State) (r : Result (Unit {0}) Error) → Works old mid → HasCleanDisk mid → mid.faults ≤ new.faults → IsTrue mid.in_transaction → IfErr r (FailsToCommit mid new) → IfErr r (FailsToFile R c old new)
+  commit_stopped old mid new (Ok x) w k counts inside h = tt
+  commit_stopped old mid new (Err e) w k counts inside h = elim (commit_failed mid new e inside h) [
+    | inl memory ↦ inl memory
+    | inr failed ↦ inr (inl (failed_after old mid new w.survives k counts failed))
+  ]
+
+-- ---- events, one behind the other
+
+pub in_events : (es : List Event) (i : ℕ) (x d : Event) (limit : Option ℕ) (c : Content) → x ≡ get_or es i d → i < length es → StopsAtEvent x limit (with_events c (take i es)) → StopsInEvents es limit c
+in_events [] i x d limit c at low h = absurd (omega (arith, low))
+in_events (e ∷ es) zero x d limit c at low h = inl (subst (λ (y : Event). StopsAtEvent y limit c) at h)
+in_events (e ∷ es) (suc i) x d limit c at low h = inr (in_events es i x d limit (with_event c e) at (omega (arith, low)) h)
