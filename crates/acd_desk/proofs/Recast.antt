@@ -1,15 +1,13 @@
 -- The events up to a state, recast: of a call that neither waits in a group nor rings from it they tell no entry there. All else they tell as before.
-use Rattle.std.proofs.Common.{◌≡◌, ℕ, ◌≤◌, Bool, true, false, ◌&&◌, ◌||◌, cond, not, List, [], ◌∷◌, map, Option, Some, None, inl, inr, refl, ap, sym, ◌∙◌, arith, eq-eqb}
-use Rattle.std.specs.Prelude.{◌==◌, find, is_some}
+use Rattle.std.proofs.Common.{◌≡◌, ℕ, ◌≤◌, Bool, true, false, ◌&&◌, cond, not, List, [], ◌∷◌, map, Option, None, inl, inr, refl, ap, sym, ◌∙◌, arith, eq-eqb}
+use Rattle.std.specs.Prelude.{◌==◌, find}
 use Rattle.std.specs.List.{list_any}
 use Rattle.std.proofs.lemmas.Bool.{and_right, and_from, and_parts, eqb-true}
 use Rattle.acd_terms.specs.Columns.{columns_of}
 use Rattle.acd_terms.specs.Lists.{Among}
-use Rattle.acd_terms.specs.States.{is_queued, is_alerting}
 use Rattle.acd_terms.specs.declared.rows.Rows.{Rows}
 use Rattle.acd_terms.specs.declared.record.ConnectionRecord.{ConnectionRecord}
 use Rattle.acd_terms.specs.declared.state.ConnectionState.{ConnectionState}
-use Rattle.acd_terms.specs.declared.state.ConnectionState.TheVariants as S
 use Rattle.acd_terms.specs.declared.event.Cause.{Cause}
 use Rattle.acd_terms.specs.declared.event.Cause.TheVariants.{NoAnswer}
 use Rattle.acd_terms.specs.declared.event.Columns.{Columns}
@@ -18,12 +16,12 @@ use Rattle.acd_terms.specs.declared.event.Report.{Report}
 use Rattle.acd_terms.specs.declared.event.Report.TheVariants.{Queued}
 use Rattle.acd_model.specs.Scans.{has}
 use Rattle.acd_model.specs.Figures.{is_no_answer, is_entry}
-use Rattle.acd_model.specs.Told.{after, connection_told, Seat, no_seat, seat_told, enters, last_entry}
+use Rattle.acd_model.specs.Told.{known_after, connection_told, Seat, no_seat, seat_told, enters, last_entry}
 use Rattle.acd_model.specs.Watched.{waits_or_rings, HasPlace, HasEntered, IsWatched}
 use Rattle.acd_laws.specs.WatchedLaws.{TellsNoMore}
-use Rattle.acd_lemmas.proofs.Facts.{Rules, AlertingColumns, HasColumns, ConnectionRule}
+use Rattle.acd_lemmas.proofs.Facts.{Rules, ConnectionRule}
 use Rattle.acd_lemmas.proofs.Lists.{any_some, any_found, find_among, find_passes, every_among, some_from}
-use Rattle.acd_laws.proofs.Watched.WatchedRuns.{alerting_place, place_in}
+use Rattle.acd_laws.proofs.Watched.WatchedRuns.{place_in}
 
 -- the call waits in the group, or rings from it
 abbrev pub holds_call : ℕ → ℕ → ConnectionRecord → Bool
@@ -56,9 +54,9 @@ same_seat : (s : Rows) (agent : ℕ) (v : Seat) (r : Report) → seat_told agent
 same_seat s agent v (Queued c g cause) = refl
 same_seat s agent v _ = refl
 
-after_recast : {T : Type 0} (f : T → Columns → T) (s : Rows) → ((v : T) (r : Report) → f v (columns_of (recast s r)) ≡ f v (columns_of r)) → (x : T) (es : List Event) → after f x (history s es) ≡ after f x es
+after_recast : {T : Type 0} (f : T → Columns → T) (s : Rows) → ((v : T) (r : Report) → f v (columns_of (recast s r)) ≡ f v (columns_of r)) → (x : T) (es : List Event) → known_after f x (history s es) ≡ known_after f x es
 after_recast f s h x [] = refl
-after_recast f s h x (e ∷ es) = after_recast f s h (f x (columns_of (recast s e.report))) es ∙ ap (λ v. after f v es) (h x e.report)
+after_recast f s h x (e ∷ es) = after_recast f s h (f x (columns_of (recast s e.report))) es ∙ ap (λ v. known_after f v es) (h x e.report)
 
 -- an entry of a call that is held is told as before, and no other is
 

@@ -2,17 +2,17 @@
 
 ghost use Rattle.std.specs.Prelude.{◌≡◌, ◌≤◌, ℕ, List, ◌++◌, min, length, Option, Err, OnOk};
 ghost use Rattle.std.specs.Io.KnownBytes.{Appends};
-ghost use Rattle.acd_lines.specs.Sent.{Begins};
+ghost use Rattle.acd_io.specs.Sent.{Begins};
 ghost use Rattle.acd_desk.specs.Ran.{standing};
-ghost use Rattle.acd_http.specs.Listening.{Served, ServedAll, ServedUntilFailed, Noted, fault_text, outcome_line};
+ghost use Rattle.acd_http.specs.Listening.{ServedOne, ServedAll, ServedUntilFailed, WasSent, fault_text, outcome_line};
 
+use crate::head_text::HeadText;
 use crate::receive::CALLS;
 use crate::routes::Routes;
 use crate::serving::{ExchangeFault, exchange};
-use crate::short_text::ShortText;
 use acd_book::Book;
 use acd_desk::Desk;
-use acd_lines::{Stopped, send};
+use acd_io::{Stopped, send};
 use itoa::Buffer;
 use std::alloc::Global;
 use std::io::{Read, Write};
@@ -75,7 +75,7 @@ fn serve_stream<B: Book, C: Clock>(
     stream: &TcpStream,
     desk: &mut Desk<B>,
 ) -> Result<(), ExchangeFault>
-    ensures { Served (standing B.Book) desk.old result desk.new }
+    ensures { ServedOne (standing B.Book) desk.old result desk.new }
 {
     let moment = moment_now(clock);
     let mut reader = stream;
@@ -91,7 +91,7 @@ fn serve_next<B: Book, C: Clock>(
     listener: &TcpListener,
     desk: &mut Desk<B>,
 ) -> Result<(), ExchangeFault>
-    ensures { Served (standing B.Book) desk.old result desk.new }
+    ensures { ServedOne (standing B.Book) desk.old result desk.new }
 {
     let Ok((stream, _)) = listener.accept() else {
         return Err(ExchangeFault::Read);
@@ -114,11 +114,11 @@ fn fault_text(fault: ExchangeFault) -> &'static [u8]
 }
 
 #[tactic(auto, unfolding(crate::specs::Listening::outcome_line))]
-fn fault_line(number: u64, fault: ExchangeFault) -> ShortText
+fn fault_line(number: u64, fault: ExchangeFault) -> HeadText
     ensures { result ≡ outcome_line number (Err fault) }
 {
     let mut digits = Buffer::new();
-    let mut line = ShortText::new();
+    let mut line = HeadText::new();
     line.push(b"acd: connection ");
     line.push(digits.format(number).as_bytes());
     line.push(b": ");
@@ -134,7 +134,7 @@ fn note<E: Write>(
     number: u64,
     outcome: Result<(), ExchangeFault>,
 ) -> Result<(), Stopped>
-    ensures { Noted result (E.contents errors.old) (E.contents errors.new) (outcome_line number outcome) }
+    ensures { WasSent result (E.contents errors.old) (E.contents errors.new) (outcome_line number outcome) }
 {
     match outcome {
         Ok(()) => Ok(()),
@@ -153,7 +153,7 @@ fn note_behind<E: Write>(
     number: u64,
     outcome: Result<(), ExchangeFault>,
 ) -> Result<(), Stopped>
-    ensures { (first : Option (List ℕ)) (text : List ℕ) → Noted noted first (E.contents errors.old) text → Noted result first (E.contents errors.new) (text ++ outcome_line number outcome) }
+    ensures { (first : Option (List ℕ)) (text : List ℕ) → WasSent noted first (E.contents errors.old) text → WasSent result first (E.contents errors.new) (text ++ outcome_line number outcome) }
 {
     match noted {
         Ok(()) => note(errors, number, outcome),
@@ -172,10 +172,14 @@ pub fn serve_on<B: Book, C: Clock, E: Write>(
     connections: u64,
     errors: &mut E,
 ) -> Result<(), ServeFault>
-    ensures ok { OnOk result (ServedAll (standing B.Book) connections desk.old desk.new (Appends (E.contents errors.old) (E.contents errors.new))) }
+    ensures ok { OnOk result (ServedAll (standing B.Book) connections desk.old desk.new
+        (Appends (E.contents errors.old) (E.contents errors.new))) }
     // a beginning of the lines was written
-    ensures write { result ≡ Err ServeFault.Write → ServedAll (standing B.Book) connections desk.old desk.new (Begins (E.contents errors.old) (E.contents errors.new)) }
-    ensures memory { result ≡ Err ServeFault.NoMemory → (desk.new ≡ desk.old) × (errors.new ≡ errors.old) }
+    ensures write { result ≡ Err ServeFault.Write
+        → ServedAll (standing B.Book) connections desk.old desk.new
+        (Begins (E.contents errors.old) (E.contents errors.new)) }
+    ensures memory { result ≡ Err ServeFault.NoMemory
+        → (desk.new ≡ desk.old) × (errors.new ≡ errors.old) }
 {
     let Ok(routes) = Routes::new(alloc) else {
         return Err(ServeFault::NoMemory);
@@ -200,7 +204,7 @@ fn serve_while_well<B: Book, C: Clock, E: Write>(
     desk: &mut Desk<B>,
     errors: &mut E,
 ) -> Result<(), Stopped>
-    ensures { ServedUntilFailed (standing B.Book) desk.old desk.new (Noted result (E.contents errors.old) (E.contents errors.new)) }
+    ensures { ServedUntilFailed (standing B.Book) desk.old desk.new (WasSent result (E.contents errors.old) (E.contents errors.new)) }
 {
     let mut noted = Ok(());
     for before in 0..u64::MAX {
@@ -222,10 +226,14 @@ pub fn serve_until_failed<B: Book, C: Clock, E: Write>(
     desk: &mut Desk<B>,
     errors: &mut E,
 ) -> Result<(), ServeFault>
-    ensures ok { OnOk result (ServedUntilFailed (standing B.Book) desk.old desk.new (Appends (E.contents errors.old) (E.contents errors.new))) }
+    ensures ok { OnOk result (ServedUntilFailed (standing B.Book) desk.old desk.new
+        (Appends (E.contents errors.old) (E.contents errors.new))) }
     // a beginning of the lines was written
-    ensures write { result ≡ Err ServeFault.Write → ServedUntilFailed (standing B.Book) desk.old desk.new (Begins (E.contents errors.old) (E.contents errors.new)) }
-    ensures memory { result ≡ Err ServeFault.NoMemory → (desk.new ≡ desk.old) × (errors.new ≡ errors.old) }
+    ensures write { result ≡ Err ServeFault.Write
+        → ServedUntilFailed (standing B.Book) desk.old desk.new
+        (Begins (E.contents errors.old) (E.contents errors.new)) }
+    ensures memory { result ≡ Err ServeFault.NoMemory
+        → (desk.new ≡ desk.old) × (errors.new ≡ errors.old) }
 {
     let Ok(routes) = Routes::new(alloc) else {
         return Err(ServeFault::NoMemory);

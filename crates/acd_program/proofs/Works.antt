@@ -1,15 +1,17 @@
 -- What work over a book leaves, by what its desk left; and over a connection, by what its book left.
-use Rattle.std.proofs.Common.{◌≡◌, ℕ, Bool, List, [], map, take, Option, Some, Result, Ok, Err, OnOk, IfOk, ap, ◌∙◌, inl, inr}
+use Rattle.std.proofs.Common.{◌≡◌, ℕ, Bool, List, [], Option, Some, Result, Ok, Err, OnOk, IfOk, ap, ◌∙◌, inl, inr}
 use Rattle.std.specs.Prelude.{unwrap_or, String}
 use Rattle.std.proofs.Math.Nat.{zero-max}
 use Rattle.std.specs.Io.KnownBytes.{Appends}
 use Rattle.acd_terms.specs.declared.command.Request.{Request}
+use Rattle.acd_terms.specs.declared.command.Arrival.{Arrival}
 use Rattle.acd_book.specs.Content.{Content}
 use Rattle.acd_book.specs.State.{BookState}
+use Rattle.acd_sqlbook.specs.declared.index.Index.{Index}
+use Rattle.acd_sqlbook.specs.Indexing.{followed}
 use Rattle.acd_sqlbook.specs.State.{book_state}
 use Rattle.sqlite.specs.State.{State}
 use Rattle.acd_desk.specs.declared.taken.Taken.{Taken}
-use Rattle.acd_desk.specs.Arrived.{at}
 use Rattle.acd_reports.specs.QueueReport.{queue_report}
 use Rattle.acd_desk.specs.Standing.{Standing}
 use Rattle.acd_desk.specs.Stands.{IsSound}
@@ -19,7 +21,8 @@ use Rattle.acd_desk.proofs.Rising.{sound_rises}
 use Rattle.acd_desk.specs.Opening.{Opened}
 use Rattle.acd_desk.specs.Ran.{Ran, IsFault}
 use Rattle.acd_desk.proofs.Sessions.{session_ran}
-use Rattle.acd_lines.specs.Output.{IsOutput, IsBegun, imported}
+use Rattle.acd_lines.specs.Lines.{LinesAnswered, AllRequests, RequestsAnswered}
+use Rattle.acd_lines.proofs.Weaker.{requests_so}
 use Rattle.acd_program.specs.declared.desk.Telling.{Telling}
 use Rattle.acd_program.specs.declared.desk.Telling.TheVariants.{Report, Export}
 use Rattle.acd_program.specs.declared.desk.BookWork.{BookWork}
@@ -27,54 +30,21 @@ use Rattle.acd_program.specs.declared.desk.BookWork.TheVariants.{Import, Tell, A
 use Rattle.acd_program.specs.declared.desk.Done.{Done}
 use Rattle.acd_program.specs.declared.desk.Done.TheVariants as left
 use Rattle.acd_program.specs.Found.{IsFindingOf}
-use Rattle.acd_program.specs.Work.{ImportsOver, BeginsImport, TellsOver, IsFindingIfOrdered, IsText, AuditsOver, BookDone, telling_text, text_left, status_left}
-use Rattle.acd_program.specs.Over.{OverConnection, held, unmade}
+use Rattle.acd_program.specs.Work.{ImportsOver, TellsOver, IsFindingIfOrdered, IsTextOf, AuditsOver, BookDone, telling_text, text_left, status_left}
+use Rattle.acd_program.specs.Over.{IsSession, OverConnection, held, unmade}
 use Rattle.acd_program.specs.Taking.{IsOf, IsTaken}
 use Rattle.acd_program.proofs.InFiles.{over_so}
 use Rattle.acd_program.proofs.Over.{session_of}
 use Rattle.acd_program.proofs.Asking.{asked_by, asked_so, asked_of, asked_in_order}
 
 pub imports_over : (old : BookState) (d e : Standing) (requests : List Request) (before behind : Option (List ℕ)) → Opened old d
-    → ((written : List ℕ) × (answers : List Taken) × IsOutput (imported requests) answers written × Appends before behind written × Ran d (map (at 0) requests) answers e)
-    → ImportsOver requests old before behind e.book
-imports_over old d e requests before behind opened h = record {
-  written = h.0;
-  answers = h.1;
-  output = h.2;
-  appended = h.3;
-  session = session_ran IsFault old d e (map (at 0) requests) h.1 opened h.4 h.4.later;
-}
-
-pub begins_import : (old : BookState) (d e : Standing) (requests : List Request) (before behind : Option (List ℕ)) → Opened old d
-    → ((written : List ℕ) × (n : ℕ) × (answers : List Taken) × IsBegun (imported (take n requests)) answers written × Appends before behind written × Ran d (map (at 0) (take n requests)) answers e)
-    → BeginsImport requests old before behind e.book
-begins_import old d e requests before behind opened h = record {
-  count = h.1;
-  written = h.0;
-  answers = h.2;
-  output = h.3;
-  appended = h.4;
-  session = session_ran IsFault old d e (map (at 0) (take h.1 requests)) h.2 opened h.5 h.5.later;
-}
+    → LinesAnswered (AllRequests requests) (RequestsAnswered (λ (l : List Arrival) (ts : List Taken). Ran d l ts e)) (Appends before behind) → ImportsOver requests old before behind e.book
+imports_over old d e requests before behind opened h =
+    requests_so (AllRequests requests) (λ (l : List Arrival) (ts : List Taken). Ran d l ts e) (IsSession old e.book) (Appends before behind) (λ l ts ran. session_ran IsFault old d e l ts opened ran ran.later) h
 
 pub imports_of : (old mid new : BookState) (requests : List Request) (before behind : Option (List ℕ)) → IsOf old mid → ImportsOver requests mid before behind new → ImportsOver requests old before behind new
-imports_of old mid new requests before behind of h = record {
-  written = h.written;
-  answers = h.answers;
-  output = h.output;
-  appended = h.appended;
-  session = session_of IsFault old mid new (map (at 0) requests) h.answers of h.session;
-}
-
-pub begins_import_of : (old mid new : BookState) (requests : List Request) (before behind : Option (List ℕ)) → IsOf old mid → BeginsImport requests mid before behind new → BeginsImport requests old before behind new
-begins_import_of old mid new requests before behind of h = record {
-  count = h.count;
-  written = h.written;
-  answers = h.answers;
-  output = h.output;
-  appended = h.appended;
-  session = session_of IsFault old mid new (map (at 0) (take h.count requests)) h.answers of h.session;
-}
+imports_of old mid new requests before behind of h =
+    requests_so (AllRequests requests) (IsSession mid new) (IsSession old new) (Appends before behind) (λ l ts s. session_of IsFault old mid new l ts of s) h
 
 audits_of : (counts : Bool) (old mid new : BookState) (done : Done) → IsOf old mid → AuditsOver IsFindingIfOrdered counts mid done new → AuditsOver IsFindingOf counts old done new
 audits_of counts old mid new left.Nothing of h = h
@@ -84,7 +54,7 @@ audits_of counts old mid new (left.Audited found) of h = (h.0, asked_in_order ol
 -- the work over a book that came of another
 pub work_of : (work : BookWork) (old mid new : BookState) (before behind : Option (List ℕ)) (done : Done) → IsOf old mid → BookDone IsFindingIfOrdered work mid before behind done new → BookDone IsFindingOf work old before behind done new
 work_of (Import requests) old mid new before behind done of h = (imports_of old mid new requests.now before behind of h.0, h.1)
-work_of (Tell telling) old mid new before behind done of h = (record { asked = asked_of old mid new _ (IsText telling) of h.0.asked; status = h.0.status }, h.1)
+work_of (Tell telling) old mid new before behind done of h = (record { asked = asked_of old mid new _ (IsTextOf telling) of h.0.asked; status = h.0.status }, h.1)
 work_of (Audit counts) old mid new before behind done of h = (audits_of counts old mid new done of h.0, h.1)
 
 -- ---- over a book
@@ -94,7 +64,7 @@ pub tells_over : {Z : Type 0} (telling : Telling) (old : BookState) (d e : Stand
     → Told d e (Ok text) (λ (c : Content) (t : Option (String Z)). IsSound c → told t ≡ Some (telling_text telling c)) → text_left done ≡ unwrap_or (told text) [] → status_left done ≡ 0
     → TellsOver telling old done e.book
 tells_over {Z} telling old d e text done opened asked same status = record {
-  asked = asked_so old e.book text (text_left done) (λ (c : Content) (t : Option (String Z)). IsSound c → IsSound c → told t ≡ Some (telling_text telling c)) (IsText telling)
+  asked = asked_so old e.book text (text_left done) (λ (c : Content) (t : Option (String Z)). IsSound c → IsSound c → told t ≡ Some (telling_text telling c)) (IsTextOf telling)
       (λ c h whole. same ∙ ap (λ (o : Option (List ℕ)). unwrap_or o []) (h whole whole))
       (asked_by old d e text (λ (c : Content) (t : Option (String Z)). IsSound c → told t ≡ Some (telling_text telling c)) opened asked);
   status = status;
@@ -119,15 +89,16 @@ ok_and (Err e) P Q p q = tt
 -- ---- over a connection
 
 -- the work over the book that the database held, or over a new one
-pub database_done : {E : Type 0} (r : Result Done E) (work : BookWork) (makes : Bool) (s t : State) (mid : BookState) (failures : ℕ) (before behind : Option (List ℕ)) → IsTaken makes s mid
-    → IfOk r (λ (d : Done). BookDone IsFindingIfOrdered work mid before behind d (book_state t failures))
+pub database_done : {E : Type 0} (r : Result Done E) (work : BookWork) (makes : Bool) (s t : State) (mid : BookState) (noted : Option Index) (failures : ℕ) (before behind : Option (List ℕ)) → IsTaken makes s mid
+    → IfOk r (λ (d : Done). BookDone IsFindingIfOrdered work mid before behind d (followed noted (book_state t failures)))
     → IfOk r (λ (d : Done). OverConnection (λ (old new : BookState). BookDone IsFindingOf work old before behind d new) makes s t)
-database_done (Err e) work makes s t mid failures before behind taken h = tt
-database_done (Ok d) work makes s t mid failures before behind taken h = (
+database_done (Err e) work makes s t mid noted failures before behind taken h = tt
+database_done (Ok d) work makes s t mid noted failures before behind taken h = (
   failures,
+  noted,
   elim taken [
-    | inl had ↦ inl (work_of work (held s) mid (book_state t failures) before behind d had h)
-    | inr made ↦ inr (made.0, made.1, work_of work (unmade s) mid (book_state t failures) before behind d made.2 h)
+    | inl had ↦ inl (work_of work (held s) mid (followed noted (book_state t failures)) before behind d had h)
+    | inr made ↦ inr (made.0, made.1, work_of work (unmade s) mid (followed noted (book_state t failures)) before behind d made.2 h)
   ],
 )
 

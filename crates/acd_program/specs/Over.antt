@@ -1,69 +1,50 @@
 -- What lines over a book answer, and what they leave.
-use Rattle.std.specs.Prelude.{◌≡◌, ◌⊎◌, ℕ, Bool, true, List, take, Option, IsTrue, ⊤}
+use Rattle.std.specs.Prelude.{◌≡◌, ◌⊎◌, ℕ, Bool, true, List, Option, IsTrue, ⊤}
 use Rattle.std.specs.List.{Contains}
 use Rattle.std.specs.Io.KnownBytes.{Appends}
 use Rattle.sqlite_trees.specs.Tree.{Trees}
 use Rattle.sqlite.specs.State.{State, HasCleanDisk}
+use Rattle.acd_terms.specs.declared.command.Arrival.{Arrival}
 use Rattle.acd_book.specs.State.{BookState}
-use Rattle.acd_columns.specs.AnyRows.{IsFiled}
-use Rattle.acd_columns.specs.Content.{Encodes}
-use Rattle.acd_columns.specs.InTables.{content_of}
-use Rattle.acd_columns.specs.Schema.{no_schema}
+use Rattle.acd_sql_columns.specs.AnyRows.{IsFiled}
+use Rattle.acd_sql_columns.specs.Content.{Encodes}
+use Rattle.acd_sql_columns.specs.InTables.{content_of}
+use Rattle.acd_sql_columns.specs.Schema.{no_schema}
+use Rattle.acd_sqlbook.specs.declared.index.Index.{Index}
+use Rattle.acd_sqlbook.specs.Indexing.{followed}
 use Rattle.acd_sqlbook.specs.State.{book_state}
 use Rattle.acd_desk.specs.declared.open_fault.OpenFault.{OpenFault}
 use Rattle.acd_desk.specs.declared.taken.Taken.{Taken}
 use Rattle.acd_desk.specs.declared.taken.Taken.TheVariants.{StoreFault}
 use Rattle.acd_desk.specs.Ran.{IsFault}
 use Rattle.acd_desk.specs.Session.{Session}
-use Rattle.acd_lines.specs.Input.{cut, lines_of, arrivals_in}
-use Rattle.acd_lines.specs.Output.{IsInput, IsOutput, IsBegun}
+use Rattle.acd_lines.specs.Lines.{LinesAnswered, AllLines, ArrivalsAnswered}
 use Rattle.acd_program.specs.Answered.{nothing}
-use Rattle.acd_program.specs.declared.session.SessionFault.{SessionFault}
-use Rattle.acd_program.specs.declared.session.SessionFault.TheVariants.{Open, Lines, StoreFailed}
+use Rattle.acd_program.specs.declared.session.BookLinesFault.{BookLinesFault}
+use Rattle.acd_program.specs.declared.session.BookLinesFault.TheVariants.{Open, Lines, Store}
 
-abbrev pub IsOpenFault : OpenFault → SessionFault → Type 0
+abbrev pub IsOpenFault : OpenFault → BookLinesFault → Type 0
 IsOpenFault why fault = fault ≡ Open why
 
-abbrev pub IsLinesFault : SessionFault → Type 0
+abbrev pub IsLinesFault : BookLinesFault → Type 0
 IsLinesFault (Open why) = ⊥
 IsLinesFault (Lines why) = ⊤
-IsLinesFault StoreFailed = ⊥
+IsLinesFault Store = ⊥
 
-abbrev pub IsStoreFailed : SessionFault → Type 0
-IsStoreFailed fault = fault ≡ StoreFailed
+abbrev pub IsStoreFailed : BookLinesFault → Type 0
+IsStoreFailed fault = fault ≡ Store
+
+-- the answers to arrivals that are a session, from a book to what it is then
+abbrev pub IsSession : BookState → BookState → List Arrival → List Taken → Type 0
+IsSession old new arrivals answers = Session IsFault old arrivals answers new
+
+-- and one of them is a storeFault
+abbrev pub IsFailedSession : BookState → BookState → List Arrival → List Taken → Type 0
+IsFailedSession old new arrivals answers = Session IsFault old arrivals answers new × Contains answers StoreFault
 
 -- the whole input, and one answer line for each of its lines; the arrivals among them are a session over the book
-pub record AnswersOver (old : BookState) (had before behind : Option (List ℕ)) (new : BookState) : Type 0 where
-  pub input : List ℕ
-  pub written : List ℕ
-  pub answers : List Taken
-  pub whole : IsInput had input
-  pub output : IsOutput (lines_of (cut input)) answers written
-  pub appended : Appends before behind written
-  pub session : Session IsFault old (arrivals_in (lines_of (cut input))) answers new
-
--- the first lines of an input, and a beginning of their answer lines
-pub record BeginsOver (old : BookState) (had before behind : Option (List ℕ)) (new : BookState) : Type 0 where
-  pub input : List ℕ
-  pub written : List ℕ
-  pub count : ℕ
-  pub answers : List Taken
-  pub whole : IsInput had input
-  pub output : IsBegun (lines_of (take count (cut input))) answers written
-  pub appended : Appends before behind written
-  pub session : Session IsFault old (arrivals_in (lines_of (take count (cut input)))) answers new
-
--- the first lines of an input, and one answer line for each of them; one is a storeFault
-pub record FailsOver (old : BookState) (had before behind : Option (List ℕ)) (new : BookState) : Type 0 where
-  pub input : List ℕ
-  pub written : List ℕ
-  pub count : ℕ
-  pub answers : List Taken
-  pub whole : IsInput had input
-  pub output : IsOutput (lines_of (take count (cut input))) answers written
-  pub appended : Appends before behind written
-  pub session : Session IsFault old (arrivals_in (lines_of (take count (cut input)))) answers new
-  pub failed : Contains answers StoreFault
+abbrev pub AnswersOver : BookState → Option (List ℕ) → Option (List ℕ) → Option (List ℕ) → BookState → Type 0
+AnswersOver old had before behind new = LinesAnswered (AllLines had) (ArrivalsAnswered (IsSession old new)) (Appends before behind)
 
 -- ---- over a connection
 
@@ -87,6 +68,10 @@ unmade s = record { content = nothing; stops = λ c. c ≡ nothing; is_sound = �
 abbrev pub Unserved : Bool → State → State → Type 0
 Unserved makes old new = HasCleanDisk new → IsFiled old.now → (db : Trees) → new.may_leave db → old.may_leave db ⊎ Encodes db (content_of old.committed.trees) ⊎ ((makes ≡ true) × (old.now.schema ≡ no_schema) × Encodes db nothing)
 
--- what is said of the book that the database held or, where it had no tables and one was to be made, of the new one
+-- what is said of the book that the database held or, where it had no tables and one was to be made, of the new one; behind it the book has counted so many failures, and noted this
+-- of its events
 abbrev pub OverConnection : (BookState → BookState → Type 0) → Bool → State → State → Type 0
-OverConnection P makes old new = (failures : ℕ) × (P (held old) (book_state new failures) ⊎ ((makes ≡ true) × (old.now.schema ≡ no_schema) × P (unmade old) (book_state new failures)))
+OverConnection P makes old new =
+    (failures : ℕ) × (noted : Option Index)
+    × (P (held old) (followed noted (book_state new failures))
+    ⊎ ((makes ≡ true) × (old.now.schema ≡ no_schema) × P (unmade old) (followed noted (book_state new failures))))

@@ -6,13 +6,14 @@ use Rattle.sqlite_trees.specs.declared.store.Store.{Ghosts}
 use Rattle.acd_book.specs.declared.book.Book as book
 use Rattle.acd_book.specs.Content.{Within}
 use Rattle.acd_book.specs.State.{BookState, IfHonest}
-use Rattle.acd_columns.specs.Schema.{no_schema}
+use Rattle.acd_sql_columns.specs.Schema.{no_schema}
 use Rattle.acd_sqlbook.specs.declared.book.SqlBook.{SqlBook}
+use Rattle.acd_sqlbook.specs.Indexing.{followed}
 use Rattle.acd_sqlbook.specs.State.{book_state}
 use Rattle.acd_desk.specs.declared.desk.Desk.{Desk}
 use Rattle.acd_desk.specs.Stands.{IsSound}
 use Rattle.acd_desk.specs.Standing.{Standing, Starts, standing}
-use Rattle.acd_lines.specs.Sent.{Begins}
+use Rattle.acd_io.specs.Sent.{Begins}
 use Rattle.acd_http.specs.Listening.{ServedFor}
 use Rattle.acd_program.specs.Over.{held, unmade}
 
@@ -36,7 +37,7 @@ pub record ServesOver {B : Type 0} (says : book.Ghosts B) (old : BookState) (spa
 module _ {S : Type 0} (store : Ghosts S) where
   -- what a book in a database says of itself
   abbrev pub in_database : book.Ghosts (SqlBook S store)
-  in_database = record { state = λ b. book_state (state store b.conn) b.failures }
+  in_database = record { state = λ b. followed b.noted (book_state (state store b.conn) b.failures) }
 
   -- so it was over the book that the database held or, where it had no tables and one was to be made, over a new one
   pub record ServesDatabase (makes : Bool) (span : Option ℕ) (old : State) (before behind : Option (List ℕ)) (last : Held S) : Type 0 where

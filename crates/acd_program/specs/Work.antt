@@ -1,5 +1,5 @@
 -- What is done over a book, and what is left to print of it.
-use Rattle.std.specs.Prelude.{◌≡◌, ℕ, Bool, List, [], map, take, Option, Result, Ok, string_bytes}
+use Rattle.std.specs.Prelude.{◌≡◌, ℕ, Bool, List, [], Option, Result, Ok, string_bytes}
 use Rattle.std.specs.Io.KnownBytes.{Appends}
 use Rattle.acd_terms.specs.declared.command.Request.{Request}
 use Rattle.acd_book.specs.Content.{Content, Within}
@@ -7,15 +7,11 @@ use Rattle.acd_book.specs.Order.{IsOrdered}
 use Rattle.acd_book.specs.State.{BookState, IfHonest}
 use Rattle.acd_reports.specs.QueueReport.{queue_report}
 use Rattle.acd_reports.specs.Export.{events_csv}
-use Rattle.acd_desk.specs.declared.taken.Taken.{Taken}
-use Rattle.acd_desk.specs.Arrived.{at}
-use Rattle.acd_desk.specs.Ran.{IsFault}
-use Rattle.acd_desk.specs.Session.{Session}
 use Rattle.acd_desk.specs.Stands.{IsSound}
-use Rattle.acd_lines.specs.Output.{IsOutput, IsBegun, imported}
+use Rattle.acd_lines.specs.Lines.{LinesAnswered, AllRequests, RequestsAnswered}
 use Rattle.acd_program.specs.Found.{IsFindingOf, HasCount, finding_line}
 use Rattle.acd_program.specs.Statuses.{finding_status}
-use Rattle.acd_program.specs.Over.{AnswersOver}
+use Rattle.acd_program.specs.Over.{AnswersOver, IsSession}
 use Rattle.acd_program.specs.declared.auditing.Finding.{Finding}
 use Rattle.acd_program.specs.declared.desk.Telling.{Telling}
 use Rattle.acd_program.specs.declared.desk.Telling.TheVariants.{Report, Export}
@@ -47,7 +43,7 @@ status_left (Audited found) = finding_status found
 -- ---- over a book
 
 -- a desk was opened over the book and asked, and the book came back as it was: this was found of what it holds
-pub record Asked {A : Type 0} (old : BookState) (IsAnswer : Content → A → Type 0) (found : A) (new : BookState) : Type 0 where
+pub record WasAsked {A : Type 0} (old : BookState) (IsAnswer : Content → A → Type 0) (found : A) (new : BookState) : Type 0 where
   pub clean : new.is_clean → old.is_clean
   pub sound : IfHonest old new new.is_sound
   pub opened : IfHonest old new (old.is_open × new.is_open)
@@ -58,8 +54,8 @@ pub record Asked {A : Type 0} (old : BookState) (IsAnswer : Content → A → Ty
   pub quiet : new.failures ≡ old.failures
 
 -- of a sound content this is told
-abbrev pub IsText : Telling → Content → List ℕ → Type 0
-IsText telling c text = IsSound c → text ≡ telling_text telling c
+abbrev pub IsTextOf : Telling → Content → List ℕ → Type 0
+IsTextOf telling c text = IsSound c → text ≡ telling_text telling c
 
 -- of a content whose records stand in order, as those of tables do, this is found
 abbrev pub IsFindingIfOrdered : Content → Finding → Type 0
@@ -67,31 +63,18 @@ IsFindingIfOrdered c found = IsOrdered c → IsFindingOf c found
 
 -- a text is left to print that is told of the book
 pub record TellsOver (telling : Telling) (old : BookState) (done : Done) (new : BookState) : Type 0 where
-  pub asked : Asked old (IsText telling) (text_left done) new
+  pub asked : WasAsked old (IsTextOf telling) (text_left done) new
   pub status : status_left done ≡ 0
 
 -- an audit of the book found this, which is left to print
 abbrev pub AuditsOver : (Content → Finding → Type 0) → Bool → BookState → Done → BookState → Type 0
 AuditsOver IsAnswer counts old Nothing new = ⊥
 AuditsOver IsAnswer counts old (Told text) new = ⊥
-AuditsOver IsAnswer counts old (Audited found) new = HasCount counts found × Asked old IsAnswer found new
+AuditsOver IsAnswer counts old (Audited found) new = HasCount counts found × WasAsked old IsAnswer found new
 
 -- the requests came in at moment 0, one after the other, and one answer line was written for each; they are a session over the book
-pub record ImportsOver (requests : List Request) (old : BookState) (before behind : Option (List ℕ)) (new : BookState) : Type 0 where
-  pub written : List ℕ
-  pub answers : List Taken
-  pub output : IsOutput (imported requests) answers written
-  pub appended : Appends before behind written
-  pub session : Session IsFault old (map (at 0) requests) answers new
-
--- the first of them, and a beginning of their answer lines
-pub record BeginsImport (requests : List Request) (old : BookState) (before behind : Option (List ℕ)) (new : BookState) : Type 0 where
-  pub count : ℕ
-  pub written : List ℕ
-  pub answers : List Taken
-  pub output : IsBegun (imported (take count requests)) answers written
-  pub appended : Appends before behind written
-  pub session : Session IsFault old (map (at 0) (take count requests)) answers new
+abbrev pub ImportsOver : List Request → BookState → Option (List ℕ) → Option (List ℕ) → BookState → Type 0
+ImportsOver requests old before behind new = LinesAnswered (AllRequests requests) (RequestsAnswered (IsSession old new)) (Appends before behind)
 
 -- the work was done; only what isn't printed behind it is written
 abbrev pub BookDone : (Content → Finding → Type 0) → BookWork → BookState → Option (List ℕ) → Option (List ℕ) → Done → BookState → Type 0

@@ -4,10 +4,11 @@ ghost use Rattle.std.specs.Prelude.{◌≡◌};
 ghost use Rattle.acd_program.specs.Names.{table_name, rule_name};
 
 use crate::connection::ConnectionFault;
-use crate::session::SessionFault;
+use crate::session::BookLinesFault;
 use acd_book::BookFault;
 use acd_desk::{DeskFault, OpenFault};
-use acd_lines::{LinesFault, Stopped};
+use acd_io::Stopped;
+use acd_lines::LinesFault;
 use acd_reports::PlanFault;
 use acd_sqlbook::{AdoptFault, Table};
 use acd_terms::Rule;
@@ -148,12 +149,12 @@ impl<'a> From<LinesFault> for Fault<'a> {
     }
 }
 
-impl<'a> From<SessionFault> for Fault<'a> {
-    fn from(fault: SessionFault) -> Fault<'a> {
+impl<'a> From<BookLinesFault> for Fault<'a> {
+    fn from(fault: BookLinesFault) -> Fault<'a> {
         match fault {
-            SessionFault::Open(fault) => Fault::from(fault),
-            SessionFault::Lines(fault) => Fault::from(fault),
-            SessionFault::StoreFailed => Fault::Store,
+            BookLinesFault::Open(fault) => Fault::from(fault),
+            BookLinesFault::Lines(fault) => Fault::from(fault),
+            BookLinesFault::Store => Fault::Store,
         }
     }
 }

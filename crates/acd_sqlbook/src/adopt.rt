@@ -1,18 +1,18 @@
 //! Takes a connection over a book where each value is in its range, and makes version 2 of one of version 1.
 
-ghost use Rattle.std.specs.Prelude.{◌≡◌, ◌≢◌, ◌⊎◌, false, IfOk, IfErr};
+ghost use Rattle.std.specs.Prelude.{◌≡◌, ◌≢◌, ◌⊎◌, false, None, IfOk, IfErr};
 ghost use Rattle.sqlite.specs.State.{HasCleanDisk};
 ghost use Rattle.sqlite.specs.Held.{state};
-ghost use Rattle.acd_columns.specs.AnyRows.{IsFiled};
-ghost use Rattle.acd_columns.specs.Schema.{old_schema, book_schema};
-ghost use Rattle.acd_schema.specs.Inspecting.{IsStoreFault};
-ghost use Rattle.acd_schema.specs.Migrating.{IsMade};
+ghost use Rattle.acd_sql_columns.specs.AnyRows.{IsFiled};
+ghost use Rattle.acd_sql_columns.specs.Schema.{old_schema, book_schema};
+ghost use Rattle.acd_sql_schema.specs.Inspecting.{IsAdoptStoreFault};
+ghost use Rattle.acd_sql_schema.specs.Migrating.{IsMade};
 ghost use Rattle.acd_sqlbook.specs.Adopting.{HasAllColumns, IsAdopted, IsHandedBack, IsUntouched, MayMigrate};
 ghost use Rattle.acd_sqlbook.specs.State.{book_state};
 
 use crate::book::SqlBook;
-use acd_columns::Version;
-use acd_schema::{AdoptFault, Found, fault_of, look_over, migrate};
+use acd_sql_columns::Version;
+use acd_sql_schema::{AdoptFault, Found, fault_of, look_over, migrate};
 use sqlite::{Alter, Connection};
 use std::alloc::Global;
 
@@ -26,18 +26,35 @@ impl<S: Alter> SqlBook<S> {
         mut conn: Connection<S>,
     ) -> Result<SqlBook<S>, (AdoptFault, Connection<S>)>
         requires { conn.in_transaction ≡ false }
-        ensures adopted { IfOk result (λ b. HasCleanDisk (state S.Store b.conn) → IsAdopted (state S.Store conn).now (book_state (state S.Store conn) 0) (book_state (state S.Store b.conn) b.failures)) }
-        ensures untouched { IfOk result (λ b. HasCleanDisk (state S.Store b.conn) → (state S.Store conn).now.schema ≡ book_schema → IsUntouched (state S.Store conn) (state S.Store b.conn)) }
-        ensures migrated { IfOk result (λ b. HasCleanDisk (state S.Store b.conn) → (state S.Store conn).now.schema ≡ old_schema → IsMade (state S.Store conn) (state S.Store b.conn)) }
-        ensures leaves { IfOk result (λ b. HasCleanDisk (state S.Store b.conn) → MayMigrate (state S.Store conn) (state S.Store b.conn)) }
-        ensures filed { IfOk result (λ b. HasCleanDisk (state S.Store b.conn) → (S.Store.view conn.store).is_broken ≡ false → HasAllColumns (state S.Store conn).now → IsFiled (state S.Store conn).now) }
+        ensures adopted { IfOk result (λ b. HasCleanDisk (state S.Store b.conn)
+            → IsAdopted (state S.Store conn).now (book_state (state S.Store conn) 0)
+            (book_state (state S.Store b.conn) b.failures)) }
+        ensures untouched { IfOk result (λ b. HasCleanDisk (state S.Store b.conn)
+            → (state S.Store conn).now.schema ≡ book_schema
+            → IsUntouched (state S.Store conn) (state S.Store b.conn)) }
+        ensures migrated { IfOk result (λ b. HasCleanDisk (state S.Store b.conn)
+            → (state S.Store conn).now.schema ≡ old_schema
+            → IsMade (state S.Store conn) (state S.Store b.conn)) }
+        ensures leaves { IfOk result (λ b. HasCleanDisk (state S.Store b.conn)
+            → MayMigrate (state S.Store conn) (state S.Store b.conn)) }
+        ensures filed { IfOk result (λ b. HasCleanDisk (state S.Store b.conn)
+            → (S.Store.view conn.store).is_broken ≡ false
+            → HasAllColumns (state S.Store conn).now → IsFiled (state S.Store conn).now) }
         ensures counted { IfOk result (λ b. b.failures ≡ 0) }
-        ensures clean { IfOk result (λ b. HasCleanDisk (state S.Store b.conn) → HasCleanDisk (state S.Store conn)) }
+        ensures unnoted { IfOk result (λ b. b.noted ≡ None) }
+        ensures clean { IfOk result
+            (λ b. HasCleanDisk (state S.Store b.conn) → HasCleanDisk (state S.Store conn)) }
         ensures idle { IfErr result (λ e. e.1.in_transaction ≡ false) }
-        ensures doubted { IfErr result (λ e. HasCleanDisk (state S.Store e.1) → HasCleanDisk (state S.Store conn)) }
-        ensures handed_back { IfErr result (λ e. HasCleanDisk (state S.Store e.1) → IsHandedBack (state S.Store conn).now (book_state (state S.Store conn) 0) (book_state (state S.Store e.1) 0) e.0) }
-        ensures left_alone { IfErr result (λ e. HasCleanDisk (state S.Store e.1) → ((state S.Store conn).now.schema ≢ old_schema) ⊎ (¬ (IsStoreFault e.0)) → IsUntouched (state S.Store conn) (state S.Store e.1)) }
-        ensures leaves_refused { IfErr result (λ e. HasCleanDisk (state S.Store e.1) → MayMigrate (state S.Store conn) (state S.Store e.1)) }
+        ensures doubted { IfErr result
+            (λ e. HasCleanDisk (state S.Store e.1) → HasCleanDisk (state S.Store conn)) }
+        ensures handed_back { IfErr result (λ e. HasCleanDisk (state S.Store e.1)
+            → IsHandedBack (state S.Store conn).now (book_state (state S.Store conn) 0)
+            (book_state (state S.Store e.1) 0) e.0) }
+        ensures left_alone { IfErr result (λ e. HasCleanDisk (state S.Store e.1)
+            → ((state S.Store conn).now.schema ≢ old_schema) ⊎ (¬ (IsAdoptStoreFault e.0))
+            → IsUntouched (state S.Store conn) (state S.Store e.1)) }
+        ensures leaves_refused { IfErr result (λ e. HasCleanDisk (state S.Store e.1)
+            → MayMigrate (state S.Store conn) (state S.Store e.1)) }
     {
         match look_over(alloc, &mut conn) {
             Ok(Found::Book(Version::Second)) => Ok(SqlBook {
@@ -45,6 +62,7 @@ impl<S: Alter> SqlBook<S> {
                 conn,
                 fresh: true,
                 failures: 0,
+                noted: None,
             }),
             Ok(Found::Book(Version::First)) => match migrate(&mut conn) {
                 Ok(()) => Ok(SqlBook {
@@ -52,6 +70,7 @@ impl<S: Alter> SqlBook<S> {
                     conn,
                     fresh: true,
                     failures: 0,
+                    noted: None,
                 }),
                 Err(error) => Err((fault_of(error), conn)),
             },

@@ -2,10 +2,12 @@ pub mod ShortText
 pub mod Forms
 pub mod States
 pub mod Refusals
+pub mod Numbers
 pub mod Limits
 pub mod Rows
 pub mod Columns
 pub mod Lists
+pub mod Results
 pub mod Few
 pub mod Groups
 pub mod EventNames

@@ -1,2 +1,0 @@
-mod Differences
-mod Transitions

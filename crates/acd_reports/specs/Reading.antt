@@ -1,7 +1,0 @@
--- Reading that stops at the first fault.
-use Rattle.std.specs.Prelude.{Result, Ok, Err}
-
-infixl 10 ◌>>=◌
-abbrev pub ◌>>=◌ : {A B E : Type 0} → Result A E → (A → Result B E) → Result B E
-(Ok x) >>= f = f x
-(Err e) >>= f = Err e

@@ -1,0 +1,3 @@
+mod Differences
+mod Transitions
+mod Wholeness

@@ -1,0 +1,3 @@
+pub mod Differing
+pub mod Transition
+pub mod Leading

@@ -1,0 +1,15 @@
+mod Bounds
+pub mod Named
+pub mod Chained
+mod Planned
+mod Beside
+mod FirstFound
+mod Pages
+pub mod Failures
+pub mod Refused
+pub mod Answered
+pub mod Blamed
+mod BlamedRows
+mod BlamedPlan
+mod Grouped
+mod Picked
