@@ -2,3 +2,4 @@
 //! on what the rules of rows say, and that each rule's test answers it.
 //!
 //! They stand above `acd_model`, since most of them speak of its scans and of its rules. There is no code here.
+#![tactic(auto)]

@@ -65,11 +65,6 @@ no_more n m low high = grind (arith, nat_tests)
 within : (n m : ℕ) → nat_le n m ≡ true → n ≤ m
 within n m h = grind (arith, nat_tests)
 
-    each : (bs : List ℕ) → list_all is_ascii bs ≡ true → (i : ℕ) → get_or bs i 0 < 128
-    each [] all i = omega arith
-    each (b ∷ bs) all zero = low b (and_parts (is_ascii b) (list_all is_ascii bs) all).0
-    each (b ∷ bs) all (suc i) = each bs (and_parts (is_ascii b) (list_all is_ascii bs) all).1 i
-
 fit_for : (name text : List ℕ) → bytes_eq name name ≡ true → is_free_name name ≡ true → begins (codes "create") (Text text) ≡ true → begins (codes "create virtual") (Text text) ≡ false
     → is_fit (Text (codes "table")) (Text name) (Text name) (Text text) ≡ true
 unfolding fits_kind

@@ -59,7 +59,7 @@ HasBad in_row rows = (row : Row) × Has rows row × (in_row row ≡ None)
 abbrev pub FailsToDecode : {R : Type 0} → (Row → Option R) → List Row → Error → Type 0
 FailsToDecode in_row rows e = IsMemory e ⊎ HasBad in_row rows
 
--- one of them begins with a number that a column holds
+-- one of them begins with no number above what a column holds
 abbrev pub HasFitting : List Row → Type 0
 HasFitting rows = (one : Row) × Has rows one × ((n : ℕ) → whole_at one 0 ≡ Some n → Fits n)
 
