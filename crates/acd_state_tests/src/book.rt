@@ -1,5 +1,7 @@
 //! A book in memory behind 300 commits, and what it refuses.
 
+mod watched;
+
 use crate::tables::rows_of;
 use crate::values::{device, same};
 use acd_book::{Book, BookFault, Kept, MemoryBook, Text};
