@@ -9,7 +9,7 @@ use Rattle.acd_terms.specs.declared.command.Arrival.{Arrival}
 use Rattle.acd_terms.specs.declared.event.Event.{Event}
 use Rattle.acd_model.specs.Scans.{group_of, agent_of}
 use Rattle.acd_model.specs.Figures.{figures_of, sum_of_figures}
-use Rattle.acd_model.specs.Told.{after, connection_told, seat_told, last_entry}
+use Rattle.acd_model.specs.Told.{known_after, connection_told, seat_told, last_entry}
 use Rattle.acd_model.specs.Watched.{is_external_caller, state_at, seat_of, HasPlace}
 use Rattle.acd_model.specs.Services.{no_figures}
 use Rattle.acd_book.specs.Content.{Content}
@@ -35,8 +35,8 @@ IsBefore s behind group first second =
 pub record LeadsBy (c d : Content) (behind : List Event) : Type 0 where
   -- none is missed, and none stands twice
   pub whole : d.events ≡ c.events ++ behind
-  pub connections : (call device : ℕ) → shown_at d.rows call device ≡ after (connection_told call device) (shown_at c.rows call device) behind
-  pub agents : (agent : ℕ) → seat_of (agent_of d.rows agent) ≡ after (seat_told agent) (seat_of (agent_of c.rows agent)) behind
+  pub connections : (call device : ℕ) → shown_at d.rows call device ≡ known_after (connection_told call device) (shown_at c.rows call device) behind
+  pub agents : (agent : ℕ) → seat_of (agent_of d.rows agent) ≡ known_after (seat_told agent) (seat_of (agent_of c.rows agent)) behind
   pub figures : (g : GroupRecord) → Among g d.rows.groups → g.figures ≡ sum_of_figures (figures_shown (group_of c.rows g.device)) (figures_of g.device behind)
   -- of the calls that wait in a group or ring from it
   pub queues : (group first second p q : ℕ) → HasPlace d.rows group first p → HasPlace d.rows group second q → (p < q) ↔ IsBefore c.rows behind group first second

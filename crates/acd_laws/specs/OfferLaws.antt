@@ -11,7 +11,7 @@ use Rattle.acd_model.specs.Moves.{moved}
 use Rattle.acd_model.specs.Distribution.{offer_moves, distribution}
 use Rattle.acd_model.specs.Served.{moves_of}
 use Rattle.acd_model.specs.Services.Serve.{serve}
-use Rattle.acd_model.specs.Step.{step, executed_moment, next_stamp}
+use Rattle.acd_model.specs.Step.{step, next_turn}
 use Rattle.acd_model.specs.Run.{TimedCommand, run}
 use Rattle.acd_model.specs.Rules.Plan.{keeps_order, keeps_device, keeps_agent}
 use Rattle.acd_model.specs.Rules.Calls.{keeps_call, keeps_connection, keeps_parties, keeps_live}
@@ -43,7 +43,7 @@ pub record KeepsWithin (s : Rows) : Type 0 where
 -- of rows that break no rule, where a step distributes: after the moves of its service
 abbrev pub RulesAreKeptWithin : Type 0
 RulesAreKeptWithin = (s : Rows) (moment : ℕ) (command : Command) → BreaksNoRule s
-    → KeepsWithin (moved s (moves_of (serve s (executed_moment s moment) (next_stamp s) command)))
+    → KeepsWithin (moved s (moves_of (serve s (next_turn s moment) command)))
 
 -- the moves of a distribution are these, and no others
 abbrev pub FindsTheDistribution : Type 0

@@ -21,6 +21,8 @@ use Rattle.acd_lemmas.proofs.Facts.{HasColumns}
 use Rattle.acd_lemmas.proofs.Lists.{one, among-remove, counted, ascending-put, ascending-remove}
 use Rattle.acd_lemmas.proofs.State.{connections_total, count_less}
 use Rattle.acd_lemmas.proofs.Bools.{and_yes, or_no}
+use Rattle.acd_terms.specs.declared.command.Turn.{Turn}
+use Rattle.acd_model.specs.Step.{turn_at}
 
 pub record Sound (m b c : ℕ) (s : Rows) (ms : List Move) : Type 0 where
   pub truthful : AllTruthful s ms
@@ -76,7 +78,7 @@ state_told : (st : AgentState) (n d : ℕ) → StateReport st n d (state_report 
 state_told A.Null n d = record { agent = refl; call = refl; seat = λ old. refl; entry = λ g. refl; gone = λ g. refl }
 state_told st n d = record { agent = refl; call = refl; seat = λ old. refl; entry = λ g. refl; gone = λ g. refl }
 
-pub sound_agent : {m b k : ℕ} {t : Rows} {x : Move} → AgentMove (Recorded t) m k x → Sound m b b t (x ∷ [])
+pub sound_agent : {m b k : ℕ} {t : Rows} {x : Move} → AgentMove (Recorded t) (turn_at m k) x → Sound m b b t (x ∷ [])
 sound_agent {m} {b} {k} {t} nothing = silently Nothing (truthful_unseen t Nothing tt tt tt) tt
 sound_agent {m} {b} {k} {t} (waits a pending e) = silently (PutAgent (record a { pending = pending })) (truthful_silent_agent t (record a { pending = pending }) (ap seat_of (sym e))) tt
 sound_agent {m} {b} {k} {t} (tells a c d e h) =
@@ -241,7 +243,7 @@ planned_group s d h = or_left (is_group s d) (is_station s d) h
 -- a call comes to a device
 
 -- where none of the call is open, it comes to the device with the stamp as its place
-pub sound_arrival : (m b k : ℕ) (s t : Rows) (call to : ℕ) (why : Cause) (x : Move) → Arrival s m k call to why x → b < k → is_planned t to ≡ true → is_no_answer why ≡ false → connection_of t call to ≡ None
+pub sound_arrival : (m b k : ℕ) (s t : Rows) (call to : ℕ) (why : Cause) (x : Move) → Arrival s (turn_at m k) call to why x → b < k → is_planned t to ≡ true → is_no_answer why ≡ false → connection_of t call to ≡ None
     → ((z : ConnectionRecord) → Among z t.connections → is_open z.state ≡ true → z.call ≡ call → ⊥) → Sound m b k t (x ∷ [])
 sound_arrival m b k s t call to why x (queues _) l p usual none new =
     let y : ConnectionRecord = queueing call to (Some k) (Some m) in
@@ -259,6 +261,6 @@ sound_arrival m b k s t call to why x fails l p usual none new =
     let y : ConnectionRecord = plain call to S.Fail in let r : Report = report.Failed call to in
     sound_later m b k t (put y (Some r) ∷ []) (omega (arith, l)) (sound_put_new m b t y (Some r) (truthful_put t y r refl refl refl refl p) none (ungrouped call to S.Fail refl) (λ g. refl) (λ g. refl))
 
-pub arrive_leaves : (s : Rows) (m k call to : ℕ) (why : Cause) → LeavesAgents (arrive s m k call to why).change
+pub arrive_leaves : (s : Rows) (turn : Turn) (call to : ℕ) (why : Cause) → LeavesAgents (arrive s turn call to why).change
 unfolding arrive
-arrive_leaves s m k call to why = tt
+arrive_leaves s turn call to why = tt

@@ -1,5 +1,5 @@
 use Rattle.std.proofs.Common.{◌≡◌, ◌+◌, sym, ap, subst, arith, ◌∙◌, max, ◌<◌, ◌^◌}
-use Rattle.acd_model.specs.Step.{executed_moment, next_stamp}
+use Rattle.acd_model.specs.Step.{executed_moment, next_stamp, turn_at}
 use Rattle.acd_model.specs.Services.Serve.{serve}
 use Rattle.acd_switch.specs.Room.{Fits}
 use Rattle.acd_switch.proofs.Closing.{rows_is, events_is, outcome_is, changes_are, groups_ascend}
@@ -15,7 +15,7 @@ run_command-requires c = has_room c.args.tables.now c.requires.rules c.requires.
 
 pub close-requires-clause-order : goal.close-requires-clause-order
 close-requires-clause-order c =
-    groups_ascend c.args.tables.now c.run_command.new.tables c.distribute.new.tables c.max-moment.result (serve c.args.tables.now c.max-moment.result (c.last_stamp-stamp.result + 1) c.args.command.now)
+    groups_ascend c.args.tables.now c.run_command.new.tables c.distribute.new.tables c.max-moment.result (serve c.args.tables.now (turn_at c.max-moment.result (c.last_stamp-stamp.result + 1)) c.args.command.now)
     c.requires.rules c.in_ok-outcome.ensures.rows c.in_ok-distribute.ensures.rows
 
 pub close-requires-clause-room : goal.close-requires-clause-room
