@@ -14,7 +14,7 @@ pub record HasRoom (s : Rows) : Type 0 where
   pub monitor : s.last_monitor < 2 ^ 64 - 1
 
 -- the last event and the figures are numbers of 64 bits
-pub record Fits (s : Rows) : Type 0 where
+pub record CountersFit (s : Rows) : Type 0 where
   pub event : s.last_event < 2 ^ 64
   pub figures : AllFit s.groups
 

@@ -13,7 +13,7 @@ ghost use Rattle.acd_model.specs.Rules.First.{BreaksNoRule};
 ghost use Rattle.acd_model.specs.Rules.Plan.{group_order};
 ghost use Rattle.acd_services.specs.NoTick.{IsNoTick};
 ghost use Rattle.acd_switch.specs.RowFaults.{IsFaultOf};
-ghost use Rattle.acd_switch.specs.Room.{HasRoom, Fits, closed};
+ghost use Rattle.acd_switch.specs.Room.{HasRoom, CountersFit, closed};
 ghost use Rattle.acd_switch.specs.Kept.{figures_at, IsRefused};
 ghost use Rattle.acd_laws.specs.RefusalLaws.{ChangesNothing};
 
@@ -199,7 +199,7 @@ fn execute(
 // Counts the events in the figures, numbers them on from the last one, and sets the counters.
 fn close(tables: &mut Tables, at: Turn, last: u64, journal: &mut Journal) -> Result<(), AllocError>
     requires order { IsAscending group_order tables.old.groups }
-    requires room { Fits (closed tables.old at last journal.old.events.items) }
+    requires room { CountersFit (closed tables.old at last journal.old.events.items) }
     ensures rows { OnOk result (tables.new ≡ closed tables.old at last journal.old.events.items) }
     ensures events { OnOk result (journal.new.events.items ≡ numbered last journal.old.events.items) }
     ensures changes { OnOk result (journal.new.changes.items ≡ journal.old.changes.items ++ growth tables.old journal.old.events.items) }

@@ -25,7 +25,7 @@ mod scans;
 mod sets;
 mod table;
 mod tables;
-mod turns;
+mod swaps;
 mod uses;
 mod writes;
 

@@ -304,7 +304,7 @@ agent_timed s k m a h e = every_among (AgentTimed k m) s.agents a h.agents (agen
 pub neat_agent : {k m : ℕ} {t : Rows} {x : Move} (s : Rows) → 1 ≤ k → Timed k m s → AgentMove (Recorded s) (turn_at m k) x → Neat k m t x
 neat_agent s l h stays = neat_silent Nothing tt tt
 neat_agent {k} {m} s l h (waits a pending e) = let w = agent_timed s k m a h e in neat_silent (PutAgent (record a { pending = pending })) (record { above = w.above; stamp = w.stamp; since = w.since }) tt
-neat_agent s l h (tells a b d e r) = let x = r.stamp in let y = r.since in neat_state b b.state b.agent d (record { above = omega (arith, x, l); stamp = omega (arith, x); since = omega (arith, y) })
+neat_agent {k} {m} s l h (tells a b d e r) = let x : b.stamp ≡ k = r.stamp in let y : b.since ≡ m = r.since in neat_state b b.state b.agent d (record { above = omega (arith, x, l); stamp = omega (arith, x); since = omega (arith, y) })
 
 pub steady_agent : {turn : Turn} {x : Move} (s : Rows) → AgentMove (Recorded s) turn x → Steady (knows s) x.change
 steady_agent s stays = tt

@@ -76,7 +76,7 @@ sound_arrives s turn b caller called r l free planned =
     sound-append turn.moment b b turn.stamp s (begin c ∷ []) (connect_caller n caller ∷ arrive s turn n called cause.NewCall ∷ []) (silently (PutCall c) (truthful_unseen s (PutCall c) tt tt tt) tt)
     (sound-append turn.moment b b turn.stamp t (connect_caller n caller ∷ []) (arrive s turn n called cause.NewCall ∷ [])
     (sound_put_new turn.moment b t x None (truthful_outside t x (left_plan s (PutCall c) caller tt ∙ free)) (none caller) (ungrouped n caller S.Connected refl) (λ g. refl) (λ g. refl))
-    (sound_arrival turn.moment b turn.stamp s u n called cause.NewCall _ (arrival_of s turn n called cause.NewCall) l
+    (sound_arrival turn b s u n called cause.NewCall _ (arrival_of s turn n called cause.NewCall) l
     (left_plan t (PutConnection x) called tt ∙ left_plan s (PutCall c) called tt ∙ planned) refl
     (put_other t x n called (λ _ e. apart e) ∙ none called)
     (new_caller s n caller c r (omega arith))))
@@ -126,7 +126,7 @@ sound_out s turn b p r l initiated =
     let at : StandsAt s x S.Initiated = subst (StandsAt s x) (initiated_is x.state initiated) (connection_rule s r x.call x.device x p.found).2 in
     sound-append turn.moment b b turn.stamp s (originate x c.called ∷ []) (arrive s turn x.call c.called cause.NewCall ∷ [])
     (sound_turned s turn.moment b x S.Connected (report.Originated x.call x.device c.called) r p.found refl (planned_station s x.device at.0) (initiated_shut x.state initiated) (λ g. refl) refl refl refl refl (λ g. refl))
-    (sound_arrival turn.moment b turn.stamp s u x.call c.called cause.NewCall _ (arrival_of s turn x.call c.called cause.NewCall) l (left_plan s (PutConnection y) c.called tt ∙ go.planned) refl
+    (sound_arrival turn b s u x.call c.called cause.NewCall _ (arrival_of s turn x.call c.called cause.NewCall) l (left_plan s (PutConnection y) c.called tt ∙ go.planned) refl
     (put_other s y x.call c.called (λ _ e. go.apart e) ∙ go.new)
     (none_open s x r (connection_among s x.call x.device x p.found) initiated))
 
@@ -256,7 +256,7 @@ sound_given s turn b to p e why r l sound free usual most =
     let u : Rows = without_connection s x.call x.device in
     sound-append turn.moment b b turn.stamp s (remove x (Some e) ∷ []) (arrive s turn x.call to why ∷ release s turn x (ending_of x) ∷ []) sound
     (sound-append turn.moment b turn.stamp turn.stamp u (arrive s turn x.call to why ∷ []) (release s turn x (ending_of x) ∷ [])
-    (sound_arrival turn.moment b turn.stamp s u x.call to why _ (arrival_of s turn x.call to why) l (left_plan s (RemoveConnection x.call x.device) to tt ∙ free.planned) usual
+    (sound_arrival turn b s u x.call to why _ (arrival_of s turn x.call to why) l (left_plan s (RemoveConnection x.call x.device) to tt ∙ free.planned) usual
     (still_none s x.call x.device x.call to r.orders.connections free.apart) (open_gone s x.call x p.found refl most))
     (sound_released s turn turn.stamp (remove x (Some e) ∷ arrive s turn x.call to why ∷ []) x (ending_of x) r (tt, (arrive_leaves s turn x.call to why, tt))))
 

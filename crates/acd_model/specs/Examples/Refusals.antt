@@ -1,6 +1,7 @@
 -- Worked examples: each refusal of each service, in the order in which they are tested: where two could be answered, the first one is.
-use Rattle.std.specs.Prelude.{◌≡◌, ℕ, List, [], ◌∷◌, ◌++◌, map, codes}
+use Rattle.std.specs.Prelude.{◌≡◌, List, [], ◌∷◌, ◌++◌, map, codes}
 use Rattle.acd_terms.specs.Rows.{empty_rows}
+use Rattle.acd_terms.specs.Numbers.{Device, Agent}
 use Rattle.acd_terms.specs.declared.rows.Limits.{Limits}
 use Rattle.acd_terms.specs.declared.rows.Rows.{Rows}
 use Rattle.acd_terms.specs.declared.command.Command.{Command}
@@ -22,14 +23,14 @@ abbrev pub rows_after : List TimedCommand → Rows
 rows_after commands = (run_after [] commands).rows
 
 -- a number that isn't planned, and an agent that isn't
-abbrev pub nowhere : ℕ
+abbrev pub nowhere : Device
 nowhere = 1999
 
-abbrev pub nobody : ℕ
+abbrev pub nobody : Agent
 nobody = 19
 
 -- a number between those of a group and a station that isn't planned
-abbrev pub unplanned : ℕ
+abbrev pub unplanned : Device
 unplanned = 1150
 
 -- just as many places as the scene takes
