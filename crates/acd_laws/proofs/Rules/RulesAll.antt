@@ -46,11 +46,11 @@ no_place s m p t l = count_zero (at_place p) s.connections (λ x i. false_from_n
     let h = every_among (ConnectionTimed s.last_stamp m) s.connections x t.connections i in
     let b = place_known s.last_stamp p x.place e h.place in absurd (omega (arith, b, l))))
 
-places_after : (s t : Rows) (turn : Turn) → turn.stamp ≡ s.last_stamp + 1 → OnePlace s → Timed s.last_stamp turn.moment s → ((p : ℕ) → count (at_place p) t.connections ≤ one (turn.stamp == p) + count (at_place p) s.connections) → OnePlace t
-places_after s t turn e single t0 h p =
+places_after : (s t : Rows) (m k : ℕ) → k ≡ s.last_stamp + 1 → OnePlace s → Timed s.last_stamp m s → ((p : ℕ) → count (at_place p) t.connections ≤ one (k == p) + count (at_place p) s.connections) → OnePlace t
+places_after s t m k e single t0 h p =
     let a = h p in
-    (elim (turn.stamp == p) as (λ b. (turn.stamp == p) ≡ b → count (at_place p) t.connections ≤ one b + count (at_place p) s.connections → count (at_place p) t.connections ≤ 1) [
-      | true ↦ λ q l. let same : turn.stamp ≡ p = eqb-true turn.stamp p q in let z = no_place s turn.moment p t0 (omega (arith, same, e)) in omega (arith, l, z)
+    (elim (k == p) as (λ b. (k == p) ≡ b → count (at_place p) t.connections ≤ one b + count (at_place p) s.connections → count (at_place p) t.connections ≤ 1) [
+      | true ↦ λ q l. let same : k ≡ p = eqb-true k p q in let z = no_place s m p t0 (omega (arith, same, e)) in omega (arith, l, z)
       | false ↦ λ q l. let o = single p in omega (arith, l, o)
     ]) refl a
 
